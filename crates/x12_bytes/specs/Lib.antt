@@ -1,0 +1,4 @@
+pub mod Bytes
+pub mod Header
+pub mod HeaderTest
+pub mod Spaces

@@ -1,0 +1,29 @@
+//! The header of an X12 interchange, read in place: sixteen fields of fixed width, and the
+//! delimiters that everything behind the header is divided by. Nothing is copied and nothing
+//! allocated; a `Header` lends its bytes from the text.
+//!
+//! Proved:
+//! - `read_header` finds a header exactly where one begins, and lends exactly its 106 bytes;
+//! - each field is the bytes behind its separator, and holds neither the separator nor the
+//!   terminator;
+//! - the delimiters are those that the header names, ISA11 only where it can separate;
+//! - an id is read without exactly the spaces at its end.
+//!
+//! X12.5, interchange control header (ISA).
+#![tactic(auto)]
+
+mod bytes;
+mod delims;
+mod header;
+mod layout;
+mod read;
+mod spaces;
+
+pub use delims::Delims;
+pub use header::Header;
+pub use layout::HEADER_LEN;
+pub use read::{head_is_tested, read_header};
+pub use spaces::without_trailing_spaces;
+
+#[cfg(test)]
+mod tests;

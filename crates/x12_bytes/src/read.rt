@@ -1,0 +1,74 @@
+ghost use Rattle.std.specs.Prelude.{◌≡◌, ◌↔◌, ◌≤◌, ℕ, List, IsSome, IfSome, IsTrue, is_some, length};
+ghost use Rattle.x12_bytes.specs.Header.{Head, HasFields, IsFieldAt, IsHeader, header_at};
+ghost use Rattle.x12_bytes.specs.HeaderTest.{is_head};
+
+use crate::bytes;
+use crate::header::Header;
+use crate::layout::{self, COMPONENT, ELEMENT, HEADER_LEN, TERMINATOR};
+
+/// The header that begins at this offset of the text (X12.5, ISA), if one does. Any offset may be
+/// asked, also one behind the text's end.
+pub fn read_header(text: &[u8], at: usize) -> Option<Header<'_>>
+    ensures found { IsSome result ↔ Head text.now at }
+    ensures test { is_some result ≡ is_head text.now at }
+    ensures lent { IfSome result (λ header. header ≡ header_at text.now at) }
+{
+    if text.len() < HEADER_LEN || text.len() - HEADER_LEN < at {
+        return None;
+    }
+    let bytes = &text[at..at + HEADER_LEN];
+    if is_header(bytes) {
+        Some(Header::new(bytes))
+    } else {
+        None
+    }
+}
+
+/// The test of a header, in definitions that go by cases, tells exactly where one begins.
+pub fn head_is_tested()
+    ensures { (text : List ℕ) (at : ℕ) → IsTrue (is_head text at) ↔ Head text at }
+{}
+
+fn is_header(bytes: &[u8]) -> bool
+    requires { length bytes.now ≡ 106 }
+    ensures { IsTrue result ↔ IsHeader bytes.now }
+{
+    let element = bytes[ELEMENT];
+    let component = bytes[COMPONENT];
+    let terminator = bytes[TERMINATOR];
+    bytes.starts_with(b"ISA")
+        && element != component
+        && element != terminator
+        && component != terminator
+        && bytes::may_separate(element)
+        && bytes::may_separate(component)
+        && bytes::may_terminate(terminator)
+        && has_fields(bytes)
+}
+
+/// Whether each field stands behind a separator and holds no delimiter, asked from left to right.
+fn has_fields(bytes: &[u8]) -> bool
+    requires { length bytes.now ≡ 106 }
+    ensures { IsTrue result ↔ HasFields bytes.now }
+{
+    for k in 1..17 {
+        if !is_field_at(bytes, k) {
+            return false;
+        }
+    }
+    true
+}
+
+fn is_field_at(bytes: &[u8], k: usize) -> bool
+    requires len { length bytes.now ≡ 106 }
+    requires from { 1 ≤ k }
+    requires to { k ≤ 16 }
+    ensures { IsTrue result ↔ IsFieldAt bytes.now k }
+{
+    let element = bytes[ELEMENT];
+    let terminator = bytes[TERMINATOR];
+    bytes[layout::separator_place(k)] == element
+        && layout::field(bytes, k)
+            .iter()
+            .all(|b| *b != element && *b != terminator)
+}
