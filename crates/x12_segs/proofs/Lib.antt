@@ -1,0 +1,5 @@
+pub mod CutLemmas
+pub mod FirstLemmas
+pub mod PartLemmas
+pub mod RunLemmas
+pub mod SegLemmas

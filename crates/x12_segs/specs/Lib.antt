@@ -1,0 +1,5 @@
+pub mod Parts
+pub mod Runs
+pub mod Scan
+pub mod Segs
+pub mod View

@@ -1,0 +1,39 @@
+//! The segments of an X12 text and their data elements, lent from the text: nothing is copied and
+//! nothing allocated. A text is divided at each terminator, CR and LF in front of a segment are
+//! passed over, empty parts give no segment, and what follows the last terminator is the rest.
+//!
+//! Proved:
+//! - `segments` gives exactly the segments of the text, in order, each with its offset, and no more
+//!   of them than there are bytes;
+//! - `next_part` gives the first segment from an offset on, and where there is none the rest;
+//! - id, elements, occurrences and components are exactly the texts between the separators, one by
+//!   one and by number; one that isn't there is the empty text;
+//! - a run of segments, cut out of its text, reads as the same run.
+//!
+//! X12.6, data segment, data element and their separators.
+#![tactic(auto)]
+
+mod divide;
+mod lend;
+mod line_ends;
+mod part;
+mod parts;
+mod runs;
+mod scan;
+mod segs;
+mod set_span;
+mod view;
+
+pub use divide::{components, occurrences};
+pub use lend::segments;
+pub use line_ends::lead;
+pub use part::Part;
+pub use parts::Parts;
+pub use runs::runs_stand_alone;
+pub use scan::next_part;
+pub use segs::Segments;
+pub use set_span::SetSpan;
+pub use view::SegView;
+
+#[cfg(test)]
+mod tests;
