@@ -1,0 +1,14 @@
+-- The order of faults (own), over what the 999 guide's IK3 and IK4 show.
+use Rattle.std.specs.Prelude.{ℕ, List, [], ◌∷◌, Option, Some, None}
+use Rattle.hub_kinds.specs.declared.fault.Fault.{Fault}
+use Rattle.hub_kinds.specs.declared.fault.ElemFault.{ElemFault}
+use Rattle.hub_kinds.specs.Codes.{segment_rank, element_rank}
+
+-- what the element's part adds to the key
+abbrev pub elem_key : Option ElemFault → List ℕ
+elem_key None = 0 ∷ 0 ∷ 0 ∷ 0 ∷ []
+elem_key (Some e) = e.element ∷ e.component ∷ e.repetition ∷ element_rank e.code ∷ []
+
+-- faults are ordered by position, segment code, slot, element, component, repetition and element code
+abbrev pub key_of : Fault → List ℕ
+key_of f = f.position ∷ segment_rank f.code ∷ f.slot ∷ elem_key f.elem

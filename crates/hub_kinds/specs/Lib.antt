@@ -1,0 +1,6 @@
+pub mod Codes
+pub mod Fault
+pub mod Interchange
+pub mod Numbers
+pub mod SetCodes
+pub mod Words

@@ -1,0 +1,86 @@
+ghost use Rattle.std.specs.Prelude.{◌≡◌, ℕ, List};
+ghost use Rattle.std.specs.Ordering.{nat_cmp};
+ghost use Rattle.std.specs.Cmp.Lexicographic.{slice_cmp};
+ghost use Rattle.hub_kinds.specs.Codes.{segment_rank, element_rank};
+ghost use Rattle.hub_kinds.specs.Fault.{key_of};
+
+use crate::codes::{ElementCode, SegmentCode};
+use crate::items::Text;
+use std::cmp::Ordering;
+
+/// A fault of a transaction set, as a segment or a missing segment shows it (999 guide, IK3).
+#[derive(Debug, Drop)]
+pub struct Fault {
+    /// The segment's number in the set, ST being 1.
+    pub position: u32,
+    /// The segment's id.
+    pub id: Text,
+    /// The id of the innermost loop; empty where there is none.
+    pub loop_id: Text,
+    /// What is wrong with the segment.
+    pub code: SegmentCode,
+    /// The number of the guide's slot; 0 for a stray.
+    pub slot: u32,
+    /// What is wrong with an element of it, under the code of element errors.
+    pub elem: Option<ElemFault>,
+}
+
+/// The part of a fault that speaks of an element (999 guide, IK4).
+#[derive(Debug, Drop)]
+pub struct ElemFault {
+    /// The element's number in the segment, from 1.
+    pub element: u32,
+    /// The component's number in the element, from 1; 0 where none is shown.
+    pub component: u32,
+    /// The repetition's number, from 1; 0 where none is shown.
+    pub repetition: u32,
+    /// What is wrong with the element.
+    pub code: ElementCode,
+    /// The element's reference number, as the guide writes it; empty where there is none.
+    pub reference: Text,
+    /// The text that the rule names, whole; empty where it names none.
+    pub copy: Text,
+}
+
+/// Which of two faults comes first: by position, segment code, slot, element, component, repetition, element
+/// code (own). Texts aren't compared, so this is a total order of the keys and no `Ord` of `Fault`.
+pub fn fault_order(a: &Fault, b: &Fault) -> Ordering
+    ensures { result ≡ slice_cmp nat_cmp (key_of a.now) (key_of b.now) }
+{
+    key(a).cmp(&key(b))
+}
+
+fn key(fault: &Fault) -> [u32; 7]
+    ensures { result ≡ key_of fault.now }
+{
+    let (element, component, repetition, code) = match &fault.elem {
+        None => (0, 0, 0, 0),
+        Some(elem) => (
+            elem.element,
+            elem.component,
+            elem.repetition,
+            element_rank(elem.code),
+        ),
+    };
+    [
+        fault.position,
+        segment_rank(fault.code),
+        fault.slot,
+        element,
+        component,
+        repetition,
+        code,
+    ]
+}
+
+fn segment_rank(code: SegmentCode) -> u32
+    ensures { result ≡ segment_rank code }
+{
+    code as u32
+}
+
+fn element_rank(code: ElementCode) -> u32
+    ensures { result ≡ element_rank code }
+{
+    code as u32
+}

@@ -1,0 +1,45 @@
+use crate::codes::Code;
+
+/// Why an interchange is refused, the least number first (own numbers; X12.5, interchange control, and X12.6,
+/// functional group and transaction set headers).
+#[derive(Clone, Copy, Debug, PartialEq, Eq, PartialOrd, Ord)]
+pub enum InterchangeFault {
+    /// `1`: no IEA.
+    TrailerMissing,
+    /// `2`: ISA13 isn't nine digits.
+    ControlNumberInvalid,
+    /// `3`: IEA02 isn't 1 to 9 digits equal as a number to ISA13.
+    ControlNumbersDiffer,
+    /// `4`: IEA01 isn't 1 to 5 digits equal to the number of groups.
+    GroupCountWrong,
+    /// `5`: a segment out of place.
+    SegmentMisplaced,
+    /// `6`: a bad GS.
+    GroupHeaderInvalid,
+    /// `7`: a bad ST.
+    SetHeaderInvalid,
+    /// `8`: no partner is the sender.
+    SenderUnknown,
+    /// `9`: an earlier interchange of the text has the same number.
+    Duplicate,
+}
+
+impl Code for InterchangeFault {
+    ghost use Rattle.hub_kinds.specs.Interchange.{fault_text};
+
+    ghost text = { fault_text };
+
+    fn text(self) -> &'static str {
+        match self {
+            InterchangeFault::TrailerMissing => "1",
+            InterchangeFault::ControlNumberInvalid => "2",
+            InterchangeFault::ControlNumbersDiffer => "3",
+            InterchangeFault::GroupCountWrong => "4",
+            InterchangeFault::SegmentMisplaced => "5",
+            InterchangeFault::GroupHeaderInvalid => "6",
+            InterchangeFault::SetHeaderInvalid => "7",
+            InterchangeFault::SenderUnknown => "8",
+            InterchangeFault::Duplicate => "9",
+        }
+    }
+}
