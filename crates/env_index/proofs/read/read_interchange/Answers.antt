@@ -1,0 +1,14 @@
+use Rattle.std.proofs.Common.{◌≡◌, List, rules, ap, sym, ◌∙◌}
+use Rattle.x12_segs.specs.View.{SegValue}
+use Rattle.env_index.specs.Envelope.{Body, Derives}
+use Rattle.env_index.specs.Extents.{reach_at}
+use Rattle.env_index.specs.Interchange.{interchange_of}
+use Rattle.env_index.proofs.Trees.{a_tree}
+use Rattle.env_index.proofs.Walking.{only_last}
+use Rattle.env_index.proofs.read.read_interchange.Goals as goal
+
+pub returns-clause-tree : goal.returns-clause-tree
+returns-clause-tree c =
+    let only : (tree : Body) → Derives (reach_at c.args.text.now c.args.start).segs tree → c.new.result ≡ interchange_of c.args.text.now c.args.start tree = search rules in
+    let tree = a_tree (reach_at c.args.text.now c.args.start).segs (only_last c.args.text.now _ _) in
+    (tree.0, tree.1, only tree.0 tree.1)

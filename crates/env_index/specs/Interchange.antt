@@ -1,0 +1,16 @@
+-- X12.5, interchange: its header, where it stands, and what the index keeps of its envelopes.
+use Rattle.std.specs.Prelude.{ℕ, List}
+use Rattle.x12_bytes.specs.Header.{header_at}
+use Rattle.env_index.specs.Envelope.{Body}
+use Rattle.env_index.specs.Extents.{reach_at}
+use Rattle.env_index.specs.Summary.{Summary, summary_of}
+
+pub record InterchangeEntry : Type 0 where
+  pub header : List ℕ
+  pub start : ℕ
+  pub end : ℕ
+  pub content : Summary
+
+-- the interchange that starts at an offset, where its segments derive this tree
+abbrev pub interchange_of : List ℕ → ℕ → Body → InterchangeEntry
+interchange_of text start tree = record { header = header_at text start; start = start; end = (reach_at text start).end; content = summary_of tree }

@@ -1,0 +1,9 @@
+pub mod Extents
+pub mod Envelope
+pub mod Kinds
+pub mod Summary
+pub mod Places
+pub mod Reading
+pub mod Interchange
+pub mod Faults
+pub mod Lone

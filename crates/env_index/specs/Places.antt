@@ -1,0 +1,22 @@
+-- X12.6, segment: what stands at a place of the text.
+use Rattle.std.specs.Prelude.{ℕ, List, map, Option, option_map, slice_range}
+use Rattle.x12_bytes.specs.declared.delims.Delims.{Delims}
+use Rattle.x12_segs.specs.View.{SegValue}
+use Rattle.env_index.specs.declared.entry.SetEnvelope.{SetEnvelope}
+use Rattle.env_index.specs.declared.places.Stretch.{Stretch}
+use Rattle.env_index.specs.declared.places.SetPlace.{SetPlace}
+use Rattle.env_index.specs.declared.places.GroupPlace.{GroupPlace}
+use Rattle.env_index.specs.declared.places.BodyPlace.{BodyPlace}
+use Rattle.env_index.specs.Summary.{GroupEntry, Summary}
+
+abbrev pub seg_in : List ℕ → Delims → Stretch → SegValue
+seg_in text delims place = record { start = place.start; bytes = slice_range text place.start place.end; delims = delims }
+
+abbrev pub set_in : List ℕ → Delims → SetPlace → SetEnvelope
+set_in text delims place = record { header = seg_in text delims place.header; segments = place.segments; trailer = option_map (seg_in text delims) place.trailer }
+
+abbrev pub group_in : List ℕ → Delims → GroupPlace → GroupEntry
+group_in text delims place = record { header = seg_in text delims place.header; sets = map (set_in text delims) place.sets.items; trailer = option_map (seg_in text delims) place.trailer }
+
+abbrev pub body_in : List ℕ → Delims → BodyPlace → Summary
+body_in text delims place = record { groups = map (group_in text delims) place.groups.items; notices = place.notices; misplaced = place.misplaced; trailer = option_map (seg_in text delims) place.trailer }

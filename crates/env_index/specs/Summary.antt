@@ -1,0 +1,56 @@
+-- X12.5, interchange, and X12.6, functional group and transaction set: what the index keeps of an interchange's envelopes.
+use Rattle.std.specs.Prelude.{ℕ, ◌+◌, List, [], ◌∷◌, Bool, true, false, ◌||◌, Option, length}
+use Rattle.x12_segs.specs.View.{SegValue}
+use Rattle.env_index.specs.Envelope.{Set, InGroup, ASet, OutOfGroup, Group, InBody, ANotice, AGroup, OutOfBody, Body, set_items}
+use Rattle.env_index.specs.declared.entry.SetEnvelope.{SetEnvelope}
+
+-- a group: its GS, its sets in order, its GE
+pub record GroupEntry : Type 0 where
+  pub header : SegValue
+  pub sets : List SetEnvelope
+  pub trailer : Option SegValue
+
+-- an interchange behind its header: its groups in order, how many TA1 stand directly in it, whether a segment is out of place, its IEA
+pub record Summary : Type 0 where
+  pub groups : List GroupEntry
+  pub notices : ℕ
+  pub misplaced : Bool
+  pub trailer : Option SegValue
+
+-- a set: its ST, how many segments it has with ST and SE, its SE
+abbrev pub set_entry : Set → SetEnvelope
+set_entry s = record { header = s.header; segments = length (set_items s); trailer = s.trailer }
+
+abbrev pub sets_in : List InGroup → List SetEnvelope
+sets_in [] = []
+sets_in (ASet s ∷ ms) = set_entry s ∷ sets_in ms
+sets_in (OutOfGroup x ∷ ms) = sets_in ms
+
+abbrev pub group_entry : Group → GroupEntry
+group_entry g = record { header = g.header; sets = sets_in g.members; trailer = g.trailer }
+
+abbrev pub groups_in : List InBody → List GroupEntry
+groups_in [] = []
+groups_in (ANotice x ∷ ms) = groups_in ms
+groups_in (AGroup g ∷ ms) = group_entry g ∷ groups_in ms
+groups_in (OutOfBody x ∷ ms) = groups_in ms
+
+abbrev pub notices_in : List InBody → ℕ
+notices_in [] = 0
+notices_in (ANotice x ∷ ms) = notices_in ms + 1
+notices_in (AGroup g ∷ ms) = notices_in ms
+notices_in (OutOfBody x ∷ ms) = notices_in ms
+
+abbrev pub has_misplaced_in_group : List InGroup → Bool
+has_misplaced_in_group [] = false
+has_misplaced_in_group (ASet s ∷ ms) = has_misplaced_in_group ms
+has_misplaced_in_group (OutOfGroup x ∷ ms) = true
+
+abbrev pub has_misplaced : List InBody → Bool
+has_misplaced [] = false
+has_misplaced (ANotice x ∷ ms) = has_misplaced ms
+has_misplaced (AGroup g ∷ ms) = has_misplaced_in_group g.members || has_misplaced ms
+has_misplaced (OutOfBody x ∷ ms) = true
+
+abbrev pub summary_of : Body → Summary
+summary_of b = record { groups = groups_in b.members; notices = notices_in b.members; misplaced = has_misplaced b.members; trailer = b.trailer }

@@ -1,0 +1,123 @@
+ghost use Rattle.std.specs.Prelude.{◌≡◌, ◌<◌, ◌≤◌, ◌&&◌, ◌==◌, ℕ, IsTrue, length, option_copied};
+ghost use Rattle.std.specs.List.{list_all};
+ghost use Rattle.std.specs.Char.{is_ascii_uppercase};
+ghost use Rattle.env_index.specs.Faults.{control_number, writes_number, is_group_header, is_set_header, has_set_headers, fault_of, fault_of_headers};
+ghost use Rattle.env_index.specs.Summary.{GroupEntry};
+
+use crate::interchange::{GroupEnvelope, Interchange};
+use hub_kinds::{InterchangeFault, is_alphanumeric, read_number};
+use x12_bytes::Header;
+use x12_segs::SegView;
+
+/// The least of the faults 1 to 7 of an interchange, if it has one (X12.5, interchange control numbers and
+/// counts; X12.6, functional group and transaction set headers).
+pub fn judge(interchange: &Interchange<'_>) -> Option<InterchangeFault>
+    ensures { result ≡ fault_of interchange.now }
+{
+    let Some(trailer) = interchange.trailer() else {
+        return Some(InterchangeFault::TrailerMissing);
+    };
+    let Some(number) = control_number(interchange.header()) else {
+        return Some(InterchangeFault::ControlNumberInvalid);
+    };
+    if !writes_number(trailer.element(2), 9, number) {
+        return Some(InterchangeFault::ControlNumbersDiffer);
+    }
+    if !writes_number(trailer.element(1), 5, interchange.group_count() as u64) {
+        return Some(InterchangeFault::GroupCountWrong);
+    }
+    if interchange.is_misplaced() {
+        return Some(InterchangeFault::SegmentMisplaced);
+    }
+    fault_of_headers(interchange)
+}
+
+/// ISA13 as a number, where it is nine digits.
+fn control_number(header: &Header<'_>) -> Option<u64>
+    ensures { result ≡ control_number header.now }
+{
+    let control = header.field(13);
+    if control.len() == 9 {
+        read_number(control, 9)
+    } else {
+        None
+    }
+}
+
+fn fault_of_headers(interchange: &Interchange<'_>) -> Option<InterchangeFault>
+    ensures { result ≡ fault_of_headers interchange.now }
+{
+    if !have_group_headers(interchange) {
+        Some(InterchangeFault::GroupHeaderInvalid)
+    } else if !have_set_headers(interchange) {
+        Some(InterchangeFault::SetHeaderInvalid)
+    } else {
+        None
+    }
+}
+
+/// Whether a text is 1 to `most` digits that write this number.
+fn writes_number(text: &[u8], most: usize, number: u64) -> bool
+    requires { most ≤ 19 }
+    ensures { result ≡ writes_number most text.now number }
+{
+    match read_number(text, most) {
+        Some(written) => written == number,
+        None => false,
+    }
+}
+
+fn have_group_headers(interchange: &Interchange<'_>) -> bool
+    ensures { result ≡ list_all (λ group. is_group_header group.header) interchange.now.content.groups }
+{
+    for index in 0..interchange.group_count() {
+        if !is_group_header(&interchange.group(index).header()) {
+            return false;
+        }
+    }
+    true
+}
+
+fn have_set_headers(interchange: &Interchange<'_>) -> bool
+    ensures { result ≡ list_all has_set_headers interchange.now.content.groups }
+{
+    for index in 0..interchange.group_count() {
+        if !group_has_set_headers(&interchange.group(index)) {
+            return false;
+        }
+    }
+    true
+}
+
+fn group_has_set_headers(group: &GroupEnvelope<'_>) -> bool
+    ensures { result ≡ has_set_headers group.now }
+{
+    for index in 0..group.set_count() {
+        if !is_set_header(&group.set(index).header) {
+            return false;
+        }
+    }
+    true
+}
+
+fn is_group_header(header: &SegView<'_>) -> bool
+    ensures { result ≡ is_group_header header.now }
+{
+    let id = header.element(1);
+    id.len() == 2
+        && are_uppercase(id)
+        && read_number(header.element(6), 9).is_some()
+        && is_alphanumeric(header.element(8), 1, 12)
+}
+
+fn are_uppercase(text: &[u8]) -> bool
+    ensures { result ≡ list_all is_ascii_uppercase text.now }
+{
+    text.iter().all(|b| b.is_ascii_uppercase())
+}
+
+fn is_set_header(header: &SegView<'_>) -> bool
+    ensures { result ≡ is_set_header header.now }
+{
+    is_alphanumeric(header.element(1), 3, 3) && is_alphanumeric(header.element(2), 1, 9)
+}

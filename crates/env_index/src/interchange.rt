@@ -1,0 +1,171 @@
+use crate::entry::SetEnvelope;
+use crate::places::{BodyPlace, GroupPlace};
+use std::marker::Model;
+use x12_bytes::{Delims, Header};
+use crate::segment_at::segment_at;
+use x12_segs::SegView;
+
+/// An interchange of a text: its header and the envelopes behind it (X12.5, interchange; X12.6, functional
+/// group and transaction set).
+#[derive(Drop)]
+pub struct Interchange<'a> {
+    text: &'a [u8],
+    header: Header<'a>,
+    start: usize,
+    body: BodyPlace,
+}
+
+impl<'a> Model for Interchange<'a> {
+    ghost use Rattle.x12_bytes.specs.Header.{delims_of};
+    ghost use Rattle.env_index.specs.Interchange.{InterchangeEntry};
+
+    ghost Value = { InterchangeEntry };
+
+    ghost use Rattle.env_index.specs.Places.{body_in};
+
+    ghost view = { λ x. record { header = x.header; start = x.start; end = x.body.end; content = body_in x.text.now (delims_of x.header) x.body } };
+}
+
+impl<'a> Interchange<'a> {
+    ghost use Rattle.std.specs.Prelude.{◌≡◌, ◌<◌, ◌≤◌, length, Some, Option, option_map, slice_get};
+    ghost use Rattle.x12_bytes.specs.Header.{IsHeader, delims_of};
+    ghost use Rattle.env_index.specs.Places.{body_in};
+
+    pub(crate) fn new(text: &'a [u8], header: Header<'a>, start: usize, body: BodyPlace) -> Self
+        ensures { result ≡ record { header = header.entry; start = start; end = body.end; content = body_in text.entry.now (delims_of header.entry) body } }
+    {
+        Interchange {
+            text,
+            header,
+            start,
+            body,
+        }
+    }
+
+    /// Its ISA.
+    pub fn header(&self) -> &Header<'a>
+        ensures { result.now ≡ self.now.header }
+    {
+        &self.header
+    }
+
+    /// The offset of its first byte.
+    pub fn start(&self) -> usize
+        ensures { result ≡ self.now.start }
+    {
+        self.start
+    }
+
+    /// The offset behind its last byte.
+    pub fn end(&self) -> usize
+        ensures { result ≡ self.now.end }
+    {
+        self.body.end
+    }
+
+    /// How many TA1 stand directly in it.
+    pub fn notices(&self) -> u32
+        ensures { result ≡ self.now.content.notices }
+    {
+        self.body.notices
+    }
+
+    /// Whether one of its segments is out of place.
+    pub fn is_misplaced(&self) -> bool
+        ensures { result ≡ self.now.content.misplaced }
+    {
+        self.body.misplaced
+    }
+
+    /// Its IEA, where it has one.
+    pub fn trailer(&self) -> Option<SegView<'a>>
+        ensures { result ≡ self.now.content.trailer }
+    {
+        match self.body.trailer {
+            Some(place) => Some(segment_at(self.text, self.header.delims(), place)),
+            None => None,
+        }
+    }
+
+    /// How many groups it has.
+    pub fn group_count(&self) -> usize
+        ensures { result ≡ length self.now.content.groups }
+    {
+        self.body.groups.len()
+    }
+
+    /// One of its groups, counted from 0.
+    pub fn group(&self, index: usize) -> GroupEnvelope<'_>
+        requires { index < length self.now.content.groups }
+        ensures { slice_get self.now.content.groups index ≡ Some result }
+    {
+        GroupEnvelope {
+            text: self.text,
+            delims: self.header.delims(),
+            place: &self.body.groups[index],
+        }
+    }
+}
+
+/// A functional group of an interchange (X12.6, functional group header and trailer).
+#[derive(Drop)]
+pub struct GroupEnvelope<'a> {
+    text: &'a [u8],
+    delims: Delims,
+    place: &'a GroupPlace,
+}
+
+impl<'a> Model for GroupEnvelope<'a> {
+    ghost use Rattle.env_index.specs.Summary.{GroupEntry};
+
+    ghost Value = { GroupEntry };
+
+    ghost use Rattle.env_index.specs.Places.{group_in};
+
+    ghost view = { λ g. group_in g.text.now g.delims g.place.now };
+}
+
+impl<'a> GroupEnvelope<'a> {
+    ghost use Rattle.std.specs.Prelude.{◌≡◌, ◌<◌, length, Some, slice_get};
+
+    /// Its GS.
+    pub fn header(&self) -> SegView<'a>
+        ensures { result ≡ self.now.header }
+    {
+        segment_at(self.text, self.delims, self.place.header)
+    }
+
+    /// Its GE, where it has one.
+    pub fn trailer(&self) -> Option<SegView<'a>>
+        ensures { result ≡ self.now.trailer }
+    {
+        match self.place.trailer {
+            Some(place) => Some(segment_at(self.text, self.delims, place)),
+            None => None,
+        }
+    }
+
+    /// How many sets it has.
+    pub fn set_count(&self) -> usize
+        ensures { result ≡ length self.now.sets }
+    {
+        self.place.sets.len()
+    }
+
+    /// One of its sets, counted from 0.
+    pub fn set(&self, index: usize) -> SetEnvelope<'a>
+        requires { index < length self.now.sets }
+        ensures { slice_get self.now.sets index ≡ Some result }
+    {
+        let place = self.place.sets[index];
+        let trailer = match place.trailer {
+            Some(place) => Some(segment_at(self.text, self.delims, place)),
+            None => None,
+        };
+        SetEnvelope {
+            header: segment_at(self.text, self.delims, place.header),
+            segments: u64::from(place.segments),
+            trailer,
+        }
+    }
+}

@@ -1,0 +1,46 @@
+ghost use Rattle.std.specs.Prelude.{◌≡◌};
+ghost use Rattle.env_index.specs.Kinds.{kind_by_id, kind_of};
+
+use x12_segs::SegView;
+
+/// What a segment's id says of its place in the envelopes (X12.5, interchange control; X12.6, functional
+/// group and transaction set).
+#[derive(Clone, Copy, Debug, PartialEq, Eq)]
+pub enum Kind {
+    /// IEA.
+    InterchangeTrailer,
+    /// GS.
+    GroupHeader,
+    /// GE.
+    GroupTrailer,
+    /// ST.
+    SetHeader,
+    /// SE.
+    SetTrailer,
+    /// TA1.
+    Notice,
+    /// Any other id.
+    Other,
+}
+
+/// What a segment's id says of its place.
+#[tactic(auto, unfolding(crate::specs::Kinds::kind_of))]
+pub fn kind_of(segment: &SegView<'_>) -> Kind
+    ensures { result ≡ kind_of segment.now }
+{
+    kind_by_id(segment.id())
+}
+
+fn kind_by_id(id: &[u8]) -> Kind
+    ensures { result ≡ kind_by_id id.now }
+{
+    match id {
+        b"IEA" => Kind::InterchangeTrailer,
+        b"GS" => Kind::GroupHeader,
+        b"GE" => Kind::GroupTrailer,
+        b"ST" => Kind::SetHeader,
+        b"SE" => Kind::SetTrailer,
+        b"TA1" => Kind::Notice,
+        _ => Kind::Other,
+    }
+}

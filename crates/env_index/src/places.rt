@@ -1,0 +1,33 @@
+/// Where a segment's bytes stand in the text, without its terminator.
+#[derive(Clone, Copy, Debug)]
+pub(crate) struct Stretch {
+    pub(crate) start: u32,
+    pub(crate) end: u32,
+}
+
+/// Where a set's ST and SE stand, and how many segments it has with them.
+#[derive(Clone, Copy, Debug)]
+pub(crate) struct SetPlace {
+    pub(crate) header: Stretch,
+    pub(crate) segments: u32,
+    pub(crate) trailer: Option<Stretch>,
+}
+
+/// Where a group's GS and GE stand, and its sets.
+#[derive(Drop)]
+pub(crate) struct GroupPlace {
+    pub(crate) header: Stretch,
+    pub(crate) sets: Vec<SetPlace>,
+    pub(crate) trailer: Option<Stretch>,
+}
+
+/// Where all stands that an interchange has behind its header.
+#[derive(Drop)]
+pub(crate) struct BodyPlace {
+    pub(crate) groups: Vec<GroupPlace>,
+    pub(crate) notices: u32,
+    pub(crate) misplaced: bool,
+    pub(crate) trailer: Option<Stretch>,
+    /// Where the interchange ends.
+    pub(crate) end: usize,
+}

@@ -1,0 +1,31 @@
+ghost use Rattle.std.specs.Prelude.{◌≡◌, ◌<◌, ◌≤◌, ◌^◌, IfOk, IfSome, is_some, length};
+ghost use Rattle.x12_bytes.specs.HeaderTest.{is_head};
+ghost use Rattle.env_index.specs.Envelope.{Body, Derives};
+ghost use Rattle.env_index.specs.Extents.{reach_at};
+ghost use Rattle.env_index.specs.Interchange.{interchange_of};
+
+use crate::interchange::Interchange;
+use crate::walk::read_body;
+use hub_kinds::NoMemory;
+use std::alloc::Global;
+use x12_bytes::{HEADER_LEN, read_header};
+
+/// The interchange whose header begins at this offset, if one does there. What another header begins behind
+/// it is not read.
+pub fn read_interchange<'a>(
+    alloc: Global,
+    text: &'a [u8],
+    start: usize,
+) -> Result<Option<Interchange<'a>>, NoMemory>
+    requires { length text.now < 2 ^ 32 }
+    ensures found { IfOk result (λ found. is_some found ≡ is_head text.entry.now start) }
+    ensures within { IfOk result (λ found. IfSome found (λ x. x.end ≤ length text.entry.now)) }
+    ensures tree { IfOk result (λ found. IfSome found (λ x. (tree : Body) × Derives (reach_at text.entry.now start).segs tree × (x ≡ interchange_of text.entry.now start tree))) }
+    ensures only { IfOk result (λ found. IfSome found (λ x. (tree : Body) → Derives (reach_at text.entry.now start).segs tree → x ≡ interchange_of text.entry.now start tree)) }
+{
+    let Some(header) = read_header(text, start) else {
+        return Ok(None);
+    };
+    let body = read_body(alloc, text, start + HEADER_LEN, header.delims())?;
+    Ok(Some(Interchange::new(text, header, start, body)))
+}

@@ -1,0 +1,16 @@
+ghost use Rattle.std.specs.Prelude.{◌≡◌, slice_range};
+ghost use Rattle.env_index.specs.Places.{seg_in};
+
+use crate::places::Stretch;
+use x12_bytes::Delims;
+use x12_segs::SegView;
+
+/// The segment that stands at a place of the text.
+pub(crate) fn segment_at<'a>(text: &'a [u8], delims: Delims, place: Stretch) -> SegView<'a>
+    ensures { result ≡ seg_in text.entry.now delims place }
+{
+    // What lies behind the text's end is no byte of the segment, so any place may be asked for.
+    let end = text.len().min(place.end as usize);
+    let start = end.min(place.start as usize);
+    SegView::new(place.start as usize, &text[start..end], delims)
+}

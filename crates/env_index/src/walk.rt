@@ -1,0 +1,61 @@
+ghost use Rattle.std.specs.Prelude.{◌≡◌, ◌+◌, ◌<◌, ◌≤◌, ◌^◌, IfOk, length};
+ghost use Rattle.env_index.specs.Envelope.{Body, Derives};
+ghost use Rattle.env_index.specs.Extents.{reach_from};
+ghost use Rattle.env_index.specs.Places.{body_in};
+ghost use Rattle.env_index.specs.Summary.{summary_of};
+
+use crate::builder::Builder;
+use crate::kind::{Kind, kind_of};
+use crate::places::{BodyPlace, Stretch};
+use hub_kinds::NoMemory;
+use std::alloc::Global;
+use x12_bytes::{Delims, read_header};
+use x12_segs::{Part, SegView, next_part};
+
+/// Reads what an interchange has behind its header, from the offset `from` to its end. Of each part, whether
+/// it begins at a header is asked first.
+pub(crate) fn read_body(
+    alloc: Global,
+    text: &[u8],
+    from: usize,
+    delims: Delims,
+) -> Result<BodyPlace, NoMemory>
+    requires header { 106 ≤ from }
+    requires within { from ≤ length text.now }
+    requires few { length text.now < 2 ^ 32 }
+    ensures within { IfOk result (λ body. body.end ≤ length text.now) }
+    ensures end { IfOk result (λ body. body.end ≡ (reach_from text.now delims from).end) }
+    ensures only { IfOk result (λ body. (tree : Body) → Derives (reach_from text.now delims from).segs tree → body_in text.now delims body ≡ summary_of tree) }
+{
+    let mut builder = Builder::new(alloc);
+    let mut at = from;
+    loop {
+        match next_part(text, at, delims.terminator) {
+            Part::Rest { start } => {
+                let end = if read_header(text, start).is_some() {
+                    start
+                } else {
+                    text.len()
+                };
+                return builder.finish(alloc, None, end);
+            }
+            Part::Segment { start, end } => {
+                if read_header(text, start).is_some() {
+                    return builder.finish(alloc, None, start);
+                }
+                let segment = SegView::new(start, &text[start..end], delims);
+                let place = Stretch {
+                    start: start as u32,
+                    end: end as u32,
+                };
+                match kind_of(&segment) {
+                    Kind::InterchangeTrailer => {
+                        return builder.finish(alloc, Some(place), end + 1);
+                    }
+                    kind => builder.take(alloc, kind, place)?,
+                }
+                at = end + 1;
+            }
+        }
+    }
+}
