@@ -1,0 +1,18 @@
+//! What is answered to a transaction set whose segments aren't checked against a guide: its codes,
+//! by its header, its trailer and its number of segments, and the verdict that they give.
+//!
+//! Proved:
+//! - the codes are exactly those that hold of the set, in their order;
+//! - the verdict is accepted exactly where there is no code;
+//! - ST01, ST02 and ST03 are handed on as they stand.
+//!
+//! X12.6, transaction set header (ST) and trailer (SE); 999 guide, IK5.
+#![tactic(auto)]
+
+mod answer;
+mod codes;
+
+pub use answer::answer_set;
+
+#[cfg(test)]
+mod tests;
