@@ -1,0 +1,4 @@
+pub mod Trimming
+pub mod Padding
+pub mod Verdicts
+pub mod Parts

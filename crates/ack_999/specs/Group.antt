@@ -1,0 +1,75 @@
+-- 999 guide, functional group response trailer (AK9): the group's codes and its verdict.
+use Rattle.std.specs.Prelude.{ℕ, ◌==◌, Bool, true, false, not, ◌&&◌, List, [], ◌∷◌, ◌++◌, count_by, Option, Some, None, if◌then◌else◌}
+use Rattle.std.specs.List.{list_all}
+use Rattle.hub_kinds.specs.Numbers.{number_of}
+use Rattle.hub_kinds.specs.declared.set_codes.GroupCode.{GroupCode}
+use Rattle.hub_kinds.specs.declared.set_codes.GroupCode.TheVariants as code
+use Rattle.hub_kinds.specs.declared.set_codes.Verdict.{Verdict}
+use Rattle.hub_kinds.specs.declared.set_codes.Verdict.TheVariants as verdict
+use Rattle.hub_kinds.specs.declared.set_codes.GroupVerdict.{GroupVerdict}
+use Rattle.hub_kinds.specs.declared.set_codes.GroupVerdict.TheVariants as group
+use Rattle.ack_999.specs.declared.trailer.GroupTrailer.{GroupTrailer}
+use Rattle.ack_999.specs.declared.totals.Totals.{Totals}
+
+-- two control numbers, read as numbers, are the same
+abbrev pub agree : Option ℕ → Option ℕ → Bool
+agree (Some a) (Some b) = a == b
+agree _ _ = false
+
+-- a code where a test fails
+abbrev pub unless : Bool → GroupCode → List GroupCode
+unless true code = []
+unless false code = code ∷ []
+
+-- what GE shows: GE02 isn't 1 to 9 digits equal as a number to GS06;
+-- GE01 isn't 1 to 6 digits equal to the number of sets
+abbrev pub trailer_codes : List ℕ → GroupTrailer → ℕ → List GroupCode
+trailer_codes control trailer sets =
+    unless (agree (number_of 9 trailer.control) (number_of 9 control)) code.ControlNumbersDiffer
+    ++ unless (agree (number_of 6 trailer.listed) (Some sets)) code.SetCountWrong
+
+-- the codes that need no guide, in their order
+abbrev pub group_codes_of : List ℕ → Option GroupTrailer → ℕ → List GroupCode
+group_codes_of control None sets = code.TrailerMissing ∷ []
+group_codes_of control (Some trailer) sets = trailer_codes control trailer sets
+
+abbrev pub is_accepted : Verdict → Bool
+is_accepted verdict.Accepted = true
+is_accepted _ = false
+
+abbrev pub is_accepted_with_errors : Verdict → Bool
+is_accepted_with_errors verdict.AcceptedWithErrors = true
+is_accepted_with_errors _ = false
+
+abbrev pub is_rejected : Verdict → Bool
+is_rejected verdict.Rejected = true
+is_rejected _ = false
+
+-- the verdict on a group without codes: A if all sets are A, or there are none; E if none is R; R if all are; else P
+abbrev pub verdict_on_sets : List Verdict → GroupVerdict
+verdict_on_sets verdicts =
+    if list_all is_accepted verdicts then group.Accepted
+    else (if list_all (λ v. not (is_rejected v)) verdicts then group.AcceptedWithErrors
+    else (if list_all is_rejected verdicts then group.Rejected
+    else group.PartlyAccepted))
+
+-- the verdict on a group: R with any code
+abbrev pub group_verdict_of : List GroupCode → List Verdict → GroupVerdict
+group_verdict_of [] verdicts = verdict_on_sets verdicts
+group_verdict_of (_ ∷ _) verdicts = group.Rejected
+
+-- how many sets have each verdict
+abbrev pub totals_of : List Verdict → Totals
+totals_of verdicts = record {
+  accepted = count_by is_accepted verdicts;
+  accepted_with_errors = count_by is_accepted_with_errors verdicts;
+  rejected = count_by is_rejected verdicts;
+}
+
+-- the verdict on sets, over the totals
+abbrev pub verdict_on_totals : Totals → GroupVerdict
+verdict_on_totals t =
+    if t.accepted_with_errors == 0 && t.rejected == 0 then group.Accepted
+    else (if t.rejected == 0 then group.AcceptedWithErrors
+    else (if t.accepted == 0 && t.accepted_with_errors == 0 then group.Rejected
+    else group.PartlyAccepted))

@@ -1,0 +1,5 @@
+pub mod Segment
+pub mod Number
+pub mod Group
+pub mod Report
+pub mod Interchange

@@ -1,0 +1,65 @@
+ghost use Rattle.std.specs.Prelude.{◌≡◌};
+ghost use Rattle.ack_999.specs.Group.{totals_of};
+ghost use Rattle.ack_999.specs.Report.{segment_count, shows_sets, hides_sets, listed_sets, accepted_sets, verdicts_of};
+
+use crate::totals::Totals;
+use hub_kinds::{GroupAnswer, GroupCode, SetAnswer, read_number};
+
+/// AK902: how many sets the group's trailer lists.
+pub fn listed_sets(group: &GroupAnswer, totals: &Totals) -> u128
+    ensures { result ≡ listed_sets group.now.listed totals.now }
+{
+    match read_number(group.listed.bytes(), 6) {
+        Some(listed) => u128::from(listed),
+        None => totals.sets(),
+    }
+}
+
+/// AK904: how many sets are accepted.
+pub fn accepted_sets(group: &GroupAnswer, totals: &Totals) -> u128
+    ensures { result ≡ accepted_sets group.now.codes totals.now }
+{
+    if group.codes.as_slice().is_empty() {
+        u128::from(totals.accepted) + u128::from(totals.accepted_with_errors)
+    } else {
+        0
+    }
+}
+
+/// SE01: how many segments there are from ST to SE.
+pub fn segment_count(group: &GroupAnswer, totals: &Totals) -> u128
+    ensures { result ≡ segment_count group.now totals.now }
+{
+    if shows_sets(group.codes.as_slice()) {
+        2 * totals.sets() + 4
+    } else {
+        4
+    }
+}
+
+/// Whether the sets of a group with these codes are shown.
+pub fn shows_sets(codes: &[GroupCode]) -> bool
+    ensures { result ≡ shows_sets codes.now }
+{
+    !codes.iter().any(|code| hides_sets(*code))
+}
+
+fn hides_sets(code: GroupCode) -> bool
+    ensures { result ≡ hides_sets code }
+{
+    matches!(
+        code,
+        GroupCode::NotSupported | GroupCode::VersionNotSupported
+    )
+}
+
+/// How many sets have each verdict.
+pub fn totals_of(sets: &[SetAnswer]) -> Totals
+    ensures { result ≡ totals_of (verdicts_of sets.now) }
+{
+    let mut totals = Totals::new();
+    for set in sets {
+        totals.add(set.verdict);
+    }
+    totals
+}

@@ -1,0 +1,40 @@
+//! The text of acknowledgments: for each functional group an implementation acknowledgment (999),
+//! and around them an interchange from the hub to a partner. A group's codes and its verdict are
+//! found here too. All is written with the partner's delimiters, with no byte between segments and
+//! without the empty elements at a segment's end.
+//!
+//! Proved:
+//! - `write_999` writes exactly the 999's segments, and SE01 is their number; `append_head`,
+//!   `append_set` and `append_tail` write the same, one part after another;
+//! - `write_ack_interchange` writes exactly the interchange: its header in its fixed width, one
+//!   group, the acknowledgments, the trailers; `append_opening` and `append_closing` are its ends;
+//! - `group_codes` gives the group's codes that ask no guide, in their order;
+//! - `group_verdict` works on counts and answers the verdict that the sets' verdicts give.
+//!
+//! Faults of segments and elements aren't written so far: a set that is written has none.
+//!
+//! Source: the 999 guide (005010X231), ST, AK1, AK2, IK5, AK9 and SE; X12.5, interchange control
+//! header and trailer; X12.6, functional group header and trailer, segment.
+#![tactic(auto)]
+
+mod codes;
+mod counts;
+mod envelope;
+mod interchange;
+mod number;
+mod report;
+mod segment;
+mod totals;
+mod trailer;
+mod verdict;
+
+pub use codes::group_codes;
+pub use envelope::Envelope;
+pub use interchange::{append_closing, append_opening, write_ack_interchange};
+pub use report::{append_head, append_set, append_tail, write_999};
+pub use totals::Totals;
+pub use trailer::GroupTrailer;
+pub use verdict::group_verdict;
+
+#[cfg(test)]
+mod tests;

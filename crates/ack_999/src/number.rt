@@ -1,0 +1,58 @@
+ghost use Rattle.std.specs.Prelude.{◌≡◌, ℕ, ◌+◌, ◌≤◌, ◌++◌, List, length, drop, OnOk, decimal};
+ghost use Rattle.ack_999.specs.Number.{padded_number, padded_text};
+
+use hub_kinds::NoMemory;
+use itoa::write_digits;
+use std::marker::Model;
+
+/// The most digits that a `u32` has.
+const MOST_DIGITS: usize = 10;
+
+/// A number in at least so many digits, which contracts see as its text.
+#[derive(Drop)]
+pub struct PaddedNumber {
+    digits: [u8; MOST_DIGITS],
+    start: usize,
+}
+
+impl Model for PaddedNumber {
+    ghost Value = { List ℕ };
+
+    ghost view = { λ n. drop n.start n.digits };
+
+    ghost invariant = { λ n. n.start ≤ 10 };
+}
+
+impl PaddedNumber {
+    /// The number with zeros in front, up to `least` digits.
+    pub fn new(number: u32, least: usize) -> PaddedNumber
+        requires { least ≤ 10 }
+        ensures { result ≡ padded_number least number }
+    {
+        let mut digits = [b'0'; MOST_DIGITS];
+        let start = write_digits(u64::from(number), &mut digits, MOST_DIGITS);
+        PaddedNumber {
+            digits,
+            start: start.min(MOST_DIGITS - least),
+        }
+    }
+
+    /// The text.
+    pub fn bytes(&self) -> &[u8]
+        ensures { result.now ≡ self.now }
+    {
+        &self.digits[self.start..]
+    }
+}
+
+/// Writes a text behind what is there, with spaces behind it up to `least` bytes.
+pub fn append_padded(out: &mut Vec<u8>, text: &[u8], least: usize) -> Result<(), NoMemory>
+    ensures { OnOk result (out.new.items ≡ out.old.items ++ padded_text least text.now) }
+{
+    out.extend_from_slice(text)?;
+    let spaces = least.saturating_sub(text.len());
+    for _space in 0..spaces {
+        out.push(b' ')?;
+    }
+    Ok(())
+}

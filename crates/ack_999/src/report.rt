@@ -1,0 +1,190 @@
+ghost use Rattle.std.specs.Prelude.{◌≡◌, ◌++◌, [], ◌∷◌, All, IfOk, OnOk};
+ghost use Rattle.ack_999.specs.Report.{text_999, head_text, set_text, sets_text, tail_text, Completes, convention_text, group_response, set_trailer};
+ghost use Rattle.ack_999.specs.Segment.{segments_text};
+ghost use Rattle.ack_999.specs.Number.{padded_number};
+
+use crate::counts::{accepted_sets, listed_sets, segment_count, shows_sets, totals_of};
+use crate::number::PaddedNumber;
+use crate::segment::{append_coded_segment, append_segment};
+use crate::totals::Totals;
+use hub_kinds::{GroupAnswer, NoMemory, SetAnswer, code_text, is_alphanumeric};
+use itoa::Buffer;
+use std::alloc::Global;
+use x12_bytes::Delims;
+
+/// The implementation acknowledgment of a functional group (999 guide, 005010X231), as transaction
+/// set number `n`, written with these delimiters and no byte between segments. Faults aren't
+/// written so far, so the sets have none.
+pub fn write_999(
+    alloc: Global,
+    group: &GroupAnswer,
+    sets: &[SetAnswer],
+    delims: &Delims,
+    n: u32,
+) -> Result<Vec<u8>, NoMemory>
+    requires { All (λ set. set.faults ≡ []) sets.now }
+    ensures { IfOk result (λ v. v.items ≡ text_999 delims.now group.now sets.now n) }
+{
+    let mut out = Vec::new(alloc);
+    append_head(&mut out, delims, group, n)?;
+    append_sets(&mut out, delims, group, sets)?;
+    append_tail(&mut out, delims, group, &totals_of(sets), n)?;
+    Ok(out)
+}
+
+/// Writes an acknowledgment's ST and AK1 behind what is there. Where memory is refused, here and in
+/// the other calls that append, a part of the text may be there.
+pub fn append_head(
+    out: &mut Vec<u8>,
+    delims: &Delims,
+    group: &GroupAnswer,
+    n: u32,
+) -> Result<(), NoMemory>
+    ensures { OnOk result (out.new.items ≡ out.old.items ++ head_text delims.now group.now n) }
+{
+    let number = set_control_number(n);
+    append_segment(
+        out,
+        delims,
+        b"ST",
+        &[b"999".as_slice(), number.bytes(), b"005010X231".as_slice()],
+    )?;
+    append_segment(
+        out,
+        delims,
+        b"AK1",
+        &[
+            group.functional_id.bytes(),
+            group.control.bytes(),
+            group.version.bytes(),
+        ],
+    )
+}
+
+/// Writes a set's AK2 and IK5 behind what is there. Faults aren't written so far, so it has none.
+pub fn append_set(out: &mut Vec<u8>, delims: &Delims, set: &SetAnswer) -> Result<(), NoMemory>
+    requires { set.now.faults ≡ [] }
+    ensures { OnOk result (out.new.items ≡ out.old.items ++ set_text delims.now set.now) }
+{
+    append_segment(
+        out,
+        delims,
+        b"AK2",
+        &[
+            set.identifier.bytes(),
+            set.control.bytes(),
+            convention(set.convention.bytes()),
+        ],
+    )?;
+    append_coded_segment(
+        out,
+        delims,
+        b"IK5",
+        &[code_text(set.verdict).as_bytes()],
+        set.codes.as_slice(),
+    )
+}
+
+/// AK203: ST03, where it can be shown.
+fn convention(text: &[u8]) -> &[u8]
+    ensures { result.now ≡ convention_text text.now }
+{
+    if is_alphanumeric(text, 1, 35) {
+        text
+    } else {
+        &[]
+    }
+}
+
+/// Writes the sets that are shown behind what is there.
+fn append_sets(
+    out: &mut Vec<u8>,
+    delims: &Delims,
+    group: &GroupAnswer,
+    sets: &[SetAnswer],
+) -> Result<(), NoMemory>
+    requires { All (λ set. set.faults ≡ []) sets.now }
+    ensures { OnOk result
+        (out.new.items ≡ out.old.items ++ sets_text delims.now group.now sets.now) }
+{
+    if !shows_sets(group.codes.as_slice()) {
+        return Ok(());
+    }
+    for set in sets {
+        append_set(out, delims, set)?;
+    }
+    Ok(())
+}
+
+/// Writes an acknowledgment's AK9 and SE behind what is there. `totals` are those of all sets of
+/// the group, whether they are shown or not.
+pub fn append_tail(
+    out: &mut Vec<u8>,
+    delims: &Delims,
+    group: &GroupAnswer,
+    totals: &Totals,
+    n: u32,
+) -> Result<(), NoMemory>
+    ensures text { OnOk result
+        (out.new.items ≡ out.old.items ++ tail_text delims.now group.now totals.now n) }
+    ensures whole { OnOk result
+        (Completes delims.now group.now totals.now n out.old.items out.new.items) }
+{
+    append_group_response(out, delims, group, totals)?;
+    append_set_trailer(out, delims, segment_count(group, totals), n)
+}
+
+/// Writes AK9 behind what is there.
+fn append_group_response(
+    out: &mut Vec<u8>,
+    delims: &Delims,
+    group: &GroupAnswer,
+    totals: &Totals,
+) -> Result<(), NoMemory>
+    ensures { OnOk result
+        (out.new.items
+        ≡ out.old.items ++ segments_text delims.now (group_response group.now totals.now ∷ [])) }
+{
+    let mut listed = Buffer::new();
+    let mut received = Buffer::new();
+    let mut accepted = Buffer::new();
+    append_coded_segment(
+        out,
+        delims,
+        b"AK9",
+        &[
+            code_text(group.verdict).as_bytes(),
+            listed.format(listed_sets(group, totals)).as_bytes(),
+            received.format(totals.sets()).as_bytes(),
+            accepted.format(accepted_sets(group, totals)).as_bytes(),
+        ],
+        group.codes.as_slice(),
+    )
+}
+
+/// Writes SE behind what is there.
+fn append_set_trailer(
+    out: &mut Vec<u8>,
+    delims: &Delims,
+    count: u128,
+    n: u32,
+) -> Result<(), NoMemory>
+    ensures { OnOk result
+        (out.new.items ≡ out.old.items ++ segments_text delims.now (set_trailer count n ∷ [])) }
+{
+    let mut digits = Buffer::new();
+    let number = set_control_number(n);
+    append_segment(
+        out,
+        delims,
+        b"SE",
+        &[digits.format(count).as_bytes(), number.bytes()],
+    )
+}
+
+/// ST02 and SE02.
+fn set_control_number(n: u32) -> PaddedNumber
+    ensures { result ≡ padded_number 4 n }
+{
+    PaddedNumber::new(n, 4)
+}

@@ -1,0 +1,33 @@
+ghost use Rattle.std.specs.Prelude.{◌≡◌, List};
+ghost use Rattle.hub_kinds.specs.declared.set_codes.Verdict.{Verdict};
+ghost use Rattle.ack_999.specs.Group.{group_verdict_of, totals_of, verdict_on_totals};
+
+use crate::totals::Totals;
+use hub_kinds::{GroupCode, GroupVerdict};
+
+/// The verdict on a functional group with these codes, whose sets have verdicts of these totals
+/// (999 guide, AK901).
+pub fn group_verdict(codes: &[GroupCode], totals: &Totals) -> GroupVerdict
+    ensures { (verdicts : List Verdict) → totals.now ≡ totals_of verdicts
+        → result ≡ group_verdict_of codes.now verdicts }
+{
+    if !codes.is_empty() {
+        return GroupVerdict::Rejected;
+    }
+    verdict_on(totals)
+}
+
+/// The verdict on the sets of a group without codes.
+fn verdict_on(totals: &Totals) -> GroupVerdict
+    ensures { result ≡ verdict_on_totals totals.now }
+{
+    if totals.accepted_with_errors == 0 && totals.rejected == 0 {
+        GroupVerdict::Accepted
+    } else if totals.rejected == 0 {
+        GroupVerdict::AcceptedWithErrors
+    } else if totals.accepted == 0 && totals.accepted_with_errors == 0 {
+        GroupVerdict::Rejected
+    } else {
+        GroupVerdict::PartlyAccepted
+    }
+}
