@@ -1,0 +1,4 @@
+pub mod Among
+pub mod Answering
+pub mod Replying
+pub mod Only

@@ -1,0 +1,4 @@
+pub mod Answers
+pub mod First
+pub mod Seen
+pub mod Known

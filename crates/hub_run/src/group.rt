@@ -1,0 +1,54 @@
+ghost use Rattle.std.specs.Prelude.{◌≡◌, [], IfOk, option_map};
+ghost use Rattle.hub_run.specs.Answers.{answer_before_sets, trailer_of};
+
+use ack_999::{GroupTrailer, Totals, group_codes, group_verdict};
+use env_index::GroupEnvelope;
+use hub_kinds::{GroupAnswer, Lent, NoMemory};
+use std::alloc::Global;
+use x12_segs::SegView;
+
+/// The answer to a group, before any of its sets is counted: its verdict is still that of a group without
+/// sets.
+pub(crate) fn answer_before_sets<'a>(
+    alloc: Global,
+    group: &GroupEnvelope<'a>,
+) -> Result<GroupAnswer<'a>, NoMemory>
+    ensures { IfOk result (λ answer. answer ≡ answer_before_sets group.now) }
+{
+    let header = group.header();
+    let control = header.element(6);
+    let trailer = group_trailer(group);
+    let listed = match &trailer {
+        Some(trailer) => trailer.listed.bytes(),
+        None => b"".as_slice(),
+    };
+    let codes = group_codes(alloc, control, trailer.as_ref(), group.set_count() as u64)?;
+    let verdict = group_verdict(codes.as_slice(), &Totals::new());
+    Ok(GroupAnswer {
+        functional_id: Lent::new(header.element(1)),
+        control: Lent::new(control),
+        version: Lent::new(header.element(8)),
+        listed: Lent::new(listed),
+        codes,
+        verdict,
+    })
+}
+
+/// GE01 and GE02, where the group has a GE.
+fn group_trailer<'a>(group: &GroupEnvelope<'a>) -> Option<GroupTrailer<'a>>
+    ensures { result ≡ option_map trailer_of group.now.trailer }
+{
+    match group.trailer() {
+        Some(trailer) => Some(trailer_of(&trailer)),
+        None => None,
+    }
+}
+
+fn trailer_of<'a>(trailer: &SegView<'a>) -> GroupTrailer<'a>
+    ensures { result ≡ trailer_of trailer.now }
+{
+    GroupTrailer {
+        listed: Lent::new(trailer.element(1)),
+        control: Lent::new(trailer.element(2)),
+    }
+}

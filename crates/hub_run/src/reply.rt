@@ -1,0 +1,48 @@
+ghost use Rattle.std.specs.Prelude.{◌≡◌, IfOk};
+ghost use Rattle.hub_run.specs.Answers.{answer_to};
+ghost use Rattle.hub_run.specs.First.{reply_text};
+
+use crate::answers::append_answers;
+use crate::envelope::reply_envelope;
+use crate::group::answer_before_sets;
+use ack_999::{append_closing, append_head, append_opening, append_tail, group_verdict};
+use elem_rules::At;
+use env_index::GroupEnvelope;
+use hub_kinds::{GroupVerdict, NoMemory, Text};
+use std::alloc::Global;
+use x12_bytes::Header;
+
+/// What the first path gives.
+#[derive(Debug, Drop)]
+pub struct First {
+    /// The acknowledgment: one interchange with one 999 (999 guide, 005010X231).
+    pub ack: Text,
+    /// The verdict on the group (AK901).
+    pub verdict: GroupVerdict,
+}
+
+/// The answer to the one group of an interchange with this header.
+pub(crate) fn reply<'a>(
+    alloc: Global,
+    header: &Header<'a>,
+    group: &GroupEnvelope<'a>,
+    at: &At,
+) -> Result<First, NoMemory>
+    ensures ack { IfOk result (λ first. first.ack ≡ reply_text header.now group.now at.now) }
+    ensures verdict { IfOk result (λ first. first.verdict ≡ (answer_to group.now).verdict) }
+{
+    let delims = header.delims();
+    let envelope = reply_envelope(header, &group.header());
+    let mut answer = answer_before_sets(alloc, group)?;
+    let mut out = Vec::new(alloc);
+    append_opening(&mut out, &envelope, at, 1)?;
+    append_head(&mut out, &delims, &answer, 1)?;
+    let totals = append_answers(alloc, &mut out, &delims, group)?;
+    answer.verdict = group_verdict(answer.codes.as_slice(), &totals);
+    append_tail(&mut out, &delims, &answer, &totals, 1)?;
+    append_closing(&mut out, &envelope, 1, 1)?;
+    Ok(First {
+        ack: Text::from_vec(out),
+        verdict: answer.verdict,
+    })
+}
