@@ -1,0 +1,31 @@
+-- The program's results (own): what is printed, and the status of the 999's AK901.
+use Rattle.std.specs.Prelude.{ℕ, List, string_bytes}
+use Rattle.hub_kinds.specs.declared.set_codes.GroupVerdict.{GroupVerdict}
+use Rattle.hub_kinds.specs.declared.set_codes.GroupVerdict.TheVariants.{Accepted, AcceptedWithErrors, PartlyAccepted, Rejected}
+use Rattle.env_index.specs.Interchange.{InterchangeEntry}
+use Rattle.env_index.specs.Summary.{GroupEntry}
+use Rattle.hub_run.specs.First.{IsOne, IsReply}
+use Rattle.nighthub.specs.declared.outcome.Outcome.{Outcome}
+use Rattle.nighthub.specs.declared.outcome.Outcome.TheVariants.{Shown, Acknowledged}
+
+-- the bytes that are printed
+abbrev pub text_of : Outcome → List ℕ
+text_of (Shown text) = string_bytes text
+text_of (Acknowledged first) = first.ack
+
+-- 1 where the group is partly accepted or rejected
+abbrev pub verdict_status : GroupVerdict → ℕ
+verdict_status Accepted = 0
+verdict_status AcceptedWithErrors = 0
+verdict_status PartlyAccepted = 1
+verdict_status Rejected = 1
+
+abbrev pub status_of : Outcome → ℕ
+status_of (Shown text) = 0
+status_of (Acknowledged first) = verdict_status first.verdict
+
+-- the acknowledgment of a text that is one interchange with one group
+abbrev pub IsAnswer : List ℕ → List ℕ → Outcome → Type 0
+IsAnswer text at (Shown shown) = ⊥
+IsAnswer text at (Acknowledged first) =
+    (x : InterchangeEntry) × (group : GroupEntry) × IsOne text x group × IsReply at first.ack first.verdict x group
