@@ -1,0 +1,71 @@
+#!/usr/bin/env python3
+"""Runs nighthub over large single interchanges and prints what it costs.
+
+usage: bench/first.py [PROGRAM]     (crates/nighthub/out/nighthub if absent)
+
+Three inputs are made in a fresh folder: 64 MB of sets as in the bundled example, and 200,000 and 2,000,000 sets
+without segments of their own, each with a number of its own. For each: seconds, megabytes a second, the ratio to
+counting the terminators of the same file in the same run, the size of the acknowledgment and the peak memory; last
+the growth from the smaller to the larger of the empty ones.
+"""
+import os
+import subprocess
+import sys
+import tempfile
+import time
+
+HERE = os.path.dirname(os.path.abspath(__file__))
+PROGRAM = os.path.join(HERE, '..', 'crates', 'nighthub', 'out', 'nighthub')
+HEADER = (b'ISA*00*          *00*          *01*ACME           *ZZ*HUB            '
+          b'*260228*0900*^*00501*000000007*0*P*>~GS*PO*ACME*BOLT*20260228*0900*12*X*005010~')
+ORDER = b'BEG*00*SA*PO100**20260228~PO1*1*5*EA*2.50~'
+
+
+def interchange(path, sets, inner, segments):
+    with open(path, 'wb') as out:
+        out.write(HEADER)
+        for n in range(1, sets + 1):
+            out.write(b'ST*850*%07d~%sSE*%d*%07d~' % (n, inner, segments, n))
+        out.write(b'GE*%d*12~IEA*1*000000007~' % sets)
+
+
+def run(program, path, answer):
+    with open(answer, 'wb') as out:
+        begun = time.perf_counter()
+        child = subprocess.Popen([program, '--in', path, '--at', '202603011530'], stdout=out)
+        _, status, used = os.wait4(child.pid, 0)
+        seconds = time.perf_counter() - begun
+    return os.waitstatus_to_exitcode(status), seconds, used.ru_maxrss / 1024
+
+
+def counted(path):
+    begun = time.perf_counter()
+    with open(path, 'rb') as text:
+        text.read().count(b'~')
+    return time.perf_counter() - begun
+
+
+def main():
+    program = os.path.abspath(sys.argv[1] if len(sys.argv) > 1 else PROGRAM)
+    if not os.access(program, os.X_OK):
+        sys.exit(f'{program} is no program: build it first')
+    whole = len(b'ST*850*0000001~' + ORDER + b'SE*4*0000001~')
+    cases = [('64 MB of orders', 64_000_000 // whole, ORDER, 4),
+             ('200,000 empty sets', 200_000, b'', 2),
+             ('2,000,000 empty sets', 2_000_000, b'', 2)]
+    seconds = {}
+    with tempfile.TemporaryDirectory() as folder:
+        for name, sets, inner, segments in cases:
+            path, answer = os.path.join(folder, 'in.x12'), os.path.join(folder, 'answer.x12')
+            interchange(path, sets, inner, segments)
+            size = os.path.getsize(path) / 1e6
+            base = counted(path)
+            status, seconds[name], peak = run(program, path, answer)
+            print(f'{name}: {size:.1f} MB in {seconds[name]:.2f} s, {size / seconds[name]:.1f} MB a second, '
+                  f'{seconds[name] / base:.1f} times counting terminators, '
+                  f'acknowledgment {os.path.getsize(answer) / 1e6:.1f} MB, peak {peak:.0f} MB, status {status}')
+    growth = seconds['2,000,000 empty sets'] / seconds['200,000 empty sets']
+    print(f'growth from 200,000 to 2,000,000 empty sets: {growth:.1f} times')
+
+
+main()
