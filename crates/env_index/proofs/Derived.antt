@@ -1,14 +1,14 @@
 -- The summary of the segments is that of each tree that they derive.
-use Rattle.std.proofs.Common.{◌≡◌, ℕ, ◌+◌, ◌<◌, ◌≤◌, List, [], ◌∷◌, ◌++◌, Bool, true, false, ◌||◌, ◌&&◌, not, cond, Option, Some, None, length, refl, sym, ap, subst, ◌∙◌, arith, append_assoc, length-append}
+use Rattle.std.proofs.Common.{◌≡◌, ℕ, ◌+◌, List, [], ◌∷◌, ◌++◌, true, false, ◌||◌, ◌&&◌, Option, Some, None, length, refl, sym, ap, ◌∙◌, arith, append_assoc}
 use Rattle.std.specs.List.{flat_map, list_all}
 use Rattle.x12_segs.specs.View.{SegValue}
 use Rattle.env_index.specs.Kinds.{kind_of}
-use Rattle.env_index.specs.Envelope.{Set, InGroup, ASet, OutOfGroup, Group, InBody, ANotice, AGroup, OutOfBody, Body, option_items, set_items, in_group_items, group_items, in_body_items, body_items, ends_set, ends_group, is_inner, is_out_of_group, is_out_of_body, MayFollow, Closed, IsSet, AreMembers, IsGroup, AreBodyMembers, IsBody, Derives}
+use Rattle.env_index.specs.Envelope.{Set, InGroup, ASet, OutOfGroup, Group, InBody, ANotice, AGroup, OutOfBody, Body, option_items, set_items, in_group_items, group_items, in_body_items, ends_set, ends_group, is_inner, is_out_of_group, is_out_of_body, MayFollow, Closed, IsSet, AreMembers, IsGroup, AreBodyMembers, Derives}
 use Rattle.env_index.specs.declared.kind.Kind.{Kind}
 use Rattle.env_index.specs.declared.kind.Kind.TheVariants.{InterchangeTrailer, GroupHeader, GroupTrailer, SetHeader, SetTrailer, Notice, Other}
 use Rattle.env_index.specs.declared.entry.SetEnvelope.{SetEnvelope}
-use Rattle.env_index.specs.Summary.{GroupEntry, Summary, set_entry, sets_in, group_entry, groups_in, notices_in, has_misplaced_in_group, has_misplaced, summary_of}
-use Rattle.env_index.proofs.Tails.{GroupTail, SetTail, Tails, nothing, left_open, cut_off, no_segments, with_notice, with_misplaced, with_group, with_trailer, with_set, onto_body, onto_group, onto_set, onto, tails, summed}
+use Rattle.env_index.specs.Summary.{Summary, set_entry, sets_in, group_entry, has_misplaced_in_group, summary_of}
+use Rattle.env_index.proofs.Tails.{GroupTail, SetTail, Tails, left_open, cut_off, no_segments, with_notice, with_misplaced, with_group, with_set, onto_body, onto_group, onto_set, tails, summed}
 
 -- where a set may be left without SE, an open set ends
 closes_set : (rest : List SegValue) → MayFollow ends_set rest → (tails rest).in_set ≡ cut_off (tails rest).in_group
@@ -57,6 +57,7 @@ in_open_set (x ∷ xs) close rest all closed = by_kind (kind_of x) (λ others. i
         let n : length (xs ++ option_items close) + 1 ≡ length (x ∷ (xs ++ option_items close)) = omega arith in
         ap (λ (u : SetTail). (let v : SetTail = record u { count = u.count + 1 } in v)) is
         ∙ ap (λ (k : ℕ). (let v : SetTail = record { count = k; close = close; after = (tails rest).in_group } in v)) n
+
     by_kind : (k : Kind) → (list_all (λ x. is_inner (kind_of x)) xs ≡ true → (tails (xs ++ (option_items close ++ rest))).in_set ≡ told_set close rest (xs ++ option_items close)) → (is_inner k && list_all (λ x. is_inner (kind_of x)) xs) ≡ true → onto_set k x (tails (xs ++ (option_items close ++ rest))) ≡ told_set close rest (x ∷ (xs ++ option_items close))
     by_kind InterchangeTrailer more all = cc
     by_kind GroupHeader more all = cc
@@ -73,14 +74,14 @@ set_in_front s rest is =
     let behind : List SegValue = s.inner ++ (option_items s.trailer ++ rest) in
     let shape : (s.inner ++ option_items s.trailer) ++ rest ≡ behind = append_assoc s.inner (option_items s.trailer) rest in
     by_kind (kind_of s.header) (tails ((s.inner ++ option_items s.trailer) ++ rest)) is.header
-      (ap (λ (segs : List SegValue). (tails segs).in_set) shape ∙ in_open_set s.inner s.trailer rest is.inner is.trailer)
+    (ap (λ (segs : List SegValue). (tails segs).in_set) shape ∙ in_open_set s.inner s.trailer rest is.inner is.trailer)
   where
     by_kind : (k : Kind) (t : Tails) → k ≡ SetHeader → t.in_set ≡ record { count = length (s.inner ++ option_items s.trailer); close = s.trailer; after = (tails rest).in_group }
         → onto_group k s.header t ≡ (let g : GroupTail = (tails rest).in_group in (let u : GroupTail = record g { sets = set_entry s ∷ g.sets } in u))
     by_kind k t header goes_on =
         let n : length (s.inner ++ option_items s.trailer) + 1 ≡ length (set_items s) = omega arith in
         rw header (ap (with_set s.header) goes_on ∙ ap (λ (k : ℕ). (let g : GroupTail = (tails rest).in_group in
-          (let u : GroupTail = record g { sets = (let e : SetEnvelope = record { header = s.header; segments = k; trailer = s.trailer } in e) ∷ g.sets } in u))) n)
+        (let u : GroupTail = record g { sets = (let e : SetEnvelope = record { header = s.header; segments = k; trailer = s.trailer } in e) ∷ g.sets } in u))) n)
 
 -- members in front of what an open group goes on with
 abbrev front_members : List InGroup → GroupTail → GroupTail
@@ -132,10 +133,10 @@ group_in_front g rest is =
     let items : List SegValue = flat_map in_group_items g.members in
     let inside : List SegValue = (items ++ option_items g.trailer) ++ rest in
     by_kind (kind_of g.header) (tails inside) is.header
-      (ap (λ (segs : List SegValue). (tails segs).in_group) (append_assoc items (option_items g.trailer) rest)
-      ∙ members_in_front g.members (option_items g.trailer ++ rest) is.members
-      ∙ ap (front_members g.members) (group_ends g.trailer rest is.trailer)
-      ∙ members_told g.members g.trailer (tails rest).in_body)
+    (ap (λ (segs : List SegValue). (tails segs).in_group) (append_assoc items (option_items g.trailer) rest)
+    ∙ members_in_front g.members (option_items g.trailer ++ rest) is.members
+    ∙ ap (front_members g.members) (group_ends g.trailer rest is.trailer)
+    ∙ members_told g.members g.trailer (tails rest).in_body)
   where
     by_kind : (k : Kind) (t : Tails) → k ≡ GroupHeader → t.in_group ≡ record { sets = sets_in g.members; close = g.trailer; misplaced = has_misplaced_in_group g.members; after = (tails rest).in_body }
         → onto_body k g.header t ≡ front_group g (tails rest).in_body

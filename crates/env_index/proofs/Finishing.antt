@@ -1,11 +1,10 @@
 -- What the walk answers, from what it has read and what ends it.
-use Rattle.std.proofs.Common.{◌≡◌, ◌≢◌, ℕ, ◌+◌, ◌<◌, ◌≤◌, List, [], ◌∷◌, Bool, true, false, Option, Some, None, Result, length, sym, ap, ◌∙◌, arith, IfOk}
+use Rattle.std.proofs.Common.{◌≡◌, ◌≢◌, ℕ, ◌+◌, ◌≤◌, List, true, false, Option, Some, None, Result, length, sym, ap, ◌∙◌, IfOk}
 use Rattle.std.proofs.lemmas.Result.{IfOk-weaker}
 use Rattle.x12_bytes.specs.HeaderTest.{is_head}
 use Rattle.x12_bytes.specs.declared.delims.Delims.{Delims}
 use Rattle.x12_segs.specs.Scan.{IsNextPart}
 use Rattle.x12_segs.specs.View.{SegValue}
-use Rattle.x12_segs.specs.declared.part.Part.{Part}
 use Rattle.x12_segs.specs.declared.part.Part.TheVariants.{Segment, Rest}
 use Rattle.hub_kinds.specs.declared.memory.NoMemory.{NoMemory}
 use Rattle.env_index.specs.Kinds.{kind_of}

@@ -1,8 +1,10 @@
-pub mod Tails
 pub mod Derived
-pub mod Trees
-pub mod Steps
-pub mod Walking
-pub mod Finishing
 pub mod Each
+pub mod Finishing
+pub mod OneChain
+pub mod OneTree
+pub mod Steps
 pub mod Surround
+pub mod Tails
+pub mod Trees
+pub mod Walking

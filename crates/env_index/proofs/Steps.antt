@@ -1,13 +1,12 @@
 -- What has been read of an interchange so far, and what the segments to come make of it.
 use Rattle.std.proofs.Common.{◌≡◌, ◌≢◌, ℕ, ◌+◌, List, [], ◌∷◌, ◌++◌, Bool, true, false, ◌||◌, Option, Some, None, refl, sym, ap, ◌∙◌, arith, append_assoc}
-use Rattle.std.proofs.lemmas.Grind.{common_steps}
 use Rattle.x12_segs.specs.View.{SegValue}
 use Rattle.env_index.specs.declared.kind.Kind.{Kind}
 use Rattle.env_index.specs.declared.kind.Kind.TheVariants.{InterchangeTrailer, GroupHeader, GroupTrailer, SetHeader, SetTrailer, Notice, Other}
 use Rattle.env_index.specs.declared.entry.SetEnvelope.{SetEnvelope}
 use Rattle.env_index.specs.Summary.{GroupEntry, Summary}
 use Rattle.env_index.specs.Reading.{State, end_set, end_group, end_all, misplace, step, finished, nothing_read}
-use Rattle.env_index.proofs.Tails.{GroupTail, SetTail, Tails, left_open, cut_off, no_segments, with_group, with_set, onto_body, onto_group, onto_set, onto}
+use Rattle.env_index.proofs.Tails.{GroupTail, SetTail, Tails, cut_off, no_segments, with_group, with_set, onto}
 
 -- what is whole, in front of what an interchange goes on with
 abbrev pub put : State → Summary → Summary
@@ -165,12 +164,15 @@ finish_at trailer s group set =
     closes : (trailer : Option SegValue) → (last_tails trailer).in_set ≡ cut_off (last_tails trailer).in_group
     closes None = refl
     closes (Some x) = refl
+
     ends : (trailer : Option SegValue) → (last_tails trailer).in_group ≡ group_end None (last_tails trailer).in_body
     ends None = refl
     ends (Some x) = refl
+
     or_false : (b : Bool) → (b || false) ≡ b
     or_false true = refl
     or_false false = refl
+
     to_end : (trailer : Option SegValue) (s : State) → finished trailer s ≡ put s (last_tails trailer).in_body
     to_end None s = let n : s.notices ≡ s.notices + 0 = omega arith in
         ap (λ (gs : List GroupEntry). (let r : Summary = record { groups = gs; notices = s.notices; misplaced = s.misplaced; trailer = None } in r)) (sym (append_nil s.groups))

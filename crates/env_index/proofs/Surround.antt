@@ -1,18 +1,17 @@
 -- What stands around an interchange that is alone.
-use Rattle.std.proofs.Common.{◌≡◌, ◌≢◌, ℕ, ◌+◌, ◌-◌, ◌<◌, ◌≤◌, List, [], ◌∷◌, Bool, true, false, not, ◌&&◌, nat_eq, leb, length, take, drop, get_or, cond, zero, suc, refl, sym, ap, subst, ◌∙◌, inl, inr, arith}
+use Rattle.std.proofs.Common.{◌≡◌, ℕ, ◌+◌, ◌-◌, ◌<◌, ◌≤◌, List, [], ◌∷◌, Bool, true, false, not, ◌&&◌, nat_eq, leb, length, take, drop, get_or, cond, zero, suc, refl, sym, ap, subst, ◌∙◌, inl, inr, arith}
 use Rattle.std.specs.Prelude.{codes, count_by}
 use Rattle.std.specs.List.{slice_range, prefix_len}
 use Rattle.std.specs.Str.{bytes_eq}
 use Rattle.std.specs.Cmp.Lexicographic.{bytes_decides}
 use Rattle.std.proofs.lemmas.Bool.{and_parts, false_from_ne_true, both_ways}
 use Rattle.std.proofs.lemmas.Bool.Decides.{leb_tells}
-use Rattle.std.proofs.lemmas.Grind.{common_steps}
 use Rattle.std.proofs.lemmas.List.{get_or-drop, get_or-take, length-drop, length-take}
 use Rattle.std.proofs.lemmas.List.Recursion.{is_count_by}
-use Rattle.std.proofs.lemmas.List.Sums.{prefix_len_passes, prefix_len_stops, prefix_len-le-length}
+use Rattle.std.proofs.lemmas.List.Sums.{prefix_len_passes, prefix_len_stops}
 use Rattle.x12_bytes.specs.Header.{header_at}
 use Rattle.x12_bytes.specs.HeaderTest.{is_head, is_header, has_delims, has_fields}
-use Rattle.env_index.specs.Extents.{Extent, IsNextHead, ChainFrom, Chain, is_filler, count_outside, reach_at}
+use Rattle.env_index.specs.Extents.{Extent, is_filler, reach_at}
 use Rattle.env_index.specs.Lone.{IsLone}
 
 -- a header is bytes of the text, and begins with the letter I

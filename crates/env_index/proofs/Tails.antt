@@ -5,7 +5,7 @@ use Rattle.env_index.specs.Kinds.{kind_of}
 use Rattle.env_index.specs.declared.kind.Kind.{Kind}
 use Rattle.env_index.specs.declared.kind.Kind.TheVariants.{InterchangeTrailer, GroupHeader, GroupTrailer, SetHeader, SetTrailer, Notice, Other}
 use Rattle.env_index.specs.declared.entry.SetEnvelope.{SetEnvelope}
-use Rattle.env_index.specs.Summary.{GroupEntry, Summary}
+use Rattle.env_index.specs.Summary.{Summary}
 
 -- if a group is open: its sets that begin here, its GE, whether a segment is out of place in it; what follows it
 pub record GroupTail : Type 0 where

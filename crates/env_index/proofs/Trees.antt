@@ -1,10 +1,10 @@
 -- Segments among which an IEA is the last derive a tree.
-use Rattle.std.proofs.Common.{◌≡◌, ℕ, ◌+◌, List, [], ◌∷◌, ◌++◌, Bool, true, false, ◌&&◌, Option, Some, None, length, refl, sym, ap, subst, ◌∙◌, append_assoc}
+use Rattle.std.proofs.Common.{◌≡◌, List, [], ◌∷◌, ◌++◌, Bool, true, ◌&&◌, Option, Some, None, refl, sym, ap, subst, ◌∙◌, append_assoc}
 use Rattle.std.specs.List.{flat_map, list_all}
 use Rattle.x12_segs.specs.View.{SegValue}
 use Rattle.env_index.specs.Kinds.{kind_of}
 use Rattle.env_index.specs.Extents.{ends_interchange}
-use Rattle.env_index.specs.Envelope.{Set, InGroup, ASet, OutOfGroup, Group, InBody, ANotice, AGroup, OutOfBody, Body, option_items, set_items, in_group_items, group_items, in_body_items, body_items, ends_set, ends_group, is_inner, is_out_of_group, is_out_of_body, MayFollow, Closed, IsSet, AreMembers, IsGroup, AreBodyMembers, IsBody, Derives}
+use Rattle.env_index.specs.Envelope.{Set, InGroup, ASet, OutOfGroup, Group, ANotice, AGroup, OutOfBody, Body, option_items, set_items, in_group_items, group_items, in_body_items, body_items, ends_set, ends_group, is_inner, is_out_of_group, is_out_of_body, MayFollow, Closed, IsSet, AreMembers, IsGroup, IsBody, Derives}
 use Rattle.env_index.specs.declared.kind.Kind.{Kind}
 use Rattle.env_index.specs.declared.kind.Kind.TheVariants.{InterchangeTrailer, GroupHeader, GroupTrailer, SetHeader, SetTrailer, Notice, Other}
 
@@ -85,9 +85,9 @@ group_first x xs is g =
     record {
       body = record { members = AGroup group ∷ b.members; trailer = b.trailer };
       items =
-        append_assoc (group_items group) (flat_map in_body_items b.members) (option_items b.trailer)
-        ∙ ap (λ (ys : List SegValue). group_items group ++ ys) g.rest.items
-        ∙ ap (λ (ys : List SegValue). x ∷ ys) (append_assoc inside (option_items g.trailer) g.behind ∙ g.items);
+          append_assoc (group_items group) (flat_map in_body_items b.members) (option_items b.trailer)
+          ∙ ap (λ (ys : List SegValue). group_items group ++ ys) g.rest.items
+          ∙ ap (λ (ys : List SegValue). x ∷ ys) (append_assoc inside (option_items g.trailer) g.behind ∙ g.items);
       is = record {
         members = (subst (IsGroup group) (sym g.rest.items) (record { header = is; members = g.are; trailer = g.closed }), g.rest.is.members);
         trailer = g.rest.is.trailer;
@@ -118,9 +118,9 @@ set_first x xs is s =
       trailer = g.trailer;
       behind = g.behind;
       items =
-        append_assoc (set_items set) (flat_map in_group_items g.members) tail
-        ∙ ap (λ (ys : List SegValue). set_items set ++ ys) g.items
-        ∙ ap (λ (ys : List SegValue). x ∷ ys) (append_assoc s.inner (option_items s.trailer) s.behind ∙ s.items);
+          append_assoc (set_items set) (flat_map in_group_items g.members) tail
+          ∙ ap (λ (ys : List SegValue). set_items set ++ ys) g.items
+          ∙ ap (λ (ys : List SegValue). x ∷ ys) (append_assoc s.inner (option_items s.trailer) s.behind ∙ s.items);
       are = (subst (IsSet set) (sym g.items) (record { header = is; inner = s.all; trailer = s.closed }), g.are);
       closed = g.closed;
       rest = g.rest;

@@ -1,5 +1,5 @@
 -- What the next part makes of an interchange's reach.
-use Rattle.std.proofs.Common.{◌≡◌, ◌≢◌, ℕ, ◌+◌, ◌-◌, ◌<◌, ◌≤◌, List, [], ◌∷◌, ◌++◌, Bool, true, false, Option, Some, None, length, map, cond, refl, sym, ap, subst, ◌∙◌, arith}
+use Rattle.std.proofs.Common.{◌≡◌, ◌≢◌, ℕ, ◌+◌, ◌≤◌, List, [], ◌∷◌, Bool, true, false, length, map, cond, refl, ap, ◌∙◌, arith}
 use Rattle.std.specs.List.{slice_range}
 use Rattle.std.proofs.lemmas.List.{length-take, length-drop}
 use Rattle.x12_bytes.specs.HeaderTest.{is_head}
@@ -7,7 +7,6 @@ use Rattle.x12_bytes.specs.declared.delims.Delims.{Delims}
 use Rattle.x12_segs.specs.Segs.{Seg, seg_at, segs_from, rest_from}
 use Rattle.x12_segs.specs.Scan.{IsNextPart}
 use Rattle.x12_segs.specs.View.{SegValue, view_of}
-use Rattle.x12_segs.specs.declared.part.Part.{Part}
 use Rattle.x12_segs.specs.declared.part.Part.TheVariants.{Segment, Rest}
 use Rattle.env_index.specs.Kinds.{kind_of}
 use Rattle.env_index.specs.declared.kind.Kind.{Kind}

@@ -1,5 +1,5 @@
 -- X12.5, interchange, and X12.6, functional group and transaction set: the grammar of an interchange's segments. What a missing trailer asks of the segment behind it, and what counts as out of place, are own.
-use Rattle.std.specs.Prelude.{◌≡◌, ℕ, List, [], ◌∷◌, ◌++◌, Bool, true, false, Option, Some, None}
+use Rattle.std.specs.Prelude.{◌≡◌, List, [], ◌∷◌, ◌++◌, Bool, true, false, Option, Some, None}
 use Rattle.std.specs.List.{flat_map, list_all}
 use Rattle.x12_segs.specs.View.{SegValue}
 use Rattle.env_index.specs.Kinds.{kind_of}

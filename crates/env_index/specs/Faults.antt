@@ -1,22 +1,21 @@
 -- X12.5, interchange control numbers and counts, and X12.6, functional group and transaction set headers: the faults 1 to 7 of an interchange, the least reported (own numbers).
-use Rattle.std.specs.Prelude.{ℕ, Bool, true, false, not, ◌&&◌, ◌||◌, ◌==◌, List, length, Option, Some, None, is_none, is_some, if◌then◌else◌}
-use Rattle.std.specs.List.{list_all, list_any}
+use Rattle.std.specs.Prelude.{ℕ, Bool, false, not, ◌&&◌, ◌==◌, List, length, Option, Some, None, if◌then◌else◌}
+use Rattle.std.specs.List.{list_all}
 use Rattle.std.specs.Char.{is_ascii_uppercase}
 use Rattle.x12_bytes.specs.Header.{field_of}
 use Rattle.x12_segs.specs.View.{SegValue, element_of}
-use Rattle.hub_kinds.specs.Numbers.{is_number, number_of, value_of}
+use Rattle.hub_kinds.specs.Numbers.{is_number, number_of}
 use Rattle.hub_kinds.specs.Words.{is_word}
 use Rattle.hub_kinds.specs.declared.interchange.InterchangeFault.{InterchangeFault}
 use Rattle.hub_kinds.specs.declared.interchange.InterchangeFault.TheVariants.{TrailerMissing, ControlNumberInvalid, ControlNumbersDiffer, GroupCountWrong, SegmentMisplaced, GroupHeaderInvalid, SetHeaderInvalid}
-use Rattle.env_index.specs.Summary.{GroupEntry, Summary}
+use Rattle.env_index.specs.Summary.{GroupEntry}
 use Rattle.env_index.specs.Interchange.{InterchangeEntry}
-use Rattle.env_index.specs.declared.entry.SetEnvelope.{SetEnvelope}
 
--- a text of 1 to so many digits that writes a number
 abbrev pub is_some_number : Option ℕ → ℕ → Bool
 is_some_number None n = false
 is_some_number (Some m) n = m == n
 
+-- a text of 1 to so many digits writes this number
 abbrev pub writes_number : ℕ → List ℕ → ℕ → Bool
 writes_number most text n = is_some_number (number_of most text) n
 
@@ -24,10 +23,11 @@ writes_number most text n = is_some_number (number_of most text) n
 abbrev pub control_number : List ℕ → Option ℕ
 control_number header = if length (field_of header 13) == 9 then number_of 9 (field_of header 13) else None
 
--- IEA02 is ISA13 as a number, and IEA01 the number of groups
+-- IEA02 is ISA13 as a number
 abbrev pub has_control : SegValue → ℕ → Bool
 has_control trailer control = writes_number 9 (element_of trailer 2) control
 
+-- IEA01 is the number of groups
 abbrev pub counts_groups : SegValue → ℕ → Bool
 counts_groups trailer groups = writes_number 5 (element_of trailer 1) groups
 
@@ -41,6 +41,7 @@ is_group_header header =
 abbrev pub is_set_header : SegValue → Bool
 is_set_header header = is_word 3 3 (element_of header 1) && is_word 1 9 (element_of header 2)
 
+-- the ST of each set of a group
 abbrev pub has_set_headers : GroupEntry → Bool
 has_set_headers group = list_all (λ set. is_set_header set.header) group.sets
 
@@ -60,6 +61,7 @@ fault_with x trailer (Some control) =
     else if x.content.misplaced then Some SegmentMisplaced
     else fault_of_headers x
 
+-- the least fault of an interchange, by its IEA
 abbrev pub fault_by : InterchangeEntry → Option SegValue → Option InterchangeFault
 fault_by x None = Some TrailerMissing
 fault_by x (Some trailer) = fault_with x trailer (control_number x.header)

@@ -5,6 +5,7 @@ use Rattle.env_index.specs.Envelope.{Body}
 use Rattle.env_index.specs.Extents.{reach_at}
 use Rattle.env_index.specs.Summary.{Summary, summary_of}
 
+-- an interchange: its ISA, the offset of its first byte, the offset behind its last, and what it has behind the ISA
 pub record InterchangeEntry : Type 0 where
   pub header : List ℕ
   pub start : ℕ

@@ -1,10 +1,11 @@
 -- X12.5, interchange control segments, and X12.6, control segments: what a segment's id says of its place.
-use Rattle.std.specs.Prelude.{ℕ, Bool, List, codes, if◌then◌else◌}
+use Rattle.std.specs.Prelude.{ℕ, List, codes, if◌then◌else◌}
 use Rattle.std.specs.Str.{bytes_eq}
 use Rattle.x12_segs.specs.View.{SegValue, id_of}
 use Rattle.env_index.specs.declared.kind.Kind.{Kind}
 use Rattle.env_index.specs.declared.kind.Kind.TheVariants.{InterchangeTrailer, GroupHeader, GroupTrailer, SetHeader, SetTrailer, Notice, Other}
 
+-- the kind that an id names
 abbrev pub kind_by_id : List ℕ → Kind
 kind_by_id id =
     if bytes_eq id (codes "IEA") then InterchangeTrailer
@@ -15,5 +16,6 @@ kind_by_id id =
     else if bytes_eq id (codes "TA1") then Notice
     else Other
 
+-- the kind of a segment
 unfoldable pub kind_of : SegValue → Kind
 kind_of seg = kind_by_id (id_of seg)

@@ -1,9 +1,9 @@
-pub mod Extents
 pub mod Envelope
+pub mod Extents
+pub mod Faults
+pub mod Interchange
 pub mod Kinds
-pub mod Summary
+pub mod Lone
 pub mod Places
 pub mod Reading
-pub mod Interchange
-pub mod Faults
-pub mod Lone
+pub mod Summary

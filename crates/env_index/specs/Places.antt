@@ -1,5 +1,5 @@
--- X12.6, segment: what stands at a place of the text.
-use Rattle.std.specs.Prelude.{ℕ, List, map, Option, option_map, slice_range}
+-- X12.6, segment: what stands at a place of the text (for the models of the types and for inner clauses; no public clause cites it).
+use Rattle.std.specs.Prelude.{ℕ, List, map, option_map, slice_range}
 use Rattle.x12_bytes.specs.declared.delims.Delims.{Delims}
 use Rattle.x12_segs.specs.View.{SegValue}
 use Rattle.env_index.specs.declared.entry.SetEnvelope.{SetEnvelope}

@@ -16,25 +16,24 @@ pub(crate) struct Builder {
     /// Whether a segment was out of place.
     pub(crate) misplaced: bool,
     /// The GS of the open group.
-    group: Option<Stretch>,
+    pub(crate) group: Option<Stretch>,
     /// The whole sets of the open group.
-    sets: Vec<SetPlace>,
+    pub(crate) sets: Vec<SetPlace>,
     /// The ST of the open set.
-    set: Option<Stretch>,
+    pub(crate) set: Option<Stretch>,
     /// How many segments stand behind that ST.
-    count: u32,
-    /// How many segments were taken.
-    seen: u32,
+    pub(crate) count: u32,
+    /// How many segments were taken: what bounds the counts.
+    pub(crate) seen: u32,
     ghost few_notices: { notices ≤ seen },
     ghost few_segments: { count ≤ seen },
 }
 
 impl Builder {
-    ghost use Rattle.std.specs.Prelude.{◌≡◌, ◌≢◌, ℕ, ◌+◌, ◌<◌, ◌≤◌, ◌^◌, List, OnOk, IfOk, IsSome, Option, Some, option_map};
+    ghost use Rattle.std.specs.Prelude.{◌≡◌, ℕ, ◌+◌, ◌<◌, ◌≤◌, ◌^◌, List, OnOk, IfOk, option_map};
     ghost use Rattle.x12_bytes.specs.declared.delims.Delims.{Delims};
     ghost use Rattle.env_index.specs.Places.{seg_in, body_in};
     ghost use Rattle.env_index.specs.Reading.{step, end_set, end_group, end_all, finished, nothing_read, state_of};
-    ghost use Rattle.env_index.specs.declared.kind.Kind.TheVariants.{GroupHeader, GroupTrailer, SetHeader, SetTrailer, Notice, Other};
 
     /// Nothing yet.
     pub(crate) fn new(alloc: Global) -> Builder
@@ -54,7 +53,7 @@ impl Builder {
     }
 
     /// Ends the open set, without an SE or with this one.
-    fn end_set(&mut self, trailer: Option<Stretch>) -> Result<(), NoMemory>
+    pub(crate) fn end_set(&mut self, trailer: Option<Stretch>) -> Result<(), NoMemory>
         requires { self.old.seen + 2 < 2 ^ 32 }
         ensures seen { self.new.seen ≡ self.old.seen }
         ensures state { OnOk result ((text : List ℕ) (delims : Delims) →
@@ -73,7 +72,11 @@ impl Builder {
     }
 
     /// Ends the open group, without a GE or with this one.
-    fn end_group(&mut self, alloc: Global, trailer: Option<Stretch>) -> Result<(), NoMemory>
+    pub(crate) fn end_group(
+        &mut self,
+        alloc: Global,
+        trailer: Option<Stretch>,
+    ) -> Result<(), NoMemory>
         ensures seen { self.new.seen ≡ self.old.seen }
         ensures state { OnOk result ((text : List ℕ) (delims : Delims) →
             state_of text delims self.new ≡ end_group (option_map (seg_in text delims) trailer) (state_of text delims self.old)) }
@@ -101,98 +104,8 @@ impl Builder {
         self.end_group(alloc, None)
     }
 
-    fn open_group(&mut self, alloc: Global, header: Stretch) -> Result<(), NoMemory>
-        requires { self.old.seen + 2 < 2 ^ 32 }
-        ensures seen { self.new.seen ≡ self.old.seen }
-        ensures state { OnOk result ((text : List ℕ) (delims : Delims) →
-            state_of text delims self.new ≡ step GroupHeader (seg_in text delims header) (state_of text delims self.old)) }
-    {
-        self.end_all(alloc)?;
-        self.group = Some(header);
-        self.sets.clear();
-        self.set = None;
-        Ok(())
-    }
-
-    fn close_group(&mut self, alloc: Global, trailer: Stretch) -> Result<(), NoMemory>
-        requires { self.old.seen + 2 < 2 ^ 32 }
-        ensures seen { self.new.seen ≡ self.old.seen }
-        ensures state { OnOk result ((text : List ℕ) (delims : Delims) →
-            state_of text delims self.new ≡ step GroupTrailer (seg_in text delims trailer) (state_of text delims self.old)) }
-    {
-        if self.group.is_none() {
-            self.misplaced = true;
-            return Ok(());
-        }
-        self.end_set(None)?;
-        self.end_group(alloc, Some(trailer))
-    }
-
-    fn open_set(&mut self, header: Stretch) -> Result<(), NoMemory>
-        requires { self.old.seen + 2 < 2 ^ 32 }
-        ensures seen { self.new.seen ≡ self.old.seen }
-        ensures state { OnOk result ((text : List ℕ) (delims : Delims) →
-            state_of text delims self.new ≡ step SetHeader (seg_in text delims header) (state_of text delims self.old)) }
-    {
-        if self.group.is_none() {
-            self.misplaced = true;
-            return Ok(());
-        }
-        self.end_set(None)?;
-        self.set = Some(header);
-        self.count = 0;
-        Ok(())
-    }
-
-    fn close_set(&mut self, trailer: Stretch) -> Result<(), NoMemory>
-        requires { self.old.seen + 2 < 2 ^ 32 }
-        ensures seen { self.new.seen ≡ self.old.seen }
-        ensures state { OnOk result ((text : List ℕ) (delims : Delims) →
-            state_of text delims self.new ≡ step SetTrailer (seg_in text delims trailer) (state_of text delims self.old)) }
-    {
-        if self.group.is_none() || self.set.is_none() {
-            self.misplaced = true;
-            return Ok(());
-        }
-        self.end_set(Some(trailer))
-    }
-
-    fn take_notice(&mut self, place: Stretch)
-        requires notices { self.old.notices < self.old.seen }
-        requires segments { self.old.count < self.old.seen }
-        ensures seen { self.new.seen ≡ self.old.seen }
-        ensures state { (text : List ℕ) (delims : Delims) →
-            state_of text delims self.new ≡ step Notice (seg_in text delims place) (state_of text delims self.old) }
-    {
-        if self.group.is_none() {
-            self.notices += 1;
-        } else if self.set.is_none() {
-            self.misplaced = true;
-        } else {
-            self.count += 1;
-        }
-    }
-
-    fn take_other(&mut self, place: Stretch)
-        requires { self.old.count < self.old.seen }
-        ensures seen { self.new.seen ≡ self.old.seen }
-        ensures state { (text : List ℕ) (delims : Delims) →
-            state_of text delims self.new ≡ step Other (seg_in text delims place) (state_of text delims self.old) }
-    {
-        if self.group.is_none() || self.set.is_none() {
-            self.misplaced = true;
-        } else {
-            self.count += 1;
-        }
-    }
-
     /// Takes one more segment, by its kind.
-    pub(crate) fn take(
-        &mut self,
-        alloc: Global,
-        kind: Kind,
-        place: Stretch,
-    ) -> Result<(), NoMemory>
+    pub(crate) fn take(&mut self, alloc: Global, kind: Kind, place: Stretch) -> Result<(), NoMemory>
         requires { self.old.seen + 3 < 2 ^ 32 }
         ensures seen { self.new.seen ≡ self.old.seen + 1 }
         ensures state { OnOk result ((text : List ℕ) (delims : Delims) →

@@ -1,12 +1,13 @@
 use x12_segs::SegView;
 
-/// The envelope of a transaction set (X12.6, transaction set header and trailer).
+/// The envelope of a transaction set (X12.6, transaction set header and trailer). Without a trailer
+/// the set ends before the next ST, GE, GS or IEA, or with the interchange.
 #[derive(Drop)]
 pub struct SetEnvelope<'a> {
-    /// Its ST.
+    /// Its header (ST).
     pub header: SegView<'a>,
-    /// How many segments it has, ST and SE included.
+    /// How many segments it has, header and trailer included.
     pub segments: u64,
-    /// Its SE, where it has one.
+    /// Its trailer (SE), where it has one.
     pub trailer: Option<SegView<'a>>,
 }

@@ -1,16 +1,16 @@
-ghost use Rattle.std.specs.Prelude.{◌≡◌, ◌<◌, ◌≤◌, ◌&&◌, ◌==◌, ℕ, IsTrue, length, option_copied};
+ghost use Rattle.std.specs.Prelude.{◌≡◌, ◌≤◌};
 ghost use Rattle.std.specs.List.{list_all};
 ghost use Rattle.std.specs.Char.{is_ascii_uppercase};
 ghost use Rattle.env_index.specs.Faults.{control_number, writes_number, is_group_header, is_set_header, has_set_headers, fault_of, fault_of_headers};
-ghost use Rattle.env_index.specs.Summary.{GroupEntry};
 
 use crate::interchange::{GroupEnvelope, Interchange};
 use hub_kinds::{InterchangeFault, is_alphanumeric, read_number};
 use x12_bytes::Header;
 use x12_segs::SegView;
 
-/// The least of the faults 1 to 7 of an interchange, if it has one (X12.5, interchange control numbers and
-/// counts; X12.6, functional group and transaction set headers).
+/// The least of the faults 1 to 7 of an interchange; none where it has none. Sets and groups that
+/// lack their trailers, and counts of theirs, are no fault of the interchange (X12.5, interchange
+/// control numbers and counts; X12.6, functional group and transaction set headers; own numbers).
 pub fn judge(interchange: &Interchange<'_>) -> Option<InterchangeFault>
     ensures { result ≡ fault_of interchange.now }
 {

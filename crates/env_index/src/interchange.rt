@@ -1,12 +1,12 @@
 use crate::entry::SetEnvelope;
 use crate::places::{BodyPlace, GroupPlace};
+use crate::segment_at::{segment_at, trailer_at};
 use std::marker::Model;
 use x12_bytes::{Delims, Header};
-use crate::segment_at::segment_at;
 use x12_segs::SegView;
 
-/// An interchange of a text: its header and the envelopes behind it (X12.5, interchange; X12.6, functional
-/// group and transaction set).
+/// An interchange of a text: its header and the envelopes behind it, lent from the text (X12.5,
+/// interchange).
 #[derive(Drop)]
 pub struct Interchange<'a> {
     text: &'a [u8],
@@ -27,8 +27,8 @@ impl<'a> Model for Interchange<'a> {
 }
 
 impl<'a> Interchange<'a> {
-    ghost use Rattle.std.specs.Prelude.{◌≡◌, ◌<◌, ◌≤◌, length, Some, Option, option_map, slice_get};
-    ghost use Rattle.x12_bytes.specs.Header.{IsHeader, delims_of};
+    ghost use Rattle.std.specs.Prelude.{◌≡◌, ◌<◌, length, Some, slice_get};
+    ghost use Rattle.x12_bytes.specs.Header.{delims_of};
     ghost use Rattle.env_index.specs.Places.{body_in};
 
     pub(crate) fn new(text: &'a [u8], header: Header<'a>, start: usize, body: BodyPlace) -> Self
@@ -42,49 +42,47 @@ impl<'a> Interchange<'a> {
         }
     }
 
-    /// Its ISA.
+    /// Its header (ISA).
     pub fn header(&self) -> &Header<'a>
         ensures { result.now ≡ self.now.header }
     {
         &self.header
     }
 
-    /// The offset of its first byte.
+    /// The offset of its first byte in the text.
     pub fn start(&self) -> usize
         ensures { result ≡ self.now.start }
     {
         self.start
     }
 
-    /// The offset behind its last byte.
+    /// The offset behind its last byte in the text.
     pub fn end(&self) -> usize
         ensures { result ≡ self.now.end }
     {
         self.body.end
     }
 
-    /// How many TA1 stand directly in it.
+    /// How many interchange acknowledgments (TA1) stand directly in it, outside groups.
     pub fn notices(&self) -> u32
         ensures { result ≡ self.now.content.notices }
     {
         self.body.notices
     }
 
-    /// Whether one of its segments is out of place.
+    /// Whether one of its segments is out of place: directly in it one other than GS, IEA and TA1,
+    /// or in a group, outside its sets, one other than ST, GE, GS and IEA.
     pub fn is_misplaced(&self) -> bool
         ensures { result ≡ self.now.content.misplaced }
     {
         self.body.misplaced
     }
 
-    /// Its IEA, where it has one.
+    /// Its trailer (IEA), where it has one.
     pub fn trailer(&self) -> Option<SegView<'a>>
         ensures { result ≡ self.now.content.trailer }
     {
-        match self.body.trailer {
-            Some(place) => Some(segment_at(self.text, self.header.delims(), place)),
-            None => None,
-        }
+        trailer_at(self.text, self.header.delims(), self.body.trailer)
     }
 
     /// How many groups it has.
@@ -94,7 +92,7 @@ impl<'a> Interchange<'a> {
         self.body.groups.len()
     }
 
-    /// One of its groups, counted from 0.
+    /// One of its groups, in the order of the text, counted from 0.
     pub fn group(&self, index: usize) -> GroupEnvelope<'_>
         requires { index < length self.now.content.groups }
         ensures { slice_get self.now.content.groups index ≡ Some result }
@@ -107,7 +105,8 @@ impl<'a> Interchange<'a> {
     }
 }
 
-/// A functional group of an interchange (X12.6, functional group header and trailer).
+/// A functional group of an interchange, lent from the text (X12.6, functional group header and
+/// trailer). Without a trailer it ends before the next GS or IEA, or with the interchange.
 #[derive(Drop)]
 pub struct GroupEnvelope<'a> {
     text: &'a [u8],
@@ -128,21 +127,18 @@ impl<'a> Model for GroupEnvelope<'a> {
 impl<'a> GroupEnvelope<'a> {
     ghost use Rattle.std.specs.Prelude.{◌≡◌, ◌<◌, length, Some, slice_get};
 
-    /// Its GS.
+    /// Its header (GS).
     pub fn header(&self) -> SegView<'a>
         ensures { result ≡ self.now.header }
     {
         segment_at(self.text, self.delims, self.place.header)
     }
 
-    /// Its GE, where it has one.
+    /// Its trailer (GE), where it has one.
     pub fn trailer(&self) -> Option<SegView<'a>>
         ensures { result ≡ self.now.trailer }
     {
-        match self.place.trailer {
-            Some(place) => Some(segment_at(self.text, self.delims, place)),
-            None => None,
-        }
+        trailer_at(self.text, self.delims, self.place.trailer)
     }
 
     /// How many sets it has.
@@ -152,20 +148,16 @@ impl<'a> GroupEnvelope<'a> {
         self.place.sets.len()
     }
 
-    /// One of its sets, counted from 0.
+    /// One of its sets, in the order of the text, counted from 0.
     pub fn set(&self, index: usize) -> SetEnvelope<'a>
         requires { index < length self.now.sets }
         ensures { slice_get self.now.sets index ≡ Some result }
     {
         let place = self.place.sets[index];
-        let trailer = match place.trailer {
-            Some(place) => Some(segment_at(self.text, self.delims, place)),
-            None => None,
-        };
         SetEnvelope {
             header: segment_at(self.text, self.delims, place.header),
             segments: u64::from(place.segments),
-            trailer,
+            trailer: trailer_at(self.text, self.delims, place.trailer),
         }
     }
 }

@@ -3,27 +3,27 @@ ghost use Rattle.env_index.specs.Kinds.{kind_by_id, kind_of};
 
 use x12_segs::SegView;
 
-/// What a segment's id says of its place in the envelopes (X12.5, interchange control; X12.6, functional
-/// group and transaction set).
+/// What a segment's id says of its place in the envelopes (X12.5, interchange control segments;
+/// X12.6, control segments).
 #[derive(Clone, Copy, Debug, PartialEq, Eq)]
 pub enum Kind {
-    /// IEA.
+    /// IEA: interchange control trailer.
     InterchangeTrailer,
-    /// GS.
+    /// GS: functional group header.
     GroupHeader,
-    /// GE.
+    /// GE: functional group trailer.
     GroupTrailer,
-    /// ST.
+    /// ST: transaction set header.
     SetHeader,
-    /// SE.
+    /// SE: transaction set trailer.
     SetTrailer,
-    /// TA1.
+    /// TA1: interchange acknowledgment.
     Notice,
     /// Any other id.
     Other,
 }
 
-/// What a segment's id says of its place.
+/// A segment's kind, by its id alone, byte for byte.
 #[tactic(auto, unfolding(crate::specs::Kinds::kind_of))]
 pub fn kind_of(segment: &SegView<'_>) -> Kind
     ensures { result ≡ kind_of segment.now }

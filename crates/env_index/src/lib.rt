@@ -1,11 +1,31 @@
-//! The index of a text's interchanges.
+//! The index of a text's interchanges: where each starts and ends, and its envelopes, that is its
+//! functional groups and their transaction sets, each with its header, its trailer and its counts.
+//! Nothing of the text is copied; the index holds places in it.
+//!
+//! Proved:
+//! - `read_interchange` answers an interchange exactly where a header begins at the offset; its end
+//!   is that of the definition, and its groups, sets, counts and acknowledgments are those of the
+//!   one tree of envelopes that its segments derive;
+//! - `read_lone` answers an interchange exactly where the text is one, with nothing but CR, LF and
+//!   space around it;
+//! - `judge` answers the least of an interchange's faults 1 to 7, and none exactly where it has
+//!   none;
+//! - `kind_of` tells a segment's kind by its id;
+//! - the segments of each interchange derive a tree (`envelope_is_there`), and only one
+//!   (`envelope_is_one`); a text has one chain of interchanges at most (`chain_is_one`).
+//!
+//! X12.5, interchange control header (ISA) and trailer (IEA), interchange acknowledgment (TA1);
+//! X12.6, functional group header (GS) and trailer (GE), transaction set header (ST) and trailer
+//! (SE).
 #![tactic(auto)]
 
 mod builder;
 mod entry;
-mod interchange;
+mod envelopes;
 mod faults;
+mod interchange;
 mod kind;
+mod laws;
 mod lone;
 mod places;
 mod read;
@@ -13,8 +33,12 @@ mod segment_at;
 mod walk;
 
 pub use entry::SetEnvelope;
+pub use faults::judge;
 pub use interchange::{GroupEnvelope, Interchange};
+pub use kind::{Kind, kind_of};
+pub use laws::{chain_is_one, envelope_is_one, envelope_is_there};
 pub use lone::read_lone;
 pub use read::read_interchange;
-pub use faults::judge;
-pub use kind::{Kind, kind_of};
+
+#[cfg(test)]
+mod tests;

@@ -10,11 +10,11 @@ use crate::read::read_interchange;
 use hub_kinds::NoMemory;
 use std::alloc::Global;
 
-/// The interchange that a text is, where it is one alone, with nothing but CR, LF and space around it.
-pub fn read_lone<'a>(
-    alloc: Global,
-    text: &'a [u8],
-) -> Result<Option<Interchange<'a>>, NoMemory>
+/// The interchange that a text is, where it is exactly one, with nothing but CR, LF and space
+/// before and behind it; none for any other text (X12.5, interchange; the bytes around it are own).
+///
+/// The text is shorter than 2^32 bytes. The only error is want of memory.
+pub fn read_lone<'a>(alloc: Global, text: &'a [u8]) -> Result<Option<Interchange<'a>>, NoMemory>
     requires { length text.now < 2 ^ 32 }
     ensures lone { IfOk result (λ found. MatchOption found ((x : Extent) → IsLone text.entry.now x → ⊥) (λ x. IsLone text.entry.now (record { start = x.start; end = x.end }))) }
     ensures alone { IfOk result (λ found. IfSome found (λ x. (e : Extent) → IsLone text.entry.now e → e ≡ record { start = x.start; end = x.end })) }

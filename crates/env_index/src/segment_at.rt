@@ -1,4 +1,4 @@
-ghost use Rattle.std.specs.Prelude.{◌≡◌, slice_range};
+ghost use Rattle.std.specs.Prelude.{◌≡◌, option_map};
 ghost use Rattle.env_index.specs.Places.{seg_in};
 
 use crate::places::Stretch;
@@ -13,4 +13,18 @@ pub(crate) fn segment_at<'a>(text: &'a [u8], delims: Delims, place: Stretch) -> 
     let end = text.len().min(place.end as usize);
     let start = end.min(place.start as usize);
     SegView::new(place.start as usize, &text[start..end], delims)
+}
+
+/// The trailer that stands at a place of the text, where there is one.
+pub(crate) fn trailer_at<'a>(
+    text: &'a [u8],
+    delims: Delims,
+    place: Option<Stretch>,
+) -> Option<SegView<'a>>
+    ensures { result ≡ option_map (seg_in text.entry.now delims) place }
+{
+    match place {
+        Some(place) => Some(segment_at(text, delims, place)),
+        None => None,
+    }
 }

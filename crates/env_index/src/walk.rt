@@ -1,4 +1,5 @@
-ghost use Rattle.std.specs.Prelude.{◌≡◌, ◌+◌, ◌<◌, ◌≤◌, ◌^◌, IfOk, length};
+ghost use Rattle.std.specs.Prelude.{◌≡◌, ◌<◌, ◌≤◌, ◌^◌, IfOk, length, if◌then◌else◌};
+ghost use Rattle.x12_bytes.specs.HeaderTest.{is_head};
 ghost use Rattle.env_index.specs.Envelope.{Body, Derives};
 ghost use Rattle.env_index.specs.Extents.{reach_from};
 ghost use Rattle.env_index.specs.Places.{body_in};
@@ -12,8 +13,8 @@ use std::alloc::Global;
 use x12_bytes::{Delims, read_header};
 use x12_segs::{Part, SegView, next_part};
 
-/// Reads what an interchange has behind its header, from the offset `from` to its end. Of each part, whether
-/// it begins at a header is asked first.
+/// Reads what an interchange has behind its header, from the offset `from` to its end. Of each part,
+/// whether it begins at a header is asked first.
 pub(crate) fn read_body(
     alloc: Global,
     text: &[u8],
@@ -32,12 +33,7 @@ pub(crate) fn read_body(
     loop {
         match next_part(text, at, delims.terminator) {
             Part::Rest { start } => {
-                let end = if read_header(text, start).is_some() {
-                    start
-                } else {
-                    text.len()
-                };
-                return builder.finish(alloc, None, end);
+                return builder.finish(alloc, None, rest_end(text, start));
             }
             Part::Segment { start, end } => {
                 if read_header(text, start).is_some() {
@@ -57,5 +53,18 @@ pub(crate) fn read_body(
                 at = end + 1;
             }
         }
+    }
+}
+
+/// Where an interchange ends whose rest begins here.
+fn rest_end(text: &[u8], start: usize) -> usize
+    requires { start ≤ length text.now }
+    ensures within { result ≤ length text.now }
+    ensures end { result ≡ if is_head text.now start then start else length text.now }
+{
+    if read_header(text, start).is_some() {
+        start
+    } else {
+        text.len()
     }
 }

@@ -1,6 +1,6 @@
 ghost use Rattle.std.specs.Prelude.{◌≡◌, ℕ, List};
 
-/// A code of the acknowledgment.
+/// A code that is written as a short text: of the acknowledgment (999 guide) or the hub's own.
 pub trait Code: Copy {
     /// Its text.
     ghost text: { Self → List ℕ };
@@ -10,7 +10,7 @@ pub trait Code: Copy {
         ensures { result.now ≡ text self };
 }
 
-/// The text of a code, as the acknowledgment writes it.
+/// The text of a code, as it is written: ASCII letters and digits, without padding.
 pub fn code_text<C: Code>(code: C) -> &'static str
     ensures { result.now ≡ C.text code }
 {

@@ -1,12 +1,15 @@
-//! The kinds of values that the hub's crates share: what is wrong with a segment, an element, a set, a
-//! group or an interchange, the texts of these codes, the order of faults, what an acknowledgment reads of
-//! a group and of a set, and small types over lists and lent bytes.
+//! The kinds of values that the hub's crates share: what is wrong with a segment, an element, a set,
+//! a group or an interchange, the texts of these codes, the order of faults, what an acknowledgment
+//! reads of a group and of a set, and small types over lists and lent bytes.
 //!
-//! Proved: `code_text` gives the text of each code; `fault_order` is the order of the faults' keys, which is
-//! total; `read_number` reads exactly the numbers of 1 to so many digits; `is_alphanumeric` is exact; a list
-//! is what it was made from.
+//! Proved:
+//! - `code_text` gives the text of each code;
+//! - `fault_order` is the order of the faults' keys, by their numbers from first to last;
+//! - `read_number` reads exactly the numbers of 1 to so many digits, and `is_alphanumeric` is
+//!   exact;
+//! - `Items` and `Lent` are the list and the bytes that they were made from.
 //!
-//! Source: the 999 guide (005010X231), the code lists of IK304, IK403, IK501, IK502, AK901 and AK905; X12.5,
+//! 999 guide (005010X231), the code lists of IK304, IK403, IK501, IK502, AK901 and AK905; X12.5,
 //! interchange control; X12.6, data element type N0.
 #![tactic(auto)]
 

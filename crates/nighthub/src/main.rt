@@ -3,9 +3,15 @@
 //! group is accepted, 1 that it is partly accepted or rejected; a run that fails prints one line on
 //! standard error and ends with 2, 4, 5 or 6 (docs/ERRORS.md).
 //!
-//! Proved: the program is safe and ends on every input; a failed run leaves standard output as it
-//! was, unless standard output itself failed; a run that doesn't fail leaves standard error as it
-//! was, and has written exactly what it prints.
+//! Proved:
+//! - the program is safe and ends on every input, and its status is 0, 1, 2, 4, 5 or 6;
+//! - a failed run leaves standard output as it was, unless standard output itself failed, and a run
+//!   that doesn't fail leaves standard error as it was (`night_main`);
+//! - what is printed is exactly the outcome's bytes, and its status follows AK901 (`finish`);
+//! - for a text that is one interchange with one group these bytes are its acknowledgment, and only
+//!   a text that isn't one is refused as input (`answer`).
+//!
+//! Only tested: which words are a command line, and that a file's bytes are those that are read.
 //!
 //! Source: the 999 guide (005010X231); the command line and the statuses are this hub's own.
 #![tactic(auto)]

@@ -1,6 +1,8 @@
 use crate::night::night_main;
 use std::fs::OpenFile;
 use std::io::Write;
+use std::process::Abort;
+use std::rt::Files;
 use std::test::Fail;
 use std::{fs, io};
 
@@ -53,26 +55,29 @@ fn acknowledges_an_interchange(rt: HostRuntime) -> Result<(), Fail> {
     Ok(())
 }
 
+/// These words are no command line of the program.
+fn refuse<'a, R: Abort + Files + AllocGlobal>(rt: &R, words: &'a [&'a str]) {
+    let mut out = Vec::new(rt.alloc());
+    let mut err = Vec::new(rt.alloc());
+    assert_eq!(rt; night_main(rt, words, &mut out, &mut err), 2);
+    assert!(rt; out.is_empty());
+    assert_eq!(rt; err.as_slice(), b"nighthub: usage\n".as_slice());
+}
+
 #[test]
 fn refuses_words(rt: HostRuntime) {
-    let rows = [
-        [].as_slice(),
-        ["--in", "in.edi"].as_slice(),
-        ["--at", "202603011530"].as_slice(),
-        ["--in", "in.edi", "--at", "202602291530"].as_slice(),
-        ["--in", "in.edi", "--at", "20260301153"].as_slice(),
-        ["--in", "a", "--in", "b", "--at", "202603011530"].as_slice(),
-        ["--in", "a", "--at", "202603011530", "--at", "202603011530"].as_slice(),
-        ["--in", "in.edi", "--at", "202603011530", "--out", "b"].as_slice(),
-        ["--in", "in.edi", "--at", "202603011530", "b"].as_slice(),
-    ];
-    for words in rows {
-        let mut out = Vec::new(rt.alloc());
-        let mut err = Vec::new(rt.alloc());
-        assert_eq!(rt; night_main(&rt, words, &mut out, &mut err), 2);
-        assert!(rt; out.is_empty());
-        assert_eq!(rt; err.as_slice(), b"nighthub: usage\n".as_slice());
-    }
+    refuse(&rt, &[]);
+    refuse(&rt, &["--in", "in.edi"]);
+    refuse(&rt, &["--at", "202603011530"]);
+    refuse(&rt, &["--in", "in.edi", "--at", "202602291530"]);
+    refuse(&rt, &["--in", "in.edi", "--at", "20260301153"]);
+    refuse(&rt, &["--in", "a", "--in", "b", "--at", "202603011530"]);
+    refuse(
+        &rt,
+        &["--in", "a", "--at", "202603011530", "--at", "202603011530"],
+    );
+    refuse(&rt, &["--in", "a", "--at", "202603011530", "--out", "b"]);
+    refuse(&rt, &["--in", "a", "--at", "202603011530", "b"]);
 }
 
 #[test]

@@ -1,8 +1,7 @@
-use Rattle.std.proofs.Common.{◌≡◌, Bool, true, false, not, sym, ap, ◌∙◌, arith}
+use Rattle.std.proofs.Common.{◌≡◌, true, false, sym, ◌∙◌, arith}
 use Rattle.std.proofs.lemmas.Grind.{common_steps}
 use Rattle.env_index.specs.declared.entry.SetEnvelope.{SetEnvelope}
 use Rattle.env_index.specs.Faults.{is_set_header}
-use Rattle.env_index.specs.Summary.{GroupEntry}
 use Rattle.env_index.proofs.Each.{one_fails, one_passes}
 use Rattle.env_index.proofs.faults.group_has_set_headers.Goals as goal
 

@@ -1,5 +1,4 @@
-use Rattle.std.proofs.Common.{◌≡◌, List, rules, ap, sym, ◌∙◌}
-use Rattle.x12_segs.specs.View.{SegValue}
+use Rattle.std.proofs.Common.{◌≡◌, rules}
 use Rattle.env_index.specs.Envelope.{Body, Derives}
 use Rattle.env_index.specs.Extents.{reach_at}
 use Rattle.env_index.specs.Interchange.{interchange_of}

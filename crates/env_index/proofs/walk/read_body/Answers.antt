@@ -1,13 +1,9 @@
-use Rattle.std.proofs.Common.{rules, ◌≡◌, ◌≢◌, ℕ, ◌+◌, ◌<◌, ◌≤◌, List, Bool, true, false, None, Some, length, sym, ap, ◌∙◌, arith}
-use Rattle.std.specs.Prelude.{option_map}
+use Rattle.std.proofs.Common.{◌≡◌, ◌≢◌, ℕ, List, true, false, None, Some, sym, ap, ◌∙◌, arith}
 use Rattle.std.proofs.lemmas.Grind.{common_steps}
 use Rattle.x12_bytes.specs.HeaderTest.{is_head}
-use Rattle.x12_bytes.specs.declared.delims.Delims.{Delims}
 use Rattle.env_index.specs.Kinds.{kind_of}
 use Rattle.env_index.specs.declared.kind.Kind.{Kind}
 use Rattle.env_index.specs.declared.kind.Kind.TheVariants.{InterchangeTrailer}
-use Rattle.env_index.specs.Extents.{reach_from}
-use Rattle.env_index.specs.Places.{seg_in}
 use Rattle.env_index.specs.Reading.{state_of}
 use Rattle.env_index.proofs.Finishing.{told_ok, none_at_rest, none_at_head, trailer_alone, one_more, end_on}
 use Rattle.env_index.proofs.Walking.{segment_at}
@@ -18,18 +14,18 @@ returns-in-Rest-clause-only c =
     told_ok c.args.text.now c.args.delims c.finish.result _ _ (λ text delims. state_of text delims c.loop-start.builder) (λ text delims. None) c.loop-start.invariant.whole
     (none_at_rest c.args.text.now c.args.delims c.loop-start.at c.in-Rest.start c.in-Rest.ensures.next) c.finish.ensures.body
 
-pub returns-then-is_some-2-clause-only : goal.returns-then-is_some-2-clause-only
-returns-then-is_some-2-clause-only c =
-    let head : is_head c.args.text.now c.in-Segment.start ≡ true = grind (arith, common_steps, c.read_header-in-Segment.ensures.test, c.is_some-in-Segment.ensures, c.if-is_some-2.true) in
-    told_ok c.args.text.now c.args.delims c.finish-then-is_some-2.result _ _ (λ text delims. state_of text delims c.loop-start.builder) (λ text delims. None) c.loop-start.invariant.whole
-    (none_at_head c.args.text.now c.args.delims c.loop-start.at c.in-Segment.start c.in-Segment.end c.in-Segment.ensures.next head) c.finish-then-is_some-2.ensures.body
+pub returns-then-is_some-clause-only : goal.returns-then-is_some-clause-only
+returns-then-is_some-clause-only c =
+    let head : is_head c.args.text.now c.in-Segment.start ≡ true = grind (arith, common_steps, c.read_header.ensures.test, c.is_some.ensures, c.if-is_some.true) in
+    told_ok c.args.text.now c.args.delims c.finish-then-is_some.result _ _ (λ text delims. state_of text delims c.loop-start.builder) (λ text delims. None) c.loop-start.invariant.whole
+    (none_at_head c.args.text.now c.args.delims c.loop-start.at c.in-Segment.start c.in-Segment.end c.in-Segment.ensures.next head) c.finish-then-is_some.ensures.body
 
 pub returns-in-InterchangeTrailer-clause-only : goal.returns-in-InterchangeTrailer-clause-only
 returns-in-InterchangeTrailer-clause-only c =
     let text : List ℕ = c.args.text.now in
     let start : ℕ = c.in-Segment.start in
     let end : ℕ = c.in-Segment.end in
-    let head : is_head text start ≡ false = grind (arith, common_steps, c.read_header-in-Segment.ensures.test, c.is_some-in-Segment.ensures, c.if-is_some-2.false) in
+    let head : is_head text start ≡ false = grind (arith, common_steps, c.read_header.ensures.test, c.is_some.ensures, c.if-is_some.false) in
     let is : kind_of (segment_at text c.args.delims start end) ≡ InterchangeTrailer = ap kind_of (sym c.new-segment.ensures) ∙ sym c.kind_of.ensures ∙ c.in-InterchangeTrailer.is in
     let lies = c.in-Segment.ensures.within in
     told_ok text c.args.delims c.finish-in-InterchangeTrailer.result _ _ (λ text delims. state_of text delims c.loop-start.builder)
@@ -43,7 +39,7 @@ loop-start-preserved c =
     let start : ℕ = c.in-Segment.start in
     let end : ℕ = c.in-Segment.end in
     let k : Kind = c.kind_of.result in
-    let head : is_head text start ≡ false = grind (arith, common_steps, c.read_header-in-Segment.ensures.test, c.is_some-in-Segment.ensures, c.if-is_some-2.false) in
+    let head : is_head text start ≡ false = grind (arith, common_steps, c.read_header.ensures.test, c.is_some.ensures, c.if-is_some.false) in
     let is : k ≡ kind_of (segment_at text c.args.delims start end) = c.kind_of.ensures ∙ ap kind_of c.new-segment.ensures in
     let other : k ≢ InterchangeTrailer = c.in_default.not-InterchangeTrailer in
     let lies = c.in-Segment.ensures.within in
@@ -52,5 +48,5 @@ loop-start-preserved c =
       few = omega (arith, lies.0, lies.1, c.loop-start.invariant.few, c.in_ok-take-in_default.ensures.seen);
       end = end_on text c.args.delims c.loop-start.at start end k c.in-Segment.ensures.next head is other ∙ c.loop-start.invariant.end;
       whole = one_more text c.args.delims c.loop-start.at start end (state_of text c.args.delims c.loop-start.builder) (state_of text c.args.delims c.take.new.self) k _
-        c.in-Segment.ensures.next head is other c.loop-start.invariant.whole (c.in_ok-take-in_default.ensures.state text c.args.delims);
+          c.in-Segment.ensures.next head is other c.loop-start.invariant.whole (c.in_ok-take-in_default.ensures.state text c.args.delims);
     }

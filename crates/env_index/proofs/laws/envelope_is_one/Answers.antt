@@ -1,0 +1,5 @@
+use Rattle.env_index.proofs.OneTree.{tree_is_one}
+use Rattle.env_index.proofs.laws.envelope_is_one.Goals as goal
+
+pub returns : goal.returns
+returns c = λ segs a b p q. tree_is_one segs a b p q
