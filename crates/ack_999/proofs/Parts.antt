@@ -45,7 +45,7 @@ four : (first second last : Segment) (loops : List Segment) → length loops + 4
 four first second last loops = let long = length-append loops (last ∷ []) in omega arith
 
 -- SE01 is the number of the segments
-counted : (g : GroupAnswer) (sets : List SetAnswer) (n : ℕ)
+pub counted : (g : GroupAnswer) (sets : List SetAnswer) (n : ℕ)
     → segment_count g (totals_of (verdicts_of sets)) ≡ length (head_segments g n ++ set_loops g sets ++ group_response g (totals_of (verdicts_of sets)) ∷ []) + 1
 counted g sets n =
     let all = received_sets-totals_of (verdicts_of sets) ∙ length-verdicts_of sets in

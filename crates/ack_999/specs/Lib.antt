@@ -3,3 +3,4 @@ pub mod Number
 pub mod Group
 pub mod Report
 pub mod Interchange
+pub mod ReadBack

@@ -1,6 +1,6 @@
-ghost use Rattle.std.specs.Prelude.{◌≡◌};
+ghost use Rattle.std.specs.Prelude.{◌≡◌, ◌<◌, ◌^◌};
 ghost use Rattle.ack_999.specs.Group.{totals_of};
-ghost use Rattle.ack_999.specs.Report.{segment_count, shows_sets, hides_sets, listed_sets, accepted_sets, verdicts_of};
+ghost use Rattle.ack_999.specs.Report.{segment_count, shows_sets, hides_sets, listed_sets, accepted_sets, received_sets, verdicts_of};
 
 use crate::totals::Totals;
 use hub_kinds::{GroupAnswer, GroupCode, SetAnswer, read_number};
@@ -55,7 +55,8 @@ fn hides_sets(code: GroupCode) -> bool
 
 /// How many sets have each verdict.
 pub fn totals_of(sets: &[SetAnswer]) -> Totals
-    ensures { result ≡ totals_of (verdicts_of sets.now) }
+    ensures value { result ≡ totals_of (verdicts_of sets.now) }
+    ensures few { received_sets result < 2 ^ 64 }
 {
     let mut totals = Totals::new();
     for set in sets {

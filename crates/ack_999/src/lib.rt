@@ -4,8 +4,9 @@
 //! without the empty elements at a segment's end.
 //!
 //! Proved:
-//! - `write_999` writes exactly the 999's segments, and SE01 is their number; `append_head`,
-//!   `append_set` and `append_tail` write the same, one part after another;
+//! - `write_999` writes exactly the 999's segments, and SE01 is their number; read again by the
+//!   same delimiters, the text has these segments; `append_head`, `append_set` and `append_tail`
+//!   write the same, one part after another;
 //! - `write_ack_interchange` writes exactly the interchange: its header in its fixed width, one
 //!   group, the acknowledgments, the trailers; `append_opening` and `append_closing` are its ends;
 //! - `group_codes` gives the group's codes that ask no guide, in their order;

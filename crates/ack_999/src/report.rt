@@ -1,6 +1,7 @@
 ghost use Rattle.std.specs.Prelude.{◌≡◌, ◌++◌, [], ◌∷◌, All, IfOk, OnOk};
 ghost use Rattle.ack_999.specs.Report.{text_999, head_text, set_text, sets_text, tail_text, Completes, convention_text, group_response, set_trailer};
 ghost use Rattle.ack_999.specs.Segment.{segments_text};
+ghost use Rattle.ack_999.specs.ReadBack.{ReadsBack};
 ghost use Rattle.ack_999.specs.Number.{padded_number};
 
 use crate::counts::{accepted_sets, listed_sets, segment_count, shows_sets, totals_of};
@@ -23,7 +24,9 @@ pub fn write_999(
     n: u32,
 ) -> Result<Vec<u8>, NoMemory>
     requires { All (λ set. set.faults ≡ []) sets.now }
-    ensures { IfOk result (λ v. v.items ≡ text_999 delims.now group.now sets.now n) }
+    ensures text { IfOk result (λ v. v.items ≡ text_999 delims.now group.now sets.now n) }
+    ensures read_back { IfOk result
+        (λ v. ReadsBack delims.now group.now sets.now n v.items) }
 {
     let mut out = Vec::new(alloc);
     append_head(&mut out, delims, group, n)?;

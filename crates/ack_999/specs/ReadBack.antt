@@ -1,0 +1,36 @@
+-- X12.6, segment: an acknowledgment, read again by the same delimiters.
+use Rattle.std.specs.Prelude.{ℕ, ◌≡◌, ◌≢◌, List, ◌∷◌, false, map, All}
+use Rattle.std.specs.Char.{is_ascii_alphanumeric}
+use Rattle.x12_bytes.specs.declared.delims.Delims.{Delims}
+use Rattle.x12_segs.specs.View.{views, elements_of}
+use Rattle.hub_kinds.specs.declared.answers.GroupAnswer.{GroupAnswer}
+use Rattle.hub_kinds.specs.declared.answers.SetAnswer.{SetAnswer}
+use Rattle.ack_999.specs.Segment.{Segment, trimmed}
+use Rattle.ack_999.specs.Report.{segments_999}
+
+-- delimiters that no letter, no digit and not each other can be taken for
+pub record CanDivide (d : Delims) : Type 0 where
+  pub element : is_ascii_alphanumeric d.element ≡ false
+  pub terminator : is_ascii_alphanumeric d.terminator ≡ false
+  pub apart : d.element ≢ d.terminator
+
+-- no element separator and no terminator stands in a text
+abbrev pub IsUndivided : Delims → List ℕ → Type 0
+IsUndivided d text = All (λ b. (b ≢ d.element) × (b ≢ d.terminator)) text
+
+-- nor in what is repeated from a group and its sets
+pub record IsQuotable (d : Delims) (g : GroupAnswer) (sets : List SetAnswer) : Type 0 where
+  pub functional_id : IsUndivided d g.functional_id
+  pub control : IsUndivided d g.control
+  pub version : IsUndivided d g.version
+  pub identifiers : All (λ s. IsUndivided d s.identifier) sets
+  pub controls : All (λ s. IsUndivided d s.control) sets
+
+-- what stands between the separators of a segment that is written
+abbrev pub written_parts : Segment → List (List ℕ)
+written_parts s = s.id ∷ trimmed s.elements
+
+-- a text whose segments, read again, are those of the acknowledgment
+abbrev pub ReadsBack : Delims → GroupAnswer → List SetAnswer → ℕ → List ℕ → Type 0
+ReadsBack d g sets n text =
+    CanDivide d → IsQuotable d g sets → map elements_of (views text d) ≡ map written_parts (segments_999 g sets n)
