@@ -1,0 +1,144 @@
+-- The guide file (own): the guide that a table writes, and the first fault of one that writes none.
+use Rattle.std.specs.Prelude.{ℕ, List, [], ◌∷◌, codes, Option, Some, None, Result, Ok, Err, Bool, if◌then◌else◌, is_some}
+use Rattle.std.specs.Ordering.{nat_cmp, match_ordering}
+use Rattle.std.specs.Cmp.Lexicographic.{slice_cmp}
+use Rattle.toml.specs.Data.{Data, array, table, Items, no_items, item, Members, no_members, member, get_member, as_str, as_bool, as_table}
+use Rattle.guide_tree.specs.declared.slot.Slot.{Slot}
+use Rattle.guide_tree.specs.declared.node.Loop.{Loop}
+use Rattle.guide_tree.specs.declared.rows.GuideHead.{GuideHead}
+use Rattle.guide_tree.specs.declared.rows.HlRule.{HlRule}
+use Rattle.guide_tree.specs.declared.rows.Dependency.{Dependency}
+use Rattle.guide_tree.specs.Tree.{Tree, Trees, segment, loop, no_trees, tree, GuideTree}
+use Rattle.guide_toml.specs.declared.entry.Form.TheVariants as form
+use Rattle.guide_toml.specs.declared.table.TableKind.{TableKind}
+use Rattle.guide_toml.specs.declared.table.TableKind.TheVariants as kind
+use Rattle.guide_toml.specs.declared.nodes.NodeKind.{NodeKind}
+use Rattle.guide_toml.specs.declared.nodes.NodeKind.TheVariants as node
+use Rattle.guide_toml.specs.ElementTexts.{element_of}
+use Rattle.guide_toml.specs.Entries.{pick_of, condition_of, pair_of, formed, segment_code_of, element_code_of}
+use Rattle.guide_toml.specs.Tables.{Refusal, wrong_kind, ◌>>=◌, first_unknown, if_known, required, optional, word_in, some_word_in, group_in, count_in, texts_in, tables_in, dependency_kind_in}
+
+abbrev pub label_in : Data → Option (List ℕ)
+label_in d = word_in 1 20 d
+
+-- a segment, behind the unknown keys of its table
+unfoldable pub segment_of : Members → Result Slot Refusal
+segment_of ms = do
+  id ← required as_str (codes "seg") ms
+  least ← required count_in (codes "min") ms
+  most ← required count_in (codes "max") ms
+  label ← optional None (some_word_in 1 20) (codes "label") ms
+  picks ← optional [] (texts_in pick_of) (codes "pick") ms
+  elements ← required (texts_in element_of) (codes "elements") ms
+  conditions ← optional [] (texts_in condition_of) (codes "conditions") ms
+  Ok (record { number = 0; id = id; label = label; min = least; max = most; picks = picks; elements = elements; conditions = conditions })
+
+-- a loop without its nodes, of which it is seen that they are tables
+unfoldable pub loop_of : Members → Result Loop Refusal
+loop_of ms = do
+  id ← required (word_in 1 4) (codes "loop") ms
+  least ← required count_in (codes "min") ms
+  most ← required count_in (codes "max") ms
+  nodes ← required tables_in (codes "nodes") ms
+  Ok (record { number = 0; id = id; min = least; max = most })
+
+abbrev pub has : List ℕ → Members → Bool
+has key ms = is_some (get_member key ms)
+
+abbrev pub node_kind : Members → NodeKind
+node_kind ms = if has (codes "seg") ms
+    then (if has (codes "loop") ms then node.Unclear else node.Segment)
+    else (if has (codes "loop") ms then node.Loop else node.Unclear)
+
+abbrev pub known : {A : Type 0} → TableKind → Members → Result A Refusal → Result A Refusal
+known k ms read = if_known (first_unknown k ms) read
+
+abbrev pub segment_node : Members → Result Tree Refusal
+segment_node ms = known kind.Segment ms (segment_of ms >>= λ s. Ok (segment s))
+
+-- a loop's own keys are judged before its nodes
+abbrev pub loop_node : Members → Result Trees Refusal → Result Tree Refusal
+loop_node ms inner = known kind.Loop ms (loop_of ms) >>= λ l. inner >>= λ ts. Ok (loop l ts)
+
+abbrev pub unclear_node : Members → Result Tree Refusal
+unclear_node ms = known kind.Unclear ms (Err (wrong_kind (codes "seg")))
+
+abbrev pub node_by : NodeKind → Members → Result Trees Refusal → Result Tree Refusal
+node_by node.Segment ms inner = segment_node ms
+node_by node.Loop ms inner = loop_node ms inner
+node_by node.Unclear ms inner = unclear_node ms
+
+abbrev mutual
+  -- the nodes of a list of tables
+  pub nodes_in : Items → Result Trees Refusal
+  nodes_in no_items = Ok no_trees
+  nodes_in (item d ds) = node_in d >>= λ t. nodes_in ds >>= λ ts. Ok (tree t ts)
+
+  pub node_in : Data → Result Tree Refusal
+  node_in (table ms) = node_by (node_kind ms) ms (inner_in ms)
+  node_in _ = Err (wrong_kind (codes "nodes"))
+
+  -- the nodes at the key `nodes`, once it is seen that they are tables
+  pub inner_in : Members → Result Trees Refusal
+  inner_in no_members = Ok no_trees
+  inner_in (member key d ms) = match_ordering (slice_cmp nat_cmp (codes "nodes") key) (inner_in ms) (list_in d) (inner_in ms)
+
+  pub list_in : Data → Result Trees Refusal
+  list_in (array ds) = nodes_in ds
+  list_in _ = Ok no_trees
+
+unfoldable pub hl_of : Members → Result HlRule Refusal
+hl_of ms = do
+  pairs ← required (texts_in pair_of) (codes "pairs") ms
+  sequential ← required as_bool (codes "sequential") ms
+  Ok (record { pairs = pairs; sequential = sequential })
+
+unfoldable pub dependency_of : Members → Result Dependency Refusal
+dependency_of ms = do
+  k ← required dependency_kind_in (codes "kind") ms
+  slot ← required label_in (codes "slot") ms
+  position ← required count_in (codes "at") ms
+  values ← required (texts_in (formed form.Code)) (codes "codes") ms
+  target ← required label_in (codes "target") ms
+  element ← required count_in (codes "element") ms
+  Ok (record { kind = k; slot = slot; at = position; codes = values; target = target; element = element })
+
+abbrev pub dependency_in : Data → Result Dependency Refusal
+dependency_in (table ms) = known kind.Dependency ms (dependency_of ms)
+dependency_in _ = Err (wrong_kind (codes "depends"))
+
+abbrev pub dependencies_in : Items → Result (List Dependency) Refusal
+dependencies_in no_items = Ok []
+dependencies_in (item d ds) = dependency_in d >>= λ x. dependencies_in ds >>= λ xs. Ok (x ∷ xs)
+
+unfoldable pub head_of : Members → Result GuideHead Refusal
+head_of ms = do
+  name ← required (word_in 1 20) (codes "name") ms
+  group ← required group_in (codes "group") ms
+  set ← required (word_in 3 3) (codes "set") ms
+  version ← required (word_in 1 12) (codes "version") ms
+  convention ← optional None (some_word_in 1 35) (codes "convention") ms
+  dictionary ← optional [] (texts_in (formed form.SegmentId)) (codes "dictionary") ms
+  tolerate_segment ← optional [] (texts_in segment_code_of) (codes "tolerate_segment") ms
+  tolerate_element ← optional [] (texts_in element_code_of) (codes "tolerate_element") ms
+  Ok (record { name = name; group = group; set = set; version = version; convention = convention; dictionary = dictionary; tolerate_segment = tolerate_segment; tolerate_element = tolerate_element })
+
+-- where `hl` is, its table
+abbrev pub hl_in : Option Members → Result (Option HlRule) Refusal
+hl_in None = Ok None
+hl_in (Some ms) = known kind.Hierarchy ms (hl_of ms) >>= λ rule. Ok (Some rule)
+
+abbrev pub some_table : Data → Option (Option Members)
+some_table d = if is_some (as_table d) then Some (as_table d) else None
+
+-- the guide: the top table's own keys, and then `hl`, `depends` and `nodes`
+unfoldable pub guide_of_table : Members → Result GuideTree Refusal
+guide_of_table ms = do
+  head ← known kind.Guide ms (head_of ms)
+  rule ← optional None some_table (codes "hl") ms
+  rows ← optional no_items tables_in (codes "depends") ms
+  nodes ← required tables_in (codes "nodes") ms
+  hl ← hl_in rule
+  depends ← dependencies_in rows
+  trees ← nodes_in nodes
+  Ok (record { head = head; hl = hl; depends = depends; nodes = trees })

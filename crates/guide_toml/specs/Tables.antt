@@ -1,0 +1,109 @@
+-- The guide file (own): what stands at the keys of a table, and the first fault.
+use Rattle.std.specs.Prelude.{ℕ, ◌==◌, ℤ, pos, negsuc, List, [], ◌∷◌, length, codes, Option, Some, None, Result, Ok, Err, Bool, true, ◌&&◌, not, nat_le, if◌then◌else◌, option_map, option_and_then, is_some}
+use Rattle.std.specs.List.{list_all}
+use Rattle.std.specs.Str.{bytes_eq}
+use Rattle.std.specs.Char.{is_ascii_uppercase}
+use Rattle.hub_kinds.specs.Words.{is_word}
+use Rattle.toml.specs.Data.{Data, Items, no_items, item, Members, no_members, member, get_member, as_str, as_integer, as_array, as_table}
+use Rattle.guide_tree.specs.Segments.{contains_text}
+use Rattle.guide_tree.specs.declared.rows.DependencyKind.{DependencyKind}
+use Rattle.guide_tree.specs.declared.rows.DependencyKind.TheVariants as dependency
+use Rattle.guide_toml.specs.declared.table.TableKind.{TableKind}
+use Rattle.guide_toml.specs.declared.table.TableKind.TheVariants as kind
+
+pub data Refusal : Type 0 where
+  missing : List ℕ → Refusal
+  wrong_kind : List ℕ → Refusal
+  unknown : List ℕ → Refusal
+
+infixl 10 ◌>>=◌
+abbrev pub ◌>>=◌ : {A B : Type 0} → Result A Refusal → (A → Result B Refusal) → Result B Refusal
+(Ok x) >>= f = f x
+(Err e) >>= f = Err e
+
+-- the keys of each kind of table; a node that is neither segment nor loop, or both, may have those of either
+abbrev pub keys_of : TableKind → List (List ℕ)
+keys_of kind.Guide = codes "name" ∷ codes "group" ∷ codes "set" ∷ codes "version" ∷ codes "convention" ∷ codes "dictionary" ∷ codes "tolerate_segment" ∷ codes "tolerate_element" ∷ codes "hl" ∷ codes "depends" ∷ codes "nodes" ∷ []
+keys_of kind.Hierarchy = codes "pairs" ∷ codes "sequential" ∷ []
+keys_of kind.Dependency = codes "kind" ∷ codes "slot" ∷ codes "at" ∷ codes "codes" ∷ codes "target" ∷ codes "element" ∷ []
+keys_of kind.Segment = codes "seg" ∷ codes "min" ∷ codes "max" ∷ codes "label" ∷ codes "pick" ∷ codes "elements" ∷ codes "conditions" ∷ []
+keys_of kind.Loop = codes "loop" ∷ codes "min" ∷ codes "max" ∷ codes "nodes" ∷ []
+keys_of kind.Unclear = codes "seg" ∷ codes "loop" ∷ codes "min" ∷ codes "max" ∷ codes "label" ∷ codes "pick" ∷ codes "elements" ∷ codes "conditions" ∷ codes "nodes" ∷ []
+
+-- the least key that isn't listed: members stand in the order of their keys
+abbrev pub first_unknown : TableKind → Members → Option (List ℕ)
+first_unknown k no_members = None
+first_unknown k (member key d ms) = if contains_text (keys_of k) key then first_unknown k ms else Some key
+
+abbrev pub if_known : {A : Type 0} → Option (List ℕ) → Result A Refusal → Result A Refusal
+if_known None read = read
+if_known (Some key) read = Err (unknown key)
+
+-- what is read at a key
+abbrev pub asked : {A : Type 0} → List ℕ → Option A → Result A Refusal
+asked key None = Err (wrong_kind key)
+asked key (Some x) = Ok x
+
+abbrev pub required_of : {A : Type 0} → (Data → Option A) → List ℕ → Option Data → Result A Refusal
+required_of read key None = Err (missing key)
+required_of read key (Some d) = asked key (read d)
+
+-- a key that has to be there
+abbrev pub required : {A : Type 0} → (Data → Option A) → List ℕ → Members → Result A Refusal
+required read key ms = required_of read key (get_member key ms)
+
+abbrev pub optional_of : {A : Type 0} → A → (Data → Option A) → List ℕ → Option Data → Result A Refusal
+optional_of absent read key None = Ok absent
+optional_of absent read key (Some d) = asked key (read d)
+
+-- a key that may be absent, and what stands for it then
+abbrev pub optional : {A : Type 0} → A → (Data → Option A) → List ℕ → Members → Result A Refusal
+optional absent read key ms = optional_of absent read key (get_member key ms)
+
+-- a text of so many to so many letters or digits
+abbrev pub word_in : ℕ → ℕ → Data → Option (List ℕ)
+word_in least most d = option_and_then (λ s. if is_word least most s then Some s else None) (as_str d)
+
+abbrev pub some_word_in : ℕ → ℕ → Data → Option (Option (List ℕ))
+some_word_in least most d = option_map Some (word_in least most d)
+
+-- two upper-case letters, not FA
+abbrev pub is_group : List ℕ → Bool
+is_group s = (length s == 2) && list_all is_ascii_uppercase s && not (bytes_eq s (codes "FA"))
+
+abbrev pub group_in : Data → Option (List ℕ)
+group_in d = option_and_then (λ s. if is_group s then Some s else None) (as_str d)
+
+-- 0 to 4,294,967,295
+abbrev pub count_of_integer : ℤ → Option ℕ
+count_of_integer (pos n) = if nat_le n 4294967295 then Some n else None
+count_of_integer (negsuc n) = None
+
+abbrev pub count_in : Data → Option ℕ
+count_in d = option_and_then count_of_integer (as_integer d)
+
+-- each item of a list
+abbrev pub each_item : {A : Type 0} → (Data → Option A) → Items → Option (List A)
+each_item read no_items = Some []
+each_item read (item d ds) = option_and_then (λ x. option_map (λ xs. x ∷ xs) (each_item read ds)) (read d)
+
+abbrev pub text_item : {A : Type 0} → (List ℕ → Option A) → Data → Option A
+text_item reading d = option_and_then reading (as_str d)
+
+-- a list of texts
+abbrev pub texts_in : {A : Type 0} → (List ℕ → Option A) → Data → Option (List A)
+texts_in reading d = option_and_then (each_item (text_item reading)) (as_array d)
+
+abbrev pub are_tables : Items → Bool
+are_tables no_items = true
+are_tables (item d ds) = is_some (as_table d) && are_tables ds
+
+-- a list of tables
+abbrev pub tables_in : Data → Option Items
+tables_in d = option_and_then (λ ds. if are_tables ds then Some ds else None) (as_array d)
+
+abbrev pub dependency_kind_of : List ℕ → Option DependencyKind
+dependency_kind_of s = if bytes_eq s (codes "need") then Some dependency.Need else (if bytes_eq s (codes "ban") then Some dependency.Ban else None)
+
+abbrev pub dependency_kind_in : Data → Option DependencyKind
+dependency_kind_in d = option_and_then dependency_kind_of (as_str d)

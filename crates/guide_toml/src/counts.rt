@@ -1,0 +1,23 @@
+ghost use Rattle.std.specs.Prelude.{◌≡◌};
+ghost use Rattle.guide_toml.specs.Counts.{count_of};
+
+/// The number that one or more digits write, at most 4,294,967,295; zeros in front are allowed.
+pub fn count_of(digits: &[u8]) -> Option<u32>
+    ensures { result ≡ count_of digits.now }
+{
+    if digits.is_empty() {
+        return None;
+    }
+    let mut count = 0u32;
+    for digit in digits {
+        if !digit.is_ascii_digit() {
+            return None;
+        }
+        let next = 10 * u64::from(count) + u64::from(*digit - b'0');
+        if next > 4_294_967_295 {
+            return None;
+        }
+        count = next as u32;
+    }
+    Some(count)
+}

@@ -1,0 +1,28 @@
+//! Guide files: a partner's implementation guide, written in TOML, read exactly, or refused with its first fault.
+//!
+//! Proved: `read_guide` refuses bytes as no TOML exactly where `toml` reads no table from them, want of memory
+//! aside; else its answer is a function of the table, which the definitions give: the least key that a table may
+//! not have, then the first key that is missing or has another type or form, in the order of the tables and of
+//! their keys; then what the check of the guide refuses; else the guide that the file writes, all of it.
+//!
+//! Source: the format is own; its words for rows and conditions are those of X12.6 (requirement designator, data
+//! element types, relational conditions).
+#![tactic(auto)]
+
+mod counts;
+mod element_text;
+mod entry;
+mod fault;
+mod fault_codes;
+mod lists;
+mod nodes;
+mod read;
+mod table;
+mod text_fault;
+mod tokens;
+
+pub use fault::GuideFileFault;
+pub use read::read_guide;
+
+#[cfg(test)]
+mod tests;

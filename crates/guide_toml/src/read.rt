@@ -1,0 +1,209 @@
+ghost use Rattle.std.specs.Prelude.{◌≡◌, ◌≢◌, ◌↔◌, None, Some, [], ◌∷◌, ◌++◌, option_map, IfErr, OnOk};
+ghost use Rattle.std.specs.Str.{IsUtf8};
+ghost use Rattle.toml.specs.Data.{Members, no_items};
+ghost use Rattle.toml.specs.View.{table_view, items_view, view};
+ghost use Rattle.toml.specs.Parse.{parse_document};
+ghost use Rattle.guide_tree.specs.View.{guide_of};
+ghost use Rattle.guide_toml.specs.Answers.{Gives, Answers};
+ghost use Rattle.guide_toml.specs.Tables as tables;
+ghost use Rattle.guide_toml.specs.Guides as guides;
+
+use crate::entry::Form;
+use crate::fault::GuideFileFault;
+use crate::lists::{entries_at, some_entries_at, some_texts_at, texts_at};
+use crate::nodes::{nodes_of, tables_at, tables_in};
+use crate::table::{
+    TableKind, count_at, dependency_kind_at, flag_at, group_at, refuse_unknown, some_word_at,
+    value_at, word_at,
+};
+use guide_tree::{Dependency, Guide, GuideHead, GuideRows, HlRule};
+use hub_kinds::Items;
+use std::alloc::Global;
+use toml::{Table, Value};
+
+#[tactic(auto, unfolding(crate::specs::Guides::head_of))]
+fn head_of(alloc: Global, table: &Table) -> Result<GuideHead, GuideFileFault>
+    ensures { Gives (λ x. x) result (guides.head_of (table_view table.now)) }
+{
+    let name = word_at(alloc, table, "name", 1, 20)?;
+    let group = group_at(alloc, table, "group")?;
+    let set = word_at(alloc, table, "set", 3, 3)?;
+    let version = word_at(alloc, table, "version", 1, 12)?;
+    let convention = some_word_at(alloc, table, "convention", 1, 35)?;
+    let dictionary = some_texts_at(alloc, table, "dictionary", Form::SegmentId)?;
+    let tolerate_segment = some_entries_at(alloc, table, "tolerate_segment")?;
+    let tolerate_element = some_entries_at(alloc, table, "tolerate_element")?;
+    Ok(GuideHead {
+        name,
+        group,
+        set,
+        version,
+        convention,
+        dictionary,
+        tolerate_segment,
+        tolerate_element,
+    })
+}
+
+fn known_head(alloc: Global, table: &Table) -> Result<GuideHead, GuideFileFault>
+    ensures { Gives (λ x. x) result (guides.known TableKind.Guide (table_view table.now) (guides.head_of (table_view table.now))) }
+{
+    refuse_unknown(alloc, table, TableKind::Guide)?;
+    head_of(alloc, table)
+}
+
+#[tactic(auto, unfolding(crate::specs::Guides::hl_of))]
+fn hl_of(alloc: Global, table: &Table) -> Result<HlRule, GuideFileFault>
+    ensures { Gives (λ x. x) result (guides.hl_of (table_view table.now)) }
+{
+    let pairs = entries_at(alloc, table, "pairs")?;
+    let sequential = flag_at(table, "sequential")?;
+    Ok(HlRule { pairs, sequential })
+}
+
+fn known_hl(alloc: Global, table: &Table) -> Result<HlRule, GuideFileFault>
+    ensures { Gives (λ x. x) result (guides.known TableKind.Hierarchy (table_view table.now) (guides.hl_of (table_view table.now))) }
+{
+    refuse_unknown(alloc, table, TableKind::Hierarchy)?;
+    hl_of(alloc, table)
+}
+
+fn hl_in(alloc: Global, table: Option<&Table>) -> Result<Option<HlRule>, GuideFileFault>
+    ensures { Gives (λ x. x) result (guides.hl_in (option_map (λ t. table_view t.now) table.entry)) }
+{
+    match table {
+        None => Ok(None),
+        Some(table) => Ok(Some(known_hl(alloc, table)?)),
+    }
+}
+
+/// The table at a key, if there is something.
+fn table_at<'a>(table: &'a Table, key: &'static str) -> Result<Option<&'a Table>, GuideFileFault>
+    ensures { Gives (λ o. option_map (λ t. table_view t.now) o) result (tables.optional None guides.some_table key.now (table_view table.now)) }
+{
+    match value_at(table, key) {
+        None => Ok(None),
+        Some(value) => match value.as_table() {
+            None => Err(GuideFileFault::WrongKind(key)),
+            Some(inner) => Ok(Some(inner)),
+        },
+    }
+}
+
+/// The list of tables at a key; an empty one where there is nothing.
+fn some_tables_at<'a>(table: &'a Table, key: &'static str) -> Result<&'a [Value], GuideFileFault>
+    ensures { Gives (λ v. items_view v.now) result (tables.optional no_items tables.tables_in key.now (table_view table.now)) }
+{
+    match value_at(table, key) {
+        None => Ok(&[]),
+        Some(value) => match tables_in(value) {
+            None => Err(GuideFileFault::WrongKind(key)),
+            Some(values) => Ok(values),
+        },
+    }
+}
+
+#[tactic(auto, unfolding(crate::specs::Guides::dependency_of))]
+fn dependency_of(alloc: Global, table: &Table) -> Result<Dependency, GuideFileFault>
+    ensures { Gives (λ x. x) result (guides.dependency_of (table_view table.now)) }
+{
+    let kind = dependency_kind_at(table, "kind")?;
+    let slot = word_at(alloc, table, "slot", 1, 20)?;
+    let at = count_at(table, "at")?;
+    let codes = texts_at(alloc, table, "codes", Form::Code)?;
+    let target = word_at(alloc, table, "target", 1, 20)?;
+    let element = count_at(table, "element")?;
+    Ok(Dependency {
+        kind,
+        slot,
+        at,
+        codes,
+        target,
+        element,
+    })
+}
+
+fn known_dependency(alloc: Global, table: &Table) -> Result<Dependency, GuideFileFault>
+    ensures { Gives (λ x. x) result (guides.known TableKind.Dependency (table_view table.now) (guides.dependency_of (table_view table.now))) }
+{
+    refuse_unknown(alloc, table, TableKind::Dependency)?;
+    dependency_of(alloc, table)
+}
+
+fn dependency_in(alloc: Global, value: &Value) -> Result<Dependency, GuideFileFault>
+    ensures { Gives (λ x. x) result (guides.dependency_in (view value.now)) }
+{
+    match value {
+        Value::Table(table) => known_dependency(alloc, table),
+        _ => Err(GuideFileFault::WrongKind("depends")),
+    }
+}
+
+fn push_dependency(rows: &mut Vec<Dependency>, row: Dependency) -> Result<(), GuideFileFault>
+    ensures ok { OnOk result (rows.new.items ≡ rows.old.items ++ row ∷ []) }
+    ensures err { IfErr result (λ e. e ≡ GuideFileFault.NoMemory) }
+{
+    match rows.push(row) {
+        Ok(()) => Ok(()),
+        Err(_) => Err(GuideFileFault::NoMemory),
+    }
+}
+
+fn dependencies_in(alloc: Global, values: &[Value]) -> Result<Items<Dependency>, GuideFileFault>
+    ensures { Gives (λ x. x) result (guides.dependencies_in (items_view values.now)) }
+{
+    let mut rows = Vec::new(alloc);
+    for value in values {
+        match dependency_in(alloc, value) {
+            Ok(row) => push_dependency(&mut rows, row)?,
+            Err(fault) => return Err(fault),
+        }
+    }
+    Ok(Items::from_vec(rows))
+}
+
+#[tactic(auto, unfolding(crate::specs::Guides::guide_of_table))]
+fn rows_of(alloc: Global, table: &Table) -> Result<GuideRows, GuideFileFault>
+    ensures { Gives guide_of result (guides.guide_of_table (table_view table.now)) }
+{
+    let head = known_head(alloc, table)?;
+    let rule = table_at(table, "hl")?;
+    let rows = some_tables_at(table, "depends")?;
+    let nodes = tables_at(table, "nodes")?;
+    let hl = hl_in(alloc, rule)?;
+    let depends = dependencies_in(alloc, rows)?;
+    let nodes = nodes_of(alloc, nodes)?;
+    Ok(GuideRows {
+        head,
+        hl,
+        depends,
+        nodes,
+    })
+}
+
+fn guide_in(alloc: Global, table: &Table) -> Result<Guide, GuideFileFault>
+    ensures { Answers result (guides.guide_of_table (table_view table.now)) }
+{
+    let rows = rows_of(alloc, table)?;
+    match Guide::check(rows) {
+        Ok(guide) => Ok(guide),
+        Err(fault) => Err(GuideFileFault::Guide(fault)),
+    }
+}
+
+/// Reads a guide file. Its bytes are TOML. The first fault of its table is the least key that the top table may
+/// not have; then the keys of the top table in their order; then those of `hl`, of `depends` and of `nodes`, each
+/// table's least unknown key first, a node's own keys before its nodes; then what `Guide::check` refuses.
+pub fn read_guide(alloc: Global, bytes: &[u8]) -> Result<Guide, GuideFileFault>
+    ensures table { (t : Members) → IsUtf8 bytes.now → parse_document bytes.now ≡ Some t → Answers result (guides.guide_of_table t) }
+    ensures not_toml { (result ≡ Err GuideFileFault.NotToml) ↔ ((result ≢ Err GuideFileFault.NoMemory) × (IsUtf8 bytes.now → parse_document bytes.now ≡ None)) }
+{
+    let Ok(text) = std::str::from_utf8(bytes) else {
+        return Err(GuideFileFault::NotToml);
+    };
+    match toml::table_from_str(alloc, text) {
+        Ok(table) => guide_in(alloc, &table),
+        Err(e) if e.is_memory() => Err(GuideFileFault::NoMemory),
+        Err(_) => Err(GuideFileFault::NotToml),
+    }
+}

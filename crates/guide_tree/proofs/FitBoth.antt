@@ -1,0 +1,84 @@
+-- Whether a segment can fit two slots doesn't depend on which is first.
+use Rattle.std.proofs.Common.{◌≡◌, ℕ, eqb, ◌⊎◌, inl, inr, Bool, true, false, not, ◌&&◌, ◌||◌, List, [], ◌∷◌, refl, sym, ap, ◌∙◌, arith}
+use Rattle.std.proofs.lemmas.Bool.Decides.{nat_tests}
+use Rattle.std.proofs.lemmas.Slice.Eq.{bytes_eq-Decides}
+use Rattle.std.specs.List.{list_any, list_all}
+use Rattle.std.specs.Str.{bytes_eq}
+use Rattle.guide_tree.specs.declared.slot.Slot.{Slot}
+use Rattle.guide_tree.specs.declared.slot.Pick.{Pick}
+use Rattle.guide_tree.specs.Segments.{contains_text, share_text, agree, can_fit_both}
+
+abbrev In : {A : Type 0} → List A → A → Type 0
+In [] x = ⊥
+In (y ∷ ys) x = (y ≡ x) ⊎ In ys x
+
+or_cases : (a b : Bool) → (a || b) ≡ true → (a ≡ true) ⊎ (b ≡ true)
+or_cases true b e = inl refl
+or_cases false b e = inr e
+
+or_left : (a b : Bool) → a ≡ true → (a || b) ≡ true
+or_left true b e = refl
+or_left false b e = cc
+
+or_right : (a b : Bool) → b ≡ true → (a || b) ≡ true
+or_right true b e = refl
+or_right false b e = e
+
+and_both : (a b : Bool) → (a && b) ≡ true → (a ≡ true) × (b ≡ true)
+and_both true b e = (refl, e)
+and_both false b e = cc
+
+both_and : (a b : Bool) → a ≡ true → b ≡ true → (a && b) ≡ true
+both_and true b e f = f
+both_and false b e f = cc
+
+record Found {A : Type 0} (test : A → Bool) (xs : List A) : Type 0 where
+  one : A
+  among : In xs one
+  passes : test one ≡ true
+
+any_found : {A : Type 0} (test : A → Bool) (xs : List A) → list_any test xs ≡ true → Found test xs
+any_found test [] h = cc
+any_found test (x ∷ xs) h = elim (or_cases (test x) (list_any test xs) h) [
+  | inl e ↦ record { one = x; among = inl refl; passes = e }
+  | inr e ↦ (let r = any_found test xs e in record { one = r.one; among = inr r.among; passes = r.passes })
+]
+
+found_any : {A : Type 0} (test : A → Bool) (xs : List A) (x : A) → In xs x → test x ≡ true → list_any test xs ≡ true
+found_any test [] x i h = absurd i
+found_any test (y ∷ ys) x (inl e) h = or_left (test y) (list_any test ys) (ap test e ∙ h)
+found_any test (y ∷ ys) x (inr i) h = or_right (test y) (list_any test ys) (found_any test ys x i h)
+
+all_at : {A : Type 0} (test : A → Bool) (xs : List A) (x : A) → list_all test xs ≡ true → In xs x → test x ≡ true
+all_at test [] x h i = absurd i
+all_at test (y ∷ ys) x h (inl e) = ap test (sym e) ∙ (and_both (test y) (list_all test ys) h).0
+all_at test (y ∷ ys) x h (inr i) = all_at test ys x (and_both (test y) (list_all test ys) h).1 i
+
+each_all : {A : Type 0} (test : A → Bool) (xs : List A) → ((x : A) → In xs x → test x ≡ true) → list_all test xs ≡ true
+each_all test [] f = refl
+each_all test (y ∷ ys) f = both_and (test y) (list_all test ys) (f y (inl refl)) (each_all test ys (λ x i. f x (inr i)))
+
+bytes_eq-comm : (x y : List ℕ) → bytes_eq x y ≡ true → bytes_eq y x ≡ true
+bytes_eq-comm x y h = (bytes_eq-Decides y x).1 (sym ((bytes_eq-Decides x y).0 h))
+
+share_comm : (xs ys : List (List ℕ)) → share_text xs ys ≡ true → share_text ys xs ≡ true
+share_comm xs ys h =
+    let y = any_found (contains_text xs) ys h in
+    let x = any_found (λ t. bytes_eq t y.one) xs y.passes in
+    found_any (contains_text ys) xs x.one x.among (found_any (λ t. bytes_eq t x.one) ys y.one y.among (bytes_eq-comm x.one y.one x.passes))
+
+eqb_comm : (m n : ℕ) → eqb m n ≡ eqb n m
+eqb_comm m n = grind (arith, nat_tests)
+
+agree_comm : (p q : Pick) → agree p q ≡ true → agree q p ≡ true
+agree_comm p q h = elim (or_cases (not (eqb p.position q.position)) (share_text p.codes q.codes) h) [
+  | inl e ↦ or_left (not (eqb q.position p.position)) (share_text q.codes p.codes) (ap not (eqb_comm q.position p.position) ∙ e)
+  | inr e ↦ or_right (not (eqb q.position p.position)) (share_text q.codes p.codes) (share_comm p.codes q.codes e)
+]
+
+pub can_fit_both-comm : (s t : Slot) → can_fit_both s t ≡ true → can_fit_both t s ≡ true
+can_fit_both-comm s t h =
+    let b = and_both (bytes_eq s.id t.id) (list_all (λ p. list_all (agree p) t.picks) s.picks) h in
+    both_and (bytes_eq t.id s.id) (list_all (λ p. list_all (agree p) s.picks) t.picks) (bytes_eq-comm s.id t.id b.0)
+    (each_all (λ p. list_all (agree p) s.picks) t.picks (λ q i. each_all (agree q) s.picks (λ p j.
+    agree_comm p q (all_at (agree p) t.picks q (all_at (λ x. list_all (agree x) t.picks) s.picks p b.1 j) i))))

@@ -1,0 +1,12 @@
+pub mod NodeViews
+pub mod NumberStep
+pub mod Behind
+pub mod NumberLaws
+pub mod Keeping
+pub mod RivalPairs
+pub mod RivalPlaces
+pub mod RivalsPaired
+pub mod FitBoth
+pub mod Ambiguous
+pub mod Judged
+pub mod Checked

@@ -1,0 +1,15 @@
+pub mod Tree
+pub mod View
+pub mod Segments
+pub mod Places
+pub mod Grammar
+pub mod Ambiguity
+pub mod Bounds
+pub mod Conditions
+pub mod Faults
+pub mod Structure
+pub mod Room
+pub mod Rules
+pub mod Rivals
+pub mod Judging
+pub mod Accepted

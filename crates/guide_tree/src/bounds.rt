@@ -1,0 +1,150 @@
+ghost use Rattle.std.specs.Prelude.{◌≡◌};
+ghost use Rattle.std.specs.List.{list_all};
+ghost use Rattle.guide_tree.specs.Segments.{contains_text};
+ghost use Rattle.guide_tree.specs.Bounds.{is_within, is_use_range, is_length_range, is_upper_or_digit, envelope_ids, is_segment_id, is_loop_id, is_filled, are_codes_bounded, is_row_bounded, is_component_bounded, is_element_bounded, is_repeat, is_slot_bounded, is_loop_bounded, is_bounded};
+ghost use Rattle.guide_tree.specs.View.{view};
+
+use crate::element::{CodeList, Component, Element, SimpleRow};
+use crate::node::{Loop, Node};
+use crate::slot::Slot;
+use hub_kinds::{Text, is_alphanumeric};
+
+fn is_use_range(least: u32, most: u32) -> bool
+    ensures { result ≡ is_use_range least most }
+{
+    least <= most && most <= 999_999
+}
+
+fn is_length_range(least: u32, most: u32) -> bool
+    ensures { result ≡ is_length_range least most }
+{
+    1 <= least && least <= most && most <= 9_999
+}
+
+fn is_repeat(count: u32) -> bool
+    ensures { result ≡ is_repeat count }
+{
+    1 <= count && count <= 999
+}
+
+fn is_upper_or_digit(byte: u8) -> bool
+    ensures { result ≡ is_upper_or_digit byte }
+{
+    byte.is_ascii_uppercase() || byte.is_ascii_digit()
+}
+
+fn is_envelope_id(id: &[u8]) -> bool
+    ensures { result ≡ contains_text envelope_ids id.now }
+{
+    b"ISA".as_slice() == id
+        || b"IEA".as_slice() == id
+        || b"GS".as_slice() == id
+        || b"GE".as_slice() == id
+        || b"ST".as_slice() == id
+        || b"SE".as_slice() == id
+}
+
+fn are_upper_or_digits(text: &[u8]) -> bool
+    ensures { result ≡ list_all is_upper_or_digit text.now }
+{
+    text.iter().all(|byte| is_upper_or_digit(*byte))
+}
+
+fn is_segment_id(id: &[u8]) -> bool
+    ensures { result ≡ is_segment_id id.now }
+{
+    2 <= id.len() && id.len() <= 3 && are_upper_or_digits(id) && !is_envelope_id(id)
+}
+
+fn is_loop_id(id: &[u8]) -> bool
+    ensures { result ≡ is_loop_id id.now }
+{
+    is_alphanumeric(id, 1, 4)
+}
+
+/// Whether there is some text.
+pub fn is_filled(texts: &[Text]) -> bool
+    ensures { result ≡ is_filled texts.now }
+{
+    1 <= texts.len()
+}
+
+fn are_codes_bounded(codes: &CodeList) -> bool
+    ensures { result ≡ are_codes_bounded codes.now }
+{
+    is_filled(codes.used.as_slice())
+        && match &codes.unused {
+            None => true,
+            Some(unused) => is_filled(unused.as_slice()),
+        }
+}
+
+fn is_row_bounded(row: &SimpleRow) -> bool
+    ensures { result ≡ is_row_bounded row.now }
+{
+    is_length_range(row.min, row.max)
+        && match &row.codes {
+            None => true,
+            Some(codes) => are_codes_bounded(codes),
+        }
+}
+
+fn is_component_bounded(component: &Component) -> bool
+    ensures { result ≡ is_component_bounded component.now }
+{
+    match component {
+        Component::NotUsed(_) => true,
+        Component::Simple(row) => is_row_bounded(row),
+    }
+}
+
+fn are_components_bounded(components: &[Component]) -> bool
+    ensures { result ≡ list_all is_component_bounded components.now }
+{
+    components.iter().all(is_component_bounded)
+}
+
+fn is_element_bounded(element: &Element) -> bool
+    ensures { result ≡ is_element_bounded element.now }
+{
+    match element {
+        Element::NotUsed(_) => true,
+        Element::Simple(row, repeat) => is_repeat(*repeat) && is_row_bounded(row),
+        Element::Composite(row) => {
+            let components = row.components.as_slice();
+            is_repeat(row.repeat) && components.len() <= 20 && are_components_bounded(components)
+        }
+    }
+}
+
+fn are_elements_bounded(elements: &[Element]) -> bool
+    ensures { result ≡ list_all is_element_bounded elements.now }
+{
+    elements.iter().all(is_element_bounded)
+}
+
+fn is_slot_bounded(slot: &Slot) -> bool
+    ensures { result ≡ is_slot_bounded slot.now }
+{
+    let elements = slot.elements.as_slice();
+    is_use_range(slot.min, slot.max)
+        && is_segment_id(slot.id.as_slice())
+        && elements.len() <= 40
+        && are_elements_bounded(elements)
+}
+
+fn is_loop_bounded(head: &Loop) -> bool
+    ensures { result ≡ is_loop_bounded head.now }
+{
+    is_use_range(head.min, head.max) && is_loop_id(head.id.as_slice())
+}
+
+/// Whether a node's own bounds and id are as they have to be.
+pub fn is_bounded(node: &Node) -> bool
+    ensures { result ≡ is_bounded (view node.now) }
+{
+    match node {
+        Node::Segment(slot) => is_slot_bounded(slot),
+        Node::Loop(head, _) => is_loop_bounded(head),
+    }
+}

@@ -1,0 +1,37 @@
+ghost use Rattle.std.specs.Prelude.{◌≡◌, ◌-◌, ◌≤◌, nat_le, Some, None, if◌then◌else◌};
+ghost use Rattle.guide_tree.specs.Tree.{nesting, nesting_in, node_count, count_in};
+ghost use Rattle.guide_tree.specs.View.{view, nodes_view};
+ghost use Rattle.guide_tree.specs.Room.{room_left};
+
+use crate::node::Node;
+
+/// Whether no more than `limit` loops are nested. It goes no deeper than that.
+pub fn nests_within(nodes: &[Node], limit: u32) -> bool
+    ensures { result ≡ nat_le (nesting (nodes_view nodes.now)) limit }
+{
+    for node in nodes {
+        if let Node::Loop(_, inner) = node
+            && (limit == 0 || !nests_within(inner, limit - 1))
+        {
+            return false;
+        }
+    }
+    true
+}
+
+/// How many nodes there is room for behind these; none where there is no room for these.
+pub fn room_behind(nodes: &[Node], room: u32) -> Option<u32>
+    ensures { result ≡ room_left room (node_count (nodes_view nodes.now)) }
+{
+    let mut left = room;
+    for node in nodes {
+        if left == 0 {
+            return None;
+        }
+        left -= 1;
+        if let Node::Loop(_, inner) = node {
+            left = room_behind(inner, left)?;
+        }
+    }
+    Some(left)
+}

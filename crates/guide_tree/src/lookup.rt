@@ -1,0 +1,66 @@
+ghost use Rattle.std.specs.Prelude.{◌≡◌, option_map, is_some};
+ghost use Rattle.guide_tree.specs.Tree.{find_slot, any_slot};
+ghost use Rattle.guide_tree.specs.Conditions.{has_label, labelled, is_hierarchy_slot};
+ghost use Rattle.guide_tree.specs.View.{nodes_view};
+
+use crate::node::Node;
+use crate::slot::Slot;
+
+fn has_label(slot: &Slot, label: &[u8]) -> bool
+    ensures { result ≡ has_label label.now slot.now }
+{
+    match &slot.label {
+        None => false,
+        Some(own) => own.as_slice() == label,
+    }
+}
+
+fn is_hierarchy_slot(slot: &Slot) -> bool
+    ensures { result ≡ is_hierarchy_slot slot.now }
+{
+    slot.id.as_slice() == b"HL".as_slice() && 4 <= slot.elements.as_slice().len()
+}
+
+/// The slot that a label names: the first that has it.
+pub fn slot_labelled<'a>(nodes: &'a [Node], label: &[u8]) -> Option<&'a Slot>
+    ensures { option_map (λ s. s.now) result ≡ labelled (nodes_view nodes.entry.now) label.now }
+{
+    for node in nodes {
+        let found = match node {
+            Node::Segment(slot) => {
+                if has_label(slot, label) {
+                    Some(slot)
+                } else {
+                    None
+                }
+            }
+            Node::Loop(_, inner) => slot_labelled(inner, label),
+        };
+        if found.is_some() {
+            return found;
+        }
+    }
+    None
+}
+
+/// The first segment HL that has four elements or more.
+pub fn hierarchy_slot(nodes: &[Node]) -> Option<&Slot>
+    ensures { option_map (λ s. s.now) result ≡ find_slot is_hierarchy_slot (nodes_view nodes.entry.now) }
+{
+    for node in nodes {
+        let found = match node {
+            Node::Segment(slot) => {
+                if is_hierarchy_slot(slot) {
+                    Some(slot)
+                } else {
+                    None
+                }
+            }
+            Node::Loop(_, inner) => hierarchy_slot(inner),
+        };
+        if found.is_some() {
+            return found;
+        }
+    }
+    None
+}
