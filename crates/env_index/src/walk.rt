@@ -36,7 +36,7 @@ pub(crate) fn read_body(
                 return builder.finish(alloc, None, rest_end(text, start));
             }
             Part::Segment { start, end } => {
-                if read_header(text, start).is_some() {
+                if begins_at_header(text, start) {
                     return builder.finish(alloc, None, start);
                 }
                 let segment = SegView::new(start, &text[start..end], delims);
@@ -62,9 +62,17 @@ fn rest_end(text: &[u8], start: usize) -> usize
     ensures within { result ≤ length text.now }
     ensures end { result ≡ if is_head text.now start then start else length text.now }
 {
-    if read_header(text, start).is_some() {
+    if begins_at_header(text, start) {
         start
     } else {
         text.len()
     }
+}
+
+/// Whether a part that begins here begins at a header.
+fn begins_at_header(text: &[u8], start: usize) -> bool
+    requires { start ≤ length text.now }
+    ensures { result ≡ is_head text.now start }
+{
+    read_header(text, start).is_some()
 }

@@ -1,5 +1,4 @@
 use Rattle.std.proofs.Common.{◌≡◌, ◌≢◌, ℕ, List, true, false, None, Some, sym, ap, ◌∙◌, arith}
-use Rattle.std.proofs.lemmas.Grind.{common_steps}
 use Rattle.x12_bytes.specs.HeaderTest.{is_head}
 use Rattle.env_index.specs.Kinds.{kind_of}
 use Rattle.env_index.specs.declared.kind.Kind.{Kind}
@@ -14,18 +13,18 @@ returns-in-Rest-clause-only c =
     told_ok c.args.text.now c.args.delims c.finish.result _ _ (λ text delims. state_of text delims c.loop-start.builder) (λ text delims. None) c.loop-start.invariant.whole
     (none_at_rest c.args.text.now c.args.delims c.loop-start.at c.in-Rest.start c.in-Rest.ensures.next) c.finish.ensures.body
 
-pub returns-then-is_some-clause-only : goal.returns-then-is_some-clause-only
-returns-then-is_some-clause-only c =
-    let head : is_head c.args.text.now c.in-Segment.start ≡ true = grind (arith, common_steps, c.read_header.ensures.test, c.is_some.ensures, c.if-is_some.true) in
-    told_ok c.args.text.now c.args.delims c.finish-then-is_some.result _ _ (λ text delims. state_of text delims c.loop-start.builder) (λ text delims. None) c.loop-start.invariant.whole
-    (none_at_head c.args.text.now c.args.delims c.loop-start.at c.in-Segment.start c.in-Segment.end c.in-Segment.ensures.next head) c.finish-then-is_some.ensures.body
+pub returns-then-begins_at_header-clause-only : goal.returns-then-begins_at_header-clause-only
+returns-then-begins_at_header-clause-only c =
+    let head : is_head c.args.text.now c.in-Segment.start ≡ true = sym c.begins_at_header.ensures ∙ c.if-begins_at_header.true in
+    told_ok c.args.text.now c.args.delims c.finish-then-begins_at_header.result _ _ (λ text delims. state_of text delims c.loop-start.builder) (λ text delims. None) c.loop-start.invariant.whole
+    (none_at_head c.args.text.now c.args.delims c.loop-start.at c.in-Segment.start c.in-Segment.end c.in-Segment.ensures.next head) c.finish-then-begins_at_header.ensures.body
 
 pub returns-in-InterchangeTrailer-clause-only : goal.returns-in-InterchangeTrailer-clause-only
 returns-in-InterchangeTrailer-clause-only c =
     let text : List ℕ = c.args.text.now in
     let start : ℕ = c.in-Segment.start in
     let end : ℕ = c.in-Segment.end in
-    let head : is_head text start ≡ false = grind (arith, common_steps, c.read_header.ensures.test, c.is_some.ensures, c.if-is_some.false) in
+    let head : is_head text start ≡ false = sym c.begins_at_header.ensures ∙ c.if-begins_at_header.false in
     let is : kind_of (segment_at text c.args.delims start end) ≡ InterchangeTrailer = ap kind_of (sym c.new-segment.ensures) ∙ sym c.kind_of.ensures ∙ c.in-InterchangeTrailer.is in
     let lies = c.in-Segment.ensures.within in
     told_ok text c.args.delims c.finish-in-InterchangeTrailer.result _ _ (λ text delims. state_of text delims c.loop-start.builder)
@@ -39,7 +38,7 @@ loop-start-preserved c =
     let start : ℕ = c.in-Segment.start in
     let end : ℕ = c.in-Segment.end in
     let k : Kind = c.kind_of.result in
-    let head : is_head text start ≡ false = grind (arith, common_steps, c.read_header.ensures.test, c.is_some.ensures, c.if-is_some.false) in
+    let head : is_head text start ≡ false = sym c.begins_at_header.ensures ∙ c.if-begins_at_header.false in
     let is : k ≡ kind_of (segment_at text c.args.delims start end) = c.kind_of.ensures ∙ ap kind_of c.new-segment.ensures in
     let other : k ≢ InterchangeTrailer = c.in_default.not-InterchangeTrailer in
     let lies = c.in-Segment.ensures.within in
