@@ -1,0 +1,315 @@
+#!/usr/bin/env python3
+"""Checks the elements of segments by the built rules, and compares and times them.
+
+usage: bench/elements.py [SLOTS]
+
+A small program over elem_rules (bench/element_check.txt, a Rattle source kept out of the gate by its name) is proved and
+built in a fresh folder (some minutes). On SLOTS random slots (200 if absent), each with 40 random segments, its faults are
+compared with those that this script works out from the rules by itself. Then a segment whose second element is 999
+occurrences of a composite is timed with 16 MB and with 1.6 MB, and the growth printed.
+"""
+import calendar
+import os
+import random
+import shutil
+import subprocess
+import sys
+import tempfile
+
+HERE = os.path.dirname(os.path.abspath(__file__))
+CRATES = ('x12_bytes', 'x12_segs', 'hub_kinds', 'guide_tree', 'guide_toml', 'elem_rules')
+LISTED = '''x12_bytes:
+x12_segs: x12_bytes memchr
+hub_kinds:
+guide_tree: hub_kinds
+guide_toml: guide_tree hub_kinds toml thiserror
+elem_rules: guide_tree hub_kinds x12_segs x12_bytes jiff
+element_check: elem_rules guide_tree guide_toml hub_kinds x12_segs x12_bytes
+'''
+HEAD = 'name = "BENCH"\ngroup = "PO"\nset = "850"\nversion = "005010"\n'
+IK403 = ['1', '2', '3', '4', '5', '6', '7', '8', '9', '10', '12', '13', 'I6', 'I9', 'I10', 'I12', 'I13']
+
+
+def empty(text):
+    return not text.strip(b'>^')
+
+
+def without_empty_end(parts):
+    while parts and empty(parts[-1]):
+        parts = parts[:-1]
+    return parts
+
+
+def exists(day):
+    if not day.isdigit() or len(day) not in (6, 8):
+        return False
+    if len(day) == 6:
+        day = b'20' + day
+    year, month, number = int(day[:4]), int(day[4:6]), int(day[6:])
+    return year >= 1 and 1 <= month <= 12 and 1 <= number <= calendar.monthrange(year, month)[1]
+
+
+def is_time(text):
+    if len(text) not in (4, 6, 7, 8):
+        return False
+    return int(text[:2]) <= 23 and int(text[2:4]) <= 59 and (len(text) == 4 or int(text[4:6]) <= 59)
+
+
+def has_form(kind, wide, text):
+    digits = b'0123456789'
+    if kind in ('AN', 'ID'):
+        return all(32 <= b <= 126 or wide and b >= 128 for b in text)
+    if kind in ('DT', 'TM'):
+        return all(b in digits for b in text)
+    rest = text[1:] if text[:1] == b'-' else text
+    if kind == 'R':
+        return all(b in b'0123456789.' for b in rest) and rest.count(b'.') <= 1 and any(b in digits for b in rest)
+    return len(rest) > 0 and all(b in digits for b in rest)
+
+
+def value_fault(row, text):
+    kind = row['type']
+    if not has_form(kind, row['wide'], text):
+        return '6'
+    counted = text
+    if kind == 'R' or kind[0] == 'N':
+        counted = text.replace(b'-', b'').replace(b'.', b'')
+    if len(counted) < row['min']:
+        return '4'
+    if len(counted) > row['max']:
+        return '5'
+    if row['used'] and text not in row['used']:
+        return 'I6' if text in row['unused'] else '7'
+    if kind == 'DT' and not exists(text):
+        return '8'
+    if kind == 'TM' and not is_time(text):
+        return '9'
+    return None
+
+
+def element_faults(rows, conditions, segment):
+    elements = without_empty_end(segment.split(b'*')[1:])
+    found = set()
+
+    def element(k):
+        return elements[k - 1] if k <= len(elements) else b''
+
+    def tell(k, component, repetition, code, reference, copy):
+        found.add((k, component, repetition, code, reference, copy))
+
+    if len(elements) > len(rows):
+        tell(len(rows) + 1, 0, 0, '3', b'', element(len(rows) + 1))
+    for k, row in enumerate(rows, 1):
+        text = element(k)
+        if row['kind'] == 'unused':
+            if not empty(text):
+                tell(k, 0, 0, 'I10', row['ref'], text)
+            continue
+        if empty(text):
+            if row['needed']:
+                tell(k, 0, 0, '1', row['ref'], b'')
+            continue
+        occurrences = without_empty_end(text.split(b'^'))
+        if len(occurrences) > row['repeat']:
+            tell(k, 0, row['repeat'] + 1, '12', row['ref'], occurrences[row['repeat']])
+        for n, occurrence in enumerate(occurrences[:row['repeat']], 1):
+            if empty(occurrence):
+                continue
+            shown = n if row['repeat'] > 1 else 0
+            parts = without_empty_end(occurrence.split(b'>'))
+            below = row['components'] if row['kind'] == 'composite' else [row]
+            if len(parts) > len(below):
+                tell(k, len(below) + 1, shown, '13', row['ref'], parts[len(below)])
+                continue
+            for m, part_row in enumerate(below, 1):
+                part = parts[m - 1] if m <= len(parts) else b''
+                at = m if row['kind'] == 'composite' else 0
+                if part_row['kind'] == 'unused':
+                    if part:
+                        tell(k, at, shown, 'I10', part_row['ref'], part)
+                elif not part:
+                    if part_row['needed']:
+                        tell(k, at, shown, '1', part_row['ref'], b'')
+                else:
+                    code = value_fault(part_row, part)
+                    if code:
+                        tell(k, at, shown, code, part_row['ref'], part)
+    for letter, positions in conditions:
+        present = [p for p in positions if not empty(element(p))]
+        absent = [p for p in positions if p not in present]
+        others = positions[1:]
+        wrong = []
+        if letter == 'P' and present:
+            wrong = absent
+        elif letter == 'R' and not present:
+            wrong = positions[:1]
+        elif letter == 'E':
+            wrong = present[1:]
+        elif letter == 'C' and positions[0] in present:
+            wrong = absent
+        elif letter == 'L' and positions[0] in present and not any(p in present for p in others):
+            wrong = others[:1]
+        for p in wrong:
+            if letter == 'E':
+                tell(p, 0, 0, '10', rows[p - 1]['ref'], element(p))
+            else:
+                tell(p, 0, 0, '2', rows[p - 1]['ref'], b'')
+    return sorted(found, key=lambda f: (f[0], f[1], f[2], IK403.index(f[3])))
+
+
+def random_code(draw):
+    return bytes(draw.choice(b'AB0') for _ in range(draw.randint(1, 3)))
+
+
+def random_simple(draw):
+    least = draw.randint(1, 8)
+    row = {'kind': 'simple', 'ref': random_reference(draw), 'needed': draw.random() < .4, 'repeat': 1, 'wide': draw.random() < .2,
+           'type': draw.choice(['AN', 'ID', 'N0', 'N2', 'R', 'DT', 'TM']), 'min': least if draw.random() < .5 else 1,
+           'max': draw.randint(least, 9), 'used': [], 'unused': []}
+    if draw.random() < .4:
+        row['used'] = [random_code(draw) for _ in range(draw.randint(1, 3))]
+        if draw.random() < .6:
+            row['unused'] = [random_code(draw) for _ in range(draw.randint(1, 3))]
+    return row
+
+
+def random_reference(draw):
+    return b'' if draw.random() < .1 else b'%d' % draw.randint(1, 9999)
+
+
+def random_row(draw):
+    kind = draw.choice(['simple'] * 4 + ['composite'] * 3 + ['unused'])
+    if kind == 'unused':
+        return {'kind': kind, 'ref': random_reference(draw)}
+    if kind == 'simple':
+        row = random_simple(draw)
+    else:
+        row = {'kind': kind, 'ref': random_reference(draw), 'needed': draw.random() < .4, 'components': [
+            {'kind': 'unused', 'ref': random_reference(draw)} if draw.random() < .2 else random_simple(draw)
+            for _ in range(draw.randint(1, 3))]}
+    row['repeat'] = draw.choice([1, 1, 2, 3])
+    return row
+
+
+def row_text(row, inner=False):
+    reference = row['ref'].decode() or '-'
+    if row['kind'] == 'unused':
+        return f'{reference} N'
+    use = 'M' if row['needed'] else 'O'
+    repeat = f" x{row['repeat']}" if row['repeat'] > 1 and not inner else ''
+    if row['kind'] == 'composite':
+        return f'{reference} {use} C{repeat}' + ''.join(f' ; {row_text(c, True)}' for c in row['components'])
+    text = f"{reference} {use} {row['type']} {row['min']} {row['max']}{repeat}{' wide' if row['wide'] else ''}"
+    if row['used']:
+        text += ' = ' + b' '.join(row['used']).decode()
+        if row['unused']:
+            text += ' ! ' + b' '.join(row['unused']).decode()
+    return text
+
+
+def random_conditions(draw, count):
+    if count < 2:
+        return []
+    return [(draw.choice('PRECL'), draw.sample(range(1, count + 1), draw.randint(2, min(4, count))))
+            for _ in range(draw.randint(0, 3))]
+
+
+def random_value(draw):
+    made = draw.randint(0, 6)
+    if made == 0:
+        return b'20%02d%02d%02d' % (draw.choice([24, 26]), draw.randint(0, 13), draw.choice([0, 1, 28, 29, 30, 31]))
+    if made == 1:
+        return b'%02d%02d' % (draw.randint(0, 25), draw.randint(0, 61)) + draw.choice([b'', b'59', b'60', b'001', b'0000', b'5'])
+    if made == 2:
+        return draw.choice([b'-', b'.', b'-.', b'-1.5', b'1..2', b'--1', b'00012', b'1.', b'.5', b'-0012', b'+1', b'1-'])
+    if made == 3:
+        return random_code(draw)
+    if made == 4:
+        return bytes(draw.choice(b'A \x7f\x80\xff\x1f') for _ in range(draw.randint(1, 4)))
+    return bytes(draw.choice(b'0123456789') for _ in range(draw.randint(1, 9)))
+
+
+def random_element(draw):
+    if draw.random() < .25:
+        return draw.choice([b'', b'', b'>', b'^', b'>^>'])
+    text = b''
+    for _ in range(draw.choice([1, 1, 1, 2, 3, 4])):
+        parts = [b'' if draw.random() < .25 else random_value(draw) for _ in range(draw.choice([1, 1, 2, 3, 4]))]
+        text += b'^' * (text != b'' or draw.random() < .1) + b'>'.join(parts)
+    return text
+
+
+def build(folder):
+    crates = os.path.join(folder, 'crates')
+    for crate in CRATES:
+        shutil.copytree(os.path.join(HERE, '..', 'crates', crate), os.path.join(crates, crate),
+                        ignore=shutil.ignore_patterns('out', 'incremental'))
+    program = os.path.join(crates, 'element_check')
+    os.makedirs(os.path.join(program, 'src'))
+    shutil.copy(os.path.join(HERE, 'element_check.txt'), os.path.join(program, 'src', 'main.rt'))
+    with open(os.path.join(folder, 'crates.txt'), 'w') as listed:
+        listed.write(LISTED)
+    open(os.path.join(folder, 'MODULE.bazel'), 'w').close()
+    said = subprocess.run(['rt', 'run'], cwd=program, capture_output=True, text=True)
+    built = os.path.join(program, 'out', 'element_check')
+    if not os.path.exists(built):
+        sys.exit(said.stdout + said.stderr)
+    return built
+
+
+def run(built, folder, slot_text, text, *words):
+    guide = os.path.join(folder, 'guide.toml')
+    with open(guide, 'w') as out:
+        out.write(HEAD + f'nodes = [\n{slot_text}\n]\n')
+    path = os.path.join(folder, 'segments')
+    with open(path, 'wb') as out:
+        out.write(text)
+    return subprocess.run([built, guide, '1', path, *words], capture_output=True, text=True, check=True).stdout
+
+
+def compare(built, folder, slots):
+    draw = random.Random(5010)
+    faults = 0
+    for number in range(slots):
+        rows = [random_row(draw) for _ in range(draw.randint(0, 6))]
+        conditions = random_conditions(draw, len(rows))
+        told = ', '.join(f'"{letter}{"".join("%02d" % p for p in positions)}"' for letter, positions in conditions)
+        slot_text = '{seg="TST", min=1, max=1, elements=[' + ', '.join(f'"{row_text(row)}"' for row in rows) + f'], conditions=[{told}]}}'
+        segments = [b'*'.join([b'TST'] + [random_element(draw) for _ in range(draw.randint(0, len(rows) + 2))])
+                    for _ in range(40)]
+        wanted = ''
+        for k, segment in enumerate(segments, 1):
+            for f in element_faults(rows, conditions, segment):
+                wanted += f'{k} {f[0]} {f[1]} {f[2]} {f[3]} {list(f[4])} {list(f[5])}\n'
+                faults += 1
+        got = run(built, folder, slot_text, b'~'.join(segments) + b'~')
+        if got != wanted:
+            for a, b in zip(got.splitlines(), wanted.splitlines()):
+                if a != b:
+                    print(f'slot {number}: {slot_text}\n{segments[int(b.split()[0]) - 1]}\ngot    {a}\nwanted {b}')
+                    break
+            sys.exit(1)
+    print(f'{slots} slots, {40 * slots} segments: {faults} faults, all equal')
+
+
+def grow(built, folder):
+    slot_text = '{seg="TST", min=1, max=1, elements=["1 M AN 1 9", "2 M C x999 ; 3 M AN 1 9999 ; 4 O AN 1 9999 ; 5 O R 1 9999"]}'
+    took = []
+    for size in (1_600_000, 16_000_000):
+        part = size // 999 // 3 - 1
+        occurrence = b'A' * part + b'>' + b'B' * part + b'>' + b'1' * part
+        text = b'TST*X*' + b'^'.join([occurrence] * 999) + b'~'
+        said = run(built, folder, slot_text, text, 'count').strip()
+        print(f'{len(text) / 1e6:.1f} MB, {said}')
+        took.append(int(said.split()[-2]))
+    print(f'growth from the smaller to the larger: {took[1] / took[0]:.1f}')
+
+
+def main():
+    with tempfile.TemporaryDirectory() as folder:
+        built = build(folder)
+        compare(built, folder, int(sys.argv[1]) if len(sys.argv) > 1 else 200)
+        grow(built, folder)
+
+
+main()
