@@ -4,14 +4,16 @@
 usage: bench/elements.py [SLOTS]
 
 A small program over elem_rules (bench/element_check.txt, a Rattle source kept out of the gate by its name) is proved and
-built in a fresh folder (some minutes). On SLOTS random slots (200 if absent), each with 40 random segments, its faults are
+built in a fresh folder (some minutes). On SLOTS random slots (100 if absent), each with 40 random segments, its faults are
 compared with those that this script works out from the rules by itself. Then a segment whose second element is 999
 occurrences of a composite is timed with 16 MB and with 1.6 MB, and the growth printed.
 """
 import calendar
+import itertools
 import os
 import random
 import shutil
+import string
 import subprocess
 import sys
 import tempfile
@@ -257,49 +259,60 @@ def build(folder):
     return built
 
 
-def run(built, folder, slot_text, text, *words):
+def run(built, folder, slots, each, text, *words):
     guide = os.path.join(folder, 'guide.toml')
     with open(guide, 'w') as out:
-        out.write(HEAD + f'nodes = [\n{slot_text}\n]\n')
+        out.write(HEAD + 'nodes = [\n' + ',\n'.join(slots) + '\n]\n')
     path = os.path.join(folder, 'segments')
     with open(path, 'wb') as out:
         out.write(text)
-    return subprocess.run([built, guide, '1', path, *words], capture_output=True, text=True, check=True).stdout
+    return subprocess.run([built, guide, str(each), path, *words], capture_output=True, text=True, check=True).stdout
 
 
-def compare(built, folder, slots):
+def segment_id(number):
+    return ''.join(string.ascii_uppercase[n % 26] for n in (number // 676, number // 26, number))
+
+
+def slot_text(number, rows, conditions):
+    elements = ', '.join(f'"{row_text(row)}"' for row in rows)
+    told = ', '.join(f'"{letter}{"".join("%02d" % p for p in positions)}"' for letter, positions in conditions)
+    return f'{{seg="{segment_id(number)}", min=0, max=1, elements=[{elements}], conditions=[{told}]}}'
+
+
+def random_night(count, each):
+    """Slots as texts, segments, and the faults that are wanted, one a line."""
     draw = random.Random(5010)
-    faults = 0
-    for number in range(slots):
+    slots, segments, wanted = [], [], []
+    for number in range(count):
         rows = [random_row(draw) for _ in range(draw.randint(0, 6))]
         conditions = random_conditions(draw, len(rows))
-        told = ', '.join(f'"{letter}{"".join("%02d" % p for p in positions)}"' for letter, positions in conditions)
-        slot_text = '{seg="TST", min=1, max=1, elements=[' + ', '.join(f'"{row_text(row)}"' for row in rows) + f'], conditions=[{told}]}}'
-        segments = [b'*'.join([b'TST'] + [random_element(draw) for _ in range(draw.randint(0, len(rows) + 2))])
-                    for _ in range(40)]
-        wanted = ''
-        for k, segment in enumerate(segments, 1):
-            for f in element_faults(rows, conditions, segment):
-                wanted += f'{k} {f[0]} {f[1]} {f[2]} {f[3]} {list(f[4])} {list(f[5])}\n'
-                faults += 1
-        got = run(built, folder, slot_text, b'~'.join(segments) + b'~')
-        if got != wanted:
-            for a, b in zip(got.splitlines(), wanted.splitlines()):
-                if a != b:
-                    print(f'slot {number}: {slot_text}\n{segments[int(b.split()[0]) - 1]}\ngot    {a}\nwanted {b}')
-                    break
-            sys.exit(1)
-    print(f'{slots} slots, {40 * slots} segments: {faults} faults, all equal')
+        slots.append(slot_text(number, rows, conditions))
+        for _ in range(each):
+            segment = b'*'.join([b'TST'] + [random_element(draw) for _ in range(draw.randint(0, len(rows) + 2))])
+            segments.append(segment)
+            wanted += [f'{len(segments)} {f[0]} {f[1]} {f[2]} {f[3]} {list(f[4])} {list(f[5])}'
+                       for f in element_faults(rows, conditions, segment)]
+    return slots, segments, wanted
+
+
+def compare(built, folder, count):
+    slots, segments, wanted = random_night(count, 40)
+    got = run(built, folder, slots, 40, b'~'.join(segments) + b'~').splitlines()
+    for a, b in itertools.zip_longest(got, wanted):
+        if a != b:
+            number = int((b or a).split()[0])
+            sys.exit(f'{slots[(number - 1) // 40]}\n{segments[number - 1]}\ngot    {a}\nwanted {b}')
+    print(f'{count} slots, {len(segments)} segments: {len(wanted)} faults, all equal')
 
 
 def grow(built, folder):
-    slot_text = '{seg="TST", min=1, max=1, elements=["1 M AN 1 9", "2 M C x999 ; 3 M AN 1 9999 ; 4 O AN 1 9999 ; 5 O R 1 9999"]}'
+    slot = '{seg="TST", min=1, max=1, elements=["1 M AN 1 9", "2 M C x999 ; 3 M AN 1 9999 ; 4 O AN 1 9999 ; 5 O R 1 9999"]}'
     took = []
     for size in (1_600_000, 16_000_000):
         part = size // 999 // 3 - 1
         occurrence = b'A' * part + b'>' + b'B' * part + b'>' + b'1' * part
         text = b'TST*X*' + b'^'.join([occurrence] * 999) + b'~'
-        said = run(built, folder, slot_text, text, 'count').strip()
+        said = run(built, folder, [slot], 1, text, 'count').strip()
         print(f'{len(text) / 1e6:.1f} MB, {said}')
         took.append(int(said.split()[-2]))
     print(f'growth from the smaller to the larger: {took[1] / took[0]:.1f}')
@@ -308,7 +321,7 @@ def grow(built, folder):
 def main():
     with tempfile.TemporaryDirectory() as folder:
         built = build(folder)
-        compare(built, folder, int(sys.argv[1]) if len(sys.argv) > 1 else 200)
+        compare(built, folder, int(sys.argv[1]) if len(sys.argv) > 1 else 100)
         grow(built, folder)
 
 
