@@ -1,5 +1,6 @@
 -- The least of the pairs of numbers that were kept.
-use Rattle.std.proofs.Common.{◌≡◌, ◌<◌, ◌≤◌, ◌⊎◌, inl, inr, Bool, true, false, cond, Option, Some, None, refl, sym, subst, arith}
+use Rattle.std.proofs.Common.{◌≡◌, ◌<◌, ◌≤◌, ◌⊎◌, inl, inr, Bool, true, false, cond, Option, Some, None, refl, sym}
+use Rattle.std.proofs.Common.{subst, arith}
 use Rattle.std.proofs.lemmas.Bool.Decides.{nat_tests}
 use Rattle.guide_tree.specs.Rivals.{Numbers, is_less, keep_least}
 
@@ -15,7 +16,8 @@ pub at_most_trans : (l m n : Numbers) → IsAtMost l m → IsAtMost m n → IsAt
 at_most_trans l m n (inl a) (inl b) = inl (omega arith)
 at_most_trans l m n (inl a) (inr b) = let e = b.0 in inl (omega arith)
 at_most_trans l m n (inr a) (inl b) = let e = a.0 in inl (omega arith)
-at_most_trans l m n (inr a) (inr b) = let e = a.0 in let f = b.0 in let g = a.1 in let h = b.1 in inr (omega arith, omega arith)
+at_most_trans l m n (inr a) (inr b) = let e = a.0 in let f = b.0 in let g = a.1 in let h = b.1 in
+    inr (omega arith, omega arith)
 
 at_most_self : (m : Numbers) → IsAtMost m m
 at_most_self m = inr (refl, omega arith)
@@ -30,11 +32,13 @@ pub record Keeps (P : Numbers → Type 0) (b r : Option Numbers) : Type 0 where
   pub before : (m : Numbers) → b ≡ Some m → HasAtMost r m
   pub each : (m : Numbers) → P m → HasAtMost r m
 
-has_from : (r s : Option Numbers) (n : Numbers) → ((m : Numbers) → r ≡ Some m → HasAtMost s m) → HasAtMost r n → HasAtMost s n
+has_from : (r s : Option Numbers) (n : Numbers) → ((m : Numbers) → r ≡ Some m → HasAtMost s m) → HasAtMost r n
+    → HasAtMost s n
 has_from None s n f h = absurd h
 has_from (Some m) s n f h = has_trans s m n (f m refl) h
 
-pub keeps_both : (P Q : Numbers → Type 0) (b r s : Option Numbers) → Keeps P b r → Keeps Q r s → Keeps (λ m. P m ⊎ Q m) b s
+pub keeps_both : (P Q : Numbers → Type 0) (b r s : Option Numbers) → Keeps P b r → Keeps Q r s
+    → Keeps (λ m. P m ⊎ Q m) b s
 keeps_both P Q b r s x y = record {
   from = λ m e. elim (y.from m e) [
     | inl f ↦ (elim (x.from m f) [ inl g ↦ inl g | inr p ↦ inr (inl p) ])
@@ -55,7 +59,8 @@ keeps_none b = record {
 }
 
 -- the same pairs, said otherwise
-pub keeps_as : (P Q : Numbers → Type 0) (b r : Option Numbers) → ((m : Numbers) → P m → Q m) → ((m : Numbers) → Q m → P m) → Keeps P b r → Keeps Q b r
+pub keeps_as : (P Q : Numbers → Type 0) (b r : Option Numbers) → ((m : Numbers) → P m → Q m)
+    → ((m : Numbers) → Q m → P m) → Keeps P b r → Keeps Q b r
 keeps_as P Q b r f g x = record {
   from = λ m e. elim (x.from m e) [ inl h ↦ inl h | inr p ↦ inr (f m p) ];
   before = x.before;

@@ -10,3 +10,20 @@ pub mod FitBoth
 pub mod Ambiguous
 pub mod Judged
 pub mod Checked
+mod Residual
+mod Counts
+mod Entering
+mod Stepping
+mod Following
+mod Returning
+mod Counting
+mod Sounding
+mod Deciding
+mod Gaps
+mod Meeting
+mod SoundFaults
+mod FaultsSound
+mod Placed
+mod WorkedGuide
+mod WorkedPlacing
+mod WorkedGrammar

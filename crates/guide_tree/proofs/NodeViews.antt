@@ -4,7 +4,8 @@ use Rattle.guide_tree.specs.declared.node.Node.{Node}
 use Rattle.guide_tree.specs.Tree.{Tree, Trees, tree}
 use Rattle.guide_tree.specs.View.{view, nodes_view}
 
-pub nodes_view-drop : (ns : List Node) (i : ℕ) (d : Node) → i < length ns → nodes_view (drop i ns) ≡ tree (view (get_or ns i d)) (nodes_view (drop (i + 1) ns))
+pub nodes_view-drop : (ns : List Node) (i : ℕ) (d : Node) → i < length ns
+    → nodes_view (drop i ns) ≡ tree (view (get_or ns i d)) (nodes_view (drop (i + 1) ns))
 nodes_view-drop ns i d h = rw (add-one) (ap nodes_view (drop-cons ns i d h))
 
 -- trees in front of others

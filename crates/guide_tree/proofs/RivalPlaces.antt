@@ -1,5 +1,6 @@
 -- Paired slots are those of two places that may follow one place.
-use Rattle.std.proofs.Common.{◌≡◌, ◌≢◌, ℕ, zero, suc, ◌+◌, ◌<◌, ◌≤◌, inl, inr, Bool, true, false, [], ◌∷◌, Option, Some, refl, ap, ◌∙◌, arith}
+use Rattle.std.proofs.Common.{◌≡◌, ◌≢◌, ℕ, zero, suc, ◌+◌, ◌<◌, ◌≤◌, inl, inr, Bool, true, false, [], ◌∷◌, Option}
+use Rattle.std.proofs.Common.{Some, refl, ap, ◌∙◌, arith}
 use Rattle.std.specs.List.{AllByRecursion}
 use Rattle.guide_tree.specs.declared.slot.Slot.{Slot}
 use Rattle.guide_tree.specs.Tree.{Tree, Trees, segment, loop, no_trees, tree}
@@ -16,14 +17,16 @@ pub record EntryPlace (t : Tree) (s : Slot) : Type 0 where
 pub entry_place : (t : Tree) (s : Slot) → entry t ≡ Some s → EntryPlace t s
 entry_place (segment x) s e = record { place = []; first = tt; slot = e }
 entry_place (loop l no_trees) s e = cc
-entry_place (loop l (tree (segment x) ts)) s e = record { place = use_of 0 0 ∷ []; first = ((refl, refl), tt); slot = e }
+entry_place (loop l (tree (segment x) ts)) s e =
+    record { place = use_of 0 0 ∷ []; first = ((refl, refl), tt); slot = e }
 entry_place (loop l (tree (loop k us) ts)) s e = cc
 
 -- the nodes of a list are a parent's children from number k on
 abbrev pub Stand : (ℕ → Place → Option Slot) → ℕ → Trees → Type 0
 Stand f k us = (i n : ℕ) (q : Place) → i ≡ k + n → f i q ≡ slot_nth us n q
 
-stand_next : (f : ℕ → Place → Option Slot) (k : ℕ) (t : Tree) (ts : Trees) → Stand f k (tree t ts) → Stand f (k + 1) ts
+stand_next : (f : ℕ → Place → Option Slot) (k : ℕ) (t : Tree) (ts : Trees) → Stand f k (tree t ts)
+    → Stand f (k + 1) ts
 stand_next f k t ts h i n q e = h i (suc n) q (omega arith)
 
 stand_behind : (t : Tree) (ts : Trees) → Stand (slot_nth (tree t ts)) 1 ts
@@ -48,7 +51,8 @@ later_next : (il : Bool) (k j : ℕ) → k < j → IsNext il (use_of k 0) (use_o
 later_next true k j h = inl (h, refl)
 later_next false k j h = inl (h, refl)
 
-here : (f : ℕ → Place → Option Slot) (k : ℕ) (t : Tree) (ts : Trees) (q : Place) (s : Slot) → Stand f k (tree t ts) → slot_in t q ≡ Some s → f k q ≡ Some s
+here : (f : ℕ → Place → Option Slot) (k : ℕ) (t : Tree) (ts : Trees) (q : Place) (s : Slot) → Stand f k (tree t ts)
+    → slot_in t q ≡ Some s → f k q ≡ Some s
 here f k t ts q s h e = h k zero q (omega arith) ∙ e
 
 -- a place that may follow another leads to the slot
@@ -76,18 +80,49 @@ mutual
   inside_in_follows (loop l no_trees) s h = absurd h
   inside_in_follows (loop l (tree t ts)) s h =
       let r = inside_follows true (slot_nth (tree t ts)) 1 ts s (stand_behind t ts) (omega arith) h in
-      record { last = r.last ∷ r.last_in; next = r.next ∷ r.next_in; base = r.base; stands = r.stands; follows = r.follows; slot = r.slot }
+      record {
+        last = r.last ∷ r.last_in;
+        next = r.next ∷ r.next_in;
+        base = r.base;
+        stands = r.stands;
+        follows =
+            r.follows;
+        slot = r.slot;
+      }
 
-  inside_follows : (il : Bool) (f : ℕ → Place → Option Slot) (k : ℕ) (us : Trees) (s : Slot) → Stand f k us → MayEnter il k → Inside us s → Repeats il f s
+  inside_follows : (il : Bool) (f : ℕ → Place → Option Slot) (k : ℕ) (us : Trees) (s : Slot) → Stand f k us
+      → MayEnter il k → Inside us s → Repeats il f s
   inside_follows il f k no_trees s st m h = absurd h
   inside_follows il f k (tree t ts) s st m (inl e) =
       let p = entry_place t s e in
       let at = here f k t ts p.place s st p.slot in
-      record { last = use_of k 0; last_in = p.place; next = use_of k 1; next_in = p.place; base = s; stands = at; follows = inr (again_next il k m, p.first); slot = at }
+      record {
+        last = use_of k 0;
+        last_in = p.place;
+        next = use_of k 1;
+        next_in = p.place;
+        base = s;
+        stands =
+            at;
+        follows = inr (again_next il k m, p.first);
+        slot = at;
+      }
   inside_follows il f k (tree t ts) s st m (inr (inl i)) =
       let r = inside_in_follows t s i in
-      record { last = use_of k 0; last_in = r.last; next = use_of k 0; next_in = r.next; base = r.base; stands = here f k t ts r.last r.base st r.stands; follows = inl (refl, r.follows); slot = here f k t ts r.next s st r.slot }
-  inside_follows il f k (tree t ts) s st m (inr (inr j)) = inside_follows il f (k + 1) ts s (stand_next f k t ts st) (enter_next il k m) j
+      record {
+        last = use_of k 0;
+        last_in = r.last;
+        next = use_of k 0;
+        next_in = r.next;
+        base = r.base;
+        stands =
+            here f k t ts r.last r.base st r.stands;
+        follows = inl (refl, r.follows);
+        slot =
+            here f k t ts r.next s st r.slot;
+      }
+  inside_follows il f k (tree t ts) s st m (inr (inr j)) =
+      inside_follows il f (k + 1) ts s (stand_next f k t ts st) (enter_next il k m) j
 
 -- a node from number k on that begins with the slot
 pub record EntersAt (f : ℕ → Place → Option Slot) (k : ℕ) (s : Slot) : Type 0 where
@@ -97,7 +132,8 @@ pub record EntersAt (f : ℕ → Place → Option Slot) (k : ℕ) (s : Slot) : T
   pub first : AllByRecursion IsFirst place
   pub slot : f child place ≡ Some s
 
-enters_at : (f : ℕ → Place → Option Slot) (k : ℕ) (us : Trees) (s : Slot) → Stand f k us → Enters us s → EntersAt f k s
+enters_at : (f : ℕ → Place → Option Slot) (k : ℕ) (us : Trees) (s : Slot) → Stand f k us → Enters us s
+    → EntersAt f k s
 enters_at f k no_trees s st h = absurd h
 enters_at f k (tree t ts) s st (inl e) =
     let p = entry_place t s e in
@@ -152,9 +188,23 @@ mutual
   paired_in_both (loop l no_trees) s u h = absurd h
   paired_in_both (loop l (tree t ts)) s u h =
       let r = paired_both true (slot_nth (tree t ts)) 1 ts s u (stand_behind t ts) (omega arith) h in
-      record { last = r.last ∷ r.last_in; one = r.one ∷ r.one_in; other = r.other ∷ r.other_in; base = r.base; stands = r.stands; one_follows = r.one_follows; other_follows = r.other_follows; one_slot = r.one_slot; other_slot = r.other_slot; different = r.different }
+      record {
+        last = r.last ∷ r.last_in;
+        one = r.one ∷ r.one_in;
+        other = r.other ∷ r.other_in;
+        base =
+            r.base;
+        stands = r.stands;
+        one_follows = r.one_follows;
+        other_follows = r.other_follows;
+        one_slot =
+            r.one_slot;
+        other_slot = r.other_slot;
+        different = r.different;
+      }
 
-  pub paired_both : (il : Bool) (f : ℕ → Place → Option Slot) (k : ℕ) (us : Trees) (s u : Slot) → Stand f k us → MayEnter il k → Paired us s u → MayBoth il f s u
+  pub paired_both : (il : Bool) (f : ℕ → Place → Option Slot) (k : ℕ) (us : Trees) (s u : Slot) → Stand f k us
+      → MayEnter il k → Paired us s u → MayBoth il f s u
   paired_both il f k no_trees s u st m h = absurd h
   paired_both il f k (tree t ts) s u st m (inl (e, n)) =
       let p = entry_place t s e in
@@ -231,4 +281,5 @@ mutual
         other_slot = here f k t ts r.other u st r.other_slot;
         different = λ e. r.different (tails (use_of k 0) (use_of k 0) r.one r.other e);
       }
-  paired_both il f k (tree t ts) s u st m (inr (inr (inr w))) = paired_both il f (k + 1) ts s u (stand_next f k t ts st) (enter_next il k m) w
+  paired_both il f k (tree t ts) s u st m (inr (inr (inr w))) =
+      paired_both il f (k + 1) ts s u (stand_next f k t ts st) (enter_next il k m) w

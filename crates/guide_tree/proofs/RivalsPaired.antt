@@ -1,5 +1,6 @@
 -- Two different places that may follow one lead to paired slots.
-use Rattle.std.proofs.Common.{◌≡◌, ◌≢◌, ℕ, zero, suc, ◌<◌, ◌≤◌, ◌⊎◌, inl, inr, Bool, true, false, IsTrue, [], ◌∷◌, Option, Some, None, refl, sym, ap, subst, ◌∙◌, arith}
+use Rattle.std.proofs.Common.{◌≡◌, ◌≢◌, ℕ, zero, suc, ◌<◌, ◌≤◌, ◌⊎◌, inl, inr, Bool, true, false, IsTrue, [], ◌∷◌}
+use Rattle.std.proofs.Common.{Option, Some, None, refl, sym, ap, subst, ◌∙◌, arith}
 use Rattle.std.specs.List.{AllByRecursion}
 use Rattle.guide_tree.specs.declared.slot.Slot.{Slot}
 use Rattle.guide_tree.specs.declared.node.Loop.{Loop}
@@ -43,22 +44,28 @@ inside_entry no_trees m t s n e = cc
 inside_entry (tree x us) zero t s n e = inl (ap entry (same_tree x t n) ∙ e)
 inside_entry (tree x us) (suc m) t s n e = inr (inr (inside_entry us m t s n e))
 
-paired_tops : (us : Trees) (n m : ℕ) (t v : Tree) (s u : Slot) → tree_nth us n ≡ Some t → tree_nth us m ≡ Some v → n < m → entry t ≡ Some s → entry v ≡ Some u → Paired us s u
+paired_tops : (us : Trees) (n m : ℕ) (t v : Tree) (s u : Slot) → tree_nth us n ≡ Some t → tree_nth us m ≡ Some v
+    → n < m → entry t ≡ Some s → entry v ≡ Some u → Paired us s u
 paired_tops no_trees n m t v s u a b l e f = cc
 paired_tops (tree x us) zero zero t v s u a b l e f = absurd (omega arith)
 paired_tops (tree x us) zero (suc m) t v s u a b l e f = inl (ap entry (same_tree x t a) ∙ e, enters_nth us m v u b f)
 paired_tops (tree x us) (suc n) zero t v s u a b l e f = absurd (omega arith)
-paired_tops (tree x us) (suc n) (suc m) t v s u a b l e f = inr (inr (inr (paired_tops us n m t v s u a b (omega arith) e f)))
+paired_tops (tree x us) (suc n) (suc m) t v s u a b l e f =
+    inr (inr (inr (paired_tops us n m t v s u a b (omega arith) e f)))
 
-paired_deep : (us : Trees) (n m : ℕ) (t v : Tree) (s u : Slot) → tree_nth us n ≡ Some t → tree_nth us m ≡ Some v → n ≤ m → InsideIn t s → entry v ≡ Some u → Paired us s u
+paired_deep : (us : Trees) (n m : ℕ) (t v : Tree) (s u : Slot) → tree_nth us n ≡ Some t → tree_nth us m ≡ Some v
+    → n ≤ m → InsideIn t s → entry v ≡ Some u → Paired us s u
 paired_deep no_trees n m t v s u a b l i f = cc
-paired_deep (tree x us) zero m t v s u a b l i f = inr (inl (subst (λ (y : Tree). InsideIn y s) (sym (same_tree x t a)) i, enters_nth (tree x us) m v u b f))
+paired_deep (tree x us) zero m t v s u a b l i f =
+    inr (inl (subst (λ (y : Tree). InsideIn y s) (sym (same_tree x t a)) i, enters_nth (tree x us) m v u b f))
 paired_deep (tree x us) (suc n) zero t v s u a b l i f = absurd (omega arith)
-paired_deep (tree x us) (suc n) (suc m) t v s u a b l i f = inr (inr (inr (paired_deep us n m t v s u a b (omega arith) i f)))
+paired_deep (tree x us) (suc n) (suc m) t v s u a b l i f =
+    inr (inr (inr (paired_deep us n m t v s u a b (omega arith) i f)))
 
 paired_nth : (us : Trees) (n : ℕ) (t : Tree) (s u : Slot) → tree_nth us n ≡ Some t → PairedIn t s u → Paired us s u
 paired_nth no_trees n t s u a p = cc
-paired_nth (tree x us) zero t s u a p = inr (inr (inl (subst (λ (y : Tree). PairedIn y s u) (sym (same_tree x t a)) p)))
+paired_nth (tree x us) zero t s u a p =
+    inr (inr (inl (subst (λ (y : Tree). PairedIn y s u) (sym (same_tree x t a)) p)))
 paired_nth (tree x us) (suc n) t s u a p = inr (inr (inr (paired_nth us n t s u a p)))
 
 -- paired among the nodes of a list; in a loop, behind its first child
@@ -71,26 +78,32 @@ abbrev Led : Bool → Trees → Type 0
 Led false ts = Unit {0}
 Led true ts = IsTrue (has_trigger ts)
 
-tops_at : (il : Bool) (ts : Trees) (n m : ℕ) (t v : Tree) (s u : Slot) → MayEnter il n → tree_nth ts n ≡ Some t → tree_nth ts m ≡ Some v → n < m → entry t ≡ Some s → entry v ≡ Some u → PairedAt il ts s u
+tops_at : (il : Bool) (ts : Trees) (n m : ℕ) (t v : Tree) (s u : Slot) → MayEnter il n → tree_nth ts n ≡ Some t
+    → tree_nth ts m ≡ Some v → n < m → entry t ≡ Some s → entry v ≡ Some u → PairedAt il ts s u
 tops_at false ts n m t v s u h a b l e f = paired_tops ts n m t v s u a b l e f
 tops_at true no_trees n m t v s u h a b l e f = cc
 tops_at true (tree x us) zero m t v s u h a b l e f = absurd (omega arith)
 tops_at true (tree x us) (suc n) zero t v s u h a b l e f = absurd (omega arith)
 tops_at true (tree x us) (suc n) (suc m) t v s u h a b l e f = paired_tops us n m t v s u a b (omega arith) e f
 
-deep_at : (il : Bool) (ts : Trees) (n m : ℕ) (t v : Tree) (s u : Slot) → Led il ts → tree_nth ts n ≡ Some t → tree_nth ts m ≡ Some v → n ≤ m → InsideIn t s → entry v ≡ Some u → PairedAt il ts s u
+deep_at : (il : Bool) (ts : Trees) (n m : ℕ) (t v : Tree) (s u : Slot) → Led il ts → tree_nth ts n ≡ Some t
+    → tree_nth ts m ≡ Some v → n ≤ m → InsideIn t s → entry v ≡ Some u → PairedAt il ts s u
 deep_at false ts n m t v s u h a b l i f = paired_deep ts n m t v s u a b l i f
 deep_at true no_trees n m t v s u h a b l i f = cc
 deep_at true (tree (loop k ws) us) n m t v s u h a b l i f = cc
-deep_at true (tree (segment x) us) zero m t v s u h a b l i f = absurd (subst (λ (y : Tree). InsideIn y s) (sym (same_tree (segment x) t a)) i)
+deep_at true (tree (segment x) us) zero m t v s u h a b l i f =
+    absurd (subst (λ (y : Tree). InsideIn y s) (sym (same_tree (segment x) t a)) i)
 deep_at true (tree (segment x) us) (suc n) zero t v s u h a b l i f = absurd (omega arith)
-deep_at true (tree (segment x) us) (suc n) (suc m) t v s u h a b l i f = paired_deep us n m t v s u a b (omega arith) i f
+deep_at true (tree (segment x) us) (suc n) (suc m) t v s u h a b l i f =
+    paired_deep us n m t v s u a b (omega arith) i f
 
-nth_at : (il : Bool) (ts : Trees) (n : ℕ) (t : Tree) (s u : Slot) → Led il ts → tree_nth ts n ≡ Some t → PairedIn t s u → PairedAt il ts s u
+nth_at : (il : Bool) (ts : Trees) (n : ℕ) (t : Tree) (s u : Slot) → Led il ts → tree_nth ts n ≡ Some t
+    → PairedIn t s u → PairedAt il ts s u
 nth_at false ts n t s u h a p = paired_nth ts n t s u a p
 nth_at true no_trees n t s u h a p = cc
 nth_at true (tree (loop k ws) us) n t s u h a p = cc
-nth_at true (tree (segment x) us) zero t s u h a p = absurd (subst (λ (y : Tree). PairedIn y s u) (sym (same_tree (segment x) t a)) p)
+nth_at true (tree (segment x) us) zero t s u h a p =
+    absurd (subst (λ (y : Tree). PairedIn y s u) (sym (same_tree (segment x) t a)) p)
 nth_at true (tree (segment x) us) (suc n) t s u h a p = paired_nth us n t s u a p
 
 paired_at_in : (l : Loop) (ts : Trees) (s u : Slot) → PairedAt true ts s u → PairedIn (loop l ts) s u
@@ -105,7 +118,8 @@ each_nth no_trees n t h a = cc
 each_nth (tree x us) zero t h a = subst (EachIn IsLed) (same_tree x t a) h.0
 each_nth (tree x us) (suc n) t h a = each_nth us n t h.1 a
 
-first_entry : (ts : Trees) (n : ℕ) (q : Place) (s : Slot) → IsTrue (has_trigger ts) → n ≡ 0 → AllByRecursion IsFirst q → slot_nth ts n q ≡ Some s → (l : Loop) → (entry (loop l ts) ≡ Some s) × (q ≡ [])
+first_entry : (ts : Trees) (n : ℕ) (q : Place) (s : Slot) → IsTrue (has_trigger ts) → n ≡ 0
+    → AllByRecursion IsFirst q → slot_nth ts n q ≡ Some s → (l : Loop) → (entry (loop l ts) ≡ Some s) × (q ≡ [])
 first_entry no_trees n q s h z f e l = cc
 first_entry (tree (loop k ws) us) n q s h z f e l = cc
 first_entry (tree (segment x) us) (suc n) q s h z f e l = absurd (omega arith)
@@ -116,7 +130,8 @@ led_here : (t : Tree) → EachIn IsLed t → IsLed t
 led_here (segment x) h = h
 led_here (loop l ts) h = h.0
 
-entry_of : (t : Tree) (q : Place) (s : Slot) → IsLed t → AllByRecursion IsFirst q → slot_in t q ≡ Some s → entry t ≡ Some s
+entry_of : (t : Tree) (q : Place) (s : Slot) → IsLed t → AllByRecursion IsFirst q → slot_in t q ≡ Some s
+    → entry t ≡ Some s
 entry_of (segment x) [] s h f e = e
 entry_of (segment x) (a ∷ q) s h f e = cc
 entry_of (loop l ts) [] s h f e = cc
@@ -126,7 +141,8 @@ first_is : (a : Pair) → IsFirst a → a ≡ use_of 0 0
 first_is a h = ap (λ (k : ℕ). use_of k a.use_no) h.0 ∙ ap (use_of 0) h.1
 
 -- one way leads down to a node's first slot
-one_way : (t : Tree) (p q : Place) (s u : Slot) → IsLed t → AllByRecursion IsFirst p → AllByRecursion IsFirst q → slot_in t p ≡ Some s → slot_in t q ≡ Some u → p ≡ q
+one_way : (t : Tree) (p q : Place) (s u : Slot) → IsLed t → AllByRecursion IsFirst p → AllByRecursion IsFirst q
+    → slot_in t p ≡ Some s → slot_in t q ≡ Some u → p ≡ q
 one_way (segment x) [] [] s u h f g d e = refl
 one_way (segment x) [] (b ∷ q) s u h f g d e = cc
 one_way (segment x) (a ∷ p) q s u h f g d e = cc
@@ -161,28 +177,34 @@ same_use true a b c (inr h) (inr g) e = h.2 ∙ sym g.2
 same_pair : (b c : Pair) → b.child ≡ c.child → b.use_no ≡ c.use_no → b ≡ c
 same_pair b c d e = ap (λ (k : ℕ). use_of k b.use_no) d ∙ ap (use_of c.child) e
 
-inside_of_nth : (l : Loop) (ts : Trees) (n : ℕ) (t : Tree) (s : Slot) → IsTrue (has_trigger ts) → tree_nth ts n ≡ Some t → InsideIn t s → InsideIn (loop l ts) s
+inside_of_nth : (l : Loop) (ts : Trees) (n : ℕ) (t : Tree) (s : Slot) → IsTrue (has_trigger ts)
+    → tree_nth ts n ≡ Some t → InsideIn t s → InsideIn (loop l ts) s
 inside_of_nth l no_trees n t s h a i = cc
 inside_of_nth l (tree (loop k ws) us) n t s h a i = cc
-inside_of_nth l (tree (segment x) us) zero t s h a i = absurd (subst (λ (y : Tree). InsideIn y s) (sym (same_tree (segment x) t a)) i)
+inside_of_nth l (tree (segment x) us) zero t s h a i =
+    absurd (subst (λ (y : Tree). InsideIn y s) (sym (same_tree (segment x) t a)) i)
 inside_of_nth l (tree (segment x) us) (suc n) t s h a i = inside_nth us n t s a i
 
-entry_behind : (l : Loop) (ts : Trees) (n : ℕ) (t : Tree) (s : Slot) → 0 < n → tree_nth ts n ≡ Some t → entry t ≡ Some s → InsideIn (loop l ts) s
+entry_behind : (l : Loop) (ts : Trees) (n : ℕ) (t : Tree) (s : Slot) → 0 < n → tree_nth ts n ≡ Some t
+    → entry t ≡ Some s → InsideIn (loop l ts) s
 entry_behind l no_trees n t s h a e = cc
 entry_behind l (tree x us) zero t s h a e = absurd (omega arith)
 entry_behind l (tree x us) (suc n) t s h a e = inside_entry us n t s a e
 
 -- a place that may follow in a node leads to a slot inside it
-deep_inside : (p : Place) (t : Tree) (v : Place) (s : Slot) → EachIn IsLed t → Follows true p v → slot_in t v ≡ Some s → InsideIn t s
+deep_inside : (p : Place) (t : Tree) (v : Place) (s : Slot) → EachIn IsLed t → Follows true p v
+    → slot_in t v ≡ Some s → InsideIn t s
 deep_inside [] t v s h f e = absurd f
 deep_inside (a ∷ p) t [] s h f e = absurd f
 deep_inside (a ∷ p) (segment x) (b ∷ v) s h f e = cc
 deep_inside (a ∷ p) (loop l ts) (b ∷ v) s h (inl f) e =
     let x = at_nth ts b.child v s e in
-    inside_of_nth l ts b.child x.node s h.0 x.nth (deep_inside p x.node v s (each_nth ts b.child x.node h.1 x.nth) f.1 x.slot)
+    inside_of_nth l ts b.child x.node s h.0 x.nth
+    (deep_inside p x.node v s (each_nth ts b.child x.node h.1 x.nth) f.1 x.slot)
 deep_inside (a ∷ p) (loop l ts) (b ∷ v) s h (inr f) e =
     let x = at_nth ts b.child v s e in
-    entry_behind l ts b.child x.node s (next_enters true a b f.0) x.nth (entry_of x.node v s (led_here x.node (each_nth ts b.child x.node h.1 x.nth)) f.1 x.slot)
+    entry_behind l ts b.child x.node s (next_enters true a b f.0) x.nth
+    (entry_of x.node v s (led_here x.node (each_nth ts b.child x.node h.1 x.nth)) f.1 x.slot)
 
 less_or_more : (n m : ℕ) → (n < m) ⊎ ((m < n) ⊎ (n ≡ m))
 less_or_more zero zero = inr (inr refl)
@@ -197,8 +219,10 @@ abbrev Both : (Slot → Slot → Type 0) → Slot → Slot → Type 0
 Both P s u = P s u ⊎ P u s
 
 -- two nodes of a list that are come to for the first time or again
-level : (il : Bool) (ts : Trees) (b c : Pair) (v w : Place) (s u : Slot) → EachNode IsLed ts → MayEnter il b.child → MayEnter il c.child → (b.child ≡ c.child → b.use_no ≡ c.use_no)
-    → AllByRecursion IsFirst v → AllByRecursion IsFirst w → slot_nth ts b.child v ≡ Some s → slot_nth ts c.child w ≡ Some u → (b ∷ v) ≢ (c ∷ w) → Both (PairedAt il ts) s u
+level : (il : Bool) (ts : Trees) (b c : Pair) (v w : Place) (s u : Slot) → EachNode IsLed ts → MayEnter il b.child
+    → MayEnter il c.child → (b.child ≡ c.child → b.use_no ≡ c.use_no)
+    → AllByRecursion IsFirst v → AllByRecursion IsFirst w → slot_nth ts b.child v ≡ Some s
+    → slot_nth ts c.child w ≡ Some u → (b ∷ v) ≢ (c ∷ w) → Both (PairedAt il ts) s u
 level il ts b c v w s u h mb mc one fv fw e f d =
     let x = at_nth ts b.child v s e in
     let y = at_nth ts c.child w u f in
@@ -211,42 +235,52 @@ level il ts b c v w s u h mb mc one fv fw e f d =
       | inr g ↦ (elim g [
         | inl l ↦ inr (tops_at il ts c.child b.child y.node x.node u s mc y.nth x.nth l ey ex)
         | inr q ↦ (let same : x.node ≡ y.node = same_tree x.node y.node (sym x.nth ∙ ap (tree_nth ts) q ∙ y.nth) in
-            let vw = one_way x.node v w s u hx fv fw x.slot (subst (λ (z : Tree). slot_in z w ≡ Some u) (sym same) y.slot) in
+            let vw =
+            one_way x.node v w s u hx fv fw x.slot (subst (λ (z : Tree). slot_in z w ≡ Some u) (sym same) y.slot) in
             absurd (d (ap (λ (z : Pair). z ∷ v) (same_pair b c q (one q)) ∙ ap (λ (z : Place). c ∷ z) vw)))
       ])
     ]
 
 abbrev Deeper : Place → Slot → Slot → Type 0
-Deeper p s u = (t : Tree) (v w : Place) → EachIn IsLed t → Follows true p v → Follows true p w → slot_in t v ≡ Some s → slot_in t w ≡ Some u → v ≢ w → Both (PairedIn t) s u
+Deeper p s u =
+    (t : Tree) (v w : Place) → EachIn IsLed t → Follows true p v → Follows true p w → slot_in t v ≡ Some s
+    → slot_in t w ≡ Some u → v ≢ w → Both (PairedIn t) s u
 
-both_at : (il : Bool) (ts : Trees) (a b c : Pair) (p v w : Place) (s u : Slot) → EachNode IsLed ts → Led il ts → Follows il (a ∷ p) (b ∷ v) → Follows il (a ∷ p) (c ∷ w)
-    → slot_nth ts b.child v ≡ Some s → slot_nth ts c.child w ≡ Some u → (b ∷ v) ≢ (c ∷ w) → Deeper p s u → Both (PairedAt il ts) s u
+both_at : (il : Bool) (ts : Trees) (a b c : Pair) (p v w : Place) (s u : Slot) → EachNode IsLed ts → Led il ts
+    → Follows il (a ∷ p) (b ∷ v) → Follows il (a ∷ p) (c ∷ w)
+    → slot_nth ts b.child v ≡ Some s → slot_nth ts c.child w ≡ Some u → (b ∷ v) ≢ (c ∷ w) → Deeper p s u
+    → Both (PairedAt il ts) s u
 both_at il ts a b c p v w s u h k (inl f) (inl g) e d n deeper =
     let bc : b ≡ c = sym f.0 ∙ g.0 in
     let x = at_nth ts b.child v s e in
     let y = at_nth ts c.child w u d in
-    let same : x.node ≡ y.node = same_tree x.node y.node (sym x.nth ∙ ap (λ (z : Pair). tree_nth ts z.child) bc ∙ y.nth) in
+    let same : x.node ≡ y.node =
+    same_tree x.node y.node (sym x.nth ∙ ap (λ (z : Pair). tree_nth ts z.child) bc ∙ y.nth) in
     let vw : v ≢ w = λ q. n (ap (λ (z : Pair). z ∷ v) bc ∙ ap (λ (z : Place). c ∷ z) q) in
-    elim (deeper x.node v w (each_nth ts b.child x.node h x.nth) f.1 g.1 x.slot (subst (λ (z : Tree). slot_in z w ≡ Some u) (sym same) y.slot) vw) [
+    elim (deeper x.node v w (each_nth ts b.child x.node h x.nth) f.1 g.1 x.slot
+    (subst (λ (z : Tree). slot_in z w ≡ Some u) (sym same) y.slot) vw) [
       | inl r ↦ inl (nth_at il ts b.child x.node s u k x.nth r)
       | inr r ↦ inr (nth_at il ts b.child x.node u s k x.nth r)
     ]
 both_at il ts a b c p v w s u h k (inl f) (inr g) e d n deeper =
     let x = at_nth ts b.child v s e in
     let y = at_nth ts c.child w u d in
-    let le : b.child ≤ c.child = (let q = ap (λ (z : Pair). z.child) f.0 in let r = next_from il a c g.0 in omega arith) in
+    let le : b.child ≤ c.child =
+    (let q = ap (λ (z : Pair). z.child) f.0 in let r = next_from il a c g.0 in omega arith) in
     inl (deep_at il ts b.child c.child x.node y.node s u k x.nth y.nth le
     (deep_inside p x.node v s (each_nth ts b.child x.node h x.nth) f.1 x.slot)
     (entry_of y.node w u (led_here y.node (each_nth ts c.child y.node h y.nth)) g.1 y.slot))
 both_at il ts a b c p v w s u h k (inr f) (inl g) e d n deeper =
     let x = at_nth ts b.child v s e in
     let y = at_nth ts c.child w u d in
-    let le : c.child ≤ b.child = (let q = ap (λ (z : Pair). z.child) g.0 in let r = next_from il a b f.0 in omega arith) in
+    let le : c.child ≤ b.child =
+    (let q = ap (λ (z : Pair). z.child) g.0 in let r = next_from il a b f.0 in omega arith) in
     inr (deep_at il ts c.child b.child y.node x.node u s k y.nth x.nth le
     (deep_inside p y.node w u (each_nth ts c.child y.node h y.nth) g.1 y.slot)
     (entry_of x.node v s (led_here x.node (each_nth ts b.child x.node h x.nth)) f.1 x.slot))
 both_at il ts a b c p v w s u h k (inr f) (inr g) e d n deeper =
-    level il ts b c v w s u h (next_enters il a b f.0) (next_enters il a c g.0) (same_use il a b c f.0 g.0) f.1 g.1 e d n
+    level il ts b c v w s u h (next_enters il a b f.0) (next_enters il a c g.0) (same_use il a b c f.0 g.0) f.1 g.1 e
+    d n
 
 both_in : (p : Place) (s u : Slot) → Deeper p s u
 both_in [] s u t v w h f g e d n = absurd f
@@ -259,10 +293,14 @@ both_in (a ∷ p) s u (loop l ts) (b ∷ v) (c ∷ w) h f g e d n =
       | inr r ↦ inr (paired_at_in l ts u s r)
     ]
 
-pub both_follow : (ts : Trees) (a b c : Pair) (p v w : Place) (s u : Slot) → EachNode IsLed ts → Follows false (a ∷ p) (b ∷ v) → Follows false (a ∷ p) (c ∷ w)
-    → slot_nth ts b.child v ≡ Some s → slot_nth ts c.child w ≡ Some u → (b ∷ v) ≢ (c ∷ w) → Paired ts s u ⊎ Paired ts u s
+pub both_follow : (ts : Trees) (a b c : Pair) (p v w : Place) (s u : Slot) → EachNode IsLed ts
+    → Follows false (a ∷ p) (b ∷ v) → Follows false (a ∷ p) (c ∷ w)
+    → slot_nth ts b.child v ≡ Some s → slot_nth ts c.child w ≡ Some u → (b ∷ v) ≢ (c ∷ w)
+    → Paired ts s u ⊎ Paired ts u s
 both_follow ts a b c p v w s u h f g e d n = both_at false ts a b c p v w s u h tt f g e d n (both_in p s u)
 
-pub both_begin : (ts : Trees) (b c : Pair) (v w : Place) (s u : Slot) → EachNode IsLed ts → b.use_no ≡ 0 → c.use_no ≡ 0 → AllByRecursion IsFirst v → AllByRecursion IsFirst w
-    → slot_nth ts b.child v ≡ Some s → slot_nth ts c.child w ≡ Some u → (b ∷ v) ≢ (c ∷ w) → Paired ts s u ⊎ Paired ts u s
+pub both_begin : (ts : Trees) (b c : Pair) (v w : Place) (s u : Slot) → EachNode IsLed ts → b.use_no ≡ 0
+    → c.use_no ≡ 0 → AllByRecursion IsFirst v → AllByRecursion IsFirst w
+    → slot_nth ts b.child v ≡ Some s → slot_nth ts c.child w ≡ Some u → (b ∷ v) ≢ (c ∷ w)
+    → Paired ts s u ⊎ Paired ts u s
 both_begin ts b c v w s u h x y f g e d n = level false ts b c v w s u h tt tt (λ q. x ∙ sym y) f g e d n

@@ -1,6 +1,7 @@
 -- X12.6, loops begin with a segment that stands there once; relational conditions name elements that there are.
 -- Picks, labels, dependencies and the rule of the hierarchy are own.
-use Rattle.std.specs.Prelude.{ℕ, ◌==◌, nat_le, List, [], ◌∷◌, codes, length, map, Option, Some, None, Bool, true, false, ◌&&◌, ◌||◌, not}
+use Rattle.std.specs.Prelude.{ℕ, ◌==◌, nat_le, List, [], ◌∷◌, codes, length, map, Option, Some, None, Bool, true}
+use Rattle.std.specs.Prelude.{false, ◌&&◌, ◌||◌, not}
 use Rattle.std.specs.List.{list_any, list_all}
 use Rattle.std.specs.Option.{option_map_or}
 use Rattle.std.specs.Str.{bytes_eq}

@@ -13,3 +13,4 @@ pub mod Rules
 pub mod Rivals
 pub mod Judging
 pub mod Accepted
+pub mod Law

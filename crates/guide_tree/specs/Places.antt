@@ -1,5 +1,6 @@
 -- X12.6, order of segments: the places of a guide, which may follow which, and the place of each segment of a set.
-use Rattle.std.specs.Prelude.{ℕ, zero, suc, ◌+◌, ◌≡◌, ◌<◌, ◌⊎◌, IsTrue, List, [], ◌∷◌, Option, Some, None, Bool, true, false}
+use Rattle.std.specs.Prelude.{ℕ, zero, suc, ◌+◌, ◌≡◌, ◌<◌, ◌⊎◌, IsTrue, List, [], ◌∷◌, Option, Some, None, Bool}
+use Rattle.std.specs.Prelude.{true, false}
 use Rattle.std.specs.List.{AllByRecursion}
 use Rattle.guide_tree.specs.declared.slot.Slot.{Slot}
 use Rattle.guide_tree.specs.Tree.{Tree, Trees, segment, loop, no_trees, tree}

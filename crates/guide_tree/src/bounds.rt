@@ -1,7 +1,10 @@
 ghost use Rattle.std.specs.Prelude.{◌≡◌};
 ghost use Rattle.std.specs.List.{list_all};
 ghost use Rattle.guide_tree.specs.Segments.{contains_text};
-ghost use Rattle.guide_tree.specs.Bounds.{is_within, is_use_range, is_length_range, is_upper_or_digit, envelope_ids, is_segment_id, is_loop_id, is_filled, are_codes_bounded, is_row_bounded, is_component_bounded, is_element_bounded, is_repeat, is_slot_bounded, is_loop_bounded, is_bounded};
+ghost use Rattle.guide_tree.specs.Bounds.{is_within, is_use_range, is_length_range, is_upper_or_digit, envelope_ids};
+ghost use Rattle.guide_tree.specs.Bounds.{is_segment_id, is_loop_id, is_filled, are_codes_bounded, is_row_bounded};
+ghost use Rattle.guide_tree.specs.Bounds.{is_component_bounded, is_element_bounded, is_repeat, is_slot_bounded};
+ghost use Rattle.guide_tree.specs.Bounds.{is_loop_bounded, is_bounded};
 ghost use Rattle.guide_tree.specs.View.{view};
 
 use crate::element::{CodeList, Component, Element, SimpleRow};

@@ -1,6 +1,7 @@
 ghost use Rattle.std.specs.Prelude.{◌≡◌, ◌==◌, map};
 ghost use Rattle.std.specs.List.{list_all, list_any};
-ghost use Rattle.guide_tree.specs.Conditions.{is_once, has_trigger, is_triggered, is_distinct, has_row, is_condition_of, is_pick_of, position_of, are_picks_of};
+ghost use Rattle.guide_tree.specs.Conditions.{is_once, has_trigger, is_triggered, is_distinct, has_row};
+ghost use Rattle.guide_tree.specs.Conditions.{is_condition_of, is_pick_of, position_of, are_picks_of};
 ghost use Rattle.guide_tree.specs.View.{view, nodes_view};
 
 use crate::bounds::is_filled;

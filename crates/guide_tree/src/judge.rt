@@ -1,6 +1,7 @@
 ghost use Rattle.std.specs.Prelude.{◌≡◌, ◌&&◌};
 ghost use Rattle.std.specs.List.{list_all};
-ghost use Rattle.guide_tree.specs.Conditions.{is_condition_of, is_label_new, is_slot_conditioned, is_conditioned, is_dependency_of, is_hierarchy_of};
+ghost use Rattle.guide_tree.specs.Conditions.{is_condition_of, is_label_new, is_slot_conditioned, is_conditioned};
+ghost use Rattle.guide_tree.specs.Conditions.{is_dependency_of, is_hierarchy_of};
 ghost use Rattle.guide_tree.specs.Tree.{number_of};
 ghost use Rattle.guide_tree.specs.Rules.{keeps, first_failing};
 ghost use Rattle.guide_tree.specs.View.{view, nodes_view};

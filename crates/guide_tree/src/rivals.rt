@@ -1,7 +1,8 @@
 ghost use Rattle.std.specs.Prelude.{◌≡◌, ◌≤◌, option_map, drop, length};
 ghost use Rattle.std.specs.List.{list_any, list_all};
 ghost use Rattle.guide_tree.specs.Segments.{contains_text, share_text, agree, can_fit_both};
-ghost use Rattle.guide_tree.specs.Rivals.{entry, numbers_of, is_less, keep_least, against_slot, against, against_each, within, within_in, least_rivals, least_in};
+ghost use Rattle.guide_tree.specs.Rivals.{entry, numbers_of, is_less, keep_least, against_slot, against};
+ghost use Rattle.guide_tree.specs.Rivals.{against_each, within, within_in, least_rivals, least_in};
 ghost use Rattle.guide_tree.specs.View.{view, nodes_view};
 
 use crate::node::Node;

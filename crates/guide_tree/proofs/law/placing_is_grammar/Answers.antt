@@ -1,0 +1,11 @@
+use Rattle.guide_tree.proofs.Placed.{derived_is_placed, placed_is_derived, placed_one_way}
+use Rattle.guide_tree.proofs.law.placing_is_grammar.Goals as goal
+
+pub returns-clause-derived : goal.returns-clause-derived
+returns-clause-derived c = derived_is_placed
+
+pub returns-clause-placed : goal.returns-clause-placed
+returns-clause-placed c = placed_is_derived
+
+pub returns-clause-one : goal.returns-clause-one
+returns-clause-one c = placed_one_way
