@@ -62,10 +62,13 @@ is_repeat n = is_within 1 999 n
 abbrev pub is_element_bounded : Element → Bool
 is_element_bounded (element.NotUsed reference) = true
 is_element_bounded (element.Simple row repeat) = is_repeat repeat && is_row_bounded row
-is_element_bounded (element.Composite c) = is_repeat c.repeat && nat_le (length c.components) 20 && list_all is_component_bounded c.components
+is_element_bounded (element.Composite c) =
+    is_repeat c.repeat && nat_le (length c.components) 20 && list_all is_component_bounded c.components
 
 abbrev pub is_slot_bounded : Slot → Bool
-is_slot_bounded s = is_use_range s.min s.max && is_segment_id s.id && nat_le (length s.elements) 40 && list_all is_element_bounded s.elements
+is_slot_bounded s =
+    is_use_range s.min s.max && is_segment_id s.id && nat_le (length s.elements) 40
+    && list_all is_element_bounded s.elements
 
 abbrev pub is_loop_bounded : Loop → Bool
 is_loop_bounded l = is_use_range l.min l.max && is_loop_id l.id

@@ -8,4 +8,6 @@ abbrev pub decreases-hierarchy_slot : goal.decreases-hierarchy_slot
 decreases-hierarchy_slot l = goal.size-hierarchy_slot l
 
 abbrev pub invariant-loop-node : goal.invariant-loop-node
-invariant-loop-node l = find_slot is_hierarchy_slot (nodes_view (drop l.node-index l.nodes)) ≡ find_slot is_hierarchy_slot (nodes_view l.nodes)
+invariant-loop-node l =
+    find_slot is_hierarchy_slot (nodes_view (drop l.node-index l.nodes)) ≡ find_slot is_hierarchy_slot
+    (nodes_view l.nodes)

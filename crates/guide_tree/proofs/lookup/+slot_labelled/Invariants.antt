@@ -7,4 +7,5 @@ abbrev pub decreases-slot_labelled : goal.decreases-slot_labelled
 decreases-slot_labelled l = goal.size-slot_labelled l
 
 abbrev pub invariant-loop-node : goal.invariant-loop-node
-invariant-loop-node l = labelled (nodes_view (drop l.node-index l.nodes)) l.label ≡ labelled (nodes_view l.nodes) l.label
+invariant-loop-node l =
+    labelled (nodes_view (drop l.node-index l.nodes)) l.label ≡ labelled (nodes_view l.nodes) l.label

@@ -8,9 +8,16 @@ number_nodes-loop-i-preserved t c =
     let in_range : c.loop-i.i < length nodes = search rules in
     let old : c.index_mut.result.now ≡ get_or nodes c.loop-i.i c.index_mut.result.now = c.index_mut.ensures.value in
     record {
-      unvisited = unvisited_step nodes c.args.nodes.now.items c.loop-i.i c.number_node-next.new.node c.loop-i.invariant.unvisited;
-      next = count_step nodes c.loop-i.i c.loop-i.next c.number_node-next.result _ c.index_mut.result.now c.number_node-next.new.node in_range old c.number_node-next.ensures.next c.loop-i.invariant.next;
-      numbered = number_step nodes c.loop-i.i c.loop-i.next c.number_node-next.result _ c.index_mut.result.now c.number_node-next.new.node in_range old c.number_node-next.ensures.next c.number_node-next.ensures.numbered c.loop-i.invariant.numbered;
+      unvisited =
+          unvisited_step nodes c.args.nodes.now.items c.loop-i.i c.number_node-next.new.node
+          c.loop-i.invariant.unvisited;
+      next =
+          count_step nodes c.loop-i.i c.loop-i.next c.number_node-next.result _ c.index_mut.result.now
+          c.number_node-next.new.node in_range old c.number_node-next.ensures.next c.loop-i.invariant.next;
+      numbered =
+          number_step nodes c.loop-i.i c.loop-i.next c.number_node-next.result _ c.index_mut.result.now
+          c.number_node-next.new.node in_range old c.number_node-next.ensures.next
+          c.number_node-next.ensures.numbered c.loop-i.invariant.numbered;
     }
 
 pub number_nodes-returns-clause-numbered : goal.number_nodes-returns-clause-numbered
