@@ -1,6 +1,7 @@
 -- The guide file (own): the text of a data element's row, in the words of X12.6 (requirement designator, data
 -- element types, lengths).
-use Rattle.std.specs.Prelude.{ℕ, ◌-◌, ◌==◌, List, [], ◌∷◌, codes, Option, Some, None, Bool, true, false, ◌&&◌, take, drop, if◌then◌else◌, option_map}
+use Rattle.std.specs.Prelude.{ℕ, ◌-◌, ◌==◌, List, [], ◌∷◌, codes, Option, Some, None, Bool, true, false, ◌&&◌, take}
+use Rattle.std.specs.Prelude.{drop, if◌then◌else◌, option_map}
 use Rattle.std.specs.List.{list_all, prefix_len, position_or_len}
 use Rattle.std.specs.Str.{bytes_eq}
 use Rattle.std.specs.Char.{is_ascii_digit}
@@ -37,7 +38,10 @@ abbrev pub reference_of : List ℕ → Option (List ℕ)
 reference_of t = if bytes_eq t (codes "-") then Some [] else (if is_number 4 t then Some t else None)
 
 abbrev pub requirement_of : List ℕ → Option Requirement
-requirement_of t = if bytes_eq t (codes "M") then Some requirement.Mandatory else (if bytes_eq t (codes "O") then Some requirement.Optional else None)
+requirement_of t =
+    if bytes_eq t (codes "M") then Some requirement.Mandatory
+    else (if bytes_eq t (codes "O") then Some requirement.Optional
+    else None)
 
 -- `N0` to `N9`
 abbrev pub number_type_of : List ℕ → Option ElementType

@@ -1,5 +1,6 @@
 -- The guide file (own): the texts of picks, relational conditions, pairs of levels and codes.
-use Rattle.std.specs.Prelude.{ℕ, ◌+◌, ◌-◌, ◌*◌, ◌==◌, List, [], ◌∷◌, length, codes, Option, Some, None, Bool, ◌&&◌, take, drop, if◌then◌else◌, option_map}
+use Rattle.std.specs.Prelude.{ℕ, ◌+◌, ◌-◌, ◌*◌, ◌==◌, List, [], ◌∷◌, length, codes, Option, Some, None, Bool, ◌&&◌}
+use Rattle.std.specs.Prelude.{take, drop, if◌then◌else◌, option_map}
 use Rattle.std.specs.List.{list_all, position_or_len}
 use Rattle.std.specs.Str.{bytes_eq}
 use Rattle.std.specs.Char.{is_ascii_digit}
@@ -53,7 +54,8 @@ positions_of (a ∷ b ∷ ds) = position_of a b >>= λ p. option_map (λ ps. p �
 -- a letter, and positions
 abbrev pub condition_of : List ℕ → Option Condition
 condition_of [] = None
-condition_of (letter ∷ digits) = relation_of letter >>= λ r. option_map (λ ps. record { relation = r; positions = ps }) (positions_of digits)
+condition_of (letter ∷ digits) =
+    relation_of letter >>= λ r. option_map (λ ps. record { relation = r; positions = ps }) (positions_of digits)
 
 abbrev pub is_slash : ℕ → Bool
 is_slash b = b == 47
@@ -65,7 +67,8 @@ parent_of (b ∷ bs) = if is_word 1 2 (b ∷ bs) then Some (Some (b ∷ bs)) els
 
 abbrev pub pair_behind : List ℕ → List ℕ → Option HlPair
 pair_behind parent [] = None
-pair_behind parent (slash ∷ child) = if is_word 1 2 child then option_map (λ p. record { parent = p; child = child }) (parent_of parent) else None
+pair_behind parent (slash ∷ child) =
+    if is_word 1 2 child then option_map (λ p. record { parent = p; child = child }) (parent_of parent) else None
 
 -- PARENT/CHILD
 abbrev pub pair_of : List ℕ → Option HlPair

@@ -1,8 +1,10 @@
 -- The guide file (own): the guide that a table writes, and the first fault of one that writes none.
-use Rattle.std.specs.Prelude.{ℕ, List, [], ◌∷◌, codes, Option, Some, None, Result, Ok, Err, Bool, if◌then◌else◌, is_some}
+use Rattle.std.specs.Prelude.{ℕ, List, [], ◌∷◌, codes, Option, Some, None, Result, Ok, Err, Bool, if◌then◌else◌}
+use Rattle.std.specs.Prelude.{is_some}
 use Rattle.std.specs.Ordering.{nat_cmp, match_ordering}
 use Rattle.std.specs.Cmp.Lexicographic.{slice_cmp}
-use Rattle.toml.specs.Data.{Data, array, table, Items, no_items, item, Members, no_members, member, get_member, as_str, as_bool, as_table}
+use Rattle.toml.specs.Data.{Data, array, table, Items, no_items, item, Members, no_members, member, get_member}
+use Rattle.toml.specs.Data.{as_str, as_bool, as_table}
 use Rattle.guide_tree.specs.declared.slot.Slot.{Slot}
 use Rattle.guide_tree.specs.declared.node.Loop.{Loop}
 use Rattle.guide_tree.specs.declared.rows.GuideHead.{GuideHead}
@@ -16,7 +18,8 @@ use Rattle.guide_toml.specs.declared.nodes.NodeKind.{NodeKind}
 use Rattle.guide_toml.specs.declared.nodes.NodeKind.TheVariants as node
 use Rattle.guide_toml.specs.ElementTexts.{element_of}
 use Rattle.guide_toml.specs.Entries.{pick_of, condition_of, pair_of, formed, segment_code_of, element_code_of}
-use Rattle.guide_toml.specs.Tables.{Refusal, wrong_kind, ◌>>=◌, first_unknown, if_known, required, optional, word_in, some_word_in, group_in, count_in, texts_in, tables_in, dependency_kind_in}
+use Rattle.guide_toml.specs.Tables.{Refusal, wrong_kind, ◌>>=◌, first_unknown, if_known, required, optional, word_in}
+use Rattle.guide_toml.specs.Tables.{some_word_in, group_in, count_in, texts_in, tables_in, dependency_kind_in}
 
 abbrev pub label_in : Data → Option (List ℕ)
 label_in d = word_in 1 20 d
@@ -121,7 +124,16 @@ head_of ms = do
   dictionary ← optional [] (texts_in (formed form.SegmentId)) (codes "dictionary") ms
   tolerate_segment ← optional [] (texts_in segment_code_of) (codes "tolerate_segment") ms
   tolerate_element ← optional [] (texts_in element_code_of) (codes "tolerate_element") ms
-  Ok (record { name = name; group = group; set = set; version = version; convention = convention; dictionary = dictionary; tolerate_segment = tolerate_segment; tolerate_element = tolerate_element })
+  Ok (record {
+    name = name;
+    group = group;
+    set = set;
+    version = version;
+    convention = convention;
+    dictionary = dictionary;
+    tolerate_segment = tolerate_segment;
+    tolerate_element = tolerate_element;
+  })
 
 -- where `hl` is, its table
 abbrev pub hl_in : Option Members → Result (Option HlRule) Refusal

@@ -1,10 +1,13 @@
 -- The guide file (own): what stands at the keys of a table, and the first fault.
-use Rattle.std.specs.Prelude.{ℕ, ◌==◌, ℤ, pos, negsuc, List, [], ◌∷◌, length, codes, Option, Some, None, Result, Ok, Err, Bool, true, ◌&&◌, not, nat_le, if◌then◌else◌, option_map, option_and_then, is_some}
+use Rattle.std.specs.Prelude.{ℕ, ◌==◌, ℤ, pos, negsuc, List, [], ◌∷◌, length, codes, Option, Some, None, Result, Ok}
+use Rattle.std.specs.Prelude.{Err, Bool, true, ◌&&◌, not, nat_le, if◌then◌else◌, option_map, option_and_then}
+use Rattle.std.specs.Prelude.{is_some}
 use Rattle.std.specs.List.{list_all}
 use Rattle.std.specs.Str.{bytes_eq}
 use Rattle.std.specs.Char.{is_ascii_uppercase}
 use Rattle.hub_kinds.specs.Words.{is_word}
-use Rattle.toml.specs.Data.{Data, Items, no_items, item, Members, no_members, member, get_member, as_str, as_integer, as_array, as_table}
+use Rattle.toml.specs.Data.{Data, Items, no_items, item, Members, no_members, member, get_member, as_str, as_integer}
+use Rattle.toml.specs.Data.{as_array, as_table}
 use Rattle.guide_tree.specs.Segments.{contains_text}
 use Rattle.guide_tree.specs.declared.rows.DependencyKind.{DependencyKind}
 use Rattle.guide_tree.specs.declared.rows.DependencyKind.TheVariants as dependency
@@ -23,12 +26,16 @@ abbrev pub ◌>>=◌ : {A B : Type 0} → Result A Refusal → (A → Result B R
 
 -- the keys of each kind of table; a node that is neither segment nor loop, or both, may have those of either
 abbrev pub keys_of : TableKind → List (List ℕ)
-keys_of kind.Guide = codes "name" ∷ codes "group" ∷ codes "set" ∷ codes "version" ∷ codes "convention" ∷ codes "dictionary" ∷ codes "tolerate_segment" ∷ codes "tolerate_element" ∷ codes "hl" ∷ codes "depends" ∷ codes "nodes" ∷ []
+keys_of kind.Guide =
+    codes "name" ∷ codes "group" ∷ codes "set" ∷ codes "version" ∷ codes "convention" ∷ codes "dictionary"
+    ∷ codes "tolerate_segment" ∷ codes "tolerate_element" ∷ codes "hl" ∷ codes "depends" ∷ codes "nodes" ∷ []
 keys_of kind.Hierarchy = codes "pairs" ∷ codes "sequential" ∷ []
 keys_of kind.Dependency = codes "kind" ∷ codes "slot" ∷ codes "at" ∷ codes "codes" ∷ codes "target" ∷ codes "element" ∷ []
 keys_of kind.Segment = codes "seg" ∷ codes "min" ∷ codes "max" ∷ codes "label" ∷ codes "pick" ∷ codes "elements" ∷ codes "conditions" ∷ []
 keys_of kind.Loop = codes "loop" ∷ codes "min" ∷ codes "max" ∷ codes "nodes" ∷ []
-keys_of kind.Unclear = codes "seg" ∷ codes "loop" ∷ codes "min" ∷ codes "max" ∷ codes "label" ∷ codes "pick" ∷ codes "elements" ∷ codes "conditions" ∷ codes "nodes" ∷ []
+keys_of kind.Unclear =
+    codes "seg" ∷ codes "loop" ∷ codes "min" ∷ codes "max" ∷ codes "label"
+    ∷ codes "pick" ∷ codes "elements" ∷ codes "conditions" ∷ codes "nodes" ∷ []
 
 -- the least key that isn't listed: members stand in the order of their keys
 abbrev pub first_unknown : TableKind → Members → Option (List ℕ)
@@ -103,7 +110,9 @@ abbrev pub tables_in : Data → Option Items
 tables_in d = option_and_then (λ ds. if are_tables ds then Some ds else None) (as_array d)
 
 abbrev pub dependency_kind_of : List ℕ → Option DependencyKind
-dependency_kind_of s = if bytes_eq s (codes "need") then Some dependency.Need else (if bytes_eq s (codes "ban") then Some dependency.Ban else None)
+dependency_kind_of s =
+    if bytes_eq s (codes "need") then Some dependency.Need
+    else (if bytes_eq s (codes "ban") then Some dependency.Ban else None)
 
 abbrev pub dependency_kind_in : Data → Option DependencyKind
 dependency_kind_in d = option_and_then dependency_kind_of (as_str d)

@@ -79,7 +79,8 @@ fn hl_in(alloc: Global, table: Option<&Table>) -> Result<Option<HlRule>, GuideFi
 
 /// The table at a key, if there is something.
 fn table_at<'a>(table: &'a Table, key: &'static str) -> Result<Option<&'a Table>, GuideFileFault>
-    ensures { Gives (λ o. option_map (λ t. table_view t.now) o) result (tables.optional None guides.some_table key.now (table_view table.now)) }
+    ensures { Gives (λ o. option_map (λ t. table_view t.now) o) result
+        (tables.optional None guides.some_table key.now (table_view table.now)) }
 {
     match value_at(table, key) {
         None => Ok(None),
@@ -124,7 +125,8 @@ fn dependency_of(alloc: Global, table: &Table) -> Result<Dependency, GuideFileFa
 }
 
 fn known_dependency(alloc: Global, table: &Table) -> Result<Dependency, GuideFileFault>
-    ensures { Gives (λ x. x) result (guides.known TableKind.Dependency (table_view table.now) (guides.dependency_of (table_view table.now))) }
+    ensures { Gives (λ x. x) result
+        (guides.known TableKind.Dependency (table_view table.now) (guides.dependency_of (table_view table.now))) }
 {
     refuse_unknown(alloc, table, TableKind::Dependency)?;
     dependency_of(alloc, table)
@@ -196,7 +198,8 @@ fn guide_in(alloc: Global, table: &Table) -> Result<Guide, GuideFileFault>
 /// table's least unknown key first, a node's own keys before its nodes; then what `Guide::check` refuses.
 pub fn read_guide(alloc: Global, bytes: &[u8]) -> Result<Guide, GuideFileFault>
     ensures table { (t : Members) → IsUtf8 bytes.now → parse_document bytes.now ≡ Some t → Answers result (guides.guide_of_table t) }
-    ensures not_toml { (result ≡ Err GuideFileFault.NotToml) ↔ ((result ≢ Err GuideFileFault.NoMemory) × (IsUtf8 bytes.now → parse_document bytes.now ≡ None)) }
+    ensures not_toml { (result ≡ Err GuideFileFault.NotToml)
+        ↔ ((result ≢ Err GuideFileFault.NoMemory) × (IsUtf8 bytes.now → parse_document bytes.now ≡ None)) }
 {
     let Ok(text) = std::str::from_utf8(bytes) else {
         return Err(GuideFileFault::NotToml);

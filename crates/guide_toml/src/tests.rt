@@ -238,3 +238,67 @@ fn rival_in_a_house_guide(rt: HostRuntime) -> Result<(), Fail> {
     }
     Ok(())
 }
+
+/// Loops nested so deep, each with a first segment of its own.
+fn nested(alloc: Global, depth: u8) -> Result<String, Fail> {
+    let mut nodes = String::new(alloc);
+    for level in 0..depth {
+        let letter = char::from(b'A' + level % 26);
+        let first = format!(in alloc; "{{seg=\"A{letter}\",min=1,max=1,elements=[]}}")?;
+        nodes = format!(in alloc; "{{loop=\"L\",min=0,max=9,nodes=[{first},{nodes}]}}")?;
+    }
+    Ok(nodes)
+}
+
+/// So many segments, each with an id of its own.
+fn many(alloc: Global, count: u32) -> Result<String, Fail> {
+    let mut nodes = String::new(alloc);
+    for i in 0..count {
+        nodes.push_str("{seg=\"")?;
+        nodes.push(char::from(b'A' + (i / 676 % 26) as u8))?;
+        nodes.push(char::from(b'A' + (i / 26 % 26) as u8))?;
+        nodes.push(char::from(b'A' + (i % 26) as u8))?;
+        nodes.push_str("\",min=0,max=1,elements=[]},")?;
+    }
+    Ok(nodes)
+}
+
+/// What the check of the guide refuses, by files.
+#[test]
+fn refused_guides(rt: HostRuntime) -> Result<(), Fail> {
+    let alloc = rt.alloc();
+    assert!(rt; with_nodes(alloc, nested(alloc, 8)?.as_str())?.is_none());
+    let nodes = nested(alloc, 9)?;
+    assert!(rt;
+        matches!(
+            with_nodes(alloc, nodes.as_str())?,
+            Some(GuideFileFault::Guide(GuideFault::TooDeep))
+        )
+    );
+    let nodes = many(alloc, 2_001)?;
+    assert!(rt;
+        matches!(
+            with_nodes(alloc, nodes.as_str())?,
+            Some(GuideFileFault::Guide(GuideFault::TooMany))
+        )
+    );
+    assert!(rt;
+        matches!(
+            with_nodes(
+                alloc,
+                "{seg=\"REF\",min=0,max=1,elements=[]},{seg=\"REF\",min=0,max=1,elements=[]}"
+            )?,
+            Some(GuideFileFault::Guide(GuideFault::Ambiguous(1, 2)))
+        )
+    );
+    assert!(rt;
+        matches!(
+            with_nodes(
+                alloc,
+                "{seg=\"BEG\",min=1,max=1,elements=[]},{loop=\"L\",min=0,max=9,nodes=[{seg=\"N1\",min=1,max=2,elements=[]}]}"
+            )?,
+            Some(GuideFileFault::Guide(GuideFault::BadTrigger(2)))
+        )
+    );
+    Ok(())
+}

@@ -6,7 +6,8 @@ use Rattle.guide_toml.proofs.element_text.components_of.Given as goal
 abbrev pub invariant-loop-component : goal.invariant-loop-component
 invariant-loop-component l = record {
   within : l.from ≤ length l.tokens;
-  rest : option_map (λ cs. l.components.items ++ cs) (components_of (groups_of (drop l.from l.tokens))) ≡ components_of (groups_of l.tokens);
+  rest : option_map (λ cs. l.components.items ++ cs)
+      (components_of (groups_of (drop l.from l.tokens))) ≡ components_of (groups_of l.tokens);
 }
 
 abbrev pub decreases-loop-component : goal.decreases-loop-component

@@ -16,9 +16,11 @@ nodes_of-node_of-requires t c =
 pub nodes_of-loop-value-preserved : goal.nodes_of-loop-value-preserved
 nodes_of-loop-value-preserved t c =
     let v = c.value-item.result in
-    read_step c.loop-value.nodes.items c.args.values.now c.loop-value.value-index v c.in-Ok.node c.push_node.new.nodes.items (omega arith) c.value-item.is
+    read_step c.loop-value.nodes.items c.args.values.now c.loop-value.value-index v c.in-Ok.node
+    c.push_node.new.nodes.items (omega arith) c.value-item.is
     (ap node_in (that_table (view v) (table_view c.in-Some.table.now) c.in-Some.ensures) ∙ c.in-Ok.ensures)
     c.in_ok-push_node-in-Ok.ensures.ok c.loop-value.invariant
 
 pub nodes_of-returns : goal.nodes_of-returns
-nodes_of-returns t c = read_all c.loop-value.nodes.items c.args.values.now c.loop-value.value-index (omega arith) c.loop-value.invariant
+nodes_of-returns t c =
+    read_all c.loop-value.nodes.items c.args.values.now c.loop-value.value-index (omega arith) c.loop-value.invariant

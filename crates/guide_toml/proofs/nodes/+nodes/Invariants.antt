@@ -16,4 +16,6 @@ abbrev pub decreases-nodes_of : goal.decreases-nodes_of
 decreases-nodes_of l = 3 * items_depth (items_view l.values.now)
 
 abbrev pub invariant-nodes_of-loop-value : goal.invariant-nodes_of-loop-value
-invariant-nodes_of-loop-value l = with_front (map tree_view l.nodes.items) (nodes_in (items_view (drop l.value-index l.values))) ≡ nodes_in (items_view l.values)
+invariant-nodes_of-loop-value l =
+    with_front (map tree_view l.nodes.items) (nodes_in (items_view (drop l.value-index l.values))) ≡ nodes_in
+    (items_view l.values)

@@ -10,7 +10,8 @@ returns-in-None-clause-same c = sym (inner_is (table_view c.args.table.now) ∙ 
 
 pub returns-in-None-as_array-clause-same : goal.returns-in-None-as_array-clause-same
 returns-in-None-as_array-clause-same c =
-    sym (inner_is (table_view c.args.table.now) ∙ ap list_at (sym c.in-Some.ensures) ∙ no_list (view c.in-Some.value.now) c.in-None-as_array.ensures)
+    sym (inner_is (table_view c.args.table.now) ∙ ap list_at (sym c.in-Some.ensures)
+    ∙ no_list (view c.in-Some.value.now) c.in-None-as_array.ensures)
 
 pub returns-in-Some-as_array-clause-same : goal.returns-in-Some-as_array-clause-same
 returns-in-Some-as_array-clause-same c =

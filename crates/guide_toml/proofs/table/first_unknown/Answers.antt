@@ -1,4 +1,5 @@
-use Rattle.std.proofs.Common.{◌≡◌, Option, Some, None, Bor, String, Global, not, string_bytes, option_map, refl, ap, ◌∙◌, rules, tests}
+use Rattle.std.proofs.Common.{◌≡◌, Option, Some, None, Bor, String, Global, not, string_bytes, option_map, refl, ap}
+use Rattle.std.proofs.Common.{◌∙◌, rules, tests}
 use Rattle.std.specs.Map.Iter.{deref}
 use Rattle.std.specs.Map.{keys_of as entry_keys}
 use Rattle.std.proofs.lemmas.Iterator.Search.{find_from_yields_List}
@@ -8,12 +9,16 @@ use Rattle.guide_toml.specs.Tables.{keys_of}
 use Rattle.guide_toml.proofs.Keys.{first_unknown_is}
 use Rattle.guide_toml.proofs.table.first_unknown.Goals as goal
 
-bytes_of_ref : (r : Option (Bor (String Global))) → option_map (λ (k : Bor (String Global)). string_bytes k.now) r ≡ option_map string_bytes (option_map deref r)
+bytes_of_ref : (r : Option (Bor (String Global)))
+    → option_map (λ (k : Bor (String Global)). string_bytes k.now) r ≡ option_map string_bytes (option_map deref r)
 bytes_of_ref None = refl
 bytes_of_ref (Some k) = refl
 
 pub returns : goal.returns
 returns c =
     bytes_of_ref c.find.result
-    ∙ ap (option_map string_bytes) (find_from_yields_List (λ k. not (contains_text (keys_of c.args.kind) (string_bytes k))) _ _ c.find.result c.find.ensures.ran (YieldsList-from_rest (entry_keys c.args.table.now.entries) c.keys.ensures.rest) (λ x b q k. search (rules, tests)))
+    ∙ ap (option_map string_bytes) (find_from_yields_List
+    (λ k. not (contains_text (keys_of c.args.kind) (string_bytes k))) _ _ c.find.result c.find.ensures.ran
+    (YieldsList-from_rest (entry_keys c.args.table.now.entries) c.keys.ensures.rest)
+    (λ x b q k. search (rules, tests)))
     ∙ first_unknown_is c.args.kind c.args.table.now.entries
