@@ -27,3 +27,4 @@ mod Placed
 mod WorkedGuide
 mod WorkedPlacing
 mod WorkedGrammar
+mod Sound

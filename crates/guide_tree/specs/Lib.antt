@@ -7,6 +7,7 @@ pub mod Ambiguity
 pub mod Bounds
 pub mod Conditions
 pub mod Faults
+pub mod Slots
 pub mod Structure
 pub mod Room
 pub mod Rules

@@ -1,12 +1,13 @@
-ghost use Rattle.std.specs.Prelude.{◌≡◌, IfOk, IfErr, option_map};
+ghost use Rattle.std.specs.Prelude.{◌≡◌, IfOk, IfErr, IfSome, option_map};
 ghost use Rattle.guide_tree.specs.Judging.{first_in_rows, first_in_size};
 ghost use Rattle.guide_tree.specs.Conditions.{labelled};
+ghost use Rattle.guide_tree.specs.Slots.{slot_numbered, IsSound};
 ghost use Rattle.guide_tree.specs.View.{guide_of, nodes_view};
 
 use crate::fault::GuideFault;
 use crate::judge::{Rule, are_names_known, first_breaking};
 use crate::limits::{nests_within, room_behind};
-use crate::lookup::slot_labelled;
+use crate::lookup::{slot_labelled, slot_numbered};
 use crate::numbering::number_nodes;
 use crate::rivals::least_rivals;
 use crate::rows::GuideRows;
@@ -63,6 +64,15 @@ impl Guide {
         ensures { option_map (λ s. s.now) result ≡ labelled (nodes_view self.entry.now.nodes.items) label.now }
     {
         slot_labelled(&self.rows.nodes, label)
+    }
+
+    /// The slot with a number, where a segment has it. It keeps the bounds, and its relational conditions speak of
+    /// elements that have rows, as in each accepted guide.
+    pub fn slot(&self, number: u32) -> Option<&Slot>
+        ensures value { option_map (λ s. s.now) result ≡ slot_numbered (nodes_view self.entry.now.nodes.items) number }
+        ensures sound { IfSome result (λ s. IsSound s.now) }
+    {
+        slot_numbered(&self.rows.nodes, number)
     }
 
     /// What the guide says.

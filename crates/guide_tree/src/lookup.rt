@@ -1,6 +1,7 @@
 ghost use Rattle.std.specs.Prelude.{◌≡◌, option_map, is_some};
 ghost use Rattle.guide_tree.specs.Tree.{find_slot, any_slot};
 ghost use Rattle.guide_tree.specs.Conditions.{has_label, labelled, is_hierarchy_slot};
+ghost use Rattle.guide_tree.specs.Slots.{has_slot_number, slot_numbered};
 ghost use Rattle.guide_tree.specs.View.{nodes_view};
 
 use crate::node::Node;
@@ -35,6 +36,34 @@ pub fn slot_labelled<'a>(nodes: &'a [Node], label: &[u8]) -> Option<&'a Slot>
                 }
             }
             Node::Loop(_, inner) => slot_labelled(inner, label),
+        };
+        if found.is_some() {
+            return found;
+        }
+    }
+    None
+}
+
+fn has_slot_number(slot: &Slot, number: u32) -> bool
+    ensures { result ≡ has_slot_number number slot.now }
+{
+    slot.number == number
+}
+
+/// The slot with a number, where a segment has it.
+pub fn slot_numbered<'a>(nodes: &'a [Node], number: u32) -> Option<&'a Slot>
+    ensures { option_map (λ s. s.now) result ≡ slot_numbered (nodes_view nodes.entry.now) number }
+{
+    for node in nodes {
+        let found = match node {
+            Node::Segment(slot) => {
+                if has_slot_number(slot, number) {
+                    Some(slot)
+                } else {
+                    None
+                }
+            }
+            Node::Loop(_, inner) => slot_numbered(inner, number),
         };
         if found.is_some() {
             return found;

@@ -193,3 +193,24 @@ fn numbers(rt: HostRuntime) -> Result<(), AllocError> {
     }
     Ok(())
 }
+
+/// A slot is found by its number; a loop's number is no slot's.
+#[test]
+fn slots_by_their_numbers(rt: HostRuntime) -> Result<(), AllocError> {
+    let alloc = rt.alloc();
+    let inner = vec![in alloc; segment(alloc, b"N1", 1, 1)?, segment(alloc, b"N3", 0, 2)?]?;
+    let nodes = vec![in alloc; segment(alloc, b"BEG", 1, 1)?, loop_of(alloc, inner)?]?;
+    match Guide::check(rows(alloc, nodes)?) {
+        Err(_) => assert!(rt; false),
+        Ok(guide) => {
+            assert!(rt;
+                guide
+                    .slot(4)
+                    .is_some_and(|slot| slot.id.as_slice() == b"N3".as_slice())
+            );
+            assert!(rt; guide.slot(2).is_none());
+            assert!(rt; guide.slot(5).is_none());
+        }
+    }
+    Ok(())
+}
