@@ -9,7 +9,7 @@ returns-in-Some-clause-refused c = refused_for_size (guide_of c.args.rows) c.in-
 
 pub invariant_of-result : goal.invariant_of-result
 invariant_of-result c =
-    accepted_rows c.args.rows c.number_nodes.new.nodes c.number_nodes.ensures.numbered (sym c.in_default.ensures)
+    accepted_rows (record c.args.rows { head = _ }) c.number_nodes.new.nodes c.number_nodes.ensures.numbered (sym c.in_default.ensures)
     (sym c.in-None.ensures)
 
 pub returns-in-Some-first_in_nodes-clause-refused : goal.returns-in-Some-first_in_nodes-clause-refused
@@ -19,5 +19,5 @@ returns-in-Some-first_in_nodes-clause-refused c =
 
 pub returns-in-None-clause-accepted : goal.returns-in-None-clause-accepted
 returns-in-None-clause-accepted c =
-    accepted_rows c.args.rows c.number_nodes.new.nodes c.number_nodes.ensures.numbered (sym c.in_default.ensures)
+    accepted_rows (record c.args.rows { head = _ }) c.number_nodes.new.nodes c.number_nodes.ensures.numbered (sym c.in_default.ensures)
     (sym c.in-None.ensures)
