@@ -38,8 +38,8 @@ no_place s ts (a ∷ q) h f = let e = none_at s ts a.child q f.0 h f.1 in let t 
 -- BEG is missing, there are three N1, and an unknown segment stands before PO1
 abbrev broken : List Segment
 broken =
-    alone (codes "REF") ∷ alone (codes "N1") ∷ alone (codes "N1") ∷ alone (codes "N1") ∷ alone (codes "Q9") ∷ alone
-    (codes "PO1") ∷ []
+    alone (codes "REF") ∷ alone (codes "N1") ∷ alone (codes "N1") ∷ alone (codes "N1") ∷ alone (codes "Q9")
+    ∷ alone (codes "PO1") ∷ []
 
 abbrev broken_places : List (Option Place)
 broken_places =
