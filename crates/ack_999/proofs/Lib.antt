@@ -3,4 +3,7 @@ pub mod Padding
 pub mod Verdicts
 pub mod Parts
 pub mod ReadBack
+pub mod Telling
+pub mod Plain
+pub mod ReadableFaults
 pub mod Readable

@@ -43,7 +43,7 @@ parts-elements e id (x ∷ xs) p q =
     ∙ ap (λ (list : List (List ℕ)). id ∷ list) (parts-elements e x xs (All-head (Lacks e) x xs q) (All-tail (Lacks e) x xs q))
 
 -- leaving off the empty elements at the end keeps what all elements have
-trimmed-all : (P : List ℕ → Type 0) (elements : List (List ℕ)) → All P elements → All P (trimmed elements)
+pub trimmed-all : (P : List ℕ → Type 0) (elements : List (List ℕ)) → All P elements → All P (trimmed elements)
 trimmed-all P [] all = All-nil P
 trimmed-all P (x ∷ xs) all = front x (trimmed xs) (All-head P x xs all) (trimmed-all P xs (All-tail P x xs all))
   where

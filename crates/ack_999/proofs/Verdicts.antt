@@ -4,12 +4,12 @@ use Rattle.std.specs.Prelude.{◌==◌, ◌&&◌, ◌||◌, not, count_by, if◌
 use Rattle.std.specs.List.{list_all}
 use Rattle.std.proofs.lemmas.Grind.{common_steps}
 use Rattle.std.proofs.lemmas.List.Sums.{sum_by-cons}
+use Rattle.hub_kinds.specs.declared.answers.SetAnswer.{SetAnswer}
 use Rattle.hub_kinds.specs.declared.set_codes.Verdict.{Verdict}
 use Rattle.hub_kinds.specs.declared.set_codes.Verdict.TheVariants.{Accepted, AcceptedWithErrors, Rejected}
 use Rattle.hub_kinds.specs.declared.set_codes.GroupVerdict.{GroupVerdict}
 use Rattle.hub_kinds.specs.declared.set_codes.GroupVerdict.TheVariants as group
-use Rattle.ack_999.specs.Report.{received_sets}
-use Rattle.ack_999.specs.Group.{is_accepted, is_accepted_with_errors, is_rejected, totals_of, verdict_on_sets, verdict_on_totals}
+use Rattle.ack_999.specs.Group.{is_accepted, is_accepted_with_errors, is_rejected, verdicts_of, totals_of, received_sets, verdict_on_sets, verdict_on_totals}
 
 count_by-cons : (p : Verdict → Bool) (v : Verdict) (vs : List Verdict) → count_by p (v ∷ vs) ≡ cond (p v) 1 0 + count_by p vs
 count_by-cons p v vs = sum_by-cons (λ x. cond (p x) 1 0) v vs
@@ -84,26 +84,27 @@ choice all_accepted none_rejected all_rejected =
     else group.PartlyAccepted))
 
 -- the verdict over the totals is the verdict over the sets
-pub verdict_on_totals-totals_of : (vs : List Verdict) → verdict_on_totals (totals_of vs) ≡ verdict_on_sets vs
+pub verdict_on_totals-totals_of : (sets : List SetAnswer) → verdict_on_totals (totals_of sets) ≡ verdict_on_sets (verdicts_of sets)
 unfolding choice
-verdict_on_totals-totals_of vs =
+verdict_on_totals-totals_of sets =
+    let vs : List Verdict = verdicts_of sets in
     let none = list_all-none is_rejected (λ v. not (is_rejected v)) (λ _. refl) vs in
     ap (λ (b : Bool). choice b (count_by is_rejected vs == 0) ((count_by is_accepted vs == 0) && (count_by is_accepted_with_errors vs == 0))) (sym (all_accepted vs))
     ∙ ap (λ (b : Bool). choice (list_all is_accepted vs) b ((count_by is_accepted vs == 0) && (count_by is_accepted_with_errors vs == 0))) (sym none)
     ∙ ap (λ (b : Bool). choice (list_all is_accepted vs) (list_all (λ v. not (is_rejected v)) vs) b) (sym (all_rejected vs))
 
--- each verdict is counted once
-pub received_sets-totals_of : (vs : List Verdict) → received_sets (totals_of vs) ≡ length vs
+once : (v : Verdict) → cond (is_accepted v) 1 0 + cond (is_accepted_with_errors v) 1 0 + cond (is_rejected v) 1 0 ≡ 1
+once Accepted = refl
+once AcceptedWithErrors = refl
+once Rejected = refl
+
+-- each set is counted once
+pub received_sets-totals_of : (sets : List SetAnswer) → received_sets (totals_of sets) ≡ length sets
 received_sets-totals_of [] = refl
-received_sets-totals_of (v ∷ vs) =
-    let a = count_by-cons is_accepted v vs in
-    let e = count_by-cons is_accepted_with_errors v vs in
-    let r = count_by-cons is_rejected v vs in
-    let rest = received_sets-totals_of vs in
-    let one = once v in
+received_sets-totals_of (s ∷ sets) =
+    let a = count_by-cons is_accepted s.verdict (verdicts_of sets) in
+    let e = count_by-cons is_accepted_with_errors s.verdict (verdicts_of sets) in
+    let r = count_by-cons is_rejected s.verdict (verdicts_of sets) in
+    let rest = received_sets-totals_of sets in
+    let one = once s.verdict in
     omega arith
-  where
-    once : (v : Verdict) → cond (is_accepted v) 1 0 + cond (is_accepted_with_errors v) 1 0 + cond (is_rejected v) 1 0 ≡ 1
-    once Accepted = refl
-    once AcceptedWithErrors = refl
-    once Rejected = refl

@@ -1,7 +1,8 @@
--- 999 guide, functional group response trailer (AK9): the group's codes and its verdict.
-use Rattle.std.specs.Prelude.{ℕ, ◌==◌, Bool, true, false, not, ◌&&◌, List, [], ◌∷◌, ◌++◌, count_by, Option, Some, None, if◌then◌else◌}
-use Rattle.std.specs.List.{list_all}
+-- 999 guide, functional group response trailer (AK9): the group's codes, its verdict, and what is counted over its sets.
+use Rattle.std.specs.Prelude.{ℕ, ◌+◌, ◌*◌, ◌^◌, ◌<◌, ◌≤◌, ◌==◌, Bool, true, false, not, ◌&&◌, List, [], ◌∷◌, ◌++◌, length, map, count_by, Option, Some, None, if◌then◌else◌}
+use Rattle.std.specs.List.{list_all, sum_by}
 use Rattle.hub_kinds.specs.Numbers.{number_of}
+use Rattle.hub_kinds.specs.declared.answers.SetAnswer.{SetAnswer}
 use Rattle.hub_kinds.specs.declared.set_codes.GroupCode.{GroupCode}
 use Rattle.hub_kinds.specs.declared.set_codes.GroupCode.TheVariants as code
 use Rattle.hub_kinds.specs.declared.set_codes.Verdict.{Verdict}
@@ -10,6 +11,7 @@ use Rattle.hub_kinds.specs.declared.set_codes.GroupVerdict.{GroupVerdict}
 use Rattle.hub_kinds.specs.declared.set_codes.GroupVerdict.TheVariants as group
 use Rattle.ack_999.specs.declared.trailer.GroupTrailer.{GroupTrailer}
 use Rattle.ack_999.specs.declared.totals.Totals.{Totals}
+use Rattle.ack_999.specs.Faults.{notes}
 
 -- two control numbers, read as numbers, are the same
 abbrev pub agree : Option ℕ → Option ℕ → Bool
@@ -58,13 +60,31 @@ abbrev pub group_verdict_of : List GroupCode → List Verdict → GroupVerdict
 group_verdict_of [] verdicts = verdict_on_sets verdicts
 group_verdict_of (_ ∷ _) verdicts = group.Rejected
 
--- how many sets have each verdict
-abbrev pub totals_of : List Verdict → Totals
-totals_of verdicts = record {
-  accepted = count_by is_accepted verdicts;
-  accepted_with_errors = count_by is_accepted_with_errors verdicts;
-  rejected = count_by is_rejected verdicts;
+-- the verdicts on sets
+abbrev pub verdicts_of : List SetAnswer → List Verdict
+verdicts_of sets = map (λ s. s.verdict) sets
+
+-- how many sets have each verdict, and how many segments tell of their faults
+abbrev pub totals_of : List SetAnswer → Totals
+totals_of sets = record {
+  accepted = count_by is_accepted (verdicts_of sets);
+  accepted_with_errors = count_by is_accepted_with_errors (verdicts_of sets);
+  rejected = count_by is_rejected (verdicts_of sets);
+  fault_segments = sum_by (λ s. length (notes s.faults)) sets;
 }
+
+-- AK903: the number of sets
+abbrev pub received_sets : Totals → ℕ
+received_sets t = t.accepted + t.accepted_with_errors + t.rejected
+
+-- an AK2 and an IK5 for each set, and between them what tells of its faults
+abbrev pub set_segment_count : Totals → ℕ
+set_segment_count t = 2 * received_sets t + t.fault_segments
+
+-- fewer than 2^64 sets, with no more than 2^64 segments each (own)
+pub record IsCountable (t : Totals) : Type 0 where
+  pub sets : received_sets t < 2 ^ 64
+  pub segments : set_segment_count t ≤ 2 ^ 64 * received_sets t
 
 -- the verdict on sets, over the totals
 abbrev pub verdict_on_totals : Totals → GroupVerdict

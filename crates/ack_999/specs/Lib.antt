@@ -1,5 +1,7 @@
 pub mod Segment
 pub mod Number
+pub mod Copy
+pub mod Faults
 pub mod Group
 pub mod Report
 pub mod Interchange

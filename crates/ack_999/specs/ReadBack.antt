@@ -1,10 +1,12 @@
 -- X12.6, segment: an acknowledgment, read again by the same delimiters.
-use Rattle.std.specs.Prelude.{ℕ, ◌≡◌, ◌≢◌, List, ◌∷◌, false, map, All}
+use Rattle.std.specs.Prelude.{ℕ, ◌≡◌, ◌≢◌, List, [], ◌∷◌, false, map, All, IfSome}
 use Rattle.std.specs.Char.{is_ascii_alphanumeric}
 use Rattle.x12_bytes.specs.declared.delims.Delims.{Delims}
 use Rattle.x12_segs.specs.View.{views, elements_of}
 use Rattle.hub_kinds.specs.declared.answers.GroupAnswer.{GroupAnswer}
 use Rattle.hub_kinds.specs.declared.answers.SetAnswer.{SetAnswer}
+use Rattle.hub_kinds.specs.declared.fault.Fault.{Fault}
+use Rattle.hub_kinds.specs.declared.fault.ElemFault.{ElemFault}
 use Rattle.ack_999.specs.Segment.{Segment, trimmed}
 use Rattle.ack_999.specs.Report.{segments_999}
 
@@ -18,6 +20,16 @@ pub record CanDivide (d : Delims) : Type 0 where
 abbrev pub IsUndivided : Delims → List ℕ → Type 0
 IsUndivided d text = All (λ b. (b ≢ d.element) × (b ≢ d.terminator)) text
 
+-- nor in what is repeated of an element fault; where its position is written, the component separator is neither
+pub record IsQuotableElement (d : Delims) (e : ElemFault) : Type 0 where
+  pub reference : IsUndivided d e.reference
+  pub separator : IsUndivided d (d.component ∷ [])
+
+-- nor in what is repeated of a fault; its id is written only where it is letters and digits, its copy without delimiters
+pub record IsQuotableFault (d : Delims) (f : Fault) : Type 0 where
+  pub loop_id : IsUndivided d f.loop_id
+  pub elem : IfSome f.elem (IsQuotableElement d)
+
 -- nor in what is repeated from a group and its sets
 pub record IsQuotable (d : Delims) (g : GroupAnswer) (sets : List SetAnswer) : Type 0 where
   pub functional_id : IsUndivided d g.functional_id
@@ -25,6 +37,7 @@ pub record IsQuotable (d : Delims) (g : GroupAnswer) (sets : List SetAnswer) : T
   pub version : IsUndivided d g.version
   pub identifiers : All (λ s. IsUndivided d s.identifier) sets
   pub controls : All (λ s. IsUndivided d s.control) sets
+  pub faults : All (λ s. All (IsQuotableFault d) s.faults) sets
 
 -- what stands between the separators of a segment that is written
 abbrev pub written_parts : Segment → List (List ℕ)
@@ -33,4 +46,4 @@ written_parts s = s.id ∷ trimmed s.elements
 -- a text whose segments, read again, are those of the acknowledgment
 abbrev pub ReadsBack : Delims → GroupAnswer → List SetAnswer → ℕ → List ℕ → Type 0
 ReadsBack d g sets n text =
-    CanDivide d → IsQuotable d g sets → map elements_of (views text d) ≡ map written_parts (segments_999 g sets n)
+    CanDivide d → IsQuotable d g sets → map elements_of (views text d) ≡ map written_parts (segments_999 d g sets n)

@@ -1,22 +1,19 @@
 -- 999 guide (005010X231), implementation acknowledgment: its segments and its text.
-use Rattle.std.specs.Prelude.{ℕ, ◌≡◌, ◌+◌, ◌*◌, Bool, true, false, not, List, [], ◌∷◌, ◌++◌, length, map, codes, decimal, unwrap_or, if◌then◌else◌}
+use Rattle.std.specs.Prelude.{ℕ, ◌≡◌, ◌+◌, Bool, true, false, not, List, [], ◌∷◌, ◌++◌, length, map, codes, decimal, unwrap_or, if◌then◌else◌}
 use Rattle.std.specs.List.{flat_map, list_any}
 use Rattle.x12_bytes.specs.declared.delims.Delims.{Delims}
 use Rattle.hub_kinds.specs.declared.answers.GroupAnswer.{GroupAnswer}
 use Rattle.hub_kinds.specs.declared.answers.SetAnswer.{SetAnswer}
-use Rattle.hub_kinds.specs.declared.set_codes.Verdict.{Verdict}
 use Rattle.hub_kinds.specs.declared.set_codes.GroupCode.{GroupCode}
 use Rattle.hub_kinds.specs.declared.set_codes.GroupCode.TheVariants as code
 use Rattle.hub_kinds.specs.SetCodes.{set_code_text, group_code_text, verdict_text, group_verdict_text}
 use Rattle.hub_kinds.specs.Numbers.{number_of}
 use Rattle.hub_kinds.specs.Words.{is_word}
 use Rattle.ack_999.specs.declared.totals.Totals.{Totals}
-use Rattle.ack_999.specs.Segment.{Segment, segments_text}
+use Rattle.ack_999.specs.Segment.{Segment, segment, segments_text}
 use Rattle.ack_999.specs.Number.{padded_number}
-use Rattle.ack_999.specs.Group.{totals_of}
-
-abbrev pub segment : List ℕ → List (List ℕ) → Segment
-segment id elements = record { id = id; elements = elements }
+use Rattle.ack_999.specs.Faults.{fault_segments}
+use Rattle.ack_999.specs.Group.{totals_of, received_sets, set_segment_count}
 
 -- ST and AK1
 abbrev pub head_segments : GroupAnswer → ℕ → List Segment
@@ -29,12 +26,15 @@ head_segments g n =
 abbrev pub convention_text : List ℕ → List ℕ
 convention_text convention = if is_word 1 35 convention then convention else []
 
--- AK2 and IK5, of a set without faults
-abbrev pub set_segments : SetAnswer → List Segment
-set_segments s =
+abbrev pub set_response : SetAnswer → Segment
+set_response s = segment (codes "IK5") (verdict_text s.verdict ∷ map set_code_text s.codes)
+
+-- AK2, the set's faults, IK5
+abbrev pub set_segments : Delims → SetAnswer → List Segment
+set_segments d s =
     segment (codes "AK2") (s.identifier ∷ s.control ∷ convention_text s.convention ∷ [])
-    ∷ segment (codes "IK5") (verdict_text s.verdict ∷ map set_code_text s.codes)
-    ∷ []
+    ∷ fault_segments d s.faults
+    ++ set_response s ∷ []
 
 -- a group that isn't supported, or not in its version, shows no set
 abbrev pub hides_sets : GroupCode → Bool
@@ -45,12 +45,8 @@ hides_sets _ = false
 abbrev pub shows_sets : List GroupCode → Bool
 shows_sets group_codes = not (list_any hides_sets group_codes)
 
-abbrev pub set_loops : GroupAnswer → List SetAnswer → List Segment
-set_loops g sets = if shows_sets g.codes then flat_map set_segments sets else []
-
--- AK903: the number of sets
-abbrev pub received_sets : Totals → ℕ
-received_sets t = t.accepted + t.accepted_with_errors + t.rejected
+abbrev pub set_loops : Delims → GroupAnswer → List SetAnswer → List Segment
+set_loops d g sets = if shows_sets g.codes then flat_map (set_segments d) sets else []
 
 -- AK902: GE01 as a number where it is 1 to 6 digits, otherwise the number of sets
 abbrev pub listed_sets : List ℕ → Totals → ℕ
@@ -71,30 +67,26 @@ group_response g t =
 abbrev pub set_trailer : ℕ → ℕ → Segment
 set_trailer count n = segment (codes "SE") (decimal count ∷ padded_number 4 n ∷ [])
 
--- the verdicts on sets
-abbrev pub verdicts_of : List SetAnswer → List Verdict
-verdicts_of sets = map (λ s. s.verdict) sets
-
 -- the segments of the acknowledgment of a group; SE01 is how many they are, from ST to SE
-abbrev pub segments_999 : GroupAnswer → List SetAnswer → ℕ → List Segment
-segments_999 g sets n =
-    let inner = head_segments g n ++ set_loops g sets ++ group_response g (totals_of (verdicts_of sets)) ∷ [] in
+abbrev pub segments_999 : Delims → GroupAnswer → List SetAnswer → ℕ → List Segment
+segments_999 d g sets n =
+    let inner = head_segments g n ++ set_loops d g sets ++ group_response g (totals_of sets) ∷ [] in
     inner ++ set_trailer (length inner + 1) n ∷ []
 
 -- the acknowledgment of a group
 abbrev pub text_999 : Delims → GroupAnswer → List SetAnswer → ℕ → List ℕ
-text_999 d g sets n = segments_text d (segments_999 g sets n)
+text_999 d g sets n = segments_text d (segments_999 d g sets n)
 
 -- its parts, as they are written one behind the other
 abbrev pub head_text : Delims → GroupAnswer → ℕ → List ℕ
 head_text d g n = segments_text d (head_segments g n)
 
 abbrev pub set_text : Delims → SetAnswer → List ℕ
-set_text d s = segments_text d (set_segments s)
+set_text d s = segments_text d (set_segments d s)
 
--- ST, AK1, AK9, SE, and an AK2 and an IK5 for each set that is shown
+-- ST, AK1, AK9, SE, and those of the sets that are shown
 abbrev pub segment_count : GroupAnswer → Totals → ℕ
-segment_count g t = if shows_sets g.codes then 2 * received_sets t + 4 else 4
+segment_count g t = if shows_sets g.codes then set_segment_count t + 4 else 4
 
 abbrev pub tail_text : Delims → GroupAnswer → Totals → ℕ → List ℕ
 tail_text d g t n = segments_text d (group_response g t ∷ set_trailer (segment_count g t) n ∷ [])
@@ -105,6 +97,6 @@ sets_text d g sets = if shows_sets g.codes then flat_map (set_text d) sets else 
 -- behind the head and the sets of an acknowledgment, what is appended completes it
 abbrev pub Completes : Delims → GroupAnswer → Totals → ℕ → List ℕ → List ℕ → Type 0
 Completes d g totals n old new =
-    (before : List ℕ) (sets : List SetAnswer) → totals ≡ totals_of (verdicts_of sets)
+    (before : List ℕ) (sets : List SetAnswer) → totals ≡ totals_of sets
     → old ≡ before ++ head_text d g n ++ sets_text d g sets
     → new ≡ before ++ text_999 d g sets n

@@ -13,6 +13,9 @@ pub record Segment : Type 0 where
   pub id : List ℕ
   pub elements : List (List ℕ)
 
+abbrev pub segment : List ℕ → List (List ℕ) → Segment
+segment id elements = record { id = id; elements = elements }
+
 -- an element in front of others; left off where it and they are empty
 abbrev pub before_rest : List ℕ → List (List ℕ) → List (List ℕ)
 before_rest [] [] = []
@@ -30,6 +33,10 @@ elements_text separator elements = flat_map (λ element. separator ∷ element) 
 -- a segment with all of its elements, as the interchange header has them
 abbrev pub full_segment_text : Delims → List ℕ → List (List ℕ) → List ℕ
 full_segment_text d id elements = id ++ elements_text d.element elements ++ d.terminator ∷ []
+
+-- the end of a segment: its last elements, trailing empty ones left off, and the terminator
+abbrev pub end_text : Delims → List (List ℕ) → List ℕ
+end_text d elements = elements_text d.element (trimmed elements) ++ d.terminator ∷ []
 
 -- a segment as it is written: trailing empty elements are left off
 abbrev pub segment_text : Delims → List ℕ → List (List ℕ) → List ℕ

@@ -1,6 +1,6 @@
 ghost use Rattle.std.specs.Prelude.{◌≡◌, ◌<◌, ◌^◌};
-ghost use Rattle.ack_999.specs.Group.{totals_of};
-ghost use Rattle.ack_999.specs.Report.{segment_count, shows_sets, hides_sets, listed_sets, accepted_sets, received_sets, verdicts_of};
+ghost use Rattle.ack_999.specs.Group.{totals_of, set_segment_count, IsCountable};
+ghost use Rattle.ack_999.specs.Report.{segment_count, shows_sets, hides_sets, listed_sets, accepted_sets};
 
 use crate::totals::Totals;
 use hub_kinds::{GroupAnswer, GroupCode, SetAnswer, read_number};
@@ -28,13 +28,22 @@ pub fn accepted_sets(group: &GroupAnswer, totals: &Totals) -> u128
 
 /// SE01: how many segments there are from ST to SE.
 pub fn segment_count(group: &GroupAnswer, totals: &Totals) -> u128
+    requires { IsCountable totals.now }
     ensures { result ≡ segment_count group.now totals.now }
 {
     if shows_sets(group.codes.as_slice()) {
-        2 * totals.sets() + 4
+        set_segment_count(totals) + 4
     } else {
         4
     }
+}
+
+/// How many segments there are from the first AK2 to the last IK5, where the sets are shown.
+fn set_segment_count(totals: &Totals) -> u128
+    requires { IsCountable totals.now }
+    ensures { result ≡ set_segment_count totals.now }
+{
+    2 * totals.sets() + totals.fault_segments
 }
 
 /// Whether the sets of a group with these codes are shown.
@@ -53,14 +62,14 @@ fn hides_sets(code: GroupCode) -> bool
     )
 }
 
-/// How many sets have each verdict.
+/// How many sets have each verdict, and how many segments tell of their faults.
 pub fn totals_of(sets: &[SetAnswer]) -> Totals
-    ensures value { result ≡ totals_of (verdicts_of sets.now) }
-    ensures few { received_sets result < 2 ^ 64 }
+    ensures value { result ≡ totals_of sets.now }
+    ensures countable { IsCountable result }
 {
     let mut totals = Totals::new();
     for set in sets {
-        totals.add(set.verdict);
+        totals.add(set);
     }
     totals
 }

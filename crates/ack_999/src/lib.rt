@@ -4,24 +4,25 @@
 //! without the empty elements at a segment's end.
 //!
 //! Proved:
-//! - `write_999` writes exactly the 999's segments, and SE01 is their number; read again by the
-//!   same delimiters, the text has these segments; `append_head`, `append_set` and `append_tail`
-//!   write the same, one part after another;
+//! - `write_999` writes exactly the 999's segments, among them what is told of each set's faults,
+//!   and SE01 is their number; read again by the same delimiters, the text has these segments;
+//!   `append_head`, `append_set` and `append_tail` write the same, one part after another;
 //! - `write_ack_interchange` writes exactly the interchange: its header in its fixed width, one
 //!   group, the acknowledgments, the trailers; `append_opening` and `append_closing` are its ends;
 //! - `group_codes` gives the group's codes that ask no guide, in their order;
 //! - `group_verdict` works on counts and answers the verdict that the sets' verdicts give.
 //!
-//! Faults of segments and elements aren't written so far: a set that is written has none.
-//!
-//! Source: the 999 guide (005010X231), ST, AK1, AK2, IK5, AK9 and SE; X12.5, interchange control
+//! Source: the 999 guide (005010X231), ST, AK1, AK2, IK3, IK4, IK5, AK9 and SE; X12.5, interchange control
 //! header and trailer; X12.6, functional group header and trailer, segment.
 #![tactic(auto)]
 
 mod codes;
+mod copy;
 mod counts;
 mod envelope;
+mod faults;
 mod interchange;
+mod notes;
 mod number;
 mod report;
 mod segment;
@@ -37,5 +38,7 @@ pub use totals::Totals;
 pub use trailer::GroupTrailer;
 pub use verdict::group_verdict;
 
+#[cfg(test)]
+mod fault_tests;
 #[cfg(test)]
 mod tests;

@@ -1,4 +1,4 @@
-ghost use Rattle.std.specs.Prelude.{◌≡◌, ℕ, ◌+◌, ◌≤◌, ◌++◌, List, length, drop, OnOk, decimal};
+ghost use Rattle.std.specs.Prelude.{◌≡◌, ℕ, ◌+◌, ◌-◌, ◌≤◌, min, ◌++◌, List, length, drop, OnOk, decimal};
 ghost use Rattle.ack_999.specs.Number.{padded_number, padded_text};
 
 use hub_kinds::NoMemory;
@@ -33,7 +33,7 @@ impl PaddedNumber {
         let start = write_digits(u64::from(number), &mut digits, MOST_DIGITS);
         PaddedNumber {
             digits,
-            start: start.min(MOST_DIGITS - least),
+            start: first_shown(start, least),
         }
     }
 
@@ -43,6 +43,14 @@ impl PaddedNumber {
     {
         &self.digits[self.start..]
     }
+}
+
+/// From where on a number is shown whose first digit stands at `start`, in at least so many digits.
+fn first_shown(start: usize, least: usize) -> usize
+    requires { least ≤ 10 }
+    ensures { result ≡ min start (10 - least) }
+{
+    start.min(MOST_DIGITS - least)
 }
 
 /// Writes a text behind what is there, with spaces behind it up to `least` bytes.

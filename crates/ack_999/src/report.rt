@@ -1,10 +1,12 @@
-ghost use Rattle.std.specs.Prelude.{◌≡◌, ◌++◌, [], ◌∷◌, All, IfOk, OnOk};
-ghost use Rattle.ack_999.specs.Report.{text_999, head_text, set_text, sets_text, tail_text, Completes, convention_text, group_response, set_trailer};
+ghost use Rattle.std.specs.Prelude.{◌≡◌, ◌++◌, [], ◌∷◌, IfOk, OnOk};
+ghost use Rattle.ack_999.specs.Report.{text_999, head_text, set_text, sets_text, tail_text, Completes, convention_text, set_response, group_response, set_trailer};
+ghost use Rattle.ack_999.specs.Group.{IsCountable};
 ghost use Rattle.ack_999.specs.Segment.{segments_text};
 ghost use Rattle.ack_999.specs.ReadBack.{ReadsBack};
 ghost use Rattle.ack_999.specs.Number.{padded_number};
 
 use crate::counts::{accepted_sets, listed_sets, segment_count, shows_sets, totals_of};
+use crate::faults::append_faults;
 use crate::number::PaddedNumber;
 use crate::segment::{append_coded_segment, append_segment};
 use crate::totals::Totals;
@@ -14,8 +16,7 @@ use std::alloc::Global;
 use x12_bytes::Delims;
 
 /// The implementation acknowledgment of a functional group (999 guide, 005010X231), as transaction
-/// set number `n`, written with these delimiters and no byte between segments. Faults aren't
-/// written so far, so the sets have none.
+/// set number `n`, written with these delimiters and no byte between segments.
 pub fn write_999(
     alloc: Global,
     group: &GroupAnswer,
@@ -23,7 +24,6 @@ pub fn write_999(
     delims: &Delims,
     n: u32,
 ) -> Result<Vec<u8>, NoMemory>
-    requires { All (λ set. set.faults ≡ []) sets.now }
     ensures text { IfOk result (λ v. v.items ≡ text_999 delims.now group.now sets.now n) }
     ensures read_back { IfOk result
         (λ v. ReadsBack delims.now group.now sets.now n v.items) }
@@ -64,9 +64,8 @@ pub fn append_head(
     )
 }
 
-/// Writes a set's AK2 and IK5 behind what is there. Faults aren't written so far, so it has none.
+/// Writes a set's AK2, what is told of its faults (IK3 and IK4), and its IK5 behind what is there.
 pub fn append_set(out: &mut Vec<u8>, delims: &Delims, set: &SetAnswer) -> Result<(), NoMemory>
-    requires { set.now.faults ≡ [] }
     ensures { OnOk result (out.new.items ≡ out.old.items ++ set_text delims.now set.now) }
 {
     append_segment(
@@ -79,6 +78,15 @@ pub fn append_set(out: &mut Vec<u8>, delims: &Delims, set: &SetAnswer) -> Result
             convention(set.convention.bytes()),
         ],
     )?;
+    append_faults(out, delims, set.faults.as_slice())?;
+    append_set_response(out, delims, set)
+}
+
+/// Writes IK5 behind what is there.
+fn append_set_response(out: &mut Vec<u8>, delims: &Delims, set: &SetAnswer) -> Result<(), NoMemory>
+    ensures { OnOk result
+        (out.new.items ≡ out.old.items ++ segments_text delims.now (set_response set.now ∷ [])) }
+{
     append_coded_segment(
         out,
         delims,
@@ -106,7 +114,6 @@ fn append_sets(
     group: &GroupAnswer,
     sets: &[SetAnswer],
 ) -> Result<(), NoMemory>
-    requires { All (λ set. set.faults ≡ []) sets.now }
     ensures { OnOk result
         (out.new.items ≡ out.old.items ++ sets_text delims.now group.now sets.now) }
 {
@@ -128,6 +135,7 @@ pub fn append_tail(
     totals: &Totals,
     n: u32,
 ) -> Result<(), NoMemory>
+    requires { IsCountable totals.now }
     ensures text { OnOk result
         (out.new.items ≡ out.old.items ++ tail_text delims.now group.now totals.now n) }
     ensures whole { OnOk result

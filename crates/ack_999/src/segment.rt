@@ -1,5 +1,5 @@
 ghost use Rattle.std.specs.Prelude.{◌≡◌, ◌++◌, ◌≤◌, ◌<◌, [], ◌∷◌, List, All, OnOk, length, map, take};
-ghost use Rattle.ack_999.specs.Segment.{read, segment_text, elements_text, trimmed};
+ghost use Rattle.ack_999.specs.Segment.{read, segment_text, end_text, elements_text, trimmed};
 
 use hub_kinds::{Code, NoMemory, code_text};
 use x12_bytes::Delims;
@@ -15,9 +15,26 @@ pub fn append_segment(
         (out.new.items ≡ out.old.items ++ segment_text delims.now id.now (read elements.now)) }
 {
     out.extend_from_slice(id)?;
-    append_elements(out, delims.element, &elements[..used(elements)])?;
+    append_end(out, delims, elements)
+}
+
+/// Writes the last elements of a segment and its terminator behind what is there, without the empty elements
+/// at the end.
+pub fn append_end(out: &mut Vec<u8>, delims: &Delims, elements: &[&[u8]]) -> Result<(), NoMemory>
+    ensures { OnOk result
+        (out.new.items ≡ out.old.items ++ end_text delims.now (read elements.now)) }
+{
+    append_used(out, delims.element, elements)?;
     out.push(delims.terminator)?;
     Ok(())
+}
+
+/// Writes each part behind a separator, without the empty ones at the end.
+pub fn append_used(out: &mut Vec<u8>, separator: u8, parts: &[&[u8]]) -> Result<(), NoMemory>
+    ensures { OnOk result
+        (out.new.items ≡ out.old.items ++ elements_text separator (trimmed (read parts.now))) }
+{
+    append_elements(out, separator, &parts[..used(parts)])
 }
 
 /// Writes each element behind a separator.

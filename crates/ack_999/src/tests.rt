@@ -1,5 +1,3 @@
-ghost use Rattle.std.specs.Prelude.{◌≡◌, [], IfOk};
-
 use crate::{
     Envelope, GroupTrailer, Totals, group_codes, group_verdict, write_999, write_ack_interchange,
 };
@@ -41,9 +39,7 @@ fn set<'a>(
     convention: &'a [u8],
     codes: &[SetCode],
     verdict: Verdict,
-) -> Result<SetAnswer<'a>, NoMemory>
-    ensures { IfOk result (λ s. s.faults ≡ []) }
-{
+) -> Result<SetAnswer<'a>, NoMemory> {
     Ok(SetAnswer {
         identifier: Lent::new(b"850"),
         control: Lent::new(control),
@@ -173,8 +169,8 @@ fn judges_a_group(rt: HostRuntime) -> Result<(), Fail> {
     ];
     for ([first, second], verdict) in rows {
         let mut totals = Totals::new();
-        totals.add(first);
-        totals.add(second);
+        totals.add(&set(alloc, b"0001", b"", &[], first)?);
+        totals.add(&set(alloc, b"0002", b"", &[], second)?);
         assert_eq!(rt; group_verdict(&[], &totals), verdict);
     }
     assert_eq!(rt; group_verdict(&[], &Totals::new()), GroupVerdict::Accepted);

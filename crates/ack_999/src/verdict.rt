@@ -1,15 +1,15 @@
 ghost use Rattle.std.specs.Prelude.{◌≡◌, List};
-ghost use Rattle.hub_kinds.specs.declared.set_codes.Verdict.{Verdict};
-ghost use Rattle.ack_999.specs.Group.{group_verdict_of, totals_of, verdict_on_totals};
+ghost use Rattle.hub_kinds.specs.declared.answers.SetAnswer.{SetAnswer};
+ghost use Rattle.ack_999.specs.Group.{group_verdict_of, totals_of, verdicts_of, verdict_on_totals};
 
 use crate::totals::Totals;
 use hub_kinds::{GroupCode, GroupVerdict};
 
-/// The verdict on a functional group with these codes, whose sets have verdicts of these totals
+/// The verdict on a functional group with these codes, whose sets have these totals
 /// (999 guide, AK901).
 pub fn group_verdict(codes: &[GroupCode], totals: &Totals) -> GroupVerdict
-    ensures { (verdicts : List Verdict) → totals.now ≡ totals_of verdicts
-        → result ≡ group_verdict_of codes.now verdicts }
+    ensures { (sets : List SetAnswer) → totals.now ≡ totals_of sets
+        → result ≡ group_verdict_of codes.now (verdicts_of sets) }
 {
     if !codes.is_empty() {
         return GroupVerdict::Rejected;

@@ -1,10 +1,10 @@
 use Rattle.std.proofs.Common.{◌≡◌, take}
-use Rattle.ack_999.specs.Group.{totals_of}
-use Rattle.ack_999.specs.Report.{received_sets, verdicts_of}
+use Rattle.ack_999.specs.Group.{totals_of, received_sets, IsCountable}
 use Rattle.ack_999.proofs.counts.totals_of.Given as goal
 
 abbrev pub invariant-loop-set : goal.invariant-loop-set
 invariant-loop-set l = record {
-  counted : l.totals ≡ totals_of (verdicts_of (take l.set-index l.sets));
+  counted : l.totals ≡ totals_of (take l.set-index l.sets);
   sets : received_sets l.totals ≡ l.set-index;
+  countable : IsCountable l.totals;
 }

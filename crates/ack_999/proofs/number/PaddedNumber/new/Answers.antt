@@ -9,6 +9,6 @@ write_digits-start-requires c = (length-decimal-le 10 c.from.result (omega arith
 
 pub returns : goal.returns
 returns c =
-    rw (c.min.ensures, ← c.from.ensures)
+    rw (c.first_shown.ensures, ← c.from.ensures)
     (padded_number-from_zeros c.args.least c.from.result c.write_digits-start.result c.write_digits-start.new.buf
     c.requires c.write_digits-start.ensures.start (c.write_digits-start.ensures.written ∙ append-nil (decimal c.from.result)) c.write_digits-start.ensures.before)

@@ -1,0 +1,85 @@
+-- 999 guide (005010X231), error identification (IK3) and implementation data element note (IK4): the faults of a set.
+use Rattle.std.specs.Prelude.{ℕ, Bool, ◌&&◌, ◌||◌, ◌==◌, nat_le, List, [], ◌∷◌, ◌++◌, length, map, codes, decimal, Option, Some, None, if◌then◌else◌}
+use Rattle.std.specs.List.{flat_map, list_all}
+use Rattle.std.specs.Char.{is_ascii_digit, is_ascii_uppercase}
+use Rattle.x12_bytes.specs.declared.delims.Delims.{Delims}
+use Rattle.hub_kinds.specs.declared.codes.SegmentCode.{SegmentCode}
+use Rattle.hub_kinds.specs.declared.codes.SegmentCode.TheVariants as segment_code
+use Rattle.hub_kinds.specs.declared.fault.Fault.{Fault}
+use Rattle.hub_kinds.specs.declared.fault.ElemFault.{ElemFault}
+use Rattle.hub_kinds.specs.Codes as code
+use Rattle.ack_999.specs.Copy.{is_this, copy_text}
+use Rattle.ack_999.specs.Segment.{Segment, segment, segment_text, elements_text, trimmed}
+
+-- IK301: an id of 2 or 3 upper-case letters or digits stands, any other is written ZZZ (own)
+abbrev pub is_id_byte : ℕ → Bool
+is_id_byte b = is_ascii_uppercase b || is_ascii_digit b
+
+abbrev pub is_segment_id : List ℕ → Bool
+is_segment_id id = nat_le 2 (length id) && nat_le (length id) 3 && list_all is_id_byte id
+
+abbrev pub id_text : List ℕ → List ℕ
+id_text id = if is_segment_id id then id else codes "ZZZ"
+
+-- IK304: the segment's code; where an element is at fault, that of element errors
+abbrev pub code_shown : Fault → SegmentCode
+code_shown f = shown f.elem
+  where
+    shown : Option ElemFault → SegmentCode
+    shown None = f.code
+    shown (Some _) = segment_code.ElementErrors
+
+-- a component or a repetition is counted from 1, and 0 is none
+abbrev pub number_text : ℕ → List ℕ
+number_text n = if n == 0 then [] else decimal n
+
+-- IK401: the numbers of the element, the component and the repetition, without those that are none at the end
+abbrev pub position_text : ℕ → ElemFault → List ℕ
+position_text separator e =
+    decimal e.element ++ elements_text separator (trimmed (number_text e.component ∷ number_text e.repetition ∷ []))
+
+-- what is told of faults: IK3, of a segment; IK4, of an element
+pub data Note : Type 0 where
+  SegmentNote : (fault : Fault) → Note
+  ElementNote : (elem : ElemFault) → Note
+
+abbrev pub note_segment : Delims → Note → Segment
+note_segment d (SegmentNote f) =
+    segment (codes "IK3") (id_text f.id ∷ decimal f.position ∷ f.loop_id ∷ code.segment_text (code_shown f) ∷ [])
+note_segment d (ElementNote e) =
+    segment (codes "IK4") (position_text d.component e ∷ e.reference ∷ code.element_text e.code ∷ copy_text d e.copy ∷ [])
+
+-- the position of the segment of an element fault
+abbrev pub element_position : Fault → Option ℕ
+element_position f = at f.elem
+  where
+    at : Option ElemFault → Option ℕ
+    at None = None
+    at (Some _) = Some f.position
+
+-- the notes on a fault: an IK3; where an element is at fault an IK4, behind an IK3 unless the fault before is an element fault of the same position
+abbrev pub notes_for : Option ℕ → Fault → Option ElemFault → List Note
+notes_for before f None = SegmentNote f ∷ []
+notes_for before f (Some e) = (if is_this before f.position then [] else SegmentNote f ∷ []) ++ ElementNote e ∷ []
+
+abbrev pub notes_on : Option ℕ → Fault → List Note
+notes_on before f = notes_for before f f.elem
+
+-- the notes on faults, one fault behind the other
+abbrev pub notes_behind : Option ℕ → List Fault → List Note
+notes_behind before [] = []
+notes_behind before (f ∷ faults) = notes_on before f ++ notes_behind (element_position f) faults
+
+abbrev pub notes : List Fault → List Note
+notes faults = notes_behind None faults
+
+-- the segments between AK2 and IK5
+abbrev pub fault_segments : Delims → List Fault → List Segment
+fault_segments d faults = map (note_segment d) (notes faults)
+
+-- notes as they are written
+abbrev pub note_text : Delims → Note → List ℕ
+note_text d note = segment_text d (note_segment d note).id (note_segment d note).elements
+
+abbrev pub notes_text : Delims → List Note → List ℕ
+notes_text d list = flat_map (note_text d) list

@@ -1,0 +1,85 @@
+ghost use Rattle.std.specs.Prelude.{◌≡◌, ◌++◌, ◌*◌, ◌≤◌, OnOk, length};
+ghost use Rattle.ack_999.specs.Copy.{is_this};
+ghost use Rattle.ack_999.specs.Faults.{element_position, notes, notes_on, notes_text, fault_segments};
+ghost use Rattle.ack_999.specs.Segment.{segments_text};
+
+use crate::notes::{append_element_note, append_segment_note};
+use hub_kinds::{Fault, NoMemory};
+use x12_bytes::Delims;
+
+/// Writes what is told of a set's faults behind what is there.
+pub fn append_faults(out: &mut Vec<u8>, delims: &Delims, faults: &[Fault]) -> Result<(), NoMemory>
+    ensures { OnOk result (out.new.items ≡ out.old.items ++ segments_text delims.now (fault_segments delims.now faults.now)) }
+{
+    let mut before = None;
+    for fault in faults {
+        append_notes(out, delims, before, fault)?;
+        before = element_position(fault);
+    }
+    Ok(())
+}
+
+/// Writes what is told of one fault; `before` is the position of the fault before, where that is an element
+/// fault.
+fn append_notes(
+    out: &mut Vec<u8>,
+    delims: &Delims,
+    before: Option<u32>,
+    fault: &Fault,
+) -> Result<(), NoMemory>
+    ensures { OnOk result (out.new.items ≡ out.old.items ++ notes_text delims.now (notes_on before fault.now)) }
+{
+    let Some(elem) = &fault.elem else {
+        return append_segment_note(out, delims, fault);
+    };
+    if !is_this(before, fault.position) {
+        append_segment_note(out, delims, fault)?;
+    }
+    append_element_note(out, delims, elem)
+}
+
+/// The position of the segment of an element fault.
+fn element_position(fault: &Fault) -> Option<u32>
+    ensures { result ≡ element_position fault.now }
+{
+    match &fault.elem {
+        None => None,
+        Some(_) => Some(fault.position),
+    }
+}
+
+/// Whether there is a number, and it is this one.
+fn is_this(number: Option<u32>, other: u32) -> bool
+    ensures { result ≡ is_this number other }
+{
+    match number {
+        Some(number) => number == other,
+        None => false,
+    }
+}
+
+/// How many segments tell of a set's faults.
+pub fn fault_segment_count(faults: &[Fault]) -> u64
+    ensures value { result ≡ length (notes faults.now) }
+    ensures bound { result ≤ 2 * length faults.now }
+{
+    let mut count = 0;
+    let mut before = None;
+    for fault in faults {
+        count += note_count(before, fault);
+        before = element_position(fault);
+    }
+    count
+}
+
+/// How many segments tell of one fault.
+fn note_count(before: Option<u32>, fault: &Fault) -> u64
+    ensures value { result ≡ length (notes_on before fault.now) }
+    ensures bound { result ≤ 2 }
+{
+    if fault.elem.is_none() || is_this(before, fault.position) {
+        1
+    } else {
+        2
+    }
+}

@@ -1,0 +1,143 @@
+ghost use Rattle.std.specs.Prelude.{◌≡◌, [], ◌∷◌, ◌++◌, OnOk};
+ghost use Rattle.std.specs.List.{list_all};
+ghost use Rattle.hub_kinds.specs.declared.fault.Fault.{Fault};
+ghost use Rattle.ack_999.specs.Faults.{note_text, SegmentNote, ElementNote, id_text, is_segment_id, is_id_byte, code_shown, position_text, number_text};
+ghost use Rattle.ack_999.specs.Segment.{segment_text, end_text};
+
+use crate::copy::copied;
+use crate::segment::{append_end, append_segment, append_used};
+use hub_kinds::{ElemFault, Fault, NoMemory, SegmentCode, code_text};
+use itoa::Buffer;
+use x12_bytes::Delims;
+
+/// Writes IK3 behind what is there.
+pub fn append_segment_note(
+    out: &mut Vec<u8>,
+    delims: &Delims,
+    fault: &Fault,
+) -> Result<(), NoMemory>
+    ensures { OnOk result (out.new.items ≡ out.old.items ++ note_text delims.now (SegmentNote fault.now)) }
+{
+    let mut position = Buffer::new();
+    append_four(
+        out,
+        delims,
+        b"IK3",
+        segment_id(fault.id.as_slice()),
+        position.format(fault.position).as_bytes(),
+        fault.loop_id.as_slice(),
+        code_text(code_shown(fault)).as_bytes(),
+    )
+}
+
+/// Writes a segment of four elements behind what is there.
+fn append_four<'a>(
+    out: &mut Vec<u8>,
+    delims: &Delims,
+    id: &[u8],
+    first: &'a [u8],
+    second: &'a [u8],
+    third: &'a [u8],
+    fourth: &'a [u8],
+) -> Result<(), NoMemory>
+    ensures { OnOk result (out.new.items ≡ out.old.items ++ segment_text delims.now id.now (first.now ∷ second.now ∷ third.now ∷ fourth.now ∷ [])) }
+{
+    append_segment(out, delims, id, &[first, second, third, fourth])
+}
+
+/// IK301: the id, where it can be one.
+fn segment_id(id: &[u8]) -> &[u8]
+    ensures { result.now ≡ id_text id.now }
+{
+    if is_segment_id(id) { id } else { b"ZZZ" }
+}
+
+fn is_segment_id(id: &[u8]) -> bool
+    ensures { result ≡ is_segment_id id.now }
+{
+    2 <= id.len() && id.len() <= 3 && are_id_bytes(id)
+}
+
+fn are_id_bytes(id: &[u8]) -> bool
+    ensures { result ≡ list_all is_id_byte id.now }
+{
+    id.iter().all(|byte| is_id_byte(*byte))
+}
+
+fn is_id_byte(byte: u8) -> bool
+    ensures { result ≡ is_id_byte byte }
+{
+    byte.is_ascii_uppercase() || byte.is_ascii_digit()
+}
+
+/// IK304.
+fn code_shown(fault: &Fault) -> SegmentCode
+    ensures { result ≡ code_shown fault.now }
+{
+    match &fault.elem {
+        None => fault.code,
+        Some(_) => SegmentCode::ElementErrors,
+    }
+}
+
+/// Writes IK4 behind what is there.
+pub fn append_element_note(
+    out: &mut Vec<u8>,
+    delims: &Delims,
+    elem: &ElemFault,
+) -> Result<(), NoMemory>
+    ensures { OnOk result (out.new.items ≡ out.old.items ++ note_text delims.now (ElementNote elem.now)) }
+{
+    out.extend_from_slice(b"IK4")?;
+    out.push(delims.element)?;
+    append_position(out, delims.component, elem)?;
+    append_last_three(
+        out,
+        delims,
+        elem.reference.as_slice(),
+        code_text(elem.code).as_bytes(),
+        copied(delims, elem.copy.as_slice()),
+    )
+}
+
+/// Writes the last three elements of a segment and its terminator behind what is there.
+fn append_last_three<'a>(
+    out: &mut Vec<u8>,
+    delims: &Delims,
+    first: &'a [u8],
+    second: &'a [u8],
+    third: &'a [u8],
+) -> Result<(), NoMemory>
+    ensures { OnOk result (out.new.items ≡ out.old.items ++ end_text delims.now (first.now ∷ second.now ∷ third.now ∷ [])) }
+{
+    append_end(out, delims, &[first, second, third])
+}
+
+/// Writes IK401 behind what is there.
+fn append_position(out: &mut Vec<u8>, separator: u8, elem: &ElemFault) -> Result<(), NoMemory>
+    ensures { OnOk result (out.new.items ≡ out.old.items ++ position_text separator elem.now) }
+{
+    let mut element = Buffer::new();
+    let mut component = Buffer::new();
+    let mut repetition = Buffer::new();
+    out.extend_from_slice(element.format(elem.element).as_bytes())?;
+    append_used(
+        out,
+        separator,
+        &[
+            number(&mut component, elem.component),
+            number(&mut repetition, elem.repetition),
+        ],
+    )
+}
+
+/// A number in decimal; nothing for 0.
+fn number<'a>(digits: &'a mut Buffer, number: u32) -> &'a [u8]
+    ensures { result.now ≡ number_text number }
+{
+    if number == 0 {
+        &[]
+    } else {
+        digits.format(number).as_bytes()
+    }
+}
