@@ -21,9 +21,12 @@ framed first last inner = let long = length-append inner (last ∷ []) in omega 
 -- a set has two segments, and those of its faults
 length-set_segments-one : (d : Delims) (s : SetAnswer) → length (set_segments d s) ≡ 2 + length (notes s.faults)
 length-set_segments-one d s =
-    framed (segment (codes "AK2") (s.identifier ∷ s.control ∷ convention_text s.convention ∷ [])) (set_response s) (fault_segments d s.faults) ∙ ap (λ (n : ℕ). 2 + n) (length-map (notes s.faults) (note_segment d))
+    let first : Segment = segment (codes "AK2") (s.identifier ∷ s.control ∷ convention_text s.convention ∷ []) in
+    framed first (set_response s) (fault_segments d s.faults)
+    ∙ ap (λ (n : ℕ). 2 + n) (length-map (notes s.faults) (note_segment d))
 
-length-set_segments : (d : Delims) (sets : List SetAnswer) → length (flat_map (set_segments d) sets) ≡ 2 * length sets + sum_by (λ s. length (notes s.faults)) sets
+length-set_segments : (d : Delims) (sets : List SetAnswer)
+    → length (flat_map (set_segments d) sets) ≡ 2 * length sets + sum_by (λ s. length (notes s.faults)) sets
 length-set_segments d [] = refl
 length-set_segments d (s ∷ sets) =
     let rest = length-set_segments d sets in
@@ -33,19 +36,22 @@ length-set_segments d (s ∷ sets) =
     omega arith
 
 -- the sets' segments are the sets' texts
-segments_text-sets : (d : Delims) (sets : List SetAnswer) → segments_text d (flat_map (set_segments d) sets) ≡ flat_map (set_text d) sets
+segments_text-sets : (d : Delims) (sets : List SetAnswer)
+    → segments_text d (flat_map (set_segments d) sets) ≡ flat_map (set_text d) sets
 segments_text-sets d [] = refl
 segments_text-sets d (s ∷ sets) =
     flat_map-append (λ t. segment_text d t.id t.elements) (set_segments d s) (flat_map (set_segments d) sets)
     ∙ ap (λ (rest : List ℕ). set_text d s ++ rest) (segments_text-sets d sets)
 
-shown-text : (d : Delims) (sets : List SetAnswer) (b : Bool) → segments_text d (if b then flat_map (set_segments d) sets else []) ≡ (if b then flat_map (set_text d) sets else [])
+shown-text : (d : Delims) (sets : List SetAnswer) (b : Bool)
+    → segments_text d (if b then flat_map (set_segments d) sets else []) ≡ (if b then flat_map (set_text d) sets else [])
 shown-text d sets true = segments_text-sets d sets
 shown-text d sets false = refl
 
 shown-count : (d : Delims) (sets : List SetAnswer) (b : Bool)
     → length (if b then flat_map (set_segments d) sets else []) + 4 ≡ (if b then set_segment_count (totals_of sets) + 4 else 4)
-shown-count d sets true = let long = length-set_segments d sets in let all = received_sets-totals_of sets in omega arith
+shown-count d sets true =
+    let long = length-set_segments d sets in let all = received_sets-totals_of sets in omega arith
 shown-count d sets false = refl
 
 -- texts in a row
@@ -53,7 +59,8 @@ joined : (f : Segment → List ℕ) (head loops : List Segment) (response traile
     → flat_map f head ++ flat_map f loops ++ flat_map f (response ∷ trailer ∷ []) ≡ flat_map f (head ++ loops ++ response ∷ [] ++ trailer ∷ [])
 joined f head loops response trailer = simp (flat_map-append, append_assoc)
 
-four : (first second last : Segment) (loops : List Segment) → length loops + 4 ≡ length ((first ∷ second ∷ []) ++ loops ++ last ∷ []) + 1
+four : (first second last : Segment) (loops : List Segment)
+    → length loops + 4 ≡ length ((first ∷ second ∷ []) ++ loops ++ last ∷ []) + 1
 four first second last loops = let long = length-append loops (last ∷ []) in omega arith
 
 -- SE01 is the number of the segments
@@ -75,8 +82,10 @@ text_999-parts d g sets n =
 
 -- behind head and sets, the trailers complete the acknowledgment
 pub text_999-completed : (d : Delims) (g : GroupAnswer) (sets : List SetAnswer) (n count : ℕ) (t : Totals) (before old answered new : List ℕ)
-    → t ≡ totals_of sets → old ≡ before ++ head_text d g n ++ sets_text d g sets → answered ≡ old ++ segments_text d (group_response g t ∷ [])
-    → count ≡ segment_count g t → new ≡ answered ++ segments_text d (set_trailer count n ∷ []) → new ≡ before ++ text_999 d g sets n
+    → t ≡ totals_of sets → old ≡ before ++ head_text d g n ++ sets_text d g sets
+    → answered ≡ old ++ segments_text d (group_response g t ∷ [])
+    → count ≡ segment_count g t → new ≡ answered ++ segments_text d (set_trailer count n ∷ [])
+    → new ≡ before ++ text_999 d g sets n
 text_999-completed d g sets n count t before old answered new same is_old is_answered is_count is_new =
     let tail : tail_text d g t n ≡ segments_text d (group_response g t ∷ []) ++ segments_text d (set_trailer (segment_count g t) n ∷ []) =
     flat_map-append (λ s. segment_text d s.id s.elements) (group_response g t ∷ []) (set_trailer (segment_count g t) n ∷ []) in

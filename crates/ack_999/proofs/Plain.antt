@@ -61,7 +61,8 @@ plain-digit n small =
     let high = le-leb (48 + n) 57 (omega arith) in
     ap is_ascii_alphanumeric glyph ∙ rw (low, high) refl
 
-plain-either : (b : Bool) (xs ys : List ℕ) → is_plain xs ≡ true → is_plain ys ≡ true → is_plain (if b then xs else ys) ≡ true
+plain-either : (b : Bool) (xs ys : List ℕ) → is_plain xs ≡ true → is_plain ys ≡ true
+    → is_plain (if b then xs else ys) ≡ true
 plain-either true xs ys p q = p
 plain-either false xs ys p q = q
 
@@ -73,12 +74,19 @@ plain-onto (suc k) n behind plain =
     let one : is_plain more ≡ true = ap (λ (b : Bool). b && is_plain behind) (plain-digit (n % 10) (omega arith)) ∙ plain in
     plain-either (n / 10 == 0) more (digits_onto k 10 false (n / 10) more) one (plain-onto k (n / 10) more one)
 
-pub plain-decimal : (n : ℕ) → is_plain (decimal n) ≡ true
+plain-decimal : (n : ℕ) → is_plain (decimal n) ≡ true
 unfolding digits
 plain-decimal n = plain-onto 64 n [] refl
 
-pub plain-padded_number : (least n : ℕ) → is_plain (padded_number least n) ≡ true
-plain-padded_number least n = plain-append (replicate (least - length (decimal n)) 48) (decimal n) (plain-zeros (least - length (decimal n))) (plain-decimal n)
+plain-padded_number : (least n : ℕ) → is_plain (padded_number least n) ≡ true
+plain-padded_number least n =
+    plain-append (replicate (least - length (decimal n)) 48) (decimal n) (plain-zeros (least - length (decimal n))) (plain-decimal n)
+
+pub decimal-undivided : (d : Delims) → CanDivide d → (n : ℕ) → IsUndivided d (decimal n)
+decimal-undivided d can n = plain-undivided d can (decimal n) (plain-decimal n)
+
+pub padded_number-undivided : (d : Delims) → CanDivide d → (least n : ℕ) → IsUndivided d (padded_number least n)
+padded_number-undivided d can least n = plain-undivided d can (padded_number least n) (plain-padded_number least n)
 
 pub plain-set_code_text : (c : SetCode) → is_plain (set_code_text c) ≡ true
 plain-set_code_text set.SegmentsInError = refl

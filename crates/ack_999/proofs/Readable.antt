@@ -14,28 +14,35 @@ use Rattle.ack_999.specs.Number.{padded_number}
 use Rattle.ack_999.specs.ReadBack.{CanDivide, IsUndivided, IsQuotable, IsQuotableFault}
 use Rattle.ack_999.specs.Report.{head_segments, convention_text, set_segments, shows_sets, set_loops, listed_sets, accepted_sets, group_response, set_trailer, segments_999}
 use Rattle.ack_999.specs.Segment.{Segment, segment}
-use Rattle.ack_999.proofs.Plain.{is_plain, plain-undivided, plain-decimal, plain-padded_number, plain-set_code_text, plain-group_code_text, plain-verdict_text, plain-group_verdict_text, plain-convention_text}
+use Rattle.ack_999.proofs.Plain.{is_plain, plain-undivided, decimal-undivided, padded_number-undivided, plain-set_code_text, plain-group_code_text, plain-verdict_text, plain-group_verdict_text, plain-convention_text}
 use Rattle.ack_999.proofs.ReadBack.{IsReadable}
 use Rattle.ack_999.proofs.ReadableFaults.{readable, readable-faults}
 
 -- a list of codes
-undivided-codes : {C : Type 0} (d : Delims) → CanDivide d → (text : C → List ℕ) → ((c : C) → is_plain (text c) ≡ true) → (codes : List C) → All (IsUndivided d) (map text codes)
+undivided-codes : {C : Type 0} (d : Delims) → CanDivide d → (text : C → List ℕ) → ((c : C) → is_plain (text c) ≡ true)
+    → (codes : List C) → All (IsUndivided d) (map text codes)
 undivided-codes d can text plain [] = All-nil (IsUndivided d)
-undivided-codes d can text plain (c ∷ cs) = All-cons (IsUndivided d) (text c) (map text cs) (plain-undivided d can (text c) (plain c)) (undivided-codes d can text plain cs)
+undivided-codes d can text plain (c ∷ cs) =
+    All-cons (IsUndivided d) (text c) (map text cs) (plain-undivided d can (text c) (plain c)) (undivided-codes d can text plain cs)
 
-readable-head : (d : Delims) (g : GroupAnswer) (n : ℕ) → CanDivide d → IsUndivided d g.functional_id → IsUndivided d g.control → IsUndivided d g.version → All (IsReadable d) (head_segments g n)
+readable-head : (d : Delims) (g : GroupAnswer) (n : ℕ) → CanDivide d → IsUndivided d g.functional_id
+    → IsUndivided d g.control → IsUndivided d g.version → All (IsReadable d) (head_segments g n)
 readable-head d g n can functional_id control version =
     let P : List ℕ → Type 0 = IsUndivided d in
     let st : List (List ℕ) = codes "999" ∷ padded_number 4 n ∷ codes "005010X231" ∷ [] in
     let ak1 : List (List ℕ) = g.functional_id ∷ g.control ∷ g.version ∷ [] in
     let st_all : All P st =
     All-from_recursion P st
-    (plain-undivided d can (codes "999") refl, (plain-undivided d can (padded_number 4 n) (plain-padded_number 4 n), (plain-undivided d can (codes "005010X231") refl, tt))) in
+    (
+      plain-undivided d can (codes "999") refl,
+      (padded_number-undivided d can 4 n, (plain-undivided d can (codes "005010X231") refl, tt)),
+    ) in
     let ak1_all : All P ak1 = All-from_recursion P ak1 (functional_id, (control, (version, tt))) in
     All-from_recursion (IsReadable d) (head_segments g n)
     (readable d can (codes "ST") st (omega arith) refl refl st_all, (readable d can (codes "AK1") ak1 (omega arith) refl refl ak1_all, tt))
 
-readable-set : (d : Delims) (s : SetAnswer) → CanDivide d → IsUndivided d s.identifier → IsUndivided d s.control → All (IsQuotableFault d) s.faults → All (IsReadable d) (set_segments d s)
+readable-set : (d : Delims) (s : SetAnswer) → CanDivide d → IsUndivided d s.identifier → IsUndivided d s.control
+    → All (IsQuotableFault d) s.faults → All (IsReadable d) (set_segments d s)
 readable-set d s can identifier control faults =
     let P : List ℕ → Type 0 = IsUndivided d in
     let ak2 : List (List ℕ) = s.identifier ∷ s.control ∷ convention_text s.convention ∷ [] in
@@ -46,34 +53,43 @@ readable-set d s can identifier control faults =
     All-cons P (verdict_text s.verdict) (map set_code_text s.codes) (plain-undivided d can (verdict_text s.verdict) (plain-verdict_text s.verdict))
     (undivided-codes d can set_code_text plain-set_code_text s.codes) in
     let last : List Segment = segment (codes "IK5") ik5 ∷ [] in
-    let last_all : All (IsReadable d) last = All-from_recursion (IsReadable d) last (readable d can (codes "IK5") ik5 (omega arith) refl refl ik5_all, tt) in
-    All-cons (IsReadable d) (segment (codes "AK2") ak2) (fault_segments d s.faults ++ last) (readable d can (codes "AK2") ak2 (omega arith) refl refl ak2_all)
+    let last_all : All (IsReadable d) last =
+    All-from_recursion (IsReadable d) last (readable d can (codes "IK5") ik5 (omega arith) refl refl ik5_all, tt) in
+    All-cons (IsReadable d) (segment (codes "AK2") ak2) (fault_segments d s.faults ++ last)
+    (readable d can (codes "AK2") ak2 (omega arith) refl refl ak2_all)
     (All-append (IsReadable d) (fault_segments d s.faults) last (readable-faults d s.faults can faults) last_all)
 
-readable-sets : (d : Delims) (sets : List SetAnswer) → CanDivide d → All (λ s. IsUndivided d s.identifier) sets → All (λ s. IsUndivided d s.control) sets → All (λ s. All (IsQuotableFault d) s.faults) sets
+readable-sets : (d : Delims) (sets : List SetAnswer) → CanDivide d → All (λ s. IsUndivided d s.identifier) sets
+    → All (λ s. IsUndivided d s.control) sets → All (λ s. All (IsQuotableFault d) s.faults) sets
     → All (IsReadable d) (flat_map (set_segments d) sets)
 readable-sets d [] can identifiers controls faults = All-nil (IsReadable d)
 readable-sets d (s ∷ sets) can identifiers controls faults =
     All-append (IsReadable d) (set_segments d s) (flat_map (set_segments d) sets)
-    (readable-set d s can (All-head (λ s. IsUndivided d s.identifier) s sets identifiers) (All-head (λ s. IsUndivided d s.control) s sets controls) (All-head (λ s. All (IsQuotableFault d) s.faults) s sets faults))
-    (readable-sets d sets can (All-tail (λ s. IsUndivided d s.identifier) s sets identifiers) (All-tail (λ s. IsUndivided d s.control) s sets controls) (All-tail (λ s. All (IsQuotableFault d) s.faults) s sets faults))
+    (readable-set d s can
+    (All-head (λ s. IsUndivided d s.identifier) s sets identifiers) (All-head (λ s. IsUndivided d s.control) s sets controls)
+    (All-head (λ s. All (IsQuotableFault d) s.faults) s sets faults))
+    (readable-sets d sets can
+    (All-tail (λ s. IsUndivided d s.identifier) s sets identifiers) (All-tail (λ s. IsUndivided d s.control) s sets controls)
+    (All-tail (λ s. All (IsQuotableFault d) s.faults) s sets faults))
 
-readable-loops : (d : Delims) (sets : List SetAnswer) (b : Bool) → All (IsReadable d) (flat_map (set_segments d) sets) → All (IsReadable d) (if b then flat_map (set_segments d) sets else [])
+readable-loops : (d : Delims) (sets : List SetAnswer) (b : Bool) → All (IsReadable d) (flat_map (set_segments d) sets)
+    → All (IsReadable d) (if b then flat_map (set_segments d) sets else [])
 readable-loops d sets true all = all
 readable-loops d sets false all = All-nil (IsReadable d)
 
 readable-response : (d : Delims) (g : GroupAnswer) (t : Totals) → CanDivide d → IsReadable d (group_response g t)
 readable-response d g t can =
     let P : List ℕ → Type 0 = IsUndivided d in
-    let front : List (List ℕ) = group_verdict_text g.verdict ∷ decimal (listed_sets g.listed t) ∷ decimal (received_sets t) ∷ decimal (accepted_sets g.codes t) ∷ [] in
+    let front : List (List ℕ) =
+    group_verdict_text g.verdict ∷ decimal (listed_sets g.listed t) ∷ decimal (received_sets t) ∷ decimal (accepted_sets g.codes t) ∷ [] in
     let front_all : All P front =
     All-from_recursion P front (
       plain-undivided d can (group_verdict_text g.verdict) (plain-group_verdict_text g.verdict),
       (
-        plain-undivided d can (decimal (listed_sets g.listed t)) (plain-decimal (listed_sets g.listed t)),
+        decimal-undivided d can (listed_sets g.listed t),
         (
-          plain-undivided d can (decimal (received_sets t)) (plain-decimal (received_sets t)),
-          (plain-undivided d can (decimal (accepted_sets g.codes t)) (plain-decimal (accepted_sets g.codes t)), tt),
+          decimal-undivided d can (received_sets t),
+          (decimal-undivided d can (accepted_sets g.codes t), tt),
         ),
       ),
     ) in
@@ -85,15 +101,19 @@ readable-trailer d count n can =
     let P : List ℕ → Type 0 = IsUndivided d in
     let se : List (List ℕ) = decimal count ∷ padded_number 4 n ∷ [] in
     readable d can (codes "SE") se (omega arith) refl refl
-    (All-from_recursion P se (plain-undivided d can (decimal count) (plain-decimal count), (plain-undivided d can (padded_number 4 n) (plain-padded_number 4 n), tt)))
+    (All-from_recursion P se (decimal-undivided d can count, (padded_number-undivided d can 4 n, tt)))
 
 -- all segments of an acknowledgment
-pub readable-999 : (d : Delims) (g : GroupAnswer) (sets : List SetAnswer) (n : ℕ) → CanDivide d → IsQuotable d g sets → All (IsReadable d) (segments_999 d g sets n)
+pub readable-999 : (d : Delims) (g : GroupAnswer) (sets : List SetAnswer) (n : ℕ) → CanDivide d → IsQuotable d g sets
+    → All (IsReadable d) (segments_999 d g sets n)
 readable-999 d g sets n can quotable =
     let t : Totals = totals_of sets in
     let inner : List Segment = head_segments g n ++ set_loops d g sets ++ group_response g t ∷ [] in
     let loops = readable-loops d sets (shows_sets g.codes) (readable-sets d sets can quotable.identifiers quotable.controls quotable.faults) in
-    let front = All-append (IsReadable d) (head_segments g n) (set_loops d g sets) (readable-head d g n can quotable.functional_id quotable.control quotable.version) loops in
+    let front =
+    All-append (IsReadable d) (head_segments g n) (set_loops d g sets)
+    (readable-head d g n can quotable.functional_id quotable.control quotable.version) loops in
     All-append (IsReadable d) inner (set_trailer (length inner + 1) n ∷ [])
-    (All-append (IsReadable d) (head_segments g n ++ set_loops d g sets) (group_response g t ∷ []) front (All-cons (IsReadable d) (group_response g t) [] (readable-response d g t can) (All-nil (IsReadable d))))
+    (All-append (IsReadable d) (head_segments g n ++ set_loops d g sets) (group_response g t ∷ []) front
+    (All-cons (IsReadable d) (group_response g t) [] (readable-response d g t can) (All-nil (IsReadable d))))
     (All-cons (IsReadable d) (set_trailer (length inner + 1) n) [] (readable-trailer d (length inner + 1) n can) (All-nil (IsReadable d)))

@@ -9,12 +9,15 @@ use Rattle.ack_999.specs.Faults.{note_segment, notes_text, notes_behind, fault_s
 use Rattle.ack_999.specs.Segment.{segment_text, segments_text}
 
 -- the notes are written as their segments
-pub notes_text-is : (d : Delims) (faults : List Fault) → notes_text d (notes_behind None faults) ≡ segments_text d (fault_segments d faults)
-notes_text-is d faults = sym (flat_map-map (λ s. segment_text d s.id s.elements) (note_segment d) (notes_behind None faults))
+pub notes_text-is : (d : Delims) (faults : List Fault)
+    → notes_text d (notes_behind None faults) ≡ segments_text d (fault_segments d faults)
+notes_text-is d faults =
+    sym (flat_map-map (λ s. segment_text d s.id s.elements) (note_segment d) (notes_behind None faults))
 
 -- where no fault is left, all is told
 pub all_told : (d : Delims) (before : Option ℕ) (faults : List Fault) (i : ℕ) (old new : List ℕ) → length faults ≤ i
-    → new ++ notes_text d (notes_behind before (drop i faults)) ≡ old ++ notes_text d (notes_behind None faults) → new ≡ old ++ segments_text d (fault_segments d faults)
+    → new ++ notes_text d (notes_behind before (drop i faults)) ≡ old ++ notes_text d (notes_behind None faults)
+    → new ≡ old ++ segments_text d (fault_segments d faults)
 all_told d before faults i old new none told =
     sym (append-nil new)
     ∙ ap (λ (left : List Fault). new ++ notes_text d (notes_behind before left)) (sym (drop_all i faults none))

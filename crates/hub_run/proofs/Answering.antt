@@ -6,20 +6,14 @@ use Rattle.std.proofs.lemmas.List.{take_more}
 use Rattle.std.proofs.lemmas.List.Concat.{flat_map-append}
 use Rattle.std.proofs.lemmas.Option.{get_or_from_slice_get, slice_get_within}
 use Rattle.hub_kinds.specs.declared.answers.SetAnswer.{SetAnswer}
-use Rattle.ack_999.specs.Report.{verdicts_of}
-use Rattle.set_check.specs.Answer.{answer_of}
 use Rattle.set_check.specs.Codes.{control_of}
 use Rattle.env_index.specs.declared.entry.SetEnvelope.{SetEnvelope}
 use Rattle.hub_run.specs.Answers.{answers_behind}
-use Rattle.hub_run.specs.Seen.{is_among}
+use Rattle.hub_run.specs.Known.{answer_behind}
 
 -- the numbers of sets
 abbrev pub numbers_of : List SetEnvelope → List (List ℕ)
 numbers_of sets = map (λ set. control_of set.header) sets
-
--- the answer to a set behind sets with these numbers
-abbrev pub answer_behind : List (List ℕ) → SetEnvelope → SetAnswer
-answer_behind before set = answer_of set.header set.segments set.trailer (is_among (control_of set.header) before)
 
 map_snoc : {A B : Type 0} (f : A → B) (xs : List A) (y : A) → map f (xs ++ y ∷ []) ≡ map f xs ++ f y ∷ []
 map_snoc f [] y = refl
@@ -59,7 +53,3 @@ flat_map_snoc f xs y = flat_map-append f xs (y ∷ []) ∙ ap (λ (ys : List ℕ
 pub text_more : {A : Type 0} (f : A → List ℕ) (old before new : List ℕ) (xs : List A) (y : A) → before ≡ old ++ flat_map f xs → new ≡ before ++ f y → new ≡ old ++ flat_map f (xs ++ y ∷ [])
 text_more f old before new xs y was is =
     is ∙ ap (λ (ys : List ℕ). ys ++ f y) was ∙ append_assoc old (flat_map f xs) (f y) ∙ ap (λ (ys : List ℕ). old ++ ys) (sym (flat_map_snoc f xs y))
-
--- the verdicts, with one more
-pub verdicts_more : (answers : List SetAnswer) (answer : SetAnswer) → verdicts_of (answers ++ answer ∷ []) ≡ verdicts_of answers ++ answer.verdict ∷ []
-verdicts_more answers answer = map_snoc (λ (a : SetAnswer). a.verdict) answers answer

@@ -8,7 +8,7 @@ use Rattle.hub_kinds.specs.declared.set_codes.GroupCode.TheVariants as code
 use Rattle.hub_kinds.specs.Numbers.{number_of}
 use Rattle.ack_999.specs.Group.{agree, unless, group_codes_of, totals_of}
 use Rattle.ack_999.specs.Interchange.{opening_text, closing_text, interchange_text}
-use Rattle.ack_999.specs.Report.{head_text, set_text, sets_text, shows_sets, text_999, verdicts_of, Completes}
+use Rattle.ack_999.specs.Report.{head_text, set_text, sets_text, shows_sets, text_999, Completes}
 use Rattle.ack_999.specs.declared.envelope.Envelope.{Envelope}
 use Rattle.ack_999.specs.declared.totals.Totals.{Totals}
 use Rattle.ack_999.specs.declared.trailer.GroupTrailer.{GroupTrailer}
@@ -30,7 +30,7 @@ append_nil (x ∷ xs) = ap (λ ys. x ∷ ys) (append_nil xs)
 
 pub whole_reply : (e : Envelope) (at : List ℕ) (d : Delims) (early late : GroupAnswer) (answers : List SetAnswer) (totals : Totals) (o0 o1 o2 o3 o4 o5 : List ℕ)
     → o0 ≡ [] → o1 ≡ o0 ++ opening_text e at 1 → o2 ≡ o1 ++ head_text d early 1 → o3 ≡ o2 ++ flat_map (set_text d) answers
-    → head_text d early 1 ≡ head_text d late 1 → shows_sets late.codes ≡ true → totals ≡ totals_of (verdicts_of answers)
+    → head_text d early 1 ≡ head_text d late 1 → shows_sets late.codes ≡ true → totals ≡ totals_of answers
     → Completes d late totals 1 o3 o4 → o5 ≡ o4 ++ closing_text e 1 1 → o5 ≡ interchange_text e at 1 (text_999 d late answers 1 ∷ [])
 whole_reply e at d early late answers totals o0 o1 o2 o3 o4 o5 e0 e1 e2 e3 same shows counted completes e5 =
     let opening : List ℕ = opening_text e at 1 in

@@ -7,8 +7,7 @@ use Rattle.hub_kinds.specs.declared.set_codes.GroupCode.{GroupCode}
 use Rattle.hub_kinds.specs.declared.set_codes.Verdict.{Verdict}
 use Rattle.set_check.specs.Answer.{answer_of}
 use Rattle.set_check.specs.Codes.{control_of}
-use Rattle.ack_999.specs.Group.{group_codes_of, group_verdict_of}
-use Rattle.ack_999.specs.Report.{verdicts_of}
+use Rattle.ack_999.specs.Group.{group_codes_of, group_verdict_of, verdicts_of}
 use Rattle.ack_999.specs.declared.trailer.GroupTrailer.{GroupTrailer}
 use Rattle.env_index.specs.Summary.{GroupEntry}
 use Rattle.env_index.specs.declared.entry.SetEnvelope.{SetEnvelope}

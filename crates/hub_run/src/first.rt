@@ -1,4 +1,4 @@
-ghost use Rattle.std.specs.Prelude.{◌≡◌, ◌↔◌, ◌≤◌, ◌^◌, IfOk, IsErrOf, length};
+ghost use Rattle.std.specs.Prelude.{◌≡◌, ◌↔◌, ◌≤◌, ◌^◌, true, false, IfOk, IfSome, IfNone, IsErrOf, length};
 ghost use Rattle.env_index.specs.Interchange.{InterchangeEntry};
 ghost use Rattle.env_index.specs.Summary.{GroupEntry};
 ghost use Rattle.hub_run.specs.First.{IsOne, IsReply, is_answerable};
@@ -24,14 +24,26 @@ pub fn run_first(alloc: Global, text: &[u8], at: &At) -> Result<First, FirstFaul
     if text.len() > LONGEST {
         return Err(FirstFault::InputTooLong);
     }
-    let Some(interchange) = read_lone(alloc, text)? else {
+    let Some(lone) = read_lone(alloc, text)? else {
         return Err(FirstFault::NotOne);
     };
-    if !is_answerable(&interchange) {
+    let Some(interchange) = answerable(lone) else {
         return Err(FirstFault::NotOne);
-    }
+    };
     let first = reply(alloc, interchange.header(), &interchange.group(0), at)?;
     Ok(first)
+}
+
+/// The same interchange, where it is answered.
+fn answerable<'a>(interchange: Interchange<'a>) -> Option<Interchange<'a>>
+    ensures same { IfSome result (λ x. (x ≡ interchange.entry) × (is_answerable x ≡ true)) }
+    ensures none { IfNone result (is_answerable interchange.entry ≡ false) }
+{
+    if is_answerable(&interchange) {
+        Some(interchange)
+    } else {
+        None
+    }
 }
 
 /// Whether an interchange has none of the faults 1 to 7 and one group, not FA.

@@ -1,9 +1,11 @@
-ghost use Rattle.std.specs.Prelude.{◌≡◌, [], IfOk, option_map};
+ghost use Rattle.std.specs.Prelude.{◌≡◌, [], List, IfOk, option_map};
+ghost use Rattle.hub_kinds.specs.declared.answers.SetAnswer.{SetAnswer};
+ghost use Rattle.ack_999.specs.Group.{group_verdict_of, totals_of, verdicts_of};
 ghost use Rattle.hub_run.specs.Answers.{answer_before_sets, trailer_of};
 
 use ack_999::{GroupTrailer, Totals, group_codes, group_verdict};
 use env_index::GroupEnvelope;
-use hub_kinds::{GroupAnswer, Lent, NoMemory};
+use hub_kinds::{GroupAnswer, GroupCode, GroupVerdict, Lent, NoMemory};
 use std::alloc::Global;
 use x12_segs::SegView;
 
@@ -23,7 +25,7 @@ pub(crate) fn answer_before_sets<'a>(
         None => b"".as_slice(),
     };
     let codes = group_codes(alloc, control, trailer.as_ref(), group.set_count() as u64)?;
-    let verdict = group_verdict(codes.as_slice(), &Totals::new());
+    let verdict = verdict_without_sets(codes.as_slice());
     Ok(GroupAnswer {
         functional_id: Lent::new(header.element(1)),
         control: Lent::new(control),
@@ -32,6 +34,22 @@ pub(crate) fn answer_before_sets<'a>(
         codes,
         verdict,
     })
+}
+
+/// The verdict on a group of no sets.
+fn verdict_without_sets(codes: &[GroupCode]) -> GroupVerdict
+    ensures { result ≡ group_verdict_of codes.now [] }
+{
+    group_verdict(codes, &Totals::new())
+}
+
+/// The same answer with the verdict that the sets of these totals give.
+pub(crate) fn judged<'a>(mut answer: GroupAnswer<'a>, totals: &Totals) -> GroupAnswer<'a>
+    ensures { (sets : List SetAnswer) → totals.now ≡ totals_of sets
+        → result ≡ record answer.entry { verdict = group_verdict_of answer.entry.codes (verdicts_of sets) } }
+{
+    answer.verdict = group_verdict(answer.codes.as_slice(), totals);
+    answer
 }
 
 /// GE01 and GE02, where the group has a GE.

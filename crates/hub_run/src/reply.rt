@@ -4,8 +4,8 @@ ghost use Rattle.hub_run.specs.First.{reply_text};
 
 use crate::answers::append_answers;
 use crate::envelope::reply_envelope;
-use crate::group::answer_before_sets;
-use ack_999::{append_closing, append_head, append_opening, append_tail, group_verdict};
+use crate::group::{answer_before_sets, judged};
+use ack_999::{append_closing, append_head, append_opening, append_tail};
 use elem_rules::At;
 use env_index::GroupEnvelope;
 use hub_kinds::{GroupVerdict, NoMemory, Text};
@@ -33,12 +33,12 @@ pub(crate) fn reply<'a>(
 {
     let delims = header.delims();
     let envelope = reply_envelope(header, &group.header());
-    let mut answer = answer_before_sets(alloc, group)?;
+    let answer = answer_before_sets(alloc, group)?;
     let mut out = Vec::new(alloc);
     append_opening(&mut out, &envelope, at, 1)?;
     append_head(&mut out, &delims, &answer, 1)?;
     let totals = append_answers(alloc, &mut out, &delims, group)?;
-    answer.verdict = group_verdict(answer.codes.as_slice(), &totals);
+    let answer = judged(answer, &totals);
     append_tail(&mut out, &delims, &answer, &totals, 1)?;
     append_closing(&mut out, &envelope, 1, 1)?;
     Ok(First {

@@ -1,5 +1,4 @@
-ghost use Rattle.std.specs.Prelude.{◌≡◌, ◌++◌, [], ◌∷◌, ℕ, List, IfOk};
-ghost use Rattle.hub_run.specs.Seen.{is_among};
+ghost use Rattle.std.specs.Prelude.{◌≡◌, ◌++◌, [], ◌∷◌, ℕ, List, IfOk, OnOk};
 
 use hub_kinds::NoMemory;
 use std::alloc::Global;
@@ -12,7 +11,7 @@ pub(crate) struct Seen<'a> {
 }
 
 impl<'a> Seen<'a> {
-    ghost use Rattle.hub_run.specs.Known.{Knows};
+    ghost use Rattle.hub_run.specs.Known.{has, Knows};
 
     /// None yet.
     pub(crate) fn new(alloc: Global) -> Seen<'a>
@@ -23,10 +22,12 @@ impl<'a> Seen<'a> {
         }
     }
 
-    /// Adds a number; answers whether it was among the earlier ones.
+    /// Adds a number; answers whether it was there.
+    #[tactic(auto, using(crate::proofs::Among::not_not))]
     pub(crate) fn add(&mut self, number: &'a [u8]) -> Result<bool, NoMemory>
-        ensures { IfOk result (λ earlier. (numbers : List (List ℕ)) → Knows self.old numbers →
-            (earlier ≡ is_among number.entry.now numbers) × Knows self.new (numbers ++ number.entry.now ∷ [])) }
+        ensures earlier { IfOk result (λ earlier. earlier ≡ has self.old number.entry) }
+        ensures known { OnOk result ((numbers : List (List ℕ)) → Knows self.old numbers
+            → Knows self.new (numbers ++ number.entry.now ∷ [])) }
     {
         Ok(!self.numbers.insert(number)?)
     }

@@ -4,11 +4,9 @@ use Rattle.x12_bytes.specs.Header.{delims_of}
 use Rattle.x12_bytes.specs.declared.delims.Delims.{Delims}
 use Rattle.x12_segs.specs.View.{element_of}
 use Rattle.hub_kinds.specs.declared.answers.GroupAnswer.{GroupAnswer}
-use Rattle.hub_kinds.specs.declared.set_codes.GroupCode.{GroupCode}
-use Rattle.hub_kinds.specs.declared.set_codes.GroupVerdict.{GroupVerdict}
-use Rattle.ack_999.specs.Group.{group_verdict_of}
+use Rattle.ack_999.specs.Group.{group_verdict_of, verdicts_of}
 use Rattle.ack_999.specs.Interchange.{interchange_text}
-use Rattle.ack_999.specs.Report.{text_999, verdicts_of, shows_sets}
+use Rattle.ack_999.specs.Report.{text_999, shows_sets}
 use Rattle.ack_999.specs.declared.envelope.Envelope.{Envelope}
 use Rattle.env_index.specs.Summary.{GroupEntry}
 use Rattle.hub_run.specs.Answers.{answer_to, answer_before_sets, answers_to, codes_to, trailer_of}
@@ -19,11 +17,15 @@ use Rattle.hub_run.proofs.reply.reply.Goals as goal
 codes_known : (early : GroupAnswer) (group : GroupEntry) → early ≡ answer_before_sets group → early.codes ≡ codes_to group
 codes_known early group is = ap (λ (a : GroupAnswer). a.codes) is
 
+told : (early : GroupAnswer) (group : GroupEntry) → early ≡ answer_before_sets group
+    → (let late : GroupAnswer = record early { verdict = group_verdict_of early.codes (verdicts_of (answers_to group)) } in late) ≡ answer_to group
+told early group is =
+    ap (λ (a : GroupAnswer). (let b : GroupAnswer = record a { verdict = group_verdict_of a.codes (verdicts_of (answers_to group)) } in b)) is
+
 pub returns-clause-verdict : goal.returns-clause-verdict
 returns-clause-verdict c =
     let group : GroupEntry = c.args.group.now in
-    c.group_verdict-answer.ensures (verdicts_of (answers_to group)) c.in_ok-totals.ensures.totals
-    ∙ ap (λ (codes : List GroupCode). group_verdict_of codes (verdicts_of (answers_to group))) (c.as_slice.ensures ∙ codes_known c.in_ok-answer.answer group c.in_ok-answer.ensures)
+    ap (λ (a : GroupAnswer). a.verdict) (c.judged-answer.ensures (answers_to group) c.in_ok-totals.ensures.totals ∙ told c.in_ok-answer.answer group c.in_ok-answer.ensures)
 
 pub returns-clause-ack : goal.returns-clause-ack
 returns-clause-ack c =
@@ -31,19 +33,17 @@ returns-clause-ack c =
     let header : List ℕ = c.args.header.now in
     let at : List ℕ = c.args.at.now in
     let early : GroupAnswer = c.in_ok-answer.answer in
-    let late : GroupAnswer = record early { verdict = c.group_verdict-answer.result } in
+    let late : GroupAnswer = record early { verdict = group_verdict_of early.codes (verdicts_of (answers_to group)) } in
+    let judged : c.judged-answer.result ≡ late = c.judged-answer.ensures (answers_to group) c.in_ok-totals.ensures.totals in
     let codes : early.codes ≡ codes_to group = codes_known early group c.in_ok-answer.ensures in
     let shows : shows_sets late.codes ≡ true = ap shows_sets codes ∙ codes_show (element_of group.header 6) (option_map trailer_of group.trailer) (length group.sets) in
-    let verdict : c.group_verdict-answer.result ≡ group_verdict_of (codes_to group) (verdicts_of (answers_to group)) = returns-clause-verdict c in
-    let told : late ≡ answer_to group =
-    ap (λ (a : GroupAnswer). (let b : GroupAnswer = record a { verdict = c.group_verdict-answer.result } in b)) c.in_ok-answer.ensures
-    ∙ ap (λ (v : GroupVerdict). (let b : GroupAnswer = record (answer_before_sets group) { verdict = v } in b)) verdict in
     let delims : c.delims-delims.result ≡ delims_of header = c.delims-delims.ensures.value in
     let envelope : c.reply_envelope-envelope.result ≡ reply_envelope header group.header = c.reply_envelope-envelope.ensures ∙ ap (reply_envelope header) c.header.ensures in
+    let completes = rw judged at c.in_ok-append_tail.ensures.whole in
     c.from_vec.ensures
     ∙ whole_reply c.reply_envelope-envelope.result at c.delims-delims.result early late (answers_to group) c.in_ok-totals.totals _ _ _ _ _ _
     c.new-out.ensures.items c.in_ok-append_opening.ensures c.in_ok-append_head.ensures c.in_ok-totals.ensures.text refl shows c.in_ok-totals.ensures.totals
-    c.in_ok-append_tail.ensures.whole c.in_ok-append_closing.ensures
+    completes c.in_ok-append_closing.ensures
     ∙ ap (λ (e : Envelope). interchange_text e at 1 (text_999 c.delims-delims.result late (answers_to group) 1 ∷ [])) envelope
     ∙ ap (λ (d : Delims). interchange_text (reply_envelope header group.header) at 1 (text_999 d late (answers_to group) 1 ∷ [])) delims
-    ∙ ap (λ (a : GroupAnswer). interchange_text (reply_envelope header group.header) at 1 (text_999 (delims_of header) a (answers_to group) 1 ∷ [])) told
+    ∙ ap (λ (a : GroupAnswer). interchange_text (reply_envelope header group.header) at 1 (text_999 (delims_of header) a (answers_to group) 1 ∷ [])) (told early group c.in_ok-answer.ensures)
