@@ -43,8 +43,10 @@ pub plain-undivided : (d : Delims) → CanDivide d → (text : List ℕ) → is_
 plain-undivided d can [] h = All-nil (λ b. (b ≢ d.element) × (b ≢ d.terminator))
 plain-undivided d can (b ∷ bs) h =
     let parts = both (is_ascii_alphanumeric b) (is_plain bs) h in
-    let one : (b ≢ d.element) × (b ≢ d.terminator) =
-    (λ e. let same = ap is_ascii_alphanumeric e in cc (same, parts.0, can.element), λ e. let same = ap is_ascii_alphanumeric e in cc (same, parts.0, can.terminator)) in
+    let one : (b ≢ d.element) × (b ≢ d.terminator) = (
+      λ e. let same = ap is_ascii_alphanumeric e in cc (same, parts.0, can.element),
+      λ e. let same = ap is_ascii_alphanumeric e in cc (same, parts.0, can.terminator),
+    ) in
     All-cons (λ b. (b ≢ d.element) × (b ≢ d.terminator)) b bs one (plain-undivided d can bs parts.1)
 
 plain-append : (xs ys : List ℕ) → is_plain xs ≡ true → is_plain ys ≡ true → is_plain (xs ++ ys) ≡ true

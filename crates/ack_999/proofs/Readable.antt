@@ -32,8 +32,7 @@ readable-head d g n can functional_id control version =
     let st : List (List ℕ) = codes "999" ∷ padded_number 4 n ∷ codes "005010X231" ∷ [] in
     let ak1 : List (List ℕ) = g.functional_id ∷ g.control ∷ g.version ∷ [] in
     let st_all : All P st =
-    All-from_recursion P st
-    (
+    All-from_recursion P st (
       plain-undivided d can (codes "999") refl,
       (padded_number-undivided d can 4 n, (plain-undivided d can (codes "005010X231") refl, tt)),
     ) in

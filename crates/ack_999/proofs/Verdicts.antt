@@ -7,9 +7,10 @@ use Rattle.std.proofs.lemmas.List.Sums.{sum_by-cons}
 use Rattle.hub_kinds.specs.declared.answers.SetAnswer.{SetAnswer}
 use Rattle.hub_kinds.specs.declared.set_codes.Verdict.{Verdict}
 use Rattle.hub_kinds.specs.declared.set_codes.Verdict.TheVariants.{Accepted, AcceptedWithErrors, Rejected}
+use Rattle.hub_kinds.specs.declared.set_codes.GroupCode.{GroupCode}
 use Rattle.hub_kinds.specs.declared.set_codes.GroupVerdict.{GroupVerdict}
 use Rattle.hub_kinds.specs.declared.set_codes.GroupVerdict.TheVariants as group
-use Rattle.ack_999.specs.Group.{is_accepted, is_accepted_with_errors, is_rejected, verdicts_of, totals_of, received_sets, verdict_on_sets, verdict_on_totals}
+use Rattle.ack_999.specs.Group.{is_accepted, is_accepted_with_errors, is_rejected, verdicts_of, totals_of, received_sets, verdict_on_sets, verdict_on_totals, verdict_by, group_verdict_of}
 
 count_by-cons : (p : Verdict → Bool) (v : Verdict) (vs : List Verdict) → count_by p (v ∷ vs) ≡ cond (p v) 1 0 + count_by p vs
 count_by-cons p v vs = sum_by-cons (λ x. cond (p x) 1 0) v vs
@@ -84,7 +85,7 @@ choice all_accepted none_rejected all_rejected =
     else group.PartlyAccepted))
 
 -- the verdict over the totals is the verdict over the sets
-pub verdict_on_totals-totals_of : (sets : List SetAnswer) → verdict_on_totals (totals_of sets) ≡ verdict_on_sets (verdicts_of sets)
+verdict_on_totals-totals_of : (sets : List SetAnswer) → verdict_on_totals (totals_of sets) ≡ verdict_on_sets (verdicts_of sets)
 unfolding choice
 verdict_on_totals-totals_of sets =
     let vs : List Verdict = verdicts_of sets in
@@ -92,6 +93,10 @@ verdict_on_totals-totals_of sets =
     ap (λ (b : Bool). choice b (count_by is_rejected vs == 0) ((count_by is_accepted vs == 0) && (count_by is_accepted_with_errors vs == 0))) (sym (all_accepted vs))
     ∙ ap (λ (b : Bool). choice (list_all is_accepted vs) b ((count_by is_accepted vs == 0) && (count_by is_accepted_with_errors vs == 0))) (sym none)
     ∙ ap (λ (b : Bool). choice (list_all is_accepted vs) (list_all (λ v. not (is_rejected v)) vs) b) (sym (all_rejected vs))
+
+pub verdict_by-totals_of : (codes : List GroupCode) (sets : List SetAnswer) → verdict_by codes (totals_of sets) ≡ group_verdict_of codes (verdicts_of sets)
+verdict_by-totals_of [] sets = verdict_on_totals-totals_of sets
+verdict_by-totals_of (c ∷ cs) sets = refl
 
 once : (v : Verdict) → cond (is_accepted v) 1 0 + cond (is_accepted_with_errors v) 1 0 + cond (is_rejected v) 1 0 ≡ 1
 once Accepted = refl

@@ -93,3 +93,8 @@ verdict_on_totals t =
     else (if t.rejected == 0 then group.AcceptedWithErrors
     else (if t.accepted == 0 && t.accepted_with_errors == 0 then group.Rejected
     else group.PartlyAccepted))
+
+-- the verdict on a group, over the totals of its sets
+abbrev pub verdict_by : List GroupCode → Totals → GroupVerdict
+verdict_by [] t = verdict_on_totals t
+verdict_by (_ ∷ _) t = group.Rejected

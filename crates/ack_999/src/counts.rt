@@ -56,10 +56,11 @@ pub fn shows_sets(codes: &[GroupCode]) -> bool
 fn hides_sets(code: GroupCode) -> bool
     ensures { result ≡ hides_sets code }
 {
-    matches!(
-        code,
-        GroupCode::NotSupported | GroupCode::VersionNotSupported
-    )
+    match code {
+        GroupCode::NotSupported => true,
+        GroupCode::VersionNotSupported => true,
+        _ => false,
+    }
 }
 
 /// How many sets have each verdict, and how many segments tell of their faults.

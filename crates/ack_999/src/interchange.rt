@@ -1,6 +1,7 @@
 ghost use Rattle.std.specs.Prelude.{◌≡◌, ◌++◌, ℕ, List, [], ◌∷◌, length, codes, IfOk, OnOk};
 ghost use Rattle.std.specs.List.{flat_map};
-ghost use Rattle.ack_999.specs.Segment.{elements_text};
+ghost use Rattle.elem_rules.specs.Moment.{date_of, time_of};
+ghost use Rattle.ack_999.specs.Segment.{elements_text, segment_text};
 ghost use Rattle.ack_999.specs.Number.{padded_text};
 ghost use Rattle.ack_999.specs.Interchange.{header_text, party_elements, control_elements, blank, group_header_text, opening_text, closing_text, interchange_text};
 
@@ -11,6 +12,7 @@ use elem_rules::At;
 use hub_kinds::{Lent, NoMemory, Text};
 use itoa::Buffer;
 use std::alloc::Global;
+use x12_bytes::Delims;
 
 /// An interchange from the hub to a partner, as number `number` (1 to 999,999,999), whose one
 /// functional group holds these acknowledgments (999 guide, 005010X231).
@@ -104,16 +106,36 @@ fn append_parties(out: &mut Vec<u8>, envelope: &Envelope) -> Result<(), NoMemory
         (out.new.items
         ≡ out.old.items ++ elements_text envelope.now.delims.element (party_elements envelope.now)) }
 {
-    let separator = envelope.delims.element;
-    append_no_information(out, separator)?;
-    append_no_information(out, separator)?;
-    append_party(out, separator, &envelope.hub_qualifier, &envelope.hub_id)?;
-    append_party(
+    append_sender_and_receiver(
         out,
-        separator,
+        envelope.delims.element,
+        &envelope.hub_qualifier,
+        &envelope.hub_id,
         &envelope.partner_qualifier,
         &envelope.partner_id,
     )
+}
+
+/// Writes ISA01 to ISA08 of these qualifiers and ids.
+fn append_sender_and_receiver(
+    out: &mut Vec<u8>,
+    separator: u8,
+    sender_qualifier: &Lent,
+    sender_id: &Lent,
+    receiver_qualifier: &Lent,
+    receiver_id: &Lent,
+) -> Result<(), NoMemory>
+    ensures { OnOk result
+        (out.new.items
+        ≡ out.old.items ++ elements_text separator
+        (codes "00" ∷ blank ∷ codes "00" ∷ blank
+        ∷ sender_qualifier.now ∷ padded_text 15 sender_id.now
+        ∷ receiver_qualifier.now ∷ padded_text 15 receiver_id.now ∷ [])) }
+{
+    append_no_information(out, separator)?;
+    append_no_information(out, separator)?;
+    append_party(out, separator, sender_qualifier, sender_id)?;
+    append_party(out, separator, receiver_qualifier, receiver_id)
 }
 
 /// Writes the qualifier for no authorization or security information, and the blanks behind it.
@@ -172,14 +194,36 @@ fn append_control(
 fn append_group_header(out: &mut Vec<u8>, envelope: &Envelope, at: &At) -> Result<(), NoMemory>
     ensures { OnOk result (out.new.items ≡ out.old.items ++ group_header_text envelope.now at.now) }
 {
-    append_segment(
+    append_group_start(
         out,
         &envelope.delims,
+        &envelope.hub_code,
+        &envelope.partner_code,
+        at,
+    )
+}
+
+/// Writes the GS of these application codes behind what is there.
+fn append_group_start(
+    out: &mut Vec<u8>,
+    delims: &Delims,
+    sender: &Lent,
+    receiver: &Lent,
+    at: &At,
+) -> Result<(), NoMemory>
+    ensures { OnOk result
+        (out.new.items ≡ out.old.items ++ segment_text delims.now (codes "GS")
+        (codes "FA" ∷ sender.now ∷ receiver.now ∷ date_of at.now ∷ time_of at.now
+        ∷ codes "1" ∷ codes "X" ∷ codes "005010X231" ∷ [])) }
+{
+    append_segment(
+        out,
+        delims,
         b"GS",
         &[
             b"FA".as_slice(),
-            envelope.hub_code.bytes(),
-            envelope.partner_code.bytes(),
+            sender.bytes(),
+            receiver.bytes(),
             at.date(),
             at.time(),
             b"1".as_slice(),

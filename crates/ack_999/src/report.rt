@@ -1,5 +1,6 @@
 ghost use Rattle.std.specs.Prelude.{◌≡◌, ◌++◌, [], ◌∷◌, IfOk, OnOk};
 ghost use Rattle.ack_999.specs.Report.{text_999, head_text, set_text, sets_text, tail_text, Completes, convention_text, set_response, group_response, set_trailer};
+ghost use Rattle.hub_kinds.specs.Words.{is_word};
 ghost use Rattle.ack_999.specs.Group.{IsCountable};
 ghost use Rattle.ack_999.specs.Segment.{segments_text};
 ghost use Rattle.ack_999.specs.ReadBack.{ReadsBack};
@@ -100,11 +101,13 @@ fn append_set_response(out: &mut Vec<u8>, delims: &Delims, set: &SetAnswer) -> R
 fn convention(text: &[u8]) -> &[u8]
     ensures { result.now ≡ convention_text text.now }
 {
-    if is_alphanumeric(text, 1, 35) {
-        text
-    } else {
-        &[]
-    }
+    if is_convention(text) { text } else { &[] }
+}
+
+fn is_convention(text: &[u8]) -> bool
+    ensures { result ≡ is_word 1 35 text.now }
+{
+    is_alphanumeric(text, 1, 35)
 }
 
 /// Writes the sets that are shown behind what is there.

@@ -1,6 +1,6 @@
 ghost use Rattle.std.specs.Prelude.{◌≡◌, List};
 ghost use Rattle.hub_kinds.specs.declared.answers.SetAnswer.{SetAnswer};
-ghost use Rattle.ack_999.specs.Group.{group_verdict_of, totals_of, verdicts_of, verdict_on_totals};
+ghost use Rattle.ack_999.specs.Group.{group_verdict_of, totals_of, verdicts_of, verdict_on_totals, verdict_by};
 
 use crate::totals::Totals;
 use hub_kinds::{GroupCode, GroupVerdict};
@@ -11,10 +11,18 @@ pub fn group_verdict(codes: &[GroupCode], totals: &Totals) -> GroupVerdict
     ensures { (sets : List SetAnswer) → totals.now ≡ totals_of sets
         → result ≡ group_verdict_of codes.now (verdicts_of sets) }
 {
-    if !codes.is_empty() {
-        return GroupVerdict::Rejected;
+    verdict_by(codes, totals)
+}
+
+/// R with any code, else the verdict on the sets.
+fn verdict_by(codes: &[GroupCode], totals: &Totals) -> GroupVerdict
+    ensures { result ≡ verdict_by codes.now totals.now }
+{
+    if codes.is_empty() {
+        verdict_on(totals)
+    } else {
+        GroupVerdict::Rejected
     }
-    verdict_on(totals)
 }
 
 /// The verdict on the sets of a group without codes.

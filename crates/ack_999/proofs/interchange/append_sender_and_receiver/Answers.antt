@@ -5,7 +5,7 @@ use Rattle.std.proofs.lemmas.List.Concat.{flat_map-append}
 use Rattle.std.proofs.lemmas.Result.{on_ok_weaker}
 use Rattle.ack_999.specs.Number.{padded_text}
 use Rattle.ack_999.specs.Interchange.{blank}
-use Rattle.ack_999.proofs.interchange.append_parties.Goals as goal
+use Rattle.ack_999.proofs.interchange.append_sender_and_receiver.Goals as goal
 
 -- what four calls append, one behind the other
 appended : (f : List ℕ → List ℕ) (out out1 out2 out3 out4 : List ℕ) (ws xs ys zs : List (List ℕ))
@@ -15,11 +15,10 @@ appended f out out1 out2 out3 out4 ws xs ys zs a b c d = rw (d, c, b, a) (simp (
 
 pub returns : goal.returns
 returns c =
-    let e = c.args.envelope.now in
     let none : List (List ℕ) = codes "00" ∷ blank ∷ [] in
     on_ok_weaker c.append_party-2.result
     (λ last.
-    appended (λ element. e.delims.element ∷ element) c.args.out.now.items c.append_no_information.new.out.items c.append_no_information-2.new.out.items c.append_party.new.out.items c.append_party-2.new.out.items
-    none none (e.hub_qualifier ∷ padded_text 15 e.hub_id ∷ []) (e.partner_qualifier ∷ padded_text 15 e.partner_id ∷ [])
+    appended (λ element. c.args.separator ∷ element) c.args.out.now.items c.append_no_information.new.out.items c.append_no_information-2.new.out.items c.append_party.new.out.items c.append_party-2.new.out.items
+    none none (c.args.sender_qualifier.now ∷ padded_text 15 c.args.sender_id.now ∷ []) (c.args.receiver_qualifier.now ∷ padded_text 15 c.args.receiver_id.now ∷ [])
     c.in_ok-append_no_information.ensures c.in_ok-append_no_information-2.ensures c.in_ok-append_party.ensures last)
     c.append_party-2.ensures
