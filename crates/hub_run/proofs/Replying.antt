@@ -28,18 +28,17 @@ append_nil : (xs : List ℕ) → xs ++ [] ≡ xs
 append_nil [] = refl
 append_nil (x ∷ xs) = ap (λ ys. x ∷ ys) (append_nil xs)
 
-pub whole_reply : (e : Envelope) (at : List ℕ) (d : Delims) (early late : GroupAnswer) (answers : List SetAnswer) (totals : Totals) (o0 o1 o2 o3 o4 o5 : List ℕ)
-    → o0 ≡ [] → o1 ≡ o0 ++ opening_text e at 1 → o2 ≡ o1 ++ head_text d early 1 → o3 ≡ o2 ++ flat_map (set_text d) answers
+pub whole_reply : (e : Envelope) (at : List ℕ) (d : Delims) (early late : GroupAnswer) (answers : List SetAnswer) (totals : Totals) (o0 o2 o3 o4 o5 : List ℕ)
+    → o0 ≡ [] → o2 ≡ (o0 ++ opening_text e at 1) ++ head_text d early 1 → o3 ≡ o2 ++ flat_map (set_text d) answers
     → head_text d early 1 ≡ head_text d late 1 → shows_sets late.codes ≡ true → totals ≡ totals_of answers
     → Completes d late totals 1 o3 o4 → o5 ≡ o4 ++ closing_text e 1 1 → o5 ≡ interchange_text e at 1 (text_999 d late answers 1 ∷ [])
-whole_reply e at d early late answers totals o0 o1 o2 o3 o4 o5 e0 e1 e2 e3 same shows counted completes e5 =
+whole_reply e at d early late answers totals o0 o2 o3 o4 o5 e0 e2 e3 same shows counted completes e5 =
     let opening : List ℕ = opening_text e at 1 in
     let closing : List ℕ = closing_text e 1 1 in
     let text : List ℕ = text_999 d late answers 1 in
     let head : List ℕ = head_text d late 1 in
     let sets : List ℕ = flat_map (set_text d) answers in
-    let first : o1 ≡ opening = e1 ∙ ap (λ (xs : List ℕ). xs ++ opening) e0 in
-    let second : o2 ≡ opening ++ head = e2 ∙ ap (λ (xs : List ℕ). xs ++ head_text d early 1) first ∙ ap (λ (xs : List ℕ). opening ++ xs) same in
+    let second : o2 ≡ opening ++ head = e2 ∙ ap (λ (xs : List ℕ). (xs ++ opening) ++ head_text d early 1) e0 ∙ ap (λ (xs : List ℕ). opening ++ xs) same in
     let shown : sets ≡ sets_text d late answers = ap (λ (b : Bool). cond b sets []) (sym shows) in
     let third : o3 ≡ opening ++ head ++ sets_text d late answers = e3 ∙ ap (λ (xs : List ℕ). xs ++ sets) second ∙ ap (λ (xs : List ℕ). opening ++ head ++ xs) shown in
     let fourth : o4 ≡ opening ++ text = completes opening answers counted third in

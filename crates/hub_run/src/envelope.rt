@@ -1,4 +1,6 @@
-ghost use Rattle.std.specs.Prelude.{◌≡◌};
+ghost use Rattle.std.specs.Prelude.{◌≡◌, slice_index};
+ghost use Rattle.x12_bytes.specs.Header.{field_of};
+ghost use Rattle.x12_segs.specs.View.{element_of};
 ghost use Rattle.hub_run.specs.First.{reply_envelope};
 
 use ack_999::Envelope;
@@ -13,16 +15,37 @@ pub(crate) fn reply_envelope<'a>(header: &Header<'a>, group: &SegView<'a>) -> En
 {
     let hub = without_trailing_spaces(header.field(8));
     let usage = header.field(15);
-    let repetition = header.field(11);
     Envelope {
-        hub_qualifier: Lent::new(header.field(7)),
+        hub_qualifier: Lent::new(hub_qualifier(header)),
         hub_id: Lent::new(hub),
         hub_code: Lent::new(hub),
         partner_qualifier: Lent::new(header.field(5)),
         partner_id: Lent::new(without_trailing_spaces(header.field(6))),
-        partner_code: Lent::new(group.element(2)),
+        partner_code: Lent::new(partner_code(group)),
         usage: usage[0],
-        repetition: repetition[0],
+        repetition: repetition(header),
         delims: header.delims(),
     }
+}
+
+/// ISA07, of the receiver.
+fn hub_qualifier<'a>(header: &Header<'a>) -> &'a [u8]
+    ensures { result.now ≡ field_of header.now 7 }
+{
+    header.field(7)
+}
+
+/// GS02, of the sender.
+fn partner_code<'a>(group: &SegView<'a>) -> &'a [u8]
+    ensures { result.now ≡ element_of group.now 2 }
+{
+    group.element(2)
+}
+
+/// ISA11.
+fn repetition(header: &Header<'_>) -> u8
+    ensures { result ≡ slice_index (field_of header.now 11) 0 }
+{
+    let separator = header.field(11);
+    separator[0]
 }

@@ -1,4 +1,7 @@
-ghost use Rattle.std.specs.Prelude.{◌≡◌, ◌↔◌, ◌≤◌, ◌^◌, true, false, IfOk, IfSome, IfNone, IsErrOf, length};
+ghost use Rattle.std.specs.Prelude.{◌≡◌, ◌↔◌, ◌≤◌, ◌^◌, ◌==◌, nat_le, true, false, not, is_none, codes, IfOk, IfSome, IfNone, IsErrOf, length};
+ghost use Rattle.std.specs.Str.{bytes_eq};
+ghost use Rattle.x12_segs.specs.View.{element_of};
+ghost use Rattle.env_index.specs.Faults.{fault_of};
 ghost use Rattle.env_index.specs.Interchange.{InterchangeEntry};
 ghost use Rattle.env_index.specs.Summary.{GroupEntry};
 ghost use Rattle.hub_run.specs.First.{IsOne, IsReply, is_answerable};
@@ -6,7 +9,7 @@ ghost use Rattle.hub_run.specs.First.{IsOne, IsReply, is_answerable};
 use crate::fault::FirstFault;
 use crate::reply::{First, reply};
 use elem_rules::At;
-use env_index::{Interchange, judge, read_lone};
+use env_index::{GroupEnvelope, Interchange, judge, read_lone};
 use std::alloc::Global;
 
 /// The longest text that is read, in bytes.
@@ -21,36 +24,56 @@ pub fn run_first(alloc: Global, text: &[u8], at: &At) -> Result<First, FirstFaul
     ensures answered { IfOk result (λ first. (x : InterchangeEntry) × (group : GroupEntry) × IsOne text.now x group × IsReply at.now first.ack first.verdict x group) }
     ensures only { IfOk result (λ first. (x : InterchangeEntry) (group : GroupEntry) → IsOne text.now x group → IsReply at.now first.ack first.verdict x group) }
 {
-    if text.len() > LONGEST {
+    if is_too_long(text) {
         return Err(FirstFault::InputTooLong);
     }
     let Some(lone) = read_lone(alloc, text)? else {
         return Err(FirstFault::NotOne);
     };
-    let Some(interchange) = answerable(lone) else {
+    let answerable = is_answerable(&lone);
+    let Some(interchange) = only_if(answerable, lone) else {
         return Err(FirstFault::NotOne);
     };
     let first = reply(alloc, interchange.header(), &interchange.group(0), at)?;
     Ok(first)
 }
 
-/// The same interchange, where it is answered.
-fn answerable<'a>(interchange: Interchange<'a>) -> Option<Interchange<'a>>
-    ensures same { IfSome result (λ x. (x ≡ interchange.entry) × (is_answerable x ≡ true)) }
-    ensures none { IfNone result (is_answerable interchange.entry ≡ false) }
+fn is_too_long(text: &[u8]) -> bool
+    ensures { result ≡ nat_le (2 ^ 32) (length text.now) }
 {
-    if is_answerable(&interchange) {
-        Some(interchange)
-    } else {
-        None
-    }
+    text.len() > LONGEST
+}
+
+/// The same interchange, where it is to be kept.
+fn only_if<'a>(kept: bool, interchange: Interchange<'a>) -> Option<Interchange<'a>>
+    ensures same { IfSome result (λ x. (x ≡ interchange.entry) × (kept ≡ true)) }
+    ensures none { IfNone result (kept ≡ false) }
+{
+    if kept { Some(interchange) } else { None }
 }
 
 /// Whether an interchange has none of the faults 1 to 7 and one group, not FA.
 fn is_answerable(interchange: &Interchange<'_>) -> bool
     ensures { result ≡ is_answerable interchange.now }
 {
+    is_sound(interchange) && has_one_group(interchange) && is_answered(&interchange.group(0))
+}
+
+fn is_sound(interchange: &Interchange<'_>) -> bool
+    ensures { result ≡ is_none (fault_of interchange.now) }
+{
     judge(interchange).is_none()
-        && interchange.group_count() == 1
-        && interchange.group(0).header().element(1) != b"FA".as_slice()
+}
+
+fn has_one_group(interchange: &Interchange<'_>) -> bool
+    ensures { result ≡ (length interchange.now.content.groups == 1) }
+{
+    interchange.group_count() == 1
+}
+
+/// Whether a group isn't one of acknowledgments.
+fn is_answered(group: &GroupEnvelope<'_>) -> bool
+    ensures { result ≡ not (bytes_eq (element_of group.now.header 1) (codes "FA")) }
+{
+    group.header().element(1) != b"FA".as_slice()
 }

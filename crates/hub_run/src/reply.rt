@@ -1,16 +1,18 @@
-ghost use Rattle.std.specs.Prelude.{◌≡◌, IfOk};
+ghost use Rattle.std.specs.Prelude.{◌≡◌, ◌++◌, IfOk, OnOk};
+ghost use Rattle.ack_999.specs.Interchange.{opening_text};
+ghost use Rattle.ack_999.specs.Report.{head_text};
 ghost use Rattle.hub_run.specs.Answers.{answer_to};
 ghost use Rattle.hub_run.specs.First.{reply_text};
 
 use crate::answers::append_answers;
 use crate::envelope::reply_envelope;
 use crate::group::{answer_before_sets, judged};
-use ack_999::{append_closing, append_head, append_opening, append_tail};
+use ack_999::{Envelope, append_closing, append_head, append_opening, append_tail};
 use elem_rules::At;
 use env_index::GroupEnvelope;
-use hub_kinds::{GroupVerdict, NoMemory, Text};
+use hub_kinds::{GroupAnswer, GroupVerdict, NoMemory, Text};
 use std::alloc::Global;
-use x12_bytes::Header;
+use x12_bytes::{Delims, Header};
 
 /// What the first path gives.
 #[derive(Debug, Drop)]
@@ -35,8 +37,7 @@ pub(crate) fn reply<'a>(
     let envelope = reply_envelope(header, &group.header());
     let answer = answer_before_sets(alloc, group)?;
     let mut out = Vec::new(alloc);
-    append_opening(&mut out, &envelope, at, 1)?;
-    append_head(&mut out, &delims, &answer, 1)?;
+    append_front(&mut out, &envelope, at, &delims, &answer)?;
     let totals = append_answers(alloc, &mut out, &delims, group)?;
     let answer = judged(answer, &totals);
     append_tail(&mut out, &delims, &answer, &totals, 1)?;
@@ -45,4 +46,19 @@ pub(crate) fn reply<'a>(
         ack: Text::from_vec(out),
         verdict: answer.verdict,
     })
+}
+
+/// Writes the opening of interchange 1 and the head of its acknowledgment 1 behind what is there.
+fn append_front(
+    out: &mut Vec<u8>,
+    envelope: &Envelope,
+    at: &At,
+    delims: &Delims,
+    answer: &GroupAnswer,
+) -> Result<(), NoMemory>
+    ensures { OnOk result (out.new.items
+        ≡ (out.old.items ++ opening_text envelope.now at.now 1) ++ head_text delims.now answer.now 1) }
+{
+    append_opening(out, envelope, at, 1)?;
+    append_head(out, delims, answer, 1)
 }

@@ -41,8 +41,8 @@ returns-clause-ack c =
     let envelope : c.reply_envelope-envelope.result ≡ reply_envelope header group.header = c.reply_envelope-envelope.ensures ∙ ap (reply_envelope header) c.header.ensures in
     let completes = rw judged at c.in_ok-append_tail.ensures.whole in
     c.from_vec.ensures
-    ∙ whole_reply c.reply_envelope-envelope.result at c.delims-delims.result early late (answers_to group) c.in_ok-totals.totals _ _ _ _ _ _
-    c.new-out.ensures.items c.in_ok-append_opening.ensures c.in_ok-append_head.ensures c.in_ok-totals.ensures.text refl shows c.in_ok-totals.ensures.totals
+    ∙ whole_reply c.reply_envelope-envelope.result at c.delims-delims.result early late (answers_to group) c.in_ok-totals.totals _ _ _ _ _
+    c.new-out.ensures.items c.in_ok-append_front.ensures c.in_ok-totals.ensures.text refl shows c.in_ok-totals.ensures.totals
     completes c.in_ok-append_closing.ensures
     ∙ ap (λ (e : Envelope). interchange_text e at 1 (text_999 c.delims-delims.result late (answers_to group) 1 ∷ [])) envelope
     ∙ ap (λ (d : Delims). interchange_text (reply_envelope header group.header) at 1 (text_999 d late (answers_to group) 1 ∷ [])) delims
