@@ -1,16 +1,33 @@
-//! Rules of single data elements. So far a moment: a day and a time of day as the digits that
-//! X12's date and time elements are made of.
+//! Rules of data elements: what is wrong with the elements of a segment, by the rows and conditions that a guide has for
+//! it, and the moment of a run. Nothing here looks at more than one segment.
 //!
 //! Proved:
-//! - `At::read` answers a moment exactly for the twelve digits CCYYMMDDHHMM of a day and a time
-//!   that exist, and the moment is those digits;
-//! - `date`, `short_date` and `time` are its CCYYMMDD, YYMMDD and HHMM.
+//! - `check_segment` gives exactly the faults of a segment's elements: each fault of the definition and no other, each
+//!   once, rising by element, component, repetition and code, for any bytes, delimiters and number of elements. A fault
+//!   shows the reference number of the row at its place and, whole, the text that its code speaks of;
+//! - `At::read` answers a moment exactly for the twelve digits CCYYMMDDHHMM of a day and a time that exist, which is
+//!   where `check_segment` finds nothing wrong with the first eight as a date and the last four as a time;
+//! - `date`, `short_date` and `time` are a moment's CCYYMMDD, YYMMDD and HHMM.
 //!
-//! Source: X12.6, date and time data element types (DT, TM). `jiff` says which days exist.
+//! A segment is walked a fixed number of times, whatever its rows; memory is taken for the texts of the elements that
+//! have rows and for the faults alone.
+//!
+//! Source: X12.6, data element types, composite and repeated data elements, relational conditions; the 999 guide
+//! (005010X231), IK4. `jiff` says which days exist. What counts as empty, and dates of six digits, are own.
 #![tactic(auto)]
 
+mod calendar;
+mod check;
+mod conditions;
+mod divided;
+mod element;
+mod findings;
+mod form;
 mod moment;
+mod occurrence;
+mod value;
 
+pub use check::check_segment;
 pub use moment::At;
 
 #[cfg(test)]

@@ -1,8 +1,8 @@
-ghost use Rattle.std.specs.Prelude.{◌≡◌, ◌↔◌, ◌+◌, ◌-◌, ◌*◌, ◌≤◌, ◌<◌, ℕ, List, IsSome, IfSome, IsTrue, All, length, slice_index};
-ghost use Rattle.std.specs.Char.{IsAsciiDigit};
-ghost use Rattle.elem_rules.specs.Moment.{IsMoment, IsDay, pair_at, year_of, date_of, short_date_of, time_of};
+ghost use Rattle.std.specs.Prelude.{◌≡◌, ◌↔◌, ℕ, List, IsSome, is_some, IfSome, length};
+ghost use Rattle.elem_rules.specs.Moment.{IsMoment, date_of, short_date_of, time_of};
+ghost use Rattle.elem_rules.specs.Values.{is_moment};
 
-use jiff::civil::Date;
+use crate::calendar::{is_date, is_time};
 use std::marker::Model;
 
 /// The length of a moment in digits.
@@ -30,6 +30,7 @@ impl At {
     /// day and a time that exist.
     pub fn read(text: &[u8]) -> Option<At>
         ensures found { IsSome result ↔ IsMoment text.now }
+        ensures read_as_date_and_time { is_some result ≡ is_moment text.now }
         ensures same { IfSome result (λ at. at ≡ text.now) }
     {
         if !is_moment(text) {
@@ -73,56 +74,12 @@ impl At {
     }
 }
 
+/// Whether a text is twelve digits, of which the first eight are a date and the last four a time.
 fn is_moment(text: &[u8]) -> bool
-    ensures { IsTrue result ↔ IsMoment text.now }
+    ensures { result ≡ is_moment text.now }
 {
-    text.len() == MOMENT_LEN && are_digits(text) && is_in_range(text)
-}
-
-fn are_digits(text: &[u8]) -> bool
-    ensures { IsTrue result ↔ All IsAsciiDigit text.now }
-{
-    text.iter().all(|b| b.is_ascii_digit())
-}
-
-/// Whether the day and the time of twelve digits exist.
-fn is_in_range(text: &[u8]) -> bool
-    requires len { length text.now ≡ 12 }
-    requires digits { All IsAsciiDigit text.now }
-    ensures { IsTrue result ↔ IsMoment text.now }
-{
-    let year = year(text);
-    year >= 1
-        && is_day(year, pair(text, 4), pair(text, 6))
-        && pair(text, 8) <= 23
-        && pair(text, 10) <= 59
-}
-
-fn year(text: &[u8]) -> u16
-    requires len { length text.now ≡ 12 }
-    requires digits { All IsAsciiDigit text.now }
-    ensures value { result ≡ year_of text.now }
-    ensures bound { result ≤ 9999 }
-{
-    100 * u16::from(pair(text, 0)) + u16::from(pair(text, 2))
-}
-
-/// The number that the two digits at a place spell.
-fn pair(text: &[u8], place: usize) -> u8
-    requires digits { All IsAsciiDigit text.now }
-    requires within { place + 2 ≤ length text.now }
-    ensures value { result ≡ pair_at text.now place }
-    ensures bound { result ≤ 99 }
-{
-    10 * (text[place] - b'0') + (text[place + 1] - b'0')
-}
-
-/// Whether the calendar has the day.
-fn is_day(year: u16, month: u8, day: u8) -> bool
-    requires year { year ≤ 9999 }
-    requires month { month ≤ 99 }
-    requires day { day ≤ 99 }
-    ensures { IsTrue result ↔ IsDay year month day }
-{
-    Date::new(year as i16, month as i8, day as i8).is_ok()
+    if text.len() != MOMENT_LEN {
+        return false;
+    }
+    is_date(&text[..8]) && is_time(&text[8..])
 }

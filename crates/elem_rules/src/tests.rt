@@ -1,3 +1,10 @@
+mod composites;
+mod conditions;
+mod orders;
+mod slots;
+mod sound;
+mod values;
+
 use crate::At;
 use std::test::Fail;
 

@@ -1,0 +1,10 @@
+pub mod Agreeing
+pub mod Bounded
+pub mod Examples
+pub mod Members
+pub mod Membership
+pub mod Moments
+pub mod Once
+pub mod Shown
+pub mod Steps
+pub mod Wrongs

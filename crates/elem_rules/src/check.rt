@@ -1,0 +1,137 @@
+ghost use Rattle.std.specs.Prelude.{◌≡◌, ◌↔◌, ◌≤◌, ◌++◌, IsTrue, All, IfOk, OnOk, Some, length, take, drop};
+ghost use Rattle.std.specs.List.{Contains, list_all};
+ghost use Rattle.std.specs.Ordering.{eq_by_cmp};
+ghost use Rattle.hub_kinds.specs.declared.fault.ElemFault.{ElemFault};
+ghost use Rattle.hub_kinds.specs.Fault.{elem_key};
+ghost use Rattle.hub_kinds.specs.Codes.{element_rank};
+ghost use Rattle.x12_segs.specs.View.{elements_of};
+ghost use Rattle.guide_tree.specs.Bounds.{is_slot_bounded, is_element_bounded};
+ghost use Rattle.guide_tree.specs.Conditions.{is_condition_of};
+ghost use Rattle.elem_rules.specs.ElementFaults.{IsElementFault, IsRising, order_of};
+ghost use Rattle.elem_rules.specs.Found.{read, rows_found, extra_found, found};
+
+use crate::conditions::{Elements, check_conditions, text_at};
+use crate::divided::has_more;
+use crate::element::{Subject, check_element};
+use crate::findings::{Findings, Spot};
+use guide_tree::Slot;
+use hub_kinds::{ElemFault, ElementCode, NoMemory};
+use std::alloc::Global;
+use std::cmp::Ordering;
+use x12_segs::SegView;
+
+/// The texts of a segment's first `n` elements; fewer where it has fewer.
+fn first_texts<'a>(alloc: Global, seg: &SegView<'a>, n: usize) -> Result<Vec<&'a [u8]>, NoMemory>
+    ensures { IfOk result (λ v. read v.items ≡ take n (drop 1 (elements_of seg.now))) }
+{
+    let texts = seg.elements().take(n).collect(alloc)?;
+    Ok(texts)
+}
+
+/// Adds what is wrong in the elements that have rows.
+fn check_rows(found: &mut Findings, of: &Elements) -> Result<(), NoMemory>
+    requires few { length of.now.rows.now ≤ 40 }
+    requires bounded { All (λ row. IsTrue (is_element_bounded row)) of.now.rows.now }
+    ensures { OnOk result
+        (found.new ≡ found.old ++ rows_found of.now.delims of.now.rows.now (read of.now.texts.now)) }
+{
+    for k in 0..of.rows.len() {
+        let element = k as u32 + 1;
+        let at = Subject {
+            delims: of.delims,
+            element,
+            text: text_at(of.texts, element),
+        };
+        check_element(found, &at, &of.rows[k])?;
+    }
+    Ok(())
+}
+
+/// Adds the fault of a segment with more elements than rows.
+fn check_extra(found: &mut Findings, seg: &SegView, slot: &Slot) -> Result<(), NoMemory>
+    requires { length slot.now.elements ≤ 40 }
+    ensures { OnOk result
+        (found.new ≡ found.old ++ extra_found seg.now.delims slot.now (elements_of seg.now)) }
+{
+    let rows = slot.elements.as_slice().len();
+    if !has_more(seg.delims(), rows, seg.elements()) {
+        return Ok(());
+    }
+    let spot = Spot {
+        element: rows as u32 + 1,
+        component: 0,
+        repetition: 0,
+    };
+    found.add(
+        spot,
+        ElementCode::TooManyElements,
+        b"",
+        seg.element(rows + 1),
+    )
+}
+
+/// The faults of a segment's elements in the order in which they are found.
+fn find(alloc: Global, seg: &SegView, slot: &Slot) -> Result<Findings, NoMemory>
+    requires { IsTrue (is_slot_bounded slot.now) }
+    ensures { IfOk result (λ f. f ≡ found seg.now.delims (elements_of seg.now) slot.now) }
+{
+    let rows = slot.elements.as_slice();
+    let texts = first_texts(alloc, seg, rows.len())?;
+    let of = Elements {
+        delims: seg.delims(),
+        rows,
+        texts: texts.as_slice(),
+    };
+    let mut found = Findings::new(alloc);
+    check_rows(&mut found, &of)?;
+    check_extra(&mut found, seg, slot)?;
+    check_conditions(alloc, &mut found, &of, slot.conditions.as_slice())?;
+    Ok(found)
+}
+
+fn element_rank(code: ElementCode) -> u32
+    ensures { result ≡ element_rank code }
+{
+    code as u32
+}
+
+fn elem_key(fault: &ElemFault) -> [u32; 4]
+    ensures { result ≡ elem_key (Some fault.now) }
+{
+    [
+        fault.element,
+        fault.component,
+        fault.repetition,
+        element_rank(fault.code),
+    ]
+}
+
+/// Which of two faults of a segment comes first: by element, component, repetition and code.
+fn elem_order(a: &ElemFault, b: &ElemFault) -> Ordering
+    ensures { result ≡ order_of a.now b.now }
+{
+    elem_key(a).cmp(&elem_key(b))
+}
+
+fn has_same_key(a: &ElemFault, b: &ElemFault) -> bool
+    ensures { result ≡ eq_by_cmp order_of a.now b.now }
+{
+    elem_order(a, b).is_eq()
+}
+
+/// The faults of a segment's elements by the rows and conditions of its slot (999 guide, IK4): all of them, each once,
+/// by element, component, repetition and code. The slot keeps the bounds of an accepted guide, and its conditions
+/// name elements that have rows, as each slot of a checked `Guide` does.
+pub fn check_segment(alloc: Global, seg: &SegView, slot: &Slot) -> Result<Vec<ElemFault>, NoMemory>
+    requires bounded { IsTrue (is_slot_bounded slot.now) }
+    requires conditions { IsTrue (list_all (is_condition_of slot.now) slot.now.conditions) }
+    ensures exact { IfOk result
+        (λ v. (f : ElemFault) → Contains v.items f
+        ↔ IsElementFault seg.now.delims (elements_of seg.now) slot.now f) }
+    ensures rising { IfOk result (λ v. IsRising v.items) }
+{
+    let mut faults = find(alloc, seg, slot)?.into_faults();
+    faults.sort_unstable_by(|a, b| elem_order(a, b));
+    faults.dedup_by(|next, kept| has_same_key(next, kept));
+    Ok(faults)
+}

@@ -1,0 +1,235 @@
+//! Slots and segments of the tests, and how their faults are written.
+ghost use Rattle.std.specs.Prelude.{IsTrue};
+ghost use Rattle.std.specs.List.{list_all};
+ghost use Rattle.guide_tree.specs.Bounds.{is_slot_bounded};
+ghost use Rattle.guide_tree.specs.Conditions.{is_condition_of};
+
+use super::sound::{is_bounded, is_conditioned};
+use crate::check_segment;
+use guide_tree::{
+    CodeList, Component, CompositeRow, Condition, Element, ElementType, Relation, Requirement,
+    SimpleRow, Slot,
+};
+use hub_kinds::{ElemFault, Items, NoMemory, Text, Texts, code_text};
+use std::alloc::Global;
+use std::test::Fail;
+use x12_bytes::Delims;
+use x12_segs::SegView;
+
+pub const DELIMS: Delims = Delims {
+    element: b'*',
+    component: b'>',
+    repetition: Some(b'^'),
+    terminator: b'~',
+};
+
+/// What a test says of a row; the codes stand with a space between them.
+#[derive(Clone, Copy)]
+pub struct Line {
+    pub reference: &'static str,
+    pub requirement: Requirement,
+    pub data_type: ElementType,
+    pub min: u32,
+    pub max: u32,
+    pub repeat: u32,
+    pub wide: bool,
+    pub used: &'static str,
+    pub unused: &'static str,
+}
+
+/// An optional row of a text of one byte, without codes.
+pub fn optional(reference: &'static str) -> Line {
+    Line {
+        reference,
+        requirement: Requirement::Optional,
+        data_type: ElementType::Text,
+        min: 1,
+        max: 1,
+        repeat: 1,
+        wide: false,
+        used: "",
+        unused: "",
+    }
+}
+
+pub fn text(alloc: Global, bytes: &str) -> Result<Text, NoMemory> {
+    Ok(Items::from_vec(Vec::from_slice(alloc, bytes.as_bytes())?))
+}
+
+fn texts(alloc: Global, listed: &str) -> Result<Texts, NoMemory> {
+    let mut texts = Vec::new(alloc);
+    for code in listed.split(' ') {
+        texts.push(text(alloc, code)?)?;
+    }
+    Ok(Items::from_vec(texts))
+}
+
+fn codes(alloc: Global, line: &Line) -> Result<Option<CodeList>, NoMemory> {
+    if line.used.is_empty() {
+        return Ok(None);
+    }
+    let used = texts(alloc, line.used)?;
+    let unused = Some(texts(alloc, line.unused)?);
+    Ok(Some(CodeList { used, unused }))
+}
+
+fn row(alloc: Global, line: &Line) -> Result<SimpleRow, NoMemory> {
+    let codes = codes(alloc, line)?;
+    Ok(SimpleRow {
+        reference: text(alloc, line.reference)?,
+        requirement: line.requirement,
+        data_type: line.data_type,
+        min: line.min,
+        max: line.max,
+        wide: line.wide,
+        codes,
+    })
+}
+
+/// Adds a row for each line.
+pub fn add_rows(alloc: Global, rows: &mut Vec<Element>, lines: &[Line]) -> Result<(), NoMemory> {
+    for line in lines {
+        let row = row(alloc, line)?;
+        rows.push(Element::Simple(row, line.repeat))?;
+    }
+    Ok(())
+}
+
+/// Adds a component for each line.
+pub fn add_components(
+    alloc: Global,
+    components: &mut Vec<Component>,
+    lines: &[Line],
+) -> Result<(), NoMemory> {
+    for line in lines {
+        let row = row(alloc, line)?;
+        components.push(Component::Simple(row))?;
+    }
+    Ok(())
+}
+
+pub fn composite(
+    alloc: Global,
+    reference: &str,
+    requirement: Requirement,
+    repeat: u32,
+    components: Vec<Component>,
+) -> Result<Element, NoMemory> {
+    Ok(Element::Composite(CompositeRow {
+        reference: text(alloc, reference)?,
+        requirement,
+        repeat,
+        components: Items::from_vec(components),
+    }))
+}
+
+pub fn add_condition(
+    alloc: Global,
+    conditions: &mut Vec<Condition>,
+    relation: Relation,
+    positions: &[u32],
+) -> Result<(), NoMemory> {
+    let positions = Items::from_vec(Vec::from_slice(alloc, positions)?);
+    conditions.push(Condition {
+        relation,
+        positions,
+    })?;
+    Ok(())
+}
+
+pub fn slot(
+    alloc: Global,
+    elements: Vec<Element>,
+    conditions: Vec<Condition>,
+) -> Result<Slot, NoMemory> {
+    Ok(Slot {
+        number: 1,
+        id: text(alloc, "SEG")?,
+        label: None,
+        min: 0,
+        max: 1,
+        picks: Items::from_vec(Vec::new(alloc)),
+        elements: Items::from_vec(elements),
+        conditions: Items::from_vec(conditions),
+    })
+}
+
+/// A slot of simple rows without conditions.
+pub fn slot_of(alloc: Global, lines: &[Line]) -> Result<Slot, NoMemory> {
+    let mut rows = Vec::new(alloc);
+    add_rows(alloc, &mut rows, lines)?;
+    slot(alloc, rows, Vec::new(alloc))
+}
+
+/// A slot of simple rows with one condition.
+pub fn conditioned(
+    alloc: Global,
+    lines: &[Line],
+    relation: Relation,
+    positions: &[u32],
+) -> Result<Slot, NoMemory> {
+    let mut conditions = Vec::new(alloc);
+    add_condition(alloc, &mut conditions, relation, positions)?;
+    let mut rows = Vec::new(alloc);
+    add_rows(alloc, &mut rows, lines)?;
+    slot(alloc, rows, conditions)
+}
+
+/// Each fault as `element component repetition code reference copy;`.
+fn written(alloc: Global, faults: &[ElemFault]) -> Result<Vec<u8>, Fail> {
+    let mut out = Vec::new(alloc);
+    for fault in faults {
+        let place = format!(in alloc;
+            "{} {} {} {} ",
+            fault.element,
+            fault.component,
+            fault.repetition,
+            code_text(fault.code)
+        )?;
+        out.extend_from_slice(place.as_bytes())?;
+        out.extend_from_slice(fault.reference.as_slice())?;
+        out.push(b' ')?;
+        out.extend_from_slice(fault.copy.as_slice())?;
+        out.push(b';')?;
+    }
+    Ok(out)
+}
+
+fn found(alloc: Global, delims: Delims, slot: &Slot, segment: &[u8]) -> Result<Vec<u8>, Fail>
+    requires bounded { IsTrue (is_slot_bounded slot.now) }
+    requires conditions { IsTrue (list_all (is_condition_of slot.now) slot.now.conditions) }
+{
+    let faults = check_segment(alloc, &SegView::new(0, segment, delims), slot)?;
+    written(alloc, faults.as_slice())
+}
+
+/// Whether a segment has just these faults.
+pub fn expect_bytes(
+    alloc: Global,
+    delims: Delims,
+    slot: &Slot,
+    segment: &[u8],
+    faults: &[u8],
+) -> Result<(), Fail> {
+    if !is_bounded(slot) || !is_conditioned(slot) {
+        return Err("no slot of an accepted guide")?;
+    }
+    let found = found(alloc, delims, slot, segment)?;
+    if found.as_slice() != faults {
+        return Err("other faults than those expected")?;
+    }
+    Ok(())
+}
+
+/// Whether each segment has just the faults beside it.
+pub fn expect(
+    alloc: Global,
+    delims: Delims,
+    slot: &Slot,
+    cases: &[(&str, &str)],
+) -> Result<(), Fail> {
+    for (segment, faults) in cases {
+        expect_bytes(alloc, delims, slot, segment.as_bytes(), faults.as_bytes())?;
+    }
+    Ok(())
+}

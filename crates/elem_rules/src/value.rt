@@ -1,0 +1,55 @@
+ghost use Rattle.std.specs.Prelude.{◌≡◌};
+ghost use Rattle.std.specs.Option.{option_map};
+ghost use Rattle.guide_tree.specs.Segments.{contains_text};
+ghost use Rattle.elem_rules.specs.Values.{code_fault, calendar_fault, value_fault};
+
+use crate::calendar::{is_date, is_time};
+use crate::form::{is_form, value_length};
+use guide_tree::{CodeList, ElementType, SimpleRow};
+use hub_kinds::{ElementCode, Text};
+
+fn contains_text(texts: &[Text], text: &[u8]) -> bool
+    ensures { result ≡ contains_text texts.now text.now }
+{
+    texts.iter().any(|listed| listed.as_slice() == text)
+}
+
+fn code_fault(codes: Option<&CodeList>, text: &[u8]) -> Option<ElementCode>
+    ensures { result ≡ code_fault (option_map (λ listed. listed.now) codes.entry) text.now }
+{
+    let listed = codes?;
+    if contains_text(listed.used.as_slice(), text) {
+        return None;
+    }
+    match &listed.unused {
+        Some(unused) if contains_text(unused.as_slice(), text) => Some(ElementCode::CodeNotUsed),
+        _ => Some(ElementCode::InvalidCode),
+    }
+}
+
+fn calendar_fault(data_type: ElementType, text: &[u8]) -> Option<ElementCode>
+    ensures { result ≡ calendar_fault data_type text.now }
+{
+    match data_type {
+        ElementType::Date if !is_date(text) => Some(ElementCode::InvalidDate),
+        ElementType::Time if !is_time(text) => Some(ElementCode::InvalidTime),
+        _ => None,
+    }
+}
+
+/// The first fault of a value that isn't empty: its form, its length, its code, its date or time (999 guide, IK403).
+pub fn value_fault(row: &SimpleRow, text: &[u8]) -> Option<ElementCode>
+    ensures { result ≡ value_fault row.now text.now }
+{
+    if !is_form(row.data_type, row.wide, text) {
+        return Some(ElementCode::InvalidCharacter);
+    }
+    let length = value_length(row.data_type, text);
+    if length < row.min as usize {
+        return Some(ElementCode::TooShort);
+    }
+    if length > row.max as usize {
+        return Some(ElementCode::TooLong);
+    }
+    code_fault(row.codes.as_ref(), text).or(calendar_fault(row.data_type, text))
+}
