@@ -1,7 +1,7 @@
 #!/bin/bash
 # Refuses each request for memory in turn, on the bundled interchange, until none is left to refuse: each time the
 # program has to end with status 6 and print no acknowledgment, or to print the whole one. (It prints the whole one
-# where what was asked for isn't needed, as the ninth, which is left out of the program as it is linked.)
+# where what was asked for isn't needed, as the ninth.)
 # Takes about half a minute a request, so it is run by hand.
 here=$(cd "$(dirname "${BASH_SOURCE[0]}")/.." && pwd) || exit 1
 wanted=$(cat "$here"/examples/first/one_order.999)
