@@ -1,171 +1,191 @@
 //! The house guides, and files that are refused.
-use crate::{GuideFileFault, read_guide};
+use crate::read_guide;
 
 mod house;
 
-use guide_tree::{Element, ElementType, GuideFault, Node};
+use guide_tree::{CodeList, Element, ElementType, Guide, Node};
 use house::{H850, H856};
-use std::alloc::Global;
+use std::alloc::{AllocError, Global};
 use std::test::Fail;
 
+const HEAD: &str = "name=\"G\"\ngroup=\"PO\"\nset=\"850\"\nversion=\"005010\"\n";
+
+/// The fault of a file, as a text; `None` where it is read.
+fn fault_of(alloc: Global, file: &[u8]) -> Result<String, AllocError> {
+    match read_guide(alloc, file) {
+        Ok(_) => String::from_str(alloc, "None"),
+        Err(fault) => format!(in alloc; "{fault:?}"),
+    }
+}
+
+/// The same of a file with these nodes.
+fn node_fault(alloc: Global, nodes: &str) -> Result<String, AllocError> {
+    let file = format!(in alloc; "{HEAD}nodes=[{nodes}]\n")?;
+    fault_of(alloc, file.as_bytes())
+}
+
+/// The same of a file of one segment with this row.
+fn row_fault(alloc: Global, row: &str) -> Result<String, AllocError> {
+    let node = format!(in alloc; "{{seg=\"REF\",min=0,max=1,elements=[\"{row}\"]}}")?;
+    node_fault(alloc, node.as_str())
+}
+
+fn push_id(out: &mut String, id: &[u8]) -> Result<(), AllocError> {
+    for byte in id {
+        out.push(char::from(*byte))?;
+    }
+    Ok(())
+}
+
+fn push_slot(out: &mut String, number: u32, kind: &str, id: &[u8]) -> Result<(), AllocError> {
+    write!(out, " {number} {kind}")?;
+    push_id(out, id)
+}
+
 /// The numbers and ids of slots, parents first; a loop's id stands behind `loop`.
-fn listed(alloc: Global, nodes: &[Node], out: &mut String) -> Result<(), Fail> {
+fn listed(nodes: &[Node], out: &mut String) -> Result<(), AllocError> {
     for node in nodes {
         match node {
-            Node::Segment(slot) => {
-                out.push_str(format!(in alloc; " {}", slot.number)?.as_str())?;
-                out.push_str(" ")?;
-                for byte in slot.id.as_slice() {
-                    out.push(char::from(*byte))?;
-                }
-            }
+            Node::Segment(slot) => push_slot(out, slot.number, "", slot.id.as_slice())?,
             Node::Loop(head, inner) => {
-                out.push_str(format!(in alloc; " {} loop ", head.number)?.as_str())?;
-                for byte in head.id.as_slice() {
-                    out.push(char::from(*byte))?;
-                }
-                listed(alloc, inner, out)?;
+                push_slot(out, head.number, "loop ", head.id.as_slice())?;
+                listed(inner, out)?;
             }
         }
     }
     Ok(())
 }
 
-fn slots(alloc: Global, text: &str) -> Result<String, Fail> {
-    let guide = read_guide(alloc, text.as_bytes())?;
+fn slots(alloc: Global, guide: &Guide) -> Result<String, AllocError> {
     let mut out = String::new(alloc);
-    listed(alloc, &guide.rows().nodes, &mut out)?;
+    listed(&guide.rows().nodes, &mut out)?;
     Ok(out)
 }
 
+fn counts_codes(codes: &CodeList, used: usize) -> bool {
+    codes.used.as_slice().len() == used && codes.unused.is_some()
+}
+
+/// Whether it is an identifier of this reference, once, with so many codes that are used and some that are not.
+fn is_identifier(element: &Element, reference: &[u8], used: usize) -> bool {
+    match element {
+        Element::Simple(row, repeat) => {
+            row.reference.as_slice() == reference
+                && row.data_type == ElementType::Identifier
+                && *repeat == 1
+                && row
+                    .codes
+                    .as_ref()
+                    .is_some_and(|codes| counts_codes(codes, used))
+        }
+        _ => false,
+    }
+}
+
+/// The elements of the first node, a segment.
+fn first_elements(guide: &Guide) -> &[Element] {
+    match guide.rows().nodes.first() {
+        Some(Node::Segment(slot)) => slot.elements.as_slice(),
+        _ => &[],
+    }
+}
+
+/// Whether levels count from 1, and how many pairs of levels there are.
+fn hierarchy(guide: &Guide) -> Option<(bool, usize)> {
+    match &guide.rows().hl {
+        None => None,
+        Some(rule) => Some((rule.sequential, rule.pairs.as_slice().len())),
+    }
+}
+
 #[test]
-fn house_guides(rt: HostRuntime) -> Result<(), Fail> {
-    let alloc = rt.alloc();
+fn house_order(rt: HostRuntime) -> Result<(), Fail> {
+    let guide = read_guide(rt.alloc(), H850.as_bytes())?;
     assert_eq!(rt;
-        slots(alloc, H850)?.as_str(),
+        slots(rt.alloc(), &guide)?.as_str(),
         " 1 BEG 2 REF 3 DTM 4 loop N9 5 N9 6 MSG 7 loop N1 8 N1 9 N3 10 N4 11 loop PO1 12 PO1 13 PID 14 CTT"
     );
+    Ok(())
+}
+
+#[test]
+fn house_order_head(rt: HostRuntime) -> Result<(), Fail> {
+    let guide = read_guide(rt.alloc(), H850.as_bytes())?;
+    let head = &guide.rows().head;
+    assert_eq!(rt; head.name.as_slice(), b"H850".as_slice());
+    assert_eq!(rt; head.dictionary.as_slice().len(), 5);
+    assert_eq!(rt; head.tolerate_element.as_slice().len(), 1);
+    assert_eq!(rt; hierarchy(&guide), None);
+    Ok(())
+}
+
+#[test]
+fn house_order_elements(rt: HostRuntime) -> Result<(), Fail> {
+    let guide = read_guide(rt.alloc(), H850.as_bytes())?;
+    let elements = first_elements(&guide);
+    assert_eq!(rt; elements.len(), 5);
+    assert!(rt; is_identifier(&elements[0], b"353", 2));
+    Ok(())
+}
+
+#[test]
+fn house_ship_notice(rt: HostRuntime) -> Result<(), Fail> {
+    let guide = read_guide(rt.alloc(), H856.as_bytes())?;
     assert_eq!(rt;
-        slots(alloc, H856)?.as_str(),
+        slots(rt.alloc(), &guide)?.as_str(),
         " 1 BSN 2 loop HL 3 HL 4 LIN 5 SN1 6 PRF 7 TD5 8 REF 9 MAN 10 DTM 11 loop N1 12 N1"
     );
-    let guide = read_guide(alloc, H850.as_bytes())?;
-    let rows = guide.rows();
-    assert_eq!(rt; rows.head.name.as_slice(), b"H850".as_slice());
-    assert_eq!(rt; rows.head.dictionary.as_slice().len(), 5);
-    assert_eq!(rt; rows.head.tolerate_element.as_slice().len(), 1);
-    assert!(rt; rows.hl.is_none());
-    match rows.nodes.first() {
-        Some(Node::Segment(beg)) => {
-            assert_eq!(rt; beg.elements.as_slice().len(), 5);
-            match beg.elements.as_slice().first() {
-                Some(Element::Simple(row, repeat)) => {
-                    assert_eq!(rt; row.reference.as_slice(), b"353".as_slice());
-                    assert!(rt; matches!(row.data_type, ElementType::Identifier));
-                    assert_eq!(rt; *repeat, 1);
-                    assert!(rt;
-                        matches!(&row.codes, Some(codes) if codes.used.as_slice().len() == 2 && codes.unused.is_some())
-                    );
-                }
-                _ => assert!(rt; false),
-            }
-        }
-        _ => assert!(rt; false),
-    }
-    let guide = read_guide(alloc, H856.as_bytes())?;
-    assert!(rt;
-        matches!(&guide.rows().hl, Some(rule) if rule.sequential && rule.pairs.as_slice().len() == 5)
-    );
+    assert_eq!(rt; hierarchy(&guide), Some((true, 5)));
     assert_eq!(rt; guide.rows().depends.as_slice().len(), 1);
     Ok(())
 }
 
-fn fault_of(alloc: Global, text: &str) -> Option<GuideFileFault> {
-    match read_guide(alloc, text.as_bytes()) {
-        Ok(_) => None,
-        Err(fault) => Some(fault),
-    }
-}
-
-const HEAD: &str = "name=\"G\"\ngroup=\"PO\"\nset=\"850\"\nversion=\"005010\"\n";
-
-fn with_nodes(alloc: Global, nodes: &str) -> Result<Option<GuideFileFault>, Fail> {
-    let text = format!(in alloc; "{HEAD}nodes=[{nodes}]\n")?;
-    Ok(fault_of(alloc, text.as_str()))
-}
-
 #[test]
-fn first_faults(rt: HostRuntime) -> Result<(), Fail> {
-    let alloc = rt.alloc();
-    assert!(rt; matches!(fault_of(alloc, ""), Some(GuideFileFault::Missing("name"))));
-    assert!(rt;
-        matches!(fault_of(alloc, "zeta=1\nalpha=1\n"), Some(GuideFileFault::Unknown(key)) if key.as_str() == "alpha")
-    );
-    assert!(rt;
-        matches!(
-            fault_of(alloc, "name=7\n"),
-            Some(GuideFileFault::WrongKind("name"))
-        )
-    );
-    assert!(rt; matches!(fault_of(alloc, "name=\n"), Some(GuideFileFault::NotToml)));
-    assert!(rt; matches!(read_guide(alloc, &[0xff]), Err(GuideFileFault::NotToml)));
-    assert!(rt; matches!(with_nodes(alloc, "")?, None));
-    assert!(rt;
-        matches!(
-            with_nodes(alloc, "1")?,
-            Some(GuideFileFault::WrongKind("nodes"))
-        )
-    );
-    assert!(rt;
-        matches!(
-            with_nodes(alloc, "{}")?,
-            Some(GuideFileFault::WrongKind("seg"))
-        )
-    );
-    assert!(rt;
-        matches!(
-            with_nodes(alloc, "{seg=\"REF\",loop=\"REF\",z=1}")?,
-            Some(GuideFileFault::Unknown(_))
-        )
-    );
-    assert!(rt;
-        matches!(
-            with_nodes(alloc, "{seg=\"REF\",min=0}")?,
-            Some(GuideFileFault::Missing("max"))
-        )
-    );
-    assert!(rt;
-        matches!(
-            with_nodes(alloc, "{loop=\"L\",min=0,nodes=[{}]}")?,
-            Some(GuideFileFault::Missing("max"))
-        )
-    );
-    assert!(rt;
-        matches!(
-            with_nodes(alloc, "{seg=\"REF\",min=2,max=1,elements=[]}")?,
-            Some(GuideFileFault::Guide(GuideFault::BadBounds(1)))
-        )
-    );
-    assert!(rt;
-        matches!(
-            with_nodes(
-                alloc,
-                "{seg=\"REF\",min=0,max=1,elements=[\"1 M AN 1 1\",\"2 O AN 1 1\"],conditions=[\"R02\"]}"
-            )?,
-            Some(GuideFileFault::Guide(GuideFault::BadCondition(1)))
-        )
-    );
+fn first_faults(rt: HostRuntime) -> Result<(), AllocError> {
+    for (file, want) in [
+        ("", "Missing(\"name\")"),
+        ("zeta=1\nalpha=1\n", "Unknown(\"alpha\")"),
+        ("name=7\n", "WrongKind(\"name\")"),
+        ("name=\n", "NotToml"),
+    ] {
+        let found = fault_of(rt.alloc(), file.as_bytes())?;
+        assert_eq!(rt; found.as_str(), want, "{file}");
+    }
     Ok(())
 }
 
-fn row_fault(alloc: Global, row: &str) -> Result<Option<GuideFileFault>, Fail> {
-    let node = format!(in alloc; "{{seg=\"REF\",min=0,max=1,elements=[\"{row}\"]}}")?;
-    with_nodes(alloc, node.as_str())
+#[test]
+fn no_text(rt: HostRuntime) -> Result<(), AllocError> {
+    assert_eq!(rt; fault_of(rt.alloc(), &[0xff])?.as_str(), "NotToml");
+    Ok(())
 }
 
 #[test]
-fn element_rows(rt: HostRuntime) -> Result<(), Fail> {
-    let alloc = rt.alloc();
+fn first_faults_of_nodes(rt: HostRuntime) -> Result<(), AllocError> {
+    for (nodes, want) in [
+        ("", "None"),
+        ("1", "WrongKind(\"nodes\")"),
+        ("{}", "WrongKind(\"seg\")"),
+        ("{seg=\"REF\",loop=\"REF\",z=1}", "Unknown(\"z\")"),
+        ("{seg=\"REF\",min=0}", "Missing(\"max\")"),
+        ("{loop=\"L\",min=0,nodes=[{}]}", "Missing(\"max\")"),
+        (
+            "{seg=\"REF\",min=2,max=1,elements=[]}",
+            "Guide(BadBounds(1))",
+        ),
+        (
+            "{seg=\"REF\",min=0,max=1,elements=[\"1 M AN 1 1\",\"2 O AN 1 1\"],conditions=[\"R02\"]}",
+            "Guide(BadCondition(1))",
+        ),
+    ] {
+        let found = node_fault(rt.alloc(), nodes)?;
+        assert_eq!(rt; found.as_str(), want, "{nodes}");
+    }
+    Ok(())
+}
+
+#[test]
+fn element_rows(rt: HostRuntime) -> Result<(), AllocError> {
     for row in [
         "353 M ID 2 2",
         "- O N2 1 9 x3",
@@ -175,8 +195,14 @@ fn element_rows(rt: HostRuntime) -> Result<(), Fail> {
         "40 O C",
         "1 M R 01 0004",
     ] {
-        assert!(rt; row_fault(alloc, row)?.is_none(), "{row}");
+        let found = row_fault(rt.alloc(), row)?;
+        assert_eq!(rt; found.as_str(), "None", "{row}");
     }
+    Ok(())
+}
+
+#[test]
+fn malformed_element_rows(rt: HostRuntime) -> Result<(), AllocError> {
     for row in [
         "",
         "353",
@@ -191,14 +217,14 @@ fn element_rows(rt: HostRuntime) -> Result<(), Fail> {
         "40 O C ; 1 M AN 1 2 x2",
         "353 M ID 2 2 wide x2",
     ] {
-        assert!(rt;
-            matches!(
-                row_fault(alloc, row)?,
-                Some(GuideFileFault::WrongKind("elements"))
-            ),
-            "{row}"
-        );
+        let found = row_fault(rt.alloc(), row)?;
+        assert_eq!(rt; found.as_str(), "WrongKind(\"elements\")", "{row}");
     }
+    Ok(())
+}
+
+#[test]
+fn element_rows_out_of_bounds(rt: HostRuntime) -> Result<(), AllocError> {
     for row in [
         "353 M ID 2 2 =",
         "353 M ID 2 2 = A !",
@@ -206,52 +232,45 @@ fn element_rows(rt: HostRuntime) -> Result<(), Fail> {
         "353 M ID 3 2",
         "353 M ID 1 2 x0",
     ] {
-        assert!(rt;
-            matches!(
-                row_fault(alloc, row)?,
-                Some(GuideFileFault::Guide(GuideFault::BadBounds(1)))
-            ),
-            "{row}"
-        );
+        let found = row_fault(rt.alloc(), row)?;
+        assert_eq!(rt; found.as_str(), "Guide(BadBounds(1))", "{row}");
     }
     Ok(())
 }
 
-/// A second REF right behind slot 2 of H850.
-#[test]
-fn rival_in_a_house_guide(rt: HostRuntime) -> Result<(), Fail> {
-    let alloc = rt.alloc();
+/// H850 with a second REF right behind its slot 2.
+fn with_rival(alloc: Global) -> Result<String, AllocError> {
     let behind = " {seg=\"DTM\"";
     match H850.split_once(behind) {
-        None => assert!(rt; false),
-        Some((front, back)) => {
-            let text = format!(in alloc;
-                "{front} {{seg=\"REF\", min=0, max=1, elements=[]}},\n{behind}{back}"
-            )?;
-            assert!(rt;
-                matches!(
-                    fault_of(alloc, text.as_str()),
-                    Some(GuideFileFault::Guide(GuideFault::Ambiguous(2, 3)))
-                )
-            );
-        }
+        None => String::from_str(alloc, H850),
+        Some((front, back)) => format!(in alloc;
+            "{front} {{seg=\"REF\", min=0, max=1, elements=[]}},\n{behind}{back}"
+        ),
     }
+}
+
+#[test]
+fn rival_in_a_house_guide(rt: HostRuntime) -> Result<(), AllocError> {
+    let file = with_rival(rt.alloc())?;
+    let found = fault_of(rt.alloc(), file.as_bytes())?;
+    assert_eq!(rt; found.as_str(), "Guide(Ambiguous(2, 3))");
     Ok(())
 }
 
 /// Loops nested so deep, each with a first segment of its own.
-fn nested(alloc: Global, depth: u8) -> Result<String, Fail> {
+fn nested(alloc: Global, depth: u8) -> Result<String, AllocError> {
     let mut nodes = String::new(alloc);
     for level in 0..depth {
         let letter = char::from(b'A' + level % 26);
-        let first = format!(in alloc; "{{seg=\"A{letter}\",min=1,max=1,elements=[]}}")?;
-        nodes = format!(in alloc; "{{loop=\"L\",min=0,max=9,nodes=[{first},{nodes}]}}")?;
+        nodes = format!(in alloc;
+            "{{loop=\"L\",min=0,max=9,nodes=[{{seg=\"A{letter}\",min=1,max=1,elements=[]}},{nodes}]}}"
+        )?;
     }
     Ok(nodes)
 }
 
 /// So many segments, each with an id of its own.
-fn many(alloc: Global, count: u32) -> Result<String, Fail> {
+fn many(alloc: Global, count: u32) -> Result<String, AllocError> {
     let mut nodes = String::new(alloc);
     for i in 0..count {
         nodes.push_str("{seg=\"")?;
@@ -263,42 +282,43 @@ fn many(alloc: Global, count: u32) -> Result<String, Fail> {
     Ok(nodes)
 }
 
+fn nested_fault(alloc: Global, depth: u8) -> Result<String, AllocError> {
+    let nodes = nested(alloc, depth)?;
+    node_fault(alloc, nodes.as_str())
+}
+
+fn fault_of_many(alloc: Global, count: u32) -> Result<String, AllocError> {
+    let nodes = many(alloc, count)?;
+    node_fault(alloc, nodes.as_str())
+}
+
+/// What the check of the guide refuses for its size.
+#[test]
+fn limits(rt: HostRuntime) -> Result<(), AllocError> {
+    assert_eq!(rt; nested_fault(rt.alloc(), 8)?.as_str(), "None");
+    assert_eq!(rt; nested_fault(rt.alloc(), 9)?.as_str(), "Guide(TooDeep)");
+    assert_eq!(rt;
+        fault_of_many(rt.alloc(), 2_001)?.as_str(),
+        "Guide(TooMany)"
+    );
+    Ok(())
+}
+
 /// What the check of the guide refuses, by files.
 #[test]
-fn refused_guides(rt: HostRuntime) -> Result<(), Fail> {
-    let alloc = rt.alloc();
-    assert!(rt; with_nodes(alloc, nested(alloc, 8)?.as_str())?.is_none());
-    let nodes = nested(alloc, 9)?;
-    assert!(rt;
-        matches!(
-            with_nodes(alloc, nodes.as_str())?,
-            Some(GuideFileFault::Guide(GuideFault::TooDeep))
-        )
-    );
-    let nodes = many(alloc, 2_001)?;
-    assert!(rt;
-        matches!(
-            with_nodes(alloc, nodes.as_str())?,
-            Some(GuideFileFault::Guide(GuideFault::TooMany))
-        )
-    );
-    assert!(rt;
-        matches!(
-            with_nodes(
-                alloc,
-                "{seg=\"REF\",min=0,max=1,elements=[]},{seg=\"REF\",min=0,max=1,elements=[]}"
-            )?,
-            Some(GuideFileFault::Guide(GuideFault::Ambiguous(1, 2)))
-        )
-    );
-    assert!(rt;
-        matches!(
-            with_nodes(
-                alloc,
-                "{seg=\"BEG\",min=1,max=1,elements=[]},{loop=\"L\",min=0,max=9,nodes=[{seg=\"N1\",min=1,max=2,elements=[]}]}"
-            )?,
-            Some(GuideFileFault::Guide(GuideFault::BadTrigger(2)))
-        )
-    );
+fn refused_guides(rt: HostRuntime) -> Result<(), AllocError> {
+    for (nodes, want) in [
+        (
+            "{seg=\"REF\",min=0,max=1,elements=[]},{seg=\"REF\",min=0,max=1,elements=[]}",
+            "Guide(Ambiguous(1, 2))",
+        ),
+        (
+            "{seg=\"BEG\",min=1,max=1,elements=[]},{loop=\"L\",min=0,max=9,nodes=[{seg=\"N1\",min=1,max=2,elements=[]}]}",
+            "Guide(BadTrigger(2))",
+        ),
+    ] {
+        let found = node_fault(rt.alloc(), nodes)?;
+        assert_eq!(rt; found.as_str(), want, "{nodes}");
+    }
     Ok(())
 }
