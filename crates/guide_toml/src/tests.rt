@@ -56,7 +56,8 @@ fn listed(nodes: &[Node], out: &mut String) -> Result<(), AllocError> {
     Ok(())
 }
 
-fn slots(alloc: Global, guide: &Guide) -> Result<String, AllocError> {
+fn slots(alloc: Global, file: &str) -> Result<String, Fail> {
+    let guide = read_guide(alloc, file.as_bytes())?;
     let mut out = String::new(alloc);
     listed(&guide.rows().nodes, &mut out)?;
     Ok(out)
@@ -82,11 +83,27 @@ fn is_identifier(element: &Element, reference: &[u8], used: usize) -> bool {
     }
 }
 
-/// The elements of the first node, a segment.
-fn first_elements(guide: &Guide) -> &[Element] {
+/// How many elements the first node has, a segment.
+fn first_count(guide: &Guide) -> usize {
     match guide.rows().nodes.first() {
-        Some(Node::Segment(slot)) => slot.elements.as_slice(),
-        _ => &[],
+        Some(Node::Segment(slot)) => slot.elements.as_slice().len(),
+        _ => 0,
+    }
+}
+
+/// The first element of the first node, a segment.
+fn first_element(guide: &Guide) -> Option<&Element> {
+    match guide.rows().nodes.first() {
+        Some(Node::Segment(slot)) => slot.elements.as_slice().first(),
+        _ => None,
+    }
+}
+
+/// Whether the first element is an order's purpose.
+fn begins_with_purpose(guide: &Guide) -> bool {
+    match first_element(guide) {
+        None => false,
+        Some(element) => is_identifier(element, b"353", 2),
     }
 }
 
@@ -98,45 +115,57 @@ fn hierarchy(guide: &Guide) -> Option<(bool, usize)> {
     }
 }
 
+fn is_named(guide: &Guide, name: &[u8]) -> bool {
+    guide.rows().head.name.as_slice() == name
+}
+
+/// How many segments are known beside those of the nodes, and how many element faults are tolerated.
+fn head_counts(guide: &Guide) -> (usize, usize) {
+    let head = &guide.rows().head;
+    (
+        head.dictionary.as_slice().len(),
+        head.tolerate_element.as_slice().len(),
+    )
+}
+
+fn dependency_count(guide: &Guide) -> usize {
+    guide.rows().depends.as_slice().len()
+}
+
 #[test]
 fn house_order(rt: HostRuntime) -> Result<(), Fail> {
-    let guide = read_guide(rt.alloc(), H850.as_bytes())?;
     assert_eq!(rt;
-        slots(rt.alloc(), &guide)?.as_str(),
+        slots(rt.alloc(), H850)?.as_str(),
         " 1 BEG 2 REF 3 DTM 4 loop N9 5 N9 6 MSG 7 loop N1 8 N1 9 N3 10 N4 11 loop PO1 12 PO1 13 PID 14 CTT"
     );
     Ok(())
 }
 
 #[test]
-fn house_order_head(rt: HostRuntime) -> Result<(), Fail> {
-    let guide = read_guide(rt.alloc(), H850.as_bytes())?;
-    let head = &guide.rows().head;
-    assert_eq!(rt; head.name.as_slice(), b"H850".as_slice());
-    assert_eq!(rt; head.dictionary.as_slice().len(), 5);
-    assert_eq!(rt; head.tolerate_element.as_slice().len(), 1);
-    assert_eq!(rt; hierarchy(&guide), None);
-    Ok(())
-}
-
-#[test]
-fn house_order_elements(rt: HostRuntime) -> Result<(), Fail> {
-    let guide = read_guide(rt.alloc(), H850.as_bytes())?;
-    let elements = first_elements(&guide);
-    assert_eq!(rt; elements.len(), 5);
-    assert!(rt; is_identifier(&elements[0], b"353", 2));
-    Ok(())
-}
-
-#[test]
 fn house_ship_notice(rt: HostRuntime) -> Result<(), Fail> {
-    let guide = read_guide(rt.alloc(), H856.as_bytes())?;
     assert_eq!(rt;
-        slots(rt.alloc(), &guide)?.as_str(),
+        slots(rt.alloc(), H856)?.as_str(),
         " 1 BSN 2 loop HL 3 HL 4 LIN 5 SN1 6 PRF 7 TD5 8 REF 9 MAN 10 DTM 11 loop N1 12 N1"
     );
+    Ok(())
+}
+
+#[test]
+fn house_order_rows(rt: HostRuntime) -> Result<(), Fail> {
+    let guide = read_guide(rt.alloc(), H850.as_bytes())?;
+    assert!(rt; is_named(&guide, b"H850"));
+    assert_eq!(rt; head_counts(&guide), (5, 1));
+    assert_eq!(rt; hierarchy(&guide), None);
+    assert_eq!(rt; first_count(&guide), 5);
+    assert!(rt; begins_with_purpose(&guide));
+    Ok(())
+}
+
+#[test]
+fn house_ship_notice_rows(rt: HostRuntime) -> Result<(), Fail> {
+    let guide = read_guide(rt.alloc(), H856.as_bytes())?;
     assert_eq!(rt; hierarchy(&guide), Some((true, 5)));
-    assert_eq!(rt; guide.rows().depends.as_slice().len(), 1);
+    assert_eq!(rt; dependency_count(&guide), 1);
     Ok(())
 }
 
