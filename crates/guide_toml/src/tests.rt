@@ -1,12 +1,11 @@
-//! The house guides, and files that are refused.
+//! Files that are refused; the house guides and the limits stand in files of their own.
 use crate::read_guide;
 
 mod house;
+mod house_guides;
+mod sizes;
 
-use guide_tree::{CodeList, Element, ElementType, Guide, Node};
-use house::{H850, H856};
 use std::alloc::{AllocError, Global};
-use std::test::Fail;
 
 const HEAD: &str = "name=\"G\"\ngroup=\"PO\"\nset=\"850\"\nversion=\"005010\"\n";
 
@@ -22,6 +21,20 @@ fn fault_of(alloc: Global, file: &[u8]) -> Result<String, AllocError> {
 fn node_fault(alloc: Global, nodes: &str) -> Result<String, AllocError> {
     let file = format!(in alloc; "{HEAD}nodes=[{nodes}]\n")?;
     fault_of(alloc, file.as_bytes())
+}
+
+/// The first of the files that has another fault than the one beside it.
+fn other_file(
+    alloc: Global,
+    cases: &[(&'static str, &'static str)],
+) -> Result<Option<&'static str>, AllocError> {
+    for (file, want) in cases {
+        let found = fault_of(alloc, file.as_bytes())?;
+        if found.as_str() != *want {
+            return Ok(Some(*file));
+        }
+    }
+    Ok(None)
 }
 
 /// The first of the files' nodes that have another fault than the one beside them.
@@ -59,169 +72,20 @@ fn other_row(
     Ok(None)
 }
 
-fn push_id(out: &mut String, id: &[u8]) -> Result<(), AllocError> {
-    for byte in id {
-        out.push(char::from(*byte))?;
-    }
-    Ok(())
-}
-
-fn push_slot(out: &mut String, number: u32, kind: &str, id: &[u8]) -> Result<(), AllocError> {
-    write!(out, " {number} {kind}")?;
-    push_id(out, id)
-}
-
-/// The numbers and ids of slots, parents first; a loop's id stands behind `loop`.
-fn listed(nodes: &[Node], out: &mut String) -> Result<(), AllocError> {
-    for node in nodes {
-        match node {
-            Node::Segment(slot) => push_slot(out, slot.number, "", slot.id.as_slice())?,
-            Node::Loop(head, inner) => {
-                push_slot(out, head.number, "loop ", head.id.as_slice())?;
-                listed(inner, out)?;
-            }
-        }
-    }
-    Ok(())
-}
-
-/// The guide of a file. It has no contract, so that a test's proof doesn't read a whole file.
-fn guide_of(alloc: Global, file: &str) -> Result<Guide, Fail> {
-    Ok(read_guide(alloc, file.as_bytes())?)
-}
-
-fn slots(alloc: Global, file: &str) -> Result<String, Fail> {
-    let guide = guide_of(alloc, file)?;
-    let mut out = String::new(alloc);
-    listed(&guide.rows().nodes, &mut out)?;
-    Ok(out)
-}
-
-fn counts_codes(codes: &CodeList, used: usize) -> bool {
-    codes.used.as_slice().len() == used && codes.unused.is_some()
-}
-
-/// Whether it is an identifier of this reference, once, with so many codes that are used and some that are not.
-fn is_identifier(element: &Element, reference: &[u8], used: usize) -> bool {
-    match element {
-        Element::Simple(row, repeat) => {
-            row.reference.as_slice() == reference
-                && row.data_type == ElementType::Identifier
-                && *repeat == 1
-                && row
-                    .codes
-                    .as_ref()
-                    .is_some_and(|codes| counts_codes(codes, used))
-        }
-        _ => false,
-    }
-}
-
-/// How many elements the first node has, a segment.
-fn first_count(guide: &Guide) -> usize {
-    match guide.rows().nodes.first() {
-        Some(Node::Segment(slot)) => slot.elements.as_slice().len(),
-        _ => 0,
-    }
-}
-
-/// The first element of the first node, a segment.
-fn first_element(guide: &Guide) -> Option<&Element> {
-    match guide.rows().nodes.first() {
-        Some(Node::Segment(slot)) => slot.elements.as_slice().first(),
-        _ => None,
-    }
-}
-
-/// Whether the first element is an order's purpose.
-fn begins_with_purpose(guide: &Guide) -> bool {
-    match first_element(guide) {
-        None => false,
-        Some(element) => is_identifier(element, b"353", 2),
-    }
-}
-
-/// Whether levels count from 1, and how many pairs of levels there are.
-fn hierarchy(guide: &Guide) -> Option<(bool, usize)> {
-    match &guide.rows().hl {
-        None => None,
-        Some(rule) => Some((rule.sequential, rule.pairs.as_slice().len())),
-    }
-}
-
-/// Segment ids that are known beside those of the nodes, element faults that are tolerated, dependencies.
-fn counts(guide: &Guide) -> [usize; 3] {
-    let rows = guide.rows();
-    [
-        rows.head.dictionary.as_slice().len(),
-        rows.head.tolerate_element.as_slice().len(),
-        rows.depends.as_slice().len(),
-    ]
-}
-
-/// What a guide says beside its slots: its name, `counts`, the hierarchy and the first segment's elements.
-fn facts(alloc: Global, file: &str) -> Result<String, Fail> {
-    let guide = guide_of(alloc, file)?;
-    let mut out = String::new(alloc);
-    push_id(&mut out, guide.rows().head.name.as_slice())?;
-    let counts = counts(&guide);
-    let hierarchy = hierarchy(&guide);
-    let elements = first_count(&guide);
-    write!(out, " {counts:?} {hierarchy:?} {elements}")?;
-    Ok(out)
-}
-
-#[test]
-fn house_order(rt: HostRuntime) -> Result<(), Fail> {
-    assert_eq!(rt;
-        slots(rt.alloc(), H850)?.as_str(),
-        " 1 BEG 2 REF 3 DTM 4 loop N9 5 N9 6 MSG 7 loop N1 8 N1 9 N3 10 N4 11 loop PO1 12 PO1 13 PID 14 CTT"
-    );
-    Ok(())
-}
-
-#[test]
-fn house_ship_notice(rt: HostRuntime) -> Result<(), Fail> {
-    assert_eq!(rt;
-        slots(rt.alloc(), H856)?.as_str(),
-        " 1 BSN 2 loop HL 3 HL 4 LIN 5 SN1 6 PRF 7 TD5 8 REF 9 MAN 10 DTM 11 loop N1 12 N1"
-    );
-    Ok(())
-}
-
-#[test]
-fn facts_of_house_order(rt: HostRuntime) -> Result<(), Fail> {
-    assert_eq!(rt; facts(rt.alloc(), H850)?.as_str(), "H850 [5, 1, 0] None 5");
-    Ok(())
-}
-
-#[test]
-fn facts_of_house_ship_notice(rt: HostRuntime) -> Result<(), Fail> {
-    assert_eq!(rt;
-        facts(rt.alloc(), H856)?.as_str(),
-        "H856 [4, 0, 1] Some((true, 5)) 5"
-    );
-    Ok(())
-}
-
-#[test]
-fn house_order_begins_with_purpose(rt: HostRuntime) -> Result<(), Fail> {
-    let guide = guide_of(rt.alloc(), H850)?;
-    assert!(rt; begins_with_purpose(&guide));
-    Ok(())
-}
-
 #[test]
 fn first_faults(rt: HostRuntime) -> Result<(), AllocError> {
-    for (file, want) in [
-        ("", "Missing(\"name\")"),
+    let cases = [
         ("zeta=1\nalpha=1\n", "Unknown(\"alpha\")"),
         ("name=7\n", "WrongKind(\"name\")"),
         ("name=\n", "NotToml"),
-    ] {
-        let found = fault_of(rt.alloc(), file.as_bytes())?;
-        assert_eq!(rt; found.as_str(), want, "{file}");
-    }
+    ];
+    assert_eq!(rt; other_file(rt.alloc(), &cases)?, None);
+    Ok(())
+}
+
+#[test]
+fn empty_file(rt: HostRuntime) -> Result<(), AllocError> {
+    assert_eq!(rt; fault_of(rt.alloc(), &[])?.as_str(), "Missing(\"name\")");
     Ok(())
 }
 
@@ -232,9 +96,14 @@ fn no_text(rt: HostRuntime) -> Result<(), AllocError> {
 }
 
 #[test]
+fn no_nodes(rt: HostRuntime) -> Result<(), AllocError> {
+    assert_eq!(rt; node_fault(rt.alloc(), "")?.as_str(), "None");
+    Ok(())
+}
+
+#[test]
 fn first_faults_of_nodes(rt: HostRuntime) -> Result<(), AllocError> {
     let cases = [
-        ("", "None"),
         ("1", "WrongKind(\"nodes\")"),
         ("{}", "WrongKind(\"seg\")"),
         ("{seg=\"REF\",loop=\"REF\",z=1}", "Unknown(\"z\")"),
@@ -320,72 +189,6 @@ fn element_rows_out_of_bounds(rt: HostRuntime) -> Result<(), AllocError> {
         "353 M ID 1 2 x0",
     ];
     assert_eq!(rt; other_row(rt.alloc(), &rows, "Guide(BadBounds(1))")?, None);
-    Ok(())
-}
-
-/// H850 with a second REF right behind its slot 2.
-fn with_rival(alloc: Global) -> Result<String, AllocError> {
-    let behind = " {seg=\"DTM\"";
-    match H850.split_once(behind) {
-        None => String::from_str(alloc, H850),
-        Some((front, back)) => format!(in alloc;
-            "{front} {{seg=\"REF\", min=0, max=1, elements=[]}},\n{behind}{back}"
-        ),
-    }
-}
-
-#[test]
-fn rival_in_a_house_guide(rt: HostRuntime) -> Result<(), AllocError> {
-    let file = with_rival(rt.alloc())?;
-    let found = fault_of(rt.alloc(), file.as_bytes())?;
-    assert_eq!(rt; found.as_str(), "Guide(Ambiguous(2, 3))");
-    Ok(())
-}
-
-/// Loops nested so deep, each with a first segment of its own.
-fn nested(alloc: Global, depth: u8) -> Result<String, AllocError> {
-    let mut nodes = String::new(alloc);
-    for level in 0..depth {
-        let letter = char::from(b'A' + level % 26);
-        nodes = format!(in alloc;
-            "{{loop=\"L\",min=0,max=9,nodes=[{{seg=\"A{letter}\",min=1,max=1,elements=[]}},{nodes}]}}"
-        )?;
-    }
-    Ok(nodes)
-}
-
-/// So many segments, each with an id of its own.
-fn many(alloc: Global, count: u32) -> Result<String, AllocError> {
-    let mut nodes = String::new(alloc);
-    for i in 0..count {
-        nodes.push_str("{seg=\"")?;
-        nodes.push(char::from(b'A' + (i / 676 % 26) as u8))?;
-        nodes.push(char::from(b'A' + (i / 26 % 26) as u8))?;
-        nodes.push(char::from(b'A' + (i % 26) as u8))?;
-        nodes.push_str("\",min=0,max=1,elements=[]},")?;
-    }
-    Ok(nodes)
-}
-
-fn nested_fault(alloc: Global, depth: u8) -> Result<String, AllocError> {
-    let nodes = nested(alloc, depth)?;
-    node_fault(alloc, nodes.as_str())
-}
-
-fn fault_of_many(alloc: Global, count: u32) -> Result<String, AllocError> {
-    let nodes = many(alloc, count)?;
-    node_fault(alloc, nodes.as_str())
-}
-
-/// What the check of the guide refuses for its size.
-#[test]
-fn limits(rt: HostRuntime) -> Result<(), AllocError> {
-    assert_eq!(rt; nested_fault(rt.alloc(), 8)?.as_str(), "None");
-    assert_eq!(rt; nested_fault(rt.alloc(), 9)?.as_str(), "Guide(TooDeep)");
-    assert_eq!(rt;
-        fault_of_many(rt.alloc(), 2_001)?.as_str(),
-        "Guide(TooMany)"
-    );
     Ok(())
 }
 
