@@ -1,166 +1,130 @@
-use crate::{append_set, write_999};
-use hub_kinds::{
-    ElemFault, ElementCode, Fault, GroupAnswer, GroupCode, GroupVerdict, Items, Lent, NoMemory,
-    SegmentCode, SetAnswer, SetCode, Text, Verdict,
-};
+use crate::append_set;
+use crate::samples::{DELIMS, ElemRow, FaultRow, GroupRow, SetRow, acknowledgment, set};
+use hub_kinds::{ElementCode, GroupCode, GroupVerdict, NoMemory, SegmentCode, SetCode, Verdict};
 use std::alloc::Global;
 use std::process::Abort;
 use std::test::Fail;
 use x12_bytes::Delims;
 
-const DELIMS: Delims = Delims {
-    element: b'*',
-    component: b'>',
-    repetition: Some(b'^'),
-    terminator: b'~',
-};
-
 /// 99 letters A.
 const LONG: &[u8] =
     b"AAAAAAAAAAAAAAAAAAAAAAAAAAAAAAAAAAAAAAAAAAAAAAAAAAAAAAAAAAAAAAAAAAAAAAAAAAAAAAAAAAAAAAAAAAAAAAAAAAA";
 
-fn text(alloc: Global, bytes: &[u8]) -> Result<Text, NoMemory> {
-    Ok(Items::from_vec(Vec::from_slice(alloc, bytes)?))
-}
+/// 100 letters A.
+const LONGER: &[u8] =
+    b"AAAAAAAAAAAAAAAAAAAAAAAAAAAAAAAAAAAAAAAAAAAAAAAAAAAAAAAAAAAAAAAAAAAAAAAAAAAAAAAAAAAAAAAAAAAAAAAAAAAA";
 
 /// A fault of a segment in this loop.
-fn segment_fault(
-    alloc: Global,
-    position: u32,
-    id: &[u8],
-    loop_id: &[u8],
-    code: SegmentCode,
-) -> Result<Fault, NoMemory> {
-    Ok(Fault {
+fn segment<'a>(position: u32, id: &'a [u8], loop_id: &'a [u8], code: SegmentCode) -> FaultRow<'a> {
+    FaultRow {
         position,
-        id: text(alloc, id)?,
-        loop_id: text(alloc, loop_id)?,
+        id,
+        loop_id,
         code,
-        slot: 1,
         elem: None,
-    })
-}
-
-/// A fault of the element, component and repetition of these numbers.
-fn element(
-    alloc: Global,
-    numbers: [u32; 3],
-    code: ElementCode,
-    reference: &[u8],
-    copy: &[u8],
-) -> Result<ElemFault, NoMemory> {
-    let [element, component, repetition] = numbers;
-    Ok(ElemFault {
-        element,
-        component,
-        repetition,
-        code,
-        reference: text(alloc, reference)?,
-        copy: text(alloc, copy)?,
-    })
+    }
 }
 
 /// A fault of an element in the segment of this id.
-fn element_fault(
-    alloc: Global,
-    position: u32,
-    id: &[u8],
-    loop_id: &[u8],
-    elem: ElemFault,
-) -> Result<Fault, NoMemory> {
-    let segment = segment_fault(alloc, position, id, loop_id, SegmentCode::ElementErrors)?;
-    Ok(Fault {
+fn element<'a>(position: u32, id: &'a [u8], loop_id: &'a [u8], elem: ElemRow<'a>) -> FaultRow<'a> {
+    FaultRow {
+        position,
+        id,
+        loop_id,
+        code: SegmentCode::ElementErrors,
         elem: Some(elem),
-        ..segment
-    })
+    }
+}
+
+/// A fault of a whole element.
+fn simple<'a>(number: u32, code: ElementCode, reference: &'a [u8], copy: &'a [u8]) -> ElemRow<'a> {
+    ElemRow {
+        numbers: [number, 0, 0],
+        code,
+        reference,
+        copy,
+    }
 }
 
 /// A rejected 850 with these faults.
-fn rejected<'a>(
-    alloc: Global,
-    faults: Vec<Fault>,
-    codes: &[SetCode],
-) -> Result<SetAnswer<'a>, NoMemory> {
-    Ok(SetAnswer {
-        identifier: Lent::new(b"850"),
-        control: Lent::new(b"0001"),
-        convention: Lent::new(b""),
-        faults: Items::from_vec(faults),
-        codes: Items::from_vec(Vec::from_slice(alloc, codes)?),
+fn rejected<'a>(faults: &'a [FaultRow<'a>], codes: &'a [SetCode]) -> SetRow<'a> {
+    SetRow {
+        control: b"0001",
+        convention: b"",
+        faults,
+        codes,
         verdict: Verdict::Rejected,
-    })
+    }
 }
 
-/// What is written of one set with these faults, between its AK2 and its IK5.
-fn tells<R: Abort + AllocGlobal>(rt: &R, faults: Vec<Fault>, wanted: &[u8]) -> Result<(), Fail> {
-    let alloc = rt.alloc();
+/// The text of this set.
+fn told(alloc: Global, delims: &Delims, row: &SetRow) -> Result<Vec<u8>, NoMemory> {
     let mut out = Vec::new(alloc);
-    append_set(&mut out, &DELIMS, &rejected(alloc, faults, &[])?)?;
+    append_set(&mut out, delims, &set(alloc, row)?)?;
+    Ok(out)
+}
+
+/// The text of a rejected set between whose AK2 and IK5 this stands.
+fn between(alloc: Global, wanted: &[u8]) -> Result<Vec<u8>, NoMemory> {
     let mut whole = Vec::from_slice(alloc, b"AK2*850*0001~")?;
     whole.extend_from_slice(wanted)?;
     whole.extend_from_slice(b"IK5*R~")?;
+    Ok(whole)
+}
+
+/// What is written of one set with these faults, between its AK2 and its IK5.
+fn tells<R: Abort + AllocGlobal>(
+    rt: &R,
+    delims: &Delims,
+    faults: &[FaultRow],
+    wanted: &[u8],
+) -> Result<(), Fail> {
+    let out = told(rt.alloc(), delims, &rejected(faults, &[]))?;
+    let whole = between(rt.alloc(), wanted)?;
     assert_eq!(rt; out.as_slice(), whole.as_slice());
     Ok(())
+}
+
+/// The whole text of group 12, of this behind its AK1.
+fn behind_the_head(alloc: Global, wanted: &[u8]) -> Result<Vec<u8>, NoMemory> {
+    let mut whole = Vec::from_slice(alloc, b"ST*999*0001*005010X231~AK1*PO*12*005010~")?;
+    whole.extend_from_slice(wanted)?;
+    Ok(whole)
 }
 
 /// What is written of a group of one set with these faults.
 fn answers<R: Abort + AllocGlobal>(
     rt: &R,
-    faults: Vec<Fault>,
+    faults: &[FaultRow],
     set_codes: &[SetCode],
     group_codes: &[GroupCode],
     wanted: &[u8],
 ) -> Result<(), Fail> {
-    let alloc = rt.alloc();
-    let group = GroupAnswer {
-        functional_id: Lent::new(b"PO"),
-        control: Lent::new(b"12"),
-        version: Lent::new(b"005010"),
-        listed: Lent::new(b"1"),
-        codes: Items::from_vec(Vec::from_slice(alloc, group_codes)?),
+    let group = GroupRow {
+        version: b"005010",
+        listed: b"1",
+        codes: group_codes,
         verdict: GroupVerdict::Rejected,
     };
-    let set = rejected(alloc, faults, set_codes)?;
-    let bytes = write_999(alloc, &group, &[set], &DELIMS, 1)?;
-    let mut whole = Vec::from_slice(alloc, b"ST*999*0001*005010X231~AK1*PO*12*005010~")?;
-    whole.extend_from_slice(wanted)?;
+    let bytes = acknowledgment(rt.alloc(), &group, &[rejected(faults, set_codes)], 1)?;
+    let whole = behind_the_head(rt.alloc(), wanted)?;
     assert_eq!(rt; bytes.as_slice(), whole.as_slice());
     Ok(())
 }
 
-fn element_faults_of_five_kinds(alloc: Global) -> Result<Vec<Fault>, NoMemory> {
-    let beg_1 = element(alloc, [1, 0, 0], ElementCode::CodeNotUsed, b"353", b"01")?;
-    let beg_5 = element(
-        alloc,
-        [5, 0, 0],
-        ElementCode::InvalidDate,
-        b"373",
-        b"20260229",
-    )?;
-    let mut letters = Vec::from_slice(alloc, LONG)?;
-    letters.push(b'A')?;
-    let ref_3 = element(
-        alloc,
-        [3, 0, 0],
-        ElementCode::TooLong,
-        b"352",
-        letters.as_slice(),
-    )?;
-    let dtm_3 = element(alloc, [3, 0, 0], ElementCode::InvalidTime, b"337", b"2460")?;
-    let po1_7 = element(
-        alloc,
-        [7, 0, 0],
-        ElementCode::ConditionalMissing,
-        b"234",
-        b"",
-    )?;
-    Ok(vec![in alloc;
-        element_fault(alloc, 2, b"BEG", b"", beg_1)?,
-        element_fault(alloc, 2, b"BEG", b"", beg_5)?,
-        element_fault(alloc, 3, b"REF", b"", ref_3)?,
-        element_fault(alloc, 4, b"DTM", b"", dtm_3)?,
-        element_fault(alloc, 5, b"PO1", b"PO1", po1_7)?,
-    ]?)
+fn element_faults_of_five_kinds() -> [FaultRow<'static>; 5] {
+    let beg_1 = simple(1, ElementCode::CodeNotUsed, b"353", b"01");
+    let beg_5 = simple(5, ElementCode::InvalidDate, b"373", b"20260229");
+    let ref_3 = simple(3, ElementCode::TooLong, b"352", LONGER);
+    let dtm_3 = simple(3, ElementCode::InvalidTime, b"337", b"2460");
+    let po1_7 = simple(7, ElementCode::ConditionalMissing, b"234", b"");
+    [
+        element(2, b"BEG", b"", beg_1),
+        element(2, b"BEG", b"", beg_5),
+        element(3, b"REF", b"", ref_3),
+        element(4, b"DTM", b"", dtm_3),
+        element(5, b"PO1", b"PO1", po1_7),
+    ]
 }
 
 #[test]
@@ -169,25 +133,27 @@ fn tells_of_elements_in_four_segments(rt: HostRuntime) -> Result<(), Fail> {
         SetCode::SegmentsInError,
         SetCode::ImplementationSegmentsInError,
     ];
-    let faults = element_faults_of_five_kinds(rt.alloc())?;
     answers(
         &rt,
-        faults,
+        &element_faults_of_five_kinds(),
         &codes,
         &[],
-        b"AK2*850*0001~IK3*BEG*2**8~IK4*1*353*I6*01~IK4*5*373*8*20260229~IK3*REF*3**8~IK4*3*352*5*AAAAAAAAAAAAAAAAAAAAAAAAAAAAAAAAAAAAAAAAAAAAAAAAAAAAAAAAAAAAAAAAAAAAAAAAAAAAAAAAAAAAAAAAAAAAAAAAAAA~IK3*DTM*4**8~IK4*3*337*9*2460~IK3*PO1*5*PO1*8~IK4*7*234*2~IK5*R*5*I5~AK9*R*1*1*0~SE*15*0001~",
+        b"AK2*850*0001~IK3*BEG*2**8~IK4*1*353*I6*01~IK4*5*373*8*20260229~IK3*REF*3**8~\
+          IK4*3*352*5*AAAAAAAAAAAAAAAAAAAAAAAAAAAAAAAAAAAAAAAAAAAAAAAAAAAAAAAAAAAAAAAAAAAAAAAAAAAAAAAAAAAAAAAAAAAAAAAAAAA~\
+          IK3*DTM*4**8~IK4*3*337*9*2460~IK3*PO1*5*PO1*8~IK4*7*234*2~IK5*R*5*I5~AK9*R*1*1*0~SE*15*0001~",
     )
 }
 
 #[test]
 fn tells_of_segments_missing_too_often_and_unknown(rt: HostRuntime) -> Result<(), Fail> {
-    let alloc = rt.alloc();
-    let missing = segment_fault(alloc, 2, b"BEG", b"", SegmentCode::RequiredSegmentMissing)?;
-    let too_often = segment_fault(alloc, 5, b"N1", b"N1", SegmentCode::LoopTooOften)?;
-    let unknown = segment_fault(alloc, 6, b"Q9", b"", SegmentCode::UnrecognizedSegment)?;
+    let faults = [
+        segment(2, b"BEG", b"", SegmentCode::RequiredSegmentMissing),
+        segment(5, b"N1", b"N1", SegmentCode::LoopTooOften),
+        segment(6, b"Q9", b"", SegmentCode::UnrecognizedSegment),
+    ];
     answers(
         &rt,
-        vec![in alloc; missing, too_often, unknown]?,
+        &faults,
         &[SetCode::SegmentsInError],
         &[],
         b"AK2*850*0001~IK3*BEG*2**3~IK3*N1*5*N1*4~IK3*Q9*6**1~IK5*R*5~AK9*R*1*1*0~SE*9*0001~",
@@ -196,10 +162,9 @@ fn tells_of_segments_missing_too_often_and_unknown(rt: HostRuntime) -> Result<()
 
 #[test]
 fn counts_no_fault_of_a_group_that_is_not_supported(rt: HostRuntime) -> Result<(), Fail> {
-    let faults = element_faults_of_five_kinds(rt.alloc())?;
     answers(
         &rt,
-        faults,
+        &element_faults_of_five_kinds(),
         &[],
         &[GroupCode::NotSupported],
         b"AK9*R*1*1*0*1~SE*4*0001~",
@@ -208,24 +173,32 @@ fn counts_no_fault_of_a_group_that_is_not_supported(rt: HostRuntime) -> Result<(
 
 #[test]
 fn tells_of_the_hierarchy(rt: HostRuntime) -> Result<(), Fail> {
-    let alloc = rt.alloc();
-    let child = element(alloc, [4, 0, 0], ElementCode::PatternFailure, b"736", b"0")?;
-    let faults = vec![in alloc; element_fault(alloc, 3, b"HL", b"HL", child)?]?;
-    tells(&rt, faults, b"IK3*HL*3*HL*8~IK4*4*736*I12*0~")
+    let child = simple(4, ElementCode::PatternFailure, b"736", b"0");
+    let faults = [element(3, b"HL", b"HL", child)];
+    tells(&rt, &DELIMS, &faults, b"IK3*HL*3*HL*8~IK4*4*736*I12*0~")
+}
+
+/// What is told of an element that is too long, of which this is shown.
+fn note_that_shows(alloc: Global, shown: &[u8]) -> Result<Vec<u8>, NoMemory> {
+    let mut note = Vec::from_slice(alloc, b"IK3*REF*3**8~IK4*2*352*5")?;
+    if !shown.is_empty() {
+        note.push(b'*')?;
+    }
+    note.extend_from_slice(shown)?;
+    note.push(b'~')?;
+    Ok(note)
 }
 
 /// What is written of an element that is too long and has this text.
-fn tells_text<R: Abort + AllocGlobal>(rt: &R, copy: &[u8], wanted: &[u8]) -> Result<(), Fail> {
-    let alloc = rt.alloc();
-    let elem = element(alloc, [2, 0, 0], ElementCode::TooLong, b"352", copy)?;
-    let faults = vec![in alloc; element_fault(alloc, 3, b"REF", b"", elem)?]?;
-    let mut whole = Vec::from_slice(alloc, b"IK3*REF*3**8~IK4*2*352*5")?;
-    if !wanted.is_empty() {
-        whole.push(b'*')?;
-    }
-    whole.extend_from_slice(wanted)?;
-    whole.push(b'~')?;
-    tells(rt, faults, whole.as_slice())
+fn tells_text<R: Abort + AllocGlobal>(rt: &R, copy: &[u8], shown: &[u8]) -> Result<(), Fail> {
+    let elem = simple(2, ElementCode::TooLong, b"352", copy);
+    let wanted = note_that_shows(rt.alloc(), shown)?;
+    tells(
+        rt,
+        &DELIMS,
+        &[element(3, b"REF", b"", elem)],
+        wanted.as_slice(),
+    )
 }
 
 #[test]
@@ -233,6 +206,11 @@ fn copies_what_prints_and_is_no_delimiter(rt: HostRuntime) -> Result<(), Fail> {
     for shown in [b" }".as_slice(), b"A", LONG] {
         tells_text(&rt, shown, shown)?;
     }
+    Ok(())
+}
+
+#[test]
+fn copies_nothing_of_any_other_text(rt: HostRuntime) -> Result<(), Fail> {
     let hidden = [
         b"".as_slice(),
         b"A*B",
@@ -249,37 +227,35 @@ fn copies_what_prints_and_is_no_delimiter(rt: HostRuntime) -> Result<(), Fail> {
     Ok(())
 }
 
-#[test]
-fn judges_the_whole_text_before_it_is_cut(rt: HostRuntime) -> Result<(), Fail> {
-    let mut letters = Vec::from_slice(rt.alloc(), LONG)?;
-    letters.push(b'B')?;
-    tells_text(&rt, letters.as_slice(), LONG)?;
-    let mut divided = Vec::from_slice(rt.alloc(), LONG)?;
-    divided.push(b'>')?;
-    tells_text(&rt, divided.as_slice(), b"")
+/// 99 letters A and this byte.
+fn long_and(alloc: Global, last: u8) -> Result<Vec<u8>, NoMemory> {
+    let mut letters = Vec::from_slice(alloc, LONG)?;
+    letters.push(last)?;
+    Ok(letters)
 }
 
 #[test]
-fn copies_a_caret_where_nothing_repeats(rt: HostRuntime) -> Result<(), Fail> {
-    let alloc = rt.alloc();
-    let delims = Delims {
-        repetition: None,
-        ..DELIMS
-    };
-    let elem = element(alloc, [2, 0, 0], ElementCode::TooLong, b"352", b"A^B")?;
-    let faults = vec![in alloc; element_fault(alloc, 3, b"REF", b"", elem)?]?;
-    let mut out = Vec::new(alloc);
-    append_set(&mut out, &delims, &rejected(alloc, faults, &[])?)?;
-    assert_eq!(rt;
-        out.as_slice(),
-        b"AK2*850*0001~IK3*REF*3**8~IK4*2*352*5*A^B~IK5*R~".as_slice()
-    );
+fn judges_the_whole_text_before_it_is_cut(rt: HostRuntime) -> Result<(), Fail> {
+    for (last, shown) in [(b'B', LONG), (b'>', b"")] {
+        let letters = long_and(rt.alloc(), last)?;
+        tells_text(&rt, letters.as_slice(), shown)?;
+    }
     Ok(())
 }
 
 #[test]
+fn copies_a_caret_where_nothing_repeats(rt: HostRuntime) -> Result<(), Fail> {
+    let delims = Delims {
+        repetition: None,
+        ..DELIMS
+    };
+    let elem = simple(2, ElementCode::TooLong, b"352", b"A^B");
+    let faults = [element(3, b"REF", b"", elem)];
+    tells(&rt, &delims, &faults, b"IK3*REF*3**8~IK4*2*352*5*A^B~")
+}
+
+#[test]
 fn writes_positions_with_a_gap_and_without(rt: HostRuntime) -> Result<(), Fail> {
-    let alloc = rt.alloc();
     let places = [
         ([4, 0, 0], b"IK3*SV1*7*LX*8~IK4*4**7*X~".as_slice()),
         ([4, 2, 0], b"IK3*SV1*7*LX*8~IK4*4>2**7*X~"),
@@ -288,16 +264,19 @@ fn writes_positions_with_a_gap_and_without(rt: HostRuntime) -> Result<(), Fail> 
         ([14, 0, 10], b"IK3*SV1*7*LX*8~IK4*14>>10**7*X~"),
     ];
     for (numbers, wanted) in places {
-        let elem = element(alloc, numbers, ElementCode::InvalidCode, b"", b"X")?;
-        let faults = vec![in alloc; element_fault(alloc, 7, b"SV1", b"LX", elem)?]?;
-        tells(&rt, faults, wanted)?;
+        let elem = ElemRow {
+            numbers,
+            code: ElementCode::InvalidCode,
+            reference: b"",
+            copy: b"X",
+        };
+        tells(&rt, &DELIMS, &[element(7, b"SV1", b"LX", elem)], wanted)?;
     }
     Ok(())
 }
 
 #[test]
 fn writes_zzz_for_what_is_no_id(rt: HostRuntime) -> Result<(), Fail> {
-    let alloc = rt.alloc();
     let ids = [
         (b"".as_slice(), b"IK3*ZZZ*4**1~".as_slice()),
         (b"Q", b"IK3*ZZZ*4**1~"),
@@ -308,47 +287,35 @@ fn writes_zzz_for_what_is_no_id(rt: HostRuntime) -> Result<(), Fail> {
         (b"\xC4\xD6", b"IK3*ZZZ*4**1~"),
     ];
     for (id, wanted) in ids {
-        let fault = segment_fault(alloc, 4, id, b"", SegmentCode::UnrecognizedSegment)?;
-        tells(&rt, vec![in alloc; fault]?, wanted)?;
+        let fault = segment(4, id, b"", SegmentCode::UnrecognizedSegment);
+        tells(&rt, &DELIMS, &[fault], wanted)?;
     }
     Ok(())
 }
 
 /// An element that is missing.
-fn missing(alloc: Global, position: u32, number: u32) -> Result<Fault, NoMemory> {
-    let elem = element(
-        alloc,
-        [number, 0, 0],
-        ElementCode::RequiredMissing,
-        b"353",
-        b"",
-    )?;
-    element_fault(alloc, position, b"BEG", b"", elem)
+fn missing(position: u32, number: u32) -> FaultRow<'static> {
+    let elem = simple(number, ElementCode::RequiredMissing, b"353", b"");
+    element(position, b"BEG", b"", elem)
 }
 
 #[test]
 fn begins_again_at_another_position(rt: HostRuntime) -> Result<(), Fail> {
-    let alloc = rt.alloc();
-    let faults = vec![in alloc;
-        missing(alloc, 2, 1)?,
-        missing(alloc, 3, 1)?,
-        missing(alloc, 3, 2)?,
-    ]?;
     tells(
         &rt,
-        faults,
+        &DELIMS,
+        &[missing(2, 1), missing(3, 1), missing(3, 2)],
         b"IK3*BEG*2**8~IK4*1*353*1~IK3*BEG*3**8~IK4*1*353*1~IK4*2*353*1~",
     )
 }
 
 #[test]
 fn begins_again_behind_a_fault_of_the_segment(rt: HostRuntime) -> Result<(), Fail> {
-    let alloc = rt.alloc();
-    let between = segment_fault(alloc, 2, b"BEG", b"", SegmentCode::NotUsedPresent)?;
-    let faults = vec![in alloc; missing(alloc, 2, 1)?, between, missing(alloc, 2, 2)?]?;
+    let between = segment(2, b"BEG", b"", SegmentCode::NotUsedPresent);
     tells(
         &rt,
-        faults,
+        &DELIMS,
+        &[missing(2, 1), between, missing(2, 2)],
         b"IK3*BEG*2**8~IK4*1*353*1~IK3*BEG*2**I4~IK3*BEG*2**8~IK4*2*353*1~",
     )
 }

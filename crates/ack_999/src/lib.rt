@@ -41,4 +41,6 @@ pub use verdict::group_verdict;
 #[cfg(test)]
 mod fault_tests;
 #[cfg(test)]
+mod samples;
+#[cfg(test)]
 mod tests;
