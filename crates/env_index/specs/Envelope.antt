@@ -1,10 +1,12 @@
--- X12.5, interchange, and X12.6, functional group and transaction set: the grammar of an interchange's segments. What a missing trailer asks of the segment behind it, and what counts as out of place, are own.
+-- X12.5, interchange, and X12.6, functional group and transaction set: the grammar of an interchange's segments.
+-- What a missing trailer asks of the segment behind it, and what counts as out of place, are own.
 use Rattle.std.specs.Prelude.{◌≡◌, List, [], ◌∷◌, ◌++◌, Bool, true, false, Option, Some, None}
 use Rattle.std.specs.List.{flat_map, list_all}
 use Rattle.x12_segs.specs.View.{SegValue}
 use Rattle.env_index.specs.Kinds.{kind_of}
 use Rattle.env_index.specs.declared.kind.Kind.{Kind}
-use Rattle.env_index.specs.declared.kind.Kind.TheVariants.{InterchangeTrailer, GroupHeader, GroupTrailer, SetHeader, SetTrailer, Notice, Other}
+use Rattle.env_index.specs.declared.kind.Kind.TheVariants.{InterchangeTrailer, GroupHeader, GroupTrailer, SetHeader, SetTrailer}
+use Rattle.env_index.specs.declared.kind.Kind.TheVariants.{Notice, Other}
 
 -- set = ST inner* SE?
 pub record Set : Type 0 where

@@ -1,5 +1,6 @@
 -- X12.5, interchange: where each interchange of a text starts and ends. That an interchange without IEA ends at the next header is own.
-use Rattle.std.specs.Prelude.{◌≡◌, ℕ, ◌+◌, ◌≤◌, ◌<◌, Bool, true, false, not, ◌||◌, ◌==◌, List, [], ◌∷◌, length, drop, map, count_by, slice_range, if◌then◌else◌}
+use Rattle.std.specs.Prelude.{◌≡◌, ℕ, ◌+◌, ◌≤◌, ◌<◌, Bool, true, false, not, ◌||◌, ◌==◌, if◌then◌else◌}
+use Rattle.std.specs.Prelude.{List, [], ◌∷◌, length, drop, map, count_by, slice_range}
 use Rattle.x12_bytes.specs.Header.{header_at, delims_of}
 use Rattle.x12_bytes.specs.HeaderTest.{is_head}
 use Rattle.x12_bytes.specs.declared.delims.Delims.{Delims}
@@ -7,7 +8,8 @@ use Rattle.x12_segs.specs.Segs.{Seg, segs_from, rest_from}
 use Rattle.x12_segs.specs.View.{SegValue, view_of}
 use Rattle.env_index.specs.Kinds.{kind_of}
 use Rattle.env_index.specs.declared.kind.Kind.{Kind}
-use Rattle.env_index.specs.declared.kind.Kind.TheVariants.{InterchangeTrailer, GroupHeader, GroupTrailer, SetHeader, SetTrailer, Notice, Other}
+use Rattle.env_index.specs.declared.kind.Kind.TheVariants.{InterchangeTrailer, GroupHeader, GroupTrailer, SetHeader, SetTrailer}
+use Rattle.env_index.specs.declared.kind.Kind.TheVariants.{Notice, Other}
 
 -- the segments of an interchange behind its header, and where it ends
 pub record Reach : Type 0 where
@@ -30,7 +32,8 @@ ends_interchange SetTrailer = false
 ends_interchange Notice = false
 ends_interchange Other = false
 
--- the first segment or rest that begins at a header ends it there, before anything else; else the first IEA behind its terminator; else the text's end
+-- the first segment or rest that begins at a header ends it there, before anything else;
+-- else the first IEA behind its terminator; else the text's end
 abbrev pub reach_of : List ℕ → List SegValue → Seg → Reach
 reach_of text [] rest = record { segs = []; end = if is_head text rest.start then rest.start else length text }
 reach_of text (seg ∷ segs) rest =
@@ -40,7 +43,8 @@ reach_of text (seg ∷ segs) rest =
 
 -- what stands in a text from an offset on, read by a header's delimiters
 abbrev pub reach_from : List ℕ → Delims → ℕ → Reach
-reach_from text delims from = reach_of text (map (view_of delims) (segs_from text delims.terminator from)) (rest_from text delims.terminator from)
+reach_from text delims from =
+    reach_of text (map (view_of delims) (segs_from text delims.terminator from)) (rest_from text delims.terminator from)
 
 -- the interchange whose header begins at an offset
 abbrev pub reach_at : List ℕ → ℕ → Reach

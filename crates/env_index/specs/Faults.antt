@@ -1,4 +1,5 @@
--- X12.5, interchange control numbers and counts, and X12.6, functional group and transaction set headers: the faults 1 to 7 of an interchange, the least reported (own numbers).
+-- X12.5, interchange control numbers and counts, and X12.6, functional group and transaction set headers: the faults 1 to 7
+-- of an interchange, the least reported (own numbers).
 use Rattle.std.specs.Prelude.{ℕ, Bool, false, not, ◌&&◌, ◌==◌, List, length, Option, Some, None, if◌then◌else◌}
 use Rattle.std.specs.List.{list_all}
 use Rattle.std.specs.Char.{is_ascii_uppercase}
@@ -7,7 +8,9 @@ use Rattle.x12_segs.specs.View.{SegValue, element_of}
 use Rattle.hub_kinds.specs.Numbers.{is_number, number_of}
 use Rattle.hub_kinds.specs.Words.{is_word}
 use Rattle.hub_kinds.specs.declared.interchange.InterchangeFault.{InterchangeFault}
-use Rattle.hub_kinds.specs.declared.interchange.InterchangeFault.TheVariants.{TrailerMissing, ControlNumberInvalid, ControlNumbersDiffer, GroupCountWrong, SegmentMisplaced, GroupHeaderInvalid, SetHeaderInvalid}
+use Rattle.hub_kinds.specs.declared.interchange.InterchangeFault.TheVariants.{TrailerMissing, ControlNumberInvalid}
+use Rattle.hub_kinds.specs.declared.interchange.InterchangeFault.TheVariants.{ControlNumbersDiffer, GroupCountWrong}
+use Rattle.hub_kinds.specs.declared.interchange.InterchangeFault.TheVariants.{SegmentMisplaced, GroupHeaderInvalid, SetHeaderInvalid}
 use Rattle.env_index.specs.Summary.{GroupEntry}
 use Rattle.env_index.specs.Interchange.{InterchangeEntry}
 

@@ -14,4 +14,9 @@ pub record InterchangeEntry : Type 0 where
 
 -- the interchange that starts at an offset, where its segments derive this tree
 abbrev pub interchange_of : List ℕ → ℕ → Body → InterchangeEntry
-interchange_of text start tree = record { header = header_at text start; start = start; end = (reach_at text start).end; content = summary_of tree }
+interchange_of text start tree = record {
+  header = header_at text start;
+  start = start;
+  end = (reach_at text start).end;
+  content = summary_of tree;
+}

@@ -13,10 +13,23 @@ abbrev pub seg_in : List ℕ → Delims → Stretch → SegValue
 seg_in text delims place = record { start = place.start; bytes = slice_range text place.start place.end; delims = delims }
 
 abbrev pub set_in : List ℕ → Delims → SetPlace → SetEnvelope
-set_in text delims place = record { header = seg_in text delims place.header; segments = place.segments; trailer = option_map (seg_in text delims) place.trailer }
+set_in text delims place = record {
+  header = seg_in text delims place.header;
+  segments = place.segments;
+  trailer = option_map (seg_in text delims) place.trailer;
+}
 
 abbrev pub group_in : List ℕ → Delims → GroupPlace → GroupEntry
-group_in text delims place = record { header = seg_in text delims place.header; sets = map (set_in text delims) place.sets.items; trailer = option_map (seg_in text delims) place.trailer }
+group_in text delims place = record {
+  header = seg_in text delims place.header;
+  sets = map (set_in text delims) place.sets.items;
+  trailer = option_map (seg_in text delims) place.trailer;
+}
 
 abbrev pub body_in : List ℕ → Delims → BodyPlace → Summary
-body_in text delims place = record { groups = map (group_in text delims) place.groups.items; notices = place.notices; misplaced = place.misplaced; trailer = option_map (seg_in text delims) place.trailer }
+body_in text delims place = record {
+  groups = map (group_in text delims) place.groups.items;
+  notices = place.notices;
+  misplaced = place.misplaced;
+  trailer = option_map (seg_in text delims) place.trailer;
+}

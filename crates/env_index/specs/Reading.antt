@@ -1,15 +1,18 @@
--- X12.5, interchange, and X12.6, functional group and transaction set: what one more segment makes of what has been read (for the builder's own clauses; no public clause cites it).
+-- X12.5, interchange, and X12.6, functional group and transaction set: what one more segment makes of what has been read
+-- (for the builder's own clauses; no public clause cites it).
 use Rattle.std.specs.Prelude.{ℕ, ◌+◌, List, [], ◌∷◌, ◌++◌, Bool, true, false, Option, Some, None, map, option_map}
 use Rattle.x12_bytes.specs.declared.delims.Delims.{Delims}
 use Rattle.x12_segs.specs.View.{SegValue}
 use Rattle.env_index.specs.declared.kind.Kind.{Kind}
-use Rattle.env_index.specs.declared.kind.Kind.TheVariants.{InterchangeTrailer, GroupHeader, GroupTrailer, SetHeader, SetTrailer, Notice, Other}
+use Rattle.env_index.specs.declared.kind.Kind.TheVariants.{InterchangeTrailer, GroupHeader, GroupTrailer, SetHeader, SetTrailer}
+use Rattle.env_index.specs.declared.kind.Kind.TheVariants.{Notice, Other}
 use Rattle.env_index.specs.declared.entry.SetEnvelope.{SetEnvelope}
 use Rattle.env_index.specs.declared.builder.Builder.{Builder}
 use Rattle.env_index.specs.Places.{seg_in, set_in, group_in}
 use Rattle.env_index.specs.Summary.{GroupEntry, Summary}
 
--- the groups that are whole; how many TA1 there were, and whether a segment was out of place; the GS of an open group and its whole sets; the ST of an open set, and how many segments stand behind it so far
+-- the groups that are whole; how many TA1 there were, and whether a segment was out of place; the GS of an open group and its
+-- whole sets; the ST of an open set, and how many segments stand behind it so far
 pub record State : Type 0 where
   pub groups : List GroupEntry
   pub notices : ℕ
@@ -26,8 +29,14 @@ nothing_read = record { groups = []; notices = 0; misplaced = false; group = Non
 -- the open set ends, without SE or with it
 abbrev pub end_set_by : State → Option SegValue → Option SegValue → State
 end_set_by s trailer None = s
-end_set_by s None (Some header) = record s { sets = s.sets ++ (let e : SetEnvelope = record { header = header; segments = s.count + 1; trailer = None } in e) ∷ []; set = None }
-end_set_by s (Some seg) (Some header) = record s { sets = s.sets ++ (let e : SetEnvelope = record { header = header; segments = s.count + 2; trailer = Some seg } in e) ∷ []; set = None }
+end_set_by s None (Some header) = record s {
+  sets = s.sets ++ (let e : SetEnvelope = record { header = header; segments = s.count + 1; trailer = None } in e) ∷ [];
+  set = None;
+}
+end_set_by s (Some seg) (Some header) = record s {
+  sets = s.sets ++ (let e : SetEnvelope = record { header = header; segments = s.count + 2; trailer = Some seg } in e) ∷ [];
+  set = None;
+}
 
 abbrev pub end_set : Option SegValue → State → State
 end_set trailer s = end_set_by s trailer s.set
@@ -35,7 +44,11 @@ end_set trailer s = end_set_by s trailer s.set
 -- the open group ends, without GE or with it
 abbrev pub end_group_by : State → Option SegValue → Option SegValue → State
 end_group_by s trailer None = s
-end_group_by s trailer (Some header) = record s { groups = s.groups ++ (let g : GroupEntry = record { header = header; sets = s.sets; trailer = trailer } in g) ∷ []; sets = []; group = None }
+end_group_by s trailer (Some header) = record s {
+  groups = s.groups ++ (let g : GroupEntry = record { header = header; sets = s.sets; trailer = trailer } in g) ∷ [];
+  sets = [];
+  group = None;
+}
 
 abbrev pub end_group : Option SegValue → State → State
 end_group trailer s = end_group_by s trailer s.group

@@ -53,4 +53,9 @@ has_misplaced (AGroup g ∷ ms) = has_misplaced_in_group g.members || has_mispla
 has_misplaced (OutOfBody x ∷ ms) = true
 
 abbrev pub summary_of : Body → Summary
-summary_of b = record { groups = groups_in b.members; notices = notices_in b.members; misplaced = has_misplaced b.members; trailer = b.trailer }
+summary_of b = record {
+  groups = groups_in b.members;
+  notices = notices_in b.members;
+  misplaced = has_misplaced b.members;
+  trailer = b.trailer;
+}

@@ -1,7 +1,8 @@
 ghost use Rattle.std.specs.Prelude.{◌≡◌, ◌≤◌};
 ghost use Rattle.std.specs.List.{list_all};
 ghost use Rattle.std.specs.Char.{is_ascii_uppercase};
-ghost use Rattle.env_index.specs.Faults.{control_number, writes_number, is_group_header, is_set_header, has_set_headers, fault_of, fault_of_headers};
+ghost use Rattle.env_index.specs.Faults.{control_number, writes_number, is_group_header, is_set_header, has_set_headers};
+ghost use Rattle.env_index.specs.Faults.{fault_of, fault_of_headers};
 
 use crate::interchange::{GroupEnvelope, Interchange};
 use hub_kinds::{InterchangeFault, is_alphanumeric, read_number};

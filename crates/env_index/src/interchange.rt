@@ -23,7 +23,12 @@ impl<'a> Model for Interchange<'a> {
 
     ghost use Rattle.env_index.specs.Places.{body_in};
 
-    ghost view = { λ x. record { header = x.header; start = x.start; end = x.body.end; content = body_in x.text.now (delims_of x.header) x.body } };
+    ghost view = { λ x. record {
+      header = x.header;
+      start = x.start;
+      end = x.body.end;
+      content = body_in x.text.now (delims_of x.header) x.body;
+    } };
 }
 
 impl<'a> Interchange<'a> {
@@ -32,7 +37,13 @@ impl<'a> Interchange<'a> {
     ghost use Rattle.env_index.specs.Places.{body_in};
 
     pub(crate) fn new(text: &'a [u8], header: Header<'a>, start: usize, body: BodyPlace) -> Self
-        ensures { result ≡ record { header = header.entry; start = start; end = body.end; content = body_in text.entry.now (delims_of header.entry) body } }
+        ensures { result
+            ≡ record {
+              header = header.entry;
+              start = start;
+              end = body.end;
+              content = body_in text.entry.now (delims_of header.entry) body;
+            } }
     {
         Interchange {
             text,

@@ -16,10 +16,21 @@ use std::alloc::Global;
 /// The text is shorter than 2^32 bytes. The only error is want of memory.
 pub fn read_lone<'a>(alloc: Global, text: &'a [u8]) -> Result<Option<Interchange<'a>>, NoMemory>
     requires { length text.now < 2 ^ 32 }
-    ensures lone { IfOk result (λ found. MatchOption found ((x : Extent) → IsLone text.entry.now x → ⊥) (λ x. IsLone text.entry.now (record { start = x.start; end = x.end }))) }
-    ensures alone { IfOk result (λ found. IfSome found (λ x. (e : Extent) → IsLone text.entry.now e → e ≡ record { start = x.start; end = x.end })) }
-    ensures tree { IfOk result (λ found. IfSome found (λ x. (tree : Body) × Derives (reach_at text.entry.now x.start).segs tree × (x ≡ interchange_of text.entry.now x.start tree))) }
-    ensures only { IfOk result (λ found. IfSome found (λ x. (tree : Body) → Derives (reach_at text.entry.now x.start).segs tree → x ≡ interchange_of text.entry.now x.start tree)) }
+    ensures lone { IfOk result
+        (λ found. MatchOption found
+        ((x : Extent) → IsLone text.entry.now x → ⊥)
+        (λ x. IsLone text.entry.now (record { start = x.start; end = x.end }))) }
+    ensures alone { IfOk result
+        (λ found. IfSome found
+        (λ x. (e : Extent) → IsLone text.entry.now e → e ≡ record { start = x.start; end = x.end })) }
+    ensures tree { IfOk result
+        (λ found. IfSome found
+        (λ x. (tree : Body) × Derives (reach_at text.entry.now x.start).segs tree
+        × (x ≡ interchange_of text.entry.now x.start tree))) }
+    ensures only { IfOk result
+        (λ found. IfSome found
+        (λ x. (tree : Body) → Derives (reach_at text.entry.now x.start).segs tree
+        → x ≡ interchange_of text.entry.now x.start tree)) }
 {
     let Some(interchange) = read_interchange(alloc, text, filler_len(text))? else {
         return Ok(None);

@@ -24,8 +24,14 @@ pub fn read_interchange<'a>(
     requires { length text.now < 2 ^ 32 }
     ensures found { IfOk result (λ found. is_some found ≡ is_head text.entry.now start) }
     ensures within { IfOk result (λ found. IfSome found (λ x. x.end ≤ length text.entry.now)) }
-    ensures tree { IfOk result (λ found. IfSome found (λ x. (tree : Body) × Derives (reach_at text.entry.now start).segs tree × (x ≡ interchange_of text.entry.now start tree))) }
-    ensures only { IfOk result (λ found. IfSome found (λ x. (tree : Body) → Derives (reach_at text.entry.now start).segs tree → x ≡ interchange_of text.entry.now start tree)) }
+    ensures tree { IfOk result
+        (λ found. IfSome found
+        (λ x. (tree : Body) × Derives (reach_at text.entry.now start).segs tree
+        × (x ≡ interchange_of text.entry.now start tree))) }
+    ensures only { IfOk result
+        (λ found. IfSome found
+        (λ x. (tree : Body) → Derives (reach_at text.entry.now start).segs tree
+        → x ≡ interchange_of text.entry.now start tree)) }
 {
     let Some(header) = read_header(text, start) else {
         return Ok(None);

@@ -26,7 +26,9 @@ pub(crate) fn read_body(
     requires few { length text.now < 2 ^ 32 }
     ensures within { IfOk result (λ body. body.end ≤ length text.now) }
     ensures end { IfOk result (λ body. body.end ≡ (reach_from text.now delims from).end) }
-    ensures only { IfOk result (λ body. (tree : Body) → Derives (reach_from text.now delims from).segs tree → body_in text.now delims body ≡ summary_of tree) }
+    ensures only { IfOk result
+        (λ body. (tree : Body) → Derives (reach_from text.now delims from).segs tree
+        → body_in text.now delims body ≡ summary_of tree) }
 {
     let mut builder = Builder::new(alloc);
     let mut at = from;
