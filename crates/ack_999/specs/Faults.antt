@@ -1,5 +1,6 @@
 -- 999 guide (005010X231), error identification (IK3) and implementation data element note (IK4): the faults of a set.
-use Rattle.std.specs.Prelude.{ℕ, Bool, ◌&&◌, ◌||◌, ◌==◌, nat_le, List, [], ◌∷◌, ◌++◌, length, map, codes, decimal, Option, Some, None, if◌then◌else◌}
+use Rattle.std.specs.Prelude.{ℕ, Bool, ◌&&◌, ◌||◌, ◌==◌, nat_le, Option, Some, None, if◌then◌else◌}
+use Rattle.std.specs.Prelude.{List, [], ◌∷◌, ◌++◌, length, map, codes, decimal}
 use Rattle.std.specs.List.{flat_map, list_all}
 use Rattle.std.specs.Char.{is_ascii_digit, is_ascii_uppercase}
 use Rattle.x12_bytes.specs.declared.delims.Delims.{Delims}
@@ -57,7 +58,8 @@ element_position f = at f.elem
     at None = None
     at (Some _) = Some f.position
 
--- the notes on a fault: an IK3; where an element is at fault an IK4, behind an IK3 unless the fault before is an element fault of the same position
+-- the notes on a fault: an IK3; where an element is at fault an IK4, behind an IK3 unless the fault before is an element fault of
+-- the same position
 abbrev pub notes_for : Option ℕ → Fault → Option ElemFault → List Note
 notes_for before f None = SegmentNote f ∷ []
 notes_for before f (Some e) = (if is_this before f.position then [] else SegmentNote f ∷ []) ++ ElementNote e ∷ []

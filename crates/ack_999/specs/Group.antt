@@ -1,5 +1,6 @@
 -- 999 guide, functional group response trailer (AK9): the group's codes, its verdict, and what is counted over its sets.
-use Rattle.std.specs.Prelude.{ℕ, ◌+◌, ◌*◌, ◌^◌, ◌<◌, ◌≤◌, ◌==◌, Bool, true, false, not, ◌&&◌, List, [], ◌∷◌, ◌++◌, length, map, count_by, Option, Some, None, if◌then◌else◌}
+use Rattle.std.specs.Prelude.{ℕ, ◌+◌, ◌*◌, ◌^◌, ◌<◌, ◌≤◌, ◌==◌, Bool, true, false, not, ◌&&◌, Option, Some, None, if◌then◌else◌}
+use Rattle.std.specs.Prelude.{List, [], ◌∷◌, ◌++◌, length, map, count_by}
 use Rattle.std.specs.List.{list_all, sum_by}
 use Rattle.hub_kinds.specs.Numbers.{number_of}
 use Rattle.hub_kinds.specs.declared.answers.SetAnswer.{SetAnswer}

@@ -3,7 +3,8 @@ ghost use Rattle.std.specs.List.{flat_map};
 ghost use Rattle.elem_rules.specs.Moment.{date_of, time_of};
 ghost use Rattle.ack_999.specs.Segment.{elements_text, segment_text};
 ghost use Rattle.ack_999.specs.Number.{padded_text};
-ghost use Rattle.ack_999.specs.Interchange.{header_text, party_elements, control_elements, blank, group_header_text, opening_text, closing_text, interchange_text};
+ghost use Rattle.ack_999.specs.Interchange.{header_text, party_elements, control_elements, blank, group_header_text};
+ghost use Rattle.ack_999.specs.Interchange.{opening_text, closing_text, interchange_text};
 
 use crate::envelope::Envelope;
 use crate::number::{PaddedNumber, append_padded};

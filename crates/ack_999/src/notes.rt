@@ -1,7 +1,8 @@
 ghost use Rattle.std.specs.Prelude.{◌≡◌, [], ◌∷◌, ◌++◌, OnOk};
 ghost use Rattle.std.specs.List.{list_all};
 ghost use Rattle.hub_kinds.specs.declared.fault.Fault.{Fault};
-ghost use Rattle.ack_999.specs.Faults.{note_text, SegmentNote, ElementNote, id_text, is_segment_id, is_id_byte, code_shown, position_text, number_text};
+ghost use Rattle.ack_999.specs.Faults.{note_text, SegmentNote, ElementNote, id_text, is_segment_id, is_id_byte};
+ghost use Rattle.ack_999.specs.Faults.{code_shown, position_text, number_text};
 ghost use Rattle.ack_999.specs.Segment.{segment_text, end_text};
 
 use crate::copy::copied;
@@ -40,7 +41,10 @@ fn append_four<'a>(
     third: &'a [u8],
     fourth: &'a [u8],
 ) -> Result<(), NoMemory>
-    ensures { OnOk result (out.new.items ≡ out.old.items ++ segment_text delims.now id.now (first.now ∷ second.now ∷ third.now ∷ fourth.now ∷ [])) }
+    ensures { OnOk result
+        (out.new.items
+        ≡ out.old.items
+        ++ segment_text delims.now id.now (first.now ∷ second.now ∷ third.now ∷ fourth.now ∷ [])) }
 {
     append_segment(out, delims, id, &[first, second, third, fourth])
 }

@@ -1,5 +1,6 @@
 ghost use Rattle.std.specs.Prelude.{◌≡◌, ◌++◌, [], ◌∷◌, IfOk, OnOk};
-ghost use Rattle.ack_999.specs.Report.{text_999, head_text, set_text, sets_text, tail_text, Completes, convention_text, set_response, group_response, set_trailer};
+ghost use Rattle.ack_999.specs.Report.{text_999, head_text, set_text, sets_text, tail_text, Completes};
+ghost use Rattle.ack_999.specs.Report.{convention_text, set_response, group_response, set_trailer};
 ghost use Rattle.hub_kinds.specs.Words.{is_word};
 ghost use Rattle.ack_999.specs.Group.{IsCountable};
 ghost use Rattle.ack_999.specs.Segment.{segments_text};
