@@ -1,4 +1,5 @@
 pub mod Agreeing
+pub mod Both
 pub mod Bounded
 pub mod Examples
 pub mod Members

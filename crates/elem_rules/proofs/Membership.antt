@@ -19,11 +19,11 @@ use Rattle.elem_rules.specs.Divided.{has_more}
 use Rattle.elem_rules.specs.Rows.{nth, reference_in}
 use Rattle.elem_rules.specs.Conditions.{is_present, broken_at, condition_code}
 use Rattle.elem_rules.specs.ElementFaults.{Wrong, copy_in, fault_at, IsExtraElement, IsRowFault, IsConditionFault, IsElementFault}
-use Rattle.elem_rules.specs.Found.{fault, text_at, texts_of, is_present_in, reference_at, condition_copy, broken_found, condition_found, conditions_found, element_found, rows_found, extra_found, found}
+use Rattle.elem_rules.specs.Found.{fault, text_at, texts_of, is_present_in, reference_at, condition_copy, broken_found, condition_found, conditions_found, element_found, rows_found, extra_found, found, IsKeyed}
 use Rattle.elem_rules.proofs.Members.{no_member, contains_one, one_contains, from_if, in_then, from_up_to, in_up_to, from_flat_map, in_flat_map, from_option, in_option, nth_within, nth_past}
 use Rattle.elem_rules.proofs.Wrongs.{shown, element_from, element_to}
 use Rattle.elem_rules.proofs.Agreeing.{text_of_row, positions_have_rows, conditions_hold, broken_same, broken_within}
-use Rattle.elem_rules.proofs.Once.{same_place, IsKeyed}
+use Rattle.elem_rules.proofs.Once.{same_place}
 
 module _ (delims : Delims) (s : Segment) (slot : Slot) where
   -- what is wrong in an element with a row is shown with that row's numbers

@@ -12,10 +12,7 @@ use Rattle.std.proofs.lemmas.List.Folds.{list_all-append}
 use Rattle.guide_tree.specs.Bounds.{is_within}
 use Rattle.elem_rules.specs.Moment.{IsMoment, IsDay, pair_at, year_of}
 use Rattle.elem_rules.specs.Values.{is_digits, is_day, is_long_date, is_short_date, is_date, is_time, is_moment}
-
-both : (a b : Bool) → (a && b) ≡ true → (a ≡ true) × (b ≡ true)
-both true b h = (refl, h)
-both false b h = cc
+use Rattle.elem_rules.proofs.Both.{both}
 
 either : (a b : Bool) → b ≡ false → (a || b) ≡ true → a ≡ true
 either true b f h = refl

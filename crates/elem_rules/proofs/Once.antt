@@ -18,6 +18,7 @@ use Rattle.hub_kinds.specs.declared.fault.ElemFault.{ElemFault}
 use Rattle.hub_kinds.specs.Codes.{element_rank}
 use Rattle.hub_kinds.specs.Fault.{elem_key}
 use Rattle.elem_rules.specs.ElementFaults.{order_of, IsRising}
+use Rattle.elem_rules.specs.Found.{IsKeyed}
 
 abbrev all_codes : List ElementCode
 all_codes =
@@ -64,10 +65,6 @@ once faults = dedup (eq_by_cmp order_of) faults
 
 pub once_rises : (sorted : List ElemFault) → IsSorted order_of sorted → IsRising (once sorted)
 once_rises sorted up = IsStrictlySortedBy-dedup order_total (λ x y. refl) sorted up
-
--- a key that no two faults of a list share with different texts
-abbrev pub IsKeyed : List ElemFault → Type 0
-IsKeyed faults = (f g : ElemFault) → Contains faults f → Contains faults g → elem_key (Some f) ≡ elem_key (Some g) → f ≡ g
 
 equal_from : (o : Ordering) → is_eq o ≡ true → o ≡ Equal
 equal_from Less h = cc

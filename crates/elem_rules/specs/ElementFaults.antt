@@ -1,5 +1,6 @@
 -- 999 guide, IK4: what is wrong with the elements of a segment, by the rows and conditions of its slot.
-use Rattle.std.specs.Prelude.{ℕ, ◌≡◌, ◌+◌, ◌==◌, ◌≤◌, ◌⊎◌, IsTrue, IsFalse, IsSomeAnd, List, [], length, drop, Option, Some, None, if◌then◌else◌}
+use Rattle.std.specs.Prelude.{ℕ, ◌≡◌, ◌+◌, ◌==◌, ◌≤◌, ◌⊎◌, IsTrue, IsFalse, IsSomeAnd, List, [], length, drop}
+use Rattle.std.specs.Prelude.{Option, Some, None, if◌then◌else◌}
 use Rattle.std.specs.List.{Contains}
 use Rattle.std.specs.Option.{option_map_or}
 use Rattle.std.specs.List.Sorted.{IsStrictlySortedBy}
@@ -36,7 +37,8 @@ copy_in delims element component repetition ik403.ConditionalMissing = []
 copy_in delims element component repetition ik403.TooManyElements = element
 copy_in delims element component repetition ik403.ExclusionViolated = element
 copy_in delims element component repetition ik403.TooManyRepetitions = occurrence_in delims element repetition
-copy_in delims element component repetition ik403.NotUsedPresent = if component == 0 then element else component_in delims (occurrence_in delims element repetition) component
+copy_in delims element component repetition ik403.NotUsedPresent =
+    if component == 0 then element else component_in delims (occurrence_in delims element repetition) component
 copy_in delims element component repetition code = component_in delims (occurrence_in delims element repetition) component
 
 -- the fault with a code at a place: the reference number is that of the row there, if any
@@ -112,7 +114,8 @@ pub record IsWrongComponent (delims : Delims) (usage : Usage) (text : List ℕ) 
 abbrev pub IsWrong : Delims → Element → List ℕ → Wrong → Type 0
 IsWrong delims row text w =
     IsWrongWhole delims row text w
-    ⊎ IsSomeAnd (usage_of row) (λ usage. IsTooOften delims usage text w ⊎ (IsTooWide delims usage text w ⊎ IsWrongComponent delims usage text w))
+    ⊎ IsSomeAnd (usage_of row)
+    (λ usage. IsTooOften delims usage text w ⊎ (IsTooWide delims usage text w ⊎ IsWrongComponent delims usage text w))
 
 -- there are more elements than rows: one fault, at the first element without a row
 pub record IsExtraElement (delims : Delims) (s : Segment) (slot : Slot) (f : ElemFault) : Type 0 where

@@ -1,8 +1,9 @@
 -- Own: the faults of a segment's elements as the walk over it finds them, number by number. No public clause cites these
 -- lists: that they hold the faults of `IsElementFault` and no others is proved.
-use Rattle.std.specs.Prelude.{ℕ, zero, suc, ◌+◌, List, [], ◌∷◌, ◌++◌, length, take, drop, map, Option, Some, None, unwrap_or, Bool, if◌then◌else◌}
+use Rattle.std.specs.Prelude.{ℕ, zero, suc, ◌≡◌, ◌+◌, List, [], ◌∷◌, ◌++◌, length, take, drop, map}
+use Rattle.std.specs.Prelude.{Option, Some, None, unwrap_or, Bool, if◌then◌else◌}
 use denote.Ref.{Bor}
-use Rattle.std.specs.List.{flat_map}
+use Rattle.std.specs.List.{Contains, flat_map}
 use Rattle.std.specs.Option.{option_map_or}
 use Rattle.x12_bytes.specs.declared.delims.Delims.{Delims}
 use Rattle.x12_segs.specs.View.{occurrences, components}
@@ -14,6 +15,7 @@ use Rattle.guide_tree.specs.Segments.{Segment, element_of}
 use Rattle.hub_kinds.specs.declared.codes.ElementCode.{ElementCode}
 use Rattle.hub_kinds.specs.declared.codes.ElementCode.TheVariants as ik403
 use Rattle.hub_kinds.specs.declared.fault.ElemFault.{ElemFault}
+use Rattle.hub_kinds.specs.Fault.{elem_key}
 use Rattle.elem_rules.specs.Conditions.{broken_at, condition_code}
 use Rattle.elem_rules.specs.Divided.{is_empty, is_filled, has_more, occurrence_in, component_in}
 use Rattle.elem_rules.specs.Rows.{Usage, usage_of, nth, shown_repetition, element_reference, component_reference}
@@ -42,23 +44,27 @@ copy_of code text = text
 -- the fault with a code, if there is one
 abbrev pub reported : (element component repetition : ℕ) → (reference text : List ℕ) → Option ElementCode → List ElemFault
 reported element component repetition reference text None = []
-reported element component repetition reference text (Some code) = fault element component repetition code reference (copy_of code text) ∷ []
+reported element component repetition reference text (Some code) =
+    fault element component repetition code reference (copy_of code text) ∷ []
 
 abbrev pub component_found : Delims → (element repetition component : ℕ) → Component → (text : List ℕ) → List ElemFault
 component_found delims element repetition component row text =
     reported element component repetition (component_reference row) text (component_fault delims row text)
 
 -- the components of an occurrence that have rows; their numbers are shown in composites
-abbrev pub components_found : Delims → (element repetition : ℕ) → (is_composite : Bool) → List Component → (occurrence : List ℕ) → List ElemFault
+abbrev pub components_found : Delims → (element repetition : ℕ) → (is_composite : Bool) → List Component → (occurrence : List ℕ)
+    → List ElemFault
 components_found delims element repetition is_composite rows occurrence =
     up_to (λ m. option_map_or
     (λ row. component_found delims element repetition (if is_composite then m else 0) row (component_in delims occurrence m))
     (nth rows m) []) (length rows)
 
-abbrev pub occurrence_found : Delims → (element repetition : ℕ) → (reference : List ℕ) → (is_composite : Bool) → List Component → (occurrence : List ℕ) → List ElemFault
+abbrev pub occurrence_found : Delims → (element repetition : ℕ) → (reference : List ℕ) → (is_composite : Bool) → List Component
+    → (occurrence : List ℕ) → List ElemFault
 occurrence_found delims element repetition reference is_composite rows occurrence =
     if has_more delims (length rows) (components delims occurrence)
-    then fault element (length rows + 1) repetition ik403.TooManyComponents reference (component_in delims occurrence (length rows + 1)) ∷ []
+    then fault element (length rows + 1) repetition ik403.TooManyComponents reference
+    (component_in delims occurrence (length rows + 1)) ∷ []
     else (if is_empty delims occurrence then []
     else components_found delims element repetition is_composite rows occurrence)
 
@@ -70,10 +76,12 @@ too_often_found delims element repeat reference text =
 
 abbrev pub occurrences_found : Delims → (element : ℕ) → Usage → (text : List ℕ) → List ElemFault
 occurrences_found delims element usage text =
-    up_to (λ n. occurrence_found delims element (shown_repetition usage n) usage.reference usage.is_composite usage.components (occurrence_in delims text n)) usage.repeat
+    up_to (λ n. occurrence_found delims element (shown_repetition usage n) usage.reference usage.is_composite usage.components
+    (occurrence_in delims text n)) usage.repeat
 
 abbrev pub usage_found : Delims → (element : ℕ) → (text : List ℕ) → Usage → List ElemFault
-usage_found delims element text usage = too_often_found delims element usage.repeat usage.reference text ++ occurrences_found delims element usage text
+usage_found delims element text usage =
+    too_often_found delims element usage.repeat usage.reference text ++ occurrences_found delims element usage text
 
 abbrev pub whole_found : Delims → (element : ℕ) → Element → (text : List ℕ) → List ElemFault
 whole_found delims element row text = reported element 0 0 (element_reference row) text (whole_fault delims row text)
@@ -129,4 +137,9 @@ texts_of slot s = take (length slot.elements) (drop 1 s)
 
 abbrev pub found : Delims → Segment → Slot → List ElemFault
 found delims s slot =
-    rows_found delims slot.elements (texts_of slot s) ++ (extra_found delims slot s ++ conditions_found delims slot.elements slot.conditions (texts_of slot s))
+    rows_found delims slot.elements (texts_of slot s)
+    ++ (extra_found delims slot s ++ conditions_found delims slot.elements slot.conditions (texts_of slot s))
+
+-- no two different faults of a list share a key
+abbrev pub IsKeyed : List ElemFault → Type 0
+IsKeyed faults = (f g : ElemFault) → Contains faults f → Contains faults g → elem_key (Some f) ≡ elem_key (Some g) → f ≡ g

@@ -18,10 +18,22 @@ pub record Usage : Type 0 where
   pub is_composite : Bool
 
 abbrev pub simple_usage : SimpleRow → ℕ → Usage
-simple_usage row repeat = record { reference = row.reference; requirement = row.requirement; repeat = repeat; components = component.Simple row ∷ []; is_composite = false }
+simple_usage row repeat = record {
+  reference = row.reference;
+  requirement = row.requirement;
+  repeat = repeat;
+  components = component.Simple row ∷ [];
+  is_composite = false;
+}
 
 abbrev pub composite_usage : CompositeRow → Usage
-composite_usage row = record { reference = row.reference; requirement = row.requirement; repeat = row.repeat; components = row.components; is_composite = true }
+composite_usage row = record {
+  reference = row.reference;
+  requirement = row.requirement;
+  repeat = row.repeat;
+  components = row.components;
+  is_composite = true;
+}
 
 abbrev pub usage_of : Element → Option Usage
 usage_of (element.NotUsed reference) = None

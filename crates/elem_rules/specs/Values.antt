@@ -1,6 +1,7 @@
 -- X12.6, data element types: what a value is made of, how its length is counted, which dates and times there are; and
 -- the 999 guide, IK403: the first fault of a value. Dates of six digits are own.
-use Rattle.std.specs.Prelude.{ℕ, ◌==◌, ◌+◌, nat_le, nat_lt, List, [], ◌∷◌, length, take, drop, pos, Option, Some, None, Bool, false, ◌&&◌, ◌||◌, not, if◌then◌else◌}
+use Rattle.std.specs.Prelude.{ℕ, ◌==◌, ◌+◌, nat_le, nat_lt, List, [], ◌∷◌, length, take, drop, pos}
+use Rattle.std.specs.Prelude.{Option, Some, None, Bool, false, ◌&&◌, ◌||◌, not, if◌then◌else◌}
 use Rattle.std.specs.List.{list_any, list_all, count_by}
 use Rattle.std.specs.Option.{option_map_or, option_or}
 use Rattle.std.specs.Char.{is_ascii_digit}
@@ -36,7 +37,10 @@ is_point byte = byte == 46
 
 -- digits, one or more of them, and at most one point
 abbrev pub is_decimal : List ℕ → Bool
-is_decimal text = list_all (λ byte. is_ascii_digit byte || is_point byte) text && nat_le (count_by is_point text) 1 && list_any is_ascii_digit text
+is_decimal text =
+    list_all (λ byte. is_ascii_digit byte || is_point byte) text
+    && nat_le (count_by is_point text) 1
+    && list_any is_ascii_digit text
 
 -- the text has the bytes and the form that its type allows
 abbrev pub is_form : ElementType → Bool → List ℕ → Bool
@@ -88,7 +92,8 @@ abbrev pub code_fault : Option CodeList → List ℕ → Option ElementCode
 code_fault None text = None
 code_fault (Some listed) text =
     if contains_text listed.used text then None
-    else (if option_map_or (λ unused. contains_text unused text) listed.unused false then Some ik403.CodeNotUsed else Some ik403.InvalidCode)
+    else (if option_map_or (λ unused. contains_text unused text) listed.unused false then Some ik403.CodeNotUsed
+    else Some ik403.InvalidCode)
 
 -- a date or a time that there is not
 abbrev pub calendar_fault : ElementType → List ℕ → Option ElementCode

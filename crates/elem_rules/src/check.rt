@@ -8,7 +8,7 @@ ghost use Rattle.x12_segs.specs.View.{elements_of};
 ghost use Rattle.guide_tree.specs.Bounds.{is_slot_bounded, is_element_bounded};
 ghost use Rattle.guide_tree.specs.Conditions.{is_condition_of};
 ghost use Rattle.elem_rules.specs.ElementFaults.{IsElementFault, IsRising, order_of};
-ghost use Rattle.elem_rules.specs.Found.{read, rows_found, extra_found, found};
+ghost use Rattle.elem_rules.specs.Found.{read, rows_found, extra_found, IsKeyed};
 
 use crate::conditions::{Elements, check_conditions, text_at};
 use crate::divided::has_more;
@@ -70,10 +70,14 @@ fn check_extra(found: &mut Findings, seg: &SegView, slot: &Slot) -> Result<(), N
     )
 }
 
-/// The faults of a segment's elements in the order in which they are found.
+/// The faults of a segment's elements in the order in which they are found; the same one may be found twice.
 fn find(alloc: Global, seg: &SegView, slot: &Slot) -> Result<Findings, NoMemory>
-    requires { IsTrue (is_slot_bounded slot.now) }
-    ensures { IfOk result (λ f. f ≡ found seg.now.delims (elements_of seg.now) slot.now) }
+    requires bounded { IsTrue (is_slot_bounded slot.now) }
+    requires conditions { IsTrue (list_all (is_condition_of slot.now) slot.now.conditions) }
+    ensures exact { IfOk result
+        (λ found. (f : ElemFault) → Contains found f
+        ↔ IsElementFault seg.now.delims (elements_of seg.now) slot.now f) }
+    ensures keyed { IfOk result (λ found. IsKeyed found) }
 {
     let rows = slot.elements.as_slice();
     let texts = first_texts(alloc, seg, rows.len())?;
@@ -119,6 +123,18 @@ fn has_same_key(a: &ElemFault, b: &ElemFault) -> bool
     elem_order(a, b).is_eq()
 }
 
+/// The faults that were found by element, component, repetition and code, each once.
+fn in_order(found: Findings) -> Vec<ElemFault>
+    requires { IsKeyed found }
+    ensures same { (f : ElemFault) → Contains result.items f ↔ Contains found f }
+    ensures rising { IsRising result.items }
+{
+    let mut faults = found.into_faults();
+    faults.sort_unstable_by(|a, b| elem_order(a, b));
+    faults.dedup_by(|next, kept| has_same_key(next, kept));
+    faults
+}
+
 /// The faults of a segment's elements by the rows and conditions of its slot (999 guide, IK4): all of them, each once,
 /// by element, component, repetition and code. The slot keeps the bounds of an accepted guide, and its conditions
 /// name elements that have rows, as each slot of a checked `Guide` does.
@@ -130,8 +146,6 @@ pub fn check_segment(alloc: Global, seg: &SegView, slot: &Slot) -> Result<Vec<El
         ↔ IsElementFault seg.now.delims (elements_of seg.now) slot.now f) }
     ensures rising { IfOk result (λ v. IsRising v.items) }
 {
-    let mut faults = find(alloc, seg, slot)?.into_faults();
-    faults.sort_unstable_by(|a, b| elem_order(a, b));
-    faults.dedup_by(|next, kept| has_same_key(next, kept));
-    Ok(faults)
+    let found = find(alloc, seg, slot)?;
+    Ok(in_order(found))
 }

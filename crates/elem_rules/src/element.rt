@@ -24,7 +24,12 @@ impl<'a> Subject<'a> {
     /// An occurrence of the element, shown with its number, from 1, where there may be more than one.
     fn occurrence(&self, repeat: u32, n: u32, text: &'a [u8]) -> Occurrence<'a>
         ensures { result
-            ≡ record { delims = self.now.delims; element = self.now.element; repetition = if nat_lt 1 repeat then n else 0; text = text.entry } }
+            ≡ record {
+              delims = self.now.delims;
+              element = self.now.element;
+              repetition = if nat_lt 1 repeat then n else 0;
+              text = text.entry;
+            } }
     {
         Occurrence {
             delims: self.delims,

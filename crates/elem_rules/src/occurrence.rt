@@ -95,7 +95,8 @@ pub fn check_simple(found: &mut Findings, at: &Occurrence, row: &SimpleRow) -> R
     ensures { OnOk result
         (found.new
         ≡ found.old
-        ++ occurrence_found at.now.delims at.now.element at.now.repetition row.now.reference false (component.Simple row.now ∷ []) at.now.text.now) }
+        ++ occurrence_found at.now.delims at.now.element at.now.repetition row.now.reference false
+        (component.Simple row.now ∷ []) at.now.text.now) }
 {
     let reference = row.reference.as_slice();
     if has_more(at.delims, 1, at.components()) {

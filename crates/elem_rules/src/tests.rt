@@ -1,8 +1,7 @@
 mod composites;
 mod conditions;
+mod guides;
 mod orders;
-mod slots;
-mod sound;
 mod values;
 
 use crate::At;

@@ -1,8 +1,8 @@
 //! Composites, repetitions, elements that aren't used, and elements without a row.
-use super::slots::{
-    DELIMS, Line, add_components, add_rows, composite, expect, optional, slot, text,
+use super::guides::{
+    DELIMS, Line, add_components, add_rows, composite, expect, guide, optional, text,
 };
-use guide_tree::{Component, Element, ElementType, Requirement, Slot};
+use guide_tree::{Component, Element, ElementType, Guide, Requirement};
 use hub_kinds::NoMemory;
 use std::alloc::Global;
 use std::test::Fail;
@@ -37,7 +37,7 @@ fn one_component(alloc: Global) -> Result<Element, NoMemory> {
     composite(alloc, "C2", Requirement::Optional, 1, components)
 }
 
-fn composites(alloc: Global) -> Result<Slot, NoMemory> {
+fn composites(alloc: Global) -> Result<Guide, Fail> {
     let twice = [Line {
         max: 2,
         repeat: 2,
@@ -55,7 +55,7 @@ fn composites(alloc: Global) -> Result<Slot, NoMemory> {
     add_rows(alloc, &mut rows, &last)?;
     let none = composite(alloc, "C6", Requirement::Optional, 1, Vec::new(alloc))?;
     rows.push(none)?;
-    slot(alloc, rows, Vec::new(alloc))
+    guide(alloc, rows, Vec::new(alloc))
 }
 
 #[test]

@@ -1,9 +1,8 @@
 //! Segments of an order, by the rows of its guide.
-use super::slots::{
-    DELIMS, Line, add_condition, add_rows, conditioned, expect, optional, slot, slot_of,
+use super::guides::{
+    DELIMS, Line, add_condition, add_rows, conditioned, expect, guide, guide_of, optional,
 };
-use guide_tree::{ElementType, Relation, Requirement, Slot};
-use hub_kinds::NoMemory;
+use guide_tree::{ElementType, Guide, Relation, Requirement};
 use std::alloc::Global;
 use std::test::Fail;
 
@@ -46,7 +45,7 @@ fn beginning_of_an_order(rt: HostRuntime) -> Result<(), Fail> {
             ..optional("373")
         },
     ];
-    let slot = slot_of(alloc, &lines)?;
+    let guide = guide_of(alloc, &lines)?;
     let cases = [
         ("BEG*00*SA*P1**20260228", ""),
         (
@@ -55,7 +54,7 @@ fn beginning_of_an_order(rt: HostRuntime) -> Result<(), Fail> {
         ),
         ("BEG*02*SA**", "1 0 0 7 353 02;3 0 0 1 324 ;5 0 0 1 373 ;"),
     ];
-    expect(alloc, DELIMS, &slot, &cases)
+    expect(alloc, DELIMS, &guide, &cases)
 }
 
 #[test]
@@ -78,7 +77,7 @@ fn reference_identification(rt: HostRuntime) -> Result<(), Fail> {
             ..optional("352")
         },
     ];
-    let slot = conditioned(alloc, &lines, Relation::Required, &[2, 3])?;
+    let guide = conditioned(alloc, &lines, Relation::Required, &[2, 3])?;
     let cases = [
         ("REF*DP*7", ""),
         ("REF*DP", "2 0 0 2 127 ;"),
@@ -87,7 +86,7 @@ fn reference_identification(rt: HostRuntime) -> Result<(), Fail> {
             "3 0 0 5 352 AAAAAAAAAAAAAAAAAAAAAAAAAAAAAAAAAAAAAAAAAAAAAAAAAAAAAAAAAAAAAAAAAAAAAAAAAAAAAAAAAAAAAAAAAAAAAAAAAAAA;",
         ),
     ];
-    expect(alloc, DELIMS, &slot, &cases)
+    expect(alloc, DELIMS, &guide, &cases)
 }
 
 #[test]
@@ -114,16 +113,16 @@ fn date_or_time(rt: HostRuntime) -> Result<(), Fail> {
             ..optional("337")
         },
     ];
-    let slot = conditioned(alloc, &lines, Relation::Required, &[2, 3])?;
+    let guide = conditioned(alloc, &lines, Relation::Required, &[2, 3])?;
     let cases = [
         ("DTM*002*20260228", ""),
         ("DTM*002**2460", "3 0 0 9 337 2460;"),
         ("DTM*002", "2 0 0 2 373 ;"),
     ];
-    expect(alloc, DELIMS, &slot, &cases)
+    expect(alloc, DELIMS, &guide, &cases)
 }
 
-fn baseline_item(alloc: Global) -> Result<Slot, NoMemory> {
+fn baseline_item(alloc: Global) -> Result<Guide, Fail> {
     let lines = [
         Line {
             max: 20,
@@ -171,7 +170,7 @@ fn baseline_item(alloc: Global) -> Result<Slot, NoMemory> {
     add_condition(alloc, &mut conditions, Relation::Paired, &[6, 7])?;
     let mut rows = Vec::new(alloc);
     add_rows(alloc, &mut rows, &lines)?;
-    slot(alloc, rows, conditions)
+    guide(alloc, rows, conditions)
 }
 
 #[test]

@@ -1,11 +1,10 @@
 //! Values of each type: which bytes and forms it allows, how its length counts, its codes, dates and times.
-use super::slots::{DELIMS, Line, expect, expect_bytes, optional, slot_of};
-use guide_tree::{ElementType, Slot};
-use hub_kinds::NoMemory;
+use super::guides::{DELIMS, Line, expect, expect_bytes, guide_of, optional};
+use guide_tree::{ElementType, Guide};
 use std::alloc::Global;
 use std::test::Fail;
 
-fn each_type(alloc: Global) -> Result<Slot, NoMemory> {
+fn each_type(alloc: Global) -> Result<Guide, Fail> {
     let lines = [
         Line {
             max: 5,
@@ -48,7 +47,7 @@ fn each_type(alloc: Global) -> Result<Slot, NoMemory> {
             ..optional("7")
         },
     ];
-    slot_of(alloc, &lines)
+    guide_of(alloc, &lines)
 }
 
 #[test]
@@ -156,11 +155,11 @@ fn times_of_day(rt: HostRuntime) -> Result<(), Fail> {
 #[test]
 fn bytes_that_are_no_characters(rt: HostRuntime) -> Result<(), Fail> {
     let alloc = rt.alloc();
-    let slot = each_type(alloc)?;
-    expect_bytes(alloc, DELIMS, &slot, b"TYP*a\x7F", b"1 0 0 6 1 a\x7F;")?;
-    expect_bytes(alloc, DELIMS, &slot, b"TYP*\x1F", b"1 0 0 6 1 \x1F;")?;
-    expect_bytes(alloc, DELIMS, &slot, b"TYP*\x80", b"1 0 0 6 1 \x80;")?;
-    expect_bytes(alloc, DELIMS, &slot, b"TYP*******a\x80\xFF", b"")?;
-    expect_bytes(alloc, DELIMS, &slot, b"TYP*******\x7F", b"7 0 0 6 7 \x7F;")?;
+    let guide = each_type(alloc)?;
+    expect_bytes(alloc, DELIMS, &guide, b"TYP*a\x7F", b"1 0 0 6 1 a\x7F;")?;
+    expect_bytes(alloc, DELIMS, &guide, b"TYP*\x1F", b"1 0 0 6 1 \x1F;")?;
+    expect_bytes(alloc, DELIMS, &guide, b"TYP*\x80", b"1 0 0 6 1 \x80;")?;
+    expect_bytes(alloc, DELIMS, &guide, b"TYP*******a\x80\xFF", b"")?;
+    expect_bytes(alloc, DELIMS, &guide, b"TYP*******\x7F", b"7 0 0 6 7 \x7F;")?;
     Ok(())
 }

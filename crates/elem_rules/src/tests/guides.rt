@@ -1,14 +1,8 @@
-//! Slots and segments of the tests, and how their faults are written.
-ghost use Rattle.std.specs.Prelude.{IsTrue};
-ghost use Rattle.std.specs.List.{list_all};
-ghost use Rattle.guide_tree.specs.Bounds.{is_slot_bounded};
-ghost use Rattle.guide_tree.specs.Conditions.{is_condition_of};
-
-use super::sound::{is_bounded, is_conditioned};
+//! Guides of one slot and segments of the tests, and how their faults are written.
 use crate::check_segment;
 use guide_tree::{
-    CodeList, Component, CompositeRow, Condition, Element, ElementType, Relation, Requirement,
-    SimpleRow, Slot,
+    CodeList, Component, CompositeRow, Condition, Element, ElementType, Guide, GuideHead,
+    GuideRows, Node, Relation, Requirement, SimpleRow, Slot,
 };
 use hub_kinds::{ElemFault, Items, NoMemory, Text, Texts, code_text};
 use std::alloc::Global;
@@ -50,6 +44,10 @@ pub fn optional(reference: &'static str) -> Line {
         used: "",
         unused: "",
     }
+}
+
+fn none<T>(alloc: Global) -> Items<T> {
+    Items::from_vec(Vec::new(alloc))
 }
 
 pub fn text(alloc: Global, bytes: &str) -> Result<Text, NoMemory> {
@@ -137,42 +135,65 @@ pub fn add_condition(
     Ok(())
 }
 
-pub fn slot(
+fn head(alloc: Global) -> Result<GuideHead, NoMemory> {
+    Ok(GuideHead {
+        name: text(alloc, "H")?,
+        group: text(alloc, "PO")?,
+        set: text(alloc, "850")?,
+        version: text(alloc, "005010")?,
+        convention: None,
+        dictionary: none(alloc),
+        tolerate_segment: none(alloc),
+        tolerate_element: none(alloc),
+    })
+}
+
+/// A guide of one segment, which may be there.
+pub fn guide(
     alloc: Global,
     elements: Vec<Element>,
     conditions: Vec<Condition>,
-) -> Result<Slot, NoMemory> {
-    Ok(Slot {
-        number: 1,
+) -> Result<Guide, Fail> {
+    let slot = Slot {
+        number: 0,
         id: text(alloc, "SEG")?,
         label: None,
         min: 0,
         max: 1,
-        picks: Items::from_vec(Vec::new(alloc)),
+        picks: none(alloc),
         elements: Items::from_vec(elements),
         conditions: Items::from_vec(conditions),
-    })
+    };
+    let mut nodes = Vec::new(alloc);
+    nodes.push(Node::Segment(slot))?;
+    let rows = GuideRows {
+        head: head(alloc)?,
+        hl: None,
+        depends: none(alloc),
+        nodes,
+    };
+    Ok(Guide::check(rows)?)
 }
 
-/// A slot of simple rows without conditions.
-pub fn slot_of(alloc: Global, lines: &[Line]) -> Result<Slot, NoMemory> {
+/// A guide of a segment of simple rows without conditions.
+pub fn guide_of(alloc: Global, lines: &[Line]) -> Result<Guide, Fail> {
     let mut rows = Vec::new(alloc);
     add_rows(alloc, &mut rows, lines)?;
-    slot(alloc, rows, Vec::new(alloc))
+    guide(alloc, rows, Vec::new(alloc))
 }
 
-/// A slot of simple rows with one condition.
+/// A guide of a segment of simple rows with one condition.
 pub fn conditioned(
     alloc: Global,
     lines: &[Line],
     relation: Relation,
     positions: &[u32],
-) -> Result<Slot, NoMemory> {
+) -> Result<Guide, Fail> {
     let mut conditions = Vec::new(alloc);
     add_condition(alloc, &mut conditions, relation, positions)?;
     let mut rows = Vec::new(alloc);
     add_rows(alloc, &mut rows, lines)?;
-    slot(alloc, rows, conditions)
+    guide(alloc, rows, conditions)
 }
 
 /// Each fault as `element component repetition code reference copy;`.
@@ -195,27 +216,17 @@ fn written(alloc: Global, faults: &[ElemFault]) -> Result<Vec<u8>, Fail> {
     Ok(out)
 }
 
-fn found(alloc: Global, delims: Delims, slot: &Slot, segment: &[u8]) -> Result<Vec<u8>, Fail>
-    requires bounded { IsTrue (is_slot_bounded slot.now) }
-    requires conditions { IsTrue (list_all (is_condition_of slot.now) slot.now.conditions) }
-{
-    let faults = check_segment(alloc, &SegView::new(0, segment, delims), slot)?;
-    written(alloc, faults.as_slice())
-}
-
-/// Whether a segment has just these faults.
+/// Whether a segment has just these faults by the one slot of a guide.
 pub fn expect_bytes(
     alloc: Global,
     delims: Delims,
-    slot: &Slot,
+    guide: &Guide,
     segment: &[u8],
     faults: &[u8],
 ) -> Result<(), Fail> {
-    if !is_bounded(slot) || !is_conditioned(slot) {
-        return Err("no slot of an accepted guide")?;
-    }
-    let found = found(alloc, delims, slot, segment)?;
-    if found.as_slice() != faults {
+    let slot = guide.slot(1).ok_or("a guide without a slot")?;
+    let found = check_segment(alloc, &SegView::new(0, segment, delims), slot)?;
+    if written(alloc, found.as_slice())?.as_slice() != faults {
         return Err("other faults than those expected")?;
     }
     Ok(())
@@ -225,11 +236,11 @@ pub fn expect_bytes(
 pub fn expect(
     alloc: Global,
     delims: Delims,
-    slot: &Slot,
+    guide: &Guide,
     cases: &[(&str, &str)],
 ) -> Result<(), Fail> {
     for (segment, faults) in cases {
-        expect_bytes(alloc, delims, slot, segment.as_bytes(), faults.as_bytes())?;
+        expect_bytes(alloc, delims, guide, segment.as_bytes(), faults.as_bytes())?;
     }
     Ok(())
 }
