@@ -4,7 +4,7 @@ ghost use Rattle.elem_rules.specs.Rows.{component_reference};
 ghost use Rattle.elem_rules.specs.ElementFaults.{missing_fault, component_fault};
 ghost use Rattle.x12_segs.specs.View.{components as components_in};
 ghost use Rattle.elem_rules.specs.Divided.{component_in};
-ghost use Rattle.elem_rules.specs.Found.{components_found, occurrence_found};
+ghost use Rattle.elem_rules.specs.Found.{component_found, components_found, occurrence_found};
 
 use crate::divided::{has_more, is_empty, next_part, part_at};
 use crate::findings::{Findings, Spot};
@@ -147,6 +147,22 @@ pub fn check_composite(
     check_components(found, at, rows)
 }
 
+/// Adds what is wrong in component `m`, from 1, of an occurrence of a composite element.
+fn check_component(
+    found: &mut Findings,
+    at: &Occurrence,
+    m: u32,
+    row: &Component,
+    text: &[u8],
+) -> Result<(), NoMemory>
+    ensures { OnOk result
+        (found.new
+        ≡ found.old ++ component_found at.now.delims at.now.element at.now.repetition m row.now text.now) }
+{
+    let fault = component_fault(at.delims, row, text);
+    found.add_if(at.spot(m), fault, component_reference(row), text)
+}
+
 fn check_components(
     found: &mut Findings,
     at: &Occurrence,
@@ -160,9 +176,7 @@ fn check_components(
     let mut parts = at.components();
     for m in 0..rows.len() {
         let text = next_part(&mut parts);
-        let row = &rows[m];
-        let fault = component_fault(at.delims, row, text);
-        found.add_if(at.spot(m as u32 + 1), fault, component_reference(row), text)?;
+        check_component(found, at, m as u32 + 1, &rows[m], text)?;
     }
     Ok(())
 }
