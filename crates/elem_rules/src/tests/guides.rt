@@ -217,7 +217,7 @@ fn written(alloc: Global, faults: &[ElemFault]) -> Result<Vec<u8>, Fail> {
 }
 
 /// Whether a segment has just these faults by the one slot of a guide.
-pub fn expect_bytes(
+fn expect_one(
     alloc: Global,
     delims: Delims,
     guide: &Guide,
@@ -232,6 +232,19 @@ pub fn expect_bytes(
     Ok(())
 }
 
+/// Whether each segment has just the faults beside it, where not all of it is text.
+pub fn expect_bytes(
+    alloc: Global,
+    delims: Delims,
+    guide: &Guide,
+    cases: &[(&[u8], &[u8])],
+) -> Result<(), Fail> {
+    for (segment, faults) in cases {
+        expect_one(alloc, delims, guide, segment, faults)?;
+    }
+    Ok(())
+}
+
 /// Whether each segment has just the faults beside it.
 pub fn expect(
     alloc: Global,
@@ -240,7 +253,7 @@ pub fn expect(
     cases: &[(&str, &str)],
 ) -> Result<(), Fail> {
     for (segment, faults) in cases {
-        expect_bytes(alloc, delims, guide, segment.as_bytes(), faults.as_bytes())?;
+        expect_one(alloc, delims, guide, segment.as_bytes(), faults.as_bytes())?;
     }
     Ok(())
 }

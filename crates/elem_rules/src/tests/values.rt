@@ -154,12 +154,12 @@ fn times_of_day(rt: HostRuntime) -> Result<(), Fail> {
 
 #[test]
 fn bytes_that_are_no_characters(rt: HostRuntime) -> Result<(), Fail> {
-    let alloc = rt.alloc();
-    let guide = each_type(alloc)?;
-    expect_bytes(alloc, DELIMS, &guide, b"TYP*a\x7F", b"1 0 0 6 1 a\x7F;")?;
-    expect_bytes(alloc, DELIMS, &guide, b"TYP*\x1F", b"1 0 0 6 1 \x1F;")?;
-    expect_bytes(alloc, DELIMS, &guide, b"TYP*\x80", b"1 0 0 6 1 \x80;")?;
-    expect_bytes(alloc, DELIMS, &guide, b"TYP*******a\x80\xFF", b"")?;
-    expect_bytes(alloc, DELIMS, &guide, b"TYP*******\x7F", b"7 0 0 6 7 \x7F;")?;
-    Ok(())
+    let cases = [
+        (b"TYP*a\x7F".as_slice(), b"1 0 0 6 1 a\x7F;".as_slice()),
+        (b"TYP*\x1F".as_slice(), b"1 0 0 6 1 \x1F;".as_slice()),
+        (b"TYP*\x80".as_slice(), b"1 0 0 6 1 \x80;".as_slice()),
+        (b"TYP*******a\x80\xFF".as_slice(), b"".as_slice()),
+        (b"TYP*******\x7F".as_slice(), b"7 0 0 6 7 \x7F;".as_slice()),
+    ];
+    expect_bytes(rt.alloc(), DELIMS, &each_type(rt.alloc())?, &cases)
 }
