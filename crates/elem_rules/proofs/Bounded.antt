@@ -1,5 +1,5 @@
 -- What the bounds of a slot say of its rows.
-use Rattle.std.proofs.Common.{◌≡◌, ◌≤◌, Bool, true, false, length, refl}
+use Rattle.std.proofs.Common.{◌≤◌, length, refl}
 use Rattle.std.specs.Prelude.{IsTrue, ◌&&◌, nat_le}
 use Rattle.std.specs.List.{All, list_all}
 use Rattle.std.proofs.lemmas.Bool.{leb-true}

@@ -1,4 +1,3 @@
-use Rattle.std.proofs.Common.{rules}
 use Rattle.elem_rules.proofs.check.check_segment.Goals as goal
 
 pub returns-clause-exact : goal.returns-clause-exact
