@@ -29,6 +29,7 @@ elem_rules: guide_tree hub_kinds x12_segs x12_bytes jiff
 element_check: elem_rules guide_tree guide_toml hub_kinds x12_segs x12_bytes
 '''
 HEAD = 'name = "BENCH"\ngroup = "PO"\nset = "850"\nversion = "005010"\n'
+RUNS = 5
 IK403 = ['1', '2', '3', '4', '5', '6', '7', '8', '9', '10', '12', '13', 'I6', 'I9', 'I10', 'I12', 'I13']
 
 
@@ -307,15 +308,15 @@ def compare(built, folder, count):
 
 def grow(built, folder):
     slot = '{seg="TST", min=1, max=1, elements=["1 M AN 1 9", "2 M C x999 ; 3 M AN 1 9999 ; 4 O AN 1 9999 ; 5 O R 1 9999"]}'
-    took = []
+    least = []
     for size in (1_600_000, 16_000_000):
         part = size // 999 // 3 - 1
         occurrence = b'A' * part + b'>' + b'B' * part + b'>' + b'1' * part
         text = b'TST*X*' + b'^'.join([occurrence] * 999) + b'~'
-        said = run(built, folder, [slot], 1, text, 'count').strip()
-        print(f'{len(text) / 1e6:.1f} MB, {said}')
-        took.append(int(said.split()[-2]))
-    print(f'growth from the smaller to the larger: {took[1] / took[0]:.1f}')
+        said = [run(built, folder, [slot], 1, text, 'count').strip() for _ in range(RUNS)]
+        least.append(min(int(line.split()[-2]) for line in said))
+        print(f'{len(text) / 1e6:.1f} MB: {least[-1] / 1000:.1f} ms, the least of {RUNS} runs')
+    print(f'growth from the smaller to the larger: {least[1] / least[0]:.1f}')
 
 
 def main():
