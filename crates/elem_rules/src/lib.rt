@@ -25,6 +25,7 @@
 
 mod calendar;
 mod check;
+mod clean;
 mod conditions;
 mod divided;
 mod element;
@@ -32,6 +33,7 @@ mod findings;
 mod form;
 mod moment;
 mod occurrence;
+mod presence;
 mod value;
 
 pub use check::check_segment;
