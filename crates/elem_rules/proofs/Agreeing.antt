@@ -41,7 +41,7 @@ any_agrees p q (x ∷ xs) h =
 absent_agrees : (p q : ℕ → Bool) (xs : List ℕ) → All (λ x. p x ≡ q x) xs → absent p xs ≡ absent q xs
 absent_agrees p q xs h = filter_agrees (λ x. not (p x)) (λ x. not (q x)) xs (All-weaker (λ x. p x ≡ q x) (λ x. not (p x) ≡ not (q x)) (λ x e. ap not e) xs h)
 
-broken_agrees : (p q : ℕ → Bool) (r : Relation) (xs : List ℕ) → All (λ x. p x ≡ q x) xs → broken_at p r xs ≡ broken_at q r xs
+pub broken_agrees : (p q : ℕ → Bool) (r : Relation) (xs : List ℕ) → All (λ x. p x ≡ q x) xs → broken_at p r xs ≡ broken_at q r xs
 broken_agrees p q relation.Paired xs h = ap (λ b. if b then absent p xs else []) (any_agrees p q xs h) ∙ ap (λ l. if list_any q xs then l else []) (absent_agrees p q xs h)
 broken_agrees p q relation.Required xs h = ap (λ b. if b then [] else take 1 xs) (any_agrees p q xs h)
 broken_agrees p q relation.Exclusion xs h = ap (drop 1) (filter_agrees p q xs h)

@@ -2,10 +2,14 @@ pub mod Agreeing
 pub mod Both
 pub mod Bounded
 pub mod Examples
+pub mod Looks
+pub mod Measures
 pub mod Members
 pub mod Membership
 pub mod Moments
 pub mod Once
+pub mod Plain
+pub mod Quick
 pub mod Shown
 pub mod Steps
 pub mod Wrongs

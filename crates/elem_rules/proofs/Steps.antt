@@ -1,5 +1,7 @@
 -- One step of a walk: what was found up to a number, and what is left behind it.
-use Rattle.std.proofs.Common.{◌≡◌, ℕ, ◌+◌, ◌-◌, ◌<◌, ◌≤◌, ◌∙◌, List, [], ◌++◌, length, get_or, drop, refl, ap, sym, arith, add-one, append_assoc}
+use Rattle.std.proofs.Common.{◌≡◌, ℕ, ◌+◌, ◌-◌, ◌<◌, ◌≤◌, ◌∙◌, List, [], ◌++◌, length, get_or, drop, refl, ap, sym, arith, add-one, zero, suc, append_assoc, append-nil}
+use mathlib.Core.Logic.{inl, inr}
+use Rattle.std.proofs.lemmas.Bool.{cases_eq}
 use Rattle.std.specs.Prelude.{Some, slice_get, unwrap_or}
 use Rattle.std.specs.Option.{option_map_or, option_map}
 use denote.Ref.{Bor}
@@ -54,3 +56,17 @@ found_joined delims given s slot rows texts conditions start first second last i
     c ∙ ap (λ l. l ++ conditions_found given rows conditions texts) (b ∙ ap (λ l. l ++ extra_found delims slot s) e1)
     ∙ ap (λ l. (rows_found delims slot.elements (texts_of slot s) ++ extra_found delims slot s) ++ l) e3
     ∙ append_assoc (rows_found delims slot.elements (texts_of slot s)) (extra_found delims slot s) (conditions_found delims slot.elements slot.conditions (texts_of slot s))
+
+-- numbers behind the last one of which something is found add nothing
+pub up_to_rest : {A : Type 0} (f : ℕ → List A) (n to : ℕ) → n ≤ to → ((k : ℕ) → n < k → f k ≡ []) → up_to f to ≡ up_to f n
+up_to_rest f n zero le h = let e : n ≡ 0 = omega arith in ap (up_to f) (sym e)
+up_to_rest f n (suc to) le h = elim (cases_eq n (suc to)) [
+  | inl e ↦ ap (up_to f) (sym e)
+  | inr e ↦ ap (λ l. up_to f to ++ l) (h (suc to) (omega (arith, e))) ∙ append-nil (up_to f to) ∙ up_to_rest f n to (omega (arith, e)) h
+]
+
+-- behind the last part there are none
+pub past_parts : (all : List (List ℕ)) (n k : ℕ) → drop n all ≡ [] → n < k → get_or all (k - 1) [] ≡ []
+past_parts all n k done lt =
+    let same : n + (k - 1 - n) ≡ k - 1 = omega arith in
+    sym (get_or-drop n all (k - 1 - n) [] ∙ ap (λ i. get_or all i []) same) ∙ ap (λ l. get_or l (k - 1 - n) []) done

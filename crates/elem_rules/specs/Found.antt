@@ -123,10 +123,13 @@ broken_found rows texts code position =
 abbrev pub is_present_in : Delims → List (List ℕ) → ℕ → Bool
 is_present_in delims texts position = is_filled delims (text_at texts position)
 
+-- by a test of the positions whose elements are present
+abbrev pub condition_found_by : (ℕ → Bool) → List Element → List (List ℕ) → Condition → List ElemFault
+condition_found_by present rows texts condition =
+    flat_map (broken_found rows texts (condition_code condition.relation)) (broken_at present condition.relation condition.positions)
+
 abbrev pub condition_found : Delims → List Element → List (List ℕ) → Condition → List ElemFault
-condition_found delims rows texts condition =
-    flat_map (broken_found rows texts (condition_code condition.relation))
-    (broken_at (is_present_in delims texts) condition.relation condition.positions)
+condition_found delims rows texts condition = condition_found_by (is_present_in delims texts) rows texts condition
 
 abbrev pub conditions_found : Delims → List Element → List Condition → List (List ℕ) → List ElemFault
 conditions_found delims rows conditions texts = flat_map (condition_found delims rows texts) conditions

@@ -10,6 +10,7 @@ ghost use Rattle.guide_tree.specs.Conditions.{is_condition_of};
 ghost use Rattle.elem_rules.specs.ElementFaults.{IsElementFault, IsRising, order_of};
 ghost use Rattle.elem_rules.specs.Found.{read, rows_found, extra_found, IsKeyed};
 
+use crate::clean::is_clean;
 use crate::conditions::{Elements, check_conditions, text_at};
 use crate::divided::has_more;
 use crate::element::{Subject, check_element};
@@ -146,6 +147,9 @@ pub fn check_segment(alloc: Global, seg: &SegView, slot: &Slot) -> Result<Vec<El
         ↔ IsElementFault seg.now.delims (elements_of seg.now) slot.now f) }
     ensures rising { IfOk result (λ v. IsRising v.items) }
 {
+    if is_clean(seg, slot) {
+        return Ok(Vec::new(alloc));
+    }
     let found = find(alloc, seg, slot)?;
     Ok(in_order(found))
 }

@@ -1,11 +1,12 @@
-ghost use Rattle.std.specs.Prelude.{◌≡◌, ◌++◌, IfOk, OnOk, take, drop};
-ghost use Rattle.std.specs.List.{list_any, filter};
+ghost use Rattle.std.specs.Prelude.{◌≡◌, ◌++◌, ◌<◌, length, IfOk, OnOk, take, drop};
+ghost use Rattle.std.specs.List.{filter};
 ghost use Rattle.elem_rules.specs.Conditions.{absent, broken_at, condition_code};
-ghost use Rattle.elem_rules.specs.Found.{read, text_at, reference_at, is_present_in, broken_found, condition_found, conditions_found};
+ghost use Rattle.elem_rules.specs.Clean.{is_set};
+ghost use Rattle.elem_rules.specs.Found.{read, text_at, reference_at, broken_found, condition_found_by, conditions_found};
 
-use crate::divided::is_empty;
 use crate::element::element_reference;
 use crate::findings::{Findings, Spot};
+use crate::presence::{has_present, is_set, present_bits};
 use guide_tree::{Condition, Element, Relation};
 use hub_kinds::{ElementCode, NoMemory};
 use std::alloc::Global;
@@ -45,40 +46,28 @@ fn reference_at(rows: &[Element], position: u32) -> &[u8]
     }
 }
 
-fn is_present(of: &Elements, position: u32) -> bool
-    ensures { result ≡ is_present_in of.now.delims (read of.now.texts.now) position }
-{
-    !is_empty(of.delims, text_at(of.texts, position))
-}
-
-fn has_present(of: &Elements, positions: &[u32]) -> bool
-    ensures { result ≡ list_any (is_present_in of.now.delims (read of.now.texts.now)) positions.now }
-{
-    positions.iter().any(|position| is_present(of, *position))
-}
-
-fn absent(alloc: Global, of: &Elements, positions: &[u32]) -> Result<Vec<u32>, NoMemory>
+fn absent(alloc: Global, present: u64, positions: &[u32]) -> Result<Vec<u32>, NoMemory>
     ensures { IfOk result
-        (λ v. v.items ≡ absent (is_present_in of.now.delims (read of.now.texts.now)) positions.now) }
+        (λ v. v.items ≡ absent (is_set present) positions.now) }
 {
     let absent = positions
         .iter()
         .copied()
-        .filter(|position| !is_present(of, *position))
+        .filter(|position| !is_set(present, *position))
         .collect(alloc)?;
     Ok(absent)
 }
 
 /// Those that are present, but for the first of them.
-fn too_many(alloc: Global, of: &Elements, positions: &[u32]) -> Result<Vec<u32>, NoMemory>
+fn too_many(alloc: Global, present: u64, positions: &[u32]) -> Result<Vec<u32>, NoMemory>
     ensures { IfOk result
         (λ v. v.items
-        ≡ drop 1 (filter (is_present_in of.now.delims (read of.now.texts.now)) positions.now)) }
+        ≡ drop 1 (filter (is_set present) positions.now)) }
 {
     let many = positions
         .iter()
         .copied()
-        .filter(|position| is_present(of, *position))
+        .filter(|position| is_set(present, *position))
         .skip(1)
         .collect(alloc)?;
     Ok(many)
@@ -93,21 +82,20 @@ fn first(alloc: Global, positions: &[u32]) -> Result<Vec<u32>, NoMemory>
 }
 
 /// At which positions a condition is broken.
-fn broken_at(alloc: Global, of: &Elements, condition: &Condition) -> Result<Vec<u32>, NoMemory>
+fn broken_at(alloc: Global, present: u64, condition: &Condition) -> Result<Vec<u32>, NoMemory>
     ensures { IfOk result
         (λ v. v.items
-        ≡ broken_at (is_present_in of.now.delims (read of.now.texts.now)) condition.now.relation condition.now.positions) }
+        ≡ broken_at (is_set present) condition.now.relation condition.now.positions) }
 {
     let positions = condition.positions.as_slice();
     let (head, others) = positions.split_at(positions.len().min(1));
     match condition.relation {
-        Relation::Paired if has_present(of, positions) => absent(alloc, of, positions),
-        Relation::Required if !has_present(of, positions) => first(alloc, positions),
-        Relation::Exclusion => too_many(alloc, of, positions),
-        Relation::Conditional if has_present(of, head) => absent(alloc, of, others),
-        Relation::ListConditional if has_present(of, head) && !has_present(of, others) => {
-            first(alloc, others)
-        }
+        Relation::Paired if has_present(present, positions) => absent(alloc, present, positions),
+        Relation::Required if !has_present(present, positions) => first(alloc, positions),
+        Relation::Exclusion => too_many(alloc, present, positions),
+        Relation::Conditional if has_present(present, head) => absent(alloc, present, others),
+        Relation::ListConditional if has_present(present, head) && !has_present(present, others) =>
+            { first(alloc, others) }
         _ => Ok(Vec::new(alloc)),
     }
 }
@@ -150,15 +138,16 @@ fn check_condition(
     alloc: Global,
     found: &mut Findings,
     of: &Elements,
+    present: u64,
     condition: &Condition,
 ) -> Result<(), NoMemory>
     ensures { OnOk result
         (found.new
         ≡ found.old
-        ++ condition_found of.now.delims of.now.rows.now (read of.now.texts.now) condition.now) }
+        ++ condition_found_by (is_set present) of.now.rows.now (read of.now.texts.now) condition.now) }
 {
     let code = condition_code(condition.relation);
-    for position in broken_at(alloc, of, condition)?.as_slice() {
+    for position in broken_at(alloc, present, condition)?.as_slice() {
         add_broken(found, of, code, *position)?;
     }
     Ok(())
@@ -171,13 +160,15 @@ pub fn check_conditions(
     of: &Elements,
     conditions: &[Condition],
 ) -> Result<(), NoMemory>
+    requires { length of.now.texts.now < 64 }
     ensures { OnOk result
         (found.new
         ≡ found.old
         ++ conditions_found of.now.delims of.now.rows.now conditions.now (read of.now.texts.now)) }
 {
+    let present = present_bits(of.delims, of.texts);
     for condition in conditions {
-        check_condition(alloc, found, of, condition)?;
+        check_condition(alloc, found, of, present, condition)?;
     }
     Ok(())
 }

@@ -4,7 +4,7 @@ ghost use Rattle.elem_rules.specs.Rows.{simple_usage, composite_usage, element_r
 ghost use Rattle.elem_rules.specs.ElementFaults.{whole_fault};
 ghost use Rattle.elem_rules.specs.Found.{too_often_found, occurrences_found, element_found};
 
-use crate::divided::{has_more, is_empty, next_part, part_at};
+use crate::divided::{has_more, is_empty, part_at};
 use crate::findings::{Findings, Spot};
 use crate::occurrence::{Occurrence, check_composite, check_simple, missing_fault};
 use guide_tree::{CompositeRow, Element, SimpleRow};
@@ -116,7 +116,9 @@ fn check_simple_occurrences(
 {
     let mut parts = occurrences(at.text, at.delims);
     for n in 0..repeat {
-        let text = next_part(&mut parts);
+        let Some(text) = parts.next() else {
+            return Ok(());
+        };
         check_simple(found, &at.occurrence(repeat, n + 1, text), row)?;
     }
     Ok(())
@@ -135,7 +137,9 @@ fn check_composite_occurrences(
 {
     let mut parts = occurrences(at.text, at.delims);
     for n in 0..row.repeat {
-        let text = next_part(&mut parts);
+        let Some(text) = parts.next() else {
+            return Ok(());
+        };
         check_composite(found, &at.occurrence(row.repeat, n + 1, text), row)?;
     }
     Ok(())

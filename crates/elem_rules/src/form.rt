@@ -1,5 +1,5 @@
-ghost use Rattle.std.specs.Prelude.{◌≡◌, ◌≤◌, ◌==◌, ◌||◌, length};
-ghost use Rattle.std.specs.List.{list_all, list_any, count_by};
+ghost use Rattle.std.specs.Prelude.{◌≡◌, ◌≤◌, ◌==◌, ◌||◌, Some, None, length, if◌then◌else◌};
+ghost use Rattle.std.specs.List.{list_all, count_by};
 ghost use Rattle.std.specs.Char.{is_ascii_digit};
 ghost use Rattle.elem_rules.specs.Values.{is_character, without_sign, is_whole, is_point, is_decimal, is_form, value_length};
 
@@ -41,48 +41,63 @@ fn are_digits_or_points(text: &[u8]) -> bool
         .all(|byte| byte.is_ascii_digit() || *byte == b'.')
 }
 
-fn has_digit(text: &[u8]) -> bool
-    ensures { result ≡ list_any is_ascii_digit text.now }
-{
-    text.iter().any(|byte| byte.is_ascii_digit())
-}
-
 fn points(text: &[u8]) -> usize
-    ensures { result ≡ count_by is_point text.now }
+    ensures value { result ≡ count_by is_point text.now }
+    ensures bound { result ≤ length text.now }
 {
     text.iter().filter(|byte| **byte == b'.').count()
 }
 
-fn is_decimal(text: &[u8]) -> bool
-    ensures { result ≡ is_decimal text.now }
+/// The digits of a decimal number without sign, if it has the form of one.
+fn decimal_digits(text: &[u8]) -> Option<usize>
+    ensures { result ≡ if is_decimal text.now then Some (count_by is_ascii_digit text.now) else None }
 {
-    are_digits_or_points(text) && points(text) <= 1 && has_digit(text)
+    if !are_digits_or_points(text) {
+        return None;
+    }
+    let points = points(text);
+    let digits = text.len() - points;
+    if points > 1 {
+        return None;
+    }
+    if digits == 0 {
+        return None;
+    }
+    Some(digits)
 }
 
-/// Whether a text has the bytes and the form that its type allows.
-pub fn is_form(data_type: ElementType, wide: bool, text: &[u8]) -> bool
-    ensures { result ≡ is_form data_type wide text.now }
+/// The digits of a whole number without sign, if it has the form of one.
+fn whole_digits(text: &[u8]) -> Option<usize>
+    ensures { result ≡ if is_whole text.now then Some (length text.now) else None }
 {
-    match data_type {
-        ElementType::Text | ElementType::Identifier => are_characters(text, wide),
-        ElementType::Number(_) => is_whole(without_sign(text)),
-        ElementType::Decimal => is_decimal(without_sign(text)),
-        ElementType::Date | ElementType::Time => is_digits(text),
+    if is_whole(text) {
+        Some(text.len())
+    } else {
+        None
     }
 }
 
-fn digits(text: &[u8]) -> usize
-    ensures { result ≡ count_by is_ascii_digit text.now }
-{
-    text.iter().filter(|byte| byte.is_ascii_digit()).count()
-}
-
-/// The length of a value: its bytes, or the digits of a number, whose sign and point don't count.
-pub fn value_length(data_type: ElementType, text: &[u8]) -> usize
-    ensures { result ≡ value_length data_type text.now }
+/// The length of a value, where it has the bytes and the form that its type allows: its bytes, or the digits of a number,
+/// whose sign and point don't count.
+pub fn measured(data_type: ElementType, wide: bool, text: &[u8]) -> Option<usize>
+    ensures { result ≡ if is_form data_type wide text.now then Some (value_length data_type text.now) else None }
 {
     match data_type {
-        ElementType::Number(_) | ElementType::Decimal => digits(text),
-        _ => text.len(),
+        ElementType::Text | ElementType::Identifier => {
+            if are_characters(text, wide) {
+                Some(text.len())
+            } else {
+                None
+            }
+        }
+        ElementType::Number(_) => whole_digits(without_sign(text)),
+        ElementType::Decimal => decimal_digits(without_sign(text)),
+        ElementType::Date | ElementType::Time => {
+            if is_digits(text) {
+                Some(text.len())
+            } else {
+                None
+            }
+        }
     }
 }

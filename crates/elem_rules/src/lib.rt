@@ -14,10 +14,18 @@
 //!
 //! Source: X12.6, data element types, composite and repeated data elements, relational conditions; the 999 guide
 //! (005010X231), IK4. `jiff` says which days exist. What counts as empty, and dates of six digits, are own.
+//!
+//! A call, as `trial_elements` makes it:
+//!
+//! ```
+//! let slot = guide.slot(1).ok_or("a guide without a slot")?;
+//! let found = check_segment(alloc, &SegView::new(0, segment, delims), slot)?;
+//! ```
 #![tactic(auto)]
 
 mod calendar;
 mod check;
+mod clean;
 mod conditions;
 mod divided;
 mod element;
@@ -25,10 +33,8 @@ mod findings;
 mod form;
 mod moment;
 mod occurrence;
+mod presence;
 mod value;
 
 pub use check::check_segment;
 pub use moment::At;
-
-#[cfg(test)]
-mod tests;

@@ -1,17 +1,25 @@
 ghost use Rattle.std.specs.Prelude.{◌≡◌};
+ghost use Rattle.std.specs.Str.{bytes_eq};
 ghost use Rattle.std.specs.Option.{option_map};
 ghost use Rattle.guide_tree.specs.Segments.{contains_text};
 ghost use Rattle.elem_rules.specs.Values.{code_fault, calendar_fault, value_fault};
 
 use crate::calendar::{is_date, is_time};
-use crate::form::{is_form, value_length};
+use crate::form::measured;
 use guide_tree::{CodeList, ElementType, SimpleRow};
 use hub_kinds::{ElementCode, Text};
 
 fn contains_text(texts: &[Text], text: &[u8]) -> bool
     ensures { result ≡ contains_text texts.now text.now }
 {
-    texts.iter().any(|listed| listed.as_slice() == text)
+    texts.iter().any(|listed| is_same(listed.as_slice(), text))
+}
+
+/// Whether two texts are the same; most codes of a list differ from a value by their length or their first byte.
+fn is_same(listed: &[u8], text: &[u8]) -> bool
+    ensures { result ≡ bytes_eq listed.now text.now }
+{
+    listed.len() == text.len() && listed == text
 }
 
 fn code_fault(codes: Option<&CodeList>, text: &[u8]) -> Option<ElementCode>
@@ -41,10 +49,9 @@ fn calendar_fault(data_type: ElementType, text: &[u8]) -> Option<ElementCode>
 pub fn value_fault(row: &SimpleRow, text: &[u8]) -> Option<ElementCode>
     ensures { result ≡ value_fault row.now text.now }
 {
-    if !is_form(row.data_type, row.wide, text) {
+    let Some(length) = measured(row.data_type, row.wide, text) else {
         return Some(ElementCode::InvalidCharacter);
-    }
-    let length = value_length(row.data_type, text);
+    };
     if length < row.min as usize {
         return Some(ElementCode::TooShort);
     }

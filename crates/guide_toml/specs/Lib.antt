@@ -6,3 +6,4 @@ pub mod Entries
 pub mod Tables
 pub mod Answers
 pub mod Guides
+pub mod Refusals

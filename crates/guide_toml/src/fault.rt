@@ -23,3 +23,22 @@ pub enum GuideFileFault {
     #[error("no memory")]
     NoMemory,
 }
+
+impl GuideFileFault {
+    ghost use Rattle.std.specs.Prelude.{◌≡◌};
+    ghost use Rattle.guide_toml.specs.Refusals.{refusal_number};
+
+    /// The number of the refusal; that of a guide's own fault is `GuideFault::number`.
+    pub fn number(&self) -> u32
+        ensures { result ≡ refusal_number self.now }
+    {
+        match self {
+            GuideFileFault::NotToml => 1,
+            GuideFileFault::Missing(_) => 2,
+            GuideFileFault::WrongKind(_) => 3,
+            GuideFileFault::Unknown(_) => 4,
+            GuideFileFault::Guide(_) => 5,
+            GuideFileFault::NoMemory => 6,
+        }
+    }
+}

@@ -7,6 +7,15 @@
 //!
 //! Source: the format is own; its words for rows and conditions are those of X12.6 (requirement designator, data
 //! element types, relational conditions).
+//!
+//! A call, as `trial_guides` makes it:
+//!
+//! ```
+//! match read_guide(alloc, file) {
+//!     Ok(_) => String::from_str(alloc, "None"),
+//!     Err(fault) => format!(in alloc; "{fault:?}"),
+//! }
+//! ```
 #![tactic(auto)]
 
 mod counts;
@@ -23,6 +32,3 @@ mod tokens;
 
 pub use fault::GuideFileFault;
 pub use read::read_guide;
-
-#[cfg(test)]
-mod tests;

@@ -11,6 +11,15 @@
 //!
 //! Source: X12.6, transaction sets, loops, segments, data elements and relational conditions; the 999 guide
 //! (005010X231), IK304. Slot numbers, picks, labels, dependencies and the limits are own.
+//!
+//! A call, as `trial_guides` makes it:
+//!
+//! ```
+//! match Guide::check(rows_of(alloc, nodes)?) {
+//!     Ok(_) => Ok(None),
+//!     Err(fault) => Ok(Some(fault)),
+//! }
+//! ```
 #![tactic(auto)]
 
 mod bounds;
@@ -37,6 +46,3 @@ pub use law::placing_is_grammar;
 pub use node::{Loop, Node};
 pub use rows::{Dependency, DependencyKind, GuideHead, GuideRows, HlPair, HlRule};
 pub use slot::{Condition, Pick, Relation, Slot};
-
-#[cfg(test)]
-mod tests;

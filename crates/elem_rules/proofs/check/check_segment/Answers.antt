@@ -1,3 +1,9 @@
+use Rattle.std.proofs.Common.{List, sym, subst}
+use Rattle.std.specs.List.{Contains}
+use Rattle.hub_kinds.specs.declared.fault.ElemFault.{ElemFault}
+use Rattle.elem_rules.specs.ElementFaults.{IsRising}
+use Rattle.elem_rules.proofs.Members.{no_member}
+use Rattle.elem_rules.proofs.Looks.{on_true, none_rising}
 use Rattle.elem_rules.proofs.check.check_segment.Goals as goal
 
 pub returns-clause-exact : goal.returns-clause-exact
@@ -5,3 +11,13 @@ returns-clause-exact c f =
     let a = c.in_order.ensures.same f in
     let b = c.in_ok-found.ensures.exact f in
     (λ h. b.0 (a.0 h), λ h. a.1 (b.1 h))
+
+-- nothing is in the empty list, and a clean segment has no fault
+pub returns-then-is_clean-clause-exact : goal.returns-then-is_clean-clause-exact
+returns-then-is_clean-clause-exact c f = (
+  λ h. absurd (no_member f (subst (λ (l : List ElemFault). Contains l f) c.new.ensures.items h)),
+  λ h. absurd (on_true c.is_clean.result c.if-is_clean.true c.is_clean.ensures f h),
+)
+
+pub returns-then-is_clean-clause-rising : goal.returns-then-is_clean-clause-rising
+returns-then-is_clean-clause-rising c = subst IsRising (sym c.new.ensures.items) none_rising

@@ -3,6 +3,7 @@ use Rattle.std.specs.List.{Contains}
 use Rattle.hub_kinds.specs.declared.fault.ElemFault.{ElemFault}
 use Rattle.x12_segs.specs.View.{elements_of}
 use Rattle.elem_rules.specs.Found.{read, found, IsKeyed}
+use Rattle.elem_rules.proofs.Looks.{texts_few}
 use Rattle.elem_rules.proofs.Steps.{found_joined}
 use Rattle.elem_rules.proofs.Membership.{found_is, is_found, keyed}
 use Rattle.elem_rules.proofs.Bounded.{rows_few, rows_bounded}
@@ -38,3 +39,8 @@ returns-clause-exact c f =
 
 pub returns-clause-keyed : goal.returns-clause-keyed
 returns-clause-keyed c = subst IsKeyed (sym (walked c)) (keyed c.args.seg.now.delims (elements_of c.args.seg.now) c.args.slot.now c.requires.conditions)
+
+pub check_conditions-requires : goal.check_conditions-requires
+check_conditions-requires c =
+    texts_few c.as_slice.result.now c.in_ok-texts.texts.items c.args.slot.now.elements c.as_slice-rows.result.now (elements_of c.args.seg.now)
+    (rows_few c.args.slot.now c.requires.bounded) c.as_slice-rows.ensures c.as_slice.ensures.value c.in_ok-texts.ensures

@@ -1,7 +1,7 @@
 //! What the house guides read as.
-use super::fault_of;
+use super::files::fault_of;
 use super::house::{H850, H856};
-use crate::read_guide;
+use guide_toml::read_guide;
 use guide_tree::{CodeList, Element, ElementType, Guide, Node};
 use std::alloc::{AllocError, Global};
 use std::test::Fail;

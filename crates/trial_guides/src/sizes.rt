@@ -1,5 +1,5 @@
 //! What the check of the guide refuses for its size.
-use super::node_fault;
+use super::files::node_fault;
 use std::alloc::{AllocError, Global};
 
 /// Loops nested so deep, each with a first segment of its own.
@@ -37,10 +37,14 @@ fn fault_of_many(alloc: Global, count: u32) -> Result<String, AllocError> {
     node_fault(alloc, nodes.as_str())
 }
 
+/// How deep loops are nested, and the fault.
+const NESTED: &[(u8, &str)] = &[(8, "None"), (9, "Guide(TooDeep)")];
+
 #[test]
 fn limits(rt: HostRuntime) -> Result<(), AllocError> {
-    assert_eq!(rt; nested_fault(rt.alloc(), 8)?.as_str(), "None");
-    assert_eq!(rt; nested_fault(rt.alloc(), 9)?.as_str(), "Guide(TooDeep)");
+    for (depth, want) in NESTED {
+        assert_eq!(rt; nested_fault(rt.alloc(), *depth)?.as_str(), *want);
+    }
     assert_eq!(rt;
         fault_of_many(rt.alloc(), 2_001)?.as_str(),
         "Guide(TooMany)"

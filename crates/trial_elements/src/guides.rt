@@ -1,5 +1,5 @@
 //! Guides of one slot and segments of the tests, and how their faults are written.
-use crate::check_segment;
+use elem_rules::check_segment;
 use guide_tree::{
     CodeList, Component, CompositeRow, Condition, Element, ElementType, Guide, GuideHead,
     GuideRows, Node, Relation, Requirement, SimpleRow, Slot,
@@ -32,19 +32,17 @@ pub struct Line {
 }
 
 /// An optional row of a text of one byte, without codes.
-pub fn optional(reference: &'static str) -> Line {
-    Line {
-        reference,
-        requirement: Requirement::Optional,
-        data_type: ElementType::Text,
-        min: 1,
-        max: 1,
-        repeat: 1,
-        wide: false,
-        used: "",
-        unused: "",
-    }
-}
+pub const OPTIONAL: Line = Line {
+    reference: "",
+    requirement: Requirement::Optional,
+    data_type: ElementType::Text,
+    min: 1,
+    max: 1,
+    repeat: 1,
+    wide: false,
+    used: "",
+    unused: "",
+};
 
 fn none<T>(alloc: Global) -> Items<T> {
     Items::from_vec(Vec::new(alloc))

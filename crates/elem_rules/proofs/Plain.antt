@@ -1,0 +1,108 @@
+-- A text without component and repetition separators is its one part, and so are the parts of it.
+use Rattle.std.proofs.Common.{◌≡◌, ℕ, zero, suc, ◌<◌, ◌∙◌, List, [], ◌∷◌, Bool, true, false, cond, length, get_or, refl, ap, sym, arith}
+use Rattle.std.specs.Prelude.{Option, Some, None, ◌==◌, ◌||◌}
+use Rattle.std.specs.List.{list_any, slice_split, onto_first}
+use Rattle.std.specs.Option.{option_map_or}
+use Rattle.std.proofs.lemmas.Bool.{false_from_ne_true}
+use Rattle.memchr.specs.Find.{IsFirstByte, is_byte, is_byte2}
+use Rattle.x12_bytes.specs.declared.delims.Delims.{Delims}
+use Rattle.x12_segs.specs.Parts.{parts, parts_by}
+use Rattle.x12_segs.specs.View.{occurrences, components}
+use Rattle.elem_rules.specs.Divided.{is_inner_separator, is_empty}
+
+neither : (a b : Bool) → (a || b) ≡ false → (a ≡ false) × (b ≡ false)
+neither true b h = cc
+neither false b h = (refl, h)
+
+nor : (a b : Bool) → a ≡ false → b ≡ false → (a || b) ≡ false
+nor true b g h = cc
+nor false b g h = h
+
+-- no byte is an inner separator
+abbrev pub IsPlain : Delims → List ℕ → Type 0
+IsPlain delims text = list_any (is_inner_separator delims) text ≡ false
+
+one_part : (p : ℕ → Bool) (xs : List ℕ) → list_any p xs ≡ false → slice_split p xs ≡ xs ∷ []
+one_part p [] h = refl
+one_part p (x ∷ xs) h =
+    let e = neither (p x) (list_any p xs) h in
+    ap (λ b. cond b ([] ∷ slice_split p xs) (onto_first x (slice_split p xs))) e.0 ∙ ap (onto_first x) (one_part p xs e.1)
+
+any_either : (p q : ℕ → Bool) (xs : List ℕ) → list_any (λ x. p x || q x) xs ≡ false → (list_any p xs ≡ false) × (list_any q xs ≡ false)
+any_either p q [] h = (refl, refl)
+any_either p q (x ∷ xs) h =
+    let e = neither (p x || q x) (list_any (λ x. p x || q x) xs) h in
+    let f = neither (p x) (q x) e.0 in
+    let r = any_either p q xs e.1 in
+    (nor (p x) (list_any p xs) f.0 r.0, nor (q x) (list_any q xs) f.1 r.1)
+
+pub one_component : (delims : Delims) (text : List ℕ) → IsPlain delims text → components delims text ≡ text ∷ []
+one_component delims text h =
+    one_part (λ b. b == delims.component) text
+    (any_either (λ b. b == delims.component) (λ b. option_map_or (λ separator. b == separator) delims.repetition false) text h).0
+
+one_by : (separator : Option ℕ) (text : List ℕ) → list_any (λ b. option_map_or (λ separator. b == separator) separator false) text ≡ false → parts_by separator text ≡ text ∷ []
+one_by None text h = refl
+one_by (Some s) text h = one_part (λ b. b == s) text h
+
+pub one_occurrence : (delims : Delims) (text : List ℕ) → IsPlain delims text → occurrences delims text ≡ text ∷ []
+one_occurrence delims text h =
+    one_by delims.repetition text
+    (any_either (λ b. b == delims.component) (λ b. option_map_or (λ separator. b == separator) delims.repetition false) text h).1
+
+pub filled_plain : (delims : Delims) (byte : ℕ) (bytes : List ℕ) → IsPlain delims (byte ∷ bytes) → is_empty delims (byte ∷ bytes) ≡ false
+filled_plain delims byte bytes h =
+    let e = neither (is_inner_separator delims byte) (list_any (is_inner_separator delims) bytes) h in
+    rw e.0 refl
+
+-- parts of a text without such bytes have none
+part_none-cons : (p : ℕ → Bool) (x : ℕ) (list : List (List ℕ)) → p x ≡ false → ((n : ℕ) → list_any p (get_or list n []) ≡ false) → (n : ℕ) → list_any p (get_or (onto_first x list) n []) ≡ false
+part_none-cons p x [] e h zero = nor (p x) false e refl
+part_none-cons p x [] e h (suc n) = refl
+part_none-cons p x (part ∷ list) e h zero = nor (p x) (list_any p part) e (h 0)
+part_none-cons p x (part ∷ list) e h (suc n) = h (suc n)
+
+part_none-first : (p : ℕ → Bool) (list : List (List ℕ)) → ((n : ℕ) → list_any p (get_or list n []) ≡ false) → (n : ℕ) → list_any p (get_or ([] ∷ list) n []) ≡ false
+part_none-first p list h zero = refl
+part_none-first p list h (suc n) = h n
+
+part_none : (p q : ℕ → Bool) (xs : List ℕ) → list_any p xs ≡ false → (n : ℕ) → list_any p (get_or (slice_split q xs) n []) ≡ false
+part_none p q [] h zero = refl
+part_none p q [] h (suc n) = refl
+part_none p q (x ∷ xs) h n =
+    let e = neither (p x) (list_any p xs) h in
+    elim (q x) as (λ b. list_any p (get_or (cond b ([] ∷ slice_split q xs) (onto_first x (slice_split q xs))) n []) ≡ false) [
+      | true ↦ part_none-first p (slice_split q xs) (part_none p q xs e.1) n
+      | false ↦ part_none-cons p x (slice_split q xs) e.0 (part_none p q xs e.1) n
+    ]
+
+pub plain_part : (delims : Delims) (separator : ℕ) (text : List ℕ) (n : ℕ) → IsPlain delims text → IsPlain delims (get_or (parts separator text) n [])
+plain_part delims separator text n h = part_none (is_inner_separator delims) (λ b. b == separator) text h n
+
+-- what a search finds
+none_passes : (p : ℕ → Bool) (xs : List ℕ) → ((j : ℕ) → j < length xs → p (get_or xs j 0) ≡ true → ⊥) → list_any p xs ≡ false
+none_passes p [] h = refl
+none_passes p (x ∷ xs) h =
+    nor (p x) (list_any p xs) (false_from_ne_true (p x) (h 0 (omega arith)))
+    (none_passes p xs (λ j lt. h (suc j) (omega arith)))
+
+same_tests : (p q : ℕ → Bool) (xs : List ℕ) → ((x : ℕ) → p x ≡ q x) → list_any p xs ≡ list_any q xs
+same_tests p q [] e = refl
+same_tests p q (x ∷ xs) e = ap (λ b. b || list_any p xs) (e x) ∙ ap (λ b. q x || b) (same_tests p q xs e)
+
+or_false : (b : Bool) → b ≡ (b || false)
+or_false true = refl
+or_false false = refl
+
+inner_one : (delims : Delims) (r : Option ℕ) → r ≡ None → delims.repetition ≡ r → (x : ℕ) → is_inner_separator delims x ≡ is_byte delims.component x
+inner_one delims r is none x = ap (λ o. (x == delims.component) || option_map_or (λ separator. x == separator) o false) (none ∙ is) ∙ sym (or_false (x == delims.component))
+
+pub plain_one : (delims : Delims) (text : List ℕ) → delims.repetition ≡ None → IsFirstByte (is_byte delims.component) text None → IsPlain delims text
+plain_one delims text none h =
+    same_tests (is_inner_separator delims) (is_byte delims.component) text (inner_one delims None refl none)
+    ∙ none_passes (is_byte delims.component) text (λ j lt. h j (omega arith) lt)
+
+pub plain_two : (delims : Delims) (text : List ℕ) (separator : ℕ) → delims.repetition ≡ Some separator → IsFirstByte (is_byte2 delims.component separator) text None → IsPlain delims text
+plain_two delims text separator is h =
+    same_tests (is_inner_separator delims) (is_byte2 delims.component separator) text (λ x. ap (λ o. (x == delims.component) || option_map_or (λ separator. x == separator) o false) is)
+    ∙ none_passes (is_byte2 delims.component separator) text (λ j lt. h j (omega arith) lt)

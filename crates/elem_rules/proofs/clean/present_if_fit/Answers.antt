@@ -1,0 +1,25 @@
+use Rattle.std.proofs.Common.{◌≡◌, ◌+◌, arith, sym, ◌∙◌}
+use Rattle.guide_tree.specs.Segments.{element_of}
+use Rattle.x12_segs.specs.View.{elements_of}
+use Rattle.elem_rules.proofs.Members.{nth_within}
+use Rattle.elem_rules.proofs.Steps.{left_more}
+use Rattle.elem_rules.proofs.Looks.{element_next, fit_more, bits_more}
+use Rattle.std.proofs.Common.{drop}
+use Rattle.elem_rules.proofs.clean.present_if_fit.Goals as goal
+
+pub loop-k-preserved : goal.loop-k-preserved
+loop-k-preserved c =
+    let s = elements_of c.args.seg.now in
+    let k = c.loop-k.k in
+    let text = c.next_part-text.result.now in
+    let at : text ≡ element_of s (k + 1) = element_next s c.loop-k.parts text k c.loop-k.invariant.left c.next_part-text.ensures.text in
+    record {
+      left = left_more (drop 1 s) c.loop-k.parts _ k c.loop-k.invariant.left c.next_part-text.ensures.rest;
+      fit = fit_more c.args.rows.now s k c.index-rows-k.result text (omega arith) c.index-rows-k.is at (sym c.fits.ensures ∙ c.if-not-fits.false) c.loop-k.invariant.fit;
+      bits = bits_more s k c.loop-k.present text c.is_empty.result c.marked-present.result at c.loop-k.invariant.bits c.is_empty.ensures c.marked-present.ensures;
+    }
+
+pub returns-in-None-clause-fit : goal.returns-in-None-clause-fit
+returns-in-None-clause-fit c k row there =
+    let within = nth_within c.args.rows.now k row there in
+    c.loop-k.invariant.fit k row (omega (arith, within.1)) there

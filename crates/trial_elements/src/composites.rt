@@ -1,0 +1,158 @@
+//! Composites, repetitions, elements that aren't used, and elements without a row.
+use super::guides::{
+    DELIMS, Line, OPTIONAL, add_components, add_rows, composite, expect, guide, text,
+};
+use guide_tree::{Component, Element, ElementType, Guide, Requirement};
+use hub_kinds::NoMemory;
+use std::alloc::Global;
+use std::test::Fail;
+use x12_bytes::Delims;
+
+const FIRST_OF_THREE: &[Line] = &[Line {
+    reference: "11",
+    requirement: Requirement::Mandatory,
+    max: 3,
+    ..OPTIONAL
+}];
+
+const THIRD_OF_THREE: &[Line] = &[Line {
+    reference: "13",
+    data_type: ElementType::Number(0),
+    max: 2,
+    ..OPTIONAL
+}];
+
+/// A mandatory composite that may occur three times; its second component isn't used.
+fn three_components(alloc: Global) -> Result<Element, NoMemory> {
+    let mut components = Vec::new(alloc);
+    add_components(alloc, &mut components, FIRST_OF_THREE)?;
+    components.push(Component::NotUsed(text(alloc, "12")?))?;
+    add_components(alloc, &mut components, THIRD_OF_THREE)?;
+    composite(alloc, "C1", Requirement::Mandatory, 3, components)
+}
+
+const ONLY_COMPONENT: &[Line] = &[Line {
+    reference: "21",
+    max: 2,
+    ..OPTIONAL
+}];
+
+fn one_component(alloc: Global) -> Result<Element, NoMemory> {
+    let mut components = Vec::new(alloc);
+    add_components(alloc, &mut components, ONLY_COMPONENT)?;
+    composite(alloc, "C2", Requirement::Optional, 1, components)
+}
+
+const ROW_TWICE: &[Line] = &[Line {
+    reference: "3",
+    max: 2,
+    repeat: 2,
+    ..OPTIONAL
+}];
+
+const LAST_ROW: &[Line] = &[Line {
+    reference: "5",
+    requirement: Requirement::Mandatory,
+    ..OPTIONAL
+}];
+
+fn composites(alloc: Global) -> Result<Guide, Fail> {
+    let mut rows = Vec::new(alloc);
+    rows.push(three_components(alloc)?)?;
+    rows.push(one_component(alloc)?)?;
+    add_rows(alloc, &mut rows, ROW_TWICE)?;
+    rows.push(Element::NotUsed(text(alloc, "4")?))?;
+    add_rows(alloc, &mut rows, LAST_ROW)?;
+    let none = composite(alloc, "C6", Requirement::Optional, 1, Vec::new(alloc))?;
+    rows.push(none)?;
+    guide(alloc, rows, Vec::new(alloc))
+}
+
+const COMPONENTS_OF_COMPOSITES: &[(&str, &str)] = &[
+    ("CMP*a****x", ""),
+    ("CMP", "1 0 0 1 C1 ;5 0 0 1 5 ;"),
+    ("CMP*>>^>****x", "1 0 0 1 C1 ;"),
+    ("CMP*a>>12****x", ""),
+    ("CMP*>>1****x", "1 1 1 1 11 ;"),
+    ("CMP*a>b****x", "1 2 1 I10 12 b;"),
+    ("CMP*abcd>>x****x", "1 1 1 5 11 abcd;1 3 1 6 13 x;"),
+    ("CMP*abcd>b>x>z>y****x", "1 4 1 13 C1 z;"),
+    ("CMP*a>>1>>****x", ""),
+    ("CMP*a*abc***x", "2 1 0 5 21 abc;"),
+    ("CMP*a*a>b***x", "2 2 0 13 C2 b;"),
+    ("CMP*a****x*z", "6 1 0 13 C6 z;"),
+    ("CMP*a****x*>z", "6 1 0 13 C6 ;"),
+];
+
+#[test]
+fn components_of_composites(rt: HostRuntime) -> Result<(), Fail> {
+    expect(
+        rt.alloc(),
+        DELIMS,
+        &composites(rt.alloc())?,
+        COMPONENTS_OF_COMPOSITES,
+    )
+}
+
+const OCCURRENCES: &[(&str, &str)] = &[
+    ("CMP*a^^b^^****x", ""),
+    ("CMP*a^b^c^d>e****x", "1 0 4 12 C1 d>e;"),
+    ("CMP*a^b^c^^d****x", "1 0 4 12 C1 ;"),
+    (
+        "CMP*abcd^>>x^c>>y^abcd****x",
+        "1 0 4 12 C1 abcd;1 1 1 5 11 abcd;1 1 2 1 11 ;1 3 2 6 13 x;1 3 3 6 13 y;",
+    ),
+    ("CMP*a^b>>>c****x", "1 4 2 13 C1 c;"),
+    ("CMP*a*a^bcd^e***x", "2 0 2 12 C2 bcd;"),
+    ("CMP*a**ab^abc**x", "3 0 2 5 3 abc;"),
+    ("CMP*a**a>b^c**x", "3 2 1 13 3 b;"),
+    ("CMP*a**abc^^x**x", "3 0 1 5 3 abc;3 0 3 12 3 x;"),
+    ("CMP*a**a>>^b>**x", ""),
+    ("CMP*a****x^y", "5 0 2 12 5 y;"),
+];
+
+#[test]
+fn occurrences(rt: HostRuntime) -> Result<(), Fail> {
+    expect(rt.alloc(), DELIMS, &composites(rt.alloc())?, OCCURRENCES)
+}
+
+const NOT_USED_AND_WITHOUT_A_ROW: &[(&str, &str)] = &[
+    ("CMP*a***q>^w*x", "4 0 0 I10 4 q>^w;"),
+    ("CMP*a***>^*x", ""),
+    ("CMP*a****x****", ""),
+    ("CMP*a****x**7", "7 0 0 3  7;"),
+    ("CMP*a****x****q", "7 0 0 3  ;"),
+    ("CMP*a****x**7*8*9", "7 0 0 3  7;"),
+    ("CMP*a****x**>^", ""),
+];
+
+#[test]
+fn not_used_and_without_a_row(rt: HostRuntime) -> Result<(), Fail> {
+    expect(
+        rt.alloc(),
+        DELIMS,
+        &composites(rt.alloc())?,
+        NOT_USED_AND_WITHOUT_A_ROW,
+    )
+}
+
+const WITHOUT_A_REPETITION_SEPARATOR: &[(&str, &str)] = &[
+    ("CMP*a^b****x", ""),
+    ("CMP*a^bc>>1****x", "1 1 1 5 11 a^bc;"),
+    ("CMP*a****^", ""),
+    ("CMP*a***^*x", "4 0 0 I10 4 ^;"),
+];
+
+#[test]
+fn without_a_repetition_separator_an_element_occurs_once(rt: HostRuntime) -> Result<(), Fail> {
+    let delims = Delims {
+        repetition: None,
+        ..DELIMS
+    };
+    expect(
+        rt.alloc(),
+        delims,
+        &composites(rt.alloc())?,
+        WITHOUT_A_REPETITION_SEPARATOR,
+    )
+}

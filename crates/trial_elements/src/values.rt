@@ -1,0 +1,190 @@
+//! Values of each type: which bytes and forms it allows, how its length counts, its codes, dates and times.
+use super::guides::{DELIMS, Line, OPTIONAL, expect, expect_bytes, guide_of};
+use guide_tree::{ElementType, Guide};
+use std::alloc::Global;
+use std::test::Fail;
+
+const EACH_TYPE_ROWS: &[Line] = &[
+    Line {
+        reference: "1",
+        max: 5,
+        ..OPTIONAL
+    },
+    Line {
+        reference: "2",
+        data_type: ElementType::Identifier,
+        min: 2,
+        max: 3,
+        used: "AA BBB",
+        unused: "CC",
+        ..OPTIONAL
+    },
+    Line {
+        reference: "3",
+        data_type: ElementType::Number(0),
+        min: 2,
+        max: 3,
+        ..OPTIONAL
+    },
+    Line {
+        reference: "4",
+        data_type: ElementType::Decimal,
+        max: 4,
+        ..OPTIONAL
+    },
+    Line {
+        reference: "5",
+        data_type: ElementType::Date,
+        min: 6,
+        max: 8,
+        ..OPTIONAL
+    },
+    Line {
+        reference: "6",
+        data_type: ElementType::Time,
+        min: 4,
+        max: 8,
+        ..OPTIONAL
+    },
+    Line {
+        reference: "7",
+        max: 9,
+        wide: true,
+        ..OPTIONAL
+    },
+];
+
+fn each_type(alloc: Global) -> Result<Guide, Fail> {
+    guide_of(alloc, EACH_TYPE_ROWS)
+}
+
+const STRINGS: &[(&str, &str)] = &[
+    ("TYP*abcde", ""),
+    ("TYP*abcdef", "1 0 0 5 1 abcdef;"),
+    ("TYP* ~", ""),
+    ("TYP*12345>", ""),
+    ("TYP*1>2", "1 2 0 13 1 2;"),
+    ("TYP*1^2", "1 0 2 12 1 2;"),
+];
+
+#[test]
+fn strings(rt: HostRuntime) -> Result<(), Fail> {
+    expect(rt.alloc(), DELIMS, &each_type(rt.alloc())?, STRINGS)
+}
+
+const CODES_USED_AND_NOT_USED: &[(&str, &str)] = &[
+    ("TYP**AA", ""),
+    ("TYP**BBB", ""),
+    ("TYP**A", "2 0 0 4 2 A;"),
+    ("TYP**CC", "2 0 0 I6 2 CC;"),
+    ("TYP**DD", "2 0 0 7 2 DD;"),
+    ("TYP**CCCC", "2 0 0 5 2 CCCC;"),
+    ("TYP**AA>", ""),
+];
+
+#[test]
+fn codes_used_and_not_used(rt: HostRuntime) -> Result<(), Fail> {
+    expect(
+        rt.alloc(),
+        DELIMS,
+        &each_type(rt.alloc())?,
+        CODES_USED_AND_NOT_USED,
+    )
+}
+
+const WHOLE_NUMBERS: &[(&str, &str)] = &[
+    ("TYP***12", ""),
+    ("TYP***-123", ""),
+    ("TYP***-1", "3 0 0 4 3 -1;"),
+    ("TYP***1234", "3 0 0 5 3 1234;"),
+    ("TYP***-", "3 0 0 6 3 -;"),
+    ("TYP***1.2", "3 0 0 6 3 1.2;"),
+    ("TYP***+12", "3 0 0 6 3 +12;"),
+    ("TYP***1-2", "3 0 0 6 3 1-2;"),
+    ("TYP***--12", "3 0 0 6 3 --12;"),
+];
+
+#[test]
+fn whole_numbers(rt: HostRuntime) -> Result<(), Fail> {
+    expect(rt.alloc(), DELIMS, &each_type(rt.alloc())?, WHOLE_NUMBERS)
+}
+
+const DECIMAL_NUMBERS: &[(&str, &str)] = &[
+    ("TYP****-12.34", ""),
+    ("TYP****.5", ""),
+    ("TYP****5.", ""),
+    ("TYP****-.5", ""),
+    ("TYP****.", "4 0 0 6 4 .;"),
+    ("TYP****-", "4 0 0 6 4 -;"),
+    ("TYP****1.2.3", "4 0 0 6 4 1.2.3;"),
+    ("TYP****123.45", "4 0 0 5 4 123.45;"),
+    ("TYP****1E5", "4 0 0 6 4 1E5;"),
+];
+
+#[test]
+fn decimal_numbers(rt: HostRuntime) -> Result<(), Fail> {
+    expect(rt.alloc(), DELIMS, &each_type(rt.alloc())?, DECIMAL_NUMBERS)
+}
+
+const DATES: &[(&str, &str)] = &[
+    ("TYP*****20240229", ""),
+    ("TYP*****20230229", "5 0 0 8 5 20230229;"),
+    ("TYP*****19000229", "5 0 0 8 5 19000229;"),
+    ("TYP*****20000229", ""),
+    ("TYP*****240229", ""),
+    ("TYP*****230229", "5 0 0 8 5 230229;"),
+    ("TYP*****2402291", "5 0 0 8 5 2402291;"),
+    ("TYP*****2024022A", "5 0 0 6 5 2024022A;"),
+    ("TYP*****00000101", "5 0 0 8 5 00000101;"),
+    ("TYP*****00010101", ""),
+    ("TYP*****99991231", ""),
+    ("TYP*****20241301", "5 0 0 8 5 20241301;"),
+    ("TYP*****20240001", "5 0 0 8 5 20240001;"),
+    ("TYP*****20240100", "5 0 0 8 5 20240100;"),
+    ("TYP*****20240431", "5 0 0 8 5 20240431;"),
+    ("TYP*****12345", "5 0 0 4 5 12345;"),
+    ("TYP*****202402291", "5 0 0 5 5 202402291;"),
+];
+
+#[test]
+fn dates(rt: HostRuntime) -> Result<(), Fail> {
+    expect(rt.alloc(), DELIMS, &each_type(rt.alloc())?, DATES)
+}
+
+const TIMES_OF_DAY: &[(&str, &str)] = &[
+    ("TYP******0000", ""),
+    ("TYP******2359", ""),
+    ("TYP******2400", "6 0 0 9 6 2400;"),
+    ("TYP******2360", "6 0 0 9 6 2360;"),
+    ("TYP******12345", "6 0 0 9 6 12345;"),
+    ("TYP******235959", ""),
+    ("TYP******123460", "6 0 0 9 6 123460;"),
+    ("TYP******1234567", ""),
+    ("TYP******12345678", ""),
+    ("TYP******123", "6 0 0 4 6 123;"),
+    ("TYP******12:0", "6 0 0 6 6 12:0;"),
+    ("TYP******123456789", "6 0 0 5 6 123456789;"),
+];
+
+#[test]
+fn times_of_day(rt: HostRuntime) -> Result<(), Fail> {
+    expect(rt.alloc(), DELIMS, &each_type(rt.alloc())?, TIMES_OF_DAY)
+}
+
+const BYTES_THAT_ARE_NO_CHARACTERS: &[(&[u8], &[u8])] = &[
+    (b"TYP*a\x7F", b"1 0 0 6 1 a\x7F;"),
+    (b"TYP*\x1F", b"1 0 0 6 1 \x1F;"),
+    (b"TYP*\x80", b"1 0 0 6 1 \x80;"),
+    (b"TYP*******a\x80\xFF", b""),
+    (b"TYP*******\x7F", b"7 0 0 6 7 \x7F;"),
+];
+
+#[test]
+fn bytes_that_are_no_characters(rt: HostRuntime) -> Result<(), Fail> {
+    expect_bytes(
+        rt.alloc(),
+        DELIMS,
+        &each_type(rt.alloc())?,
+        BYTES_THAT_ARE_NO_CHARACTERS,
+    )
+}
