@@ -14,6 +14,13 @@
 //!
 //! Source: the 999 guide (005010X231), ST, AK1, AK2, IK3, IK4, IK5, AK9 and SE; X12.5, interchange control
 //! header and trailer; X12.6, functional group header and trailer, segment.
+//!
+//! As its trial, the crate `trial_acknowledgments`, calls it:
+//!
+//! ```rust
+//! let bytes = write_ack_interchange(alloc, &envelope(), &at, 1, &[Items::from_vec(report)])?;
+//! assert_eq!(rt; bytes.as_slice(), SENT);
+//! ```
 #![tactic(auto)]
 
 mod codes;
@@ -37,10 +44,3 @@ pub use report::{append_head, append_set, append_tail, write_999};
 pub use totals::Totals;
 pub use trailer::GroupTrailer;
 pub use verdict::group_verdict;
-
-#[cfg(test)]
-mod fault_tests;
-#[cfg(test)]
-mod samples;
-#[cfg(test)]
-mod tests;

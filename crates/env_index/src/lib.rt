@@ -17,6 +17,13 @@
 //! X12.5, interchange control header (ISA) and trailer (IEA), interchange acknowledgment (TA1);
 //! X12.6, functional group header (GS) and trailer (GE), transaction set header (ST) and trailer
 //! (SE).
+//!
+//! As its trial, the crate `trial_envelopes`, calls it:
+//!
+//! ```rust
+//! let found = read_interchange(rt.alloc(), ORDER, 0)?.ok_or("no header")?;
+//! assert_eq!(rt; (found.start(), found.end()), (0, 236));
+//! ```
 #![tactic(auto)]
 
 mod builder;
@@ -39,6 +46,3 @@ pub use kind::{Kind, kind_of};
 pub use laws::{chain_is_one, envelope_is_one, envelope_is_there};
 pub use lone::read_lone;
 pub use read::read_interchange;
-
-#[cfg(test)]
-mod tests;

@@ -11,6 +11,12 @@
 //!
 //! 999 guide (005010X231), the code lists of IK304, IK403, IK501, IK502, AK901 and AK905; X12.5,
 //! interchange control; X12.6, data element type N0.
+//!
+//! As its trial, the crate `trial_texts`, calls it:
+//!
+//! ```rust
+//! assert_eq!(rt; Lent::new(b"ACME").bytes(), b"ACME".as_slice());
+//! ```
 #![tactic(auto)]
 
 mod answers;
@@ -34,6 +40,3 @@ pub use memory::NoMemory;
 pub use numbers::{is_alphanumeric, read_number};
 pub use place::Place;
 pub use set_codes::{GroupCode, GroupVerdict, SetCode, Verdict};
-
-#[cfg(test)]
-mod tests;

@@ -7,12 +7,16 @@
 //! - ST01, ST02 and ST03 are handed on as they stand.
 //!
 //! X12.6, transaction set header (ST) and trailer (SE); 999 guide, IK5.
+//!
+//! As its trial, the crate `trial_envelopes`, calls it:
+//!
+//! ```rust
+//! let answer = answer_set(rt.alloc(), &header, 4, Some(&trailer), false)?;
+//! assert_eq!(rt; answer.identifier.bytes(), b"850".as_slice());
+//! ```
 #![tactic(auto)]
 
 mod answer;
 mod codes;
 
 pub use answer::answer_set;
-
-#[cfg(test)]
-mod tests;

@@ -10,6 +10,13 @@
 //! - an id is read without exactly the spaces at its end.
 //!
 //! X12.5, interchange control header (ISA).
+//!
+//! As its trial, the crate `trial_texts`, calls it:
+//!
+//! ```rust
+//! let header = read_header(BOLT, 0).ok_or("no header")?;
+//! assert_eq!(rt; header.delims().repetition, None);
+//! ```
 #![tactic(auto)]
 
 mod bytes;
@@ -24,6 +31,3 @@ pub use header::Header;
 pub use layout::HEADER_LEN;
 pub use read::{head_is_tested, read_header};
 pub use spaces::without_trailing_spaces;
-
-#[cfg(test)]
-mod tests;

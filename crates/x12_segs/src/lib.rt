@@ -11,6 +11,13 @@
 //! - a run of segments, cut out of its text, reads as the same run.
 //!
 //! X12.6, data segment, data element and their separators.
+//!
+//! As its trial, the crate `trial_texts`, calls it:
+//!
+//! ```rust
+//! let segment = first_segment(DIVIDED).ok_or("no segment")?;
+//! assert_eq!(rt; segment.occurrence(1, 2), b"2>3".as_slice());
+//! ```
 #![tactic(auto)]
 
 mod divide;
@@ -34,6 +41,3 @@ pub use scan::next_part;
 pub use segs::Segments;
 pub use set_span::SetSpan;
 pub use view::SegView;
-
-#[cfg(test)]
-mod tests;

@@ -1,4 +1,5 @@
-use crate::write_999;
+//! Groups and sets that are answered, as rows that own no memory.
+use ack_999::write_999;
 use hub_kinds::{
     ElemFault, ElementCode, Fault, GroupAnswer, GroupCode, GroupVerdict, Items, Lent, NoMemory,
     SegmentCode, SetAnswer, SetCode, Text, Verdict,
@@ -141,3 +142,18 @@ pub fn acknowledgment(
     let sets = sets(alloc, set_rows)?;
     write_999(alloc, &group, sets.as_slice(), &DELIMS, n)
 }
+
+pub const ACCEPTED_GROUP: GroupRow<'static> = GroupRow {
+    version: b"005010",
+    listed: b"1",
+    codes: &[],
+    verdict: GroupVerdict::Accepted,
+};
+
+pub const ACCEPTED_SET: SetRow<'static> = SetRow {
+    control: b"0001",
+    convention: b"",
+    faults: &[],
+    codes: &[],
+    verdict: Verdict::Accepted,
+};

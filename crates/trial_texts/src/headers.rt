@@ -1,5 +1,6 @@
-use crate::{Delims, HEADER_LEN, read_header, without_trailing_spaces};
+//! Headers of interchanges, and ids in their full width.
 use std::test::Fail;
+use x12_bytes::{Delims, HEADER_LEN, read_header, without_trailing_spaces};
 
 const ACME: &[u8] =
     b"ISA*00*          *00*          *01*ACME           *ZZ*HUB            *260228*0900*^*00501*000000007*0*P*>~";
@@ -7,27 +8,42 @@ const ACME: &[u8] =
 const BOLT: &[u8] =
     b"ISA|00|          |00|          |ZZ|BOLT           |ZZ|HUB            |260228|0915|U|00501|000000003|0|P|:!";
 
+/// A field's number, and what stands in it.
+const FIELDS: &[(usize, &[u8])] = &[
+    (1, b"00"),
+    (2, b"          "),
+    (5, b"01"),
+    (6, b"ACME           "),
+    (8, b"HUB            "),
+    (9, b"260228"),
+    (10, b"0900"),
+    (12, b"00501"),
+    (13, b"000000007"),
+    (15, b"P"),
+    (16, b">"),
+];
+
+/// An id in its full width, and the id.
+const IDS: &[(&[u8], &[u8])] = &[
+    (b"ACME           ", b"ACME"),
+    (b" A B", b" A B"),
+    (b"   ", b""),
+];
+
 #[test]
 fn reads_a_header(rt: HostRuntime) -> Result<(), Fail> {
     assert_eq!(rt; ACME.len(), HEADER_LEN);
     let header = read_header(ACME, 0).ok_or("no header")?;
-    let fields = [
-        (1, b"00".as_slice()),
-        (2, b"          ".as_slice()),
-        (5, b"01".as_slice()),
-        (6, b"ACME           ".as_slice()),
-        (8, b"HUB            ".as_slice()),
-        (9, b"260228".as_slice()),
-        (10, b"0900".as_slice()),
-        (12, b"00501".as_slice()),
-        (13, b"000000007".as_slice()),
-        (15, b"P".as_slice()),
-        (16, b">".as_slice()),
-    ];
-    for (k, want) in fields {
-        assert!(rt; 1 <= k && k <= 16);
-        assert_eq!(rt; header.field(k), want, "field {k}");
+    for (k, want) in FIELDS {
+        assert!(rt; 1 <= *k && *k <= 16);
+        assert_eq!(rt; header.field(*k), *want, "field {k}");
     }
+    Ok(())
+}
+
+#[test]
+fn reads_the_delimiters(rt: HostRuntime) -> Result<(), Fail> {
+    let header = read_header(ACME, 0).ok_or("no header")?;
     let want = Delims {
         element: b'*',
         component: b'>',
@@ -56,10 +72,7 @@ fn reads_none_elsewhere(rt: HostRuntime) {
 
 #[test]
 fn cuts_spaces_at_the_end(rt: HostRuntime) {
-    assert_eq!(rt;
-        without_trailing_spaces(b"ACME           "),
-        b"ACME".as_slice()
-    );
-    assert_eq!(rt; without_trailing_spaces(b" A B"), b" A B".as_slice());
-    assert_eq!(rt; without_trailing_spaces(b"   "), b"".as_slice());
+    for (text, id) in IDS {
+        assert_eq!(rt; without_trailing_spaces(text), *id);
+    }
 }

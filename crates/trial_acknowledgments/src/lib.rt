@@ -1,0 +1,17 @@
+//! The trial of ack_999: acknowledgments written through its public calls, with the texts that the
+//! 999 guide gives for them. It has no code of its own.
+//!
+//! 999 guide (005010X231), ST, AK1, AK2, IK3, IK4, IK5, AK9 and SE; X12.5, interchange control
+//! header and trailer; X12.6, functional group header and trailer.
+#![tactic(auto)]
+
+#[cfg(test)]
+mod copies;
+#[cfg(test)]
+mod faults;
+#[cfg(test)]
+mod groups;
+#[cfg(test)]
+mod reports;
+#[cfg(test)]
+mod samples;

@@ -1,0 +1,142 @@
+//! Whole acknowledgments of groups whose sets have no faults, and the interchange around one.
+use crate::samples::{ACCEPTED_GROUP, ACCEPTED_SET, DELIMS, GroupRow, SetRow, acknowledgment};
+use ack_999::{Envelope, write_ack_interchange};
+use elem_rules::At;
+use hub_kinds::{GroupCode, GroupVerdict, Items, Lent, SetCode, Verdict};
+use std::test::Fail;
+
+/// What is answered to a group, and the text of it.
+struct Case {
+    group: GroupRow<'static>,
+    sets: &'static [SetRow<'static>],
+    number: u32,
+    text: &'static [u8],
+}
+
+const CASES: &[Case] = &[
+    // one set, accepted
+    Case {
+        group: ACCEPTED_GROUP,
+        sets: &[ACCEPTED_SET],
+        number: 1,
+        text: b"ST*999*0001*005010X231~AK1*PO*12*005010~AK2*850*0001~IK5*A~AK9*A*1*1*1~SE*6*0001~",
+    },
+    // a set with codes
+    Case {
+        group: GroupRow {
+            verdict: GroupVerdict::Rejected,
+            ..ACCEPTED_GROUP
+        },
+        sets: &[SetRow {
+            control: b"001",
+            codes: &[
+                SetCode::ControlNumbersDiffer,
+                SetCode::SegmentCountWrong,
+                SetCode::ControlNumberInvalid,
+            ],
+            verdict: Verdict::Rejected,
+            ..ACCEPTED_SET
+        }],
+        number: 10000,
+        text: b"ST*999*10000*005010X231~AK1*PO*12*005010~AK2*850*001~IK5*R*3*4*7~AK9*R*1*1*0~SE*6*10000~",
+    },
+    // one set of two accepted
+    Case {
+        group: GroupRow {
+            listed: b"2",
+            verdict: GroupVerdict::PartlyAccepted,
+            ..ACCEPTED_GROUP
+        },
+        sets: &[
+            ACCEPTED_SET,
+            SetRow {
+                codes: &[SetCode::ControlNumberNotUnique],
+                verdict: Verdict::Rejected,
+                ..ACCEPTED_SET
+            },
+        ],
+        number: 1,
+        text: b"ST*999*0001*005010X231~AK1*PO*12*005010~AK2*850*0001~IK5*A~AK2*850*0001~IK5*R*23~AK9*P*2*2*1~SE*8*0001~",
+    },
+    // a group that is not supported shows no set
+    Case {
+        group: GroupRow {
+            version: b"004010",
+            codes: &[GroupCode::VersionNotSupported],
+            verdict: GroupVerdict::Rejected,
+            ..ACCEPTED_GROUP
+        },
+        sets: &[ACCEPTED_SET],
+        number: 1,
+        text: b"ST*999*0001*005010X231~AK1*PO*12*004010~AK9*R*1*1*0*2~SE*4*0001~",
+    },
+    // no set of a group with a code is accepted
+    Case {
+        group: GroupRow {
+            listed: b"0003",
+            codes: &[GroupCode::SetCountWrong],
+            verdict: GroupVerdict::Rejected,
+            ..ACCEPTED_GROUP
+        },
+        sets: &[SetRow {
+            convention: b"005010X999005010X999005010X99912345",
+            ..ACCEPTED_SET
+        }],
+        number: 1,
+        text: b"ST*999*0001*005010X231~AK1*PO*12*005010~\
+          AK2*850*0001*005010X999005010X999005010X99912345~IK5*A~AK9*R*3*1*0*5~SE*6*0001~",
+    },
+    // the sets are counted where the trailer does not
+    Case {
+        group: GroupRow {
+            listed: b"ONE",
+            codes: &[GroupCode::SetCountWrong],
+            verdict: GroupVerdict::Rejected,
+            ..ACCEPTED_GROUP
+        },
+        sets: &[SetRow {
+            convention: b"005010X999005010X999005010X999123456",
+            ..ACCEPTED_SET
+        }],
+        number: 1,
+        text: b"ST*999*0001*005010X231~AK1*PO*12*005010~AK2*850*0001~IK5*A~AK9*R*1*1*0*5~SE*6*0001~",
+    },
+];
+
+#[test]
+fn writes_acknowledgments(rt: HostRuntime) -> Result<(), Fail> {
+    for case in CASES {
+        let bytes = acknowledgment(rt.alloc(), &case.group, case.sets, case.number)?;
+        assert_eq!(rt; bytes.as_slice(), case.text);
+    }
+    Ok(())
+}
+
+fn envelope() -> Envelope<'static> {
+    Envelope {
+        hub_qualifier: Lent::new(b"ZZ"),
+        hub_id: Lent::new(b"HUB"),
+        hub_code: Lent::new(b"HUB"),
+        partner_qualifier: Lent::new(b"01"),
+        partner_id: Lent::new(b"ACME"),
+        partner_code: Lent::new(b"ACME"),
+        usage: b'P',
+        repetition: b'^',
+        delims: DELIMS,
+    }
+}
+
+const SENT: &[u8] =
+    b"ISA*00*          *00*          *ZZ*HUB            *01*ACME           *260301*1530*^*00501*000000001*0*P*>~\
+      GS*FA*HUB*ACME*20260301*1530*1*X*005010X231~ST*999*0001*005010X231~AK1*PO*12*005010~AK2*850*0001~IK5*A~\
+      AK9*A*1*1*1~SE*6*0001~GE*1*1~IEA*1*000000001~";
+
+#[test]
+fn sends_an_acknowledgment_to_the_partner(rt: HostRuntime) -> Result<(), Fail> {
+    let alloc = rt.alloc();
+    let at = At::read(b"202603011530").ok_or("no moment")?;
+    let report = acknowledgment(alloc, &ACCEPTED_GROUP, &[ACCEPTED_SET], 1)?;
+    let bytes = write_ack_interchange(alloc, &envelope(), &at, 1, &[Items::from_vec(report)])?;
+    assert_eq!(rt; bytes.as_slice(), SENT);
+    Ok(())
+}

@@ -1,0 +1,118 @@
+//! The order of faults, which asks their numbers and codes alone.
+use hub_kinds::{ElemFault, ElementCode, Fault, Items, NoMemory, SegmentCode, Text, fault_order};
+use std::alloc::Global;
+use std::cmp::Ordering;
+use std::test::Fail;
+
+/// A fault that is shown by its numbers, the segment's id and the copy.
+struct Row {
+    position: u32,
+    id: &'static [u8],
+    code: SegmentCode,
+    element: Option<u32>,
+    copy: &'static [u8],
+}
+
+/// Element 2 of the third segment, a REF.
+const FIRST: Row = Row {
+    position: 3,
+    id: b"REF",
+    code: SegmentCode::ElementErrors,
+    element: Some(2),
+    copy: b"AA",
+};
+
+/// The same of a DTM, with another copy.
+const EQUAL: Row = Row {
+    position: 3,
+    id: b"DTM",
+    code: SegmentCode::ElementErrors,
+    element: Some(2),
+    copy: b"B",
+};
+
+const NEXT_ELEMENT: Row = Row {
+    position: 3,
+    id: b"REF",
+    code: SegmentCode::ElementErrors,
+    element: Some(3),
+    copy: b"AA",
+};
+
+const NEXT_SEGMENT: Row = Row {
+    position: 4,
+    id: b"REF",
+    code: SegmentCode::ElementErrors,
+    element: Some(1),
+    copy: b"AA",
+};
+
+/// A fault of the segment alone.
+const WHOLE: Row = Row {
+    position: 3,
+    id: b"REF",
+    code: SegmentCode::ElementErrors,
+    element: None,
+    copy: b"AA",
+};
+
+/// A fault under a later code.
+const UNUSED: Row = Row {
+    position: 3,
+    id: b"REF",
+    code: SegmentCode::NotUsedPresent,
+    element: Some(1),
+    copy: b"AA",
+};
+
+/// Two faults, and how they are ordered.
+const CASES: &[(Row, Row, Ordering)] = &[
+    (FIRST, EQUAL, Ordering::Equal),
+    (FIRST, NEXT_ELEMENT, Ordering::Less),
+    (NEXT_SEGMENT, NEXT_ELEMENT, Ordering::Greater),
+    (WHOLE, FIRST, Ordering::Less),
+    (UNUSED, NEXT_ELEMENT, Ordering::Greater),
+];
+
+fn text(alloc: Global, bytes: &[u8]) -> Result<Text, NoMemory> {
+    Ok(Items::from_vec(Vec::from_slice(alloc, bytes)?))
+}
+
+/// An element that is too long.
+fn elem(alloc: Global, row: &Row) -> Result<Option<ElemFault>, NoMemory> {
+    let Some(element) = row.element else {
+        return Ok(None);
+    };
+    Ok(Some(ElemFault {
+        element,
+        component: 0,
+        repetition: 0,
+        code: ElementCode::TooLong,
+        reference: text(alloc, b"352")?,
+        copy: text(alloc, row.copy)?,
+    }))
+}
+
+fn fault(alloc: Global, row: &Row) -> Result<Fault, NoMemory> {
+    Ok(Fault {
+        position: row.position,
+        id: text(alloc, row.id)?,
+        loop_id: text(alloc, b"")?,
+        code: row.code,
+        slot: 4,
+        elem: elem(alloc, row)?,
+    })
+}
+
+/// How two faults are ordered.
+fn order(alloc: Global, first: &Row, second: &Row) -> Result<Ordering, NoMemory> {
+    Ok(fault_order(&fault(alloc, first)?, &fault(alloc, second)?))
+}
+
+#[test]
+fn orders_faults_by_their_numbers_alone(rt: HostRuntime) -> Result<(), Fail> {
+    for (first, second, wanted) in CASES {
+        assert_eq!(rt; order(rt.alloc(), first, second)?, *wanted);
+    }
+    Ok(())
+}

@@ -1,0 +1,70 @@
+//! Numbers and words, the texts of codes, and lists that are given back.
+use hub_kinds::{
+    Code, ElementCode, GroupCode, GroupVerdict, InterchangeFault, Items, Lent, SegmentCode,
+    SetCode, Verdict, code_text, is_alphanumeric, read_number,
+};
+use std::process::Abort;
+use std::test::Fail;
+
+/// A text, how many digits it may have, and the number that it writes.
+const NUMBERS: &[(&[u8], usize, Option<u64>)] = &[
+    (b"0002", 6, Some(2)),
+    (b"000000007", 9, Some(7)),
+    (b"9999999999", 10, Some(9_999_999_999)),
+    (b"", 6, None),
+    (b"1234567", 6, None),
+    (b"-1", 6, None),
+    (b"+1", 6, None),
+    (b"1 ", 6, None),
+    (b"A", 6, None),
+];
+
+/// A text, how many bytes it may have, and whether it is so many letters or digits.
+const WORDS: &[(&[u8], usize, usize, bool)] = &[
+    (b"005010X231", 1, 12, true),
+    (b"0001", 4, 4, true),
+    (b"0001", 5, 9, false),
+    (b"PO-1", 1, 9, false),
+    (b"\xC4A", 1, 9, false),
+];
+
+#[test]
+fn reads_numbers(rt: HostRuntime) {
+    for (text, most, number) in NUMBERS {
+        assert!(rt; *most <= 19);
+        assert_eq!(rt; read_number(text, *most), *number);
+    }
+}
+
+#[test]
+fn tells_letters_and_digits(rt: HostRuntime) {
+    for (text, least, most, is) in WORDS {
+        assert_eq!(rt; is_alphanumeric(text, *least, *most), *is);
+    }
+}
+
+/// This is the text of the code.
+fn writes<R: Abort, C: Code>(rt: &R, code: C, text: &str) {
+    assert_eq!(rt; code_text(code), text);
+}
+
+#[test]
+fn writes_codes(rt: HostRuntime) {
+    writes(&rt, SegmentCode::LoopTooOften, "4");
+    writes(&rt, ElementCode::TooManyRepetitions, "12");
+    writes(&rt, SetCode::ControlNumberNotUnique, "23");
+    writes(&rt, Verdict::AcceptedWithErrors, "E");
+    writes(&rt, GroupVerdict::PartlyAccepted, "P");
+    writes(&rt, GroupCode::ControlNumberNotUnique, "19");
+    writes(&rt, InterchangeFault::SenderUnknown, "8");
+    assert!(rt; InterchangeFault::TrailerMissing < InterchangeFault::Duplicate);
+}
+
+#[test]
+fn gives_the_list_back(rt: HostRuntime) -> Result<(), Fail> {
+    let items = Items::from_vec(Vec::from_slice(rt.alloc(), b"ACME")?);
+    assert_eq!(rt; items.as_slice(), b"ACME".as_slice());
+    assert_eq!(rt; items.into_vec().as_slice(), b"ACME".as_slice());
+    assert_eq!(rt; Lent::new(b"ACME").bytes(), b"ACME".as_slice());
+    Ok(())
+}
