@@ -1,4 +1,4 @@
-ghost use Rattle.std.specs.Prelude.{◌≡◌, ◌↔◌, ◌≤◌, ◌^◌, ◌==◌, nat_le, true, false, not, is_none, codes, IfOk, IfSome, IfNone, IsErrOf, length};
+ghost use Rattle.std.specs.Prelude.{◌≡◌, ◌↔◌, ◌<◌, ◌==◌, true, false, not, is_none, codes, IfOk, IfSome, IfNone, IsErrOf, length};
 ghost use Rattle.std.specs.Str.{bytes_eq};
 ghost use Rattle.x12_segs.specs.View.{element_of};
 ghost use Rattle.env_index.specs.Faults.{fault_of};
@@ -7,24 +7,22 @@ ghost use Rattle.env_index.specs.Summary.{GroupEntry};
 ghost use Rattle.hub_run.specs.First.{IsOne, IsReply, is_answerable};
 
 use crate::fault::FirstFault;
+use crate::limit::{MOST_BYTES, within_limit};
 use crate::reply::{First, reply};
 use elem_rules::At;
 use env_index::{GroupEnvelope, Interchange, judge, read_lone};
 use std::alloc::Global;
 
-/// The longest text that is read, in bytes.
-const LONGEST: usize = 4_294_967_295;
-
 /// The acknowledgment of a text that is one interchange with one group, and the verdict on that group. No
 /// guide is asked for. Where more than one refusal holds, the text's length is judged first; want of memory
 /// may come before `NotOne`.
 pub fn run_first(alloc: Global, text: &[u8], at: &At) -> Result<First, FirstFault>
-    ensures too_long { IsErrOf result FirstFault.InputTooLong ↔ (2 ^ 32 ≤ length text.now) }
+    ensures too_long { IsErrOf result FirstFault.InputTooLong ↔ (MOST_BYTES < length text.now) }
     ensures not_one { IsErrOf result FirstFault.NotOne → (x : InterchangeEntry) (group : GroupEntry) → IsOne text.now x group → ⊥ }
     ensures answered { IfOk result (λ first. (x : InterchangeEntry) × (group : GroupEntry) × IsOne text.now x group × IsReply at.now first.ack first.verdict x group) }
     ensures only { IfOk result (λ first. (x : InterchangeEntry) (group : GroupEntry) → IsOne text.now x group → IsReply at.now first.ack first.verdict x group) }
 {
-    if is_too_long(text) {
+    if !within_limit(text.len() as u64) {
         return Err(FirstFault::InputTooLong);
     }
     let Some(lone) = read_lone(alloc, text)? else {
@@ -36,12 +34,6 @@ pub fn run_first(alloc: Global, text: &[u8], at: &At) -> Result<First, FirstFaul
     };
     let first = reply(alloc, interchange.header(), &interchange.group(0), at)?;
     Ok(first)
-}
-
-fn is_too_long(text: &[u8]) -> bool
-    ensures { result ≡ nat_le (2 ^ 32) (length text.now) }
-{
-    text.len() > LONGEST
 }
 
 /// The same interchange, where it is to be kept.

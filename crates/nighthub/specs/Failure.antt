@@ -33,6 +33,12 @@ IsOfInput InputTooLong = Unit {0}
 IsOfInput Memory = Unit {0}
 IsOfInput _ = ⊥
 
+-- what a reader may fail by
+abbrev pub IsOfReading : Failure → Type 0
+IsOfReading Input = Unit {0}
+IsOfReading Memory = Unit {0}
+IsOfReading _ = ⊥
+
 -- a fault of the system is want of memory, or stands for another failure
 pub record IsMemoryOr (kind : ErrorKind) (other failure : Failure) : Type 0 where
   pub memory : kind ≡ OutOfMemory → failure ≡ Memory

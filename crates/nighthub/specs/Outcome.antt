@@ -1,10 +1,13 @@
 -- The program's results (own): what is printed, and the status of the 999's AK901.
-use Rattle.std.specs.Prelude.{ℕ, List, string_bytes}
+use Rattle.std.specs.Prelude.{◌≡◌, ◌≤◌, ℕ, List, Some, codes, length, string_bytes}
+use Rattle.clap.specs.Words.{Text}
 use Rattle.hub_kinds.specs.declared.set_codes.GroupVerdict.{GroupVerdict}
 use Rattle.hub_kinds.specs.declared.set_codes.GroupVerdict.TheVariants.{Accepted, AcceptedWithErrors, PartlyAccepted, Rejected}
 use Rattle.env_index.specs.Interchange.{InterchangeEntry}
 use Rattle.env_index.specs.Summary.{GroupEntry}
 use Rattle.hub_run.specs.First.{IsOne, IsReply}
+use Rattle.hub_run.specs.declared.limit.TheConstants.{MOST_BYTES}
+use Rattle.nighthub.specs.CommandLine.{AsksForText, value_of}
 use Rattle.nighthub.specs.declared.outcome.Outcome.{Outcome}
 use Rattle.nighthub.specs.declared.outcome.Outcome.TheVariants.{Shown, Acknowledged}
 
@@ -29,3 +32,14 @@ abbrev pub IsAnswer : List ℕ → List ℕ → Outcome → Type 0
 IsAnswer text at (Shown shown) = ⊥
 IsAnswer text at (Acknowledged first) =
     (x : InterchangeEntry) × (group : GroupEntry) × IsOne text x group × IsReply at first.ack first.verdict x group
+
+-- the answer to some text that isn't too long
+pub record IsAnswerAt (at : List ℕ) (o : Outcome) : Type 0 where
+  pub text : List ℕ
+  pub within : length text ≤ MOST_BYTES
+  pub answer : IsAnswer text at o
+
+-- what these words may have printed: a text where they ask for one, otherwise an answer at the moment that they name
+abbrev pub IsOutcome : List Text → Outcome → Type 0
+IsOutcome words (Shown text) = AsksForText words
+IsOutcome words (Acknowledged first) = (at : List ℕ) × (value_of (codes "at") words ≡ Some at) × IsAnswerAt at (Acknowledged first)

@@ -2,6 +2,7 @@ ghost use Rattle.std.specs.Prelude.{◌≡◌};
 ghost use Rattle.nighthub.specs.Failure.{status_of, line_of, IsMemoryOr};
 ghost use Rattle.std.specs.IoError.{error_kind};
 
+use std::alloc::AllocError;
 use std::io;
 use std::io::Write;
 
@@ -73,5 +74,15 @@ impl Failure {
             Failure::Output => 5,
             Failure::Memory => 6,
         }
+    }
+}
+
+impl From<AllocError> for Failure {
+    ghost use Rattle.nighthub.specs.declared.failure.Failure.TheVariants.{Memory};
+
+    ghost from_gives = { λ _ failure. failure ≡ Memory };
+
+    fn from(_error: AllocError) -> Failure {
+        Failure::Memory
     }
 }

@@ -1,35 +1,54 @@
-ghost use Rattle.std.specs.Prelude.{◌≤◌, IfOk, IfErr, vec_len};
-ghost use Rattle.nighthub.specs.Failure.{IsOfInput};
+ghost use Rattle.std.specs.Prelude.{◌≡◌, ◌+◌, ◌<◌, ◌≤◌, ◌⊎◌, IfOk, IfErr, IfSome, IsErrOf, length, take, vec_len};
+ghost use Rattle.nighthub.specs.Failure.{IsOfInput, IsOfReading};
 
 use crate::failure::Failure;
+use hub_run::{MOST_BYTES, within_limit};
 use std::alloc::Global;
 use std::fs;
 use std::fs::OpenFile;
 use std::io::Read;
 use std::rt::Files;
 
-/// The most bytes that an input may have.
-const MOST_BYTES: u64 = 4_294_967_295;
-
-/// The bytes of a file. A file that says that it is too long isn't read, and of no file more than
-/// the most bytes and one are held.
+/// The bytes of a file.
 pub fn read_input<R: Files + AllocGlobal>(rt: &R, path: &str) -> Result<Vec<u8>, Failure>
-    ensures ok { IfOk result (λ text. vec_len text ≤ MOST_BYTES) }
+    ensures within { IfOk result (λ text. vec_len text ≤ MOST_BYTES) }
     ensures err { IfErr result IsOfInput }
 {
     let file = fs::open(rt, path).map_err(Failure::of_input)?;
-    let len = file.metadata().map_err(Failure::of_input)?.len();
-    if len > MOST_BYTES {
+    let said = file.metadata().map_err(Failure::of_input)?.len();
+    read_all(rt.alloc(), file, said)
+}
+
+/// All bytes of a reader that is said to have so many. If these are too many it isn't read, and never are
+/// more than the most bytes and one held.
+pub fn read_all<I: Read + Drop>(alloc: Global, input: I, said: u64) -> Result<Vec<u8>, Failure>
+    ensures all { IfOk result (λ text. IfSome (I.remaining input) (λ bytes. text.items ≡ bytes)) }
+    ensures within { IfOk result (λ text. vec_len text ≤ MOST_BYTES) }
+    ensures too_long { IsErrOf result Failure.InputTooLong
+        → (MOST_BYTES < said) ⊎ IfSome (I.remaining input) (λ bytes. MOST_BYTES < length bytes) }
+    ensures said { MOST_BYTES < said → IsErrOf result Failure.InputTooLong }
+    ensures err { IfErr result IsOfInput }
+{
+    if !within_limit(said) {
         return Err(Failure::InputTooLong);
     }
     // With room for one byte more, the end is found without growing.
-    let room = len as usize + 1;
-    let mut text = Vec::with_capacity(rt.alloc(), room).map_err(|_| Failure::Memory)?;
-    file.take(MOST_BYTES + 1)
-        .read_to_end(&mut text)
-        .map_err(Failure::of_input)?;
-    if text.len() as u64 > MOST_BYTES {
+    let text = read_first(alloc, input, said as usize + 1)?;
+    if !within_limit(text.len() as u64) {
         return Err(Failure::InputTooLong);
     }
     Ok(text)
+}
+
+/// The first bytes of a reader, the most bytes and one where there are so many.
+fn read_first<I: Read + Drop>(alloc: Global, input: I, room: usize) -> Result<Vec<u8>, Failure>
+    ensures first { IfOk result (λ text. IfSome (I.remaining input)
+        (λ bytes. text.items ≡ take (MOST_BYTES + 1) bytes)) }
+    ensures err { IfErr result IsOfReading }
+{
+    let mut text = Vec::with_capacity(alloc, room)?;
+    match input.take(MOST_BYTES + 1).read_to_end(&mut text) {
+        Ok(_) => Ok(text),
+        Err(error) => Err(Failure::of_input(error)),
+    }
 }

@@ -1,4 +1,8 @@
-ghost use Rattle.std.specs.Prelude.{◌≡◌, ◌≢◌, ◌≤◌};
+ghost use Rattle.std.specs.Prelude.{◌≡◌, ◌≢◌, ◌≤◌, IfOk, IsErrOf, map};
+ghost use Rattle.std.specs.Io.KnownBytes.{Appends};
+ghost use Rattle.nighthub.specs.CommandLine.{IsCommandLine};
+ghost use Rattle.nighthub.specs.Outcome.{IsAnswerAt, IsOutcome, text_of, status_of};
+ghost use Rattle.nighthub.specs.declared.outcome.Outcome.{Outcome};
 
 use crate::answer::answer;
 use crate::command::{Asked, Options, read_words};
@@ -22,6 +26,9 @@ where
     ensures status { (result ≤ 6) × (result ≢ 3) }
     ensures silent { 2 ≤ result → result ≢ 5 → out.new ≡ out.old }
     ensures quiet { result ≤ 1 → err.new ≡ err.old }
+    ensures usage { result ≡ 2 → IsCommandLine (map S.text words.now) → ⊥ }
+    ensures printed { result ≤ 1 → (o : Outcome) × IsOutcome (map S.text words.now) o
+        × (result ≡ status_of o) × Appends (O.contents out.old) (O.contents out.new) (text_of o) }
 {
     match run(rt, words) {
         Ok(outcome) => finish(&outcome, out, err),
@@ -33,6 +40,8 @@ fn run<R, S>(rt: &R, words: &[S]) -> Result<Outcome, Failure>
 where
     R: Files + AllocGlobal,
     S: AsStr,
+    ensures outcome { IfOk result (IsOutcome (map S.text words.now)) }
+    ensures usage { IsErrOf result Failure.Usage → IsCommandLine (map S.text words.now) → ⊥ }
 {
     match read_words(rt.alloc(), words) {
         Ok(Asked::Run(options)) => acknowledge(rt, &options),
@@ -42,7 +51,10 @@ where
 }
 
 /// The acknowledgment of the interchange in the input.
-fn acknowledge<R: Files + AllocGlobal>(rt: &R, options: &Options) -> Result<Outcome, Failure> {
+fn acknowledge<R: Files + AllocGlobal>(rt: &R, options: &Options) -> Result<Outcome, Failure>
+    ensures answer { IfOk result (IsAnswerAt options.now.at) }
+    ensures not_usage { IsErrOf result Failure.Usage → ⊥ }
+{
     let text = read_input(rt, options.input)?;
     answer(rt.alloc(), text.as_slice(), &options.at)
 }

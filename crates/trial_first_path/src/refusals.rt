@@ -1,0 +1,30 @@
+//! Texts that aren't answered, and lengths that are judged.
+
+use elem_rules::At;
+use hub_run::{FirstFault, run_first, within_limit};
+use std::test::Fail;
+
+/// Nothing, a line end, and an interchange that ends behind its header.
+const CASES: &[&[u8]] = &[
+    b"",
+    b"\r\n",
+    b"ISA*00*          *00*          *01*ACME           *ZZ*HUB            *260228*0900*^*00501*000000007*0*P*>~",
+];
+
+#[test]
+fn refuses_what_is_not_one(rt: HostRuntime) -> Result<(), Fail> {
+    let at = At::read(b"202603011530").ok_or("no moment")?;
+    for text in CASES {
+        match run_first(rt.alloc(), text, &at) {
+            Ok(_) => return Err(Fail::from("answered")),
+            Err(fault) => assert_eq!(rt; fault, FirstFault::NotOne),
+        }
+    }
+    Ok(())
+}
+
+#[test]
+fn reads_no_more_than_the_limit(rt: HostRuntime) {
+    assert!(rt; within_limit(4_294_967_295));
+    assert!(rt; !within_limit(4_294_967_296));
+}
