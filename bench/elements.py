@@ -25,7 +25,7 @@ x12_segs: x12_bytes memchr
 hub_kinds:
 guide_tree: hub_kinds
 guide_toml: guide_tree hub_kinds toml thiserror
-elem_rules: guide_tree hub_kinds x12_segs x12_bytes jiff
+elem_rules: guide_tree hub_kinds x12_segs x12_bytes jiff memchr
 element_check: elem_rules guide_tree guide_toml hub_kinds x12_segs x12_bytes
 '''
 HEAD = 'name = "BENCH"\ngroup = "PO"\nset = "850"\nversion = "005010"\n'
