@@ -14,7 +14,7 @@ use Rattle.guide_tree.specs.declared.slot.Relation.TheVariants as relation
 use Rattle.guide_tree.specs.Segments.{Segment}
 use Rattle.hub_kinds.specs.declared.codes.ElementCode.TheVariants as ik403
 use Rattle.x12_bytes.specs.declared.delims.Delims.{Delims}
-use Rattle.elem_rules.specs.ElementFaults.{IsElementFault, wrong_at}
+use Rattle.elem_rules.specs.ElementFaults.{IsElementFault, wrong_at, copy_in, hierarchy_copy}
 use Rattle.elem_rules.specs.Values.{value_fault, is_date, is_time}
 
 delims : Delims
@@ -40,6 +40,30 @@ leap_days = (refl, refl, refl, refl)
 
 times : (is_time (codes "2359") ≡ true) × (is_time (codes "2460") ≡ false) × (is_time (codes "235960") ≡ false) × (is_time (codes "23595999") ≡ true) × (is_time (codes "12345") ≡ false)
 times = (refl, refl, refl, refl, refl)
+
+-- what each code copies, at component 2 of repetition 2
+abbrev parts : List ℕ
+parts = codes "AB>CD^EF>GH"
+
+nothing_copied : (copy_in delims parts 2 2 ik403.RequiredMissing ≡ []) × (copy_in delims parts 2 2 ik403.ConditionalMissing ≡ []) × (copy_in delims parts 2 2 ik403.DependentMissing ≡ [])
+nothing_copied = (refl, refl, refl)
+
+element_copied : (copy_in delims parts 2 2 ik403.TooManyElements ≡ parts) × (copy_in delims parts 2 2 ik403.ExclusionViolated ≡ parts)
+    × (copy_in delims parts 2 2 ik403.PatternFailure ≡ parts) × (copy_in delims parts 2 2 ik403.DependentNotUsedPresent ≡ parts)
+    × (copy_in delims parts 0 0 ik403.NotUsedPresent ≡ parts) × (hierarchy_copy parts ≡ parts)
+element_copied = (refl, refl, refl, refl, refl, refl)
+
+occurrence_copied : copy_in delims parts 2 2 ik403.TooManyRepetitions ≡ codes "EF>GH"
+unfolding delims
+occurrence_copied = refl
+
+component_copied : (copy_in delims parts 2 2 ik403.TooShort ≡ codes "GH") × (copy_in delims parts 2 2 ik403.TooLong ≡ codes "GH")
+    × (copy_in delims parts 2 2 ik403.InvalidCharacter ≡ codes "GH") × (copy_in delims parts 2 2 ik403.InvalidCode ≡ codes "GH")
+    × (copy_in delims parts 2 2 ik403.InvalidDate ≡ codes "GH") × (copy_in delims parts 2 2 ik403.InvalidTime ≡ codes "GH")
+    × (copy_in delims parts 2 2 ik403.TooManyComponents ≡ codes "GH") × (copy_in delims parts 2 2 ik403.CodeNotUsed ≡ codes "GH")
+    × (copy_in delims parts 2 2 ik403.NotUsedPresent ≡ codes "GH")
+unfolding delims
+component_copied = (refl, refl, refl, refl, refl, refl, refl, refl, refl)
 
 abbrev listed : Option CodeList
 listed = Some (record { used = codes "00" ∷ codes "05" ∷ []; unused = Some (codes "01" ∷ codes "04" ∷ []) })

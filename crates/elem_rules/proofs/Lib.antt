@@ -3,6 +3,7 @@ pub mod Both
 pub mod Bounded
 pub mod Examples
 pub mod Looks
+pub mod Marks
 pub mod Measures
 pub mod Members
 pub mod Membership

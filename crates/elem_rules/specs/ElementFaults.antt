@@ -35,11 +35,25 @@ abbrev pub copy_in : Delims → List ℕ → (component repetition : ℕ) → El
 copy_in delims element component repetition ik403.RequiredMissing = []
 copy_in delims element component repetition ik403.ConditionalMissing = []
 copy_in delims element component repetition ik403.TooManyElements = element
+copy_in delims element component repetition ik403.TooShort = component_in delims (occurrence_in delims element repetition) component
+copy_in delims element component repetition ik403.TooLong = component_in delims (occurrence_in delims element repetition) component
+copy_in delims element component repetition ik403.InvalidCharacter = component_in delims (occurrence_in delims element repetition) component
+copy_in delims element component repetition ik403.InvalidCode = component_in delims (occurrence_in delims element repetition) component
+copy_in delims element component repetition ik403.InvalidDate = component_in delims (occurrence_in delims element repetition) component
+copy_in delims element component repetition ik403.InvalidTime = component_in delims (occurrence_in delims element repetition) component
 copy_in delims element component repetition ik403.ExclusionViolated = element
 copy_in delims element component repetition ik403.TooManyRepetitions = occurrence_in delims element repetition
+copy_in delims element component repetition ik403.TooManyComponents = component_in delims (occurrence_in delims element repetition) component
+copy_in delims element component repetition ik403.CodeNotUsed = component_in delims (occurrence_in delims element repetition) component
+copy_in delims element component repetition ik403.DependentMissing = []
 copy_in delims element component repetition ik403.NotUsedPresent =
     if component == 0 then element else component_in delims (occurrence_in delims element repetition) component
-copy_in delims element component repetition code = component_in delims (occurrence_in delims element repetition) component
+copy_in delims element component repetition ik403.PatternFailure = element
+copy_in delims element component repetition ik403.DependentNotUsedPresent = element
+
+-- the text that a fault of the hierarchy speaks of is the whole element, also by the code of a value that isn't used
+abbrev pub hierarchy_copy : List ℕ → List ℕ
+hierarchy_copy element = element
 
 -- the fault with a code at a place: the reference number is that of the row there, if any
 abbrev pub fault_at : Delims → Segment → Slot → (element component repetition : ℕ) → ElementCode → ElemFault

@@ -39,7 +39,22 @@ fault element component repetition code reference copy = record {
 -- of what is missing nothing is copied
 abbrev pub copy_of : ElementCode → List ℕ → List ℕ
 copy_of ik403.RequiredMissing text = []
-copy_of code text = text
+copy_of ik403.ConditionalMissing text = []
+copy_of ik403.TooManyElements text = text
+copy_of ik403.TooShort text = text
+copy_of ik403.TooLong text = text
+copy_of ik403.InvalidCharacter text = text
+copy_of ik403.InvalidCode text = text
+copy_of ik403.InvalidDate text = text
+copy_of ik403.InvalidTime text = text
+copy_of ik403.ExclusionViolated text = text
+copy_of ik403.TooManyRepetitions text = text
+copy_of ik403.TooManyComponents text = text
+copy_of ik403.CodeNotUsed text = text
+copy_of ik403.DependentMissing text = []
+copy_of ik403.NotUsedPresent text = text
+copy_of ik403.PatternFailure text = text
+copy_of ik403.DependentNotUsedPresent text = text
 
 -- the fault with a code, if there is one
 abbrev pub reported : (element component repetition : ℕ) → (reference text : List ℕ) → Option ElementCode → List ElemFault
@@ -113,8 +128,23 @@ reference_at rows position = option_map_or element_reference (nth rows position)
 
 -- what a broken condition copies: an element that is too much
 abbrev pub condition_copy : ElementCode → List ℕ → List ℕ
+condition_copy ik403.RequiredMissing text = []
+condition_copy ik403.ConditionalMissing text = []
+condition_copy ik403.TooManyElements text = []
+condition_copy ik403.TooShort text = []
+condition_copy ik403.TooLong text = []
+condition_copy ik403.InvalidCharacter text = []
+condition_copy ik403.InvalidCode text = []
+condition_copy ik403.InvalidDate text = []
+condition_copy ik403.InvalidTime text = []
 condition_copy ik403.ExclusionViolated text = text
-condition_copy code text = []
+condition_copy ik403.TooManyRepetitions text = []
+condition_copy ik403.TooManyComponents text = []
+condition_copy ik403.CodeNotUsed text = []
+condition_copy ik403.DependentMissing text = []
+condition_copy ik403.NotUsedPresent text = []
+condition_copy ik403.PatternFailure text = []
+condition_copy ik403.DependentNotUsedPresent text = []
 
 abbrev pub broken_found : List Element → List (List ℕ) → ElementCode → ℕ → List ElemFault
 broken_found rows texts code position =

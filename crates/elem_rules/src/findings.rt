@@ -90,12 +90,28 @@ impl Findings {
     }
 }
 
+/// The text that is copied under a code: of what is missing nothing.
 fn copy_of(code: ElementCode, text: &[u8]) -> &[u8]
     ensures { result.now ≡ copy_of code text.now }
 {
     match code {
-        ElementCode::RequiredMissing => b"",
-        _ => text,
+        ElementCode::RequiredMissing
+        | ElementCode::ConditionalMissing
+        | ElementCode::DependentMissing => b"",
+        ElementCode::TooManyElements
+        | ElementCode::TooShort
+        | ElementCode::TooLong
+        | ElementCode::InvalidCharacter
+        | ElementCode::InvalidCode
+        | ElementCode::InvalidDate
+        | ElementCode::InvalidTime
+        | ElementCode::ExclusionViolated
+        | ElementCode::TooManyRepetitions
+        | ElementCode::TooManyComponents
+        | ElementCode::CodeNotUsed
+        | ElementCode::NotUsedPresent
+        | ElementCode::PatternFailure
+        | ElementCode::DependentNotUsedPresent => text,
     }
 }
 

@@ -23,6 +23,7 @@
 //! ```
 #![tactic(auto)]
 
+mod broken;
 mod calendar;
 mod check;
 mod clean;

@@ -144,7 +144,7 @@ mutual
   sound_from ts body places end parent k (tree t us) has ok pl c there sees =
       let at = λ (r : ℕ). c k zero r [] (omega arith) ∙ node_self t in (
         (λ u h. not_past ts (map Some places) end parent k u t ok (at u) ((sees (use_of k u ∷ [])).0 h)),
-        (λ u l. (sees (use_of k u ∷ [])).1 (no_gaps ts body places parent k (min_of t - 1) u pl (omega arith)
+        (λ u l. (sees (use_of k u ∷ [])).1 (no_gaps ts body (map Some places) parent k (min_of t - 1) u pl (omega arith)
             (last_needed ts (map Some places) end parent k t ok there (at 0) (omega arith)))),
         (λ u h. sound_in ts body places end (parent ++ use_of k u ∷ []) t (λ w. has (use_of k u ∷ w)) ok pl
             (λ q. deeper_node ts parent k u t us q c)

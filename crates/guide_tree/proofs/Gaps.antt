@@ -1,5 +1,5 @@
 -- Uses of a child come without gaps.
-use Rattle.std.proofs.Common.{◌≡◌, ℕ, zero, suc, ◌+◌, ◌≤◌, ◌⊎◌, inl, inr, List, [], ◌∷◌, ◌++◌, map, Option}
+use Rattle.std.proofs.Common.{◌≡◌, ℕ, zero, suc, ◌+◌, ◌≤◌, ◌⊎◌, inl, inr, List, [], ◌∷◌, ◌++◌, Option}
 use Rattle.std.proofs.Common.{Some, None, Bool, true, false, sym, ap, ◌∙◌, subst, arith}
 use Rattle.std.proofs.lemmas.Bool.{cases_lt}
 use Rattle.std.specs.List.{AllByRecursion}
@@ -43,16 +43,16 @@ came_from in_loop (a ∷ p) (c ∷ q) (d ∷ pre) k u (inl (e, f)) b =
     pick (came_from true p q pre k u f b.1) (λ x. inl (b.0 ∙ sym e, x)) (λ x. inr (b.0 ∙ sym e, x))
 came_from in_loop (a ∷ p) (c ∷ q) (d ∷ pre) k u (inr (n, z)) b = absurd (firsts_begin pre q k u z b.1)
 
-begun_before : (ts : Trees) (p : Place) (body : List Segment) (places : List Place) (pre : Place) (k u : ℕ)
-    → IsPlacing ts (Some p) body (map Some places)
-    → Has (map Some places) (use_in pre k (u + 1))
-    → Begins (use_in pre k (u + 1)) p ⊎ (Begins (use_in pre k u) p ⊎ Has (map Some places) (use_in pre k u))
+begun_before : (ts : Trees) (p : Place) (body : List Segment) (given : List (Option Place)) (pre : Place) (k u : ℕ)
+    → IsPlacing ts (Some p) body given → Has given (use_in pre k (u + 1))
+    → Begins (use_in pre k (u + 1)) p ⊎ (Begins (use_in pre k u) p ⊎ Has given (use_in pre k u))
 begun_before ts p body [] pre k u pl h = absurd h
-begun_before ts p [] (q ∷ places) pre k u pl h = absurd pl
-begun_before ts p (s ∷ body) (q ∷ places) pre k u pl (inl b) =
+begun_before ts p [] (x ∷ given) pre k u pl h = absurd pl
+begun_before ts p (s ∷ body) (None ∷ given) pre k u pl h = begun_before ts p body given pre k u pl.1 h
+begun_before ts p (s ∷ body) (Some q ∷ given) pre k u pl (inl b) =
     pick (came_from false p q pre k u pl.0 b) (λ x. inl x) (λ x. inr (inl x))
-begun_before ts p (s ∷ body) (q ∷ places) pre k u pl (inr h) =
-    pick (begun_before ts q body places pre k u pl.2 h)
+begun_before ts p (s ∷ body) (Some q ∷ given) pre k u pl (inr h) =
+    pick (begun_before ts q body given pre k u pl.2 h)
     (λ b. pick (came_from false p q pre k u pl.0 b) (λ x. inl x) (λ x. inr (inl x)))
     (λ y. pick y (λ x. inr (inr (inl x))) (λ x. inr (inr (inr x))))
 
@@ -64,26 +64,25 @@ first_begins (a ∷ q) [] k u ts s body given pl b = let e = ap (λ (x : Pair). 
     pl.0.0 in omega arith
 first_begins (a ∷ q) (c ∷ pre) k u ts s body given pl b = firsts_begin pre q k u pl.0.1 b.1
 
-use_before : (ts : Trees) (body : List Segment) (places : List Place) (pre : Place) (k u : ℕ)
-    → IsPlacing ts None body (map Some places)
-    → Has (map Some places) (use_in pre k (u + 1)) → Has (map Some places) (use_in pre k u)
+use_before : (ts : Trees) (body : List Segment) (given : List (Option Place)) (pre : Place) (k u : ℕ)
+    → IsPlacing ts None body given → Has given (use_in pre k (u + 1)) → Has given (use_in pre k u)
 use_before ts body [] pre k u pl h = absurd h
-use_before ts [] (q ∷ places) pre k u pl h = absurd pl
-use_before ts (s ∷ body) (q ∷ places) pre k u pl (inl b) =
-    absurd (first_begins q pre k u ts s body (map Some places) pl b)
-use_before ts (s ∷ body) (q ∷ places) pre k u pl (inr h) =
-    pick (begun_before ts q body places pre k u pl.2 h)
-    (λ b. absurd (first_begins q pre k u ts s body (map Some places) pl b))
+use_before ts [] (x ∷ given) pre k u pl h = absurd pl
+use_before ts (s ∷ body) (None ∷ given) pre k u pl h = use_before ts body given pre k u pl.1 h
+use_before ts (s ∷ body) (Some q ∷ given) pre k u pl (inl b) =
+    absurd (first_begins q pre k u ts s body given pl b)
+use_before ts (s ∷ body) (Some q ∷ given) pre k u pl (inr h) =
+    pick (begun_before ts q body given pre k u pl.2 h)
+    (λ b. absurd (first_begins q pre k u ts s body given pl b))
     (λ y. pick y (λ x. inl x) (λ x. inr x))
 
 -- where there is a use, there is each one before it
-pub no_gaps : (ts : Trees) (body : List Segment) (places : List Place) (pre : Place) (k u v : ℕ)
-    → IsPlacing ts None body (map Some places)
-    → v ≤ u → Has (map Some places) (use_in pre k u) → Has (map Some places) (use_in pre k v)
-no_gaps ts body places pre k zero v pl l h = let e : 0 ≡ v = omega arith in
-    subst (λ (x : ℕ). Has (map Some places) (use_in pre k x)) e h
-no_gaps ts body places pre k (suc u) v pl l h = pick (cases_lt u v)
-    (λ m. let e : suc u ≡ v = omega arith in subst (λ (x : ℕ). Has (map Some places) (use_in pre k x)) e h)
+pub no_gaps : (ts : Trees) (body : List Segment) (given : List (Option Place)) (pre : Place) (k u v : ℕ)
+    → IsPlacing ts None body given → v ≤ u → Has given (use_in pre k u) → Has given (use_in pre k v)
+no_gaps ts body given pre k zero v pl l h = let e : 0 ≡ v = omega arith in
+    subst (λ (x : ℕ). Has given (use_in pre k x)) e h
+no_gaps ts body given pre k (suc u) v pl l h = pick (cases_lt u v)
+    (λ m. let e : suc u ≡ v = omega arith in subst (λ (x : ℕ). Has given (use_in pre k x)) e h)
     (λ m. let e : suc u ≡ u + 1 = omega arith in
-    no_gaps ts body places pre k u v pl (omega arith)
-    (use_before ts body places pre k u pl (subst (λ (x : ℕ). Has (map Some places) (use_in pre k x)) e h)))
+    no_gaps ts body given pre k u v pl (omega arith)
+    (use_before ts body given pre k u pl (subst (λ (x : ℕ). Has given (use_in pre k x)) e h)))

@@ -28,3 +28,5 @@ mod WorkedGuide
 mod WorkedPlacing
 mod WorkedGrammar
 mod Sound
+mod There
+mod Few

@@ -40,7 +40,7 @@ mutual
   all_triggered no_trees h = tt
   all_triggered (tree t ts) h = (triggered_in t h.0, all_triggered ts h.1)
 
-triggers : (g : GuideTree) → IsWellFormed g → AllTriggered g.nodes
+pub triggers : (g : GuideTree) → IsWellFormed g → AllTriggered g.nodes
 triggers g w = all_triggered g.nodes (each_passes is_triggered g.nodes (λ k x. w (fault.BadTrigger k) x))
 
 no_rivals : (g : GuideTree) → IsWellFormed g → HasNoRivals g.nodes

@@ -1,4 +1,4 @@
-ghost use Rattle.std.specs.Prelude.{◌≡◌, ◌==◌, map};
+ghost use Rattle.std.specs.Prelude.{◌≡◌, ◌==◌, ◌&&◌, map};
 ghost use Rattle.std.specs.List.{list_all, list_any};
 ghost use Rattle.guide_tree.specs.Conditions.{is_once, has_trigger, is_triggered, is_distinct, has_row};
 ghost use Rattle.guide_tree.specs.Conditions.{is_condition_of, is_pick_of, position_of, are_picks_of};
@@ -63,12 +63,25 @@ fn have_rows(slot: &Slot, positions: &[u32]) -> bool
     positions.iter().all(|position| has_row(slot, *position))
 }
 
+/// Whether positions have rows and none stands twice. Those that have rows are no more than the rows, unless one does.
+fn are_rows_once(slot: &Slot, positions: &[u32]) -> bool
+    ensures { result ≡ is_distinct positions.now && list_all (has_row slot.now) positions.now }
+{
+    if !have_rows(slot, positions) {
+        return false;
+    }
+    if positions.len() > slot.elements.as_slice().len() {
+        return false;
+    }
+    is_distinct(positions)
+}
+
 /// Whether a relational condition has two or more positions, none of them twice and each with a row.
 pub fn is_condition_of(slot: &Slot, condition: &Condition) -> bool
     ensures { result ≡ is_condition_of slot.now condition.now }
 {
     let positions = condition.positions.as_slice();
-    2 <= positions.len() && is_distinct(positions) && have_rows(slot, positions)
+    2 <= positions.len() && are_rows_once(slot, positions)
 }
 
 fn is_pick_of(slot: &Slot, pick: &Pick) -> bool
@@ -109,5 +122,11 @@ fn are_each_picks_of(slot: &Slot, picks: &[Pick]) -> bool
 pub fn are_picks_of(slot: &Slot, picks: &[Pick]) -> bool
     ensures { result ≡ are_picks_of slot.now picks.now }
 {
-    are_positions_distinct(picks) && are_each_picks_of(slot, picks)
+    if !are_each_picks_of(slot, picks) {
+        return false;
+    }
+    if picks.len() > slot.elements.as_slice().len() {
+        return false;
+    }
+    are_positions_distinct(picks)
 }

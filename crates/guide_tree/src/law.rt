@@ -1,6 +1,6 @@
-ghost use Rattle.guide_tree.specs.Tree.{GuideTree};
+ghost use Rattle.guide_tree.specs.Tree.{GuideTree, Trees};
 ghost use Rattle.guide_tree.specs.Faults.{IsWellFormed};
-ghost use Rattle.guide_tree.specs.Law.{DerivedIsPlaced, PlacedIsDerived, IsPlacedOneWay};
+ghost use Rattle.guide_tree.specs.Law.{DerivedIsPlaced, PlacedIsDerived, IsPlacedOneWay, DerivedHasPlacing, UsesAreCounted};
 
 /// In a guide without fault a body is derived exactly where its placing has no stray and no structural fault, and
 /// then the derivation gives each segment the slot of its place; and a body has one placing. It does nothing: its
@@ -8,5 +8,7 @@ ghost use Rattle.guide_tree.specs.Law.{DerivedIsPlaced, PlacedIsDerived, IsPlace
 pub fn placing_is_grammar()
     ensures derived { (g : GuideTree) → IsWellFormed g → DerivedIsPlaced g }
     ensures placed { (g : GuideTree) → IsWellFormed g → PlacedIsDerived g }
+    ensures there { (g : GuideTree) → IsWellFormed g → DerivedHasPlacing g }
+    ensures counted { (ts : Trees) → UsesAreCounted ts }
     ensures one { (g : GuideTree) → IsWellFormed g → IsPlacedOneWay g }
 {}

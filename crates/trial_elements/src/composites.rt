@@ -1,6 +1,6 @@
 //! Composites, repetitions, elements that aren't used, and elements without a row.
 use super::guides::{
-    DELIMS, Line, OPTIONAL, add_components, add_rows, composite, expect, guide, text,
+    Cases, DELIMS, Line, OPTIONAL, add_components, add_rows, composite, expect, guide, text,
 };
 use guide_tree::{Component, Element, ElementType, Guide, Requirement};
 use hub_kinds::NoMemory;
@@ -68,7 +68,7 @@ fn composites(alloc: Global) -> Result<Guide, Fail> {
     guide(alloc, rows, Vec::new(alloc))
 }
 
-const COMPONENTS_OF_COMPOSITES: &[(&str, &str)] = &[
+const COMPONENTS_OF_COMPOSITES: Cases = &[
     ("CMP*a****x", ""),
     ("CMP", "1 0 0 1 C1 ;5 0 0 1 5 ;"),
     ("CMP*>>^>****x", "1 0 0 1 C1 ;"),
@@ -84,17 +84,7 @@ const COMPONENTS_OF_COMPOSITES: &[(&str, &str)] = &[
     ("CMP*a****x*>z", "6 1 0 13 C6 ;"),
 ];
 
-#[test]
-fn components_of_composites(rt: HostRuntime) -> Result<(), Fail> {
-    expect(
-        rt.alloc(),
-        DELIMS,
-        &composites(rt.alloc())?,
-        COMPONENTS_OF_COMPOSITES,
-    )
-}
-
-const OCCURRENCES: &[(&str, &str)] = &[
+const OCCURRENCES: Cases = &[
     ("CMP*a^^b^^****x", ""),
     ("CMP*a^b^c^d>e****x", "1 0 4 12 C1 d>e;"),
     ("CMP*a^b^c^^d****x", "1 0 4 12 C1 ;"),
@@ -111,12 +101,7 @@ const OCCURRENCES: &[(&str, &str)] = &[
     ("CMP*a****x^y", "5 0 2 12 5 y;"),
 ];
 
-#[test]
-fn occurrences(rt: HostRuntime) -> Result<(), Fail> {
-    expect(rt.alloc(), DELIMS, &composites(rt.alloc())?, OCCURRENCES)
-}
-
-const NOT_USED_AND_WITHOUT_A_ROW: &[(&str, &str)] = &[
+const NOT_USED_AND_WITHOUT_A_ROW: Cases = &[
     ("CMP*a***q>^w*x", "4 0 0 I10 4 q>^w;"),
     ("CMP*a***>^*x", ""),
     ("CMP*a****x****", ""),
@@ -126,17 +111,22 @@ const NOT_USED_AND_WITHOUT_A_ROW: &[(&str, &str)] = &[
     ("CMP*a****x**>^", ""),
 ];
 
+const TABLES: &[Cases] = &[
+    COMPONENTS_OF_COMPOSITES,
+    OCCURRENCES,
+    NOT_USED_AND_WITHOUT_A_ROW,
+];
+
 #[test]
-fn not_used_and_without_a_row(rt: HostRuntime) -> Result<(), Fail> {
-    expect(
-        rt.alloc(),
-        DELIMS,
-        &composites(rt.alloc())?,
-        NOT_USED_AND_WITHOUT_A_ROW,
-    )
+fn composites_and_repetitions(rt: HostRuntime) -> Result<(), Fail> {
+    let guide = composites(rt.alloc())?;
+    for cases in TABLES {
+        expect(rt.alloc(), DELIMS, &guide, cases)?;
+    }
+    Ok(())
 }
 
-const WITHOUT_A_REPETITION_SEPARATOR: &[(&str, &str)] = &[
+const WITHOUT_A_REPETITION_SEPARATOR: Cases = &[
     ("CMP*a^b****x", ""),
     ("CMP*a^bc>>1****x", "1 1 1 5 11 a^bc;"),
     ("CMP*a****^", ""),

@@ -1,7 +1,6 @@
 //! Relational conditions over a segment of six elements.
-use super::guides::{DELIMS, Line, OPTIONAL, add_condition, add_rows, conditioned, expect, guide};
-use guide_tree::{Guide, Relation};
-use std::alloc::Global;
+use super::guides::{Cases, DELIMS, Line, OPTIONAL, Related, expect, guide_of};
+use guide_tree::Relation;
 use std::test::Fail;
 
 const SIX_ROWS: &[Line] = &[
@@ -31,74 +30,59 @@ const SIX_ROWS: &[Line] = &[
     },
 ];
 
-fn six(alloc: Global, relation: Relation, positions: &[u32]) -> Result<Guide, Fail> {
-    conditioned(alloc, SIX_ROWS, relation, positions)
-}
-
-const PAIRED: &[(&str, &str)] = &[
+const PAIRED: Cases = &[
     ("S", ""),
     ("S**a", "3 0 0 2 3 ;5 0 0 2 5 ;"),
     ("S**>*b", "2 0 0 2 2 ;5 0 0 2 5 ;"),
     ("S**a*b**c", ""),
 ];
 
-#[test]
-fn paired(rt: HostRuntime) -> Result<(), Fail> {
-    let alloc = rt.alloc();
-    let guide = six(alloc, Relation::Paired, &[2, 3, 5])?;
-    expect(alloc, DELIMS, &guide, PAIRED)
-}
+const AT_LEAST_ONE: Cases = &[("S*a", "2 0 0 2 2 ;"), ("S***x", ""), ("S*****x", "")];
 
-const AT_LEAST_ONE: &[(&str, &str)] = &[("S*a", "2 0 0 2 2 ;"), ("S***x", ""), ("S*****x", "")];
-
-#[test]
-fn at_least_one(rt: HostRuntime) -> Result<(), Fail> {
-    let alloc = rt.alloc();
-    let guide = six(alloc, Relation::Required, &[2, 3, 5])?;
-    expect(alloc, DELIMS, &guide, AT_LEAST_ONE)
-}
-
-const AT_MOST_ONE: &[(&str, &str)] = &[
+const AT_MOST_ONE: Cases = &[
     ("S**a*b**c", "2 0 0 10 2 a;3 0 0 10 3 b;"),
     ("S**a*b>c", "3 0 0 10 3 b>c;3 2 0 13 3 c;"),
     ("S****x", ""),
     ("S*****e", ""),
 ];
 
-#[test]
-fn at_most_one(rt: HostRuntime) -> Result<(), Fail> {
-    let alloc = rt.alloc();
-    let guide = six(alloc, Relation::Exclusion, &[5, 2, 3])?;
-    expect(alloc, DELIMS, &guide, AT_MOST_ONE)
-}
-
-const ALL_OTHERS_WITH_THE_FIRST: &[(&str, &str)] = &[
+const ALL_OTHERS_WITH_THE_FIRST: Cases = &[
     ("S*****e", "2 0 0 2 2 ;3 0 0 2 3 ;"),
     ("S**a***e", "3 0 0 2 3 ;"),
     ("S**a", ""),
 ];
 
-#[test]
-fn all_others_with_the_first(rt: HostRuntime) -> Result<(), Fail> {
-    let alloc = rt.alloc();
-    let guide = six(alloc, Relation::Conditional, &[5, 2, 3])?;
-    expect(alloc, DELIMS, &guide, ALL_OTHERS_WITH_THE_FIRST)
-}
-
-const ONE_OTHER_WITH_THE_FIRST: &[(&str, &str)] = &[
+const ONE_OTHER_WITH_THE_FIRST: Cases = &[
     ("S*****e", "2 0 0 2 2 ;"),
     ("S***b**e", ""),
     ("S**a", ""),
 ];
 
+/// A condition, and segments with their faults.
+const CONDITIONS: &[(Related, Cases)] = &[
+    ((Relation::Paired, &[2, 3, 5]), PAIRED),
+    ((Relation::Required, &[2, 3, 5]), AT_LEAST_ONE),
+    ((Relation::Exclusion, &[5, 2, 3]), AT_MOST_ONE),
+    (
+        (Relation::Conditional, &[5, 2, 3]),
+        ALL_OTHERS_WITH_THE_FIRST,
+    ),
+    (
+        (Relation::ListConditional, &[5, 2, 3]),
+        ONE_OTHER_WITH_THE_FIRST,
+    ),
+];
+
 #[test]
-fn one_other_with_the_first(rt: HostRuntime) -> Result<(), Fail> {
-    let alloc = rt.alloc();
-    let guide = six(alloc, Relation::ListConditional, &[5, 2, 3])?;
-    expect(alloc, DELIMS, &guide, ONE_OTHER_WITH_THE_FIRST)
+fn conditions(rt: HostRuntime) -> Result<(), Fail> {
+    for (related, cases) in CONDITIONS {
+        let guide = guide_of(rt.alloc(), SIX_ROWS, &[*related])?;
+        expect(rt.alloc(), DELIMS, &guide, cases)?;
+    }
+    Ok(())
 }
 
-const TWICE_CONDITIONED_ROWS: &[Line] = &[
+const FOUR_ROWS: &[Line] = &[
     Line {
         reference: "1",
         ..OPTIONAL
@@ -117,27 +101,16 @@ const TWICE_CONDITIONED_ROWS: &[Line] = &[
     },
 ];
 
-fn twice_conditioned(alloc: Global) -> Result<Guide, Fail> {
-    let mut conditions = Vec::new(alloc);
-    add_condition(alloc, &mut conditions, Relation::Paired, &[2, 3])?;
-    add_condition(alloc, &mut conditions, Relation::Conditional, &[2, 4, 3])?;
-    let mut rows = Vec::new(alloc);
-    add_rows(alloc, &mut rows, TWICE_CONDITIONED_ROWS)?;
-    guide(alloc, rows, conditions)
-}
-
-const A_FAULT_OF_TWO_CONDITIONS_STANDS_ONCE: &[(&str, &str)] = &[
-    ("S**a", "3 0 0 2 3 ;4 0 0 2 4 ;"),
-    ("S***b", "2 0 0 2 2 ;"),
+/// Two conditions that ask for the same element.
+const TWICE: &[Related] = &[
+    (Relation::Paired, &[2, 3]),
+    (Relation::Conditional, &[2, 4, 3]),
 ];
+
+const FOUND_TWICE: Cases = &[("S**a", "3 0 0 2 3 ;4 0 0 2 4 ;"), ("S***b", "2 0 0 2 2 ;")];
 
 #[test]
 fn a_fault_of_two_conditions_stands_once(rt: HostRuntime) -> Result<(), Fail> {
-    let alloc = rt.alloc();
-    expect(
-        alloc,
-        DELIMS,
-        &twice_conditioned(alloc)?,
-        A_FAULT_OF_TWO_CONDITIONS_STANDS_ONCE,
-    )
+    let guide = guide_of(rt.alloc(), FOUR_ROWS, TWICE)?;
+    expect(rt.alloc(), DELIMS, &guide, FOUND_TWICE)
 }

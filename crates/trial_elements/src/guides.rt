@@ -119,7 +119,7 @@ pub fn composite(
     }))
 }
 
-pub fn add_condition(
+fn add_condition(
     alloc: Global,
     conditions: &mut Vec<Condition>,
     relation: Relation,
@@ -173,22 +173,15 @@ pub fn guide(
     Ok(Guide::check(rows)?)
 }
 
-/// A guide of a segment of simple rows without conditions.
-pub fn guide_of(alloc: Global, lines: &[Line]) -> Result<Guide, Fail> {
-    let mut rows = Vec::new(alloc);
-    add_rows(alloc, &mut rows, lines)?;
-    guide(alloc, rows, Vec::new(alloc))
-}
+/// A relational condition and its positions.
+pub type Related = (Relation, &'static [u32]);
 
-/// A guide of a segment of simple rows with one condition.
-pub fn conditioned(
-    alloc: Global,
-    lines: &[Line],
-    relation: Relation,
-    positions: &[u32],
-) -> Result<Guide, Fail> {
+/// A guide of a segment of simple rows with conditions.
+pub fn guide_of(alloc: Global, lines: &[Line], related: &[Related]) -> Result<Guide, Fail> {
     let mut conditions = Vec::new(alloc);
-    add_condition(alloc, &mut conditions, relation, positions)?;
+    for (relation, positions) in related {
+        add_condition(alloc, &mut conditions, *relation, positions)?;
+    }
     let mut rows = Vec::new(alloc);
     add_rows(alloc, &mut rows, lines)?;
     guide(alloc, rows, conditions)
@@ -243,13 +236,11 @@ pub fn expect_bytes(
     Ok(())
 }
 
+/// Segments, each beside its faults.
+pub type Cases = &'static [(&'static str, &'static str)];
+
 /// Whether each segment has just the faults beside it.
-pub fn expect(
-    alloc: Global,
-    delims: Delims,
-    guide: &Guide,
-    cases: &[(&str, &str)],
-) -> Result<(), Fail> {
+pub fn expect(alloc: Global, delims: Delims, guide: &Guide, cases: Cases) -> Result<(), Fail> {
     for (segment, faults) in cases {
         expect_one(alloc, delims, guide, segment.as_bytes(), faults.as_bytes())?;
     }

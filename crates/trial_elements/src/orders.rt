@@ -1,9 +1,6 @@
 //! Segments of an order, by the rows of its guide.
-use super::guides::{
-    DELIMS, Line, OPTIONAL, add_condition, add_rows, conditioned, expect, guide, guide_of,
-};
-use guide_tree::{ElementType, Guide, Relation, Requirement};
-use std::alloc::Global;
+use super::guides::{Cases, DELIMS, Line, OPTIONAL, Related, expect, guide_of};
+use guide_tree::{ElementType, Relation, Requirement};
 use std::test::Fail;
 
 const BEGINNING_OF_AN_ORDER_ROWS: &[Line] = &[
@@ -48,7 +45,7 @@ const BEGINNING_OF_AN_ORDER_ROWS: &[Line] = &[
     },
 ];
 
-const BEGINNING_OF_AN_ORDER: &[(&str, &str)] = &[
+const BEGINNING_OF_AN_ORDER: Cases = &[
     ("BEG*00*SA*P1**20260228", ""),
     (
         "BEG*01*SA*P1**20260229",
@@ -56,13 +53,6 @@ const BEGINNING_OF_AN_ORDER: &[(&str, &str)] = &[
     ),
     ("BEG*02*SA**", "1 0 0 7 353 02;3 0 0 1 324 ;5 0 0 1 373 ;"),
 ];
-
-#[test]
-fn beginning_of_an_order(rt: HostRuntime) -> Result<(), Fail> {
-    let alloc = rt.alloc();
-    let guide = guide_of(alloc, BEGINNING_OF_AN_ORDER_ROWS)?;
-    expect(alloc, DELIMS, &guide, BEGINNING_OF_AN_ORDER)
-}
 
 const REFERENCE_IDENTIFICATION_ROWS: &[Line] = &[
     Line {
@@ -85,7 +75,7 @@ const REFERENCE_IDENTIFICATION_ROWS: &[Line] = &[
     },
 ];
 
-const REFERENCE_IDENTIFICATION: &[(&str, &str)] = &[
+const REFERENCE_IDENTIFICATION: Cases = &[
     ("REF*DP*7", ""),
     ("REF*DP", "2 0 0 2 127 ;"),
     (
@@ -93,18 +83,6 @@ const REFERENCE_IDENTIFICATION: &[(&str, &str)] = &[
         "3 0 0 5 352 AAAAAAAAAAAAAAAAAAAAAAAAAAAAAAAAAAAAAAAAAAAAAAAAAAAAAAAAAAAAAAAAAAAAAAAAAAAAAAAAAAAAAAAAAAAAAAAAAAAA;",
     ),
 ];
-
-#[test]
-fn reference_identification(rt: HostRuntime) -> Result<(), Fail> {
-    let alloc = rt.alloc();
-    let guide = conditioned(
-        alloc,
-        REFERENCE_IDENTIFICATION_ROWS,
-        Relation::Required,
-        &[2, 3],
-    )?;
-    expect(alloc, DELIMS, &guide, REFERENCE_IDENTIFICATION)
-}
 
 const DATE_OR_TIME_ROWS: &[Line] = &[
     Line {
@@ -131,18 +109,11 @@ const DATE_OR_TIME_ROWS: &[Line] = &[
     },
 ];
 
-const DATE_OR_TIME: &[(&str, &str)] = &[
+const DATE_OR_TIME: Cases = &[
     ("DTM*002*20260228", ""),
     ("DTM*002**2460", "3 0 0 9 337 2460;"),
     ("DTM*002", "2 0 0 2 373 ;"),
 ];
-
-#[test]
-fn date_or_time(rt: HostRuntime) -> Result<(), Fail> {
-    let alloc = rt.alloc();
-    let guide = conditioned(alloc, DATE_OR_TIME_ROWS, Relation::Required, &[2, 3])?;
-    expect(alloc, DELIMS, &guide, DATE_OR_TIME)
-}
 
 const BASELINE_ITEM_ROWS: &[Line] = &[
     Line {
@@ -194,27 +165,40 @@ const BASELINE_ITEM_ROWS: &[Line] = &[
     },
 ];
 
-fn baseline_item(alloc: Global) -> Result<Guide, Fail> {
-    let mut conditions = Vec::new(alloc);
-    add_condition(alloc, &mut conditions, Relation::Conditional, &[5, 4])?;
-    add_condition(alloc, &mut conditions, Relation::Paired, &[6, 7])?;
-    let mut rows = Vec::new(alloc);
-    add_rows(alloc, &mut rows, BASELINE_ITEM_ROWS)?;
-    guide(alloc, rows, conditions)
-}
-
-const LINE_OF_AN_ORDER: &[(&str, &str)] = &[
+const LINE_OF_AN_ORDER: Cases = &[
     ("PO1*1*5*EA*2.50*PE", ""),
     ("PO1*1*-0012.5*EA***UP", "7 0 0 2 234 ;"),
     ("PO1**0*DZ**PE", "3 0 0 I6 355 DZ;4 0 0 2 212 ;"),
 ];
 
-#[test]
-fn line_of_an_order(rt: HostRuntime) -> Result<(), Fail> {
-    expect(
-        rt.alloc(),
-        DELIMS,
-        &baseline_item(rt.alloc())?,
+/// Rows, their conditions, and segments with their faults.
+const SEGMENTS: &[(&[Line], &[Related], Cases)] = &[
+    (BEGINNING_OF_AN_ORDER_ROWS, &[], BEGINNING_OF_AN_ORDER),
+    (
+        REFERENCE_IDENTIFICATION_ROWS,
+        &[(Relation::Required, &[2, 3])],
+        REFERENCE_IDENTIFICATION,
+    ),
+    (
+        DATE_OR_TIME_ROWS,
+        &[(Relation::Required, &[2, 3])],
+        DATE_OR_TIME,
+    ),
+    (
+        BASELINE_ITEM_ROWS,
+        &[
+            (Relation::Conditional, &[5, 4]),
+            (Relation::Paired, &[6, 7]),
+        ],
         LINE_OF_AN_ORDER,
-    )
+    ),
+];
+
+#[test]
+fn segments_of_an_order(rt: HostRuntime) -> Result<(), Fail> {
+    for (rows, related, cases) in SEGMENTS {
+        let guide = guide_of(rt.alloc(), rows, related)?;
+        expect(rt.alloc(), DELIMS, &guide, cases)?;
+    }
+    Ok(())
 }

@@ -1,5 +1,5 @@
 //! Values of each type: which bytes and forms it allows, how its length counts, its codes, dates and times.
-use super::guides::{DELIMS, Line, OPTIONAL, expect, expect_bytes, guide_of};
+use super::guides::{Cases, DELIMS, Line, OPTIONAL, expect, expect_bytes, guide_of};
 use guide_tree::{ElementType, Guide};
 use std::alloc::Global;
 use std::test::Fail;
@@ -55,10 +55,10 @@ const EACH_TYPE_ROWS: &[Line] = &[
 ];
 
 fn each_type(alloc: Global) -> Result<Guide, Fail> {
-    guide_of(alloc, EACH_TYPE_ROWS)
+    guide_of(alloc, EACH_TYPE_ROWS, &[])
 }
 
-const STRINGS: &[(&str, &str)] = &[
+const STRINGS: Cases = &[
     ("TYP*abcde", ""),
     ("TYP*abcdef", "1 0 0 5 1 abcdef;"),
     ("TYP* ~", ""),
@@ -67,12 +67,7 @@ const STRINGS: &[(&str, &str)] = &[
     ("TYP*1^2", "1 0 2 12 1 2;"),
 ];
 
-#[test]
-fn strings(rt: HostRuntime) -> Result<(), Fail> {
-    expect(rt.alloc(), DELIMS, &each_type(rt.alloc())?, STRINGS)
-}
-
-const CODES_USED_AND_NOT_USED: &[(&str, &str)] = &[
+const CODES_USED_AND_NOT_USED: Cases = &[
     ("TYP**AA", ""),
     ("TYP**BBB", ""),
     ("TYP**A", "2 0 0 4 2 A;"),
@@ -82,17 +77,7 @@ const CODES_USED_AND_NOT_USED: &[(&str, &str)] = &[
     ("TYP**AA>", ""),
 ];
 
-#[test]
-fn codes_used_and_not_used(rt: HostRuntime) -> Result<(), Fail> {
-    expect(
-        rt.alloc(),
-        DELIMS,
-        &each_type(rt.alloc())?,
-        CODES_USED_AND_NOT_USED,
-    )
-}
-
-const WHOLE_NUMBERS: &[(&str, &str)] = &[
+const WHOLE_NUMBERS: Cases = &[
     ("TYP***12", ""),
     ("TYP***-123", ""),
     ("TYP***-1", "3 0 0 4 3 -1;"),
@@ -104,12 +89,7 @@ const WHOLE_NUMBERS: &[(&str, &str)] = &[
     ("TYP***--12", "3 0 0 6 3 --12;"),
 ];
 
-#[test]
-fn whole_numbers(rt: HostRuntime) -> Result<(), Fail> {
-    expect(rt.alloc(), DELIMS, &each_type(rt.alloc())?, WHOLE_NUMBERS)
-}
-
-const DECIMAL_NUMBERS: &[(&str, &str)] = &[
+const DECIMAL_NUMBERS: Cases = &[
     ("TYP****-12.34", ""),
     ("TYP****.5", ""),
     ("TYP****5.", ""),
@@ -121,12 +101,7 @@ const DECIMAL_NUMBERS: &[(&str, &str)] = &[
     ("TYP****1E5", "4 0 0 6 4 1E5;"),
 ];
 
-#[test]
-fn decimal_numbers(rt: HostRuntime) -> Result<(), Fail> {
-    expect(rt.alloc(), DELIMS, &each_type(rt.alloc())?, DECIMAL_NUMBERS)
-}
-
-const DATES: &[(&str, &str)] = &[
+const DATES: Cases = &[
     ("TYP*****20240229", ""),
     ("TYP*****20230229", "5 0 0 8 5 20230229;"),
     ("TYP*****19000229", "5 0 0 8 5 19000229;"),
@@ -146,12 +121,7 @@ const DATES: &[(&str, &str)] = &[
     ("TYP*****202402291", "5 0 0 5 5 202402291;"),
 ];
 
-#[test]
-fn dates(rt: HostRuntime) -> Result<(), Fail> {
-    expect(rt.alloc(), DELIMS, &each_type(rt.alloc())?, DATES)
-}
-
-const TIMES_OF_DAY: &[(&str, &str)] = &[
+const TIMES_OF_DAY: Cases = &[
     ("TYP******0000", ""),
     ("TYP******2359", ""),
     ("TYP******2400", "6 0 0 9 6 2400;"),
@@ -166,9 +136,22 @@ const TIMES_OF_DAY: &[(&str, &str)] = &[
     ("TYP******123456789", "6 0 0 5 6 123456789;"),
 ];
 
+const TABLES: &[Cases] = &[
+    STRINGS,
+    CODES_USED_AND_NOT_USED,
+    WHOLE_NUMBERS,
+    DECIMAL_NUMBERS,
+    DATES,
+    TIMES_OF_DAY,
+];
+
 #[test]
-fn times_of_day(rt: HostRuntime) -> Result<(), Fail> {
-    expect(rt.alloc(), DELIMS, &each_type(rt.alloc())?, TIMES_OF_DAY)
+fn values_of_each_type(rt: HostRuntime) -> Result<(), Fail> {
+    let guide = each_type(rt.alloc())?;
+    for cases in TABLES {
+        expect(rt.alloc(), DELIMS, &guide, cases)?;
+    }
+    Ok(())
 }
 
 const BYTES_THAT_ARE_NO_CHARACTERS: &[(&[u8], &[u8])] = &[

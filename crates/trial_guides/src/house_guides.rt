@@ -117,36 +117,26 @@ fn is_named(guide: &Guide, name: &[u8]) -> bool {
     guide.rows().head.name.as_slice() == name
 }
 
-#[test]
-fn house_order(rt: HostRuntime) -> Result<(), Fail> {
-    assert_eq!(rt;
-        slots(rt.alloc(), H850)?.as_str(),
-        " 1 BEG 2 REF 3 DTM 4 loop N9 5 N9 6 MSG 7 loop N1 8 N1 9 N3 10 N4 11 loop PO1 12 PO1 13 PID 14 CTT"
-    );
-    Ok(())
-}
+/// The house guides, the numbers and ids of their slots, and what else they say.
+const HOUSE: &[(&str, &str, &str)] = &[
+    (
+        H850,
+        " 1 BEG 2 REF 3 DTM 4 loop N9 5 N9 6 MSG 7 loop N1 8 N1 9 N3 10 N4 11 loop PO1 12 PO1 13 PID 14 CTT",
+        "5 1 0 None 5",
+    ),
+    (
+        H856,
+        " 1 BSN 2 loop HL 3 HL 4 LIN 5 SN1 6 PRF 7 TD5 8 REF 9 MAN 10 DTM 11 loop N1 12 N1",
+        "4 0 1 Some((true, 5)) 5",
+    ),
+];
 
 #[test]
-fn house_ship_notice(rt: HostRuntime) -> Result<(), Fail> {
-    assert_eq!(rt;
-        slots(rt.alloc(), H856)?.as_str(),
-        " 1 BSN 2 loop HL 3 HL 4 LIN 5 SN1 6 PRF 7 TD5 8 REF 9 MAN 10 DTM 11 loop N1 12 N1"
-    );
-    Ok(())
-}
-
-#[test]
-fn facts_of_house_order(rt: HostRuntime) -> Result<(), Fail> {
-    assert_eq!(rt; facts_of(rt.alloc(), H850)?.as_str(), "5 1 0 None 5");
-    Ok(())
-}
-
-#[test]
-fn facts_of_house_ship_notice(rt: HostRuntime) -> Result<(), Fail> {
-    assert_eq!(rt;
-        facts_of(rt.alloc(), H856)?.as_str(),
-        "4 0 1 Some((true, 5)) 5"
-    );
+fn house_guides(rt: HostRuntime) -> Result<(), Fail> {
+    for (file, slots_and_ids, others) in HOUSE {
+        assert_eq!(rt; slots(rt.alloc(), file)?.as_str(), *slots_and_ids);
+        assert_eq!(rt; facts_of(rt.alloc(), file)?.as_str(), *others);
+    }
     Ok(())
 }
 
