@@ -57,9 +57,11 @@ fn hides_sets(code: GroupCode) -> bool
     ensures { result ≡ hides_sets code }
 {
     match code {
-        GroupCode::NotSupported => true,
-        GroupCode::VersionNotSupported => true,
-        _ => false,
+        GroupCode::NotSupported | GroupCode::VersionNotSupported => true,
+        GroupCode::TrailerMissing
+        | GroupCode::ControlNumbersDiffer
+        | GroupCode::SetCountWrong
+        | GroupCode::ControlNumberNotUnique => false,
     }
 }
 

@@ -11,8 +11,8 @@ use std::cmp::Ordering;
 /// A fault of a transaction set, as a segment or a missing segment shows it (999 guide, IK3).
 #[derive(Debug, Drop)]
 pub struct Fault {
-    /// The segment's number in the set, ST being 1.
-    pub position: u32,
+    /// The segment's number in the set, ST being 1; in 64 bits, so that it bounds no set.
+    pub position: u64,
     /// The segment's id.
     pub id: Text,
     /// The id of the innermost loop; empty where there is none.
@@ -50,22 +50,22 @@ pub fn fault_order(a: &Fault, b: &Fault) -> Ordering
     key(a).cmp(&key(b))
 }
 
-fn key(fault: &Fault) -> [u32; 7]
+fn key(fault: &Fault) -> [u64; 7]
     ensures { result ≡ key_of fault.now }
 {
     let (element, component, repetition, code) = match &fault.elem {
         None => (0, 0, 0, 0),
         Some(elem) => (
-            elem.element,
-            elem.component,
-            elem.repetition,
+            u64::from(elem.element),
+            u64::from(elem.component),
+            u64::from(elem.repetition),
             element_rank(elem.code),
         ),
     };
     [
         fault.position,
         segment_rank(fault.code),
-        fault.slot,
+        u64::from(fault.slot),
         element,
         component,
         repetition,
@@ -73,14 +73,14 @@ fn key(fault: &Fault) -> [u32; 7]
     ]
 }
 
-fn segment_rank(code: SegmentCode) -> u32
+fn segment_rank(code: SegmentCode) -> u64
     ensures { result ≡ segment_rank code }
 {
-    code as u32
+    code as u64
 }
 
-fn element_rank(code: ElementCode) -> u32
+fn element_rank(code: ElementCode) -> u64
     ensures { result ≡ element_rank code }
 {
-    code as u32
+    code as u64
 }
