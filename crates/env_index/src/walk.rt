@@ -1,4 +1,6 @@
-ghost use Rattle.std.specs.Prelude.{◌≡◌, ◌<◌, ◌≤◌, ◌^◌, IfOk, length, if◌then◌else◌};
+ghost use Rattle.std.specs.Prelude.{◌≡◌, ◌≤◌, IfOk, length, if◌then◌else◌};
+ghost use Rattle.hub_kinds.specs.declared.limits.TheConstants.{LONGEST_TEXT};
+ghost use Rattle.x12_bytes.specs.declared.layout.TheConstants.{HEADER_LEN};
 ghost use Rattle.x12_bytes.specs.HeaderTest.{is_head};
 ghost use Rattle.env_index.specs.Envelope.{Body, Derives};
 ghost use Rattle.env_index.specs.Extents.{reach_from};
@@ -21,9 +23,9 @@ pub(crate) fn read_body(
     from: usize,
     delims: Delims,
 ) -> Result<BodyPlace, NoMemory>
-    requires header { 106 ≤ from }
+    requires header { HEADER_LEN ≤ from }
     requires within { from ≤ length text.now }
-    requires few { length text.now < 2 ^ 32 }
+    requires few { length text.now ≤ LONGEST_TEXT }
     ensures within { IfOk result (λ body. body.end ≤ length text.now) }
     ensures end { IfOk result (λ body. body.end ≡ (reach_from text.now delims from).end) }
     ensures only { IfOk result
