@@ -57,7 +57,8 @@ fn hides_sets(code: GroupCode) -> bool
     ensures { result ≡ hides_sets code }
 {
     match code {
-        GroupCode::NotSupported | GroupCode::VersionNotSupported => true,
+        GroupCode::NotSupported => true,
+        GroupCode::VersionNotSupported => true,
         GroupCode::TrailerMissing
         | GroupCode::ControlNumbersDiffer
         | GroupCode::SetCountWrong

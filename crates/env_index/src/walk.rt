@@ -8,12 +8,11 @@ ghost use Rattle.env_index.specs.Places.{body_in};
 ghost use Rattle.env_index.specs.Summary.{summary_of};
 
 use crate::builder::Builder;
-use crate::kind::{Kind, kind_of};
 use crate::places::{BodyPlace, Stretch};
 use hub_kinds::NoMemory;
 use std::alloc::Global;
 use x12_bytes::{Delims, read_header};
-use x12_segs::{Part, SegView, next_part};
+use x12_segs::{Kind, Part, SegView, kind_of, next_part};
 
 /// Reads what an interchange has behind its header, from the offset `from` to its end. Of each part,
 /// whether it begins at a header is asked first.

@@ -8,6 +8,9 @@ use crate::codes::{ElementCode, SegmentCode};
 use crate::items::Text;
 use std::cmp::Ordering;
 
+/// The number of a component or a repetition that is not shown, and of a slot that is none.
+pub const NO_NUMBER: u32 = 0;
+
 /// A fault of a transaction set, as a segment or a missing segment shows it (999 guide, IK3).
 #[derive(Debug, Drop)]
 pub struct Fault {
@@ -19,7 +22,7 @@ pub struct Fault {
     pub loop_id: Text,
     /// What is wrong with the segment.
     pub code: SegmentCode,
-    /// The number of the guide's slot; 0 for a stray.
+    /// The number of the guide's slot; `NO_NUMBER` for a stray.
     pub slot: u32,
     /// What is wrong with an element of it, under the code of element errors.
     pub elem: Option<ElemFault>,
@@ -30,9 +33,9 @@ pub struct Fault {
 pub struct ElemFault {
     /// The element's number in the segment, from 1.
     pub element: u32,
-    /// The component's number in the element, from 1; 0 where none is shown.
+    /// The component's number in the element, from 1; `NO_NUMBER` where none is shown.
     pub component: u32,
-    /// The repetition's number, from 1; 0 where none is shown.
+    /// The repetition's number, from 1; `NO_NUMBER` where none is shown.
     pub repetition: u32,
     /// What is wrong with the element.
     pub code: ElementCode,

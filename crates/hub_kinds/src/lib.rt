@@ -36,7 +36,7 @@ mod set_codes;
 
 pub use answers::{GroupAnswer, SetAnswer};
 pub use codes::{Code, ElementCode, SegmentCode, code_of, code_text};
-pub use fault::{ElemFault, Fault, fault_order};
+pub use fault::{ElemFault, Fault, NO_NUMBER, fault_order};
 pub use interchange::{InterchangeFault, interchange_fault_order};
 pub use items::{Items, Text, Texts};
 pub use lent::Lent;
