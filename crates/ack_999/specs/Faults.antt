@@ -8,6 +8,7 @@ use Rattle.hub_kinds.specs.declared.codes.SegmentCode.{SegmentCode}
 use Rattle.hub_kinds.specs.declared.codes.SegmentCode.TheVariants as segment_code
 use Rattle.hub_kinds.specs.declared.fault.Fault.{Fault}
 use Rattle.hub_kinds.specs.declared.fault.ElemFault.{ElemFault}
+use Rattle.hub_kinds.specs.declared.fault.TheConstants.{NO_NUMBER}
 use Rattle.hub_kinds.specs.Codes as code
 use Rattle.ack_999.specs.Copy.{is_this, copy_text}
 use Rattle.ack_999.specs.Segment.{Segment, segment, segment_text, elements_text, trimmed}
@@ -30,9 +31,9 @@ code_shown f = shown f.elem
     shown None = f.code
     shown (Some _) = segment_code.ElementErrors
 
--- a component or a repetition is counted from 1, and 0 is none
+-- a component or a repetition is counted from 1
 abbrev pub number_text : ℕ → List ℕ
-number_text n = if n == 0 then [] else decimal n
+number_text n = if n == NO_NUMBER then [] else decimal n
 
 -- IK401: the numbers of the element, the component and the repetition, without those that are none at the end
 abbrev pub position_text : ℕ → ElemFault → List ℕ

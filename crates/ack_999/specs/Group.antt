@@ -38,15 +38,18 @@ group_codes_of control (Some trailer) sets = trailer_codes control trailer sets
 
 abbrev pub is_accepted : Verdict → Bool
 is_accepted verdict.Accepted = true
-is_accepted _ = false
+is_accepted verdict.AcceptedWithErrors = false
+is_accepted verdict.Rejected = false
 
 abbrev pub is_accepted_with_errors : Verdict → Bool
 is_accepted_with_errors verdict.AcceptedWithErrors = true
-is_accepted_with_errors _ = false
+is_accepted_with_errors verdict.Accepted = false
+is_accepted_with_errors verdict.Rejected = false
 
 abbrev pub is_rejected : Verdict → Bool
 is_rejected verdict.Rejected = true
-is_rejected _ = false
+is_rejected verdict.Accepted = false
+is_rejected verdict.AcceptedWithErrors = false
 
 -- the verdict on a group without codes: A if all sets are A, or there are none; E if none is R; R if all are; else P
 abbrev pub verdict_on_sets : List Verdict → GroupVerdict

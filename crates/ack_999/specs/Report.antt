@@ -41,7 +41,10 @@ set_segments d s =
 abbrev pub hides_sets : GroupCode → Bool
 hides_sets code.NotSupported = true
 hides_sets code.VersionNotSupported = true
-hides_sets _ = false
+hides_sets code.TrailerMissing = false
+hides_sets code.ControlNumbersDiffer = false
+hides_sets code.SetCountWrong = false
+hides_sets code.ControlNumberNotUnique = false
 
 abbrev pub shows_sets : List GroupCode → Bool
 shows_sets group_codes = not (list_any hides_sets group_codes)

@@ -59,7 +59,10 @@ fn hides_sets(code: GroupCode) -> bool
     match code {
         GroupCode::NotSupported => true,
         GroupCode::VersionNotSupported => true,
-        _ => false,
+        GroupCode::TrailerMissing
+        | GroupCode::ControlNumbersDiffer
+        | GroupCode::SetCountWrong
+        | GroupCode::ControlNumberNotUnique => false,
     }
 }
 

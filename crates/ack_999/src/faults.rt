@@ -24,7 +24,7 @@ pub fn append_faults(out: &mut Vec<u8>, delims: &Delims, faults: &[Fault]) -> Re
 fn append_notes(
     out: &mut Vec<u8>,
     delims: &Delims,
-    before: Option<u32>,
+    before: Option<u64>,
     fault: &Fault,
 ) -> Result<(), NoMemory>
     ensures { OnOk result (out.new.items ≡ out.old.items ++ notes_text delims.now (notes_on before fault.now)) }
@@ -39,7 +39,7 @@ fn append_notes(
 }
 
 /// The position of the segment of an element fault.
-fn element_position(fault: &Fault) -> Option<u32>
+fn element_position(fault: &Fault) -> Option<u64>
     ensures { result ≡ element_position fault.now }
 {
     match &fault.elem {
@@ -49,7 +49,7 @@ fn element_position(fault: &Fault) -> Option<u32>
 }
 
 /// Whether there is a number, and it is this one.
-fn is_this(number: Option<u32>, other: u32) -> bool
+fn is_this(number: Option<u64>, other: u64) -> bool
     ensures { result ≡ is_this number other }
 {
     match number {
@@ -73,7 +73,7 @@ pub fn fault_segment_count(faults: &[Fault]) -> u64
 }
 
 /// How many segments tell of one fault.
-fn note_count(before: Option<u32>, fault: &Fault) -> u64
+fn note_count(before: Option<u64>, fault: &Fault) -> u64
     ensures value { result ≡ length (notes_on before fault.now) }
     ensures bound { result ≤ 2 }
 {

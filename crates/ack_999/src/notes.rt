@@ -7,7 +7,7 @@ ghost use Rattle.ack_999.specs.Segment.{segment_text, end_text};
 
 use crate::copy::copied;
 use crate::segment::{append_end, append_segment, append_used};
-use hub_kinds::{ElemFault, Fault, NoMemory, SegmentCode, code_text};
+use hub_kinds::{ElemFault, Fault, NO_NUMBER, NoMemory, SegmentCode, code_text};
 use itoa::Buffer;
 use x12_bytes::Delims;
 
@@ -135,11 +135,11 @@ fn append_position(out: &mut Vec<u8>, separator: u8, elem: &ElemFault) -> Result
     )
 }
 
-/// A number in decimal; nothing for 0.
+/// A number in decimal; nothing for `NO_NUMBER`.
 fn number<'a>(digits: &'a mut Buffer, number: u32) -> &'a [u8]
     ensures { result.now ≡ number_text number }
 {
-    if number == 0 {
+    if number == NO_NUMBER {
         &[]
     } else {
         digits.format(number).as_bytes()

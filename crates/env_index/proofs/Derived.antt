@@ -2,10 +2,10 @@
 use Rattle.std.proofs.Common.{◌≡◌, ℕ, ◌+◌, List, [], ◌∷◌, ◌++◌, true, false, ◌||◌, ◌&&◌, Option, Some, None, length, refl, sym, ap, ◌∙◌, arith, append_assoc}
 use Rattle.std.specs.List.{flat_map, list_all}
 use Rattle.x12_segs.specs.View.{SegValue}
-use Rattle.env_index.specs.Kinds.{kind_of}
-use Rattle.env_index.specs.Envelope.{Set, InGroup, ASet, OutOfGroup, Group, InBody, ANotice, AGroup, OutOfBody, Body, option_items, set_items, in_group_items, group_items, in_body_items, ends_set, ends_group, is_inner, is_out_of_group, is_out_of_body, MayFollow, Closed, IsSet, AreMembers, IsGroup, AreBodyMembers, Derives}
-use Rattle.env_index.specs.declared.kind.Kind.{Kind}
-use Rattle.env_index.specs.declared.kind.Kind.TheVariants.{InterchangeTrailer, GroupHeader, GroupTrailer, SetHeader, SetTrailer, Notice, Other}
+use Rattle.x12_segs.specs.Kinds.{kind_of, is_inner}
+use Rattle.env_index.specs.Envelope.{Set, InGroup, ASet, OutOfGroup, Group, InBody, ANotice, AGroup, OutOfBody, Body, option_items, set_items, in_group_items, group_items, in_body_items, ends_set, ends_group, is_out_of_group, is_out_of_body, MayFollow, Closed, IsSet, AreMembers, IsGroup, AreBodyMembers, Derives}
+use Rattle.x12_segs.specs.declared.kind.Kind.{Kind}
+use Rattle.x12_segs.specs.declared.kind.Kind.TheVariants.{InterchangeTrailer, GroupHeader, GroupTrailer, SetHeader, SetTrailer, Notice, Other}
 use Rattle.env_index.specs.declared.entry.SetEnvelope.{SetEnvelope}
 use Rattle.env_index.specs.Summary.{Summary, set_entry, sets_in, group_entry, has_misplaced_in_group, summary_of}
 use Rattle.env_index.proofs.Tails.{GroupTail, SetTail, Tails, left_open, cut_off, no_segments, with_notice, with_misplaced, with_group, with_set, onto_body, onto_group, onto_set, tails, summed}

@@ -7,9 +7,9 @@ use Rattle.x12_segs.specs.Scan.{IsNextPart}
 use Rattle.x12_segs.specs.View.{SegValue}
 use Rattle.x12_segs.specs.declared.part.Part.TheVariants.{Segment, Rest}
 use Rattle.hub_kinds.specs.declared.memory.NoMemory.{NoMemory}
-use Rattle.env_index.specs.Kinds.{kind_of}
-use Rattle.env_index.specs.declared.kind.Kind.{Kind}
-use Rattle.env_index.specs.declared.kind.Kind.TheVariants.{InterchangeTrailer}
+use Rattle.x12_segs.specs.Kinds.{kind_of}
+use Rattle.x12_segs.specs.declared.kind.Kind.{Kind}
+use Rattle.x12_segs.specs.declared.kind.Kind.TheVariants.{InterchangeTrailer}
 use Rattle.env_index.specs.declared.places.BodyPlace.{BodyPlace}
 use Rattle.env_index.specs.Envelope.{Body, Derives}
 use Rattle.env_index.specs.Extents.{Reach, onto_reach, reach_from, ends_interchange}

@@ -3,10 +3,10 @@ use Rattle.std.proofs.Common.{◌≡◌, List, [], ◌∷◌, ◌++◌, Bool, tr
 use Rattle.std.specs.List.{flat_map, list_all}
 use Rattle.std.proofs.lemmas.Bool.{and_parts, both_ways}
 use Rattle.x12_segs.specs.View.{SegValue}
-use Rattle.env_index.specs.Kinds.{kind_of}
-use Rattle.env_index.specs.Envelope.{Set, InGroup, ASet, OutOfGroup, Group, InBody, ANotice, AGroup, OutOfBody, Body, option_items, set_items, in_group_items, group_items, in_body_items, ends_set, ends_group, is_inner, is_out_of_group, is_out_of_body, Closed, IsSet, AreMembers, IsGroup, AreBodyMembers, Derives}
-use Rattle.env_index.specs.declared.kind.Kind.{Kind}
-use Rattle.env_index.specs.declared.kind.Kind.TheVariants.{InterchangeTrailer, GroupHeader, GroupTrailer, SetHeader, SetTrailer, Notice, Other}
+use Rattle.x12_segs.specs.Kinds.{kind_of, is_inner}
+use Rattle.env_index.specs.Envelope.{Set, InGroup, ASet, OutOfGroup, Group, InBody, ANotice, AGroup, OutOfBody, Body, option_items, set_items, in_group_items, group_items, in_body_items, ends_set, ends_group, is_out_of_group, is_out_of_body, Closed, IsSet, AreMembers, IsGroup, AreBodyMembers, Derives}
+use Rattle.x12_segs.specs.declared.kind.Kind.{Kind}
+use Rattle.x12_segs.specs.declared.kind.Kind.TheVariants.{InterchangeTrailer, GroupHeader, GroupTrailer, SetHeader, SetTrailer, Notice, Other}
 
 -- a test that a segment's kind passes is passed by that of an equal one
 apart : (test : Kind → Bool) (x y : SegValue) → x ≡ y → test (kind_of x) ≡ true → test (kind_of y) ≡ false → ⊥

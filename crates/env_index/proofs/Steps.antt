@@ -1,8 +1,8 @@
 -- What has been read of an interchange so far, and what the segments to come make of it.
 use Rattle.std.proofs.Common.{◌≡◌, ◌≢◌, ℕ, ◌+◌, List, [], ◌∷◌, ◌++◌, Bool, true, false, ◌||◌, Option, Some, None, refl, sym, ap, ◌∙◌, arith, append_assoc}
 use Rattle.x12_segs.specs.View.{SegValue}
-use Rattle.env_index.specs.declared.kind.Kind.{Kind}
-use Rattle.env_index.specs.declared.kind.Kind.TheVariants.{InterchangeTrailer, GroupHeader, GroupTrailer, SetHeader, SetTrailer, Notice, Other}
+use Rattle.x12_segs.specs.declared.kind.Kind.{Kind}
+use Rattle.x12_segs.specs.declared.kind.Kind.TheVariants.{InterchangeTrailer, GroupHeader, GroupTrailer, SetHeader, SetTrailer, Notice, Other}
 use Rattle.env_index.specs.declared.entry.SetEnvelope.{SetEnvelope}
 use Rattle.env_index.specs.Summary.{GroupEntry, Summary}
 use Rattle.env_index.specs.Reading.{State, end_set, end_group, end_all, misplace, step, finished, nothing_read}

@@ -2,11 +2,11 @@
 use Rattle.std.proofs.Common.{◌≡◌, List, [], ◌∷◌, ◌++◌, Bool, true, ◌&&◌, Option, Some, None, refl, sym, ap, subst, ◌∙◌, append_assoc}
 use Rattle.std.specs.List.{flat_map, list_all}
 use Rattle.x12_segs.specs.View.{SegValue}
-use Rattle.env_index.specs.Kinds.{kind_of}
+use Rattle.x12_segs.specs.Kinds.{kind_of, is_inner}
 use Rattle.env_index.specs.Extents.{ends_interchange}
-use Rattle.env_index.specs.Envelope.{Set, InGroup, ASet, OutOfGroup, Group, ANotice, AGroup, OutOfBody, Body, option_items, set_items, in_group_items, group_items, in_body_items, body_items, ends_set, ends_group, is_inner, is_out_of_group, is_out_of_body, MayFollow, Closed, IsSet, AreMembers, IsGroup, IsBody, Derives}
-use Rattle.env_index.specs.declared.kind.Kind.{Kind}
-use Rattle.env_index.specs.declared.kind.Kind.TheVariants.{InterchangeTrailer, GroupHeader, GroupTrailer, SetHeader, SetTrailer, Notice, Other}
+use Rattle.env_index.specs.Envelope.{Set, InGroup, ASet, OutOfGroup, Group, ANotice, AGroup, OutOfBody, Body, option_items, set_items, in_group_items, group_items, in_body_items, body_items, ends_set, ends_group, is_out_of_group, is_out_of_body, MayFollow, Closed, IsSet, AreMembers, IsGroup, IsBody, Derives}
+use Rattle.x12_segs.specs.declared.kind.Kind.{Kind}
+use Rattle.x12_segs.specs.declared.kind.Kind.TheVariants.{InterchangeTrailer, GroupHeader, GroupTrailer, SetHeader, SetTrailer, Notice, Other}
 
 -- an IEA is the last
 abbrev pub OnlyLast : List SegValue → Type 0

@@ -8,9 +8,9 @@ use Rattle.x12_segs.specs.Segs.{Seg, seg_at, segs_from, rest_from}
 use Rattle.x12_segs.specs.Scan.{IsNextPart}
 use Rattle.x12_segs.specs.View.{SegValue, view_of}
 use Rattle.x12_segs.specs.declared.part.Part.TheVariants.{Segment, Rest}
-use Rattle.env_index.specs.Kinds.{kind_of}
-use Rattle.env_index.specs.declared.kind.Kind.{Kind}
-use Rattle.env_index.specs.declared.kind.Kind.TheVariants.{InterchangeTrailer, GroupHeader, GroupTrailer, SetHeader, SetTrailer, Notice, Other}
+use Rattle.x12_segs.specs.Kinds.{kind_of}
+use Rattle.x12_segs.specs.declared.kind.Kind.{Kind}
+use Rattle.x12_segs.specs.declared.kind.Kind.TheVariants.{InterchangeTrailer, GroupHeader, GroupTrailer, SetHeader, SetTrailer, Notice, Other}
 use Rattle.env_index.specs.Extents.{Reach, behind, onto_reach, ends_interchange, reach_of, reach_from}
 use Rattle.env_index.proofs.Trees.{OnlyLast}
 

@@ -3,10 +3,10 @@
 use Rattle.std.specs.Prelude.{◌≡◌, List, [], ◌∷◌, ◌++◌, Bool, true, false, Option, Some, None}
 use Rattle.std.specs.List.{flat_map, list_all}
 use Rattle.x12_segs.specs.View.{SegValue}
-use Rattle.env_index.specs.Kinds.{kind_of}
-use Rattle.env_index.specs.declared.kind.Kind.{Kind}
-use Rattle.env_index.specs.declared.kind.Kind.TheVariants.{InterchangeTrailer, GroupHeader, GroupTrailer, SetHeader, SetTrailer}
-use Rattle.env_index.specs.declared.kind.Kind.TheVariants.{Notice, Other}
+use Rattle.x12_segs.specs.Kinds.{kind_of, is_inner}
+use Rattle.x12_segs.specs.declared.kind.Kind.{Kind}
+use Rattle.x12_segs.specs.declared.kind.Kind.TheVariants.{InterchangeTrailer, GroupHeader, GroupTrailer, SetHeader, SetTrailer}
+use Rattle.x12_segs.specs.declared.kind.Kind.TheVariants.{Notice, Other}
 
 -- set = ST inner* SE?
 pub record Set : Type 0 where
@@ -77,16 +77,6 @@ ends_group SetHeader = false
 ends_group SetTrailer = false
 ends_group Notice = false
 ends_group Other = false
-
--- inside a set stands any segment but these and SE
-abbrev pub is_inner : Kind → Bool
-is_inner Notice = true
-is_inner Other = true
-is_inner SetTrailer = false
-is_inner SetHeader = false
-is_inner GroupTrailer = false
-is_inner GroupHeader = false
-is_inner InterchangeTrailer = false
 
 -- in a group outside its sets any but ST, GE, GS and IEA is out of place
 abbrev pub is_out_of_group : Kind → Bool

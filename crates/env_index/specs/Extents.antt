@@ -3,13 +3,14 @@ use Rattle.std.specs.Prelude.{◌≡◌, ℕ, ◌+◌, ◌≤◌, ◌<◌, Bool,
 use Rattle.std.specs.Prelude.{List, [], ◌∷◌, length, drop, map, count_by, slice_range}
 use Rattle.x12_bytes.specs.Header.{header_at, delims_of}
 use Rattle.x12_bytes.specs.HeaderTest.{is_head}
+use Rattle.x12_bytes.specs.declared.layout.TheConstants.{HEADER_LEN}
 use Rattle.x12_bytes.specs.declared.delims.Delims.{Delims}
 use Rattle.x12_segs.specs.Segs.{Seg, segs_from, rest_from}
 use Rattle.x12_segs.specs.View.{SegValue, view_of}
-use Rattle.env_index.specs.Kinds.{kind_of}
-use Rattle.env_index.specs.declared.kind.Kind.{Kind}
-use Rattle.env_index.specs.declared.kind.Kind.TheVariants.{InterchangeTrailer, GroupHeader, GroupTrailer, SetHeader, SetTrailer}
-use Rattle.env_index.specs.declared.kind.Kind.TheVariants.{Notice, Other}
+use Rattle.x12_segs.specs.Kinds.{kind_of}
+use Rattle.x12_segs.specs.declared.kind.Kind.{Kind}
+use Rattle.x12_segs.specs.declared.kind.Kind.TheVariants.{InterchangeTrailer, GroupHeader, GroupTrailer, SetHeader, SetTrailer}
+use Rattle.x12_segs.specs.declared.kind.Kind.TheVariants.{Notice, Other}
 
 -- the segments of an interchange behind its header, and where it ends
 pub record Reach : Type 0 where
@@ -48,7 +49,7 @@ reach_from text delims from =
 
 -- the interchange whose header begins at an offset
 abbrev pub reach_at : List ℕ → ℕ → Reach
-reach_at text start = reach_from text (delims_of (header_at text start)) (start + 106)
+reach_at text start = reach_from text (delims_of (header_at text start)) (start + HEADER_LEN)
 
 -- the least header at or behind an offset
 pub record IsNextHead (text : List ℕ) (from start : ℕ) : Type 0 where

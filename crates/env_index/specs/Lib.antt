@@ -2,7 +2,6 @@ pub mod Envelope
 pub mod Extents
 pub mod Faults
 pub mod Interchange
-pub mod Kinds
 pub mod Lone
 pub mod Places
 pub mod Reading

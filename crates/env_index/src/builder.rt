@@ -1,10 +1,10 @@
 ghost use Rattle.std.specs.Prelude.{◌≤◌};
 
-use crate::kind::Kind;
 use crate::places::{BodyPlace, GroupPlace, SetPlace, Stretch};
 use hub_kinds::NoMemory;
 use std::alloc::Global;
 use std::mem;
+use x12_segs::Kind;
 
 /// What has been read of an interchange so far.
 #[derive(Drop)]

@@ -8,7 +8,7 @@ impl Builder {
     ghost use Rattle.x12_bytes.specs.declared.delims.Delims.{Delims};
     ghost use Rattle.env_index.specs.Places.{seg_in};
     ghost use Rattle.env_index.specs.Reading.{step, state_of};
-    ghost use Rattle.env_index.specs.declared.kind.Kind.TheVariants.{GroupHeader, GroupTrailer, SetHeader, SetTrailer, Notice, Other};
+    ghost use Rattle.x12_segs.specs.declared.kind.Kind.TheVariants.{GroupHeader, GroupTrailer, SetHeader, SetTrailer, Notice, Other};
 
     /// Takes a GS: all that is open ends, and a group begins.
     pub(crate) fn open_group(&mut self, alloc: Global, header: Stretch) -> Result<(), NoMemory>

@@ -10,7 +10,6 @@
 //!   space around it;
 //! - `judge` answers the least of an interchange's faults 1 to 7, and none exactly where it has
 //!   none;
-//! - `kind_of` tells a segment's kind by its id;
 //! - the segments of each interchange derive a tree (`envelope_is_there`), and only one
 //!   (`envelope_is_one`); a text has one chain of interchanges at most (`chain_is_one`).
 //!
@@ -31,7 +30,6 @@ mod entry;
 mod envelopes;
 mod faults;
 mod interchange;
-mod kind;
 mod laws;
 mod lone;
 mod places;
@@ -42,7 +40,6 @@ mod walk;
 pub use entry::SetEnvelope;
 pub use faults::judge;
 pub use interchange::{GroupEnvelope, Interchange};
-pub use kind::{Kind, kind_of};
 pub use laws::{chain_is_one, envelope_is_one, envelope_is_there};
 pub use lone::read_lone;
 pub use read::read_interchange;

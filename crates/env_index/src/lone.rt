@@ -1,5 +1,6 @@
-ghost use Rattle.std.specs.Prelude.{◌≡◌, ◌<◌, ◌≤◌, ◌^◌, IfOk, IfSome, MatchOption, length};
+ghost use Rattle.std.specs.Prelude.{◌≡◌, ◌≤◌, IfOk, IfSome, MatchOption, length};
 ghost use Rattle.std.specs.List.{prefix_len};
+ghost use Rattle.hub_kinds.specs.declared.limits.TheConstants.{LONGEST_TEXT};
 ghost use Rattle.env_index.specs.Envelope.{Body, Derives};
 ghost use Rattle.env_index.specs.Extents.{Extent, is_filler, reach_at};
 ghost use Rattle.env_index.specs.Interchange.{interchange_of};
@@ -13,9 +14,9 @@ use std::alloc::Global;
 /// The interchange that a text is, where it is exactly one, with nothing but CR, LF and space
 /// before and behind it; none for any other text (X12.5, interchange; the bytes around it are own).
 ///
-/// The text is shorter than 2^32 bytes. The only error is want of memory.
+/// The text has at most `LONGEST_TEXT` bytes. The only error is want of memory.
 pub fn read_lone<'a>(alloc: Global, text: &'a [u8]) -> Result<Option<Interchange<'a>>, NoMemory>
-    requires { length text.now < 2 ^ 32 }
+    requires { length text.now ≤ LONGEST_TEXT }
     ensures lone { IfOk result
         (λ found. MatchOption found
         ((x : Extent) → IsLone text.entry.now x → ⊥)

@@ -1,4 +1,5 @@
-ghost use Rattle.std.specs.Prelude.{◌≡◌, ◌<◌, ◌≤◌, ◌^◌, IfOk, IfSome, is_some, length};
+ghost use Rattle.std.specs.Prelude.{◌≡◌, ◌≤◌, IfOk, IfSome, is_some, length};
+ghost use Rattle.hub_kinds.specs.declared.limits.TheConstants.{LONGEST_TEXT};
 ghost use Rattle.x12_bytes.specs.HeaderTest.{is_head};
 ghost use Rattle.env_index.specs.Envelope.{Body, Derives};
 ghost use Rattle.env_index.specs.Extents.{reach_at};
@@ -14,14 +15,14 @@ use x12_bytes::{HEADER_LEN, read_header};
 /// there. It ends behind the terminator of its IEA; without one at the next segment that begins at
 /// a header, or at the text's end. What follows its end is not read (X12.5, interchange).
 ///
-/// The text is shorter than 2^32 bytes, since places are kept in 32 bits; offsets count its bytes
+/// The text has at most `LONGEST_TEXT` bytes, since places are kept in 32 bits; offsets count its bytes
 /// from 0. The only error is want of memory.
 pub fn read_interchange<'a>(
     alloc: Global,
     text: &'a [u8],
     start: usize,
 ) -> Result<Option<Interchange<'a>>, NoMemory>
-    requires { length text.now < 2 ^ 32 }
+    requires { length text.now ≤ LONGEST_TEXT }
     ensures found { IfOk result (λ found. is_some found ≡ is_head text.entry.now start) }
     ensures within { IfOk result (λ found. IfSome found (λ x. x.end ≤ length text.entry.now)) }
     ensures tree { IfOk result

@@ -1,4 +1,6 @@
-ghost use Rattle.std.specs.Prelude.{◌≡◌, ◌<◌, ◌≤◌, ◌^◌, IfOk, length, if◌then◌else◌};
+ghost use Rattle.std.specs.Prelude.{◌≡◌, ◌≤◌, IfOk, length, if◌then◌else◌};
+ghost use Rattle.hub_kinds.specs.declared.limits.TheConstants.{LONGEST_TEXT};
+ghost use Rattle.x12_bytes.specs.declared.layout.TheConstants.{HEADER_LEN};
 ghost use Rattle.x12_bytes.specs.HeaderTest.{is_head};
 ghost use Rattle.env_index.specs.Envelope.{Body, Derives};
 ghost use Rattle.env_index.specs.Extents.{reach_from};
@@ -6,12 +8,11 @@ ghost use Rattle.env_index.specs.Places.{body_in};
 ghost use Rattle.env_index.specs.Summary.{summary_of};
 
 use crate::builder::Builder;
-use crate::kind::{Kind, kind_of};
 use crate::places::{BodyPlace, Stretch};
 use hub_kinds::NoMemory;
 use std::alloc::Global;
 use x12_bytes::{Delims, read_header};
-use x12_segs::{Part, SegView, next_part};
+use x12_segs::{Kind, Part, SegView, kind_of, next_part};
 
 /// Reads what an interchange has behind its header, from the offset `from` to its end. Of each part,
 /// whether it begins at a header is asked first.
@@ -21,9 +22,9 @@ pub(crate) fn read_body(
     from: usize,
     delims: Delims,
 ) -> Result<BodyPlace, NoMemory>
-    requires header { 106 ≤ from }
+    requires header { HEADER_LEN ≤ from }
     requires within { from ≤ length text.now }
-    requires few { length text.now < 2 ^ 32 }
+    requires few { length text.now ≤ LONGEST_TEXT }
     ensures within { IfOk result (λ body. body.end ≤ length text.now) }
     ensures end { IfOk result (λ body. body.end ≡ (reach_from text.now delims from).end) }
     ensures only { IfOk result

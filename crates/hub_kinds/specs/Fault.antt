@@ -2,11 +2,12 @@
 use Rattle.std.specs.Prelude.{ℕ, List, [], ◌∷◌, Option, Some, None}
 use Rattle.hub_kinds.specs.declared.fault.Fault.{Fault}
 use Rattle.hub_kinds.specs.declared.fault.ElemFault.{ElemFault}
+use Rattle.hub_kinds.specs.declared.fault.TheConstants.{NO_NUMBER}
 use Rattle.hub_kinds.specs.Codes.{segment_rank, element_rank}
 
 -- what the element's part adds to the key
 abbrev pub elem_key : Option ElemFault → List ℕ
-elem_key None = 0 ∷ 0 ∷ 0 ∷ 0 ∷ []
+elem_key None = NO_NUMBER ∷ NO_NUMBER ∷ NO_NUMBER ∷ 0 ∷ []
 elem_key (Some e) = e.element ∷ e.component ∷ e.repetition ∷ element_rank e.code ∷ []
 
 -- faults are ordered by position, segment code, slot, element, component, repetition and element code

@@ -2,5 +2,6 @@ pub mod Codes
 pub mod Fault
 pub mod Interchange
 pub mod Numbers
+pub mod Place
 pub mod SetCodes
 pub mod Words

@@ -1,13 +1,19 @@
-ghost use Rattle.std.specs.Prelude.{◌≡◌, ℕ, List};
+ghost use Rattle.std.specs.Prelude.{◌≡◌, ◌↔◌, ℕ, List, Some};
+ghost use Rattle.std.specs.List.{find};
+ghost use Rattle.std.specs.Str.{bytes_eq};
 
 /// A code that is written as a short text: of the acknowledgment (999 guide) or the hub's own.
-pub trait Code: Copy {
+pub trait Code: Copy + 'static {
     /// Its text.
     ghost text: { Self → List ℕ };
 
     /// Its text.
     fn text(self) -> &'static str
         ensures { result.now ≡ text self };
+
+    /// The codes: each is the first of them that has its text.
+    fn all() -> &'static [Self]
+        ensures { (code : Self) → find (λ other. bytes_eq (text other) (text code)) result.now ≡ Some code };
 }
 
 /// The text of a code, as it is written: ASCII letters and digits, without padding.
@@ -15,6 +21,18 @@ pub fn code_text<C: Code>(code: C) -> &'static str
     ensures { result.now ≡ C.text code }
 {
     code.text()
+}
+
+/// The code that is written as this text; none where no code is.
+pub fn code_of<C: Code>(text: &[u8]) -> Option<C>
+    ensures { (code : C) → (result ≡ Some code) ↔ (text.now ≡ C.text code) }
+{
+    for code in C::all() {
+        if code.text().as_bytes() == text {
+            return Some(*code);
+        }
+    }
+    None
 }
 
 /// What is wrong with a segment: implementation segment syntax error code (999 guide, IK304).
@@ -109,6 +127,24 @@ impl Code for SegmentCode {
             SegmentCode::DependentNotUsedPresent => "I9",
         }
     }
+
+    fn all() -> &'static [SegmentCode] {
+        &[
+            SegmentCode::UnrecognizedSegment,
+            SegmentCode::UnexpectedSegment,
+            SegmentCode::RequiredSegmentMissing,
+            SegmentCode::LoopTooOften,
+            SegmentCode::SegmentTooOften,
+            SegmentCode::NotInSet,
+            SegmentCode::OutOfSequence,
+            SegmentCode::ElementErrors,
+            SegmentCode::NotUsedPresent,
+            SegmentCode::DependentMissing,
+            SegmentCode::LoopTooSeldom,
+            SegmentCode::SegmentTooSeldom,
+            SegmentCode::DependentNotUsedPresent,
+        ]
+    }
 }
 
 impl Code for ElementCode {
@@ -136,5 +172,27 @@ impl Code for ElementCode {
             ElementCode::PatternFailure => "I12",
             ElementCode::DependentNotUsedPresent => "I13",
         }
+    }
+
+    fn all() -> &'static [ElementCode] {
+        &[
+            ElementCode::RequiredMissing,
+            ElementCode::ConditionalMissing,
+            ElementCode::TooManyElements,
+            ElementCode::TooShort,
+            ElementCode::TooLong,
+            ElementCode::InvalidCharacter,
+            ElementCode::InvalidCode,
+            ElementCode::InvalidDate,
+            ElementCode::InvalidTime,
+            ElementCode::ExclusionViolated,
+            ElementCode::TooManyRepetitions,
+            ElementCode::TooManyComponents,
+            ElementCode::CodeNotUsed,
+            ElementCode::DependentMissing,
+            ElementCode::NotUsedPresent,
+            ElementCode::PatternFailure,
+            ElementCode::DependentNotUsedPresent,
+        ]
     }
 }

@@ -8,18 +8,21 @@ use crate::codes::{ElementCode, SegmentCode};
 use crate::items::Text;
 use std::cmp::Ordering;
 
+/// The number of a component or a repetition that is not shown, and of a slot that is none.
+pub const NO_NUMBER: u32 = 0;
+
 /// A fault of a transaction set, as a segment or a missing segment shows it (999 guide, IK3).
 #[derive(Debug, Drop)]
 pub struct Fault {
-    /// The segment's number in the set, ST being 1.
-    pub position: u32,
+    /// The segment's number in the set, ST being 1; in 64 bits, so that it bounds no set.
+    pub position: u64,
     /// The segment's id.
     pub id: Text,
     /// The id of the innermost loop; empty where there is none.
     pub loop_id: Text,
     /// What is wrong with the segment.
     pub code: SegmentCode,
-    /// The number of the guide's slot; 0 for a stray.
+    /// The number of the guide's slot; `NO_NUMBER` for a stray.
     pub slot: u32,
     /// What is wrong with an element of it, under the code of element errors.
     pub elem: Option<ElemFault>,
@@ -30,9 +33,9 @@ pub struct Fault {
 pub struct ElemFault {
     /// The element's number in the segment, from 1.
     pub element: u32,
-    /// The component's number in the element, from 1; 0 where none is shown.
+    /// The component's number in the element, from 1; `NO_NUMBER` where none is shown.
     pub component: u32,
-    /// The repetition's number, from 1; 0 where none is shown.
+    /// The repetition's number, from 1; `NO_NUMBER` where none is shown.
     pub repetition: u32,
     /// What is wrong with the element.
     pub code: ElementCode,
@@ -50,22 +53,22 @@ pub fn fault_order(a: &Fault, b: &Fault) -> Ordering
     key(a).cmp(&key(b))
 }
 
-fn key(fault: &Fault) -> [u32; 7]
+fn key(fault: &Fault) -> [u64; 7]
     ensures { result ≡ key_of fault.now }
 {
     let (element, component, repetition, code) = match &fault.elem {
         None => (0, 0, 0, 0),
         Some(elem) => (
-            elem.element,
-            elem.component,
-            elem.repetition,
+            u64::from(elem.element),
+            u64::from(elem.component),
+            u64::from(elem.repetition),
             element_rank(elem.code),
         ),
     };
     [
         fault.position,
         segment_rank(fault.code),
-        fault.slot,
+        u64::from(fault.slot),
         element,
         component,
         repetition,
@@ -73,14 +76,14 @@ fn key(fault: &Fault) -> [u32; 7]
     ]
 }
 
-fn segment_rank(code: SegmentCode) -> u32
+fn segment_rank(code: SegmentCode) -> u64
     ensures { result ≡ segment_rank code }
 {
-    code as u32
+    code as u64
 }
 
-fn element_rank(code: ElementCode) -> u32
+fn element_rank(code: ElementCode) -> u64
     ensures { result ≡ element_rank code }
 {
-    code as u32
+    code as u64
 }

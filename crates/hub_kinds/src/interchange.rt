@@ -1,8 +1,13 @@
+ghost use Rattle.std.specs.Prelude.{◌≡◌};
+ghost use Rattle.std.specs.Ordering.{nat_cmp};
+ghost use Rattle.hub_kinds.specs.Interchange.{fault_rank};
+
 use crate::codes::Code;
+use std::cmp::Ordering;
 
 /// Why an interchange is refused, the least number first (own numbers; X12.5, interchange control, and X12.6,
 /// functional group and transaction set headers).
-#[derive(Clone, Copy, Debug, PartialEq, Eq, PartialOrd, Ord)]
+#[derive(Clone, Copy, Debug, PartialEq, Eq)]
 pub enum InterchangeFault {
     /// `1`: no IEA.
     TrailerMissing,
@@ -24,6 +29,19 @@ pub enum InterchangeFault {
     Duplicate,
 }
 
+/// Which of two faults is reported where both are there: the one with the lower number comes first.
+pub fn interchange_fault_order(a: InterchangeFault, b: InterchangeFault) -> Ordering
+    ensures { result ≡ nat_cmp (fault_rank a) (fault_rank b) }
+{
+    rank(a).cmp(&rank(b))
+}
+
+fn rank(fault: InterchangeFault) -> u32
+    ensures { result ≡ fault_rank fault }
+{
+    fault as u32 + 1
+}
+
 impl Code for InterchangeFault {
     ghost use Rattle.hub_kinds.specs.Interchange.{fault_text};
 
@@ -41,5 +59,19 @@ impl Code for InterchangeFault {
             InterchangeFault::SenderUnknown => "8",
             InterchangeFault::Duplicate => "9",
         }
+    }
+
+    fn all() -> &'static [InterchangeFault] {
+        &[
+            InterchangeFault::TrailerMissing,
+            InterchangeFault::ControlNumberInvalid,
+            InterchangeFault::ControlNumbersDiffer,
+            InterchangeFault::GroupCountWrong,
+            InterchangeFault::SegmentMisplaced,
+            InterchangeFault::GroupHeaderInvalid,
+            InterchangeFault::SetHeaderInvalid,
+            InterchangeFault::SenderUnknown,
+            InterchangeFault::Duplicate,
+        ]
     }
 }

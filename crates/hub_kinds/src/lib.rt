@@ -3,8 +3,11 @@
 //! reads of a group and of a set, and small types over lists and lent bytes.
 //!
 //! Proved:
-//! - `code_text` gives the text of each code;
-//! - `fault_order` is the order of the faults' keys, by their numbers from first to last;
+//! - `code_text` gives the text of each code, and `code_of` the code of each of these texts and of
+//!   no other;
+//! - `fault_order` and `place_order` are the orders of the keys, by their numbers from first to last,
+//!   and `interchange_fault_order` that of the faults' numbers;
+//! - `within_limit` is the test of a text's length;
 //! - `read_number` reads exactly the numbers of 1 to so many digits, and `is_alphanumeric` is
 //!   exact;
 //! - `Items` and `Lent` are the list and the bytes that they were made from.
@@ -25,18 +28,22 @@ mod fault;
 mod interchange;
 mod items;
 mod lent;
+mod limits;
 mod memory;
 mod numbers;
 mod place;
 mod set_codes;
 
 pub use answers::{GroupAnswer, SetAnswer};
-pub use codes::{Code, ElementCode, SegmentCode, code_text};
-pub use fault::{ElemFault, Fault, fault_order};
-pub use interchange::InterchangeFault;
+pub use codes::{Code, ElementCode, SegmentCode, code_of, code_text};
+pub use fault::{ElemFault, Fault, NO_NUMBER, fault_order};
+pub use interchange::{InterchangeFault, interchange_fault_order};
 pub use items::{Items, Text, Texts};
 pub use lent::Lent;
+pub use limits::{
+    LONGEST_TEXT, MOST_COMPONENTS, MOST_ELEMENTS, MOST_NODES, MOST_REPEATS, within_limit,
+};
 pub use memory::NoMemory;
 pub use numbers::{is_alphanumeric, read_number};
-pub use place::Place;
+pub use place::{Place, place_order};
 pub use set_codes::{GroupCode, GroupVerdict, SetCode, Verdict};

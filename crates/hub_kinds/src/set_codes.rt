@@ -84,6 +84,20 @@ impl Code for SetCode {
             SetCode::ConventionNotSupported => "I6",
         }
     }
+
+    fn all() -> &'static [SetCode] {
+        &[
+            SetCode::SegmentsInError,
+            SetCode::ImplementationSegmentsInError,
+            SetCode::NotSupported,
+            SetCode::TrailerMissing,
+            SetCode::ControlNumbersDiffer,
+            SetCode::SegmentCountWrong,
+            SetCode::ControlNumberInvalid,
+            SetCode::ControlNumberNotUnique,
+            SetCode::ConventionNotSupported,
+        ]
+    }
 }
 
 impl Code for GroupCode {
@@ -101,6 +115,17 @@ impl Code for GroupCode {
             GroupCode::ControlNumberNotUnique => "19",
         }
     }
+
+    fn all() -> &'static [GroupCode] {
+        &[
+            GroupCode::NotSupported,
+            GroupCode::VersionNotSupported,
+            GroupCode::TrailerMissing,
+            GroupCode::ControlNumbersDiffer,
+            GroupCode::SetCountWrong,
+            GroupCode::ControlNumberNotUnique,
+        ]
+    }
 }
 
 impl Code for Verdict {
@@ -114,6 +139,14 @@ impl Code for Verdict {
             Verdict::AcceptedWithErrors => "E",
             Verdict::Rejected => "R",
         }
+    }
+
+    fn all() -> &'static [Verdict] {
+        &[
+            Verdict::Accepted,
+            Verdict::AcceptedWithErrors,
+            Verdict::Rejected,
+        ]
     }
 }
 
@@ -129,5 +162,14 @@ impl Code for GroupVerdict {
             GroupVerdict::PartlyAccepted => "P",
             GroupVerdict::Rejected => "R",
         }
+    }
+
+    fn all() -> &'static [GroupVerdict] {
+        &[
+            GroupVerdict::Accepted,
+            GroupVerdict::AcceptedWithErrors,
+            GroupVerdict::PartlyAccepted,
+            GroupVerdict::Rejected,
+        ]
     }
 }

@@ -17,7 +17,7 @@ pub const DELIMS: Delims = Delims {
 /// A fault, with texts that own no memory, so that a test holds nothing that it has to let go.
 #[derive(Clone, Copy)]
 pub struct FaultRow<'a> {
-    pub position: u32,
+    pub position: u64,
     pub id: &'a [u8],
     pub loop_id: &'a [u8],
     pub code: SegmentCode,

@@ -1,40 +1,11 @@
 //! Interchanges, their groups and their sets: where each ends, and what the index keeps of it.
 use crate::texts::{HEADER, HEADER_AS_A_SEGMENT, HEADER_IN_AN_ELEMENT, ORDER, joined, read};
 use env_index::{
-    GroupEnvelope, Interchange, Kind, SetEnvelope, chain_is_one, envelope_is_one,
-    envelope_is_there, judge, kind_of, read_interchange, read_lone,
+    GroupEnvelope, Interchange, SetEnvelope, chain_is_one, envelope_is_one,
+    envelope_is_there, judge, read_interchange, read_lone,
 };
 use hub_kinds::InterchangeFault;
 use std::test::Fail;
-use x12_bytes::Delims;
-use x12_segs::SegView;
-
-const DELIMS: Delims = Delims {
-    element: b'*',
-    component: b'>',
-    repetition: None,
-    terminator: b'~',
-};
-
-/// A segment, and its kind.
-const KINDS: &[(&[u8], Kind)] = &[
-    (b"IEA*1*7", Kind::InterchangeTrailer),
-    (b"GS", Kind::GroupHeader),
-    (b"GE*1", Kind::GroupTrailer),
-    (b"ST*850", Kind::SetHeader),
-    (b"SE*", Kind::SetTrailer),
-    (b"TA1*1", Kind::Notice),
-    (b"ISA*00", Kind::Other),
-    (b"ST>850", Kind::Other),
-    (b"", Kind::Other),
-];
-
-#[test]
-fn tells_segments_by_their_ids(rt: HostRuntime) {
-    for (bytes, kind) in KINDS {
-        assert_eq!(rt; kind_of(&SegView::new(0, bytes, DELIMS)), *kind);
-    }
-}
 
 /// A group of an interchange, counted from 0.
 fn group<'a>(found: &'a Interchange<'_>, index: usize) -> Result<GroupEnvelope<'a>, Fail> {

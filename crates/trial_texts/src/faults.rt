@@ -6,7 +6,7 @@ use std::test::Fail;
 
 /// A fault that is shown by its numbers, the segment's id and the copy.
 struct Row {
-    position: u32,
+    position: u64,
     id: &'static [u8],
     code: SegmentCode,
     element: Option<u32>,

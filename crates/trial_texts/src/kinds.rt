@@ -1,7 +1,7 @@
 //! Numbers and words, the texts of codes, and lists that are given back.
 use hub_kinds::{
     Code, ElementCode, GroupCode, GroupVerdict, InterchangeFault, Items, Lent, SegmentCode,
-    SetCode, Verdict, code_text, is_alphanumeric, read_number,
+    SetCode, Verdict, code_of, code_text, is_alphanumeric, read_number,
 };
 use std::process::Abort;
 use std::test::Fail;
@@ -43,13 +43,14 @@ fn tells_letters_and_digits(rt: HostRuntime) {
     }
 }
 
-/// This is the text of the code.
-fn writes<R: Abort, C: Code>(rt: &R, code: C, text: &str) {
+/// This is the text of the code, and the code is read back from it.
+fn writes<R: Abort, C: Code + PartialEq>(rt: &R, code: C, text: &str) {
     assert_eq!(rt; code_text(code), text);
+    assert!(rt; code_of(text.as_bytes()) == Some(code));
 }
 
 #[test]
-fn writes_codes(rt: HostRuntime) {
+fn writes_codes_and_reads_them_back(rt: HostRuntime) {
     writes(&rt, SegmentCode::LoopTooOften, "4");
     writes(&rt, ElementCode::TooManyRepetitions, "12");
     writes(&rt, SetCode::ControlNumberNotUnique, "23");
@@ -57,7 +58,16 @@ fn writes_codes(rt: HostRuntime) {
     writes(&rt, GroupVerdict::PartlyAccepted, "P");
     writes(&rt, GroupCode::ControlNumberNotUnique, "19");
     writes(&rt, InterchangeFault::SenderUnknown, "8");
-    assert!(rt; InterchangeFault::TrailerMissing < InterchangeFault::Duplicate);
+}
+
+/// Texts that no segment code has.
+const NO_CODES: &[&[u8]] = &[b"", b"9", b"08", b"i4", b"I44"];
+
+#[test]
+fn reads_no_other_text_as_a_code(rt: HostRuntime) {
+    for text in NO_CODES {
+        assert!(rt; code_of::<SegmentCode>(text).is_none());
+    }
 }
 
 #[test]

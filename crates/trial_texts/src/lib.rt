@@ -12,4 +12,6 @@ mod headers;
 #[cfg(test)]
 mod kinds;
 #[cfg(test)]
+mod orders;
+#[cfg(test)]
 mod segments;

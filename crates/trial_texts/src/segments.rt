@@ -3,7 +3,8 @@ use std::process::Abort;
 use std::test::Fail;
 use x12_bytes::{Delims, read_header};
 use x12_segs::{
-    Part, Parts, SegView, components, lead, next_part, occurrences, runs_stand_alone, segments,
+    Kind, Part, Parts, SegView, SetSpan, components, kind_of, lead, next_part, occurrences,
+    runs_stand_alone, segments,
 };
 
 const ORDER: &[u8] =
@@ -146,4 +147,51 @@ fn without_a_repetition_separator_an_element_occurs_once(rt: HostRuntime) {
     };
     gives(&rt, occurrences(b"1^2>3", delims), &[b"1^2>3"]);
     gives(&rt, components(b"1^2>3", delims), &[b"1^2", b"3"]);
+}
+
+/// A segment, and its kind.
+const KINDS: &[(&[u8], Kind)] = &[
+    (b"IEA*1*7", Kind::InterchangeTrailer),
+    (b"GS", Kind::GroupHeader),
+    (b"GE*1", Kind::GroupTrailer),
+    (b"ST*850", Kind::SetHeader),
+    (b"SE*", Kind::SetTrailer),
+    (b"TA1*1", Kind::Notice),
+    (b"ISA*00", Kind::Other),
+    (b"ST>850", Kind::Other),
+    (b"", Kind::Other),
+];
+
+#[test]
+fn tells_segments_by_their_ids(rt: HostRuntime) {
+    for (bytes, kind) in KINDS {
+        assert_eq!(rt; kind_of(&SegView::new(0, bytes, DELIMS)), *kind);
+    }
+}
+
+/// The segments of the order's set, and where they begin in the text.
+const SET: &[(&[u8], usize)] = &[
+    (b"ST*850*0001", 148),
+    (b"BEG*00*SA*PO100**20260228", 160),
+    (b"PO1*1*5*EA*2.50", 186),
+    (b"SE*4*0001", 202),
+];
+
+#[test]
+fn reads_the_segments_of_a_span(rt: HostRuntime) -> Result<(), Fail> {
+    let span = SetSpan {
+        start: 148,
+        end: 212,
+        delims: DELIMS,
+        closed: true,
+    };
+    assert!(rt; span.end <= ORDER.len());
+    let mut left = span.segments(ORDER);
+    for (bytes, start) in SET {
+        let segment = left.next().ok_or("no segment")?;
+        assert_eq!(rt; segment.bytes(), *bytes);
+        assert_eq!(rt; segment.start(), *start);
+    }
+    assert!(rt; left.next().is_none());
+    Ok(())
 }

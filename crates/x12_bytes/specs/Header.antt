@@ -2,6 +2,7 @@
 use Rattle.std.specs.Prelude.{ℕ, ◌≡◌, ◌≢◌, ◌+◌, ◌-◌, ◌≤◌, ◌==◌, not, ◌&&◌, ◌||◌, if◌then◌else◌, Option, Some, None, List, [], ◌∷◌, length, take, slice_index, slice_range, codes, All, IsTrue}
 use Rattle.x12_bytes.specs.Bytes.{may_terminate, may_separate}
 use Rattle.x12_bytes.specs.declared.delims.Delims.{Delims}
+use Rattle.x12_bytes.specs.declared.layout.TheConstants.{HEADER_LEN}
 
 -- where the element separator stands: before each of ISA01 to ISA16
 abbrev pub separator_places : List ℕ
@@ -63,7 +64,7 @@ HasFields header = (k : ℕ) → 1 ≤ k → k ≤ 16 → IsFieldAt header k
 
 -- these bytes are a header
 pub record IsHeader (header : List ℕ) : Type 0 where
-  pub len : length header ≡ 106
+  pub len : length header ≡ HEADER_LEN
   pub isa : take 3 header ≡ codes "ISA"
   pub element_not_component : element_of header ≢ component_of header
   pub element_not_terminator : element_of header ≢ terminator_of header
@@ -75,8 +76,8 @@ pub record IsHeader (header : List ℕ) : Type 0 where
 
 -- the bytes of a header that begins at this place of the text
 abbrev pub header_at : List ℕ → ℕ → List ℕ
-header_at text at = slice_range text at (at + 106)
+header_at text at = slice_range text at (at + HEADER_LEN)
 
 -- a header begins at this place of the text
 abbrev pub Head : List ℕ → ℕ → Type 0
-Head text at = (at + 106 ≤ length text) × IsHeader (header_at text at)
+Head text at = (at + HEADER_LEN ≤ length text) × IsHeader (header_at text at)

@@ -4,6 +4,7 @@ use Rattle.std.specs.List.{list_all}
 use Rattle.std.specs.Str.{bytes_eq}
 use Rattle.x12_bytes.specs.Bytes.{may_terminate, may_separate}
 use Rattle.x12_bytes.specs.Header.{element_of, component_of, terminator_of, field_of, separator_place, header_at}
+use Rattle.x12_bytes.specs.declared.layout.TheConstants.{HEADER_LEN}
 
 -- a byte may stand in a field
 abbrev pub is_field_byte : List ℕ → ℕ → Bool
@@ -26,8 +27,8 @@ has_delims header =
 
 -- whether these bytes are a header
 unfoldable pub is_header : List ℕ → Bool
-is_header header = (length header == 106) && (bytes_eq (take 3 header) (codes "ISA") && (has_delims header && has_fields header 16))
+is_header header = (length header == HEADER_LEN) && (bytes_eq (take 3 header) (codes "ISA") && (has_delims header && has_fields header 16))
 
 -- whether a header begins at this place of the text
 abbrev pub is_head : List ℕ → ℕ → Bool
-is_head text at = nat_le (at + 106) (length text) && is_header (header_at text at)
+is_head text at = nat_le (at + HEADER_LEN) (length text) && is_header (header_at text at)

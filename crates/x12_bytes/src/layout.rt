@@ -1,6 +1,7 @@
 //! Where the parts of a header stand.
 ghost use Rattle.std.specs.Prelude.{◌≡◌, ◌≤◌, length};
 ghost use Rattle.x12_bytes.specs.Header.{separator_place, field_of, width_of};
+ghost use Rattle.x12_bytes.specs.declared.layout.TheConstants.{HEADER_LEN};
 
 /// The length of a header in bytes, its terminator included.
 pub const HEADER_LEN: usize = 106;
@@ -43,7 +44,7 @@ pub fn separator_place(k: usize) -> usize
 
 /// Field `k` of a header's bytes.
 pub fn field(bytes: &[u8], k: usize) -> &[u8]
-    requires len { length bytes.now ≡ 106 }
+    requires len { length bytes.now ≡ HEADER_LEN }
     requires from { 1 ≤ k }
     requires to { k ≤ 16 }
     ensures value { result.now ≡ field_of bytes.now k }

@@ -1,6 +1,7 @@
 ghost use Rattle.std.specs.Prelude.{◌≡◌, ◌↔◌, ◌≤◌, ℕ, List, IsSome, IfSome, IsTrue, is_some, length};
 ghost use Rattle.x12_bytes.specs.Header.{Head, HasFields, IsFieldAt, IsHeader, header_at};
 ghost use Rattle.x12_bytes.specs.HeaderTest.{is_head};
+ghost use Rattle.x12_bytes.specs.declared.layout.TheConstants.{HEADER_LEN};
 
 use crate::bytes;
 use crate::header::Header;
@@ -30,7 +31,7 @@ pub fn head_is_tested()
 {}
 
 fn is_header(bytes: &[u8]) -> bool
-    requires { length bytes.now ≡ 106 }
+    requires { length bytes.now ≡ HEADER_LEN }
     ensures { IsTrue result ↔ IsHeader bytes.now }
 {
     let element = bytes[ELEMENT];
@@ -48,7 +49,7 @@ fn is_header(bytes: &[u8]) -> bool
 
 /// Whether each field stands behind a separator and holds no delimiter, asked from left to right.
 fn has_fields(bytes: &[u8]) -> bool
-    requires { length bytes.now ≡ 106 }
+    requires { length bytes.now ≡ HEADER_LEN }
     ensures { IsTrue result ↔ HasFields bytes.now }
 {
     for k in 1..17 {
@@ -60,7 +61,7 @@ fn has_fields(bytes: &[u8]) -> bool
 }
 
 fn is_field_at(bytes: &[u8], k: usize) -> bool
-    requires len { length bytes.now ≡ 106 }
+    requires len { length bytes.now ≡ HEADER_LEN }
     requires from { 1 ≤ k }
     requires to { k ≤ 16 }
     ensures { IsTrue result ↔ IsFieldAt bytes.now k }

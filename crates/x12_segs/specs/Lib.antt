@@ -1,5 +1,7 @@
+pub mod Kinds
 pub mod Parts
 pub mod Runs
 pub mod Scan
 pub mod Segs
+pub mod Spans
 pub mod View

@@ -8,9 +8,11 @@
 //! - `next_part` gives the first segment from an offset on, and where there is none the rest;
 //! - id, elements, occurrences and components are exactly the texts between the separators, one by
 //!   one and by number; one that isn't there is the empty text;
-//! - a run of segments, cut out of its text, reads as the same run.
+//! - a run of segments, cut out of its text, reads as the same run;
+//! - `kind_of` tells a segment's kind by its id, and a span of the text lends just its segments.
 //!
-//! X12.6, data segment, data element and their separators.
+//! X12.6, data segment, data element and their separators, control segments, transaction set; X12.5,
+//! interchange control segments.
 //!
 //! As its trial, the crate `trial_texts`, calls it:
 //!
@@ -21,6 +23,7 @@
 #![tactic(auto)]
 
 mod divide;
+mod kind;
 mod lend;
 mod line_ends;
 mod part;
@@ -32,6 +35,7 @@ mod set_span;
 mod view;
 
 pub use divide::{components, occurrences};
+pub use kind::{Kind, kind_of};
 pub use lend::segments;
 pub use line_ends::lead;
 pub use part::Part;

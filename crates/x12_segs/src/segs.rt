@@ -38,6 +38,16 @@ impl<'a> Segments<'a> {
     }
 }
 
+impl<'a> Segments<'a> {
+    /// The segments from an offset of a text on.
+    pub(crate) fn from_offset(text: &'a [u8], at: usize, delims: Delims) -> Self
+        requires { at ≤ length text.now }
+        ensures { result ≡ map (view_of delims) (segs_from text.entry.now delims.terminator at) }
+    {
+        Segments { text, at, delims }
+    }
+}
+
 impl<'a> Iterator for Segments<'a> {
     type Item = SegView<'a>;
 

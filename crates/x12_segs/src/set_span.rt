@@ -1,3 +1,4 @@
+use crate::segs::Segments;
 use x12_bytes::Delims;
 
 /// Where a transaction set stands in its text (X12.6, from ST to SE), by offsets.
@@ -11,4 +12,19 @@ pub struct SetSpan {
     pub delims: Delims,
     /// Whether that last segment is the set's SE.
     pub closed: bool,
+}
+
+impl SetSpan {
+    ghost use Rattle.std.specs.Prelude.{◌≡◌, ◌≤◌, length};
+    ghost use Rattle.x12_segs.specs.Spans.{span_views};
+
+    /// The segments of the span, first to last. A segment's `start` counts from the front of the
+    /// text.
+    pub fn segments<'a>(&self, text: &'a [u8]) -> Segments<'a>
+        requires order { self.now.start ≤ self.now.end }
+        requires within { self.now.end ≤ length text.now }
+        ensures value { result ≡ span_views text.entry.now self.now }
+    {
+        Segments::from_offset(&text[..self.end], self.start, self.delims)
+    }
 }

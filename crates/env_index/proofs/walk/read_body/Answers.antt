@@ -1,8 +1,8 @@
 use Rattle.std.proofs.Common.{◌≡◌, ◌≢◌, ℕ, List, true, false, None, Some, sym, ap, ◌∙◌, arith}
 use Rattle.x12_bytes.specs.HeaderTest.{is_head}
-use Rattle.env_index.specs.Kinds.{kind_of}
-use Rattle.env_index.specs.declared.kind.Kind.{Kind}
-use Rattle.env_index.specs.declared.kind.Kind.TheVariants.{InterchangeTrailer}
+use Rattle.x12_segs.specs.Kinds.{kind_of}
+use Rattle.x12_segs.specs.declared.kind.Kind.{Kind}
+use Rattle.x12_segs.specs.declared.kind.Kind.TheVariants.{InterchangeTrailer}
 use Rattle.env_index.specs.Reading.{state_of}
 use Rattle.env_index.proofs.Finishing.{told_ok, none_at_rest, none_at_head, trailer_alone, one_more, end_on}
 use Rattle.env_index.proofs.Walking.{segment_at}

@@ -1,7 +1,7 @@
 ghost use Rattle.std.specs.Prelude.{◌≡◌};
-ghost use Rattle.env_index.specs.Kinds.{kind_by_id, kind_of};
+ghost use Rattle.x12_segs.specs.Kinds.{kind_by_id, kind_of};
 
-use x12_segs::SegView;
+use crate::view::SegView;
 
 /// What a segment's id says of its place in the envelopes (X12.5, interchange control segments;
 /// X12.6, control segments).

@@ -1,10 +1,10 @@
 -- X12.5, interchange control segments, and X12.6, control segments: what a segment's id says of its place.
-use Rattle.std.specs.Prelude.{ℕ, List, codes, if◌then◌else◌}
+use Rattle.std.specs.Prelude.{ℕ, List, codes, Bool, true, false, if◌then◌else◌}
 use Rattle.std.specs.Str.{bytes_eq}
 use Rattle.x12_segs.specs.View.{SegValue, id_of}
-use Rattle.env_index.specs.declared.kind.Kind.{Kind}
-use Rattle.env_index.specs.declared.kind.Kind.TheVariants.{InterchangeTrailer, GroupHeader, GroupTrailer, SetHeader, SetTrailer}
-use Rattle.env_index.specs.declared.kind.Kind.TheVariants.{Notice, Other}
+use Rattle.x12_segs.specs.declared.kind.Kind.{Kind}
+use Rattle.x12_segs.specs.declared.kind.Kind.TheVariants.{InterchangeTrailer, GroupHeader, GroupTrailer, SetHeader, SetTrailer}
+use Rattle.x12_segs.specs.declared.kind.Kind.TheVariants.{Notice, Other}
 
 -- the kind that an id names
 abbrev pub kind_by_id : List ℕ → Kind
@@ -20,3 +20,13 @@ kind_by_id id =
 -- the kind of a segment
 unfoldable pub kind_of : SegValue → Kind
 kind_of seg = kind_by_id (id_of seg)
+
+-- between the ST and the SE of a set stands any segment but ST, SE, GE, GS and IEA
+abbrev pub is_inner : Kind → Bool
+is_inner Notice = true
+is_inner Other = true
+is_inner SetTrailer = false
+is_inner SetHeader = false
+is_inner GroupTrailer = false
+is_inner GroupHeader = false
+is_inner InterchangeTrailer = false

@@ -1,0 +1,21 @@
+//! The limits that several crates ask (own).
+ghost use Rattle.std.specs.Prelude.{◌↔◌, ◌≤◌, IsTrue};
+ghost use Rattle.hub_kinds.specs.declared.limits.TheConstants.{LONGEST_TEXT};
+
+/// How many elements a segment has at most in a guide.
+pub const MOST_ELEMENTS: usize = 40;
+/// How many components a composite element has at most in a guide.
+pub const MOST_COMPONENTS: usize = 20;
+/// How often an element may be repeated at most in a guide.
+pub const MOST_REPEATS: u32 = 999;
+/// How many segments and loops a guide has at most.
+pub const MOST_NODES: usize = 2_000;
+/// How many bytes the text of a run has at most: its offsets fit 32 bits.
+pub const LONGEST_TEXT: usize = 4_294_967_295;
+
+/// Whether a text of so many bytes is short enough to be read.
+pub fn within_limit(len: usize) -> bool
+    ensures { IsTrue result ↔ (len ≤ LONGEST_TEXT) }
+{
+    len <= LONGEST_TEXT
+}
