@@ -1,4 +1,4 @@
-use Rattle.std.proofs.Common.{◌≡◌, ◌∙◌, List, rules, ap, subst, true, map, codes}
+use Rattle.std.proofs.Common.{◌≡◌, ◌∙◌, ap, subst, map, codes}
 use Rattle.std.proofs.lemmas.Result.{IfOk-weaker}
 use Rattle.clap.specs.Words.{App, HasKind, HasMatchesOf, app_of, fault_of, is_simple_and_free, takes}
 use Rattle.nighthub.specs.CommandLine.{hub_app}
