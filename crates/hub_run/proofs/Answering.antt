@@ -29,17 +29,21 @@ answers_snoc before [] set = ap (λ (numbers : List (List ℕ)). answer_behind n
 answers_snoc before (x ∷ xs) set =
     let more : List (List ℕ) = before ++ control_of x.header ∷ [] in
     ap (λ (ys : List SetAnswer). answer_behind before x ∷ ys) (answers_snoc more xs set)
-    ∙ ap (λ (numbers : List (List ℕ)). answer_behind before x ∷ (answers_behind more xs ++ answer_behind numbers set ∷ [])) (append_assoc before (control_of x.header ∷ []) (numbers_of xs))
+    ∙ ap (λ (numbers : List (List ℕ)). answer_behind before x ∷ (answers_behind more xs ++ answer_behind numbers set ∷ []))
+    (append_assoc before (control_of x.header ∷ []) (numbers_of xs))
 
 -- one set more of a list
-pub sets_more : (sets : List SetEnvelope) (i : ℕ) (set : SetEnvelope) → slice_get sets i ≡ Some set → take (i + 1) sets ≡ take i sets ++ set ∷ []
-sets_more sets i set is = take_more sets i set (slice_get_within sets i set is) ∙ ap (λ (x : SetEnvelope). take i sets ++ x ∷ []) (get_or_from_slice_get sets i set set is)
+pub sets_more : (sets : List SetEnvelope) (i : ℕ) (set : SetEnvelope) → slice_get sets i ≡ Some set
+    → take (i + 1) sets ≡ take i sets ++ set ∷ []
+sets_more sets i set is = take_more sets i set (slice_get_within sets i set is)
+    ∙ ap (λ (x : SetEnvelope). take i sets ++ x ∷ []) (get_or_from_slice_get sets i set set is)
 
 pub answers_more : (sets : List SetEnvelope) (i : ℕ) (set : SetEnvelope) → slice_get sets i ≡ Some set
     → answers_behind [] (take (i + 1) sets) ≡ answers_behind [] (take i sets) ++ answer_behind (numbers_of (take i sets)) set ∷ []
 answers_more sets i set is = ap (answers_behind []) (sets_more sets i set is) ∙ answers_snoc [] (take i sets) set
 
-pub numbers_more : (sets : List SetEnvelope) (i : ℕ) (set : SetEnvelope) → slice_get sets i ≡ Some set → numbers_of (take (i + 1) sets) ≡ numbers_of (take i sets) ++ control_of set.header ∷ []
+pub numbers_more : (sets : List SetEnvelope) (i : ℕ) (set : SetEnvelope) → slice_get sets i ≡ Some set
+    → numbers_of (take (i + 1) sets) ≡ numbers_of (take i sets) ++ control_of set.header ∷ []
 numbers_more sets i set is = ap numbers_of (sets_more sets i set is) ∙ map_snoc (λ (s : SetEnvelope). control_of s.header) (take i sets) set
 
 flat_map_snoc : {A : Type 0} (f : A → List ℕ) (xs : List A) (y : A) → flat_map f (xs ++ y ∷ []) ≡ flat_map f xs ++ f y
@@ -50,6 +54,8 @@ flat_map_snoc f xs y = flat_map-append f xs (y ∷ []) ∙ ap (λ (ys : List ℕ
     append_nil (x ∷ ys) = ap (λ zs. x ∷ zs) (append_nil ys)
 
 -- what is written, with one text more
-pub text_more : {A : Type 0} (f : A → List ℕ) (old before new : List ℕ) (xs : List A) (y : A) → before ≡ old ++ flat_map f xs → new ≡ before ++ f y → new ≡ old ++ flat_map f (xs ++ y ∷ [])
+pub text_more : {A : Type 0} (f : A → List ℕ) (old before new : List ℕ) (xs : List A) (y : A) → before ≡ old ++ flat_map f xs
+    → new ≡ before ++ f y → new ≡ old ++ flat_map f (xs ++ y ∷ [])
 text_more f old before new xs y was is =
-    is ∙ ap (λ (ys : List ℕ). ys ++ f y) was ∙ append_assoc old (flat_map f xs) (f y) ∙ ap (λ (ys : List ℕ). old ++ ys) (sym (flat_map_snoc f xs y))
+    is ∙ ap (λ (ys : List ℕ). ys ++ f y) was ∙ append_assoc old (flat_map f xs) (f y)
+    ∙ ap (λ (ys : List ℕ). old ++ ys) (sym (flat_map_snoc f xs y))

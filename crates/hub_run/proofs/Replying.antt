@@ -22,13 +22,15 @@ by_tests false false = refl
 
 pub codes_show : (control : List ℕ) (trailer : Option GroupTrailer) (sets : ℕ) → shows_sets (group_codes_of control trailer sets) ≡ true
 codes_show control None sets = refl
-codes_show control (Some trailer) sets = by_tests (agree (number_of 9 trailer.control) (number_of 9 control)) (agree (number_of 6 trailer.listed) (Some sets))
+codes_show control (Some trailer) sets =
+    by_tests (agree (number_of 9 trailer.control) (number_of 9 control)) (agree (number_of 6 trailer.listed) (Some sets))
 
 append_nil : (xs : List ℕ) → xs ++ [] ≡ xs
 append_nil [] = refl
 append_nil (x ∷ xs) = ap (λ ys. x ∷ ys) (append_nil xs)
 
-pub whole_reply : (e : Envelope) (at : List ℕ) (d : Delims) (early late : GroupAnswer) (answers : List SetAnswer) (totals : Totals) (o0 o2 o3 o4 o5 : List ℕ)
+pub whole_reply : (e : Envelope) (at : List ℕ) (d : Delims) (early late : GroupAnswer) (answers : List SetAnswer) (totals : Totals)
+    (o0 o2 o3 o4 o5 : List ℕ)
     → o0 ≡ [] → o2 ≡ (o0 ++ opening_text e at 1) ++ head_text d early 1 → o3 ≡ o2 ++ flat_map (set_text d) answers
     → head_text d early 1 ≡ head_text d late 1 → shows_sets late.codes ≡ true → totals ≡ totals_of answers
     → Completes d late totals 1 o3 o4 → o5 ≡ o4 ++ closing_text e 1 1 → o5 ≡ interchange_text e at 1 (text_999 d late answers 1 ∷ [])
@@ -38,8 +40,10 @@ whole_reply e at d early late answers totals o0 o2 o3 o4 o5 e0 e2 e3 same shows 
     let text : List ℕ = text_999 d late answers 1 in
     let head : List ℕ = head_text d late 1 in
     let sets : List ℕ = flat_map (set_text d) answers in
-    let second : o2 ≡ opening ++ head = e2 ∙ ap (λ (xs : List ℕ). (xs ++ opening) ++ head_text d early 1) e0 ∙ ap (λ (xs : List ℕ). opening ++ xs) same in
+    let second : o2 ≡ opening ++ head = e2 ∙ ap (λ (xs : List ℕ). (xs ++ opening) ++ head_text d early 1) e0
+    ∙ ap (λ (xs : List ℕ). opening ++ xs) same in
     let shown : sets ≡ sets_text d late answers = ap (λ (b : Bool). cond b sets []) (sym shows) in
-    let third : o3 ≡ opening ++ head ++ sets_text d late answers = e3 ∙ ap (λ (xs : List ℕ). xs ++ sets) second ∙ ap (λ (xs : List ℕ). opening ++ head ++ xs) shown in
+    let third : o3 ≡ opening ++ head ++ sets_text d late answers = e3 ∙ ap (λ (xs : List ℕ). xs ++ sets) second
+    ∙ ap (λ (xs : List ℕ). opening ++ head ++ xs) shown in
     let fourth : o4 ≡ opening ++ text = completes opening answers counted third in
     e5 ∙ ap (λ (xs : List ℕ). xs ++ closing) fourth ∙ ap (λ (xs : List ℕ). opening ++ xs ++ closing) (sym (append_nil text))

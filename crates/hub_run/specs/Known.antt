@@ -1,4 +1,4 @@
--- X12.6, transaction set control number (ST02): what the set of the numbers so far knows, and what is answered by it (no public clause cites it).
+-- X12.6, transaction set control number (ST02): what the numbers so far tell, and what is answered by it (no public clause cites it).
 use Rattle.std.specs.Prelude.{◌≡◌, ℕ, Bool, List}
 use Rattle.std.specs.HashSet.{contains}
 use Rattle.hub_kinds.specs.declared.answers.SetAnswer.{SetAnswer}

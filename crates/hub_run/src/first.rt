@@ -19,8 +19,10 @@ use std::alloc::Global;
 pub fn run_first(alloc: Global, text: &[u8], at: &At) -> Result<First, FirstFault>
     ensures too_long { IsErrOf result FirstFault.InputTooLong ↔ (MOST_BYTES < length text.now) }
     ensures not_one { IsErrOf result FirstFault.NotOne → (x : InterchangeEntry) (group : GroupEntry) → IsOne text.now x group → ⊥ }
-    ensures answered { IfOk result (λ first. (x : InterchangeEntry) × (group : GroupEntry) × IsOne text.now x group × IsReply at.now first.ack first.verdict x group) }
-    ensures only { IfOk result (λ first. (x : InterchangeEntry) (group : GroupEntry) → IsOne text.now x group → IsReply at.now first.ack first.verdict x group) }
+    ensures answered { IfOk result (λ first. (x : InterchangeEntry) × (group : GroupEntry) × IsOne text.now x group
+        × IsReply at.now first.ack first.verdict x group) }
+    ensures only { IfOk result (λ first. (x : InterchangeEntry) (group : GroupEntry) → IsOne text.now x group
+        → IsReply at.now first.ack first.verdict x group) }
 {
     if !within_limit(text.len() as u64) {
         return Err(FirstFault::InputTooLong);

@@ -1,6 +1,7 @@
 -- What clap found in the words is what the definitions say of them.
-use Rattle.std.proofs.Common.{◌≡◌, ◌⊎◌, ◌∙◌, List, Some, true, codes, inl, inr, refl, sym, ap, subst}
-use Rattle.clap.specs.Words.{HasKind, HasMatchesOf, IsAmong, Text, fault_of, first_of, first_value, found_of, is_simple, is_simple_and_free, kind_of}
+use Rattle.std.proofs.Common.{◌≡◌, ◌∙◌, List, true, codes, inl, inr, refl, sym, ap, subst}
+use Rattle.clap.specs.Words.{HasKind, HasMatchesOf, IsAmong, Text, fault_of, first_of, first_value, found_of}
+use Rattle.clap.specs.Words.{is_simple, is_simple_and_free, kind_of}
 use Rattle.clap.specs.declared.error.Error.{Error}
 use Rattle.clap.specs.declared.error.kind.ErrorKind.{ErrorKind}
 use Rattle.clap.specs.declared.parser.matches.ArgMatches.{ArgMatches}
@@ -19,15 +20,18 @@ unfolding clap_on_literals
 free = refl
 
 -- the value that clap found for an option
-pub found : (words : List Text) (m : ArgMatches) (name : Text) → HasMatchesOf hub_app words m → first_value (found_of m) name ≡ value_of name words
+pub found : (words : List Text) (m : ArgMatches) (name : Text) → HasMatchesOf hub_app words m
+    → first_value (found_of m) name ≡ value_of name words
 found words m name has = first_value-rows (found_of m) name ∙ ap (first_of name) (has simple).0
 
-pub asked : (words : List Text) (m : ArgMatches) (asked : Asked) → HasMatchesOf hub_app words m → IsGiven (found_of m) asked → IsAsked words asked
+pub asked : (words : List Text) (m : ArgMatches) (asked : Asked) → HasMatchesOf hub_app words m → IsGiven (found_of m) asked
+    → IsAsked words asked
 asked words m (Run options) has given =
     (sym (found words m (codes "in") has) ∙ given.0, sym (found words m (codes "at") has) ∙ given.1)
 asked words m (Show text) has given = absurd given
 
-pub shown : (words : List Text) (e : Error) (asked : Asked) → HasKind (fault_of hub_app words) e → IsShown (kind_of e) asked → IsAsked words asked
+pub shown : (words : List Text) (e : Error) (asked : Asked) → HasKind (fault_of hub_app words) e → IsShown (kind_of e) asked
+    → IsAsked words asked
 shown words e (Run options) kind is = absurd is
 shown words e (Show text) (inl memory) (inl help) = cc
 shown words e (Show text) (inl memory) (inr version) = cc

@@ -50,7 +50,8 @@ IsGiven found (Run options) = (first_value found (codes "in") ≡ Some options.i
 IsGiven found (Show text) = ⊥
 
 abbrev pub IsNotGiven : Found → Type 0
-IsNotGiven found = (input at : Text) → first_value found (codes "in") ≡ Some input → first_value found (codes "at") ≡ Some at → IsMoment at → ⊥
+IsNotGiven found = (input at : Text) → first_value found (codes "in") ≡ Some input → first_value found (codes "at") ≡ Some at
+    → IsMoment at → ⊥
 
 abbrev pub IsShown : ErrorKind → Asked → Type 0
 IsShown kind (Run options) = ⊥

@@ -25,11 +25,13 @@ returns-in_default-only_if-clause-not_one c refused x group one =
 pub group-requires : goal.group-requires
 group-requires c =
     let found : InterchangeEntry = c.in-Some-only_if.interchange in
-    let answerable : is_answerable found ≡ true = ap is_answerable c.in-Some-only_if.ensures.same.0 ∙ sym c.is_answerable-answerable.ensures ∙ c.in-Some-only_if.ensures.same.1 in
+    let answerable : is_answerable found ≡ true = ap is_answerable c.in-Some-only_if.ensures.same.0
+    ∙ sym c.is_answerable-answerable.ensures ∙ c.in-Some-only_if.ensures.same.1 in
     single_not_empty found.content.groups (and_parts (is_none (fault_of found)) (is_single found.content.groups) answerable).1
 
 -- the answered interchange's group, as one of the interchange that was read
-same_first : (found read : InterchangeEntry) (group : GroupEntry) → found ≡ read → slice_get found.content.groups 0 ≡ Some group → slice_get read.content.groups 0 ≡ Some group
+same_first : (found read : InterchangeEntry) (group : GroupEntry) → found ≡ read → slice_get found.content.groups 0 ≡ Some group
+    → slice_get read.content.groups 0 ≡ Some group
 same_first found read group same is = ap (λ (i : InterchangeEntry). slice_get i.content.groups 0) (sym same) ∙ is
 
 pub returns-clause-answered : goal.returns-clause-answered
@@ -41,12 +43,15 @@ returns-clause-answered c =
     let tree = rw c.in-Some.is at c.in_ok-lone.ensures.tree in
     let answerable : is_answerable read ≡ true = sym c.is_answerable-answerable.ensures ∙ c.in-Some-only_if.ensures.same.1 in
     let first : slice_get read.content.groups 0 ≡ Some c.group.result = same_first found read c.group.result same c.group.ensures in
-    let one : IsOne c.args.text.now read c.group.result = one_read c.args.text.now read c.group.result tree.0 lone tree.1 tree.2 answerable first in (
+    let one : IsOne c.args.text.now read c.group.result =
+    one_read c.args.text.now read c.group.result tree.0 lone tree.1 tree.2 answerable first in (
       read,
       c.group.result,
       one,
       record {
-        text = c.in_ok-first.ensures.ack ∙ ap (λ (h : List ℕ). reply_text h c.group.result c.args.at.now) (c.header.ensures ∙ ap (λ (i : InterchangeEntry). i.header) same);
+        text = c.in_ok-first.ensures.ack
+            ∙ ap (λ (h : List ℕ). reply_text h c.group.result c.args.at.now)
+            (c.header.ensures ∙ ap (λ (i : InterchangeEntry). i.header) same);
         verdict = c.in_ok-first.ensures.verdict;
       },
     )
@@ -59,7 +64,8 @@ returns-clause-only c x group one =
     let alone = rw c.in-Some.is at c.in_ok-lone.ensures.alone in
     let only = rw c.in-Some.is at c.in_ok-lone.ensures.only in
     let same : x ≡ read = same_read c.args.text.now read x group alone only one in
-    let first : c.group.result ≡ group = same_group x read group c.group.result same one.single (same_first found read c.group.result back c.group.ensures) in
+    let first : c.group.result ≡ group =
+    same_group x read group c.group.result same one.single (same_first found read c.group.result back c.group.ensures) in
     let header : c.header.result.now ≡ x.header = c.header.ensures ∙ ap (λ (i : InterchangeEntry). i.header) (back ∙ sym same) in
     record {
       text = c.in_ok-first.ensures.ack ∙ ap (λ (h : List ℕ). reply_text h c.group.result c.args.at.now) header

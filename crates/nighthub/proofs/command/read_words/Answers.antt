@@ -1,4 +1,4 @@
-use Rattle.std.proofs.Common.{◌≡◌, ◌∙◌, List, rules, ap, subst, true, map, codes}
+use Rattle.std.proofs.Common.{◌≡◌, ◌∙◌, ap, subst, map, codes}
 use Rattle.std.proofs.lemmas.Result.{IfOk-weaker}
 use Rattle.clap.specs.Words.{App, HasKind, HasMatchesOf, app_of, fault_of, is_simple_and_free, takes}
 use Rattle.nighthub.specs.CommandLine.{hub_app}
@@ -18,13 +18,15 @@ returns-in-Ok-clause-usage g c usage line =
     let words = map g.S.AsStr.text c.args.words.now in
     let m = c.in-Ok.matches in
     let has = subst (λ (a : App). HasMatchesOf a words m) app c.in-Ok.ensures.matches in
-    c.run_asked.ensures.usage usage line.input line.at (found words m (codes "in") has ∙ line.input_named) (found words m (codes "at") has ∙ line.at_named) line.moment
+    c.run_asked.ensures.usage usage line.input line.at
+    (found words m (codes "in") has ∙ line.input_named) (found words m (codes "at") has ∙ line.at_named) line.moment
 
 pub returns-in-Err-clause-asked : goal.returns-in-Err-clause-asked
 returns-in-Err-clause-asked g c =
     let app : app_of c.in_ok-command.command ≡ hub_app = c.in_ok-command.ensures in
     let words = map g.S.AsStr.text c.args.words.now in
-    let kind = subst (λ (a : App). HasKind (fault_of a words) c.in-Err.error) app (c.in-Err.ensures.kinds (ap is_simple_and_free app ∙ free)) in
+    let kind = subst (λ (a : App). HasKind (fault_of a words) c.in-Err.error) app
+    (c.in-Err.ensures.kinds (ap is_simple_and_free app ∙ free)) in
     IfOk-weaker c.shown.result _ _ (λ a is. shown words c.in-Err.error a kind is) c.shown.ensures.shown
 
 pub returns-in-Err-clause-usage : goal.returns-in-Err-clause-usage

@@ -1,4 +1,4 @@
-use Rattle.std.proofs.Common.{◌≡◌, ◌<◌, ◌≤◌, inr, rules}
+use Rattle.std.proofs.Common.{inr, rules}
 use Rattle.nighthub.proofs.Reading.{all_taken, too_many}
 use Rattle.nighthub.proofs.input.read_all.Goals as goal
 
