@@ -12,7 +12,7 @@ returns-clause-answer c numbers knows =
     c.in_ok-answer.ensures
     ∙ ap (λ (t : Option SegValue). answer_of set.header set.segments t c.in_ok-earlier.earlier) c.as_ref.ensures.value
     ∙ ap (answer_of set.header set.segments set.trailer)
-    (c.in_ok-earlier.ensures.earlier ∙ knows c.control.result ∙ ap (λ (n : List ℕ). is_among n numbers) c.control.ensures)
+    (c.in_ok-earlier.ensures.earlier numbers knows ∙ ap (λ (n : List ℕ). is_among n numbers) c.control.ensures)
 
 pub returns-clause-known : goal.returns-clause-known
 returns-clause-known c numbers knows =
