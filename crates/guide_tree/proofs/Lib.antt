@@ -30,3 +30,5 @@ mod WorkedGrammar
 mod Sound
 mod There
 mod Few
+mod Computing
+mod WorkedShipment

@@ -9,7 +9,7 @@ use Rattle.guide_tree.specs.Tree.{Tree, Trees, segment, loop, no_trees, tree, Gu
 use Rattle.guide_tree.specs.Segments.{Segment}
 use Rattle.guide_tree.specs.Places.{Place, use_of}
 
-abbrev slot : (number : ℕ) → List ℕ → (least most : ℕ) → Slot
+abbrev pub slot : (number : ℕ) → List ℕ → (least most : ℕ) → Slot
 slot number id least most = record {
   number = number;
   id = id;
@@ -21,7 +21,7 @@ slot number id least most = record {
   conditions = [];
 }
 
-abbrev repeated : (number : ℕ) → List ℕ → (least most : ℕ) → Loop
+abbrev pub repeated : (number : ℕ) → List ℕ → (least most : ℕ) → Loop
 repeated number id least most = record { number = number; id = id; min = least; max = most }
 
 abbrev pub beg : Slot
