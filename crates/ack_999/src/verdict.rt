@@ -6,10 +6,11 @@ use crate::totals::Totals;
 use hub_kinds::{GroupCode, GroupVerdict};
 
 /// The verdict on a functional group with these codes, whose sets have these totals
-/// (999 guide, AK901).
+/// (999 guide, AK901). Totals that are no sets' are judged by their numbers alone.
 pub fn group_verdict(codes: &[GroupCode], totals: &Totals) -> GroupVerdict
-    ensures { (sets : List SetAnswer) → totals.now ≡ totals_of sets
+    ensures sets { (sets : List SetAnswer) → totals.now ≡ totals_of sets
         → result ≡ group_verdict_of codes.now (verdicts_of sets) }
+    ensures totals { result ≡ verdict_by codes.now totals.now }
 {
     verdict_by(codes, totals)
 }

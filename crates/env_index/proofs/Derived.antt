@@ -7,6 +7,7 @@ use Rattle.env_index.specs.Envelope.{Set, InGroup, ASet, OutOfGroup, Group, InBo
 use Rattle.x12_segs.specs.declared.kind.Kind.{Kind}
 use Rattle.x12_segs.specs.declared.kind.Kind.TheVariants.{InterchangeTrailer, GroupHeader, GroupTrailer, SetHeader, SetTrailer, Notice, Other}
 use Rattle.env_index.specs.declared.entry.SetEnvelope.{SetEnvelope}
+use Rattle.env_index.specs.Extents.{behind, behind_last}
 use Rattle.env_index.specs.Summary.{Summary, set_entry, sets_in, group_entry, has_misplaced_in_group, summary_of}
 use Rattle.env_index.proofs.Tails.{GroupTail, SetTail, Tails, left_open, cut_off, no_segments, with_notice, with_misplaced, with_group, with_set, onto_body, onto_group, onto_set, tails, summed}
 
@@ -40,23 +41,23 @@ closes_group (x ∷ xs) h = by_kind (kind_of x) h
 
 -- what an open set goes on with, where it goes on with these segments
 abbrev told_set : Option SegValue → List SegValue → List SegValue → SetTail
-told_set close rest items = record { count = length items; close = close; after = (tails rest).in_group }
+told_set close rest items = record { count = length items; close = close; after = (tails rest).in_group; end = λ so_far. behind_last so_far items }
 
 -- what an open set goes on with: segments inside it, and its SE where it has one
 in_open_set : (inner : List SegValue) (close : Option SegValue) (rest : List SegValue) → list_all (λ x. is_inner (kind_of x)) inner ≡ true → Closed SetTrailer ends_set close rest
-    → (tails (inner ++ (option_items close ++ rest))).in_set ≡ record { count = length (inner ++ option_items close); close = close; after = (tails rest).in_group }
+    → (tails (inner ++ (option_items close ++ rest))).in_set ≡ told_set close rest (inner ++ option_items close)
 in_open_set [] None rest all closed = closes_set rest closed
 in_open_set [] (Some x) rest all closed = by_kind (kind_of x) closed
   where
-    by_kind : (k : Kind) → k ≡ SetTrailer → onto_set k x (tails rest) ≡ record { count = length (option_items (Some x)); close = Some x; after = (tails rest).in_group }
+    by_kind : (k : Kind) → k ≡ SetTrailer → onto_set k x (tails rest) ≡ told_set (Some x) rest (option_items (Some x))
     by_kind k is = rw is refl
 in_open_set (x ∷ xs) close rest all closed = by_kind (kind_of x) (λ others. in_open_set xs close rest others closed) all
   where
-    one_more : (t : SetTail) → t ≡ told_set close rest (xs ++ option_items close) → (let u : SetTail = record t { count = t.count + 1 } in u) ≡ told_set close rest (x ∷ (xs ++ option_items close))
+    one_more : (t : SetTail) → t ≡ told_set close rest (xs ++ option_items close) → (let u : SetTail = record t { count = t.count + 1; end = λ so_far. t.end (behind x) } in u) ≡ told_set close rest (x ∷ (xs ++ option_items close))
     one_more t is =
         let n : length (xs ++ option_items close) + 1 ≡ length (x ∷ (xs ++ option_items close)) = omega arith in
-        ap (λ (u : SetTail). (let v : SetTail = record u { count = u.count + 1 } in v)) is
-        ∙ ap (λ (k : ℕ). (let v : SetTail = record { count = k; close = close; after = (tails rest).in_group } in v)) n
+        ap (λ (u : SetTail). (let v : SetTail = record u { count = u.count + 1; end = λ so_far. u.end (behind x) } in v)) is
+        ∙ ap (λ (k : ℕ). (let v : SetTail = record { count = k; close = close; after = (tails rest).in_group; end = λ so_far. behind_last (behind x) (xs ++ option_items close) } in v)) n
 
     by_kind : (k : Kind) → (list_all (λ x. is_inner (kind_of x)) xs ≡ true → (tails (xs ++ (option_items close ++ rest))).in_set ≡ told_set close rest (xs ++ option_items close)) → (is_inner k && list_all (λ x. is_inner (kind_of x)) xs) ≡ true → onto_set k x (tails (xs ++ (option_items close ++ rest))) ≡ told_set close rest (x ∷ (xs ++ option_items close))
     by_kind InterchangeTrailer more all = cc
@@ -76,12 +77,12 @@ set_in_front s rest is =
     by_kind (kind_of s.header) (tails ((s.inner ++ option_items s.trailer) ++ rest)) is.header
     (ap (λ (segs : List SegValue). (tails segs).in_set) shape ∙ in_open_set s.inner s.trailer rest is.inner is.trailer)
   where
-    by_kind : (k : Kind) (t : Tails) → k ≡ SetHeader → t.in_set ≡ record { count = length (s.inner ++ option_items s.trailer); close = s.trailer; after = (tails rest).in_group }
+    by_kind : (k : Kind) (t : Tails) → k ≡ SetHeader → t.in_set ≡ told_set s.trailer rest (s.inner ++ option_items s.trailer)
         → onto_group k s.header t ≡ (let g : GroupTail = (tails rest).in_group in (let u : GroupTail = record g { sets = set_entry s ∷ g.sets } in u))
     by_kind k t header goes_on =
         let n : length (s.inner ++ option_items s.trailer) + 1 ≡ length (set_items s) = omega arith in
         rw header (ap (with_set s.header) goes_on ∙ ap (λ (k : ℕ). (let g : GroupTail = (tails rest).in_group in
-        (let u : GroupTail = record g { sets = (let e : SetEnvelope = record { header = s.header; segments = k; trailer = s.trailer } in e) ∷ g.sets } in u))) n)
+        (let u : GroupTail = record g { sets = (let e : SetEnvelope = record { header = s.header; segments = k; trailer = s.trailer; end = behind_last 0 (set_items s) } in e) ∷ g.sets } in u))) n)
 
 -- members in front of what an open group goes on with
 abbrev front_members : List InGroup → GroupTail → GroupTail

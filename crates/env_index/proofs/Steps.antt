@@ -5,7 +5,8 @@ use Rattle.x12_segs.specs.declared.kind.Kind.{Kind}
 use Rattle.x12_segs.specs.declared.kind.Kind.TheVariants.{InterchangeTrailer, GroupHeader, GroupTrailer, SetHeader, SetTrailer, Notice, Other}
 use Rattle.env_index.specs.declared.entry.SetEnvelope.{SetEnvelope}
 use Rattle.env_index.specs.Summary.{GroupEntry, Summary}
-use Rattle.env_index.specs.Reading.{State, end_set, end_group, end_all, misplace, step, finished, nothing_read}
+use Rattle.env_index.specs.Extents.{behind}
+use Rattle.env_index.specs.Reading.{State, end_so_far, end_set, end_group, end_all, misplace, step, finished, nothing_read}
 use Rattle.env_index.proofs.Tails.{GroupTail, SetTail, Tails, cut_off, no_segments, with_group, with_set, onto}
 
 -- what is whole, in front of what an interchange goes on with
@@ -15,12 +16,12 @@ put s b = record { groups = s.groups ++ b.groups; notices = s.notices + b.notice
 abbrev pub more_sets : List SetEnvelope → GroupTail → GroupTail
 more_sets sets t = record t { sets = sets ++ t.sets }
 
-abbrev pub longer : ℕ → SetTail → SetTail
-longer count t = record t { count = count + t.count }
+abbrev pub longer : ℕ → ℕ → SetTail → SetTail
+longer count end t = record t { count = count + t.count; end = λ so_far. t.end end }
 
 abbrev pub resume_set : State → SegValue → Option SegValue → Tails → Summary
 resume_set s group None t = put s (with_group group (more_sets s.sets t.in_group))
-resume_set s group (Some set) t = put s (with_group group (more_sets s.sets (with_set set (longer s.count t.in_set))))
+resume_set s group (Some set) t = put s (with_group group (more_sets s.sets (with_set set (longer s.count (end_so_far s set) t.in_set))))
 
 abbrev pub resume_group : State → Option SegValue → Tails → Summary
 resume_group s None t = put s t.in_body
@@ -48,12 +49,12 @@ ended_set_at s None (Some set) t closes = refl
 ended_set_at s (Some group) None t closes = refl
 ended_set_at s (Some group) (Some set) t closes =
     let G : GroupTail = t.in_group in
-    let e : ℕ → SetEnvelope = λ k. record { header = set; segments = k; trailer = None } in
+    let e : ℕ → SetEnvelope = λ k. record { header = set; segments = k; trailer = None; end = end_so_far s set } in
     let F : List SetEnvelope → Summary = λ xs. put s (with_group group (record G { sets = xs })) in
     let n : s.count + 1 ≡ s.count + 0 + 1 = omega arith in
     ap F (append_assoc s.sets (e (s.count + 1) ∷ []) G.sets)
     ∙ ap (λ (k : ℕ). F (s.sets ++ (e k ∷ G.sets))) n
-    ∙ ap (λ (u : SetTail). put s (with_group group (more_sets s.sets (with_set set (longer s.count u))))) (sym closes)
+    ∙ ap (λ (u : SetTail). put s (with_group group (more_sets s.sets (with_set set (longer s.count (end_so_far s set) u))))) (sym closes)
 
 pub ended_set : (s : State) (t : Tails) → t.in_set ≡ cut_off t.in_group → resume (end_set None s) t ≡ resume s t
 ended_set s t closes = ended_set_at s s.group s.set t closes
@@ -105,13 +106,13 @@ misplaced_in_group s group t u is =
     ∙ ap (λ (g : GroupTail). put s (with_group group (more_sets s.sets g))) (sym is)
 
 -- one more segment inside a set
-longer_set : (s : State) (group set : SegValue) (t u : Tails) → u.in_set ≡ record t.in_set { count = t.in_set.count + 1 }
-    → resume (record (open_at s (Some group) (Some set)) { count = s.count + 1 }) t ≡ resume (open_at s (Some group) (Some set)) u
-longer_set s group set t u is =
+longer_set : (s : State) (group set x : SegValue) (t u : Tails) → u.in_set ≡ record t.in_set { count = t.in_set.count + 1; end = λ so_far. t.in_set.end (behind x) }
+    → resume (record (open_at s (Some group) (Some set)) { count = s.count + 1; last = Some x }) t ≡ resume (open_at s (Some group) (Some set)) u
+longer_set s group set x t u is =
     let S : SetTail = t.in_set in
     let n : s.count + 1 + S.count ≡ s.count + (S.count + 1) = omega arith in
-    ap (λ (k : ℕ). put s (with_group group (more_sets s.sets (with_set set (record S { count = k }))))) n
-    ∙ ap (λ (v : SetTail). put s (with_group group (more_sets s.sets (with_set set (longer s.count v))))) (sym is)
+    ap (λ (k : ℕ). put s (with_group group (more_sets s.sets (with_set set (record S { count = k; end = λ so_far. S.end (behind x) }))))) n
+    ∙ ap (λ (v : SetTail). put s (with_group group (more_sets s.sets (with_set set (longer s.count (end_so_far s set) v))))) (sym is)
 
 step_at : (k : Kind) (x : SegValue) (s : State) (group set : Option SegValue) (t : Tails) → k ≢ InterchangeTrailer
     → resume (step k x (open_at s group set)) t ≡ resume (open_at s group set) (onto k x t)
@@ -134,7 +135,7 @@ step_at SetTrailer x s None set t other = misplaced_in_body s set t (onto SetTra
 step_at SetTrailer x s (Some group) None t other = misplaced_in_group s group t (onto SetTrailer x t) refl
 step_at SetTrailer x s (Some group) (Some set) t other =
     let G : GroupTail = t.in_group in
-    let e : ℕ → SetEnvelope = λ k. record { header = set; segments = k; trailer = Some x } in
+    let e : ℕ → SetEnvelope = λ k. record { header = set; segments = k; trailer = Some x; end = behind x } in
     let F : List SetEnvelope → Summary = λ xs. put s (with_group group (record G { sets = xs })) in
     let n : s.count + 2 ≡ s.count + 1 + 1 = omega arith in
     ap F (append_assoc s.sets (e (s.count + 2) ∷ []) G.sets) ∙ ap (λ (k : ℕ). F (s.sets ++ (e k ∷ G.sets))) n
@@ -143,10 +144,10 @@ step_at Notice x s None set t other =
     let n : s.notices + 1 + B.notices ≡ s.notices + (B.notices + 1) = omega arith in
     ap (λ (k : ℕ). (let r : Summary = record { groups = s.groups ++ B.groups; notices = k; misplaced = s.misplaced || B.misplaced; trailer = B.trailer } in r)) n
 step_at Notice x s (Some group) None t other = misplaced_in_group s group t (onto Notice x t) refl
-step_at Notice x s (Some group) (Some set) t other = longer_set s group set t (onto Notice x t) refl
+step_at Notice x s (Some group) (Some set) t other = longer_set s group set x t (onto Notice x t) refl
 step_at Other x s None set t other = misplaced_in_body s set t (onto Other x t) refl
 step_at Other x s (Some group) None t other = misplaced_in_group s group t (onto Other x t) refl
-step_at Other x s (Some group) (Some set) t other = longer_set s group set t (onto Other x t) refl
+step_at Other x s (Some group) (Some set) t other = longer_set s group set x t (onto Other x t) refl
 
 -- a segment may be taken, or stand in front of what comes
 pub step_onto : (k : Kind) (x : SegValue) (s : State) (t : Tails) → k ≢ InterchangeTrailer → resume (step k x s) t ≡ resume s (onto k x t)

@@ -5,6 +5,7 @@ use Rattle.x12_segs.specs.Kinds.{kind_of}
 use Rattle.x12_segs.specs.declared.kind.Kind.{Kind}
 use Rattle.x12_segs.specs.declared.kind.Kind.TheVariants.{InterchangeTrailer, GroupHeader, GroupTrailer, SetHeader, SetTrailer, Notice, Other}
 use Rattle.env_index.specs.declared.entry.SetEnvelope.{SetEnvelope}
+use Rattle.env_index.specs.Extents.{behind}
 use Rattle.env_index.specs.Summary.{Summary}
 
 -- if a group is open: its sets that begin here, its GE, whether a segment is out of place in it; what follows it
@@ -14,11 +15,13 @@ pub record GroupTail : Type 0 where
   pub misplaced : Bool
   pub after : Summary
 
--- if a set is open: how many segments it goes on for, its SE among them; that SE; what follows it
+-- if a set is open: how many segments it goes on for, its SE among them; that SE; what follows it; and where it ends, by where its
+-- segments so far end
 pub record SetTail : Type 0 where
   pub count : ℕ
   pub close : Option SegValue
   pub after : GroupTail
+  pub end : ℕ → ℕ
 
 pub record Tails : Type 0 where
   pub in_set : SetTail
@@ -34,7 +37,7 @@ left_open after = record { sets = []; close = None; misplaced = false; after = a
 
 -- a set that ends without SE
 abbrev pub cut_off : GroupTail → SetTail
-cut_off after = record { count = 0; close = None; after = after }
+cut_off after = record { count = 0; close = None; after = after; end = λ so_far. so_far }
 
 abbrev pub no_segments : Tails
 no_segments = record { in_set = cut_off (left_open nothing); in_group = left_open nothing; in_body = nothing }
@@ -58,7 +61,7 @@ with_trailer seg = record { groups = []; notices = 0; misplaced = false; trailer
 
 abbrev pub with_set : SegValue → SetTail → GroupTail
 with_set header t = record {
-  sets = record { header = header; segments = t.count + 1; trailer = t.close } ∷ t.after.sets;
+  sets = record { header = header; segments = t.count + 1; trailer = t.close; end = t.end (behind header) } ∷ t.after.sets;
   close = t.after.close;
   misplaced = t.after.misplaced;
   after = t.after.after;
@@ -90,9 +93,9 @@ onto_set InterchangeTrailer seg t = cut_off (left_open (with_trailer seg))
 onto_set GroupHeader seg t = cut_off (left_open (with_group seg t.in_group))
 onto_set GroupTrailer seg t = cut_off (record { sets = []; close = Some seg; misplaced = false; after = t.in_body })
 onto_set SetHeader seg t = cut_off (with_set seg t.in_set)
-onto_set SetTrailer seg t = record { count = 1; close = Some seg; after = t.in_group }
-onto_set Notice seg t = record t.in_set { count = t.in_set.count + 1 }
-onto_set Other seg t = record t.in_set { count = t.in_set.count + 1 }
+onto_set SetTrailer seg t = record { count = 1; close = Some seg; after = t.in_group; end = λ so_far. behind seg }
+onto_set Notice seg t = record t.in_set { count = t.in_set.count + 1; end = λ so_far. t.in_set.end (behind seg) }
+onto_set Other seg t = record t.in_set { count = t.in_set.count + 1; end = λ so_far. t.in_set.end (behind seg) }
 
 abbrev pub onto : Kind → SegValue → Tails → Tails
 onto kind seg t = record { in_set = onto_set kind seg t; in_group = onto_group kind seg t; in_body = onto_body kind seg t }

@@ -21,6 +21,11 @@ pub record Reach : Type 0 where
 abbrev pub behind : SegValue → ℕ
 behind seg = seg.start + length seg.bytes + 1
 
+-- the offset behind the last of some segments; where there is none, the one that they would follow
+abbrev pub behind_last : ℕ → List SegValue → ℕ
+behind_last from [] = from
+behind_last from (seg ∷ segs) = behind_last (behind seg) segs
+
 abbrev pub onto_reach : SegValue → Reach → Reach
 onto_reach seg reach = record { segs = seg ∷ reach.segs; end = reach.end }
 

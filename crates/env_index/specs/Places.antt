@@ -1,5 +1,5 @@
 -- X12.6, segment: what stands at a place of the text (for the models of the types and for inner clauses; no public clause cites it).
-use Rattle.std.specs.Prelude.{ℕ, List, map, option_map, slice_range}
+use Rattle.std.specs.Prelude.{ℕ, List, map, option_map, slice_range, Bool, true, false, Option, Some, None}
 use Rattle.x12_bytes.specs.declared.delims.Delims.{Delims}
 use Rattle.x12_segs.specs.View.{SegValue}
 use Rattle.env_index.specs.declared.entry.SetEnvelope.{SetEnvelope}
@@ -7,16 +7,23 @@ use Rattle.env_index.specs.declared.places.Stretch.{Stretch}
 use Rattle.env_index.specs.declared.places.SetPlace.{SetPlace}
 use Rattle.env_index.specs.declared.places.GroupPlace.{GroupPlace}
 use Rattle.env_index.specs.declared.places.BodyPlace.{BodyPlace}
+use Rattle.env_index.specs.Extents.{behind}
 use Rattle.env_index.specs.Summary.{GroupEntry, Summary}
 
 abbrev pub seg_in : List ℕ → Delims → Stretch → SegValue
 seg_in text delims place = record { start = place.start; bytes = slice_range text place.start place.end; delims = delims }
 
+-- the last segment of a set is its SE where it is closed
+abbrev pub trailer_in : Bool → SegValue → Option SegValue
+trailer_in true last = Some last
+trailer_in false last = None
+
 abbrev pub set_in : List ℕ → Delims → SetPlace → SetEnvelope
 set_in text delims place = record {
   header = seg_in text delims place.header;
   segments = place.segments;
-  trailer = option_map (seg_in text delims) place.trailer;
+  trailer = trailer_in place.closed (seg_in text delims place.last);
+  end = behind (seg_in text delims place.last);
 }
 
 abbrev pub group_in : List ℕ → Delims → GroupPlace → GroupEntry

@@ -1,6 +1,6 @@
 -- X12.5, interchange, and X12.6, functional group and transaction set: what one more segment makes of what has been read
 -- (for the builder's own clauses; no public clause cites it).
-use Rattle.std.specs.Prelude.{ℕ, ◌+◌, List, [], ◌∷◌, ◌++◌, Bool, true, false, Option, Some, None, map, option_map}
+use Rattle.std.specs.Prelude.{ℕ, ◌+◌, List, [], ◌∷◌, ◌++◌, Bool, true, false, Option, Some, None, map, option_map, unwrap_or}
 use Rattle.x12_bytes.specs.declared.delims.Delims.{Delims}
 use Rattle.x12_segs.specs.View.{SegValue}
 use Rattle.x12_segs.specs.declared.kind.Kind.{Kind}
@@ -8,11 +8,12 @@ use Rattle.x12_segs.specs.declared.kind.Kind.TheVariants.{InterchangeTrailer, Gr
 use Rattle.x12_segs.specs.declared.kind.Kind.TheVariants.{Notice, Other}
 use Rattle.env_index.specs.declared.entry.SetEnvelope.{SetEnvelope}
 use Rattle.env_index.specs.declared.builder.Builder.{Builder}
+use Rattle.env_index.specs.Extents.{behind}
 use Rattle.env_index.specs.Places.{seg_in, set_in, group_in}
 use Rattle.env_index.specs.Summary.{GroupEntry, Summary}
 
 -- the groups that are whole; how many TA1 there were, and whether a segment was out of place; the GS of an open group and its
--- whole sets; the ST of an open set, and how many segments stand behind it so far
+-- whole sets; the ST of an open set, how many segments stand behind it so far, and the last of these
 pub record State : Type 0 where
   pub groups : List GroupEntry
   pub notices : ℕ
@@ -21,20 +22,25 @@ pub record State : Type 0 where
   pub sets : List SetEnvelope
   pub set : Option SegValue
   pub count : ℕ
+  pub last : Option SegValue
 
 -- nothing yet
 abbrev pub nothing_read : State
-nothing_read = record { groups = []; notices = 0; misplaced = false; group = None; sets = []; set = None; count = 0 }
+nothing_read = record { groups = []; notices = 0; misplaced = false; group = None; sets = []; set = None; count = 0; last = None }
+
+-- where the open set with this ST would end without SE
+abbrev pub end_so_far : State → SegValue → ℕ
+end_so_far s header = behind (unwrap_or s.last header)
 
 -- the open set ends, without SE or with it
 abbrev pub end_set_by : State → Option SegValue → Option SegValue → State
 end_set_by s trailer None = s
 end_set_by s None (Some header) = record s {
-  sets = s.sets ++ (let e : SetEnvelope = record { header = header; segments = s.count + 1; trailer = None } in e) ∷ [];
+  sets = s.sets ++ (let e : SetEnvelope = record { header = header; segments = s.count + 1; trailer = None; end = end_so_far s header } in e) ∷ [];
   set = None;
 }
 end_set_by s (Some seg) (Some header) = record s {
-  sets = s.sets ++ (let e : SetEnvelope = record { header = header; segments = s.count + 2; trailer = Some seg } in e) ∷ [];
+  sets = s.sets ++ (let e : SetEnvelope = record { header = header; segments = s.count + 2; trailer = Some seg; end = behind seg } in e) ∷ [];
   set = None;
 }
 
@@ -67,16 +73,16 @@ step_in GroupHeader x s group set = record (end_all s) { group = Some x; sets = 
 step_in GroupTrailer x s None set = misplace s
 step_in GroupTrailer x s (Some group) set = end_group (Some x) (end_set None s)
 step_in SetHeader x s None set = misplace s
-step_in SetHeader x s (Some group) set = record (end_set None s) { set = Some x; count = 0 }
+step_in SetHeader x s (Some group) set = record (end_set None s) { set = Some x; count = 0; last = None }
 step_in SetTrailer x s None set = misplace s
 step_in SetTrailer x s (Some group) None = misplace s
 step_in SetTrailer x s (Some group) (Some set) = end_set (Some x) s
 step_in Notice x s None set = record s { notices = s.notices + 1 }
 step_in Notice x s (Some group) None = misplace s
-step_in Notice x s (Some group) (Some set) = record s { count = s.count + 1 }
+step_in Notice x s (Some group) (Some set) = record s { count = s.count + 1; last = Some x }
 step_in Other x s None set = misplace s
 step_in Other x s (Some group) None = misplace s
-step_in Other x s (Some group) (Some set) = record s { count = s.count + 1 }
+step_in Other x s (Some group) (Some set) = record s { count = s.count + 1; last = Some x }
 
 abbrev pub step : Kind → SegValue → State → State
 step k x s = step_in k x s s.group s.set
@@ -95,4 +101,5 @@ state_of text delims b = record {
   sets = map (set_in text delims) b.sets.items;
   set = option_map (seg_in text delims) b.set;
   count = b.count;
+  last = option_map (seg_in text delims) b.last;
 }

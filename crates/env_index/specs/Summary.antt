@@ -2,6 +2,7 @@
 use Rattle.std.specs.Prelude.{ℕ, ◌+◌, List, [], ◌∷◌, Bool, true, false, ◌||◌, Option, length}
 use Rattle.x12_segs.specs.View.{SegValue}
 use Rattle.env_index.specs.Envelope.{Set, InGroup, ASet, OutOfGroup, Group, InBody, ANotice, AGroup, OutOfBody, Body, set_items}
+use Rattle.env_index.specs.Extents.{behind_last}
 use Rattle.env_index.specs.declared.entry.SetEnvelope.{SetEnvelope}
 
 -- a group: its GS, its sets in order, its GE
@@ -17,9 +18,14 @@ pub record Summary : Type 0 where
   pub misplaced : Bool
   pub trailer : Option SegValue
 
--- a set: its ST, how many segments it has with ST and SE, its SE
+-- a set: its ST, how many segments it has with ST and SE, its SE, and the offset behind its last segment
 abbrev pub set_entry : Set → SetEnvelope
-set_entry s = record { header = s.header; segments = length (set_items s); trailer = s.trailer }
+set_entry s = record {
+  header = s.header;
+  segments = length (set_items s);
+  trailer = s.trailer;
+  end = behind_last 0 (set_items s);
+}
 
 abbrev pub sets_in : List InGroup → List SetEnvelope
 sets_in [] = []

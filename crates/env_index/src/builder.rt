@@ -23,6 +23,8 @@ pub(crate) struct Builder {
     pub(crate) set: Option<Stretch>,
     /// How many segments stand behind that ST.
     pub(crate) count: u32,
+    /// The last of these.
+    pub(crate) last: Option<Stretch>,
     /// How many segments were taken: what bounds the counts.
     pub(crate) seen: u32,
     ghost few_notices: { notices ≤ seen },
@@ -30,7 +32,7 @@ pub(crate) struct Builder {
 }
 
 impl Builder {
-    ghost use Rattle.std.specs.Prelude.{◌≡◌, ℕ, ◌+◌, ◌<◌, ◌≤◌, ◌^◌, List, OnOk, IfOk, option_map};
+    ghost use Rattle.std.specs.Prelude.{◌≡◌, ℕ, ◌+◌, ◌<◌, ◌≤◌, ◌^◌, List, OnOk, IfOk, option_map, unwrap_or};
     ghost use Rattle.x12_bytes.specs.declared.delims.Delims.{Delims};
     ghost use Rattle.env_index.specs.Places.{seg_in, body_in};
     ghost use Rattle.env_index.specs.Reading.{step, end_set, end_group, end_all, finished, nothing_read, state_of};
@@ -48,6 +50,7 @@ impl Builder {
             sets: Vec::new(alloc),
             set: None,
             count: 0,
+            last: None,
             seen: 0,
         }
     }
@@ -59,16 +62,37 @@ impl Builder {
         ensures state { OnOk result ((text : List ℕ) (delims : Delims) →
             state_of text delims self.new ≡ end_set (option_map (seg_in text delims) trailer) (state_of text delims self.old)) }
     {
-        if let Some(header) = self.set {
-            let closed = u32::from(trailer.is_some());
-            self.sets.push(SetPlace {
+        let Some(header) = self.set else {
+            return Ok(());
+        };
+        let place = match trailer {
+            Some(last) => SetPlace {
                 header,
-                segments: self.count + 1 + closed,
-                trailer,
-            })?;
-            self.set = None;
-        }
+                segments: self.count + 2,
+                last,
+                closed: true,
+            },
+            None => SetPlace {
+                header,
+                segments: self.count + 1,
+                last: self.last_segment(header),
+                closed: false,
+            },
+        };
+        self.sets.push(place)?;
+        self.set = None;
         Ok(())
+    }
+
+    /// The last segment of the open set, which has this ST, before an SE.
+    fn last_segment(&self, header: Stretch) -> Stretch
+        ensures { (text : List ℕ) (delims : Delims) → seg_in text delims result
+            ≡ unwrap_or (option_map (seg_in text delims) self.now.last) (seg_in text delims header) }
+    {
+        match self.last {
+            Some(last) => last,
+            None => header,
+        }
     }
 
     /// Ends the open group, without a GE or with this one.

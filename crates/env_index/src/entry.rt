@@ -10,4 +10,6 @@ pub struct SetEnvelope<'a> {
     pub segments: u64,
     /// Its trailer (SE), where it has one.
     pub trailer: Option<SegView<'a>>,
+    /// The offset behind the terminator of its last segment.
+    pub end: usize,
 }

@@ -53,6 +53,7 @@ impl Builder {
         self.end_set(None)?;
         self.set = Some(header);
         self.count = 0;
+        self.last = None;
         Ok(())
     }
 
@@ -84,6 +85,7 @@ impl Builder {
             self.misplaced = true;
         } else {
             self.count += 1;
+            self.last = Some(place);
         }
     }
 
@@ -98,6 +100,7 @@ impl Builder {
             self.misplaced = true;
         } else {
             self.count += 1;
+            self.last = Some(place);
         }
     }
 }

@@ -1,6 +1,6 @@
 use crate::entry::SetEnvelope;
 use crate::places::{BodyPlace, GroupPlace};
-use crate::segment_at::{segment_at, trailer_at};
+use crate::segment_at::{behind_segment, segment_at, set_trailer, trailer_at};
 use std::marker::Model;
 use x12_bytes::{Delims, Header};
 use x12_segs::SegView;
@@ -168,7 +168,8 @@ impl<'a> GroupEnvelope<'a> {
         SetEnvelope {
             header: segment_at(self.text, self.delims, place.header),
             segments: u64::from(place.segments),
-            trailer: trailer_at(self.text, self.delims, place.trailer),
+            trailer: set_trailer(self.text, self.delims, &place),
+            end: behind_segment(self.text, self.delims, place.last),
         }
     }
 }

@@ -4,8 +4,8 @@
 //!
 //! Proved:
 //! - `read_interchange` answers an interchange exactly where a header begins at the offset; its end
-//!   is that of the definition, and its groups, sets, counts and acknowledgments are those of the
-//!   one tree of envelopes that its segments derive;
+//!   is that of the definition, and its groups, sets, their ends, counts and acknowledgments are those
+//!   of the one tree of envelopes that its segments derive;
 //! - `read_lone` answers an interchange exactly where the text is one, with nothing but CR, LF and
 //!   space around it;
 //! - `judge` answers the least of an interchange's faults 1 to 7, and none exactly where it has

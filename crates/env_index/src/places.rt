@@ -5,12 +5,14 @@ pub(crate) struct Stretch {
     pub(crate) end: u32,
 }
 
-/// Where a set's ST and SE stand, and how many segments it has with them.
+/// Where a set's ST and its last segment stand, whether that is its SE, and how many segments it has
+/// with them.
 #[derive(Clone, Copy, Debug)]
 pub(crate) struct SetPlace {
     pub(crate) header: Stretch,
     pub(crate) segments: u32,
-    pub(crate) trailer: Option<Stretch>,
+    pub(crate) last: Stretch,
+    pub(crate) closed: bool,
 }
 
 /// Where a group's GS and GE stand, and its sets.

@@ -1,7 +1,8 @@
 ghost use Rattle.std.specs.Prelude.{◌≡◌, option_map};
-ghost use Rattle.env_index.specs.Places.{seg_in};
+ghost use Rattle.env_index.specs.Extents.{behind};
+ghost use Rattle.env_index.specs.Places.{seg_in, trailer_in};
 
-use crate::places::Stretch;
+use crate::places::{SetPlace, Stretch};
 use x12_bytes::Delims;
 use x12_segs::SegView;
 
@@ -26,5 +27,28 @@ pub(crate) fn trailer_at<'a>(
     match place {
         Some(place) => Some(segment_at(text, delims, place)),
         None => None,
+    }
+}
+
+/// The offset behind the terminator of the segment that stands at a place of the text.
+pub(crate) fn behind_segment(text: &[u8], delims: Delims, place: Stretch) -> usize
+    ensures { result ≡ behind (seg_in text.now delims place) }
+{
+    let segment = segment_at(text, delims, place);
+    place.start as usize + segment.bytes().len() + 1
+}
+
+/// The SE of a set, where it has one.
+pub(crate) fn set_trailer<'a>(
+    text: &'a [u8],
+    delims: Delims,
+    place: &SetPlace,
+) -> Option<SegView<'a>>
+    ensures { result ≡ trailer_in place.now.closed (seg_in text.entry.now delims place.now.last) }
+{
+    if place.closed {
+        Some(segment_at(text, delims, place.last))
+    } else {
+        None
     }
 }

@@ -1,8 +1,8 @@
 //! Interchanges, their groups and their sets: where each ends, and what the index keeps of it.
 use crate::texts::{HEADER, HEADER_AS_A_SEGMENT, HEADER_IN_AN_ELEMENT, ORDER, joined, read};
 use env_index::{
-    GroupEnvelope, Interchange, SetEnvelope, chain_is_one, envelope_is_one,
-    envelope_is_there, judge, read_interchange, read_lone,
+    GroupEnvelope, Interchange, SetEnvelope, chain_is_one, envelope_is_one, envelope_is_there,
+    judge, read_interchange, read_lone,
 };
 use hub_kinds::InterchangeFault;
 use std::test::Fail;
@@ -52,7 +52,7 @@ fn reads_a_group(rt: HostRuntime) -> Result<(), Fail> {
 fn reads_a_set(rt: HostRuntime) -> Result<(), Fail> {
     let found = read(rt.alloc(), ORDER, 0)?;
     let set = set(&group(&found, 0)?, 0)?;
-    assert_eq!(rt; set.segments, 4);
+    assert_eq!(rt; (set.segments, set.end), (4, 212));
     assert_eq!(rt; set.header.element(2), b"0001".as_slice());
     let trailer = set.trailer.ok_or("no SE")?;
     assert_eq!(rt; trailer.element(1), b"4".as_slice());
@@ -129,8 +129,13 @@ const WITHOUT_TRAILERS: &[u8] =
 /// How many sets a group has, and whether it has a GE.
 const GROUPS: &[(usize, bool)] = &[(2, true), (1, false)];
 
-/// The numbers of a group and a set, how many segments it has, and whether it has an SE.
-const SETS: &[(usize, usize, u64, bool)] = &[(0, 0, 2, false), (0, 1, 1, false), (1, 0, 2, true)];
+/// The numbers of a group and a set, how many segments it has, whether it has an SE, and where it
+/// ends.
+const SETS: &[(usize, usize, u64, bool, usize)] = &[
+    (0, 0, 2, false, 133),
+    (0, 1, 1, false, 145),
+    (1, 0, 2, true, 182),
+];
 
 #[test]
 fn groups_may_lack_their_trailers(rt: HostRuntime) -> Result<(), Fail> {
@@ -151,9 +156,10 @@ fn groups_may_lack_their_trailers(rt: HostRuntime) -> Result<(), Fail> {
 fn sets_may_lack_their_trailers(rt: HostRuntime) -> Result<(), Fail> {
     let text = joined(rt.alloc(), HEADER, WITHOUT_TRAILERS)?;
     let found = read(rt.alloc(), &text, 0)?;
-    for (in_group, index, segments, closed) in SETS {
+    for (in_group, index, segments, closed, end) in SETS {
         let set = set(&group(&found, *in_group)?, *index)?;
-        assert_eq!(rt; (set.segments, set.trailer.is_some()), (*segments, *closed));
+        assert_eq!(rt; (set.segments, set.end), (*segments, *end));
+        assert_eq!(rt; set.trailer.is_some(), *closed);
     }
     Ok(())
 }
