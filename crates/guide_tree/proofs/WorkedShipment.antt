@@ -62,8 +62,10 @@ few_codes = (refl, refl)
 abbrev other_ref : Segment
 other_ref = codes "REF" ∷ codes "ZZ" ∷ []
 
-stray_codes : (stray_code shipment_guide (alone (codes "Q9")) ≡ ik304.UnrecognizedSegment) × (stray_code shipment_guide (alone (codes "AMT")) ≡ ik304.NotInSet)
-    × (stray_code shipment_guide other_ref ≡ ik304.UnexpectedSegment) × (stray_code shipment_guide (alone (codes "BSN")) ≡ ik304.OutOfSequence)
+stray_codes : (stray_code shipment_guide (alone (codes "Q9")) ≡ ik304.UnrecognizedSegment)
+    × (stray_code shipment_guide (alone (codes "AMT")) ≡ ik304.NotInSet)
+    × (stray_code shipment_guide other_ref ≡ ik304.UnexpectedSegment)
+        × (stray_code shipment_guide (alone (codes "BSN")) ≡ ik304.OutOfSequence)
 stray_codes = (refl, refl, refl, refl)
 
 -- repetitions of the loop HL, and of N1 in the first of them
@@ -74,8 +76,10 @@ abbrev party : Place
 party = use_of 1 0 ∷ use_of 2 0 ∷ []
 
 -- the innermost loop (IK303): none, HL, N1 in HL; and a loop's own
-innermost_loops : (innermost shipment [] (segment (slot 1 (codes "BSN") 1 1)) ≡ []) × (innermost shipment (level 1) (segment ref) ≡ codes "HL")
-    × (innermost shipment party address ≡ codes "N1") × (innermost shipment [] levels ≡ codes "HL") × (innermost shipment (level 0) parties ≡ codes "N1")
+innermost_loops : (innermost shipment [] (segment (slot 1 (codes "BSN") 1 1)) ≡ [])
+    × (innermost shipment (level 1) (segment ref) ≡ codes "HL")
+    × (innermost shipment party address ≡ codes "N1") × (innermost shipment [] levels ≡ codes "HL")
+        × (innermost shipment (level 0) parties ≡ codes "N1")
 innermost_loops = (refl, refl, refl, refl, refl)
 
 -- the id that a fault shows: a segment's, or that of a loop's first segment
@@ -85,7 +89,8 @@ first_ids = (refl, refl, refl)
 -- BSN, HL, REF, N1, N3, HL, three REF, four strays, HL
 abbrev body : List Segment
 body =
-    alone (codes "BSN") ∷ alone (codes "HL") ∷ (codes "REF" ∷ codes "IA" ∷ []) ∷ alone (codes "N1") ∷ alone (codes "N3") ∷ alone (codes "HL")
+    alone (codes "BSN") ∷ alone (codes "HL") ∷ (codes "REF" ∷ codes "IA" ∷ []) ∷ alone (codes "N1") ∷ alone (codes "N3")
+        ∷ alone (codes "HL")
     ∷ (codes "REF" ∷ codes "IA" ∷ []) ∷ (codes "REF" ∷ codes "IA" ∷ []) ∷ (codes "REF" ∷ codes "IA" ∷ [])
     ∷ alone (codes "AMT") ∷ other_ref ∷ alone (codes "BSN") ∷ alone (codes "Q9") ∷ alone (codes "HL") ∷ []
 
@@ -104,7 +109,8 @@ given =
 -- Where what is missing is reported, and nowhere else: REF of the first HL at N1; N1 of it behind its own places, at the next HL; N1 of
 -- the second HL behind the strays, at the third; and what the third lacks at the end.
 abbrev IsAt : (parent : Place) → (child position : ℕ) → Type 0
-IsAt parent child position = IsReportedAt given 16 parent child position × ((other : ℕ) → IsReportedAt given 16 parent child other → other ≡ position)
+IsAt parent child position = IsReportedAt given 16 parent child position
+    × ((other : ℕ) → IsReportedAt given 16 parent child other → other ≡ position)
 
 ref_of_the_first : IsAt (level 0) 1 5
 ref_of_the_first = (reported_there given 16 (level 0) 1, reported_once given 16 (level 0) 1)
