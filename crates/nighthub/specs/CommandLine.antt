@@ -30,7 +30,7 @@ value_of name words = first_of name (matches_of hub_app words)
 abbrev pub AsksForText : List Text → Type 0
 AsksForText words = IsAmong DisplayHelp (fault_of hub_app words) ⊎ IsAmong DisplayVersion (fault_of hub_app words)
 
--- the words name a file and a moment, and nothing is wrong with them
+-- the words name a file and a moment that exists, and nothing is wrong with them
 pub record IsCommandLine (words : List Text) : Type 0 where
   pub taken : takes hub_app words ≡ true
   pub input : Text
@@ -38,6 +38,13 @@ pub record IsCommandLine (words : List Text) : Type 0 where
   pub at : Text
   pub at_named : value_of (codes "at") words ≡ Some at
   pub moment : IsMoment at
+
+-- the words name a file and a moment
+pub record NamesInput (words : List Text) : Type 0 where
+  pub input : Text
+  pub input_named : value_of (codes "in") words ≡ Some input
+  pub at : Text
+  pub at_named : value_of (codes "at") words ≡ Some at
 
 -- what the words ask for
 abbrev pub IsAsked : List Text → Asked → Type 0
