@@ -1,9 +1,10 @@
 -- What clap found in the words is what the definitions say of them.
-use Rattle.std.proofs.Common.{◌≡◌, ◌∙◌, List, true, codes, inl, inr, refl, sym, ap, subst}
+use Rattle.std.proofs.Common.{◌≡◌, ◌⊎◌, ◌∙◌, List, true, codes, inl, inr, refl, sym, ap, subst}
 use Rattle.clap.specs.Words.{HasKind, HasMatchesOf, IsAmong, Text, fault_of, first_of, first_value, found_of}
-use Rattle.clap.specs.Words.{is_simple, is_simple_and_free, kind_of}
+use Rattle.clap.specs.Words.{is_simple, is_simple_and_free, kind_of, takes}
 use Rattle.clap.specs.declared.error.Error.{Error}
 use Rattle.clap.specs.declared.error.kind.ErrorKind.{ErrorKind}
+use Rattle.clap.specs.declared.error.kind.ErrorKind.TheVariants.{DisplayHelp, DisplayVersion, OutOfMemory}
 use Rattle.clap.specs.declared.parser.matches.ArgMatches.{ArgMatches}
 use Rattle.clap.proofs.OnLiterals.{clap_on_literals}
 use Rattle.clap.proofs.WalkLemmas.{first_value-rows}
@@ -30,10 +31,19 @@ asked words m (Run options) has given =
     (sym (found words m (codes "in") has) ∙ given.0, sym (found words m (codes "at") has) ∙ given.1)
 asked words m (Show text) has given = absurd given
 
-pub shown : (words : List Text) (e : Error) (asked : Asked) → HasKind (fault_of hub_app words) e → IsShown (kind_of e) asked
-    → IsAsked words asked
-shown words e (Run options) kind is = absurd is
-shown words e (Show text) (inl memory) (inl help) = cc
-shown words e (Show text) (inl memory) (inr version) = cc
-shown words e (Show text) (inr among) (inl help) = inl (subst (λ (k : ErrorKind). IsAmong k (fault_of hub_app words)) help among)
-shown words e (Show text) (inr among) (inr version) = inr (subst (λ (k : ErrorKind). IsAmong k (fault_of hub_app words)) version among)
+asked_by : (words : List Text) (e : Error) → HasKind (fault_of hub_app words) e → (kind_of e ≡ DisplayHelp) ⊎ (kind_of e ≡ DisplayVersion)
+    → IsAmong DisplayHelp (fault_of hub_app words) ⊎ IsAmong DisplayVersion (fault_of hub_app words)
+asked_by words e (inl memory) (inl help) = cc
+asked_by words e (inl memory) (inr version) = cc
+asked_by words e (inr among) (inl help) = inl (subst (λ (k : ErrorKind). IsAmong k (fault_of hub_app words)) help among)
+asked_by words e (inr among) (inr version) = inr (subst (λ (k : ErrorKind). IsAmong k (fault_of hub_app words)) version among)
+
+no_memory : (kind : ErrorKind) → (kind ≡ DisplayHelp) ⊎ (kind ≡ DisplayVersion) → kind ≡ OutOfMemory → ⊥
+no_memory kind (inl help) memory = cc
+no_memory kind (inr version) memory = cc
+
+pub shown : (words : List Text) (e : Error) (asked : Asked) → HasKind (fault_of hub_app words) e
+    → (takes hub_app words ≡ true → kind_of e ≡ OutOfMemory) → IsShown (kind_of e) asked → IsAsked words asked
+shown words e (Run options) kind passes is = absurd is
+shown words e (Show text) kind passes is =
+    record { asked = asked_by words e kind is; no_run = λ taken. no_memory (kind_of e) is (passes taken) }

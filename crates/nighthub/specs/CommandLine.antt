@@ -26,11 +26,12 @@ hub_app = with_rule (with_rule program (option_named (codes "in"))) (option_name
 abbrev pub value_of : Text → List Text → Option Text
 value_of name words = first_of name (matches_of hub_app words)
 
--- the words ask for help or for the version
-abbrev pub AsksForText : List Text → Type 0
-AsksForText words = IsAmong DisplayHelp (fault_of hub_app words) ⊎ IsAmong DisplayVersion (fault_of hub_app words)
+-- the words ask for help or for the version, and are none to run by
+pub record AsksForText (words : List Text) : Type 0 where
+  pub asked : IsAmong DisplayHelp (fault_of hub_app words) ⊎ IsAmong DisplayVersion (fault_of hub_app words)
+  pub no_run : takes hub_app words ≡ true → ⊥
 
--- the words name a file and a moment, and nothing is wrong with them
+-- the words name a file and a moment that exists, and nothing is wrong with them
 pub record IsCommandLine (words : List Text) : Type 0 where
   pub taken : takes hub_app words ≡ true
   pub input : Text
@@ -38,6 +39,13 @@ pub record IsCommandLine (words : List Text) : Type 0 where
   pub at : Text
   pub at_named : value_of (codes "at") words ≡ Some at
   pub moment : IsMoment at
+
+-- the words name a file and a moment
+pub record NamesInput (words : List Text) : Type 0 where
+  pub input : Text
+  pub input_named : value_of (codes "in") words ≡ Some input
+  pub at : Text
+  pub at_named : value_of (codes "at") words ≡ Some at
 
 -- what the words ask for
 abbrev pub IsAsked : List Text → Asked → Type 0

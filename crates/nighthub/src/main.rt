@@ -5,13 +5,28 @@
 //!
 //! Proved:
 //! - the program is safe and ends on every input, and its status is 0, 1, 2, 4, 5 or 6;
+//! - a run that doesn't fail has printed what its words ask for, and nothing else: help or the version where
+//!   they ask for that; otherwise the acknowledgment, at the moment that they name, of a text that is one
+//!   interchange with one group and no longer than the limit, and the status follows AK901 (`night_main`,
+//!   `printed`);
 //! - a failed run leaves standard output as it was, unless standard output itself failed, and a run
-//!   that doesn't fail leaves standard error as it was (`night_main`);
-//! - what is printed is exactly the outcome's bytes, and its status follows AK901 (`finish`);
+//!   that doesn't fail leaves standard error as it was;
+//! - a run says usage only where its words are no command line, and input only where they name a file and a
+//!   moment; which words do is said by clap's definitions;
+//! - what is read of a reader is all of its bytes, and too long is said of it only over the limit (`read_all`);
 //! - for a text that is one interchange with one group these bytes are its acknowledgment, and only
 //!   a text that isn't one is refused as input (`answer`).
 //!
-//! Only tested: which words are a command line, and that a file's bytes are those that are read.
+//! Only tested: that a file's bytes are those that its reader gives.
+//!
+//! As its tests call it:
+//!
+//! ```
+//! let mut out = Broken { at_first: *at_first };
+//! let mut err = Vec::new(rt.alloc());
+//! let status = night_main(&rt, ["--version"].as_slice(), &mut out, &mut err);
+//! assert_eq!(rt; status, 5);
+//! ```
 //!
 //! Source: the 999 guide (005010X231); the command line and the statuses are this hub's own.
 #![tactic(auto)]

@@ -1,6 +1,7 @@
-ghost use Rattle.std.specs.Prelude.{◌≡◌, ◌≢◌, ◌≤◌, IfOk, IsErrOf, map};
+ghost use Rattle.std.specs.Prelude.{◌≡◌, ◌≢◌, ◌≤◌, IfOk, IfErr, IsErrOf, map};
 ghost use Rattle.std.specs.Io.KnownBytes.{Appends};
-ghost use Rattle.nighthub.specs.CommandLine.{IsCommandLine};
+ghost use Rattle.nighthub.specs.CommandLine.{IsCommandLine, NamesInput};
+ghost use Rattle.nighthub.specs.Failure.{status_of as failure_status};
 ghost use Rattle.nighthub.specs.Outcome.{IsAnswerAt, IsOutcome, text_of, status_of};
 ghost use Rattle.nighthub.specs.declared.outcome.Outcome.{Outcome};
 
@@ -27,6 +28,7 @@ where
     ensures silent { 2 ≤ result → result ≢ 5 → out.new ≡ out.old }
     ensures quiet { result ≤ 1 → err.new ≡ err.old }
     ensures usage { result ≡ 2 → IsCommandLine (map S.text words.now) → ⊥ }
+    ensures input { result ≡ 4 → NamesInput (map S.text words.now) }
     ensures printed { result ≤ 1 → (o : Outcome) × IsOutcome (map S.text words.now) o
         × (result ≡ status_of o) × Appends (O.contents out.old) (O.contents out.new) (text_of o) }
 {
@@ -41,6 +43,7 @@ where
     R: Files + AllocGlobal,
     S: AsStr,
     ensures outcome { IfOk result (IsOutcome (map S.text words.now)) }
+    ensures input { IfErr result (λ failure. failure_status failure ≡ 4 → NamesInput (map S.text words.now)) }
     ensures usage { IsErrOf result Failure.Usage → IsCommandLine (map S.text words.now) → ⊥ }
 {
     match read_words(rt.alloc(), words) {

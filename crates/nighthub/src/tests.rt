@@ -168,14 +168,14 @@ struct Broken {
     at_first: bool,
 }
 
-fn broken_pipe<T>() -> io::Result<T> {
-    Err(io::Error::from(io::ErrorKind::BrokenPipe))
+fn broken_pipe() -> io::Error {
+    io::Error::from(io::ErrorKind::BrokenPipe)
 }
 
 impl Read for Broken {
     fn read(&mut self, bytes: &mut [u8]) -> io::Result<usize> {
         if self.at_first || bytes.is_empty() {
-            return broken_pipe();
+            return Err(broken_pipe());
         }
         self.at_first = true;
         bytes[0] = b'I';
@@ -186,13 +186,13 @@ impl Read for Broken {
 impl Write for Broken {
     fn write(&mut self, bytes: &[u8]) -> io::Result<usize> {
         if self.at_first {
-            return broken_pipe();
+            return Err(broken_pipe());
         }
         Ok(bytes.len())
     }
 
     fn flush(&mut self) -> io::Result<()> {
-        broken_pipe()
+        Err(broken_pipe())
     }
 }
 

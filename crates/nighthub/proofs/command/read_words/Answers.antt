@@ -1,6 +1,7 @@
-use Rattle.std.proofs.Common.{◌≡◌, ◌∙◌, ap, subst, map, codes}
+use Rattle.std.proofs.Common.{◌≡◌, ◌∙◌, ap, subst, map, codes, true}
 use Rattle.std.proofs.lemmas.Result.{IfOk-weaker}
-use Rattle.clap.specs.Words.{App, HasKind, HasMatchesOf, app_of, fault_of, is_simple_and_free, takes}
+use Rattle.clap.specs.Words.{App, HasKind, HasMatchesOf, app_of, fault_of, is_simple_and_free, kind_of, takes}
+use Rattle.clap.specs.declared.error.kind.ErrorKind.TheVariants.{OutOfMemory}
 use Rattle.nighthub.specs.CommandLine.{hub_app}
 use Rattle.nighthub.proofs.CommandLine.{asked, found, free, shown}
 use Rattle.nighthub.proofs.command.read_words.Goals as goal
@@ -27,7 +28,9 @@ returns-in-Err-clause-asked g c =
     let words = map g.S.AsStr.text c.args.words.now in
     let kind = subst (λ (a : App). HasKind (fault_of a words) c.in-Err.error) app
     (c.in-Err.ensures.kinds (ap is_simple_and_free app ∙ free)) in
-    IfOk-weaker c.shown.result _ _ (λ a is. shown words c.in-Err.error a kind is) c.shown.ensures.shown
+    let passes : takes hub_app words ≡ true → kind_of c.in-Err.error ≡ OutOfMemory =
+    λ taken. c.in-Err.ensures.passes (ap (λ (a : App). takes a words) app ∙ taken) in
+    IfOk-weaker c.shown.result _ _ (λ a is. shown words c.in-Err.error a kind passes is) c.shown.ensures.shown
 
 pub returns-in-Err-clause-usage : goal.returns-in-Err-clause-usage
 returns-in-Err-clause-usage g c usage line =
