@@ -1,5 +1,6 @@
 -- Facts of places computed by tests: which begins so, which is given, and where a node that is missing is reported.
-use Rattle.std.proofs.Common.{◌≡◌, ℕ, zero, suc, ◌+◌, ◌⊎◌, inl, inr, List, [], ◌∷◌, Bool, true, false, Option, Some, None, refl, ap, sym, ◌∙◌, subst, arith}
+use Rattle.std.proofs.Common.{◌≡◌, ℕ, zero, suc, ◌+◌, ◌⊎◌, inl, inr, List, [], ◌∷◌, Bool, true, false, Option, Some, None, refl, ap, sym}
+use Rattle.std.proofs.Common.{◌∙◌, subst, arith}
 use Rattle.std.specs.Prelude.{◌==◌, ◌&&◌, ◌||◌, nat_lt, if◌then◌else◌, IfSome}
 use Rattle.std.specs.Cmp.Derive.{both_true}
 use Rattle.std.proofs.lemmas.Bool.{or_cases, cases_Bool, eqb-true, ltb-true, lt-ltb, false≢true}
@@ -123,7 +124,8 @@ first_at test (Some q ∷ given) zero = test q
 first_at test (None ∷ given) (suc i) = first_at test given i
 first_at test (Some q ∷ given) (suc i) = if test q then false else first_at test given i
 
-pub first_begun : (pre : Place) (given : List (Option Place)) (i : ℕ) → first_at (begins pre) given i ≡ true → IsFirstAt (Begins pre) given i
+pub first_begun : (pre : Place) (given : List (Option Place)) (i : ℕ) → first_at (begins pre) given i ≡ true
+    → IsFirstAt (Begins pre) given i
 first_begun pre [] i h = absurd (false≢true h)
 first_begun pre (None ∷ given) zero h = absurd (false≢true h)
 first_begun pre (Some q ∷ given) zero h = begins_is pre q h
@@ -148,25 +150,30 @@ Reported given next end parent k position =
     ((i : ℕ) × (IsFirstAt (IsBehind parent k) given i) × (position ≡ i + next)) ⊎ (IsNowhere (IsBehind parent k) given × (position ≡ end))
 
 further : (x : Option Place) (given : List (Option Place)) (next end : ℕ) (parent : Place) (k position : ℕ)
-    → IfSome x (λ q. IsBehind parent k q → ⊥) → Reported given (suc next) end parent k position → Reported (x ∷ given) next end parent k position
+    → IfSome x (λ q. IsBehind parent k q → ⊥) → Reported given (suc next) end parent k position
+        → Reported (x ∷ given) next end parent k position
 further x given next end parent k position none h = elim h [
   | inl e ↦ inl (suc e.0, (none, e.1), let i = e.2 in omega (arith, i))
   | inr e ↦ inr ((none, e.0), e.1)
 ]
 
-there : (given : List (Option Place)) (next end : ℕ) (parent : Place) (k : ℕ) → Reported given next end parent k (reported_at given next end parent k)
+there : (given : List (Option Place)) (next end : ℕ) (parent : Place) (k : ℕ)
+    → Reported given next end parent k (reported_at given next end parent k)
 there [] next end parent k = inr (tt, refl)
 there (None ∷ given) next end parent k = further None given next end parent k _ tt (there given (suc next) end parent k)
 there (Some q ∷ given) next end parent k =
     let rest = there given (suc next) end parent k in
     elim (cases_Bool (behind parent k q)) [
-      | inl e ↦ subst (λ (b : Bool). Reported (Some q ∷ given) next end parent k (if b then next else reported_at given (suc next) end parent k)) (sym e)
+      | inl e ↦ subst (λ (b : Bool). Reported (Some q ∷ given) next end parent k
+          (if b then next else reported_at given (suc next) end parent k)) (sym e)
           (let same : next ≡ 0 + next = omega arith in inl (0, behind_is parent k q e, same))
-      | inr e ↦ subst (λ (b : Bool). Reported (Some q ∷ given) next end parent k (if b then next else reported_at given (suc next) end parent k)) (sym e)
+      | inr e ↦ subst (λ (b : Bool). Reported (Some q ∷ given) next end parent k
+          (if b then next else reported_at given (suc next) end parent k)) (sym e)
           (further (Some q) given next end parent k _ (λ h. false≢true (sym e ∙ is_behind parent k q h)) rest)
     ]
 
-pub reported_there : (given : List (Option Place)) (end : ℕ) (parent : Place) (k : ℕ) → IsReportedAt given end parent k (reported_at given 2 end parent k)
+pub reported_there : (given : List (Option Place)) (end : ℕ) (parent : Place) (k : ℕ)
+    → IsReportedAt given end parent k (reported_at given 2 end parent k)
 reported_there given end parent k = there given 2 end parent k
 
 not_behind : (q : Place) (parent : Place) (k : ℕ) → (IsBehind parent k q → ⊥) → behind parent k q ≡ false
@@ -176,7 +183,8 @@ not_behind q parent k none = elim (cases_Bool (behind parent k q)) [
 ]
 
 -- and nowhere else
-only : (given : List (Option Place)) (next end : ℕ) (parent : Place) (k position : ℕ) → Reported given next end parent k position → position ≡ reported_at given next end parent k
+only : (given : List (Option Place)) (next end : ℕ) (parent : Place) (k position : ℕ) → Reported given next end parent k position
+    → position ≡ reported_at given next end parent k
 only [] next end parent k position (inl h) = absurd h.1
 only [] next end parent k position (inr h) = h.1
 only (None ∷ given) next end parent k position (inl (zero, f, e)) = absurd f
@@ -193,5 +201,6 @@ only (Some q ∷ given) next end parent k position (inr h) =
     only given (suc next) end parent k position (inr (h.0.1, h.1))
     ∙ ap (λ (b : Bool). if b then next else reported_at given (suc next) end parent k) (sym (not_behind q parent k h.0.0))
 
-pub reported_once : (given : List (Option Place)) (end : ℕ) (parent : Place) (k position : ℕ) → IsReportedAt given end parent k position → position ≡ reported_at given 2 end parent k
+pub reported_once : (given : List (Option Place)) (end : ℕ) (parent : Place) (k position : ℕ) → IsReportedAt given end parent k position
+    → position ≡ reported_at given 2 end parent k
 reported_once given end parent k position h = only given 2 end parent k position h

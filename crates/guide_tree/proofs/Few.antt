@@ -58,7 +58,8 @@ unfolding IsDistinct
 few n xs d h =
     let l = length-le_from_distinct_below (0 ∷ xs) (n + 1) (no_zero n xs h, distinct xs d) (below_or_zero n xs h) in omega (arith, l)
 
-distinct_or_not : (xs : List ℕ) (n : ℕ) (b : Bool) → is_distinct xs ≡ b → list_all (is_within 1 n) xs ≡ true → n < length xs → is_distinct xs ≡ false
+distinct_or_not : (xs : List ℕ) (n : ℕ) (b : Bool) → is_distinct xs ≡ b → list_all (is_within 1 n) xs ≡ true → n < length xs
+    → is_distinct xs ≡ false
 distinct_or_not xs n true d h many = let l = few n xs d h in absurd (omega (arith, l, many))
 distinct_or_not xs n false d h many = d
 
@@ -66,7 +67,8 @@ distinct_or_not xs n false d h many = d
 pub not_distinct : (s : Slot) (xs : List ℕ) → list_all (has_row s) xs ≡ true → length s.elements < length xs → is_distinct xs ≡ false
 not_distinct s xs h many = distinct_or_not xs (length s.elements) (is_distinct xs) refl h many
 
-pub picks_have_rows : (s : Slot) (picks : List Pick) → list_all (is_pick_of s) picks ≡ true → list_all (has_row s) (map position_of picks) ≡ true
+pub picks_have_rows : (s : Slot) (picks : List Pick) → list_all (is_pick_of s) picks ≡ true
+    → list_all (has_row s) (map position_of picks) ≡ true
 picks_have_rows s [] h = refl
 picks_have_rows s (p ∷ picks) h =
     let a = and_both (is_pick_of s p) (list_all (is_pick_of s) picks) h in
