@@ -21,7 +21,9 @@ delims : Delims
 delims = record { element = 42; component = 62; repetition = Some 94; terminator = 126 }
 
 row : List ℕ → Requirement → ElementType → ℕ → ℕ → Option CodeList → SimpleRow
-row reference requirement data_type least most listed = record { reference = reference; requirement = requirement; data_type = data_type; min = least; max = most; wide = false; codes = listed }
+row reference requirement data_type least most listed =
+    record { reference = reference; requirement = requirement; data_type = data_type; min = least; max = most; wide = false; codes =
+    listed }
 
 number_fault : value_fault (row [] Mandatory data_type.Decimal 1 5 None) (codes "-0012.5") ≡ None
 unfolding row
@@ -31,21 +33,25 @@ sign_alone : value_fault (row [] Mandatory (data_type.Number 0) 1 5 None) (codes
 unfolding row
 sign_alone = refl
 
-long_before_unlisted : value_fault (row [] Mandatory data_type.Identifier 1 2 (Some (record { used = codes "A" ∷ []; unused = None }))) (codes "ABC") ≡ Some ik403.TooLong
+long_before_unlisted : value_fault (row [] Mandatory data_type.Identifier 1 2 (Some (record { used = codes "A" ∷ []; unused = None })))
+    (codes "ABC") ≡ Some ik403.TooLong
 unfolding row
 long_before_unlisted = refl
 
-leap_days : (is_date (codes "20240229") ≡ true) × (is_date (codes "20260229") ≡ false) × (is_date (codes "240229") ≡ true) × (is_date (codes "00000101") ≡ false)
+leap_days : (is_date (codes "20240229") ≡ true) × (is_date (codes "20260229") ≡ false) × (is_date (codes "240229") ≡ true)
+    × (is_date (codes "00000101") ≡ false)
 leap_days = (refl, refl, refl, refl)
 
-times : (is_time (codes "2359") ≡ true) × (is_time (codes "2460") ≡ false) × (is_time (codes "235960") ≡ false) × (is_time (codes "23595999") ≡ true) × (is_time (codes "12345") ≡ false)
+times : (is_time (codes "2359") ≡ true) × (is_time (codes "2460") ≡ false) × (is_time (codes "235960") ≡ false)
+    × (is_time (codes "23595999") ≡ true) × (is_time (codes "12345") ≡ false)
 times = (refl, refl, refl, refl, refl)
 
 -- what each code copies, at component 2 of repetition 2
 abbrev parts : List ℕ
 parts = codes "AB>CD^EF>GH"
 
-nothing_copied : (copy_in delims parts 2 2 ik403.RequiredMissing ≡ []) × (copy_in delims parts 2 2 ik403.ConditionalMissing ≡ []) × (copy_in delims parts 2 2 ik403.DependentMissing ≡ [])
+nothing_copied : (copy_in delims parts 2 2 ik403.RequiredMissing ≡ []) × (copy_in delims parts 2 2 ik403.ConditionalMissing ≡ [])
+    × (copy_in delims parts 2 2 ik403.DependentMissing ≡ [])
 nothing_copied = (refl, refl, refl)
 
 element_copied : (copy_in delims parts 2 2 ik403.TooManyElements ≡ parts) × (copy_in delims parts 2 2 ik403.ExclusionViolated ≡ parts)
@@ -69,13 +75,16 @@ abbrev listed : Option CodeList
 listed = Some (record { used = codes "00" ∷ codes "05" ∷ []; unused = Some (codes "01" ∷ codes "04" ∷ []) })
 
 abbrev beg_row : SimpleRow
-beg_row = record { reference = codes "353"; requirement = Mandatory; data_type = data_type.Identifier; min = 2; max = 2; wide = false; codes = listed }
+beg_row = record { reference = codes "353"; requirement = Mandatory; data_type = data_type.Identifier; min = 2; max = 2; wide =
+    false; codes = listed }
 
 abbrev any_row : SimpleRow
-any_row = record { reference = codes "92"; requirement = Optional; data_type = data_type.Text; min = 1; max = 30; wide = false; codes = None }
+any_row = record { reference = codes "92"; requirement = Optional; data_type = data_type.Text; min = 1; max = 30; wide = false; codes =
+    None }
 
 abbrev day_row : SimpleRow
-day_row = record { reference = codes "373"; requirement = Mandatory; data_type = data_type.Date; min = 8; max = 8; wide = false; codes = None }
+day_row = record { reference = codes "373"; requirement = Mandatory; data_type = data_type.Date; min = 8; max = 8; wide = false; codes =
+    None }
 
 abbrev slot : Slot
 slot = record {
@@ -85,35 +94,42 @@ slot = record {
   min = 1;
   max = 1;
   picks = [];
-  elements = element.Simple beg_row 1 ∷ element.Simple any_row 1 ∷ element.Simple any_row 1 ∷ element.Simple any_row 1 ∷ element.Simple day_row 1 ∷ [];
+  elements = element.Simple beg_row 1 ∷ element.Simple any_row 1 ∷ element.Simple any_row 1 ∷ element.Simple any_row 1 ∷ element.Simple
+      day_row 1 ∷ [];
   conditions = record { relation = relation.Paired; positions = 3 ∷ 4 ∷ [] } ∷ [];
 }
 
 abbrev beg : Segment
 beg = codes "BEG" ∷ codes "01" ∷ codes "SA" ∷ codes "P1" ∷ codes "" ∷ codes "20260229" ∷ []
 
-known_but_not_used : IsElementFault delims beg slot (record { element = 1; component = 0; repetition = 0; code = ik403.CodeNotUsed; reference = codes "353"; copy = codes "01" })
+known_but_not_used : IsElementFault delims beg slot
+    (record { element = 1; component = 0; repetition = 0; code = ik403.CodeNotUsed; reference = codes "353"; copy = codes "01" })
 unfolding delims
 known_but_not_used = inr (inl (record {
   position = 1;
   row = element.Simple beg_row 1;
   there = refl;
   w = wrong_at 0 0 ik403.CodeNotUsed;
-  wrong = inr (inr (inr (record { n = 1; from = omega arith; to = omega arith; filled = refl; few = refl; m = 1; row = _; there = refl; code = ik403.CodeNotUsed; fault = refl; is = refl })));
+  wrong = inr (inr (inr (record { n = 1; from = omega arith; to = omega arith; filled = refl; few = refl; m = 1; row = _; there =
+      refl; code = ik403.CodeNotUsed; fault = refl; is = refl })));
   is = refl;
 }))
 
-no_such_day : IsElementFault delims beg slot (record { element = 5; component = 0; repetition = 0; code = ik403.InvalidDate; reference = codes "373"; copy = codes "20260229" })
+no_such_day : IsElementFault delims beg slot
+    (record { element = 5; component = 0; repetition = 0; code = ik403.InvalidDate; reference = codes "373"; copy = codes "20260229" })
 unfolding delims
 no_such_day = inr (inl (record {
   position = 5;
   row = element.Simple day_row 1;
   there = refl;
   w = wrong_at 0 0 ik403.InvalidDate;
-  wrong = inr (inr (inr (record { n = 1; from = omega arith; to = omega arith; filled = refl; few = refl; m = 1; row = _; there = refl; code = ik403.InvalidDate; fault = refl; is = refl })));
+  wrong = inr (inr (inr (record { n = 1; from = omega arith; to = omega arith; filled = refl; few = refl; m = 1; row = _; there =
+      refl; code = ik403.InvalidDate; fault = refl; is = refl })));
   is = refl;
 }))
 
-pair_is_broken : IsElementFault delims beg slot (record { element = 4; component = 0; repetition = 0; code = ik403.ConditionalMissing; reference = codes "92"; copy = [] })
+pair_is_broken : IsElementFault delims beg slot
+    (record { element = 4; component = 0; repetition = 0; code = ik403.ConditionalMissing; reference = codes "92"; copy = [] })
 unfolding delims
-pair_is_broken = inr (inr (record { condition = _; listed = (0, omega arith, refl); position = 4; broken = (0, omega arith, refl); is = refl }))
+pair_is_broken = inr (inr (record { condition = _; listed = (0, omega arith, refl); position = 4; broken = (0, omega arith, refl); is =
+    refl }))

@@ -1,5 +1,6 @@
 -- The bits of the positions at which conditions are broken, and the faults there: each once, and those of all conditions.
-use Rattle.std.proofs.Common.{◌≡◌, ◌≢◌, ℕ, ◌+◌, ◌<◌, ◌≤◌, ◌∙◌, List, [], ◌∷◌, ◌++◌, Bool, true, false, length, get_or, take, refl, ap, sym, subst, arith, append_assoc, append-nil}
+use Rattle.std.proofs.Common.{◌≡◌, ◌≢◌, ℕ, ◌+◌, ◌<◌, ◌≤◌, ◌∙◌, List, [], ◌∷◌, ◌++◌, Bool, true, false, length, get_or, take, refl, ap, sym}
+use Rattle.std.proofs.Common.{subst, arith, append_assoc, append-nil}
 use Rattle.std.specs.Prelude.{IsTrue, Result, Ok, Err, OnOk, ◌&&◌, ◌==◌, nat_lt, if◌then◌else◌}
 use mathlib.Core.Logic.{◌⊎◌, inl, inr}
 use Rattle.std.specs.Int.{bit_at, w64}
@@ -8,7 +9,8 @@ use Rattle.std.proofs.lemmas.Bool.{cases_eq, lt-ltb, false≢true}
 use Rattle.std.proofs.lemmas.Nat.Bits.{bit_at-zero, bit_at_set_same, bit_at_set_other}
 use Rattle.std.proofs.lemmas.Grind.{flat_map-append}
 use Rattle.std.proofs.lemmas.List.{take_more}
-use Rattle.std.proofs.lemmas.List.Elements.{All-contains, All-weaker, Contains-append_left, Contains-append_right, Contains-append_cases, Contains-push, Contains-push_cases}
+use Rattle.std.proofs.lemmas.List.Elements.{All-contains, All-weaker, Contains-append_left, Contains-append_right, Contains-append_cases}
+use Rattle.std.proofs.lemmas.List.Elements.{Contains-push, Contains-push_cases}
 use Rattle.x12_bytes.specs.declared.delims.Delims.{Delims}
 use Rattle.guide_tree.specs.declared.element.Element.{Element}
 use Rattle.guide_tree.specs.declared.slot.Slot.{Slot}
@@ -40,7 +42,8 @@ none_set p =
 
 -- one more bit is set
 set_now : (bits q : ℕ) → q < 64 → is_set (marked bits q true) q ≡ true
-set_now bits q few = ap (λ b. b && (bit_at (marked bits q true) q == 1)) (lt-ltb q 64 few) ∙ ap (λ bit. bit == 1) (bit_at_set_same w64 bits q few)
+set_now bits q few = ap (λ b. b && (bit_at (marked bits q true) q == 1)) (lt-ltb q 64 few)
+    ∙ ap (λ bit. bit == 1) (bit_at_set_same w64 bits q few)
 
 set_before : (bits q p : ℕ) → q < 64 → p ≢ q → is_set (marked bits q true) p ≡ is_set bits p
 set_before bits q p few other = ap (λ bit. nat_lt p 64 && (bit == 1)) (bit_at_set_other w64 bits q few p other)
@@ -62,7 +65,8 @@ one_more bits q listed few are p = elim (cases_eq p q) [
 
 -- one step of a walk over positions
 pub next_set : (bits next k : ℕ) (positions listed : List ℕ) → k < length positions → get_or positions k 0 < 64
-    → next ≡ marked bits (get_or positions k 0) true → AreBits bits (listed ++ take k positions) → AreBits next (listed ++ take (k + 1) positions)
+    → next ≡ marked bits (get_or positions k 0) true → AreBits bits (listed ++ take k positions)
+        → AreBits next (listed ++ take (k + 1) positions)
 next_set bits next k positions listed within few step are =
     let q = get_or positions k 0 in
     subst (λ n. AreBits n (listed ++ take (k + 1) positions)) (sym step)
@@ -71,7 +75,8 @@ next_set bits next k positions listed within few step are =
     (one_more bits q (listed ++ take k positions) few are))
 
 -- what is listed of one more condition
-pub next_listed : (f : Condition → List ℕ) (conditions : List Condition) (k : ℕ) (x : Condition) → k < length conditions → x ≡ get_or conditions k x
+pub next_listed : (f : Condition → List ℕ) (conditions : List Condition) (k : ℕ) (x : Condition) → k < length conditions
+    → x ≡ get_or conditions k x
     → flat_map f (take k conditions) ++ f x ≡ flat_map f (take (k + 1) conditions)
 next_listed f conditions k x within is =
     ap (λ l. flat_map f (take k conditions) ++ l) (sym (append-nil (f x)))
@@ -160,7 +165,8 @@ module _ (rows : List Element) (texts : List (List ℕ)) (present : ℕ → Bool
     split_marked : (missing excluded : ℕ) (f : ElemFault)
         → AreBits missing (flat_map (missing_at present) conditions) → AreBits excluded (flat_map (excluded_at present) conditions)
         → Contains (flat_map (condition_found_by present rows texts) conditions) f
-        → Contains (marked_found rows texts ik403.ConditionalMissing missing) f ⊎ Contains (marked_found rows texts ik403.ExclusionViolated excluded) f
+        → Contains (marked_found rows texts ik403.ConditionalMissing missing) f
+            ⊎ Contains (marked_found rows texts ik403.ExclusionViolated excluded) f
     split_marked missing excluded f are_missing are_excluded h =
         let a = from_flat_map (condition_found_by present rows texts) conditions f h in
         let c = a.0 in
@@ -193,25 +199,31 @@ module _ (rows : List Element) (texts : List (List ℕ)) (present : ℕ → Bool
             | inr e ↦ inr (from_marked excluded_in ik403.ExclusionViolated excluded f excluded_coded are_excluded e)
           ],
           λ h. subst (λ (l : List ElemFault). Contains l f) (sym b) (elim h [
-            | inl e ↦ Contains-append_left first xs f (subst (λ (l : List ElemFault). Contains l f) (sym a) (Contains-append_left start ms f e))
+            | inl e ↦ Contains-append_left first xs f
+                (subst (λ (l : List ElemFault). Contains l f) (sym a) (Contains-append_left start ms f e))
             | inr e ↦ elim (split_marked missing excluded f are_missing are_excluded e) [
-              | inl m ↦ Contains-append_left first xs f (subst (λ (l : List ElemFault). Contains l f) (sym a) (Contains-append_right start ms f m))
+              | inl m ↦ Contains-append_left first xs f
+                  (subst (λ (l : List ElemFault). Contains l f) (sym a) (Contains-append_right start ms f m))
               | inr x ↦ Contains-append_right first xs f x
             ]
           ]),
         )
 
 -- the three parts of the walk, one behind another, hold what is found
-pub found_members : (delims given : Delims) (s : Segment) (slot : Slot) (rows : List Element) (texts : List (List ℕ)) (conditions : List Condition)
-    (start first second last : List ElemFault) → given ≡ delims → rows ≡ slot.elements → conditions ≡ slot.conditions → texts ≡ texts_of slot s
+pub found_members : (delims given : Delims) (s : Segment) (slot : Slot) (rows : List Element) (texts : List (List ℕ))
+    (conditions : List Condition)
+    (start first second last : List ElemFault) → given ≡ delims → rows ≡ slot.elements → conditions ≡ slot.conditions
+        → texts ≡ texts_of slot s
     → start ≡ [] → first ≡ start ++ rows_found given rows texts → second ≡ first ++ extra_found delims slot s
     → ((f : ElemFault) → (Contains last f → Contains second f ⊎ Contains (conditions_found given rows conditions texts) f)
     × (Contains second f ⊎ Contains (conditions_found given rows conditions texts) f → Contains last f))
     → (f : ElemFault) → (Contains last f → Contains (found delims s slot) f) × (Contains (found delims s slot) f → Contains last f)
-found_members delims given s slot rows texts conditions start first second last is_given are_rows are_conditions are_texts none a b members f =
+found_members delims given s slot rows texts conditions start first second last is_given are_rows are_conditions are_texts none a b members
+    f =
     let cs = conditions_found given rows conditions texts in
     let whole : second ++ cs ≡ found delims s slot =
-    found_joined delims given s slot rows texts conditions start first second (second ++ cs) is_given are_rows are_conditions are_texts none a b refl in (
+    found_joined delims given s slot rows texts conditions start first second
+        (second ++ cs) is_given are_rows are_conditions are_texts none a b refl in (
       λ h. subst (λ (l : List ElemFault). Contains l f) whole (elim ((members f).0 h) [
         | inl e ↦ Contains-append_left second cs f e
         | inr e ↦ Contains-append_right second cs f e
@@ -224,12 +236,15 @@ pub rows_listed : (slot : Slot) (rows : List Element) (conditions : List Conditi
     → IsTrue (list_all (is_condition_of slot) slot.conditions) → All (λ c. All (λ p. (1 ≤ p) × (p ≤ length rows)) c.positions) conditions
 rows_listed slot rows conditions are_rows are_conditions sound =
     subst (λ (rows : List Element). All (λ c. All (λ p. (1 ≤ p) × (p ≤ length rows)) c.positions) conditions) (sym are_rows)
-    (subst (λ (conditions : List Condition). All (λ c. All (λ p. (1 ≤ p) × (p ≤ length slot.elements)) c.positions) conditions) (sym are_conditions)
-    (All-weaker (λ c. IsTrue (is_condition_of slot c)) (λ c. All (λ p. (1 ≤ p) × (p ≤ length slot.elements)) c.positions) (λ c h. positions_have_rows slot c h)
+    (subst (λ (conditions : List Condition). All (λ c. All (λ p. (1 ≤ p) × (p ≤ length slot.elements)) c.positions) conditions)
+        (sym are_conditions)
+    (All-weaker (λ c. IsTrue (is_condition_of slot c)) (λ c. All (λ p. (1 ≤ p) × (p ≤ length slot.elements)) c.positions)
+        (λ c h. positions_have_rows slot c h)
     slot.conditions (conditions_hold slot sound)))
 
 -- and so name few
-pub few_listed : (n : ℕ) (conditions : List Condition) → n ≤ 40 → All (λ c. All (λ p. (1 ≤ p) × (p ≤ n)) c.positions) conditions → All (λ c. All (λ p. p < 64) c.positions) conditions
+pub few_listed : (n : ℕ) (conditions : List Condition) → n ≤ 40 → All (λ c. All (λ p. (1 ≤ p) × (p ≤ n)) c.positions) conditions
+    → All (λ c. All (λ p. p < 64) c.positions) conditions
 few_listed n conditions few h =
     All-weaker (λ c. All (λ p. (1 ≤ p) × (p ≤ n)) c.positions) (λ c. All (λ p. p < 64) c.positions)
     (λ c w. All-weaker (λ p. (1 ≤ p) × (p ≤ n)) (λ p. p < 64) (λ p w. omega (arith, few, w.1)) c.positions w) conditions h

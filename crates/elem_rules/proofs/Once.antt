@@ -23,7 +23,8 @@ use Rattle.elem_rules.specs.Found.{IsKeyed}
 abbrev all_codes : List ElementCode
 all_codes =
     ik403.RequiredMissing ∷ ik403.ConditionalMissing ∷ ik403.TooManyElements ∷ ik403.TooShort ∷ ik403.TooLong ∷ ik403.InvalidCharacter
-    ∷ ik403.InvalidCode ∷ ik403.InvalidDate ∷ ik403.InvalidTime ∷ ik403.ExclusionViolated ∷ ik403.TooManyRepetitions ∷ ik403.TooManyComponents
+    ∷ ik403.InvalidCode ∷ ik403.InvalidDate ∷ ik403.InvalidTime ∷ ik403.ExclusionViolated ∷ ik403.TooManyRepetitions ∷
+        ik403.TooManyComponents
     ∷ ik403.CodeNotUsed ∷ ik403.DependentMissing ∷ ik403.NotUsedPresent ∷ ik403.PatternFailure ∷ ik403.DependentNotUsedPresent ∷ []
 
 code_at_rank : (code d : ElementCode) → get_or all_codes (element_rank code) d ≡ code
@@ -49,7 +50,8 @@ same_code : (a b : ElementCode) → element_rank a ≡ element_rank b → a ≡ 
 same_code a b h = sym (code_at_rank a a) ∙ ap (λ n. get_or all_codes n a) h ∙ code_at_rank b a
 
 -- faults with the same key have the same place and code
-pub same_place : (f g : ElemFault) → elem_key (Some f) ≡ elem_key (Some g) → (f.element ≡ g.element) × (f.component ≡ g.component) × (f.repetition ≡ g.repetition) × (f.code ≡ g.code)
+pub same_place : (f g : ElemFault) → elem_key (Some f) ≡ elem_key (Some g)
+    → (f.element ≡ g.element) × (f.component ≡ g.component) × (f.repetition ≡ g.repetition) × (f.code ≡ g.code)
 same_place f g h =
     (ap (λ k. get_or k 0 0) h, ap (λ k. get_or k 1 0) h, ap (λ k. get_or k 2 0) h, same_code f.code g.code (ap (λ k. get_or k 3 0) h))
 
@@ -72,9 +74,11 @@ equal_from Equal h = refl
 equal_from Greater h = cc
 
 pub once_from : (found sorted : List ElemFault) (f : ElemFault) → IsPermutation found sorted → Contains (once sorted) f → Contains found f
-once_from found sorted f moved h = Contains-permutation sorted found f (IsPermutation-sym found sorted moved) (Contains-from_dedup (eq_by_cmp order_of) sorted f h)
+once_from found sorted f moved h = Contains-permutation sorted found f (IsPermutation-sym found sorted moved)
+    (Contains-from_dedup (eq_by_cmp order_of) sorted f h)
 
-pub once_to : (found sorted : List ElemFault) (f : ElemFault) → IsPermutation found sorted → IsKeyed found → Contains found f → Contains (once sorted) f
+pub once_to : (found sorted : List ElemFault) (f : ElemFault) → IsPermutation found sorted → IsKeyed found → Contains found f
+    → Contains (once sorted) f
 once_to found sorted f moved keyed h =
     let kept = Any-dedup (eq_by_cmp_equiv order_total) sorted f (Contains-permutation found sorted f moved h) in
     let g = kept.1 in

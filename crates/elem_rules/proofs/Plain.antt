@@ -41,7 +41,8 @@ one_component delims text h =
     one_part (λ b. b == delims.component) text
     (any_either (λ b. b == delims.component) (λ b. option_map_or (λ separator. b == separator) delims.repetition false) text h).0
 
-one_by : (separator : Option ℕ) (text : List ℕ) → list_any (λ b. option_map_or (λ separator. b == separator) separator false) text ≡ false → parts_by separator text ≡ text ∷ []
+one_by : (separator : Option ℕ) (text : List ℕ) → list_any (λ b. option_map_or (λ separator. b == separator) separator false) text ≡ false
+    → parts_by separator text ≡ text ∷ []
 one_by None text h = refl
 one_by (Some s) text h = one_part (λ b. b == s) text h
 
@@ -56,13 +57,15 @@ filled_plain delims byte bytes h =
     rw e.0 refl
 
 -- parts of a text without such bytes have none
-part_none-cons : (p : ℕ → Bool) (x : ℕ) (list : List (List ℕ)) → p x ≡ false → ((n : ℕ) → list_any p (get_or list n []) ≡ false) → (n : ℕ) → list_any p (get_or (onto_first x list) n []) ≡ false
+part_none-cons : (p : ℕ → Bool) (x : ℕ) (list : List (List ℕ)) → p x ≡ false → ((n : ℕ) → list_any p (get_or list n []) ≡ false) → (n : ℕ)
+    → list_any p (get_or (onto_first x list) n []) ≡ false
 part_none-cons p x [] e h zero = nor (p x) false e refl
 part_none-cons p x [] e h (suc n) = refl
 part_none-cons p x (part ∷ list) e h zero = nor (p x) (list_any p part) e (h 0)
 part_none-cons p x (part ∷ list) e h (suc n) = h (suc n)
 
-part_none-first : (p : ℕ → Bool) (list : List (List ℕ)) → ((n : ℕ) → list_any p (get_or list n []) ≡ false) → (n : ℕ) → list_any p (get_or ([] ∷ list) n []) ≡ false
+part_none-first : (p : ℕ → Bool) (list : List (List ℕ)) → ((n : ℕ) → list_any p (get_or list n []) ≡ false) → (n : ℕ)
+    → list_any p (get_or ([] ∷ list) n []) ≡ false
 part_none-first p list h zero = refl
 part_none-first p list h (suc n) = h n
 
@@ -76,7 +79,8 @@ part_none p q (x ∷ xs) h n =
       | false ↦ part_none-cons p x (slice_split q xs) e.0 (part_none p q xs e.1) n
     ]
 
-pub plain_part : (delims : Delims) (separator : ℕ) (text : List ℕ) (n : ℕ) → IsPlain delims text → IsPlain delims (get_or (parts separator text) n [])
+pub plain_part : (delims : Delims) (separator : ℕ) (text : List ℕ) (n : ℕ) → IsPlain delims text
+    → IsPlain delims (get_or (parts separator text) n [])
 plain_part delims separator text n h = part_none (is_inner_separator delims) (λ b. b == separator) text h n
 
 -- what a search finds
@@ -94,15 +98,20 @@ or_false : (b : Bool) → b ≡ (b || false)
 or_false true = refl
 or_false false = refl
 
-inner_one : (delims : Delims) (r : Option ℕ) → r ≡ None → delims.repetition ≡ r → (x : ℕ) → is_inner_separator delims x ≡ is_byte delims.component x
-inner_one delims r is none x = ap (λ o. (x == delims.component) || option_map_or (λ separator. x == separator) o false) (none ∙ is) ∙ sym (or_false (x == delims.component))
+inner_one : (delims : Delims) (r : Option ℕ) → r ≡ None → delims.repetition ≡ r → (x : ℕ)
+    → is_inner_separator delims x ≡ is_byte delims.component x
+inner_one delims r is none x = ap (λ o. (x == delims.component) || option_map_or (λ separator. x == separator) o false) (none ∙ is)
+    ∙ sym (or_false (x == delims.component))
 
-pub plain_one : (delims : Delims) (text : List ℕ) → delims.repetition ≡ None → IsFirstByte (is_byte delims.component) text None → IsPlain delims text
+pub plain_one : (delims : Delims) (text : List ℕ) → delims.repetition ≡ None → IsFirstByte (is_byte delims.component) text None
+    → IsPlain delims text
 plain_one delims text none h =
     same_tests (is_inner_separator delims) (is_byte delims.component) text (inner_one delims None refl none)
     ∙ none_passes (is_byte delims.component) text (λ j lt. h j (omega arith) lt)
 
-pub plain_two : (delims : Delims) (text : List ℕ) (separator : ℕ) → delims.repetition ≡ Some separator → IsFirstByte (is_byte2 delims.component separator) text None → IsPlain delims text
+pub plain_two : (delims : Delims) (text : List ℕ) (separator : ℕ) → delims.repetition ≡ Some separator
+    → IsFirstByte (is_byte2 delims.component separator) text None → IsPlain delims text
 plain_two delims text separator is h =
-    same_tests (is_inner_separator delims) (is_byte2 delims.component separator) text (λ x. ap (λ o. (x == delims.component) || option_map_or (λ separator. x == separator) o false) is)
+    same_tests (is_inner_separator delims) (is_byte2 delims.component separator) text
+        (λ x. ap (λ o. (x == delims.component) || option_map_or (λ separator. x == separator) o false) is)
     ∙ none_passes (is_byte2 delims.component separator) text (λ j lt. h j (omega arith) lt)

@@ -1,5 +1,6 @@
 -- Where a quick look finds a segment clean, the walk finds nothing.
-use Rattle.std.proofs.Common.{◌≡◌, ℕ, zero, suc, ◌+◌, ◌-◌, ◌<◌, ◌≤◌, ◌∙◌, List, [], ◌∷◌, ◌++◌, Bool, true, false, length, get_or, take, drop, refl, ap, sym, subst, arith}
+use Rattle.std.proofs.Common.{◌≡◌, ℕ, zero, suc, ◌+◌, ◌-◌, ◌<◌, ◌≤◌, ◌∙◌, List, [], ◌∷◌, ◌++◌, Bool, true, false, length, get_or, take}
+use Rattle.std.proofs.Common.{drop, refl, ap, sym, subst, arith}
 use Rattle.std.specs.Prelude.{Option, Some, None, is_none, IsTrue, ◌&&◌, ◌||◌, not, nat_le, if◌then◌else◌}
 use Rattle.std.specs.Option.{option_map_or}
 use Rattle.std.specs.List.{All, Contains, list_any, list_all, filter, flat_map}
@@ -23,7 +24,8 @@ use Rattle.elem_rules.specs.Rows.{Usage, simple_usage, composite_usage, shown_re
 use Rattle.elem_rules.specs.ElementFaults.{missing_fault, component_fault}
 use Rattle.elem_rules.specs.Conditions.{absent, broken_at}
 use Rattle.elem_rules.specs.Values.{value_fault}
-use Rattle.elem_rules.specs.Found.{up_to, fault, reported, components_found, occurrence_found, occurrences_found, usage_found, element_found}
+use Rattle.elem_rules.specs.Found.{up_to, fault, reported, components_found, occurrence_found, occurrences_found, usage_found}
+use Rattle.elem_rules.specs.Found.{element_found}
 use Rattle.std.specs.Prelude.{◌==◌, nat_lt}
 use Rattle.std.specs.Int.{bit_at}
 use Rattle.std.proofs.lemmas.Option.{none-some, same_Some}
@@ -37,7 +39,8 @@ use Rattle.guide_tree.specs.declared.slot.Condition.{Condition}
 use Rattle.guide_tree.specs.Conditions.{is_condition_of}
 use Rattle.guide_tree.specs.Segments.{Segment, element_of}
 use Rattle.elem_rules.specs.ElementFaults.{IsElementFault}
-use Rattle.elem_rules.specs.Found.{text_at, texts_of, rows_found, extra_found, condition_found, conditions_found, broken_found, is_present_in, found}
+use Rattle.elem_rules.specs.Found.{text_at, texts_of, rows_found, extra_found, condition_found, conditions_found, broken_found}
+use Rattle.elem_rules.specs.Found.{is_present_in, found}
 use Rattle.elem_rules.proofs.Members.{no_member}
 use Rattle.elem_rules.proofs.Membership.{is_found}
 use Rattle.elem_rules.proofs.Agreeing.{text_of_row, broken_agrees, positions_have_rows, conditions_hold}
@@ -59,7 +62,8 @@ none_from (Some a) h = cc
 pub up_to_none : {A : Type 0} (f : ℕ → List A) (n : ℕ) → ((k : ℕ) → 1 ≤ k → k ≤ n → f k ≡ []) → up_to f n ≡ []
 up_to_none f zero h = refl
 up_to_none f (suc n) h =
-    ap (λ l. up_to f n ++ l) (h (suc n) (omega arith) (omega arith)) ∙ ap (λ l. l ++ []) (up_to_none f n (λ k from to. h k from (omega arith)))
+    ap (λ l. up_to f n ++ l) (h (suc n) (omega arith) (omega arith))
+        ∙ ap (λ l. l ++ []) (up_to_none f n (λ k from to. h k from (omega arith)))
 
 -- one text has no more than one part
 pub one_more : (delims : Delims) (n : ℕ) (text : List ℕ) → 1 ≤ n → has_more delims n (text ∷ []) ≡ false
@@ -72,7 +76,8 @@ empty_more delims zero = refl
 empty_more delims (suc n) = ap (list_any (is_filled delims)) (drop_nil n [] refl)
 
 -- an empty occurrence has no fault
-pub nothing_in_empty : (delims : Delims) (e r : ℕ) (reference : List ℕ) (is_composite : Bool) (rows : List Component) → occurrence_found delims e r reference is_composite rows [] ≡ []
+pub nothing_in_empty : (delims : Delims) (e r : ℕ) (reference : List ℕ) (is_composite : Bool) (rows : List Component)
+    → occurrence_found delims e r reference is_composite rows [] ≡ []
 nothing_in_empty delims e r reference is_composite rows =
     ap (λ b. if b then fault e (length rows + 1) r ik403.TooManyComponents reference (component_in delims [] (length rows + 1)) ∷ []
     else (if is_empty delims [] then [] else components_found delims e r is_composite rows []))
@@ -91,27 +96,42 @@ first_occurrence delims text h = ap (λ parts. get_or parts 0 []) (one_occurrenc
 
 -- an element with one occurrence without fault has no fault in its occurrences
 usage_clean : (delims : Delims) (e : ℕ) (usage : Usage) (text : List ℕ) → 1 ≤ usage.repeat → IsPlain delims text
-    → occurrence_found delims e (shown_repetition usage 1) usage.reference usage.is_composite usage.components text ≡ [] → usage_found delims e text usage ≡ []
+    → occurrence_found delims e (shown_repetition usage 1) usage.reference usage.is_composite usage.components text ≡ []
+        → usage_found delims e text usage ≡ []
 usage_clean delims e usage text repeat plain first =
-    let few : has_more delims usage.repeat (occurrences delims text) ≡ false = ap (λ parts. has_more delims usage.repeat parts) (one_occurrence delims text plain) ∙ one_more delims usage.repeat text repeat in
-    let each : (n : ℕ) → 1 ≤ n → n ≤ usage.repeat → occurrence_found delims e (shown_repetition usage n) usage.reference usage.is_composite usage.components (occurrence_in delims text n) ≡ [] = (λ n from to. one_by_one n from) in
-    ap (λ b. (if b then fault e 0 (usage.repeat + 1) ik403.TooManyRepetitions usage.reference (occurrence_in delims text (usage.repeat + 1)) ∷ [] else []) ++ occurrences_found delims e usage text) few
+    let few : has_more delims usage.repeat (occurrences delims text) ≡ false =
+        ap (λ parts. has_more delims usage.repeat parts) (one_occurrence delims text plain) ∙ one_more delims usage.repeat text repeat in
+    let each : (n : ℕ) → 1 ≤ n → n ≤ usage.repeat
+        → occurrence_found delims e (shown_repetition usage n) usage.reference usage.is_composite usage.components
+        (occurrence_in delims text n) ≡ [] = (λ n from to. one_by_one n from) in
+    ap (λ b. (if b then fault e 0 (usage.repeat + 1) ik403.TooManyRepetitions usage.reference
+        (occurrence_in delims text (usage.repeat + 1)) ∷ [] else []) ++ occurrences_found delims e usage text) few
     ∙ up_to_none _ usage.repeat each
   where
-    one_by_one : (n : ℕ) → 1 ≤ n → occurrence_found delims e (shown_repetition usage n) usage.reference usage.is_composite usage.components (occurrence_in delims text n) ≡ []
+    one_by_one : (n : ℕ) → 1 ≤ n → occurrence_found delims e (shown_repetition usage n) usage.reference usage.is_composite usage.components
+        (occurrence_in delims text n) ≡ []
     one_by_one zero from = absurd (omega arith)
-    one_by_one (suc zero) from = ap (λ t. occurrence_found delims e (shown_repetition usage 1) usage.reference usage.is_composite usage.components t) (first_occurrence delims text plain) ∙ first
-    one_by_one (suc (suc n)) from = ap (λ t. occurrence_found delims e (shown_repetition usage (suc (suc n))) usage.reference usage.is_composite usage.components t) (other_occurrence delims text (suc (suc n)) plain (omega arith)) ∙ nothing_in_empty delims e (shown_repetition usage (suc (suc n))) usage.reference usage.is_composite usage.components
+    one_by_one (suc zero) from = ap (λ t. occurrence_found delims e
+        (shown_repetition usage 1) usage.reference usage.is_composite usage.components t) (first_occurrence delims text plain) ∙ first
+    one_by_one (suc (suc n)) from = ap (λ t. occurrence_found delims e
+        (shown_repetition usage (suc (suc n))) usage.reference usage.is_composite usage.components t)
+        (other_occurrence delims text (suc (suc n)) plain (omega arith))
+        ∙ nothing_in_empty delims e (shown_repetition usage (suc (suc n))) usage.reference usage.is_composite usage.components
 
 -- a value without fault is an occurrence without fault
-value_clean : (delims : Delims) (e r : ℕ) (row : SimpleRow) (byte : ℕ) (bytes : List ℕ) → IsPlain delims (byte ∷ bytes) → value_fault row (byte ∷ bytes) ≡ None → occurrence_found delims e r row.reference false (component.Simple row ∷ []) (byte ∷ bytes) ≡ []
+value_clean : (delims : Delims) (e r : ℕ) (row : SimpleRow) (byte : ℕ) (bytes : List ℕ) → IsPlain delims (byte ∷ bytes)
+    → value_fault row (byte ∷ bytes) ≡ None → occurrence_found delims e r row.reference false (component.Simple row ∷ [])
+    (byte ∷ bytes) ≡ []
 value_clean delims e r row byte bytes plain good =
     let text = byte ∷ bytes in
-    let few : has_more delims 1 (components delims text) ≡ false = ap (λ parts. has_more delims 1 parts) (one_component delims text plain) in
+    let few : has_more delims 1 (components delims text) ≡ false =
+        ap (λ parts. has_more delims 1 parts) (one_component delims text plain) in
     let filled : is_empty delims text ≡ false = filled_plain delims byte bytes plain in
     let is : component_in delims text 1 ≡ text = ap (λ parts. get_or parts 0 []) (one_component delims text plain) in
-    let fault_of : component_fault delims (component.Simple row) text ≡ None = ap (λ b. if b then missing_fault row.requirement else value_fault row text) filled ∙ good in
-    ap (λ b. if b then fault e 2 r ik403.TooManyComponents row.reference (component_in delims text 2) ∷ [] else (if is_empty delims text then [] else components_found delims e r false (component.Simple row ∷ []) text)) few
+    let fault_of : component_fault delims (component.Simple row) text ≡ None =
+        ap (λ b. if b then missing_fault row.requirement else value_fault row text) filled ∙ good in
+    ap (λ b. if b then fault e 2 r ik403.TooManyComponents row.reference (component_in delims text 2) ∷ [] else
+        (if is_empty delims text then [] else components_found delims e r false (component.Simple row ∷ []) text)) few
     ∙ ap (λ b. if b then [] else components_found delims e r false (component.Simple row ∷ []) text) filled
     ∙ ap (λ t. reported e 0 r row.reference t (component_fault delims (component.Simple row) t)) is
     ∙ ap (λ o. reported e 0 r row.reference text o) fault_of
@@ -127,7 +147,8 @@ repeat_from_three : (a b c : Bool) (n : ℕ) → (((nat_le 1 n && a) && b) && c)
 repeat_from_three a b c n h = repeat_from a b n (both ((nat_le 1 n && a) && b) c h).0
 
 -- a row that may be empty and is
-pub empty_clean : (delims : Delims) (e : ℕ) (row : Element) → IsTrue (is_element_bounded row) → fits_empty row ≡ true → element_found delims e row [] ≡ []
+pub empty_clean : (delims : Delims) (e : ℕ) (row : Element) → IsTrue (is_element_bounded row) → fits_empty row ≡ true
+    → element_found delims e row [] ≡ []
 empty_clean delims e (element.NotUsed reference) bounded h = refl
 empty_clean delims e (element.Simple row repeat) bounded h =
     ap (λ o. reported e 0 0 row.reference [] o ++ usage_found delims e [] (simple_usage row repeat)) (missing_none row.requirement h)
@@ -135,21 +156,26 @@ empty_clean delims e (element.Simple row repeat) bounded h =
     (nothing_in_empty delims e (shown_repetition (simple_usage row repeat) 1) row.reference false (component.Simple row ∷ []))
 empty_clean delims e (element.Composite row) bounded h =
     ap (λ o. reported e 0 0 row.reference [] o ++ usage_found delims e [] (composite_usage row)) (missing_none row.requirement h)
-    ∙ usage_clean delims e (composite_usage row) [] (repeat_from_three (nat_le row.repeat 999) (nat_le (length row.components) 20) (list_all is_component_bounded row.components) row.repeat bounded) refl
+    ∙ usage_clean delims e (composite_usage row) []
+        (repeat_from_three (nat_le row.repeat 999) (nat_le (length row.components) 20)
+        (list_all is_component_bounded row.components) row.repeat bounded) refl
     (nothing_in_empty delims e (shown_repetition (composite_usage row) 1) row.reference true row.components)
 
-pub value_fits : (delims : Delims) (e : ℕ) (row : Element) (byte : ℕ) (bytes : List ℕ) → IsTrue (is_element_bounded row) → IsPlain delims (byte ∷ bytes) → fits_value row (byte ∷ bytes) ≡ true → element_found delims e row (byte ∷ bytes) ≡ []
+pub value_fits : (delims : Delims) (e : ℕ) (row : Element) (byte : ℕ) (bytes : List ℕ) → IsTrue (is_element_bounded row)
+    → IsPlain delims (byte ∷ bytes) → fits_value row (byte ∷ bytes) ≡ true → element_found delims e row (byte ∷ bytes) ≡ []
 value_fits delims e (element.NotUsed reference) byte bytes bounded plain h = cc
 value_fits delims e (element.Simple row repeat) byte bytes bounded plain h =
     let text = byte ∷ bytes in
     let filled : is_empty delims text ≡ false = filled_plain delims byte bytes plain in
-    ap (λ b. reported e 0 0 row.reference text (if b then missing_fault row.requirement else None) ++ usage_found delims e text (simple_usage row repeat)) filled
+    ap (λ b. reported e 0 0 row.reference text (if b then missing_fault row.requirement else None) ++ usage_found delims e text
+        (simple_usage row repeat)) filled
     ∙ usage_clean delims e (simple_usage row repeat) text (repeat_from (nat_le repeat 999) (is_row_bounded row) repeat bounded) plain
     (value_clean delims e (shown_repetition (simple_usage row repeat) 1) row byte bytes plain (none_from (value_fault row text) h))
 value_fits delims e (element.Composite row) byte bytes bounded plain h = cc
 
 -- an element that fits its row has no fault
-pub fits_clean : (delims : Delims) (e : ℕ) (row : Element) (text : List ℕ) → IsTrue (is_element_bounded row) → IsPlain delims text → fits row text ≡ true → element_found delims e row text ≡ []
+pub fits_clean : (delims : Delims) (e : ℕ) (row : Element) (text : List ℕ) → IsTrue (is_element_bounded row) → IsPlain delims text
+    → fits row text ≡ true → element_found delims e row text ≡ []
 fits_clean delims e row [] bounded plain h = empty_clean delims e row bounded h
 fits_clean delims e row (byte ∷ bytes) bounded plain h = value_fits delims e row byte bytes bounded plain h
 
@@ -174,19 +200,25 @@ none_if true true xs h = refl
 none_if true false xs h = cc
 none_if false b xs h = refl
 
-pub holds_whole : (present : ℕ → Bool) (r : Relation) (positions : List ℕ) → holds present r positions ≡ true → broken_at present r positions ≡ []
-holds_whole present relation.Paired positions h = unless (list_any present positions) (list_all present positions) (absent present positions) h (all_none present positions)
+pub holds_whole : (present : ℕ → Bool) (r : Relation) (positions : List ℕ) → holds present r positions ≡ true
+    → broken_at present r positions ≡ []
+holds_whole present relation.Paired positions h =
+    unless (list_any present positions) (list_all present positions) (absent present positions) h (all_none present positions)
 holds_whole present relation.Required positions h = ap (λ b. if b then [] else take 1 positions) h
 holds_whole present relation.Exclusion positions h = few_dropped (filter present positions) h
-holds_whole present relation.Conditional positions h = unless (list_any present (take 1 positions)) (list_all present (drop 1 positions)) (absent present (drop 1 positions)) h (all_none present (drop 1 positions))
-holds_whole present relation.ListConditional positions h = none_if (list_any present (take 1 positions)) (list_any present (drop 1 positions)) (take 1 (drop 1 positions)) h
+holds_whole present relation.Conditional positions h =
+    unless (list_any present (take 1 positions)) (list_all present (drop 1 positions)) (absent present (drop 1 positions)) h
+    (all_none present (drop 1 positions))
+holds_whole present relation.ListConditional positions h =
+    none_if (list_any present (take 1 positions)) (list_any present (drop 1 positions)) (take 1 (drop 1 positions)) h
 
 -- bits
 unmarked : (present : ℕ → Bool) (n i : ℕ) → n < i → n < 64 → bit_at (bits_to present n) i ≡ 0
 unmarked present zero i above few = bit_at-zero i
 unmarked present (suc n) i above few =
     elim (present (suc n)) as (λ b. bit_at (marked (bits_to present n) (suc n) b) i ≡ 0) [
-      | true ↦ bit_at_set_other w64 (bits_to present n) (suc n) few i (λ e. omega (arith, e)) ∙ unmarked present n i (omega arith) (omega arith)
+      | true ↦ bit_at_set_other w64 (bits_to present n) (suc n) few i (λ e. omega (arith, e))
+          ∙ unmarked present n i (omega arith) (omega arith)
       | false ↦ unmarked present n i (omega arith) (omega arith)
     ]
 
@@ -221,7 +253,8 @@ is_set_to present n i from to few =
 
 pub is_set_past : (present : ℕ → Bool) (n i : ℕ) → n < 64 → n < i → is_set (bits_to present n) i ≡ false
 is_set_past present n i few past = elim (cases_Bool (nat_lt i 64)) [
-  | inl e ↦ let lt = ltb-true i 64 e in ap (λ b. b && (bit_at (bits_to present n) i == 1)) e ∙ ap (λ bit. bit == 1) (unmarked present n i past few)
+  | inl e ↦ let lt = ltb-true i 64 e in ap (λ b. b && (bit_at (bits_to present n) i == 1)) e
+      ∙ ap (λ bit. bit == 1) (unmarked present n i past few)
   | inr e ↦ ap (λ b. b && (bit_at (bits_to present n) i == 1)) e
 ]
 
@@ -252,7 +285,8 @@ all_nth P (y ∷ xs) (suc (suc k)) x h e = all_nth P xs (suc k) x (All-tail P y 
 
 both_hold : {X : Type 0} (P Q : X → Type 0) (xs : List X) → All P xs → All Q xs → All (λ x. P x × Q x) xs
 both_hold P Q [] h g = All-nil (λ x. P x × Q x)
-both_hold P Q (x ∷ xs) h g = All-cons (λ x. P x × Q x) x xs (All-head P x xs h, All-head Q x xs g) (both_hold P Q xs (All-tail P x xs h) (All-tail Q x xs g))
+both_hold P Q (x ∷ xs) h g = All-cons (λ x. P x × Q x) x xs (All-head P x xs h, All-head Q x xs g)
+    (both_hold P Q xs (All-tail P x xs h) (All-tail Q x xs g))
 
 -- what the quick look at a segment makes sure of
 pub record LooksClean (delims : Delims) (s : Segment) (slot : Slot) : Type 0 where
@@ -262,21 +296,27 @@ pub record LooksClean (delims : Delims) (s : Segment) (slot : Slot) : Type 0 whe
   pub plain : (k : ℕ) → IsPlain delims (element_of s k)
   pub fit : (k : ℕ) (row : Element) → nth slot.elements k ≡ Some row → IsTrue (fits row (element_of s k))
   pub no_more : drop (length slot.elements) (drop 1 s) ≡ []
-  pub hold : All (λ c. IsTrue (holds (is_set (bits_to (λ k. has_bytes (element_of s k)) (length slot.elements))) c.relation c.positions)) slot.conditions
+  pub hold : All (λ c. IsTrue (holds (is_set (bits_to (λ k. has_bytes (element_of s k)) (length slot.elements))) c.relation c.positions))
+      slot.conditions
 
 module _ (delims : Delims) (s : Segment) (slot : Slot) (g : LooksClean delims s slot) where
-  one_clean : (k : ℕ) (o : Option Element) → nth slot.elements k ≡ o → option_map_or (λ row. element_found delims k row (element_of s k)) o [] ≡ []
+  one_clean : (k : ℕ) (o : Option Element) → nth slot.elements k ≡ o
+      → option_map_or (λ row. element_found delims k row (element_of s k)) o [] ≡ []
   one_clean k None e = refl
-  one_clean k (Some row) e = fits_clean delims k row (element_of s k) (all_nth (λ row. IsTrue (is_element_bounded row)) slot.elements k row g.bounded e) (g.plain k) (g.fit k row e)
+  one_clean k (Some row) e = fits_clean delims k row (element_of s k)
+      (all_nth (λ row. IsTrue (is_element_bounded row)) slot.elements k row g.bounded e) (g.plain k) (g.fit k row e)
 
   rows_clean : rows_found delims slot.elements (texts_of slot s) ≡ []
   rows_clean =
-      up_to_none (λ k. option_map_or (λ row. element_found delims k row (text_at (texts_of slot s) k)) (nth slot.elements k) []) (length slot.elements)
-      (λ k from to. ap (λ t. option_map_or (λ row. element_found delims k row t) (nth slot.elements k) []) (text_of_row slot s k from to) ∙ one_clean k (nth slot.elements k) refl)
+      up_to_none (λ k. option_map_or (λ row. element_found delims k row (text_at (texts_of slot s) k)) (nth slot.elements k) [])
+          (length slot.elements)
+      (λ k from to. ap (λ t. option_map_or (λ row. element_found delims k row t) (nth slot.elements k) []) (text_of_row slot s k from to)
+          ∙ one_clean k (nth slot.elements k) refl)
 
   extra_clean : extra_found delims slot s ≡ []
   extra_clean =
-      ap (λ b. if b then fault (length slot.elements + 1) 0 0 ik403.TooManyElements [] (element_of s (length slot.elements + 1)) ∷ [] else [])
+      ap (λ b. if b then fault (length slot.elements + 1) 0 0 ik403.TooManyElements []
+          (element_of s (length slot.elements + 1)) ∷ [] else [])
       (ap (list_any (is_filled delims)) g.no_more)
 
   abbrev bits : ℕ
@@ -288,16 +328,20 @@ module _ (delims : Delims) (s : Segment) (slot : Slot) (g : LooksClean delims s 
       ap (is_filled delims) (text_of_row slot s p from to) ∙ filled_as delims (element_of s p) (g.plain p)
       ∙ sym (is_set_to (λ k. has_bytes (element_of s k)) (length slot.elements) p from to (omega arith))
 
-  condition_clean : (c : Condition) → IsTrue (is_condition_of slot c) → IsTrue (holds (is_set bits) c.relation c.positions) → condition_found delims slot.elements (texts_of slot s) c ≡ []
+  condition_clean : (c : Condition) → IsTrue (is_condition_of slot c) → IsTrue (holds (is_set bits) c.relation c.positions)
+      → condition_found delims slot.elements (texts_of slot s) c ≡ []
   condition_clean c sound h =
       ap (λ l. flat_map (broken_found slot.elements (texts_of slot s) (condition_code c.relation)) l)
       (broken_agrees (is_present_in delims (texts_of slot s)) (is_set bits) c.relation c.positions
-      (All-weaker (λ p. (1 ≤ p) × (p ≤ length slot.elements)) (λ p. is_present_in delims (texts_of slot s) p ≡ is_set bits p) (λ p w. set_as p w.0 w.1) c.positions (positions_have_rows slot c sound))
+      (All-weaker (λ p. (1 ≤ p) × (p ≤ length slot.elements)) (λ p. is_present_in delims (texts_of slot s) p ≡ is_set bits p)
+          (λ p w. set_as p w.0 w.1) c.positions (positions_have_rows slot c sound))
       ∙ holds_whole (is_set bits) c.relation c.positions h)
 
   conditions_clean : conditions_found delims slot.elements slot.conditions (texts_of slot s) ≡ []
-  conditions_clean = flat_none (condition_found delims slot.elements (texts_of slot s)) (λ c. IsTrue (is_condition_of slot c) × IsTrue (holds (is_set bits) c.relation c.positions)) slot.conditions
-      (both_hold (λ c. IsTrue (is_condition_of slot c)) (λ c. IsTrue (holds (is_set bits) c.relation c.positions)) slot.conditions (conditions_hold slot g.sound) g.hold)
+  conditions_clean = flat_none (condition_found delims slot.elements (texts_of slot s))
+      (λ c. IsTrue (is_condition_of slot c) × IsTrue (holds (is_set bits) c.relation c.positions)) slot.conditions
+      (both_hold (λ c. IsTrue (is_condition_of slot c)) (λ c. IsTrue (holds (is_set bits) c.relation c.positions)) slot.conditions
+          (conditions_hold slot g.sound) g.hold)
       (λ c w. condition_clean c w.0 w.1)
 
   found_clean : found delims s slot ≡ []

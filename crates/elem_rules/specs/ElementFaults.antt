@@ -43,7 +43,8 @@ copy_in delims element component repetition ik403.InvalidDate = component_in del
 copy_in delims element component repetition ik403.InvalidTime = component_in delims (occurrence_in delims element repetition) component
 copy_in delims element component repetition ik403.ExclusionViolated = element
 copy_in delims element component repetition ik403.TooManyRepetitions = occurrence_in delims element repetition
-copy_in delims element component repetition ik403.TooManyComponents = component_in delims (occurrence_in delims element repetition) component
+copy_in delims element component repetition ik403.TooManyComponents =
+    component_in delims (occurrence_in delims element repetition) component
 copy_in delims element component repetition ik403.CodeNotUsed = component_in delims (occurrence_in delims element repetition) component
 copy_in delims element component repetition ik403.DependentMissing = []
 copy_in delims element component repetition ik403.NotUsedPresent =

@@ -18,9 +18,11 @@ loop-condition-preserved c =
     let missing = missing_at (is_set c.args.present) in
     let excluded = excluded_at (is_set c.args.present) in
     record {
-      missing = subst (λ (l : List ℕ). AreBits next.missing l) (next_listed missing all k c.condition-item.result c.loop-condition-test.true c.condition-item.is)
+      missing = subst (λ (l : List ℕ). AreBits next.missing l)
+          (next_listed missing all k c.condition-item.result c.loop-condition-test.true c.condition-item.is)
           (c.in_ok-broken.ensures.missing (flat_map missing (take k all)) c.loop-condition.invariant.missing);
-      excluded = subst (λ (l : List ℕ). AreBits next.excluded l) (next_listed excluded all k c.condition-item.result c.loop-condition-test.true c.condition-item.is)
+      excluded = subst (λ (l : List ℕ). AreBits next.excluded l)
+          (next_listed excluded all k c.condition-item.result c.loop-condition-test.true c.condition-item.is)
           (c.in_ok-broken.ensures.excluded (flat_map excluded (take k all)) c.loop-condition.invariant.excluded);
     }
 

@@ -13,7 +13,8 @@ kept : (c : goal.After-dedup_by) → c.dedup_by.new.self.items ≡ once c.sort_u
 kept c = dedup_same _ (eq_by_cmp order_of) _ (λ x y b f' x' y' k. search rules) _ _ c.dedup_by.ensures.filtered
 
 moved : (c : goal.After-dedup_by) → IsPermutation c.args.found c.sort_unstable_by.new.self.items
-moved c = subst (λ (l : List ElemFault). IsPermutation l c.sort_unstable_by.new.self.items) c.into_faults-faults.ensures c.sort_unstable_by.ensures.permutation
+moved c = subst (λ (l : List ElemFault). IsPermutation l c.sort_unstable_by.new.self.items) c.into_faults-faults.ensures
+    c.sort_unstable_by.ensures.permutation
 
 pub returns-clause-same : goal.returns-clause-same
 returns-clause-same c f =
@@ -25,5 +26,6 @@ returns-clause-same c f =
 pub returns-clause-rising : goal.returns-clause-rising
 returns-clause-rising c =
     let up : IsSorted order_of c.sort_unstable_by.new.self.items =
-    c.sort_unstable_by.ensures.sorted (λ f g. is_lt (order_of f g)) order_ranks (answers_always _ _ _ (λ f a r f' k. search (rules, tests))) in
+    c.sort_unstable_by.ensures.sorted (λ f g. is_lt (order_of f g)) order_ranks
+        (answers_always _ _ _ (λ f a r f' k. search (rules, tests))) in
     subst IsRising (sym (kept c)) (once_rises c.sort_unstable_by.new.self.items up)
