@@ -58,13 +58,13 @@ element_next s parts text k so_far is =
 pub fit_more : (rows : List Element) (s : Segment) (k : ℕ) (x : Element) (text : List ℕ) → k < length rows → x ≡ get_or rows k x
     → text ≡ element_of s (k + 1) → fits x text ≡ true
     → ((i : ℕ) (row : Element) → i ≤ k → nth rows i ≡ Some row → IsTrue (fits row (element_of s i))) → (i : ℕ) (row : Element) → i ≤ k + 1
-        → nth rows i ≡ Some row → IsTrue (fits row (element_of s i))
+    → nth rows i ≡ Some row → IsTrue (fits row (element_of s i))
 fit_more rows s k x text within is at fit before i row to there = elim (cases_eq i (k + 1)) [
   | inl e ↦
       let same : x ≡ row = same_Some x row (sym (nth-more rows k ∙ slice_get-get_or rows k x within ∙ ap Some (sym is))
-          ∙ (ap (λ i. nth rows i) (sym e) ∙ there)) in
+      ∙ (ap (λ i. nth rows i) (sym e) ∙ there)) in
       subst (λ row. IsTrue (fits row (element_of s i))) same
-          (subst (λ i. IsTrue (fits x (element_of s i))) (sym e) (subst (λ t. IsTrue (fits x t)) at fit))
+      (subst (λ i. IsTrue (fits x (element_of s i))) (sym e) (subst (λ t. IsTrue (fits x t)) at fit))
   | inr e ↦ before i row (omega (arith, e)) there
 ]
 

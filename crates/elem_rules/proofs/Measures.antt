@@ -69,7 +69,7 @@ digits_and_points [] h = refl
 digits_and_points (x ∷ xs) h =
     let e = both (is_ascii_digit x || is_point x) (list_all (λ byte. is_ascii_digit byte || is_point byte) xs) h in
     digit_or_point x (is_ascii_digit x) (is_point x) refl refl e.0 (filter is_ascii_digit xs) (filter is_point xs) (length xs)
-        (digits_and_points xs e.1)
+    (digits_and_points xs e.1)
 
 has_some : (p : ℕ → Bool) (xs : List ℕ) → nat_le 1 (length (filter p xs)) ≡ list_any p xs
 has_some p [] = refl
@@ -91,7 +91,7 @@ decimal_of : (text : List ℕ) (a b c : Bool) → list_all (λ byte. is_ascii_di
     → nat_le (count_by is_point text) 1 ≡ b → list_any is_ascii_digit text ≡ c → is_decimal text ≡ ((a && b) && c)
 decimal_of text a b c e f g =
     ap (λ x. (x && nat_le (count_by is_point text) 1) && list_any is_ascii_digit text) e
-        ∙ ap (λ x. (a && x) && list_any is_ascii_digit text) f ∙ ap (λ x. (a && b) && x) g
+    ∙ ap (λ x. (a && x) && list_any is_ascii_digit text) f ∙ ap (λ x. (a && b) && x) g
 
 pub decimal_good : (text : List ℕ) (points : ℕ) → true ≡ list_all (λ byte. is_ascii_digit byte || is_point byte) text
     → points ≡ count_by is_point text → points ≤ 1 → 1 ≤ length text - points
@@ -101,7 +101,7 @@ decimal_good text points h is few some =
     let c = length-filter is_ascii_digit text in
     let one : 1 ≤ length (filter is_ascii_digit text) = omega (arith, n, c, some) in
     let good : is_decimal text ≡ true = decimal_of text true true true (sym h) (le-leb (count_by is_point text) 1 (omega (arith, is, few)))
-        (sym (has_some is_ascii_digit text) ∙ le-leb 1 (length (filter is_ascii_digit text)) one) in
+    (sym (has_some is_ascii_digit text) ∙ le-leb 1 (length (filter is_ascii_digit text)) one) in
     ap Some (sym n) ∙ ap (λ b. if b then Some (count_by is_ascii_digit text) else None) (sym good)
 
 and_false : (a b : Bool) → b ≡ false → (a && b) ≡ false
@@ -125,6 +125,6 @@ decimal_none text points h is none =
     let zero_digits : length (filter is_ascii_digit text) ≡ 0 = c ∙ n ∙ none in
     let no : list_any is_ascii_digit text ≡ false = sym (has_some is_ascii_digit text) ∙ ap (nat_le 1) zero_digits in
     let bad : is_decimal text ≡ false = and_false
-        (list_all (λ byte. is_ascii_digit byte || is_point byte) text && nat_le (count_by is_point text) 1)
-        (list_any is_ascii_digit text) no in
+    (list_all (λ byte. is_ascii_digit byte || is_point byte) text && nat_le (count_by is_point text) 1)
+    (list_any is_ascii_digit text) no in
     ap (λ b. if b then Some (count_by is_ascii_digit text) else None) (sym bad)

@@ -43,7 +43,7 @@ module _ (delims : Delims) (s : Segment) (slot : Slot) where
       let k = a.0 in
       let b = from_option (λ row. element_found delims k row (text_at (texts_of slot s) k)) (nth slot.elements k) f a.3 in
       let c = element_from delims k b.0 (element_of s k) f
-          (subst (λ text. Contains (element_found delims k b.0 text) f) (text_of_row slot s k a.1 a.2) b.2) in
+      (subst (λ text. Contains (element_found delims k b.0 text) f) (text_of_row slot s k a.1 a.2) b.2) in
       record { position = k; row = b.0; there = b.1; w = c.0; wrong = c.1; is = c.2 ∙ row_shown k b.0 c.0 b.1 }
 
   row_to : (f : ElemFault) → IsRowFault delims s slot f → Contains (rows_found delims slot.elements (texts_of slot s)) f
@@ -52,7 +52,7 @@ module _ (delims : Delims) (s : Segment) (slot : Slot) where
       let within = nth_within slot.elements k h.row h.there in
       let a = element_to delims k h.row (element_of s k) h.w h.wrong in
       let b = subst (λ text. Contains (element_found delims k h.row text) (shown delims k h.row (element_of s k) h.w))
-          (sym (text_of_row slot s k within.0 within.1)) a in
+      (sym (text_of_row slot s k within.0 within.1)) a in
       let c = in_option (λ row. element_found delims k row (text_at (texts_of slot s) k)) (nth slot.elements k) h.row _ h.there b in
       subst (λ f. Contains (rows_found delims slot.elements (texts_of slot s)) f) (row_shown k h.row h.w h.there ∙ sym h.is)
       (in_up_to (one_row (texts_of slot s)) (length slot.elements) k _ within.0 within.1 c)
@@ -97,14 +97,20 @@ module _ (delims : Delims) (s : Segment) (slot : Slot) where
         let c = a.0 in
         let holds = All-contains (λ c. IsTrue (is_condition_of slot c)) slot.conditions c (conditions_hold slot sound) a.1 in
         let b = from_flat_map (broken_found slot.elements (texts_of slot s) (condition_code c.relation))
-            (broken_at (is_present_in delims (texts_of slot s)) c.relation c.positions) f a.2 in
+        (broken_at (is_present_in delims (texts_of slot s)) c.relation c.positions) f a.2 in
         let p = b.0 in
         let broken = subst (λ l. Contains l p) (broken_same delims s slot c holds) b.1 in
         let within = All-contains (λ p. (1 ≤ p) × (p ≤ length slot.elements)) _ p
-            (broken_within (is_present delims s) c.relation (λ p. (1 ≤ p) × (p ≤ length slot.elements)) c.positions
-            (positions_have_rows slot c holds)) broken in
-        record { condition = c; listed = a.1; position = p; broken = broken; is = contains_one _ f b.2
-            ∙ broken_shown c.relation p within.0 within.1 }
+        (broken_within (is_present delims s) c.relation (λ p. (1 ≤ p) × (p ≤ length slot.elements)) c.positions
+        (positions_have_rows slot c holds)) broken in
+        record {
+          condition = c;
+          listed = a.1;
+          position = p;
+          broken = broken;
+          is = contains_one _ f b.2
+              ∙ broken_shown c.relation p within.0 within.1;
+        }
 
     condition_to : (f : ElemFault) → IsConditionFault delims s slot f
         → Contains (conditions_found delims slot.elements slot.conditions (texts_of slot s)) f
@@ -113,13 +119,13 @@ module _ (delims : Delims) (s : Segment) (slot : Slot) where
         let p = h.position in
         let holds = All-contains (λ c. IsTrue (is_condition_of slot c)) slot.conditions c (conditions_hold slot sound) h.listed in
         let within = All-contains (λ p. (1 ≤ p) × (p ≤ length slot.elements)) _ p
-            (broken_within (is_present delims s) c.relation (λ p. (1 ≤ p) × (p ≤ length slot.elements)) c.positions
-            (positions_have_rows slot c holds)) h.broken in
+        (broken_within (is_present delims s) c.relation (λ p. (1 ≤ p) × (p ≤ length slot.elements)) c.positions
+        (positions_have_rows slot c holds)) h.broken in
         let at = subst (λ l. Contains l p) (sym (broken_same delims s slot c holds)) h.broken in
         let one = in_flat_map (broken_found slot.elements (texts_of slot s) (condition_code c.relation))
-            (broken_at (is_present_in delims (texts_of slot s)) c.relation c.positions) p _ at (one_contains _) in
+        (broken_at (is_present_in delims (texts_of slot s)) c.relation c.positions) p _ at (one_contains _) in
         subst (λ f. Contains (conditions_found delims slot.elements slot.conditions (texts_of slot s)) f)
-            (broken_shown c.relation p within.0 within.1 ∙ sym h.is)
+        (broken_shown c.relation p within.0 within.1 ∙ sym h.is)
         (in_flat_map (condition_found delims slot.elements (texts_of slot s)) slot.conditions c _ h.listed one)
 
     pub found_is : (f : ElemFault) → Contains (found delims s slot) f → IsElementFault delims s slot f

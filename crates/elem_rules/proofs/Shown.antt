@@ -61,7 +61,7 @@ value_copies row text =
     (some_if CopiesComponent (nat_lt (value_length row.data_type text) row.min) (Some ik403.TooShort) _ (λ d t c r. refl)
     (some_if CopiesComponent (nat_lt row.max (value_length row.data_type text)) (Some ik403.TooLong) _ (λ d t c r. refl)
     (some_or CopiesComponent (code_fault row.codes text) (calendar_fault row.data_type text) (code_copies row.codes text)
-        (calendar_copies row.data_type text))))
+    (calendar_copies row.data_type text))))
 
 missing_copies : (requirement : Requirement) → IfSome (missing_fault requirement) CopiesComponent
 missing_copies Mandatory = λ d t c r. refl
@@ -122,7 +122,7 @@ simple_shows row repeat = record {
       let e = only_one (component.Simple row) m c h in
       let k = subst (λ c. component_fault delims c text ≡ Some code) (sym e.1) is in
       simple_copy delims row text code k delims whole 0 r
-          ∙ ap (λ m. copy_of code (component_in delims (occurrence_in delims whole r) m)) (sym e.0);
+      ∙ ap (λ m. copy_of code (component_in delims (occurrence_in delims whole r) m)) (sym e.0);
 }
 
 not_used_code : (b : Bool) (code : ElementCode) → (if b then None else Some ik403.NotUsedPresent) ≡ Some code → ik403.NotUsedPresent ≡ code

@@ -69,7 +69,7 @@ module _ (delims : Delims) (k : ℕ) (row : Element) (text : List ℕ) (usage : 
   abbrev one_component : ℕ → ℕ → List ElemFault
   one_component n m = option_map_or
       (λ c. component_found delims k (shown_repetition usage n) (if usage.is_composite then m else 0) c
-          (component_in delims (occurrence_in delims text n) m))
+      (component_in delims (occurrence_in delims text n) m))
       (nth usage.components m) []
 
   abbrev one_occurrence : ℕ → List ElemFault
@@ -84,13 +84,25 @@ module _ (delims : Delims) (k : ℕ) (row : Element) (text : List ℕ) (usage : 
       let a = from_up_to (one_component n) (length usage.components) f h in
       let m = a.0 in
       let b = from_option (λ c. component_found delims k (shown_repetition usage n) (if usage.is_composite then m else 0) c
-          (component_in delims (occurrence_in delims text n) m)) (nth usage.components m) f a.3 in
+      (component_in delims (occurrence_in delims text n) m)) (nth usage.components m) f a.3 in
       let d = from_reported k (shown_component usage m) (shown_repetition usage n) (component_reference b.0)
-          (component_in delims (occurrence_in delims text n) m)
-          (component_fault delims b.0 (component_in delims (occurrence_in delims text n) m)) f b.2 in (
+      (component_in delims (occurrence_in delims text n) m)
+      (component_fault delims b.0 (component_in delims (occurrence_in delims text n) m)) f b.2 in (
         wrong_at (shown_component usage m) (shown_repetition usage n) d.0,
-        inr (inr (record { n = n; from = from; to = to; filled = filled; few = few; m = m; row = b.0; there = b.1; code = d.0; fault =
-            d.1; is = refl })),
+        inr (inr (record {
+          n = n;
+          from = from;
+          to = to;
+          filled = filled;
+          few = few;
+          m = m;
+          row = b.0;
+          there = b.1;
+          code = d.0;
+          fault =
+              d.1;
+          is = refl;
+        })),
         d.2 ∙ component_shown n m b.0 d.0 from to b.1 d.1,
       )
 
@@ -113,10 +125,14 @@ module _ (delims : Delims) (k : ℕ) (row : Element) (text : List ℕ) (usage : 
       → (w : Wrong) × IsWrongUse w × (f ≡ shown delims k row text w)
   usage_from f h =
       elim (Contains-append_cases (too_often_found delims k usage.repeat usage.reference text)
-          (occurrences_found delims k usage text) f h) [
+      (occurrences_found delims k usage text) f h) [
         | inl e ↦ elim (from_if (has_more delims usage.repeat (occurrences delims text)) _ _ f e) [
-          | inl p ↦ (wrong_at 0 (usage.repeat + 1) ik403.TooManyRepetitions, inl (record { more = p.0; is = refl }), contains_one _ f p.1
-              ∙ too_often_shown)
+          | inl p ↦ (
+            wrong_at 0 (usage.repeat + 1) ik403.TooManyRepetitions,
+            inl (record { more = p.0; is = refl }),
+            contains_one _ f p.1
+                ∙ too_often_shown,
+          )
           | inr p ↦ absurd (no_member f p.1)
         ]
         | inr e ↦ let a = from_up_to one_occurrence usage.repeat f e in occurrence_from a.0 f a.1 a.2 a.3
@@ -127,7 +143,7 @@ module _ (delims : Delims) (k : ℕ) (row : Element) (text : List ℕ) (usage : 
       (Contains-append_left (too_often_found delims k usage.repeat usage.reference text) (occurrences_found delims k usage text) _
       (in_then (has_more delims usage.repeat (occurrences delims text)) _ _ _ h.more
       (subst (λ f. Contains (fault k 0 (usage.repeat + 1) ik403.TooManyRepetitions usage.reference
-          (occurrence_in delims text (usage.repeat + 1)) ∷ []) f) too_often_shown (one_contains _))))
+      (occurrence_in delims text (usage.repeat + 1)) ∷ []) f) too_often_shown (one_contains _))))
 
   occurrence_to : (n : ℕ) (f : ElemFault) → 1 ≤ n → n ≤ usage.repeat → Contains (one_occurrence n) f
       → Contains (usage_found delims k text usage) f
@@ -139,8 +155,8 @@ module _ (delims : Delims) (k : ℕ) (row : Element) (text : List ℕ) (usage : 
       (occurrence_to h.n _ h.from h.to
       (in_then (has_more delims (length usage.components) (components delims (occurrence_in delims text h.n))) _ _ _ h.more
       (subst (λ f. Contains (fault k (length usage.components + 1) (shown_repetition usage h.n) ik403.TooManyComponents usage.reference
-          (component_in delims (occurrence_in delims text h.n) (length usage.components + 1)) ∷ []) f) (too_wide_shown h.n h.from h.to)
-          (one_contains _))))
+      (component_in delims (occurrence_in delims text h.n) (length usage.components + 1)) ∷ []) f) (too_wide_shown h.n h.from h.to)
+      (one_contains _))))
 
   component_to : (w : Wrong) → IsWrongComponent delims usage text w → Contains (usage_found delims k text usage) (shown delims k row text w)
   component_to w h =
@@ -149,11 +165,11 @@ module _ (delims : Delims) (k : ℕ) (row : Element) (text : List ℕ) (usage : 
       let t = component_in delims (occurrence_in delims text n) m in
       let within = nth_within usage.components m h.row h.there in
       let one = in_reported k (shown_component usage m) (shown_repetition usage n) (component_reference h.row) t
-          (component_fault delims h.row t) h.code h.fault in
+      (component_fault delims h.row t) h.code h.fault in
       let moved = subst (λ f. Contains (component_found delims k (shown_repetition usage n) (shown_component usage m) h.row t) f)
-          (component_shown n m h.row h.code h.from h.to h.there h.fault) one in
+      (component_shown n m h.row h.code h.from h.to h.there h.fault) one in
       let at = in_option (λ c. component_found delims k (shown_repetition usage n) (if usage.is_composite then m else 0) c t)
-          (nth usage.components m) h.row _ h.there moved in
+      (nth usage.components m) h.row _ h.there moved in
       subst (λ w. Contains (usage_found delims k text usage) (shown delims k row text w)) (sym h.is)
       (occurrence_to n _ h.from h.to
       (in_else (has_more delims (length usage.components) (components delims (occurrence_in delims text n))) _ _ _ h.few
@@ -174,7 +190,7 @@ whole_to : (delims : Delims) (k : ℕ) (row : Element) (text : List ℕ) (w : Wr
 whole_to delims k row text w h =
     subst (λ w. Contains (whole_found delims k row text) (shown delims k row text w)) (sym h.is)
     (subst (λ f. Contains (whole_found delims k row text) f) (whole_shown delims k row text h.code refl h.fault)
-        (in_reported k 0 0 (element_reference row) text (whole_fault delims row text) h.code h.fault))
+    (in_reported k 0 0 (element_reference row) text (whole_fault delims row text) h.code h.fault))
 
 use_from : (delims : Delims) (k : ℕ) (row : Element) (text : List ℕ) (f : ElemFault)
     → Contains (option_map_or (usage_found delims k text) (usage_of row) []) f

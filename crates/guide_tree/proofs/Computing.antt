@@ -151,7 +151,7 @@ Reported given next end parent k position =
 
 further : (x : Option Place) (given : List (Option Place)) (next end : ℕ) (parent : Place) (k position : ℕ)
     → IfSome x (λ q. IsBehind parent k q → ⊥) → Reported given (suc next) end parent k position
-        → Reported (x ∷ given) next end parent k position
+    → Reported (x ∷ given) next end parent k position
 further x given next end parent k position none h = elim h [
   | inl e ↦ inl (suc e.0, (none, e.1), let i = e.2 in omega (arith, i))
   | inr e ↦ inr ((none, e.0), e.1)

@@ -1,5 +1,5 @@
--- A small ship notice's guide with a loop in a loop, a body with many faults and its places, and what is wrong with it, computed:
--- BSN once; up to two loops HL, in each two REF that are picked by IA and two loops N1, in which N3 isn't used; CTT at most once.
+-- A small ship notice's guide with a loop in a loop, a body with many faults, and what is wrong with it: BSN once; up to two
+-- loops HL, in each two REF that are picked by IA and two loops N1, in which N3 isn't used; CTT at most once.
 use Rattle.std.proofs.Common.{◌≡◌, ℕ, zero, suc, ◌<◌, sym, ◌∙◌, List, [], ◌∷◌, codes, true, false, Option, Some, None, inl, inr, refl, arith}
 use Rattle.hub_kinds.specs.declared.codes.SegmentCode.TheVariants as ik304
 use Rattle.guide_tree.specs.declared.slot.Slot.{Slot}
@@ -67,7 +67,7 @@ other_ref = codes "REF" ∷ codes "ZZ" ∷ []
 stray_codes : (stray_code shipment_guide (alone (codes "Q9")) ≡ ik304.UnrecognizedSegment)
     × (stray_code shipment_guide (alone (codes "AMT")) ≡ ik304.NotInSet)
     × (stray_code shipment_guide other_ref ≡ ik304.UnexpectedSegment)
-        × (stray_code shipment_guide (alone (codes "BSN")) ≡ ik304.OutOfSequence)
+    × (stray_code shipment_guide (alone (codes "BSN")) ≡ ik304.OutOfSequence)
 stray_codes = (refl, refl, refl, refl)
 
 -- repetitions of the loop HL, and of N1 in the first of them
@@ -81,7 +81,7 @@ party = use_of 1 0 ∷ use_of 2 0 ∷ []
 innermost_loops : (innermost shipment [] (segment (slot 1 (codes "BSN") 1 1)) ≡ [])
     × (innermost shipment (level 1) (segment ref) ≡ codes "HL")
     × (innermost shipment party address ≡ codes "N1") × (innermost shipment [] levels ≡ codes "HL")
-        × (innermost shipment (level 0) parties ≡ codes "N1")
+    × (innermost shipment (level 0) parties ≡ codes "N1")
 innermost_loops = (refl, refl, refl, refl, refl)
 
 -- the id that a fault shows: a segment's, or that of a loop's first segment
@@ -92,7 +92,7 @@ first_ids = (refl, refl, refl)
 abbrev body : List Segment
 body =
     alone (codes "BSN") ∷ alone (codes "HL") ∷ (codes "REF" ∷ codes "IA" ∷ []) ∷ alone (codes "N1") ∷ alone (codes "N3") ∷ alone
-        (codes "HL")
+    (codes "HL")
     ∷ (codes "REF" ∷ codes "IA" ∷ []) ∷ (codes "REF" ∷ codes "IA" ∷ []) ∷ (codes "REF" ∷ codes "IA" ∷ [])
     ∷ alone (codes "AMT") ∷ other_ref ∷ alone (codes "BSN") ∷ alone (codes "Q9") ∷ alone (codes "HL") ∷ []
 
@@ -139,22 +139,59 @@ no_second_bsn (b ∷ q) m f = bsn_fits b.child b.use_no q m f
 
 -- the places are the body's
 body_is_placed : IsPlacing shipment None body given
-body_is_placed =
-    ((refl, tt), (slot 1 (codes "BSN") 1 1, refl, refl),
-    (inr (inl (omega arith, refl), ((refl, refl), tt)), (slot 3 (codes "HL") 1 1, refl, refl),
-    (inl (refl, inr (inl (omega arith, refl), tt)), (ref, refl, refl),
-    (inl (refl, inr (inl (omega arith, refl), ((refl, refl), tt))), (slot 6 (codes "N1") 1 1, refl, refl),
-    (inl (refl, inl (refl, inr (inl (omega arith, refl), tt))), (slot 7 (codes "N3") 0 0, refl, refl),
-    (inr (inr (refl, refl), ((refl, refl), tt)), (slot 3 (codes "HL") 1 1, refl, refl),
-    (inl (refl, inr (inl (omega arith, refl), tt)), (ref, refl, refl),
-    (inl (refl, inr (inr (omega arith, refl, refl), tt)), (ref, refl, refl),
-    (inl (refl, inr (inr (omega arith, refl, refl), tt)), (ref, refl, refl),
-    ((λ q m f. no_place (alone (codes "AMT")) shipment q no_amt f),
-    ((λ q m f. no_place other_ref shipment q no_other_ref f),
-    (no_second_bsn,
-    ((λ q m f. no_place (alone (codes "Q9")) shipment q no_q9 f),
-    (inr (inr (refl, refl), ((refl, refl), tt)), (slot 3 (codes "HL") 1 1, refl, refl),
-    tt))))))))))))))
+body_is_placed = (
+  (refl, tt),
+  (slot 1 (codes "BSN") 1 1, refl, refl),
+  (
+    inr (inl (omega arith, refl), ((refl, refl), tt)),
+    (slot 3 (codes "HL") 1 1, refl, refl),
+    (
+      inl (refl, inr (inl (omega arith, refl), tt)),
+      (ref, refl, refl),
+      (
+        inl (refl, inr (inl (omega arith, refl), ((refl, refl), tt))),
+        (slot 6 (codes "N1") 1 1, refl, refl),
+        (
+          inl (refl, inl (refl, inr (inl (omega arith, refl), tt))),
+          (slot 7 (codes "N3") 0 0, refl, refl),
+          (
+            inr (inr (refl, refl), ((refl, refl), tt)),
+            (slot 3 (codes "HL") 1 1, refl, refl),
+            (
+              inl (refl, inr (inl (omega arith, refl), tt)),
+              (ref, refl, refl),
+              (
+                inl (refl, inr (inr (omega arith, refl, refl), tt)),
+                (ref, refl, refl),
+                (
+                  inl (refl, inr (inr (omega arith, refl, refl), tt)),
+                  (ref, refl, refl),
+                  (
+                    (λ q m f. no_place (alone (codes "AMT")) shipment q no_amt f),
+                    (
+                      (λ q m f. no_place other_ref shipment q no_other_ref f),
+                      (
+                        no_second_bsn,
+                        (
+                          (λ q m f. no_place (alone (codes "Q9")) shipment q no_q9 f),
+                          (
+                            inr (inr (refl, refl), ((refl, refl), tt)),
+                            (slot 3 (codes "HL") 1 1, refl, refl),
+                            tt,
+                          ),
+                        ),
+                      ),
+                    ),
+                  ),
+                ),
+              ),
+            ),
+          ),
+        ),
+      ),
+    ),
+  ),
+)
 
 -- Where what is missing is reported, and nowhere else: REF of the first HL at N1; N1 of it behind its own places, at the next HL; N1 of
 -- the second HL behind the strays, at the third; and what the third lacks at the end.

@@ -10,4 +10,4 @@ pub returns : goal.returns
 returns c =
     let some = c.if-digits-eq0.false in
     decimal_good c.args.text.now c.points-points.result (sym c.if-not-are_digits_or_points.false
-        ∙ c.are_digits_or_points.ensures) c.points-points.ensures.value c.if-points-gt1.false (omega (arith, some))
+    ∙ c.are_digits_or_points.ensures) c.points-points.ensures.value c.if-points-gt1.false (omega (arith, some))
