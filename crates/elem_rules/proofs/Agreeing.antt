@@ -1,6 +1,6 @@
 -- The texts that the walk keeps are those of the elements that have rows, so conditions are judged the same over them.
-use Rattle.std.proofs.Common.{◌≡◌, ℕ, zero, suc, ◌+◌, ◌≤◌, ◌∙◌, List, [], ◌∷◌, Bool, true, false, length, get_or, take, drop, refl, ap,
-    arith}
+use Rattle.std.proofs.Common.{◌≡◌, ℕ, zero, suc, ◌+◌, ◌≤◌, ◌∙◌, List, [], ◌∷◌, Bool, true, false, length, get_or, take, drop, refl, ap}
+use Rattle.std.proofs.Common.{arith}
 use Rattle.std.specs.Prelude.{IsTrue, ◌&&◌, ◌||◌, not, nat_le, if◌then◌else◌}
 use Rattle.std.specs.List.{All, list_all, list_any, filter}
 use Rattle.std.proofs.lemmas.Bool.{leb-true, le-leb}
@@ -27,7 +27,7 @@ text_of_row slot s zero from to = absurd (omega arith)
 text_of_row slot s (suc n) from to =
     let next : 1 + n ≡ suc n = omega arith in
     unwrap_or-slice_get (take (length slot.elements) (drop 1 s)) n [] ∙ get_or-take (length slot.elements) (drop 1 s) n [] (omega arith)
-        ∙ get_or-drop 1 s n [] ∙ ap (λ i. get_or s i []) next
+    ∙ get_or-drop 1 s n [] ∙ ap (λ i. get_or s i []) next
 
 filter_agrees : (p q : ℕ → Bool) (xs : List ℕ) → All (λ x. p x ≡ q x) xs → filter p xs ≡ filter q xs
 filter_agrees p q [] h = refl
@@ -55,9 +55,9 @@ broken_agrees p q relation.Conditional xs h =
     ∙ ap (λ l. if list_any q (take 1 xs) then l else []) (absent_agrees p q (drop 1 xs) (All-drop (λ x. p x ≡ q x) 1 xs h))
 broken_agrees p q relation.ListConditional xs h =
     ap (λ b. if b then (if list_any p (drop 1 xs) then [] else take 1 (drop 1 xs)) else [])
-        (any_agrees p q (take 1 xs) (All-take (λ x. p x ≡ q x) 1 xs h))
+    (any_agrees p q (take 1 xs) (All-take (λ x. p x ≡ q x) 1 xs h))
     ∙ ap (λ b. if list_any q (take 1 xs) then (if b then [] else take 1 (drop 1 xs)) else [])
-        (any_agrees p q (drop 1 xs) (All-drop (λ x. p x ≡ q x) 1 xs h))
+    (any_agrees p q (drop 1 xs) (All-drop (λ x. p x ≡ q x) 1 xs h))
 
 -- each position of a condition has a row
 pub positions_have_rows : (slot : Slot) (c : Condition) → IsTrue (is_condition_of slot c)
@@ -65,15 +65,18 @@ pub positions_have_rows : (slot : Slot) (c : Condition) → IsTrue (is_condition
 positions_have_rows slot c h =
     let a = both (nat_le 2 (length c.positions) && is_distinct c.positions) (list_all (has_row slot) c.positions) h in
     (Decides-by_and (has_row slot) (λ p. (1 ≤ p) × (p ≤ length slot.elements)) (list_all (has_row slot))
-    (λ p. (λ e. let w = both (nat_le 1 p) (nat_le p (length slot.elements)) e in (leb-true 1 p w.0, leb-true p (length slot.elements) w.1),
-        λ w. both_true (le-leb 1 p w.0) (le-leb p (length slot.elements) w.1)))
+    (λ p. (
+      λ e. let w = both (nat_le 1 p) (nat_le p (length slot.elements)) e
+          in (leb-true 1 p w.0, leb-true p (length slot.elements) w.1),
+      λ w. both_true (le-leb 1 p w.0)
+          (le-leb p (length slot.elements) w.1),
+    ))
     refl (λ _ _. refl) c.positions).0 a.1
 
 pub conditions_hold : (slot : Slot) → IsTrue (list_all (is_condition_of slot) slot.conditions)
     → All (λ c. IsTrue (is_condition_of slot c)) slot.conditions
-conditions_hold slot h =
-    (Decides-by_and (is_condition_of slot) (λ c. IsTrue (is_condition_of slot c)) (list_all (is_condition_of slot)) (λ c. (λ t. t, λ t. t))
-    refl (λ _ _. refl) slot.conditions).0 h
+conditions_hold slot h = (Decides-by_and (is_condition_of slot) (λ c. IsTrue (is_condition_of slot c)) (list_all (is_condition_of slot))
+    (λ c. (λ t. t, λ t. t)) refl (λ _ _. refl) slot.conditions).0 h
 
 pub broken_same : (delims : Delims) (s : Segment) (slot : Slot) (c : Condition) → IsTrue (is_condition_of slot c)
     → broken_at (is_present_in delims (texts_of slot s)) c.relation c.positions ≡ broken_at (is_present delims s) c.relation c.positions
@@ -91,8 +94,8 @@ pub broken_within : (p : ℕ → Bool) (r : Relation) (P : ℕ → Type 0) (xs :
 broken_within p relation.Paired P xs h = all_if P (list_any p xs) (absent p xs) [] (All-filter (λ x. not (p x)) P xs h) (All-nil P)
 broken_within p relation.Required P xs h = all_if P (list_any p xs) [] (take 1 xs) (All-nil P) (All-take P 1 xs h)
 broken_within p relation.Exclusion P xs h = All-drop P 1 (filter p xs) (All-filter p P xs h)
-broken_within p relation.Conditional P xs h = all_if P (list_any p (take 1 xs)) (absent p (drop 1 xs)) []
-    (All-filter (λ x. not (p x)) P (drop 1 xs) (All-drop P 1 xs h)) (All-nil P)
+broken_within p relation.Conditional P xs h =
+    all_if P (list_any p (take 1 xs)) (absent p (drop 1 xs)) [] (All-filter (λ x. not (p x)) P (drop 1 xs) (All-drop P 1 xs h)) (All-nil P)
 broken_within p relation.ListConditional P xs h =
     all_if P (list_any p (take 1 xs)) (if list_any p (drop 1 xs) then [] else take 1 (drop 1 xs)) []
     (all_if P (list_any p (drop 1 xs)) [] (take 1 (drop 1 xs)) (All-nil P) (All-take P 1 (drop 1 xs) (All-drop P 1 xs h))) (All-nil P)

@@ -21,8 +21,17 @@ delims : Delims
 delims = record { element = 42; component = 62; repetition = Some 94; terminator = 126 }
 
 row : List ℕ → Requirement → ElementType → ℕ → ℕ → Option CodeList → SimpleRow
-row reference requirement data_type least most listed = record
-    { reference = reference; requirement = requirement; data_type = data_type; min = least; max = most; wide = false; codes = listed }
+row reference requirement data_type least most listed =
+    record {
+      reference = reference;
+      requirement = requirement;
+      data_type = data_type;
+      min = least;
+      max = most;
+      wide = false;
+      codes =
+          listed;
+    }
 
 number_fault : value_fault (row [] Mandatory data_type.Decimal 1 5 None) (codes "-0012.5") ≡ None
 unfolding row
@@ -74,16 +83,40 @@ abbrev listed : Option CodeList
 listed = Some (record { used = codes "00" ∷ codes "05" ∷ []; unused = Some (codes "01" ∷ codes "04" ∷ []) })
 
 abbrev beg_row : SimpleRow
-beg_row = record { reference = codes "353"; requirement = Mandatory; data_type = data_type.Identifier; min = 2; max = 2; wide = false;
-    codes = listed }
+beg_row = record {
+  reference = codes "353";
+  requirement = Mandatory;
+  data_type = data_type.Identifier;
+  min = 2;
+  max = 2;
+  wide =
+      false;
+  codes = listed;
+}
 
 abbrev any_row : SimpleRow
-any_row = record { reference = codes "92"; requirement = Optional; data_type = data_type.Text; min = 1; max = 30; wide = false;
-    codes = None }
+any_row = record {
+  reference = codes "92";
+  requirement = Optional;
+  data_type = data_type.Text;
+  min = 1;
+  max = 30;
+  wide = false;
+  codes =
+      None;
+}
 
 abbrev day_row : SimpleRow
-day_row = record { reference = codes "373"; requirement = Mandatory; data_type = data_type.Date; min = 8; max = 8; wide = false;
-    codes = None }
+day_row = record {
+  reference = codes "373";
+  requirement = Mandatory;
+  data_type = data_type.Date;
+  min = 8;
+  max = 8;
+  wide = false;
+  codes =
+      None;
+}
 
 abbrev slot : Slot
 slot = record {
@@ -93,8 +126,8 @@ slot = record {
   min = 1;
   max = 1;
   picks = [];
-  elements = element.Simple beg_row 1 ∷ element.Simple any_row 1 ∷ element.Simple any_row 1 ∷ element.Simple any_row 1
-      ∷ element.Simple day_row 1 ∷ [];
+  elements = element.Simple beg_row 1 ∷ element.Simple any_row 1 ∷ element.Simple any_row 1 ∷ element.Simple any_row 1 ∷ element.Simple
+      day_row 1 ∷ [];
   conditions = record { relation = relation.Paired; positions = 3 ∷ 4 ∷ [] } ∷ [];
 }
 
@@ -109,9 +142,20 @@ known_but_not_used = inr (inl (record {
   row = element.Simple beg_row 1;
   there = refl;
   w = wrong_at 0 0 ik403.CodeNotUsed;
-  wrong = inr
-      (inr (inr (record { n = 1; from = omega arith; to = omega arith; filled = refl; few = refl; m = 1; row = _; there = refl;
-      code = ik403.CodeNotUsed; fault = refl; is = refl })));
+  wrong = inr (inr (inr (record {
+    n = 1;
+    from = omega arith;
+    to = omega arith;
+    filled = refl;
+    few = refl;
+    m = 1;
+    row = _;
+    there =
+        refl;
+    code = ik403.CodeNotUsed;
+    fault = refl;
+    is = refl;
+  })));
   is = refl;
 }))
 
@@ -123,14 +167,31 @@ no_such_day = inr (inl (record {
   row = element.Simple day_row 1;
   there = refl;
   w = wrong_at 0 0 ik403.InvalidDate;
-  wrong = inr
-      (inr (inr (record { n = 1; from = omega arith; to = omega arith; filled = refl; few = refl; m = 1; row = _; there = refl;
-      code = ik403.InvalidDate; fault = refl; is = refl })));
+  wrong = inr (inr (inr (record {
+    n = 1;
+    from = omega arith;
+    to = omega arith;
+    filled = refl;
+    few = refl;
+    m = 1;
+    row = _;
+    there =
+        refl;
+    code = ik403.InvalidDate;
+    fault = refl;
+    is = refl;
+  })));
   is = refl;
 }))
 
 pair_is_broken : IsElementFault delims beg slot
     (record { element = 4; component = 0; repetition = 0; code = ik403.ConditionalMissing; reference = codes "92"; copy = [] })
 unfolding delims
-pair_is_broken =
-    inr (inr (record { condition = _; listed = (0, omega arith, refl); position = 4; broken = (0, omega arith, refl); is = refl }))
+pair_is_broken = inr (inr (record {
+  condition = _;
+  listed = (0, omega arith, refl);
+  position = 4;
+  broken = (0, omega arith, refl);
+  is =
+      refl;
+}))

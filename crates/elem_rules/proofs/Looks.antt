@@ -1,6 +1,6 @@
 -- The quick look at a segment, step by step.
-use Rattle.std.proofs.Common.{◌≡◌, ℕ, zero, suc, ◌+◌, ◌<◌, ◌≤◌, ◌∙◌, List, [], ◌∷◌, Bool, true, false, length, get_or, drop, refl, ap, sym,
-    subst, arith, add-one, rules}
+use Rattle.std.proofs.Common.{◌≡◌, ℕ, zero, suc, ◌+◌, ◌<◌, ◌≤◌, ◌∙◌, List, [], ◌∷◌, Bool, true, false, length, get_or, drop, refl, ap, sym}
+use Rattle.std.proofs.Common.{subst, arith, add-one, rules}
 use Rattle.std.specs.Prelude.{Option, Some, None, is_some, IsTrue, not, ◌==◌}
 use Rattle.std.specs.Bool.{OnTrue}
 use Rattle.std.specs.List.{All, list_all}
@@ -58,14 +58,13 @@ element_next s parts text k so_far is =
 pub fit_more : (rows : List Element) (s : Segment) (k : ℕ) (x : Element) (text : List ℕ) → k < length rows → x ≡ get_or rows k x
     → text ≡ element_of s (k + 1) → fits x text ≡ true
     → ((i : ℕ) (row : Element) → i ≤ k → nth rows i ≡ Some row → IsTrue (fits row (element_of s i))) → (i : ℕ) (row : Element) → i ≤ k + 1
-        → nth rows i ≡ Some row → IsTrue (fits row (element_of s i))
+    → nth rows i ≡ Some row → IsTrue (fits row (element_of s i))
 fit_more rows s k x text within is at fit before i row to there = elim (cases_eq i (k + 1)) [
   | inl e ↦
-      let same : x ≡ row =
-              same_Some x row (sym (nth-more rows k ∙ slice_get-get_or rows k x within ∙ ap Some (sym is))
-              ∙ (ap (λ i. nth rows i) (sym e) ∙ there)) in
+      let same : x ≡ row = same_Some x row (sym (nth-more rows k ∙ slice_get-get_or rows k x within ∙ ap Some (sym is))
+      ∙ (ap (λ i. nth rows i) (sym e) ∙ there)) in
       subst (λ row. IsTrue (fits row (element_of s i))) same
-          (subst (λ i. IsTrue (fits x (element_of s i))) (sym e) (subst (λ t. IsTrue (fits x t)) at fit))
+      (subst (λ i. IsTrue (fits x (element_of s i))) (sym e) (subst (λ t. IsTrue (fits x t)) at fit))
   | inr e ↦ before i row (omega (arith, e)) there
 ]
 
@@ -85,11 +84,12 @@ bits_more s k bits text empty next at so_far is step =
     step ∙ ap (λ b. marked bits (k + 1) (not b)) is ∙ ap (λ b. marked bits (k + 1) b) (has_length text ∙ ap has_bytes at)
     ∙ ap (λ n. marked n (k + 1) (has_bytes (element_of s (k + 1)))) so_far ∙ bits_next (λ k. has_bytes (element_of s k)) k
 
-pub all_hold : (present : ℕ → Bool) (conditions : List Condition) → IsTrue (list_all (λ c. holds present c.relation c.positions) conditions)
+pub all_hold : (present : ℕ → Bool) (conditions : List Condition)
+    → IsTrue (list_all (λ c. holds present c.relation c.positions) conditions)
     → All (λ c. IsTrue (holds present c.relation c.positions)) conditions
-all_hold present conditions h =
-    (Decides-by_and (λ c. holds present c.relation c.positions) (λ c. IsTrue (holds present c.relation c.positions))
-    (list_all (λ c. holds present c.relation c.positions)) (λ c. (λ t. t, λ t. t)) refl (λ _ _. refl) conditions).0 h
+all_hold present conditions h = (Decides-by_and (λ c. holds present c.relation c.positions)
+    (λ c. IsTrue (holds present c.relation c.positions)) (list_all (λ c. holds present c.relation c.positions))
+    (λ c. (λ t. t, λ t. t)) refl (λ _ _. refl) conditions).0 h
 
 pub on_true : {P : Type 0} (b : Bool) → b ≡ true → OnTrue b P → P
 on_true true e h = h

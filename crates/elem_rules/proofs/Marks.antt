@@ -1,6 +1,6 @@
 -- The bits of the positions at which conditions are broken, and the faults there: each once, and those of all conditions.
-use Rattle.std.proofs.Common.{◌≡◌, ◌≢◌, ℕ, ◌+◌, ◌<◌, ◌≤◌, ◌∙◌, List, [], ◌∷◌, ◌++◌, Bool, true, false, length, get_or, take, refl, ap, sym,
-    subst, arith, append_assoc, append-nil}
+use Rattle.std.proofs.Common.{◌≡◌, ◌≢◌, ℕ, ◌+◌, ◌<◌, ◌≤◌, ◌∙◌, List, [], ◌∷◌, ◌++◌, Bool, true, false, length, get_or, take, refl, ap, sym}
+use Rattle.std.proofs.Common.{subst, arith, append_assoc, append-nil}
 use Rattle.std.specs.Prelude.{IsTrue, Result, Ok, Err, OnOk, ◌&&◌, ◌==◌, nat_lt, if◌then◌else◌}
 use mathlib.Core.Logic.{◌⊎◌, inl, inr}
 use Rattle.std.specs.Int.{bit_at, w64}
@@ -9,8 +9,8 @@ use Rattle.std.proofs.lemmas.Bool.{cases_eq, lt-ltb, false≢true}
 use Rattle.std.proofs.lemmas.Nat.Bits.{bit_at-zero, bit_at_set_same, bit_at_set_other}
 use Rattle.std.proofs.lemmas.Grind.{flat_map-append}
 use Rattle.std.proofs.lemmas.List.{take_more}
-use Rattle.std.proofs.lemmas.List.Elements.{All-contains, All-weaker, Contains-append_left, Contains-append_right, Contains-append_cases,
-    Contains-push, Contains-push_cases}
+use Rattle.std.proofs.lemmas.List.Elements.{All-contains, All-weaker, Contains-append_left, Contains-append_right, Contains-append_cases}
+use Rattle.std.proofs.lemmas.List.Elements.{Contains-push, Contains-push_cases}
 use Rattle.x12_bytes.specs.declared.delims.Delims.{Delims}
 use Rattle.guide_tree.specs.declared.element.Element.{Element}
 use Rattle.guide_tree.specs.declared.slot.Slot.{Slot}
@@ -66,7 +66,7 @@ one_more bits q listed few are p = elim (cases_eq p q) [
 -- one step of a walk over positions
 pub next_set : (bits next k : ℕ) (positions listed : List ℕ) → k < length positions → get_or positions k 0 < 64
     → next ≡ marked bits (get_or positions k 0) true → AreBits bits (listed ++ take k positions)
-        → AreBits next (listed ++ take (k + 1) positions)
+    → AreBits next (listed ++ take (k + 1) positions)
 next_set bits next k positions listed within few step are =
     let q = get_or positions k 0 in
     subst (λ n. AreBits n (listed ++ take (k + 1) positions)) (sym step)
@@ -166,7 +166,7 @@ module _ (rows : List Element) (texts : List (List ℕ)) (present : ℕ → Bool
         → AreBits missing (flat_map (missing_at present) conditions) → AreBits excluded (flat_map (excluded_at present) conditions)
         → Contains (flat_map (condition_found_by present rows texts) conditions) f
         → Contains (marked_found rows texts ik403.ConditionalMissing missing) f
-            ⊎ Contains (marked_found rows texts ik403.ExclusionViolated excluded) f
+        ⊎ Contains (marked_found rows texts ik403.ExclusionViolated excluded) f
     split_marked missing excluded f are_missing are_excluded h =
         let a = from_flat_map (condition_found_by present rows texts) conditions f h in
         let c = a.0 in
@@ -213,7 +213,7 @@ module _ (rows : List Element) (texts : List (List ℕ)) (present : ℕ → Bool
 pub found_members : (delims given : Delims) (s : Segment) (slot : Slot) (rows : List Element) (texts : List (List ℕ))
     (conditions : List Condition)
     (start first second last : List ElemFault) → given ≡ delims → rows ≡ slot.elements → conditions ≡ slot.conditions
-        → texts ≡ texts_of slot s
+    → texts ≡ texts_of slot s
     → start ≡ [] → first ≡ start ++ rows_found given rows texts → second ≡ first ++ extra_found delims slot s
     → ((f : ElemFault) → (Contains last f → Contains second f ⊎ Contains (conditions_found given rows conditions texts) f)
     × (Contains second f ⊎ Contains (conditions_found given rows conditions texts) f → Contains last f))
@@ -222,8 +222,8 @@ found_members delims given s slot rows texts conditions start first second last 
     f =
     let cs = conditions_found given rows conditions texts in
     let whole : second ++ cs ≡ found delims s slot =
-    found_joined delims given s slot rows texts conditions start first second (second ++ cs) is_given are_rows are_conditions are_texts none
-        a b refl in (
+    found_joined delims given s slot rows texts conditions start first second
+    (second ++ cs) is_given are_rows are_conditions are_texts none a b refl in (
       λ h. subst (λ (l : List ElemFault). Contains l f) whole (elim ((members f).0 h) [
         | inl e ↦ Contains-append_left second cs f e
         | inr e ↦ Contains-append_right second cs f e
@@ -237,9 +237,9 @@ pub rows_listed : (slot : Slot) (rows : List Element) (conditions : List Conditi
 rows_listed slot rows conditions are_rows are_conditions sound =
     subst (λ (rows : List Element). All (λ c. All (λ p. (1 ≤ p) × (p ≤ length rows)) c.positions) conditions) (sym are_rows)
     (subst (λ (conditions : List Condition). All (λ c. All (λ p. (1 ≤ p) × (p ≤ length slot.elements)) c.positions) conditions)
-        (sym are_conditions)
+    (sym are_conditions)
     (All-weaker (λ c. IsTrue (is_condition_of slot c)) (λ c. All (λ p. (1 ≤ p) × (p ≤ length slot.elements)) c.positions)
-        (λ c h. positions_have_rows slot c h)
+    (λ c h. positions_have_rows slot c h)
     slot.conditions (conditions_hold slot sound)))
 
 -- and so name few

@@ -40,8 +40,8 @@ whole_if : (digits text : List ℕ) (b : Bool) → is_whole digits ≡ b → cou
 whole_if digits text true h e = ap Some (sym (all_counted digits (both (nat_le 1 (length digits)) (is_digits digits) h).1) ∙ e)
 whole_if digits text false h e = refl
 
-pub whole_measured : (text : List ℕ) → (if is_whole (without_sign text) then Some (length (without_sign text)) else None)
-    ≡ (if is_whole (without_sign text) then Some (count_by is_ascii_digit text) else None)
+pub whole_measured : (text : List ℕ) → (if is_whole (without_sign text) then Some (length (without_sign text)) else None) ≡
+    (if is_whole (without_sign text) then Some (count_by is_ascii_digit text) else None)
 whole_measured text = whole_if (without_sign text) text (is_whole (without_sign text)) refl (unsigned text)
 
 pub number_measured : (t : ElementType) (places : ℕ) (wide : Bool) (given text : List ℕ) (r : Option ℕ) → t ≡ Number places
@@ -69,7 +69,7 @@ digits_and_points [] h = refl
 digits_and_points (x ∷ xs) h =
     let e = both (is_ascii_digit x || is_point x) (list_all (λ byte. is_ascii_digit byte || is_point byte) xs) h in
     digit_or_point x (is_ascii_digit x) (is_point x) refl refl e.0 (filter is_ascii_digit xs) (filter is_point xs) (length xs)
-        (digits_and_points xs e.1)
+    (digits_and_points xs e.1)
 
 has_some : (p : ℕ → Bool) (xs : List ℕ) → nat_le 1 (length (filter p xs)) ≡ list_any p xs
 has_some p [] = refl
@@ -91,7 +91,7 @@ decimal_of : (text : List ℕ) (a b c : Bool) → list_all (λ byte. is_ascii_di
     → nat_le (count_by is_point text) 1 ≡ b → list_any is_ascii_digit text ≡ c → is_decimal text ≡ ((a && b) && c)
 decimal_of text a b c e f g =
     ap (λ x. (x && nat_le (count_by is_point text) 1) && list_any is_ascii_digit text) e
-        ∙ ap (λ x. (a && x) && list_any is_ascii_digit text) f ∙ ap (λ x. (a && b) && x) g
+    ∙ ap (λ x. (a && x) && list_any is_ascii_digit text) f ∙ ap (λ x. (a && b) && x) g
 
 pub decimal_good : (text : List ℕ) (points : ℕ) → true ≡ list_all (λ byte. is_ascii_digit byte || is_point byte) text
     → points ≡ count_by is_point text → points ≤ 1 → 1 ≤ length text - points
@@ -100,9 +100,8 @@ decimal_good text points h is few some =
     let n = decimal_count text points (sym h) is in
     let c = length-filter is_ascii_digit text in
     let one : 1 ≤ length (filter is_ascii_digit text) = omega (arith, n, c, some) in
-    let good : is_decimal text ≡ true =
-            decimal_of text true true true (sym h) (le-leb (count_by is_point text) 1 (omega (arith, is, few)))
-            (sym (has_some is_ascii_digit text) ∙ le-leb 1 (length (filter is_ascii_digit text)) one) in
+    let good : is_decimal text ≡ true = decimal_of text true true true (sym h) (le-leb (count_by is_point text) 1 (omega (arith, is, few)))
+    (sym (has_some is_ascii_digit text) ∙ le-leb 1 (length (filter is_ascii_digit text)) one) in
     ap Some (sym n) ∙ ap (λ b. if b then Some (count_by is_ascii_digit text) else None) (sym good)
 
 and_false : (a b : Bool) → b ≡ false → (a && b) ≡ false
@@ -125,7 +124,7 @@ decimal_none text points h is none =
     let c = length-filter is_ascii_digit text in
     let zero_digits : length (filter is_ascii_digit text) ≡ 0 = c ∙ n ∙ none in
     let no : list_any is_ascii_digit text ≡ false = sym (has_some is_ascii_digit text) ∙ ap (nat_le 1) zero_digits in
-    let bad : is_decimal text ≡ false =
-            and_false (list_all (λ byte. is_ascii_digit byte || is_point byte) text && nat_le (count_by is_point text) 1)
-            (list_any is_ascii_digit text) no in
+    let bad : is_decimal text ≡ false = and_false
+    (list_all (λ byte. is_ascii_digit byte || is_point byte) text && nat_le (count_by is_point text) 1)
+    (list_any is_ascii_digit text) no in
     ap (λ b. if b then Some (count_by is_ascii_digit text) else None) (sym bad)

@@ -5,8 +5,8 @@ use mathlib.Core.Logic.{◌⊎◌, inl, inr}
 use Rattle.std.specs.Option.{option_map_or}
 use Rattle.std.specs.List.{Contains, flat_map}
 use Rattle.std.proofs.lemmas.Bool.{cases_eq}
-use Rattle.std.proofs.lemmas.List.Elements.{Contains-append_left, Contains-append_right, Contains-append_cases, Contains-push,
-    Contains-push_cases}
+use Rattle.std.proofs.lemmas.List.Elements.{Contains-append_left, Contains-append_right, Contains-append_cases, Contains-push}
+use Rattle.std.proofs.lemmas.List.Elements.{Contains-push_cases}
 use Rattle.std.proofs.lemmas.Option.{none-some, slice_get_within, slice_get_past}
 use Rattle.hub_kinds.specs.declared.codes.ElementCode.{ElementCode}
 use Rattle.hub_kinds.specs.declared.fault.ElemFault.{ElemFault}
@@ -74,8 +74,8 @@ pub in_option : {X A : Type 0} (g : X → List A) (o : Option X) (x : X) (a : A)
 in_option g o x a e h = subst (λ o. Contains (option_map_or g o []) a) (sym e) h
 
 pub from_reported : (e c r : ℕ) (reference text : List ℕ) (o : Option ElementCode) (f : ElemFault)
-    → Contains (reported e c r reference text o) f → (code : ElementCode) × (o ≡ Some code)
-    × (f ≡ fault e c r code reference (copy_of code text))
+    → Contains (reported e c r reference text o) f
+    → (code : ElementCode) × (o ≡ Some code) × (f ≡ fault e c r code reference (copy_of code text))
 from_reported e c r reference text None f h = absurd (no_member f h)
 from_reported e c r reference text (Some code) f h = (code, refl, contains_one _ f h)
 

@@ -19,10 +19,10 @@ use Rattle.elem_rules.specs.Divided.{has_more}
 use Rattle.elem_rules.specs.Rows.{nth, reference_in}
 use Rattle.elem_rules.specs.Conditions.{is_present, broken_at, condition_code}
 use Rattle.elem_rules.specs.ElementFaults.{Wrong, copy_in, fault_at, IsExtraElement, IsRowFault, IsConditionFault, IsElementFault}
-use Rattle.elem_rules.specs.Found.{fault, text_at, texts_of, is_present_in, reference_at, condition_copy, broken_found, condition_found,
-    conditions_found, element_found, rows_found, extra_found, found, IsKeyed}
-use Rattle.elem_rules.proofs.Members.{no_member, contains_one, one_contains, from_if, in_then, from_up_to, in_up_to, from_flat_map,
-    in_flat_map, from_option, in_option, nth_within, nth_past}
+use Rattle.elem_rules.specs.Found.{fault, text_at, texts_of, is_present_in, reference_at, condition_copy, broken_found, condition_found}
+use Rattle.elem_rules.specs.Found.{conditions_found, element_found, rows_found, extra_found, found, IsKeyed}
+use Rattle.elem_rules.proofs.Members.{no_member, contains_one, one_contains, from_if, in_then, from_up_to, in_up_to, from_flat_map}
+use Rattle.elem_rules.proofs.Members.{in_flat_map, from_option, in_option, nth_within, nth_past}
 use Rattle.elem_rules.proofs.Wrongs.{shown, element_from, element_to}
 use Rattle.elem_rules.proofs.Agreeing.{text_of_row, positions_have_rows, conditions_hold, broken_same, broken_within}
 use Rattle.elem_rules.proofs.Once.{same_place}
@@ -31,8 +31,7 @@ module _ (delims : Delims) (s : Segment) (slot : Slot) where
   -- what is wrong in an element with a row is shown with that row's numbers
   row_shown : (k : ℕ) (row : Element) (w : Wrong) → nth slot.elements k ≡ Some row
       → shown delims k row (element_of s k) w ≡ fault_at delims s slot k w.component w.repetition w.code
-  row_shown k row w there =
-      ap (λ o. fault k w.component w.repetition w.code (option_map_or (λ row. reference_in row w.component) o [])
+  row_shown k row w there = ap (λ o. fault k w.component w.repetition w.code (option_map_or (λ row. reference_in row w.component) o [])
       (copy_in delims (element_of s k) w.component w.repetition w.code)) (sym there)
 
   abbrev one_row : List (List ℕ) → ℕ → List ElemFault
@@ -44,7 +43,7 @@ module _ (delims : Delims) (s : Segment) (slot : Slot) where
       let k = a.0 in
       let b = from_option (λ row. element_found delims k row (text_at (texts_of slot s) k)) (nth slot.elements k) f a.3 in
       let c = element_from delims k b.0 (element_of s k) f
-              (subst (λ text. Contains (element_found delims k b.0 text) f) (text_of_row slot s k a.1 a.2) b.2) in
+      (subst (λ text. Contains (element_found delims k b.0 text) f) (text_of_row slot s k a.1 a.2) b.2) in
       record { position = k; row = b.0; there = b.1; w = c.0; wrong = c.1; is = c.2 ∙ row_shown k b.0 c.0 b.1 }
 
   row_to : (f : ElemFault) → IsRowFault delims s slot f → Contains (rows_found delims slot.elements (texts_of slot s)) f
@@ -53,15 +52,14 @@ module _ (delims : Delims) (s : Segment) (slot : Slot) where
       let within = nth_within slot.elements k h.row h.there in
       let a = element_to delims k h.row (element_of s k) h.w h.wrong in
       let b = subst (λ text. Contains (element_found delims k h.row text) (shown delims k h.row (element_of s k) h.w))
-              (sym (text_of_row slot s k within.0 within.1)) a in
+      (sym (text_of_row slot s k within.0 within.1)) a in
       let c = in_option (λ row. element_found delims k row (text_at (texts_of slot s) k)) (nth slot.elements k) h.row _ h.there b in
       subst (λ f. Contains (rows_found delims slot.elements (texts_of slot s)) f) (row_shown k h.row h.w h.there ∙ sym h.is)
       (in_up_to (one_row (texts_of slot s)) (length slot.elements) k _ within.0 within.1 c)
 
-  extra_shown : fault (length slot.elements + 1) 0 0 ik403.TooManyElements [] (element_of s (length slot.elements + 1))
-      ≡ fault_at delims s slot (length slot.elements + 1) 0 0 ik403.TooManyElements
-  extra_shown =
-      ap (λ o. fault (length slot.elements + 1) 0 0 ik403.TooManyElements (option_map_or (λ row. reference_in row 0) o [])
+  extra_shown : fault (length slot.elements + 1) 0 0 ik403.TooManyElements []
+      (element_of s (length slot.elements + 1)) ≡ fault_at delims s slot (length slot.elements + 1) 0 0 ik403.TooManyElements
+  extra_shown = ap (λ o. fault (length slot.elements + 1) 0 0 ik403.TooManyElements (option_map_or (λ row. reference_in row 0) o [])
       (element_of s (length slot.elements + 1))) (sym (nth_past slot.elements))
 
   extra_from : (f : ElemFault) → Contains (extra_found delims slot s) f → IsExtraElement delims s slot f
@@ -82,8 +80,8 @@ module _ (delims : Delims) (s : Segment) (slot : Slot) where
   copy_same relation.ListConditional text = refl
 
   broken_shown : (r : Relation) (p : ℕ) → 1 ≤ p → p ≤ length slot.elements
-      → fault p 0 0 (condition_code r) (reference_at slot.elements p) (condition_copy (condition_code r) (text_at (texts_of slot s) p))
-      ≡ fault_at delims s slot p 0 0 (condition_code r)
+      → fault p 0 0 (condition_code r) (reference_at slot.elements p)
+      (condition_copy (condition_code r) (text_at (texts_of slot s) p)) ≡ fault_at delims s slot p 0 0 (condition_code r)
   broken_shown r p from to = ap (λ copy. fault p 0 0 (condition_code r) (reference_at slot.elements p) copy)
       (ap (condition_copy (condition_code r)) (text_of_row slot s p from to) ∙ copy_same r (element_of s p))
 
@@ -99,15 +97,20 @@ module _ (delims : Delims) (s : Segment) (slot : Slot) where
         let c = a.0 in
         let holds = All-contains (λ c. IsTrue (is_condition_of slot c)) slot.conditions c (conditions_hold slot sound) a.1 in
         let b = from_flat_map (broken_found slot.elements (texts_of slot s) (condition_code c.relation))
-                (broken_at (is_present_in delims (texts_of slot s)) c.relation c.positions) f a.2 in
+        (broken_at (is_present_in delims (texts_of slot s)) c.relation c.positions) f a.2 in
         let p = b.0 in
         let broken = subst (λ l. Contains l p) (broken_same delims s slot c holds) b.1 in
-        let within =
-                All-contains (λ p. (1 ≤ p) × (p ≤ length slot.elements)) _ p
-                (broken_within (is_present delims s) c.relation (λ p. (1 ≤ p) × (p ≤ length slot.elements)) c.positions
-                (positions_have_rows slot c holds)) broken in
-        record { condition = c; listed = a.1; position = p; broken = broken; is = contains_one _ f b.2
-            ∙ broken_shown c.relation p within.0 within.1 }
+        let within = All-contains (λ p. (1 ≤ p) × (p ≤ length slot.elements)) _ p
+        (broken_within (is_present delims s) c.relation (λ p. (1 ≤ p) × (p ≤ length slot.elements)) c.positions
+        (positions_have_rows slot c holds)) broken in
+        record {
+          condition = c;
+          listed = a.1;
+          position = p;
+          broken = broken;
+          is = contains_one _ f b.2
+              ∙ broken_shown c.relation p within.0 within.1;
+        }
 
     condition_to : (f : ElemFault) → IsConditionFault delims s slot f
         → Contains (conditions_found delims slot.elements slot.conditions (texts_of slot s)) f
@@ -115,15 +118,14 @@ module _ (delims : Delims) (s : Segment) (slot : Slot) where
         let c = h.condition in
         let p = h.position in
         let holds = All-contains (λ c. IsTrue (is_condition_of slot c)) slot.conditions c (conditions_hold slot sound) h.listed in
-        let within =
-                All-contains (λ p. (1 ≤ p) × (p ≤ length slot.elements)) _ p
-                (broken_within (is_present delims s) c.relation (λ p. (1 ≤ p) × (p ≤ length slot.elements)) c.positions
-                (positions_have_rows slot c holds)) h.broken in
+        let within = All-contains (λ p. (1 ≤ p) × (p ≤ length slot.elements)) _ p
+        (broken_within (is_present delims s) c.relation (λ p. (1 ≤ p) × (p ≤ length slot.elements)) c.positions
+        (positions_have_rows slot c holds)) h.broken in
         let at = subst (λ l. Contains l p) (sym (broken_same delims s slot c holds)) h.broken in
         let one = in_flat_map (broken_found slot.elements (texts_of slot s) (condition_code c.relation))
-                (broken_at (is_present_in delims (texts_of slot s)) c.relation c.positions) p _ at (one_contains _) in
+        (broken_at (is_present_in delims (texts_of slot s)) c.relation c.positions) p _ at (one_contains _) in
         subst (λ f. Contains (conditions_found delims slot.elements slot.conditions (texts_of slot s)) f)
-            (broken_shown c.relation p within.0 within.1 ∙ sym h.is)
+        (broken_shown c.relation p within.0 within.1 ∙ sym h.is)
         (in_flat_map (condition_found delims slot.elements (texts_of slot s)) slot.conditions c _ h.listed one)
 
     pub found_is : (f : ElemFault) → Contains (found delims s slot) f → IsElementFault delims s slot f

@@ -43,9 +43,13 @@ digits-divided : (n : ℕ) (text : List ℕ) → is_digits text ≡ (is_digits (
 digits-divided n text = ap is_digits (sym (take-append-drop n text)) ∙ list_all-append is_ascii_digit (take n text) (drop n text)
 
 day_from : (year month day : ℕ) → is_day year month day ≡ true → IsDay year month day
-day_from year month day h =
-    record { month_from = grind (arith, nat_tests); month_to = grind (arith, nat_tests); day_from = grind (arith, nat_tests);
-    day_to = grind (arith, nat_tests) }
+day_from year month day h = record {
+  month_from = grind (arith, nat_tests);
+  month_to = grind (arith, nat_tests);
+  day_from =
+      grind (arith, nat_tests);
+  day_to = grind (arith, nat_tests);
+}
 
 day_to : (year month day : ℕ) → IsDay year month day → is_day year month day ≡ true
 day_to year month day h = grind (arith, nat_tests)
@@ -66,18 +70,15 @@ moment_from text h =
     let short : is_short_date (take 8 text) ≡ false = rw front refl in
     let long = either (is_long_date (take 8 text)) (is_short_date (take 8 text)) short d.1 in
     let f = both ((length (take 8 text) == 8) && nat_le 1 (year_of (take 8 text)))
-            (is_day (year_of (take 8 text)) (pair_at (take 8 text) 4) (pair_at (take 8 text) 6)) long in
+    (is_day (year_of (take 8 text)) (pair_at (take 8 text) 4) (pair_at (take 8 text) 6)) long in
     let g = both (length (take 8 text) == 8) (nat_le 1 (year_of (take 8 text))) f.0 in
-    let t = both
-            ((is_digits (drop 8 text)
-            && ((length (drop 8 text) == 4) || (is_within 6 8 (length (drop 8 text)) && nat_le (pair_at (drop 8 text) 4) 59)))
-            && nat_le (pair_at (drop 8 text) 0) 23) (nat_le (pair_at (drop 8 text) 2) 59) a.1 in
-    let u = both
-            (is_digits (drop 8 text)
-            && ((length (drop 8 text) == 4) || (is_within 6 8 (length (drop 8 text)) && nat_le (pair_at (drop 8 text) 4) 59)))
-            (nat_le (pair_at (drop 8 text) 0) 23) t.0 in
-    let v = both (is_digits (drop 8 text))
-            ((length (drop 8 text) == 4) || (is_within 6 8 (length (drop 8 text)) && nat_le (pair_at (drop 8 text) 4) 59)) u.0 in
+    let t = both ((is_digits (drop 8 text) &&
+    ((length (drop 8 text) == 4) || (is_within 6 8 (length (drop 8 text)) && nat_le (pair_at (drop 8 text) 4) 59)))
+    && nat_le (pair_at (drop 8 text) 0) 23) (nat_le (pair_at (drop 8 text) 2) 59) a.1 in
+    let u = both (is_digits (drop 8 text) && ((length (drop 8 text) == 4)
+    || (is_within 6 8 (length (drop 8 text)) && nat_le (pair_at (drop 8 text) 4) 59))) (nat_le (pair_at (drop 8 text) 0) 23) t.0 in
+    let v = both (is_digits (drop 8 text)) ((length (drop 8 text) == 4)
+    || (is_within 6 8 (length (drop 8 text)) && nat_le (pair_at (drop 8 text) 4) 59)) u.0 in
     let digits : is_digits text ≡ true = digits-divided 8 text ∙ both_true d.0 v.0 in
     let year = year-take text in
     let y1 : 1 ≤ year_of (take 8 text) = leb-true 1 (year_of (take 8 text)) g.1 in
@@ -96,23 +97,22 @@ pub moment_to : (text : List ℕ) → IsMoment text → is_moment text ≡ true
 moment_to text h =
     let front : length (take 8 text) ≡ 8 = length-take-le 8 text (omega (arith, h.len)) in
     let back : length (drop 8 text) ≡ 4 = length-drop 8 text ∙ omega (arith, h.len) in
-    let digits : (is_digits (take 8 text) && is_digits (drop 8 text)) ≡ true =
-            sym (digits-divided 8 text) ∙ (digits_decided text).1 h.digits in
+    let digits : (is_digits (take 8 text) && is_digits (drop 8 text)) ≡ true = sym (digits-divided 8 text)
+    ∙ (digits_decided text).1 h.digits in
     let d = both (is_digits (take 8 text)) (is_digits (drop 8 text)) digits in
     let len : (length text == 12) ≡ true = eq-eqb (length text) 12 h.len in
     let l8 : (length (take 8 text) == 8) ≡ true = eq-eqb (length (take 8 text)) 8 front in
     let l4 : (length (drop 8 text) == 4) ≡ true = eq-eqb (length (drop 8 text)) 4 back in
     let year : nat_le 1 (year_of (take 8 text)) ≡ true = rw year-take (le-leb 1 (year_of text) h.year) in
     let day : is_day (year_of (take 8 text)) (pair_at (take 8 text) 4) (pair_at (take 8 text) 6) ≡ true =
-    day_to _ _ _
-        (day-same _ _ _ _ _ _ (sym (year-take text)) (sym (pair-take 8 4 text (omega arith))) (sym (pair-take 8 6 text (omega arith)))
-        h.day) in
+    day_to _ _ _ (day-same _ _ _ _ _ _ (sym (year-take text)) (sym (pair-take 8 4 text (omega arith)))
+    (sym (pair-take 8 6 text (omega arith))) h.day) in
     let hours : nat_le (pair_at (drop 8 text) 0) 23 ≡ true =
-            subst (λ y. nat_le y 23 ≡ true) (sym (pair-drop 8 0 text)) (le-leb (pair_at text 8) 23 h.hour) in
+    subst (λ y. nat_le y 23 ≡ true) (sym (pair-drop 8 0 text)) (le-leb (pair_at text 8) 23 h.hour) in
     let minutes : nat_le (pair_at (drop 8 text) 2) 59 ≡ true =
-            subst (λ y. nat_le y 59 ≡ true) (sym (pair-drop 8 2 text)) (le-leb (pair_at text 10) 59 h.minute) in
+    subst (λ y. nat_le y 59 ≡ true) (sym (pair-drop 8 2 text)) (le-leb (pair_at text 10) 59 h.minute) in
     both_true (both_true len (both_true d.0 (or_left _ _ (both_true (both_true l8 year) day))))
-        (both_true (both_true (both_true d.1 (or_left _ _ l4)) hours) minutes)
+    (both_true (both_true (both_true d.1 (or_left _ _ l4)) hours) minutes)
 
 -- where the length and the date are as they should be, the time decides
 pub dated : (text : List ℕ) → length text ≡ 12 → is_date (take 8 text) ≡ true → is_moment text ≡ is_time (drop 8 text)

@@ -23,8 +23,8 @@ use Rattle.elem_rules.specs.Found.{IsKeyed}
 abbrev all_codes : List ElementCode
 all_codes =
     ik403.RequiredMissing ∷ ik403.ConditionalMissing ∷ ik403.TooManyElements ∷ ik403.TooShort ∷ ik403.TooLong ∷ ik403.InvalidCharacter
-    ∷ ik403.InvalidCode ∷ ik403.InvalidDate ∷ ik403.InvalidTime ∷ ik403.ExclusionViolated ∷ ik403.TooManyRepetitions
-        ∷ ik403.TooManyComponents
+    ∷ ik403.InvalidCode ∷ ik403.InvalidDate ∷ ik403.InvalidTime ∷ ik403.ExclusionViolated ∷ ik403.TooManyRepetitions ∷
+    ik403.TooManyComponents
     ∷ ik403.CodeNotUsed ∷ ik403.DependentMissing ∷ ik403.NotUsedPresent ∷ ik403.PatternFailure ∷ ik403.DependentNotUsedPresent ∷ []
 
 code_at_rank : (code d : ElementCode) → get_or all_codes (element_rank code) d ≡ code

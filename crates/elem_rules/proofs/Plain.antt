@@ -113,5 +113,5 @@ pub plain_two : (delims : Delims) (text : List ℕ) (separator : ℕ) → delims
     → IsFirstByte (is_byte2 delims.component separator) text None → IsPlain delims text
 plain_two delims text separator is h =
     same_tests (is_inner_separator delims) (is_byte2 delims.component separator) text
-        (λ x. ap (λ o. (x == delims.component) || option_map_or (λ separator. x == separator) o false) is)
+    (λ x. ap (λ o. (x == delims.component) || option_map_or (λ separator. x == separator) o false) is)
     ∙ none_passes (is_byte2 delims.component separator) text (λ j lt. h j (omega arith) lt)

@@ -1,6 +1,6 @@
 -- Where a quick look finds a segment clean, the walk finds nothing.
-use Rattle.std.proofs.Common.{◌≡◌, ℕ, zero, suc, ◌+◌, ◌-◌, ◌<◌, ◌≤◌, ◌∙◌, List, [], ◌∷◌, ◌++◌, Bool, true, false, length, get_or, take,
-    drop, refl, ap, sym, subst, arith}
+use Rattle.std.proofs.Common.{◌≡◌, ℕ, zero, suc, ◌+◌, ◌-◌, ◌<◌, ◌≤◌, ◌∙◌, List, [], ◌∷◌, ◌++◌, Bool, true, false, length, get_or, take}
+use Rattle.std.proofs.Common.{drop, refl, ap, sym, subst, arith}
 use Rattle.std.specs.Prelude.{Option, Some, None, is_none, IsTrue, ◌&&◌, ◌||◌, not, nat_le, if◌then◌else◌}
 use Rattle.std.specs.Option.{option_map_or}
 use Rattle.std.specs.List.{All, Contains, list_any, list_all, filter, flat_map}
@@ -24,8 +24,8 @@ use Rattle.elem_rules.specs.Rows.{Usage, simple_usage, composite_usage, shown_re
 use Rattle.elem_rules.specs.ElementFaults.{missing_fault, component_fault}
 use Rattle.elem_rules.specs.Conditions.{absent, broken_at}
 use Rattle.elem_rules.specs.Values.{value_fault}
-use Rattle.elem_rules.specs.Found.{up_to, fault, reported, components_found, occurrence_found, occurrences_found, usage_found,
-    element_found}
+use Rattle.elem_rules.specs.Found.{up_to, fault, reported, components_found, occurrence_found, occurrences_found, usage_found}
+use Rattle.elem_rules.specs.Found.{element_found}
 use Rattle.std.specs.Prelude.{◌==◌, nat_lt}
 use Rattle.std.specs.Int.{bit_at}
 use Rattle.std.proofs.lemmas.Option.{none-some, same_Some}
@@ -39,8 +39,8 @@ use Rattle.guide_tree.specs.declared.slot.Condition.{Condition}
 use Rattle.guide_tree.specs.Conditions.{is_condition_of}
 use Rattle.guide_tree.specs.Segments.{Segment, element_of}
 use Rattle.elem_rules.specs.ElementFaults.{IsElementFault}
-use Rattle.elem_rules.specs.Found.{text_at, texts_of, rows_found, extra_found, condition_found, conditions_found, broken_found,
-    is_present_in, found}
+use Rattle.elem_rules.specs.Found.{text_at, texts_of, rows_found, extra_found, condition_found, conditions_found, broken_found}
+use Rattle.elem_rules.specs.Found.{is_present_in, found}
 use Rattle.elem_rules.proofs.Members.{no_member}
 use Rattle.elem_rules.proofs.Membership.{is_found}
 use Rattle.elem_rules.proofs.Agreeing.{text_of_row, broken_agrees, positions_have_rows, conditions_hold}
@@ -63,7 +63,7 @@ pub up_to_none : {A : Type 0} (f : ℕ → List A) (n : ℕ) → ((k : ℕ) → 
 up_to_none f zero h = refl
 up_to_none f (suc n) h =
     ap (λ l. up_to f n ++ l) (h (suc n) (omega arith) (omega arith))
-        ∙ ap (λ l. l ++ []) (up_to_none f n (λ k from to. h k from (omega arith)))
+    ∙ ap (λ l. l ++ []) (up_to_none f n (λ k from to. h k from (omega arith)))
 
 -- one text has no more than one part
 pub one_more : (delims : Delims) (n : ℕ) (text : List ℕ) → 1 ≤ n → has_more delims n (text ∷ []) ≡ false
@@ -97,42 +97,41 @@ first_occurrence delims text h = ap (λ parts. get_or parts 0 []) (one_occurrenc
 -- an element with one occurrence without fault has no fault in its occurrences
 usage_clean : (delims : Delims) (e : ℕ) (usage : Usage) (text : List ℕ) → 1 ≤ usage.repeat → IsPlain delims text
     → occurrence_found delims e (shown_repetition usage 1) usage.reference usage.is_composite usage.components text ≡ []
-        → usage_found delims e text usage ≡ []
+    → usage_found delims e text usage ≡ []
 usage_clean delims e usage text repeat plain first =
     let few : has_more delims usage.repeat (occurrences delims text) ≡ false =
-            ap (λ parts. has_more delims usage.repeat parts) (one_occurrence delims text plain)
-            ∙ one_more delims usage.repeat text repeat in
-    let each : (n : ℕ) → 1 ≤ n → n ≤ usage.repeat → occurrence_found delims e (shown_repetition usage n) usage.reference usage.is_composite
-            usage.components (occurrence_in delims text n) ≡ [] = (λ n from to. one_by_one n from) in
-    ap (λ b. (if b then fault e 0 (usage.repeat + 1) ik403.TooManyRepetitions usage.reference (occurrence_in delims text (usage.repeat + 1))
-        ∷ [] else []) ++ occurrences_found delims e usage text) few
+    ap (λ parts. has_more delims usage.repeat parts) (one_occurrence delims text plain) ∙ one_more delims usage.repeat text repeat in
+    let each : (n : ℕ) → 1 ≤ n → n ≤ usage.repeat
+    → occurrence_found delims e (shown_repetition usage n) usage.reference usage.is_composite usage.components
+    (occurrence_in delims text n) ≡ [] = (λ n from to. one_by_one n from) in
+    ap (λ b. (if b then fault e 0 (usage.repeat + 1) ik403.TooManyRepetitions usage.reference
+    (occurrence_in delims text (usage.repeat + 1)) ∷ [] else []) ++ occurrences_found delims e usage text) few
     ∙ up_to_none _ usage.repeat each
   where
     one_by_one : (n : ℕ) → 1 ≤ n → occurrence_found delims e (shown_repetition usage n) usage.reference usage.is_composite usage.components
         (occurrence_in delims text n) ≡ []
     one_by_one zero from = absurd (omega arith)
-    one_by_one (suc zero) from =
-        ap (λ t. occurrence_found delims e (shown_repetition usage 1) usage.reference usage.is_composite usage.components t)
-        (first_occurrence delims text plain) ∙ first
-    one_by_one (suc (suc n)) from =
-        ap (λ t. occurrence_found delims e (shown_repetition usage (suc (suc n))) usage.reference usage.is_composite usage.components t)
+    one_by_one (suc zero) from = ap (λ t. occurrence_found delims e
+        (shown_repetition usage 1) usage.reference usage.is_composite usage.components t) (first_occurrence delims text plain) ∙ first
+    one_by_one (suc (suc n)) from = ap (λ t. occurrence_found delims e
+        (shown_repetition usage (suc (suc n))) usage.reference usage.is_composite usage.components t)
         (other_occurrence delims text (suc (suc n)) plain (omega arith))
         ∙ nothing_in_empty delims e (shown_repetition usage (suc (suc n))) usage.reference usage.is_composite usage.components
 
 -- a value without fault is an occurrence without fault
 value_clean : (delims : Delims) (e r : ℕ) (row : SimpleRow) (byte : ℕ) (bytes : List ℕ) → IsPlain delims (byte ∷ bytes)
-    → value_fault row (byte ∷ bytes) ≡ None → occurrence_found delims e r row.reference false (component.Simple row ∷ []) (byte ∷ bytes)
-    ≡ []
+    → value_fault row (byte ∷ bytes) ≡ None → occurrence_found delims e r row.reference false (component.Simple row ∷ [])
+    (byte ∷ bytes) ≡ []
 value_clean delims e r row byte bytes plain good =
     let text = byte ∷ bytes in
     let few : has_more delims 1 (components delims text) ≡ false =
-            ap (λ parts. has_more delims 1 parts) (one_component delims text plain) in
+    ap (λ parts. has_more delims 1 parts) (one_component delims text plain) in
     let filled : is_empty delims text ≡ false = filled_plain delims byte bytes plain in
     let is : component_in delims text 1 ≡ text = ap (λ parts. get_or parts 0 []) (one_component delims text plain) in
     let fault_of : component_fault delims (component.Simple row) text ≡ None =
-            ap (λ b. if b then missing_fault row.requirement else value_fault row text) filled ∙ good in
-    ap (λ b. if b then fault e 2 r ik403.TooManyComponents row.reference (component_in delims text 2)
-        ∷ [] else (if is_empty delims text then [] else components_found delims e r false (component.Simple row ∷ []) text)) few
+    ap (λ b. if b then missing_fault row.requirement else value_fault row text) filled ∙ good in
+    ap (λ b. if b then fault e 2 r ik403.TooManyComponents row.reference (component_in delims text 2) ∷ [] else
+    (if is_empty delims text then [] else components_found delims e r false (component.Simple row ∷ []) text)) few
     ∙ ap (λ b. if b then [] else components_found delims e r false (component.Simple row ∷ []) text) filled
     ∙ ap (λ t. reported e 0 r row.reference t (component_fault delims (component.Simple row) t)) is
     ∙ ap (λ o. reported e 0 r row.reference text o) fault_of
@@ -158,8 +157,8 @@ empty_clean delims e (element.Simple row repeat) bounded h =
 empty_clean delims e (element.Composite row) bounded h =
     ap (λ o. reported e 0 0 row.reference [] o ++ usage_found delims e [] (composite_usage row)) (missing_none row.requirement h)
     ∙ usage_clean delims e (composite_usage row) []
-        (repeat_from_three (nat_le row.repeat 999) (nat_le (length row.components) 20) (list_all is_component_bounded row.components)
-        row.repeat bounded) refl
+    (repeat_from_three (nat_le row.repeat 999) (nat_le (length row.components) 20)
+    (list_all is_component_bounded row.components) row.repeat bounded) refl
     (nothing_in_empty delims e (shown_repetition (composite_usage row) 1) row.reference true row.components)
 
 pub value_fits : (delims : Delims) (e : ℕ) (row : Element) (byte : ℕ) (bytes : List ℕ) → IsTrue (is_element_bounded row)
@@ -168,8 +167,8 @@ value_fits delims e (element.NotUsed reference) byte bytes bounded plain h = cc
 value_fits delims e (element.Simple row repeat) byte bytes bounded plain h =
     let text = byte ∷ bytes in
     let filled : is_empty delims text ≡ false = filled_plain delims byte bytes plain in
-    ap (λ b. reported e 0 0 row.reference text (if b then missing_fault row.requirement else None)
-        ++ usage_found delims e text (simple_usage row repeat)) filled
+    ap (λ b. reported e 0 0 row.reference text (if b then missing_fault row.requirement else None) ++ usage_found delims e text
+    (simple_usage row repeat)) filled
     ∙ usage_clean delims e (simple_usage row repeat) text (repeat_from (nat_le repeat 999) (is_row_bounded row) repeat bounded) plain
     (value_clean delims e (shown_repetition (simple_usage row repeat) 1) row byte bytes plain (none_from (value_fault row text) h))
 value_fits delims e (element.Composite row) byte bytes bounded plain h = cc
@@ -203,14 +202,15 @@ none_if false b xs h = refl
 
 pub holds_whole : (present : ℕ → Bool) (r : Relation) (positions : List ℕ) → holds present r positions ≡ true
     → broken_at present r positions ≡ []
-holds_whole present relation.Paired positions h = unless (list_any present positions) (list_all present positions)
-    (absent present positions) h (all_none present positions)
+holds_whole present relation.Paired positions h =
+    unless (list_any present positions) (list_all present positions) (absent present positions) h (all_none present positions)
 holds_whole present relation.Required positions h = ap (λ b. if b then [] else take 1 positions) h
 holds_whole present relation.Exclusion positions h = few_dropped (filter present positions) h
-holds_whole present relation.Conditional positions h = unless (list_any present (take 1 positions)) (list_all present (drop 1 positions))
-    (absent present (drop 1 positions)) h (all_none present (drop 1 positions))
-holds_whole present relation.ListConditional positions h = none_if (list_any present (take 1 positions))
-    (list_any present (drop 1 positions)) (take 1 (drop 1 positions)) h
+holds_whole present relation.Conditional positions h =
+    unless (list_any present (take 1 positions)) (list_all present (drop 1 positions)) (absent present (drop 1 positions)) h
+    (all_none present (drop 1 positions))
+holds_whole present relation.ListConditional positions h =
+    none_if (list_any present (take 1 positions)) (list_any present (drop 1 positions)) (take 1 (drop 1 positions)) h
 
 -- bits
 unmarked : (present : ℕ → Bool) (n i : ℕ) → n < i → n < 64 → bit_at (bits_to present n) i ≡ 0
@@ -309,14 +309,14 @@ module _ (delims : Delims) (s : Segment) (slot : Slot) (g : LooksClean delims s 
   rows_clean : rows_found delims slot.elements (texts_of slot s) ≡ []
   rows_clean =
       up_to_none (λ k. option_map_or (λ row. element_found delims k row (text_at (texts_of slot s) k)) (nth slot.elements k) [])
-          (length slot.elements)
+      (length slot.elements)
       (λ k from to. ap (λ t. option_map_or (λ row. element_found delims k row t) (nth slot.elements k) []) (text_of_row slot s k from to)
-          ∙ one_clean k (nth slot.elements k) refl)
+      ∙ one_clean k (nth slot.elements k) refl)
 
   extra_clean : extra_found delims slot s ≡ []
   extra_clean =
-      ap (λ b. if b then fault (length slot.elements + 1) 0 0 ik403.TooManyElements [] (element_of s (length slot.elements + 1))
-          ∷ [] else [])
+      ap (λ b. if b then fault (length slot.elements + 1) 0 0 ik403.TooManyElements []
+      (element_of s (length slot.elements + 1)) ∷ [] else [])
       (ap (list_any (is_filled delims)) g.no_more)
 
   abbrev bits : ℕ
@@ -334,14 +334,14 @@ module _ (delims : Delims) (s : Segment) (slot : Slot) (g : LooksClean delims s 
       ap (λ l. flat_map (broken_found slot.elements (texts_of slot s) (condition_code c.relation)) l)
       (broken_agrees (is_present_in delims (texts_of slot s)) (is_set bits) c.relation c.positions
       (All-weaker (λ p. (1 ≤ p) × (p ≤ length slot.elements)) (λ p. is_present_in delims (texts_of slot s) p ≡ is_set bits p)
-          (λ p w. set_as p w.0 w.1) c.positions (positions_have_rows slot c sound))
+      (λ p w. set_as p w.0 w.1) c.positions (positions_have_rows slot c sound))
       ∙ holds_whole (is_set bits) c.relation c.positions h)
 
   conditions_clean : conditions_found delims slot.elements slot.conditions (texts_of slot s) ≡ []
   conditions_clean = flat_none (condition_found delims slot.elements (texts_of slot s))
       (λ c. IsTrue (is_condition_of slot c) × IsTrue (holds (is_set bits) c.relation c.positions)) slot.conditions
       (both_hold (λ c. IsTrue (is_condition_of slot c)) (λ c. IsTrue (holds (is_set bits) c.relation c.positions)) slot.conditions
-          (conditions_hold slot g.sound) g.hold)
+      (conditions_hold slot g.sound) g.hold)
       (λ c w. condition_clean c w.0 w.1)
 
   found_clean : found delims s slot ≡ []

@@ -1,6 +1,6 @@
 -- What is shown of a fault at its place is what the walk has at hand there: the row's number and the text.
-use Rattle.std.proofs.Common.{◌≡◌, ℕ, zero, suc, ◌+◌, ◌-◌, ◌≤◌, ◌∙◌, List, [], ◌∷◌, Bool, true, false, length, get_or, refl, ap, sym, subst,
-    arith}
+use Rattle.std.proofs.Common.{◌≡◌, ℕ, zero, suc, ◌+◌, ◌-◌, ◌≤◌, ◌∙◌, List, [], ◌∷◌, Bool, true, false, length, get_or, refl, ap, sym, subst}
+use Rattle.std.proofs.Common.{arith}
 use Rattle.std.specs.Prelude.{Option, Some, None, IfSome, if◌then◌else◌, ◌==◌, nat_lt, not}
 use Rattle.std.specs.Option.{option_map_or, option_or}
 use Rattle.std.proofs.lemmas.Bool.Decides.{nat_tests}
@@ -23,8 +23,8 @@ use Rattle.hub_kinds.specs.declared.codes.ElementCode.{ElementCode}
 use Rattle.hub_kinds.specs.declared.codes.ElementCode.TheVariants as ik403
 use Rattle.elem_rules.specs.Divided.{is_empty, occurrence_in, component_in}
 use Rattle.elem_rules.specs.Values.{is_form, value_length, is_date, is_time, code_fault, calendar_fault, value_fault}
-use Rattle.elem_rules.specs.Rows.{Usage, simple_usage, composite_usage, nth, shown_component, shown_repetition, component_reference,
-    reference_in}
+use Rattle.elem_rules.specs.Rows.{Usage, simple_usage, composite_usage, nth, shown_component, shown_repetition, component_reference}
+use Rattle.elem_rules.specs.Rows.{reference_in}
 use Rattle.elem_rules.specs.ElementFaults.{copy_in, missing_fault, component_fault, whole_fault}
 use Rattle.elem_rules.specs.Found.{copy_of}
 use Rattle.elem_rules.proofs.Members.{nth_within, nth_past}
@@ -61,7 +61,7 @@ value_copies row text =
     (some_if CopiesComponent (nat_lt (value_length row.data_type text) row.min) (Some ik403.TooShort) _ (λ d t c r. refl)
     (some_if CopiesComponent (nat_lt row.max (value_length row.data_type text)) (Some ik403.TooLong) _ (λ d t c r. refl)
     (some_or CopiesComponent (code_fault row.codes text) (calendar_fault row.data_type text) (code_copies row.codes text)
-        (calendar_copies row.data_type text))))
+    (calendar_copies row.data_type text))))
 
 missing_copies : (requirement : Requirement) → IfSome (missing_fault requirement) CopiesComponent
 missing_copies Mandatory = λ d t c r. refl
@@ -81,12 +81,14 @@ missing_whole delims text Mandatory = refl
 missing_whole delims text Optional = tt
 
 whole_copies : (delims : Delims) (row : Element) (text : List ℕ) → IfSome (whole_fault delims row text) (CopiesWhole delims text)
-whole_copies delims (element.NotUsed reference) text = some_if (CopiesWhole delims text) (is_empty delims text) None
-    (Some ik403.NotUsedPresent) tt refl
-whole_copies delims (element.Simple row repeat) text = some_if (CopiesWhole delims text) (is_empty delims text)
-    (missing_fault row.requirement) None (missing_whole delims text row.requirement) tt
-whole_copies delims (element.Composite row) text = some_if (CopiesWhole delims text) (is_empty delims text) (missing_fault row.requirement)
-    None (missing_whole delims text row.requirement) tt
+whole_copies delims (element.NotUsed reference) text =
+    some_if (CopiesWhole delims text) (is_empty delims text) None (Some ik403.NotUsedPresent) tt refl
+whole_copies delims (element.Simple row repeat) text =
+    some_if (CopiesWhole delims text) (is_empty delims text) (missing_fault row.requirement) None
+    (missing_whole delims text row.requirement) tt
+whole_copies delims (element.Composite row) text =
+    some_if (CopiesWhole delims text) (is_empty delims text) (missing_fault row.requirement) None
+    (missing_whole delims text row.requirement) tt
 
 pub whole_copy : (delims : Delims) (row : Element) (text : List ℕ) (code : ElementCode) → whole_fault delims row text ≡ Some code
     → copy_in delims text 0 0 code ≡ copy_of code text
@@ -119,8 +121,8 @@ simple_shows row repeat = record {
   copies = λ m c h delims text code is whole r.
       let e = only_one (component.Simple row) m c h in
       let k = subst (λ c. component_fault delims c text ≡ Some code) (sym e.1) is in
-      simple_copy delims row text code k delims whole 0 r ∙ ap (λ m. copy_of code (component_in delims (occurrence_in delims whole r) m))
-          (sym e.0);
+      simple_copy delims row text code k delims whole 0 r
+      ∙ ap (λ m. copy_of code (component_in delims (occurrence_in delims whole r) m)) (sym e.0);
 }
 
 not_used_code : (b : Bool) (code : ElementCode) → (if b then None else Some ik403.NotUsedPresent) ≡ Some code → ik403.NotUsedPresent ≡ code

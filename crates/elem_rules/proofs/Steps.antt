@@ -1,6 +1,6 @@
 -- One step of a walk: what was found up to a number, and what is left behind it.
-use Rattle.std.proofs.Common.{◌≡◌, ℕ, ◌+◌, ◌-◌, ◌<◌, ◌≤◌, ◌∙◌, List, [], ◌++◌, length, get_or, drop, refl, ap, sym, arith, add-one, zero,
-    suc, append_assoc, append-nil}
+use Rattle.std.proofs.Common.{◌≡◌, ℕ, ◌+◌, ◌-◌, ◌<◌, ◌≤◌, ◌∙◌, List, [], ◌++◌, length, get_or, drop, refl, ap, sym, arith, add-one, zero}
+use Rattle.std.proofs.Common.{suc, append_assoc, append-nil}
 use mathlib.Core.Logic.{inl, inr}
 use Rattle.std.proofs.lemmas.Bool.{cases_eq}
 use Rattle.std.specs.Prelude.{Some, slice_get, unwrap_or}
@@ -24,7 +24,7 @@ pub up_to_more : {A : Type 0} (f : ℕ → List A) (n : ℕ) (start now next mor
     → more ≡ f (n + 1) → next ≡ start ++ up_to f (n + 1)
 up_to_more f n start now next more so_far step is =
     step ∙ ap (λ l. l ++ more) so_far ∙ append_assoc start (up_to f n) more ∙ ap (λ l. start ++ (up_to f n ++ l)) is
-        ∙ ap (λ l. start ++ l) (sym (up_to-suc f n))
+    ∙ ap (λ l. start ++ l) (sym (up_to-suc f n))
 
 pub nth-more : {X : Type 0} (xs : List X) (n : ℕ) → nth xs (n + 1) ≡ slice_get xs n
 nth-more xs n = rw add-one refl
@@ -47,9 +47,8 @@ pub text_read : (texts : List (Bor (List ℕ))) (position index : ℕ) (x : Bor 
     → index < length texts → x ≡ get_or texts index x → x.now ≡ text_at (read texts) position
 text_read texts position index x from is within at =
     let next : position ≡ index + 1 = omega arith in
-    let here =
-            ap (λ p. nth (read texts) p) next ∙ nth-more (read texts) index ∙ slice_get-map (λ t. t.now) texts index
-            ∙ ap (option_map (λ t. t.now)) (slice_get-get_or texts index x within ∙ ap Some (sym at)) in
+    let here = ap (λ p. nth (read texts) p) next ∙ nth-more (read texts) index ∙ slice_get-map (λ t. t.now) texts index
+    ∙ ap (option_map (λ t. t.now)) (slice_get-get_or texts index x within ∙ ap Some (sym at)) in
     sym (ap (λ o. unwrap_or o []) here)
 
 -- the three parts of the walk, one behind another
@@ -62,15 +61,15 @@ found_joined delims given s slot rows texts conditions start first second last i
     let e1 : first ≡ rows_found delims slot.elements (texts_of slot s) =
     a ∙ ap (λ l. l ++ rows_found given rows texts) none
     ∙ ap (λ d. rows_found d rows texts) is_given ∙ ap (λ r. rows_found delims r texts) are_rows
-        ∙ ap (λ t. rows_found delims slot.elements t) are_texts in
+    ∙ ap (λ t. rows_found delims slot.elements t) are_texts in
     let e3 : conditions_found given rows conditions texts ≡ conditions_found delims slot.elements slot.conditions (texts_of slot s) =
     ap (λ d. conditions_found d rows conditions texts) is_given ∙ ap (λ r. conditions_found delims r conditions texts) are_rows
     ∙ ap (λ k. conditions_found delims slot.elements k texts) are_conditions
-        ∙ ap (λ t. conditions_found delims slot.elements slot.conditions t) are_texts in
+    ∙ ap (λ t. conditions_found delims slot.elements slot.conditions t) are_texts in
     c ∙ ap (λ l. l ++ conditions_found given rows conditions texts) (b ∙ ap (λ l. l ++ extra_found delims slot s) e1)
     ∙ ap (λ l. (rows_found delims slot.elements (texts_of slot s) ++ extra_found delims slot s) ++ l) e3
     ∙ append_assoc (rows_found delims slot.elements (texts_of slot s)) (extra_found delims slot s)
-        (conditions_found delims slot.elements slot.conditions (texts_of slot s))
+    (conditions_found delims slot.elements slot.conditions (texts_of slot s))
 
 -- numbers behind the last one of which something is found add nothing
 pub up_to_rest : {A : Type 0} (f : ℕ → List A) (n to : ℕ) → n ≤ to → ((k : ℕ) → n < k → f k ≡ []) → up_to f to ≡ up_to f n

@@ -1,6 +1,6 @@
 -- Own: what a quick look at a segment without component and repetition separators asks for.
-use Rattle.std.specs.Prelude.{ℕ, zero, suc, ◌*◌, ◌%◌, ◌^◌, ◌==◌, ◌&&◌, nat_lt, bit_or, if◌then◌else◌, List, [], ◌∷◌, take, drop, Bool, true,
-    false, not, ◌||◌, nat_le, length, is_none}
+use Rattle.std.specs.Prelude.{ℕ, zero, suc, ◌*◌, ◌%◌, ◌^◌, ◌==◌, ◌&&◌, nat_lt, bit_or, if◌then◌else◌, List, [], ◌∷◌, take, drop, Bool, true}
+use Rattle.std.specs.Prelude.{false, not, ◌||◌, nat_le, length, is_none}
 use Rattle.std.specs.List.{list_any, list_all, filter}
 use Rattle.std.specs.Int.{bit_at}
 use Rattle.guide_tree.specs.declared.element.Requirement.{Requirement}

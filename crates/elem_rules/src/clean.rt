@@ -73,8 +73,8 @@ fn is_plain(delims: Delims, text: &[u8]) -> bool
 fn present_if_fit(seg: &SegView, rows: &[Element]) -> Option<u64>
     requires { length rows.now ≤ 40 }
     ensures bits { IfSome result (λ bits. bits ≡ bits_to (λ k. has_bytes (element_of (elements_of seg.now) k)) (length rows.now)) }
-    ensures fit { IfSome result (λ _. (k : ℕ) (row : Row) → nth rows.now k ≡ Some row
-        → IsTrue (fits row (element_of (elements_of seg.now) k))) }
+    ensures fit { IfSome result
+        (λ _. (k : ℕ) (row : Row) → nth rows.now k ≡ Some row → IsTrue (fits row (element_of (elements_of seg.now) k))) }
     ensures no_more { IfSome result (λ _. drop (length rows.now) (drop 1 (elements_of seg.now)) ≡ []) }
 {
     let mut parts = seg.elements();

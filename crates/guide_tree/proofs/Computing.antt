@@ -1,6 +1,6 @@
 -- Facts of places computed by tests: which begins so, which is given, and where a node that is missing is reported.
-use Rattle.std.proofs.Common.{◌≡◌, ℕ, zero, suc, ◌+◌, ◌⊎◌, inl, inr, List, [], ◌∷◌, Bool, true, false, Option, Some, None, refl, ap, sym,
-    ◌∙◌, subst, arith}
+use Rattle.std.proofs.Common.{◌≡◌, ℕ, zero, suc, ◌+◌, ◌⊎◌, inl, inr, List, [], ◌∷◌, Bool, true, false, Option, Some, None, refl, ap, sym}
+use Rattle.std.proofs.Common.{◌∙◌, subst, arith}
 use Rattle.std.specs.Prelude.{◌==◌, ◌&&◌, ◌||◌, nat_lt, if◌then◌else◌, IfSome}
 use Rattle.std.specs.Cmp.Derive.{both_true}
 use Rattle.std.proofs.lemmas.Bool.{or_cases, cases_Bool, eqb-true, ltb-true, lt-ltb, false≢true}
@@ -151,7 +151,7 @@ Reported given next end parent k position =
 
 further : (x : Option Place) (given : List (Option Place)) (next end : ℕ) (parent : Place) (k position : ℕ)
     → IfSome x (λ q. IsBehind parent k q → ⊥) → Reported given (suc next) end parent k position
-        → Reported (x ∷ given) next end parent k position
+    → Reported (x ∷ given) next end parent k position
 further x given next end parent k position none h = elim h [
   | inl e ↦ inl (suc e.0, (none, e.1), let i = e.2 in omega (arith, i))
   | inr e ↦ inr ((none, e.0), e.1)
@@ -164,13 +164,11 @@ there (None ∷ given) next end parent k = further None given next end parent k 
 there (Some q ∷ given) next end parent k =
     let rest = there given (suc next) end parent k in
     elim (cases_Bool (behind parent k q)) [
-      | inl e ↦ subst
-          (λ (b : Bool). Reported (Some q ∷ given) next end parent k (if b then next else reported_at given (suc next) end parent k))
-          (sym e)
+      | inl e ↦ subst (λ (b : Bool). Reported (Some q ∷ given) next end parent k
+          (if b then next else reported_at given (suc next) end parent k)) (sym e)
           (let same : next ≡ 0 + next = omega arith in inl (0, behind_is parent k q e, same))
-      | inr e ↦ subst
-          (λ (b : Bool). Reported (Some q ∷ given) next end parent k (if b then next else reported_at given (suc next) end parent k))
-          (sym e)
+      | inr e ↦ subst (λ (b : Bool). Reported (Some q ∷ given) next end parent k
+          (if b then next else reported_at given (suc next) end parent k)) (sym e)
           (further (Some q) given next end parent k _ (λ h. false≢true (sym e ∙ is_behind parent k q h)) rest)
     ]
 

@@ -12,7 +12,7 @@ use Rattle.guide_tree.proofs.WorkedGuide.{order, order_guide, parties, items, be
 use Rattle.guide_tree.proofs.WorkedGuide.{at_party, at_item, fault_at}
 
 -- no slot fits the segment
-abbrev FitsNone : Segment → Tree → Type 0
+abbrev pub FitsNone : Segment → Tree → Type 0
 FitsNone s (segment x) = fits x s ≡ false
 FitsNone s (loop l ts) = Unit {0}
 
@@ -24,14 +24,14 @@ mutual
   none_in s (loop l ts) [] x h e = cc
   none_in s (loop l ts) (a ∷ q) x h e = none_at s ts a.child q x h.1 e
 
-  none_at : (s : Segment) (ts : Trees) (n : ℕ) (q : Place) (x : Slot) → EachNode (FitsNone s) ts
+  pub none_at : (s : Segment) (ts : Trees) (n : ℕ) (q : Place) (x : Slot) → EachNode (FitsNone s) ts
       → slot_nth ts n q ≡ Some x → fits x s ≡ false
   none_at s no_trees n q x h e = cc
   none_at s (tree t ts) zero q x h e = none_in s t q x h.0 e
   none_at s (tree t ts) (suc n) q x h e = none_at s ts n q x h.1 e
 
 -- so it has no place at all
-no_place : (s : Segment) (ts : Trees) (q : Place) → EachNode (FitsNone s) ts → FitsAt ts q s → ⊥
+pub no_place : (s : Segment) (ts : Trees) (q : Place) → EachNode (FitsNone s) ts → FitsAt ts q s → ⊥
 no_place s ts [] h f = let e : None ≡ Some f.0 = f.1 in cc
 no_place s ts (a ∷ q) h f = let e = none_at s ts a.child q f.0 h f.1 in let t : true ≡ false = sym f.2 ∙ e in cc
 

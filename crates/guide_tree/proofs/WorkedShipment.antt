@@ -1,12 +1,14 @@
--- A small ship notice's guide with a loop in a loop, a body with many faults and its places, and what is wrong with it, computed:
--- BSN once; up to two loops HL, in each two REF that are picked by IA and two loops N1, in which N3 isn't used; CTT at most once.
-use Rattle.std.proofs.Common.{◌≡◌, ℕ, List, [], ◌∷◌, codes, Option, Some, None, inl, inr, refl, arith}
+-- A small ship notice's guide with a loop in a loop, a body with many faults, and what is wrong with it: BSN once; up to two
+-- loops HL, in each two REF that are picked by IA and two loops N1, in which N3 isn't used; CTT at most once.
+use Rattle.std.proofs.Common.{◌≡◌, ℕ, zero, suc, ◌<◌, sym, ◌∙◌, List, [], ◌∷◌, codes, true, false, Option, Some, None, inl, inr, refl, arith}
 use Rattle.hub_kinds.specs.declared.codes.SegmentCode.TheVariants as ik304
 use Rattle.guide_tree.specs.declared.slot.Slot.{Slot}
-use Rattle.guide_tree.specs.Tree.{Tree, Trees, segment, loop, no_trees, tree, GuideTree}
+use Rattle.guide_tree.specs.Tree.{Tree, Trees, segment, loop, no_trees, tree, EachNode, GuideTree}
 use Rattle.guide_tree.specs.Segments.{Segment}
-use Rattle.guide_tree.specs.Places.{Place, use_of}
+use Rattle.guide_tree.specs.Places.{Place, use_of, MayCome, FitsAt, IsPlacing}
 use Rattle.guide_tree.specs.Structure.{first_id, innermost, past_code, few_code, stray_code, IsReportedAt, IsStructureFault}
+use Rattle.guide_tree.proofs.Counting.{use_same}
+use Rattle.guide_tree.proofs.WorkedPlacing.{FitsNone, none_at, no_place}
 use Rattle.guide_tree.proofs.WorkedGuide.{slot, repeated, alone, fault_at}
 use Rattle.guide_tree.proofs.Computing.{has_is, has_not, first_begun, reported_there, reported_once}
 
@@ -65,7 +67,7 @@ other_ref = codes "REF" ∷ codes "ZZ" ∷ []
 stray_codes : (stray_code shipment_guide (alone (codes "Q9")) ≡ ik304.UnrecognizedSegment)
     × (stray_code shipment_guide (alone (codes "AMT")) ≡ ik304.NotInSet)
     × (stray_code shipment_guide other_ref ≡ ik304.UnexpectedSegment)
-        × (stray_code shipment_guide (alone (codes "BSN")) ≡ ik304.OutOfSequence)
+    × (stray_code shipment_guide (alone (codes "BSN")) ≡ ik304.OutOfSequence)
 stray_codes = (refl, refl, refl, refl)
 
 -- repetitions of the loop HL, and of N1 in the first of them
@@ -79,7 +81,7 @@ party = use_of 1 0 ∷ use_of 2 0 ∷ []
 innermost_loops : (innermost shipment [] (segment (slot 1 (codes "BSN") 1 1)) ≡ [])
     × (innermost shipment (level 1) (segment ref) ≡ codes "HL")
     × (innermost shipment party address ≡ codes "N1") × (innermost shipment [] levels ≡ codes "HL")
-        × (innermost shipment (level 0) parties ≡ codes "N1")
+    × (innermost shipment (level 0) parties ≡ codes "N1")
 innermost_loops = (refl, refl, refl, refl, refl)
 
 -- the id that a fault shows: a segment's, or that of a loop's first segment
@@ -89,8 +91,8 @@ first_ids = (refl, refl, refl)
 -- BSN, HL, REF, N1, N3, HL, three REF, four strays, HL
 abbrev body : List Segment
 body =
-    alone (codes "BSN") ∷ alone (codes "HL") ∷ (codes "REF" ∷ codes "IA" ∷ []) ∷ alone (codes "N1") ∷ alone (codes "N3")
-        ∷ alone (codes "HL")
+    alone (codes "BSN") ∷ alone (codes "HL") ∷ (codes "REF" ∷ codes "IA" ∷ []) ∷ alone (codes "N1") ∷ alone (codes "N3") ∷ alone
+    (codes "HL")
     ∷ (codes "REF" ∷ codes "IA" ∷ []) ∷ (codes "REF" ∷ codes "IA" ∷ []) ∷ (codes "REF" ∷ codes "IA" ∷ [])
     ∷ alone (codes "AMT") ∷ other_ref ∷ alone (codes "BSN") ∷ alone (codes "Q9") ∷ alone (codes "HL") ∷ []
 
@@ -105,6 +107,91 @@ given =
     Some (use_of 0 0 ∷ []) ∷ in_level 0 0 0 ∷ in_level 0 1 0 ∷ in_party 0 ∷ in_party 1 ∷ in_level 1 0 0
     ∷ in_level 1 1 0 ∷ in_level 1 1 1 ∷ in_level 1 1 2
     ∷ None ∷ None ∷ None ∷ None ∷ in_level 2 0 0 ∷ []
+
+no_amt : EachNode (FitsNone (alone (codes "AMT"))) shipment
+no_amt = (refl, ((tt, (refl, (refl, ((tt, (refl, (refl, tt))), tt)))), (refl, tt)))
+
+no_other_ref : EachNode (FitsNone other_ref) shipment
+no_other_ref = (refl, ((tt, (refl, (refl, ((tt, (refl, (refl, tt))), tt)))), (refl, tt)))
+
+no_q9 : EachNode (FitsNone (alone (codes "Q9"))) shipment
+no_q9 = (refl, ((tt, (refl, (refl, ((tt, (refl, (refl, tt))), tt)))), (refl, tt)))
+
+-- a BSN fits the first slot alone, behind which the second HL is
+no_other_bsn : EachNode (FitsNone (alone (codes "BSN"))) (tree levels (tree (segment (slot 8 (codes "CTT") 0 1)) no_trees))
+no_other_bsn = ((tt, (refl, (refl, ((tt, (refl, (refl, tt))), tt)))), (refl, tt))
+
+not_first : (n u : ℕ) (q : Place) → (n ≡ 0) → MayCome (Some (use_of 1 1 ∷ use_of 1 2 ∷ [])) (use_of n u ∷ q) → ⊥
+not_first n u q e (inl h) = let same = (use_same 1 n 1 u h.0).0 in omega (arith, e, same)
+not_first n u q e (inr (inl h, firsts)) = let l : 1 < n = h.0 in omega (arith, e, l)
+not_first n u q e (inr (inr h, firsts)) = let l : n ≡ 1 = h.0 in omega (arith, e, l)
+
+bsn_fits : (n u : ℕ) (q : Place) → MayCome (Some (use_of 1 1 ∷ use_of 1 2 ∷ [])) (use_of n u ∷ q)
+    → FitsAt shipment (use_of n u ∷ q) (alone (codes "BSN")) → ⊥
+bsn_fits zero u q m f = not_first 0 u q refl m
+bsn_fits (suc n) u q m f =
+    let e = none_at (alone (codes "BSN")) (tree levels (tree (segment (slot 8 (codes "CTT") 0 1)) no_trees)) n q f.0 no_other_bsn f.1 in
+    let t : true ≡ false = sym f.2 ∙ e in cc
+
+no_second_bsn : (q : Place) → MayCome (Some (use_of 1 1 ∷ use_of 1 2 ∷ [])) q → FitsAt shipment q (alone (codes "BSN")) → ⊥
+no_second_bsn [] m f = absurd m
+no_second_bsn (b ∷ q) m f = bsn_fits b.child b.use_no q m f
+
+-- the places are the body's
+body_is_placed : IsPlacing shipment None body given
+body_is_placed = (
+  (refl, tt),
+  (slot 1 (codes "BSN") 1 1, refl, refl),
+  (
+    inr (inl (omega arith, refl), ((refl, refl), tt)),
+    (slot 3 (codes "HL") 1 1, refl, refl),
+    (
+      inl (refl, inr (inl (omega arith, refl), tt)),
+      (ref, refl, refl),
+      (
+        inl (refl, inr (inl (omega arith, refl), ((refl, refl), tt))),
+        (slot 6 (codes "N1") 1 1, refl, refl),
+        (
+          inl (refl, inl (refl, inr (inl (omega arith, refl), tt))),
+          (slot 7 (codes "N3") 0 0, refl, refl),
+          (
+            inr (inr (refl, refl), ((refl, refl), tt)),
+            (slot 3 (codes "HL") 1 1, refl, refl),
+            (
+              inl (refl, inr (inl (omega arith, refl), tt)),
+              (ref, refl, refl),
+              (
+                inl (refl, inr (inr (omega arith, refl, refl), tt)),
+                (ref, refl, refl),
+                (
+                  inl (refl, inr (inr (omega arith, refl, refl), tt)),
+                  (ref, refl, refl),
+                  (
+                    (λ q m f. no_place (alone (codes "AMT")) shipment q no_amt f),
+                    (
+                      (λ q m f. no_place other_ref shipment q no_other_ref f),
+                      (
+                        no_second_bsn,
+                        (
+                          (λ q m f. no_place (alone (codes "Q9")) shipment q no_q9 f),
+                          (
+                            inr (inr (refl, refl), ((refl, refl), tt)),
+                            (slot 3 (codes "HL") 1 1, refl, refl),
+                            tt,
+                          ),
+                        ),
+                      ),
+                    ),
+                  ),
+                ),
+              ),
+            ),
+          ),
+        ),
+      ),
+    ),
+  ),
+)
 
 -- Where what is missing is reported, and nowhere else: REF of the first HL at N1; N1 of it behind its own places, at the next HL; N1 of
 -- the second HL behind the strays, at the third; and what the third lacks at the end.

@@ -7,7 +7,8 @@
 //! it refuses with the first fault: none is judged before it. Two slots are found ambiguous exactly where two
 //! places that may follow one lead to them, however often loops and segments are repeated. The law
 //! `placing_is_grammar`: in a guide without fault a body is derived by the grammar exactly where its placing has no
-//! stray and no structural fault, and both give each segment the same slot; a body has one placing.
+//! stray and no structural fault, and both give each segment the same slot; a derived body has a placing, a body has no
+//! two, and in each placing the uses of a child are numbered without gaps.
 //!
 //! Source: X12.6, transaction sets, loops, segments, data elements and relational conditions; the 999 guide
 //! (005010X231), IK304. Slot numbers, picks, labels, dependencies and the limits are own.

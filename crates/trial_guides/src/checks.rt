@@ -160,19 +160,22 @@ fn refusal_numbers(rt: HostRuntime) {
     assert_eq!(rt; GuideFault::BadCondition(1).number(), 6);
 }
 
-fn is_slot(guide: &Guide, number: u32, id: &[u8]) -> bool {
+/// The id of the slot with a number; empty where no segment has it.
+fn slot_id(guide: &Guide, number: u32) -> &[u8] {
     match guide.slot(number) {
-        None => false,
-        Some(slot) => slot.id.as_slice() == id,
+        None => b"",
+        Some(slot) => slot.id.as_slice(),
     }
 }
 
-/// A slot is found by its number; a loop's number is no slot's.
+/// Numbers, and the id of the slot that has it: a loop's number is no slot's.
+const SLOTS: &[(u32, &[u8])] = &[(4, b"N3"), (2, b""), (5, b"")];
+
 #[test]
 fn slots_by_their_numbers(rt: HostRuntime) -> Result<(), Fail> {
     let guide = guide_of(rt.alloc(), PARTY)?;
-    assert!(rt; is_slot(&guide, 4, b"N3"));
-    assert!(rt; guide.slot(2).is_none());
-    assert!(rt; guide.slot(5).is_none());
+    for (number, id) in SLOTS {
+        assert!(rt; slot_id(&guide, *number) == *id);
+    }
     Ok(())
 }

@@ -24,19 +24,28 @@ fn row_fault(alloc: Global, row: &str) -> Result<String, AllocError> {
     node_fault(alloc, node.as_str())
 }
 
-/// Files, and the fault of each.
-const FILES: &[(&[u8], &str)] = &[
-    (b"zeta=1\nalpha=1\n", "Unknown(\"alpha\")"),
-    (b"name=7\n", "WrongKind(\"name\")"),
-    (b"name=\n", "NotToml"),
-    (&[], "Missing(\"name\")"),
-    (&[0xff], "NotToml"),
+/// The number of the refusal of a file; 0 where it is read.
+fn number_of(alloc: Global, file: &[u8]) -> u32 {
+    match read_guide(alloc, file) {
+        Ok(_) => 0,
+        Err(fault) => fault.number(),
+    }
+}
+
+/// Files, the fault of each and its number.
+const FILES: &[(&[u8], &str, u32)] = &[
+    (b"zeta=1\nalpha=1\n", "Unknown(\"alpha\")", 4),
+    (b"name=7\n", "WrongKind(\"name\")", 3),
+    (b"name=\n", "NotToml", 1),
+    (&[], "Missing(\"name\")", 2),
+    (&[0xff], "NotToml", 1),
 ];
 
 #[test]
 fn first_faults(rt: HostRuntime) -> Result<(), AllocError> {
-    for (file, want) in FILES {
+    for (file, want, number) in FILES {
         assert_eq!(rt; fault_of(rt.alloc(), file)?.as_str(), *want);
+        assert_eq!(rt; number_of(rt.alloc(), file), *number);
     }
     Ok(())
 }

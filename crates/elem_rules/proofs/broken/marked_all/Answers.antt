@@ -16,5 +16,5 @@ loop-position-preserved c listed are =
 pub returns : goal.returns
 returns c listed are =
     subst (λ (l : List ℕ). AreBits c.loop-position.marks (listed ++ l))
-        (take_all c.loop-position.position-index c.args.positions.now c.loop-position-test.false)
+    (take_all c.loop-position.position-index c.args.positions.now c.loop-position-test.false)
     (c.loop-position.invariant listed are)

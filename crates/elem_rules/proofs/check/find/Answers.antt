@@ -25,8 +25,8 @@ walked : (c : goal.After-drop-texts-2) → (f : ElemFault)
 walked c =
     let slot = c.args.slot.now in
     let s = elements_of c.args.seg.now in
-    found_members c.args.seg.now.delims c.delims.result s slot c.as_slice-rows.result.now (read c.as_slice.result.now)
-        c.as_slice-2.result.now
+    found_members c.args.seg.now.delims c.delims.result s slot c.as_slice-rows.result.now
+    (read c.as_slice.result.now) c.as_slice-2.result.now
     c.new-found.result c.check_rows.new.found c.check_extra.new.found c.check_conditions.new.found
     c.delims.ensures c.as_slice-rows.ensures c.as_slice-2.ensures
     (ap read c.as_slice.ensures.value ∙ c.in_ok-texts.ensures ∙ ap (λ rows. take (length rows) (drop 1 s)) c.as_slice-rows.ensures)
@@ -43,13 +43,13 @@ returns-clause-exact c f =
 
 pub returns-clause-keyed : goal.returns-clause-keyed
 returns-clause-keyed c f g a b e =
-    keyed c.args.seg.now.delims (elements_of c.args.seg.now) c.args.slot.now c.requires.conditions f g ((walked c f).0 a) ((walked c g).0 b)
-        e
+    keyed c.args.seg.now.delims (elements_of c.args.seg.now) c.args.slot.now c.requires.conditions f g ((walked c f).0 a)
+    ((walked c g).0 b) e
 
 pub check_conditions-requires-clause-texts : goal.check_conditions-requires-clause-texts
 check_conditions-requires-clause-texts c =
     texts_few c.as_slice.result.now c.in_ok-texts.texts.items c.args.slot.now.elements c.as_slice-rows.result.now
-        (elements_of c.args.seg.now)
+    (elements_of c.args.seg.now)
     (rows_few c.args.slot.now c.requires.bounded) c.as_slice-rows.ensures c.as_slice.ensures.value c.in_ok-texts.ensures
 
 pub check_conditions-requires-clause-rows : goal.check_conditions-requires-clause-rows
@@ -58,4 +58,4 @@ check_conditions-requires-clause-rows c = rw c.as_slice-rows.ensures (rows_few c
 pub check_conditions-requires-clause-positions : goal.check_conditions-requires-clause-positions
 check_conditions-requires-clause-positions c =
     rows_listed c.args.slot.now c.as_slice-rows.result.now c.as_slice-2.result.now c.as_slice-rows.ensures c.as_slice-2.ensures
-        c.requires.conditions
+    c.requires.conditions

@@ -7,4 +7,4 @@ pub returns : goal.returns
 returns c =
     map_from_collect {E = Unit {0}} {v = λ x. x.now} (Ok c.in_ok-texts.texts) c.in_ok-texts.ensures.ran
     (YieldsList-from_take {s = c.take.result} c.args.n
-        (YieldsList-from_first (λ x. x.now) (λ rest. rest) _ (c.take.ensures.source ∙ c.elements.ensures.value)) c.take.ensures.count)
+    (YieldsList-from_first (λ x. x.now) (λ rest. rest) _ (c.take.ensures.source ∙ c.elements.ensures.value)) c.take.ensures.count)

@@ -27,5 +27,5 @@ pub returns-clause-rising : goal.returns-clause-rising
 returns-clause-rising c =
     let up : IsSorted order_of c.sort_unstable_by.new.self.items =
     c.sort_unstable_by.ensures.sorted (λ f g. is_lt (order_of f g)) order_ranks
-        (answers_always _ _ _ (λ f a r f' k. search (rules, tests))) in
+    (answers_always _ _ _ (λ f a r f' k. search (rules, tests))) in
     subst IsRising (sym (kept c)) (once_rises c.sort_unstable_by.new.self.items up)

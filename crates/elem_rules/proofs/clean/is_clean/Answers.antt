@@ -22,21 +22,21 @@ returns-in-Some c =
     let slot = c.args.slot.now in
     let s = elements_of seg in
     let plain : IsPlain seg.delims seg.bytes =
-            plain_of c.delims.result seg.delims c.bytes.result.now seg.bytes c.is_plain.result c.delims.ensures c.bytes.ensures
-            c.if-not-is_plain.false c.is_plain.ensures in
+    plain_of c.delims.result seg.delims c.bytes.result.now seg.bytes c.is_plain.result c.delims.ensures c.bytes.ensures
+    c.if-not-is_plain.false c.is_plain.ensures in
     let rows = c.as_slice.ensures in
-    let bits : c.in-Some.present ≡ bits_to (λ k. has_bytes (element_of s k)) (length slot.elements) =
-            c.in-Some.ensures.bits ∙ ap (λ rows. bits_to (λ k. has_bytes (element_of s k)) (length rows)) rows in
+    let bits : c.in-Some.present ≡ bits_to (λ k. has_bytes (element_of s k)) (length slot.elements) = c.in-Some.ensures.bits
+    ∙ ap (λ rows. bits_to (λ k. has_bytes (element_of s k)) (length rows)) rows in
     to_on_true c.hold_all.result (λ held. no_fault seg.delims s slot (record {
       bounded = rows_bounded slot c.requires.bounded;
       sound = c.requires.conditions;
       few = rows_few slot c.requires.bounded;
       plain = λ k. plain_part seg.delims seg.delims.element seg.bytes k plain;
-      fit = subst (λ (rows : List Element). (k : ℕ) (row : Element) → nth rows k ≡ Some row → IsTrue (fits row (element_of s k))) rows
-          c.in-Some.ensures.fit;
+      fit = subst (λ (rows : List Element). (k : ℕ) (row : Element) → nth rows k ≡ Some row
+          → IsTrue (fits row (element_of s k))) rows c.in-Some.ensures.fit;
       no_more = sym (ap (λ rows. drop (length rows) (drop 1 s)) rows) ∙ c.in-Some.ensures.no_more;
       hold = subst (λ n. All (λ x. IsTrue (holds (is_set n) x.relation x.positions)) slot.conditions) bits
           (subst (λ (conditions : List Condition). All (λ x. IsTrue (holds (is_set c.in-Some.present) x.relation x.positions)) conditions)
-              c.as_slice-in-Some.ensures
+          c.as_slice-in-Some.ensures
           (all_hold (is_set c.in-Some.present) c.as_slice-in-Some.result.now (sym c.hold_all.ensures ∙ held)));
     }))

@@ -15,8 +15,8 @@ loop-k-preserved c =
     let at : text ≡ element_of s (k + 1) = element_next s c.loop-k.parts text k c.loop-k.invariant.left c.next_part-text.ensures.text in
     record {
       left = left_more (drop 1 s) c.loop-k.parts _ k c.loop-k.invariant.left c.next_part-text.ensures.rest;
-      fit = fit_more c.args.rows.now s k c.index-rows-k.result text (omega arith) c.index-rows-k.is at
-          (sym c.fits.ensures ∙ c.if-not-fits.false) c.loop-k.invariant.fit;
+      fit = fit_more c.args.rows.now s k c.index-rows-k.result text (omega arith) c.index-rows-k.is at (sym c.fits.ensures
+          ∙ c.if-not-fits.false) c.loop-k.invariant.fit;
       bits = bits_more s k c.loop-k.present text c.is_empty.result c.marked-present.result at c.loop-k.invariant.bits c.is_empty.ensures
           c.marked-present.ensures;
     }

@@ -16,12 +16,12 @@ loop-k-preserved c =
     elim c.if-is_set.branch [
       | then-is_set+in_ok-add_broken w ↦
           up_to_more (λ k. if is_set c.args.bits k then broken_found rows texts c.args.code k else []) k c.args.found.now c.loop-k.found
-              c.if-is_set.found one
+          c.if-is_set.found one
           c.loop-k.invariant (w.found-is ∙ w.in_ok-add_broken.ensures)
           (ap (λ (b : Bool). if b then one else []) (sym (sym c.is_set.ensures ∙ w.if-is_set.true)))
       | else-is_set w ↦
           up_to_more (λ k. if is_set c.args.bits k then broken_found rows texts c.args.code k else []) k c.args.found.now c.loop-k.found
-              c.if-is_set.found []
+          c.if-is_set.found []
           c.loop-k.invariant (w.found-is ∙ sym (append-nil c.loop-k.found))
           (ap (λ (b : Bool). if b then one else []) (sym (sym c.is_set.ensures ∙ w.if-is_set.false)))
     ]

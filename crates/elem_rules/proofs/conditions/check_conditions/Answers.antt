@@ -25,6 +25,6 @@ returns c =
     subst (λ (l : List ElemFault). (Contains c.add_each-2.new.found f → Contains c.args.found.now f ⊎ Contains l f)
     × (Contains c.args.found.now f ⊎ Contains l f → Contains c.add_each-2.new.found f)) all
     (joined of.rows.now texts (is_set bits) c.args.conditions.now c.requires.positions c.args.found.now c.add_each.new.found
-        c.add_each-2.new.found
+    c.add_each-2.new.found
     broken.missing broken.excluded c.in_ok-broken.ensures.missing c.in_ok-broken.ensures.excluded c.in_ok-add_each.ensures step f))
-        c.add_each-2.ensures
+    c.add_each-2.ensures

@@ -14,16 +14,17 @@ loop-n-preserved c =
     let n = c.loop-n.n in
     let all = occurrences at.delims at.text.now in
     let text : c.in-Some.text.now ≡ occurrence_in at.delims at.text.now (n + 1) =
-            text_more all c.loop-n.parts _ n c.loop-n.invariant.left (sym (ap (λ l. get_or l 0 []) c.in-Some.ensures.steps)) in
+    text_more all c.loop-n.parts _ n c.loop-n.invariant.left (sym (ap (λ l. get_or l 0 []) c.in-Some.ensures.steps)) in
     let is = ap (λ o. occurrence_found o.delims o.element o.repetition c.args.row.now.reference true c.args.row.now.components o.text.now)
-            c.occurrence.ensures
-    ∙ ap (λ t. occurrence_found at.delims at.element (shown_repetition (composite_usage c.args.row.now) (n + 1)) c.args.row.now.reference
-        true c.args.row.now.components t) text in
+    c.occurrence.ensures
+    ∙ ap (λ t. occurrence_found at.delims at.element
+    (shown_repetition (composite_usage c.args.row.now) (n + 1)) c.args.row.now.reference true c.args.row.now.components t) text in
     record {
       left = left_more all c.loop-n.parts _ n c.loop-n.invariant.left (sym (ap (drop 1) c.in-Some.ensures.steps));
       found = up_to_more
-          (λ k. occurrence_found at.delims at.element (shown_repetition (composite_usage c.args.row.now) k) c.args.row.now.reference true
-              c.args.row.now.components (occurrence_in at.delims at.text.now k))
+          (λ k. occurrence_found at.delims at.element
+          (shown_repetition (composite_usage c.args.row.now) k) c.args.row.now.reference true c.args.row.now.components
+          (occurrence_in at.delims at.text.now k))
           n c.args.found.now c.loop-n.found _ _ c.loop-n.invariant.found c.in_ok-check_composite.ensures is;
     }
 
@@ -33,12 +34,11 @@ returns-in_default c =
     let at = c.args.at.now in
     let all = occurrences at.delims at.text.now in
     let usage = (composite_usage c.args.row.now) in
-    let one = (λ (n : ℕ). occurrence_found at.delims at.element (shown_repetition usage n) usage.reference usage.is_composite
-            usage.components (occurrence_in at.delims at.text.now n)) in
+    let one = (λ (n : ℕ). occurrence_found at.delims at.element
+    (shown_repetition usage n) usage.reference usage.is_composite usage.components (occurrence_in at.delims at.text.now n)) in
     let done : drop c.loop-n.n all ≡ [] = sym c.loop-n.invariant.left ∙ c.in_default.ensures.steps.0 in
     c.loop-n.invariant.found
     ∙ ap (λ l. c.args.found.now ++ l) (sym (up_to_rest one c.loop-n.n c.args.row.now.repeat c.loop-n.auto.n-end
-    (λ k lt. ap
-        (λ t. occurrence_found at.delims at.element (shown_repetition usage k) usage.reference usage.is_composite usage.components t)
-        (past_parts all c.loop-n.n k done lt)
+    (λ k lt. ap (λ t. occurrence_found at.delims at.element
+    (shown_repetition usage k) usage.reference usage.is_composite usage.components t) (past_parts all c.loop-n.n k done lt)
     ∙ nothing_in_empty at.delims at.element (shown_repetition usage k) usage.reference usage.is_composite usage.components)))

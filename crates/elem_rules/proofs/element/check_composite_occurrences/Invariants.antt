@@ -9,6 +9,7 @@ abbrev pub invariant-loop-n : goal.invariant-loop-n
 invariant-loop-n l = record {
   left : l.parts ≡ drop l.n (occurrences l.at.delims l.at.text.now);
   found : l.found ≡ l.initial.found
-      ++ up_to (λ n. occurrence_found l.at.delims l.at.element (shown_repetition (composite_usage l.row) n) l.row.reference true
-          l.row.components (occurrence_in l.at.delims l.at.text.now n)) l.n;
+      ++ up_to (λ n. occurrence_found l.at.delims l.at.element
+      (shown_repetition (composite_usage l.row) n) l.row.reference true l.row.components (occurrence_in l.at.delims l.at.text.now n))
+      l.n;
 }

@@ -11,5 +11,5 @@ invariant-loop-n l = record {
   left : l.parts ≡ drop l.n (occurrences l.at.delims l.at.text.now);
   found : l.found ≡ l.initial.found
       ++ up_to (λ n. occurrence_found l.at.delims l.at.element (shown_repetition (simple_usage l.row l.repeat) n) l.row.reference false
-          (component.Simple l.row ∷ []) (occurrence_in l.at.delims l.at.text.now n)) l.n;
+      (component.Simple l.row ∷ []) (occurrence_in l.at.delims l.at.text.now n)) l.n;
 }

@@ -10,7 +10,6 @@ abbrev pub invariant-loop-m : goal.invariant-loop-m
 invariant-loop-m l = record {
   left : l.parts ≡ drop l.m (components l.at.delims l.at.text.now);
   found : l.found ≡ l.initial.found
-      ++ up_to (λ m. option_map_or
-          (λ row. component_found l.at.delims l.at.element l.at.repetition m row (component_in l.at.delims l.at.text.now m)) (nth l.rows m)
-          []) l.m;
+      ++ up_to (λ m. option_map_or (λ row. component_found l.at.delims l.at.element l.at.repetition m row
+      (component_in l.at.delims l.at.text.now m)) (nth l.rows m) []) l.m;
 }
