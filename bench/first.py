@@ -3,12 +3,14 @@
 
 usage: bench/first.py [PROGRAM]     (crates/nighthub/out/nighthub if absent)
 
-Three inputs are made in a fresh folder: 64 MB of sets as in the bundled example, and 200,000 and 2,000,000 sets
-without segments of their own, each with a number of its own. For each: seconds, megabytes a second, the ratio to
+Five inputs are made in a fresh folder: 64 MB of sets as in the bundled example, and 200,000 and 2,000,000 sets
+without segments of their own, each with a number of its own, the fewer also with falling and with mixed numbers. For
+each: seconds, megabytes a second, the ratio to
 counting the terminators of the same file in the same run, the size of the acknowledgment and the peak memory; last
 the growth from the smaller to the larger of the empty ones.
 """
 import os
+import random
 import subprocess
 import sys
 import tempfile
@@ -21,21 +23,28 @@ HEADER = (b'ISA*00*          *00*          *01*ACME           *ZZ*HUB           
 ORDER = b'BEG*00*SA*PO100**20260228~PO1*1*5*EA*2.50~'
 
 
-def interchange(path, sets, inner, segments):
+def interchange(path, numbers, inner, segments):
+    sets = len(numbers)
     with open(path, 'wb') as out:
         out.write(HEADER)
-        for n in range(1, sets + 1):
+        for n in numbers:
             out.write(b'ST*850*%07d~%sSE*%d*%07d~' % (n, inner, segments, n))
         out.write(b'GE*%d*12~IEA*1*000000007~' % sets)
 
 
+# started beside this script's own memory, a program would be charged for it: so a small one starts it
+LAUNCHER = """import os, sys, time
+begun = time.perf_counter()
+child = os.posix_spawn(sys.argv[1], sys.argv[1:], os.environ)
+_, status, used = os.wait4(child, 0)
+print(os.waitstatus_to_exitcode(status), time.perf_counter() - begun, used.ru_maxrss / 1024, file=sys.stderr)"""
+
+
 def run(program, path, answer):
+    words = [sys.executable, '-ISc', LAUNCHER, program, '--in', path, '--at', '202603011530']
     with open(answer, 'wb') as out:
-        begun = time.perf_counter()
-        child = subprocess.Popen([program, '--in', path, '--at', '202603011530'], stdout=out)
-        _, status, used = os.wait4(child.pid, 0)
-        seconds = time.perf_counter() - begun
-    return os.waitstatus_to_exitcode(status), seconds, used.ru_maxrss / 1024
+        said = subprocess.run(words, stdout=out, stderr=subprocess.PIPE, text=True, check=True).stderr.split()
+    return int(said[0]), float(said[1]), float(said[2])
 
 
 def counted(path):
@@ -50,14 +59,18 @@ def main():
     if not os.access(program, os.X_OK):
         sys.exit(f'{program} is no program: build it first')
     whole = len(b'ST*850*0000001~' + ORDER + b'SE*4*0000001~')
-    cases = [('64 MB of orders', 64_000_000 // whole, ORDER, 4),
-             ('200,000 empty sets', 200_000, b'', 2),
-             ('2,000,000 empty sets', 2_000_000, b'', 2)]
+    few = range(1, 200_001)
+    mixed = random.Random(7).sample(few, len(few))
+    cases = [('64 MB of orders', range(1, 64_000_000 // whole + 1), ORDER, 4),
+             ('200,000 empty sets', few, b'', 2),
+             ('the same, numbers falling', few[::-1], b'', 2),
+             ('the same, numbers mixed', mixed, b'', 2),
+             ('2,000,000 empty sets', range(1, 2_000_001), b'', 2)]
     seconds = {}
     with tempfile.TemporaryDirectory() as folder:
-        for name, sets, inner, segments in cases:
+        for name, numbers, inner, segments in cases:
             path, answer = os.path.join(folder, 'in.x12'), os.path.join(folder, 'answer.x12')
-            interchange(path, sets, inner, segments)
+            interchange(path, numbers, inner, segments)
             size = os.path.getsize(path) / 1e6
             base = counted(path)
             status, seconds[name], peak = run(program, path, answer)

@@ -36,7 +36,7 @@ trimmed-append_codes {C} text elements (code ∷ codes) some full =
     let front : List (List ℕ) = elements ++ map text (take k (code ∷ codes)) in
     let whole : take (k + 1) (code ∷ codes) ≡ code ∷ codes = ap (λ (n : ℕ). take n (code ∷ codes)) long ∙ take-length (code ∷ codes) in
     let split : map text (code ∷ codes) ≡ map text (take k (code ∷ codes)) ++ last ∷ [] =
-            ap (map text) (sym whole) ∙ map_more text (code ∷ codes) k code lt in
+    ap (map text) (sym whole) ∙ map_more text (code ∷ codes) k code lt in
     let parts : elements ++ map text (code ∷ codes) ≡ front ++ last ∷ [] =
     ap (λ (s : List (List ℕ)). elements ++ s) split ∙ sym (append_assoc elements (map text (take k (code ∷ codes))) (last ∷ [])) in
     ap trimmed parts ∙ trimmed-push_full front last (full k code lt) ∙ sym parts
@@ -48,7 +48,7 @@ take-read-more elements k d lt =
     let long : length (read elements) ≡ length elements = length-map elements (λ element. element.now) in
     let within : k < length (read elements) = omega arith in
     take_more (read elements) k [] within ∙ ap (λ (x : List ℕ). take k (read elements) ++ x ∷ [])
-        (get_or-map (λ element. element.now) elements k d [] lt)
+    (get_or-map (λ element. element.now) elements k d [] lt)
 
 nothing : (x : List ℕ) → length x ≡ 0 → x ≡ []
 nothing [] h = refl

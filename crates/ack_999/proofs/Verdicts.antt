@@ -10,8 +10,8 @@ use Rattle.hub_kinds.specs.declared.set_codes.Verdict.TheVariants.{Accepted, Acc
 use Rattle.hub_kinds.specs.declared.set_codes.GroupCode.{GroupCode}
 use Rattle.hub_kinds.specs.declared.set_codes.GroupVerdict.{GroupVerdict}
 use Rattle.hub_kinds.specs.declared.set_codes.GroupVerdict.TheVariants as group
-use Rattle.ack_999.specs.Group.{is_accepted, is_accepted_with_errors, is_rejected, verdicts_of, totals_of, received_sets, verdict_on_sets,
-    verdict_on_totals, verdict_by, group_verdict_of}
+use Rattle.ack_999.specs.Group.{is_accepted, is_accepted_with_errors, is_rejected, verdicts_of, totals_of, received_sets, verdict_on_sets}
+use Rattle.ack_999.specs.Group.{verdict_on_totals, verdict_by, group_verdict_of}
 
 count_by-cons : (p : Verdict → Bool) (v : Verdict) (vs : List Verdict) → count_by p (v ∷ vs) ≡ cond (p v) 1 0 + count_by p vs
 count_by-cons p v vs = sum_by-cons (λ x. cond (p x) 1 0) v vs
@@ -96,9 +96,9 @@ verdict_on_totals-totals_of sets =
     let vs : List Verdict = verdicts_of sets in
     let none = list_all-none is_rejected (λ v. not (is_rejected v)) (λ _. refl) vs in
     ap (λ (b : Bool). choice b (count_by is_rejected vs == 0)
-        ((count_by is_accepted vs == 0) && (count_by is_accepted_with_errors vs == 0))) (sym (all_accepted vs))
+    ((count_by is_accepted vs == 0) && (count_by is_accepted_with_errors vs == 0))) (sym (all_accepted vs))
     ∙ ap (λ (b : Bool). choice (list_all is_accepted vs) b ((count_by is_accepted vs == 0) && (count_by is_accepted_with_errors vs == 0)))
-        (sym none)
+    (sym none)
     ∙ ap (λ (b : Bool). choice (list_all is_accepted vs) (list_all (λ v. not (is_rejected v)) vs) b) (sym (all_rejected vs))
 
 pub verdict_by-totals_of : (codes : List GroupCode) (sets : List SetAnswer)

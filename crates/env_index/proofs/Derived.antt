@@ -1,20 +1,20 @@
 -- The summary of the segments is that of each tree that they derive.
-use Rattle.std.proofs.Common.{◌≡◌, ℕ, ◌+◌, List, [], ◌∷◌, ◌++◌, true, false, ◌||◌, ◌&&◌, Option, Some, None, length, refl, sym, ap, ◌∙◌,
-    arith, append_assoc}
+use Rattle.std.proofs.Common.{◌≡◌, ℕ, ◌+◌, List, [], ◌∷◌, ◌++◌, true, false, ◌||◌, ◌&&◌, Option, Some, None, length, refl, sym, ap, ◌∙◌}
+use Rattle.std.proofs.Common.{arith, append_assoc}
 use Rattle.std.specs.List.{flat_map, list_all}
 use Rattle.x12_segs.specs.View.{SegValue}
 use Rattle.x12_segs.specs.Kinds.{kind_of, is_inner}
-use Rattle.env_index.specs.Envelope.{Set, InGroup, ASet, OutOfGroup, Group, InBody, ANotice, AGroup, OutOfBody, Body, option_items,
-    set_items, in_group_items, group_items, in_body_items, ends_set, ends_group, is_out_of_group, is_out_of_body, MayFollow, Closed, IsSet,
-    AreMembers, IsGroup, AreBodyMembers, Derives}
+use Rattle.env_index.specs.Envelope.{Set, InGroup, ASet, OutOfGroup, Group, InBody, ANotice, AGroup, OutOfBody, Body, option_items}
+use Rattle.env_index.specs.Envelope.{set_items, in_group_items, group_items, in_body_items, ends_set, ends_group, is_out_of_group}
+use Rattle.env_index.specs.Envelope.{is_out_of_body, MayFollow, Closed, IsSet, AreMembers, IsGroup, AreBodyMembers, Derives}
 use Rattle.x12_segs.specs.declared.kind.Kind.{Kind}
-use Rattle.x12_segs.specs.declared.kind.Kind.TheVariants.{InterchangeTrailer, GroupHeader, GroupTrailer, SetHeader, SetTrailer, Notice,
-    Other}
+use Rattle.x12_segs.specs.declared.kind.Kind.TheVariants.{InterchangeTrailer, GroupHeader, GroupTrailer, SetHeader, SetTrailer, Notice}
+use Rattle.x12_segs.specs.declared.kind.Kind.TheVariants.{Other}
 use Rattle.env_index.specs.declared.entry.SetEnvelope.{SetEnvelope}
 use Rattle.env_index.specs.Extents.{behind, behind_last}
 use Rattle.env_index.specs.Summary.{Summary, set_entry, sets_in, group_entry, has_misplaced_in_group, summary_of}
-use Rattle.env_index.proofs.Tails.{GroupTail, SetTail, Tails, left_open, cut_off, no_segments, with_notice, with_misplaced, with_group,
-    with_set, onto_body, onto_group, onto_set, tails, summed}
+use Rattle.env_index.proofs.Tails.{GroupTail, SetTail, Tails, left_open, cut_off, no_segments, with_notice, with_misplaced, with_group}
+use Rattle.env_index.proofs.Tails.{with_set, onto_body, onto_group, onto_set, tails, summed}
 
 -- where a set may be left without SE, an open set ends
 closes_set : (rest : List SegValue) → MayFollow ends_set rest → (tails rest).in_set ≡ cut_off (tails rest).in_group
@@ -67,10 +67,13 @@ in_open_set (x ∷ xs) close rest all closed = by_kind (kind_of x) (λ others. i
         let n : length (xs ++ option_items close) + 1 ≡ length (x ∷ (xs ++ option_items close)) = omega arith in
         ap (λ (u : SetTail). (let v : SetTail = record u { count = u.count + 1; end = λ so_far. u.end (behind x) } in v)) is
         ∙ ap (λ (k : ℕ).
-            (let v : SetTail = record
-                    { count = k; close = close; after = (tails rest).in_group;
-                      end = λ so_far. behind_last (behind x) (xs ++ option_items close) } in
-                v)) n
+        (let v : SetTail = record {
+          count = k;
+          close = close;
+          after = (tails rest).in_group;
+          end = λ so_far. behind_last (behind x) (xs ++ option_items close);
+        } in
+        v)) n
 
     by_kind : (k : Kind)
         → (list_all (λ x. is_inner (kind_of x)) xs ≡ true → (tails (xs ++ (option_items close ++ rest))).in_set
@@ -95,14 +98,15 @@ set_in_front s rest is =
   where
     by_kind : (k : Kind) (t : Tails) → k ≡ SetHeader → t.in_set ≡ told_set s.trailer rest (s.inner ++ option_items s.trailer)
         → onto_group k s.header t
-            ≡ (let g : GroupTail = (tails rest).in_group in (let u : GroupTail = record g { sets = set_entry s ∷ g.sets } in u))
+        ≡ (let g : GroupTail = (tails rest).in_group in (let u : GroupTail = record g { sets = set_entry s ∷ g.sets } in u))
     by_kind k t header goes_on =
         let n : length (s.inner ++ option_items s.trailer) + 1 ≡ length (set_items s) = omega arith in
         rw header (ap (with_set s.header) goes_on ∙ ap (λ (k : ℕ). (let g : GroupTail = (tails rest).in_group in
-        (let u : GroupTail = record g
-                { sets = (let e : SetEnvelope = record
-                        { header = s.header; segments = k; trailer = s.trailer; end = behind_last 0 (set_items s) } in e)
-                    ∷ g.sets } in u))) n)
+        (let u : GroupTail = record g {
+          sets = (let e : SetEnvelope = record
+              { header = s.header; segments = k; trailer = s.trailer; end = behind_last 0 (set_items s) } in e)
+              ∷ g.sets;
+        } in u))) n)
 
 -- members in front of what an open group goes on with
 abbrev front_members : List InGroup → GroupTail → GroupTail
@@ -145,7 +149,7 @@ group_ends (Some x) rest closed = by_kind (kind_of x) closed
 -- members in front of a group's end
 members_told : (ms : List InGroup) (close : Option SegValue) (after : Summary)
     → front_members ms (record { sets = []; close = close; misplaced = false; after = after })
-        ≡ record { sets = sets_in ms; close = close; misplaced = has_misplaced_in_group ms; after = after }
+    ≡ record { sets = sets_in ms; close = close; misplaced = has_misplaced_in_group ms; after = after }
 members_told [] close after = refl
 members_told (ASet s ∷ ms) close after = ap (λ (t : GroupTail). (let u : GroupTail = record t { sets = set_entry s ∷ t.sets } in u))
     (members_told ms close after)
@@ -155,8 +159,12 @@ members_told (OutOfGroup x ∷ ms) close after = ap (λ (t : GroupTail). (let u 
 -- a group in front of what the interchange goes on with
 abbrev front_group : Group → Summary → Summary
 front_group g s =
-    record { groups = group_entry g ∷ s.groups; notices = s.notices; misplaced = has_misplaced_in_group g.members || s.misplaced;
-    trailer = s.trailer }
+    record {
+      groups = group_entry g ∷ s.groups;
+      notices = s.notices;
+      misplaced = has_misplaced_in_group g.members || s.misplaced;
+      trailer = s.trailer;
+    }
 
 group_in_front : (g : Group) (rest : List SegValue) → IsGroup g rest
     → (tails (group_items g ++ rest)).in_body ≡ front_group g (tails rest).in_body

@@ -14,4 +14,4 @@ pub one_passes : {A : Type 0} (p : A → Bool) (xs : List A) (i : ℕ) (x : A) �
     → list_all p (take i xs) ≡ true → list_all p (take (i + 1) xs) ≡ true
 one_passes p xs i x is passes before =
     list_all_more p xs i x (slice_get_within xs i x is) ∙ ap (λ (b : Bool). b && p (get_or xs i x)) before
-        ∙ ap p (get_or_from_slice_get xs i x x is) ∙ passes
+    ∙ ap p (get_or_from_slice_get xs i x x is) ∙ passes

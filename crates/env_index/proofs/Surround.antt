@@ -1,6 +1,6 @@
 -- What stands around an interchange that is alone.
-use Rattle.std.proofs.Common.{◌≡◌, ℕ, ◌+◌, ◌-◌, ◌<◌, ◌≤◌, List, [], ◌∷◌, Bool, true, false, not, ◌&&◌, nat_eq, leb, length, take, drop,
-    get_or, cond, zero, suc, refl, sym, ap, subst, ◌∙◌, inl, inr, arith}
+use Rattle.std.proofs.Common.{◌≡◌, ℕ, ◌+◌, ◌-◌, ◌<◌, ◌≤◌, List, [], ◌∷◌, Bool, true, false, not, ◌&&◌, nat_eq, leb, length, take, drop}
+use Rattle.std.proofs.Common.{get_or, cond, zero, suc, refl, sym, ap, subst, ◌∙◌, inl, inr, arith}
 use Rattle.std.specs.Prelude.{codes, count_by}
 use Rattle.std.specs.List.{slice_range, prefix_len}
 use Rattle.std.specs.Str.{bytes_eq}
@@ -17,9 +17,11 @@ use Rattle.env_index.specs.Lone.{IsLone}
 
 -- a header is bytes of the text, and begins with the letter I
 pub head_within : (text : List ℕ) (q : ℕ) → is_head text q ≡ true → q + 106 ≤ length text
-head_within text q is = elim (leb_tells (q + 106) (length text))
-    [ inl w ↦ w.1 | inr w ↦ absurd
-    (both_ways (leb (q + 106) (length text)) w.0 (and_parts (leb (q + 106) (length text)) (is_header (header_at text q)) is).0) ]
+head_within text q is = elim (leb_tells (q + 106) (length text)) [
+  | inl w ↦ w.1
+  | inr w ↦ absurd
+      (both_ways (leb (q + 106) (length text)) w.0 (and_parts (leb (q + 106) (length text)) (is_header (header_at text q)) is).0)
+]
 
 header_letter : (h : List ℕ) → is_header h ≡ true → get_or h 0 0 ≡ 73
 unfolding is_header
@@ -27,7 +29,7 @@ header_letter h is =
     let rest : Bool = has_delims h && has_fields h 16 in
     let isa : Bool = bytes_eq (take 3 h) (codes "ISA") in
     let text : take 3 h ≡ codes "ISA" =
-            (bytes_decides (take 3 h) (codes "ISA")).0 (and_parts isa rest (and_parts (nat_eq (length h) 106) (isa && rest) is).1).0 in
+    (bytes_decides (take 3 h) (codes "ISA")).0 (and_parts isa rest (and_parts (nat_eq (length h) 106) (isa && rest) is).1).0 in
     sym (get_or-take 3 h 0 0 (omega arith)) ∙ ap (λ (xs : List ℕ). get_or xs 0 0) text
 
 pub head_letter : (text : List ℕ) (q : ℕ) → is_head text q ≡ true → get_or text q 0 ≡ 73
@@ -35,7 +37,7 @@ head_letter text q is =
     let n : q + 106 - q ≡ 106 = omega arith in
     let z : q + 0 ≡ q = omega arith in
     let first : get_or (header_at text q) 0 0 ≡ 73 =
-            header_letter (header_at text q) (and_parts (leb (q + 106) (length text)) (is_header (header_at text q)) is).1 in
+    header_letter (header_at text q) (and_parts (leb (q + 106) (length text)) (is_header (header_at text q)) is).1 in
     sym (get_or-take (q + 106 - q) (drop q text) 0 0 (omega arith) ∙ get_or-drop q text 0 0 ∙ ap (λ (k : ℕ). get_or text k 0) z) ∙ first
 
 -- so none begins at filler
@@ -96,8 +98,8 @@ filler_reaches text at within none lt =
     let front : List ℕ = slice_range text 0 at in
     let long : length front ≡ at = omega (arith, length-take {A = ℕ}, length-drop {A = ℕ}) in
     let same : get_or front n 0 ≡ get_or text n 0 =
-            get_or-take (at - 0) (drop 0 text) n 0 (omega arith) ∙ get_or-drop 0 text n 0
-            ∙ ap (λ (k : ℕ). get_or text k 0) (let z : 0 + n ≡ n = omega arith in z) in
+    get_or-take (at - 0) (drop 0 text) n 0 (omega arith) ∙ get_or-drop 0 text n 0
+    ∙ ap (λ (k : ℕ). get_or text k 0) (let z : 0 + n ≡ n = omega arith in z) in
     let other : is_filler (get_or front n 0) ≡ false = ap is_filler same ∙ prefix_len_stops is_filler text 0 (omega arith) in
     let some : 1 ≤ count_by (λ b. not (is_filler b)) front = some_counted front n (omega arith) other in
     omega (arith, some, none)
@@ -117,7 +119,7 @@ pub filler_behind : (text : List ℕ) (x : Extent) → IsLone text x → prefix_
 filler_behind text x lone lt =
     let rest : List ℕ = drop x.end text in
     let some : 1 ≤ count_by (λ b. not (is_filler b)) rest =
-            some_counted rest (prefix_len is_filler rest) lt (prefix_len_stops is_filler rest 0 lt) in
+    some_counted rest (prefix_len is_filler rest) lt (prefix_len_stops is_filler rest 0 lt) in
     omega (arith, some, lone.inside)
 
 -- no header stands in filler at the text's end
@@ -138,17 +140,17 @@ filled : (text : List ℕ) (at : ℕ) → at ≤ prefix_len is_filler text
     → length (slice_range text 0 at) ≤ prefix_len is_filler (slice_range text 0 at)
 filled text at le =
     elim (leb_tells (length (slice_range text 0 at)) (prefix_len is_filler (slice_range text 0 at)))
-        [ inl w ↦ w.1 | inr w ↦ absurd (stopped w.1) ]
+    [ inl w ↦ w.1 | inr w ↦ absurd (stopped w.1) ]
   where
     stopped : prefix_len is_filler (slice_range text 0 at) < length (slice_range text 0 at) → ⊥
     stopped lt =
         let k : ℕ = prefix_len is_filler (slice_range text 0 at) in
         let below : k < at = omega (arith, lt, length-take {A = ℕ}) in
         let same : get_or (slice_range text 0 at) k 0 ≡ get_or text k 0 =
-                get_or-take (at - 0) (drop 0 text) k 0 (omega arith) ∙ get_or-drop 0 text k 0
-                ∙ ap (λ (j : ℕ). get_or text j 0) (let z : 0 + k ≡ k = omega arith in z) in
+        get_or-take (at - 0) (drop 0 text) k 0 (omega arith) ∙ get_or-drop 0 text k 0
+        ∙ ap (λ (j : ℕ). get_or text j 0) (let z : 0 + k ≡ k = omega arith in z) in
         both_ways (is_filler (get_or text k 0)) (ap is_filler (sym same) ∙ prefix_len_stops is_filler (slice_range text 0 at) 0 lt)
-            (prefix_len_passes is_filler text k 0 (omega arith))
+        (prefix_len_passes is_filler text k 0 (omega arith))
 
 -- a header behind filler, with filler behind its interchange, is alone
 pub lone_between : (text : List ℕ) (end : ℕ) → is_head text (prefix_len is_filler text) ≡ true
@@ -159,7 +161,11 @@ lone_between text end head is filler =
     let within : n + 106 ≤ length text = head_within text n head in
     let front : List ℕ = slice_range text 0 n in
     record {
-      chain = (record { behind = omega arith; head = head; least = λ q from lt. no_head_before text q lt }, is, λ q from. no_head_in_rest
-          text end q filler from);
+      chain = (
+        record { behind = omega arith; head = head; least = λ q from lt. no_head_before text q lt },
+        is,
+        λ q from. no_head_in_rest
+            text end q filler from,
+      );
       inside = omega (arith, nothing_counted front (filled text n (omega arith)), nothing_counted (drop end text) filler);
     }

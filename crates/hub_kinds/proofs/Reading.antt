@@ -1,6 +1,6 @@
 -- A code, read from its text: the first of a list that has the text.
-use Rattle.std.proofs.Common.{ℕ, ◌≡◌, ◌↔◌, ◌+◌, ◌<◌, length, get_or, zero, suc, Bool, true, false, cond, List, [], ◌∷◌, drop, slice_get,
-    find, bytes_eq, Option, Some, refl, sym, ap, ◌∙◌, arith}
+use Rattle.std.proofs.Common.{ℕ, ◌≡◌, ◌↔◌, ◌+◌, ◌<◌, length, get_or, zero, suc, Bool, true, false, cond, List, [], ◌∷◌, drop, slice_get}
+use Rattle.std.proofs.Common.{find, bytes_eq, Option, Some, refl, sym, ap, ◌∙◌, arith}
 use Rattle.std.specs.Prelude.{unwrap_or}
 use Rattle.std.proofs.lemmas.Option.{none-some, slice_get-get_or}
 use Rattle.std.proofs.lemmas.Slice.Eq.{bytes_eq-Decides}

@@ -4,8 +4,8 @@ use Rattle.std.specs.Prelude.{ℕ, ◌==◌, Bool, true, false, not, nat_lt, Lis
 use Rattle.std.specs.Str.{bytes_eq}
 use Rattle.hub_kinds.specs.Numbers.{number_of}
 use Rattle.hub_kinds.specs.declared.set_codes.SetCode.{SetCode}
-use Rattle.hub_kinds.specs.declared.set_codes.SetCode.TheVariants.{TrailerMissing, ControlNumbersDiffer, SegmentCountWrong,
-    ControlNumberInvalid, ControlNumberNotUnique}
+use Rattle.hub_kinds.specs.declared.set_codes.SetCode.TheVariants.{TrailerMissing, ControlNumbersDiffer, SegmentCountWrong}
+use Rattle.hub_kinds.specs.declared.set_codes.SetCode.TheVariants.{ControlNumberInvalid, ControlNumberNotUnique}
 use Rattle.x12_segs.specs.View.{SegValue, element_of}
 
 -- the transaction set control number: ST02 of the header

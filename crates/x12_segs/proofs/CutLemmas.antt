@@ -1,9 +1,9 @@
 -- A text that is cut behind a terminator: the segments before the cut, and those behind it.
-use Rattle.std.proofs.Common.{ℕ, ◌≡◌, ◌<◌, ◌+◌, ◌-◌, Bool, true, false, cond, List, [], ◌∷◌, ◌++◌, length, map, take, drop, get_or,
-    slice_range, refl, sym, ap, ◌∙◌, add-one, arith, drop-cons, nat_eq, rules}
+use Rattle.std.proofs.Common.{ℕ, ◌≡◌, ◌<◌, ◌+◌, ◌-◌, Bool, true, false, cond, List, [], ◌∷◌, ◌++◌, length, map, take, drop, get_or}
+use Rattle.std.proofs.Common.{slice_range, refl, sym, ap, ◌∙◌, add-one, arith, drop-cons, nat_eq, rules}
 use Rattle.std.specs.List.{slice_split, onto_first, prefix_len}
-use Rattle.std.proofs.lemmas.List.{append_assoc, drop-drop, get_or-drop, length-append, length-drop, length-take-le, map-append,
-    take-append-drop, take_more}
+use Rattle.std.proofs.lemmas.List.{append_assoc, drop-drop, get_or-drop, length-append, length-drop, length-take-le, map-append}
+use Rattle.std.proofs.lemmas.List.{take-append-drop, take_more}
 use Rattle.std.proofs.lemmas.List.Splits.{length-slice_split, slice_split-cons_yes}
 use Rattle.x12_bytes.specs.Bytes.{is_line_end}
 use Rattle.x12_segs.specs.Parts.{parts}
@@ -46,9 +46,9 @@ segs_of-append place [] qs some = ap (λ n. segs_of n qs) (let e : place ≡ pla
 segs_of-append place (part ∷ ps) qs some =
     let next : ℕ = place + length part + 1 in
     let left : segs_of place (part ∷ (ps ++ qs)) ≡ part_at place part ++ segs_of next (ps ++ qs) =
-            segs_of-cons place part (ps ++ qs) (omega (arith, length-append ps qs)) in
+    segs_of-cons place part (ps ++ qs) (omega (arith, length-append ps qs)) in
     let right : segs_of place (part ∷ (ps ++ [] ∷ [])) ≡ part_at place part ++ segs_of next (ps ++ [] ∷ []) =
-            segs_of-cons place part (ps ++ [] ∷ []) (omega (arith, length-append ps ([] ∷ []))) in
+    segs_of-cons place part (ps ++ [] ∷ []) (omega (arith, length-append ps ([] ∷ []))) in
     let ends : next + span_of ps ≡ place + (length part + 1 + span_of ps) = omega arith in
     left ∙ ap (λ (s : List Seg). part_at place part ++ s) (segs_of-append next ps qs some)
     ∙ sym (append_assoc (part_at place part) (segs_of next (ps ++ [] ∷ [])) (segs_of (next + span_of ps) qs))
@@ -61,8 +61,8 @@ part_at-moved s place part =
     let lead : ℕ = prefix_len is_line_end part in
     let further : s + place + lead ≡ s + (place + lead) = omega arith in
     elim (nat_eq lead (length part)) as
-        (λ b. cond b [] ((let seg : Seg = record { start = s + place + lead; bytes = drop lead part } in seg) ∷ [])
-        ≡ map (moved_by s) (cond b [] ((let seg : Seg = record { start = place + lead; bytes = drop lead part } in seg) ∷ []))) [
+    (λ b. cond b [] ((let seg : Seg = record { start = s + place + lead; bytes = drop lead part } in seg) ∷ [])
+    ≡ map (moved_by s) (cond b [] ((let seg : Seg = record { start = place + lead; bytes = drop lead part } in seg) ∷ []))) [
       | true ↦ refl
       | false ↦ ap (λ n. (let seg : Seg = record { start = n; bytes = drop lead part } in seg) ∷ []) further
     ]
@@ -98,12 +98,12 @@ segs_from-cut text t s n below is =
     let whole : rest ≡ xs ++ t ∷ ys = round_element rest n (omega arith) ∙ ap (λ (b : ℕ). xs ++ b ∷ ys) at in
     let front : slice_range text s (s + n + 1) ≡ xs ++ t ∷ [] =
     ap (λ k. take k rest) (let width : s + n + 1 - s ≡ n + 1 = omega arith in width) ∙ take_more rest n 0 (omega arith)
-        ∙ ap (λ (b : ℕ). xs ++ b ∷ []) at in
+    ∙ ap (λ (b : ℕ). xs ++ b ∷ []) at in
     let front_parts : parts t (slice_range text s (s + n + 1)) ≡ ps ++ [] ∷ [] = ap (parts t) front ∙ parts-append t xs [] in
     let long : length xs ≡ n = length-take-le n rest (omega arith) in
     let end : s + span_of ps ≡ s + n + 1 = omega (arith, span-split (λ b. nat_eq b t) xs) in
     let behind : ys ≡ drop (s + n + 1) text =
-            drop-drop (n + 1) s text ∙ ap (λ k. drop k text) (let sum : s + (n + 1) ≡ s + n + 1 = omega arith in sum) in
+    drop-drop (n + 1) s text ∙ ap (λ k. drop k text) (let sum : s + (n + 1) ≡ s + n + 1 = omega arith in sum) in
     ap (λ (l : List ℕ). segs_of s (parts t l)) whole
     ∙ ap (segs_of s) (parts-append t xs ys)
     ∙ segs_of-append s ps qs (omega (arith, length-slice_split (λ b. nat_eq b t) ys))

@@ -1,6 +1,6 @@
 -- The first segment behind an offset.
-use Rattle.std.proofs.Common.{ℕ, zero, suc, ◌≡◌, ◌≤◌, ◌<◌, ◌+◌, ◌-◌, Bool, true, false, List, [], ◌∷◌, ◌++◌, Option, Some, None, length,
-    drop, get_or, slice_range, refl, sym, ap, subst, ◌∙◌, ◌⊎◌, inl, inr, arith, nat_eq}
+use Rattle.std.proofs.Common.{ℕ, zero, suc, ◌≡◌, ◌≤◌, ◌<◌, ◌+◌, ◌-◌, Bool, true, false, List, [], ◌∷◌, ◌++◌, Option, Some, None, length}
+use Rattle.std.proofs.Common.{drop, get_or, slice_range, refl, sym, ap, subst, ◌∙◌, ◌⊎◌, inl, inr, arith, nat_eq}
 use Rattle.std.specs.List.{prefix_len, position_or_len}
 use Rattle.std.proofs.lemmas.Bool.{cases_lt, false≢true, eqb-true}
 use Rattle.std.proofs.lemmas.List.{drop-drop, get_or-drop, length-drop, length-take-le, take_rest}
@@ -8,8 +8,8 @@ use Rattle.std.proofs.lemmas.List.Sums.{fails_before_first, passes_at_first, pre
 use Rattle.memchr.specs.Find.{IsFirstByte, is_byte}
 use Rattle.x12_bytes.specs.Bytes.{is_line_end}
 use Rattle.x12_segs.specs.Segs.{Seg, seg_at, without_line_ends, part_at, segs_from}
-use Rattle.x12_segs.proofs.SegLemmas.{IsCut, cut_found, drop-slice_range, part_at-none, part_at-some, segs_from-found, segs_from-none,
-    without_line_ends-slice}
+use Rattle.x12_segs.proofs.SegLemmas.{IsCut, cut_found, drop-slice_range, part_at-none, part_at-some, segs_from-found, segs_from-none}
+use Rattle.x12_segs.proofs.SegLemmas.{without_line_ends-slice}
 
 -- the search that always has an answer
 first_byte : (t : ℕ) (xs : List ℕ) → (r : Option ℕ) × IsFirstByte (is_byte t) xs r
@@ -17,10 +17,14 @@ first_byte t xs =
     let p : ℕ → Bool = λ b. nat_eq b t in
     let k : ℕ = position_or_len p xs in
     elim (cases_lt k (length xs)) [
-      | inl lt ↦
-          (Some k, (record
-          { low = omega arith; high = lt; before = λ j low below yes. false≢true (sym (fails_before_first p xs j 0 below) ∙ yes) },
-          passes_at_first p xs 0 lt))
+      | inl lt ↦ (
+        Some k,
+        (
+          record
+              { low = omega arith; high = lt; before = λ j low below yes. false≢true (sym (fails_before_first p xs j 0 below) ∙ yes) },
+          passes_at_first p xs 0 lt,
+        ),
+      )
       | inr ge ↦ (None, λ j low below yes. false≢true (sym (fails_before_first p xs j 0 (omega (arith, below, ge))) ∙ yes))
     ]
 
@@ -57,10 +61,10 @@ segs_from-here text t at len cut some none =
     let width : length part ≡ len = cut.width in
     let shape : part_at at part ≡ without_line_ends at part ∷ [] = part_at-some at part (omega (arith, none)) in
     let seg : without_line_ends at part ≡ seg_at text (at + 0) (at + len) =
-            without_line_ends-slice text at (at + len) 0 (sym none) (omega arith) in
+    without_line_ends-slice text at (at + len) 0 (sym none) (omega arith) in
     let still : at + 0 ≡ at = omega arith in
     let whole : part_at at part ≡ seg_at text at (at + len) ∷ [] =
-            shape ∙ ap (λ (s : Seg). s ∷ []) (seg ∙ ap (λ n. seg_at text n (at + len)) still) in
+    shape ∙ ap (λ (s : Seg). s ∷ []) (seg ∙ ap (λ n. seg_at text n (at + len)) still) in
     segs_from-found text t at len cut ∙ ap (λ (s : List Seg). s ++ segs_from text t (at + len + 1)) whole
 
 -- a search from the front of the text's rest, as code makes it
@@ -79,17 +83,17 @@ segs_from-inside text t from len fits h lead is lt =
     let below : from + len < length text = cut.below in
     let later : IsFirstByte (is_byte t) (drop (from + lead) text) (Some (len - lead)) =
     subst (λ hay. IsFirstByte (is_byte t) hay (Some (len - lead))) (drop-drop lead from text)
-        (first_byte-drop t (drop from text) len lead (omega arith) h) in
+    (first_byte-drop t (drop from text) len lead (omega arith) h) in
     let cut_inside : IsCut text t (from + lead) (len - lead) =
-            cut_found text t (from + lead) (len - lead) (omega arith) (from_rest text t (from + lead) (Some (len - lead)) later) in
+    cut_found text t (from + lead) (len - lead) (omega arith) (from_rest text t (from + lead) (Some (len - lead)) later) in
     let end : from + lead + (len - lead) ≡ from + len = omega arith in
     let stops = prefix_len_stops is_line_end part 0 (let stop : prefix_len is_line_end part < length part = omega arith in stop) in
     let dropped : prefix_len is_line_end (drop lead part) ≡ 0 =
-            prefix_len-drop_no is_line_end part lead 0 (omega arith) (subst (λ n. is_line_end (get_or part n 0) ≡ false) (sym is) stops) in
+    prefix_len-drop_no is_line_end part lead 0 (omega arith) (subst (λ n. is_line_end (get_or part n 0) ≡ false) (sym is) stops) in
     let inside : drop lead part ≡ slice_range text (from + lead) (from + len) =
-            drop-slice_range lead from (from + len) text (omega arith) in
+    drop-slice_range lead from (from + len) text (omega arith) in
     let none : prefix_len is_line_end (slice_range text (from + lead) (from + len)) ≡ 0 =
-            subst (λ (b : List ℕ). prefix_len is_line_end b ≡ 0) inside dropped in
+    subst (λ (b : List ℕ). prefix_len is_line_end b ≡ 0) inside dropped in
     let here = segs_from-here text t (from + lead) (len - lead) cut_inside (omega arith) (rw end none) in
     subst (λ n. segs_from text t (from + lead) ≡ seg_at text (from + lead) n ∷ segs_from text t (n + 1)) end here
 
@@ -97,7 +101,7 @@ segs_from-inside text t from len fits h lead is lt =
 seg_found : (text : List ℕ) (t from len : ℕ) (seg : Seg) (more : List Seg) → from ≤ length text
     → IsFirstByte (is_byte t) (drop from text) (Some len)
     → prefix_len is_line_end (slice_range text from (from + len)) < length (slice_range text from (from + len))
-        → segs_from text t from ≡ seg ∷ more → IsFirstSeg text t from seg more
+    → segs_from text t from ≡ seg ∷ more → IsFirstSeg text t from seg more
 seg_found text t from len seg more fits h lt is =
     let cut : IsCut text t from len = cut_found text t from len fits (from_rest text t from (Some len) h) in
     let part : List ℕ = slice_range text from (from + len) in
@@ -107,13 +111,13 @@ seg_found text t from len seg more fits h lt is =
     let here : Seg = seg_at text (from + lead) (from + len) in
     let later : List Seg = segs_from text t (from + len + 1) in
     let shape : part_at from part ≡ here ∷ [] =
-            part_at-some from part lt ∙ ap (λ (s : Seg). s ∷ []) (without_line_ends-slice text from (from + len) lead refl (omega arith)) in
+    part_at-some from part lt ∙ ap (λ (s : Seg). s ∷ []) (without_line_ends-slice text from (from + len) lead refl (omega arith)) in
     let both : here ∷ later ≡ seg ∷ more = sym (segs_from-found text t from len cut ∙ ap (λ (s : List Seg). s ++ later) shape) ∙ is in
     let same_seg : here ≡ seg = cc in
     let same_more : later ≡ more = cc in
     let room : length (drop (from + lead) text) ≡ length text - (from + lead) = length-drop (from + lead) text in
     let size : length here.bytes ≡ from + len - (from + lead) =
-            length-take-le (from + len - (from + lead)) (drop (from + lead) text) (omega arith) in
+    length-take-le (from + len - (from + lead)) (drop (from + lead) text) (omega arith) in
     let stop : from + lead + length here.bytes ≡ from + len = omega arith in
     let byte : get_or (drop from text) len 0 ≡ t = eqb-true (get_or (drop from text) len 0) t h.1 in
     let base : IsFirstSeg text t from here later = record {
@@ -138,10 +142,14 @@ first_part text t from seg more (Some len) fits h is =
     let below : from + len < length text = cut.below in
     elim (cases_lt (prefix_len is_line_end part) (length part)) [
       | inl lt ↦ inl (seg_found text t from len seg more fits h lt is)
-      | inr ge ↦ inr
-          (from + len + 1, omega arith, omega arith, sym
-          (ap (λ (s : List Seg). s ++ segs_from text t (from + len + 1)) (part_at-none from part ge))
-          ∙ sym (segs_from-found text t from len cut) ∙ is)
+      | inr ge ↦ inr (
+        from + len + 1,
+        omega arith,
+        omega arith,
+        sym
+            (ap (λ (s : List Seg). s ++ segs_from text t (from + len + 1)) (part_at-none from part ge))
+            ∙ sym (segs_from-found text t from len cut) ∙ is,
+      )
     ]
 
 pub first_seg : (fuel : ℕ) (text : List ℕ) (t from : ℕ) (seg : Seg) (more : List Seg) → length text - from ≤ fuel → from ≤ length text

@@ -13,7 +13,7 @@ skipped : (before run : List Seg) (text : List ℕ) (t from : ℕ) → from ≤ 
 skipped [] run text t from fits is = (from, fits, is)
 skipped (seg ∷ before) run text t from fits is =
     let first : IsFirstSeg text t from seg (before ++ run) =
-            first_seg (length text - from) text t from seg (before ++ run) (omega arith) fits is in
+    first_seg (length text - from) text t from seg (before ++ run) (omega arith) fits is in
     let end : seg.start + length seg.bytes < length text = first.end in
     skipped before run text t (seg.start + length seg.bytes + 1) (omega arith) first.behind
 
@@ -34,11 +34,11 @@ run_end seg [] behind text t from fits is =
     record { above = omega arith; within = omega arith; terminated = rw last first.terminated; behind_it = first.behind }
 run_end seg (next ∷ run) behind text t from fits is =
     let first : IsFirstSeg text t from seg (next ∷ (run ++ behind)) =
-            first_seg (length text - from) text t from seg (next ∷ (run ++ behind)) (omega arith) fits is in
+    first_seg (length text - from) text t from seg (next ∷ (run ++ behind)) (omega arith) fits is in
     let start : from ≤ seg.start = first.start in
     let end : seg.start + length seg.bytes < length text = first.end in
     let later : IsRunEnd text t (seg.start + length seg.bytes + 1) (next ∷ run) behind =
-            run_end next run behind text t (seg.start + length seg.bytes + 1) (omega arith) first.behind in
+    run_end next run behind text t (seg.start + length seg.bytes + 1) (omega arith) first.behind in
     let above : seg.start + length seg.bytes + 1 < end_of (next ∷ run) = later.above in
     record { above = omega arith; within = later.within; terminated = later.terminated; behind_it = later.behind_it }
 
@@ -48,7 +48,7 @@ stands_alone before [] behind text t from fits is some = absurd (omega (arith, s
 stands_alone before (seg ∷ run) behind text t from fits is some =
     let w = skipped before (seg ∷ (run ++ behind)) text t from fits is in
     let first : IsFirstSeg text t w.0 seg (run ++ behind) =
-            first_seg (length text - w.0) text t w.0 seg (run ++ behind) (omega arith) w.1 w.2 in
+    first_seg (length text - w.0) text t w.0 seg (run ++ behind) (omega arith) w.1 w.2 in
     let at : ℕ = seg.start in
     let first_end : at + length seg.bytes < length text = first.end in
     let ended : IsRunEnd text t at (seg ∷ run) behind = run_end seg run behind text t at (omega arith) first.alone in
