@@ -10,9 +10,9 @@
 //! - `date`, `short_date` and `time` are a moment's CCYYMMDD, YYMMDD and HHMM.
 //!
 //! A segment is walked a fixed number of times, whatever its rows and conditions; memory is taken for the texts of the
-//! elements that have rows and for the faults alone. A segment without separators in its elements and without faults is
-//! seen to be clean in one walk, which takes no memory. Where conditions are broken at one element, however many, there is
-//! one fault for each code.
+//! elements that have rows, for the positions at which one condition is broken and for the faults alone. A segment without
+//! separators in its elements and without faults is seen to be clean in one walk, which takes no memory. Where conditions
+//! are broken at one element, however many, one fault is made for each code.
 //!
 //! Source: X12.6, data element types, composite and repeated data elements, relational conditions; the 999 guide
 //! (005010X231), IK4. `jiff` says which days exist. What counts as empty, and dates of six digits, are own.

@@ -1,7 +1,7 @@
 -- A small ship notice's guide with a loop in a loop, a body with many faults, and what is wrong with it: BSN once; up to two
 -- loops HL, in each two REF that are picked by IA and two loops N1, in which N3 isn't used; CTT at most once.
-use Rattle.std.proofs.Common.{◌≡◌, ℕ, zero, suc, ◌<◌, sym, ◌∙◌, List, [], ◌∷◌, codes, true, false, Option, Some, None, inl, inr, refl}
-use Rattle.std.proofs.Common.{arith}
+use Rattle.std.proofs.Common.{◌≡◌, ℕ, zero, suc, ◌<◌, sym, ◌∙◌, List, [], ◌∷◌, codes, true, false, Option, Some, None, inl, inr}
+use Rattle.std.proofs.Common.{refl, arith}
 use Rattle.hub_kinds.specs.declared.codes.SegmentCode.TheVariants as ik304
 use Rattle.guide_tree.specs.declared.slot.Slot.{Slot}
 use Rattle.guide_tree.specs.Tree.{Tree, Trees, segment, loop, no_trees, tree, EachNode, GuideTree}
