@@ -10,7 +10,7 @@ pub trimmed-push_empty : (elements : List (List ℕ)) → trimmed (elements ++ [
 trimmed-push_empty [] = refl
 trimmed-push_empty (x ∷ xs) = ap (before_rest x) (trimmed-push_empty xs)
 
-before_rest-some : (x y : List ℕ) (ys : List (List ℕ)) → before_rest x (y ∷ ys) ≡ x ∷ y ∷ ys
+pub before_rest-some : (x y : List ℕ) (ys : List (List ℕ)) → before_rest x (y ∷ ys) ≡ x ∷ y ∷ ys
 before_rest-some [] y ys = refl
 before_rest-some (b ∷ bs) y ys = refl
 
