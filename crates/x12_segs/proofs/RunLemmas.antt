@@ -1,6 +1,6 @@
 -- A run of segments, read alone, is the same run.
-use Rattle.std.proofs.Common.{ℕ, ◌≡◌, ◌≤◌, ◌<◌, ◌+◌, ◌-◌, List, [], ◌∷◌, ◌++◌, length, get_or, slice_range, sym, ap, subst, ◌∙◌, arith}
-use Rattle.std.proofs.lemmas.List.{append_cancel_right}
+use Rattle.std.proofs.Common.{ℕ, ◌≡◌, ◌≤◌, ◌<◌, ◌+◌, ◌-◌, List, [], ◌∷◌, ◌++◌, length, get_or, drop, take, slice_range, sym, ap, subst, ◌∙◌, arith}
+use Rattle.std.proofs.lemmas.List.{append_cancel_right, drop-take}
 use Rattle.x12_segs.specs.Parts.{parts}
 use Rattle.x12_segs.specs.Segs.{Seg, segs_of, segs_from}
 use Rattle.x12_segs.specs.Runs.{StandsAlone, end_of}
@@ -37,6 +37,12 @@ run_end seg (next ∷ run) behind text t from fits is =
     let above : seg.start + length seg.bytes + 1 < end_of (next ∷ run) = later.above in
     record { above = omega arith; within = later.within; terminated = later.terminated; behind_it = later.behind_it }
 
+-- a stretch of a text, cut at its end first
+stretch_of : (text : List ℕ) (start end : ℕ) → start ≤ end → drop start (take end text) ≡ slice_range text start end
+stretch_of text start end le =
+    let long : end ≡ start + (end - start) = omega arith in
+    ap (λ (k : ℕ). drop start (take k text)) long ∙ drop-take start (end - start) text
+
 pub stands_alone : (before run behind : List Seg) (text : List ℕ) (t from : ℕ) → from ≤ length text → segs_from text t from ≡ before ++ (run ++ behind) → 0 < length run → StandsAlone text t run
 stands_alone before [] behind text t from fits is some = absurd (omega (arith, some))
 stands_alone before (seg ∷ run) behind text t from fits is some =
@@ -60,5 +66,6 @@ stands_alone before (seg ∷ run) behind text t from fits is some =
     let from_zero : at ≡ at + 0 = omega arith in
     record {
       within = within;
+      stretch = same ∙ ap (λ (bytes : List ℕ). segs_of at (parts t bytes)) (sym (stretch_of text at end (omega arith)));
       segs = same ∙ ap (λ k. segs_of k (parts t (slice_range text at end))) from_zero ∙ segs_of-moved at 0 (parts t (slice_range text at end));
     }
