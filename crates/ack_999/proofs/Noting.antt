@@ -32,7 +32,8 @@ trimmed-code : (position reference code : List ℕ) (rest : List (List ℕ)) →
     → trimmed (position ∷ reference ∷ code ∷ rest) ≡ position ∷ trimmed (reference ∷ code ∷ rest)
 trimmed-code position reference [] rest some = absurd (omega (arith, some))
 trimmed-code position reference (b ∷ bs) rest some =
-    let inner : trimmed (reference ∷ (b ∷ bs) ∷ rest) ≡ reference ∷ (b ∷ bs) ∷ trimmed rest = before_rest-some reference (b ∷ bs) (trimmed rest) in
+    let inner : trimmed (reference ∷ (b ∷ bs) ∷ rest)
+    ≡ reference ∷ (b ∷ bs) ∷ trimmed rest = before_rest-some reference (b ∷ bs) (trimmed rest) in
     ap (before_rest position) inner ∙ before_rest-some position reference ((b ∷ bs) ∷ trimmed rest)
     ∙ sym (ap (λ (l : List (List ℕ)). position ∷ l) inner)
 
@@ -43,7 +44,8 @@ pub segment_text-code : (d : Delims) (id position reference copy : List ℕ) (k 
 segment_text-code d id position reference copy k =
     let last : List (List ℕ) = reference ∷ element_text k ∷ copy ∷ [] in
     append_assoc id (elements_text d.element (trimmed (position ∷ last))) (d.terminator ∷ [])
-    ∙ ap (λ (l : List (List ℕ)). id ++ (elements_text d.element l ++ d.terminator ∷ [])) (trimmed-code position reference (element_text k) (copy ∷ []) (element_text-some k))
+    ∙ ap (λ (l : List (List ℕ)). id ++ (elements_text d.element l ++ d.terminator ∷ []))
+    (trimmed-code position reference (element_text k) (copy ∷ []) (element_text-some k))
     ∙ ap (λ (t : List ℕ). id ++ t) (append_assoc (d.element ∷ position) (elements_text d.element (trimmed last)) (d.terminator ∷ []))
 
 -- what four calls append, one behind the other

@@ -12,14 +12,16 @@ drop-zeros zeros from text within =
     drop-append-le from (replicate zeros 48) text below ∙ ap (λ (s : List ℕ). s ++ text) (drop-replicate from zeros 48)
 
 -- a buffer that ends with a text behind zeros
-from_zeros : (start : ℕ) (buffer text : List ℕ) → start ≤ 10 → drop start buffer ≡ text → take start buffer ≡ take start (replicate 10 48) → buffer ≡ replicate start 48 ++ text
+from_zeros : (start : ℕ) (buffer text : List ℕ) → start ≤ 10 → drop start buffer ≡ text → take start buffer ≡ take start (replicate 10 48)
+    → buffer ≡ replicate start 48 ++ text
 from_zeros start buffer text within digits zeros =
     sym (take-append-drop start buffer)
     ∙ ap (λ (s : List ℕ). s ++ drop start buffer) (zeros ∙ take-replicate start 10 48 within)
     ∙ ap (λ (s : List ℕ). replicate start 48 ++ s) digits
 
 -- digits at the end of a buffer of zeros, read from so many zeros on
-pub padded_number-from_zeros : (least n start : ℕ) (buffer : List ℕ) → least ≤ 10 → start + length (decimal n) ≡ 10 → drop start buffer ≡ decimal n → take start buffer ≡ take start (replicate 10 48)
+pub padded_number-from_zeros : (least n start : ℕ) (buffer : List ℕ) → least ≤ 10 → start + length (decimal n) ≡ 10
+    → drop start buffer ≡ decimal n → take start buffer ≡ take start (replicate 10 48)
     → drop (min start (10 - least)) buffer ≡ padded_number least n
 padded_number-from_zeros least n start buffer least_fits place digits zeros =
     let left : start - min start (10 - least) ≡ least - length (decimal n) = omega arith in

@@ -1,5 +1,6 @@
 -- An acknowledgment's parts, put together.
-use Rattle.std.proofs.Common.{◌≡◌, ℕ, ◌+◌, ◌*◌, Bool, true, false, List, [], ◌∷◌, ◌++◌, length, refl, sym, ap, ◌∙◌, arith, append_assoc, length-append}
+use Rattle.std.proofs.Common.{◌≡◌, ℕ, ◌+◌, ◌*◌, Bool, true, false, List, [], ◌∷◌, ◌++◌, length, refl, sym, ap, ◌∙◌, arith, append_assoc}
+use Rattle.std.proofs.Common.{length-append}
 use Rattle.std.specs.Prelude.{codes, if◌then◌else◌}
 use Rattle.std.specs.List.{flat_map, sum_by}
 use Rattle.std.proofs.lemmas.List.{length-map}
@@ -12,7 +13,8 @@ use Rattle.ack_999.specs.declared.totals.Totals.{Totals}
 use Rattle.ack_999.specs.Segment.{Segment, segment, segment_text, segments_text}
 use Rattle.ack_999.specs.Faults.{notes, note_segment, fault_segments}
 use Rattle.ack_999.specs.Group.{totals_of, set_segment_count}
-use Rattle.ack_999.specs.Report.{head_segments, convention_text, set_response, set_segments, set_loops, shows_sets, group_response, set_trailer, segment_count, text_999, head_text, set_text, sets_text, tail_text}
+use Rattle.ack_999.specs.Report.{head_segments, convention_text, set_response, set_segments, set_loops, shows_sets, group_response}
+use Rattle.ack_999.specs.Report.{set_trailer, segment_count, text_999, head_text, set_text, sets_text, tail_text}
 use Rattle.ack_999.proofs.Verdicts.{received_sets-totals_of}
 
 framed : {A : Type 0} (first last : A) (inner : List A) → length (first ∷ inner ++ last ∷ []) ≡ 2 + length inner
@@ -56,7 +58,8 @@ shown-count d sets false = refl
 
 -- texts in a row
 joined : (f : Segment → List ℕ) (head loops : List Segment) (response trailer : Segment)
-    → flat_map f head ++ flat_map f loops ++ flat_map f (response ∷ trailer ∷ []) ≡ flat_map f (head ++ loops ++ response ∷ [] ++ trailer ∷ [])
+    → flat_map f head ++ flat_map f loops ++ flat_map f (response ∷ trailer ∷ [])
+    ≡ flat_map f (head ++ loops ++ response ∷ [] ++ trailer ∷ [])
 joined f head loops response trailer = simp (flat_map-append, append_assoc)
 
 four : (first second last : Segment) (loops : List Segment)
@@ -77,11 +80,13 @@ text_999-parts d g sets n =
     let t : Totals = totals_of sets in
     let inner : List Segment = head_segments g n ++ set_loops d g sets ++ group_response g t ∷ [] in
     ap (λ (s : List ℕ). head_text d g n ++ s ++ tail_text d g t n) (sym (shown-text d sets (shows_sets g.codes)))
-    ∙ joined (λ s. segment_text d s.id s.elements) (head_segments g n) (set_loops d g sets) (group_response g t) (set_trailer (segment_count g t) n)
+    ∙ joined (λ s. segment_text d s.id s.elements) (head_segments g n) (set_loops d g sets) (group_response g t)
+    (set_trailer (segment_count g t) n)
     ∙ ap (λ (k : ℕ). segments_text d (inner ++ set_trailer k n ∷ [])) (counted d g sets n)
 
 -- behind head and sets, the trailers complete the acknowledgment
-pub text_999-completed : (d : Delims) (g : GroupAnswer) (sets : List SetAnswer) (n count : ℕ) (t : Totals) (before old answered new : List ℕ)
+pub text_999-completed : (d : Delims) (g : GroupAnswer) (sets : List SetAnswer) (n count : ℕ) (t : Totals)
+    (before old answered new : List ℕ)
     → t ≡ totals_of sets → old ≡ before ++ head_text d g n ++ sets_text d g sets
     → answered ≡ old ++ segments_text d (group_response g t ∷ [])
     → count ≡ segment_count g t → new ≡ answered ++ segments_text d (set_trailer count n ∷ [])

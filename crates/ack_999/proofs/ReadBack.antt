@@ -1,5 +1,6 @@
 -- Written segments, read again.
-use Rattle.std.proofs.Common.{◌≡◌, ◌≢◌, ℕ, ◌+◌, ◌<◌, Bool, true, false, cond, List, [], ◌∷◌, ◌++◌, length, drop, map, refl, ap, ◌∙◌, arith, append_assoc, append-nil, length-append, eq-eqb}
+use Rattle.std.proofs.Common.{◌≡◌, ◌≢◌, ℕ, ◌+◌, ◌<◌, Bool, true, false, cond, List, [], ◌∷◌, ◌++◌, length, drop, map, refl, ap, ◌∙◌}
+use Rattle.std.proofs.Common.{arith, append_assoc, append-nil, length-append, eq-eqb}
 use Rattle.std.specs.Prelude.{All, ◌==◌, if◌then◌else◌}
 use Rattle.std.specs.List.{prefix_len}
 use Rattle.std.proofs.lemmas.List.{map-append}
@@ -28,15 +29,19 @@ Lacks c text = All (λ b. (b == c) ≡ false) text
 lacks-separator : (d : Delims) (text : List ℕ) → IsUndivided d text → Lacks d.element text
 lacks-separator d text undivided =
     let P : ℕ → Type 0 = λ b. (b ≢ d.element) × (b ≢ d.terminator) in
-    All-weaker P (λ b. (b == d.element) ≡ false) (λ (b : ℕ) (other : P b). false_from_ne_true (b == d.element) (λ h. other.0 (eqb-true b d.element h))) text undivided
+    All-weaker P (λ b. (b == d.element)
+    ≡ false) (λ (b : ℕ) (other : P b). false_from_ne_true (b == d.element) (λ h. other.0 (eqb-true b d.element h))) text undivided
 
 lacks-terminator : (d : Delims) (text : List ℕ) → IsUndivided d text → Lacks d.terminator text
 lacks-terminator d text undivided =
     let P : ℕ → Type 0 = λ b. (b ≢ d.element) × (b ≢ d.terminator) in
-    All-weaker P (λ b. (b == d.terminator) ≡ false) (λ (b : ℕ) (other : P b). false_from_ne_true (b == d.terminator) (λ h. other.1 (eqb-true b d.terminator h))) text undivided
+    All-weaker P (λ b. (b == d.terminator)
+    ≡ false) (λ (b : ℕ) (other : P b). false_from_ne_true (b == d.terminator)
+    (λ h. other.1 (eqb-true b d.terminator h))) text undivided
 
 -- elements that lack the separator, behind an id that does, are the parts
-parts-elements : (e : ℕ) (id : List ℕ) (elements : List (List ℕ)) → Lacks e id → All (Lacks e) elements → parts e (id ++ elements_text e elements) ≡ id ∷ elements
+parts-elements : (e : ℕ) (id : List ℕ) (elements : List (List ℕ)) → Lacks e id → All (Lacks e) elements
+    → parts e (id ++ elements_text e elements) ≡ id ∷ elements
 parts-elements e id [] p q = ap (parts e) (append-nil id) ∙ slice_split_none (λ b. b == e) id p
 parts-elements e id (x ∷ xs) p q =
     slice_split_at (λ b. b == e) id e (x ++ elements_text e xs) p (eq-eqb e e refl)
@@ -57,7 +62,8 @@ elements_text-lacks : (e t : ℕ) (elements : List (List ℕ)) → e ≢ t → A
 elements_text-lacks e t [] other all = All-nil (λ b. (b == t) ≡ false)
 elements_text-lacks e t (x ∷ xs) other all =
     All-cons (λ b. (b == t) ≡ false) e (x ++ elements_text e xs) (false_from_ne_true (e == t) (λ h. other (eqb-true e t h)))
-    (All-append (λ b. (b == t) ≡ false) x (elements_text e xs) (All-head (Lacks t) x xs all) (elements_text-lacks e t xs other (All-tail (Lacks t) x xs all)))
+    (All-append (λ b. (b == t)
+    ≡ false) x (elements_text e xs) (All-head (Lacks t) x xs all) (elements_text-lacks e t xs other (All-tail (Lacks t) x xs all)))
 
 stays-zero : (b : Bool) (n m : ℕ) → cond b (1 + n) 0 ≡ 0 → cond b (1 + m) 0 ≡ 0
 stays-zero true n m h = absurd (omega (arith, h))
@@ -73,14 +79,17 @@ chosen f true x off = cc
 chosen f false x off = refl
 
 -- such a part is one segment, whole
-part_at-whole : (e place : ℕ) (body : List ℕ) → 0 < length body → prefix_len is_line_end body ≡ 0 → map (λ seg. parts e seg.bytes) (part_at place body) ≡ parts e body ∷ []
+part_at-whole : (e place : ℕ) (body : List ℕ) → 0 < length body → prefix_len is_line_end body ≡ 0
+    → map (λ seg. parts e seg.bytes) (part_at place body) ≡ parts e body ∷ []
 part_at-whole e place body some none =
     let lead : ℕ = prefix_len is_line_end body in
-    let not_all : (lead == length body) ≡ false = false_from_ne_true (lead == length body) (λ h. let same = eqb-true lead (length body) h in omega arith) in
+    let not_all : (lead == length body)
+    ≡ false = false_from_ne_true (lead == length body) (λ h. let same = eqb-true lead (length body) h in omega arith) in
     chosen (λ (seg : Seg). parts e seg.bytes) (lead == length body) (record { start = place + lead; bytes = drop lead body }) not_all
     ∙ ap (λ (k : ℕ). parts e (drop k body) ∷ []) none
 
-segs_of-cons : (place : ℕ) (part : List ℕ) (list : List (List ℕ)) → 0 < length list → segs_of place (part ∷ list) ≡ part_at place part ++ segs_of (place + length part + 1) list
+segs_of-cons : (place : ℕ) (part : List ℕ) (list : List (List ℕ)) → 0 < length list
+    → segs_of place (part ∷ list) ≡ part_at place part ++ segs_of (place + length part + 1) list
 segs_of-cons place part [] some = absurd (omega (arith, some))
 segs_of-cons place part (next ∷ more) some = refl
 
@@ -89,7 +98,8 @@ some-parts c text = omega (arith, length-slice_split (λ b. b == c) text)
 
 -- one written segment in front of other text is read first
 read-first : (d : Delims) (s : Segment) (place : ℕ) (text : List ℕ) → d.element ≢ d.terminator → IsReadable d s
-    → (next : ℕ) × (map (λ seg. parts d.element seg.bytes) (segs_of place (parts d.terminator (segment_text d s.id s.elements ++ text))) ≡ written_parts s ∷ map (λ seg. parts d.element seg.bytes) (segs_of next (parts d.terminator text)))
+    → (next : ℕ) × (map (λ seg. parts d.element seg.bytes) (segs_of place (parts d.terminator (segment_text d s.id s.elements ++ text)))
+    ≡ written_parts s ∷ map (λ seg. parts d.element seg.bytes) (segs_of next (parts d.terminator text)))
 read-first d s place text other readable =
     let e : ℕ = d.element in
     let t : ℕ = d.terminator in
@@ -103,7 +113,8 @@ read-first d s place text other readable =
     let split : parts t (segment_text d s.id s.elements ++ text) ≡ body ∷ parts t text =
     ap (parts t) (append_assoc body (t ∷ []) text) ∙ slice_split_at (λ b. b == t) body t text lacks_t (eq-eqb t t refl) in
     let some : 0 < length body = omega (arith, readable.some, length-append s.id (elements_text e written)) in
-    let none : prefix_len is_line_end body ≡ 0 = prefix_len-behind is_line_end s.id (elements_text e written) readable.some readable.first in
+    let none : prefix_len is_line_end body
+    ≡ 0 = prefix_len-behind is_line_end s.id (elements_text e written) readable.some readable.first in
     let f : Seg → List (List ℕ) = λ seg. parts e seg.bytes in
     let next : ℕ = place + length body + 1 in (
       next,
@@ -112,7 +123,8 @@ read-first d s place text other readable =
           ∙ map-append f (part_at place body) (segs_of next (parts t text))
           ∙ ap (λ (list : List (List (List ℕ))). list ++ map f (segs_of next (parts t text))) (part_at-whole e place body some none)
           ∙ ap (λ (list : List (List ℕ)). list ∷ map f (segs_of next (parts t text)))
-          (parts-elements e s.id written (lacks-separator d s.id readable.id) (All-weaker P (Lacks e) (lacks-separator d) written undivided)),
+          (parts-elements e s.id written (lacks-separator d s.id readable.id)
+          (All-weaker P (Lacks e) (lacks-separator d) written undivided)),
     )
 
 -- all segments are read
@@ -121,13 +133,15 @@ read-all : (d : Delims) (segments : List Segment) (place : ℕ) → d.element �
 read-all d [] place other readable = refl
 read-all d (s ∷ segments) place other readable =
     let first = read-first d s place (segments_text d segments) other (All-head (IsReadable d) s segments readable) in
-    first.1 ∙ ap (λ (list : List (List (List ℕ))). written_parts s ∷ list) (read-all d segments first.0 other (All-tail (IsReadable d) s segments readable))
+    first.1 ∙ ap (λ (list : List (List (List ℕ))). written_parts s ∷ list)
+    (read-all d segments first.0 other (All-tail (IsReadable d) s segments readable))
 
 elements_of-views : (d : Delims) (segs : List Seg) → map elements_of (map (view_of d) segs) ≡ map (λ seg. parts d.element seg.bytes) segs
 elements_of-views d [] = refl
 elements_of-views d (seg ∷ segs) = ap (λ (list : List (List (List ℕ))). parts d.element seg.bytes ∷ list) (elements_of-views d segs)
 
 -- written segments are read as they were written
-pub segments_text-reads_back : (d : Delims) (segments : List Segment) → d.element ≢ d.terminator → All (IsReadable d) segments → map elements_of (views (segments_text d segments) d) ≡ map written_parts segments
+pub segments_text-reads_back : (d : Delims) (segments : List Segment) → d.element ≢ d.terminator → All (IsReadable d) segments
+    → map elements_of (views (segments_text d segments) d) ≡ map written_parts segments
 segments_text-reads_back d segments other readable =
     elements_of-views d (Segs (segments_text d segments) d.terminator) ∙ read-all d segments 0 other readable

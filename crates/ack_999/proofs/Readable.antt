@@ -12,9 +12,11 @@ use Rattle.ack_999.specs.Faults.{fault_segments}
 use Rattle.ack_999.specs.Group.{totals_of, received_sets}
 use Rattle.ack_999.specs.Number.{padded_number}
 use Rattle.ack_999.specs.ReadBack.{CanDivide, IsUndivided, IsQuotable, IsQuotableFault}
-use Rattle.ack_999.specs.Report.{head_segments, convention_text, set_segments, shows_sets, set_loops, listed_sets, accepted_sets, group_response, set_trailer, segments_999}
+use Rattle.ack_999.specs.Report.{head_segments, convention_text, set_segments, shows_sets, set_loops, listed_sets, accepted_sets}
+use Rattle.ack_999.specs.Report.{group_response, set_trailer, segments_999}
 use Rattle.ack_999.specs.Segment.{Segment, segment}
-use Rattle.ack_999.proofs.Plain.{is_plain, plain-undivided, decimal-undivided, padded_number-undivided, plain-set_code_text, plain-group_code_text, plain-verdict_text, plain-group_verdict_text, plain-convention_text}
+use Rattle.ack_999.proofs.Plain.{is_plain, plain-undivided, decimal-undivided, padded_number-undivided, plain-set_code_text}
+use Rattle.ack_999.proofs.Plain.{plain-group_code_text, plain-verdict_text, plain-group_verdict_text, plain-convention_text}
 use Rattle.ack_999.proofs.ReadBack.{IsReadable}
 use Rattle.ack_999.proofs.ReadableFaults.{readable, readable-faults}
 
@@ -47,9 +49,11 @@ readable-set d s can identifier control faults =
     let ak2 : List (List ℕ) = s.identifier ∷ s.control ∷ convention_text s.convention ∷ [] in
     let ik5 : List (List ℕ) = verdict_text s.verdict ∷ map set_code_text s.codes in
     let ak2_all : All P ak2 =
-    All-from_recursion P ak2 (identifier, (control, (plain-undivided d can (convention_text s.convention) (plain-convention_text s.convention), tt))) in
+    All-from_recursion P ak2
+    (identifier, (control, (plain-undivided d can (convention_text s.convention) (plain-convention_text s.convention), tt))) in
     let ik5_all : All P ik5 =
-    All-cons P (verdict_text s.verdict) (map set_code_text s.codes) (plain-undivided d can (verdict_text s.verdict) (plain-verdict_text s.verdict))
+    All-cons P (verdict_text s.verdict) (map set_code_text s.codes)
+    (plain-undivided d can (verdict_text s.verdict) (plain-verdict_text s.verdict))
     (undivided-codes d can set_code_text plain-set_code_text s.codes) in
     let last : List Segment = segment (codes "IK5") ik5 ∷ [] in
     let last_all : All (IsReadable d) last =
@@ -108,7 +112,8 @@ pub readable-999 : (d : Delims) (g : GroupAnswer) (sets : List SetAnswer) (n : �
 readable-999 d g sets n can quotable =
     let t : Totals = totals_of sets in
     let inner : List Segment = head_segments g n ++ set_loops d g sets ++ group_response g t ∷ [] in
-    let loops = readable-loops d sets (shows_sets g.codes) (readable-sets d sets can quotable.identifiers quotable.controls quotable.faults) in
+    let loops = readable-loops d sets (shows_sets g.codes)
+    (readable-sets d sets can quotable.identifiers quotable.controls quotable.faults) in
     let front =
     All-append (IsReadable d) (head_segments g n) (set_loops d g sets)
     (readable-head d g n can quotable.functional_id quotable.control quotable.version) loops in

@@ -9,7 +9,8 @@ use Rattle.hub_kinds.specs.declared.fault.Fault.{Fault}
 use Rattle.hub_kinds.specs.declared.fault.ElemFault.{ElemFault}
 use Rattle.hub_kinds.specs.Codes as code
 use Rattle.ack_999.specs.Copy.{is_this, is_delimiter, may_be_copied, copy_text}
-use Rattle.ack_999.specs.Faults.{Note, SegmentNote, ElementNote, id_text, code_shown, number_text, position_text, note_segment, notes_for, notes_on, notes_behind, element_position}
+use Rattle.ack_999.specs.Faults.{Note, SegmentNote, ElementNote, id_text, code_shown, number_text, position_text, note_segment, notes_for}
+use Rattle.ack_999.specs.Faults.{notes_on, notes_behind, element_position}
 use Rattle.ack_999.specs.ReadBack.{CanDivide, IsUndivided, IsQuotableElement, IsQuotableFault}
 use Rattle.ack_999.specs.Segment.{segment, elements_text, trimmed}
 use Rattle.ack_999.proofs.Plain.{is_plain, both, plain-undivided, decimal-undivided, plain-id_text, plain-segment_text, plain-element_text}
@@ -65,7 +66,8 @@ elements_text-undivided d c [] one all = All-nil (λ b. (b ≢ d.element) × (b 
 elements_text-undivided d c (x ∷ xs) one all =
     let P : ℕ → Type 0 = λ b. (b ≢ d.element) × (b ≢ d.terminator) in
     All-cons P c (x ++ elements_text c xs) (All-head P c [] one)
-    (All-append P x (elements_text c xs) (All-head (IsUndivided d) x xs all) (elements_text-undivided d c xs one (All-tail (IsUndivided d) x xs all)))
+    (All-append P x (elements_text c xs) (All-head (IsUndivided d) x xs all)
+    (elements_text-undivided d c xs one (All-tail (IsUndivided d) x xs all)))
 
 position_text-undivided : (d : Delims) (e : ElemFault) → CanDivide d → IsUndivided d (d.component ∷ [])
     → IsUndivided d (position_text d.component e)

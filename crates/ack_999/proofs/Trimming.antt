@@ -15,14 +15,17 @@ before_rest-some [] y ys = refl
 before_rest-some (b ∷ bs) y ys = refl
 
 -- in front of an element that isn't empty, nothing is left off
-pub trimmed-push_full : (elements : List (List ℕ)) (last : List ℕ) → 0 < length last → trimmed (elements ++ last ∷ []) ≡ elements ++ last ∷ []
+pub trimmed-push_full : (elements : List (List ℕ)) (last : List ℕ) → 0 < length last
+    → trimmed (elements ++ last ∷ []) ≡ elements ++ last ∷ []
 trimmed-push_full [] [] full = absurd (omega (arith, full))
 trimmed-push_full [] (b ∷ bs) full = refl
 trimmed-push_full (x ∷ []) last full = ap (before_rest x) (trimmed-push_full [] last full) ∙ before_rest-some x last []
-trimmed-push_full (x ∷ y ∷ ys) last full = ap (before_rest x) (trimmed-push_full (y ∷ ys) last full) ∙ before_rest-some x y (ys ++ last ∷ [])
+trimmed-push_full (x ∷ y ∷ ys) last full = ap (before_rest x) (trimmed-push_full (y ∷ ys) last full)
+    ∙ before_rest-some x y (ys ++ last ∷ [])
 
 -- nor in front of codes, where there is one and each has a text
-pub trimmed-append_codes : {C : Type 0} (text : C → List ℕ) (elements : List (List ℕ)) (codes : List C) → 0 < length codes → All (λ code. 0 < length (text code)) codes
+pub trimmed-append_codes : {C : Type 0} (text : C → List ℕ) (elements : List (List ℕ)) (codes : List C) → 0 < length codes
+    → All (λ code. 0 < length (text code)) codes
     → trimmed (elements ++ map text codes) ≡ elements ++ map text codes
 trimmed-append_codes text elements [] some full = absurd (omega (arith, some))
 trimmed-append_codes {C} text elements (code ∷ codes) some full =
@@ -32,24 +35,28 @@ trimmed-append_codes {C} text elements (code ∷ codes) some full =
     let last : List ℕ = text (get_or (code ∷ codes) k code) in
     let front : List (List ℕ) = elements ++ map text (take k (code ∷ codes)) in
     let whole : take (k + 1) (code ∷ codes) ≡ code ∷ codes = ap (λ (n : ℕ). take n (code ∷ codes)) long ∙ take-length (code ∷ codes) in
-    let split : map text (code ∷ codes) ≡ map text (take k (code ∷ codes)) ++ last ∷ [] = ap (map text) (sym whole) ∙ map_more text (code ∷ codes) k code lt in
+    let split : map text (code ∷ codes) ≡ map text (take k (code ∷ codes)) ++ last ∷ [] = ap (map text) (sym whole)
+    ∙ map_more text (code ∷ codes) k code lt in
     let parts : elements ++ map text (code ∷ codes) ≡ front ++ last ∷ [] =
     ap (λ (s : List (List ℕ)). elements ++ s) split ∙ sym (append_assoc elements (map text (take k (code ∷ codes))) (last ∷ [])) in
     ap trimmed parts ∙ trimmed-push_full front last (full k code lt) ∙ sym parts
 
 -- the read elements up to one more
-pub take-read-more : (elements : List (Bor (List ℕ))) (k : ℕ) (d : Bor (List ℕ)) → k < length elements → take (k + 1) (read elements) ≡ take k (read elements) ++ (get_or elements k d).now ∷ []
+pub take-read-more : (elements : List (Bor (List ℕ))) (k : ℕ) (d : Bor (List ℕ)) → k < length elements
+    → take (k + 1) (read elements) ≡ take k (read elements) ++ (get_or elements k d).now ∷ []
 take-read-more elements k d lt =
     let long : length (read elements) ≡ length elements = length-map elements (λ element. element.now) in
     let within : k < length (read elements) = omega arith in
-    take_more (read elements) k [] within ∙ ap (λ (x : List ℕ). take k (read elements) ++ x ∷ []) (get_or-map (λ element. element.now) elements k d [] lt)
+    take_more (read elements) k [] within
+    ∙ ap (λ (x : List ℕ). take k (read elements) ++ x ∷ []) (get_or-map (λ element. element.now) elements k d [] lt)
 
 nothing : (x : List ℕ) → length x ≡ 0 → x ≡ []
 nothing [] h = refl
 nothing (b ∷ bs) h = absurd (omega (arith, h))
 
 -- an empty last element is passed over
-pub trimmed-take_empty : (elements : List (Bor (List ℕ))) (end : ℕ) (d : Bor (List ℕ)) → 0 < end → end ≤ length elements → length (get_or elements (end - 1) d).now ≡ 0
+pub trimmed-take_empty : (elements : List (Bor (List ℕ))) (end : ℕ) (d : Bor (List ℕ)) → 0 < end → end ≤ length elements
+    → length (get_or elements (end - 1) d).now ≡ 0
     → trimmed (take end (read elements)) ≡ trimmed (take (end - 1) (read elements))
 trimmed-take_empty elements end d some within empty =
     let n : end - 1 + 1 ≡ end = omega arith in
@@ -59,7 +66,8 @@ trimmed-take_empty elements end d some within empty =
     ∙ trimmed-push_empty (take (end - 1) (read elements))
 
 -- one that isn't empty ends the search
-pub trimmed-take_full : (elements : List (Bor (List ℕ))) (end : ℕ) (d : Bor (List ℕ)) → 0 < end → end ≤ length elements → 0 < length (get_or elements (end - 1) d).now
+pub trimmed-take_full : (elements : List (Bor (List ℕ))) (end : ℕ) (d : Bor (List ℕ)) → 0 < end → end ≤ length elements
+    → 0 < length (get_or elements (end - 1) d).now
     → trimmed (take end (read elements)) ≡ take end (read elements)
 trimmed-take_full elements end d some within full =
     let n : end - 1 + 1 ≡ end = omega arith in

@@ -10,7 +10,8 @@ use Rattle.hub_kinds.specs.declared.set_codes.Verdict.TheVariants.{Accepted, Acc
 use Rattle.hub_kinds.specs.declared.set_codes.GroupCode.{GroupCode}
 use Rattle.hub_kinds.specs.declared.set_codes.GroupVerdict.{GroupVerdict}
 use Rattle.hub_kinds.specs.declared.set_codes.GroupVerdict.TheVariants as group
-use Rattle.ack_999.specs.Group.{is_accepted, is_accepted_with_errors, is_rejected, verdicts_of, totals_of, received_sets, verdict_on_sets, verdict_on_totals, verdict_by, group_verdict_of}
+use Rattle.ack_999.specs.Group.{is_accepted, is_accepted_with_errors, is_rejected, verdicts_of, totals_of, received_sets, verdict_on_sets}
+use Rattle.ack_999.specs.Group.{verdict_on_totals, verdict_by, group_verdict_of}
 
 count_by-cons : (p : Verdict → Bool) (v : Verdict) (vs : List Verdict) → count_by p (v ∷ vs) ≡ cond (p v) 1 0 + count_by p vs
 count_by-cons p v vs = sum_by-cons (λ x. cond (p x) 1 0) v vs
@@ -45,12 +46,14 @@ count_by-either p q apart (v ∷ vs) =
     let rest = count_by-either p q apart vs in
     omega arith
 
-errors-apart : (v : Verdict) → cond (is_accepted_with_errors v || is_rejected v) 1 0 ≡ cond (is_accepted_with_errors v) 1 0 + cond (is_rejected v) 1 0
+errors-apart : (v : Verdict)
+    → cond (is_accepted_with_errors v || is_rejected v) 1 0 ≡ cond (is_accepted_with_errors v) 1 0 + cond (is_rejected v) 1 0
 errors-apart Accepted = refl
 errors-apart AcceptedWithErrors = refl
 errors-apart Rejected = refl
 
-accepted-apart : (v : Verdict) → cond (is_accepted v || is_accepted_with_errors v) 1 0 ≡ cond (is_accepted v) 1 0 + cond (is_accepted_with_errors v) 1 0
+accepted-apart : (v : Verdict)
+    → cond (is_accepted v || is_accepted_with_errors v) 1 0 ≡ cond (is_accepted v) 1 0 + cond (is_accepted_with_errors v) 1 0
 accepted-apart Accepted = refl
 accepted-apart AcceptedWithErrors = refl
 accepted-apart Rejected = refl
@@ -65,13 +68,15 @@ is_rejected-not Accepted = refl
 is_rejected-not AcceptedWithErrors = refl
 is_rejected-not Rejected = refl
 
-all_accepted : (vs : List Verdict) → list_all is_accepted vs ≡ ((count_by is_accepted_with_errors vs == 0) && (count_by is_rejected vs == 0))
+all_accepted : (vs : List Verdict)
+    → list_all is_accepted vs ≡ ((count_by is_accepted_with_errors vs == 0) && (count_by is_rejected vs == 0))
 all_accepted vs =
     list_all-none (λ v. is_accepted_with_errors v || is_rejected v) is_accepted is_accepted-not vs
     ∙ ap (λ (n : ℕ). n == 0) (count_by-either is_accepted_with_errors is_rejected errors-apart vs)
     ∙ sum-zero (count_by is_accepted_with_errors vs) (count_by is_rejected vs)
 
-all_rejected : (vs : List Verdict) → list_all is_rejected vs ≡ ((count_by is_accepted vs == 0) && (count_by is_accepted_with_errors vs == 0))
+all_rejected : (vs : List Verdict)
+    → list_all is_rejected vs ≡ ((count_by is_accepted vs == 0) && (count_by is_accepted_with_errors vs == 0))
 all_rejected vs =
     list_all-none (λ v. is_accepted v || is_accepted_with_errors v) is_rejected is_rejected-not vs
     ∙ ap (λ (n : ℕ). n == 0) (count_by-either is_accepted is_accepted_with_errors accepted-apart vs)
@@ -90,11 +95,14 @@ unfolding choice
 verdict_on_totals-totals_of sets =
     let vs : List Verdict = verdicts_of sets in
     let none = list_all-none is_rejected (λ v. not (is_rejected v)) (λ _. refl) vs in
-    ap (λ (b : Bool). choice b (count_by is_rejected vs == 0) ((count_by is_accepted vs == 0) && (count_by is_accepted_with_errors vs == 0))) (sym (all_accepted vs))
-    ∙ ap (λ (b : Bool). choice (list_all is_accepted vs) b ((count_by is_accepted vs == 0) && (count_by is_accepted_with_errors vs == 0))) (sym none)
+    ap (λ (b : Bool). choice b (count_by is_rejected vs == 0)
+    ((count_by is_accepted vs == 0) && (count_by is_accepted_with_errors vs == 0))) (sym (all_accepted vs))
+    ∙ ap (λ (b : Bool). choice (list_all is_accepted vs) b ((count_by is_accepted vs == 0) && (count_by is_accepted_with_errors vs == 0)))
+    (sym none)
     ∙ ap (λ (b : Bool). choice (list_all is_accepted vs) (list_all (λ v. not (is_rejected v)) vs) b) (sym (all_rejected vs))
 
-pub verdict_by-totals_of : (codes : List GroupCode) (sets : List SetAnswer) → verdict_by codes (totals_of sets) ≡ group_verdict_of codes (verdicts_of sets)
+pub verdict_by-totals_of : (codes : List GroupCode) (sets : List SetAnswer)
+    → verdict_by codes (totals_of sets) ≡ group_verdict_of codes (verdicts_of sets)
 verdict_by-totals_of [] sets = verdict_on_totals-totals_of sets
 verdict_by-totals_of (c ∷ cs) sets = refl
 

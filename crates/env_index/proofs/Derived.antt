@@ -1,15 +1,20 @@
 -- The summary of the segments is that of each tree that they derive.
-use Rattle.std.proofs.Common.{◌≡◌, ℕ, ◌+◌, List, [], ◌∷◌, ◌++◌, true, false, ◌||◌, ◌&&◌, Option, Some, None, length, refl, sym, ap, ◌∙◌, arith, append_assoc}
+use Rattle.std.proofs.Common.{◌≡◌, ℕ, ◌+◌, List, [], ◌∷◌, ◌++◌, true, false, ◌||◌, ◌&&◌, Option, Some, None, length, refl, sym, ap, ◌∙◌}
+use Rattle.std.proofs.Common.{arith, append_assoc}
 use Rattle.std.specs.List.{flat_map, list_all}
 use Rattle.x12_segs.specs.View.{SegValue}
 use Rattle.x12_segs.specs.Kinds.{kind_of, is_inner}
-use Rattle.env_index.specs.Envelope.{Set, InGroup, ASet, OutOfGroup, Group, InBody, ANotice, AGroup, OutOfBody, Body, option_items, set_items, in_group_items, group_items, in_body_items, ends_set, ends_group, is_out_of_group, is_out_of_body, MayFollow, Closed, IsSet, AreMembers, IsGroup, AreBodyMembers, Derives}
+use Rattle.env_index.specs.Envelope.{Set, InGroup, ASet, OutOfGroup, Group, InBody, ANotice, AGroup, OutOfBody, Body, option_items}
+use Rattle.env_index.specs.Envelope.{set_items, in_group_items, group_items, in_body_items, ends_set, ends_group, is_out_of_group}
+use Rattle.env_index.specs.Envelope.{is_out_of_body, MayFollow, Closed, IsSet, AreMembers, IsGroup, AreBodyMembers, Derives}
 use Rattle.x12_segs.specs.declared.kind.Kind.{Kind}
-use Rattle.x12_segs.specs.declared.kind.Kind.TheVariants.{InterchangeTrailer, GroupHeader, GroupTrailer, SetHeader, SetTrailer, Notice, Other}
+use Rattle.x12_segs.specs.declared.kind.Kind.TheVariants.{InterchangeTrailer, GroupHeader, GroupTrailer, SetHeader, SetTrailer, Notice}
+use Rattle.x12_segs.specs.declared.kind.Kind.TheVariants.{Other}
 use Rattle.env_index.specs.declared.entry.SetEnvelope.{SetEnvelope}
 use Rattle.env_index.specs.Extents.{behind, behind_last}
 use Rattle.env_index.specs.Summary.{Summary, set_entry, sets_in, group_entry, has_misplaced_in_group, summary_of}
-use Rattle.env_index.proofs.Tails.{GroupTail, SetTail, Tails, left_open, cut_off, no_segments, with_notice, with_misplaced, with_group, with_set, onto_body, onto_group, onto_set, tails, summed}
+use Rattle.env_index.proofs.Tails.{GroupTail, SetTail, Tails, left_open, cut_off, no_segments, with_notice, with_misplaced, with_group}
+use Rattle.env_index.proofs.Tails.{with_set, onto_body, onto_group, onto_set, tails, summed}
 
 -- where a set may be left without SE, an open set ends
 closes_set : (rest : List SegValue) → MayFollow ends_set rest → (tails rest).in_set ≡ cut_off (tails rest).in_group
@@ -41,10 +46,16 @@ closes_group (x ∷ xs) h = by_kind (kind_of x) h
 
 -- what an open set goes on with, where it goes on with these segments
 abbrev told_set : Option SegValue → List SegValue → List SegValue → SetTail
-told_set close rest items = record { count = length items; close = close; after = (tails rest).in_group; end = λ so_far. behind_last so_far items }
+told_set close rest items = record {
+  count = length items;
+  close = close;
+  after = (tails rest).in_group;
+  end = λ so_far. behind_last so_far items;
+}
 
 -- what an open set goes on with: segments inside it, and its SE where it has one
-in_open_set : (inner : List SegValue) (close : Option SegValue) (rest : List SegValue) → list_all (λ x. is_inner (kind_of x)) inner ≡ true → Closed SetTrailer ends_set close rest
+in_open_set : (inner : List SegValue) (close : Option SegValue) (rest : List SegValue) → list_all (λ x. is_inner (kind_of x)) inner ≡ true
+    → Closed SetTrailer ends_set close rest
     → (tails (inner ++ (option_items close ++ rest))).in_set ≡ told_set close rest (inner ++ option_items close)
 in_open_set [] None rest all closed = closes_set rest closed
 in_open_set [] (Some x) rest all closed = by_kind (kind_of x) closed
@@ -53,13 +64,23 @@ in_open_set [] (Some x) rest all closed = by_kind (kind_of x) closed
     by_kind k is = rw is refl
 in_open_set (x ∷ xs) close rest all closed = by_kind (kind_of x) (λ others. in_open_set xs close rest others closed) all
   where
-    one_more : (t : SetTail) → t ≡ told_set close rest (xs ++ option_items close) → (let u : SetTail = record t { count = t.count + 1; end = λ so_far. t.end (behind x) } in u) ≡ told_set close rest (x ∷ (xs ++ option_items close))
+    one_more : (t : SetTail) → t ≡ told_set close rest (xs ++ option_items close)
+        → (let u : SetTail = record t { count = t.count + 1; end = λ so_far. t.end (behind x) } in u)
+        ≡ told_set close rest (x ∷ (xs ++ option_items close))
     one_more t is =
         let n : length (xs ++ option_items close) + 1 ≡ length (x ∷ (xs ++ option_items close)) = omega arith in
         ap (λ (u : SetTail). (let v : SetTail = record u { count = u.count + 1; end = λ so_far. u.end (behind x) } in v)) is
-        ∙ ap (λ (k : ℕ). (let v : SetTail = record { count = k; close = close; after = (tails rest).in_group; end = λ so_far. behind_last (behind x) (xs ++ option_items close) } in v)) n
+        ∙ ap (λ (k : ℕ). (let v : SetTail = record {
+          count = k;
+          close = close;
+          after = (tails rest).in_group;
+          end = λ so_far. behind_last (behind x) (xs ++ option_items close);
+        } in v)) n
 
-    by_kind : (k : Kind) → (list_all (λ x. is_inner (kind_of x)) xs ≡ true → (tails (xs ++ (option_items close ++ rest))).in_set ≡ told_set close rest (xs ++ option_items close)) → (is_inner k && list_all (λ x. is_inner (kind_of x)) xs) ≡ true → onto_set k x (tails (xs ++ (option_items close ++ rest))) ≡ told_set close rest (x ∷ (xs ++ option_items close))
+    by_kind : (k : Kind) → (list_all (λ x. is_inner (kind_of x)) xs ≡ true
+        → (tails (xs ++ (option_items close ++ rest))).in_set ≡ told_set close rest (xs ++ option_items close))
+        → (is_inner k && list_all (λ x. is_inner (kind_of x)) xs) ≡ true
+        → onto_set k x (tails (xs ++ (option_items close ++ rest))) ≡ told_set close rest (x ∷ (xs ++ option_items close))
     by_kind InterchangeTrailer more all = cc
     by_kind GroupHeader more all = cc
     by_kind GroupTrailer more all = cc
@@ -78,19 +99,29 @@ set_in_front s rest is =
     (ap (λ (segs : List SegValue). (tails segs).in_set) shape ∙ in_open_set s.inner s.trailer rest is.inner is.trailer)
   where
     by_kind : (k : Kind) (t : Tails) → k ≡ SetHeader → t.in_set ≡ told_set s.trailer rest (s.inner ++ option_items s.trailer)
-        → onto_group k s.header t ≡ (let g : GroupTail = (tails rest).in_group in (let u : GroupTail = record g { sets = set_entry s ∷ g.sets } in u))
+        → onto_group k s.header t
+        ≡ (let g : GroupTail = (tails rest).in_group in (let u : GroupTail = record g { sets = set_entry s ∷ g.sets } in u))
     by_kind k t header goes_on =
         let n : length (s.inner ++ option_items s.trailer) + 1 ≡ length (set_items s) = omega arith in
         rw header (ap (with_set s.header) goes_on ∙ ap (λ (k : ℕ). (let g : GroupTail = (tails rest).in_group in
-        (let u : GroupTail = record g { sets = (let e : SetEnvelope = record { header = s.header; segments = k; trailer = s.trailer; end = behind_last 0 (set_items s) } in e) ∷ g.sets } in u))) n)
+        (let u : GroupTail = record g {
+          sets = (let e : SetEnvelope = record {
+            header = s.header;
+            segments = k;
+            trailer = s.trailer;
+            end = behind_last 0 (set_items s);
+          } in e) ∷ g.sets;
+        } in u))) n)
 
 -- members in front of what an open group goes on with
 abbrev front_members : List InGroup → GroupTail → GroupTail
 front_members [] t = t
-front_members (ASet s ∷ ms) t = let u : GroupTail = front_members ms t in (let v : GroupTail = record u { sets = set_entry s ∷ u.sets } in v)
+front_members (ASet s ∷ ms) t = let u : GroupTail = front_members ms t in
+    (let v : GroupTail = record u { sets = set_entry s ∷ u.sets } in v)
 front_members (OutOfGroup x ∷ ms) t = let u : GroupTail = front_members ms t in (let v : GroupTail = record u { misplaced = true } in v)
 
-members_in_front : (ms : List InGroup) (rest : List SegValue) → AreMembers ms rest → (tails (flat_map in_group_items ms ++ rest)).in_group ≡ front_members ms (tails rest).in_group
+members_in_front : (ms : List InGroup) (rest : List SegValue) → AreMembers ms rest
+    → (tails (flat_map in_group_items ms ++ rest)).in_group ≡ front_members ms (tails rest).in_group
 members_in_front [] rest are = refl
 members_in_front (ASet s ∷ ms) rest are =
     let behind : List SegValue = flat_map in_group_items ms ++ rest in
@@ -99,7 +130,8 @@ members_in_front (ASet s ∷ ms) rest are =
     ∙ ap (λ (t : GroupTail). (let u : GroupTail = record t { sets = set_entry s ∷ t.sets } in u)) (members_in_front ms rest are.1)
 members_in_front (OutOfGroup x ∷ ms) rest are = by_kind (kind_of x) are.0 (members_in_front ms rest are.1)
   where
-    by_kind : (k : Kind) → is_out_of_group k ≡ true → (tails (flat_map in_group_items ms ++ rest)).in_group ≡ front_members ms (tails rest).in_group
+    by_kind : (k : Kind) → is_out_of_group k ≡ true
+        → (tails (flat_map in_group_items ms ++ rest)).in_group ≡ front_members ms (tails rest).in_group
         → onto_group k x (tails (flat_map in_group_items ms ++ rest)) ≡ front_members (OutOfGroup x ∷ ms) (tails rest).in_group
     by_kind InterchangeTrailer out goes_on = cc
     by_kind GroupHeader out goes_on = cc
@@ -115,21 +147,35 @@ group_ends : (close : Option SegValue) (rest : List SegValue) → Closed GroupTr
 group_ends None rest closed = closes_group rest closed
 group_ends (Some x) rest closed = by_kind (kind_of x) closed
   where
-    by_kind : (k : Kind) → k ≡ GroupTrailer → onto_group k x (tails rest) ≡ record { sets = []; close = Some x; misplaced = false; after = (tails rest).in_body }
+    by_kind : (k : Kind) → k ≡ GroupTrailer
+        → onto_group k x (tails rest) ≡ record { sets = []; close = Some x; misplaced = false; after = (tails rest).in_body }
     by_kind k is = rw is refl
 
 -- members in front of a group's end
 members_told : (ms : List InGroup) (close : Option SegValue) (after : Summary)
-    → front_members ms (record { sets = []; close = close; misplaced = false; after = after }) ≡ record { sets = sets_in ms; close = close; misplaced = has_misplaced_in_group ms; after = after }
+    → front_members ms (record { sets = []; close = close; misplaced = false; after = after }) ≡ record {
+      sets = sets_in ms;
+      close = close;
+      misplaced = has_misplaced_in_group ms;
+      after = after;
+    }
 members_told [] close after = refl
-members_told (ASet s ∷ ms) close after = ap (λ (t : GroupTail). (let u : GroupTail = record t { sets = set_entry s ∷ t.sets } in u)) (members_told ms close after)
-members_told (OutOfGroup x ∷ ms) close after = ap (λ (t : GroupTail). (let u : GroupTail = record t { misplaced = true } in u)) (members_told ms close after)
+members_told (ASet s ∷ ms) close after = ap (λ (t : GroupTail). (let u : GroupTail = record t { sets = set_entry s ∷ t.sets } in u))
+    (members_told ms close after)
+members_told (OutOfGroup x ∷ ms) close after = ap (λ (t : GroupTail). (let u : GroupTail = record t { misplaced = true } in u))
+    (members_told ms close after)
 
 -- a group in front of what the interchange goes on with
 abbrev front_group : Group → Summary → Summary
-front_group g s = record { groups = group_entry g ∷ s.groups; notices = s.notices; misplaced = has_misplaced_in_group g.members || s.misplaced; trailer = s.trailer }
+front_group g s = record {
+  groups = group_entry g ∷ s.groups;
+  notices = s.notices;
+  misplaced = has_misplaced_in_group g.members || s.misplaced;
+  trailer = s.trailer;
+}
 
-group_in_front : (g : Group) (rest : List SegValue) → IsGroup g rest → (tails (group_items g ++ rest)).in_body ≡ front_group g (tails rest).in_body
+group_in_front : (g : Group) (rest : List SegValue) → IsGroup g rest
+    → (tails (group_items g ++ rest)).in_body ≡ front_group g (tails rest).in_body
 group_in_front g rest is =
     let items : List SegValue = flat_map in_group_items g.members in
     let inside : List SegValue = (items ++ option_items g.trailer) ++ rest in
@@ -139,7 +185,13 @@ group_in_front g rest is =
     ∙ ap (front_members g.members) (group_ends g.trailer rest is.trailer)
     ∙ members_told g.members g.trailer (tails rest).in_body)
   where
-    by_kind : (k : Kind) (t : Tails) → k ≡ GroupHeader → t.in_group ≡ record { sets = sets_in g.members; close = g.trailer; misplaced = has_misplaced_in_group g.members; after = (tails rest).in_body }
+    by_kind : (k : Kind) (t : Tails) → k ≡ GroupHeader
+        → t.in_group ≡ record {
+          sets = sets_in g.members;
+          close = g.trailer;
+          misplaced = has_misplaced_in_group g.members;
+          after = (tails rest).in_body;
+        }
         → onto_body k g.header t ≡ front_group g (tails rest).in_body
     by_kind k t header goes_on = rw header (ap (with_group g.header) goes_on)
 
@@ -150,11 +202,13 @@ front_body (ANotice x ∷ ms) s = with_notice (front_body ms s)
 front_body (AGroup g ∷ ms) s = front_group g (front_body ms s)
 front_body (OutOfBody x ∷ ms) s = with_misplaced (front_body ms s)
 
-body_in_front : (ms : List InBody) (rest : List SegValue) → AreBodyMembers ms rest → (tails (flat_map in_body_items ms ++ rest)).in_body ≡ front_body ms (tails rest).in_body
+body_in_front : (ms : List InBody) (rest : List SegValue) → AreBodyMembers ms rest
+    → (tails (flat_map in_body_items ms ++ rest)).in_body ≡ front_body ms (tails rest).in_body
 body_in_front [] rest are = refl
 body_in_front (ANotice x ∷ ms) rest are = by_kind (kind_of x) are.0 (body_in_front ms rest are.1)
   where
-    by_kind : (k : Kind) → k ≡ Notice → (tails (flat_map in_body_items ms ++ rest)).in_body ≡ front_body ms (tails rest).in_body → onto_body k x (tails (flat_map in_body_items ms ++ rest)) ≡ with_notice (front_body ms (tails rest).in_body)
+    by_kind : (k : Kind) → k ≡ Notice → (tails (flat_map in_body_items ms ++ rest)).in_body ≡ front_body ms (tails rest).in_body
+        → onto_body k x (tails (flat_map in_body_items ms ++ rest)) ≡ with_notice (front_body ms (tails rest).in_body)
     by_kind k is goes_on = rw is (ap with_notice goes_on)
 body_in_front (AGroup g ∷ ms) rest are =
     ap (λ (segs : List SegValue). (tails segs).in_body) (append_assoc (group_items g) (flat_map in_body_items ms) rest)
@@ -162,7 +216,9 @@ body_in_front (AGroup g ∷ ms) rest are =
     ∙ ap (front_group g) (body_in_front ms rest are.1)
 body_in_front (OutOfBody x ∷ ms) rest are = by_kind (kind_of x) are.0 (body_in_front ms rest are.1)
   where
-    by_kind : (k : Kind) → is_out_of_body k ≡ true → (tails (flat_map in_body_items ms ++ rest)).in_body ≡ front_body ms (tails rest).in_body → onto_body k x (tails (flat_map in_body_items ms ++ rest)) ≡ with_misplaced (front_body ms (tails rest).in_body)
+    by_kind : (k : Kind) → is_out_of_body k ≡ true
+        → (tails (flat_map in_body_items ms ++ rest)).in_body ≡ front_body ms (tails rest).in_body
+        → onto_body k x (tails (flat_map in_body_items ms ++ rest)) ≡ with_misplaced (front_body ms (tails rest).in_body)
     by_kind InterchangeTrailer out goes_on = cc
     by_kind GroupHeader out goes_on = cc
     by_kind Notice out goes_on = cc
@@ -172,17 +228,21 @@ body_in_front (OutOfBody x ∷ ms) rest are = by_kind (kind_of x) are.0 (body_in
     by_kind Other out goes_on = ap with_misplaced goes_on
 
 -- what stands in the interchange, in front of its end
-body_told : (ms : List InBody) (close : Option SegValue) → front_body ms (record { groups = []; notices = 0; misplaced = false; trailer = close }) ≡ summary_of (record { members = ms; trailer = close })
+body_told : (ms : List InBody) (close : Option SegValue)
+    → front_body ms (record { groups = []; notices = 0; misplaced = false; trailer = close })
+    ≡ summary_of (record { members = ms; trailer = close })
 body_told [] close = refl
 body_told (ANotice x ∷ ms) close = ap with_notice (body_told ms close)
 body_told (AGroup g ∷ ms) close = ap (front_group g) (body_told ms close)
 body_told (OutOfBody x ∷ ms) close = ap with_misplaced (body_told ms close)
 
-body_ends : (close : Option SegValue) → Closed InterchangeTrailer (λ k. false) close [] → (tails (option_items close)).in_body ≡ record { groups = []; notices = 0; misplaced = false; trailer = close }
+body_ends : (close : Option SegValue) → Closed InterchangeTrailer (λ k. false) close []
+    → (tails (option_items close)).in_body ≡ record { groups = []; notices = 0; misplaced = false; trailer = close }
 body_ends None closed = refl
 body_ends (Some x) closed = by_kind (kind_of x) closed
   where
-    by_kind : (k : Kind) → k ≡ InterchangeTrailer → onto_body k x no_segments ≡ record { groups = []; notices = 0; misplaced = false; trailer = Some x }
+    by_kind : (k : Kind) → k ≡ InterchangeTrailer
+        → onto_body k x no_segments ≡ record { groups = []; notices = 0; misplaced = false; trailer = Some x }
     by_kind k is = rw is refl
 
 -- segments that derive a tree sum up to its summary

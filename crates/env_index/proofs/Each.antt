@@ -10,6 +10,8 @@ pub one_fails : {A : Type 0} (p : A → Bool) (xs : List A) (i : ℕ) (x : A) �
 one_fails p xs i x is fails = list_all_at p xs i x (slice_get_within xs i x is) (ap p (get_or_from_slice_get xs i x x is) ∙ fails)
 
 -- one more that passes it
-pub one_passes : {A : Type 0} (p : A → Bool) (xs : List A) (i : ℕ) (x : A) → slice_get xs i ≡ Some x → p x ≡ true → list_all p (take i xs) ≡ true → list_all p (take (i + 1) xs) ≡ true
+pub one_passes : {A : Type 0} (p : A → Bool) (xs : List A) (i : ℕ) (x : A) → slice_get xs i ≡ Some x → p x ≡ true
+    → list_all p (take i xs) ≡ true → list_all p (take (i + 1) xs) ≡ true
 one_passes p xs i x is passes before =
-    list_all_more p xs i x (slice_get_within xs i x is) ∙ ap (λ (b : Bool). b && p (get_or xs i x)) before ∙ ap p (get_or_from_slice_get xs i x x is) ∙ passes
+    list_all_more p xs i x (slice_get_within xs i x is) ∙ ap (λ (b : Bool). b && p (get_or xs i x)) before
+    ∙ ap p (get_or_from_slice_get xs i x x is) ∙ passes

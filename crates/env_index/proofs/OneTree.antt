@@ -1,12 +1,16 @@
 -- Segments derive one tree at most.
-use Rattle.std.proofs.Common.{◌≡◌, List, [], ◌∷◌, ◌++◌, Bool, true, false, sym, ap, ◌∙◌, refl, append_assoc, Option, Some, None, inl, inr, ◌⊎◌}
+use Rattle.std.proofs.Common.{◌≡◌, List, [], ◌∷◌, ◌++◌, Bool, true, false, sym, ap, ◌∙◌, refl, append_assoc, Option, Some, None, inl, inr}
+use Rattle.std.proofs.Common.{◌⊎◌}
 use Rattle.std.specs.List.{flat_map, list_all}
 use Rattle.std.proofs.lemmas.Bool.{and_parts, both_ways}
 use Rattle.x12_segs.specs.View.{SegValue}
 use Rattle.x12_segs.specs.Kinds.{kind_of, is_inner}
-use Rattle.env_index.specs.Envelope.{Set, InGroup, ASet, OutOfGroup, Group, InBody, ANotice, AGroup, OutOfBody, Body, option_items, set_items, in_group_items, group_items, in_body_items, ends_set, ends_group, is_out_of_group, is_out_of_body, Closed, IsSet, AreMembers, IsGroup, AreBodyMembers, Derives}
+use Rattle.env_index.specs.Envelope.{Set, InGroup, ASet, OutOfGroup, Group, InBody, ANotice, AGroup, OutOfBody, Body, option_items}
+use Rattle.env_index.specs.Envelope.{set_items, in_group_items, group_items, in_body_items, ends_set, ends_group, is_out_of_group}
+use Rattle.env_index.specs.Envelope.{is_out_of_body, Closed, IsSet, AreMembers, IsGroup, AreBodyMembers, Derives}
 use Rattle.x12_segs.specs.declared.kind.Kind.{Kind}
-use Rattle.x12_segs.specs.declared.kind.Kind.TheVariants.{InterchangeTrailer, GroupHeader, GroupTrailer, SetHeader, SetTrailer, Notice, Other}
+use Rattle.x12_segs.specs.declared.kind.Kind.TheVariants.{InterchangeTrailer, GroupHeader, GroupTrailer, SetHeader, SetTrailer, Notice}
+use Rattle.x12_segs.specs.declared.kind.Kind.TheVariants.{Other}
 
 -- a test that a segment's kind passes is passed by that of an equal one
 apart : (test : Kind → Bool) (x y : SegValue) → x ≡ y → test (kind_of x) ≡ true → test (kind_of y) ≡ false → ⊥
@@ -23,7 +27,8 @@ inner_goes_on Notice inner = refl
 inner_goes_on Other inner = refl
 
 -- a trailer, or none, is one
-trailer_is_one : (kind : Kind) (ends : Kind → Bool) → ends kind ≡ false → (t u : Option SegValue) (r s : List SegValue) → Closed kind ends t r → Closed kind ends u s
+trailer_is_one : (kind : Kind) (ends : Kind → Bool) → ends kind ≡ false → (t u : Option SegValue) (r s : List SegValue)
+    → Closed kind ends t r → Closed kind ends u s
     → option_items t ++ r ≡ option_items u ++ s → (t ≡ u) × (r ≡ s)
 trailer_is_one kind ends apt None None r s p q e = (refl, e)
 trailer_is_one kind ends apt None (Some y) [] s p q e = cc
@@ -36,13 +41,16 @@ trailer_is_one kind ends apt (Some x) (Some y) r s p q e =
     (ap (λ z. Some z) same, rest)
 
 -- no segment inside a set begins its trailer, or what may follow without one
-inner_first : (x : SegValue) (xs : List SegValue) (u : Option SegValue) (s : List SegValue) → is_inner (kind_of x) ≡ true → Closed SetTrailer ends_set u s → x ∷ xs ≡ option_items u ++ s → ⊥
+inner_first : (x : SegValue) (xs : List SegValue) (u : Option SegValue) (s : List SegValue) → is_inner (kind_of x) ≡ true
+    → Closed SetTrailer ends_set u s → x ∷ xs ≡ option_items u ++ s → ⊥
 inner_first x xs None [] inner q e = cc
 inner_first x xs None (y ∷ s) inner q e = let same : y ≡ x = cc in apart ends_set y x same q (inner_goes_on (kind_of x) inner)
 inner_first x xs (Some y) s inner q e = let same : x ≡ y = cc in apart is_inner x y same inner (ap is_inner q)
 
-inner_is_one : (xs ys : List SegValue) (t u : Option SegValue) (r s : List SegValue) → list_all (λ x. is_inner (kind_of x)) xs ≡ true → list_all (λ x. is_inner (kind_of x)) ys ≡ true
-    → Closed SetTrailer ends_set t r → Closed SetTrailer ends_set u s → xs ++ (option_items t ++ r) ≡ ys ++ (option_items u ++ s) → (xs ≡ ys) × ((t ≡ u) × (r ≡ s))
+inner_is_one : (xs ys : List SegValue) (t u : Option SegValue) (r s : List SegValue) → list_all (λ x. is_inner (kind_of x)) xs ≡ true
+    → list_all (λ x. is_inner (kind_of x)) ys ≡ true
+    → Closed SetTrailer ends_set t r → Closed SetTrailer ends_set u s → xs ++ (option_items t ++ r) ≡ ys ++ (option_items u ++ s)
+    → (xs ≡ ys) × ((t ≡ u) × (r ≡ s))
 inner_is_one [] [] t u r s a b p q e = (refl, trailer_is_one SetTrailer ends_set refl t u r s p q e)
 inner_is_one (x ∷ xs) [] t u r s a b p q e =
     let i = and_parts (is_inner (kind_of x)) (list_all (λ x. is_inner (kind_of x)) xs) a in
@@ -68,11 +76,15 @@ set_is_one a b r s p q e =
     sym (append_assoc (a.header ∷ a.inner) (option_items a.trailer) r) ∙ e ∙ append_assoc (b.header ∷ b.inner) (option_items b.trailer) s in
     let headers : a.header ≡ b.header = cc in
     let rest : a.inner ++ (option_items a.trailer ++ r) ≡ b.inner ++ (option_items b.trailer ++ s) = cc in
-    let more = inner_is_one a.inner b.inner a.trailer b.trailer r s p.inner q.inner p.trailer q.trailer rest in
-    (ap (λ h. set_with h a.inner a.trailer) headers ∙ ap (λ i. set_with b.header i a.trailer) more.0 ∙ ap (λ t. set_with b.header b.inner t) more.1.0, more.1.1)
+    let more = inner_is_one a.inner b.inner a.trailer b.trailer r s p.inner q.inner p.trailer q.trailer rest in (
+      ap (λ h. set_with h a.inner a.trailer) headers ∙ ap (λ i. set_with b.header i a.trailer) more.0
+          ∙ ap (λ t. set_with b.header b.inner t) more.1.0,
+      more.1.1,
+    )
 
 -- what may stand behind a group's members
-behind_members : (x : SegValue) (xs : List SegValue) (u : Option SegValue) (s : List SegValue) → Closed GroupTrailer ends_group u s → x ∷ xs ≡ option_items u ++ s
+behind_members : (x : SegValue) (xs : List SegValue) (u : Option SegValue) (s : List SegValue) → Closed GroupTrailer ends_group u s
+    → x ∷ xs ≡ option_items u ++ s
     → (kind_of x ≡ GroupTrailer) ⊎ (ends_group (kind_of x) ≡ true)
 behind_members x xs None [] q e = cc
 behind_members x xs None (y ∷ s) q e = let same : x ≡ y = cc in inr (ap (λ (z : SegValue). ends_group (kind_of z)) same ∙ q)
@@ -89,7 +101,8 @@ behind_members_apart SetTrailer (inr e) = cc
 behind_members_apart Notice (inr e) = cc
 behind_members_apart Other (inr e) = cc
 
-no_member : (m : InGroup) (ms : List InGroup) (rest : List SegValue) (u : Option SegValue) (s : List SegValue) → AreMembers (m ∷ ms) rest → Closed GroupTrailer ends_group u s
+no_member : (m : InGroup) (ms : List InGroup) (rest : List SegValue) (u : Option SegValue) (s : List SegValue) → AreMembers (m ∷ ms) rest
+    → Closed GroupTrailer ends_group u s
     → flat_map in_group_items (m ∷ ms) ++ rest ≡ option_items u ++ s → ⊥
 no_member (OutOfGroup x) ms rest u s p q e =
     out_of_place (kind_of x) p.0 (behind_members_apart (kind_of x) (behind_members x (flat_map in_group_items ms ++ rest) u s q e)).0
@@ -103,10 +116,13 @@ no_member (OutOfGroup x) ms rest u s p q e =
     out_of_place Notice out ends = cc
     out_of_place Other out ends = cc
 no_member (ASet a) ms rest u s p q e =
-    (behind_members_apart (kind_of a.header) (behind_members a.header (((a.inner ++ option_items a.trailer) ++ flat_map in_group_items ms) ++ rest) u s q e)).1 p.0.header
+    (behind_members_apart (kind_of a.header)
+    (behind_members a.header (((a.inner ++ option_items a.trailer) ++ flat_map in_group_items ms) ++ rest) u s q e)).1 p.0.header
 
-members_is_one : (xs ys : List InGroup) (t u : Option SegValue) (r s : List SegValue) → AreMembers xs (option_items t ++ r) → AreMembers ys (option_items u ++ s)
-    → Closed GroupTrailer ends_group t r → Closed GroupTrailer ends_group u s → flat_map in_group_items xs ++ (option_items t ++ r) ≡ flat_map in_group_items ys ++ (option_items u ++ s)
+members_is_one : (xs ys : List InGroup) (t u : Option SegValue) (r s : List SegValue) → AreMembers xs (option_items t ++ r)
+    → AreMembers ys (option_items u ++ s)
+    → Closed GroupTrailer ends_group t r → Closed GroupTrailer ends_group u s
+    → flat_map in_group_items xs ++ (option_items t ++ r) ≡ flat_map in_group_items ys ++ (option_items u ++ s)
     → (xs ≡ ys) × ((t ≡ u) × (r ≡ s))
 members_is_one [] [] t u r s a b p q e = (refl, trailer_is_one GroupTrailer ends_group refl t u r s p q e)
 members_is_one (x ∷ xs) [] t u r s a b p q e = absurd (no_member x xs (option_items t ++ r) u s a q e)
@@ -123,9 +139,12 @@ members_is_one (ASet set ∷ xs) (OutOfGroup y ∷ ys) t u r s a b p q e =
     let same : y ≡ set.header = cc in
     absurd (apart is_out_of_group y set.header same b.0 (ap is_out_of_group a.0.header))
 members_is_one (ASet c ∷ xs) (ASet d ∷ ys) t u r s a b p q e =
-    let items : set_items c ++ (flat_map in_group_items xs ++ (option_items t ++ r)) ≡ set_items d ++ (flat_map in_group_items ys ++ (option_items u ++ s)) =
-    sym (append_assoc (set_items c) (flat_map in_group_items xs) (option_items t ++ r)) ∙ e ∙ append_assoc (set_items d) (flat_map in_group_items ys) (option_items u ++ s) in
-    let one = set_is_one c d (flat_map in_group_items xs ++ (option_items t ++ r)) (flat_map in_group_items ys ++ (option_items u ++ s)) a.0 b.0 items in
+    let items : set_items c ++ (flat_map in_group_items xs ++ (option_items t ++ r))
+    ≡ set_items d ++ (flat_map in_group_items ys ++ (option_items u ++ s)) =
+    sym (append_assoc (set_items c) (flat_map in_group_items xs) (option_items t ++ r)) ∙ e
+    ∙ append_assoc (set_items d) (flat_map in_group_items ys) (option_items u ++ s) in
+    let one = set_is_one c d (flat_map in_group_items xs ++ (option_items t ++ r))
+    (flat_map in_group_items ys ++ (option_items u ++ s)) a.0 b.0 items in
     let more = members_is_one xs ys t u r s a.1 b.1 p q one.1 in
     (ap (λ z. ASet z ∷ xs) one.0 ∙ ap (λ zs. ASet d ∷ zs) more.0, more.1)
 
@@ -135,21 +154,30 @@ group_with h m t = record { header = h; members = m; trailer = t }
 group_is_one : (a b : Group) (r s : List SegValue) → IsGroup a r → IsGroup b s → group_items a ++ r ≡ group_items b ++ s → (a ≡ b) × (r ≡ s)
 unfolding group_with
 group_is_one a b r s p q e =
-    let items : (a.header ∷ flat_map in_group_items a.members) ++ (option_items a.trailer ++ r) ≡ (b.header ∷ flat_map in_group_items b.members) ++ (option_items b.trailer ++ s) =
-    sym (append_assoc (a.header ∷ flat_map in_group_items a.members) (option_items a.trailer) r) ∙ e ∙ append_assoc (b.header ∷ flat_map in_group_items b.members) (option_items b.trailer) s in
+    let items : (a.header ∷ flat_map in_group_items a.members) ++ (option_items a.trailer ++ r)
+    ≡ (b.header ∷ flat_map in_group_items b.members) ++ (option_items b.trailer ++ s) =
+    sym (append_assoc (a.header ∷ flat_map in_group_items a.members) (option_items a.trailer) r) ∙ e
+    ∙ append_assoc (b.header ∷ flat_map in_group_items b.members) (option_items b.trailer) s in
     let headers : a.header ≡ b.header = cc in
-    let rest : flat_map in_group_items a.members ++ (option_items a.trailer ++ r) ≡ flat_map in_group_items b.members ++ (option_items b.trailer ++ s) = cc in
-    let more = members_is_one a.members b.members a.trailer b.trailer r s p.members q.members p.trailer q.trailer rest in
-    (ap (λ h. group_with h a.members a.trailer) headers ∙ ap (λ m. group_with b.header m a.trailer) more.0 ∙ ap (λ t. group_with b.header b.members t) more.1.0, more.1.1)
+    let rest : flat_map in_group_items a.members ++ (option_items a.trailer ++ r)
+    ≡ flat_map in_group_items b.members ++ (option_items b.trailer ++ s) = cc in
+    let more = members_is_one a.members b.members a.trailer b.trailer r s p.members q.members p.trailer q.trailer rest in (
+      ap (λ h. group_with h a.members a.trailer) headers ∙ ap (λ m. group_with b.header m a.trailer) more.0
+          ∙ ap (λ t. group_with b.header b.members t) more.1.0,
+      more.1.1,
+    )
 
 -- nothing that stands in an interchange begins its trailer
-no_body_member : (m : InBody) (ms : List InBody) (rest : List SegValue) (u : Option SegValue) → AreBodyMembers (m ∷ ms) rest → Closed InterchangeTrailer (λ k. false) u []
+no_body_member : (m : InBody) (ms : List InBody) (rest : List SegValue) (u : Option SegValue) → AreBodyMembers (m ∷ ms) rest
+    → Closed InterchangeTrailer (λ k. false) u []
     → flat_map in_body_items (m ∷ ms) ++ rest ≡ option_items u → ⊥
 no_body_member (ANotice x) ms rest None p q e = cc
 no_body_member (AGroup g) ms rest None p q e = cc
 no_body_member (OutOfBody x) ms rest None p q e = cc
-no_body_member (ANotice x) ms rest (Some y) p q e = let same : x ≡ y = cc in let kinds : Notice ≡ InterchangeTrailer = sym p.0 ∙ ap kind_of same ∙ q in cc
-no_body_member (AGroup g) ms rest (Some y) p q e = let same : g.header ≡ y = cc in let kinds : GroupHeader ≡ InterchangeTrailer = sym p.0.header ∙ ap kind_of same ∙ q in cc
+no_body_member (ANotice x) ms rest (Some y) p q e = let same : x ≡ y = cc in let kinds : Notice ≡ InterchangeTrailer = sym p.0
+    ∙ ap kind_of same ∙ q in cc
+no_body_member (AGroup g) ms rest (Some y) p q e = let same : g.header ≡ y = cc in let kinds : GroupHeader
+    ≡ InterchangeTrailer = sym p.0.header ∙ ap kind_of same ∙ q in cc
 no_body_member (OutOfBody x) ms rest (Some y) p q e = let same : x ≡ y = cc in apart is_out_of_body x y same p.0 (ap is_out_of_body q)
 
 trailers_alone : (t u : Option SegValue) → option_items t ≡ option_items u → t ≡ u
@@ -158,8 +186,10 @@ trailers_alone None (Some y) e = cc
 trailers_alone (Some x) None e = cc
 trailers_alone (Some x) (Some y) e = let same : x ≡ y = cc in ap (λ z. Some z) same
 
-body_members_is_one : (xs ys : List InBody) (t u : Option SegValue) → AreBodyMembers xs (option_items t) → AreBodyMembers ys (option_items u)
-    → Closed InterchangeTrailer (λ k. false) t [] → Closed InterchangeTrailer (λ k. false) u [] → flat_map in_body_items xs ++ option_items t ≡ flat_map in_body_items ys ++ option_items u
+body_members_is_one : (xs ys : List InBody) (t u : Option SegValue) → AreBodyMembers xs (option_items t)
+    → AreBodyMembers ys (option_items u)
+    → Closed InterchangeTrailer (λ k. false) t [] → Closed InterchangeTrailer (λ k. false) u []
+    → flat_map in_body_items xs ++ option_items t ≡ flat_map in_body_items ys ++ option_items u
     → (xs ≡ ys) × (t ≡ u)
 body_members_is_one [] [] t u a b p q e = (refl, trailers_alone t u e)
 body_members_is_one (x ∷ xs) [] t u a b p q e = absurd (no_body_member x xs (option_items t) u a q e)
@@ -175,17 +205,25 @@ body_members_is_one (OutOfBody x ∷ xs) (OutOfBody y ∷ ys) t u a b p q e =
     let more = body_members_is_one xs ys t u a.1 b.1 p q rest in
     (ap (λ z. OutOfBody z ∷ xs) same ∙ ap (λ zs. OutOfBody y ∷ zs) more.0, more.1)
 body_members_is_one (AGroup g ∷ xs) (AGroup h ∷ ys) t u a b p q e =
-    let items : group_items g ++ (flat_map in_body_items xs ++ option_items t) ≡ group_items h ++ (flat_map in_body_items ys ++ option_items u) =
-    sym (append_assoc (group_items g) (flat_map in_body_items xs) (option_items t)) ∙ e ∙ append_assoc (group_items h) (flat_map in_body_items ys) (option_items u) in
+    let items : group_items g ++ (flat_map in_body_items xs ++ option_items t)
+    ≡ group_items h ++ (flat_map in_body_items ys ++ option_items u) =
+    sym (append_assoc (group_items g) (flat_map in_body_items xs) (option_items t)) ∙ e
+    ∙ append_assoc (group_items h) (flat_map in_body_items ys) (option_items u) in
     let one = group_is_one g h (flat_map in_body_items xs ++ option_items t) (flat_map in_body_items ys ++ option_items u) a.0 b.0 items in
     let more = body_members_is_one xs ys t u a.1 b.1 p q one.1 in
     (ap (λ z. AGroup z ∷ xs) one.0 ∙ ap (λ zs. AGroup h ∷ zs) more.0, more.1)
-body_members_is_one (ANotice x ∷ xs) (AGroup h ∷ ys) t u a b p q e = let same : x ≡ h.header = cc in let kinds : Notice ≡ GroupHeader = sym a.0 ∙ ap kind_of same ∙ b.0.header in cc
-body_members_is_one (AGroup g ∷ xs) (ANotice y ∷ ys) t u a b p q e = let same : g.header ≡ y = cc in let kinds : GroupHeader ≡ Notice = sym a.0.header ∙ ap kind_of same ∙ b.0 in cc
-body_members_is_one (ANotice x ∷ xs) (OutOfBody y ∷ ys) t u a b p q e = let same : y ≡ x = cc in absurd (apart is_out_of_body y x same b.0 (ap is_out_of_body a.0))
-body_members_is_one (OutOfBody x ∷ xs) (ANotice y ∷ ys) t u a b p q e = let same : x ≡ y = cc in absurd (apart is_out_of_body x y same a.0 (ap is_out_of_body b.0))
-body_members_is_one (AGroup g ∷ xs) (OutOfBody y ∷ ys) t u a b p q e = let same : y ≡ g.header = cc in absurd (apart is_out_of_body y g.header same b.0 (ap is_out_of_body a.0.header))
-body_members_is_one (OutOfBody x ∷ xs) (AGroup h ∷ ys) t u a b p q e = let same : x ≡ h.header = cc in absurd (apart is_out_of_body x h.header same a.0 (ap is_out_of_body b.0.header))
+body_members_is_one (ANotice x ∷ xs) (AGroup h ∷ ys) t u a b p q e = let same : x ≡ h.header = cc in let kinds : Notice
+    ≡ GroupHeader = sym a.0 ∙ ap kind_of same ∙ b.0.header in cc
+body_members_is_one (AGroup g ∷ xs) (ANotice y ∷ ys) t u a b p q e = let same : g.header ≡ y = cc in let kinds : GroupHeader
+    ≡ Notice = sym a.0.header ∙ ap kind_of same ∙ b.0 in cc
+body_members_is_one (ANotice x ∷ xs) (OutOfBody y ∷ ys) t u a b p q e = let same : y
+    ≡ x = cc in absurd (apart is_out_of_body y x same b.0 (ap is_out_of_body a.0))
+body_members_is_one (OutOfBody x ∷ xs) (ANotice y ∷ ys) t u a b p q e = let same : x
+    ≡ y = cc in absurd (apart is_out_of_body x y same a.0 (ap is_out_of_body b.0))
+body_members_is_one (AGroup g ∷ xs) (OutOfBody y ∷ ys) t u a b p q e = let same : y
+    ≡ g.header = cc in absurd (apart is_out_of_body y g.header same b.0 (ap is_out_of_body a.0.header))
+body_members_is_one (OutOfBody x ∷ xs) (AGroup h ∷ ys) t u a b p q e = let same : x
+    ≡ h.header = cc in absurd (apart is_out_of_body x h.header same a.0 (ap is_out_of_body b.0.header))
 
 body_with : List InBody → Option SegValue → Body
 body_with m t = record { members = m; trailer = t }
@@ -193,5 +231,6 @@ body_with m t = record { members = m; trailer = t }
 pub tree_is_one : (segs : List SegValue) (a b : Body) → Derives segs a → Derives segs b → a ≡ b
 unfolding body_with
 tree_is_one segs a b p q =
-    let more = body_members_is_one a.members b.members a.trailer b.trailer p.1.members q.1.members p.1.trailer q.1.trailer (p.0 ∙ sym q.0) in
+    let more = body_members_is_one a.members b.members a.trailer b.trailer p.1.members q.1.members p.1.trailer q.1.trailer (p.0
+    ∙ sym q.0) in
     ap (λ m. body_with m a.trailer) more.0 ∙ ap (λ t. body_with b.members t) more.1

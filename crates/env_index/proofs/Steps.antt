@@ -1,8 +1,10 @@
 -- What has been read of an interchange so far, and what the segments to come make of it.
-use Rattle.std.proofs.Common.{◌≡◌, ◌≢◌, ℕ, ◌+◌, List, [], ◌∷◌, ◌++◌, Bool, true, false, ◌||◌, Option, Some, None, refl, sym, ap, ◌∙◌, arith, append_assoc}
+use Rattle.std.proofs.Common.{◌≡◌, ◌≢◌, ℕ, ◌+◌, List, [], ◌∷◌, ◌++◌, Bool, true, false, ◌||◌, Option, Some, None, refl, sym, ap, ◌∙◌}
+use Rattle.std.proofs.Common.{arith, append_assoc}
 use Rattle.x12_segs.specs.View.{SegValue}
 use Rattle.x12_segs.specs.declared.kind.Kind.{Kind}
-use Rattle.x12_segs.specs.declared.kind.Kind.TheVariants.{InterchangeTrailer, GroupHeader, GroupTrailer, SetHeader, SetTrailer, Notice, Other}
+use Rattle.x12_segs.specs.declared.kind.Kind.TheVariants.{InterchangeTrailer, GroupHeader, GroupTrailer, SetHeader, SetTrailer, Notice}
+use Rattle.x12_segs.specs.declared.kind.Kind.TheVariants.{Other}
 use Rattle.env_index.specs.declared.entry.SetEnvelope.{SetEnvelope}
 use Rattle.env_index.specs.Summary.{GroupEntry, Summary}
 use Rattle.env_index.specs.Extents.{behind}
@@ -11,7 +13,12 @@ use Rattle.env_index.proofs.Tails.{GroupTail, SetTail, Tails, cut_off, no_segmen
 
 -- what is whole, in front of what an interchange goes on with
 abbrev pub put : State → Summary → Summary
-put s b = record { groups = s.groups ++ b.groups; notices = s.notices + b.notices; misplaced = s.misplaced || b.misplaced; trailer = b.trailer }
+put s b = record {
+  groups = s.groups ++ b.groups;
+  notices = s.notices + b.notices;
+  misplaced = s.misplaced || b.misplaced;
+  trailer = b.trailer;
+}
 
 abbrev pub more_sets : List SetEnvelope → GroupTail → GroupTail
 more_sets sets t = record t { sets = sets ++ t.sets }
@@ -43,7 +50,8 @@ append_nil [] = refl
 append_nil (x ∷ xs) = ap (λ ys. x ∷ ys) (append_nil xs)
 
 -- an open set that goes on with nothing may be ended
-ended_set_at : (s : State) (group set : Option SegValue) (t : Tails) → t.in_set ≡ cut_off t.in_group → resume (end_set None (open_at s group set)) t ≡ resume (open_at s group set) t
+ended_set_at : (s : State) (group set : Option SegValue) (t : Tails) → t.in_set ≡ cut_off t.in_group
+    → resume (end_set None (open_at s group set)) t ≡ resume (open_at s group set) t
 ended_set_at s None None t closes = refl
 ended_set_at s None (Some set) t closes = refl
 ended_set_at s (Some group) None t closes = refl
@@ -68,12 +76,19 @@ ended_group : (s : State) (group : SegValue) (trailer : Option SegValue) (t u : 
 ended_group s group trailer t u ends =
     let B : Summary = t.in_body in
     let g : List SetEnvelope → GroupEntry = λ xs. record { header = group; sets = xs; trailer = trailer } in
-    let F : List GroupEntry → Summary = λ gs. record { groups = gs; notices = s.notices + B.notices; misplaced = s.misplaced || B.misplaced; trailer = B.trailer } in
+    let F : List GroupEntry
+    → Summary = λ gs. record {
+      groups = gs;
+      notices = s.notices + B.notices;
+      misplaced = s.misplaced || B.misplaced;
+      trailer = B.trailer;
+    } in
     ap F (append_assoc s.groups (g s.sets ∷ []) B.groups)
     ∙ ap (λ (xs : List SetEnvelope). F (s.groups ++ (g xs ∷ B.groups))) (sym (append_nil s.sets))
     ∙ ap (λ (u : GroupTail). put s (with_group group (more_sets s.sets u))) (sym ends)
 
-ended_group_trailer : (s : State) (group : SegValue) (set : Option SegValue) (trailer : Option SegValue) (t u : Tails) → u.in_set ≡ cut_off u.in_group → u.in_group ≡ group_end trailer t.in_body
+ended_group_trailer : (s : State) (group : SegValue) (set : Option SegValue) (trailer : Option SegValue) (t u : Tails)
+    → u.in_set ≡ cut_off u.in_group → u.in_group ≡ group_end trailer t.in_body
     → resume (end_group trailer (end_set None (open_at s (Some group) set))) t ≡ resume (open_at s (Some group) set) u
 ended_group_trailer s group None trailer t u closes ends = ended_group s group trailer t u ends
 ended_group_trailer s group (Some set) trailer t u closes ends =
@@ -86,28 +101,43 @@ ended_all_at s None (Some set) t closes ends = refl
 ended_all_at s (Some group) set t closes ends = ended_group_trailer s group set None t t closes ends
 
 -- where all has ended nothing is open
-all_closed : (s : State) (group set : Option SegValue) (t : Tails) → resume (end_all (open_at s group set)) t ≡ put (end_all (open_at s group set)) t.in_body
+all_closed : (s : State) (group set : Option SegValue) (t : Tails)
+    → resume (end_all (open_at s group set)) t ≡ put (end_all (open_at s group set)) t.in_body
 all_closed s None None t = refl
 all_closed s None (Some set) t = refl
 all_closed s (Some group) None t = refl
 all_closed s (Some group) (Some set) t = refl
 
 -- a segment out of place, in front of what goes on
-misplaced_in_body : (s : State) (set : Option SegValue) (t u : Tails) → u.in_body ≡ record t.in_body { misplaced = true } → resume (misplace (open_at s None set)) t ≡ resume (open_at s None set) u
+misplaced_in_body : (s : State) (set : Option SegValue) (t u : Tails) → u.in_body ≡ record t.in_body { misplaced = true }
+    → resume (misplace (open_at s None set)) t ≡ resume (open_at s None set) u
 misplaced_in_body s set t u is =
     let B : Summary = t.in_body in
-    ap (λ (m : Bool). (let r : Summary = record { groups = s.groups ++ B.groups; notices = s.notices + B.notices; misplaced = m; trailer = B.trailer } in r)) (sym (or_true s.misplaced))
+    ap (λ (m : Bool). (let r : Summary = record {
+      groups = s.groups ++ B.groups;
+      notices = s.notices + B.notices;
+      misplaced = m;
+      trailer = B.trailer;
+    } in r)) (sym (or_true s.misplaced))
     ∙ ap (put s) (sym is)
 
-misplaced_in_group : (s : State) (group : SegValue) (t u : Tails) → u.in_group ≡ record t.in_group { misplaced = true } → resume (misplace (open_at s (Some group) None)) t ≡ resume (open_at s (Some group) None) u
+misplaced_in_group : (s : State) (group : SegValue) (t u : Tails) → u.in_group ≡ record t.in_group { misplaced = true }
+    → resume (misplace (open_at s (Some group) None)) t ≡ resume (open_at s (Some group) None) u
 misplaced_in_group s group t u is =
     let r : Summary = with_group group (more_sets s.sets t.in_group) in
-    ap (λ (m : Bool). (let x : Summary = record { groups = s.groups ++ r.groups; notices = s.notices + r.notices; misplaced = m; trailer = r.trailer } in x)) (sym (or_true s.misplaced))
+    ap (λ (m : Bool). (let x : Summary = record {
+      groups = s.groups ++ r.groups;
+      notices = s.notices + r.notices;
+      misplaced = m;
+      trailer = r.trailer;
+    } in x)) (sym (or_true s.misplaced))
     ∙ ap (λ (g : GroupTail). put s (with_group group (more_sets s.sets g))) (sym is)
 
 -- one more segment inside a set
-longer_set : (s : State) (group set x : SegValue) (t u : Tails) → u.in_set ≡ record t.in_set { count = t.in_set.count + 1; end = λ so_far. t.in_set.end (behind x) }
-    → resume (record (open_at s (Some group) (Some set)) { count = s.count + 1; last = Some x }) t ≡ resume (open_at s (Some group) (Some set)) u
+longer_set : (s : State) (group set x : SegValue) (t u : Tails)
+    → u.in_set ≡ record t.in_set { count = t.in_set.count + 1; end = λ so_far. t.in_set.end (behind x) }
+    → resume (record (open_at s (Some group) (Some set)) { count = s.count + 1; last = Some x }) t
+    ≡ resume (open_at s (Some group) (Some set)) u
 longer_set s group set x t u is =
     let S : SetTail = t.in_set in
     let n : s.count + 1 + S.count ≡ s.count + (S.count + 1) = omega arith in
@@ -130,7 +160,8 @@ step_at SetHeader x s (Some group) set t other =
     header_in_front s group None = let n : 0 + t.in_set.count ≡ t.in_set.count = omega arith in
         ap (λ (k : ℕ). put s (with_group group (more_sets s.sets (with_set x (record t.in_set { count = k }))))) n
     header_in_front s group (Some set) = let n : 0 + t.in_set.count ≡ t.in_set.count = omega arith in
-        ap (λ (k : ℕ). put s (with_group group (more_sets (end_set None (open_at s (Some group) (Some set))).sets (with_set x (record t.in_set { count = k }))))) n
+        ap (λ (k : ℕ). put s (with_group group
+        (more_sets (end_set None (open_at s (Some group) (Some set))).sets (with_set x (record t.in_set { count = k }))))) n
 step_at SetTrailer x s None set t other = misplaced_in_body s set t (onto SetTrailer x t) refl
 step_at SetTrailer x s (Some group) None t other = misplaced_in_group s group t (onto SetTrailer x t) refl
 step_at SetTrailer x s (Some group) (Some set) t other =
@@ -142,7 +173,12 @@ step_at SetTrailer x s (Some group) (Some set) t other =
 step_at Notice x s None set t other =
     let B : Summary = t.in_body in
     let n : s.notices + 1 + B.notices ≡ s.notices + (B.notices + 1) = omega arith in
-    ap (λ (k : ℕ). (let r : Summary = record { groups = s.groups ++ B.groups; notices = k; misplaced = s.misplaced || B.misplaced; trailer = B.trailer } in r)) n
+    ap (λ (k : ℕ). (let r : Summary = record {
+      groups = s.groups ++ B.groups;
+      notices = k;
+      misplaced = s.misplaced || B.misplaced;
+      trailer = B.trailer;
+    } in r)) n
 step_at Notice x s (Some group) None t other = misplaced_in_group s group t (onto Notice x t) refl
 step_at Notice x s (Some group) (Some set) t other = longer_set s group set x t (onto Notice x t) refl
 step_at Other x s None set t other = misplaced_in_body s set t (onto Other x t) refl
@@ -158,9 +194,11 @@ abbrev pub last_tails : Option SegValue → Tails
 last_tails None = no_segments
 last_tails (Some x) = onto InterchangeTrailer x no_segments
 
-finish_at : (trailer : Option SegValue) (s : State) (group set : Option SegValue) → finished trailer (end_all (open_at s group set)) ≡ resume (open_at s group set) (last_tails trailer)
+finish_at : (trailer : Option SegValue) (s : State) (group set : Option SegValue)
+    → finished trailer (end_all (open_at s group set)) ≡ resume (open_at s group set) (last_tails trailer)
 finish_at trailer s group set =
-    to_end trailer (end_all (open_at s group set)) ∙ sym (all_closed s group set (last_tails trailer)) ∙ ended_all_at s group set (last_tails trailer) (closes trailer) (ends trailer)
+    to_end trailer (end_all (open_at s group set)) ∙ sym (all_closed s group set (last_tails trailer))
+    ∙ ended_all_at s group set (last_tails trailer) (closes trailer) (ends trailer)
   where
     closes : (trailer : Option SegValue) → (last_tails trailer).in_set ≡ cut_off (last_tails trailer).in_group
     closes None = refl
@@ -176,13 +214,43 @@ finish_at trailer s group set =
 
     to_end : (trailer : Option SegValue) (s : State) → finished trailer s ≡ put s (last_tails trailer).in_body
     to_end None s = let n : s.notices ≡ s.notices + 0 = omega arith in
-        ap (λ (gs : List GroupEntry). (let r : Summary = record { groups = gs; notices = s.notices; misplaced = s.misplaced; trailer = None } in r)) (sym (append_nil s.groups))
-        ∙ ap (λ (k : ℕ). (let r : Summary = record { groups = s.groups ++ []; notices = k; misplaced = s.misplaced; trailer = None } in r)) n
-        ∙ ap (λ (m : Bool). (let r : Summary = record { groups = s.groups ++ []; notices = s.notices + 0; misplaced = m; trailer = None } in r)) (sym (or_false s.misplaced))
+        ap (λ (gs : List GroupEntry). (let r : Summary = record {
+          groups = gs;
+          notices = s.notices;
+          misplaced = s.misplaced;
+          trailer = None;
+        } in r)) (sym (append_nil s.groups))
+        ∙ ap (λ (k : ℕ). (let r : Summary = record {
+          groups = s.groups ++ [];
+          notices = k;
+          misplaced = s.misplaced;
+          trailer = None;
+        } in r)) n
+        ∙ ap (λ (m : Bool). (let r : Summary = record {
+          groups = s.groups ++ [];
+          notices = s.notices + 0;
+          misplaced = m;
+          trailer = None;
+        } in r)) (sym (or_false s.misplaced))
     to_end (Some x) s = let n : s.notices ≡ s.notices + 0 = omega arith in
-        ap (λ (gs : List GroupEntry). (let r : Summary = record { groups = gs; notices = s.notices; misplaced = s.misplaced; trailer = Some x } in r)) (sym (append_nil s.groups))
-        ∙ ap (λ (k : ℕ). (let r : Summary = record { groups = s.groups ++ []; notices = k; misplaced = s.misplaced; trailer = Some x } in r)) n
-        ∙ ap (λ (m : Bool). (let r : Summary = record { groups = s.groups ++ []; notices = s.notices + 0; misplaced = m; trailer = Some x } in r)) (sym (or_false s.misplaced))
+        ap (λ (gs : List GroupEntry). (let r : Summary = record {
+          groups = gs;
+          notices = s.notices;
+          misplaced = s.misplaced;
+          trailer = Some x;
+        } in r)) (sym (append_nil s.groups))
+        ∙ ap (λ (k : ℕ). (let r : Summary = record {
+          groups = s.groups ++ [];
+          notices = k;
+          misplaced = s.misplaced;
+          trailer = Some x;
+        } in r)) n
+        ∙ ap (λ (m : Bool). (let r : Summary = record {
+          groups = s.groups ++ [];
+          notices = s.notices + 0;
+          misplaced = m;
+          trailer = Some x;
+        } in r)) (sym (or_false s.misplaced))
 
 -- at the end all that is open ends
 pub finish : (trailer : Option SegValue) (s : State) → finished trailer (end_all s) ≡ resume s (last_tails trailer)

@@ -1,9 +1,11 @@
--- The summary of a list of segments, from the right: what each segment adds in front, whichever of a set, a group or the interchange is open there.
+-- The summary of a list of segments, from the right: what each segment adds in front, whichever of a set, a group or the interchange is
+-- open there.
 use Rattle.std.proofs.Common.{ℕ, ◌+◌, List, [], ◌∷◌, Bool, true, false, ◌||◌, Option, Some, None}
 use Rattle.x12_segs.specs.View.{SegValue}
 use Rattle.x12_segs.specs.Kinds.{kind_of}
 use Rattle.x12_segs.specs.declared.kind.Kind.{Kind}
-use Rattle.x12_segs.specs.declared.kind.Kind.TheVariants.{InterchangeTrailer, GroupHeader, GroupTrailer, SetHeader, SetTrailer, Notice, Other}
+use Rattle.x12_segs.specs.declared.kind.Kind.TheVariants.{InterchangeTrailer, GroupHeader, GroupTrailer, SetHeader, SetTrailer, Notice}
+use Rattle.x12_segs.specs.declared.kind.Kind.TheVariants.{Other}
 use Rattle.env_index.specs.declared.entry.SetEnvelope.{SetEnvelope}
 use Rattle.env_index.specs.Extents.{behind}
 use Rattle.env_index.specs.Summary.{Summary}

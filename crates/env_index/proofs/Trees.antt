@@ -4,9 +4,12 @@ use Rattle.std.specs.List.{flat_map, list_all}
 use Rattle.x12_segs.specs.View.{SegValue}
 use Rattle.x12_segs.specs.Kinds.{kind_of, is_inner}
 use Rattle.env_index.specs.Extents.{ends_interchange}
-use Rattle.env_index.specs.Envelope.{Set, InGroup, ASet, OutOfGroup, Group, ANotice, AGroup, OutOfBody, Body, option_items, set_items, in_group_items, group_items, in_body_items, body_items, ends_set, ends_group, is_out_of_group, is_out_of_body, MayFollow, Closed, IsSet, AreMembers, IsGroup, IsBody, Derives}
+use Rattle.env_index.specs.Envelope.{Set, InGroup, ASet, OutOfGroup, Group, ANotice, AGroup, OutOfBody, Body, option_items, set_items}
+use Rattle.env_index.specs.Envelope.{in_group_items, group_items, in_body_items, body_items, ends_set, ends_group, is_out_of_group}
+use Rattle.env_index.specs.Envelope.{is_out_of_body, MayFollow, Closed, IsSet, AreMembers, IsGroup, IsBody, Derives}
 use Rattle.x12_segs.specs.declared.kind.Kind.{Kind}
-use Rattle.x12_segs.specs.declared.kind.Kind.TheVariants.{InterchangeTrailer, GroupHeader, GroupTrailer, SetHeader, SetTrailer, Notice, Other}
+use Rattle.x12_segs.specs.declared.kind.Kind.TheVariants.{InterchangeTrailer, GroupHeader, GroupTrailer, SetHeader, SetTrailer, Notice}
+use Rattle.x12_segs.specs.declared.kind.Kind.TheVariants.{Other}
 
 -- an IEA is the last
 abbrev pub OnlyLast : List SegValue → Type 0
@@ -89,7 +92,14 @@ group_first x xs is g =
           ∙ ap (λ (ys : List SegValue). group_items group ++ ys) g.rest.items
           ∙ ap (λ (ys : List SegValue). x ∷ ys) (append_assoc inside (option_items g.trailer) g.behind ∙ g.items);
       is = record {
-        members = (subst (IsGroup group) (sym g.rest.items) (record { header = is; members = g.are; trailer = g.closed }), g.rest.is.members);
+        members = (
+          subst (IsGroup group) (sym g.rest.items) (record {
+            header = is;
+            members = g.are;
+            trailer = g.closed;
+          }),
+          g.rest.is.members,
+        );
         trailer = g.rest.is.trailer;
       };
     }
@@ -140,7 +150,8 @@ inner_first x xs inner s = record {
   rest = s.rest;
 }
 
-one_more : (k : Kind) (x : SegValue) (xs : List SegValue) → kind_of x ≡ k → (ends_interchange (kind_of x) ≡ true → xs ≡ []) → Trees xs → Trees (x ∷ xs)
+one_more : (k : Kind) (x : SegValue) (xs : List SegValue) → kind_of x ≡ k → (ends_interchange (kind_of x) ≡ true → xs ≡ []) → Trees xs
+    → Trees (x ∷ xs)
 one_more InterchangeTrailer x xs is last t =
     let b : InBodyOf (x ∷ xs) = trailer_alone x xs is (last (ap ends_interchange is)) in
     let g : InGroupOf (x ∷ xs) = group_open (x ∷ xs) (ap ends_group is) b in
@@ -151,10 +162,18 @@ one_more GroupHeader x xs is last t =
     record { in_set = set_open (x ∷ xs) (ap ends_set is) g; in_group = g; in_body = b }
 one_more GroupTrailer x xs is last t =
     let g : InGroupOf (x ∷ xs) = group_trailer_first x xs is t.in_body in
-    record { in_set = set_open (x ∷ xs) (ap ends_set is) g; in_group = g; in_body = out_of_body_first x xs (ap is_out_of_body is) t.in_body }
+    record {
+      in_set = set_open (x ∷ xs) (ap ends_set is) g;
+      in_group = g;
+      in_body = out_of_body_first x xs (ap is_out_of_body is) t.in_body;
+    }
 one_more SetHeader x xs is last t =
     let g : InGroupOf (x ∷ xs) = set_first x xs is t.in_set in
-    record { in_set = set_open (x ∷ xs) (ap ends_set is) g; in_group = g; in_body = out_of_body_first x xs (ap is_out_of_body is) t.in_body }
+    record {
+      in_set = set_open (x ∷ xs) (ap ends_set is) g;
+      in_group = g;
+      in_body = out_of_body_first x xs (ap is_out_of_body is) t.in_body;
+    }
 one_more SetTrailer x xs is last t = record {
   in_set = set_trailer_first x xs is t.in_group;
   in_group = out_of_group_first x xs (ap is_out_of_group is) t.in_group;

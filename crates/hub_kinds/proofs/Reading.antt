@@ -1,5 +1,6 @@
 -- A code, read from its text: the first of a list that has the text.
-use Rattle.std.proofs.Common.{ℕ, ◌≡◌, ◌↔◌, ◌+◌, ◌<◌, length, get_or, zero, suc, Bool, true, false, cond, List, [], ◌∷◌, drop, slice_get, find, bytes_eq, Option, Some, refl, sym, ap, ◌∙◌, arith}
+use Rattle.std.proofs.Common.{ℕ, ◌≡◌, ◌↔◌, ◌+◌, ◌<◌, length, get_or, zero, suc, Bool, true, false, cond, List, [], ◌∷◌, drop, slice_get}
+use Rattle.std.proofs.Common.{find, bytes_eq, Option, Some, refl, sym, ap, ◌∙◌, arith}
 use Rattle.std.specs.Prelude.{unwrap_or}
 use Rattle.std.proofs.lemmas.Option.{none-some, slice_get-get_or}
 use Rattle.std.proofs.lemmas.Slice.Eq.{bytes_eq-Decides}
@@ -8,7 +9,8 @@ same_some : {A : Type 0} (a b : A) → Some a ≡ Some b → a ≡ b
 same_some a b h = ap (λ o. unwrap_or o a) h
 
 module _ {C : Type 0} (text : C → List ℕ) where
-  found-by : (bytes : List ℕ) (c : C) (rest : Option C) (code : C) (b : Bool) → bytes_eq (text c) bytes ≡ b → cond b (Some c) rest ≡ Some code
+  found-by : (bytes : List ℕ) (c : C) (rest : Option C) (code : C) (b : Bool) → bytes_eq (text c) bytes ≡ b
+      → cond b (Some c) rest ≡ Some code
       → (rest ≡ Some code → bytes ≡ text code) → bytes ≡ text code
   found-by bytes c rest code true is found later = sym ((bytes_eq-Decides (text c) bytes).0 is) ∙ ap text (same_some c code found)
   found-by bytes c rest code false is found later = later found

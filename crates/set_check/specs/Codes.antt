@@ -1,9 +1,11 @@
--- 999 guide, implementation transaction set syntax error code (IK502): the codes that need no guide; which code stands for which fault is own.
+-- 999 guide, implementation transaction set syntax error code (IK502): the codes that need no guide; which code stands for which fault
+-- is own.
 use Rattle.std.specs.Prelude.{ℕ, ◌==◌, Bool, true, false, not, nat_lt, List, [], ◌∷◌, ◌++◌, Option, Some, None, length, take}
 use Rattle.std.specs.Str.{bytes_eq}
 use Rattle.hub_kinds.specs.Numbers.{number_of}
 use Rattle.hub_kinds.specs.declared.set_codes.SetCode.{SetCode}
-use Rattle.hub_kinds.specs.declared.set_codes.SetCode.TheVariants.{TrailerMissing, ControlNumbersDiffer, SegmentCountWrong, ControlNumberInvalid, ControlNumberNotUnique}
+use Rattle.hub_kinds.specs.declared.set_codes.SetCode.TheVariants.{TrailerMissing, ControlNumbersDiffer, SegmentCountWrong}
+use Rattle.hub_kinds.specs.declared.set_codes.SetCode.TheVariants.{ControlNumberInvalid, ControlNumberNotUnique}
 use Rattle.x12_segs.specs.View.{SegValue, element_of}
 
 -- the transaction set control number: ST02 of the header
@@ -39,7 +41,8 @@ abbrev pub code_if : Bool → SetCode → List SetCode
 code_if true code = code ∷ []
 code_if false code = []
 
--- the codes of a set by its ST, its number of segments, its SE if it has one, and whether an earlier set of its group has its ST02: in this order, the first five
+-- the codes of a set by its ST, its number of segments, its SE if it has one, and whether an earlier set of its group has its ST02: in
+-- this order, the first five
 abbrev pub codes_of : SegValue → ℕ → Option SegValue → Bool → List SetCode
 codes_of header segments trailer earlier =
     take 5 (code_if (lacks_trailer trailer) TrailerMissing

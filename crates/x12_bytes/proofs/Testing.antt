@@ -1,13 +1,16 @@
 -- The test of a header tells exactly where there is one.
-use Rattle.std.proofs.Common.{◌≡◌, ◌≢◌, ℕ, ◌+◌, ◌-◌, ◌≤◌, Bool, not, ◌&&◌, nat_eq, leb, List, length, take, All, IsTrue, inl, inr, refl, subst, arith}
+use Rattle.std.proofs.Common.{◌≡◌, ◌≢◌, ℕ, ◌+◌, ◌-◌, ◌≤◌, Bool, not, ◌&&◌, nat_eq, leb, List, length, take, All, IsTrue, inl, inr, refl}
+use Rattle.std.proofs.Common.{subst, arith}
 use Rattle.std.specs.Prelude.{slice_index, codes}
 use Rattle.std.specs.Bool.{Decides}
 use Rattle.std.specs.Str.{bytes_eq}
 use Rattle.std.specs.List.{list_all}
 use Rattle.std.specs.Cmp.Lexicographic.{bytes_decides}
-use Rattle.std.proofs.lemmas.Bool.Decides.{Decides-eqb, Decides-not, Decides-and, Decides-like, Decides-by_and, Decides-below_and, leb_tells}
+use Rattle.std.proofs.lemmas.Bool.Decides.{Decides-eqb, Decides-not, Decides-and, Decides-like, Decides-by_and, Decides-below_and}
+use Rattle.std.proofs.lemmas.Bool.Decides.{leb_tells}
 use Rattle.x12_bytes.specs.Bytes.{may_terminate, may_separate}
-use Rattle.x12_bytes.specs.Header.{element_of, component_of, terminator_of, field_of, separator_place, header_at, IsFieldByte, IsFieldAt, HasFields, IsHeader, Head}
+use Rattle.x12_bytes.specs.Header.{element_of, component_of, terminator_of, field_of, separator_place, header_at, IsFieldByte, IsFieldAt}
+use Rattle.x12_bytes.specs.Header.{HasFields, IsHeader, Head}
 use Rattle.x12_bytes.specs.HeaderTest.{is_field_byte, is_field_at, has_fields, has_delims, is_header, is_head}
 
 decides_field_byte : (h : List ℕ) (b : ℕ) → Decides (is_field_byte h b) (IsFieldByte h b)
@@ -17,7 +20,8 @@ decides_field_byte h b =
     (Decides-not (nat_eq b (terminator_of h)) (Decides-eqb b (terminator_of h)))
 
 decides_field_bytes : (h bytes : List ℕ) → Decides (list_all (is_field_byte h) bytes) (All (IsFieldByte h) bytes)
-decides_field_bytes h bytes = Decides-by_and (is_field_byte h) (IsFieldByte h) (list_all (is_field_byte h)) (decides_field_byte h) refl (λ _ _. refl) bytes
+decides_field_bytes h bytes = Decides-by_and (is_field_byte h) (IsFieldByte h) (list_all (is_field_byte h)) (decides_field_byte h) refl
+    (λ _ _. refl) bytes
 
 decides_field_at : (h : List ℕ) (k : ℕ) → Decides (is_field_at h k) (IsFieldAt h k)
 decides_field_at h k =
@@ -61,11 +65,23 @@ decides_delims h =
     let ends : Bool = may_separate c && may_terminate t in
     let allowed : Bool = may_separate e && ends in
     Decides-like (has_delims h)
-    (λ p. record { element_not_component = p.0.0; element_not_terminator = p.0.1.0; component_not_terminator = p.0.1.1; element_allowed = p.1.0; component_allowed = p.1.1.0; terminator_allowed = p.1.1.1 })
-    (λ d. ((d.element_not_component, (d.element_not_terminator, d.component_not_terminator)), (d.element_allowed, (d.component_allowed, d.terminator_allowed))))
+    (λ p. record {
+      element_not_component = p.0.0;
+      element_not_terminator = p.0.1.0;
+      component_not_terminator = p.0.1.1;
+      element_allowed = p.1.0;
+      component_allowed = p.1.1.0;
+      terminator_allowed = p.1.1.1;
+    })
+    (λ d. (
+      (d.element_not_component, (d.element_not_terminator, d.component_not_terminator)),
+      (d.element_allowed, (d.component_allowed, d.terminator_allowed)),
+    ))
     (Decides-and three allowed
-    (Decides-and (not (nat_eq e c)) two (decides_differ e c) (Decides-and (not (nat_eq e t)) (not (nat_eq c t)) (decides_differ e t) (decides_differ c t)))
-    (Decides-and (may_separate e) ends (decides_test (may_separate e)) (Decides-and (may_separate c) (may_terminate t) (decides_test (may_separate c)) (decides_test (may_terminate t)))))
+    (Decides-and (not (nat_eq e c)) two (decides_differ e c)
+    (Decides-and (not (nat_eq e t)) (not (nat_eq c t)) (decides_differ e t) (decides_differ c t)))
+    (Decides-and (may_separate e) ends (decides_test (may_separate e))
+    (Decides-and (may_separate c) (may_terminate t) (decides_test (may_separate c)) (decides_test (may_terminate t)))))
 
 pub decides_header : (h : List ℕ) → Decides (is_header h) (IsHeader h)
 unfolding is_header
@@ -84,13 +100,31 @@ decides_header h =
       terminator_allowed = p.1.1.0.terminator_allowed;
       fields = p.1.1.1;
     })
-    (λ i. (i.len, (i.isa, (record { element_not_component = i.element_not_component; element_not_terminator = i.element_not_terminator; component_not_terminator = i.component_not_terminator; element_allowed = i.element_allowed; component_allowed = i.component_allowed; terminator_allowed = i.terminator_allowed }, i.fields))))
+    (λ i. (
+      i.len,
+      (
+        i.isa,
+        (
+          record {
+            element_not_component = i.element_not_component;
+            element_not_terminator = i.element_not_terminator;
+            component_not_terminator = i.component_not_terminator;
+            element_allowed = i.element_allowed;
+            component_allowed = i.component_allowed;
+            terminator_allowed = i.terminator_allowed;
+          },
+          i.fields,
+        ),
+      ),
+    ))
     (Decides-and (nat_eq (length h) 106) text (Decides-eqb (length h) 106)
     (Decides-and (bytes_eq (take 3 h) (codes "ISA")) rest (bytes_decides (take 3 h) (codes "ISA"))
     (Decides-and (has_delims h) (has_fields h 16) (decides_delims h) (decides_fields h))))
 
 pub decides_head : (text : List ℕ) (at : ℕ) → Decides (is_head text at) (Head text at)
-decides_head text at = Decides-and (leb (at + 106) (length text)) (is_header (header_at text at)) (Decides-leb (at + 106) (length text)) (decides_header (header_at text at))
+decides_head text at = Decides-and (leb (at + 106) (length text)) (is_header (header_at text at)) (Decides-leb (at + 106) (length text))
+    (decides_header (header_at text at))
   where
     Decides-leb : (a b : ℕ) → Decides (leb a b) (a ≤ b)
-    Decides-leb a b = elim (leb_tells a b) [ inl w ↦ (λ _. w.1, λ _. w.0) | inr w ↦ (λ yes. absurd (grind (arith, w.0, yes)), λ le. absurd (omega (arith, w.1, le))) ]
+    Decides-leb a b = elim (leb_tells a b)
+        [ inl w ↦ (λ _. w.1, λ _. w.0) | inr w ↦ (λ yes. absurd (grind (arith, w.0, yes)), λ le. absurd (omega (arith, w.1, le))) ]

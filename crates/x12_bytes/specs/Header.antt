@@ -1,5 +1,6 @@
 -- X12.5, interchange control header (ISA): 106 bytes; which bytes its delimiters and fields may hold is own.
-use Rattle.std.specs.Prelude.{ℕ, ◌≡◌, ◌≢◌, ◌+◌, ◌-◌, ◌≤◌, ◌==◌, not, ◌&&◌, ◌||◌, if◌then◌else◌, Option, Some, None, List, [], ◌∷◌, length, take, slice_index, slice_range, codes, All, IsTrue}
+use Rattle.std.specs.Prelude.{ℕ, ◌≡◌, ◌≢◌, ◌+◌, ◌-◌, ◌≤◌, ◌==◌, not, ◌&&◌, ◌||◌, if◌then◌else◌, Option, Some, None, List, [], ◌∷◌, length}
+use Rattle.std.specs.Prelude.{take, slice_index, slice_range, codes, All, IsTrue}
 use Rattle.x12_bytes.specs.Bytes.{may_terminate, may_separate}
 use Rattle.x12_bytes.specs.declared.delims.Delims.{Delims}
 use Rattle.x12_bytes.specs.declared.layout.TheConstants.{HEADER_LEN}
@@ -40,7 +41,8 @@ terminator_of header = slice_index header 105
 abbrev pub repetition_of : List ℕ → Option ℕ
 repetition_of header =
     let byte = slice_index header 82 in
-    if may_separate byte && not (byte == element_of header || byte == component_of header || byte == terminator_of header) then Some byte else None
+    if may_separate byte && not
+    (byte == element_of header || byte == component_of header || byte == terminator_of header) then Some byte else None
 
 abbrev pub delims_of : List ℕ → Delims
 delims_of header = record {

@@ -1,5 +1,6 @@
 -- A search for a separator, and the parts round it.
-use Rattle.std.proofs.Common.{ℕ, ◌≡◌, ◌≤◌, ◌<◌, ◌+◌, Bool, List, [], ◌∷◌, Option, Some, None, MatchOption, option_map, unwrap_or, Bor, true, false, cond, zero, suc, length, take, drop, get_or, ap, ◌∙◌, subst, arith, nat_eq}
+use Rattle.std.proofs.Common.{ℕ, ◌≡◌, ◌≤◌, ◌<◌, ◌+◌, Bool, List, [], ◌∷◌, Option, Some, None, MatchOption, option_map, unwrap_or, Bor}
+use Rattle.std.proofs.Common.{true, false, cond, zero, suc, length, take, drop, get_or, ap, ◌∙◌, subst, arith, nat_eq}
 use Rattle.std.specs.List.{slice_split, slice_get, onto_first, position_or_len}
 use Rattle.std.proofs.lemmas.Bool.{false_from_ne_true}
 use Rattle.std.proofs.lemmas.List.Sums.{position_or_len_is, fails_before_first, count_by-le-length}
@@ -9,7 +10,8 @@ use Rattle.memchr.specs.Find.{IsFirstByte, is_byte}
 use Rattle.x12_segs.specs.Parts.{parts, parts_by}
 
 -- the first separator ends the first part
-pub parts-found : (t : ℕ) (text : List ℕ) (k : ℕ) → IsFirstByte (is_byte t) text (Some k) → parts t text ≡ take k text ∷ parts t (drop (k + 1) text)
+pub parts-found : (t : ℕ) (text : List ℕ) (k : ℕ) → IsFirstByte (is_byte t) text (Some k)
+    → parts t text ≡ take k text ∷ parts t (drop (k + 1) text)
 parts-found t text k h =
     let p : ℕ → Bool = λ b. nat_eq b t in
     let below : k < length text = h.0.high in
@@ -32,7 +34,8 @@ parts-none t text h =
 
 -- the same in one: where the first part ends, if a separator stands behind it
 pub parts_by-first : (separator : Option ℕ) (s : ℕ) (text : List ℕ) (r : Option ℕ) → separator ≡ Some s → IsFirstByte (is_byte s) text r
-    → MatchOption r (parts_by separator text ≡ text ∷ []) (λ end. (end < length text) × (parts_by separator text ≡ take end text ∷ parts_by separator (drop (end + 1) text)))
+    → MatchOption r (parts_by separator text
+    ≡ text ∷ []) (λ end. (end < length text) × (parts_by separator text ≡ take end text ∷ parts_by separator (drop (end + 1) text)))
 parts_by-first separator s text None is h = rw is (parts-none s text h)
 parts_by-first separator s text (Some end) is h = rw is (h.0.high, parts-found s text end h)
 
@@ -44,7 +47,8 @@ length-parts_by (Some s) text =
     omega (arith, length-slice_split p text, count_by-le-length p text)
 
 -- a lent part, or the empty text
-pub now_or_empty : (r : Option (Bor (List ℕ))) (d : Bor (List ℕ)) (list : List (List ℕ)) (n : ℕ) → d.now ≡ [] → option_map (λ x. x.now) r ≡ slice_get list n → (unwrap_or r d).now ≡ get_or list n []
+pub now_or_empty : (r : Option (Bor (List ℕ))) (d : Bor (List ℕ)) (list : List (List ℕ)) (n : ℕ) → d.now ≡ []
+    → option_map (λ x. x.now) r ≡ slice_get list n → (unwrap_or r d).now ≡ get_or list n []
 now_or_empty None d list n empty h =
     let e = ap (λ o. unwrap_or o []) h in
     empty ∙ e ∙ unwrap_or-slice_get list n []
@@ -53,13 +57,15 @@ now_or_empty (Some x) d list n empty h =
     e ∙ unwrap_or-slice_get list n []
 
 -- no part is longer than the whole
-part_fits-cons : (x : ℕ) (xs : List ℕ) (list : List (List ℕ)) → ((n : ℕ) → length (get_or list n []) ≤ length xs) → (n : ℕ) → length (get_or (onto_first x list) n []) ≤ length (x ∷ xs)
+part_fits-cons : (x : ℕ) (xs : List ℕ) (list : List (List ℕ)) → ((n : ℕ) → length (get_or list n []) ≤ length xs) → (n : ℕ)
+    → length (get_or (onto_first x list) n []) ≤ length (x ∷ xs)
 part_fits-cons x xs [] fits zero = omega arith
 part_fits-cons x xs [] fits (suc n) = omega arith
 part_fits-cons x xs (part ∷ list) fits zero = omega (arith, fits 0)
 part_fits-cons x xs (part ∷ list) fits (suc n) = omega (arith, fits (suc n))
 
-part_fits-first : (x : ℕ) (xs : List ℕ) (list : List (List ℕ)) → ((n : ℕ) → length (get_or list n []) ≤ length xs) → (n : ℕ) → length (get_or ([] ∷ list) n []) ≤ length (x ∷ xs)
+part_fits-first : (x : ℕ) (xs : List ℕ) (list : List (List ℕ)) → ((n : ℕ) → length (get_or list n []) ≤ length xs) → (n : ℕ)
+    → length (get_or ([] ∷ list) n []) ≤ length (x ∷ xs)
 part_fits-first x xs list fits zero = omega arith
 part_fits-first x xs list fits (suc n) = omega (arith, fits n)
 

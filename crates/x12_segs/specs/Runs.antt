@@ -26,4 +26,5 @@ pub record StandsAlone (text : List ℕ) (terminator : ℕ) (run : List Seg) : T
 -- each run of one or more of the segments behind an offset stands alone
 abbrev pub RunsStandAlone : List ℕ → ℕ → ℕ → Type 0
 RunsStandAlone text terminator from =
-    (before run behind : List Seg) → segs_from text terminator from ≡ before ++ (run ++ behind) → 0 < length run → StandsAlone text terminator run
+    (before run behind : List Seg) → segs_from text terminator from ≡ before ++ (run ++ behind) → 0 < length run
+    → StandsAlone text terminator run

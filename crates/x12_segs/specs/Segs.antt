@@ -1,4 +1,5 @@
--- X12.6, segment and segment terminator: the segments of a text, and the rest behind them; that CR and LF in front of a segment are passed over is own.
+-- X12.6, segment and segment terminator: the segments of a text, and the rest behind them; that CR and LF in front of a segment are
+-- passed over is own.
 use Rattle.std.specs.Prelude.{ℕ, ◌+◌, ◌==◌, List, [], ◌∷◌, ◌++◌, length, drop, take, slice_range, if◌then◌else◌}
 use Rattle.std.specs.List.{prefix_len}
 use Rattle.x12_bytes.specs.Bytes.{is_line_end}

@@ -18,7 +18,9 @@ returns-clause-text c =
     let none : List (List ℕ) = codes "00" ∷ blank ∷ [] in
     on_ok_weaker c.append_party-2.result
     (λ last.
-    appended (λ element. c.args.separator ∷ element) c.args.out.now.items c.append_no_information.new.out.items c.append_no_information-2.new.out.items c.append_party.new.out.items c.append_party-2.new.out.items
-    none none (c.args.sender_qualifier.now ∷ padded_text 15 c.args.sender_id.now ∷ []) (c.args.receiver_qualifier.now ∷ padded_text 15 c.args.receiver_id.now ∷ [])
+    appended (λ element. c.args.separator ∷ element) c.args.out.now.items c.append_no_information.new.out.items
+    c.append_no_information-2.new.out.items c.append_party.new.out.items c.append_party-2.new.out.items
+    none none (c.args.sender_qualifier.now ∷ padded_text 15 c.args.sender_id.now ∷ [])
+    (c.args.receiver_qualifier.now ∷ padded_text 15 c.args.receiver_id.now ∷ [])
     c.in_ok-append_no_information.ensures.text c.in_ok-append_no_information-2.ensures.text c.in_ok-append_party.ensures.text last)
     c.append_party-2.ensures.text

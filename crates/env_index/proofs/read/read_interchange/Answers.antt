@@ -8,6 +8,7 @@ use Rattle.env_index.proofs.read.read_interchange.Goals as goal
 
 pub returns-clause-tree : goal.returns-clause-tree
 returns-clause-tree c =
-    let only : (tree : Body) → Derives (reach_at c.args.text.now c.args.start).segs tree → c.new.result ≡ interchange_of c.args.text.now c.args.start tree = search rules in
+    let only : (tree : Body) → Derives (reach_at c.args.text.now c.args.start).segs tree
+    → c.new.result ≡ interchange_of c.args.text.now c.args.start tree = search rules in
     let tree = a_tree (reach_at c.args.text.now c.args.start).segs (only_last c.args.text.now _ _) in
     (tree.0, tree.1, only tree.0 tree.1)

@@ -10,14 +10,17 @@ use Rattle.env_index.proofs.walk.read_body.Goals as goal
 
 pub returns-in-Rest-clause-only : goal.returns-in-Rest-clause-only
 returns-in-Rest-clause-only c =
-    told_ok c.args.text.now c.args.delims c.finish.result _ _ (λ text delims. state_of text delims c.loop-start.builder) (λ text delims. None) c.loop-start.invariant.whole
+    told_ok c.args.text.now c.args.delims c.finish.result _ _ (λ text delims. state_of text delims c.loop-start.builder)
+    (λ text delims. None) c.loop-start.invariant.whole
     (none_at_rest c.args.text.now c.args.delims c.loop-start.at c.in-Rest.start c.in-Rest.ensures.next) c.finish.ensures.body
 
 pub returns-then-begins_at_header-clause-only : goal.returns-then-begins_at_header-clause-only
 returns-then-begins_at_header-clause-only c =
     let head : is_head c.args.text.now c.in-Segment.start ≡ true = sym c.begins_at_header.ensures ∙ c.if-begins_at_header.true in
-    told_ok c.args.text.now c.args.delims c.finish-then-begins_at_header.result _ _ (λ text delims. state_of text delims c.loop-start.builder) (λ text delims. None) c.loop-start.invariant.whole
-    (none_at_head c.args.text.now c.args.delims c.loop-start.at c.in-Segment.start c.in-Segment.end c.in-Segment.ensures.next head) c.finish-then-begins_at_header.ensures.body
+    told_ok c.args.text.now c.args.delims c.finish-then-begins_at_header.result _ _
+    (λ text delims. state_of text delims c.loop-start.builder) (λ text delims. None) c.loop-start.invariant.whole
+    (none_at_head c.args.text.now c.args.delims c.loop-start.at c.in-Segment.start c.in-Segment.end c.in-Segment.ensures.next head)
+    c.finish-then-begins_at_header.ensures.body
 
 pub returns-in-InterchangeTrailer-clause-only : goal.returns-in-InterchangeTrailer-clause-only
 returns-in-InterchangeTrailer-clause-only c =
@@ -25,11 +28,13 @@ returns-in-InterchangeTrailer-clause-only c =
     let start : ℕ = c.in-Segment.start in
     let end : ℕ = c.in-Segment.end in
     let head : is_head text start ≡ false = sym c.begins_at_header.ensures ∙ c.if-begins_at_header.false in
-    let is : kind_of (segment_at text c.args.delims start end) ≡ InterchangeTrailer = ap kind_of (sym c.new-segment.ensures) ∙ sym c.kind_of.ensures ∙ c.in-InterchangeTrailer.is in
+    let is : kind_of (segment_at text c.args.delims start end) ≡ InterchangeTrailer = ap kind_of (sym c.new-segment.ensures)
+    ∙ sym c.kind_of.ensures ∙ c.in-InterchangeTrailer.is in
     let lies = c.in-Segment.ensures.within in
     told_ok text c.args.delims c.finish-in-InterchangeTrailer.result _ _ (λ text delims. state_of text delims c.loop-start.builder)
     (λ text delims. Some (segment_at text delims start end)) c.loop-start.invariant.whole
-    (trailer_alone text c.args.delims c.loop-start.at start end c.in-Segment.ensures.next (omega (arith, lies.1)) (omega (arith, lies.2)) head is)
+    (trailer_alone text c.args.delims c.loop-start.at start end c.in-Segment.ensures.next (omega (arith, lies.1))
+    (omega (arith, lies.2)) head is)
     c.finish-in-InterchangeTrailer.ensures.body
 
 pub loop-start-preserved : goal.loop-start-preserved
@@ -46,6 +51,7 @@ loop-start-preserved c =
       within = omega (arith, lies.2);
       few = omega (arith, lies.0, lies.1, c.loop-start.invariant.few, c.in_ok-take-in_default.ensures.seen);
       end = end_on text c.args.delims c.loop-start.at start end k c.in-Segment.ensures.next head is other ∙ c.loop-start.invariant.end;
-      whole = one_more text c.args.delims c.loop-start.at start end (state_of text c.args.delims c.loop-start.builder) (state_of text c.args.delims c.take.new.self) k _
+      whole = one_more text c.args.delims c.loop-start.at start end (state_of text c.args.delims c.loop-start.builder)
+          (state_of text c.args.delims c.take.new.self) k _
           c.in-Segment.ensures.next head is other c.loop-start.invariant.whole (c.in_ok-take-in_default.ensures.state text c.args.delims);
     }

@@ -11,7 +11,8 @@ invariant-loop-start l = record {
   within : l.at ≤ length l.text;
   few : l.builder.seen + 106 ≤ l.at;
   end : (reach_from l.text l.delims l.at).end ≡ (reach_from l.text l.delims l.from).end;
-  whole : resume (state_of l.text l.delims l.builder) (tails (reach_from l.text l.delims l.at).segs) ≡ summed (reach_from l.text l.delims l.from).segs;
+  whole : resume (state_of l.text l.delims l.builder) (tails (reach_from l.text l.delims l.at).segs)
+      ≡ summed (reach_from l.text l.delims l.from).segs;
 }
 
 abbrev pub decreases-loop-start : goal.decreases-loop-start
