@@ -1,3 +1,4 @@
+pub mod Noting
 pub mod Trimming
 pub mod Padding
 pub mod Verdicts

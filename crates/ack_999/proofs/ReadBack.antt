@@ -1,6 +1,6 @@
 -- Written segments, read again.
-use Rattle.std.proofs.Common.{◌≡◌, ◌≢◌, ℕ, ◌+◌, ◌<◌, Bool, true, false, cond, List, [], ◌∷◌, ◌++◌, length, drop, map, refl, ap, ◌∙◌, arith}
-use Rattle.std.proofs.Common.{append_assoc, append-nil, length-append, eq-eqb}
+use Rattle.std.proofs.Common.{◌≡◌, ◌≢◌, ℕ, ◌+◌, ◌<◌, Bool, true, false, cond, List, [], ◌∷◌, ◌++◌, length, drop, map, refl, ap, ◌∙◌}
+use Rattle.std.proofs.Common.{arith, append_assoc, append-nil, length-append, eq-eqb}
 use Rattle.std.specs.Prelude.{All, ◌==◌, if◌then◌else◌}
 use Rattle.std.specs.List.{prefix_len}
 use Rattle.std.proofs.lemmas.List.{map-append}
@@ -29,14 +29,15 @@ Lacks c text = All (λ b. (b == c) ≡ false) text
 lacks-separator : (d : Delims) (text : List ℕ) → IsUndivided d text → Lacks d.element text
 lacks-separator d text undivided =
     let P : ℕ → Type 0 = λ b. (b ≢ d.element) × (b ≢ d.terminator) in
-    All-weaker P (λ b. (b == d.element) ≡ false)
-    (λ (b : ℕ) (other : P b). false_from_ne_true (b == d.element) (λ h. other.0 (eqb-true b d.element h))) text undivided
+    All-weaker P (λ b. (b == d.element)
+    ≡ false) (λ (b : ℕ) (other : P b). false_from_ne_true (b == d.element) (λ h. other.0 (eqb-true b d.element h))) text undivided
 
 lacks-terminator : (d : Delims) (text : List ℕ) → IsUndivided d text → Lacks d.terminator text
 lacks-terminator d text undivided =
     let P : ℕ → Type 0 = λ b. (b ≢ d.element) × (b ≢ d.terminator) in
-    All-weaker P (λ b. (b == d.terminator) ≡ false)
-    (λ (b : ℕ) (other : P b). false_from_ne_true (b == d.terminator) (λ h. other.1 (eqb-true b d.terminator h))) text undivided
+    All-weaker P (λ b. (b == d.terminator)
+    ≡ false) (λ (b : ℕ) (other : P b). false_from_ne_true (b == d.terminator)
+    (λ h. other.1 (eqb-true b d.terminator h))) text undivided
 
 -- elements that lack the separator, behind an id that does, are the parts
 parts-elements : (e : ℕ) (id : List ℕ) (elements : List (List ℕ)) → Lacks e id → All (Lacks e) elements
@@ -61,8 +62,8 @@ elements_text-lacks : (e t : ℕ) (elements : List (List ℕ)) → e ≢ t → A
 elements_text-lacks e t [] other all = All-nil (λ b. (b == t) ≡ false)
 elements_text-lacks e t (x ∷ xs) other all =
     All-cons (λ b. (b == t) ≡ false) e (x ++ elements_text e xs) (false_from_ne_true (e == t) (λ h. other (eqb-true e t h)))
-    (All-append (λ b. (b == t) ≡ false) x (elements_text e xs) (All-head (Lacks t) x xs all)
-    (elements_text-lacks e t xs other (All-tail (Lacks t) x xs all)))
+    (All-append (λ b. (b == t)
+    ≡ false) x (elements_text e xs) (All-head (Lacks t) x xs all) (elements_text-lacks e t xs other (All-tail (Lacks t) x xs all)))
 
 stays-zero : (b : Bool) (n m : ℕ) → cond b (1 + n) 0 ≡ 0 → cond b (1 + m) 0 ≡ 0
 stays-zero true n m h = absurd (omega (arith, h))
@@ -82,8 +83,8 @@ part_at-whole : (e place : ℕ) (body : List ℕ) → 0 < length body → prefix
     → map (λ seg. parts e seg.bytes) (part_at place body) ≡ parts e body ∷ []
 part_at-whole e place body some none =
     let lead : ℕ = prefix_len is_line_end body in
-    let not_all : (lead == length body) ≡ false =
-    false_from_ne_true (lead == length body) (λ h. let same = eqb-true lead (length body) h in omega arith) in
+    let not_all : (lead == length body)
+    ≡ false = false_from_ne_true (lead == length body) (λ h. let same = eqb-true lead (length body) h in omega arith) in
     chosen (λ (seg : Seg). parts e seg.bytes) (lead == length body) (record { start = place + lead; bytes = drop lead body }) not_all
     ∙ ap (λ (k : ℕ). parts e (drop k body) ∷ []) none
 
@@ -97,8 +98,7 @@ some-parts c text = omega (arith, length-slice_split (λ b. b == c) text)
 
 -- one written segment in front of other text is read first
 read-first : (d : Delims) (s : Segment) (place : ℕ) (text : List ℕ) → d.element ≢ d.terminator → IsReadable d s
-    → (next : ℕ)
-    × (map (λ seg. parts d.element seg.bytes) (segs_of place (parts d.terminator (segment_text d s.id s.elements ++ text)))
+    → (next : ℕ) × (map (λ seg. parts d.element seg.bytes) (segs_of place (parts d.terminator (segment_text d s.id s.elements ++ text)))
     ≡ written_parts s ∷ map (λ seg. parts d.element seg.bytes) (segs_of next (parts d.terminator text)))
 read-first d s place text other readable =
     let e : ℕ = d.element in
@@ -113,8 +113,8 @@ read-first d s place text other readable =
     let split : parts t (segment_text d s.id s.elements ++ text) ≡ body ∷ parts t text =
     ap (parts t) (append_assoc body (t ∷ []) text) ∙ slice_split_at (λ b. b == t) body t text lacks_t (eq-eqb t t refl) in
     let some : 0 < length body = omega (arith, readable.some, length-append s.id (elements_text e written)) in
-    let none : prefix_len is_line_end body ≡ 0 =
-    prefix_len-behind is_line_end s.id (elements_text e written) readable.some readable.first in
+    let none : prefix_len is_line_end body
+    ≡ 0 = prefix_len-behind is_line_end s.id (elements_text e written) readable.some readable.first in
     let f : Seg → List (List ℕ) = λ seg. parts e seg.bytes in
     let next : ℕ = place + length body + 1 in (
       next,

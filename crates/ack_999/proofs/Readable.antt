@@ -112,8 +112,8 @@ pub readable-999 : (d : Delims) (g : GroupAnswer) (sets : List SetAnswer) (n : â
 readable-999 d g sets n can quotable =
     let t : Totals = totals_of sets in
     let inner : List Segment = head_segments g n ++ set_loops d g sets ++ group_response g t âˆ· [] in
-    let loops =
-    readable-loops d sets (shows_sets g.codes) (readable-sets d sets can quotable.identifiers quotable.controls quotable.faults) in
+    let loops = readable-loops d sets (shows_sets g.codes)
+    (readable-sets d sets can quotable.identifiers quotable.controls quotable.faults) in
     let front =
     All-append (IsReadable d) (head_segments g n) (set_loops d g sets)
     (readable-head d g n can quotable.functional_id quotable.control quotable.version) loops in

@@ -10,7 +10,7 @@ pub trimmed-push_empty : (elements : List (List ℕ)) → trimmed (elements ++ [
 trimmed-push_empty [] = refl
 trimmed-push_empty (x ∷ xs) = ap (before_rest x) (trimmed-push_empty xs)
 
-before_rest-some : (x y : List ℕ) (ys : List (List ℕ)) → before_rest x (y ∷ ys) ≡ x ∷ y ∷ ys
+pub before_rest-some : (x y : List ℕ) (ys : List (List ℕ)) → before_rest x (y ∷ ys) ≡ x ∷ y ∷ ys
 before_rest-some [] y ys = refl
 before_rest-some (b ∷ bs) y ys = refl
 
@@ -35,8 +35,8 @@ trimmed-append_codes {C} text elements (code ∷ codes) some full =
     let last : List ℕ = text (get_or (code ∷ codes) k code) in
     let front : List (List ℕ) = elements ++ map text (take k (code ∷ codes)) in
     let whole : take (k + 1) (code ∷ codes) ≡ code ∷ codes = ap (λ (n : ℕ). take n (code ∷ codes)) long ∙ take-length (code ∷ codes) in
-    let split : map text (code ∷ codes) ≡ map text (take k (code ∷ codes)) ++ last ∷ [] =
-    ap (map text) (sym whole) ∙ map_more text (code ∷ codes) k code lt in
+    let split : map text (code ∷ codes) ≡ map text (take k (code ∷ codes)) ++ last ∷ [] = ap (map text) (sym whole)
+    ∙ map_more text (code ∷ codes) k code lt in
     let parts : elements ++ map text (code ∷ codes) ≡ front ++ last ∷ [] =
     ap (λ (s : List (List ℕ)). elements ++ s) split ∙ sym (append_assoc elements (map text (take k (code ∷ codes))) (last ∷ [])) in
     ap trimmed parts ∙ trimmed-push_full front last (full k code lt) ∙ sym parts
@@ -47,8 +47,8 @@ pub take-read-more : (elements : List (Bor (List ℕ))) (k : ℕ) (d : Bor (List
 take-read-more elements k d lt =
     let long : length (read elements) ≡ length elements = length-map elements (λ element. element.now) in
     let within : k < length (read elements) = omega arith in
-    take_more (read elements) k [] within ∙ ap (λ (x : List ℕ). take k (read elements) ++ x ∷ [])
-    (get_or-map (λ element. element.now) elements k d [] lt)
+    take_more (read elements) k [] within
+    ∙ ap (λ (x : List ℕ). take k (read elements) ++ x ∷ []) (get_or-map (λ element. element.now) elements k d [] lt)
 
 nothing : (x : List ℕ) → length x ≡ 0 → x ≡ []
 nothing [] h = refl

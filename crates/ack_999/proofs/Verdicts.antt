@@ -46,14 +46,14 @@ count_by-either p q apart (v ∷ vs) =
     let rest = count_by-either p q apart vs in
     omega arith
 
-errors-apart : (v : Verdict) → cond (is_accepted_with_errors v || is_rejected v) 1 0
-    ≡ cond (is_accepted_with_errors v) 1 0 + cond (is_rejected v) 1 0
+errors-apart : (v : Verdict)
+    → cond (is_accepted_with_errors v || is_rejected v) 1 0 ≡ cond (is_accepted_with_errors v) 1 0 + cond (is_rejected v) 1 0
 errors-apart Accepted = refl
 errors-apart AcceptedWithErrors = refl
 errors-apart Rejected = refl
 
-accepted-apart : (v : Verdict) → cond (is_accepted v || is_accepted_with_errors v) 1 0
-    ≡ cond (is_accepted v) 1 0 + cond (is_accepted_with_errors v) 1 0
+accepted-apart : (v : Verdict)
+    → cond (is_accepted v || is_accepted_with_errors v) 1 0 ≡ cond (is_accepted v) 1 0 + cond (is_accepted_with_errors v) 1 0
 accepted-apart Accepted = refl
 accepted-apart AcceptedWithErrors = refl
 accepted-apart Rejected = refl

@@ -1,4 +1,5 @@
 pub mod Segment
+pub mod Extends
 pub mod Number
 pub mod Copy
 pub mod Faults

@@ -2,6 +2,7 @@ ghost use Rattle.std.specs.Prelude.{◌≡◌, ◌++◌, ◌*◌, ◌≤◌, OnO
 ghost use Rattle.ack_999.specs.Copy.{is_this};
 ghost use Rattle.ack_999.specs.Faults.{element_position, notes, notes_on, notes_text, fault_segments};
 ghost use Rattle.ack_999.specs.Segment.{segments_text};
+ghost use Rattle.ack_999.specs.Extends.{Extends};
 
 use crate::notes::{append_element_note, append_segment_note};
 use hub_kinds::{Fault, NoMemory};
@@ -9,7 +10,8 @@ use x12_bytes::Delims;
 
 /// Writes what is told of a set's faults behind what is there.
 pub fn append_faults(out: &mut Vec<u8>, delims: &Delims, faults: &[Fault]) -> Result<(), NoMemory>
-    ensures { OnOk result (out.new.items ≡ out.old.items ++ segments_text delims.now (fault_segments delims.now faults.now)) }
+    ensures text { OnOk result (out.new.items ≡ out.old.items ++ segments_text delims.now (fault_segments delims.now faults.now)) }
+    ensures kept { Extends out.old.items out.new.items }
 {
     let mut before = None;
     for fault in faults {
@@ -27,7 +29,8 @@ fn append_notes(
     before: Option<u64>,
     fault: &Fault,
 ) -> Result<(), NoMemory>
-    ensures { OnOk result (out.new.items ≡ out.old.items ++ notes_text delims.now (notes_on before fault.now)) }
+    ensures text { OnOk result (out.new.items ≡ out.old.items ++ notes_text delims.now (notes_on before fault.now)) }
+    ensures kept { Extends out.old.items out.new.items }
 {
     let Some(elem) = &fault.elem else {
         return append_segment_note(out, delims, fault);

@@ -5,6 +5,7 @@ ghost use Rattle.ack_999.specs.Segment.{elements_text, segment_text};
 ghost use Rattle.ack_999.specs.Number.{padded_text};
 ghost use Rattle.ack_999.specs.Interchange.{header_text, party_elements, control_elements, blank, group_header_text};
 ghost use Rattle.ack_999.specs.Interchange.{opening_text, closing_text, interchange_text};
+ghost use Rattle.ack_999.specs.Extends.{Extends};
 
 use crate::envelope::Envelope;
 use crate::number::{PaddedNumber, append_padded};
@@ -34,8 +35,9 @@ pub fn write_ack_interchange(
 }
 
 fn append_reports(out: &mut Vec<u8>, reports: &[Text]) -> Result<(), NoMemory>
-    ensures { OnOk result
+    ensures text { OnOk result
         (out.new.items ≡ out.old.items ++ flat_map (λ report. report) reports.now) }
+    ensures kept { Extends out.old.items out.new.items }
 {
     for report in reports {
         out.extend_from_slice(report.as_slice())?;
@@ -50,8 +52,9 @@ pub fn append_opening(
     at: &At,
     number: u32,
 ) -> Result<(), NoMemory>
-    ensures { OnOk result
+    ensures text { OnOk result
         (out.new.items ≡ out.old.items ++ opening_text envelope.now at.now number) }
+    ensures kept { Extends out.old.items out.new.items }
 {
     append_header(out, envelope, at, number)?;
     append_group_header(out, envelope, at)
@@ -65,8 +68,9 @@ pub fn append_closing(
     number: u32,
     reports: u64,
 ) -> Result<(), NoMemory>
-    ensures { OnOk result
+    ensures text { OnOk result
         (out.new.items ≡ out.old.items ++ closing_text envelope.now number reports) }
+    ensures kept { Extends out.old.items out.new.items }
 {
     let mut count = Buffer::new();
     append_segment(
@@ -91,8 +95,9 @@ fn append_header(
     at: &At,
     number: u32,
 ) -> Result<(), NoMemory>
-    ensures { OnOk result
+    ensures text { OnOk result
         (out.new.items ≡ out.old.items ++ header_text envelope.now at.now number) }
+    ensures kept { Extends out.old.items out.new.items }
 {
     out.extend_from_slice(b"ISA")?;
     append_parties(out, envelope)?;
@@ -103,9 +108,10 @@ fn append_header(
 
 /// Writes ISA01 to ISA08.
 fn append_parties(out: &mut Vec<u8>, envelope: &Envelope) -> Result<(), NoMemory>
-    ensures { OnOk result
+    ensures text { OnOk result
         (out.new.items
         ≡ out.old.items ++ elements_text envelope.now.delims.element (party_elements envelope.now)) }
+    ensures kept { Extends out.old.items out.new.items }
 {
     append_sender_and_receiver(
         out,
@@ -126,12 +132,13 @@ fn append_sender_and_receiver(
     receiver_qualifier: &Lent,
     receiver_id: &Lent,
 ) -> Result<(), NoMemory>
-    ensures { OnOk result
+    ensures text { OnOk result
         (out.new.items
         ≡ out.old.items ++ elements_text separator
         (codes "00" ∷ blank ∷ codes "00" ∷ blank
         ∷ sender_qualifier.now ∷ padded_text 15 sender_id.now
         ∷ receiver_qualifier.now ∷ padded_text 15 receiver_id.now ∷ [])) }
+    ensures kept { Extends out.old.items out.new.items }
 {
     append_no_information(out, separator)?;
     append_no_information(out, separator)?;
@@ -141,8 +148,9 @@ fn append_sender_and_receiver(
 
 /// Writes the qualifier for no authorization or security information, and the blanks behind it.
 fn append_no_information(out: &mut Vec<u8>, separator: u8) -> Result<(), NoMemory>
-    ensures { OnOk result
+    ensures text { OnOk result
         (out.new.items ≡ out.old.items ++ elements_text separator (codes "00" ∷ blank ∷ [])) }
+    ensures kept { Extends out.old.items out.new.items }
 {
     append_elements(out, separator, &[b"00".as_slice(), &[b' '; 10]])
 }
@@ -154,9 +162,10 @@ fn append_party(
     qualifier: &Lent,
     id: &Lent,
 ) -> Result<(), NoMemory>
-    ensures { OnOk result
+    ensures text { OnOk result
         (out.new.items
         ≡ out.old.items ++ elements_text separator (qualifier.now ∷ padded_text 15 id.now ∷ [])) }
+    ensures kept { Extends out.old.items out.new.items }
 {
     append_elements(out, separator, &[qualifier.bytes()])?;
     out.push(separator)?;
@@ -170,9 +179,10 @@ fn append_control(
     at: &At,
     number: u32,
 ) -> Result<(), NoMemory>
-    ensures { OnOk result
+    ensures text { OnOk result
         (out.new.items
         ≡ out.old.items ++ elements_text envelope.now.delims.element (control_elements envelope.now at.now number)) }
+    ensures kept { Extends out.old.items out.new.items }
 {
     let number = PaddedNumber::new(number, 9);
     append_elements(
@@ -193,7 +203,8 @@ fn append_control(
 
 /// Writes GS behind what is there.
 fn append_group_header(out: &mut Vec<u8>, envelope: &Envelope, at: &At) -> Result<(), NoMemory>
-    ensures { OnOk result (out.new.items ≡ out.old.items ++ group_header_text envelope.now at.now) }
+    ensures text { OnOk result (out.new.items ≡ out.old.items ++ group_header_text envelope.now at.now) }
+    ensures kept { Extends out.old.items out.new.items }
 {
     append_group_start(
         out,
@@ -212,10 +223,11 @@ fn append_group_start(
     receiver: &Lent,
     at: &At,
 ) -> Result<(), NoMemory>
-    ensures { OnOk result
+    ensures text { OnOk result
         (out.new.items ≡ out.old.items ++ segment_text delims.now (codes "GS")
         (codes "FA" ∷ sender.now ∷ receiver.now ∷ date_of at.now ∷ time_of at.now
         ∷ codes "1" ∷ codes "X" ∷ codes "005010X231" ∷ [])) }
+    ensures kept { Extends out.old.items out.new.items }
 {
     append_segment(
         out,

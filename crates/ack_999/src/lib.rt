@@ -9,8 +9,10 @@
 //!   `append_head`, `append_set` and `append_tail` write the same, one part after another;
 //! - `write_ack_interchange` writes exactly the interchange: its header in its fixed width, one
 //!   group, the acknowledgments, the trailers; `append_opening` and `append_closing` are its ends;
+//! - a call that appends keeps what was there before, also where memory is refused;
 //! - `group_codes` gives the group's codes that ask no guide, in their order;
-//! - `group_verdict` works on counts and answers the verdict that the sets' verdicts give.
+//! - `group_verdict` works on counts and answers the verdict that the sets' verdicts give; totals that
+//!   are no sets' it judges by their numbers.
 //!
 //! Source: the 999 guide (005010X231), ST, AK1, AK2, IK3, IK4, IK5, AK9 and SE; X12.5, interchange control
 //! header and trailer; X12.6, functional group header and trailer, segment.

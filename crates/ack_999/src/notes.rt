@@ -4,6 +4,7 @@ ghost use Rattle.hub_kinds.specs.declared.fault.Fault.{Fault};
 ghost use Rattle.ack_999.specs.Faults.{note_text, SegmentNote, ElementNote, id_text, is_segment_id, is_id_byte};
 ghost use Rattle.ack_999.specs.Faults.{code_shown, position_text, number_text};
 ghost use Rattle.ack_999.specs.Segment.{segment_text, end_text};
+ghost use Rattle.ack_999.specs.Extends.{Extends};
 
 use crate::copy::copied;
 use crate::segment::{append_end, append_segment, append_used};
@@ -17,7 +18,8 @@ pub fn append_segment_note(
     delims: &Delims,
     fault: &Fault,
 ) -> Result<(), NoMemory>
-    ensures { OnOk result (out.new.items ≡ out.old.items ++ note_text delims.now (SegmentNote fault.now)) }
+    ensures text { OnOk result (out.new.items ≡ out.old.items ++ note_text delims.now (SegmentNote fault.now)) }
+    ensures kept { Extends out.old.items out.new.items }
 {
     let mut position = Buffer::new();
     append_four(
@@ -41,10 +43,11 @@ fn append_four<'a>(
     third: &'a [u8],
     fourth: &'a [u8],
 ) -> Result<(), NoMemory>
-    ensures { OnOk result
+    ensures text { OnOk result
         (out.new.items
         ≡ out.old.items
         ++ segment_text delims.now id.now (first.now ∷ second.now ∷ third.now ∷ fourth.now ∷ [])) }
+    ensures kept { Extends out.old.items out.new.items }
 {
     append_segment(out, delims, id, &[first, second, third, fourth])
 }
@@ -90,7 +93,8 @@ pub fn append_element_note(
     delims: &Delims,
     elem: &ElemFault,
 ) -> Result<(), NoMemory>
-    ensures { OnOk result (out.new.items ≡ out.old.items ++ note_text delims.now (ElementNote elem.now)) }
+    ensures text { OnOk result (out.new.items ≡ out.old.items ++ note_text delims.now (ElementNote elem.now)) }
+    ensures kept { Extends out.old.items out.new.items }
 {
     out.extend_from_slice(b"IK4")?;
     out.push(delims.element)?;
@@ -112,14 +116,16 @@ fn append_last_three<'a>(
     second: &'a [u8],
     third: &'a [u8],
 ) -> Result<(), NoMemory>
-    ensures { OnOk result (out.new.items ≡ out.old.items ++ end_text delims.now (first.now ∷ second.now ∷ third.now ∷ [])) }
+    ensures text { OnOk result (out.new.items ≡ out.old.items ++ end_text delims.now (first.now ∷ second.now ∷ third.now ∷ [])) }
+    ensures kept { Extends out.old.items out.new.items }
 {
     append_end(out, delims, &[first, second, third])
 }
 
 /// Writes IK401 behind what is there.
 fn append_position(out: &mut Vec<u8>, separator: u8, elem: &ElemFault) -> Result<(), NoMemory>
-    ensures { OnOk result (out.new.items ≡ out.old.items ++ position_text separator elem.now) }
+    ensures text { OnOk result (out.new.items ≡ out.old.items ++ position_text separator elem.now) }
+    ensures kept { Extends out.old.items out.new.items }
 {
     let mut element = Buffer::new();
     let mut component = Buffer::new();

@@ -1,5 +1,6 @@
 ghost use Rattle.std.specs.Prelude.{◌≡◌, ℕ, ◌+◌, ◌-◌, ◌≤◌, min, ◌++◌, List, length, drop, OnOk, decimal};
 ghost use Rattle.ack_999.specs.Number.{padded_number, padded_text};
+ghost use Rattle.ack_999.specs.Extends.{Extends};
 
 use hub_kinds::NoMemory;
 use itoa::write_digits;
@@ -55,7 +56,8 @@ fn first_shown(start: usize, least: usize) -> usize
 
 /// Writes a text behind what is there, with spaces behind it up to `least` bytes.
 pub fn append_padded(out: &mut Vec<u8>, text: &[u8], least: usize) -> Result<(), NoMemory>
-    ensures { OnOk result (out.new.items ≡ out.old.items ++ padded_text least text.now) }
+    ensures text { OnOk result (out.new.items ≡ out.old.items ++ padded_text least text.now) }
+    ensures kept { Extends out.old.items out.new.items }
 {
     out.extend_from_slice(text)?;
     let spaces = least.saturating_sub(text.len());

@@ -6,6 +6,7 @@ ghost use Rattle.ack_999.specs.Group.{IsCountable};
 ghost use Rattle.ack_999.specs.Segment.{segments_text};
 ghost use Rattle.ack_999.specs.ReadBack.{ReadsBack};
 ghost use Rattle.ack_999.specs.Number.{padded_number};
+ghost use Rattle.ack_999.specs.Extends.{Extends};
 
 use crate::counts::{accepted_sets, listed_sets, segment_count, shows_sets, totals_of};
 use crate::faults::append_faults;
@@ -38,14 +39,15 @@ pub fn write_999(
 }
 
 /// Writes an acknowledgment's ST and AK1 behind what is there. Where memory is refused, here and in
-/// the other calls that append, a part of the text may be there.
+/// the other calls that append, a part of the text may be there, behind what was there before.
 pub fn append_head(
     out: &mut Vec<u8>,
     delims: &Delims,
     group: &GroupAnswer,
     n: u32,
 ) -> Result<(), NoMemory>
-    ensures { OnOk result (out.new.items ≡ out.old.items ++ head_text delims.now group.now n) }
+    ensures text { OnOk result (out.new.items ≡ out.old.items ++ head_text delims.now group.now n) }
+    ensures kept { Extends out.old.items out.new.items }
 {
     let number = set_control_number(n);
     append_segment(
@@ -68,7 +70,8 @@ pub fn append_head(
 
 /// Writes a set's AK2, what is told of its faults (IK3 and IK4), and its IK5 behind what is there.
 pub fn append_set(out: &mut Vec<u8>, delims: &Delims, set: &SetAnswer) -> Result<(), NoMemory>
-    ensures { OnOk result (out.new.items ≡ out.old.items ++ set_text delims.now set.now) }
+    ensures text { OnOk result (out.new.items ≡ out.old.items ++ set_text delims.now set.now) }
+    ensures kept { Extends out.old.items out.new.items }
 {
     append_segment(
         out,
@@ -86,8 +89,9 @@ pub fn append_set(out: &mut Vec<u8>, delims: &Delims, set: &SetAnswer) -> Result
 
 /// Writes IK5 behind what is there.
 fn append_set_response(out: &mut Vec<u8>, delims: &Delims, set: &SetAnswer) -> Result<(), NoMemory>
-    ensures { OnOk result
+    ensures text { OnOk result
         (out.new.items ≡ out.old.items ++ segments_text delims.now (set_response set.now ∷ [])) }
+    ensures kept { Extends out.old.items out.new.items }
 {
     append_coded_segment(
         out,
@@ -118,8 +122,9 @@ fn append_sets(
     group: &GroupAnswer,
     sets: &[SetAnswer],
 ) -> Result<(), NoMemory>
-    ensures { OnOk result
+    ensures text { OnOk result
         (out.new.items ≡ out.old.items ++ sets_text delims.now group.now sets.now) }
+    ensures kept { Extends out.old.items out.new.items }
 {
     if !shows_sets(group.codes.as_slice()) {
         return Ok(());
@@ -144,6 +149,7 @@ pub fn append_tail(
         (out.new.items ≡ out.old.items ++ tail_text delims.now group.now totals.now n) }
     ensures whole { OnOk result
         (Completes delims.now group.now totals.now n out.old.items out.new.items) }
+    ensures kept { Extends out.old.items out.new.items }
 {
     append_group_response(out, delims, group, totals)?;
     append_set_trailer(out, delims, segment_count(group, totals), n)
@@ -156,9 +162,10 @@ fn append_group_response(
     group: &GroupAnswer,
     totals: &Totals,
 ) -> Result<(), NoMemory>
-    ensures { OnOk result
+    ensures text { OnOk result
         (out.new.items
         ≡ out.old.items ++ segments_text delims.now (group_response group.now totals.now ∷ [])) }
+    ensures kept { Extends out.old.items out.new.items }
 {
     let mut listed = Buffer::new();
     let mut received = Buffer::new();
@@ -184,8 +191,9 @@ fn append_set_trailer(
     count: u128,
     n: u32,
 ) -> Result<(), NoMemory>
-    ensures { OnOk result
+    ensures text { OnOk result
         (out.new.items ≡ out.old.items ++ segments_text delims.now (set_trailer count n ∷ [])) }
+    ensures kept { Extends out.old.items out.new.items }
 {
     let mut digits = Buffer::new();
     let number = set_control_number(n);

@@ -1,4 +1,5 @@
 ghost use Rattle.std.specs.Prelude.{◌≡◌, ◌++◌, ◌≤◌, ◌<◌, [], ◌∷◌, List, All, OnOk, length, map, take};
+ghost use Rattle.ack_999.specs.Extends.{Extends};
 ghost use Rattle.ack_999.specs.Segment.{read, segment_text, end_text, elements_text, trimmed};
 
 use hub_kinds::{Code, NoMemory, code_text};
@@ -11,8 +12,9 @@ pub fn append_segment(
     id: &[u8],
     elements: &[&[u8]],
 ) -> Result<(), NoMemory>
-    ensures { OnOk result
+    ensures text { OnOk result
         (out.new.items ≡ out.old.items ++ segment_text delims.now id.now (read elements.now)) }
+    ensures kept { Extends out.old.items out.new.items }
 {
     out.extend_from_slice(id)?;
     append_end(out, delims, elements)
@@ -21,8 +23,9 @@ pub fn append_segment(
 /// Writes the last elements of a segment and its terminator behind what is there, without the empty elements
 /// at the end.
 pub fn append_end(out: &mut Vec<u8>, delims: &Delims, elements: &[&[u8]]) -> Result<(), NoMemory>
-    ensures { OnOk result
+    ensures text { OnOk result
         (out.new.items ≡ out.old.items ++ end_text delims.now (read elements.now)) }
+    ensures kept { Extends out.old.items out.new.items }
 {
     append_used(out, delims.element, elements)?;
     out.push(delims.terminator)?;
@@ -31,16 +34,18 @@ pub fn append_end(out: &mut Vec<u8>, delims: &Delims, elements: &[&[u8]]) -> Res
 
 /// Writes each part behind a separator, without the empty ones at the end.
 pub fn append_used(out: &mut Vec<u8>, separator: u8, parts: &[&[u8]]) -> Result<(), NoMemory>
-    ensures { OnOk result
+    ensures text { OnOk result
         (out.new.items ≡ out.old.items ++ elements_text separator (trimmed (read parts.now))) }
+    ensures kept { Extends out.old.items out.new.items }
 {
     append_elements(out, separator, &parts[..used(parts)])
 }
 
 /// Writes each element behind a separator.
 pub fn append_elements(out: &mut Vec<u8>, separator: u8, elements: &[&[u8]]) -> Result<(), NoMemory>
-    ensures { OnOk result
+    ensures text { OnOk result
         (out.new.items ≡ out.old.items ++ elements_text separator (read elements.now)) }
+    ensures kept { Extends out.old.items out.new.items }
 {
     for element in elements {
         out.push(separator)?;
@@ -58,9 +63,10 @@ pub fn append_coded_segment<C: Code>(
     codes: &[C],
 ) -> Result<(), NoMemory>
     requires { All (λ code. 0 < length (C.text code)) codes.now }
-    ensures { OnOk result
+    ensures text { OnOk result
         (out.new.items
         ≡ out.old.items ++ segment_text delims.now id.now (read elements.now ++ map C.text codes.now)) }
+    ensures kept { Extends out.old.items out.new.items }
 {
     if codes.is_empty() {
         return append_segment(out, delims, id, elements);
@@ -73,8 +79,9 @@ pub fn append_coded_segment<C: Code>(
 }
 
 fn append_codes<C: Code>(out: &mut Vec<u8>, separator: u8, codes: &[C]) -> Result<(), NoMemory>
-    ensures { OnOk result
+    ensures text { OnOk result
         (out.new.items ≡ out.old.items ++ elements_text separator (map C.text codes.now)) }
+    ensures kept { Extends out.old.items out.new.items }
 {
     for code in codes {
         out.push(separator)?;

@@ -46,8 +46,12 @@ closes_group (x ∷ xs) h = by_kind (kind_of x) h
 
 -- what an open set goes on with, where it goes on with these segments
 abbrev told_set : Option SegValue → List SegValue → List SegValue → SetTail
-told_set close rest items =
-    record { count = length items; close = close; after = (tails rest).in_group; end = λ so_far. behind_last so_far items }
+told_set close rest items = record {
+  count = length items;
+  close = close;
+  after = (tails rest).in_group;
+  end = λ so_far. behind_last so_far items;
+}
 
 -- what an open set goes on with: segments inside it, and its SE where it has one
 in_open_set : (inner : List SegValue) (close : Option SegValue) (rest : List SegValue) → list_all (λ x. is_inner (kind_of x)) inner ≡ true
@@ -66,18 +70,16 @@ in_open_set (x ∷ xs) close rest all closed = by_kind (kind_of x) (λ others. i
     one_more t is =
         let n : length (xs ++ option_items close) + 1 ≡ length (x ∷ (xs ++ option_items close)) = omega arith in
         ap (λ (u : SetTail). (let v : SetTail = record u { count = u.count + 1; end = λ so_far. u.end (behind x) } in v)) is
-        ∙ ap (λ (k : ℕ).
-        (let v : SetTail = record {
+        ∙ ap (λ (k : ℕ). (let v : SetTail = record {
           count = k;
           close = close;
           after = (tails rest).in_group;
           end = λ so_far. behind_last (behind x) (xs ++ option_items close);
-        } in
-        v)) n
+        } in v)) n
 
-    by_kind : (k : Kind)
-        → (list_all (λ x. is_inner (kind_of x)) xs ≡ true → (tails (xs ++ (option_items close ++ rest))).in_set
-        ≡ told_set close rest (xs ++ option_items close)) → (is_inner k && list_all (λ x. is_inner (kind_of x)) xs) ≡ true
+    by_kind : (k : Kind) → (list_all (λ x. is_inner (kind_of x)) xs ≡ true
+        → (tails (xs ++ (option_items close ++ rest))).in_set ≡ told_set close rest (xs ++ option_items close))
+        → (is_inner k && list_all (λ x. is_inner (kind_of x)) xs) ≡ true
         → onto_set k x (tails (xs ++ (option_items close ++ rest))) ≡ told_set close rest (x ∷ (xs ++ option_items close))
     by_kind InterchangeTrailer more all = cc
     by_kind GroupHeader more all = cc
@@ -103,9 +105,12 @@ set_in_front s rest is =
         let n : length (s.inner ++ option_items s.trailer) + 1 ≡ length (set_items s) = omega arith in
         rw header (ap (with_set s.header) goes_on ∙ ap (λ (k : ℕ). (let g : GroupTail = (tails rest).in_group in
         (let u : GroupTail = record g {
-          sets = (let e : SetEnvelope = record
-              { header = s.header; segments = k; trailer = s.trailer; end = behind_last 0 (set_items s) } in e)
-              ∷ g.sets;
+          sets = (let e : SetEnvelope = record {
+            header = s.header;
+            segments = k;
+            trailer = s.trailer;
+            end = behind_last 0 (set_items s);
+          } in e) ∷ g.sets;
         } in u))) n)
 
 -- members in front of what an open group goes on with
@@ -125,8 +130,8 @@ members_in_front (ASet s ∷ ms) rest are =
     ∙ ap (λ (t : GroupTail). (let u : GroupTail = record t { sets = set_entry s ∷ t.sets } in u)) (members_in_front ms rest are.1)
 members_in_front (OutOfGroup x ∷ ms) rest are = by_kind (kind_of x) are.0 (members_in_front ms rest are.1)
   where
-    by_kind : (k : Kind) → is_out_of_group k ≡ true → (tails (flat_map in_group_items ms ++ rest)).in_group
-        ≡ front_members ms (tails rest).in_group
+    by_kind : (k : Kind) → is_out_of_group k ≡ true
+        → (tails (flat_map in_group_items ms ++ rest)).in_group ≡ front_members ms (tails rest).in_group
         → onto_group k x (tails (flat_map in_group_items ms ++ rest)) ≡ front_members (OutOfGroup x ∷ ms) (tails rest).in_group
     by_kind InterchangeTrailer out goes_on = cc
     by_kind GroupHeader out goes_on = cc
@@ -142,14 +147,18 @@ group_ends : (close : Option SegValue) (rest : List SegValue) → Closed GroupTr
 group_ends None rest closed = closes_group rest closed
 group_ends (Some x) rest closed = by_kind (kind_of x) closed
   where
-    by_kind : (k : Kind) → k ≡ GroupTrailer → onto_group k x (tails rest)
-        ≡ record { sets = []; close = Some x; misplaced = false; after = (tails rest).in_body }
+    by_kind : (k : Kind) → k ≡ GroupTrailer
+        → onto_group k x (tails rest) ≡ record { sets = []; close = Some x; misplaced = false; after = (tails rest).in_body }
     by_kind k is = rw is refl
 
 -- members in front of a group's end
 members_told : (ms : List InGroup) (close : Option SegValue) (after : Summary)
-    → front_members ms (record { sets = []; close = close; misplaced = false; after = after })
-    ≡ record { sets = sets_in ms; close = close; misplaced = has_misplaced_in_group ms; after = after }
+    → front_members ms (record { sets = []; close = close; misplaced = false; after = after }) ≡ record {
+      sets = sets_in ms;
+      close = close;
+      misplaced = has_misplaced_in_group ms;
+      after = after;
+    }
 members_told [] close after = refl
 members_told (ASet s ∷ ms) close after = ap (λ (t : GroupTail). (let u : GroupTail = record t { sets = set_entry s ∷ t.sets } in u))
     (members_told ms close after)
@@ -158,13 +167,12 @@ members_told (OutOfGroup x ∷ ms) close after = ap (λ (t : GroupTail). (let u 
 
 -- a group in front of what the interchange goes on with
 abbrev front_group : Group → Summary → Summary
-front_group g s =
-    record {
-      groups = group_entry g ∷ s.groups;
-      notices = s.notices;
-      misplaced = has_misplaced_in_group g.members || s.misplaced;
-      trailer = s.trailer;
-    }
+front_group g s = record {
+  groups = group_entry g ∷ s.groups;
+  notices = s.notices;
+  misplaced = has_misplaced_in_group g.members || s.misplaced;
+  trailer = s.trailer;
+}
 
 group_in_front : (g : Group) (rest : List SegValue) → IsGroup g rest
     → (tails (group_items g ++ rest)).in_body ≡ front_group g (tails rest).in_body
@@ -177,8 +185,13 @@ group_in_front g rest is =
     ∙ ap (front_members g.members) (group_ends g.trailer rest is.trailer)
     ∙ members_told g.members g.trailer (tails rest).in_body)
   where
-    by_kind : (k : Kind) (t : Tails) → k ≡ GroupHeader → t.in_group
-        ≡ record { sets = sets_in g.members; close = g.trailer; misplaced = has_misplaced_in_group g.members; after = (tails rest).in_body }
+    by_kind : (k : Kind) (t : Tails) → k ≡ GroupHeader
+        → t.in_group ≡ record {
+          sets = sets_in g.members;
+          close = g.trailer;
+          misplaced = has_misplaced_in_group g.members;
+          after = (tails rest).in_body;
+        }
         → onto_body k g.header t ≡ front_group g (tails rest).in_body
     by_kind k t header goes_on = rw header (ap (with_group g.header) goes_on)
 
@@ -203,9 +216,9 @@ body_in_front (AGroup g ∷ ms) rest are =
     ∙ ap (front_group g) (body_in_front ms rest are.1)
 body_in_front (OutOfBody x ∷ ms) rest are = by_kind (kind_of x) are.0 (body_in_front ms rest are.1)
   where
-    by_kind : (k : Kind) → is_out_of_body k ≡ true → (tails (flat_map in_body_items ms ++ rest)).in_body
-        ≡ front_body ms (tails rest).in_body → onto_body k x (tails (flat_map in_body_items ms ++ rest))
-        ≡ with_misplaced (front_body ms (tails rest).in_body)
+    by_kind : (k : Kind) → is_out_of_body k ≡ true
+        → (tails (flat_map in_body_items ms ++ rest)).in_body ≡ front_body ms (tails rest).in_body
+        → onto_body k x (tails (flat_map in_body_items ms ++ rest)) ≡ with_misplaced (front_body ms (tails rest).in_body)
     by_kind InterchangeTrailer out goes_on = cc
     by_kind GroupHeader out goes_on = cc
     by_kind Notice out goes_on = cc
@@ -215,8 +228,9 @@ body_in_front (OutOfBody x ∷ ms) rest are = by_kind (kind_of x) are.0 (body_in
     by_kind Other out goes_on = ap with_misplaced goes_on
 
 -- what stands in the interchange, in front of its end
-body_told : (ms : List InBody) (close : Option SegValue) → front_body ms
-    (record { groups = []; notices = 0; misplaced = false; trailer = close }) ≡ summary_of (record { members = ms; trailer = close })
+body_told : (ms : List InBody) (close : Option SegValue)
+    → front_body ms (record { groups = []; notices = 0; misplaced = false; trailer = close })
+    ≡ summary_of (record { members = ms; trailer = close })
 body_told [] close = refl
 body_told (ANotice x ∷ ms) close = ap with_notice (body_told ms close)
 body_told (AGroup g ∷ ms) close = ap (front_group g) (body_told ms close)
@@ -227,8 +241,8 @@ body_ends : (close : Option SegValue) → Closed InterchangeTrailer (λ k. false
 body_ends None closed = refl
 body_ends (Some x) closed = by_kind (kind_of x) closed
   where
-    by_kind : (k : Kind) → k ≡ InterchangeTrailer → onto_body k x no_segments
-        ≡ record { groups = []; notices = 0; misplaced = false; trailer = Some x }
+    by_kind : (k : Kind) → k ≡ InterchangeTrailer
+        → onto_body k x no_segments ≡ record { groups = []; notices = 0; misplaced = false; trailer = Some x }
     by_kind k is = rw is refl
 
 -- segments that derive a tree sum up to its summary

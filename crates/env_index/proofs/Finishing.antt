@@ -29,14 +29,15 @@ told segs whole state trailer body tree read last is derives =
     is ∙ finish trailer state ∙ ap (resume state) (sym last) ∙ read ∙ derived_sums whole tree derives
 
 -- the same of the answer of a call
-pub told_ok : (text : List ℕ) (delims : Delims) (r : Result BodyPlace NoMemory) (segs whole : List SegValue)
-    (state : List ℕ → Delims → State) (trailer : List ℕ → Delims → Option SegValue)
+pub told_ok : (text : List ℕ) (delims : Delims) (r : Result BodyPlace NoMemory) (segs whole : List SegValue) (state : List ℕ → Delims
+    → State) (trailer : List ℕ → Delims → Option SegValue)
     → resume (state text delims) (tails segs) ≡ summed whole → tails segs ≡ last_tails (trailer text delims)
     → IfOk r (λ body. (t : List ℕ) (d : Delims) → body_in t d body ≡ finished (trailer t d) (end_all (state t d)))
     → IfOk r (λ body. (tree : Body) → Derives whole tree → body_in text delims body ≡ summary_of tree)
 told_ok text delims r segs whole state trailer read last is =
-    IfOk-weaker r (λ body. (t : List ℕ) (d : Delims) → body_in t d body ≡ finished (trailer t d) (end_all (state t d)))
-    (λ body. (tree : Body) → Derives whole tree → body_in text delims body ≡ summary_of tree)
+    IfOk-weaker r (λ body. (t : List ℕ) (d : Delims)
+    → body_in t d body ≡ finished (trailer t d) (end_all (state t d))) (λ body. (tree : Body) → Derives whole tree
+    → body_in text delims body ≡ summary_of tree)
     (λ body eq tree derives. told segs whole (state text delims) (trailer text delims) (body_in text delims body) tree read last
     (eq text delims) derives) is
 
@@ -66,8 +67,9 @@ pub one_more : (text : List ℕ) (delims : Delims) (at start end : ℕ) (state n
 one_more text delims at start end state new k whole next head is other read took =
     let seg : SegValue = segment_at text delims start end in
     let t : Tails = tails (reach_from text delims (end + 1)).segs in
-    let on : reach_from text delims at ≡ onto_reach seg (reach_from text delims (end + 1)) =
-    reach_on text delims at start end next head (ap ends_interchange (sym is) ∙ other_kind k other) in
+    let on : reach_from text delims at
+    ≡ onto_reach seg (reach_from text delims (end + 1)) = reach_on text delims at start end next head (ap ends_interchange (sym is)
+    ∙ other_kind k other) in
     ap (λ (s : State). resume s t) took ∙ step_onto k seg state t other ∙ ap (λ (x : Kind). resume state (onto x seg t)) is
     ∙ ap (λ (r : Reach). resume state (tails r.segs)) (sym on) ∙ read
 

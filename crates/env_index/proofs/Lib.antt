@@ -3,6 +3,7 @@ pub mod Each
 pub mod Finishing
 pub mod OneChain
 pub mod OneTree
+pub mod Standing
 pub mod Steps
 pub mod Surround
 pub mod Tails

@@ -143,8 +143,8 @@ members_is_one (ASet c ∷ xs) (ASet d ∷ ys) t u r s a b p q e =
     ≡ set_items d ++ (flat_map in_group_items ys ++ (option_items u ++ s)) =
     sym (append_assoc (set_items c) (flat_map in_group_items xs) (option_items t ++ r)) ∙ e
     ∙ append_assoc (set_items d) (flat_map in_group_items ys) (option_items u ++ s) in
-    let one = set_is_one c d (flat_map in_group_items xs ++ (option_items t ++ r)) (flat_map in_group_items ys ++ (option_items u ++ s)) a.0
-    b.0 items in
+    let one = set_is_one c d (flat_map in_group_items xs ++ (option_items t ++ r))
+    (flat_map in_group_items ys ++ (option_items u ++ s)) a.0 b.0 items in
     let more = members_is_one xs ys t u r s a.1 b.1 p q one.1 in
     (ap (λ z. ASet z ∷ xs) one.0 ∙ ap (λ zs. ASet d ∷ zs) more.0, more.1)
 
@@ -174,10 +174,10 @@ no_body_member : (m : InBody) (ms : List InBody) (rest : List SegValue) (u : Opt
 no_body_member (ANotice x) ms rest None p q e = cc
 no_body_member (AGroup g) ms rest None p q e = cc
 no_body_member (OutOfBody x) ms rest None p q e = cc
-no_body_member (ANotice x) ms rest (Some y) p q e = let same : x ≡ y = cc in
-    let kinds : Notice ≡ InterchangeTrailer = sym p.0 ∙ ap kind_of same ∙ q in cc
-no_body_member (AGroup g) ms rest (Some y) p q e = let same : g.header ≡ y = cc in
-    let kinds : GroupHeader ≡ InterchangeTrailer = sym p.0.header ∙ ap kind_of same ∙ q in cc
+no_body_member (ANotice x) ms rest (Some y) p q e = let same : x ≡ y = cc in let kinds : Notice ≡ InterchangeTrailer = sym p.0
+    ∙ ap kind_of same ∙ q in cc
+no_body_member (AGroup g) ms rest (Some y) p q e = let same : g.header ≡ y = cc in let kinds : GroupHeader
+    ≡ InterchangeTrailer = sym p.0.header ∙ ap kind_of same ∙ q in cc
 no_body_member (OutOfBody x) ms rest (Some y) p q e = let same : x ≡ y = cc in apart is_out_of_body x y same p.0 (ap is_out_of_body q)
 
 trailers_alone : (t u : Option SegValue) → option_items t ≡ option_items u → t ≡ u
@@ -212,18 +212,18 @@ body_members_is_one (AGroup g ∷ xs) (AGroup h ∷ ys) t u a b p q e =
     let one = group_is_one g h (flat_map in_body_items xs ++ option_items t) (flat_map in_body_items ys ++ option_items u) a.0 b.0 items in
     let more = body_members_is_one xs ys t u a.1 b.1 p q one.1 in
     (ap (λ z. AGroup z ∷ xs) one.0 ∙ ap (λ zs. AGroup h ∷ zs) more.0, more.1)
-body_members_is_one (ANotice x ∷ xs) (AGroup h ∷ ys) t u a b p q e =
-    let same : x ≡ h.header = cc in let kinds : Notice ≡ GroupHeader = sym a.0 ∙ ap kind_of same ∙ b.0.header in cc
-body_members_is_one (AGroup g ∷ xs) (ANotice y ∷ ys) t u a b p q e =
-    let same : g.header ≡ y = cc in let kinds : GroupHeader ≡ Notice = sym a.0.header ∙ ap kind_of same ∙ b.0 in cc
-body_members_is_one (ANotice x ∷ xs) (OutOfBody y ∷ ys) t u a b p q e =
-    let same : y ≡ x = cc in absurd (apart is_out_of_body y x same b.0 (ap is_out_of_body a.0))
-body_members_is_one (OutOfBody x ∷ xs) (ANotice y ∷ ys) t u a b p q e =
-    let same : x ≡ y = cc in absurd (apart is_out_of_body x y same a.0 (ap is_out_of_body b.0))
-body_members_is_one (AGroup g ∷ xs) (OutOfBody y ∷ ys) t u a b p q e =
-    let same : y ≡ g.header = cc in absurd (apart is_out_of_body y g.header same b.0 (ap is_out_of_body a.0.header))
-body_members_is_one (OutOfBody x ∷ xs) (AGroup h ∷ ys) t u a b p q e =
-    let same : x ≡ h.header = cc in absurd (apart is_out_of_body x h.header same a.0 (ap is_out_of_body b.0.header))
+body_members_is_one (ANotice x ∷ xs) (AGroup h ∷ ys) t u a b p q e = let same : x ≡ h.header = cc in let kinds : Notice
+    ≡ GroupHeader = sym a.0 ∙ ap kind_of same ∙ b.0.header in cc
+body_members_is_one (AGroup g ∷ xs) (ANotice y ∷ ys) t u a b p q e = let same : g.header ≡ y = cc in let kinds : GroupHeader
+    ≡ Notice = sym a.0.header ∙ ap kind_of same ∙ b.0 in cc
+body_members_is_one (ANotice x ∷ xs) (OutOfBody y ∷ ys) t u a b p q e = let same : y
+    ≡ x = cc in absurd (apart is_out_of_body y x same b.0 (ap is_out_of_body a.0))
+body_members_is_one (OutOfBody x ∷ xs) (ANotice y ∷ ys) t u a b p q e = let same : x
+    ≡ y = cc in absurd (apart is_out_of_body x y same a.0 (ap is_out_of_body b.0))
+body_members_is_one (AGroup g ∷ xs) (OutOfBody y ∷ ys) t u a b p q e = let same : y
+    ≡ g.header = cc in absurd (apart is_out_of_body y g.header same b.0 (ap is_out_of_body a.0.header))
+body_members_is_one (OutOfBody x ∷ xs) (AGroup h ∷ ys) t u a b p q e = let same : x
+    ≡ h.header = cc in absurd (apart is_out_of_body x h.header same a.0 (ap is_out_of_body b.0.header))
 
 body_with : List InBody → Option SegValue → Body
 body_with m t = record { members = m; trailer = t }
@@ -231,6 +231,6 @@ body_with m t = record { members = m; trailer = t }
 pub tree_is_one : (segs : List SegValue) (a b : Body) → Derives segs a → Derives segs b → a ≡ b
 unfolding body_with
 tree_is_one segs a b p q =
-    let more =
-    body_members_is_one a.members b.members a.trailer b.trailer p.1.members q.1.members p.1.trailer q.1.trailer (p.0 ∙ sym q.0) in
+    let more = body_members_is_one a.members b.members a.trailer b.trailer p.1.members q.1.members p.1.trailer q.1.trailer (p.0
+    ∙ sym q.0) in
     ap (λ m. body_with m a.trailer) more.0 ∙ ap (λ t. body_with b.members t) more.1

@@ -1,6 +1,6 @@
 -- What has been read of an interchange so far, and what the segments to come make of it.
-use Rattle.std.proofs.Common.{◌≡◌, ◌≢◌, ℕ, ◌+◌, List, [], ◌∷◌, ◌++◌, Bool, true, false, ◌||◌, Option, Some, None, refl, sym, ap, ◌∙◌, arith}
-use Rattle.std.proofs.Common.{append_assoc}
+use Rattle.std.proofs.Common.{◌≡◌, ◌≢◌, ℕ, ◌+◌, List, [], ◌∷◌, ◌++◌, Bool, true, false, ◌||◌, Option, Some, None, refl, sym, ap, ◌∙◌}
+use Rattle.std.proofs.Common.{arith, append_assoc}
 use Rattle.x12_segs.specs.View.{SegValue}
 use Rattle.x12_segs.specs.declared.kind.Kind.{Kind}
 use Rattle.x12_segs.specs.declared.kind.Kind.TheVariants.{InterchangeTrailer, GroupHeader, GroupTrailer, SetHeader, SetTrailer, Notice}
@@ -76,8 +76,13 @@ ended_group : (s : State) (group : SegValue) (trailer : Option SegValue) (t u : 
 ended_group s group trailer t u ends =
     let B : Summary = t.in_body in
     let g : List SetEnvelope → GroupEntry = λ xs. record { header = group; sets = xs; trailer = trailer } in
-    let F : List GroupEntry → Summary =
-    λ gs. record { groups = gs; notices = s.notices + B.notices; misplaced = s.misplaced || B.misplaced; trailer = B.trailer } in
+    let F : List GroupEntry
+    → Summary = λ gs. record {
+      groups = gs;
+      notices = s.notices + B.notices;
+      misplaced = s.misplaced || B.misplaced;
+      trailer = B.trailer;
+    } in
     ap F (append_assoc s.groups (g s.sets ∷ []) B.groups)
     ∙ ap (λ (xs : List SetEnvelope). F (s.groups ++ (g xs ∷ B.groups))) (sym (append_nil s.sets))
     ∙ ap (λ (u : GroupTail). put s (with_group group (more_sets s.sets u))) (sym ends)
@@ -108,18 +113,24 @@ misplaced_in_body : (s : State) (set : Option SegValue) (t u : Tails) → u.in_b
     → resume (misplace (open_at s None set)) t ≡ resume (open_at s None set) u
 misplaced_in_body s set t u is =
     let B : Summary = t.in_body in
-    ap (λ (m : Bool).
-    (let r : Summary = record { groups = s.groups ++ B.groups; notices = s.notices + B.notices; misplaced = m; trailer = B.trailer } in
-    r)) (sym (or_true s.misplaced))
+    ap (λ (m : Bool). (let r : Summary = record {
+      groups = s.groups ++ B.groups;
+      notices = s.notices + B.notices;
+      misplaced = m;
+      trailer = B.trailer;
+    } in r)) (sym (or_true s.misplaced))
     ∙ ap (put s) (sym is)
 
 misplaced_in_group : (s : State) (group : SegValue) (t u : Tails) → u.in_group ≡ record t.in_group { misplaced = true }
     → resume (misplace (open_at s (Some group) None)) t ≡ resume (open_at s (Some group) None) u
 misplaced_in_group s group t u is =
     let r : Summary = with_group group (more_sets s.sets t.in_group) in
-    ap (λ (m : Bool).
-    (let x : Summary = record { groups = s.groups ++ r.groups; notices = s.notices + r.notices; misplaced = m; trailer = r.trailer } in
-    x)) (sym (or_true s.misplaced))
+    ap (λ (m : Bool). (let x : Summary = record {
+      groups = s.groups ++ r.groups;
+      notices = s.notices + r.notices;
+      misplaced = m;
+      trailer = r.trailer;
+    } in x)) (sym (or_true s.misplaced))
     ∙ ap (λ (g : GroupTail). put s (with_group group (more_sets s.sets g))) (sym is)
 
 -- one more segment inside a set
@@ -149,8 +160,7 @@ step_at SetHeader x s (Some group) set t other =
     header_in_front s group None = let n : 0 + t.in_set.count ≡ t.in_set.count = omega arith in
         ap (λ (k : ℕ). put s (with_group group (more_sets s.sets (with_set x (record t.in_set { count = k }))))) n
     header_in_front s group (Some set) = let n : 0 + t.in_set.count ≡ t.in_set.count = omega arith in
-        ap (λ (k : ℕ). put s
-        (with_group group
+        ap (λ (k : ℕ). put s (with_group group
         (more_sets (end_set None (open_at s (Some group) (Some set))).sets (with_set x (record t.in_set { count = k }))))) n
 step_at SetTrailer x s None set t other = misplaced_in_body s set t (onto SetTrailer x t) refl
 step_at SetTrailer x s (Some group) None t other = misplaced_in_group s group t (onto SetTrailer x t) refl
@@ -163,9 +173,12 @@ step_at SetTrailer x s (Some group) (Some set) t other =
 step_at Notice x s None set t other =
     let B : Summary = t.in_body in
     let n : s.notices + 1 + B.notices ≡ s.notices + (B.notices + 1) = omega arith in
-    ap (λ (k : ℕ).
-    (let r : Summary = record
-    { groups = s.groups ++ B.groups; notices = k; misplaced = s.misplaced || B.misplaced; trailer = B.trailer } in r)) n
+    ap (λ (k : ℕ). (let r : Summary = record {
+      groups = s.groups ++ B.groups;
+      notices = k;
+      misplaced = s.misplaced || B.misplaced;
+      trailer = B.trailer;
+    } in r)) n
 step_at Notice x s (Some group) None t other = misplaced_in_group s group t (onto Notice x t) refl
 step_at Notice x s (Some group) (Some set) t other = longer_set s group set x t (onto Notice x t) refl
 step_at Other x s None set t other = misplaced_in_body s set t (onto Other x t) refl
@@ -201,23 +214,43 @@ finish_at trailer s group set =
 
     to_end : (trailer : Option SegValue) (s : State) → finished trailer s ≡ put s (last_tails trailer).in_body
     to_end None s = let n : s.notices ≡ s.notices + 0 = omega arith in
-        ap (λ (gs : List GroupEntry).
-        (let r : Summary = record { groups = gs; notices = s.notices; misplaced = s.misplaced; trailer = None } in r))
-        (sym (append_nil s.groups))
-        ∙ ap (λ (k : ℕ). (let r : Summary = record { groups = s.groups ++ []; notices = k; misplaced = s.misplaced; trailer = None } in r))
-        n
-        ∙ ap (λ (m : Bool).
-        (let r : Summary = record { groups = s.groups ++ []; notices = s.notices + 0; misplaced = m; trailer = None } in r))
-        (sym (or_false s.misplaced))
+        ap (λ (gs : List GroupEntry). (let r : Summary = record {
+          groups = gs;
+          notices = s.notices;
+          misplaced = s.misplaced;
+          trailer = None;
+        } in r)) (sym (append_nil s.groups))
+        ∙ ap (λ (k : ℕ). (let r : Summary = record {
+          groups = s.groups ++ [];
+          notices = k;
+          misplaced = s.misplaced;
+          trailer = None;
+        } in r)) n
+        ∙ ap (λ (m : Bool). (let r : Summary = record {
+          groups = s.groups ++ [];
+          notices = s.notices + 0;
+          misplaced = m;
+          trailer = None;
+        } in r)) (sym (or_false s.misplaced))
     to_end (Some x) s = let n : s.notices ≡ s.notices + 0 = omega arith in
-        ap (λ (gs : List GroupEntry).
-        (let r : Summary = record { groups = gs; notices = s.notices; misplaced = s.misplaced; trailer = Some x } in r))
-        (sym (append_nil s.groups))
-        ∙ ap (λ (k : ℕ).
-        (let r : Summary = record { groups = s.groups ++ []; notices = k; misplaced = s.misplaced; trailer = Some x } in r)) n
-        ∙ ap (λ (m : Bool).
-        (let r : Summary = record { groups = s.groups ++ []; notices = s.notices + 0; misplaced = m; trailer = Some x } in r))
-        (sym (or_false s.misplaced))
+        ap (λ (gs : List GroupEntry). (let r : Summary = record {
+          groups = gs;
+          notices = s.notices;
+          misplaced = s.misplaced;
+          trailer = Some x;
+        } in r)) (sym (append_nil s.groups))
+        ∙ ap (λ (k : ℕ). (let r : Summary = record {
+          groups = s.groups ++ [];
+          notices = k;
+          misplaced = s.misplaced;
+          trailer = Some x;
+        } in r)) n
+        ∙ ap (λ (m : Bool). (let r : Summary = record {
+          groups = s.groups ++ [];
+          notices = s.notices + 0;
+          misplaced = m;
+          trailer = Some x;
+        } in r)) (sym (or_false s.misplaced))
 
 -- at the end all that is open ends
 pub finish : (trailer : Option SegValue) (s : State) → finished trailer (end_all s) ≡ resume s (last_tails trailer)

@@ -28,16 +28,16 @@ unfolding is_header
 header_letter h is =
     let rest : Bool = has_delims h && has_fields h 16 in
     let isa : Bool = bytes_eq (take 3 h) (codes "ISA") in
-    let text : take 3 h ≡ codes "ISA" =
-    (bytes_decides (take 3 h) (codes "ISA")).0 (and_parts isa rest (and_parts (nat_eq (length h) 106) (isa && rest) is).1).0 in
+    let text : take 3 h ≡ codes "ISA" = (bytes_decides (take 3 h) (codes "ISA")).0
+    (and_parts isa rest (and_parts (nat_eq (length h) 106) (isa && rest) is).1).0 in
     sym (get_or-take 3 h 0 0 (omega arith)) ∙ ap (λ (xs : List ℕ). get_or xs 0 0) text
 
 pub head_letter : (text : List ℕ) (q : ℕ) → is_head text q ≡ true → get_or text q 0 ≡ 73
 head_letter text q is =
     let n : q + 106 - q ≡ 106 = omega arith in
     let z : q + 0 ≡ q = omega arith in
-    let first : get_or (header_at text q) 0 0 ≡ 73 =
-    header_letter (header_at text q) (and_parts (leb (q + 106) (length text)) (is_header (header_at text q)) is).1 in
+    let first : get_or (header_at text q) 0 0
+    ≡ 73 = header_letter (header_at text q) (and_parts (leb (q + 106) (length text)) (is_header (header_at text q)) is).1 in
     sym (get_or-take (q + 106 - q) (drop q text) 0 0 (omega arith) ∙ get_or-drop q text 0 0 ∙ ap (λ (k : ℕ). get_or text k 0) z) ∙ first
 
 -- so none begins at filler
@@ -65,8 +65,8 @@ no_others : (xs : List ℕ) → length xs ≤ prefix_len is_filler xs → others
 no_others [] all = refl
 no_others (x ∷ xs) all = by_test (is_filler x) all (no_others xs)
   where
-    by_test : (b : Bool) → length (x ∷ xs) ≤ cond b (1 + prefix_len is_filler xs) 0 → (length xs ≤ prefix_len is_filler xs → others xs ≡ 0)
-        → cond (not b) (1 + others xs) (others xs) ≡ 0
+    by_test : (b : Bool) → length (x ∷ xs) ≤ cond b (1 + prefix_len is_filler xs) 0
+        → (length xs ≤ prefix_len is_filler xs → others xs ≡ 0) → cond (not b) (1 + others xs) (others xs) ≡ 0
     by_test true all more = more (omega (arith, all))
     by_test false all more = absurd (omega (arith, all))
 
@@ -97,8 +97,7 @@ filler_reaches text at within none lt =
     let n : ℕ = prefix_len is_filler text in
     let front : List ℕ = slice_range text 0 at in
     let long : length front ≡ at = omega (arith, length-take {A = ℕ}, length-drop {A = ℕ}) in
-    let same : get_or front n 0 ≡ get_or text n 0 =
-    get_or-take (at - 0) (drop 0 text) n 0 (omega arith) ∙ get_or-drop 0 text n 0
+    let same : get_or front n 0 ≡ get_or text n 0 = get_or-take (at - 0) (drop 0 text) n 0 (omega arith) ∙ get_or-drop 0 text n 0
     ∙ ap (λ (k : ℕ). get_or text k 0) (let z : 0 + n ≡ n = omega arith in z) in
     let other : is_filler (get_or front n 0) ≡ false = ap is_filler same ∙ prefix_len_stops is_filler text 0 (omega arith) in
     let some : 1 ≤ count_by (λ b. not (is_filler b)) front = some_counted front n (omega arith) other in
@@ -118,8 +117,8 @@ starts_behind_filler text x lone =
 pub filler_behind : (text : List ℕ) (x : Extent) → IsLone text x → prefix_len is_filler (drop x.end text) < length (drop x.end text) → ⊥
 filler_behind text x lone lt =
     let rest : List ℕ = drop x.end text in
-    let some : 1 ≤ count_by (λ b. not (is_filler b)) rest =
-    some_counted rest (prefix_len is_filler rest) lt (prefix_len_stops is_filler rest 0 lt) in
+    let some : 1 ≤ count_by (λ b. not (is_filler b)) rest = some_counted rest (prefix_len is_filler rest) lt
+    (prefix_len_stops is_filler rest 0 lt) in
     omega (arith, some, lone.inside)
 
 -- no header stands in filler at the text's end
@@ -146,11 +145,10 @@ filled text at le =
     stopped lt =
         let k : ℕ = prefix_len is_filler (slice_range text 0 at) in
         let below : k < at = omega (arith, lt, length-take {A = ℕ}) in
-        let same : get_or (slice_range text 0 at) k 0 ≡ get_or text k 0 =
-        get_or-take (at - 0) (drop 0 text) k 0 (omega arith) ∙ get_or-drop 0 text k 0
-        ∙ ap (λ (j : ℕ). get_or text j 0) (let z : 0 + k ≡ k = omega arith in z) in
-        both_ways (is_filler (get_or text k 0)) (ap is_filler (sym same) ∙ prefix_len_stops is_filler (slice_range text 0 at) 0 lt)
-        (prefix_len_passes is_filler text k 0 (omega arith))
+        let same : get_or (slice_range text 0 at) k 0 ≡ get_or text k 0 = get_or-take (at - 0) (drop 0 text) k 0 (omega arith)
+        ∙ get_or-drop 0 text k 0 ∙ ap (λ (j : ℕ). get_or text j 0) (let z : 0 + k ≡ k = omega arith in z) in
+        both_ways (is_filler (get_or text k 0)) (ap is_filler (sym same)
+        ∙ prefix_len_stops is_filler (slice_range text 0 at) 0 lt) (prefix_len_passes is_filler text k 0 (omega arith))
 
 -- a header behind filler, with filler behind its interchange, is alone
 pub lone_between : (text : List ℕ) (end : ℕ) → is_head text (prefix_len is_filler text) ≡ true
@@ -162,10 +160,13 @@ lone_between text end head is filler =
     let front : List ℕ = slice_range text 0 n in
     record {
       chain = (
-        record { behind = omega arith; head = head; least = λ q from lt. no_head_before text q lt },
+        record {
+          behind = omega arith;
+          head = head;
+          least = λ q from lt. no_head_before text q lt;
+        },
         is,
-        λ q from. no_head_in_rest
-            text end q filler from,
+        λ q from. no_head_in_rest text end q filler from,
       );
       inside = omega (arith, nothing_counted front (filled text n (omega arith)), nothing_counted (drop end text) filler);
     }

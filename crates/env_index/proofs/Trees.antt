@@ -93,7 +93,11 @@ group_first x xs is g =
           ∙ ap (λ (ys : List SegValue). x ∷ ys) (append_assoc inside (option_items g.trailer) g.behind ∙ g.items);
       is = record {
         members = (
-          subst (IsGroup group) (sym g.rest.items) (record { header = is; members = g.are; trailer = g.closed }),
+          subst (IsGroup group) (sym g.rest.items) (record {
+            header = is;
+            members = g.are;
+            trailer = g.closed;
+          }),
           g.rest.is.members,
         );
         trailer = g.rest.is.trailer;

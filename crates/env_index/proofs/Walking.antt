@@ -21,15 +21,17 @@ segment_at text delims start end = record { start = start; bytes = slice_range t
 
 -- the reach from a segment on
 abbrev from_segment : List ℕ → SegValue → Reach → Reach
-from_segment text seg more = cond (is_head text seg.start) (record { segs = []; end = seg.start })
-    (cond (ends_interchange (kind_of seg)) (record { segs = seg ∷ []; end = behind seg }) (onto_reach seg more))
+from_segment text seg more = cond (is_head text seg.start) (record {
+  segs = [];
+  end = seg.start;
+}) (cond (ends_interchange (kind_of seg)) (record { segs = seg ∷ []; end = behind seg }) (onto_reach seg more))
 
 reach_next : (text : List ℕ) (delims : Delims) (at start end : ℕ) → IsNextPart text delims.terminator at (Segment start end)
     → reach_from text delims at ≡ from_segment text (segment_at text delims start end) (reach_from text delims (end + 1))
 reach_next text delims at start end next =
     ap (λ (segs : List Seg). reach_of text (map (view_of delims) segs) (rest_from text delims.terminator at)) next.0
-    ∙ ap (λ (rest : Seg). reach_of text (map (view_of delims) (seg_at text start end ∷ segs_from text delims.terminator (end + 1))) rest)
-    next.1
+    ∙ ap (λ (rest : Seg). reach_of text
+    (map (view_of delims) (seg_at text start end ∷ segs_from text delims.terminator (end + 1))) rest) next.1
 
 -- at a header it ends
 pub reach_at_head : (text : List ℕ) (delims : Delims) (at start end : ℕ) → IsNextPart text delims.terminator at (Segment start end)
@@ -39,8 +41,11 @@ reach_at_head text delims at start end next head =
     let seg : SegValue = segment_at text delims start end in
     let more : Reach = reach_from text delims (end + 1) in
     reach_next text delims at start end next
-    ∙ ap (λ (b : Bool). cond b (let r : Reach = record { segs = []; end = start } in r)
-    (cond (ends_interchange (kind_of seg)) (record { segs = seg ∷ []; end = behind seg }) (onto_reach seg more))) head
+    ∙ ap (λ (b : Bool). cond b (let r : Reach = record {
+      segs = [];
+      end = start;
+    } in r) (cond (ends_interchange (kind_of seg)) (record { segs = seg ∷ []; end = behind seg }) (onto_reach seg more)))
+    head
 
 -- an IEA ends it behind its terminator
 pub reach_at_trailer : (text : List ℕ) (delims : Delims) (at start end : ℕ) → IsNextPart text delims.terminator at (Segment start end)
@@ -52,8 +57,11 @@ reach_at_trailer text delims at start end next order within head trailer =
     let more : Reach = reach_from text delims (end + 1) in
     let long : start + length seg.bytes ≡ end = omega (arith, length-take {A = ℕ}, length-drop {A = ℕ}) in
     reach_next text delims at start end next
-    ∙ ap (λ (b : Bool). cond b (let r : Reach = record { segs = []; end = start } in r)
-    (cond (ends_interchange (kind_of seg)) (record { segs = seg ∷ []; end = behind seg }) (onto_reach seg more))) head
+    ∙ ap (λ (b : Bool). cond b (let r : Reach = record {
+      segs = [];
+      end = start;
+    } in r) (cond (ends_interchange (kind_of seg)) (record { segs = seg ∷ []; end = behind seg }) (onto_reach seg more)))
+    head
     ∙ ap (λ (b : Bool). cond b (let r : Reach = record { segs = seg ∷ []; end = behind seg } in r) (onto_reach seg more)) trailer
     ∙ ap (λ (n : ℕ). (let r : Reach = record { segs = seg ∷ []; end = n + 1 } in r)) long
 
@@ -66,8 +74,11 @@ reach_on text delims at start end next head trailer =
     let seg : SegValue = segment_at text delims start end in
     let more : Reach = reach_from text delims (end + 1) in
     reach_next text delims at start end next
-    ∙ ap (λ (b : Bool). cond b (let r : Reach = record { segs = []; end = start } in r)
-    (cond (ends_interchange (kind_of seg)) (record { segs = seg ∷ []; end = behind seg }) (onto_reach seg more))) head
+    ∙ ap (λ (b : Bool). cond b (let r : Reach = record {
+      segs = [];
+      end = start;
+    } in r) (cond (ends_interchange (kind_of seg)) (record { segs = seg ∷ []; end = behind seg }) (onto_reach seg more)))
+    head
     ∙ ap (λ (b : Bool). cond b (let r : Reach = record { segs = seg ∷ []; end = behind seg } in r) (onto_reach seg more)) trailer
 
 -- at the rest it ends
@@ -93,8 +104,10 @@ only_last text [] rest = tt
 only_last text (seg ∷ segs) rest = by_tests (is_head text seg.start) (ends_interchange (kind_of seg)) refl (only_last text segs rest)
   where
     by_tests : (head trailer : Bool) → ends_interchange (kind_of seg) ≡ trailer → OnlyLast (reach_of text segs rest).segs
-        → OnlyLast
-        (cond head (let r : Reach = record { segs = []; end = seg.start } in r)
+        → OnlyLast (cond head (let r : Reach = record {
+          segs = [];
+          end = seg.start;
+        } in r)
         (cond trailer (record { segs = seg ∷ []; end = behind seg }) (onto_reach seg (reach_of text segs rest)))).segs
     by_tests true trailer is more = tt
     by_tests false true is more = ((λ _. refl), tt)

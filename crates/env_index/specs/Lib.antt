@@ -5,4 +5,5 @@ pub mod Interchange
 pub mod Lone
 pub mod Places
 pub mod Reading
+pub mod Spans
 pub mod Summary

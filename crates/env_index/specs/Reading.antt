@@ -36,13 +36,21 @@ end_so_far s header = behind (unwrap_or s.last header)
 abbrev pub end_set_by : State → Option SegValue → Option SegValue → State
 end_set_by s trailer None = s
 end_set_by s None (Some header) = record s {
-  sets = s.sets
-      ++ (let e : SetEnvelope = record { header = header; segments = s.count + 1; trailer = None; end = end_so_far s header } in e) ∷ [];
+  sets = s.sets ++ (let e : SetEnvelope = record {
+    header = header;
+    segments = s.count + 1;
+    trailer = None;
+    end = end_so_far s header;
+  } in e) ∷ [];
   set = None;
 }
 end_set_by s (Some seg) (Some header) = record s {
-  sets = s.sets ++ (let e : SetEnvelope = record { header = header; segments = s.count + 2; trailer = Some seg; end = behind seg } in e)
-      ∷ [];
+  sets = s.sets ++ (let e : SetEnvelope = record {
+    header = header;
+    segments = s.count + 2;
+    trailer = Some seg;
+    end = behind seg;
+  } in e) ∷ [];
   set = None;
 }
 

@@ -11,7 +11,8 @@
 //! - `judge` answers the least of an interchange's faults 1 to 7, and none exactly where it has
 //!   none;
 //! - the segments of each interchange derive a tree (`envelope_is_there`), and only one
-//!   (`envelope_is_one`); a text has one chain of interchanges at most (`chain_is_one`).
+//!   (`envelope_is_one`); a text has one chain of interchanges at most (`chain_is_one`);
+//! - each set of an interchange can be read alone in its span of the text (`sets_stand_alone`).
 //!
 //! X12.5, interchange control header (ISA) and trailer (IEA), interchange acknowledgment (TA1);
 //! X12.6, functional group header (GS) and trailer (GE), transaction set header (ST) and trailer
@@ -40,6 +41,6 @@ mod walk;
 pub use entry::SetEnvelope;
 pub use faults::judge;
 pub use interchange::{GroupEnvelope, Interchange};
-pub use laws::{chain_is_one, envelope_is_one, envelope_is_there};
+pub use laws::{chain_is_one, envelope_is_one, envelope_is_there, sets_stand_alone};
 pub use lone::read_lone;
 pub use read::read_interchange;

@@ -1,5 +1,5 @@
--- 999 guide, implementation transaction set syntax error code (IK502): the codes that need no guide; which code stands for which fault is
--- own.
+-- 999 guide, implementation transaction set syntax error code (IK502): the codes that need no guide; which code stands for which fault
+-- is own.
 use Rattle.std.specs.Prelude.{ℕ, ◌==◌, Bool, true, false, not, nat_lt, List, [], ◌∷◌, ◌++◌, Option, Some, None, length, take}
 use Rattle.std.specs.Str.{bytes_eq}
 use Rattle.hub_kinds.specs.Numbers.{number_of}

@@ -1,6 +1,6 @@
 //! Whole acknowledgments of groups whose sets have no faults, and the interchange around one.
 use crate::samples::{ACCEPTED_GROUP, ACCEPTED_SET, DELIMS, GroupRow, SetRow, acknowledgment};
-use ack_999::{Envelope, write_ack_interchange};
+use ack_999::{Envelope, append_closing, write_ack_interchange};
 use elem_rules::At;
 use hub_kinds::{GroupCode, GroupVerdict, Items, Lent, SetCode, Verdict};
 use std::test::Fail;
@@ -138,5 +138,16 @@ fn sends_an_acknowledgment_to_the_partner(rt: HostRuntime) -> Result<(), Fail> {
     let report = acknowledgment(alloc, &ACCEPTED_GROUP, &[ACCEPTED_SET], 1)?;
     let bytes = write_ack_interchange(alloc, &envelope(), &at, 1, &[Items::from_vec(report)])?;
     assert_eq!(rt; bytes.as_slice(), SENT);
+    Ok(())
+}
+
+#[test]
+fn appends_behind_what_is_there(rt: HostRuntime) -> Result<(), Fail> {
+    let mut out = Vec::from_slice(rt.alloc(), b"SE*6*0001~")?;
+    append_closing(&mut out, &envelope(), 1, 1)?;
+    assert_eq!(rt;
+        out.as_slice(),
+        b"SE*6*0001~GE*1*1~IEA*1*000000001~".as_slice()
+    );
     Ok(())
 }

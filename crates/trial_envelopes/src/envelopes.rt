@@ -2,7 +2,7 @@
 use crate::texts::{HEADER, HEADER_AS_A_SEGMENT, HEADER_IN_AN_ELEMENT, ORDER, joined, read};
 use env_index::{
     GroupEnvelope, Interchange, SetEnvelope, chain_is_one, envelope_is_one, envelope_is_there,
-    judge, read_interchange, read_lone,
+    judge, read_interchange, read_lone, sets_stand_alone,
 };
 use hub_kinds::InterchangeFault;
 use std::test::Fail;
@@ -64,6 +64,7 @@ fn states_the_laws() {
     envelope_is_one();
     envelope_is_there();
     chain_is_one();
+    sets_stand_alone();
 }
 
 #[test]

@@ -110,8 +110,7 @@ decides_header h =
             element_not_terminator = i.element_not_terminator;
             component_not_terminator = i.component_not_terminator;
             element_allowed = i.element_allowed;
-            component_allowed =
-                i.component_allowed;
+            component_allowed = i.component_allowed;
             terminator_allowed = i.terminator_allowed;
           },
           i.fields,
@@ -127,6 +126,5 @@ decides_head text at = Decides-and (leb (at + 106) (length text)) (is_header (he
     (decides_header (header_at text at))
   where
     Decides-leb : (a b : ℕ) → Decides (leb a b) (a ≤ b)
-    Decides-leb a b =
-        elim (leb_tells a b)
+    Decides-leb a b = elim (leb_tells a b)
         [ inl w ↦ (λ _. w.1, λ _. w.0) | inr w ↦ (λ yes. absurd (grind (arith, w.0, yes)), λ le. absurd (omega (arith, w.1, le))) ]

@@ -41,8 +41,8 @@ terminator_of header = slice_index header 105
 abbrev pub repetition_of : List ℕ → Option ℕ
 repetition_of header =
     let byte = slice_index header 82 in
-    if may_separate byte && not (byte == element_of header || byte == component_of header || byte == terminator_of header) then Some byte
-    else None
+    if may_separate byte && not
+    (byte == element_of header || byte == component_of header || byte == terminator_of header) then Some byte else None
 
 abbrev pub delims_of : List ℕ → Delims
 delims_of header = record {

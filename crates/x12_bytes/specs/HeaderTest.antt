@@ -22,8 +22,8 @@ has_fields header (suc k) = is_field_at header (k + 1) && has_fields header k
 -- the delimiters are three, and each is allowed
 abbrev pub has_delims : List ℕ → Bool
 has_delims header =
-    (not (element_of header == component_of header)
-    && (not (element_of header == terminator_of header) && not (component_of header == terminator_of header)))
+    (not (element_of header == component_of header) &&
+    (not (element_of header == terminator_of header) && not (component_of header == terminator_of header)))
     && (may_separate (element_of header) && (may_separate (component_of header) && may_terminate (terminator_of header)))
 
 -- whether these bytes are a header

@@ -45,10 +45,11 @@ segs_of-append : (place : ℕ) (ps qs : List (List ℕ)) → 0 < length qs
 segs_of-append place [] qs some = ap (λ n. segs_of n qs) (let e : place ≡ place + 0 = omega arith in e)
 segs_of-append place (part ∷ ps) qs some =
     let next : ℕ = place + length part + 1 in
-    let left : segs_of place (part ∷ (ps ++ qs)) ≡ part_at place part ++ segs_of next (ps ++ qs) =
-    segs_of-cons place part (ps ++ qs) (omega (arith, length-append ps qs)) in
-    let right : segs_of place (part ∷ (ps ++ [] ∷ [])) ≡ part_at place part ++ segs_of next (ps ++ [] ∷ []) =
-    segs_of-cons place part (ps ++ [] ∷ []) (omega (arith, length-append ps ([] ∷ []))) in
+    let left : segs_of place (part ∷ (ps ++ qs))
+    ≡ part_at place part ++ segs_of next (ps ++ qs) = segs_of-cons place part (ps ++ qs) (omega (arith, length-append ps qs)) in
+    let right : segs_of place (part ∷ (ps ++ [] ∷ []))
+    ≡ part_at place part ++ segs_of next (ps ++ [] ∷ []) = segs_of-cons place part (ps ++ [] ∷ [])
+    (omega (arith, length-append ps ([] ∷ []))) in
     let ends : next + span_of ps ≡ place + (length part + 1 + span_of ps) = omega arith in
     left ∙ ap (λ (s : List Seg). part_at place part ++ s) (segs_of-append next ps qs some)
     ∙ sym (append_assoc (part_at place part) (segs_of next (ps ++ [] ∷ [])) (segs_of (next + span_of ps) qs))
@@ -102,8 +103,8 @@ segs_from-cut text t s n below is =
     let front_parts : parts t (slice_range text s (s + n + 1)) ≡ ps ++ [] ∷ [] = ap (parts t) front ∙ parts-append t xs [] in
     let long : length xs ≡ n = length-take-le n rest (omega arith) in
     let end : s + span_of ps ≡ s + n + 1 = omega (arith, span-split (λ b. nat_eq b t) xs) in
-    let behind : ys ≡ drop (s + n + 1) text =
-    drop-drop (n + 1) s text ∙ ap (λ k. drop k text) (let sum : s + (n + 1) ≡ s + n + 1 = omega arith in sum) in
+    let behind : ys ≡ drop (s + n + 1) text = drop-drop (n + 1) s text
+    ∙ ap (λ k. drop k text) (let sum : s + (n + 1) ≡ s + n + 1 = omega arith in sum) in
     ap (λ (l : List ℕ). segs_of s (parts t l)) whole
     ∙ ap (segs_of s) (parts-append t xs ys)
     ∙ segs_of-append s ps qs (omega (arith, length-slice_split (λ b. nat_eq b t) ys))

@@ -20,8 +20,11 @@ first_byte t xs =
       | inl lt ↦ (
         Some k,
         (
-          record
-              { low = omega arith; high = lt; before = λ j low below yes. false≢true (sym (fails_before_first p xs j 0 below) ∙ yes) },
+          record {
+            low = omega arith;
+            high = lt;
+            before = λ j low below yes. false≢true (sym (fails_before_first p xs j 0 below) ∙ yes);
+          },
           passes_at_first p xs 0 lt,
         ),
       )
@@ -60,11 +63,11 @@ segs_from-here text t at len cut some none =
     let part : List ℕ = slice_range text at (at + len) in
     let width : length part ≡ len = cut.width in
     let shape : part_at at part ≡ without_line_ends at part ∷ [] = part_at-some at part (omega (arith, none)) in
-    let seg : without_line_ends at part ≡ seg_at text (at + 0) (at + len) =
-    without_line_ends-slice text at (at + len) 0 (sym none) (omega arith) in
+    let seg : without_line_ends at part
+    ≡ seg_at text (at + 0) (at + len) = without_line_ends-slice text at (at + len) 0 (sym none) (omega arith) in
     let still : at + 0 ≡ at = omega arith in
-    let whole : part_at at part ≡ seg_at text at (at + len) ∷ [] =
-    shape ∙ ap (λ (s : Seg). s ∷ []) (seg ∙ ap (λ n. seg_at text n (at + len)) still) in
+    let whole : part_at at part ≡ seg_at text at (at + len) ∷ [] = shape
+    ∙ ap (λ (s : Seg). s ∷ []) (seg ∙ ap (λ n. seg_at text n (at + len)) still) in
     segs_from-found text t at len cut ∙ ap (λ (s : List Seg). s ++ segs_from text t (at + len + 1)) whole
 
 -- a search from the front of the text's rest, as code makes it
@@ -73,8 +76,8 @@ from_rest : (text : List ℕ) (t from : ℕ) (r : Option ℕ) → IsFirstByte (i
 from_rest text t from r h = subst (λ hay. IsFirstByte (is_byte t) hay r) (sym (take_rest text from)) h
 
 -- a segment behind the CR and LF of a part
-segs_from-inside : (text : List ℕ) (t from len : ℕ) → from ≤ length text → IsFirstByte (is_byte t) (drop from text) (Some len) → (lead : ℕ)
-    → lead ≡ prefix_len is_line_end (slice_range text from (from + len)) → lead < len
+segs_from-inside : (text : List ℕ) (t from len : ℕ) → from ≤ length text → IsFirstByte (is_byte t) (drop from text) (Some len)
+    → (lead : ℕ) → lead ≡ prefix_len is_line_end (slice_range text from (from + len)) → lead < len
     → segs_from text t (from + lead) ≡ seg_at text (from + lead) (from + len) ∷ segs_from text t (from + len + 1)
 segs_from-inside text t from len fits h lead is lt =
     let cut : IsCut text t from len = cut_found text t from len fits (from_rest text t from (Some len) h) in
@@ -84,16 +87,17 @@ segs_from-inside text t from len fits h lead is lt =
     let later : IsFirstByte (is_byte t) (drop (from + lead) text) (Some (len - lead)) =
     subst (λ hay. IsFirstByte (is_byte t) hay (Some (len - lead))) (drop-drop lead from text)
     (first_byte-drop t (drop from text) len lead (omega arith) h) in
-    let cut_inside : IsCut text t (from + lead) (len - lead) =
-    cut_found text t (from + lead) (len - lead) (omega arith) (from_rest text t (from + lead) (Some (len - lead)) later) in
+    let cut_inside : IsCut text t (from + lead) (len - lead) = cut_found text t (from + lead) (len - lead) (omega arith)
+    (from_rest text t (from + lead) (Some (len - lead)) later) in
     let end : from + lead + (len - lead) ≡ from + len = omega arith in
     let stops = prefix_len_stops is_line_end part 0 (let stop : prefix_len is_line_end part < length part = omega arith in stop) in
-    let dropped : prefix_len is_line_end (drop lead part) ≡ 0 =
-    prefix_len-drop_no is_line_end part lead 0 (omega arith) (subst (λ n. is_line_end (get_or part n 0) ≡ false) (sym is) stops) in
-    let inside : drop lead part ≡ slice_range text (from + lead) (from + len) =
-    drop-slice_range lead from (from + len) text (omega arith) in
-    let none : prefix_len is_line_end (slice_range text (from + lead) (from + len)) ≡ 0 =
-    subst (λ (b : List ℕ). prefix_len is_line_end b ≡ 0) inside dropped in
+    let dropped : prefix_len is_line_end (drop lead part)
+    ≡ 0 = prefix_len-drop_no is_line_end part lead 0 (omega arith)
+    (subst (λ n. is_line_end (get_or part n 0) ≡ false) (sym is) stops) in
+    let inside : drop lead part
+    ≡ slice_range text (from + lead) (from + len) = drop-slice_range lead from (from + len) text (omega arith) in
+    let none : prefix_len is_line_end (slice_range text (from + lead) (from + len))
+    ≡ 0 = subst (λ (b : List ℕ). prefix_len is_line_end b ≡ 0) inside dropped in
     let here = segs_from-here text t (from + lead) (len - lead) cut_inside (omega arith) (rw end none) in
     subst (λ n. segs_from text t (from + lead) ≡ seg_at text (from + lead) n ∷ segs_from text t (n + 1)) end here
 
@@ -110,14 +114,14 @@ seg_found text t from len seg more fits h lt is =
     let below : from + len < length text = cut.below in
     let here : Seg = seg_at text (from + lead) (from + len) in
     let later : List Seg = segs_from text t (from + len + 1) in
-    let shape : part_at from part ≡ here ∷ [] =
-    part_at-some from part lt ∙ ap (λ (s : Seg). s ∷ []) (without_line_ends-slice text from (from + len) lead refl (omega arith)) in
+    let shape : part_at from part ≡ here ∷ [] = part_at-some from part lt
+    ∙ ap (λ (s : Seg). s ∷ []) (without_line_ends-slice text from (from + len) lead refl (omega arith)) in
     let both : here ∷ later ≡ seg ∷ more = sym (segs_from-found text t from len cut ∙ ap (λ (s : List Seg). s ++ later) shape) ∙ is in
     let same_seg : here ≡ seg = cc in
     let same_more : later ≡ more = cc in
     let room : length (drop (from + lead) text) ≡ length text - (from + lead) = length-drop (from + lead) text in
-    let size : length here.bytes ≡ from + len - (from + lead) =
-    length-take-le (from + len - (from + lead)) (drop (from + lead) text) (omega arith) in
+    let size : length here.bytes
+    ≡ from + len - (from + lead) = length-take-le (from + len - (from + lead)) (drop (from + lead) text) (omega arith) in
     let stop : from + lead + length here.bytes ≡ from + len = omega arith in
     let byte : get_or (drop from text) len 0 ≡ t = eqb-true (get_or (drop from text) len 0) t h.1 in
     let base : IsFirstSeg text t from here later = record {

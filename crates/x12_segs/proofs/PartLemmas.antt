@@ -1,6 +1,6 @@
 -- A search for a separator, and the parts round it.
-use Rattle.std.proofs.Common.{ℕ, ◌≡◌, ◌≤◌, ◌<◌, ◌+◌, Bool, List, [], ◌∷◌, Option, Some, None, MatchOption, option_map, unwrap_or, Bor, true}
-use Rattle.std.proofs.Common.{false, cond, zero, suc, length, take, drop, get_or, ap, ◌∙◌, subst, arith, nat_eq}
+use Rattle.std.proofs.Common.{ℕ, ◌≡◌, ◌≤◌, ◌<◌, ◌+◌, Bool, List, [], ◌∷◌, Option, Some, None, MatchOption, option_map, unwrap_or, Bor}
+use Rattle.std.proofs.Common.{true, false, cond, zero, suc, length, take, drop, get_or, ap, ◌∙◌, subst, arith, nat_eq}
 use Rattle.std.specs.List.{slice_split, slice_get, onto_first, position_or_len}
 use Rattle.std.proofs.lemmas.Bool.{false_from_ne_true}
 use Rattle.std.proofs.lemmas.List.Sums.{position_or_len_is, fails_before_first, count_by-le-length}
@@ -34,8 +34,8 @@ parts-none t text h =
 
 -- the same in one: where the first part ends, if a separator stands behind it
 pub parts_by-first : (separator : Option ℕ) (s : ℕ) (text : List ℕ) (r : Option ℕ) → separator ≡ Some s → IsFirstByte (is_byte s) text r
-    → MatchOption r (parts_by separator text ≡ text ∷ []) (λ end. (end < length text)
-    × (parts_by separator text ≡ take end text ∷ parts_by separator (drop (end + 1) text)))
+    → MatchOption r (parts_by separator text
+    ≡ text ∷ []) (λ end. (end < length text) × (parts_by separator text ≡ take end text ∷ parts_by separator (drop (end + 1) text)))
 parts_by-first separator s text None is h = rw is (parts-none s text h)
 parts_by-first separator s text (Some end) is h = rw is (h.0.high, parts-found s text end h)
 

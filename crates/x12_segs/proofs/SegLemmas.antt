@@ -1,6 +1,6 @@
 -- The segments and the rest behind an offset, one part after another.
-use Rattle.std.proofs.Common.{ℕ, ◌≡◌, ◌≤◌, ◌<◌, ◌+◌, ◌-◌, Bool, List, [], ◌∷◌, ◌++◌, Some, None, length, take, drop, slice_range, refl, ap}
-use Rattle.std.proofs.Common.{subst, ◌∙◌, arith, nat_eq}
+use Rattle.std.proofs.Common.{ℕ, ◌≡◌, ◌≤◌, ◌<◌, ◌+◌, ◌-◌, Bool, List, [], ◌∷◌, ◌++◌, Some, None, length, take, drop, slice_range, refl}
+use Rattle.std.proofs.Common.{ap, subst, ◌∙◌, arith, nat_eq}
 use Rattle.std.specs.List.{slice_split, prefix_len}
 use Rattle.std.proofs.lemmas.List.{length-append, length-map, drop-drop, drop-take, take_rest, length-drop, length-take-le}
 use Rattle.std.proofs.lemmas.List.Sums.{count_by-le-length, prefix_len-le-length}
@@ -35,14 +35,14 @@ pub record IsCut (text : List ℕ) (t from len : ℕ) : Type 0 where
 pub cut_found : (text : List ℕ) (t from len : ℕ) → from ≤ length text
     → IsFirstByte (is_byte t) (slice_range text from (length text)) (Some len) → IsCut text t from len
 cut_found text t from len fits found =
-    let h : IsFirstByte (is_byte t) (drop from text) (Some len) =
-    subst (λ hay. IsFirstByte (is_byte t) hay (Some len)) (take_rest text from) found in
+    let h : IsFirstByte (is_byte t) (drop from text) (Some len) = subst (λ hay. IsFirstByte (is_byte t) hay (Some len))
+    (take_rest text from) found in
     let p : ℕ → Bool = λ b. nat_eq b t in
     let room : length (drop from text) ≡ length text - from = length-drop from text in
     let high : len < length (drop from text) = h.0.high in
     let width : from + len - from ≡ len = omega arith in
-    let later : drop (len + 1) (drop from text) ≡ drop (from + len + 1) text =
-    drop-drop (len + 1) from text ∙ ap (λ n. drop n text) (omega arith) in
+    let later : drop (len + 1) (drop from text) ≡ drop (from + len + 1) text = drop-drop (len + 1) from text
+    ∙ ap (λ n. drop n text) (omega arith) in
     let some : 0 < length (slice_split p (drop (from + len + 1) text)) = omega (arith, length-slice_split p (drop (from + len + 1) text)) in
     let long : length (take len (drop from text)) ≡ len = length-take-le len (drop from text) (omega arith) in
     record {
@@ -116,9 +116,11 @@ length-segs_of place (rest ∷ []) = omega arith
 length-segs_of place (part ∷ next ∷ more) =
     omega (
       arith,
-      length-append (part_at place part) (segs_of (place + length part + 1) (next ∷ more)),
+      length-append (part_at place part)
+          (segs_of (place + length part + 1) (next ∷ more)),
       length-part_at place part,
-      length-segs_of (place + length part + 1) (next ∷ more),
+      length-segs_of (place + length part + 1)
+          (next ∷ more),
     )
 
 pub length-views : (text : List ℕ) (delims : Delims) → length (views text delims) ≤ length text
@@ -127,7 +129,8 @@ length-views text delims =
     omega (
       arith,
       length-map (segs_from text delims.terminator 0) (view_of delims),
-      length-segs_of 0 (slice_split p text),
+      length-segs_of 0
+          (slice_split p text),
       length-slice_split p text,
       count_by-le-length p text,
     )

@@ -1,6 +1,6 @@
 -- X12.6, segment and segment terminator: a run of a text's segments, cut out of the text from its first byte to behind its last terminator.
 use Rattle.std.specs.Prelude.{ℕ, ◌≡◌, ◌+◌, ◌<◌, ◌≤◌, List, [], ◌∷◌, ◌++◌, length, map, slice_range}
-use Rattle.x12_segs.specs.Segs.{Seg, Segs, segs_from}
+use Rattle.x12_segs.specs.Segs.{Seg, Segs, segs_from, segs_within}
 
 -- where the first segment of a run begins
 abbrev pub start_of : List Seg → ℕ
@@ -17,10 +17,11 @@ end_of (seg ∷ next ∷ more) = end_of (next ∷ more)
 abbrev pub moved_by : ℕ → Seg → Seg
 moved_by place seg = record { start = place + seg.start; bytes = seg.bytes }
 
--- read alone, what a run was cut out as gives the same segments
+-- read alone, what a run was cut out as gives the same segments; so does its stretch of the text
 pub record StandsAlone (text : List ℕ) (terminator : ℕ) (run : List Seg) : Type 0 where
   pub within : end_of run ≤ length text
   pub segs : run ≡ map (moved_by (start_of run)) (Segs (slice_range text (start_of run) (end_of run)) terminator)
+  pub stretch : run ≡ segs_within text terminator (start_of run) (end_of run)
 
 -- each run of one or more of the segments behind an offset stands alone
 abbrev pub RunsStandAlone : List ℕ → ℕ → ℕ → Type 0

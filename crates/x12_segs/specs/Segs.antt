@@ -1,6 +1,6 @@
--- X12.6, segment and segment terminator: the segments of a text, and the rest behind them; that CR and LF in front of a segment are passed
--- over is own.
-use Rattle.std.specs.Prelude.{ℕ, ◌+◌, ◌==◌, List, [], ◌∷◌, ◌++◌, length, drop, slice_range, if◌then◌else◌}
+-- X12.6, segment and segment terminator: the segments of a text, and the rest behind them; that CR and LF in front of a segment are
+-- passed over is own.
+use Rattle.std.specs.Prelude.{ℕ, ◌+◌, ◌==◌, List, [], ◌∷◌, ◌++◌, length, drop, take, slice_range, if◌then◌else◌}
 use Rattle.std.specs.List.{prefix_len}
 use Rattle.x12_bytes.specs.Bytes.{is_line_end}
 use Rattle.x12_segs.specs.Parts.{parts}
@@ -42,6 +42,10 @@ segs_from text terminator place = segs_of place (parts terminator (drop place te
 
 abbrev pub rest_from : List ℕ → ℕ → ℕ → Seg
 rest_from text terminator place = rest_of place (parts terminator (drop place text))
+
+-- the segments that stand in a stretch of a text, with their offsets in the text
+abbrev pub segs_within : List ℕ → ℕ → ℕ → ℕ → List Seg
+segs_within text terminator start end = segs_from (take end text) terminator start
 
 -- the segments of a whole text
 abbrev pub Segs : List ℕ → ℕ → List Seg

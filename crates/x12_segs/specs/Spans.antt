@@ -1,17 +1,13 @@
 -- X12.6, transaction set: the stretch of a text that a set takes, from the first byte of its ST to behind its last terminator.
-use Rattle.std.specs.Prelude.{ℕ, ◌≡◌, ◌≤◌, Bool, true, false, List, [], ◌∷◌, ◌++◌, length, map, take}
+use Rattle.std.specs.Prelude.{ℕ, ◌≡◌, ◌≤◌, Bool, true, false, List, [], ◌∷◌, ◌++◌, length, map}
 use Rattle.std.specs.List.{list_all}
-use Rattle.x12_segs.specs.Segs.{Seg, segs_from}
+use Rattle.x12_segs.specs.Segs.{Seg, segs_within}
 use Rattle.x12_segs.specs.View.{SegValue, view_of}
 use Rattle.x12_segs.specs.Runs.{start_of, end_of}
 use Rattle.x12_segs.specs.Kinds.{kind_of, is_inner}
 use Rattle.x12_segs.specs.declared.kind.Kind.{Kind}
 use Rattle.x12_segs.specs.declared.kind.Kind.TheVariants.{SetHeader, SetTrailer}
 use Rattle.x12_segs.specs.declared.set_span.SetSpan.{SetSpan}
-
--- the segments that a terminator divides this stretch into, with their offsets in the text
-abbrev pub segs_within : List ℕ → ℕ → ℕ → ℕ → List Seg
-segs_within text terminator start end = segs_from (take end text) terminator start
 
 -- the segments of a span
 abbrev pub span_segs : List ℕ → SetSpan → List Seg

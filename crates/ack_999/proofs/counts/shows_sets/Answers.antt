@@ -6,6 +6,5 @@ use Rattle.ack_999.specs.Report.{hides_sets}
 use Rattle.ack_999.proofs.counts.shows_sets.Goals as goal
 
 pub returns : goal.returns
-returns c =
-    ap not (any_from_yields_List hides_sets _ _ c.any.result c.any.ensures.ran (YieldsList-from_slice c.args.codes.now (cc))
+returns c = ap not (any_from_yields_List hides_sets _ _ c.any.result c.any.ensures.ran (YieldsList-from_slice c.args.codes.now (cc))
     (λ x b q k. search (rules, tests)))

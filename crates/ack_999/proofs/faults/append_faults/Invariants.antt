@@ -1,9 +1,12 @@
 use Rattle.std.proofs.Common.{◌≡◌, ◌++◌, drop}
+use Rattle.ack_999.specs.Extends.{Extends}
 use Rattle.ack_999.specs.Faults.{notes, notes_behind, notes_text}
 use Rattle.ack_999.proofs.faults.append_faults.Given as goal
 
 -- what is told so far, with what is told of the faults that are left, is what is told of all
 abbrev pub invariant-loop-fault : goal.invariant-loop-fault
-invariant-loop-fault l =
-    l.out.items ++ notes_text l.delims (notes_behind l.before (drop l.fault-index l.faults))
-    ≡ l.initial.out.items ++ notes_text l.delims (notes l.faults)
+invariant-loop-fault l = record {
+  told : l.out.items ++ notes_text l.delims (notes_behind l.before (drop l.fault-index l.faults))
+      ≡ l.initial.out.items ++ notes_text l.delims (notes l.faults);
+  kept : Extends l.initial.out.items l.out.items;
+}

@@ -11,10 +11,11 @@ appended : (f : List ℕ → List ℕ) (out out1 out2 out3 out4 id end : List �
     → out4 ≡ out ++ (id ++ flat_map f (xs ++ ys) ++ end)
 appended f out out1 out2 out3 out4 id end xs ys a b c d = rw (d, c, b, a) (simp (flat_map-append, append_assoc))
 
-pub returns : goal.returns
-returns c =
+pub returns-clause-text : goal.returns-clause-text
+returns-clause-text c =
     let e = c.args.envelope.now in
-    appended (λ element. e.delims.element ∷ element) c.args.out.now.items c.extend_from_slice.new.self.items c.append_parties.new.out.items
-    c.append_control.new.out.items c.push.new.self.items
+    appended (λ element. e.delims.element ∷ element) c.args.out.now.items c.extend_from_slice.new.self.items
+    c.append_parties.new.out.items c.append_control.new.out.items c.push.new.self.items
     (codes "ISA") (e.delims.terminator ∷ []) (party_elements e) (control_elements e c.args.at.now c.args.number)
-    c.in_ok-extend_from_slice.ensures.items c.in_ok-append_parties.ensures c.in_ok-append_control.ensures c.in_ok-push.ensures.items
+    c.in_ok-extend_from_slice.ensures.items c.in_ok-append_parties.ensures.text c.in_ok-append_control.ensures.text
+    c.in_ok-push.ensures.items

@@ -13,8 +13,8 @@ appended : (f : List ℕ → List ℕ) (out out1 out2 out3 out4 : List ℕ) (ws 
     → out4 ≡ out ++ flat_map f (ws ++ xs ++ ys ++ zs)
 appended f out out1 out2 out3 out4 ws xs ys zs a b c d = rw (d, c, b, a) (simp (flat_map-append, append_assoc))
 
-pub returns : goal.returns
-returns c =
+pub returns-clause-text : goal.returns-clause-text
+returns-clause-text c =
     let none : List (List ℕ) = codes "00" ∷ blank ∷ [] in
     on_ok_weaker c.append_party-2.result
     (λ last.
@@ -22,5 +22,5 @@ returns c =
     c.append_no_information-2.new.out.items c.append_party.new.out.items c.append_party-2.new.out.items
     none none (c.args.sender_qualifier.now ∷ padded_text 15 c.args.sender_id.now ∷ [])
     (c.args.receiver_qualifier.now ∷ padded_text 15 c.args.receiver_id.now ∷ [])
-    c.in_ok-append_no_information.ensures c.in_ok-append_no_information-2.ensures c.in_ok-append_party.ensures last)
-    c.append_party-2.ensures
+    c.in_ok-append_no_information.ensures.text c.in_ok-append_no_information-2.ensures.text c.in_ok-append_party.ensures.text last)
+    c.append_party-2.ensures.text

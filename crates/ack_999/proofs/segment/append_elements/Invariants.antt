@@ -3,5 +3,5 @@ use Rattle.ack_999.specs.Segment.{elements_text}
 use Rattle.ack_999.proofs.segment.append_elements.Given as goal
 
 abbrev pub invariant-loop-element : goal.invariant-loop-element
-invariant-loop-element l = l.out.items ≡ l.initial.out.items ++ elements_text l.separator
-    (map (λ element. element.now) (take l.element-index l.elements))
+invariant-loop-element l = l.out.items
+    ≡ l.initial.out.items ++ elements_text l.separator (map (λ element. element.now) (take l.element-index l.elements))

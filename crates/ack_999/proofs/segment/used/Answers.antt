@@ -10,8 +10,8 @@ loop-end-preserved c =
     let empty : length (get_or c.args.elements.now (c.loop-end.end - 1) d).now ≡ 0 = eqb-true _ 0 (sym c.if-is_empty.ensures) in
     record {
       within = omega arith;
-      same = c.loop-end.invariant.same ∙ trimmed-take_empty c.args.elements.now c.loop-end.end d (omega arith) c.loop-end.invariant.within
-          empty;
+      same = c.loop-end.invariant.same
+          ∙ trimmed-take_empty c.args.elements.now c.loop-end.end d (omega arith) c.loop-end.invariant.within empty;
     }
 
 pub returns-else-is_empty-clause-value : goal.returns-else-is_empty-clause-value

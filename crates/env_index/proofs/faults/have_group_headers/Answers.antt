@@ -15,5 +15,5 @@ pub loop-index-preserved : goal.loop-index-preserved
 loop-index-preserved c =
     let passes : c.is_group_header.result ≡ true = grind (arith, common_steps) in
     one_passes (λ (group : GroupEntry). is_group_header group.header) c.args.interchange.now.content.groups c.loop-index.index
-    c.group.result c.group.ensures (sym (c.is_group_header.ensures ∙ ap is_group_header c.header.ensures) ∙ passes)
-    c.loop-index.invariant
+    c.group.result c.group.ensures (sym (c.is_group_header.ensures ∙ ap is_group_header c.header.ensures)
+    ∙ passes) c.loop-index.invariant

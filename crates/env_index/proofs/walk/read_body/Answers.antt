@@ -28,13 +28,13 @@ returns-in-InterchangeTrailer-clause-only c =
     let start : ℕ = c.in-Segment.start in
     let end : ℕ = c.in-Segment.end in
     let head : is_head text start ≡ false = sym c.begins_at_header.ensures ∙ c.if-begins_at_header.false in
-    let is : kind_of (segment_at text c.args.delims start end) ≡ InterchangeTrailer =
-    ap kind_of (sym c.new-segment.ensures) ∙ sym c.kind_of.ensures ∙ c.in-InterchangeTrailer.is in
+    let is : kind_of (segment_at text c.args.delims start end) ≡ InterchangeTrailer = ap kind_of (sym c.new-segment.ensures)
+    ∙ sym c.kind_of.ensures ∙ c.in-InterchangeTrailer.is in
     let lies = c.in-Segment.ensures.within in
     told_ok text c.args.delims c.finish-in-InterchangeTrailer.result _ _ (λ text delims. state_of text delims c.loop-start.builder)
     (λ text delims. Some (segment_at text delims start end)) c.loop-start.invariant.whole
-    (trailer_alone text c.args.delims c.loop-start.at start end c.in-Segment.ensures.next (omega (arith, lies.1)) (omega (arith, lies.2))
-    head is)
+    (trailer_alone text c.args.delims c.loop-start.at start end c.in-Segment.ensures.next (omega (arith, lies.1))
+    (omega (arith, lies.2)) head is)
     c.finish-in-InterchangeTrailer.ensures.body
 
 pub loop-start-preserved : goal.loop-start-preserved

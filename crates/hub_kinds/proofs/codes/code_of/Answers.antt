@@ -14,8 +14,8 @@ returns-then-eq g c =
     let rest = find (λ other. bytes_eq (g.C.Code.text other) text) (drop (c.loop-code.code-index + 1) all) in
     let same = ap (λ (b : List ℕ). bytes_eq b text) (sym c.text.ensures ∙ sym c.as_bytes.ensures.value) in
     let passes = same ∙ sym c.eq.ensures ∙ c.if-eq.true in
-    let first =
-    find-at (λ other. bytes_eq (g.C.Code.text other) text) all c.loop-code.code-index code c.loop-code-test.true c.code-item.is in
+    let first = find-at (λ other. bytes_eq
+    (g.C.Code.text other) text) all c.loop-code.code-index code c.loop-code-test.true c.code-item.is in
     let found = c.loop-code.invariant ∙ first ∙ ap (λ b. cond b (Some code) rest) passes in
     read_back g.C.Code.text text all c.all-code-items.ensures (Some code) found
 
@@ -27,8 +27,8 @@ loop-code-preserved g c =
     let rest = find (λ other. bytes_eq (g.C.Code.text other) text) (drop (c.loop-code.code-index + 1) all) in
     let same = ap (λ (b : List ℕ). bytes_eq b text) (sym c.text.ensures ∙ sym c.as_bytes.ensures.value) in
     let fails = same ∙ sym c.eq.ensures ∙ c.if-eq.false in
-    let first =
-    find-at (λ other. bytes_eq (g.C.Code.text other) text) all c.loop-code.code-index code c.loop-code-test.true c.code-item.is in
+    let first = find-at (λ other. bytes_eq
+    (g.C.Code.text other) text) all c.loop-code.code-index code c.loop-code-test.true c.code-item.is in
     c.loop-code.invariant ∙ first ∙ ap (λ b. cond b (Some code) rest) fails
 
 pub returns : goal.returns

@@ -21,7 +21,7 @@ loop-index-preserved c =
     ∙ ap (λ (a : SetAnswer). done ++ a ∷ []) (sym (c.in_ok-answer.ensures.answer before c.loop-index.invariant.known)) in
     record {
       text = text_more (set_text c.args.delims.now) c.args.out.now.items c.loop-index.out.items c.append_set.new.out.items
-          done c.in_ok-answer.answer c.loop-index.invariant.text c.in_ok-append_set.ensures
+          done c.in_ok-answer.answer c.loop-index.invariant.text c.in_ok-append_set.ensures.text
           ∙ ap (λ (all : List SetAnswer). c.args.out.now.items ++ flat_map (set_text c.args.delims.now) all) (sym answers);
       totals = c.in_ok-answer.ensures.counted done c.loop-index.invariant.totals ∙ ap totals_of (sym answers);
       counted = omega (arith, c.in_ok-answer.ensures.sets, c.loop-index.invariant.counted);

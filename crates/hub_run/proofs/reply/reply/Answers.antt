@@ -48,7 +48,7 @@ returns-clause-ack c =
     c.from_vec.ensures
     ∙ whole_reply c.reply_envelope-envelope.result at c.delims-delims.result early late (answers_to group) c.in_ok-totals.totals _ _ _ _ _
     c.new-out.ensures.items c.in_ok-append_front.ensures c.in_ok-totals.ensures.text refl shows c.in_ok-totals.ensures.totals
-    completes c.in_ok-append_closing.ensures
+    completes c.in_ok-append_closing.ensures.text
     ∙ ap (λ (e : Envelope). interchange_text e at 1 (text_999 c.delims-delims.result late (answers_to group) 1 ∷ [])) envelope
     ∙ ap (λ (d : Delims). interchange_text (reply_envelope header group.header) at 1 (text_999 d late (answers_to group) 1 ∷ [])) delims
     ∙ ap (λ (a : GroupAnswer).

@@ -11,8 +11,7 @@ returns-then-is_header-clause-test c =
 
 pub returns-else-is_header-clause-test : goal.returns-else-is_header-clause-test
 returns-else-is_header-clause-test c =
-    let other : is_head c.args.text.now c.args.at ≡ true → ⊥ =
-    λ yes. absurd
-    (let is_true = c.is_header.ensures.1 ((decides_head c.args.text.now c.args.at).0 yes).1 in grind
+    let other : is_head c.args.text.now c.args.at ≡ true
+    → ⊥ = λ yes. absurd (let is_true = c.is_header.ensures.1 ((decides_head c.args.text.now c.args.at).0 yes).1 in grind
     (arith, is_true, c.if-is_header.false)) in
     sym (false_from_ne_true (is_head c.args.text.now c.args.at) other)

@@ -17,8 +17,9 @@ returns-then-start-end-clause-next c =
     let lead : c.lead.result ≡ prefix_len is_line_end part = c.lead.ensures.value in
     let width : length part ≡ len = cut.width in
     let some : part_at at part ≡ without_line_ends at part ∷ [] = part_at-some at part (omega (arith, c.if-start-end.true)) in
-    let seg : without_line_ends at part ≡ seg_at text (at + c.lead.result) (at + len) =
-    without_line_ends-slice text at (at + len) c.lead.result lead (omega (arith, c.if-start-end.true)) in
+    let seg : without_line_ends at part
+    ≡ seg_at text (at + c.lead.result) (at + len) = without_line_ends-slice text at (at + len) c.lead.result lead
+    (omega (arith, c.if-start-end.true)) in
     let shape : part_at at part ≡ seg_at text (at + c.lead.result) (at + len) ∷ [] = some ∙ ap (λ (s : Seg). s ∷ []) seg in (
       c.loop-len.invariant.segs ∙ segs_from-found text c.args.terminator at len cut
           ∙ ap (λ (s : List Seg). s ++ segs_from text c.args.terminator (at + len + 1)) shape,

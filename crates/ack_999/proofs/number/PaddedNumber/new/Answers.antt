@@ -11,5 +11,5 @@ pub returns : goal.returns
 returns c =
     rw (c.first_shown.ensures, ← c.from.ensures)
     (padded_number-from_zeros c.args.least c.from.result c.write_digits-start.result c.write_digits-start.new.buf
-    c.requires c.write_digits-start.ensures.start (c.write_digits-start.ensures.written ∙ append-nil (decimal c.from.result))
-    c.write_digits-start.ensures.before)
+    c.requires c.write_digits-start.ensures.start (c.write_digits-start.ensures.written
+    ∙ append-nil (decimal c.from.result)) c.write_digits-start.ensures.before)
