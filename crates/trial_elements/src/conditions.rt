@@ -109,8 +109,30 @@ const TWICE: &[Related] = &[
 
 const FOUND_TWICE: Cases = &[("S**a", "3 0 0 2 3 ;4 0 0 2 4 ;"), ("S***b", "2 0 0 2 2 ;")];
 
+/// Conditions of three relations, two of which exclude the same element.
+const SEVERAL: &[Related] = &[
+    (Relation::Exclusion, &[4, 2]),
+    (Relation::Paired, &[2, 3]),
+    (Relation::Exclusion, &[2, 4, 1]),
+    (Relation::Required, &[1, 3]),
+];
+
+const FOUND_OF_SEVERAL: Cases = &[
+    (
+        "S**a**b",
+        "1 0 0 2 1 ;2 0 0 10 2 a;3 0 0 2 3 ;4 0 0 10 4 b;",
+    ),
+    ("S*c", ""),
+];
+
+/// Conditions, and segments with their faults.
+const TOGETHER: &[(&[Related], Cases)] = &[(TWICE, FOUND_TWICE), (SEVERAL, FOUND_OF_SEVERAL)];
+
 #[test]
 fn a_fault_of_two_conditions_stands_once(rt: HostRuntime) -> Result<(), Fail> {
-    let guide = guide_of(rt.alloc(), FOUR_ROWS, TWICE)?;
-    expect(rt.alloc(), DELIMS, &guide, FOUND_TWICE)
+    for (related, cases) in TOGETHER {
+        let guide = guide_of(rt.alloc(), FOUR_ROWS, related)?;
+        expect(rt.alloc(), DELIMS, &guide, cases)?;
+    }
+    Ok(())
 }
