@@ -1,61 +1,300 @@
 //! Interchanges, their groups and their sets: where each ends, and what the index keeps of it.
-use crate::texts::{HEADER, HEADER_AS_A_SEGMENT, HEADER_IN_AN_ELEMENT, ORDER, joined, read};
+use crate::texts::{
+    HEADER_AS_A_SEGMENT, HEADER_IN_AN_ELEMENT, NOTICES, ORDER, ORDER_WITHOUT_TRAILER,
+    WITHOUT_TRAILERS, read,
+};
 use env_index::{
-    GroupEnvelope, Interchange, SetEnvelope, chain_is_one, envelope_is_one, envelope_is_there,
-    judge, read_interchange, read_lone, sets_stand_alone,
+    chain_is_one, envelope_is_one, envelope_is_there, judge, read_interchange, read_lone,
+    sets_stand_alone,
 };
 use hub_kinds::InterchangeFault;
+use std::alloc::Global;
 use std::test::Fail;
 
-/// A group of an interchange, counted from 0.
-fn group<'a>(found: &'a Interchange<'_>, index: usize) -> Result<GroupEnvelope<'a>, Fail> {
-    if found.group_count() <= index {
-        return Err("no group".into());
-    }
-    Ok(found.group(index))
+/// What the index keeps of an interchange, beside its groups.
+#[derive(Clone, Copy, Debug, PartialEq, Eq)]
+struct Seen {
+    extent: (usize, usize),
+    notices: u32,
+    misplaced: bool,
+    groups: usize,
+    fault: Option<InterchangeFault>,
 }
 
-/// A set of a group, counted from 0.
-fn set<'a>(group: &GroupEnvelope<'a>, index: usize) -> Result<SetEnvelope<'a>, Fail> {
-    if group.set_count() <= index {
-        return Err("no set".into());
-    }
-    Ok(group.set(index))
+/// A text, the offset of a header in it, and the interchange that begins there.
+const INTERCHANGES: &[(&[u8], usize, Seen)] = &[
+    (
+        ORDER,
+        0,
+        Seen {
+            extent: (0, 236),
+            notices: 0,
+            misplaced: false,
+            groups: 1,
+            fault: None,
+        },
+    ),
+    (
+        HEADER_IN_AN_ELEMENT,
+        0,
+        Seen {
+            extent: (0, 358),
+            notices: 0,
+            misplaced: false,
+            groups: 1,
+            fault: None,
+        },
+    ),
+    (
+        HEADER_AS_A_SEGMENT,
+        0,
+        Seen {
+            extent: (0, 197),
+            notices: 0,
+            misplaced: false,
+            groups: 1,
+            fault: Some(InterchangeFault::TrailerMissing),
+        },
+    ),
+    (
+        HEADER_AS_A_SEGMENT,
+        197,
+        Seen {
+            extent: (197, 354),
+            notices: 0,
+            misplaced: false,
+            groups: 0,
+            fault: Some(InterchangeFault::TrailerMissing),
+        },
+    ),
+    (
+        ORDER_WITHOUT_TRAILER,
+        0,
+        Seen {
+            extent: (0, 220),
+            notices: 0,
+            misplaced: false,
+            groups: 1,
+            fault: Some(InterchangeFault::TrailerMissing),
+        },
+    ),
+    (
+        ORDER_WITHOUT_TRAILER,
+        220,
+        Seen {
+            extent: (220, 456),
+            notices: 0,
+            misplaced: false,
+            groups: 1,
+            fault: None,
+        },
+    ),
+    (
+        NOTICES,
+        0,
+        Seen {
+            extent: (0, 191),
+            notices: 2,
+            misplaced: false,
+            groups: 1,
+            fault: Some(InterchangeFault::GroupHeaderInvalid),
+        },
+    ),
+    (
+        WITHOUT_TRAILERS,
+        0,
+        Seen {
+            extent: (0, 190),
+            notices: 0,
+            misplaced: false,
+            groups: 2,
+            fault: Some(InterchangeFault::GroupHeaderInvalid),
+        },
+    ),
+];
+
+/// The interchange whose header begins at this offset.
+fn look(alloc: Global, text: &[u8], start: usize) -> Result<Seen, Fail> {
+    let found = read(alloc, text, start)?;
+    Ok(Seen {
+        extent: (found.start(), found.end()),
+        notices: found.notices(),
+        misplaced: found.is_misplaced(),
+        groups: found.group_count(),
+        fault: judge(&found),
+    })
 }
 
 #[test]
-fn reads_an_interchange(rt: HostRuntime) -> Result<(), Fail> {
+fn reads_interchanges(rt: HostRuntime) -> Result<(), Fail> {
+    for (text, start, wanted) in INTERCHANGES {
+        assert_eq!(rt; look(rt.alloc(), text, *start)?, *wanted);
+    }
+    Ok(())
+}
+
+/// A text, a group's number in its first interchange, its GS06, its GE01 if it has a GE, and how many
+/// sets it has.
+const GROUPS: &[(&[u8], usize, &[u8], Option<&[u8]>, usize)] = &[
+    (ORDER, 0, b"12", Some(b"1"), 1),
+    (HEADER_IN_AN_ELEMENT, 0, b"12", Some(b"1"), 1),
+    (NOTICES, 0, b"", Some(b"1"), 1),
+    (WITHOUT_TRAILERS, 0, b"", Some(b"2"), 2),
+    (WITHOUT_TRAILERS, 1, b"", None, 1),
+];
+
+/// Whether an interchange has such a group.
+fn has_group(
+    alloc: Global,
+    text: &[u8],
+    index: usize,
+    control: &[u8],
+    listed: Option<&[u8]>,
+    sets: usize,
+) -> Result<bool, Fail> {
+    let found = read(alloc, text, 0)?;
+    if found.group_count() <= index {
+        return Ok(false);
+    }
+    let group = found.group(index);
+    let trailer = group.trailer().map(|x| x.element(1));
+    Ok(group.header().element(6) == control && trailer == listed && group.set_count() == sets)
+}
+
+#[test]
+fn reads_groups(rt: HostRuntime) -> Result<(), Fail> {
+    for (text, index, control, listed, sets) in GROUPS {
+        assert!(rt; has_group(rt.alloc(), text, *index, control, *listed, *sets)?);
+    }
+    Ok(())
+}
+
+/// A set of a text's first interchange, by the numbers of its group and of it in that.
+struct Set {
+    text: &'static [u8],
+    place: (usize, usize),
+    control: &'static [u8],
+    segments: u64,
+    /// SE01, if it has an SE.
+    counted: Option<&'static [u8]>,
+    end: usize,
+}
+
+const SETS: &[Set] = &[
+    Set {
+        text: ORDER,
+        place: (0, 0),
+        control: b"0001",
+        segments: 4,
+        counted: Some(b"4"),
+        end: 212,
+    },
+    Set {
+        text: HEADER_IN_AN_ELEMENT,
+        place: (0, 0),
+        control: b"0001",
+        segments: 6,
+        counted: Some(b"6"),
+        end: 334,
+    },
+    Set {
+        text: NOTICES,
+        place: (0, 0),
+        control: b"0001",
+        segments: 3,
+        counted: Some(b"3"),
+        end: 172,
+    },
+    Set {
+        text: WITHOUT_TRAILERS,
+        place: (0, 0),
+        control: b"0001",
+        segments: 2,
+        counted: None,
+        end: 133,
+    },
+    Set {
+        text: WITHOUT_TRAILERS,
+        place: (0, 1),
+        control: b"0002",
+        segments: 1,
+        counted: None,
+        end: 145,
+    },
+    Set {
+        text: WITHOUT_TRAILERS,
+        place: (1, 0),
+        control: b"0001",
+        segments: 2,
+        counted: Some(b"2"),
+        end: 182,
+    },
+];
+
+/// Whether an interchange has such a set, of so many segments, which ends there.
+fn has_set(
+    alloc: Global,
+    text: &[u8],
+    place: (usize, usize),
+    control: &[u8],
+    counted: Option<&[u8]>,
+    size: (u64, usize),
+) -> Result<bool, Fail> {
+    let found = read(alloc, text, 0)?;
+    if found.group_count() <= place.0 {
+        return Ok(false);
+    }
+    let group = found.group(place.0);
+    if group.set_count() <= place.1 {
+        return Ok(false);
+    }
+    let set = group.set(place.1);
+    let trailer = set.trailer.map(|x| x.element(1));
+    Ok(set.header.element(2) == control && trailer == counted && (set.segments, set.end) == size)
+}
+
+#[test]
+fn reads_sets(rt: HostRuntime) -> Result<(), Fail> {
+    for set in SETS {
+        let size = (set.segments, set.end);
+        assert!(rt;
+            has_set(
+                rt.alloc(),
+                set.text,
+                set.place,
+                set.control,
+                set.counted,
+                size
+            )?
+        );
+    }
+    Ok(())
+}
+
+#[test]
+fn lends_the_header_and_the_trailer(rt: HostRuntime) -> Result<(), Fail> {
     assert_eq!(rt; ORDER.len(), 236);
     let found = read_interchange(rt.alloc(), ORDER, 0)?.ok_or("no header")?;
     assert_eq!(rt; (found.start(), found.end()), (0, 236));
     assert_eq!(rt; found.header().field(13), b"000000007".as_slice());
-    assert_eq!(rt; (found.notices(), found.is_misplaced()), (0, false));
-    assert_eq!(rt; judge(&found), None);
     let trailer = found.trailer().ok_or("no IEA")?;
     assert_eq!(rt; trailer.bytes(), b"IEA*1*000000007".as_slice());
     Ok(())
 }
 
 #[test]
-fn reads_a_group(rt: HostRuntime) -> Result<(), Fail> {
-    let found = read(rt.alloc(), ORDER, 0)?;
-    assert_eq!(rt; found.group_count(), 1);
-    let group = group(&found, 0)?;
-    assert_eq!(rt; group.header().element(6), b"12".as_slice());
-    let trailer = group.trailer().ok_or("no GE")?;
-    assert_eq!(rt; trailer.element(1), b"1".as_slice());
-    assert_eq!(rt; group.set_count(), 1);
+fn no_interchange_begins_elsewhere(rt: HostRuntime) -> Result<(), Fail> {
+    let text = ORDER_WITHOUT_TRAILER;
+    assert!(rt; text.len() == 456);
+    assert!(rt; read_interchange(rt.alloc(), text, 1)?.is_none());
     Ok(())
 }
 
 #[test]
-fn reads_a_set(rt: HostRuntime) -> Result<(), Fail> {
-    let found = read(rt.alloc(), ORDER, 0)?;
-    let set = set(&group(&found, 0)?, 0)?;
-    assert_eq!(rt; (set.segments, set.end), (4, 212));
-    assert_eq!(rt; set.header.element(2), b"0001".as_slice());
-    let trailer = set.trailer.ok_or("no SE")?;
-    assert_eq!(rt; trailer.element(1), b"4".as_slice());
+fn an_interchange_with_a_header_in_an_element_is_alone(rt: HostRuntime) -> Result<(), Fail> {
+    let text = HEADER_IN_AN_ELEMENT;
+    assert!(rt; text.len() == 358);
+    assert!(rt; read_lone(rt.alloc(), text)?.is_some());
     Ok(())
 }
 
@@ -65,102 +304,4 @@ fn states_the_laws() {
     envelope_is_there();
     chain_is_one();
     sets_stand_alone();
-}
-
-#[test]
-fn a_header_inside_an_element_begins_no_interchange(rt: HostRuntime) -> Result<(), Fail> {
-    let text = HEADER_IN_AN_ELEMENT;
-    let found = read(rt.alloc(), text, 0)?;
-    assert_eq!(rt; (text.len(), found.end()), (358, 358));
-    assert_eq!(rt; judge(&found), None);
-    let group = group(&found, 0)?;
-    assert_eq!(rt; (found.group_count(), group.set_count()), (1, 1));
-    assert_eq!(rt; set(&group, 0)?.segments, 6);
-    assert!(rt; text.len() < 1000);
-    assert!(rt; read_lone(rt.alloc(), text)?.is_some());
-    Ok(())
-}
-
-#[test]
-fn a_header_that_begins_a_segment_ends_the_interchange(rt: HostRuntime) -> Result<(), Fail> {
-    let text = HEADER_AS_A_SEGMENT;
-    let missing = Some(InterchangeFault::TrailerMissing);
-    let first = read(rt.alloc(), text, 0)?;
-    assert_eq!(rt; (first.start(), first.end()), (0, 197));
-    assert_eq!(rt; judge(&first), missing);
-    let second = read(rt.alloc(), text, 197)?;
-    assert_eq!(rt; (second.start(), second.end()), (197, text.len()));
-    assert_eq!(rt; judge(&second), missing);
-    Ok(())
-}
-
-#[test]
-fn an_interchange_without_trailer_reaches_the_next_header(rt: HostRuntime) -> Result<(), Fail> {
-    let text = joined(rt.alloc(), &ORDER[..220], ORDER)?;
-    assert!(rt; text.len() == 456);
-    let first = read(rt.alloc(), &text, 0)?;
-    assert_eq!(rt;
-        (first.end(), judge(&first)),
-        (220, Some(InterchangeFault::TrailerMissing))
-    );
-    let second = read(rt.alloc(), &text, 220)?;
-    assert_eq!(rt; (second.start(), second.end()), (220, 456));
-    assert_eq!(rt; judge(&second), None);
-    assert!(rt; read_interchange(rt.alloc(), &text, 1)?.is_none());
-    Ok(())
-}
-
-const NOTICES: &[u8] =
-    b"TA1*000000001*260228*0900*A*000~GS*PO~ST*850*0001~TA1*1~SE*3*0001~GE*1~TA1*2~IEA*1*7~";
-
-#[test]
-fn counts_interchange_acknowledgments_outside_groups(rt: HostRuntime) -> Result<(), Fail> {
-    let text = joined(rt.alloc(), HEADER, NOTICES)?;
-    let found = read(rt.alloc(), &text, 0)?;
-    assert_eq!(rt; (found.notices(), found.is_misplaced()), (2, false));
-    let group = group(&found, 0)?;
-    assert_eq!(rt; (found.group_count(), group.set_count()), (1, 1));
-    assert_eq!(rt; set(&group, 0)?.segments, 3);
-    Ok(())
-}
-
-const WITHOUT_TRAILERS: &[u8] =
-    b"GS*PO*1~ST*850*0001~BEG*00~ST*850*0002~GE*2*1~GS*PO*2~ST*850*0001~SE*2*0001~IEA*2*7~";
-
-/// How many sets a group has, and whether it has a GE.
-const GROUPS: &[(usize, bool)] = &[(2, true), (1, false)];
-
-/// The numbers of a group and a set, how many segments it has, whether it has an SE, and where it
-/// ends.
-const SETS: &[(usize, usize, u64, bool, usize)] = &[
-    (0, 0, 2, false, 133),
-    (0, 1, 1, false, 145),
-    (1, 0, 2, true, 182),
-];
-
-#[test]
-fn groups_may_lack_their_trailers(rt: HostRuntime) -> Result<(), Fail> {
-    let text = joined(rt.alloc(), HEADER, WITHOUT_TRAILERS)?;
-    let found = read(rt.alloc(), &text, 0)?;
-    assert_eq!(rt; (found.group_count(), found.is_misplaced()), (2, false));
-    for (index, (sets, closed)) in GROUPS.iter().enumerate() {
-        let group = group(&found, index)?;
-        assert_eq!(rt;
-            (group.set_count(), group.trailer().is_some()),
-            (*sets, *closed)
-        );
-    }
-    Ok(())
-}
-
-#[test]
-fn sets_may_lack_their_trailers(rt: HostRuntime) -> Result<(), Fail> {
-    let text = joined(rt.alloc(), HEADER, WITHOUT_TRAILERS)?;
-    let found = read(rt.alloc(), &text, 0)?;
-    for (in_group, index, segments, closed, end) in SETS {
-        let set = set(&group(&found, *in_group)?, *index)?;
-        assert_eq!(rt; (set.segments, set.end), (*segments, *end));
-        assert_eq!(rt; set.trailer.is_some(), *closed);
-    }
-    Ok(())
 }
