@@ -10,11 +10,11 @@ pub const MOST_COMPONENTS: usize = 20;
 pub const MOST_REPEATS: u32 = 999;
 /// How many segments and loops a guide has at most.
 pub const MOST_NODES: usize = 2_000;
-/// How many bytes the text of a run has at most: its offsets fit 32 bits.
-pub const LONGEST_TEXT: usize = 4_294_967_295;
+/// How many bytes an input has at most: its offsets fit 32 bits.
+pub const LONGEST_TEXT: u64 = 4_294_967_295;
 
-/// Whether a text of so many bytes is short enough to be read.
-pub fn within_limit(len: usize) -> bool
+/// Whether an input of so many bytes isn't too long to be read.
+pub fn within_limit(len: u64) -> bool
     ensures { IsTrue result ↔ (len ≤ LONGEST_TEXT) }
 {
     len <= LONGEST_TEXT

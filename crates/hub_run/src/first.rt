@@ -7,17 +7,17 @@ ghost use Rattle.env_index.specs.Summary.{GroupEntry};
 ghost use Rattle.hub_run.specs.First.{IsOne, IsReply, is_answerable};
 
 use crate::fault::FirstFault;
-use crate::limit::{MOST_BYTES, within_limit};
 use crate::reply::{First, reply};
 use elem_rules::At;
 use env_index::{GroupEnvelope, Interchange, judge, read_lone};
+use hub_kinds::{LONGEST_TEXT, within_limit};
 use std::alloc::Global;
 
 /// The acknowledgment of a text that is one interchange with one group, and the verdict on that group. No
 /// guide is asked for. Where more than one refusal holds, the text's length is judged first; want of memory
 /// may come before `NotOne`.
 pub fn run_first(alloc: Global, text: &[u8], at: &At) -> Result<First, FirstFault>
-    ensures too_long { IsErrOf result FirstFault.InputTooLong ↔ (MOST_BYTES < length text.now) }
+    ensures too_long { IsErrOf result FirstFault.InputTooLong ↔ (LONGEST_TEXT < length text.now) }
     ensures not_one { IsErrOf result FirstFault.NotOne → (x : InterchangeEntry) (group : GroupEntry) → IsOne text.now x group → ⊥ }
     ensures answered { IfOk result (λ first. (x : InterchangeEntry) × (group : GroupEntry) × IsOne text.now x group
         × IsReply at.now first.ack first.verdict x group) }

@@ -26,11 +26,10 @@ mod envelope;
 mod fault;
 mod first;
 mod group;
-mod limit;
 mod reply;
 mod seen;
 
 pub use fault::FirstFault;
 pub use first::run_first;
-pub use limit::{MOST_BYTES, within_limit};
+pub use hub_kinds::within_limit;
 pub use reply::First;

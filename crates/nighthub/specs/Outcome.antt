@@ -6,7 +6,7 @@ use Rattle.hub_kinds.specs.declared.set_codes.GroupVerdict.TheVariants.{Accepted
 use Rattle.env_index.specs.Interchange.{InterchangeEntry}
 use Rattle.env_index.specs.Summary.{GroupEntry}
 use Rattle.hub_run.specs.First.{IsOne, IsReply}
-use Rattle.hub_run.specs.declared.limit.TheConstants.{MOST_BYTES}
+use Rattle.hub_kinds.specs.declared.limits.TheConstants.{LONGEST_TEXT}
 use Rattle.nighthub.specs.CommandLine.{AsksForText, value_of}
 use Rattle.nighthub.specs.declared.outcome.Outcome.{Outcome}
 use Rattle.nighthub.specs.declared.outcome.Outcome.TheVariants.{Shown, Acknowledged}
@@ -36,7 +36,7 @@ IsAnswer text at (Acknowledged first) =
 -- the answer to some text that isn't too long
 pub record IsAnswerAt (at : List ℕ) (o : Outcome) : Type 0 where
   pub text : List ℕ
-  pub within : length text ≤ MOST_BYTES
+  pub within : length text ≤ LONGEST_TEXT
   pub answer : IsAnswer text at o
 
 -- what these words may have printed: a text where they ask for one, otherwise an answer at the moment that they name

@@ -8,12 +8,13 @@ ghost use Rattle.nighthub.specs.Outcome.{IsAnswer};
 use crate::failure::Failure;
 use crate::outcome::Outcome;
 use elem_rules::At;
-use hub_run::{FirstFault, MOST_BYTES, run_first};
+use hub_kinds::LONGEST_TEXT;
+use hub_run::{FirstFault, run_first};
 use std::alloc::Global;
 
 /// The acknowledgment of a text that is one interchange with one functional group.
 pub fn answer(alloc: Global, text: &[u8], at: &At) -> Result<Outcome, Failure>
-    ensures too_long { IsErrOf result Failure.InputTooLong ↔ (MOST_BYTES < length text.now) }
+    ensures too_long { IsErrOf result Failure.InputTooLong ↔ (LONGEST_TEXT < length text.now) }
     ensures input { IsErrOf result Failure.Input
         → (x : InterchangeEntry) (group : GroupEntry) → IsOne text.now x group → ⊥ }
     ensures answered { IfOk result (IsAnswer text.now at.now) }

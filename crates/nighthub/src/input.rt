@@ -2,7 +2,8 @@ ghost use Rattle.std.specs.Prelude.{◌≡◌, ◌+◌, ◌<◌, ◌≤◌, ◌�
 ghost use Rattle.nighthub.specs.Failure.{IsOfInput, IsOfReading};
 
 use crate::failure::Failure;
-use hub_run::{MOST_BYTES, within_limit};
+use hub_kinds::LONGEST_TEXT;
+use hub_run::within_limit;
 use std::alloc::Global;
 use std::fs;
 use std::fs::OpenFile;
@@ -11,7 +12,7 @@ use std::rt::Files;
 
 /// The bytes of a file.
 pub fn read_input<R: Files + AllocGlobal>(rt: &R, path: &str) -> Result<Vec<u8>, Failure>
-    ensures within { IfOk result (λ text. vec_len text ≤ MOST_BYTES) }
+    ensures within { IfOk result (λ text. vec_len text ≤ LONGEST_TEXT) }
     ensures err { IfErr result IsOfInput }
 {
     let file = fs::open(rt, path).map_err(Failure::of_input)?;
@@ -23,10 +24,10 @@ pub fn read_input<R: Files + AllocGlobal>(rt: &R, path: &str) -> Result<Vec<u8>,
 /// more than the most bytes and one held.
 pub fn read_all<I: Read + Drop>(alloc: Global, input: I, said: u64) -> Result<Vec<u8>, Failure>
     ensures all { IfOk result (λ text. IfSome (I.remaining input) (λ bytes. text.items ≡ bytes)) }
-    ensures within { IfOk result (λ text. vec_len text ≤ MOST_BYTES) }
+    ensures within { IfOk result (λ text. vec_len text ≤ LONGEST_TEXT) }
     ensures too_long { IsErrOf result Failure.InputTooLong
-        → (MOST_BYTES < said) ⊎ IfSome (I.remaining input) (λ bytes. MOST_BYTES < length bytes) }
-    ensures said { MOST_BYTES < said → IsErrOf result Failure.InputTooLong }
+        → (LONGEST_TEXT < said) ⊎ IfSome (I.remaining input) (λ bytes. LONGEST_TEXT < length bytes) }
+    ensures said { LONGEST_TEXT < said → IsErrOf result Failure.InputTooLong }
     ensures err { IfErr result IsOfInput }
 {
     if !within_limit(said) {
@@ -43,11 +44,11 @@ pub fn read_all<I: Read + Drop>(alloc: Global, input: I, said: u64) -> Result<Ve
 /// The first bytes of a reader, the most bytes and one where there are so many.
 fn read_first<I: Read + Drop>(alloc: Global, input: I, room: usize) -> Result<Vec<u8>, Failure>
     ensures first { IfOk result (λ text. IfSome (I.remaining input)
-        (λ bytes. text.items ≡ take (MOST_BYTES + 1) bytes)) }
+        (λ bytes. text.items ≡ take (LONGEST_TEXT + 1) bytes)) }
     ensures err { IfErr result IsOfReading }
 {
     let mut text = Vec::with_capacity(alloc, room)?;
-    match input.take(MOST_BYTES + 1).read_to_end(&mut text) {
+    match input.take(LONGEST_TEXT + 1).read_to_end(&mut text) {
         Ok(_) => Ok(text),
         Err(error) => Err(Failure::of_input(error)),
     }
