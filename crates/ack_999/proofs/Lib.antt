@@ -1,6 +1,5 @@
+mod WorkedGroup
 pub mod Noting
-pub mod Trimming
-pub mod Padding
 pub mod Verdicts
 pub mod Parts
 pub mod ReadBack
@@ -8,3 +7,6 @@ pub mod Telling
 pub mod Plain
 pub mod ReadableFaults
 pub mod Readable
+pub mod Enclosing
+pub mod Thirds
+pub mod Positions

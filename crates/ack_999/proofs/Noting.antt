@@ -4,8 +4,8 @@ use Rattle.x12_bytes.specs.declared.delims.Delims.{Delims}
 use Rattle.hub_kinds.specs.Codes.{element_text}
 use Rattle.hub_kinds.specs.declared.codes.ElementCode.{ElementCode}
 use Rattle.hub_kinds.specs.declared.codes.ElementCode.TheVariants as element
-use Rattle.ack_999.specs.Segment.{before_rest, trimmed, elements_text, end_text, segment_text}
-use Rattle.ack_999.proofs.Trimming.{before_rest-some}
+use Rattle.x12_write.specs.Segment.{before_rest, trimmed, elements_text, end_text, segment_text}
+use Rattle.x12_write.proofs.Trimming.{before_rest-some}
 
 -- each code has a text
 element_text-some : (k : ElementCode) → 0 < length (element_text k)

@@ -10,7 +10,7 @@ use Rattle.x12_bytes.specs.declared.delims.Delims.{Delims}
 use Rattle.hub_kinds.specs.declared.answers.GroupAnswer.{GroupAnswer}
 use Rattle.hub_kinds.specs.declared.answers.SetAnswer.{SetAnswer}
 use Rattle.ack_999.specs.declared.totals.Totals.{Totals}
-use Rattle.ack_999.specs.Segment.{Segment, segment, segment_text, segments_text}
+use Rattle.x12_write.specs.Segment.{Segment, segment, segment_text, segments_text}
 use Rattle.ack_999.specs.Faults.{notes, note_segment, fault_segments}
 use Rattle.ack_999.specs.Group.{totals_of, set_segment_count}
 use Rattle.ack_999.specs.Report.{head_segments, convention_text, set_response, set_segments, set_loops, shows_sets, group_response}

@@ -12,8 +12,9 @@ use Rattle.x12_bytes.specs.declared.delims.Delims.{Delims}
 use Rattle.x12_segs.specs.Parts.{parts}
 use Rattle.x12_segs.specs.Segs.{Seg, Segs, segs_of, part_at}
 use Rattle.x12_segs.specs.View.{views, view_of, elements_of}
-use Rattle.ack_999.specs.Segment.{Segment, trimmed, before_rest, elements_text, segment_text, segments_text}
-use Rattle.ack_999.specs.ReadBack.{IsUndivided, written_parts}
+use Rattle.x12_write.specs.Segment.{Segment, trimmed, before_rest, elements_text, segment_text, segments_text}
+use Rattle.ack_999.specs.ReadBack.{written_parts}
+use Rattle.x12_write.specs.Undivided.{IsUndivided}
 
 -- nothing in a segment is taken for a delimiter, or passed over in front of it
 pub record IsReadable (d : Delims) (s : Segment) : Type 0 where

@@ -10,12 +10,14 @@ use Rattle.hub_kinds.specs.SetCodes.{set_code_text, group_code_text, verdict_tex
 use Rattle.ack_999.specs.declared.totals.Totals.{Totals}
 use Rattle.ack_999.specs.Faults.{fault_segments}
 use Rattle.ack_999.specs.Group.{totals_of, received_sets}
-use Rattle.ack_999.specs.Number.{padded_number}
-use Rattle.ack_999.specs.ReadBack.{CanDivide, IsUndivided, IsQuotable, IsQuotableFault}
+use Rattle.x12_write.specs.Number.{padded_number}
+use Rattle.ack_999.specs.ReadBack.{IsQuotable, IsQuotableFault}
+use Rattle.x12_write.specs.Undivided.{CanDivide, IsUndivided}
 use Rattle.ack_999.specs.Report.{head_segments, convention_text, set_segments, shows_sets, set_loops, listed_sets, accepted_sets}
 use Rattle.ack_999.specs.Report.{group_response, set_trailer, segments_999}
-use Rattle.ack_999.specs.Segment.{Segment, segment}
-use Rattle.ack_999.proofs.Plain.{is_plain, plain-undivided, decimal-undivided, padded_number-undivided, plain-set_code_text}
+use Rattle.x12_write.specs.Segment.{Segment, segment}
+use Rattle.ack_999.proofs.Plain.{plain-set_code_text}
+use Rattle.x12_write.proofs.Plain.{is_plain, plain-undivided, decimal-undivided, padded_number-undivided}
 use Rattle.ack_999.proofs.Plain.{plain-group_code_text, plain-verdict_text, plain-group_verdict_text, plain-convention_text}
 use Rattle.ack_999.proofs.ReadBack.{IsReadable}
 use Rattle.ack_999.proofs.ReadableFaults.{readable, readable-faults}

@@ -11,9 +11,11 @@ use Rattle.hub_kinds.specs.Codes as code
 use Rattle.ack_999.specs.Copy.{is_this, is_delimiter, may_be_copied, copy_text}
 use Rattle.ack_999.specs.Faults.{Note, SegmentNote, ElementNote, id_text, code_shown, number_text, position_text, note_segment, notes_for}
 use Rattle.ack_999.specs.Faults.{notes_on, notes_behind, element_position}
-use Rattle.ack_999.specs.ReadBack.{CanDivide, IsUndivided, IsQuotableElement, IsQuotableFault}
-use Rattle.ack_999.specs.Segment.{segment, elements_text, trimmed}
-use Rattle.ack_999.proofs.Plain.{is_plain, both, plain-undivided, decimal-undivided, plain-id_text, plain-segment_text, plain-element_text}
+use Rattle.ack_999.specs.ReadBack.{IsQuotableElement, IsQuotableFault}
+use Rattle.x12_write.specs.Undivided.{CanDivide, IsUndivided}
+use Rattle.x12_write.specs.Segment.{segment, elements_text, trimmed}
+use Rattle.ack_999.proofs.Plain.{plain-id_text, plain-segment_text, plain-element_text}
+use Rattle.x12_write.proofs.Plain.{is_plain, both, plain-undivided, decimal-undivided}
 use Rattle.ack_999.proofs.ReadBack.{IsReadable, trimmed-all}
 
 -- a segment with elements that hold no delimiter

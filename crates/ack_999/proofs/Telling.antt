@@ -6,7 +6,7 @@ use Rattle.std.proofs.lemmas.List.Folds.{flat_map-map}
 use Rattle.x12_bytes.specs.declared.delims.Delims.{Delims}
 use Rattle.hub_kinds.specs.declared.fault.Fault.{Fault}
 use Rattle.ack_999.specs.Faults.{note_segment, notes_text, notes_behind, fault_segments}
-use Rattle.ack_999.specs.Segment.{segment_text, segments_text}
+use Rattle.x12_write.specs.Segment.{segment_text, segments_text}
 
 -- the notes are written as their segments
 pub notes_text-is : (d : Delims) (faults : List Fault)

@@ -1,8 +1,7 @@
 -- 999 guide (005010X231), error identification (IK3) and implementation data element note (IK4): the faults of a set.
-use Rattle.std.specs.Prelude.{ℕ, Bool, ◌&&◌, ◌||◌, ◌==◌, nat_le, Option, Some, None, if◌then◌else◌}
-use Rattle.std.specs.Prelude.{List, [], ◌∷◌, ◌++◌, length, map, codes, decimal}
-use Rattle.std.specs.List.{flat_map, list_all}
-use Rattle.std.specs.Char.{is_ascii_digit, is_ascii_uppercase}
+use Rattle.std.specs.Prelude.{ℕ, ◌==◌, Option, Some, None, if◌then◌else◌}
+use Rattle.std.specs.Prelude.{List, [], ◌∷◌, ◌++◌, map, codes, decimal}
+use Rattle.std.specs.List.{flat_map}
 use Rattle.x12_bytes.specs.declared.delims.Delims.{Delims}
 use Rattle.hub_kinds.specs.declared.codes.SegmentCode.{SegmentCode}
 use Rattle.hub_kinds.specs.declared.codes.SegmentCode.TheVariants as segment_code
@@ -10,16 +9,11 @@ use Rattle.hub_kinds.specs.declared.fault.Fault.{Fault}
 use Rattle.hub_kinds.specs.declared.fault.ElemFault.{ElemFault}
 use Rattle.hub_kinds.specs.declared.fault.TheConstants.{NO_NUMBER}
 use Rattle.hub_kinds.specs.Codes as code
+use Rattle.hub_kinds.specs.Words.{is_segment_id}
 use Rattle.ack_999.specs.Copy.{is_this, copy_text}
-use Rattle.ack_999.specs.Segment.{Segment, segment, segment_text, elements_text, trimmed}
+use Rattle.x12_write.specs.Segment.{Segment, segment, segment_text, elements_text, trimmed}
 
 -- IK301: an id of 2 or 3 upper-case letters or digits stands, any other is written ZZZ (own)
-abbrev pub is_id_byte : ℕ → Bool
-is_id_byte b = is_ascii_uppercase b || is_ascii_digit b
-
-abbrev pub is_segment_id : List ℕ → Bool
-is_segment_id id = nat_le 2 (length id) && nat_le (length id) 3 && list_all is_id_byte id
-
 abbrev pub id_text : List ℕ → List ℕ
 id_text id = if is_segment_id id then id else codes "ZZZ"
 

@@ -10,6 +10,8 @@ use Rattle.hub_kinds.specs.declared.set_codes.Verdict.{Verdict}
 use Rattle.hub_kinds.specs.declared.set_codes.Verdict.TheVariants as verdict
 use Rattle.hub_kinds.specs.declared.set_codes.GroupVerdict.{GroupVerdict}
 use Rattle.hub_kinds.specs.declared.set_codes.GroupVerdict.TheVariants as group
+use Rattle.ack_999.specs.declared.support.GroupSupport.{GroupSupport}
+use Rattle.ack_999.specs.declared.support.GroupSupport.TheVariants as support
 use Rattle.ack_999.specs.declared.trailer.GroupTrailer.{GroupTrailer}
 use Rattle.ack_999.specs.declared.totals.Totals.{Totals}
 use Rattle.ack_999.specs.Faults.{notes}
@@ -24,17 +26,28 @@ abbrev pub unless : Bool → GroupCode → List GroupCode
 unless true code = []
 unless false code = code ∷ []
 
--- what GE shows: GE02 isn't 1 to 9 digits equal as a number to GS06;
--- GE01 isn't 1 to 6 digits equal to the number of sets
-abbrev pub trailer_codes : List ℕ → GroupTrailer → ℕ → List GroupCode
-trailer_codes control trailer sets =
+-- 1: no guide of the sender has GS01; 2: some has, but none of these has GS08
+abbrev pub support_codes : GroupSupport → List GroupCode
+support_codes support.Served = []
+support_codes support.NotServed = code.NotSupported ∷ []
+support_codes support.VersionNotServed = code.VersionNotSupported ∷ []
+
+-- 3: there is no GE; 4: GE02 isn't 1 to 9 digits equal as a number to GS06; 5: GE01 isn't 1 to 6 digits equal to the number of sets
+abbrev pub trailer_codes : List ℕ → Option GroupTrailer → ℕ → List GroupCode
+trailer_codes control None sets = code.TrailerMissing ∷ []
+trailer_codes control (Some trailer) sets =
     unless (agree (number_of 9 trailer.control) (number_of 9 control)) code.ControlNumbersDiffer
     ++ unless (agree (number_of 6 trailer.listed) (Some sets)) code.SetCountWrong
 
--- the codes that need no guide, in their order
-abbrev pub group_codes_of : List ℕ → Option GroupTrailer → ℕ → List GroupCode
-group_codes_of control None sets = code.TrailerMissing ∷ []
-group_codes_of control (Some trailer) sets = trailer_codes control trailer sets
+-- 19: an earlier group of the interchange has the same GS06 as a number
+abbrev pub earlier_codes : Bool → List GroupCode
+earlier_codes true = code.ControlNumberNotUnique ∷ []
+earlier_codes false = []
+
+-- the codes of a group, in their order
+abbrev pub group_codes_of : GroupSupport → List ℕ → Option GroupTrailer → ℕ → Bool → List GroupCode
+group_codes_of support control trailer sets earlier =
+    support_codes support ++ trailer_codes control trailer sets ++ earlier_codes earlier
 
 abbrev pub is_accepted : Verdict → Bool
 is_accepted verdict.Accepted = true

@@ -1,9 +1,7 @@
-pub mod Segment
-pub mod Extends
-pub mod Number
 pub mod Copy
 pub mod Faults
 pub mod Group
 pub mod Report
 pub mod Interchange
 pub mod ReadBack
+pub mod Rising

@@ -1,26 +1,17 @@
 -- X12.6, segment: an acknowledgment, read again by the same delimiters.
-use Rattle.std.specs.Prelude.{ℕ, ◌≡◌, ◌≢◌, List, [], ◌∷◌, false, map, All, IfSome}
-use Rattle.std.specs.Char.{is_ascii_alphanumeric}
+use Rattle.std.specs.Prelude.{ℕ, ◌≡◌, List, [], ◌∷◌, map, All, IfSome}
 use Rattle.x12_bytes.specs.declared.delims.Delims.{Delims}
 use Rattle.x12_segs.specs.View.{views, elements_of}
 use Rattle.hub_kinds.specs.declared.answers.GroupAnswer.{GroupAnswer}
 use Rattle.hub_kinds.specs.declared.answers.SetAnswer.{SetAnswer}
 use Rattle.hub_kinds.specs.declared.fault.Fault.{Fault}
 use Rattle.hub_kinds.specs.declared.fault.ElemFault.{ElemFault}
-use Rattle.ack_999.specs.Segment.{Segment, trimmed}
+use Rattle.x12_write.specs.Segment.{Segment, trimmed}
+use Rattle.x12_write.specs.Undivided.{CanDivide, IsUndivided}
 use Rattle.ack_999.specs.Report.{segments_999}
 
--- delimiters that no letter, no digit and not each other can be taken for
-pub record CanDivide (d : Delims) : Type 0 where
-  pub element : is_ascii_alphanumeric d.element ≡ false
-  pub terminator : is_ascii_alphanumeric d.terminator ≡ false
-  pub apart : d.element ≢ d.terminator
-
--- no element separator and no terminator stands in a text
-abbrev pub IsUndivided : Delims → List ℕ → Type 0
-IsUndivided d text = All (λ b. (b ≢ d.element) × (b ≢ d.terminator)) text
-
--- nor in what is repeated of an element fault; where its position is written, the component separator is neither
+-- no element separator and no terminator stands in what is repeated of an element fault; where its position is written, the component
+-- separator is neither
 pub record IsQuotableElement (d : Delims) (e : ElemFault) : Type 0 where
   pub reference : IsUndivided d e.reference
   pub separator : IsUndivided d (d.component ∷ [])

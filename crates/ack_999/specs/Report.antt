@@ -11,8 +11,8 @@ use Rattle.hub_kinds.specs.SetCodes.{set_code_text, group_code_text, verdict_tex
 use Rattle.hub_kinds.specs.Numbers.{number_of}
 use Rattle.hub_kinds.specs.Words.{is_word}
 use Rattle.ack_999.specs.declared.totals.Totals.{Totals}
-use Rattle.ack_999.specs.Segment.{Segment, segment, segments_text}
-use Rattle.ack_999.specs.Number.{padded_number}
+use Rattle.x12_write.specs.Segment.{Segment, segment, segments_text}
+use Rattle.x12_write.specs.Number.{padded_number}
 use Rattle.ack_999.specs.Faults.{fault_segments}
 use Rattle.ack_999.specs.Group.{totals_of, received_sets, set_segment_count}
 

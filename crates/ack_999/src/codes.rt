@@ -1,24 +1,57 @@
-ghost use Rattle.std.specs.Prelude.{◌≡◌, ℕ, List, IfOk};
+ghost use Rattle.std.specs.Prelude.{◌≡◌, ◌++◌, ℕ, List, IfOk, OnOk};
 ghost use Rattle.std.specs.Option.{option_copied};
-ghost use Rattle.ack_999.specs.Group.{group_codes_of, agree};
+ghost use Rattle.ack_999.specs.Group.{agree, group_codes_of, support_codes, trailer_codes};
 
+use crate::support::GroupSupport;
 use crate::trailer::GroupTrailer;
 use hub_kinds::{GroupCode, Items, NoMemory, read_number};
 use std::alloc::Global;
 
-/// What is wrong with a functional group, in the order of its codes: so far the codes that ask
-/// no guide (999 guide, AK905). `control` is GS06, `trailer` the GE if there is one, `sets` the
-/// number of transaction sets between them.
+/// What is wrong with a functional group, in the order of its codes (999 guide, AK905). `control`
+/// is GS06, `trailer` the GE if there is one, `sets` the number of transaction sets between them,
+/// `earlier` whether an earlier group of the interchange has the same GS06 as a number.
 pub fn group_codes(
     alloc: Global,
+    support: GroupSupport,
     control: &[u8],
     trailer: Option<&GroupTrailer>,
     sets: u64,
+    earlier: bool,
 ) -> Result<Items<GroupCode>, NoMemory>
     ensures { IfOk result
-        (λ codes. codes ≡ group_codes_of control.now (option_copied trailer.entry) sets) }
+        (λ codes. codes ≡ group_codes_of support control.now (option_copied trailer.entry) sets earlier) }
 {
     let mut codes = Vec::new(alloc);
+    add_support_codes(&mut codes, support)?;
+    add_trailer_codes(&mut codes, control, trailer, sets)?;
+    if earlier {
+        codes.push(GroupCode::ControlNumberNotUnique)?;
+    }
+    Ok(Items::from_vec(codes))
+}
+
+/// Adds the code of a group that the sender's guides don't serve.
+fn add_support_codes(codes: &mut Vec<GroupCode>, support: GroupSupport) -> Result<(), NoMemory>
+    ensures { OnOk result (codes.new.items ≡ codes.old.items ++ support_codes support) }
+{
+    match support {
+        GroupSupport::Served => {}
+        GroupSupport::NotServed => codes.push(GroupCode::NotSupported)?,
+        GroupSupport::VersionNotServed => codes.push(GroupCode::VersionNotSupported)?,
+    }
+    Ok(())
+}
+
+/// Adds the codes that GE shows, or that there is none.
+fn add_trailer_codes(
+    codes: &mut Vec<GroupCode>,
+    control: &[u8],
+    trailer: Option<&GroupTrailer>,
+    sets: u64,
+) -> Result<(), NoMemory>
+    ensures { OnOk result
+        (codes.new.items ≡ codes.old.items ++ trailer_codes control.now (option_copied trailer.entry) sets) }
+{
     match trailer {
         None => codes.push(GroupCode::TrailerMissing)?,
         Some(trailer) => {
@@ -33,7 +66,7 @@ pub fn group_codes(
             }
         }
     }
-    Ok(Items::from_vec(codes))
+    Ok(())
 }
 
 /// Whether both are numbers, and the same.

@@ -1,8 +1,8 @@
 ghost use Rattle.std.specs.Prelude.{◌≡◌, ◌++◌, ◌*◌, ◌≤◌, OnOk, length};
 ghost use Rattle.ack_999.specs.Copy.{is_this};
 ghost use Rattle.ack_999.specs.Faults.{element_position, notes, notes_on, notes_text, fault_segments};
-ghost use Rattle.ack_999.specs.Segment.{segments_text};
-ghost use Rattle.ack_999.specs.Extends.{Extends};
+ghost use Rattle.x12_write.specs.Segment.{segments_text};
+ghost use Rattle.x12_write.specs.Extends.{Extends};
 
 use crate::notes::{append_element_note, append_segment_note};
 use hub_kinds::{Fault, NoMemory};

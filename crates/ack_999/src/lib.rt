@@ -8,9 +8,12 @@
 //!   and SE01 is their number; read again by the same delimiters, the text has these segments;
 //!   `append_head`, `append_set` and `append_tail` write the same, one part after another;
 //! - `write_ack_interchange` writes exactly the interchange: its header in its fixed width, one
-//!   group, the acknowledgments, the trailers; `append_opening` and `append_closing` are its ends;
+//!   group, the acknowledgments, the trailers; `append_opening` and `append_closing` are its ends, and what they write,
+//!   with acknowledgments between, is the interchange; its header is read again where the envelope is fit to be sent;
+//! - of faults that stand in their order, each once, each position is told by an IK3 for each structural fault and one IK3
+//!   with code 8 for all element faults together, with an IK4 for each behind it (`each_position_is_told`);
 //! - a call that appends keeps what was there before, also where memory is refused;
-//! - `group_codes` gives the group's codes that ask no guide, in their order;
+//! - `group_codes` gives the group's codes, in their order;
 //! - `group_verdict` works on counts and answers the verdict that the sets' verdicts give; totals that
 //!   are no sets' it judges by their numbers.
 //!
@@ -28,21 +31,22 @@
 mod codes;
 mod copy;
 mod counts;
-mod envelope;
 mod faults;
 mod interchange;
+mod law;
 mod notes;
-mod number;
 mod report;
-mod segment;
+mod support;
 mod totals;
 mod trailer;
 mod verdict;
 
 pub use codes::group_codes;
-pub use envelope::Envelope;
 pub use interchange::{append_closing, append_opening, write_ack_interchange};
+pub use law::each_position_is_told;
 pub use report::{append_head, append_set, append_tail, write_999};
+pub use support::GroupSupport;
 pub use totals::Totals;
 pub use trailer::GroupTrailer;
 pub use verdict::group_verdict;
+pub use x12_write::Envelope;

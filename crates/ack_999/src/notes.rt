@@ -1,16 +1,15 @@
 ghost use Rattle.std.specs.Prelude.{◌≡◌, [], ◌∷◌, ◌++◌, OnOk};
-ghost use Rattle.std.specs.List.{list_all};
 ghost use Rattle.hub_kinds.specs.declared.fault.Fault.{Fault};
-ghost use Rattle.ack_999.specs.Faults.{note_text, SegmentNote, ElementNote, id_text, is_segment_id, is_id_byte};
+ghost use Rattle.ack_999.specs.Faults.{note_text, SegmentNote, ElementNote, id_text};
 ghost use Rattle.ack_999.specs.Faults.{code_shown, position_text, number_text};
-ghost use Rattle.ack_999.specs.Segment.{segment_text, end_text};
-ghost use Rattle.ack_999.specs.Extends.{Extends};
+ghost use Rattle.x12_write.specs.Segment.{segment_text, end_text};
+ghost use Rattle.x12_write.specs.Extends.{Extends};
 
 use crate::copy::copied;
-use crate::segment::{append_end, append_segment, append_used};
-use hub_kinds::{ElemFault, Fault, NO_NUMBER, NoMemory, SegmentCode, code_text};
+use hub_kinds::{ElemFault, Fault, NO_NUMBER, NoMemory, SegmentCode, code_text, is_segment_id};
 use itoa::Buffer;
 use x12_bytes::Delims;
+use x12_write::{append_end, append_segment, append_used};
 
 /// Writes IK3 behind what is there.
 pub fn append_segment_note(
@@ -57,24 +56,6 @@ fn segment_id(id: &[u8]) -> &[u8]
     ensures { result.now ≡ id_text id.now }
 {
     if is_segment_id(id) { id } else { b"ZZZ" }
-}
-
-fn is_segment_id(id: &[u8]) -> bool
-    ensures { result ≡ is_segment_id id.now }
-{
-    2 <= id.len() && id.len() <= 3 && are_id_bytes(id)
-}
-
-fn are_id_bytes(id: &[u8]) -> bool
-    ensures { result ≡ list_all is_id_byte id.now }
-{
-    id.iter().all(|byte| is_id_byte(*byte))
-}
-
-fn is_id_byte(byte: u8) -> bool
-    ensures { result ≡ is_id_byte byte }
-{
-    byte.is_ascii_uppercase() || byte.is_ascii_digit()
 }
 
 /// IK304.

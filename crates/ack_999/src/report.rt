@@ -3,20 +3,19 @@ ghost use Rattle.ack_999.specs.Report.{text_999, head_text, set_text, sets_text,
 ghost use Rattle.ack_999.specs.Report.{convention_text, set_response, group_response, set_trailer};
 ghost use Rattle.hub_kinds.specs.Words.{is_word};
 ghost use Rattle.ack_999.specs.Group.{IsCountable};
-ghost use Rattle.ack_999.specs.Segment.{segments_text};
+ghost use Rattle.x12_write.specs.Segment.{segments_text};
 ghost use Rattle.ack_999.specs.ReadBack.{ReadsBack};
-ghost use Rattle.ack_999.specs.Number.{padded_number};
-ghost use Rattle.ack_999.specs.Extends.{Extends};
+ghost use Rattle.x12_write.specs.Number.{padded_number};
+ghost use Rattle.x12_write.specs.Extends.{Extends};
 
 use crate::counts::{accepted_sets, listed_sets, segment_count, shows_sets, totals_of};
 use crate::faults::append_faults;
-use crate::number::PaddedNumber;
-use crate::segment::{append_coded_segment, append_segment};
 use crate::totals::Totals;
 use hub_kinds::{GroupAnswer, NoMemory, SetAnswer, code_text, is_alphanumeric};
 use itoa::Buffer;
 use std::alloc::Global;
 use x12_bytes::Delims;
+use x12_write::{PaddedNumber, append_coded_segment, append_segment};
 
 /// The implementation acknowledgment of a functional group (999 guide, 005010X231), as transaction
 /// set number `n`, written with these delimiters and no byte between segments.

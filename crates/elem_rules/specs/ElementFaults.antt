@@ -4,9 +4,7 @@ use Rattle.std.specs.Prelude.{Option, Some, None, if◌then◌else◌}
 use Rattle.std.specs.List.{Contains}
 use Rattle.std.specs.Option.{option_map_or}
 use Rattle.std.specs.List.Sorted.{IsStrictlySortedBy}
-use Rattle.std.specs.Ordering.{nat_cmp}
 use Rattle.std.specs.declared.cmp.Ordering.{Ordering}
-use Rattle.std.specs.Cmp.Lexicographic.{slice_cmp}
 use Rattle.x12_bytes.specs.declared.delims.Delims.{Delims}
 use Rattle.x12_segs.specs.View.{occurrences, components}
 use Rattle.guide_tree.specs.declared.element.Requirement.{Requirement}
@@ -21,7 +19,7 @@ use Rattle.guide_tree.specs.Segments.{Segment, element_of}
 use Rattle.hub_kinds.specs.declared.codes.ElementCode.{ElementCode}
 use Rattle.hub_kinds.specs.declared.codes.ElementCode.TheVariants as ik403
 use Rattle.hub_kinds.specs.declared.fault.ElemFault.{ElemFault}
-use Rattle.hub_kinds.specs.Fault.{elem_key}
+use Rattle.hub_kinds.specs.Fault.{element_fault_order}
 use Rattle.elem_rules.specs.Conditions.{is_present, broken_at, condition_code}
 use Rattle.elem_rules.specs.Divided.{is_empty, has_more, occurrence_in, component_in}
 use Rattle.elem_rules.specs.Rows.{Usage, usage_of, nth, shown_repetition, shown_component, reference_in}
@@ -160,7 +158,7 @@ IsElementFault delims s slot f = IsExtraElement delims s slot f ⊎ (IsRowFault 
 
 -- each fault is before the next ones by element, component, repetition and code, so that it stands once
 abbrev pub order_of : ElemFault → ElemFault → Ordering
-order_of f g = slice_cmp nat_cmp (elem_key (Some f)) (elem_key (Some g))
+order_of f g = element_fault_order f g
 
 abbrev pub IsRising : List ElemFault → Type 0
 IsRising faults = IsStrictlySortedBy order_of faults

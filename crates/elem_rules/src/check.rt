@@ -2,8 +2,6 @@ ghost use Rattle.std.specs.Prelude.{◌≡◌, ◌↔◌, ◌≤◌, ◌++◌, I
 ghost use Rattle.std.specs.List.{Contains, list_all};
 ghost use Rattle.std.specs.Ordering.{eq_by_cmp};
 ghost use Rattle.hub_kinds.specs.declared.fault.ElemFault.{ElemFault};
-ghost use Rattle.hub_kinds.specs.Fault.{elem_key};
-ghost use Rattle.hub_kinds.specs.Codes.{element_rank};
 ghost use Rattle.x12_segs.specs.View.{elements_of};
 ghost use Rattle.guide_tree.specs.Bounds.{is_slot_bounded, is_element_bounded};
 ghost use Rattle.guide_tree.specs.Conditions.{is_condition_of};
@@ -16,7 +14,7 @@ use crate::divided::has_more;
 use crate::element::{Subject, check_element};
 use crate::findings::{Findings, Spot};
 use guide_tree::Slot;
-use hub_kinds::{ElemFault, ElementCode, NoMemory};
+use hub_kinds::{ElemFault, ElementCode, NoMemory, element_fault_order};
 use std::alloc::Global;
 use std::cmp::Ordering;
 use x12_segs::SegView;
@@ -94,34 +92,10 @@ fn find(alloc: Global, seg: &SegView, slot: &Slot) -> Result<Findings, NoMemory>
     Ok(found)
 }
 
-fn element_rank(code: ElementCode) -> u32
-    ensures { result ≡ element_rank code }
-{
-    code as u32
-}
-
-fn elem_key(fault: &ElemFault) -> [u32; 4]
-    ensures { result ≡ elem_key (Some fault.now) }
-{
-    [
-        fault.element,
-        fault.component,
-        fault.repetition,
-        element_rank(fault.code),
-    ]
-}
-
-/// Which of two faults of a segment comes first: by element, component, repetition and code.
-fn elem_order(a: &ElemFault, b: &ElemFault) -> Ordering
-    ensures { result ≡ order_of a.now b.now }
-{
-    elem_key(a).cmp(&elem_key(b))
-}
-
 fn has_same_key(a: &ElemFault, b: &ElemFault) -> bool
     ensures { result ≡ eq_by_cmp order_of a.now b.now }
 {
-    elem_order(a, b).is_eq()
+    element_fault_order(a, b).is_eq()
 }
 
 /// The faults that were found by element, component, repetition and code, each once.
@@ -131,7 +105,7 @@ fn in_order(found: Findings) -> Vec<ElemFault>
     ensures rising { IsRising result.items }
 {
     let mut faults = found.into_faults();
-    faults.sort_unstable_by(|a, b| elem_order(a, b));
+    faults.sort_unstable_by(|a, b| element_fault_order(a, b));
     faults.dedup_by(|next, kept| has_same_key(next, kept));
     faults
 }

@@ -2,7 +2,7 @@ ghost use Rattle.std.specs.Prelude.{◌≡◌, ◌++◌, [], ◌∷◌, List, On
 ghost use Rattle.hub_kinds.specs.declared.fault.ElemFault.{ElemFault};
 ghost use Rattle.elem_rules.specs.Found.{fault, copy_of, reported};
 
-use hub_kinds::{ElemFault, ElementCode, Items, NoMemory, Text};
+use hub_kinds::{ElemFault, ElementCode, NoMemory, copy_text};
 use std::alloc::Global;
 use std::marker::Model;
 
@@ -64,8 +64,8 @@ impl Findings {
             component: spot.component,
             repetition: spot.repetition,
             code,
-            reference: text_of(self.alloc, reference)?,
-            copy: text_of(self.alloc, copy)?,
+            reference: copy_text(self.alloc, reference)?,
+            copy: copy_text(self.alloc, copy)?,
         };
         self.faults.push(fault)?;
         Ok(())
@@ -113,10 +113,4 @@ fn copy_of(code: ElementCode, text: &[u8]) -> &[u8]
         | ElementCode::PatternFailure
         | ElementCode::DependentNotUsedPresent => text,
     }
-}
-
-fn text_of(alloc: Global, bytes: &[u8]) -> Result<Text, NoMemory>
-    ensures { IfOk result (λ text. text ≡ bytes.now) }
-{
-    Ok(Items::from_vec(Vec::from_slice(alloc, bytes)?))
 }

@@ -17,7 +17,7 @@ use Rattle.env_index.proofs.Tails.{GroupTail, SetTail, Tails, left_open, cut_off
 use Rattle.env_index.proofs.Tails.{with_set, onto_body, onto_group, onto_set, tails, summed}
 
 -- where a set may be left without SE, an open set ends
-closes_set : (rest : List SegValue) → MayFollow ends_set rest → (tails rest).in_set ≡ cut_off (tails rest).in_group
+closes_set : (rest : List SegValue) → MayFollow kind_of ends_set rest → (tails rest).in_set ≡ cut_off (tails rest).in_group
 closes_set [] h = refl
 closes_set (x ∷ xs) h = by_kind (kind_of x) h
   where
@@ -31,7 +31,7 @@ closes_set (x ∷ xs) h = by_kind (kind_of x) h
     by_kind Other h = cc
 
 -- where a group may be left without GE, an open group ends
-closes_group : (rest : List SegValue) → MayFollow ends_group rest → (tails rest).in_group ≡ left_open (tails rest).in_body
+closes_group : (rest : List SegValue) → MayFollow kind_of ends_group rest → (tails rest).in_group ≡ left_open (tails rest).in_body
 closes_group [] h = refl
 closes_group (x ∷ xs) h = by_kind (kind_of x) h
   where
@@ -55,7 +55,7 @@ told_set close rest items = record {
 
 -- what an open set goes on with: segments inside it, and its SE where it has one
 in_open_set : (inner : List SegValue) (close : Option SegValue) (rest : List SegValue) → list_all (λ x. is_inner (kind_of x)) inner ≡ true
-    → Closed SetTrailer ends_set close rest
+    → Closed kind_of SetTrailer ends_set close rest
     → (tails (inner ++ (option_items close ++ rest))).in_set ≡ told_set close rest (inner ++ option_items close)
 in_open_set [] None rest all closed = closes_set rest closed
 in_open_set [] (Some x) rest all closed = by_kind (kind_of x) closed
@@ -90,7 +90,7 @@ in_open_set (x ∷ xs) close rest all closed = by_kind (kind_of x) (λ others. i
     by_kind Other more all = one_more _ (more all)
 
 -- a set in front of what an open group goes on with
-set_in_front : (s : Set) (rest : List SegValue) → IsSet s rest → (tails (set_items s ++ rest)).in_group
+set_in_front : (s : Set SegValue) (rest : List SegValue) → IsSet kind_of s rest → (tails (set_items s ++ rest)).in_group
     ≡ (let t : GroupTail = (tails rest).in_group in (let u : GroupTail = record t { sets = set_entry s ∷ t.sets } in u))
 set_in_front s rest is =
     let behind : List SegValue = s.inner ++ (option_items s.trailer ++ rest) in
@@ -114,13 +114,13 @@ set_in_front s rest is =
         } in u))) n)
 
 -- members in front of what an open group goes on with
-abbrev front_members : List InGroup → GroupTail → GroupTail
+abbrev front_members : List (InGroup SegValue) → GroupTail → GroupTail
 front_members [] t = t
 front_members (ASet s ∷ ms) t = let u : GroupTail = front_members ms t in
     (let v : GroupTail = record u { sets = set_entry s ∷ u.sets } in v)
 front_members (OutOfGroup x ∷ ms) t = let u : GroupTail = front_members ms t in (let v : GroupTail = record u { misplaced = true } in v)
 
-members_in_front : (ms : List InGroup) (rest : List SegValue) → AreMembers ms rest
+members_in_front : (ms : List (InGroup SegValue)) (rest : List SegValue) → AreMembers kind_of ms rest
     → (tails (flat_map in_group_items ms ++ rest)).in_group ≡ front_members ms (tails rest).in_group
 members_in_front [] rest are = refl
 members_in_front (ASet s ∷ ms) rest are =
@@ -142,7 +142,7 @@ members_in_front (OutOfGroup x ∷ ms) rest are = by_kind (kind_of x) are.0 (mem
     by_kind Other out goes_on = ap (λ (t : GroupTail). (let u : GroupTail = record t { misplaced = true } in u)) goes_on
 
 -- the end of a group
-group_ends : (close : Option SegValue) (rest : List SegValue) → Closed GroupTrailer ends_group close rest
+group_ends : (close : Option SegValue) (rest : List SegValue) → Closed kind_of GroupTrailer ends_group close rest
     → (tails (option_items close ++ rest)).in_group ≡ record { sets = []; close = close; misplaced = false; after = (tails rest).in_body }
 group_ends None rest closed = closes_group rest closed
 group_ends (Some x) rest closed = by_kind (kind_of x) closed
@@ -152,7 +152,7 @@ group_ends (Some x) rest closed = by_kind (kind_of x) closed
     by_kind k is = rw is refl
 
 -- members in front of a group's end
-members_told : (ms : List InGroup) (close : Option SegValue) (after : Summary)
+members_told : (ms : List (InGroup SegValue)) (close : Option SegValue) (after : Summary)
     → front_members ms (record { sets = []; close = close; misplaced = false; after = after }) ≡ record {
       sets = sets_in ms;
       close = close;
@@ -166,7 +166,7 @@ members_told (OutOfGroup x ∷ ms) close after = ap (λ (t : GroupTail). (let u 
     (members_told ms close after)
 
 -- a group in front of what the interchange goes on with
-abbrev front_group : Group → Summary → Summary
+abbrev front_group : Group SegValue → Summary → Summary
 front_group g s = record {
   groups = group_entry g ∷ s.groups;
   notices = s.notices;
@@ -174,7 +174,7 @@ front_group g s = record {
   trailer = s.trailer;
 }
 
-group_in_front : (g : Group) (rest : List SegValue) → IsGroup g rest
+group_in_front : (g : Group SegValue) (rest : List SegValue) → IsGroup kind_of g rest
     → (tails (group_items g ++ rest)).in_body ≡ front_group g (tails rest).in_body
 group_in_front g rest is =
     let items : List SegValue = flat_map in_group_items g.members in
@@ -196,13 +196,13 @@ group_in_front g rest is =
     by_kind k t header goes_on = rw header (ap (with_group g.header) goes_on)
 
 -- what stands in the interchange, in front of what it goes on with
-abbrev front_body : List InBody → Summary → Summary
+abbrev front_body : List (InBody SegValue) → Summary → Summary
 front_body [] s = s
 front_body (ANotice x ∷ ms) s = with_notice (front_body ms s)
 front_body (AGroup g ∷ ms) s = front_group g (front_body ms s)
 front_body (OutOfBody x ∷ ms) s = with_misplaced (front_body ms s)
 
-body_in_front : (ms : List InBody) (rest : List SegValue) → AreBodyMembers ms rest
+body_in_front : (ms : List (InBody SegValue)) (rest : List SegValue) → AreBodyMembers kind_of ms rest
     → (tails (flat_map in_body_items ms ++ rest)).in_body ≡ front_body ms (tails rest).in_body
 body_in_front [] rest are = refl
 body_in_front (ANotice x ∷ ms) rest are = by_kind (kind_of x) are.0 (body_in_front ms rest are.1)
@@ -228,7 +228,7 @@ body_in_front (OutOfBody x ∷ ms) rest are = by_kind (kind_of x) are.0 (body_in
     by_kind Other out goes_on = ap with_misplaced goes_on
 
 -- what stands in the interchange, in front of its end
-body_told : (ms : List InBody) (close : Option SegValue)
+body_told : (ms : List (InBody SegValue)) (close : Option SegValue)
     → front_body ms (record { groups = []; notices = 0; misplaced = false; trailer = close })
     ≡ summary_of (record { members = ms; trailer = close })
 body_told [] close = refl
@@ -236,7 +236,7 @@ body_told (ANotice x ∷ ms) close = ap with_notice (body_told ms close)
 body_told (AGroup g ∷ ms) close = ap (front_group g) (body_told ms close)
 body_told (OutOfBody x ∷ ms) close = ap with_misplaced (body_told ms close)
 
-body_ends : (close : Option SegValue) → Closed InterchangeTrailer (λ k. false) close []
+body_ends : (close : Option SegValue) → Closed kind_of InterchangeTrailer (λ k. false) close []
     → (tails (option_items close)).in_body ≡ record { groups = []; notices = 0; misplaced = false; trailer = close }
 body_ends None closed = refl
 body_ends (Some x) closed = by_kind (kind_of x) closed
@@ -246,7 +246,7 @@ body_ends (Some x) closed = by_kind (kind_of x) closed
     by_kind k is = rw is refl
 
 -- segments that derive a tree sum up to its summary
-pub derived_sums : (segs : List SegValue) (b : Body) → Derives segs b → summed segs ≡ summary_of b
+pub derived_sums : (segs : List SegValue) (b : Body SegValue) → Derives kind_of segs b → summed segs ≡ summary_of b
 derived_sums segs b derives =
     ap (λ (xs : List SegValue). (tails xs).in_body) (sym derives.0)
     ∙ body_in_front b.members (option_items b.trailer) derives.1.members

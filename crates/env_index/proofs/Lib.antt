@@ -1,6 +1,9 @@
 pub mod Derived
 pub mod Each
+pub mod EndingTrees
 pub mod Finishing
+pub mod LeastEnd
+pub mod Mapped
 pub mod OneChain
 pub mod OneTree
 pub mod Standing
@@ -9,3 +12,4 @@ pub mod Surround
 pub mod Tails
 pub mod Trees
 pub mod Walking
+mod WorkedNumbers

@@ -21,9 +21,9 @@ use Rattle.env_index.specs.Spans.{SetStandsAlone, EachSet, EachSetIn, span_of}
 use Rattle.env_index.specs.Summary.{set_entry}
 
 -- what holds of each set that stands among these segments holds of each set of their tree
-module _ (whole : List SegValue) (P : Set → Type 0) (holds : (before : List SegValue) (s : Set) (behind : List SegValue)
-    → whole ≡ before ++ (set_items s ++ behind) → IsSet s behind → P s) where
-  in_group : (ms : List InGroup) (rest before : List SegValue) → AreMembers ms rest
+module _ (whole : List SegValue) (P : Set SegValue → Type 0) (holds : (before : List SegValue) (s : Set SegValue) (behind : List SegValue)
+    → whole ≡ before ++ (set_items s ++ behind) → IsSet kind_of s behind → P s) where
+  in_group : (ms : List (InGroup SegValue)) (rest before : List SegValue) → AreMembers kind_of ms rest
       → whole ≡ before ++ (flat_map in_group_items ms ++ rest) → EachSet P ms
   in_group [] rest before are is = tt
   in_group (ASet s ∷ ms) rest before are is =
@@ -37,7 +37,7 @@ module _ (whole : List SegValue) (P : Set → Type 0) (holds : (before : List Se
   in_group (OutOfGroup x ∷ ms) rest before are is =
       in_group ms rest (before ++ x ∷ []) are.1 (is ∙ sym (append_assoc before (x ∷ []) (flat_map in_group_items ms ++ rest)))
 
-  pub in_body : (ms : List InBody) (rest before : List SegValue) → AreBodyMembers ms rest
+  pub in_body : (ms : List (InBody SegValue)) (rest before : List SegValue) → AreBodyMembers kind_of ms rest
       → whole ≡ before ++ (flat_map in_body_items ms ++ rest) → EachSetIn P ms
   in_body [] rest before are is = tt
   in_body (ANotice x ∷ ms) rest before are is =
@@ -117,12 +117,12 @@ inner_kinds : (xs : List SegValue) → list_all is_inner (map kind_of xs) ≡ li
 inner_kinds [] = refl
 inner_kinds (x ∷ xs) = ap (λ (b : Bool). is_inner (kind_of x) && b) (inner_kinds xs)
 
-trailer_kind : (t : Option SegValue) (rest : List SegValue) → Closed SetTrailer ends_set t rest
+trailer_kind : (t : Option SegValue) (rest : List SegValue) → Closed kind_of SetTrailer ends_set t rest
     → map kind_of (option_items t) ≡ trailer_kinds (is_some t)
 trailer_kind None rest closed = refl
 trailer_kind (Some x) rest closed = ap (λ (k : Kind). k ∷ []) closed
 
-set_kinds : (s : Set) (rest : List SegValue) → IsSet s rest
+set_kinds : (s : Set SegValue) (rest : List SegValue) → IsSet kind_of s rest
     → map kind_of (set_items s) ≡ SetHeader ∷ (map kind_of s.inner ++ trailer_kinds (is_some s.trailer))
 set_kinds s rest is =
     ap (λ (k : Kind). k ∷ map kind_of (s.inner ++ option_items s.trailer)) is.header
@@ -130,9 +130,10 @@ set_kinds s rest is =
     ∙ ap (λ (ks : List Kind). map kind_of s.inner ++ ks) (trailer_kind s.trailer rest is.trailer))
 
 -- a set among the segments of a text
-pub set_alone : (text : List ℕ) (d : Delims) (from : ℕ) (before : List SegValue) (s : Set) (behind rest : List SegValue)
+pub set_alone : (text : List ℕ) (d : Delims) (from : ℕ) (before : List SegValue) (s : Set SegValue) (behind rest : List SegValue)
     → from ≤ length text
-    → map (view_of d) (segs_from text d.terminator from) ≡ before ++ (set_items s ++ behind) → IsSet s rest → SetStandsAlone text d s
+    → map (view_of d) (segs_from text d.terminator from) ≡ before ++ (set_items s ++ behind) → IsSet kind_of s rest
+    → SetStandsAlone text d s
 set_alone text d from before s behind rest fits split is =
     let t : ℕ = d.terminator in
     let items : List SegValue = set_items s in

@@ -1,61 +1,61 @@
--- X12.5, interchange, and X12.6, functional group and transaction set: the grammar of an interchange's segments.
--- What a missing trailer asks of the segment behind it, and what counts as out of place, are own.
+-- X12.5, interchange, and X12.6, functional group and transaction set: the grammar of an interchange's segments, whatever a segment
+-- is held as: all that is asked of one is its kind. What a missing trailer asks of the segment behind it, and what counts as out of
+-- place, are own.
 use Rattle.std.specs.Prelude.{◌≡◌, List, [], ◌∷◌, ◌++◌, Bool, true, false, Option, Some, None}
 use Rattle.std.specs.List.{flat_map, list_all}
-use Rattle.x12_segs.specs.View.{SegValue}
-use Rattle.x12_segs.specs.Kinds.{kind_of, is_inner}
+use Rattle.x12_segs.specs.Kinds.{is_inner}
 use Rattle.x12_segs.specs.declared.kind.Kind.{Kind}
 use Rattle.x12_segs.specs.declared.kind.Kind.TheVariants.{InterchangeTrailer, GroupHeader, GroupTrailer, SetHeader, SetTrailer}
 use Rattle.x12_segs.specs.declared.kind.Kind.TheVariants.{Notice, Other}
 
 -- set = ST inner* SE?
-pub record Set : Type 0 where
-  pub header : SegValue
-  pub inner : List SegValue
-  pub trailer : Option SegValue
+pub record Set (X : Type 0) : Type 0 where
+  pub header : X
+  pub inner : List X
+  pub trailer : Option X
 
 -- what stands in a group: a set, or a segment out of place
-pub data InGroup : Type 0 where
-  ASet : Set → InGroup
-  OutOfGroup : SegValue → InGroup
+pub data InGroup (X : Type 0) : Type 0 where
+  ASet : Set X → InGroup X
+  OutOfGroup : X → InGroup X
 
 -- group = GS (set | misplaced)* GE?
-pub record Group : Type 0 where
-  pub header : SegValue
-  pub members : List InGroup
-  pub trailer : Option SegValue
+pub record Group (X : Type 0) : Type 0 where
+  pub header : X
+  pub members : List (InGroup X)
+  pub trailer : Option X
 
 -- what stands in an interchange: a TA1, a group, or a segment out of place
-pub data InBody : Type 0 where
-  ANotice : SegValue → InBody
-  AGroup : Group → InBody
-  OutOfBody : SegValue → InBody
+pub data InBody (X : Type 0) : Type 0 where
+  ANotice : X → InBody X
+  AGroup : Group X → InBody X
+  OutOfBody : X → InBody X
 
 -- body = (TA1 | group | misplaced)* IEA?
-pub record Body : Type 0 where
-  pub members : List InBody
-  pub trailer : Option SegValue
+pub record Body (X : Type 0) : Type 0 where
+  pub members : List (InBody X)
+  pub trailer : Option X
 
-abbrev pub option_items : Option SegValue → List SegValue
+abbrev pub option_items : {X : Type 0} → Option X → List X
 option_items None = []
 option_items (Some x) = x ∷ []
 
-abbrev pub set_items : Set → List SegValue
+abbrev pub set_items : {X : Type 0} → Set X → List X
 set_items s = s.header ∷ (s.inner ++ option_items s.trailer)
 
-abbrev pub in_group_items : InGroup → List SegValue
+abbrev pub in_group_items : {X : Type 0} → InGroup X → List X
 in_group_items (ASet s) = set_items s
 in_group_items (OutOfGroup x) = x ∷ []
 
-abbrev pub group_items : Group → List SegValue
+abbrev pub group_items : {X : Type 0} → Group X → List X
 group_items g = g.header ∷ (flat_map in_group_items g.members ++ option_items g.trailer)
 
-abbrev pub in_body_items : InBody → List SegValue
+abbrev pub in_body_items : {X : Type 0} → InBody X → List X
 in_body_items (ANotice x) = x ∷ []
 in_body_items (AGroup g) = group_items g
 in_body_items (OutOfBody x) = x ∷ []
 
-abbrev pub body_items : Body → List SegValue
+abbrev pub body_items : {X : Type 0} → Body X → List X
 body_items b = flat_map in_body_items b.members ++ option_items b.trailer
 
 -- a set without SE closes before these
@@ -99,42 +99,42 @@ is_out_of_body InterchangeTrailer = false
 is_out_of_body Notice = false
 
 -- what follows, if anything does, lets a trailer be left out
-abbrev pub MayFollow : (Kind → Bool) → List SegValue → Type 0
-MayFollow ends [] = Unit {0}
-MayFollow ends (x ∷ xs) = ends (kind_of x) ≡ true
+abbrev pub MayFollow : {X : Type 0} → (X → Kind) → (Kind → Bool) → List X → Type 0
+MayFollow kind ends [] = Unit {0}
+MayFollow kind ends (x ∷ xs) = ends (kind x) ≡ true
 
--- a trailer of the kind; or none, where what follows lets it be left out
-abbrev pub Closed : Kind → (Kind → Bool) → Option SegValue → List SegValue → Type 0
-Closed kind ends (Some x) rest = kind_of x ≡ kind
-Closed kind ends None rest = MayFollow ends rest
+-- a trailer of its kind; or none, where what follows lets it be left out
+abbrev pub Closed : {X : Type 0} → (X → Kind) → Kind → (Kind → Bool) → Option X → List X → Type 0
+Closed kind closing ends (Some x) rest = kind x ≡ closing
+Closed kind closing ends None rest = MayFollow kind ends rest
 
-pub record IsSet (s : Set) (rest : List SegValue) : Type 0 where
-  pub header : kind_of s.header ≡ SetHeader
-  pub inner : list_all (λ x. is_inner (kind_of x)) s.inner ≡ true
-  pub trailer : Closed SetTrailer ends_set s.trailer rest
+pub record IsSet {X : Type 0} (kind : X → Kind) (s : Set X) (rest : List X) : Type 0 where
+  pub header : kind s.header ≡ SetHeader
+  pub inner : list_all (λ x. is_inner (kind x)) s.inner ≡ true
+  pub trailer : Closed kind SetTrailer ends_set s.trailer rest
 
 -- what stands in a group, with what follows it
-abbrev pub AreMembers : List InGroup → List SegValue → Type 0
-AreMembers [] rest = Unit {0}
-AreMembers (ASet s ∷ ms) rest = IsSet s (flat_map in_group_items ms ++ rest) × AreMembers ms rest
-AreMembers (OutOfGroup x ∷ ms) rest = (is_out_of_group (kind_of x) ≡ true) × AreMembers ms rest
+abbrev pub AreMembers : {X : Type 0} → (X → Kind) → List (InGroup X) → List X → Type 0
+AreMembers kind [] rest = Unit {0}
+AreMembers kind (ASet s ∷ ms) rest = IsSet kind s (flat_map in_group_items ms ++ rest) × AreMembers kind ms rest
+AreMembers kind (OutOfGroup x ∷ ms) rest = (is_out_of_group (kind x) ≡ true) × AreMembers kind ms rest
 
-pub record IsGroup (g : Group) (rest : List SegValue) : Type 0 where
-  pub header : kind_of g.header ≡ GroupHeader
-  pub members : AreMembers g.members (option_items g.trailer ++ rest)
-  pub trailer : Closed GroupTrailer ends_group g.trailer rest
+pub record IsGroup {X : Type 0} (kind : X → Kind) (g : Group X) (rest : List X) : Type 0 where
+  pub header : kind g.header ≡ GroupHeader
+  pub members : AreMembers kind g.members (option_items g.trailer ++ rest)
+  pub trailer : Closed kind GroupTrailer ends_group g.trailer rest
 
 -- what stands in an interchange, with what follows it
-abbrev pub AreBodyMembers : List InBody → List SegValue → Type 0
-AreBodyMembers [] rest = Unit {0}
-AreBodyMembers (ANotice x ∷ ms) rest = (kind_of x ≡ Notice) × AreBodyMembers ms rest
-AreBodyMembers (AGroup g ∷ ms) rest = IsGroup g (flat_map in_body_items ms ++ rest) × AreBodyMembers ms rest
-AreBodyMembers (OutOfBody x ∷ ms) rest = (is_out_of_body (kind_of x) ≡ true) × AreBodyMembers ms rest
+abbrev pub AreBodyMembers : {X : Type 0} → (X → Kind) → List (InBody X) → List X → Type 0
+AreBodyMembers kind [] rest = Unit {0}
+AreBodyMembers kind (ANotice x ∷ ms) rest = (kind x ≡ Notice) × AreBodyMembers kind ms rest
+AreBodyMembers kind (AGroup g ∷ ms) rest = IsGroup kind g (flat_map in_body_items ms ++ rest) × AreBodyMembers kind ms rest
+AreBodyMembers kind (OutOfBody x ∷ ms) rest = (is_out_of_body (kind x) ≡ true) × AreBodyMembers kind ms rest
 
-pub record IsBody (b : Body) : Type 0 where
-  pub members : AreBodyMembers b.members (option_items b.trailer)
-  pub trailer : Closed InterchangeTrailer (λ k. false) b.trailer []
+pub record IsBody {X : Type 0} (kind : X → Kind) (b : Body X) : Type 0 where
+  pub members : AreBodyMembers kind b.members (option_items b.trailer)
+  pub trailer : Closed kind InterchangeTrailer (λ k. false) b.trailer []
 
 -- the segments are this interchange
-abbrev pub Derives : List SegValue → Body → Type 0
-Derives segs b = (body_items b ≡ segs) × IsBody b
+abbrev pub Derives : {X : Type 0} → (X → Kind) → List X → Body X → Type 0
+Derives kind segs b = (body_items b ≡ segs) × IsBody kind b

@@ -1,9 +1,13 @@
+pub mod Ends
 pub mod Envelope
 pub mod Extents
 pub mod Faults
 pub mod Interchange
 pub mod Lone
+pub mod Mapped
+pub mod Numbers
 pub mod Places
 pub mod Reading
+pub mod Source
 pub mod Spans
 pub mod Summary

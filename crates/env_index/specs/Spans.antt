@@ -2,6 +2,7 @@
 use Rattle.std.specs.Prelude.{◌≡◌, ℕ, List, [], ◌∷◌, is_some}
 use Rattle.x12_bytes.specs.declared.delims.Delims.{Delims}
 use Rattle.x12_segs.specs.declared.set_span.SetSpan.{SetSpan}
+use Rattle.x12_segs.specs.View.{SegValue}
 use Rattle.x12_segs.specs.Spans.{IsSetSpan, span_views}
 use Rattle.env_index.specs.declared.entry.SetEnvelope.{SetEnvelope}
 use Rattle.env_index.specs.Envelope.{Set, InGroup, ASet, OutOfGroup, InBody, ANotice, AGroup, OutOfBody, set_items}
@@ -12,18 +13,18 @@ abbrev pub span_of : Delims → SetEnvelope → SetSpan
 span_of delims e = record { start = e.header.start; end = e.end; delims = delims; closed = is_some e.trailer }
 
 -- the span of a set is a set's, and has just the segments of the set
-pub record SetStandsAlone (text : List ℕ) (delims : Delims) (s : Set) : Type 0 where
+pub record SetStandsAlone (text : List ℕ) (delims : Delims) (s : Set SegValue) : Type 0 where
   pub span : IsSetSpan text (span_of delims (set_entry s))
   pub segs : span_views text (span_of delims (set_entry s)) ≡ set_items s
 
 -- each set of a group
-abbrev pub EachSet : (Set → Type 0) → List InGroup → Type 0
+abbrev pub EachSet : (Set SegValue → Type 0) → List (InGroup SegValue) → Type 0
 EachSet P [] = Unit {0}
 EachSet P (ASet s ∷ ms) = P s × EachSet P ms
 EachSet P (OutOfGroup x ∷ ms) = EachSet P ms
 
 -- each set of each group of an interchange
-abbrev pub EachSetIn : (Set → Type 0) → List InBody → Type 0
+abbrev pub EachSetIn : (Set SegValue → Type 0) → List (InBody SegValue) → Type 0
 EachSetIn P [] = Unit {0}
 EachSetIn P (ANotice x ∷ ms) = EachSetIn P ms
 EachSetIn P (AGroup g ∷ ms) = EachSet P g.members × EachSetIn P ms

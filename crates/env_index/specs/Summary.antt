@@ -19,7 +19,7 @@ pub record Summary : Type 0 where
   pub trailer : Option SegValue
 
 -- a set: its ST, how many segments it has with ST and SE, its SE, and the offset behind its last segment
-abbrev pub set_entry : Set → SetEnvelope
+abbrev pub set_entry : Set SegValue → SetEnvelope
 set_entry s = record {
   header = s.header;
   segments = length (set_items s);
@@ -27,38 +27,38 @@ set_entry s = record {
   end = behind_last 0 (set_items s);
 }
 
-abbrev pub sets_in : List InGroup → List SetEnvelope
+abbrev pub sets_in : List (InGroup SegValue) → List SetEnvelope
 sets_in [] = []
 sets_in (ASet s ∷ ms) = set_entry s ∷ sets_in ms
 sets_in (OutOfGroup x ∷ ms) = sets_in ms
 
-abbrev pub group_entry : Group → GroupEntry
+abbrev pub group_entry : Group SegValue → GroupEntry
 group_entry g = record { header = g.header; sets = sets_in g.members; trailer = g.trailer }
 
-abbrev pub groups_in : List InBody → List GroupEntry
+abbrev pub groups_in : List (InBody SegValue) → List GroupEntry
 groups_in [] = []
 groups_in (ANotice x ∷ ms) = groups_in ms
 groups_in (AGroup g ∷ ms) = group_entry g ∷ groups_in ms
 groups_in (OutOfBody x ∷ ms) = groups_in ms
 
-abbrev pub notices_in : List InBody → ℕ
+abbrev pub notices_in : List (InBody SegValue) → ℕ
 notices_in [] = 0
 notices_in (ANotice x ∷ ms) = notices_in ms + 1
 notices_in (AGroup g ∷ ms) = notices_in ms
 notices_in (OutOfBody x ∷ ms) = notices_in ms
 
-abbrev pub has_misplaced_in_group : List InGroup → Bool
+abbrev pub has_misplaced_in_group : List (InGroup SegValue) → Bool
 has_misplaced_in_group [] = false
 has_misplaced_in_group (ASet s ∷ ms) = has_misplaced_in_group ms
 has_misplaced_in_group (OutOfGroup x ∷ ms) = true
 
-abbrev pub has_misplaced : List InBody → Bool
+abbrev pub has_misplaced : List (InBody SegValue) → Bool
 has_misplaced [] = false
 has_misplaced (ANotice x ∷ ms) = has_misplaced ms
 has_misplaced (AGroup g ∷ ms) = has_misplaced_in_group g.members || has_misplaced ms
 has_misplaced (OutOfBody x ∷ ms) = true
 
-abbrev pub summary_of : Body → Summary
+abbrev pub summary_of : Body SegValue → Summary
 summary_of b = record {
   groups = groups_in b.members;
   notices = notices_in b.members;

@@ -21,10 +21,11 @@ pub fn judge(interchange: &Interchange<'_>) -> Option<InterchangeFault>
     let Some(number) = control_number(interchange.header()) else {
         return Some(InterchangeFault::ControlNumberInvalid);
     };
-    if !writes_number(trailer.element(2), 9, number) {
+    let (groups, control, _) = trailer.first_elements();
+    if !writes_number(control, 9, number) {
         return Some(InterchangeFault::ControlNumbersDiffer);
     }
-    if !writes_number(trailer.element(1), 5, interchange.group_count() as u64) {
+    if !writes_number(groups, 5, interchange.group_count() as u64) {
         return Some(InterchangeFault::GroupCountWrong);
     }
     if interchange.is_misplaced() {
@@ -90,7 +91,7 @@ fn have_set_headers(interchange: &Interchange<'_>) -> bool
     true
 }
 
-fn group_has_set_headers(group: &GroupEnvelope<'_>) -> bool
+fn group_has_set_headers(group: &GroupEnvelope<'_, '_>) -> bool
     ensures { result ≡ has_set_headers group.now }
 {
     for index in 0..group.set_count() {
@@ -120,5 +121,6 @@ fn are_uppercase(text: &[u8]) -> bool
 fn is_set_header(header: &SegView<'_>) -> bool
     ensures { result ≡ is_set_header header.now }
 {
-    is_alphanumeric(header.element(1), 3, 3) && is_alphanumeric(header.element(2), 1, 9)
+    let (id, control, _) = header.first_elements();
+    is_alphanumeric(id, 3, 3) && is_alphanumeric(control, 1, 9)
 }

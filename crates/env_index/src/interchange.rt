@@ -104,7 +104,7 @@ impl<'a> Interchange<'a> {
     }
 
     /// One of its groups, in the order of the text, counted from 0.
-    pub fn group(&self, index: usize) -> GroupEnvelope<'_>
+    pub fn group(&self, index: usize) -> GroupEnvelope<'_, 'a>
         requires { index < length self.now.content.groups }
         ensures { slice_get self.now.content.groups index ≡ Some result }
     {
@@ -116,16 +116,17 @@ impl<'a> Interchange<'a> {
     }
 }
 
-/// A functional group of an interchange, lent from the text (X12.6, functional group header and
-/// trailer). Without a trailer it ends before the next GS or IEA, or with the interchange.
+/// A functional group of an interchange, lent from the index of the interchange; what it lends itself
+/// is lent from the text, and lives as long as that (X12.6, functional group header and trailer).
+/// Without a trailer it ends before the next GS or IEA, or with the interchange.
 #[derive(Drop)]
-pub struct GroupEnvelope<'a> {
+pub struct GroupEnvelope<'i, 'a> {
     text: &'a [u8],
     delims: Delims,
-    place: &'a GroupPlace,
+    place: &'i GroupPlace,
 }
 
-impl<'a> Model for GroupEnvelope<'a> {
+impl<'i, 'a> Model for GroupEnvelope<'i, 'a> {
     ghost use Rattle.env_index.specs.Summary.{GroupEntry};
 
     ghost Value = { GroupEntry };
@@ -135,7 +136,7 @@ impl<'a> Model for GroupEnvelope<'a> {
     ghost view = { λ g. group_in g.text.now g.delims g.place.now };
 }
 
-impl<'a> GroupEnvelope<'a> {
+impl<'i, 'a> GroupEnvelope<'i, 'a> {
     ghost use Rattle.std.specs.Prelude.{◌≡◌, ◌<◌, length, Some, slice_get};
 
     /// Its header (GS).

@@ -12,6 +12,9 @@
 //!   none;
 //! - the segments of each interchange derive a tree (`envelope_is_there`), and only one
 //!   (`envelope_is_one`); a text has one chain of interchanges at most (`chain_is_one`);
+//! - of a segment nothing but its kind is asked (`envelope_is_of_kinds`), so a tree goes over to segments
+//!   that are held in another way, and back (`envelope_is_mapped`);
+//! - an interchange ends at the least of three offsets (`end_is_least`), and holds its header;
 //! - each set of an interchange can be read alone in its span of the text (`sets_stand_alone`).
 //!
 //! X12.5, interchange control header (ISA) and trailer (IEA), interchange acknowledgment (TA1);
@@ -36,11 +39,15 @@ mod lone;
 mod places;
 mod read;
 mod segment_at;
+mod source;
 mod walk;
 
 pub use entry::SetEnvelope;
 pub use faults::judge;
 pub use interchange::{GroupEnvelope, Interchange};
-pub use laws::{chain_is_one, envelope_is_one, envelope_is_there, sets_stand_alone};
+pub use laws::{
+    chain_is_one, end_is_least, envelope_is_mapped, envelope_is_of_kinds, envelope_is_one,
+    envelope_is_there, sets_stand_alone,
+};
 pub use lone::read_lone;
 pub use read::read_interchange;

@@ -1,11 +1,15 @@
-ghost use Rattle.std.specs.Prelude.{◌≡◌, ◌≤◌, IfOk, IfSome, is_some, length};
+ghost use Rattle.std.specs.Prelude.{◌≡◌, ◌+◌, ◌≤◌, IfOk, IfSome, is_some, length};
 ghost use Rattle.hub_kinds.specs.declared.limits.TheConstants.{LONGEST_TEXT};
+ghost use Rattle.x12_bytes.specs.declared.layout.TheConstants.{HEADER_LEN};
 ghost use Rattle.x12_bytes.specs.HeaderTest.{is_head};
+ghost use Rattle.x12_segs.specs.View.{SegValue};
+ghost use Rattle.x12_segs.specs.Kinds.{kind_of};
 ghost use Rattle.env_index.specs.Envelope.{Body, Derives};
 ghost use Rattle.env_index.specs.Extents.{reach_at};
 ghost use Rattle.env_index.specs.Interchange.{interchange_of};
 
 use crate::interchange::Interchange;
+use crate::source::TextParts;
 use crate::walk::read_body;
 use hub_kinds::NoMemory;
 use std::alloc::Global;
@@ -25,18 +29,21 @@ pub fn read_interchange<'a>(
     requires { length text.now ≤ LONGEST_TEXT }
     ensures found { IfOk result (λ found. is_some found ≡ is_head text.entry.now start) }
     ensures within { IfOk result (λ found. IfSome found (λ x. x.end ≤ length text.entry.now)) }
+    ensures behind { IfOk result (λ found. IfSome found (λ x. start + HEADER_LEN ≤ x.end)) }
     ensures tree { IfOk result
         (λ found. IfSome found
-        (λ x. (tree : Body) × Derives (reach_at text.entry.now start).segs tree
+        (λ x. (tree : Body SegValue) × Derives kind_of (reach_at text.entry.now start).segs tree
         × (x ≡ interchange_of text.entry.now start tree))) }
     ensures only { IfOk result
         (λ found. IfSome found
-        (λ x. (tree : Body) → Derives (reach_at text.entry.now start).segs tree
+        (λ x. (tree : Body SegValue) → Derives kind_of (reach_at text.entry.now start).segs tree
         → x ≡ interchange_of text.entry.now start tree)) }
 {
     let Some(header) = read_header(text, start) else {
         return Ok(None);
     };
-    let body = read_body(alloc, text, start + HEADER_LEN, header.delims())?;
+    let delims = header.delims();
+    let parts = TextParts::new(text, delims.terminator, start + HEADER_LEN);
+    let body = read_body(alloc, text, delims, parts)?;
     Ok(Some(Interchange::new(text, header, start, body)))
 }

@@ -2,39 +2,42 @@ ghost use Rattle.std.specs.Prelude.{◌≡◌, ◌≤◌, IfOk, length, if◌the
 ghost use Rattle.hub_kinds.specs.declared.limits.TheConstants.{LONGEST_TEXT};
 ghost use Rattle.x12_bytes.specs.declared.layout.TheConstants.{HEADER_LEN};
 ghost use Rattle.x12_bytes.specs.HeaderTest.{is_head};
+ghost use Rattle.x12_segs.specs.View.{SegValue};
+ghost use Rattle.x12_segs.specs.Kinds.{kind_of};
 ghost use Rattle.env_index.specs.Envelope.{Body, Derives};
-ghost use Rattle.env_index.specs.Extents.{reach_from};
+ghost use Rattle.env_index.specs.Source.{reach_over};
 ghost use Rattle.env_index.specs.Places.{body_in};
 ghost use Rattle.env_index.specs.Summary.{summary_of};
 
 use crate::builder::Builder;
 use crate::places::{BodyPlace, Stretch};
+use crate::source::PartSource;
 use hub_kinds::NoMemory;
 use std::alloc::Global;
 use x12_bytes::{Delims, read_header};
-use x12_segs::{Kind, Part, SegView, kind_of, next_part};
+use x12_segs::{Kind, Part, SegView, kind_of};
 
-/// Reads what an interchange has behind its header, from the offset `from` to its end. Of each part,
-/// whether it begins at a header is asked first.
-pub(crate) fn read_body(
+/// Reads what an interchange has behind its header to its end, part by part. Of each part, whether it
+/// begins at a header is asked first.
+pub(crate) fn read_body<P: PartSource + Drop>(
     alloc: Global,
     text: &[u8],
-    from: usize,
     delims: Delims,
+    mut parts: P,
 ) -> Result<BodyPlace, NoMemory>
-    requires header { HEADER_LEN ≤ from }
-    requires within { from ≤ length text.now }
+    requires text { P.text parts ≡ text.now }
+    requires header { HEADER_LEN ≤ P.at parts }
     requires few { length text.now ≤ LONGEST_TEXT }
+    ensures behind { IfOk result (λ body. P.at parts ≤ body.end) }
     ensures within { IfOk result (λ body. body.end ≤ length text.now) }
-    ensures end { IfOk result (λ body. body.end ≡ (reach_from text.now delims from).end) }
+    ensures end { IfOk result (λ body. body.end ≡ (reach_over text.now delims (P.segs parts) (P.rest parts)).end) }
     ensures only { IfOk result
-        (λ body. (tree : Body) → Derives (reach_from text.now delims from).segs tree
+        (λ body. (tree : Body SegValue) → Derives kind_of (reach_over text.now delims (P.segs parts) (P.rest parts)).segs tree
         → body_in text.now delims body ≡ summary_of tree) }
 {
     let mut builder = Builder::new(alloc);
-    let mut at = from;
     loop {
-        match next_part(text, at, delims.terminator) {
+        match parts.take_part() {
             Part::Rest { start } => {
                 return builder.finish(alloc, None, rest_end(text, start));
             }
@@ -53,7 +56,6 @@ pub(crate) fn read_body(
                     }
                     kind => builder.take(alloc, kind, place)?,
                 }
-                at = end + 1;
             }
         }
     }
@@ -62,6 +64,7 @@ pub(crate) fn read_body(
 /// Where an interchange ends whose rest begins here.
 fn rest_end(text: &[u8], start: usize) -> usize
     requires { start ≤ length text.now }
+    ensures behind { start ≤ result }
     ensures within { result ≤ length text.now }
     ensures end { result ≡ if is_head text.now start then start else length text.now }
 {
@@ -72,10 +75,16 @@ fn rest_end(text: &[u8], start: usize) -> usize
     }
 }
 
-/// Whether a part that begins here begins at a header.
+/// Whether a part that begins here begins at a header. Hardly any does, so its first letter is asked first.
 fn begins_at_header(text: &[u8], start: usize) -> bool
     requires { start ≤ length text.now }
     ensures { result ≡ is_head text.now start }
 {
+    if start >= text.len() {
+        return false;
+    }
+    if text[start] != b'I' {
+        return false;
+    }
     read_header(text, start).is_some()
 }

@@ -1,7 +1,7 @@
 -- Nodes read one after another, and how deep what is left to read is.
 use Rattle.std.proofs.Common.{◌≡◌, ℕ, zero, suc, ◌+◌, ◌<◌, ◌≤◌, max, List, [], ◌∷◌, ◌++◌, length, get_or, drop, map}
 use Rattle.std.proofs.Common.{Option, Some, None, Result, Ok, Err, Ordering, Less, Equal, Greater, nat_cmp, codes}
-use Rattle.std.proofs.Common.{string_bytes, refl, sym, ap, ◌∙◌, arith}
+use Rattle.std.proofs.Common.{refl, sym, ap, ◌∙◌, arith}
 use Rattle.std.proofs.lemmas.List.{drop_all}
 use Rattle.std.specs.Ordering.{match_ordering}
 use Rattle.toml.proofs.Views.{items_view-drop}
@@ -13,10 +13,9 @@ use Rattle.toml.specs.View.{view, items_view}
 use Rattle.guide_tree.specs.Tree.{Tree, Trees, no_trees, tree}
 use Rattle.guide_tree.specs.declared.node.Node.{Node}
 use Rattle.guide_tree.specs.View.{view as tree_view, nodes_view}
-use Rattle.guide_toml.specs.declared.fault.GuideFileFault.{GuideFileFault}
-use Rattle.guide_toml.specs.declared.fault.GuideFileFault.TheVariants as fault
-use Rattle.guide_toml.specs.Answers.{Fails}
-use Rattle.guide_toml.specs.Tables.{Refusal, missing, wrong_kind, unknown, ◌>>=◌}
+use Rattle.guide_toml.specs.Meanings.{Meaning, refuses, no_memory, other, FailsAs}
+use Rattle.guide_toml.specs.Refusals.{Refusal, wrong_kind}
+use Rattle.guide_toml.specs.Tables.{◌>>=◌}
 use Rattle.guide_toml.specs.Guides.{nodes_in, node_in, inner_in, list_in}
 
 abbrev pub list_at : Option Data → Result Trees Refusal
@@ -119,14 +118,11 @@ pub node_fails : (done : List Tree) (f : Refusal) (d : Data) (ds : Items) (all :
 node_fails done f d ds all e a =
     sym a ∙ ap (λ (r : Result Tree Refusal). with_front done (r >>= λ x. nodes_in ds >>= λ ts. Ok (tree x ts))) e
 
-pub fault_stays : (done : List Tree) (f : GuideFileFault) (d : Data) (ds : Items) (all : Result Trees Refusal)
-    → Fails f (node_in d) → with_front done (nodes_in (item d ds)) ≡ all → Fails f all
-fault_stays done fault.NotToml d ds all h a = h
-fault_stays done (fault.Missing k) d ds all h a = node_fails done (missing k.now) d ds all h a
-fault_stays done (fault.WrongKind k) d ds all h a = node_fails done (wrong_kind k.now) d ds all h a
-fault_stays done (fault.Unknown k) d ds all h a = node_fails done (unknown (string_bytes k)) d ds all h a
-fault_stays done (fault.Guide f) d ds all h a = h
-fault_stays done fault.NoMemory d ds all h a = h
+pub fault_stays : (done : List Tree) (m : Meaning) (d : Data) (ds : Items) (all : Result Trees Refusal)
+    → FailsAs m (node_in d) → with_front done (nodes_in (item d ds)) ≡ all → FailsAs m all
+fault_stays done (refuses f) d ds all h a = node_fails done f d ds all h a
+fault_stays done no_memory d ds all h a = h
+fault_stays done other d ds all h a = h
 
 pub no_table : (d : Data) → None ≡ as_table d → node_in d ≡ Err (wrong_kind (codes "nodes"))
 no_table (string s) e = refl

@@ -1,6 +1,10 @@
 pub mod Cuts
 pub mod Groups
 pub mod ComponentSteps
-pub mod Keys
+pub mod LeastKey
 pub mod PositionSteps
 pub mod Forests
+pub mod WrittenNumbers
+pub mod WrittenRows
+pub mod WrittenTokens
+pub mod WrittenElements

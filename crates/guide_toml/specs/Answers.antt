@@ -5,22 +5,23 @@ use Rattle.guide_tree.specs.Tree.{GuideTree, with_slot_numbers}
 use Rattle.guide_tree.specs.View.{guide_of}
 use Rattle.guide_tree.specs.Faults.{IsFirstFault}
 use Rattle.guide_tree.specs.Accepted.{IsAccepted}
-use Rattle.guide_toml.specs.Tables.{Refusal, missing, wrong_kind, unknown}
+use Rattle.guide_toml.specs.Refusals.{Refusal, missing, wrong_kind, unknown}
+use Rattle.guide_toml.specs.Meanings.{Meaning, refuses, no_memory, other, GivesAs}
 use Rattle.guide_toml.specs.declared.fault.GuideFileFault.{GuideFileFault}
 use Rattle.guide_toml.specs.declared.fault.GuideFileFault.TheVariants as fault
 
-abbrev pub Fails : {Y : Type 0} → GuideFileFault → Result Y Refusal → Type 0
-Fails fault.NotToml read = ⊥
-Fails (fault.Missing k) read = read ≡ Err (missing k.now)
-Fails (fault.WrongKind k) read = read ≡ Err (wrong_kind k.now)
-Fails (fault.Unknown k) read = read ≡ Err (unknown (string_bytes k))
-Fails (fault.Guide f) read = ⊥
-Fails fault.NoMemory read = Unit {0}
+-- what a refusal of a guide file says of its table
+abbrev pub meaning_of : GuideFileFault → Meaning
+meaning_of fault.NotToml = other
+meaning_of (fault.Missing k) = refuses (missing k.now)
+meaning_of (fault.WrongKind k) = refuses (wrong_kind k.now)
+meaning_of (fault.Unknown k) = refuses (unknown (string_bytes k))
+meaning_of (fault.Guide f) = other
+meaning_of fault.NoMemory = no_memory
 
 -- what was returned, seen by view, is what reading gives, unless memory ran out
 abbrev pub Gives : {X Y : Type 0} → (X → Y) → Result X GuideFileFault → Result Y Refusal → Type 0
-Gives view (Ok x) read = read ≡ Ok (view x)
-Gives view (Err e) read = Fails e read
+Gives view result read = GivesAs meaning_of view result read
 
 -- What was returned is the guide that the table writes, if there is one and it has no fault; or the first fault.
 abbrev pub Refuses : GuideFileFault → Result GuideTree Refusal → Type 0

@@ -1,11 +1,12 @@
 -- The guide file (own): numbers in texts.
 use Rattle.std.specs.Prelude.{ℕ, ◌+◌, ◌-◌, ◌*◌, List, [], ◌∷◌, Option, Some, None, ◌&&◌, nat_le, if◌then◌else◌}
 use Rattle.std.specs.Char.{is_ascii_digit}
+use Rattle.guide_toml.specs.declared.counts.TheConstants.{GREATEST_NUMBER}
 
 -- the number that digits write behind those that wrote n; none past the greatest
 abbrev pub count_from : ℕ → List ℕ → Option ℕ
 count_from n [] = Some n
-count_from n (d ∷ ds) = if is_ascii_digit d && nat_le (10 * n + (d - 48)) 4294967295 then count_from (10 * n + (d - 48)) ds else None
+count_from n (d ∷ ds) = if is_ascii_digit d && nat_le (10 * n + (d - 48)) GREATEST_NUMBER then count_from (10 * n + (d - 48)) ds else None
 
 -- the number that one or more digits write, at most 4,294,967,295; zeros in front are allowed
 abbrev pub count_of : List ℕ → Option ℕ

@@ -1,10 +1,10 @@
 -- The guide file (own): the texts of picks, relational conditions, pairs of levels and codes.
-use Rattle.std.specs.Prelude.{ℕ, ◌+◌, ◌-◌, ◌*◌, ◌==◌, List, [], ◌∷◌, length, codes, Option, Some, None, Bool, ◌&&◌}
+use Rattle.std.specs.Prelude.{ℕ, ◌+◌, ◌-◌, ◌*◌, ◌==◌, List, [], ◌∷◌, codes, Option, Some, None, Bool, ◌&&◌}
 use Rattle.std.specs.Prelude.{take, drop, if◌then◌else◌, option_map}
 use Rattle.std.specs.List.{list_all, position_or_len}
 use Rattle.std.specs.Str.{bytes_eq}
 use Rattle.std.specs.Char.{is_ascii_digit}
-use Rattle.hub_kinds.specs.Words.{is_word}
+use Rattle.hub_kinds.specs.Words.{is_word, is_segment_id}
 use Rattle.hub_kinds.specs.declared.codes.SegmentCode.{SegmentCode}
 use Rattle.hub_kinds.specs.declared.codes.SegmentCode.TheVariants as ik304
 use Rattle.hub_kinds.specs.declared.codes.ElementCode.{ElementCode}
@@ -14,7 +14,6 @@ use Rattle.guide_tree.specs.declared.slot.Condition.{Condition}
 use Rattle.guide_tree.specs.declared.slot.Relation.{Relation}
 use Rattle.guide_tree.specs.declared.slot.Relation.TheVariants as relation
 use Rattle.guide_tree.specs.declared.rows.HlPair.{HlPair}
-use Rattle.guide_tree.specs.Bounds.{is_upper_or_digit, is_within}
 use Rattle.guide_toml.specs.declared.entry.Form.{Form}
 use Rattle.guide_toml.specs.declared.entry.Form.TheVariants as form
 use Rattle.guide_toml.specs.Reads.{◌>>=◌}
@@ -76,7 +75,7 @@ pair_of text = pair_behind (take (position_or_len is_slash text) text) (drop (po
 
 -- 2 or 3 upper-case letters or digits; a code; a label, of 1 to 20 letters or digits
 abbrev pub has_form : Form → List ℕ → Bool
-has_form form.SegmentId text = is_within 2 3 (length text) && list_all is_upper_or_digit text
+has_form form.SegmentId text = is_segment_id text
 has_form form.Code text = is_code text
 
 abbrev pub formed : Form → List ℕ → Option (List ℕ)

@@ -4,7 +4,7 @@ use Rattle.std.specs.Prelude.{is_some}
 use Rattle.std.specs.Ordering.{nat_cmp, match_ordering}
 use Rattle.std.specs.Cmp.Lexicographic.{slice_cmp}
 use Rattle.toml.specs.Data.{Data, array, table, Items, no_items, item, Members, no_members, member, get_member}
-use Rattle.toml.specs.Data.{as_str, as_bool, as_table}
+use Rattle.toml.specs.Data.{as_str, as_bool}
 use Rattle.guide_tree.specs.declared.slot.Slot.{Slot}
 use Rattle.guide_tree.specs.declared.node.Loop.{Loop}
 use Rattle.guide_tree.specs.declared.rows.GuideHead.{GuideHead}
@@ -12,14 +12,16 @@ use Rattle.guide_tree.specs.declared.rows.HlRule.{HlRule}
 use Rattle.guide_tree.specs.declared.rows.Dependency.{Dependency}
 use Rattle.guide_tree.specs.Tree.{Tree, Trees, segment, loop, no_trees, tree, GuideTree}
 use Rattle.guide_toml.specs.declared.entry.Form.TheVariants as form
-use Rattle.guide_toml.specs.declared.table.TableKind.{TableKind}
-use Rattle.guide_toml.specs.declared.table.TableKind.TheVariants as kind
+use Rattle.guide_toml.specs.declared.keys.TableKind.{TableKind}
+use Rattle.guide_toml.specs.declared.keys.TableKind.TheVariants as kind
 use Rattle.guide_toml.specs.declared.nodes.NodeKind.{NodeKind}
 use Rattle.guide_toml.specs.declared.nodes.NodeKind.TheVariants as node
 use Rattle.guide_toml.specs.ElementTexts.{element_of}
 use Rattle.guide_toml.specs.Entries.{pick_of, condition_of, pair_of, formed, segment_code_of, element_code_of}
-use Rattle.guide_toml.specs.Tables.{Refusal, wrong_kind, ◌>>=◌, first_unknown, if_known, required, optional, word_in}
-use Rattle.guide_toml.specs.Tables.{some_word_in, group_in, count_in, texts_in, tables_in, dependency_kind_in}
+use Rattle.guide_toml.specs.Refusals.{Refusal, wrong_kind}
+use Rattle.guide_toml.specs.Keys.{keys_of, least_unknown, if_known}
+use Rattle.guide_toml.specs.Tables.{◌>>=◌, required, optional, word_in}
+use Rattle.guide_toml.specs.Tables.{some_word_in, group_in, count_in, texts_in, tables_in, some_table, dependency_kind_in}
 
 abbrev pub label_in : Data → Option (List ℕ)
 label_in d = word_in 1 20 d
@@ -54,7 +56,7 @@ node_kind ms = if has (codes "seg") ms
     else (if has (codes "loop") ms then node.Loop else node.Unclear)
 
 abbrev pub known : {A : Type 0} → TableKind → Members → Result A Refusal → Result A Refusal
-known k ms read = if_known (first_unknown k ms) read
+known k ms read = if_known (least_unknown (keys_of k) ms) read
 
 abbrev pub segment_node : Members → Result Tree Refusal
 segment_node ms = known kind.Segment ms (segment_of ms >>= λ s. Ok (segment s))
@@ -139,9 +141,6 @@ head_of ms = do
 abbrev pub hl_in : Option Members → Result (Option HlRule) Refusal
 hl_in None = Ok None
 hl_in (Some ms) = known kind.Hierarchy ms (hl_of ms) >>= λ rule. Ok (Some rule)
-
-abbrev pub some_table : Data → Option (Option Members)
-some_table d = if is_some (as_table d) then Some (as_table d) else None
 
 -- the guide: the top table's own keys, and then `hl`, `depends` and `nodes`
 unfoldable pub guide_of_table : Members → Result GuideTree Refusal

@@ -1,9 +1,12 @@
-pub mod Reads
-pub mod Tokens
+pub mod Answers
 pub mod Counts
 pub mod ElementTexts
 pub mod Entries
-pub mod Tables
-pub mod Answers
 pub mod Guides
+pub mod Keys
+pub mod Meanings
+pub mod Reads
 pub mod Refusals
+pub mod Tables
+pub mod Tokens
+pub mod Written

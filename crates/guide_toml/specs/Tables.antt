@@ -6,45 +6,17 @@ use Rattle.std.specs.List.{list_all}
 use Rattle.std.specs.Str.{bytes_eq}
 use Rattle.std.specs.Char.{is_ascii_uppercase}
 use Rattle.hub_kinds.specs.Words.{is_word}
-use Rattle.toml.specs.Data.{Data, Items, no_items, item, Members, no_members, member, get_member, as_str, as_integer}
+use Rattle.toml.specs.Data.{Data, Items, no_items, item, Members, get_member, as_str, as_integer}
 use Rattle.toml.specs.Data.{as_array, as_table}
-use Rattle.guide_tree.specs.Segments.{contains_text}
 use Rattle.guide_tree.specs.declared.rows.DependencyKind.{DependencyKind}
 use Rattle.guide_tree.specs.declared.rows.DependencyKind.TheVariants as dependency
-use Rattle.guide_toml.specs.declared.table.TableKind.{TableKind}
-use Rattle.guide_toml.specs.declared.table.TableKind.TheVariants as kind
-
-pub data Refusal : Type 0 where
-  missing : List ℕ → Refusal
-  wrong_kind : List ℕ → Refusal
-  unknown : List ℕ → Refusal
+use Rattle.guide_toml.specs.Refusals.{Refusal, missing, wrong_kind}
+use Rattle.guide_toml.specs.declared.counts.TheConstants.{GREATEST_NUMBER}
 
 infixl 10 ◌>>=◌
 abbrev pub ◌>>=◌ : {A B : Type 0} → Result A Refusal → (A → Result B Refusal) → Result B Refusal
 (Ok x) >>= f = f x
 (Err e) >>= f = Err e
-
--- the keys of each kind of table; a node that is neither segment nor loop, or both, may have those of either
-abbrev pub keys_of : TableKind → List (List ℕ)
-keys_of kind.Guide =
-    codes "name" ∷ codes "group" ∷ codes "set" ∷ codes "version" ∷ codes "convention" ∷ codes "dictionary"
-    ∷ codes "tolerate_segment" ∷ codes "tolerate_element" ∷ codes "hl" ∷ codes "depends" ∷ codes "nodes" ∷ []
-keys_of kind.Hierarchy = codes "pairs" ∷ codes "sequential" ∷ []
-keys_of kind.Dependency = codes "kind" ∷ codes "slot" ∷ codes "at" ∷ codes "codes" ∷ codes "target" ∷ codes "element" ∷ []
-keys_of kind.Segment = codes "seg" ∷ codes "min" ∷ codes "max" ∷ codes "label" ∷ codes "pick" ∷ codes "elements" ∷ codes "conditions" ∷ []
-keys_of kind.Loop = codes "loop" ∷ codes "min" ∷ codes "max" ∷ codes "nodes" ∷ []
-keys_of kind.Unclear =
-    codes "seg" ∷ codes "loop" ∷ codes "min" ∷ codes "max" ∷ codes "label"
-    ∷ codes "pick" ∷ codes "elements" ∷ codes "conditions" ∷ codes "nodes" ∷ []
-
--- the least key that isn't listed: members stand in the order of their keys
-abbrev pub first_unknown : TableKind → Members → Option (List ℕ)
-first_unknown k no_members = None
-first_unknown k (member key d ms) = if contains_text (keys_of k) key then first_unknown k ms else Some key
-
-abbrev pub if_known : {A : Type 0} → Option (List ℕ) → Result A Refusal → Result A Refusal
-if_known None read = read
-if_known (Some key) read = Err (unknown key)
 
 -- what is read at a key
 abbrev pub asked : {A : Type 0} → List ℕ → Option A → Result A Refusal
@@ -67,12 +39,16 @@ optional_of absent read key (Some d) = asked key (read d)
 abbrev pub optional : {A : Type 0} → A → (Data → Option A) → List ℕ → Members → Result A Refusal
 optional absent read key ms = optional_of absent read key (get_member key ms)
 
+-- what is there is something
+abbrev pub present : {A : Type 0} → (Data → Option A) → Data → Option (Option A)
+present read d = option_map Some (read d)
+
 -- a text of so many to so many letters or digits
 abbrev pub word_in : ℕ → ℕ → Data → Option (List ℕ)
 word_in least most d = option_and_then (λ s. if is_word least most s then Some s else None) (as_str d)
 
 abbrev pub some_word_in : ℕ → ℕ → Data → Option (Option (List ℕ))
-some_word_in least most d = option_map Some (word_in least most d)
+some_word_in least most d = present (word_in least most) d
 
 -- two upper-case letters, not FA
 abbrev pub is_group : List ℕ → Bool
@@ -83,7 +59,7 @@ group_in d = option_and_then (λ s. if is_group s then Some s else None) (as_str
 
 -- 0 to 4,294,967,295
 abbrev pub count_of_integer : ℤ → Option ℕ
-count_of_integer (pos n) = if nat_le n 4294967295 then Some n else None
+count_of_integer (pos n) = if nat_le n GREATEST_NUMBER then Some n else None
 count_of_integer (negsuc n) = None
 
 abbrev pub count_in : Data → Option ℕ
@@ -97,9 +73,13 @@ each_item read (item d ds) = option_and_then (λ x. option_map (λ xs. x ∷ xs)
 abbrev pub text_item : {A : Type 0} → (List ℕ → Option A) → Data → Option A
 text_item reading d = option_and_then reading (as_str d)
 
+-- a list, each item of which is read
+abbrev pub list_in : {A : Type 0} → (Data → Option A) → Data → Option (List A)
+list_in read d = option_and_then (each_item read) (as_array d)
+
 -- a list of texts
 abbrev pub texts_in : {A : Type 0} → (List ℕ → Option A) → Data → Option (List A)
-texts_in reading d = option_and_then (each_item (text_item reading)) (as_array d)
+texts_in reading d = list_in (text_item reading) d
 
 abbrev pub are_tables : Items → Bool
 are_tables no_items = true
@@ -108,6 +88,10 @@ are_tables (item d ds) = is_some (as_table d) && are_tables ds
 -- a list of tables
 abbrev pub tables_in : Data → Option Items
 tables_in d = option_and_then (λ ds. if are_tables ds then Some ds else None) (as_array d)
+
+-- a table that may be absent
+abbrev pub some_table : Data → Option (Option Members)
+some_table d = if is_some (as_table d) then Some (as_table d) else None
 
 abbrev pub dependency_kind_of : List ℕ → Option DependencyKind
 dependency_kind_of s =

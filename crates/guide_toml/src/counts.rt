@@ -1,7 +1,10 @@
 ghost use Rattle.std.specs.Prelude.{◌≡◌};
 ghost use Rattle.guide_toml.specs.Counts.{count_of};
 
-/// The number that one or more digits write, at most 4,294,967,295; zeros in front are allowed.
+/// The greatest number that a file of tables may write: numbers fit 32 bits.
+pub const GREATEST_NUMBER: u64 = 4_294_967_295;
+
+/// The number that one or more digits write, at most `GREATEST_NUMBER`; zeros in front are allowed.
 pub fn count_of(digits: &[u8]) -> Option<u32>
     ensures { result ≡ count_of digits.now }
 {
@@ -14,7 +17,7 @@ pub fn count_of(digits: &[u8]) -> Option<u32>
             return None;
         }
         let next = 10 * u64::from(count) + u64::from(*digit - b'0');
-        if next > 4_294_967_295 {
+        if next > GREATEST_NUMBER {
             return None;
         }
         count = next as u32;

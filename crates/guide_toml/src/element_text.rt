@@ -6,9 +6,9 @@ ghost use Rattle.guide_toml.specs.ElementTexts as texts;
 
 use crate::counts::count_of;
 use crate::text_fault::TextFault;
-use crate::tokens::{are_codes, code_count, first_semicolon, text_of, texts_of, tokens_of};
+use crate::tokens::{are_codes, code_count, first_semicolon, texts_of, tokens_of};
 use guide_tree::{CodeList, Component, CompositeRow, Element, ElementType, Requirement, SimpleRow};
-use hub_kinds::{Items, Lent, Text, Texts, read_number};
+use hub_kinds::{Items, Lent, Text, Texts, copy_text, read_number};
 use std::alloc::Global;
 
 /// The type and the lengths of a value.
@@ -33,7 +33,7 @@ pub fn next_token<'a, 't>(tokens: &'t [Lent<'a>]) -> Result<(&'a [u8], &'t [Lent
 pub fn copy_of(alloc: Global, bytes: &[u8]) -> Result<Text, TextFault>
     ensures { Reads (λ x. x) result (Some bytes.now) }
 {
-    text_of(alloc, bytes).map_err(|_| TextFault::NoMemory)
+    copy_text(alloc, bytes).map_err(|_| TextFault::NoMemory)
 }
 
 fn reference_of(alloc: Global, token: &[u8]) -> Result<Text, TextFault>

@@ -1,8 +1,7 @@
 ghost use Rattle.std.specs.Prelude.{◌≡◌, ◌≤◌, Option, List, ℕ, length};
-ghost use Rattle.std.specs.List.{list_all, position_or_len};
+ghost use Rattle.std.specs.List.{position_or_len};
 ghost use Rattle.guide_toml.specs.Reads.{Reads};
 ghost use Rattle.guide_toml.specs.Entries as entries;
-ghost use Rattle.guide_tree.specs.Bounds.{is_upper_or_digit};
 
 use crate::counts::count_of;
 use crate::element_text::{copies_of, copy_of, element_of, next_token, tokens_in};
@@ -10,7 +9,7 @@ use crate::fault_codes::{element_code_of, segment_code_of};
 use crate::text_fault::TextFault;
 use crate::tokens::{are_codes, is_code};
 use guide_tree::{Condition, Element, HlPair, Pick, Relation};
-use hub_kinds::{ElementCode, Items, SegmentCode, Text, is_alphanumeric};
+use hub_kinds::{ElementCode, Items, SegmentCode, Text, is_alphanumeric, is_segment_id};
 use std::alloc::Global;
 
 /// What an entry of a list of texts stands for.
@@ -109,19 +108,12 @@ fn pair_of(alloc: Global, text: &[u8]) -> Result<HlPair, TextFault>
     }
 }
 
-fn are_upper_or_digits(text: &[u8]) -> bool
-    ensures { result ≡ list_all is_upper_or_digit text.now }
-{
-    text.iter()
-        .all(|byte| byte.is_ascii_uppercase() || byte.is_ascii_digit())
-}
-
 /// Whether a text has a form.
 pub fn has_form(form: Form, text: &[u8]) -> bool
     ensures { result ≡ entries.has_form form text.now }
 {
     match form {
-        Form::SegmentId => 2 <= text.len() && text.len() <= 3 && are_upper_or_digits(text),
+        Form::SegmentId => is_segment_id(text),
         Form::Code => is_code(text),
     }
 }

@@ -7,59 +7,23 @@ ghost use Rattle.guide_toml.specs.Tables as tables;
 ghost use Rattle.guide_toml.specs.Guides as guides;
 
 use crate::fault::GuideFileFault;
-use crate::lists::{entries_at, some_entries_at};
-use crate::table::{TableKind, count_at, refuse_unknown, some_word_at, text_at, value_at, word_at};
+use crate::keys::TableKind;
+use crate::reading::value_at;
+use crate::table::{
+    count_at, entries_at, refuse_unlisted, some_entries_at, some_word_at, text_at, word_at,
+};
+use crate::tables::tables_at;
 use guide_tree::{Loop, Node, Slot};
 use std::alloc::Global;
 use toml::{Table, Value};
-
-fn are_tables(values: &[Value]) -> bool
-    ensures { result ≡ tables.are_tables (items_view values.now) }
-{
-    for value in values {
-        if value.as_table().is_none() {
-            return false;
-        }
-    }
-    true
-}
-
-/// A list of tables.
-pub fn tables_in(value: &Value) -> Option<&[Value]>
-    ensures { option_map (λ v. items_view v.now) result ≡ tables.tables_in (view value.entry.now) }
-{
-    match value.as_array() {
-        None => None,
-        Some(values) => {
-            if are_tables(values) {
-                Some(values.as_slice())
-            } else {
-                None
-            }
-        }
-    }
-}
-
-/// A list of tables at a key.
-pub fn tables_at<'a>(table: &'a Table, key: &'static str) -> Result<&'a [Value], GuideFileFault>
-    ensures { Gives (λ v. items_view v.now) result (tables.required tables.tables_in key.now (table_view table.now)) }
-{
-    match value_at(table, key) {
-        None => Err(GuideFileFault::Missing(key)),
-        Some(value) => match tables_in(value) {
-            None => Err(GuideFileFault::WrongKind(key)),
-            Some(values) => Ok(values),
-        },
-    }
-}
 
 #[tactic(auto, unfolding(crate::specs::Guides::segment_of))]
 fn segment_of(alloc: Global, table: &Table) -> Result<Slot, GuideFileFault>
     ensures { Gives (λ x. x) result (guides.segment_of (table_view table.now)) }
 {
     let id = text_at(alloc, table, "seg")?;
-    let min = count_at(table, "min")?;
-    let max = count_at(table, "max")?;
+    let min = count_at(alloc, table, "min")?;
+    let max = count_at(alloc, table, "max")?;
     let label = some_word_at(alloc, table, "label", 1, 20)?;
     let picks = some_entries_at(alloc, table, "pick")?;
     let elements = entries_at(alloc, table, "elements")?;
@@ -81,9 +45,9 @@ fn loop_of(alloc: Global, table: &Table) -> Result<Loop, GuideFileFault>
     ensures { Gives (λ x. x) result (guides.loop_of (table_view table.now)) }
 {
     let id = word_at(alloc, table, "loop", 1, 4)?;
-    let min = count_at(table, "min")?;
-    let max = count_at(table, "max")?;
-    let _nodes = tables_at(table, "nodes")?;
+    let min = count_at(alloc, table, "min")?;
+    let max = count_at(alloc, table, "max")?;
+    let _nodes = tables_at::<GuideFileFault>(table, "nodes")?;
     Ok(Loop {
         number: 0,
         id,
@@ -139,21 +103,21 @@ fn inner_of(table: &Table) -> &[Value]
 fn segment_node(alloc: Global, table: &Table) -> Result<Node, GuideFileFault>
     ensures { Gives tree_view result (guides.segment_node (table_view table.now)) }
 {
-    refuse_unknown(alloc, table, TableKind::Segment)?;
+    refuse_unlisted(alloc, table, TableKind::Segment)?;
     Ok(Node::Segment(segment_of(alloc, table)?))
 }
 
 fn known_loop(alloc: Global, table: &Table) -> Result<Loop, GuideFileFault>
     ensures { Gives (λ x. x) result (guides.known TableKind.Loop (table_view table.now) (guides.loop_of (table_view table.now))) }
 {
-    refuse_unknown(alloc, table, TableKind::Loop)?;
+    refuse_unlisted(alloc, table, TableKind::Loop)?;
     loop_of(alloc, table)
 }
 
 fn unclear_node(alloc: Global, table: &Table) -> Result<Node, GuideFileFault>
     ensures { Gives tree_view result (guides.unclear_node (table_view table.now)) }
 {
-    refuse_unknown(alloc, table, TableKind::Unclear)?;
+    refuse_unlisted(alloc, table, TableKind::Unclear)?;
     Err(GuideFileFault::WrongKind("seg"))
 }
 

@@ -10,12 +10,13 @@ ghost use Rattle.guide_toml.specs.Guides as guides;
 
 use crate::entry::Form;
 use crate::fault::GuideFileFault;
-use crate::lists::{entries_at, some_entries_at, some_texts_at, texts_at};
-use crate::nodes::{nodes_of, tables_at, tables_in};
+use crate::keys::TableKind;
+use crate::nodes::nodes_of;
 use crate::table::{
-    TableKind, count_at, dependency_kind_at, flag_at, group_at, refuse_unknown, some_word_at,
-    value_at, word_at,
+    count_at, dependency_kind_at, entries_at, flag_at, group_at, refuse_unlisted, some_entries_at,
+    some_texts_at, some_word_at, texts_at, word_at,
 };
+use crate::tables::{some_table_at, some_tables_at, tables_at};
 use guide_tree::{Dependency, Guide, GuideHead, GuideRows, HlRule};
 use hub_kinds::Items;
 use std::alloc::Global;
@@ -48,7 +49,7 @@ fn head_of(alloc: Global, table: &Table) -> Result<GuideHead, GuideFileFault>
 fn known_head(alloc: Global, table: &Table) -> Result<GuideHead, GuideFileFault>
     ensures { Gives (λ x. x) result (guides.known TableKind.Guide (table_view table.now) (guides.head_of (table_view table.now))) }
 {
-    refuse_unknown(alloc, table, TableKind::Guide)?;
+    refuse_unlisted(alloc, table, TableKind::Guide)?;
     head_of(alloc, table)
 }
 
@@ -57,14 +58,14 @@ fn hl_of(alloc: Global, table: &Table) -> Result<HlRule, GuideFileFault>
     ensures { Gives (λ x. x) result (guides.hl_of (table_view table.now)) }
 {
     let pairs = entries_at(alloc, table, "pairs")?;
-    let sequential = flag_at(table, "sequential")?;
+    let sequential = flag_at(alloc, table, "sequential")?;
     Ok(HlRule { pairs, sequential })
 }
 
 fn known_hl(alloc: Global, table: &Table) -> Result<HlRule, GuideFileFault>
     ensures { Gives (λ x. x) result (guides.known TableKind.Hierarchy (table_view table.now) (guides.hl_of (table_view table.now))) }
 {
-    refuse_unknown(alloc, table, TableKind::Hierarchy)?;
+    refuse_unlisted(alloc, table, TableKind::Hierarchy)?;
     hl_of(alloc, table)
 }
 
@@ -77,43 +78,16 @@ fn hl_in(alloc: Global, table: Option<&Table>) -> Result<Option<HlRule>, GuideFi
     }
 }
 
-/// The table at a key, if there is something.
-fn table_at<'a>(table: &'a Table, key: &'static str) -> Result<Option<&'a Table>, GuideFileFault>
-    ensures { Gives (λ o. option_map (λ t. table_view t.now) o) result
-        (tables.optional None guides.some_table key.now (table_view table.now)) }
-{
-    match value_at(table, key) {
-        None => Ok(None),
-        Some(value) => match value.as_table() {
-            None => Err(GuideFileFault::WrongKind(key)),
-            Some(inner) => Ok(Some(inner)),
-        },
-    }
-}
-
-/// The list of tables at a key; an empty one where there is nothing.
-fn some_tables_at<'a>(table: &'a Table, key: &'static str) -> Result<&'a [Value], GuideFileFault>
-    ensures { Gives (λ v. items_view v.now) result (tables.optional no_items tables.tables_in key.now (table_view table.now)) }
-{
-    match value_at(table, key) {
-        None => Ok(&[]),
-        Some(value) => match tables_in(value) {
-            None => Err(GuideFileFault::WrongKind(key)),
-            Some(values) => Ok(values),
-        },
-    }
-}
-
 #[tactic(auto, unfolding(crate::specs::Guides::dependency_of))]
 fn dependency_of(alloc: Global, table: &Table) -> Result<Dependency, GuideFileFault>
     ensures { Gives (λ x. x) result (guides.dependency_of (table_view table.now)) }
 {
-    let kind = dependency_kind_at(table, "kind")?;
+    let kind = dependency_kind_at(alloc, table, "kind")?;
     let slot = word_at(alloc, table, "slot", 1, 20)?;
-    let at = count_at(table, "at")?;
+    let at = count_at(alloc, table, "at")?;
     let codes = texts_at(alloc, table, "codes", Form::Code)?;
     let target = word_at(alloc, table, "target", 1, 20)?;
-    let element = count_at(table, "element")?;
+    let element = count_at(alloc, table, "element")?;
     Ok(Dependency {
         kind,
         slot,
@@ -128,7 +102,7 @@ fn known_dependency(alloc: Global, table: &Table) -> Result<Dependency, GuideFil
     ensures { Gives (λ x. x) result
         (guides.known TableKind.Dependency (table_view table.now) (guides.dependency_of (table_view table.now))) }
 {
-    refuse_unknown(alloc, table, TableKind::Dependency)?;
+    refuse_unlisted(alloc, table, TableKind::Dependency)?;
     dependency_of(alloc, table)
 }
 
@@ -169,9 +143,9 @@ fn rows_of(alloc: Global, table: &Table) -> Result<GuideRows, GuideFileFault>
     ensures { Gives guide_of result (guides.guide_of_table (table_view table.now)) }
 {
     let head = known_head(alloc, table)?;
-    let rule = table_at(table, "hl")?;
-    let rows = some_tables_at(table, "depends")?;
-    let nodes = tables_at(table, "nodes")?;
+    let rule = some_table_at::<GuideFileFault>(table, "hl")?;
+    let rows = some_tables_at::<GuideFileFault>(table, "depends")?;
+    let nodes = tables_at::<GuideFileFault>(table, "nodes")?;
     let hl = hl_in(alloc, rule)?;
     let depends = dependencies_in(alloc, rows)?;
     let nodes = nodes_of(alloc, nodes)?;

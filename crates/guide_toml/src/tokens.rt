@@ -2,7 +2,7 @@ ghost use Rattle.std.specs.Prelude.{◌≡◌, ◌≤◌, IfOk, length};
 ghost use Rattle.std.specs.List.{list_all, position_or_len, prefix_len};
 ghost use Rattle.guide_toml.specs.Tokens.{is_space, tokens_of, is_semicolon, is_code_byte, is_code};
 
-use hub_kinds::{Items, Lent, NoMemory, Text, Texts};
+use hub_kinds::{Items, Lent, NoMemory, Texts, copy_text};
 use std::alloc::Global;
 
 /// Where the first space is, or the text's length.
@@ -100,20 +100,13 @@ pub fn code_count(tokens: &[Lent]) -> usize
     tokens.len()
 }
 
-/// A copy of a text.
-pub fn text_of(alloc: Global, bytes: &[u8]) -> Result<Text, NoMemory>
-    ensures { IfOk result (λ t. t ≡ bytes.now) }
-{
-    Ok(Items::from_vec(Vec::from_slice(alloc, bytes)?))
-}
-
 /// Copies of tokens.
 pub fn texts_of(alloc: Global, tokens: &[Lent]) -> Result<Texts, NoMemory>
     ensures { IfOk result (λ t. t ≡ tokens.now) }
 {
     let mut texts = Vec::new(alloc);
     for token in tokens {
-        texts.push(text_of(alloc, token.bytes())?)?;
+        texts.push(copy_text(alloc, token.bytes())?)?;
     }
     Ok(Items::from_vec(texts))
 }

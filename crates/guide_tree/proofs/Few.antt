@@ -1,47 +1,37 @@
 -- Positions that have rows, none twice, are no more than the rows.
 use Rattle.std.proofs.Common.{◌≡◌, ℕ, zero, suc, ◌+◌, ◌<◌, ◌≤◌, ◌∙◌, List, [], ◌∷◌, Bool, true, false, length, map, refl, ap, arith}
-use Rattle.std.specs.Prelude.{◌==◌, ◌&&◌, ◌||◌, not, nat_le, eqb}
+use Rattle.std.specs.Prelude.{◌==◌, ◌&&◌, not, nat_le, eqb}
 use mathlib.Core.Logic.{inl, inr}
 use Rattle.std.specs.List.{list_all, list_any, AllByRecursion, IsDistinct}
-use Rattle.std.proofs.lemmas.Bool.{or_cases, eqb-true, leb-true, false≢true}
-use Rattle.std.proofs.lemmas.Bool.Decides.{nat_tests}
+use Rattle.std.proofs.lemmas.Bool.{and_parts, or_cases, or_parts, not-true, not_from_false, eqb-true, ne_eqb, leb-true, false≢true}
 use Rattle.std.proofs.lemmas.Map.Steps.{length-le_from_distinct_below}
 use Rattle.guide_tree.specs.declared.slot.Slot.{Slot}
 use Rattle.guide_tree.specs.declared.slot.Pick.{Pick}
 use Rattle.guide_tree.specs.Bounds.{is_within, is_filled}
 use Rattle.guide_tree.specs.Conditions.{is_distinct, has_row, is_pick_of, position_of}
 
-and_both : (a b : Bool) → (a && b) ≡ true → (a ≡ true) × (b ≡ true)
-and_both true true h = (refl, refl)
-and_both true false h = absurd (false≢true h)
-and_both false b h = absurd (false≢true h)
-
-none_of : (a b : Bool) → not (a || b) ≡ true → (a ≡ false) × (not b ≡ true)
-none_of true b h = absurd (false≢true h)
-none_of false b h = (refl, h)
-
 apart : (x : ℕ) (xs : List ℕ) → not (list_any (λ y. x == y) xs) ≡ true → AllByRecursion (λ y. (x == y) ≡ false) xs
 apart x [] h = tt
-apart x (y ∷ ys) h = let a = none_of (x == y) (list_any (λ y. x == y) ys) h in (a.0, apart x ys a.1)
+apart x (y ∷ ys) h =
+    let a = or_parts (x == y) (list_any (λ y. x == y) ys) (not-true (list_any (λ y. x == y) (y ∷ ys)) h) in
+    (a.0, apart x ys (not_from_false (list_any (λ y. x == y) ys) a.1))
 
 distinct : (xs : List ℕ) → is_distinct xs ≡ true → IsDistinct eqb xs
 unfolding IsDistinct
 distinct [] h = tt
-distinct (x ∷ xs) h = let a = and_both (not (list_any (λ y. x == y) xs)) (is_distinct xs) h in (apart x xs a.0, distinct xs a.1)
-
-zero_less : (x : ℕ) → (0 == suc x) ≡ false
-zero_less x = grind (arith, nat_tests)
+distinct (x ∷ xs) h = let a = and_parts (not (list_any (λ y. x == y) xs)) (is_distinct xs) h in (apart x xs a.0, distinct xs a.1)
 
 no_zero : (n : ℕ) (xs : List ℕ) → list_all (is_within 1 n) xs ≡ true → AllByRecursion (λ y. (0 == y) ≡ false) xs
 no_zero n [] h = tt
-no_zero n (zero ∷ xs) h = absurd (false≢true (and_both (is_within 1 n zero) (list_all (is_within 1 n) xs) h).0)
-no_zero n (suc x ∷ xs) h = (zero_less x, no_zero n xs (and_both (is_within 1 n (suc x)) (list_all (is_within 1 n) xs) h).1)
+no_zero n (zero ∷ xs) h = absurd (false≢true (and_parts (is_within 1 n zero) (list_all (is_within 1 n) xs) h).0)
+no_zero n (suc x ∷ xs) h =
+    (ne_eqb 0 (suc x) (λ e. omega arith), no_zero n xs (and_parts (is_within 1 n (suc x)) (list_all (is_within 1 n) xs) h).1)
 
 below : (n : ℕ) (xs : List ℕ) → list_all (is_within 1 n) xs ≡ true → (q : ℕ) → list_any (eqb q) xs ≡ true → q < n + 1
 below n [] h q e = absurd (false≢true e)
 below n (x ∷ xs) h q e =
-    let a = and_both (is_within 1 n x) (list_all (is_within 1 n) xs) h in
-    let within = leb-true x n (and_both (nat_le 1 x) (nat_le x n) a.0).1 in
+    let a = and_parts (is_within 1 n x) (list_all (is_within 1 n) xs) h in
+    let within = leb-true x n (and_parts (nat_le 1 x) (nat_le x n) a.0).1 in
     elim (or_cases (eqb q x) (list_any (eqb q) xs) e) [
       | inl e ↦ let is = eqb-true q x e in omega (arith, is, within)
       | inr e ↦ below n xs a.1 q e
@@ -71,10 +61,6 @@ pub picks_have_rows : (s : Slot) (picks : List Pick) → list_all (is_pick_of s)
     → list_all (has_row s) (map position_of picks) ≡ true
 picks_have_rows s [] h = refl
 picks_have_rows s (p ∷ picks) h =
-    let a = and_both (is_pick_of s p) (list_all (is_pick_of s) picks) h in
-    let b = and_both (has_row s p.position) (is_filled p.codes) a.0 in
+    let a = and_parts (is_pick_of s p) (list_all (is_pick_of s) picks) h in
+    let b = and_parts (has_row s p.position) (is_filled p.codes) a.0 in
     ap (λ c. c && list_all (has_row s) (map position_of picks)) b.0 ∙ picks_have_rows s picks a.1
-
-pub map_length : (picks : List Pick) → length (map position_of picks) ≡ length picks
-map_length [] = refl
-map_length (p ∷ picks) = ap suc (map_length picks)

@@ -1,65 +1,15 @@
 -- Whether a segment can fit two slots doesn't depend on which is first.
-use Rattle.std.proofs.Common.{◌≡◌, ℕ, eqb, ◌⊎◌, inl, inr, Bool, true, false, not, ◌&&◌, ◌||◌, List, [], ◌∷◌, refl}
+use Rattle.std.proofs.Common.{◌≡◌, ℕ, eqb, inl, inr, Bool, true, false, not, List, refl}
 use Rattle.std.proofs.Common.{sym, ap, ◌∙◌, arith}
+use Rattle.std.proofs.lemmas.Bool.{and_parts, and_from, or_cases, or_left, or_right}
 use Rattle.std.proofs.lemmas.Bool.Decides.{nat_tests}
 use Rattle.std.proofs.lemmas.Slice.Eq.{bytes_eq-Decides}
-use Rattle.std.specs.List.{list_any, list_all}
+use Rattle.std.specs.List.{list_all}
 use Rattle.std.specs.Str.{bytes_eq}
 use Rattle.guide_tree.specs.declared.slot.Slot.{Slot}
 use Rattle.guide_tree.specs.declared.slot.Pick.{Pick}
 use Rattle.guide_tree.specs.Segments.{Segment, element_of, id_of, contains_text, fits, share_text, agree, can_fit_both}
-
-abbrev In : {A : Type 0} → List A → A → Type 0
-In [] x = ⊥
-In (y ∷ ys) x = (y ≡ x) ⊎ In ys x
-
-or_cases : (a b : Bool) → (a || b) ≡ true → (a ≡ true) ⊎ (b ≡ true)
-or_cases true b e = inl refl
-or_cases false b e = inr e
-
-pub or_left : (a b : Bool) → a ≡ true → (a || b) ≡ true
-or_left true b e = refl
-or_left false b e = cc
-
-pub or_right : (a b : Bool) → b ≡ true → (a || b) ≡ true
-or_right true b e = refl
-or_right false b e = e
-
-and_both : (a b : Bool) → (a && b) ≡ true → (a ≡ true) × (b ≡ true)
-and_both true b e = (refl, e)
-and_both false b e = cc
-
-both_and : (a b : Bool) → a ≡ true → b ≡ true → (a && b) ≡ true
-both_and true b e f = f
-both_and false b e f = cc
-
-record Found {A : Type 0} (test : A → Bool) (xs : List A) : Type 0 where
-  one : A
-  among : In xs one
-  passes : test one ≡ true
-
-any_found : {A : Type 0} (test : A → Bool) (xs : List A) → list_any test xs ≡ true → Found test xs
-any_found test [] h = cc
-any_found test (x ∷ xs) h = elim (or_cases (test x) (list_any test xs) h) [
-  | inl e ↦ record { one = x; among = inl refl; passes = e }
-  | inr e ↦ (let r = any_found test xs e in record { one = r.one; among = inr r.among; passes = r.passes })
-]
-
-found_any : {A : Type 0} (test : A → Bool) (xs : List A) (x : A) → In xs x → test x ≡ true → list_any test xs ≡ true
-found_any test [] x i h = absurd i
-found_any test (y ∷ ys) x (inl e) h = or_left (test y) (list_any test ys) (ap test e ∙ h)
-found_any test (y ∷ ys) x (inr i) h = or_right (test y) (list_any test ys) (found_any test ys x i h)
-
-all_at : {A : Type 0} (test : A → Bool) (xs : List A) (x : A) → list_all test xs ≡ true → In xs x → test x ≡ true
-all_at test [] x h i = absurd i
-all_at test (y ∷ ys) x h (inl e) = ap test (sym e) ∙ (and_both (test y) (list_all test ys) h).0
-all_at test (y ∷ ys) x h (inr i) = all_at test ys x (and_both (test y) (list_all test ys) h).1 i
-
-each_all : {A : Type 0} (test : A → Bool) (xs : List A) → ((x : A) → In xs x → test x ≡ true)
-    → list_all test xs ≡ true
-each_all test [] f = refl
-each_all test (y ∷ ys) f =
-    both_and (test y) (list_all test ys) (f y (inl refl)) (each_all test ys (λ x i. f x (inr i)))
+use Rattle.guide_tree.proofs.Among.{any_found, found_any, all_at, each_all}
 
 bytes_eq-comm : (x y : List ℕ) → bytes_eq x y ≡ true → bytes_eq y x ≡ true
 bytes_eq-comm x y h = (bytes_eq-Decides y x).1 (sym ((bytes_eq-Decides x y).0 h))
@@ -83,8 +33,8 @@ agree_comm p q h = elim (or_cases (not (eqb p.position q.position)) (share_text 
 
 pub can_fit_both-comm : (s t : Slot) → can_fit_both s t ≡ true → can_fit_both t s ≡ true
 can_fit_both-comm s t h =
-    let b = and_both (bytes_eq s.id t.id) (list_all (λ p. list_all (agree p) t.picks) s.picks) h in
-    both_and (bytes_eq t.id s.id) (list_all (λ p. list_all (agree p) s.picks) t.picks) (bytes_eq-comm s.id t.id b.0)
+    let b = and_parts (bytes_eq s.id t.id) (list_all (λ p. list_all (agree p) t.picks) s.picks) h in
+    and_from (bytes_eq t.id s.id) (list_all (λ p. list_all (agree p) s.picks) t.picks) (bytes_eq-comm s.id t.id b.0)
     (each_all (λ p. list_all (agree p) s.picks) t.picks (λ q i. each_all (agree q) s.picks (λ p j.
     agree_comm p q (all_at (agree p) t.picks q (all_at (λ x. list_all (agree x) t.picks) s.picks p b.1 j) i))))
 
@@ -105,10 +55,10 @@ both_agree p q s true e h k =
 pub fits_both : (x y : Slot) (s : Segment) → fits x s ≡ true → fits y s ≡ true → can_fit_both x y ≡ true
 fits_both x y s f g =
     let a =
-    and_both (bytes_eq x.id (id_of s)) (list_all (λ p. contains_text p.codes (element_of s p.position)) x.picks) f in
+    and_parts (bytes_eq x.id (id_of s)) (list_all (λ p. contains_text p.codes (element_of s p.position)) x.picks) f in
     let b =
-    and_both (bytes_eq y.id (id_of s)) (list_all (λ p. contains_text p.codes (element_of s p.position)) y.picks) g in
-    both_and (bytes_eq x.id y.id) (list_all (λ p. list_all (agree p) y.picks) x.picks)
+    and_parts (bytes_eq y.id (id_of s)) (list_all (λ p. contains_text p.codes (element_of s p.position)) y.picks) g in
+    and_from (bytes_eq x.id y.id) (list_all (λ p. list_all (agree p) y.picks) x.picks)
     ((bytes_eq-Decides x.id y.id).1 ((bytes_eq-Decides x.id (id_of s)).0 a.0
     ∙ sym ((bytes_eq-Decides y.id (id_of s)).0 b.0)))
     (each_all (λ p. list_all (agree p) y.picks) x.picks (λ p i. each_all (agree p) y.picks (λ q j.

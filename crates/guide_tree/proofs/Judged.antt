@@ -1,7 +1,10 @@
 -- The fault that is found is the first.
 use Rattle.std.proofs.Common.{◌≡◌, ℕ, ◌<◌, ◌≤◌, leb, ◌⊎◌, inl, inr, Bool, true, false, cond, Option, Some, None}
 use Rattle.std.proofs.Common.{option_map, refl, sym, ap, subst, ◌∙◌, arith}
+use Rattle.std.proofs.lemmas.Bool.{true_from_ne_false}
 use Rattle.std.proofs.lemmas.Bool.Decides.{nat_tests}
+use Rattle.hub_kinds.specs.declared.limits.TheConstants.{MOST_NODES}
+use Rattle.guide_tree.specs.declared.limits.TheConstants.{MOST_NESTED}
 use Rattle.guide_tree.specs.declared.fault.GuideFault.{GuideFault}
 use Rattle.guide_tree.specs.declared.fault.GuideFault.TheVariants as fault
 use Rattle.guide_tree.specs.Tree.{Tree, Trees, segment, loop, no_trees, tree, GuideTree, numbered, nesting}
@@ -52,10 +55,10 @@ first_as F G None to back x = λ f g. x f (back f g)
 first_as F G (Some f) to back x = (to f x.0, λ e g. x.1 e (back e g))
 
 abbrev Deep : GuideTree → GuideFault → Type 0
-Deep g f = (f ≡ fault.TooDeep) × (8 < nesting g.nodes)
+Deep g f = (f ≡ fault.TooDeep) × (MOST_NESTED < nesting g.nodes)
 
 abbrev Many : GuideTree → GuideFault → Type 0
-Many g f = (f ≡ fault.TooMany) × (2000 < node_count g.nodes)
+Many g f = (f ≡ fault.TooMany) × (MOST_NODES < node_count g.nodes)
 
 abbrev AtSlot : (ℕ → GuideFault) → (ℕ → Type 0) → GuideFault → Type 0
 AtSlot at P f = (k : ℕ) × (f ≡ at k) × P k
@@ -134,17 +137,13 @@ rivals_first g (Some m) l = (
   below_pair a b c d (inr (x, v)) (inr (y, inl z)) = omega arith
   below_pair a b c d (inr (x, v)) (inr (y, inr (z, w))) = omega arith
 
-passes_or_fails : (b : Bool) → (b ≡ false → ⊥) → b ≡ true
-passes_or_fails true h = refl
-passes_or_fails false h = absurd (h refl)
-
 mutual
   each_in_passes : (test : Tree → Bool) (t : Tree)
       → ((k : ℕ) → AnyNode (λ u. (number_of u ≡ k) × (test u ≡ false)) (tree t no_trees) → ⊥)
       → EachIn (λ u. test u ≡ true) t
-  each_in_passes test (segment s) h = passes_or_fails (test (segment s)) (λ e. h s.number (inl (refl, e)))
+  each_in_passes test (segment s) h = true_from_ne_false (test (segment s)) (λ e. h s.number (inl (refl, e)))
   each_in_passes test (loop l ts) h = (
-    passes_or_fails (test (loop l ts)) (λ e. h l.number (inl (inl (refl, e)))),
+    true_from_ne_false (test (loop l ts)) (λ e. h l.number (inl (inl (refl, e)))),
     each_passes test ts
         (λ k x. h k (inl (inr x))),
   )
@@ -244,10 +243,10 @@ InSize g f = Deep g f ⊎ Many g f
 
 size_first : (g : GuideTree) → IsFirstOf (InSize g) (first_in_size g)
 size_first g =
-    first_of_both (Deep g) (Many g) 1 1 2 2 _ _ (kinds_alone 1 fault.TooDeep (8 < nesting g.nodes) refl)
-    (kinds_alone 2 fault.TooMany (2000 < node_count g.nodes) refl) (omega arith)
-    (first_alone fault.TooDeep 8 (nesting g.nodes) (leb (nesting g.nodes) 8) refl)
-    (λ z. first_alone fault.TooMany 2000 (node_count g.nodes) (leb (node_count g.nodes) 2000) refl)
+    first_of_both (Deep g) (Many g) 1 1 2 2 _ _ (kinds_alone 1 fault.TooDeep (MOST_NESTED < nesting g.nodes) refl)
+    (kinds_alone 2 fault.TooMany (MOST_NODES < node_count g.nodes) refl) (omega arith)
+    (first_alone fault.TooDeep MOST_NESTED (nesting g.nodes) (leb (nesting g.nodes) MOST_NESTED) refl)
+    (λ z. first_alone fault.TooMany MOST_NODES (node_count g.nodes) (leb (node_count g.nodes) MOST_NODES) refl)
 
 has_fault : (g : GuideTree) (f : GuideFault) → InSize g f ⊎ InRows g f → HasFault g f
 has_fault g f (inl (inl x)) = subst (HasFault g) (sym x.0) x.1
@@ -268,8 +267,8 @@ fault_is g fault.NoMemory h = absurd h
 
 kinds_size : (g : GuideTree) → Kinds 1 2 (InSize g)
 kinds_size g =
-    both_kinds (Deep g) (Many g) 1 1 2 2 (kinds_alone 1 fault.TooDeep (8 < nesting g.nodes) refl)
-    (kinds_alone 2 fault.TooMany (2000 < node_count g.nodes) refl) (omega arith) (omega arith) (omega arith)
+    both_kinds (Deep g) (Many g) 1 1 2 2 (kinds_alone 1 fault.TooDeep (MOST_NESTED < nesting g.nodes) refl)
+    (kinds_alone 2 fault.TooMany (MOST_NODES < node_count g.nodes) refl) (omega arith) (omega arith) (omega arith)
 
 kinds_rows : (g : GuideTree) → Kinds 3 6 (InRows g)
 kinds_rows g =
@@ -290,10 +289,10 @@ first_by g r f e x = let y = subst (IsFirstOf (HasFault g)) e x in record { hold
 -- size is judged the same before the slots are numbered
 size_numbered : (g : GuideTree) → first_in_size (with_slot_numbers g) ≡ first_in_size g
 size_numbered g =
-    ap (λ (n : ℕ). or_else (cond (leb n 8) None (Some fault.TooDeep))
-    (cond (leb (node_count (numbered 1 g.nodes)) 2000) None (Some fault.TooMany))) (nesting-numbered 1 g.nodes)
-    ∙ ap (λ (n : ℕ). or_else (cond (leb (nesting g.nodes) 8) None (Some fault.TooDeep))
-    (cond (leb n 2000) None (Some fault.TooMany))) (node_count-numbered 1 g.nodes)
+    ap (λ (n : ℕ). or_else (cond (leb n MOST_NESTED) None (Some fault.TooDeep))
+    (cond (leb (node_count (numbered 1 g.nodes)) MOST_NODES) None (Some fault.TooMany))) (nesting-numbered 1 g.nodes)
+    ∙ ap (λ (n : ℕ). or_else (cond (leb (nesting g.nodes) MOST_NESTED) None (Some fault.TooDeep))
+    (cond (leb n MOST_NODES) None (Some fault.TooMany))) (node_count-numbered 1 g.nodes)
 
 pub refused_for_size : (g : GuideTree) (f : GuideFault) → first_in_size g ≡ Some f
     → IsFirstFault (with_slot_numbers g) f

@@ -2,7 +2,7 @@
 use Rattle.std.proofs.Common.{◌≡◌, ◌≢◌, ◌≤◌, length-set, get_or-set_other, ℕ, ◌+◌, ◌<◌, List, [], ◌∷◌, ◌++◌, map}
 use Rattle.std.proofs.Common.{length, get_or, take, drop, refl, sym, ◌∙◌, ap, arith}
 use Rattle.std.proofs.Math.ListN.{set}
-use Rattle.std.proofs.lemmas.List.{take_more_set, drop-set-lt, take_all, drop_all}
+use Rattle.std.proofs.lemmas.List.{take_more_set, drop-set-lt, take_all, drop_all, map_push}
 use Rattle.guide_tree.specs.declared.node.Node.{Node}
 use Rattle.guide_tree.specs.Tree.{Tree, Trees, no_trees, tree, count_in, node_count, numbered_in, numbered}
 use Rattle.guide_tree.specs.View.{view, nodes_view}
@@ -11,10 +11,6 @@ use Rattle.guide_tree.proofs.NodeViews.{nodes_view-drop, in_front}
 in_front-append : (ts us : List Tree) (vs : Trees) → in_front (ts ++ us) vs ≡ in_front ts (in_front us vs)
 in_front-append [] us vs = refl
 in_front-append (t ∷ ts) us vs = ap (tree t) (in_front-append ts us vs)
-
-map_push : (xs : List Node) (x : Node) → map view (xs ++ x ∷ []) ≡ map view xs ++ view x ∷ []
-map_push [] x = refl
-map_push (y ∷ ys) x = ap (λ (ts : List Tree). view y ∷ ts) (map_push ys x)
 
 drop_behind : (xs : List Node) (i : ℕ) (new : Node) → drop (i + 1) (set xs i new) ≡ drop (i + 1) xs
 drop_behind xs i new = drop-set-lt (i + 1) xs i new (omega arith)
@@ -37,7 +33,7 @@ number_step xs i n m all old new h o e v a =
     ap (λ (ys : List Node). in_front (map view ys) (numbered m (nodes_view (drop (i + 1) (set xs i new)))))
     (take_more_set xs i new h)
     ∙ ap (λ (ts : List Tree). in_front ts (numbered m (nodes_view (drop (i + 1) (set xs i new)))))
-    (map_push (take i xs) new)
+    (map_push view (take i xs) new)
     ∙ in_front-append (map view (take i xs)) (view new ∷ []) (numbered m (nodes_view (drop (i + 1) (set xs i new))))
     ∙ ap (in_front (map view (take i xs)))
     (ap (λ (ys : List Node). tree (view new) (numbered m (nodes_view ys))) (drop_behind xs i new)

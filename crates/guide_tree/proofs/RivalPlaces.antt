@@ -4,7 +4,7 @@ use Rattle.std.proofs.Common.{Some, refl, ap, ◌∙◌, arith}
 use Rattle.std.specs.List.{AllByRecursion}
 use Rattle.guide_tree.specs.declared.slot.Slot.{Slot}
 use Rattle.guide_tree.specs.Tree.{Tree, Trees, segment, loop, no_trees, tree}
-use Rattle.guide_tree.specs.Places.{Pair, Place, use_of, IsFirst, IsNext, Follows, slot_in, slot_nth}
+use Rattle.guide_tree.specs.Places.{Pair, Place, use_of, IsFirst, MayRepeat, Follows, slot_in, slot_nth}
 use Rattle.guide_tree.specs.Rivals.{entry}
 use Rattle.guide_tree.proofs.RivalPairs.{Enters, InsideIn, Inside, PairedIn, Paired}
 
@@ -25,7 +25,7 @@ entry_place (loop l (tree (loop k us) ts)) s e = cc
 abbrev pub Stand : (ℕ → Place → Option Slot) → ℕ → Trees → Type 0
 Stand f k us = (i n : ℕ) (q : Place) → i ≡ k + n → f i q ≡ slot_nth us n q
 
-stand_next : (f : ℕ → Place → Option Slot) (k : ℕ) (t : Tree) (ts : Trees) → Stand f k (tree t ts)
+pub stand_next : (f : ℕ → Place → Option Slot) (k : ℕ) (t : Tree) (ts : Trees) → Stand f k (tree t ts)
     → Stand f (k + 1) ts
 stand_next f k t ts h i n q e = h i (suc n) q (omega arith)
 
@@ -35,21 +35,9 @@ stand_behind t ts i n q e = let f : i ≡ suc n = omega arith in ap (λ (j : ℕ
 pub stand_all : (ts : Trees) → Stand (slot_nth ts) 0 ts
 stand_all ts i n q e = let f : i ≡ n = omega arith in ap (λ (j : ℕ). slot_nth ts j q) f
 
-abbrev pub MayEnter : Bool → ℕ → Type 0
-MayEnter true k = 0 < k
-MayEnter false k = Unit {0}
-
-enter_next : (il : Bool) (k : ℕ) → MayEnter il k → MayEnter il (k + 1)
+enter_next : (il : Bool) (k : ℕ) → MayRepeat il k → MayRepeat il (k + 1)
 enter_next true k h = omega arith
 enter_next false k h = tt
-
-again_next : (il : Bool) (k : ℕ) → MayEnter il k → IsNext il (use_of k 0) (use_of k 1)
-again_next true k h = inr (h, refl, refl)
-again_next false k h = inr (refl, refl)
-
-later_next : (il : Bool) (k j : ℕ) → k < j → IsNext il (use_of k 0) (use_of j 0)
-later_next true k j h = inl (h, refl)
-later_next false k j h = inl (h, refl)
 
 here : (f : ℕ → Place → Option Slot) (k : ℕ) (t : Tree) (ts : Trees) (q : Place) (s : Slot) → Stand f k (tree t ts)
     → slot_in t q ≡ Some s → f k q ≡ Some s
@@ -91,7 +79,7 @@ mutual
       }
 
   inside_follows : (il : Bool) (f : ℕ → Place → Option Slot) (k : ℕ) (us : Trees) (s : Slot) → Stand f k us
-      → MayEnter il k → Inside us s → Repeats il f s
+      → MayRepeat il k → Inside us s → Repeats il f s
   inside_follows il f k no_trees s st m h = absurd h
   inside_follows il f k (tree t ts) s st m (inl e) =
       let p = entry_place t s e in
@@ -104,7 +92,7 @@ mutual
         base = s;
         stands =
             at;
-        follows = inr (again_next il k m, p.first);
+        follows = inr (inr (refl, refl, m), p.first);
         slot = at;
       }
   inside_follows il f k (tree t ts) s st m (inr (inl i)) =
@@ -204,7 +192,7 @@ mutual
       }
 
   pub paired_both : (il : Bool) (f : ℕ → Place → Option Slot) (k : ℕ) (us : Trees) (s u : Slot) → Stand f k us
-      → MayEnter il k → Paired us s u → MayBoth il f s u
+      → MayRepeat il k → Paired us s u → MayBoth il f s u
   paired_both il f k no_trees s u st m h = absurd h
   paired_both il f k (tree t ts) s u st m (inl (e, n)) =
       let p = entry_place t s e in
@@ -220,8 +208,8 @@ mutual
         other_in = q.place;
         base = s;
         stands = at;
-        one_follows = inr (again_next il k m, p.first);
-        other_follows = inr (later_next il k q.child lt, q.first);
+        one_follows = inr (inr (refl, refl, m), p.first);
+        other_follows = inr (inl (lt, refl), q.first);
         one_slot = at;
         other_slot = q.slot;
         different = child_differs (use_of k 1) (use_of q.child 0) p.place q.place lt;
@@ -240,7 +228,7 @@ mutual
         base = r.base;
         stands = here f k t ts r.last r.base st r.stands;
         one_follows = inl (refl, r.follows);
-        other_follows = inr (again_next il k m, p.first);
+        other_follows = inr (inr (refl, refl, m), p.first);
         one_slot = here f k t ts r.next s st r.slot;
         other_slot = here f k t ts p.place u st p.slot;
         different = use_differs (use_of k 0) (use_of k 1) r.next p.place lt;
@@ -259,7 +247,7 @@ mutual
         base = r.base;
         stands = here f k t ts r.last r.base st r.stands;
         one_follows = inl (refl, r.follows);
-        other_follows = inr (later_next il k q.child lt, q.first);
+        other_follows = inr (inl (lt, refl), q.first);
         one_slot = here f k t ts r.next s st r.slot;
         other_slot = q.slot;
         different = child_differs (use_of k 0) (use_of q.child 0) r.next q.place lt;

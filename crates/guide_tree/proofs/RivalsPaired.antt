@@ -2,14 +2,15 @@
 use Rattle.std.proofs.Common.{◌≡◌, ◌≢◌, ℕ, zero, suc, ◌<◌, ◌≤◌, ◌⊎◌, inl, inr, Bool, true, false, IsTrue, [], ◌∷◌}
 use Rattle.std.proofs.Common.{Option, Some, None, refl, sym, ap, subst, ◌∙◌, arith}
 use Rattle.std.specs.List.{AllByRecursion}
+use Rattle.std.proofs.lemmas.Bool.{cases_order}
 use Rattle.guide_tree.specs.declared.slot.Slot.{Slot}
 use Rattle.guide_tree.specs.declared.node.Loop.{Loop}
 use Rattle.guide_tree.specs.Tree.{Tree, Trees, segment, loop, no_trees, tree, EachIn, EachNode}
 use Rattle.guide_tree.specs.Conditions.{has_trigger, is_triggered}
-use Rattle.guide_tree.specs.Places.{Pair, Place, use_of, IsFirst, IsNext, Follows, slot_in, slot_nth}
+use Rattle.guide_tree.specs.Places.{Pair, Place, use_of, IsFirst, MayRepeat, IsNext, Follows, slot_in, slot_nth}
 use Rattle.guide_tree.specs.Rivals.{entry}
+use Rattle.guide_tree.proofs.Pairs.{pair_is}
 use Rattle.guide_tree.proofs.RivalPairs.{Enters, InsideIn, Inside, PairedIn, Paired}
-use Rattle.guide_tree.proofs.RivalPlaces.{MayEnter}
 
 abbrev tree_nth : Trees → ℕ → Option Tree
 tree_nth no_trees n = None
@@ -78,7 +79,7 @@ abbrev Led : Bool → Trees → Type 0
 Led false ts = Unit {0}
 Led true ts = IsTrue (has_trigger ts)
 
-tops_at : (il : Bool) (ts : Trees) (n m : ℕ) (t v : Tree) (s u : Slot) → MayEnter il n → tree_nth ts n ≡ Some t
+tops_at : (il : Bool) (ts : Trees) (n m : ℕ) (t v : Tree) (s u : Slot) → MayRepeat il n → tree_nth ts n ≡ Some t
     → tree_nth ts m ≡ Some v → n < m → entry t ≡ Some s → entry v ≡ Some u → PairedAt il ts s u
 tops_at false ts n m t v s u h a b l e f = paired_tops ts n m t v s u a b l e f
 tops_at true no_trees n m t v s u h a b l e f = cc
@@ -153,29 +154,20 @@ one_way (loop l ts) (a ∷ p) (b ∷ q) s u h f g d e =
     let y = (first_entry ts b.child q u h g.0.0 g.1 e l).1 in
     ap (λ (c : Pair). c ∷ p) (first_is a f.0 ∙ sym (first_is b g.0)) ∙ ap (λ (r : Place). b ∷ r) (x ∙ sym y)
 
-next_enters : (il : Bool) (a b : Pair) → IsNext il a b → MayEnter il b.child
+next_enters : (il : Bool) (a b : Pair) → IsNext il a b → MayRepeat il b.child
 next_enters false a b h = tt
 next_enters true a b (inl h) = let l = h.0 in omega arith
-next_enters true a b (inr h) = let l = h.0 in let e = h.1 in omega arith
+next_enters true a b (inr h) = let e = h.0 in let l = h.2 in omega arith
 
 next_from : (il : Bool) (a b : Pair) → IsNext il a b → a.child ≤ b.child
-next_from false a b (inl h) = let l = h.0 in omega arith
-next_from false a b (inr h) = let e = h.0 in omega arith
-next_from true a b (inl h) = let l = h.0 in omega arith
-next_from true a b (inr h) = let e = h.1 in omega arith
+next_from il a b (inl h) = let l = h.0 in omega arith
+next_from il a b (inr h) = let e = h.0 in omega arith
 
 same_use : (il : Bool) (a b c : Pair) → IsNext il a b → IsNext il a c → b.child ≡ c.child → b.use_no ≡ c.use_no
-same_use false a b c (inl h) (inl g) e = h.1 ∙ sym g.1
-same_use false a b c (inl h) (inr g) e = let l = h.0 in let f = g.0 in absurd (omega arith)
-same_use false a b c (inr h) (inl g) e = let l = g.0 in let f = h.0 in absurd (omega arith)
-same_use false a b c (inr h) (inr g) e = h.1 ∙ sym g.1
-same_use true a b c (inl h) (inl g) e = h.1 ∙ sym g.1
-same_use true a b c (inl h) (inr g) e = let l = h.0 in let f = g.1 in absurd (omega arith)
-same_use true a b c (inr h) (inl g) e = let l = g.0 in let f = h.1 in absurd (omega arith)
-same_use true a b c (inr h) (inr g) e = h.2 ∙ sym g.2
-
-same_pair : (b c : Pair) → b.child ≡ c.child → b.use_no ≡ c.use_no → b ≡ c
-same_pair b c d e = ap (λ (k : ℕ). use_of k b.use_no) d ∙ ap (use_of c.child) e
+same_use il a b c (inl h) (inl g) e = h.1 ∙ sym g.1
+same_use il a b c (inl h) (inr g) e = let l = h.0 in let f = g.0 in absurd (omega arith)
+same_use il a b c (inr h) (inl g) e = let l = g.0 in let f = h.0 in absurd (omega arith)
+same_use il a b c (inr h) (inr g) e = h.1 ∙ sym g.1
 
 inside_of_nth : (l : Loop) (ts : Trees) (n : ℕ) (t : Tree) (s : Slot) → IsTrue (has_trigger ts)
     → tree_nth ts n ≡ Some t → InsideIn t s → InsideIn (loop l ts) s
@@ -206,21 +198,12 @@ deep_inside (a ∷ p) (loop l ts) (b ∷ v) s h (inr f) e =
     entry_behind l ts b.child x.node s (next_enters true a b f.0) x.nth
     (entry_of x.node v s (led_here x.node (each_nth ts b.child x.node h.1 x.nth)) f.1 x.slot)
 
-less_or_more : (n m : ℕ) → (n < m) ⊎ ((m < n) ⊎ (n ≡ m))
-less_or_more zero zero = inr (inr refl)
-less_or_more zero (suc m) = inl (omega arith)
-less_or_more (suc n) zero = inr (inl (omega arith))
-less_or_more (suc n) (suc m) = elim (less_or_more n m) [
-  | inl h ↦ inl (omega arith)
-  | inr g ↦ (elim g [ inl h ↦ inr (inl (omega arith)) | inr h ↦ inr (inr (ap suc h)) ])
-]
-
 abbrev Both : (Slot → Slot → Type 0) → Slot → Slot → Type 0
 Both P s u = P s u ⊎ P u s
 
 -- two nodes of a list that are come to for the first time or again
-level : (il : Bool) (ts : Trees) (b c : Pair) (v w : Place) (s u : Slot) → EachNode IsLed ts → MayEnter il b.child
-    → MayEnter il c.child → (b.child ≡ c.child → b.use_no ≡ c.use_no)
+level : (il : Bool) (ts : Trees) (b c : Pair) (v w : Place) (s u : Slot) → EachNode IsLed ts → MayRepeat il b.child
+    → MayRepeat il c.child → (b.child ≡ c.child → b.use_no ≡ c.use_no)
     → AllByRecursion IsFirst v → AllByRecursion IsFirst w → slot_nth ts b.child v ≡ Some s
     → slot_nth ts c.child w ≡ Some u → (b ∷ v) ≢ (c ∷ w) → Both (PairedAt il ts) s u
 level il ts b c v w s u h mb mc one fv fw e f d =
@@ -230,14 +213,13 @@ level il ts b c v w s u h mb mc one fv fw e f d =
     let hy = led_here y.node (each_nth ts c.child y.node h y.nth) in
     let ex = entry_of x.node v s hx fv x.slot in
     let ey = entry_of y.node w u hy fw y.slot in
-    elim (less_or_more b.child c.child) [
-      | inl l ↦ inl (tops_at il ts b.child c.child x.node y.node s u mb x.nth y.nth l ex ey)
+    elim (cases_order b.child c.child) [
+      | inl q ↦ (let same : x.node ≡ y.node = same_tree x.node y.node (sym x.nth ∙ ap (tree_nth ts) q ∙ y.nth) in
+          let vw = one_way x.node v w s u hx fv fw x.slot (subst (λ (z : Tree). slot_in z w ≡ Some u) (sym same) y.slot) in
+          absurd (d (ap (λ (z : Pair). z ∷ v) (pair_is b c q (one q)) ∙ ap (λ (z : Place). c ∷ z) vw)))
       | inr g ↦ (elim g [
-        | inl l ↦ inr (tops_at il ts c.child b.child y.node x.node u s mc y.nth x.nth l ey ex)
-        | inr q ↦ (let same : x.node ≡ y.node = same_tree x.node y.node (sym x.nth ∙ ap (tree_nth ts) q ∙ y.nth) in
-            let vw =
-            one_way x.node v w s u hx fv fw x.slot (subst (λ (z : Tree). slot_in z w ≡ Some u) (sym same) y.slot) in
-            absurd (d (ap (λ (z : Pair). z ∷ v) (same_pair b c q (one q)) ∙ ap (λ (z : Place). c ∷ z) vw)))
+        | inl l ↦ inl (tops_at il ts b.child c.child x.node y.node s u mb x.nth y.nth l ex ey)
+        | inr l ↦ inr (tops_at il ts c.child b.child y.node x.node u s mc y.nth x.nth l ey ex)
       ])
     ]
 

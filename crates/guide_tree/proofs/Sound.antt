@@ -1,6 +1,7 @@
 -- The slots of an accepted guide keep to what each slot has to.
 use Rattle.std.proofs.Common.{◌≡◌, ◌⊎◌, inl, inr, Bool, true, false, Option, Some, None, option_map, IfSome, refl, subst}
 use Rattle.std.proofs.Common.{sym, cond, ◌&&◌}
+use Rattle.std.proofs.lemmas.Bool.{and_parts, true_from_ne_false}
 use denote.Ref.{Bor}
 use Rattle.guide_tree.specs.declared.slot.Slot.{Slot}
 use Rattle.guide_tree.specs.declared.fault.GuideFault.TheVariants as fault
@@ -37,23 +38,15 @@ mutual
     | inr h ↦ inr (found P test ts s h p)
   ]
 
-true_of : (b : Bool) → (b ≡ false → ⊥) → b ≡ true
-true_of true h = refl
-true_of false h = absurd (h refl)
-
-first_of : (a b : Bool) → a && b ≡ true → a ≡ true
-first_of true b h = refl
-first_of false b h = h
-
 pub sound : (g : GuideTree) (test : Slot → Bool) (s : Slot) → IsWellFormed g → find_slot test g.nodes ≡ Some s
     → IsSound s
 sound g test s clean e = record {
-  bounded = true_of (is_slot_bounded s) (λ no. clean (fault.BadBounds s.number)
+  bounded = true_from_ne_false (is_slot_bounded s) (λ no. clean (fault.BadBounds s.number)
       (found (λ t. (number_of t ≡ s.number) × (is_bounded t ≡ false)) test g.nodes s e (refl, no)));
-  conditioned = first_of (list_all (is_condition_of s) s.conditions) (are_picks_of s s.picks)
-      (first_of (list_all (is_condition_of s) s.conditions && are_picks_of s s.picks) (is_label_new g.nodes s)
-      (true_of (is_slot_conditioned g.nodes s) (λ no. clean (fault.BadCondition s.number)
-      (inr (found (λ t. (number_of t ≡ s.number) × (is_conditioned g.nodes t ≡ false)) test g.nodes s e (refl, no))))));
+  conditioned = (and_parts (list_all (is_condition_of s) s.conditions) (are_picks_of s s.picks)
+      (and_parts (list_all (is_condition_of s) s.conditions && are_picks_of s s.picks) (is_label_new g.nodes s)
+      (true_from_ne_false (is_slot_conditioned g.nodes s) (λ no. clean (fault.BadCondition s.number)
+      (inr (found (λ t. (number_of t ≡ s.number) × (is_conditioned g.nodes t ≡ false)) test g.nodes s e (refl, no)))))).0).0;
 }
 
 -- so is a slot that is lent

@@ -1,9 +1,10 @@
 -- X12.6, segment and data element: the bounds that the rows of a guide keep to (their greatest values are own).
-use Rattle.std.specs.Prelude.{ℕ, nat_le, List, [], ◌∷◌, codes, length, Bool, true, ◌&&◌, ◌||◌, not}
+use Rattle.std.specs.Prelude.{ℕ, nat_le, List, [], ◌∷◌, codes, length, Bool, true, ◌&&◌, not}
 use Rattle.std.specs.List.{list_all}
 use Rattle.std.specs.Option.{option_map_or}
-use Rattle.std.specs.Char.{is_ascii_uppercase, is_ascii_digit}
-use Rattle.hub_kinds.specs.Words.{is_word}
+use Rattle.hub_kinds.specs.declared.limits.TheConstants.{MOST_COMPONENTS, MOST_ELEMENTS, MOST_REPEATS}
+use Rattle.hub_kinds.specs.Words.{is_word, is_segment_id}
+use Rattle.guide_tree.specs.declared.limits.TheConstants.{LONGEST_ELEMENT, MOST_USES}
 use Rattle.guide_tree.specs.declared.element.CodeList.{CodeList}
 use Rattle.guide_tree.specs.declared.element.SimpleRow.{SimpleRow}
 use Rattle.guide_tree.specs.declared.element.Component.{Component}
@@ -21,22 +22,19 @@ is_within lo hi n = nat_le lo n && nat_le n hi
 
 -- the least use is no more than the greatest, which is at most 999,999
 abbrev pub is_use_range : ℕ → ℕ → Bool
-is_use_range least most = nat_le least most && nat_le most 999999
+is_use_range least most = nat_le least most && nat_le most MOST_USES
 
 -- the least length is 1 or more and no more than the greatest, which is at most 9,999
 abbrev pub is_length_range : ℕ → ℕ → Bool
-is_length_range least most = nat_le 1 least && nat_le least most && nat_le most 9999
-
-abbrev pub is_upper_or_digit : ℕ → Bool
-is_upper_or_digit c = is_ascii_uppercase c || is_ascii_digit c
+is_length_range least most = nat_le 1 least && nat_le least most && nat_le most LONGEST_ELEMENT
 
 -- the segments round groups and sets
 abbrev pub envelope_ids : List (List ℕ)
 envelope_ids = codes "ISA" ∷ codes "IEA" ∷ codes "GS" ∷ codes "GE" ∷ codes "ST" ∷ codes "SE" ∷ []
 
 -- 2 or 3 upper-case letters or digits, and no segment of an envelope
-abbrev pub is_segment_id : List ℕ → Bool
-is_segment_id id = is_within 2 3 (length id) && list_all is_upper_or_digit id && not (contains_text envelope_ids id)
+abbrev pub is_slot_id : List ℕ → Bool
+is_slot_id id = is_segment_id id && not (contains_text envelope_ids id)
 
 -- 1 to 4 letters or digits
 abbrev pub is_loop_id : List ℕ → Bool
@@ -57,17 +55,17 @@ is_component_bounded (component.NotUsed reference) = true
 is_component_bounded (component.Simple row) = is_row_bounded row
 
 abbrev pub is_repeat : ℕ → Bool
-is_repeat n = is_within 1 999 n
+is_repeat n = is_within 1 MOST_REPEATS n
 
 abbrev pub is_element_bounded : Element → Bool
 is_element_bounded (element.NotUsed reference) = true
 is_element_bounded (element.Simple row repeat) = is_repeat repeat && is_row_bounded row
 is_element_bounded (element.Composite c) =
-    is_repeat c.repeat && nat_le (length c.components) 20 && list_all is_component_bounded c.components
+    is_repeat c.repeat && nat_le (length c.components) MOST_COMPONENTS && list_all is_component_bounded c.components
 
 abbrev pub is_slot_bounded : Slot → Bool
 is_slot_bounded s =
-    is_use_range s.min s.max && is_segment_id s.id && nat_le (length s.elements) 40
+    is_use_range s.min s.max && is_slot_id s.id && nat_le (length s.elements) MOST_ELEMENTS
     && list_all is_element_bounded s.elements
 
 abbrev pub is_loop_bounded : Loop → Bool

@@ -1,5 +1,7 @@
 -- X12.6, transaction set (own): the guides that are accepted, and the first fault of one that is refused.
 use Rattle.std.specs.Prelude.{ℕ, ◌≡◌, ◌<◌, ◌⊎◌, IsFalse, Bool}
+use Rattle.hub_kinds.specs.declared.limits.TheConstants.{MOST_NODES}
+use Rattle.guide_tree.specs.declared.limits.TheConstants.{MOST_NESTED}
 use Rattle.guide_tree.specs.declared.fault.GuideFault.{GuideFault}
 use Rattle.guide_tree.specs.declared.fault.GuideFault.TheVariants as fault
 use Rattle.guide_tree.specs.Tree.{Tree, Trees, number_of, AnyNode, nesting, node_count, GuideTree}
@@ -13,8 +15,8 @@ FailsAt test ts k = AnyNode (λ t. (number_of t ≡ k) × IsFalse (test t)) ts
 
 -- what each refusal says of a guide
 abbrev pub HasFault : GuideTree → GuideFault → Type 0
-HasFault g fault.TooDeep = 8 < nesting g.nodes
-HasFault g fault.TooMany = 2000 < node_count g.nodes
+HasFault g fault.TooDeep = MOST_NESTED < nesting g.nodes
+HasFault g fault.TooMany = MOST_NODES < node_count g.nodes
 HasFault g (fault.BadBounds k) = FailsAt is_bounded g.nodes k
 HasFault g (fault.BadTrigger k) = FailsAt is_triggered g.nodes k
 HasFault g (fault.BadCondition k) = ((k ≡ 0) × IsFalse (are_names_known g)) ⊎ FailsAt (is_conditioned g.nodes) g.nodes k

@@ -1,5 +1,7 @@
 -- X12.6, transaction set (own): the kinds of faults one after another, and the first that there is.
 use Rattle.std.specs.Prelude.{ℕ, nat_le, Option, Some, None, option_map, if◌then◌else◌}
+use Rattle.hub_kinds.specs.declared.limits.TheConstants.{MOST_NODES}
+use Rattle.guide_tree.specs.declared.limits.TheConstants.{MOST_NESTED}
 use Rattle.guide_tree.specs.declared.fault.GuideFault.{GuideFault}
 use Rattle.guide_tree.specs.declared.fault.GuideFault.TheVariants as fault
 use Rattle.guide_tree.specs.declared.judge.Rule.TheVariants as rule
@@ -26,5 +28,5 @@ first_in_rows g =
 -- what is judged before any other walk
 abbrev pub first_in_size : GuideTree → Option GuideFault
 first_in_size g =
-    or_else (if nat_le (nesting g.nodes) 8 then None else Some fault.TooDeep)
-    (if nat_le (node_count g.nodes) 2000 then None else Some fault.TooMany)
+    or_else (if nat_le (nesting g.nodes) MOST_NESTED then None else Some fault.TooDeep)
+    (if nat_le (node_count g.nodes) MOST_NODES then None else Some fault.TooMany)

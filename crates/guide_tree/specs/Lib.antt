@@ -9,9 +9,11 @@ pub mod Conditions
 pub mod Faults
 pub mod Slots
 pub mod Structure
+pub mod Nexts
+pub mod Pass
+pub mod Fits
 pub mod Room
 pub mod Rules
 pub mod Rivals
 pub mod Judging
 pub mod Accepted
-pub mod Law

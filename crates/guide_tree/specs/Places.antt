@@ -20,11 +20,15 @@ Place = List Pair
 abbrev pub IsFirst : Pair → Type 0
 IsFirst a = (a.child ≡ 0) × (a.use_no ≡ 0)
 
--- A child further on for the first time, or the same child once more. The first child of a loop isn't
--- repeated by itself: the loop is.
+-- the first child of a loop isn't repeated by itself: the loop is
+abbrev pub MayRepeat : (in_loop : Bool) → (child : ℕ) → Type 0
+MayRepeat false child = Unit {0}
+MayRepeat true child = 0 < child
+
+-- a child further on for the first time, or the same child once more
 abbrev pub IsNext : (in_loop : Bool) → Pair → Pair → Type 0
-IsNext true a b = ((a.child < b.child) × (b.use_no ≡ 0)) ⊎ ((0 < a.child) × (b.child ≡ a.child) × (b.use_no ≡ a.use_no + 1))
-IsNext false a b = ((a.child < b.child) × (b.use_no ≡ 0)) ⊎ ((b.child ≡ a.child) × (b.use_no ≡ a.use_no + 1))
+IsNext in_loop a b =
+    ((a.child < b.child) × (b.use_no ≡ 0)) ⊎ ((b.child ≡ a.child) × (b.use_no ≡ a.use_no + 1) × MayRepeat in_loop a.child)
 
 -- behind what the two places have in common there is a next pair, and all deeper ones are the first
 abbrev pub Follows : (in_loop : Bool) → Place → Place → Type 0
@@ -48,6 +52,11 @@ abbrev mutual
 abbrev pub slot_at : Trees → Place → Option Slot
 slot_at ts [] = None
 slot_at ts (a ∷ q) = slot_nth ts a.child q
+
+-- the slot of a segment's place; a stray has none
+abbrev pub slot_given : Trees → Option Place → Option Slot
+slot_given ts None = None
+slot_given ts (Some q) = slot_at ts q
 
 -- the place may come behind the last one that was given, or first
 abbrev pub MayCome : (last : Option Place) → Place → Type 0

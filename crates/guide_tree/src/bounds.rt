@@ -1,39 +1,36 @@
 ghost use Rattle.std.specs.Prelude.{◌≡◌};
 ghost use Rattle.std.specs.List.{list_all};
 ghost use Rattle.guide_tree.specs.Segments.{contains_text};
-ghost use Rattle.guide_tree.specs.Bounds.{is_within, is_use_range, is_length_range, is_upper_or_digit, envelope_ids};
-ghost use Rattle.guide_tree.specs.Bounds.{is_segment_id, is_loop_id, is_filled, are_codes_bounded, is_row_bounded};
+ghost use Rattle.guide_tree.specs.Bounds.{is_within, is_use_range, is_length_range, envelope_ids};
+ghost use Rattle.guide_tree.specs.Bounds.{is_slot_id, is_loop_id, is_filled, are_codes_bounded, is_row_bounded};
 ghost use Rattle.guide_tree.specs.Bounds.{is_component_bounded, is_element_bounded, is_repeat, is_slot_bounded};
 ghost use Rattle.guide_tree.specs.Bounds.{is_loop_bounded, is_bounded};
 ghost use Rattle.guide_tree.specs.View.{view};
 
 use crate::element::{CodeList, Component, Element, SimpleRow};
+use crate::limits::{LONGEST_ELEMENT, MOST_USES};
 use crate::node::{Loop, Node};
 use crate::slot::Slot;
-use hub_kinds::{Text, is_alphanumeric};
+use hub_kinds::{
+    MOST_COMPONENTS, MOST_ELEMENTS, MOST_REPEATS, Text, is_alphanumeric, is_segment_id,
+};
 
 fn is_use_range(least: u32, most: u32) -> bool
     ensures { result ≡ is_use_range least most }
 {
-    least <= most && most <= 999_999
+    least <= most && most <= MOST_USES
 }
 
 fn is_length_range(least: u32, most: u32) -> bool
     ensures { result ≡ is_length_range least most }
 {
-    1 <= least && least <= most && most <= 9_999
+    1 <= least && least <= most && most <= LONGEST_ELEMENT
 }
 
 fn is_repeat(count: u32) -> bool
     ensures { result ≡ is_repeat count }
 {
-    1 <= count && count <= 999
-}
-
-fn is_upper_or_digit(byte: u8) -> bool
-    ensures { result ≡ is_upper_or_digit byte }
-{
-    byte.is_ascii_uppercase() || byte.is_ascii_digit()
+    1 <= count && count <= MOST_REPEATS
 }
 
 fn is_envelope_id(id: &[u8]) -> bool
@@ -47,16 +44,11 @@ fn is_envelope_id(id: &[u8]) -> bool
         || b"SE".as_slice() == id
 }
 
-fn are_upper_or_digits(text: &[u8]) -> bool
-    ensures { result ≡ list_all is_upper_or_digit text.now }
+/// Whether a slot may have this id.
+fn is_slot_id(id: &[u8]) -> bool
+    ensures { result ≡ is_slot_id id.now }
 {
-    text.iter().all(|byte| is_upper_or_digit(*byte))
-}
-
-fn is_segment_id(id: &[u8]) -> bool
-    ensures { result ≡ is_segment_id id.now }
-{
-    2 <= id.len() && id.len() <= 3 && are_upper_or_digits(id) && !is_envelope_id(id)
+    is_segment_id(id) && !is_envelope_id(id)
 }
 
 fn is_loop_id(id: &[u8]) -> bool
@@ -115,7 +107,9 @@ fn is_element_bounded(element: &Element) -> bool
         Element::Simple(row, repeat) => is_repeat(*repeat) && is_row_bounded(row),
         Element::Composite(row) => {
             let components = row.components.as_slice();
-            is_repeat(row.repeat) && components.len() <= 20 && are_components_bounded(components)
+            is_repeat(row.repeat)
+                && components.len() <= MOST_COMPONENTS
+                && are_components_bounded(components)
         }
     }
 }
@@ -131,8 +125,8 @@ fn is_slot_bounded(slot: &Slot) -> bool
 {
     let elements = slot.elements.as_slice();
     is_use_range(slot.min, slot.max)
-        && is_segment_id(slot.id.as_slice())
-        && elements.len() <= 40
+        && is_slot_id(slot.id.as_slice())
+        && elements.len() <= MOST_ELEMENTS
         && are_elements_bounded(elements)
 }
 

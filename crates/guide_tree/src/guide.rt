@@ -6,12 +6,13 @@ ghost use Rattle.guide_tree.specs.View.{guide_of, nodes_view};
 
 use crate::fault::GuideFault;
 use crate::judge::{Rule, are_names_known, first_breaking};
-use crate::limits::{nests_within, room_behind};
+use crate::limits::{MOST_NESTED, nests_within, room_behind};
 use crate::lookup::{slot_labelled, slot_numbered};
 use crate::numbering::number_nodes;
 use crate::rivals::least_rivals;
 use crate::rows::GuideRows;
 use crate::slot::Slot;
+use hub_kinds::MOST_NODES;
 use std::marker::Model;
 
 /// A guide that was checked: its rows, in which each node has its slot number.
@@ -87,10 +88,10 @@ impl Guide {
 fn first_in_size(rows: &GuideRows) -> Option<GuideFault>
     ensures { result ≡ first_in_size (guide_of rows.now) }
 {
-    if !nests_within(&rows.nodes, 8) {
+    if !nests_within(&rows.nodes, MOST_NESTED) {
         return Some(GuideFault::TooDeep);
     }
-    match room_behind(&rows.nodes, 2_000) {
+    match room_behind(&rows.nodes, MOST_NODES) {
         None => Some(GuideFault::TooMany),
         Some(_) => None,
     }

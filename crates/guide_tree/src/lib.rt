@@ -5,10 +5,8 @@
 //!
 //! Proved: `Guide::check` accepts exactly the guides without a fault, and gives the rows with each slot's number;
 //! it refuses with the first fault: none is judged before it. Two slots are found ambiguous exactly where two
-//! places that may follow one lead to them, however often loops and segments are repeated. The law
-//! `placing_is_grammar`: in a guide without fault a body is derived by the grammar exactly where its placing has no
-//! stray and no structural fault, and both give each segment the same slot; a derived body has a placing, a body has no
-//! two, and in each placing the uses of a child are numbered without gaps.
+//! places that may follow one lead to them, however often loops and segments are repeated. What is proved of placing
+//! and grammar stands in `guide_law`.
 //!
 //! Source: X12.6, transaction sets, loops, segments, data elements and relational conditions; the 999 guide
 //! (005010X231), IK304. Slot numbers, picks, labels, dependencies and the limits are own.
@@ -29,7 +27,6 @@ mod element;
 mod fault;
 mod guide;
 mod judge;
-mod law;
 mod limits;
 mod lookup;
 mod node;
@@ -43,7 +40,6 @@ pub use element::{
 };
 pub use fault::GuideFault;
 pub use guide::Guide;
-pub use law::placing_is_grammar;
 pub use node::{Loop, Node};
 pub use rows::{Dependency, DependencyKind, GuideHead, GuideRows, HlPair, HlRule};
 pub use slot::{Condition, Pick, Relation, Slot};

@@ -1,9 +1,17 @@
+//! How far a guide may go (own), and whether it does.
 ghost use Rattle.std.specs.Prelude.{◌≡◌, ◌-◌, ◌≤◌, nat_le, Some, None, if◌then◌else◌};
 ghost use Rattle.guide_tree.specs.Tree.{nesting, nesting_in, node_count, count_in};
 ghost use Rattle.guide_tree.specs.View.{view, nodes_view};
 ghost use Rattle.guide_tree.specs.Room.{room_left};
 
 use crate::node::Node;
+
+/// How many loops are nested at most.
+pub const MOST_NESTED: u32 = 8;
+/// The greatest number of uses that a node may have.
+pub const MOST_USES: u32 = 999_999;
+/// The greatest length that an element may have, in bytes.
+pub const LONGEST_ELEMENT: u32 = 9_999;
 
 /// Whether no more than `limit` loops are nested. It goes no deeper than that.
 pub fn nests_within(nodes: &[Node], limit: u32) -> bool
@@ -20,7 +28,7 @@ pub fn nests_within(nodes: &[Node], limit: u32) -> bool
 }
 
 /// How many nodes there is room for behind these; none where there is no room for these.
-pub fn room_behind(nodes: &[Node], room: u32) -> Option<u32>
+pub fn room_behind(nodes: &[Node], room: usize) -> Option<usize>
     ensures { result ≡ room_left room (node_count (nodes_view nodes.now)) }
 {
     let mut left = room;

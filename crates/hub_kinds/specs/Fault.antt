@@ -1,5 +1,8 @@
 -- The order of faults (own), over what the 999 guide's IK3 and IK4 show.
 use Rattle.std.specs.Prelude.{ℕ, List, [], ◌∷◌, Option, Some, None}
+use Rattle.std.specs.Ordering.{nat_cmp}
+use Rattle.std.specs.declared.cmp.Ordering.{Ordering}
+use Rattle.std.specs.Cmp.Lexicographic.{slice_cmp}
 use Rattle.hub_kinds.specs.declared.fault.Fault.{Fault}
 use Rattle.hub_kinds.specs.declared.fault.ElemFault.{ElemFault}
 use Rattle.hub_kinds.specs.declared.fault.TheConstants.{NO_NUMBER}
@@ -13,3 +16,7 @@ elem_key (Some e) = e.element ∷ e.component ∷ e.repetition ∷ element_rank 
 -- faults are ordered by position, segment code, slot, element, component, repetition and element code
 abbrev pub key_of : Fault → List ℕ
 key_of f = f.position ∷ segment_rank f.code ∷ f.slot ∷ elem_key f.elem
+
+-- the faults of one segment's elements, by what they add to the key
+abbrev pub element_fault_order : ElemFault → ElemFault → Ordering
+element_fault_order f g = slice_cmp nat_cmp (elem_key (Some f)) (elem_key (Some g))

@@ -1,8 +1,8 @@
-ghost use Rattle.std.specs.Prelude.{◌≡◌};
+ghost use Rattle.std.specs.Prelude.{◌≡◌, Some};
 ghost use Rattle.std.specs.Ordering.{nat_cmp};
 ghost use Rattle.std.specs.Cmp.Lexicographic.{slice_cmp};
 ghost use Rattle.hub_kinds.specs.Codes.{segment_rank, element_rank};
-ghost use Rattle.hub_kinds.specs.Fault.{key_of};
+ghost use Rattle.hub_kinds.specs.Fault.{elem_key, key_of, element_fault_order};
 
 use crate::codes::{ElementCode, SegmentCode};
 use crate::items::Text;
@@ -53,17 +53,20 @@ pub fn fault_order(a: &Fault, b: &Fault) -> Ordering
     key(a).cmp(&key(b))
 }
 
+/// Which of two faults of one segment's elements comes first: by element, component, repetition and code (own).
+/// Texts aren't compared.
+pub fn element_fault_order(a: &ElemFault, b: &ElemFault) -> Ordering
+    ensures { result ≡ element_fault_order a.now b.now }
+{
+    elem_key(a).cmp(&elem_key(b))
+}
+
 fn key(fault: &Fault) -> [u64; 7]
     ensures { result ≡ key_of fault.now }
 {
-    let (element, component, repetition, code) = match &fault.elem {
-        None => (0, 0, 0, 0),
-        Some(elem) => (
-            u64::from(elem.element),
-            u64::from(elem.component),
-            u64::from(elem.repetition),
-            element_rank(elem.code),
-        ),
+    let [element, component, repetition, code] = match &fault.elem {
+        None => [0, 0, 0, 0],
+        Some(elem) => elem_key(elem),
     };
     [
         fault.position,
@@ -73,6 +76,17 @@ fn key(fault: &Fault) -> [u64; 7]
         component,
         repetition,
         code,
+    ]
+}
+
+fn elem_key(elem: &ElemFault) -> [u64; 4]
+    ensures { result ≡ elem_key (Some elem.now) }
+{
+    [
+        u64::from(elem.element),
+        u64::from(elem.component),
+        u64::from(elem.repetition),
+        element_rank(elem.code),
     ]
 }
 

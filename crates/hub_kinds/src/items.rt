@@ -1,5 +1,7 @@
-ghost use Rattle.std.specs.Prelude.{◌≡◌, List};
+ghost use Rattle.std.specs.Prelude.{◌≡◌, List, IfOk};
 
+use crate::memory::NoMemory;
+use std::alloc::Global;
 use std::marker::Model;
 
 /// A list that contracts see as its items. It is made from a `Vec` and gives it back without taking memory.
@@ -41,4 +43,11 @@ impl<T> Items<T> {
     {
         self.items.as_slice()
     }
+}
+
+/// A text of these bytes. The only error is want of memory.
+pub fn copy_text(alloc: Global, bytes: &[u8]) -> Result<Text, NoMemory>
+    ensures { IfOk result (λ text. text ≡ bytes.now) }
+{
+    Ok(Items::from_vec(Vec::from_slice(alloc, bytes)?))
 }

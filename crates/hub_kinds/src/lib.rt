@@ -5,12 +5,12 @@
 //! Proved:
 //! - `code_text` gives the text of each code, and `code_of` the code of each of these texts and of
 //!   no other;
-//! - `fault_order` and `place_order` are the orders of the keys, by their numbers from first to last,
-//!   and `interchange_fault_order` that of the faults' numbers;
+//! - `fault_order`, `element_fault_order` and `place_order` are the orders of the keys, by their numbers
+//!   from first to last, and `interchange_fault_order` that of the faults' numbers;
 //! - `within_limit` is the test of a text's length;
-//! - `read_number` reads exactly the numbers of 1 to so many digits, and `is_alphanumeric` is
-//!   exact;
-//! - `Items` and `Lent` are the list and the bytes that they were made from.
+//! - `read_number` reads exactly the numbers of 1 to so many digits; `is_alphanumeric` and
+//!   `is_segment_id` are exact;
+//! - `Items` and `Lent` are the list and the bytes that they were made from, `copy_text` a copy of them.
 //!
 //! 999 guide (005010X231), the code lists of IK304, IK403, IK501, IK502, AK901 and AK905; X12.5,
 //! interchange control; X12.6, data element type N0.
@@ -33,12 +33,13 @@ mod memory;
 mod numbers;
 mod place;
 mod set_codes;
+mod words;
 
 pub use answers::{GroupAnswer, SetAnswer};
 pub use codes::{Code, ElementCode, SegmentCode, code_of, code_text};
-pub use fault::{ElemFault, Fault, NO_NUMBER, fault_order};
+pub use fault::{ElemFault, Fault, NO_NUMBER, element_fault_order, fault_order};
 pub use interchange::{InterchangeFault, interchange_fault_order};
-pub use items::{Items, Text, Texts};
+pub use items::{Items, Text, Texts, copy_text};
 pub use lent::Lent;
 pub use limits::{
     LONGEST_TEXT, MOST_COMPONENTS, MOST_ELEMENTS, MOST_NODES, MOST_REPEATS, within_limit,
@@ -47,3 +48,4 @@ pub use memory::NoMemory;
 pub use numbers::{is_alphanumeric, read_number};
 pub use place::{Place, place_order};
 pub use set_codes::{GroupCode, GroupVerdict, SetCode, Verdict};
+pub use words::is_segment_id;

@@ -4,8 +4,9 @@ use Rattle.std.proofs.Common.{sym, ap, subst, ◌∙◌, arith}
 use Rattle.std.specs.Prelude.{is_none, slice_get, codes}
 use Rattle.std.specs.Str.{bytes_eq}
 use Rattle.std.proofs.lemmas.Bool.{and_parts, and_from}
-use Rattle.x12_segs.specs.View.{element_of}
+use Rattle.x12_segs.specs.View.{SegValue, element_of}
 use Rattle.hub_kinds.specs.declared.interchange.InterchangeFault.{InterchangeFault}
+use Rattle.x12_segs.specs.Kinds.{kind_of}
 use Rattle.env_index.specs.Envelope.{Body, Derives}
 use Rattle.env_index.specs.Extents.{Extent, reach_at}
 use Rattle.env_index.specs.Faults.{fault_of}
@@ -37,8 +38,8 @@ single_other : (groups : List GroupEntry) (group : GroupEntry) → is_single gro
 single_other groups group is single = not_false (bytes_eq (element_of group.header 1) (codes "FA")) (sym (ap is_single single) ∙ is)
 
 -- an answerable interchange that was read
-pub one_read : (text : List ℕ) (x : InterchangeEntry) (group : GroupEntry) (tree : Body)
-    → IsLone text (record { start = x.start; end = x.end }) → Derives (reach_at text x.start).segs tree
+pub one_read : (text : List ℕ) (x : InterchangeEntry) (group : GroupEntry) (tree : Body SegValue)
+    → IsLone text (record { start = x.start; end = x.end }) → Derives kind_of (reach_at text x.start).segs tree
     → x ≡ interchange_of text x.start tree → is_answerable x ≡ true → slice_get x.content.groups 0 ≡ Some group → IsOne text x group
 one_read text x group tree lone derives read answerable first =
     let parts = and_parts (is_none (fault_of x)) (is_single x.content.groups) answerable in
@@ -56,12 +57,12 @@ one_read text x group tree lone derives read answerable first =
 -- each way to read the text is the one that was read
 pub same_read : (text : List ℕ) (found x : InterchangeEntry) (group : GroupEntry)
     → ((e : Extent) → IsLone text e → e ≡ record { start = found.start; end = found.end })
-    → ((tree : Body) → Derives (reach_at text found.start).segs tree → found ≡ interchange_of text found.start tree)
+    → ((tree : Body SegValue) → Derives kind_of (reach_at text found.start).segs tree → found ≡ interchange_of text found.start tree)
     → IsOne text x group → x ≡ found
 same_read text found x group alone only one =
     let start : x.start ≡ found.start = ap (λ (e : Extent). e.start) (alone (record { start = x.start; end = x.end }) one.lone) in
-    let derives : Derives (reach_at text found.start).segs one.tree =
-    subst (λ (n : ℕ). Derives (reach_at text n).segs one.tree) start one.derived in
+    let derives : Derives kind_of (reach_at text found.start).segs one.tree =
+    subst (λ (n : ℕ). Derives kind_of (reach_at text n).segs one.tree) start one.derived in
     one.read ∙ ap (λ (n : ℕ). interchange_of text n one.tree) start ∙ sym (only one.tree derives)
 
 pub one_is_answerable : (text : List ℕ) (x : InterchangeEntry) (group : GroupEntry) → IsOne text x group → is_answerable x ≡ true

@@ -1,5 +1,5 @@
 -- 999 guide, transaction set and functional group response: what is answered to a group whose sets aren't checked against a guide.
-use Rattle.std.specs.Prelude.{ℕ, List, [], ◌∷◌, ◌++◌, Option, Some, None, length, option_map}
+use Rattle.std.specs.Prelude.{ℕ, false, List, [], ◌∷◌, ◌++◌, Option, Some, None, length, option_map}
 use Rattle.x12_segs.specs.View.{SegValue, element_of}
 use Rattle.hub_kinds.specs.declared.answers.GroupAnswer.{GroupAnswer}
 use Rattle.hub_kinds.specs.declared.answers.SetAnswer.{SetAnswer}
@@ -8,6 +8,7 @@ use Rattle.hub_kinds.specs.declared.set_codes.Verdict.{Verdict}
 use Rattle.set_check.specs.Answer.{answer_of}
 use Rattle.set_check.specs.Codes.{control_of}
 use Rattle.ack_999.specs.Group.{group_codes_of, group_verdict_of, verdicts_of}
+use Rattle.ack_999.specs.declared.support.GroupSupport.TheVariants.{Served}
 use Rattle.ack_999.specs.declared.trailer.GroupTrailer.{GroupTrailer}
 use Rattle.env_index.specs.Summary.{GroupEntry}
 use Rattle.env_index.specs.declared.entry.SetEnvelope.{SetEnvelope}
@@ -33,9 +34,9 @@ abbrev pub listed_by : Option SegValue → List ℕ
 listed_by None = []
 listed_by (Some trailer) = element_of trailer 1
 
--- the codes of a group that ask for no guide
+-- the codes of a group whose guide isn't asked for, and which is the first of its interchange
 abbrev pub codes_to : GroupEntry → List GroupCode
-codes_to group = group_codes_of (element_of group.header 6) (option_map trailer_of group.trailer) (length group.sets)
+codes_to group = group_codes_of Served (element_of group.header 6) (option_map trailer_of group.trailer) (length group.sets) false
 
 -- the answer to a group, by the verdicts on its sets: GS01, GS06, GS08, GE01 as they stand, its codes and its verdict
 abbrev pub answer_by : GroupEntry → List Verdict → GroupAnswer

@@ -6,7 +6,8 @@ use Rattle.x12_bytes.specs.Spaces.{without_trailing_spaces}
 use Rattle.x12_segs.specs.View.{SegValue, element_of}
 use Rattle.ack_999.specs.Interchange.{interchange_text}
 use Rattle.ack_999.specs.Report.{text_999}
-use Rattle.ack_999.specs.declared.envelope.Envelope.{Envelope}
+use Rattle.x12_segs.specs.Kinds.{kind_of}
+use Rattle.x12_write.specs.declared.envelope.Envelope.{Envelope}
 use Rattle.env_index.specs.Envelope.{Body, Derives}
 use Rattle.env_index.specs.Extents.{reach_at}
 use Rattle.env_index.specs.Faults.{fault_of}
@@ -19,8 +20,8 @@ use Rattle.hub_run.specs.Answers.{answers_to, answer_to}
 -- the text is this interchange and nothing else; it has none of the faults 1 to 7, and one group, which acknowledges nothing itself
 pub record IsOne (text : List ℕ) (x : InterchangeEntry) (group : GroupEntry) : Type 0 where
   pub lone : IsLone text (record { start = x.start; end = x.end })
-  pub tree : Body
-  pub derived : Derives (reach_at text x.start).segs tree
+  pub tree : Body SegValue
+  pub derived : Derives kind_of (reach_at text x.start).segs tree
   pub read : x ≡ interchange_of text x.start tree
   pub sound : fault_of x ≡ None
   pub single : x.content.groups ≡ group ∷ []

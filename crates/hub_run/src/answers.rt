@@ -20,7 +20,7 @@ pub(crate) fn append_answers(
     alloc: Global,
     out: &mut Vec<u8>,
     delims: &Delims,
-    group: &GroupEnvelope<'_>,
+    group: &GroupEnvelope<'_, '_>,
 ) -> Result<Totals, NoMemory>
     ensures text { OnOk result (out.new.items ≡ out.old.items ++ flat_map (set_text delims.now) (answers_to group.now)) }
     ensures totals { IfOk result (λ totals. totals ≡ totals_of (answers_to group.now)) }

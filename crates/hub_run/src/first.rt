@@ -66,7 +66,7 @@ fn has_one_group(interchange: &Interchange<'_>) -> bool
 }
 
 /// Whether a group isn't one of acknowledgments.
-fn is_answered(group: &GroupEnvelope<'_>) -> bool
+fn is_answered(group: &GroupEnvelope<'_, '_>) -> bool
     ensures { result ≡ not (bytes_eq (element_of group.now.header 1) (codes "FA")) }
 {
     group.header().element(1) != b"FA".as_slice()

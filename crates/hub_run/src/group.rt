@@ -3,7 +3,7 @@ ghost use Rattle.hub_kinds.specs.declared.answers.SetAnswer.{SetAnswer};
 ghost use Rattle.ack_999.specs.Group.{group_verdict_of, totals_of, verdicts_of};
 ghost use Rattle.hub_run.specs.Answers.{answer_before_sets, trailer_of};
 
-use ack_999::{GroupTrailer, Totals, group_codes, group_verdict};
+use ack_999::{GroupSupport, GroupTrailer, Totals, group_codes, group_verdict};
 use env_index::GroupEnvelope;
 use hub_kinds::{GroupAnswer, GroupCode, GroupVerdict, Lent, NoMemory};
 use std::alloc::Global;
@@ -13,7 +13,7 @@ use x12_segs::SegView;
 /// sets.
 pub(crate) fn answer_before_sets<'a>(
     alloc: Global,
-    group: &GroupEnvelope<'a>,
+    group: &GroupEnvelope<'_, 'a>,
 ) -> Result<GroupAnswer<'a>, NoMemory>
     ensures { IfOk result (λ answer. answer ≡ answer_before_sets group.now) }
 {
@@ -24,7 +24,14 @@ pub(crate) fn answer_before_sets<'a>(
         Some(trailer) => trailer.listed.bytes(),
         None => b"".as_slice(),
     };
-    let codes = group_codes(alloc, control, trailer.as_ref(), group.set_count() as u64)?;
+    let codes = group_codes(
+        alloc,
+        GroupSupport::Served,
+        control,
+        trailer.as_ref(),
+        group.set_count() as u64,
+        false,
+    )?;
     let verdict = verdict_without_sets(codes.as_slice());
     Ok(GroupAnswer {
         functional_id: Lent::new(header.element(1)),
@@ -53,7 +60,7 @@ pub(crate) fn judged<'a>(mut answer: GroupAnswer<'a>, totals: &Totals) -> GroupA
 }
 
 /// GE01 and GE02, where the group has a GE.
-fn group_trailer<'a>(group: &GroupEnvelope<'a>) -> Option<GroupTrailer<'a>>
+fn group_trailer<'a>(group: &GroupEnvelope<'_, 'a>) -> Option<GroupTrailer<'a>>
     ensures { result ≡ option_map trailer_of group.now.trailer }
 {
     match group.trailer() {
@@ -65,8 +72,9 @@ fn group_trailer<'a>(group: &GroupEnvelope<'a>) -> Option<GroupTrailer<'a>>
 fn trailer_of<'a>(trailer: &SegView<'a>) -> GroupTrailer<'a>
     ensures { result ≡ trailer_of trailer.now }
 {
+    let (listed, control, _) = trailer.first_elements();
     GroupTrailer {
-        listed: Lent::new(trailer.element(1)),
-        control: Lent::new(trailer.element(2)),
+        listed: Lent::new(listed),
+        control: Lent::new(control),
     }
 }

@@ -27,7 +27,7 @@ pub struct First {
 pub(crate) fn reply<'a>(
     alloc: Global,
     header: &Header<'a>,
-    group: &GroupEnvelope<'a>,
+    group: &GroupEnvelope<'_, 'a>,
     at: &At,
 ) -> Result<First, NoMemory>
     ensures ack { IfOk result (λ first. first.ack ≡ reply_text header.now group.now at.now) }

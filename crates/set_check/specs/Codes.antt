@@ -1,12 +1,65 @@
--- 999 guide, implementation transaction set syntax error code (IK502): the codes that need no guide; which code stands for which fault
--- is own.
-use Rattle.std.specs.Prelude.{ℕ, ◌==◌, Bool, true, false, not, nat_lt, List, [], ◌∷◌, ◌++◌, Option, Some, None, length, take}
+-- 999 guide, implementation transaction set syntax error code (IK502): the codes of a set; which code stands for which fault is own.
+use Rattle.std.specs.Prelude.{ℕ, ◌==◌, Bool, true, false, not, nat_lt, List, [], ◌∷◌, ◌++◌, Option, Some, None, is_none, length, take}
+use Rattle.std.specs.List.{list_any}
 use Rattle.std.specs.Str.{bytes_eq}
+use Rattle.hub_kinds.specs.Codes.{segment_text, element_text}
 use Rattle.hub_kinds.specs.Numbers.{number_of}
+use Rattle.hub_kinds.specs.declared.codes.SegmentCode.{SegmentCode}
+use Rattle.hub_kinds.specs.declared.codes.SegmentCode.TheVariants as segment
+use Rattle.hub_kinds.specs.declared.fault.ElemFault.{ElemFault}
+use Rattle.hub_kinds.specs.declared.fault.Fault.{Fault}
 use Rattle.hub_kinds.specs.declared.set_codes.SetCode.{SetCode}
-use Rattle.hub_kinds.specs.declared.set_codes.SetCode.TheVariants.{TrailerMissing, ControlNumbersDiffer, SegmentCountWrong}
-use Rattle.hub_kinds.specs.declared.set_codes.SetCode.TheVariants.{ControlNumberInvalid, ControlNumberNotUnique}
+use Rattle.hub_kinds.specs.declared.set_codes.SetCode.TheVariants as code
+use Rattle.set_check.specs.declared.guide.SetGuide.{SetGuide}
 use Rattle.x12_segs.specs.View.{SegValue, element_of}
+
+-- the code, where there is cause for it
+abbrev pub code_if : Bool → SetCode → List SetCode
+code_if true code = code ∷ []
+code_if false code = []
+
+-- a segment's fault as IK304 tells it; 8 alone tells of none, since its elements' faults do
+abbrev pub segment_telling : SegmentCode → List ℕ
+segment_telling segment.ElementErrors = []
+segment_telling segment.UnrecognizedSegment = segment_text segment.UnrecognizedSegment
+segment_telling segment.UnexpectedSegment = segment_text segment.UnexpectedSegment
+segment_telling segment.RequiredSegmentMissing = segment_text segment.RequiredSegmentMissing
+segment_telling segment.LoopTooOften = segment_text segment.LoopTooOften
+segment_telling segment.SegmentTooOften = segment_text segment.SegmentTooOften
+segment_telling segment.NotInSet = segment_text segment.NotInSet
+segment_telling segment.OutOfSequence = segment_text segment.OutOfSequence
+segment_telling segment.NotUsedPresent = segment_text segment.NotUsedPresent
+segment_telling segment.DependentMissing = segment_text segment.DependentMissing
+segment_telling segment.LoopTooSeldom = segment_text segment.LoopTooSeldom
+segment_telling segment.SegmentTooSeldom = segment_text segment.SegmentTooSeldom
+segment_telling segment.DependentNotUsedPresent = segment_text segment.DependentNotUsedPresent
+
+-- the code that tells of a fault: IK403 where an element is at fault, else IK304
+abbrev pub telling_by : SegmentCode → Option ElemFault → List ℕ
+telling_by seg None = segment_telling seg
+telling_by seg (Some elem) = element_text elem.code
+
+abbrev pub telling : Fault → List ℕ
+telling f = telling_by f.code f.elem
+
+-- a code of the implementation guides has an I in front, one of the standard has none
+abbrev pub has_i : List ℕ → Bool
+has_i [] = false
+has_i (b ∷ bs) = b == 73
+
+abbrev pub has_no_i : List ℕ → Bool
+has_no_i [] = false
+has_no_i (b ∷ bs) = not (b == 73)
+
+-- 5: a fault whose code has no I; I5: one whose code has one
+abbrev pub fault_codes : List Fault → List SetCode
+fault_codes faults =
+    code_if (list_any (λ f. has_no_i (telling f)) faults) code.SegmentsInError
+    ++ code_if (list_any (λ f. has_i (telling f)) faults) code.ImplementationSegmentsInError
+
+-- 1: there is no guide for the set
+abbrev pub guide_codes : Option SetGuide → List SetCode
+guide_codes guide = code_if (is_none guide) code.NotSupported
 
 -- the transaction set control number: ST02 of the header
 abbrev pub control_of : SegValue → List ℕ
@@ -36,17 +89,51 @@ has_other_count segments (Some trailer) = not (is_count segments (number_of 10 (
 abbrev pub has_short_control : SegValue → Bool
 has_short_control header = nat_lt (length (control_of header)) 4
 
--- the code, where there is cause for it
-abbrev pub code_if : Bool → SetCode → List SetCode
-code_if true code = code ∷ []
-code_if false code = []
+-- 2, 3, 4 and 7: what ST, SE and the number of segments show
+abbrev pub envelope_codes : SegValue → ℕ → Option SegValue → List SetCode
+envelope_codes header segments trailer =
+    code_if (lacks_trailer trailer) code.TrailerMissing
+    ++ code_if (has_other_control header trailer) code.ControlNumbersDiffer
+    ++ code_if (has_other_count segments trailer) code.SegmentCountWrong
+    ++ code_if (has_short_control header) code.ControlNumberInvalid
 
--- the codes of a set by its ST, its number of segments, its SE if it has one, and whether an earlier set of its group has its ST02: in
--- this order, the first five
+-- 23: an earlier set of the group has the same ST02
+abbrev pub earlier_codes : Bool → List SetCode
+earlier_codes earlier = code_if earlier code.ControlNumberNotUnique
+
+-- ST03 is there, and is another text than the convention
+abbrev pub is_other : Option (List ℕ) → List ℕ → Bool
+is_other None given = false
+is_other (Some convention) [] = false
+is_other (Some convention) (b ∷ bs) = not (bytes_eq (b ∷ bs) convention)
+
+abbrev pub has_other_convention : Option SetGuide → List ℕ → Bool
+has_other_convention None given = false
+has_other_convention (Some guide) given = is_other guide.convention given
+
+-- I6: the guide has a convention, and ST03 names another
+abbrev pub convention_codes : Option SetGuide → SegValue → List SetCode
+convention_codes guide header = code_if (has_other_convention guide (element_of header 3)) code.ConventionNotSupported
+
+-- all of a set's codes, in their order
+abbrev pub all_codes : List Fault → Option SetGuide → SegValue → ℕ → Option SegValue → Bool → List SetCode
+all_codes faults guide header segments trailer earlier =
+    fault_codes faults ++ guide_codes guide ++ envelope_codes header segments trailer ++ earlier_codes earlier
+    ++ convention_codes guide header
+
+-- an IK5 has room for five
+abbrev pub first_five : List SetCode → List SetCode
+first_five codes = take 5 codes
+
+-- the codes of a set by its faults, its guide if it has one, its ST, its number of segments, its SE if it has one, and whether an
+-- earlier set of its group has its ST02
+abbrev pub set_codes_of : List Fault → Option SetGuide → SegValue → ℕ → Option SegValue → Bool → List SetCode
+set_codes_of faults guide header segments trailer earlier = first_five (all_codes faults guide header segments trailer earlier)
+
+-- a guide without a convention
+abbrev pub plain_guide : SetGuide
+plain_guide = record { convention = None }
+
+-- the same where the guide isn't asked: no fault is known, none of its codes comes
 abbrev pub codes_of : SegValue → ℕ → Option SegValue → Bool → List SetCode
-codes_of header segments trailer earlier =
-    take 5 (code_if (lacks_trailer trailer) TrailerMissing
-    ++ code_if (has_other_control header trailer) ControlNumbersDiffer
-    ++ code_if (has_other_count segments trailer) SegmentCountWrong
-    ++ code_if (has_short_control header) ControlNumberInvalid
-    ++ code_if earlier ControlNumberNotUnique)
+codes_of header segments trailer earlier = set_codes_of [] (Some plain_guide) header segments trailer earlier

@@ -1,3 +1,7 @@
 pub mod Answer
 pub mod Codes
+pub mod Meets
+pub mod MeetsLaw
+pub mod SetFaults
+pub mod SetParts
 pub mod Verdict

@@ -3,7 +3,8 @@ ghost use Rattle.std.specs.Option.{option_copied};
 ghost use Rattle.set_check.specs.Answer.{answer_of};
 ghost use Rattle.set_check.specs.Verdict.{verdict_of};
 
-use crate::codes::set_codes;
+use crate::codes::codes_by;
+use crate::guide::SetGuide;
 use hub_kinds::{Items, Lent, NoMemory, SetAnswer, SetCode, Verdict};
 use std::alloc::Global;
 use x12_segs::SegView;
@@ -22,12 +23,23 @@ pub fn answer_set<'a>(
     ensures { IfOk result (λ answer. answer
         ≡ answer_of header.now segments (option_copied trailer.entry) earlier) }
 {
-    let codes = set_codes(alloc, header, segments, trailer, earlier)?;
+    let guide = SetGuide { convention: None };
+    let elements = header.first_elements();
+    let codes = codes_by(
+        alloc,
+        &[],
+        Some(&guide),
+        elements,
+        segments,
+        trailer,
+        earlier,
+    )?;
     let verdict = verdict(codes.as_slice());
+    let (identifier, control, convention) = elements;
     Ok(SetAnswer {
-        identifier: Lent::new(header.element(1)),
-        control: Lent::new(header.element(2)),
-        convention: Lent::new(header.element(3)),
+        identifier: Lent::new(identifier),
+        control: Lent::new(control),
+        convention: Lent::new(convention),
         faults: Items::from_vec(Vec::new(alloc)),
         codes: Items::from_vec(codes),
         verdict,

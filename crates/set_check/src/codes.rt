@@ -1,8 +1,14 @@
-ghost use Rattle.std.specs.Prelude.{◌≡◌, ◌++◌, IfOk, OnOk};
+ghost use Rattle.std.specs.Prelude.{◌≡◌, ◌++◌, Some, IfOk, OnOk};
 ghost use Rattle.std.specs.Option.{option_copied};
-ghost use Rattle.set_check.specs.Codes.{code_if, codes_of, has_other_control, has_other_count, has_short_control};
+ghost use Rattle.hub_kinds.specs.declared.set_codes.SetCode.TheVariants.{ControlNumbersDiffer, SegmentCountWrong};
+ghost use Rattle.set_check.specs.Codes.{code_if, control_of, envelope_codes, fault_codes, has_other_control, has_other_count};
+ghost use Rattle.set_check.specs.Codes.{set_codes_of};
+ghost use Rattle.x12_segs.specs.View.{SegValue, element_of};
 
-use hub_kinds::{NoMemory, SetCode, read_number};
+use crate::convention::has_other_convention;
+use crate::faults::{has_base_fault, has_implementation_fault};
+use crate::guide::SetGuide;
+use hub_kinds::{Fault, NoMemory, SetCode, read_number};
 use std::alloc::Global;
 use x12_segs::SegView;
 
@@ -13,35 +19,53 @@ const LEAST_CONTROL: usize = 4;
 /// How many digits SE01 has at most.
 const COUNT_DIGITS: usize = 10;
 
-/// The codes of a set, in their order.
+/// The codes of a set, in their order, the first five (999 guide, IK502): by its faults, its guide
+/// if it has one, its ST, how many segments it has with ST and SE, its SE if it has one, and
+/// whether an earlier set of its group has its ST02. The only error is want of memory.
 pub fn set_codes(
     alloc: Global,
+    faults: &[Fault],
+    guide: Option<&SetGuide>,
     header: &SegView,
     segments: u64,
     trailer: Option<&SegView>,
     earlier: bool,
 ) -> Result<Vec<SetCode>, NoMemory>
     ensures { IfOk result (λ codes. codes.items
-        ≡ codes_of header.now segments (option_copied trailer.entry) earlier) }
+        ≡ set_codes_of faults.now (option_copied guide.entry) header.now segments (option_copied trailer.entry) earlier) }
 {
+    codes_by(
+        alloc,
+        faults,
+        guide,
+        header.first_elements(),
+        segments,
+        trailer,
+        earlier,
+    )
+}
+
+/// The same by ST01, ST02 and ST03.
+pub(crate) fn codes_by(
+    alloc: Global,
+    faults: &[Fault],
+    guide: Option<&SetGuide>,
+    header: (&[u8], &[u8], &[u8]),
+    segments: u64,
+    trailer: Option<&SegView>,
+    earlier: bool,
+) -> Result<Vec<SetCode>, NoMemory>
+    ensures { IfOk result (λ codes. (st : SegValue) → control_of st ≡ header.entry.1.now → element_of st 3 ≡ header.entry.2.now
+        → codes.items ≡ set_codes_of faults.now (option_copied guide.entry) st segments (option_copied trailer.entry) earlier) }
+{
+    let (_, control, convention) = header;
     let mut codes = Vec::new(alloc);
-    add_if(&mut codes, trailer.is_none(), SetCode::TrailerMissing)?;
-    add_if(
-        &mut codes,
-        has_other_control(header, trailer),
-        SetCode::ControlNumbersDiffer,
-    )?;
-    add_if(
-        &mut codes,
-        has_other_count(segments, trailer),
-        SetCode::SegmentCountWrong,
-    )?;
-    add_if(
-        &mut codes,
-        has_short_control(header),
-        SetCode::ControlNumberInvalid,
-    )?;
+    add_fault_codes(&mut codes, faults)?;
+    add_if(&mut codes, guide.is_none(), SetCode::NotSupported)?;
+    add_envelope_codes(&mut codes, control, segments, trailer)?;
     add_if(&mut codes, earlier, SetCode::ControlNumberNotUnique)?;
+    let other = has_other_convention(guide, convention);
+    add_if(&mut codes, other, SetCode::ConventionNotSupported)?;
     codes.truncate(MOST_CODES);
     Ok(codes)
 }
@@ -55,26 +79,50 @@ fn add_if(codes: &mut Vec<SetCode>, holds: bool, code: SetCode) -> Result<(), No
     Ok(())
 }
 
-fn has_other_control(header: &SegView, trailer: Option<&SegView>) -> bool
-    ensures { result ≡ has_other_control header.now (option_copied trailer.entry) }
+/// Adds the codes that its faults show.
+fn add_fault_codes(codes: &mut Vec<SetCode>, faults: &[Fault]) -> Result<(), NoMemory>
+    ensures { OnOk result (codes.new.items ≡ codes.old.items ++ fault_codes faults.now) }
 {
-    match trailer {
-        Some(trailer) => trailer.element(2) != header.element(2),
-        None => false,
-    }
+    add_if(codes, has_base_fault(faults), SetCode::SegmentsInError)?;
+    add_if(
+        codes,
+        has_implementation_fault(faults),
+        SetCode::ImplementationSegmentsInError,
+    )
 }
 
-fn has_other_count(segments: u64, trailer: Option<&SegView>) -> bool
-    ensures { result ≡ has_other_count segments (option_copied trailer.entry) }
+/// Adds the codes that ST02, SE and the number of segments show.
+fn add_envelope_codes(
+    codes: &mut Vec<SetCode>,
+    control: &[u8],
+    segments: u64,
+    trailer: Option<&SegView>,
+) -> Result<(), NoMemory>
+    ensures { OnOk result ((header : SegValue) → control_of header ≡ control.now
+        → codes.new.items ≡ codes.old.items ++ envelope_codes header segments (option_copied trailer.entry)) }
 {
-    match trailer {
-        Some(trailer) => read_number(trailer.element(1), COUNT_DIGITS) != Some(segments),
-        None => false,
+    add_if(codes, trailer.is_none(), SetCode::TrailerMissing)?;
+    if let Some(trailer) = trailer {
+        add_trailer_codes(codes, control, segments, trailer)?;
     }
+    let short = control.len() < LEAST_CONTROL;
+    add_if(codes, short, SetCode::ControlNumberInvalid)
 }
 
-fn has_short_control(header: &SegView) -> bool
-    ensures { result ≡ has_short_control header.now }
+/// Adds the codes that an SE shows beside ST02 and the number of segments.
+fn add_trailer_codes(
+    codes: &mut Vec<SetCode>,
+    control: &[u8],
+    segments: u64,
+    trailer: &SegView,
+) -> Result<(), NoMemory>
+    ensures { OnOk result ((header : SegValue) → control_of header ≡ control.now
+        → codes.new.items ≡ codes.old.items ++ code_if (has_other_control header (Some trailer.now)) ControlNumbersDiffer
+        ++ code_if (has_other_count segments (Some trailer.now)) SegmentCountWrong) }
 {
-    header.element(2).len() < LEAST_CONTROL
+    let (count, given, _) = trailer.first_elements();
+    let other = given != control;
+    add_if(codes, other, SetCode::ControlNumbersDiffer)?;
+    let wrong = read_number(count, COUNT_DIGITS) != Some(segments);
+    add_if(codes, wrong, SetCode::SegmentCountWrong)
 }

@@ -4,7 +4,9 @@
 //! Proved:
 //! - the codes are exactly those that hold of the set, in their order;
 //! - the verdict is accepted exactly where there is no code;
-//! - ST01, ST02 and ST03 are handed on as they stand.
+//! - ST01, ST02 and ST03 are handed on as they stand;
+//! - `clean_sets_meet_their_guides`: by the definitions of a set's faults and codes, a set has neither exactly where it meets
+//!   its guide by the grammar.
 //!
 //! X12.6, transaction set header (ST) and trailer (SE); 999 guide, IK5.
 //!
@@ -18,5 +20,12 @@
 
 mod answer;
 mod codes;
+mod convention;
+mod faults;
+mod guide;
+mod law;
 
 pub use answer::answer_set;
+pub use codes::set_codes;
+pub use guide::SetGuide;
+pub use law::clean_sets_meet_their_guides;

@@ -1,20 +1,59 @@
 //! The codes and the verdict of a group.
 use crate::samples::{ACCEPTED_SET, SetRow, set};
-use ack_999::{GroupTrailer, Totals, group_codes, group_verdict};
+use ack_999::{GroupSupport, GroupTrailer, Totals, group_codes, group_verdict};
 use hub_kinds::{GroupCode, GroupVerdict, Items, Lent, NoMemory, Verdict};
 use std::alloc::Global;
 use std::test::Fail;
 
-/// A group's number, its GE01 and GE02 where it has a GE, how many sets it has, and its codes.
-const CODES: &[(&[u8], Option<(&[u8], &[u8])>, u64, &[GroupCode])] = &[
-    (b"12", Some((b"000002", b"012")), 2, &[]),
-    (
-        b"13",
-        Some((b"000002", b"012")),
-        3,
-        &[GroupCode::ControlNumbersDiffer, GroupCode::SetCountWrong],
-    ),
-    (b"12", None, 0, &[GroupCode::TrailerMissing]),
+/// A group: whether there are guides for it, its number, its GE01 and GE02 where it has a GE, how many sets it has, whether an
+/// earlier group has its number.
+struct GroupCase {
+    support: GroupSupport,
+    control: &'static [u8],
+    trailer: Option<(&'static [u8], &'static [u8])>,
+    sets: u64,
+    earlier: bool,
+    codes: &'static [GroupCode],
+}
+
+const SOUND: GroupCase = GroupCase {
+    support: GroupSupport::Served,
+    control: b"12",
+    trailer: Some((b"000002", b"012")),
+    sets: 2,
+    earlier: false,
+    codes: &[],
+};
+
+const CODES: &[GroupCase] = &[
+    SOUND,
+    GroupCase {
+        control: b"13",
+        sets: 3,
+        codes: &[GroupCode::ControlNumbersDiffer, GroupCode::SetCountWrong],
+        ..SOUND
+    },
+    GroupCase {
+        trailer: None,
+        codes: &[GroupCode::TrailerMissing],
+        ..SOUND
+    },
+    GroupCase {
+        support: GroupSupport::NotServed,
+        codes: &[GroupCode::NotSupported],
+        ..SOUND
+    },
+    GroupCase {
+        support: GroupSupport::VersionNotServed,
+        trailer: None,
+        earlier: true,
+        codes: &[
+            GroupCode::VersionNotSupported,
+            GroupCode::TrailerMissing,
+            GroupCode::ControlNumberNotUnique,
+        ],
+        ..SOUND
+    },
 ];
 
 /// The verdicts on two sets, and that on their group.
@@ -34,29 +73,29 @@ const VERDICTS: &[(Verdict, Verdict, GroupVerdict)] = &[
 ];
 
 /// The codes of a group.
-fn codes_of(
-    alloc: Global,
-    control: &[u8],
-    trailer: Option<(&[u8], &[u8])>,
-    sets: u64,
-) -> Result<Items<GroupCode>, NoMemory> {
-    match trailer {
-        None => group_codes(alloc, control, None, sets),
-        Some((listed, number)) => {
-            let trailer = GroupTrailer {
-                listed: Lent::new(listed),
-                control: Lent::new(number),
-            };
-            group_codes(alloc, control, Some(&trailer), sets)
-        }
-    }
+fn codes_of(alloc: Global, group: &GroupCase) -> Result<Items<GroupCode>, NoMemory> {
+    let trailer = match group.trailer {
+        None => None,
+        Some((listed, control)) => Some(GroupTrailer {
+            listed: Lent::new(listed),
+            control: Lent::new(control),
+        }),
+    };
+    group_codes(
+        alloc,
+        group.support,
+        group.control,
+        trailer.as_ref(),
+        group.sets,
+        group.earlier,
+    )
 }
 
 #[test]
 fn finds_the_codes_of_a_group(rt: HostRuntime) -> Result<(), Fail> {
-    for (control, trailer, sets, wanted) in CODES {
-        let codes = codes_of(rt.alloc(), control, *trailer, *sets)?;
-        assert_eq!(rt; codes.as_slice(), *wanted);
+    for group in CODES {
+        let codes = codes_of(rt.alloc(), group)?;
+        assert_eq!(rt; codes.as_slice(), group.codes);
     }
     Ok(())
 }

@@ -1,5 +1,5 @@
-//! The trial of ack_999: acknowledgments written through its public calls, with the texts that the
-//! 999 guide gives for them. It has no code of its own.
+//! The trial of x12_write and ack_999: headers, groups and acknowledgments written through their public calls, with the
+//! texts that the standard and the 999 guide give for them. It has no code of its own.
 //!
 //! 999 guide (005010X231), ST, AK1, AK2, IK3, IK4, IK5, AK9 and SE; X12.5, interchange control
 //! header and trailer; X12.6, functional group header and trailer.

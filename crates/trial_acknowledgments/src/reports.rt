@@ -4,6 +4,8 @@ use ack_999::{Envelope, append_closing, write_ack_interchange};
 use elem_rules::At;
 use hub_kinds::{GroupCode, GroupVerdict, Items, Lent, SetCode, Verdict};
 use std::test::Fail;
+use x12_bytes::read_header;
+use x12_write::{GroupHeader, append_group, append_header, append_trailer};
 
 /// What is answered to a group, and the text of it.
 struct Case {
@@ -149,5 +151,40 @@ fn appends_behind_what_is_there(rt: HostRuntime) -> Result<(), Fail> {
         out.as_slice(),
         b"SE*6*0001~GE*1*1~IEA*1*000000001~".as_slice()
     );
+    Ok(())
+}
+
+#[test]
+fn reads_back_the_header_that_is_sent(rt: HostRuntime) -> Result<(), Fail> {
+    let at = At::read(b"202603011530").ok_or("no moment")?;
+    let mut out = Vec::from_slice(rt.alloc(), b"~")?;
+    append_header(&mut out, &envelope(), &at, 999_999_999)?;
+    let header = read_header(out.as_slice(), 1).ok_or("no header")?;
+    assert_eq!(rt; header.delims(), DELIMS);
+    assert_eq!(rt; header.field(6), b"HUB            ".as_slice());
+    assert_eq!(rt; header.field(13), b"999999999".as_slice());
+    Ok(())
+}
+
+const DELIVERED: &[u8] =
+    b"GS*PO*ACME*BOLT*20260301*1530*12*X*005010~ST*850*0001~SE*2*0001~ST*850*0002~SE*2*0002~GE*2*12~IEA*3*000000007~";
+
+#[test]
+fn writes_a_group_of_two_sets_under_its_number(rt: HostRuntime) -> Result<(), Fail> {
+    let alloc = rt.alloc();
+    let at = At::read(b"202603011530").ok_or("no moment")?;
+    let header = GroupHeader {
+        functional_id: Lent::new(b"PO"),
+        sender: Lent::new(b"ACME"),
+        receiver: Lent::new(b"BOLT"),
+        control: 12,
+        version: Lent::new(b"005010"),
+    };
+    let first = Items::from_vec(Vec::from_slice(alloc, b"ST*850*0001~SE*2*0001~")?);
+    let second = Items::from_vec(Vec::from_slice(alloc, b"ST*850*0002~SE*2*0002~")?);
+    let mut out = Vec::new(alloc);
+    append_group(&mut out, &DELIMS, &at, &header, &[first, second])?;
+    append_trailer(&mut out, &DELIMS, 3, 7)?;
+    assert_eq!(rt; out.as_slice(), DELIVERED);
     Ok(())
 }

@@ -4,12 +4,13 @@ use crate::texts::{
     WITHOUT_TRAILERS, read,
 };
 use env_index::{
-    chain_is_one, envelope_is_one, envelope_is_there, judge, read_interchange, read_lone,
-    sets_stand_alone,
+    Interchange, chain_is_one, end_is_least, envelope_is_mapped, envelope_is_of_kinds,
+    envelope_is_one, envelope_is_there, judge, read_interchange, read_lone, sets_stand_alone,
 };
 use hub_kinds::InterchangeFault;
 use std::alloc::Global;
 use std::test::Fail;
+use x12_segs::SegView;
 
 /// What the index keeps of an interchange, beside its groups.
 #[derive(Clone, Copy, Debug, PartialEq, Eq)]
@@ -302,6 +303,24 @@ fn an_interchange_with_a_header_in_an_element_is_alone(rt: HostRuntime) -> Resul
 fn states_the_laws() {
     envelope_is_one();
     envelope_is_there();
+    envelope_is_of_kinds::<u8>();
+    envelope_is_mapped::<u8, u16>();
     chain_is_one();
+    end_is_least();
     sets_stand_alone();
+}
+
+/// The GS of an interchange's first group: it is lent from the text, and outlives the interchange.
+fn first_group_header(interchange: Interchange<'_>) -> Option<SegView<'_>> {
+    if interchange.group_count() == 0 {
+        return None;
+    }
+    Some(interchange.group(0).header())
+}
+
+#[test]
+fn a_group_lends_as_long_as_the_text_lives(rt: HostRuntime) -> Result<(), Fail> {
+    let header = first_group_header(read(rt.alloc(), ORDER, 0)?).ok_or("no group")?;
+    assert_eq!(rt; header.element(2), b"ACME".as_slice());
+    Ok(())
 }

@@ -10,6 +10,8 @@ mod alone;
 #[cfg(test)]
 mod answers;
 #[cfg(test)]
+mod codes;
+#[cfg(test)]
 mod envelopes;
 #[cfg(test)]
 mod faults;

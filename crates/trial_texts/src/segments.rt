@@ -111,6 +111,22 @@ fn reads_elements_by_number(rt: HostRuntime) -> Result<(), Fail> {
     Ok(())
 }
 
+/// A segment with elements of nine, eight and seven bytes, and one that isn't there.
+const LONG: &[u8] = b"A*123456789*12345678*1234567~";
+
+#[test]
+fn reads_the_first_elements_in_one_walk(rt: HostRuntime) -> Result<(), Fail> {
+    let segment = first_segment(LONG).ok_or("no segment")?;
+    let (first, second, third) = segment.first_elements();
+    assert_eq!(rt; first, b"123456789".as_slice());
+    assert_eq!(rt; second, b"12345678".as_slice());
+    assert_eq!(rt; third, b"1234567".as_slice());
+    let mut elements = first_segment(b"A*1~").ok_or("no segment")?.elements();
+    assert_eq!(rt; elements.next_or_empty(), b"1".as_slice());
+    assert_eq!(rt; elements.next_or_empty(), b"".as_slice());
+    Ok(())
+}
+
 #[test]
 fn reads_occurrences_and_components_by_number(rt: HostRuntime) -> Result<(), Fail> {
     let segment = first_segment(DIVIDED).ok_or("no segment")?;

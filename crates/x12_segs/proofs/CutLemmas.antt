@@ -25,7 +25,7 @@ split-append p (x ∷ xs) y ys h =
     ∙ split-append_step (p x) x (slice_split p xs) (slice_split p ys) (omega (arith, length-slice_split p xs))
 
 -- how many bytes parts take up, a separator behind each
-abbrev span_of : List (List ℕ) → ℕ
+abbrev pub span_of : List (List ℕ) → ℕ
 span_of [] = 0
 span_of (part ∷ more) = length part + 1 + span_of more
 
@@ -35,7 +35,7 @@ span-split_step true x n list h = omega (arith, h)
 span-split_step false x n [] h = omega (arith, h)
 span-split_step false x n (part ∷ list) h = omega (arith, h)
 
-span-split : (p : ℕ → Bool) (xs : List ℕ) → span_of (slice_split p xs) ≡ length xs + 1
+pub span-split : (p : ℕ → Bool) (xs : List ℕ) → span_of (slice_split p xs) ≡ length xs + 1
 span-split p [] = omega arith
 span-split p (x ∷ xs) = span-split_step (p x) x (length xs) (slice_split p xs) (span-split p xs) ∙ (omega arith)
 

@@ -5,11 +5,18 @@ use Rattle.std.specs.List.{prefix_len, position_or_len}
 use Rattle.std.proofs.lemmas.Bool.{cases_lt, false≢true, eqb-true}
 use Rattle.std.proofs.lemmas.List.{drop-drop, get_or-drop, length-drop, length-take-le, take_rest}
 use Rattle.std.proofs.lemmas.List.Sums.{fails_before_first, passes_at_first, prefix_len-drop_no, prefix_len_stops}
-use Rattle.memchr.specs.Find.{IsFirstByte, is_byte}
+use Rattle.memchr.specs.Find.{IsFirstByte, TakesFirst, first_of, is_byte, places}
+use Rattle.memchr.proofs.lemmas.ValueLemmas.{IsFirstByte-value}
 use Rattle.x12_bytes.specs.Bytes.{is_line_end}
 use Rattle.x12_segs.specs.Segs.{Seg, seg_at, without_line_ends, part_at, segs_from}
 use Rattle.x12_segs.proofs.SegLemmas.{IsCut, cut_found, drop-slice_range, part_at-none, part_at-some, segs_from-found, segs_from-none}
 use Rattle.x12_segs.proofs.SegLemmas.{without_line_ends-slice}
+
+-- what is taken from the front of a list is its first
+taken-first : (r : Option ℕ) (all left : List ℕ) → TakesFirst all r left → r ≡ first_of all
+unfolding first_of
+taken-first None all left took = sym (ap first_of took.0)
+taken-first (Some k) all left took = sym (ap first_of took)
 
 -- the search that always has an answer
 first_byte : (t : ℕ) (xs : List ℕ) → (r : Option ℕ) × IsFirstByte (is_byte t) xs r
@@ -30,6 +37,14 @@ first_byte t xs =
       )
       | inr ge ↦ (None, λ j low below yes. false≢true (sym (fails_before_first p xs j 0 (omega (arith, below, ge))) ∙ yes))
     ]
+
+-- the first of all places is what the search answers
+pub first_byte-taken : (t : ℕ) (xs : List ℕ) (r : Option ℕ) (all left : List ℕ) → all ≡ places (is_byte t) xs → TakesFirst all r left
+    → IsFirstByte (is_byte t) xs r
+first_byte-taken t xs r all left given took =
+    let found = first_byte t xs in
+    let same : r ≡ found.0 = taken-first r all left took ∙ ap first_of given ∙ sym (IsFirstByte-value (is_byte t) xs found.0 found.1) in
+    subst (IsFirstByte (is_byte t) xs) (sym same) found.1
 
 -- a search from further on
 first_byte-drop : (t : ℕ) (xs : List ℕ) (k l : ℕ) → l ≤ k → IsFirstByte (is_byte t) xs (Some k)

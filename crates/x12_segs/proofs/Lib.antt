@@ -1,5 +1,8 @@
 pub mod CutLemmas
 pub mod FirstLemmas
+pub mod KindLemmas
+pub mod OrderLemmas
 pub mod PartLemmas
 pub mod RunLemmas
 pub mod SegLemmas
+mod WorkedSpans

@@ -1,4 +1,5 @@
 pub mod Kinds
+pub mod Letters
 pub mod Parts
 pub mod Runs
 pub mod Scan

@@ -1,5 +1,6 @@
 ghost use Rattle.std.specs.Prelude.{◌≡◌};
 ghost use Rattle.x12_segs.specs.Kinds.{kind_by_id, kind_of};
+ghost use Rattle.x12_segs.specs.Letters.{begins_as_control};
 
 use crate::view::SegView;
 
@@ -23,12 +24,24 @@ pub enum Kind {
     Other,
 }
 
-/// A segment's kind, by its id alone, byte for byte.
-#[tactic(auto, unfolding(crate::specs::Kinds::kind_of))]
+/// A segment's kind, by its id alone, byte for byte. Most segments are told by their first letter.
 pub fn kind_of(segment: &SegView<'_>) -> Kind
     ensures { result ≡ kind_of segment.now }
 {
+    if !begins_as_control(segment.bytes()) {
+        return Kind::Other;
+    }
     kind_by_id(segment.id())
+}
+
+/// Whether a segment begins with a letter with which a control segment's id begins.
+fn begins_as_control(bytes: &[u8]) -> bool
+    ensures { result ≡ begins_as_control bytes.now }
+{
+    match bytes.first() {
+        Some(first) => matches!(*first, b'I' | b'G' | b'S' | b'T'),
+        None => false,
+    }
 }
 
 fn kind_by_id(id: &[u8]) -> Kind

@@ -23,6 +23,7 @@
 #![tactic(auto)]
 
 mod divide;
+mod find;
 mod kind;
 mod lend;
 mod line_ends;

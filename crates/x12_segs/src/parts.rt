@@ -2,7 +2,7 @@ ghost use Rattle.std.specs.Prelude.{◌≡◌, ◌+◌, ◌<◌, ◌≤◌, ℕ,
 ghost use Rattle.std.specs.Iterator.{YieldsFirstRef, item_count};
 ghost use Rattle.x12_segs.specs.Parts.{parts_by, parts_left};
 
-use memchr::memchr;
+use crate::find::find;
 use std::marker::Model;
 
 /// The parts of a text round a separator that are still to come, each lent from the text. Without
@@ -28,6 +28,14 @@ impl<'a> Parts<'a> {
             left: Some(text),
             separator,
         }
+    }
+
+    /// The next part; where none is left, the empty text.
+    pub fn next_or_empty(&mut self) -> &'a [u8]
+        ensures value { result.now ≡ slice_index_or self.old 0 [] }
+        ensures left { self.new ≡ drop 1 self.old }
+    {
+        self.next().unwrap_or(b"")
     }
 }
 
@@ -59,7 +67,7 @@ pub(crate) fn first_end(text: &[u8], separator: Option<u8>) -> Option<usize>
         (λ end. (end < length text.now) × (parts_by separator text.now
         ≡ take end text.now ∷ parts_by separator (drop (end + 1) text.now))) }
 {
-    memchr(separator?, text)
+    find(separator?, text)
 }
 
 /// Part `n` of a text, counted from 0; one that isn't there is the empty text.

@@ -72,6 +72,19 @@ impl<'a> SegView<'a> {
         parts::part_or_empty(self.bytes, Some(self.delims.element), k)
     }
 
+    /// Elements 1, 2 and 3 as they stand, found in one walk over the segment.
+    pub fn first_elements(&self) -> (&'a [u8], &'a [u8], &'a [u8])
+        ensures first { result.0.now ≡ element_of self.now 1 }
+        ensures second { result.1.now ≡ element_of self.now 2 }
+        ensures third { result.2.now ≡ element_of self.now 3 }
+    {
+        let mut elements = self.elements();
+        let first = elements.next_or_empty();
+        let second = elements.next_or_empty();
+        let third = elements.next_or_empty();
+        (first, second, third)
+    }
+
     /// Occurrence `n` of element `k`.
     pub fn occurrence(&self, k: usize, n: usize) -> &'a [u8]
         requires element { 1 ≤ k }

@@ -1,5 +1,5 @@
 use Rattle.std.proofs.Common.{◌≡◌, ◌++◌, drop}
-use Rattle.ack_999.specs.Extends.{Extends}
+use Rattle.x12_write.specs.Extends.{Extends}
 use Rattle.ack_999.specs.Faults.{notes, notes_behind, notes_text}
 use Rattle.ack_999.proofs.faults.append_faults.Given as goal
 

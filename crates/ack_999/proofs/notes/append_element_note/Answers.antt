@@ -4,7 +4,7 @@ use Rattle.std.proofs.lemmas.Result.{on_ok_weaker}
 use Rattle.hub_kinds.specs.Codes.{element_text}
 use Rattle.ack_999.specs.Copy.{copy_text}
 use Rattle.ack_999.specs.Faults.{position_text}
-use Rattle.ack_999.specs.Segment.{end_text}
+use Rattle.x12_write.specs.Segment.{end_text}
 use Rattle.ack_999.proofs.Noting.{segment_text-code, appended}
 use Rattle.ack_999.proofs.notes.append_element_note.Goals as goal
 

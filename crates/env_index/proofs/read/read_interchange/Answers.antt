@@ -1,4 +1,6 @@
 use Rattle.std.proofs.Common.{◌≡◌, rules}
+use Rattle.x12_segs.specs.Kinds.{kind_of}
+use Rattle.x12_segs.specs.View.{SegValue}
 use Rattle.env_index.specs.Envelope.{Body, Derives}
 use Rattle.env_index.specs.Extents.{reach_at}
 use Rattle.env_index.specs.Interchange.{interchange_of}
@@ -8,7 +10,7 @@ use Rattle.env_index.proofs.read.read_interchange.Goals as goal
 
 pub returns-clause-tree : goal.returns-clause-tree
 returns-clause-tree c =
-    let only : (tree : Body) → Derives (reach_at c.args.text.now c.args.start).segs tree
+    let only : (tree : Body SegValue) → Derives kind_of (reach_at c.args.text.now c.args.start).segs tree
     → c.new.result ≡ interchange_of c.args.text.now c.args.start tree = search rules in
-    let tree = a_tree (reach_at c.args.text.now c.args.start).segs (only_last c.args.text.now _ _) in
+    let tree = a_tree kind_of (reach_at c.args.text.now c.args.start).segs (only_last c.args.text.now _ _) in
     (tree.0, tree.1, only tree.0 tree.1)

@@ -1,57 +1,91 @@
-use Rattle.std.proofs.Common.{◌≡◌, ◌≢◌, ℕ, List, true, false, None, Some, sym, ap, ◌∙◌, arith}
+use Rattle.std.proofs.Common.{◌≡◌, ◌≢◌, ℕ, ◌+◌, List, length, true, false, None, Some, sym, ap, subst, ◌∙◌, arith}
 use Rattle.x12_bytes.specs.HeaderTest.{is_head}
 use Rattle.x12_segs.specs.Kinds.{kind_of}
+use Rattle.x12_segs.specs.Segs.{Seg}
+use Rattle.x12_segs.specs.declared.part.Part.TheVariants.{Segment, Rest}
 use Rattle.x12_segs.specs.declared.kind.Kind.{Kind}
 use Rattle.x12_segs.specs.declared.kind.Kind.TheVariants.{InterchangeTrailer}
 use Rattle.env_index.specs.Reading.{state_of}
+use Rattle.env_index.specs.Source.{TakesPart}
 use Rattle.env_index.proofs.Finishing.{told_ok, none_at_rest, none_at_head, trailer_alone, one_more, end_on}
 use Rattle.env_index.proofs.Walking.{segment_at}
 use Rattle.env_index.proofs.walk.read_body.Goals as goal
 
 pub returns-in-Rest-clause-only : goal.returns-in-Rest-clause-only
-returns-in-Rest-clause-only c =
-    told_ok c.args.text.now c.args.delims c.finish.result _ _ (λ text delims. state_of text delims c.loop-start.builder)
+returns-in-Rest-clause-only g c =
+    let text : List ℕ = c.args.text.now in
+    let segs : List Seg = g.P.PartSource.segs c.loop-start.parts in
+    let rest : Seg = g.P.PartSource.rest c.loop-start.parts in
+    let more : List Seg = g.P.PartSource.segs c.take_part.new.self in
+    let left : Seg = g.P.PartSource.rest c.take_part.new.self in
+    let taken : TakesPart text segs rest (Rest c.in-Rest.start) more left =
+    subst (λ (t : List ℕ). TakesPart t segs rest (Rest c.in-Rest.start) more left) c.loop-start.invariant.text c.in-Rest.ensures.part in
+    told_ok text c.args.delims c.finish.result _ _ (λ text delims. state_of text delims c.loop-start.builder)
     (λ text delims. None) c.loop-start.invariant.whole
-    (none_at_rest c.args.text.now c.args.delims c.loop-start.at c.in-Rest.start c.in-Rest.ensures.next) c.finish.ensures.body
+    (none_at_rest text c.args.delims segs more rest left c.in-Rest.start taken) c.finish.ensures.body
 
 pub returns-then-begins_at_header-clause-only : goal.returns-then-begins_at_header-clause-only
-returns-then-begins_at_header-clause-only c =
-    let head : is_head c.args.text.now c.in-Segment.start ≡ true = sym c.begins_at_header.ensures ∙ c.if-begins_at_header.true in
-    told_ok c.args.text.now c.args.delims c.finish-then-begins_at_header.result _ _
-    (λ text delims. state_of text delims c.loop-start.builder) (λ text delims. None) c.loop-start.invariant.whole
-    (none_at_head c.args.text.now c.args.delims c.loop-start.at c.in-Segment.start c.in-Segment.end c.in-Segment.ensures.next head)
-    c.finish-then-begins_at_header.ensures.body
-
-pub returns-in-InterchangeTrailer-clause-only : goal.returns-in-InterchangeTrailer-clause-only
-returns-in-InterchangeTrailer-clause-only c =
+returns-then-begins_at_header-clause-only g c =
     let text : List ℕ = c.args.text.now in
     let start : ℕ = c.in-Segment.start in
     let end : ℕ = c.in-Segment.end in
+    let segs : List Seg = g.P.PartSource.segs c.loop-start.parts in
+    let rest : Seg = g.P.PartSource.rest c.loop-start.parts in
+    let more : List Seg = g.P.PartSource.segs c.take_part.new.self in
+    let left : Seg = g.P.PartSource.rest c.take_part.new.self in
+    let taken : TakesPart text segs rest (Segment start end) more left =
+    subst (λ (t : List ℕ). TakesPart t segs rest (Segment start end) more left) c.loop-start.invariant.text c.in-Segment.ensures.part in
+    let head : is_head text start ≡ true = sym c.begins_at_header.ensures ∙ c.if-begins_at_header.true in
+    told_ok text c.args.delims c.finish-then-begins_at_header.result _ _
+    (λ text delims. state_of text delims c.loop-start.builder) (λ text delims. None) c.loop-start.invariant.whole
+    (none_at_head text c.args.delims segs more rest left start end taken head)
+    c.finish-then-begins_at_header.ensures.body
+
+pub returns-in-InterchangeTrailer-clause-only : goal.returns-in-InterchangeTrailer-clause-only
+returns-in-InterchangeTrailer-clause-only g c =
+    let text : List ℕ = c.args.text.now in
+    let start : ℕ = c.in-Segment.start in
+    let end : ℕ = c.in-Segment.end in
+    let segs : List Seg = g.P.PartSource.segs c.loop-start.parts in
+    let rest : Seg = g.P.PartSource.rest c.loop-start.parts in
+    let more : List Seg = g.P.PartSource.segs c.take_part.new.self in
+    let left : Seg = g.P.PartSource.rest c.take_part.new.self in
+    let taken : TakesPart text segs rest (Segment start end) more left =
+    subst (λ (t : List ℕ). TakesPart t segs rest (Segment start end) more left) c.loop-start.invariant.text c.in-Segment.ensures.part in
     let head : is_head text start ≡ false = sym c.begins_at_header.ensures ∙ c.if-begins_at_header.false in
     let is : kind_of (segment_at text c.args.delims start end) ≡ InterchangeTrailer = ap kind_of (sym c.new-segment.ensures)
     ∙ sym c.kind_of.ensures ∙ c.in-InterchangeTrailer.is in
     let lies = c.in-Segment.ensures.within in
+    let long : length (g.P.PartSource.text c.loop-start.parts) ≡ length text = ap length c.loop-start.invariant.text in
     told_ok text c.args.delims c.finish-in-InterchangeTrailer.result _ _ (λ text delims. state_of text delims c.loop-start.builder)
     (λ text delims. Some (segment_at text delims start end)) c.loop-start.invariant.whole
-    (trailer_alone text c.args.delims c.loop-start.at start end c.in-Segment.ensures.next (omega (arith, lies.1))
-    (omega (arith, lies.2)) head is)
+    (trailer_alone text c.args.delims segs more rest left start end taken (omega (arith, lies.1))
+    (omega (arith, lies.2, long)) head is)
     c.finish-in-InterchangeTrailer.ensures.body
 
 pub loop-start-preserved : goal.loop-start-preserved
-loop-start-preserved c =
+loop-start-preserved g c =
     let text : List ℕ = c.args.text.now in
     let start : ℕ = c.in-Segment.start in
     let end : ℕ = c.in-Segment.end in
+    let segs : List Seg = g.P.PartSource.segs c.loop-start.parts in
+    let rest : Seg = g.P.PartSource.rest c.loop-start.parts in
+    let more : List Seg = g.P.PartSource.segs c.take_part.new.self in
+    let left : Seg = g.P.PartSource.rest c.take_part.new.self in
+    let taken : TakesPart text segs rest (Segment start end) more left =
+    subst (λ (t : List ℕ). TakesPart t segs rest (Segment start end) more left) c.loop-start.invariant.text c.in-Segment.ensures.part in
     let k : Kind = c.kind_of.result in
     let head : is_head text start ≡ false = sym c.begins_at_header.ensures ∙ c.if-begins_at_header.false in
     let is : k ≡ kind_of (segment_at text c.args.delims start end) = c.kind_of.ensures ∙ ap kind_of c.new-segment.ensures in
     let other : k ≢ InterchangeTrailer = c.in_default.not-InterchangeTrailer in
     let lies = c.in-Segment.ensures.within in
+    let at : g.P.PartSource.at c.take_part.new.self ≡ end + 1 = c.in-Segment.ensures.at in
     record {
-      within = omega (arith, lies.2);
-      few = omega (arith, lies.0, lies.1, c.loop-start.invariant.few, c.in_ok-take-in_default.ensures.seen);
-      end = end_on text c.args.delims c.loop-start.at start end k c.in-Segment.ensures.next head is other ∙ c.loop-start.invariant.end;
-      whole = one_more text c.args.delims c.loop-start.at start end (state_of text c.args.delims c.loop-start.builder)
+      text = c.in-Segment.ensures.text ∙ c.loop-start.invariant.text;
+      behind = omega (arith, at, lies.0, lies.1, c.loop-start.invariant.behind);
+      few = omega (arith, at, lies.0, lies.1, c.loop-start.invariant.few, c.in_ok-take-in_default.ensures.seen);
+      end = end_on text c.args.delims segs more rest left start end k taken head is other ∙ c.loop-start.invariant.end;
+      whole = one_more text c.args.delims segs more rest left start end (state_of text c.args.delims c.loop-start.builder)
           (state_of text c.args.delims c.take.new.self) k _
-          c.in-Segment.ensures.next head is other c.loop-start.invariant.whole (c.in_ok-take-in_default.ensures.state text c.args.delims);
+          taken head is other c.loop-start.invariant.whole (c.in_ok-take-in_default.ensures.state text c.args.delims);
     }

@@ -7,7 +7,7 @@ use Rattle.hub_kinds.specs.declared.answers.GroupAnswer.{GroupAnswer}
 use Rattle.ack_999.specs.Group.{group_verdict_of, verdicts_of}
 use Rattle.ack_999.specs.Interchange.{interchange_text}
 use Rattle.ack_999.specs.Report.{text_999, shows_sets}
-use Rattle.ack_999.specs.declared.envelope.Envelope.{Envelope}
+use Rattle.x12_write.specs.declared.envelope.Envelope.{Envelope}
 use Rattle.env_index.specs.Summary.{GroupEntry}
 use Rattle.hub_run.specs.Answers.{answer_to, answer_before_sets, answers_to, codes_to, trailer_of}
 use Rattle.hub_run.specs.First.{reply_envelope}
@@ -48,7 +48,7 @@ returns-clause-ack c =
     c.from_vec.ensures
     ∙ whole_reply c.reply_envelope-envelope.result at c.delims-delims.result early late (answers_to group) c.in_ok-totals.totals _ _ _ _ _
     c.new-out.ensures.items c.in_ok-append_front.ensures c.in_ok-totals.ensures.text refl shows c.in_ok-totals.ensures.totals
-    completes c.in_ok-append_closing.ensures.text
+    completes c.in_ok-append_closing.ensures.whole
     ∙ ap (λ (e : Envelope). interchange_text e at 1 (text_999 c.delims-delims.result late (answers_to group) 1 ∷ [])) envelope
     ∙ ap (λ (d : Delims). interchange_text (reply_envelope header group.header) at 1 (text_999 d late (answers_to group) 1 ∷ [])) delims
     ∙ ap (λ (a : GroupAnswer).

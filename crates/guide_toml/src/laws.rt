@@ -1,0 +1,10 @@
+ghost use Rattle.std.specs.Prelude.{◌≡◌, Some, true};
+ghost use Rattle.guide_tree.specs.declared.element.Element.{Element};
+ghost use Rattle.guide_toml.specs.ElementTexts.{element_of};
+ghost use Rattle.guide_toml.specs.Written.{element_text, is_writable};
+
+/// A law, with nothing to run: a data element's row that a text can write is read back from the text that writes it. So
+/// the texts of a guide file tell such rows apart, and none is out of reach.
+pub fn written_row_is_read_back()
+    ensures { (row : Element) → is_writable row ≡ true → element_of (element_text row) ≡ Some row }
+{}

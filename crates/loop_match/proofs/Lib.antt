@@ -1,0 +1,8 @@
+mod Indexed
+mod Fitting
+mod Walking
+mod Giving
+mod Finding
+mod Passing
+mod Once
+mod Numbered

@@ -1,0 +1,10 @@
+use Rattle.std.proofs.Common.{◌≡◌, drop}
+use Rattle.x12_segs.specs.View.{elements_of}
+use Rattle.guide_tree.specs.View.{nodes_view}
+use Rattle.guide_tree.specs.Fits.{fit_starts}
+use Rattle.loop_match.proofs.next.start_after.Given as goal
+
+abbrev pub invariant-loop-k : goal.invariant-loop-k
+invariant-loop-k l =
+    fit_starts (elements_of l.seg) l.k (nodes_view (drop l.k l.nodes))
+    ≡ fit_starts (elements_of l.seg) l.from (nodes_view (drop l.from l.nodes))

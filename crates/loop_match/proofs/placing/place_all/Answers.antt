@@ -1,0 +1,36 @@
+use Rattle.std.proofs.Common.{◌∙◌, ap, sym, subst, map, None, length, List, ◌+◌}
+use Rattle.std.specs.List.{Contains}
+use Rattle.hub_kinds.specs.declared.fault.Fault.{Fault}
+use Rattle.x12_segs.specs.View.{elements_of}
+use Rattle.guide_tree.specs.View.{guide_of, nodes_view}
+use Rattle.guide_law.proofs.Faulty.{members}
+use Rattle.loop_match.specs.Given.{place_in, slot_in}
+use Rattle.loop_match.proofs.Numbered.{found_keyed}
+use Rattle.loop_match.proofs.Giving.{places_given, slots_given}
+use Rattle.loop_match.proofs.placing.place_all.Goals as goal
+
+pub returns-clause-places : goal.returns-clause-places
+returns-clause-places c =
+    ap (map place_in) c.in_ok-pass.ensures.given
+    ∙ places_given (nodes_view c.args.guide.now.nodes.items) None (map elements_of c.args.segs.now)
+
+pub returns-clause-slots : goal.returns-clause-slots
+returns-clause-slots c =
+    ap (map slot_in) c.in_ok-pass.ensures.given
+    ∙ slots_given (nodes_view c.args.guide.now.nodes.items) None (map elements_of c.args.segs.now)
+
+pub in_order-requires : goal.in_order-requires
+in_order-requires c =
+    found_keyed c.args.guide.now (map elements_of c.args.segs.now) (length c.args.segs.now + 2) c.in_ok-pass.pass.found
+    c.in_ok-pass.ensures.accepted c.in_ok-pass.ensures.found
+
+pub returns-clause-faults : goal.returns-clause-faults
+returns-clause-faults c f =
+    let g = guide_of c.args.guide.now in
+    let body = map elements_of c.args.segs.now in
+    let found = c.in_ok-pass.ensures.found in
+    let all = members g c.in_ok-pass.ensures.accepted.well_formed body (length c.args.segs.now + 2) f in
+    let same = c.in_order.ensures.same f in (
+      λ h. all.0 (subst (λ (l : List Fault). Contains l f) found (same.0 h)),
+      λ h. same.1 (subst (λ (l : List Fault). Contains l f) (sym found) (all.1 h)),
+    )

@@ -1,0 +1,41 @@
+ghost use Rattle.std.specs.Prelude.{◌≡◌};
+ghost use Rattle.std.specs.List.{list_all};
+ghost use Rattle.x12_segs.specs.View.{elements_of};
+ghost use Rattle.guide_tree.specs.Segments.{contains_text, element_of, fits};
+
+use guide_tree::{Pick, Slot};
+use hub_kinds::Text;
+use x12_segs::SegView;
+
+/// Whether the text is one of the list.
+pub fn contains_text(texts: &[Text], text: &[u8]) -> bool
+    ensures { result ≡ contains_text texts.now text.now }
+{
+    texts.iter().any(|own| own.as_slice() == text)
+}
+
+/// The element with a number, or at 0 the id.
+fn text_at<'a>(seg: &SegView<'a>, k: usize) -> &'a [u8]
+    ensures { result.now ≡ element_of (elements_of seg.now) k }
+{
+    if k == 0 { seg.id() } else { seg.element(k) }
+}
+
+fn is_picked(pick: &Pick, seg: &SegView) -> bool
+    ensures { result ≡ contains_text pick.now.codes (element_of (elements_of seg.now) pick.now.position) }
+{
+    contains_text(pick.codes.as_slice(), text_at(seg, pick.position as usize))
+}
+
+fn are_picked(picks: &[Pick], seg: &SegView) -> bool
+    ensures { result ≡ list_all (λ p. contains_text p.codes (element_of (elements_of seg.now) p.position)) picks.now }
+{
+    picks.iter().all(|pick| is_picked(pick, seg))
+}
+
+/// Whether the segment fits the slot.
+pub fn fits(slot: &Slot, seg: &SegView) -> bool
+    ensures { result ≡ fits slot.now (elements_of seg.now) }
+{
+    slot.id.as_slice() == seg.id() && are_picked(slot.picks.as_slice(), seg)
+}

@@ -1,0 +1,186 @@
+ghost use Rattle.std.specs.Prelude.{◌≡◌, ◌++◌, [], ◌∷◌, OnOk, IfOk};
+ghost use Rattle.guide_tree.specs.Tree.{number_of, min_of, max_of};
+ghost use Rattle.guide_tree.specs.Structure.{first_id, past_code, few_code};
+ghost use Rattle.guide_tree.specs.Pass.{loop_of, fault_of, missing, too_few, past, stray_fault};
+ghost use Rattle.guide_tree.specs.View.{view, guide_of};
+ghost use Rattle.x12_segs.specs.View.{elements_of};
+
+use crate::stray::stray_code;
+use guide_tree::{Guide, Node};
+use hub_kinds::{Fault, Items, NO_NUMBER, NoMemory, SegmentCode, Text};
+use std::alloc::Global;
+use std::marker::Model;
+use x12_segs::SegView;
+
+/// The structural faults that were found so far, in the order in which they were found. Contracts see their list.
+#[derive(Drop)]
+pub struct Found {
+    alloc: Global,
+    faults: Vec<Fault>,
+}
+
+impl Model for Found {
+    ghost use Rattle.std.specs.Prelude.{List};
+    ghost use Rattle.hub_kinds.specs.declared.fault.Fault.{Fault};
+
+    ghost Value = { List Fault };
+
+    ghost view = { λ f. f.faults.items };
+}
+
+impl Found {
+    /// No fault.
+    pub fn new(alloc: Global) -> Found
+        ensures { result ≡ [] }
+    {
+        Found {
+            alloc,
+            faults: Vec::new(alloc),
+        }
+    }
+
+    /// Adds a fault of a node that stands in the loop with the id `outer`.
+    fn add(&mut self, at: u64, outer: &[u8], code: SegmentCode, node: &Node) -> Result<(), NoMemory>
+        ensures { OnOk result (self.new ≡ self.old ++ fault_of at outer.now code (view node.now) ∷ []) }
+    {
+        let fault = Fault {
+            position: at,
+            id: text_of(self.alloc, first_id(node))?,
+            loop_id: text_of(self.alloc, loop_of(outer, node))?,
+            code,
+            slot: number_of(node),
+            elem: None,
+        };
+        self.faults.push(fault)?;
+        Ok(())
+    }
+
+    /// A node that is needed has no use.
+    pub fn missing(&mut self, at: u64, outer: &[u8], node: &Node) -> Result<(), NoMemory>
+        ensures { OnOk result (self.new ≡ self.old ++ missing at outer.now (view node.now)) }
+    {
+        if 1 <= min_of(node) {
+            self.add(at, outer, SegmentCode::RequiredSegmentMissing, node)?;
+        }
+        Ok(())
+    }
+
+    /// A node has some uses, but fewer than the least.
+    pub fn too_few(&mut self, at: u64, outer: &[u8], uses: u64, node: &Node) -> Result<(), NoMemory>
+        ensures { OnOk result (self.new ≡ self.old ++ too_few at outer.now uses (view node.now)) }
+    {
+        if uses < u64::from(min_of(node)) {
+            self.add(at, outer, few_code(node), node)?;
+        }
+        Ok(())
+    }
+
+    /// A node has a use past the greatest.
+    pub fn past(&mut self, at: u64, outer: &[u8], use_no: u64, node: &Node) -> Result<(), NoMemory>
+        ensures { OnOk result (self.new ≡ self.old ++ past at outer.now use_no (view node.now)) }
+    {
+        if u64::from(max_of(node)) <= use_no {
+            self.add(at, outer, past_code(node), node)?;
+        }
+        Ok(())
+    }
+
+    /// A segment has no place.
+    pub fn stray(&mut self, at: u64, guide: &Guide, seg: &SegView) -> Result<(), NoMemory>
+        ensures { OnOk result (self.new ≡ self.old ++ stray_fault (guide_of guide.now) at (elements_of seg.now) ∷ []) }
+    {
+        let fault = Fault {
+            position: at,
+            id: text_of(self.alloc, seg.id())?,
+            loop_id: text_of(self.alloc, b"")?,
+            code: stray_code(guide, seg),
+            slot: NO_NUMBER,
+            elem: None,
+        };
+        self.faults.push(fault)?;
+        Ok(())
+    }
+
+    /// The faults, as a list.
+    pub fn into_faults(self) -> Vec<Fault>
+        ensures { result.items ≡ self }
+    {
+        self.faults
+    }
+}
+
+fn text_of(alloc: Global, bytes: &[u8]) -> Result<Text, NoMemory>
+    ensures { IfOk result (λ text. text ≡ bytes.now) }
+{
+    Ok(Items::from_vec(Vec::from_slice(alloc, bytes)?))
+}
+
+/// The id that a node begins with: its own, or that of a loop's first segment.
+fn first_id(node: &Node) -> &[u8]
+    ensures { result.now ≡ first_id (view node.entry.now) }
+{
+    match node {
+        Node::Segment(slot) => slot.id.as_slice(),
+        Node::Loop(_, nodes) => match nodes.first() {
+            Some(Node::Segment(slot)) => slot.id.as_slice(),
+            _ => b"",
+        },
+    }
+}
+
+fn loop_of<'a>(outer: &'a [u8], node: &'a Node) -> &'a [u8]
+    ensures { result.now ≡ loop_of outer.entry.now (view node.entry.now) }
+{
+    match node {
+        Node::Segment(_) => outer,
+        Node::Loop(head, _) => head.id.as_slice(),
+    }
+}
+
+fn number_of(node: &Node) -> u32
+    ensures { result ≡ number_of (view node.now) }
+{
+    match node {
+        Node::Segment(slot) => slot.number,
+        Node::Loop(head, _) => head.number,
+    }
+}
+
+fn min_of(node: &Node) -> u32
+    ensures { result ≡ min_of (view node.now) }
+{
+    match node {
+        Node::Segment(slot) => slot.min,
+        Node::Loop(head, _) => head.min,
+    }
+}
+
+fn max_of(node: &Node) -> u32
+    ensures { result ≡ max_of (view node.now) }
+{
+    match node {
+        Node::Segment(slot) => slot.max,
+        Node::Loop(head, _) => head.max,
+    }
+}
+
+fn past_code(node: &Node) -> SegmentCode
+    ensures { result ≡ past_code (view node.now) }
+{
+    if max_of(node) == 0 {
+        return SegmentCode::NotUsedPresent;
+    }
+    match node {
+        Node::Segment(_) => SegmentCode::SegmentTooOften,
+        Node::Loop(_, _) => SegmentCode::LoopTooOften,
+    }
+}
+
+fn few_code(node: &Node) -> SegmentCode
+    ensures { result ≡ few_code (view node.now) }
+{
+    match node {
+        Node::Segment(_) => SegmentCode::SegmentTooSeldom,
+        Node::Loop(_, _) => SegmentCode::LoopTooSeldom,
+    }
+}

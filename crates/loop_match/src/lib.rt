@@ -1,0 +1,24 @@
+//! Places: which segment slot of a guide each segment of a set's body stands at, and what is wrong with the order and the
+//! number of the segments.
+//!
+//! Proved: `place_all` gives each segment the place and the slot that the definition gives it, or no place where it is a
+//! stray; and its faults are exactly the structural faults of the body under that placing: uses past a maximum, what is
+//! missing, what is used too few times, strays; each once, by position, code and slot.
+//!
+//! Source: X12.6, order of segments in a transaction set; the 999 guide (005010X231), IK304.
+#![tactic(auto)]
+
+mod fit;
+mod found;
+mod leaving;
+mod next;
+mod order;
+mod pass;
+mod placing;
+mod stepping;
+mod steps;
+mod stray;
+mod walk;
+
+pub use next::Step;
+pub use placing::{Placing, place_all};

@@ -1,0 +1,113 @@
+ghost use Rattle.std.specs.Prelude.{◌≡◌, ◌↔◌, ◌+◌, length, map, IfOk};
+ghost use Rattle.std.specs.List.{Contains};
+ghost use Rattle.hub_kinds.specs.declared.fault.Fault.{Fault};
+ghost use Rattle.x12_segs.specs.View.{elements_of};
+ghost use Rattle.guide_tree.specs.Nexts.{placing_of};
+ghost use Rattle.guide_tree.specs.Places.{slot_given};
+ghost use Rattle.guide_tree.specs.Structure.{IsStructureFault};
+ghost use Rattle.guide_tree.specs.View.{guide_of, nodes_view};
+ghost use Rattle.loop_match.specs.Given.{place_in, slot_in};
+ghost use Rattle.loop_match.specs.Order.{IsRising};
+
+use crate::next::Step;
+use crate::order::in_order;
+use crate::pass::pass_all;
+use crate::walk::Walk;
+use guide_tree::{Guide, Slot};
+use hub_kinds::{Fault, Items, NoMemory};
+use std::alloc::Global;
+use std::marker::Model;
+use x12_segs::SegView;
+
+/// The place and the slot of each segment of a set's body, and the structural faults of the body.
+#[derive(Drop)]
+pub struct Placing<'g> {
+    walk: Walk<'g>,
+    faults: Vec<Fault>,
+}
+
+impl<'g> Model for Placing<'g> {
+    ghost use Rattle.std.specs.Prelude.{length, ◌+◌, ◌≤◌};
+    ghost use Rattle.std.specs.List.{AllByRecursion};
+    ghost use Rattle.loop_match.specs.Given.{Placed};
+    ghost use Rattle.loop_match.specs.Steps.{marks_view};
+
+    ghost Value = { Placed };
+
+    ghost view = { λ p. record { given = marks_view p.walk.steps.items p.walk.marks.items; faults = p.faults.items } };
+
+    ghost invariant = { λ p. AllByRecursion (λ m. m.start + m.depth ≤ length p.walk.steps.items) p.walk.marks.items };
+}
+
+impl<'g> Placing<'g> {
+    ghost use Rattle.std.specs.Prelude.{◌≡◌, None, length, option_map, slice_index_or};
+    ghost use Rattle.loop_match.specs.Given.{place_in, slot_in};
+    ghost use Rattle.loop_match.specs.Steps.{place_view};
+
+    /// How many segments there are.
+    pub fn len(&self) -> usize
+        ensures { result ≡ length self.now.given }
+    {
+        self.walk.marks.as_slice().len()
+    }
+
+    /// The slot of a segment, by its index in the body; none for a stray.
+    pub fn slot(&self, index: usize) -> Option<&'g Slot>
+        ensures { option_map (λ s. s.now) result ≡ slot_in (slice_index_or self.now.given index None) }
+    {
+        match self.walk.marks.as_slice().get(index) {
+            None => None,
+            Some(mark) => mark.slot,
+        }
+    }
+
+    /// The place of a segment, step by step from the guide's own nodes; none for a stray.
+    pub fn place(&self, index: usize) -> Option<&[Step]>
+        ensures { option_map (λ p. place_view p.now) result ≡ place_in (slice_index_or self.now.given index None) }
+    {
+        match self.walk.marks.as_slice().get(index) {
+            None => None,
+            Some(mark) => match mark.slot {
+                None => None,
+                Some(_) => Some(&self.walk.steps[mark.start..mark.start + mark.depth]),
+            },
+        }
+    }
+
+    /// The structural faults by position, code and slot; a position is a segment's number in the set, ST being 1.
+    pub fn faults(&self) -> &[Fault]
+        ensures { result.now ≡ self.now.faults }
+    {
+        self.faults.as_slice()
+    }
+
+    /// The same, given away.
+    pub fn into_faults(self) -> Items<Fault>
+        ensures { result ≡ self.entry.faults }
+    {
+        Items::from_vec(self.faults)
+    }
+}
+
+/// The place and the slot of each segment of a body, and exactly its structural faults, each once and in their order;
+/// the body's end is behind its last segment. The only error is want of memory.
+pub fn place_all<'g>(
+    alloc: Global,
+    segs: &[SegView],
+    guide: &'g Guide,
+) -> Result<Placing<'g>, NoMemory>
+    ensures places { IfOk result (λ p. map place_in p.given
+        ≡ placing_of (nodes_view guide.now.nodes.items) (map elements_of segs.now)) }
+    ensures slots { IfOk result (λ p. map slot_in p.given
+        ≡ map (slot_given (nodes_view guide.now.nodes.items)) (placing_of (nodes_view guide.now.nodes.items) (map elements_of segs.now))) }
+    ensures faults { IfOk result (λ p. (f : Fault) → Contains p.faults f
+        ↔ IsStructureFault (guide_of guide.now) (map elements_of segs.now)
+        (placing_of (nodes_view guide.now.nodes.items) (map elements_of segs.now)) (length segs.now + 2) f) }
+    ensures rising { IfOk result (λ p. IsRising p.faults) }
+{
+    let pass = pass_all(alloc, segs, guide)?;
+    Ok(Placing {
+        walk: pass.walk,
+        faults: in_order(pass.found),
+    })
+}

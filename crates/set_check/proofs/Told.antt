@@ -1,0 +1,94 @@
+-- All faults of a set, computed: in a guide without fault they are those of the definition, and there is none exactly where the set's
+-- body is met.
+use Rattle.std.proofs.Common.{⊎_elim, ◌≡◌, ◌+◌, inl, inr, List, [], ◌∷◌, ◌++◌, Option, Some, refl, ap, ◌∙◌, subst, sym, arith, ℕ}
+use Rattle.hub_kinds.specs.declared.fault.Fault.{Fault}
+use Rattle.hub_kinds.specs.declared.set_codes.SetCode.{SetCode}
+use Rattle.guide_tree.specs.Tree.{GuideTree}
+use Rattle.guide_tree.specs.Faults.{IsWellFormed}
+use Rattle.guide_tree.specs.Nexts.{placing_of}
+use Rattle.guide_tree.specs.Pass.{structure_faults}
+use Rattle.guide_tree.proofs.Among.{In}
+use Rattle.guide_law.proofs.Among.{in_left, in_right, in_cases, in_contains, contains_in}
+use Rattle.guide_law.proofs.Faulty.{members}
+use Rattle.set_check.specs.SetParts.{SetParts, end_position}
+use Rattle.set_check.specs.SetFaults.{IsErrorIn, AreSetFaults, codes_with, told_by, loop_id_of}
+use Rattle.set_check.specs.Meets.{MeetsAlone}
+use Rattle.set_check.specs.MeetsLaw.{IsWellGuided}
+use Rattle.set_check.proofs.Errors.{errors_from, IsErrorFrom, is_error, error_is}
+use Rattle.set_check.proofs.SoundPlaces.{sound_places}
+use Rattle.set_check.proofs.Meeting.{clean_as_it_meets}
+
+abbrev pub structure : GuideTree → SetParts → List Fault
+structure g parts = structure_faults g (end_position parts) parts.body (placing_of g.nodes parts.body)
+
+abbrev pub errors : GuideTree → SetParts → List Fault
+errors g parts = errors_from g.nodes parts.delims 2 parts.body (placing_of g.nodes parts.body)
+
+abbrev pub all_faults : GuideTree → SetParts → List Fault
+all_faults g parts = structure g parts ++ errors g parts
+
+pub error_in : (g : GuideTree) (parts : SetParts) (f : Fault)
+    → IsErrorFrom g.nodes parts.delims 2 parts.body (placing_of g.nodes parts.body) f
+    → IsErrorIn g.nodes parts (placing_of g.nodes parts.body) f
+error_in g parts f r =
+    let k : 2 + r.index ≡ r.index + 2 = omega arith in
+    record {
+      index = r.index;
+      segment = r.segment;
+      place = r.place;
+      slot = r.slot;
+      elem = r.elem;
+      there = r.there;
+      placed = r.placed;
+      leads = r.leads;
+      wrong = r.wrong;
+      is = r.is ∙ ap (λ (n : ℕ). told_by n r.segment (loop_id_of g.nodes r.place) r.slot r.elem) k;
+    }
+
+pub error_out : (g : GuideTree) (parts : SetParts) (f : Fault) → IsErrorIn g.nodes parts (placing_of g.nodes parts.body) f
+    → IsErrorFrom g.nodes parts.delims 2 parts.body (placing_of g.nodes parts.body) f
+error_out g parts f r =
+    let k : r.index + 2 ≡ 2 + r.index = omega arith in
+    record {
+      index = r.index;
+      segment = r.segment;
+      place = r.place;
+      slot = r.slot;
+      elem = r.elem;
+      there = r.there;
+      placed = r.placed;
+      leads = r.leads;
+      wrong = r.wrong;
+      is = r.is ∙ ap (λ (n : ℕ). told_by n r.segment (loop_id_of g.nodes r.place) r.slot r.elem) k;
+    }
+
+pub all_are : (g : GuideTree) (parts : SetParts) → IsWellFormed g → AreSetFaults (Some g) parts (all_faults g parts)
+all_are g parts w f = (
+  (λ h. ⊎_elim
+      (λ a. inl ((members g w parts.body (end_position parts) f).0 (in_contains (structure g parts) f a)))
+      (λ b. inr (error_in g parts f (is_error g.nodes parts.delims 2 parts.body (placing_of g.nodes parts.body) f (sound_places g w) b)))
+      (in_cases (structure g parts) (errors g parts) f (contains_in (all_faults g parts) f h))),
+  (λ h. in_contains (all_faults g parts) f (⊎_elim
+      (λ a. in_left (structure g parts) (errors g parts) f
+      (contains_in (structure g parts) f ((members g w parts.body (end_position parts) f).1 a)))
+      (λ b. in_right (structure g parts) (errors g parts) f
+      (error_is g.nodes parts.delims 2 parts.body (placing_of g.nodes parts.body) f (sound_places g w) (error_out g parts f b)))
+      h)),
+)
+
+-- a set without a computed fault and without a code meets its guide, and no other does
+pub meets_by : (g : GuideTree) (parts : SetParts) → IsWellFormed g → all_faults g parts ≡ [] → codes_with (Some g) parts [] ≡ []
+    → MeetsAlone (Some g) parts
+meets_by g parts w e c = (clean_as_it_meets (Some g) w parts).0
+    ((λ f h. absurd (subst (λ (l : List Fault). In l f) e (contains_in (all_faults g parts) f ((all_are g parts w f).1 h)))), c)
+
+pub fails_by_fault : (g : GuideTree) (parts : SetParts) (f : Fault) (more : List Fault) → IsWellFormed g
+    → all_faults g parts ≡ f ∷ more → MeetsAlone (Some g) parts → ⊥
+fails_by_fault g parts f more w e m = ((clean_as_it_meets (Some g) w parts).1 m).0 f
+    ((all_are g parts w f).0 (in_contains (all_faults g parts) f (subst (λ (l : List Fault). In l f) (sym e) (inl refl))))
+
+pub fails_by_code : (guide : Option GuideTree) (parts : SetParts) (c : SetCode) (more : List SetCode) → IsWellGuided guide
+    → codes_with guide parts [] ≡ c ∷ more → MeetsAlone guide parts → ⊥
+fails_by_code guide parts c more w e m =
+    let n : codes_with guide parts [] ≡ [] = ((clean_as_it_meets guide w parts).1 m).1 in
+    let k : c ∷ more ≡ [] = sym e ∙ n in cc

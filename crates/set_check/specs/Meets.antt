@@ -1,0 +1,32 @@
+-- X12.6, transaction set: when a set meets its guide, looked at alone. A grammar, with no cursor, no counter and no list of faults.
+use Rattle.std.specs.Prelude.{◌≡◌, ◌≤◌, ℕ, List, [], map, length, Option, Some, None, ◌⊎◌}
+use Rattle.std.specs.List.{Contains}
+use Rattle.hub_kinds.specs.Numbers.{number_of}
+use Rattle.hub_kinds.specs.declared.fault.ElemFault.{ElemFault}
+use Rattle.guide_tree.specs.Tree.{GuideTree}
+use Rattle.guide_tree.specs.Grammar.{Given, Derives}
+use Rattle.elem_rules.specs.ElementFaults.{IsElementFault}
+use Rattle.x12_segs.specs.View.{SegValue, element_of}
+use Rattle.set_check.specs.Codes.{control_of}
+use Rattle.set_check.specs.SetParts.{SetParts, segment_count}
+
+-- ST03 is empty or the guide's convention, where the guide has one
+abbrev pub MeetsConvention : Option (List ℕ) → List ℕ → Type 0
+MeetsConvention None given = Unit {0}
+MeetsConvention (Some convention) given = (given ≡ []) ⊎ (given ≡ convention)
+
+-- The set has a guide, which derives its body, each segment with its slot; under these slots no element is at fault; it has an SE,
+-- whose SE01 is 1 to 10 digits that write the number of its segments and whose SE02 is ST02; ST02 has 4 or more bytes.
+pub record MeetsAlone (guide : Option GuideTree) (parts : SetParts) : Type 0 where
+  pub known : GuideTree
+  pub guided : guide ≡ Some known
+  pub slots : List Given
+  pub body : map (λ x. x.0) slots ≡ parts.body
+  pub derived : Derives known.nodes slots
+  pub elements : (x : Given) (e : ElemFault) → Contains slots x → IsElementFault parts.delims x.0 x.1 e → ⊥
+  pub trailer : SegValue
+  pub closed : parts.trailer ≡ Some trailer
+  pub counted : number_of 10 (element_of trailer 1) ≡ Some (segment_count parts)
+  pub same_control : element_of trailer 2 ≡ control_of parts.header
+  pub long_control : 4 ≤ length (control_of parts.header)
+  pub convention : MeetsConvention known.head.convention (element_of parts.header 3)

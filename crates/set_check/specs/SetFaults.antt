@@ -1,0 +1,81 @@
+-- 999 guide, IK3 and IK4: what is wrong with the segments of a set, by its guide; and the set's codes.
+use Rattle.std.specs.Prelude.{ℕ, zero, suc, ◌+◌, ◌≡◌, ◌↔◌, ◌⊎◌, List, [], ◌∷◌, Option, Some, None, option_map, false}
+use Rattle.std.specs.List.{Contains, slice_get}
+use Rattle.hub_kinds.specs.declared.fault.Fault.{Fault}
+use Rattle.hub_kinds.specs.declared.fault.ElemFault.{ElemFault}
+use Rattle.hub_kinds.specs.declared.codes.SegmentCode.TheVariants as ik304
+use Rattle.hub_kinds.specs.declared.set_codes.SetCode.{SetCode}
+use Rattle.guide_tree.specs.declared.slot.Slot.{Slot}
+use Rattle.guide_tree.specs.Tree.{Tree, Trees, segment, loop, no_trees, tree, GuideTree}
+use Rattle.guide_tree.specs.Segments.{Segment, id_of}
+use Rattle.guide_tree.specs.Places.{Place, slot_at}
+use Rattle.guide_tree.specs.Nexts.{placing_of}
+use Rattle.guide_tree.specs.Structure.{IsStructureFault}
+use Rattle.elem_rules.specs.ElementFaults.{IsElementFault}
+use Rattle.set_check.specs.declared.guide.SetGuide.{SetGuide}
+use Rattle.set_check.specs.Codes.{set_codes_of}
+use Rattle.set_check.specs.SetParts.{SetParts, segment_count, end_position}
+
+-- the id of the innermost loop on a place's way down from a node, or among nodes to a child of theirs; outer where there is none
+abbrev mutual
+  pub loop_id_in : (outer : List ℕ) → Tree → Place → List ℕ
+  loop_id_in outer (segment s) q = outer
+  loop_id_in outer (loop l ts) [] = l.id
+  loop_id_in outer (loop l ts) (a ∷ q) = loop_id_nth l.id ts a.child q
+
+  pub loop_id_nth : (outer : List ℕ) → Trees → (child : ℕ) → Place → List ℕ
+  loop_id_nth outer no_trees n q = outer
+  loop_id_nth outer (tree t ts) zero q = loop_id_in outer t q
+  loop_id_nth outer (tree t ts) (suc n) q = loop_id_nth outer ts n q
+
+abbrev pub loop_id_under : (outer : List ℕ) → Trees → Place → List ℕ
+loop_id_under outer ts [] = outer
+loop_id_under outer ts (a ∷ q) = loop_id_nth outer ts a.child q
+
+-- the id of the innermost loop in which a place stands; empty where it is in none
+abbrev pub loop_id_of : Trees → Place → List ℕ
+loop_id_of ts q = loop_id_under [] ts q
+
+-- an element fault, as its segment shows it
+abbrev pub told_by : (position : ℕ) → Segment → (loop_id : List ℕ) → Slot → ElemFault → Fault
+told_by position s loop_id slot e = record {
+  position = position;
+  id = id_of s;
+  loop_id = loop_id;
+  code = ik304.ElementErrors;
+  slot = slot.number;
+  elem = Some e;
+}
+
+-- a segment that has a place has an element fault by the slot of that place
+pub record IsErrorIn (ts : Trees) (parts : SetParts) (given : List (Option Place)) (f : Fault) : Type 0 where
+  pub index : ℕ
+  pub segment : Segment
+  pub place : Place
+  pub slot : Slot
+  pub elem : ElemFault
+  pub there : slice_get parts.body index ≡ Some segment
+  pub placed : slice_get given index ≡ Some (Some place)
+  pub leads : slot_at ts place ≡ Some slot
+  pub wrong : IsElementFault parts.delims segment slot elem
+  pub is : f ≡ told_by (index + 2) segment (loop_id_of ts place) slot elem
+
+-- the faults of a set: those of its structure, and of its elements; none where it has no guide
+abbrev pub IsSetFault : Option GuideTree → SetParts → Fault → Type 0
+IsSetFault None parts f = ⊥
+IsSetFault (Some g) parts f =
+    IsStructureFault g parts.body (placing_of g.nodes parts.body) (end_position parts) f
+    ⊎ IsErrorIn g.nodes parts (placing_of g.nodes parts.body) f
+
+-- a list has exactly the set's faults
+abbrev pub AreSetFaults : Option GuideTree → SetParts → List Fault → Type 0
+AreSetFaults guide parts faults = (f : Fault) → Contains faults f ↔ IsSetFault guide parts f
+
+-- what a guide says of a set as a whole
+abbrev pub as_set_guide : GuideTree → SetGuide
+as_set_guide g = record { convention = g.head.convention }
+
+-- the codes of a set that has these faults; whether an earlier set has its number isn't asked
+abbrev pub codes_with : Option GuideTree → SetParts → List Fault → List SetCode
+codes_with guide parts faults =
+    set_codes_of faults (option_map as_set_guide guide) parts.header (segment_count parts) parts.trailer false

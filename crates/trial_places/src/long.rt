@@ -1,0 +1,49 @@
+//! Bodies of 20,000 segments.
+use super::guides::{DELIMS, NOTICE, guide_of};
+use guide_tree::Guide;
+use loop_match::place_all;
+use std::alloc::Global;
+use std::test::Fail;
+use x12_segs::{SegView, segments};
+
+/// A front, what is repeated behind it and how often, how many faults there are, and the position of the last.
+const LONG: &[(&str, &str, u32, usize, u64)] = &[
+    // strays alone; behind them all that is needed is missing
+    ("", "XYZ~", 20_000, 20_003, 20_002),
+    // one segment under a maximum of 1; a loop and CTT are missing
+    ("", "BSN~", 20_000, 20_001, 20_002),
+    // a loop under a maximum of 1; CTT is missing
+    ("BSN~HL~REF*IA~REF*IA~", "N1~N4~", 10_000, 10_000, 20_006),
+];
+
+/// How many faults a body has, and the position of the last.
+fn counted(alloc: Global, guide: &Guide, body: &str) -> Result<(usize, u64), Fail> {
+    let segs: Vec<SegView> = segments(body.as_bytes(), DELIMS).collect(alloc)?;
+    let faults = place_all(alloc, segs.as_slice(), guide)?.into_faults();
+    let last = match faults.as_slice().last() {
+        None => 0,
+        Some(fault) => fault.position,
+    };
+    Ok((faults.as_slice().len(), last))
+}
+
+fn repeated(alloc: Global, front: &str, part: &str, times: u32) -> Result<String, Fail> {
+    let mut body = String::new(alloc);
+    body.push_str(front)?;
+    for _ in 0..times {
+        body.push_str(part)?;
+    }
+    Ok(body)
+}
+
+#[test]
+fn long_bodies(rt: HostRuntime) -> Result<(), Fail> {
+    let guide = guide_of(rt.alloc(), NOTICE)?;
+    for (front, part, times, faults, last) in LONG {
+        let body = repeated(rt.alloc(), front, part, *times)?;
+        let found = counted(rt.alloc(), &guide, body.as_str())?;
+        assert_eq!(rt; found.0, *faults);
+        assert_eq!(rt; found.1, *last);
+    }
+    Ok(())
+}

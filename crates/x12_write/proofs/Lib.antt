@@ -1,0 +1,6 @@
+pub mod Trimming
+pub mod Padding
+pub mod Plain
+pub mod Fields
+pub mod Headers
+pub mod Begins

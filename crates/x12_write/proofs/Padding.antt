@@ -1,0 +1,30 @@
+-- Numbers and texts brought to a width.
+use Rattle.std.proofs.Common.{◌≡◌, ℕ, ◌+◌, ◌-◌, ◌≤◌, List, ◌++◌, length, take, drop, sym, ap, ◌∙◌, arith}
+use Rattle.std.specs.Prelude.{decimal, replicate, min}
+use Rattle.std.proofs.lemmas.List.{take-append-drop, take-replicate, drop-replicate, drop-append-le, length-replicate}
+use Rattle.x12_write.specs.Number.{padded_number}
+
+-- so many zeros in front of a text, and some of them dropped
+drop-zeros : (zeros from : ℕ) (text : List ℕ) → from ≤ zeros → drop from (replicate zeros 48 ++ text) ≡ replicate (zeros - from) 48 ++ text
+drop-zeros zeros from text within =
+    let width : length (replicate {A = ℕ} zeros 48) ≡ zeros = length-replicate zeros 48 in
+    let below : from ≤ length (replicate {A = ℕ} zeros 48) = omega arith in
+    drop-append-le from (replicate zeros 48) text below ∙ ap (λ (s : List ℕ). s ++ text) (drop-replicate from zeros 48)
+
+-- a buffer that ends with a text behind zeros
+from_zeros : (start : ℕ) (buffer text : List ℕ) → start ≤ 10 → drop start buffer ≡ text → take start buffer ≡ take start (replicate 10 48)
+    → buffer ≡ replicate start 48 ++ text
+from_zeros start buffer text within digits zeros =
+    sym (take-append-drop start buffer)
+    ∙ ap (λ (s : List ℕ). s ++ drop start buffer) (zeros ∙ take-replicate start 10 48 within)
+    ∙ ap (λ (s : List ℕ). replicate start 48 ++ s) digits
+
+-- digits at the end of a buffer of zeros, read from so many zeros on
+pub padded_number-from_zeros : (least n start : ℕ) (buffer : List ℕ) → least ≤ 10 → start + length (decimal n) ≡ 10
+    → drop start buffer ≡ decimal n → take start buffer ≡ take start (replicate 10 48)
+    → drop (min start (10 - least)) buffer ≡ padded_number least n
+padded_number-from_zeros least n start buffer least_fits place digits zeros =
+    let left : start - min start (10 - least) ≡ least - length (decimal n) = omega arith in
+    ap (drop (min start (10 - least))) (from_zeros start buffer (decimal n) (omega arith) digits zeros)
+    ∙ drop-zeros start (min start (10 - least)) (decimal n) (omega arith)
+    ∙ ap (λ (k : ℕ). replicate k 48 ++ decimal n) left

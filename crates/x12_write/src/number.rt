@@ -1,0 +1,68 @@
+ghost use Rattle.std.specs.Prelude.{◌≡◌, ℕ, ◌+◌, ◌-◌, ◌≤◌, min, ◌++◌, List, length, drop, OnOk, decimal};
+ghost use Rattle.x12_write.specs.Number.{padded_number, padded_text};
+ghost use Rattle.x12_write.specs.Extends.{Extends};
+
+use hub_kinds::NoMemory;
+use itoa::write_digits;
+use std::marker::Model;
+
+/// The most digits that a `u32` has.
+const MOST_DIGITS: usize = 10;
+
+/// A number in at least so many digits, which contracts see as its text.
+#[derive(Drop)]
+pub struct PaddedNumber {
+    digits: [u8; MOST_DIGITS],
+    start: usize,
+}
+
+impl Model for PaddedNumber {
+    ghost Value = { List ℕ };
+
+    ghost view = { λ n. drop n.start n.digits };
+
+    ghost invariant = { λ n. n.start ≤ 10 };
+}
+
+impl PaddedNumber {
+    /// The number with zeros in front, up to `least` digits.
+    pub fn new(number: u32, least: usize) -> PaddedNumber
+        requires { least ≤ 10 }
+        ensures { result ≡ padded_number least number }
+    {
+        let mut digits = [b'0'; MOST_DIGITS];
+        let start = write_digits(u64::from(number), &mut digits, MOST_DIGITS);
+        PaddedNumber {
+            digits,
+            start: first_shown(start, least),
+        }
+    }
+
+    /// The text.
+    pub fn bytes(&self) -> &[u8]
+        ensures { result.now ≡ self.now }
+    {
+        &self.digits[self.start..]
+    }
+}
+
+/// From where on a number is shown whose first digit stands at `start`, in at least so many digits.
+fn first_shown(start: usize, least: usize) -> usize
+    requires { least ≤ 10 }
+    ensures { result ≡ min start (10 - least) }
+{
+    start.min(MOST_DIGITS - least)
+}
+
+/// Writes a text behind what is there, with spaces behind it up to `least` bytes.
+pub fn append_padded(out: &mut Vec<u8>, text: &[u8], least: usize) -> Result<(), NoMemory>
+    ensures text { OnOk result (out.new.items ≡ out.old.items ++ padded_text least text.now) }
+    ensures kept { Extends out.old.items out.new.items }
+{
+    out.extend_from_slice(text)?;
+    let spaces = least.saturating_sub(text.len());
+    for _space in 0..spaces {
+        out.push(b' ')?;
+    }
+    Ok(())
+}
