@@ -4,15 +4,20 @@
 usage: bench/elements.py [SLOTS]
 
 A small program over elem_rules (bench/element_check.txt, a Rattle source kept out of the gate by its name) is proved and
-built in a fresh folder (some minutes). On SLOTS random slots (100 if absent), each with 40 random segments, its faults are
-compared with those that this script works out from the rules by itself. Then a segment whose second element is 999
-occurrences of a composite is timed with 16 MB and with 1.6 MB, and the growth printed.
+built in a fresh folder (some minutes; what stands proved in `crates/*/out` isn't proved again). On SLOTS random slots (100 if
+absent), each with 40 random segments, its faults are compared with those that this script works out from the rules by itself.
+Then a segment whose second element is 999 occurrences of a composite is timed with 16 MB and with 1.6 MB, and the growth
+printed; rows that may be repeated 999 times are compared with rows that may not be, and 3,000 conditions on one slot with 30,
+on segments that meet them and on segments that break them. Last, where there is valgrind, the instructions and the requests for
+memory of a clean segment of each slot of the house guides.
 """
 import calendar
 import itertools
 import os
 import random
+import re
 import shutil
+import statistics
 import string
 import subprocess
 import sys
@@ -30,6 +35,16 @@ element_check: elem_rules guide_tree guide_toml hub_kinds x12_segs x12_bytes
 '''
 HEAD = 'name = "BENCH"\ngroup = "PO"\nset = "850"\nversion = "005010"\n'
 RUNS = 5
+COPIES = 500
+# a clean segment for each slot of the house guides, in their order
+CLEAN = {
+    'h850.toml': [b'BEG*00*SA*PO100**20260228', b'REF*DP*100*SALES', b'DTM*002*20260228*0900', b'N9*DP*100', b'MSG*HANDLE WITH CARE',
+                  b'N1*ST*NORTH STORE*92*0001', b'N3*1 MAIN STREET*SUITE 2', b'N4*NORTHTOWN*NY*10001*US',
+                  b'PO1*1*5*EA*2.50*TE*UP*012345678905', b'PID*F*08***BLUE CHAIR', b'CTT*3'],
+    'h856.toml': [b'BSN*00*SHIP1*20260228*0900*0001', b'HL*2*1*O*1', b'LIN*1*UP*012345678905', b'SN1*1*5*EA', b'PRF*PO100',
+                  b'TD5*B*2*ABCD*M', b'REF*DP*100*SALES', b'MAN*GM*00000000000000000001', b'DTM*011*20260228*0900',
+                  b'N1*ST*NORTH STORE*92*0001'],
+}
 IK403 = ['1', '2', '3', '4', '5', '6', '7', '8', '9', '10', '12', '13', 'I6', 'I9', 'I10', 'I12', 'I13']
 
 
@@ -245,8 +260,7 @@ def random_element(draw):
 def build(folder):
     crates = os.path.join(folder, 'crates')
     for crate in CRATES:
-        shutil.copytree(os.path.join(HERE, '..', 'crates', crate), os.path.join(crates, crate),
-                        ignore=shutil.ignore_patterns('out', 'incremental'))
+        shutil.copytree(os.path.join(HERE, '..', 'crates', crate), os.path.join(crates, crate))
     program = os.path.join(crates, 'element_check')
     os.makedirs(os.path.join(program, 'src'))
     shutil.copy(os.path.join(HERE, 'element_check.txt'), os.path.join(program, 'src', 'main.rt'))
@@ -260,14 +274,18 @@ def build(folder):
     return built
 
 
-def run(built, folder, slots, each, text, *words):
-    guide = os.path.join(folder, 'guide.toml')
+def words_for(built, folder, slots, each, text):
+    guide, path = os.path.join(folder, 'guide.toml'), os.path.join(folder, 'segments')
     with open(guide, 'w') as out:
         out.write(HEAD + 'nodes = [\n' + ',\n'.join(slots) + '\n]\n')
-    path = os.path.join(folder, 'segments')
     with open(path, 'wb') as out:
         out.write(text)
-    return subprocess.run([built, guide, str(each), path, *words], capture_output=True, text=True, check=True).stdout
+    return [built, guide, str(each), path]
+
+
+def run(built, folder, slots, each, text, *words):
+    words = [*words_for(built, folder, slots, each, text), *words]
+    return subprocess.run(words, capture_output=True, text=True, check=True).stdout
 
 
 def segment_id(number):
@@ -315,8 +333,70 @@ def grow(built, folder):
         text = b'TST*X*' + b'^'.join([occurrence] * 999) + b'~'
         said = [run(built, folder, [slot], 1, text, 'count').strip() for _ in range(RUNS)]
         least.append(min(int(line.split()[-2]) for line in said))
-        print(f'{len(text) / 1e6:.1f} MB: {least[-1] / 1000:.1f} ms, the least of {RUNS} runs')
+        print(f'{len(text) / 1e6:.1f} MB: {least[-1] / 1e6:.1f} ms, the least of {RUNS} runs')
     print(f'growth from the smaller to the larger: {least[1] / least[0]:.1f}')
+
+
+def median(built, folder, rows, conditions, segment):
+    """Nanoseconds that the check of a segment takes: the median of many, the least of a few runs."""
+    told = ', '.join(f'"{text}"' for text in conditions)
+    rows = ', '.join(f'"{row}"' for row in rows)
+    slot = f'{{seg="TST", min=0, max=1, elements=[{rows}], conditions=[{told}]}}'
+    text = (segment + b'~') * COPIES
+    return min(statistics.median(int(line.split()[-2]) for line in run(built, folder, [slot], COPIES, text, 'count').splitlines())
+               for _ in range(RUNS))
+
+
+def repeated(built, folder):
+    for name, rows, segment in (
+            ('clean', ['1 M AN 1 9@', '2 O ID 2 3@ = AB CD', '3 O R 1 9@', '4 O DT 8 8@'], b'TST*ABC*CD*1.5*20260228'),
+            ('with faults', ['1 M AN 1 9@', '2 O ID 2 3@ = AB CD', '3 O R 1 9@', '4 O DT 8 8@'], b'TST**EF*1.x*20260230'),
+            ('a composite', ['1 M C@ ; 2 M AN 1 9 ; 3 O AN 1 9', '4 O AN 1 9@'], b'TST*A>B*C')):
+        once, often = (median(built, folder, [row.replace('@', repeat) for row in rows], [], segment) for repeat in ('', ' x999'))
+        print(f'{name}: {often:.0f} ns where a row may be repeated 999 times, {once:.0f} where not: {often / once:.2f} times')
+
+
+def listed(built, folder):
+    draw = random.Random(40)
+    rows = [f'{n} O AN 1 9' for n in range(1, 41)]
+    for name, letters, segment in (
+            ('all present', 'PRCL', b'TST' + b'*A' * 40), ('none present', 'PECL', b'TST*'),
+            ('every second present', 'PRECL', b'TST' + b'*A*' * 20), ('one pair, broken', '', b'TST*A')):
+        took = []
+        for count in (30, 3000):
+            drawn = [draw.choice(letters) + '%02d%02d' % tuple(draw.sample(range(1, 41), 2)) for _ in range(count)] if letters \
+                else ['P0102'] * count
+            took.append(median(built, folder, rows, drawn, segment))
+        print(f'conditions, {name}: {took[1]:.0f} ns for 3,000, {took[0]:.0f} for 30: {took[1] / took[0]:.1f} times')
+
+
+def instructions(words):
+    """How many instructions the program spends in the check."""
+    said = subprocess.run(['valgrind', '--tool=callgrind', '--callgrind-out-file=/dev/null', '--toggle-collect=*faults_of*',
+                           *words], capture_output=True, text=True, check=True)
+    if ' 0 faults' not in said.stdout:
+        sys.exit(said.stdout)
+    return int(re.search(r'Collected : (\d+)', said.stderr)[1])
+
+
+def requests(words):
+    """How often the whole program asks for memory."""
+    said = subprocess.run(['valgrind', *words], capture_output=True, text=True, check=True).stderr
+    return int(re.search(r'([\d,]+) allocs', said)[1].replace(',', ''))
+
+
+def clean(built, folder):
+    if not shutil.which('valgrind'):
+        return
+    spent = []
+    for name, segments in CLEAN.items():
+        with open(os.path.join(HERE, '..', 'examples', 'guides', name)) as guide:
+            slots = re.findall(r'\{seg=.*?\]\}', guide.read())
+        for slot, segment in zip(slots, segments, strict=True):
+            spent.append(instructions(words_for(built, folder, [slot], 9, segment + b'~') + ['count']))
+            two, three = (requests(words_for(built, folder, [slot], 9, (segment + b'~') * n) + ['count']) for n in (2, 3))
+            print(f'{name} {segment.decode()}: {spent[-1]} instructions, {three - two} requests for memory')
+    print(f'a clean segment: {statistics.mean(spent):.0f} instructions, the mean of {len(spent)}')
 
 
 def main():
@@ -324,6 +404,10 @@ def main():
         built = build(folder)
         compare(built, folder, int(sys.argv[1]) if len(sys.argv) > 1 else 100)
         grow(built, folder)
+        repeated(built, folder)
+        listed(built, folder)
+        clean(built, folder)
 
 
-main()
+if __name__ == "__main__":
+    main()

@@ -3,14 +3,15 @@
 
 usage: bench/first.py [PROGRAM]     (crates/nighthub/out/nighthub if absent)
 
-Five inputs are made in a fresh folder: 64 MB of sets as in the bundled example, and 200,000 and 2,000,000 sets
+Inputs are made in a fresh folder: 64 MB of sets as in the bundled example, and 200,000 and 2,000,000 sets
 without segments of their own, each with a number of its own, the fewer also with falling and with mixed numbers. For
-each: seconds, megabytes a second, the ratio to
-counting the terminators of the same file in the same run, the size of the acknowledgment and the peak memory; last
-the growth from the smaller to the larger of the empty ones.
+each: seconds (the median of five runs), megabytes a second, the ratio to counting the terminators of the same file, the
+size of the acknowledgment and the peak memory; last the growth from the smaller to the larger of the empty ones, and from
+rising to mixed numbers.
 """
 import os
 import random
+import statistics
 import subprocess
 import sys
 import tempfile
@@ -20,6 +21,7 @@ HERE = os.path.dirname(os.path.abspath(__file__))
 PROGRAM = os.path.join(HERE, '..', 'crates', 'nighthub', 'out', 'nighthub')
 HEADER = (b'ISA*00*          *00*          *01*ACME           *ZZ*HUB            '
           b'*260228*0900*^*00501*000000007*0*P*>~GS*PO*ACME*BOLT*20260228*0900*12*X*005010~')
+RUNS = 5
 ORDER = b'BEG*00*SA*PO100**20260228~PO1*1*5*EA*2.50~'
 
 
@@ -73,12 +75,16 @@ def main():
             interchange(path, numbers, inner, segments)
             size = os.path.getsize(path) / 1e6
             base = counted(path)
-            status, seconds[name], peak = run(program, path, answer)
+            runs = [run(program, path, answer) for _ in range(RUNS)]
+            status, peak = runs[0][0], max(run[2] for run in runs)
+            seconds[name] = statistics.median(run[1] for run in runs)
             print(f'{name}: {size:.1f} MB in {seconds[name]:.2f} s, {size / seconds[name]:.1f} MB a second, '
                   f'{seconds[name] / base:.1f} times counting terminators, '
                   f'acknowledgment {os.path.getsize(answer) / 1e6:.1f} MB, peak {peak:.0f} MB, status {status}')
     growth = seconds['2,000,000 empty sets'] / seconds['200,000 empty sets']
     print(f'growth from 200,000 to 2,000,000 empty sets: {growth:.1f} times')
+    growth = seconds['the same, numbers mixed'] / seconds['200,000 empty sets']
+    print(f'from rising to mixed numbers: {growth:.1f} times')
 
 
 main()

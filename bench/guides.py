@@ -3,8 +3,11 @@
 
 usage: bench/guides.py
 
-A small program over guide_toml (bench/guide_check.txt, a Rattle source kept out of the gate by its name) is proved and built in a fresh folder (some minutes), and run on guides of 2,000 nodes:
-segments with an id each; segments with one id, told apart by the codes that they pick; and loops nested eight deep.
+A small program over guide_toml (bench/guide_check.txt, a Rattle source kept out of the gate by its name) is proved and
+built in a fresh folder (some minutes; what stands proved in `crates/*/out` isn't proved again), and run on guides of 2,000
+nodes: segments with an id each; segments with one id, told apart by the codes that they pick; and loops nested eight deep.
+Then on guides with long lists of codes: one list of an element, without and with as many codes that aren't used, and two slots
+of one id whose picks have no code in common.
 """
 import os
 import shutil
@@ -40,12 +43,28 @@ def nested(count):
     return HEAD + ''.join(level(8, 8 * n) for n in range(count // 16)) + ']\n'
 
 
+def codes(first, count):
+    return ' '.join(f'{n:06d}' for n in range(first, first + count))
+
+
+def one_list(count):
+    return HEAD + segment('REF', 0, f'elements=["128 M ID 2 6 = {codes(0, count)}"]') + ']\n'
+
+
+def two_lists(count):
+    return HEAD + segment('REF', 0, f'elements=["128 M ID 2 6 = {codes(0, count)} ! {codes(count, count)}"]') + ']\n'
+
+
+def rivals(count):
+    return HEAD + ''.join(segment('REF', 0, f'pick=["1 {codes(first, count)}"], elements=["128 M ID 2 6"]')
+                          for first in (0, count)) + ']\n'
+
+
 def main():
     with tempfile.TemporaryDirectory() as folder:
         crates = os.path.join(folder, 'crates')
         for crate in ('hub_kinds', 'guide_tree', 'guide_toml'):
-            shutil.copytree(os.path.join(HERE, '..', 'crates', crate), os.path.join(crates, crate),
-                            ignore=shutil.ignore_patterns('out', 'incremental'))
+            shutil.copytree(os.path.join(HERE, '..', 'crates', crate), os.path.join(crates, crate))
         os.makedirs(os.path.join(crates, 'guide_check', 'src'))
         shutil.copy(os.path.join(HERE, 'guide_check.txt'), os.path.join(crates, 'guide_check', 'src', 'main.rt'))
         with open(os.path.join(folder, 'crates.txt'), 'w') as listed:
@@ -54,7 +73,11 @@ def main():
         open(os.path.join(folder, 'MODULE.bazel'), 'w').close()
         for name, text in (('2,000 segments, an id each', one_id_each(2000)),
                            ('2,000 segments, one id, other codes', one_id_for_all(2000)),
-                           ('2,000 nodes, eight loops deep', nested(2000))):
+                           ('2,000 nodes, eight loops deep', nested(2000)),
+                           ('10,000 codes', one_list(10_000)), ('10,000 codes and 10,000 unused', two_lists(10_000)),
+                           ('40,000 codes', one_list(40_000)), ('40,000 codes and 40,000 unused', two_lists(40_000)),
+                           ('rivals with 10,000 codes each', rivals(10_000)), ('20,000', rivals(20_000)),
+                           ('40,000', rivals(40_000))):
             path = os.path.join(folder, 'guide.toml')
             with open(path, 'w') as out:
                 out.write(text)
