@@ -14,7 +14,9 @@ use Rattle.hub_kinds.specs.declared.fault.ElemFault.{ElemFault}
 use Rattle.hub_kinds.specs.declared.fault.Fault.{Fault}
 use Rattle.ack_999.specs.Copy.{is_this}
 use Rattle.ack_999.specs.Faults.{Note, SegmentNote, ElementNote, notes_for, notes_on, notes_behind, notes, element_position, note_segment}
-use Rattle.ack_999.specs.Rising.{order_of, AreRising, is_of_element, rank_of, IsToldByElements, comes_before, comes_behind}
+use Rattle.hub_kinds.specs.Fault.{AreRising, key_of}
+use Rattle.hub_kinds.specs.Rising.{order_by}
+use Rattle.ack_999.specs.Rising.{is_of_element, rank_of, IsToldByElements, comes_before, comes_behind}
 use Rattle.ack_999.specs.Rising.{is_below, is_at, is_above, segment_notes, element_notes, notes_at, TellsEachPosition}
 use Rattle.ack_999.proofs.Thirds.{position-rises, rank-rises, rises-from, every, weaker, filter-passes, filter-keeps, filter-alike}
 use Rattle.ack_999.proofs.Thirds.{thirds}
@@ -200,7 +202,7 @@ notes-told faults rising told p =
     ∙ notes-append None (B ++ A) C
     ∙ ap (λ (l : List Note). l ++ notes_behind (after None (B ++ A)) C) (notes-append None B A)
     ∙ ap (λ (l : List Note). notes B ++ l ++ notes_behind (after None (B ++ A)) C)
-    (at-one p (after None B) A apart_b (IsStrictlySortedBy-filter order_of (is_at p) faults rising)
+    (at-one p (after None B) A apart_b (IsStrictlySortedBy-filter (order_by key_of) (is_at p) faults rising)
     (filter-keeps IsToldByElements (is_at p) faults told) at)
     ∙ ap (λ (l : List Note). notes B ++ notes_at A ++ l) rest
 

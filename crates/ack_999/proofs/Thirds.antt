@@ -11,7 +11,9 @@ use Rattle.std.proofs.lemmas.Map.Keys.{sorted_tail}
 use Rattle.std.proofs.lemmas.Map.Views.{All-after_first}
 use Rattle.hub_kinds.specs.Fault.{elem_key}
 use Rattle.hub_kinds.specs.declared.fault.Fault.{Fault}
-use Rattle.ack_999.specs.Rising.{order_of, AreRising, rank_of}
+use Rattle.hub_kinds.specs.Fault.{AreRising, key_of}
+use Rattle.hub_kinds.specs.Rising.{order_by}
+use Rattle.ack_999.specs.Rising.{rank_of}
 
 -- of two lists in order, the first numbers decide, or are equal
 first-of : (l e : Bool) (rest : Ordering) → ordering_then (cond l Less (cond e Equal Greater)) rest ≡ Less
@@ -40,12 +42,12 @@ by_rank f = rank_of f ∷ f.slot ∷ elem_key f.elem
 abbrev by_slot : Fault → List ℕ
 by_slot f = f.slot ∷ elem_key f.elem
 
-pub position-rises : (f g : Fault) → order_of f g ≡ Less → f.position ≤ g.position
+pub position-rises : (f g : Fault) → order_by key_of f g ≡ Less → f.position ≤ g.position
 position-rises f g less =
     at-most f.position g.position (slice_cmp nat_cmp (by_rank f) (by_rank g) ≡ Less)
     (order-first f.position g.position (by_rank f) (by_rank g) less)
 
-pub rank-rises : (p : ℕ) (f g : Fault) → f.position ≡ p → g.position ≡ p → order_of f g ≡ Less → rank_of f ≤ rank_of g
+pub rank-rises : (p : ℕ) (f g : Fault) → f.position ≡ p → g.position ≡ p → order_by key_of f g ≡ Less → rank_of f ≤ rank_of g
 rank-rises p f g at_f at_g less = told (order-first f.position g.position (by_rank f) (by_rank g) less)
   where
     told : (f.position < g.position) ⊎ ((f.position ≡ g.position) × (slice_cmp nat_cmp (by_rank f) (by_rank g) ≡ Less))
@@ -60,18 +62,18 @@ abbrev pub Rises : (Fault → ℕ) → List Fault → Type 0
 Rises key [] = ⊤
 Rises key (x ∷ xs) = AllByRecursion (λ y. key x ≤ key y) xs × Rises key xs
 
-behind : (key : Fault → ℕ) (Q : Fault → Type 0) → ((f g : Fault) → Q f → Q g → order_of f g ≡ Less → key f ≤ key g)
-    → (x : Fault) (ys : List Fault) → Q x → AllByRecursion Q ys → AllByRecursion (λ y. order_of x y ≡ Less) ys
+behind : (key : Fault → ℕ) (Q : Fault → Type 0) → ((f g : Fault) → Q f → Q g → order_by key_of f g ≡ Less → key f ≤ key g)
+    → (x : Fault) (ys : List Fault) → Q x → AllByRecursion Q ys → AllByRecursion (λ y. order_by key_of x y ≡ Less) ys
     → AllByRecursion (λ y. key x ≤ key y) ys
 behind key Q step x [] q all less = tt
 behind key Q step x (y ∷ ys) q all less = (step x y q all.0 less.0, behind key Q step x ys q all.1 less.1)
 
-pub rises-from : (key : Fault → ℕ) (Q : Fault → Type 0) → ((f g : Fault) → Q f → Q g → order_of f g ≡ Less → key f ≤ key g)
+pub rises-from : (key : Fault → ℕ) (Q : Fault → Type 0) → ((f g : Fault) → Q f → Q g → order_by key_of f g ≡ Less → key f ≤ key g)
     → (xs : List Fault) → AllByRecursion Q xs → AreRising xs → Rises key xs
 rises-from key Q step [] all rising = tt
 rises-from key Q step (x ∷ xs) all rising = (
-  behind key Q step x xs all.0 all.1 (recursion_from_All (λ y. order_of x y ≡ Less) xs (All-after_first order_of x xs rising)),
-  rises-from key Q step xs all.1 (sorted_tail order_of x xs rising),
+  behind key Q step x xs all.0 all.1 (recursion_from_All (λ y. order_by key_of x y ≡ Less) xs (All-after_first (order_by key_of) x xs rising)),
+  rises-from key Q step xs all.1 (sorted_tail (order_by key_of) x xs rising),
 )
 
 pub every : (xs : List Fault) → AllByRecursion (λ _. ⊤) xs

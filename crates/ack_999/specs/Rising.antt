@@ -1,23 +1,12 @@
 -- 999 guide, error identification (IK3) and implementation data element note (IK4): what is told at each position of a set whose
 -- faults stand in their order (own), each once.
 use Rattle.std.specs.Prelude.{ℕ, ◌≡◌, ◌==◌, Bool, is_some, nat_lt, List, [], ◌∷◌, ◌++◌, All, map, filter, filter_map}
-use Rattle.std.specs.Cmp.Lexicographic.{slice_cmp}
-use Rattle.std.specs.List.Sorted.{IsStrictlySortedBy}
-use Rattle.std.specs.Ordering.{nat_cmp}
-use Rattle.std.specs.declared.cmp.Ordering.{Ordering}
 use Rattle.x12_bytes.specs.declared.delims.Delims.{Delims}
 use Rattle.hub_kinds.specs.Codes.{segment_rank}
-use Rattle.hub_kinds.specs.Fault.{key_of}
+use Rattle.hub_kinds.specs.Fault.{AreRising}
 use Rattle.hub_kinds.specs.declared.codes.SegmentCode.TheVariants.{ElementErrors}
 use Rattle.hub_kinds.specs.declared.fault.Fault.{Fault}
 use Rattle.ack_999.specs.Faults.{Note, SegmentNote, ElementNote, note_segment, fault_segments}
-
--- each fault is before the next ones
-abbrev pub order_of : Fault → Fault → Ordering
-order_of f g = slice_cmp nat_cmp (key_of f) (key_of g)
-
-abbrev pub AreRising : List Fault → Type 0
-AreRising faults = IsStrictlySortedBy order_of faults
 
 -- an element is at fault exactly where the segment's code is 8
 abbrev pub is_of_element : Fault → Bool

@@ -2,13 +2,13 @@ pub mod Agreeing
 pub mod Both
 pub mod Bounded
 pub mod Examples
+pub mod Keys
 pub mod Looks
 pub mod Marks
 pub mod Measures
 pub mod Members
 pub mod Membership
 pub mod Moments
-pub mod Once
 pub mod Plain
 pub mod Quick
 pub mod Shown

@@ -15,7 +15,6 @@ use Rattle.guide_tree.specs.declared.element.Element.{Element}
 use Rattle.guide_tree.specs.declared.slot.Condition.{Condition}
 use Rattle.guide_tree.specs.Segments.{Segment, element_of}
 use Rattle.elem_rules.specs.Rows.{nth}
-use Rattle.elem_rules.specs.ElementFaults.{IsRising}
 use Rattle.elem_rules.specs.Clean.{fits, holds, marked, bits_to, has_bytes}
 use Rattle.std.proofs.Common.{◌++◌, take}
 use denote.Ref.{Bor}
@@ -28,10 +27,8 @@ use Rattle.std.proofs.lemmas.Option.{slice_get_past}
 use Rattle.elem_rules.specs.Divided.{is_filled}
 use Rattle.elem_rules.specs.Clean.{is_set}
 use Rattle.elem_rules.specs.Conditions.{condition_code}
-use Rattle.elem_rules.specs.ElementFaults.{order_of}
 use Rattle.elem_rules.specs.Found.{read, is_present_in, broken_found, condition_found_by, conditions_found}
 use Rattle.elem_rules.proofs.Agreeing.{broken_agrees}
-use Rattle.elem_rules.proofs.Once.{once_rises}
 use Rattle.elem_rules.proofs.Quick.{is_set_to, is_set_past, not_marked}
 use Rattle.elem_rules.proofs.Steps.{nth-more}
 use Rattle.elem_rules.proofs.Plain.{IsPlain, plain_one, plain_two}
@@ -102,12 +99,6 @@ to_on_true false h = tt
 pub plain_of : (given delims : Delims) (bytes text : List ℕ) (b : Bool) → given ≡ delims → bytes ≡ text → b ≡ true
     → OnTrue b (IsPlain given bytes) → IsPlain delims text
 plain_of given delims bytes text b e d is h = subst (λ t. IsPlain delims t) d (subst (λ g. IsPlain g bytes) e (on_true b is h))
-
-sorted_none : IsSorted order_of []
-sorted_none = search rules
-
-pub none_rising : IsRising []
-none_rising = once_rises [] sorted_none
 
 -- the bits of a test that no position from 64 on passes
 pub set_everywhere : (present : ℕ → Bool) (n : ℕ) → n < 64 → present 0 ≡ false → ((p : ℕ) → n < p → present p ≡ false) → (p : ℕ)

@@ -20,12 +20,14 @@ use Rattle.elem_rules.specs.Rows.{nth, reference_in}
 use Rattle.elem_rules.specs.Conditions.{is_present, broken_at, condition_code}
 use Rattle.elem_rules.specs.ElementFaults.{Wrong, copy_in, fault_at, IsExtraElement, IsRowFault, IsConditionFault, IsElementFault}
 use Rattle.elem_rules.specs.Found.{fault, text_at, texts_of, is_present_in, reference_at, condition_copy, broken_found, condition_found}
-use Rattle.elem_rules.specs.Found.{conditions_found, element_found, rows_found, extra_found, found, IsKeyed}
+use Rattle.hub_kinds.specs.Fault.{element_key_of}
+use Rattle.hub_kinds.specs.Rising.{IsKeyedBy}
+use Rattle.elem_rules.specs.Found.{conditions_found, element_found, rows_found, extra_found, found}
 use Rattle.elem_rules.proofs.Members.{no_member, contains_one, one_contains, from_if, in_then, from_up_to, in_up_to, from_flat_map}
 use Rattle.elem_rules.proofs.Members.{in_flat_map, from_option, in_option, nth_within, nth_past}
 use Rattle.elem_rules.proofs.Wrongs.{shown, element_from, element_to}
 use Rattle.elem_rules.proofs.Agreeing.{text_of_row, positions_have_rows, conditions_hold, broken_same, broken_within}
-use Rattle.elem_rules.proofs.Once.{same_place}
+use Rattle.elem_rules.proofs.Keys.{same_place}
 
 module _ (delims : Delims) (s : Segment) (slot : Slot) where
   -- what is wrong in an element with a row is shown with that row's numbers
@@ -157,7 +159,7 @@ module _ (delims : Delims) (s : Segment) (slot : Slot) where
       | inr r ↦ elim r [ inl a ↦ at_place f _ _ _ _ a.is | inr a ↦ at_place f _ _ _ _ a.is ]
     ]
 
-    pub keyed : IsKeyed (found delims s slot)
+    pub keyed : IsKeyedBy element_key_of (found delims s slot)
     keyed f g a b e =
         let p = same_place f g e in
         stands f (found_is f a)

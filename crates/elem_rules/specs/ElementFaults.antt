@@ -3,8 +3,6 @@ use Rattle.std.specs.Prelude.{ℕ, ◌≡◌, ◌+◌, ◌==◌, ◌≤◌, ◌�
 use Rattle.std.specs.Prelude.{Option, Some, None, if◌then◌else◌}
 use Rattle.std.specs.List.{Contains}
 use Rattle.std.specs.Option.{option_map_or}
-use Rattle.std.specs.List.Sorted.{IsStrictlySortedBy}
-use Rattle.std.specs.declared.cmp.Ordering.{Ordering}
 use Rattle.x12_bytes.specs.declared.delims.Delims.{Delims}
 use Rattle.x12_segs.specs.View.{occurrences, components}
 use Rattle.guide_tree.specs.declared.element.Requirement.{Requirement}
@@ -19,7 +17,6 @@ use Rattle.guide_tree.specs.Segments.{Segment, element_of}
 use Rattle.hub_kinds.specs.declared.codes.ElementCode.{ElementCode}
 use Rattle.hub_kinds.specs.declared.codes.ElementCode.TheVariants as ik403
 use Rattle.hub_kinds.specs.declared.fault.ElemFault.{ElemFault}
-use Rattle.hub_kinds.specs.Fault.{element_fault_order}
 use Rattle.elem_rules.specs.Conditions.{is_present, broken_at, condition_code}
 use Rattle.elem_rules.specs.Divided.{is_empty, has_more, occurrence_in, component_in}
 use Rattle.elem_rules.specs.Rows.{Usage, usage_of, nth, shown_repetition, shown_component, reference_in}
@@ -155,10 +152,3 @@ pub record IsConditionFault (delims : Delims) (s : Segment) (slot : Slot) (f : E
 -- the faults of a segment's elements
 abbrev pub IsElementFault : Delims → Segment → Slot → ElemFault → Type 0
 IsElementFault delims s slot f = IsExtraElement delims s slot f ⊎ (IsRowFault delims s slot f ⊎ IsConditionFault delims s slot f)
-
--- each fault is before the next ones by element, component, repetition and code, so that it stands once
-abbrev pub order_of : ElemFault → ElemFault → Ordering
-order_of f g = element_fault_order f g
-
-abbrev pub IsRising : List ElemFault → Type 0
-IsRising faults = IsStrictlySortedBy order_of faults

@@ -15,7 +15,6 @@ use Rattle.guide_tree.specs.Segments.{Segment, element_of}
 use Rattle.hub_kinds.specs.declared.codes.ElementCode.{ElementCode}
 use Rattle.hub_kinds.specs.declared.codes.ElementCode.TheVariants as ik403
 use Rattle.hub_kinds.specs.declared.fault.ElemFault.{ElemFault}
-use Rattle.hub_kinds.specs.Fault.{elem_key}
 use Rattle.elem_rules.specs.Conditions.{broken_at, condition_code}
 use Rattle.elem_rules.specs.Divided.{is_empty, is_filled, has_more, occurrence_in, component_in}
 use Rattle.elem_rules.specs.Rows.{Usage, usage_of, nth, shown_repetition, element_reference, component_reference}
@@ -172,7 +171,3 @@ abbrev pub found : Delims → Segment → Slot → List ElemFault
 found delims s slot =
     rows_found delims slot.elements (texts_of slot s)
     ++ (extra_found delims slot s ++ conditions_found delims slot.elements slot.conditions (texts_of slot s))
-
--- no two different faults of a list share a key
-abbrev pub IsKeyed : List ElemFault → Type 0
-IsKeyed faults = (f g : ElemFault) → Contains faults f → Contains faults g → elem_key (Some f) ≡ elem_key (Some g) → f ≡ g

@@ -1,12 +1,13 @@
 ghost use Rattle.std.specs.Prelude.{◌≡◌, ◌↔◌, ◌≤◌, ◌++◌, IsTrue, All, IfOk, OnOk, Some, length, take, drop};
 ghost use Rattle.std.specs.List.{Contains, list_all};
-ghost use Rattle.std.specs.Ordering.{eq_by_cmp};
 ghost use Rattle.hub_kinds.specs.declared.fault.ElemFault.{ElemFault};
 ghost use Rattle.x12_segs.specs.View.{elements_of};
 ghost use Rattle.guide_tree.specs.Bounds.{is_slot_bounded, is_element_bounded};
 ghost use Rattle.guide_tree.specs.Conditions.{is_condition_of};
-ghost use Rattle.elem_rules.specs.ElementFaults.{IsElementFault, IsRising, order_of};
-ghost use Rattle.elem_rules.specs.Found.{read, rows_found, extra_found, IsKeyed};
+ghost use Rattle.hub_kinds.specs.Fault.{AreElementsRising, element_key_of};
+ghost use Rattle.hub_kinds.specs.Rising.{IsKeyedBy};
+ghost use Rattle.elem_rules.specs.ElementFaults.{IsElementFault};
+ghost use Rattle.elem_rules.specs.Found.{read, rows_found, extra_found};
 
 use crate::clean::is_clean;
 use crate::conditions::{Elements, check_conditions, text_at};
@@ -14,9 +15,8 @@ use crate::divided::has_more;
 use crate::element::{Subject, check_element};
 use crate::findings::{Findings, Spot};
 use guide_tree::Slot;
-use hub_kinds::{ElemFault, ElementCode, NoMemory, element_fault_order};
+use hub_kinds::{ElemFault, ElementCode, NoMemory, in_order};
 use std::alloc::Global;
-use std::cmp::Ordering;
 use x12_segs::SegView;
 
 /// The texts of a segment's first `n` elements; fewer where it has fewer.
@@ -76,7 +76,7 @@ fn find(alloc: Global, seg: &SegView, slot: &Slot) -> Result<Findings, NoMemory>
     ensures exact { IfOk result
         (λ found. (f : ElemFault) → Contains found f
         ↔ IsElementFault seg.now.delims (elements_of seg.now) slot.now f) }
-    ensures keyed { IfOk result (λ found. IsKeyed found) }
+    ensures keyed { IfOk result (λ found. IsKeyedBy element_key_of found) }
 {
     let rows = slot.elements.as_slice();
     let texts = first_texts(alloc, seg, rows.len())?;
@@ -92,24 +92,6 @@ fn find(alloc: Global, seg: &SegView, slot: &Slot) -> Result<Findings, NoMemory>
     Ok(found)
 }
 
-fn has_same_key(a: &ElemFault, b: &ElemFault) -> bool
-    ensures { result ≡ eq_by_cmp order_of a.now b.now }
-{
-    element_fault_order(a, b).is_eq()
-}
-
-/// The faults that were found by element, component, repetition and code, each once.
-fn in_order(found: Findings) -> Vec<ElemFault>
-    requires { IsKeyed found }
-    ensures same { (f : ElemFault) → Contains result.items f ↔ Contains found f }
-    ensures rising { IsRising result.items }
-{
-    let mut faults = found.into_faults();
-    faults.sort_unstable_by(|a, b| element_fault_order(a, b));
-    faults.dedup_by(|next, kept| has_same_key(next, kept));
-    faults
-}
-
 /// The faults of a segment's elements by the rows and conditions of its slot (999 guide, IK4): all of them, each once,
 /// by element, component, repetition and code. The slot keeps the bounds of an accepted guide, and its conditions
 /// name elements that have rows, as each slot of a checked `Guide` does.
@@ -119,11 +101,11 @@ pub fn check_segment(alloc: Global, seg: &SegView, slot: &Slot) -> Result<Vec<El
     ensures exact { IfOk result
         (λ v. (f : ElemFault) → Contains v.items f
         ↔ IsElementFault seg.now.delims (elements_of seg.now) slot.now f) }
-    ensures rising { IfOk result (λ v. IsRising v.items) }
+    ensures rising { IfOk result (λ v. AreElementsRising v.items) }
 {
     if is_clean(seg, slot) {
         return Ok(Vec::new(alloc));
     }
     let found = find(alloc, seg, slot)?;
-    Ok(in_order(found))
+    Ok(in_order(found.into_faults()))
 }

@@ -1,2 +1,3 @@
 pub mod Powers
+pub mod Once
 pub mod Reading

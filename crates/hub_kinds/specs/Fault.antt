@@ -1,11 +1,9 @@
 -- The order of faults (own), over what the 999 guide's IK3 and IK4 show.
 use Rattle.std.specs.Prelude.{ℕ, List, [], ◌∷◌, Option, Some, None}
-use Rattle.std.specs.Ordering.{nat_cmp}
-use Rattle.std.specs.declared.cmp.Ordering.{Ordering}
-use Rattle.std.specs.Cmp.Lexicographic.{slice_cmp}
 use Rattle.hub_kinds.specs.declared.fault.Fault.{Fault}
 use Rattle.hub_kinds.specs.declared.fault.ElemFault.{ElemFault}
 use Rattle.hub_kinds.specs.declared.fault.TheConstants.{NO_NUMBER}
+use Rattle.hub_kinds.specs.Rising.{IsRisingBy}
 use Rattle.hub_kinds.specs.Codes.{segment_rank, element_rank}
 
 -- what the element's part adds to the key
@@ -17,6 +15,13 @@ elem_key (Some e) = e.element ∷ e.component ∷ e.repetition ∷ element_rank 
 abbrev pub key_of : Fault → List ℕ
 key_of f = f.position ∷ segment_rank f.code ∷ f.slot ∷ elem_key f.elem
 
--- the faults of one segment's elements, by what they add to the key
-abbrev pub element_fault_order : ElemFault → ElemFault → Ordering
-element_fault_order f g = slice_cmp nat_cmp (elem_key (Some f)) (elem_key (Some g))
+-- the faults of one segment's elements are ordered by what they add to the key
+abbrev pub element_key_of : ElemFault → List ℕ
+element_key_of e = elem_key (Some e)
+
+-- each fault is before the next ones, and so stands once
+abbrev pub AreRising : List Fault → Type 0
+AreRising faults = IsRisingBy key_of faults
+
+abbrev pub AreElementsRising : List ElemFault → Type 0
+AreElementsRising faults = IsRisingBy element_key_of faults

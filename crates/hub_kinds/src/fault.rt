@@ -1,8 +1,7 @@
 ghost use Rattle.std.specs.Prelude.{◌≡◌, Some};
-ghost use Rattle.std.specs.Ordering.{nat_cmp};
-ghost use Rattle.std.specs.Cmp.Lexicographic.{slice_cmp};
 ghost use Rattle.hub_kinds.specs.Codes.{segment_rank, element_rank};
-ghost use Rattle.hub_kinds.specs.Fault.{elem_key, key_of, element_fault_order};
+ghost use Rattle.hub_kinds.specs.Fault.{elem_key, key_of, element_key_of};
+ghost use Rattle.hub_kinds.specs.Rising.{order_by};
 
 use crate::codes::{ElementCode, SegmentCode};
 use crate::items::Text;
@@ -48,7 +47,7 @@ pub struct ElemFault {
 /// Which of two faults comes first: by position, segment code, slot, element, component, repetition, element
 /// code (own). Texts aren't compared, so this is a total order of the keys and no `Ord` of `Fault`.
 pub fn fault_order(a: &Fault, b: &Fault) -> Ordering
-    ensures { result ≡ slice_cmp nat_cmp (key_of a.now) (key_of b.now) }
+    ensures { result ≡ order_by key_of a.now b.now }
 {
     key(a).cmp(&key(b))
 }
@@ -56,7 +55,7 @@ pub fn fault_order(a: &Fault, b: &Fault) -> Ordering
 /// Which of two faults of one segment's elements comes first: by element, component, repetition and code (own).
 /// Texts aren't compared.
 pub fn element_fault_order(a: &ElemFault, b: &ElemFault) -> Ordering
-    ensures { result ≡ element_fault_order a.now b.now }
+    ensures { result ≡ order_by element_key_of a.now b.now }
 {
     elem_key(a).cmp(&elem_key(b))
 }

@@ -7,6 +7,7 @@
 //!   no other;
 //! - `fault_order`, `element_fault_order` and `place_order` are the orders of the keys, by their numbers
 //!   from first to last, and `interchange_fault_order` that of the faults' numbers;
+//! - `in_order` gives the same values in the order of their keys, each once;
 //! - `within_limit` is the test of a text's length;
 //! - `read_number` reads exactly the numbers of 1 to so many digits; `is_alphanumeric` and
 //!   `is_segment_id` are exact;
@@ -32,6 +33,7 @@ mod limits;
 mod memory;
 mod numbers;
 mod place;
+mod rising;
 mod set_codes;
 mod words;
 
@@ -47,5 +49,6 @@ pub use limits::{
 pub use memory::NoMemory;
 pub use numbers::{is_alphanumeric, read_number};
 pub use place::{Place, place_order};
+pub use rising::{Keyed, in_order};
 pub use set_codes::{GroupCode, GroupVerdict, SetCode, Verdict};
 pub use words::is_segment_id;

@@ -4,5 +4,4 @@ mod Walking
 mod Giving
 mod Finding
 mod Passing
-mod Once
 mod Numbered

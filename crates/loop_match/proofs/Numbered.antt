@@ -1,6 +1,8 @@
 -- What a pass over an accepted guide finds has one fault for each key, since the guide's slots are numbered.
 use Rattle.std.proofs.Common.{◌≡◌, ℕ, List, subst}
 use Rattle.std.specs.List.{Contains}
+use Rattle.hub_kinds.specs.Fault.{key_of}
+use Rattle.hub_kinds.specs.Rising.{IsKeyedBy}
 use Rattle.hub_kinds.specs.declared.fault.Fault.{Fault}
 use Rattle.guide_tree.specs.declared.rows.GuideRows.{GuideRows}
 use Rattle.guide_tree.specs.Accepted.{IsAccepted}
@@ -12,10 +14,9 @@ use Rattle.guide_tree.specs.Structure.{IsStructureFault}
 use Rattle.guide_tree.specs.View.{guide_of}
 use Rattle.guide_law.proofs.Faulty.{members}
 use Rattle.guide_law.proofs.Keyed.{keyed}
-use Rattle.loop_match.specs.Order.{IsKeyed}
 
 pub found_keyed : (rows : GuideRows) (body : List Segment) (end : ℕ) (faults : List Fault) → IsAccepted rows
-    → faults ≡ structure_faults (guide_of rows) end body (placing_of (guide_of rows).nodes body) → IsKeyed faults
+    → faults ≡ structure_faults (guide_of rows) end body (placing_of (guide_of rows).nodes body) → IsKeyedBy key_of faults
 found_keyed rows body end faults a e f h x y k =
     let g = guide_of rows in let given = placing_of g.nodes body in
     let is : (z : Fault) → Contains faults z → IsStructureFault g body given end z =

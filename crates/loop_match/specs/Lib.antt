@@ -1,5 +1,4 @@
 pub mod Given
-pub mod Order
 pub mod Steps
 pub mod Leaving
 pub mod Passed

@@ -12,7 +12,6 @@ mod fit;
 mod found;
 mod leaving;
 mod next;
-mod order;
 mod pass;
 mod placing;
 mod stepping;

@@ -1,5 +1,6 @@
 ghost use Rattle.std.specs.Prelude.{◌≡◌, ◌↔◌, ◌+◌, length, map, IfOk};
 ghost use Rattle.std.specs.List.{Contains};
+ghost use Rattle.hub_kinds.specs.Fault.{AreRising};
 ghost use Rattle.hub_kinds.specs.declared.fault.Fault.{Fault};
 ghost use Rattle.x12_segs.specs.View.{elements_of};
 ghost use Rattle.guide_tree.specs.Nexts.{placing_of};
@@ -7,14 +8,12 @@ ghost use Rattle.guide_tree.specs.Places.{slot_given};
 ghost use Rattle.guide_tree.specs.Structure.{IsStructureFault};
 ghost use Rattle.guide_tree.specs.View.{guide_of, nodes_view};
 ghost use Rattle.loop_match.specs.Given.{place_in, slot_in};
-ghost use Rattle.loop_match.specs.Order.{IsRising};
 
 use crate::next::Step;
-use crate::order::in_order;
 use crate::pass::pass_all;
 use crate::walk::Walk;
 use guide_tree::{Guide, Slot};
-use hub_kinds::{Fault, Items, NoMemory};
+use hub_kinds::{Fault, Items, NoMemory, in_order};
 use std::alloc::Global;
 use std::marker::Model;
 use x12_segs::SegView;
@@ -103,11 +102,11 @@ pub fn place_all<'g>(
     ensures faults { IfOk result (λ p. (f : Fault) → Contains p.faults f
         ↔ IsStructureFault (guide_of guide.now) (map elements_of segs.now)
         (placing_of (nodes_view guide.now.nodes.items) (map elements_of segs.now)) (length segs.now + 2) f) }
-    ensures rising { IfOk result (λ p. IsRising p.faults) }
+    ensures rising { IfOk result (λ p. AreRising p.faults) }
 {
     let pass = pass_all(alloc, segs, guide)?;
     Ok(Placing {
         walk: pass.walk,
-        faults: in_order(pass.found),
+        faults: in_order(pass.found.into_faults()),
     })
 }

@@ -1,9 +1,10 @@
 use Rattle.std.proofs.Common.{List, sym, subst}
 use Rattle.std.specs.List.{Contains}
 use Rattle.hub_kinds.specs.declared.fault.ElemFault.{ElemFault}
-use Rattle.elem_rules.specs.ElementFaults.{IsRising}
+use Rattle.hub_kinds.specs.Fault.{AreElementsRising, element_key_of}
+use Rattle.hub_kinds.proofs.Once.{none_rises}
 use Rattle.elem_rules.proofs.Members.{no_member}
-use Rattle.elem_rules.proofs.Looks.{on_true, none_rising}
+use Rattle.elem_rules.proofs.Looks.{on_true}
 use Rattle.elem_rules.proofs.check.check_segment.Goals as goal
 
 pub returns-clause-exact : goal.returns-clause-exact
@@ -20,4 +21,4 @@ returns-then-is_clean-clause-exact c f = (
 )
 
 pub returns-then-is_clean-clause-rising : goal.returns-then-is_clean-clause-rising
-returns-then-is_clean-clause-rising c = subst IsRising (sym c.new.ensures.items) none_rising
+returns-then-is_clean-clause-rising c = subst AreElementsRising (sym c.new.ensures.items) (none_rises element_key_of)
