@@ -21,14 +21,14 @@ returns-clause-slots c =
 
 pub in_order-requires : goal.in_order-requires
 in_order-requires c =
-    found_keyed c.args.guide.now (map elements_of c.args.segs.now) (length c.args.segs.now + 2) c.in_ok-pass.pass.found
-    c.in_ok-pass.ensures.accepted c.in_ok-pass.ensures.found
+    found_keyed c.args.guide.now (map elements_of c.args.segs.now) (length c.args.segs.now + 2) c.into_faults.result.items
+    c.in_ok-pass.ensures.accepted (c.into_faults.ensures ∙ c.in_ok-pass.ensures.found)
 
 pub returns-clause-faults : goal.returns-clause-faults
 returns-clause-faults c f =
     let g = guide_of c.args.guide.now in
     let body = map elements_of c.args.segs.now in
-    let found = c.in_ok-pass.ensures.found in
+    let found = c.into_faults.ensures ∙ c.in_ok-pass.ensures.found in
     let all = members g c.in_ok-pass.ensures.accepted.well_formed body (length c.args.segs.now + 2) f in
     let same = c.in_order.ensures.same f in (
       λ h. all.0 (subst (λ (l : List Fault). Contains l f) found (same.0 h)),
