@@ -1,6 +1,6 @@
 -- The quick look at a segment, step by step.
 use Rattle.std.proofs.Common.{◌≡◌, ℕ, zero, suc, ◌+◌, ◌<◌, ◌≤◌, ◌∙◌, List, [], ◌∷◌, Bool, true, false, length, get_or, drop, refl, ap, sym}
-use Rattle.std.proofs.Common.{subst, arith, add-one, rules}
+use Rattle.std.proofs.Common.{subst, arith, add-one}
 use Rattle.std.specs.Prelude.{Option, Some, None, is_some, IsTrue, not, ◌==◌}
 use Rattle.std.specs.Bool.{OnTrue}
 use Rattle.std.specs.List.{All, list_all}
@@ -20,7 +20,6 @@ use Rattle.std.proofs.Common.{◌++◌, take}
 use denote.Ref.{Bor}
 use Rattle.std.specs.Prelude.{unwrap_or}
 use Rattle.std.specs.List.{flat_map}
-use Rattle.std.specs.List.Sorted.{IsSorted}
 use Rattle.std.proofs.lemmas.Bool.{cases_lt}
 use Rattle.std.proofs.lemmas.List.Elements.{All-nil, All-cons}
 use Rattle.std.proofs.lemmas.Option.{slice_get_past}

@@ -1,9 +1,9 @@
 -- Own: the faults of a segment's elements as the walk over it finds them, number by number. No public clause cites these
 -- lists: that they hold the faults of `IsElementFault` and no others is proved.
-use Rattle.std.specs.Prelude.{ℕ, zero, suc, ◌≡◌, ◌+◌, List, [], ◌∷◌, ◌++◌, length, take, drop, map}
+use Rattle.std.specs.Prelude.{ℕ, zero, suc, ◌+◌, List, [], ◌∷◌, ◌++◌, length, take, drop, map}
 use Rattle.std.specs.Prelude.{Option, Some, None, unwrap_or, Bool, if◌then◌else◌}
 use denote.Ref.{Bor}
-use Rattle.std.specs.List.{Contains, flat_map}
+use Rattle.std.specs.List.{flat_map}
 use Rattle.std.specs.Option.{option_map_or}
 use Rattle.x12_bytes.specs.declared.delims.Delims.{Delims}
 use Rattle.x12_segs.specs.View.{occurrences, components}
