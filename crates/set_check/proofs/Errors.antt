@@ -16,10 +16,8 @@ use Rattle.elem_rules.specs.ElementFaults.{IsElementFault}
 use Rattle.elem_rules.specs.Found.{found}
 use Rattle.elem_rules.proofs.Membership.{found_is, is_found}
 use Rattle.set_check.specs.SetFaults.{told_by, loop_id_of}
+use Rattle.set_check.specs.Adding.{AreSound}
 
--- each slot to which a place leads keeps to what it has to
-abbrev pub AreSound : Trees → Type 0
-AreSound ts = (q : Place) (slot : Slot) → slot_at ts q ≡ Some slot → IsSound slot
 
 abbrev pub told : Trees → Delims → (at : ℕ) → Segment → Place → Option Slot → List Fault
 told ts d at s q None = []

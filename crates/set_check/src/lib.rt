@@ -19,11 +19,15 @@
 #![tactic(auto)]
 
 mod answer;
+mod body;
 mod codes;
 mod convention;
+mod elements;
 mod faults;
 mod guide;
 mod law;
+mod loop_id;
+mod order;
 
 pub use answer::answer_set;
 pub use codes::set_codes;
