@@ -1,24 +1,21 @@
 -- A walk over a body adds exactly the element faults of its segments.
-use Rattle.std.proofs.Common.{⊎_elim, ◌≡◌, ◌↔◌, ◌⊎◌, inl, inr, ℕ, zero, suc, ◌+◌, ◌<◌, ◌≤◌, List, [], ◌∷◌, ◌++◌, map, length, Option, Some, None}
+use Rattle.std.proofs.Common.{⊎_elim, ◌≡◌, ◌↔◌, ◌⊎◌, inl, inr, ℕ, zero, suc, ◌+◌, ◌<◌, List, [], ◌∷◌, ◌++◌, map}
+use Rattle.std.proofs.Common.{Option, Some, None}
 use Rattle.std.proofs.Common.{refl, sym, ◌∙◌, ap, subst, arith}
 use Rattle.std.specs.Prelude.{slice_index_or}
 use Rattle.std.specs.List.{Contains, slice_get}
 use Rattle.std.proofs.lemmas.List.Elements.{Contains-append_left, Contains-append_right, Contains-append_cases}
-use Rattle.std.proofs.lemmas.Option.{slice_get_within}
-use Rattle.x12_bytes.specs.declared.delims.Delims.{Delims}
 use Rattle.x12_segs.specs.View.{SegValue, elements_of}
 use Rattle.hub_kinds.specs.declared.fault.Fault.{Fault}
 use Rattle.hub_kinds.specs.declared.fault.ElemFault.{ElemFault}
 use Rattle.guide_tree.specs.declared.slot.Slot.{Slot}
 use Rattle.guide_tree.specs.Tree.{Trees}
 use Rattle.guide_tree.specs.Nexts.{Candidate}
-use Rattle.guide_tree.specs.Segments.{Segment}
 use Rattle.guide_tree.specs.Places.{Place, slot_at, slot_given}
 use Rattle.guide_law.proofs.Among.{in_map, in_mapped, in_contains, contains_in}
 use Rattle.elem_rules.specs.ElementFaults.{IsElementFault}
 use Rattle.loop_match.specs.Given.{place_in, slot_in}
-use Rattle.set_check.specs.SetParts.{SetParts}
-use Rattle.set_check.specs.SetFaults.{IsErrorIn, told_by, loop_id_of}
+use Rattle.set_check.specs.SetFaults.{told_by, loop_id_of}
 use Rattle.set_check.specs.Adding.{IsTold, IsErrorBelow, Adds}
 
 pub told_adds : (old new : List Fault) (found : List ElemFault) (position : ℕ) (seg : SegValue) (loop_id : List ℕ) (slot : Slot)
@@ -28,13 +25,13 @@ pub told_adds : (old new : List Fault) (found : List ElemFault) (position : ℕ)
 told_adds old new found position seg loop_id slot e exact f =
     let tell = told_by position (elements_of seg) loop_id slot in (
       (λ h. ⊎_elim (λ a. inl a)
-      (λ b. let m = in_mapped tell found f (contains_in (map tell found) f b) in
-      inr (record { elem = m.value; wrong = (exact m.value).0 (in_contains found m.value m.there); is = sym m.is }))
-      (Contains-append_cases old (map tell found) f (subst (λ (l : List Fault). Contains l f) e h))),
+          (λ b. let m = in_mapped tell found f (contains_in (map tell found) f b) in
+          inr (record { elem = m.value; wrong = (exact m.value).0 (in_contains found m.value m.there); is = sym m.is }))
+          (Contains-append_cases old (map tell found) f (subst (λ (l : List Fault). Contains l f) e h))),
       (λ h. subst (λ (l : List Fault). Contains l f) (sym e) (⊎_elim (λ a. Contains-append_left old (map tell found) f a)
-      (λ t. Contains-append_right old (map tell found) f (subst (λ (x : Fault). Contains (map tell found) x) (sym t.is)
-      (in_contains (map tell found) (tell t.elem) (in_map tell found t.elem (contains_in found t.elem ((exact t.elem).1 t.wrong))))))
-      h)),
+          (λ t. Contains-append_right old (map tell found) f (subst (λ (x : Fault). Contains (map tell found) x) (sym t.is)
+          (in_contains (map tell found) (tell t.elem) (in_map tell found t.elem (contains_in found t.elem ((exact t.elem).1 t.wrong))))))
+          h)),
     )
 
 -- the place and the slot of what is given, by index
@@ -112,17 +109,17 @@ pub adds_placed : (ts : Trees) (segs : List SegValue) (given : List (Option Plac
     → Adds now new (IsTold (i + 2) seg (loop_id_of ts place) slot) → Adds old new (IsErrorBelow ts segs given (i + 1))
 adds_placed ts segs given old now new i seg place slot before there placed leads adds f = (
   (λ h. ⊎_elim (λ a. ⊎_elim (λ x. inl x) (λ y. inr (raised ts segs given i f y)) ((before f).0 a))
-  (λ t. inr (record {
-    index = i;
-    before = omega arith;
-    seg = seg;
-    place = place;
-    slot = slot;
-    there = there;
-    placed = placed;
-    leads = leads;
-    told = t;
-  })) ((adds f).0 h)),
+      (λ t. inr (record {
+        index = i;
+        before = omega arith;
+        seg = seg;
+        place = place;
+        slot = slot;
+        there = there;
+        placed = placed;
+        leads = leads;
+        told = t;
+      })) ((adds f).0 h)),
   (λ h. (adds f).1 (⊎_elim (λ a. inl ((before f).1 (inl a))) (λ r. last r (here_or_before i r.index r.before)) h)),
 ) where
   last : (r : IsErrorBelow ts segs given (i + 1) f) → (r.index < i) ⊎ (r.index ≡ i)

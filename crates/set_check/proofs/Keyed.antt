@@ -1,6 +1,6 @@
 -- Two faults of a set that have one place in the order of faults are one.
-use Rattle.std.proofs.Common.{◌≡◌, ◌⊎◌, inl, inr, ℕ, ◌+◌, Bool, true, false, List, [], ◌∷◌, Option, Some, None, get_or, drop, refl, sym, ◌∙◌, ap}
-use Rattle.std.proofs.Common.{subst, arith, if◌then◌else◌, ◌==◌}
+use Rattle.std.proofs.Common.{◌≡◌, inl, inr, ℕ, ◌+◌, Bool, true, false, List, Option, Some, get_or, drop}
+use Rattle.std.proofs.Common.{sym, ◌∙◌, ap, subst, arith, if◌then◌else◌, ◌==◌}
 use Rattle.std.specs.List.{slice_get}
 use Rattle.hub_kinds.specs.declared.fault.Fault.{Fault}
 use Rattle.hub_kinds.specs.declared.fault.ElemFault.{ElemFault}
@@ -62,7 +62,8 @@ structure_is_not g body given end f (inr (inr r)) h =
 
 one_elem : (d : Delims) (s : Segment) (slot : Slot) (e c : ElemFault) → IsSound slot → IsElementFault d s slot e
     → IsElementFault d s slot c → elem_key (Some e) ≡ elem_key (Some c) → e ≡ c
-one_elem d s slot e c ok a b k = keyed d s slot ok.conditioned e c (is_found d s slot ok.conditioned e a) (is_found d s slot ok.conditioned c b) k
+one_elem d s slot e c ok a b k =
+    keyed d s slot ok.conditioned e c (is_found d s slot ok.conditioned e a) (is_found d s slot ok.conditioned c b) k
 
 abbrev IsErrorAt : GuideTree → SetParts → List (Option Place) → (i : ℕ) → Segment → Place → Slot → ElemFault → Type 0
 IsErrorAt g parts given i s q slot e = (slice_get parts.body i ≡ Some s) × (slice_get given i ≡ Some (Some q))
@@ -77,7 +78,8 @@ one_error g parts given i s t q r a b e c ok h k m =
     let y : q ≡ r = (let z : Some (Some q) ≡ Some (Some r) = sym h.1 ∙ k.1 in cc) in
     let w : a ≡ b = (let z : Some a ≡ Some b = sym h.2 ∙ ap (slot_at g.nodes) y ∙ k.2 in cc) in
     let v : IsElementFault parts.delims s a c =
-    subst (λ (z : Segment). IsElementFault parts.delims z a c) (sym x) (subst (λ (z : Slot). IsElementFault parts.delims t z c) (sym w) k.3) in
+    subst (λ (z : Segment). IsElementFault parts.delims z a c) (sym x)
+    (subst (λ (z : Slot). IsElementFault parts.delims t z c) (sym w) k.3) in
     let u : e ≡ c = one_elem parts.delims s a e c (ok q a h.2) h.3 v m in
     ap (λ (z : ElemFault). told_by (i + 2) s (loop_id_of g.nodes q) a z) u
     ∙ ap (λ (z : Slot). told_by (i + 2) s (loop_id_of g.nodes q) z c) w

@@ -1,12 +1,15 @@
 mod Adding
+mod Checking
+mod Clean
+mod Enveloping
 mod Errors
 mod Keyed
 mod Meeting
 mod NoCodes
 mod NoFaults
-mod Once
 mod Rounds
 mod SoundPlaces
+mod Spans
 mod Told
 mod Worked
 mod WorkedSets

@@ -3,8 +3,6 @@ use Rattle.std.proofs.Common.{◌≡◌, ℕ, zero, suc, ◌+◌, ◌<◌, ◌�
 use Rattle.std.proofs.Common.{refl, sym, ap, ◌∙◌, arith, add-one, drop-cons, true, false, nat_lt}
 use Rattle.std.proofs.lemmas.Bool.Decides.{nat_tests}
 use Rattle.guide_tree.specs.declared.node.Node.{Node}
-use Rattle.guide_tree.specs.declared.node.Loop.{Loop}
-use Rattle.guide_tree.specs.Tree.{Tree, Trees, segment, loop}
 use Rattle.guide_tree.specs.View.{view, nodes_view}
 use Rattle.guide_tree.specs.Places.{Place}
 use Rattle.loop_match.specs.declared.next.Step.{Step}
@@ -41,7 +39,6 @@ at_here outer ns place i d node h l e =
     ap (loop_id_under outer (nodes_view ns)) (steps_left place i d h)
     ∙ by_child outer ns (get_or place i d).child (place_view (drop (i + 1) place)) node l
     ∙ ap (λ (x : Node). loop_id_in outer (view x) (place_view (drop (i + 1) place))) (sym e)
-
 
 pub behind_last : (k n : ℕ) → false ≡ nat_lt k n → n ≤ k
 behind_last k n h = grind (arith, nat_tests)

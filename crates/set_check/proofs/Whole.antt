@@ -1,6 +1,6 @@
 -- The faults of a set, put together: those of its elements and those of its structure.
-use Rattle.std.proofs.Common.{◌≡◌, ◌↔◌, ◌⊎◌, inl, inr, ℕ, ◌+◌, ◌-◌, ◌<◌, Bool, List, [], ◌++◌, length, take, drop, map, Option, Some, None}
-use Rattle.std.proofs.Common.{option_map, refl, sym, ap, ◌∙◌, subst, arith}
+use Rattle.std.proofs.Common.{◌≡◌, ◌↔◌, ◌⊎◌, inl, inr, ℕ, ◌+◌, ◌-◌, Bool, List, [], ◌++◌, length, drop, map, Option, Some, None}
+use Rattle.std.proofs.Common.{option_map, refl, sym, ap, ◌∙◌, subst}
 use Rattle.std.specs.List.{All, Contains, slice_get}
 use Rattle.std.proofs.lemmas.List.{length-map}
 use Rattle.std.proofs.lemmas.List.Elements.{All-take, All-drop, All-contains, Contains-append_left, Contains-append_right}
@@ -26,7 +26,8 @@ use Rattle.set_check.specs.SetParts.{parts_of, inner_of, before_trailer, end_pos
 use Rattle.set_check.specs.SetFaults.{AreSetFaults, IsSetFault, IsErrorIn, told_by, loop_id_of}
 use Rattle.set_check.specs.Adding.{Adds, IsErrorBelow}
 use Rattle.guide_law.proofs.Keyed.{keyed}
-use Rattle.loop_match.specs.Order.{IsKeyed}
+use Rattle.hub_kinds.specs.Fault.{key_of}
+use Rattle.hub_kinds.specs.Rising.{IsKeyedBy}
 use Rattle.set_check.proofs.Keyed.{set_keyed}
 use Rattle.set_check.proofs.SoundPlaces.{sound_places}
 use Rattle.set_check.proofs.NoFaults.{member_at}
@@ -117,8 +118,10 @@ module _ (g : GuideTree) (d : Delims) (closed : Bool) (segs : List SegValue) (re
           one (inl c) = absurd (no_member f c)
           one (inr b) = b
       told (inr x) = inl (subst (λ (n : ℕ). IsStructureFault g (map elements_of Body) given_body n f) (sym end_is) ((s f).0 x))
+
       to : Contains all f → IsSetFault (Some g) (parts_of d closed segs) f
       to c = told (Contains-append_cases errors structure f (subst (λ (l : List Fault). Contains l f) is c))
+
       back : IsSetFault (Some g) (parts_of d closed segs) f → Contains all f
       back (inl x) = subst (λ (l : List Fault). Contains l f) (sym is) (Contains-append_right errors structure f
           ((s f).1 (subst (λ (n : ℕ). IsStructureFault g (map elements_of Body) given_body n f) end_is x)))
@@ -149,7 +152,7 @@ put_together rows d closed segs ns body given old errors structure all read o n 
 
 -- and no two of them have one key
 pub keyed_together : (rows : GuideRows) (d : Delims) (closed : Bool) (segs : List SegValue) (all : List Fault) → IsAccepted rows
-    → AreSetFaults (Some (guide_of rows)) (parts_of d closed segs) all → IsKeyed all
+    → AreSetFaults (Some (guide_of rows)) (parts_of d closed segs) all → IsKeyedBy key_of all
 keyed_together rows d closed segs all a are f h x y k =
     let g = guide_of rows in
     let parts = parts_of d closed segs in

@@ -1,14 +1,13 @@
 ghost use Rattle.std.specs.Prelude.{◌≡◌, ◌≤◌, Some, IfOk, length};
 ghost use Rattle.std.specs.List.{All};
 ghost use Rattle.guide_tree.specs.View.{guide_of};
-ghost use Rattle.loop_match.specs.Order.{IsRising};
+ghost use Rattle.hub_kinds.specs.Fault.{AreRising};
 ghost use Rattle.set_check.specs.SetParts.{before_trailer, inner_of, parts_of};
 ghost use Rattle.set_check.specs.SetFaults.{AreSetFaults};
 
 use crate::elements::add_elements;
-use crate::order::in_order;
 use guide_tree::Guide;
-use hub_kinds::{Fault, NoMemory};
+use hub_kinds::{Fault, NoMemory, in_order};
 use loop_match::place_all;
 use std::alloc::Global;
 use x12_segs::{SegView, SetSpan};
@@ -42,7 +41,7 @@ pub fn body_faults(
     requires read { All (λ s. s.delims ≡ set.now.delims) segs.now }
     ensures exact { IfOk result (λ v.
         AreSetFaults (Some (guide_of guide.now)) (parts_of set.now.delims set.now.closed segs.now) v.items) }
-    ensures rising { IfOk result (λ v. IsRising v.items) }
+    ensures rising { IfOk result (λ v. AreRising v.items) }
 {
     let rows = guide.rows();
     let body = inner_of(set.closed, segs);

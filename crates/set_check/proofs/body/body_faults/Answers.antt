@@ -1,7 +1,7 @@
-use Rattle.std.proofs.Common.{◌≡◌, ◌↔◌, ◌∙◌, ◌+◌, ap, sym, subst, List, map, length, Some}
+use Rattle.std.proofs.Common.{◌↔◌, ◌∙◌, ◌+◌, ap, sym, subst, List, map, length, Some}
 use Rattle.std.specs.List.{Contains}
 use Rattle.hub_kinds.specs.declared.fault.Fault.{Fault}
-use Rattle.x12_segs.specs.View.{SegValue, elements_of}
+use Rattle.x12_segs.specs.View.{elements_of}
 use Rattle.guide_tree.specs.declared.rows.GuideRows.{GuideRows}
 use Rattle.guide_tree.specs.declared.node.Node.{Node}
 use Rattle.guide_tree.specs.Nexts.{placing_of}
@@ -28,7 +28,8 @@ in_order-requires c =
     let body = c.inner_of-body.result.now in
     let given = placing_of (nodes_view rows.nodes.items) (map elements_of body) in
     let kept = c.into_vec-structure.ensures ∙ c.into_faults.ensures in
-    let are : AreSetFaults (Some (guide_of rows)) (parts_of c.args.set.now.delims c.args.set.now.closed c.args.segs.now) c.append.new.self.items =
+    let are : AreSetFaults (Some (guide_of rows)) (parts_of c.args.set.now.delims c.args.set.now.closed c.args.segs.now)
+    c.append.new.self.items =
     put_together rows c.args.set.now.delims c.args.set.now.closed c.args.segs.now c.as_slice.result.now body
     (map place_in c.in_ok-placing.placing.given) c.new-faults.result.items c.add_elements.new.faults.items
     c.into_vec-structure.result.items c.append.new.self.items c.requires.read c.new-faults.ensures.items
@@ -45,7 +46,8 @@ returns-clause-exact c =
     let body = c.inner_of-body.result.now in
     let given = placing_of (nodes_view rows.nodes.items) (map elements_of body) in
     let kept = c.into_vec-structure.ensures ∙ c.into_faults.ensures in
-    let are : AreSetFaults (Some (guide_of rows)) (parts_of c.args.set.now.delims c.args.set.now.closed c.args.segs.now) c.append.new.self.items =
+    let are : AreSetFaults (Some (guide_of rows)) (parts_of c.args.set.now.delims c.args.set.now.closed c.args.segs.now)
+    c.append.new.self.items =
     put_together rows c.args.set.now.delims c.args.set.now.closed c.args.segs.now c.as_slice.result.now body
     (map place_in c.in_ok-placing.placing.given) c.new-faults.result.items c.add_elements.new.faults.items
     c.into_vec-structure.result.items c.append.new.self.items c.requires.read c.new-faults.ensures.items

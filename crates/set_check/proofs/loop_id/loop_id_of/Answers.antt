@@ -1,4 +1,4 @@
-use Rattle.std.proofs.Common.{◌≡◌, sym, ◌∙◌, drop, ◌+◌}
+use Rattle.std.proofs.Common.{sym, ◌∙◌, drop, ◌+◌}
 use Rattle.loop_match.specs.Steps.{place_view}
 use Rattle.set_check.proofs.Rounds.{past_here, at_here, behind_last, before_end, no_step}
 use Rattle.set_check.proofs.loop_id.loop_id_of.Goals as goal
