@@ -9,17 +9,13 @@ use Rattle.guide_tree.specs.declared.slot.Slot.{Slot}
 use Rattle.guide_tree.specs.Tree.{Trees}
 use Rattle.guide_tree.specs.Segments.{Segment}
 use Rattle.guide_tree.specs.Places.{Place, slot_at}
-use Rattle.guide_tree.specs.Slots.{IsSound}
 use Rattle.guide_tree.proofs.Among.{In}
 use Rattle.guide_law.proofs.Among.{in_left, in_right, in_cases, in_map, in_mapped, in_contains, contains_in}
 use Rattle.elem_rules.specs.ElementFaults.{IsElementFault}
 use Rattle.elem_rules.specs.Found.{found}
 use Rattle.elem_rules.proofs.Membership.{found_is, is_found}
 use Rattle.set_check.specs.SetFaults.{told_by, loop_id_of}
-
--- each slot to which a place leads keeps to what it has to
-abbrev pub AreSound : Trees → Type 0
-AreSound ts = (q : Place) (slot : Slot) → slot_at ts q ≡ Some slot → IsSound slot
+use Rattle.set_check.specs.Adding.{AreSound}
 
 abbrev pub told : Trees → Delims → (at : ℕ) → Segment → Place → Option Slot → List Fault
 told ts d at s q None = []

@@ -9,7 +9,7 @@ use Rattle.guide_tree.specs.Bounds.{is_bounded, is_slot_bounded}
 use Rattle.guide_tree.specs.Conditions.{is_conditioned, is_slot_conditioned, is_condition_of, are_picks_of, is_label_new}
 use Rattle.guide_tree.specs.Faults.{IsWellFormed}
 use Rattle.guide_tree.specs.Places.{Place, slot_in, slot_nth, slot_at}
-use Rattle.set_check.proofs.Errors.{AreSound}
+use Rattle.set_check.specs.Adding.{AreSound}
 
 mutual
   leads_in : (P : Tree → Type 0) (t : Tree) (q : Place) (s : Slot) → slot_in t q ≡ Some s → P (segment s) → AnyIn P t

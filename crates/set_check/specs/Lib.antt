@@ -1,5 +1,8 @@
+pub mod Adding
 pub mod Answer
+pub mod Checked
 pub mod Codes
+pub mod Envelope
 pub mod Meets
 pub mod MeetsLaw
 pub mod SetFaults

@@ -1,14 +1,20 @@
-//! What is answered to a transaction set whose segments aren't checked against a guide: its codes,
-//! by its header, its trailer and its number of segments, and the verdict that they give.
+//! The check of a transaction set by its guide: what is wrong with its segments and their elements, and the codes that its
+//! faults, its guide, its ST, its SE and its number of segments give.
 //!
 //! Proved:
-//! - the codes are exactly those that hold of the set, in their order;
-//! - the verdict is accepted exactly where there is no code;
-//! - ST01, ST02 and ST03 are handed on as they stand;
-//! - `clean_sets_meet_their_guides`: by the definitions of a set's faults and codes, a set has neither exactly where it meets
-//!   its guide by the grammar.
+//! - `check_set` finds exactly the faults of a set, each once and in their order, and its codes; there is neither a fault nor
+//!   a code exactly where the set meets its guide by the grammar, looked at alone. Its guide must have no rule for
+//!   hierarchies and no dependencies, which aren't checked yet;
+//! - a `CheckedSet` keeps that its faults and codes are those of its own span of its text by its own guide, and `is_clean`
+//!   answers whether it meets that guide;
+//! - `set_codes` gives exactly the codes that hold of a set, in their order, the first five;
+//! - `answer_set`, for a set whose segments aren't checked, gives these codes, the verdict accepted exactly where there is
+//!   none, and ST01, ST02 and ST03 as they stand;
+//! - `clean_sets_meet_their_guides` is the law of this by the definitions alone.
 //!
-//! X12.6, transaction set header (ST) and trailer (SE); 999 guide, IK5.
+//! A set without a guide has code 1 and no fault: none of its segments is checked. The segments are found once.
+//!
+//! X12.6, transaction set, header (ST) and trailer (SE); 999 guide, IK3 to IK5.
 //!
 //! As its trial, the crate `trial_envelopes`, calls it:
 //!
@@ -19,13 +25,22 @@
 #![tactic(auto)]
 
 mod answer;
+mod body;
+mod check;
+mod checked;
 mod codes;
 mod convention;
+mod elements;
+mod envelope;
 mod faults;
 mod guide;
 mod law;
+mod loop_id;
+mod segments;
 
 pub use answer::answer_set;
+pub use check::check_set;
+pub use checked::CheckedSet;
 pub use codes::set_codes;
 pub use guide::SetGuide;
 pub use law::clean_sets_meet_their_guides;

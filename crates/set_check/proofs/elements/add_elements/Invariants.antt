@@ -1,0 +1,9 @@
+use Rattle.std.proofs.Common.{map}
+use Rattle.guide_tree.specs.View.{nodes_view}
+use Rattle.loop_match.specs.Given.{place_in}
+use Rattle.set_check.specs.Adding.{Adds, IsErrorBelow}
+use Rattle.set_check.proofs.elements.add_elements.Given as goal
+
+abbrev pub invariant-loop-i : goal.invariant-loop-i
+invariant-loop-i l =
+    Adds l.initial.faults.items l.faults.items (IsErrorBelow (nodes_view l.nodes) l.segs (map place_in l.placing.given) l.i)

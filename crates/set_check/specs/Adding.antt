@@ -1,0 +1,38 @@
+-- 999 guide, IK4 (own): the element faults that a walk over a body adds, segment by segment. Private.
+use Rattle.std.specs.Prelude.{ℕ, ◌+◌, ◌≡◌, ◌<◌, ◌↔◌, ◌⊎◌, List, Option, Some}
+use Rattle.std.specs.List.{Contains, slice_get}
+use Rattle.hub_kinds.specs.declared.fault.Fault.{Fault}
+use Rattle.hub_kinds.specs.declared.fault.ElemFault.{ElemFault}
+use Rattle.x12_segs.specs.View.{SegValue, elements_of}
+use Rattle.guide_tree.specs.declared.slot.Slot.{Slot}
+use Rattle.guide_tree.specs.Tree.{Trees}
+use Rattle.guide_tree.specs.Places.{Place, slot_at}
+use Rattle.guide_tree.specs.Slots.{IsSound}
+use Rattle.elem_rules.specs.ElementFaults.{IsElementFault}
+use Rattle.set_check.specs.SetFaults.{told_by, loop_id_of}
+
+-- a fault of a segment's elements, as the segment at a position tells it
+pub record IsTold (position : ℕ) (seg : SegValue) (loop_id : List ℕ) (slot : Slot) (f : Fault) : Type 0 where
+  pub elem : ElemFault
+  pub wrong : IsElementFault seg.delims (elements_of seg) slot elem
+  pub is : f ≡ told_by position (elements_of seg) loop_id slot elem
+
+-- such a fault of one of the first segments
+pub record IsErrorBelow (ts : Trees) (segs : List SegValue) (given : List (Option Place)) (below : ℕ) (f : Fault) : Type 0 where
+  pub index : ℕ
+  pub before : index < below
+  pub seg : SegValue
+  pub place : Place
+  pub slot : Slot
+  pub there : slice_get segs index ≡ Some seg
+  pub placed : slice_get given index ≡ Some (Some place)
+  pub leads : slot_at ts place ≡ Some slot
+  pub told : IsTold (index + 2) seg (loop_id_of ts place) slot f
+
+-- a list has what another has, and these
+abbrev pub Adds : (old new : List Fault) → (Fault → Type 0) → Type 0
+Adds old new P = (f : Fault) → Contains new f ↔ (Contains old f ⊎ P f)
+
+-- each slot to which a place leads keeps to what it has to
+abbrev pub AreSound : Trees → Type 0
+AreSound ts = (q : Place) (slot : Slot) → slot_at ts q ≡ Some slot → IsSound slot

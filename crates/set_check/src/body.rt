@@ -1,0 +1,54 @@
+ghost use Rattle.std.specs.Prelude.{◌≡◌, ◌≤◌, Some, IfOk, length};
+ghost use Rattle.std.specs.List.{All};
+ghost use Rattle.guide_tree.specs.View.{guide_of};
+ghost use Rattle.hub_kinds.specs.Fault.{AreRising};
+ghost use Rattle.set_check.specs.SetParts.{before_trailer, inner_of, parts_of};
+ghost use Rattle.set_check.specs.SetFaults.{AreSetFaults};
+
+use crate::elements::add_elements;
+use guide_tree::Guide;
+use hub_kinds::{Fault, NoMemory, in_order};
+use loop_match::place_all;
+use std::alloc::Global;
+use x12_segs::{SegView, SetSpan};
+
+/// How many segments come before the SE, or in all where there is none.
+fn before_trailer(closed: bool, count: usize) -> usize
+    requires { 1 ≤ count }
+    ensures { result ≡ before_trailer closed count }
+{
+    if closed { count - 1 } else { count }
+}
+
+/// The segments between ST and SE.
+fn inner_of<'s, 'a>(closed: bool, segs: &'s [SegView<'a>]) -> &'s [SegView<'a>]
+    requires some { 1 ≤ length segs.now }
+    requires room { 1 ≤ before_trailer closed (length segs.now) }
+    ensures { result.now ≡ inner_of closed segs.entry.now }
+{
+    &segs[1..before_trailer(closed, segs.len())]
+}
+
+/// The faults of the segments of a set by its guide, in their order, each once.
+pub fn body_faults(
+    alloc: Global,
+    set: &SetSpan,
+    segs: &[SegView],
+    guide: &Guide,
+) -> Result<Vec<Fault>, NoMemory>
+    requires some { 1 ≤ length segs.now }
+    requires room { 1 ≤ before_trailer set.now.closed (length segs.now) }
+    requires read { All (λ s. s.delims ≡ set.now.delims) segs.now }
+    ensures exact { IfOk result (λ v.
+        AreSetFaults (Some (guide_of guide.now)) (parts_of set.now.delims set.now.closed segs.now) v.items) }
+    ensures rising { IfOk result (λ v. AreRising v.items) }
+{
+    let rows = guide.rows();
+    let body = inner_of(set.closed, segs);
+    let placing = place_all(alloc, body, guide)?;
+    let mut faults = Vec::new(alloc);
+    add_elements(alloc, &mut faults, body, rows.nodes.as_slice(), &placing)?;
+    let mut structure = placing.into_faults().into_vec();
+    faults.append(&mut structure)?;
+    Ok(in_order(faults))
+}

@@ -1,0 +1,83 @@
+ghost use Rattle.std.specs.Prelude.{◌≡◌, ◌≤◌, ◌↔◌, [], length, IfOk};
+ghost use Rattle.std.specs.List.{All};
+ghost use Rattle.std.specs.Option.{option_copied};
+ghost use Rattle.hub_kinds.specs.Fault.{AreRising};
+ghost use Rattle.set_check.specs.Checked.{IsPlain, guide_in, parts_in, said_by};
+ghost use Rattle.set_check.specs.Meets.{MeetsAlone};
+ghost use Rattle.set_check.specs.SetFaults.{AreSetFaults, codes_with};
+ghost use Rattle.set_check.specs.SetParts.{before_trailer, parts_of};
+ghost use Rattle.x12_segs.specs.Spans.{IsSetSpan};
+
+use crate::body::body_faults;
+use crate::checked::CheckedSet;
+use crate::codes::set_codes;
+use crate::envelope::envelope_of;
+use crate::guide::set_guide_of;
+use crate::segments::segments_of;
+use guide_tree::Guide;
+use hub_kinds::{Fault, NoMemory};
+use std::alloc::Global;
+use x12_segs::{SegView, SetSpan};
+
+/// Checks a transaction set (X12.6) of a text by its guide, if it has one: its faults (999 guide, IK3 and IK4), in their
+/// order, each once, and its codes (IK5) but for the one that an earlier set of its group gives. Without a guide its segments
+/// aren't checked. A guide with a rule for hierarchies or with dependencies isn't taken, since these aren't checked. The only
+/// error is want of memory.
+pub fn check_set<'a>(
+    alloc: Global,
+    text: &'a [u8],
+    set: SetSpan,
+    guide: Option<&'a Guide>,
+) -> Result<CheckedSet<'a>, NoMemory>
+    requires span { IsSetSpan text.now set }
+    requires plain { IsPlain (said_by (option_copied guide)) }
+    ensures text { IfOk result (λ c. c.text ≡ text.entry.now) }
+    ensures span { IfOk result (λ c. c.span ≡ set) }
+    ensures guide { IfOk result (λ c. c.guide ≡ option_copied guide.entry) }
+    ensures faults { IfOk result (λ c. AreSetFaults (guide_in c) (parts_in c) c.faults) }
+    ensures rising { IfOk result (λ c. AreRising c.faults) }
+    ensures codes { IfOk result (λ c. c.codes ≡ codes_with (guide_in c) (parts_in c) c.faults) }
+    ensures meets { IfOk result (λ c. ((c.faults ≡ []) × (c.codes ≡ [])) ↔ MeetsAlone (guide_in c) (parts_in c)) }
+{
+    let segs = segments_of(alloc, text, &set)?;
+    let faults = set_faults(alloc, &set, segs.as_slice(), guide)?;
+    let known = set_guide_of(guide);
+    let envelope = envelope_of(set.closed, segs);
+    let codes = set_codes(
+        alloc,
+        faults.as_slice(),
+        known.as_ref(),
+        &envelope.header,
+        envelope.segments,
+        envelope.trailer.as_ref(),
+        false,
+    )?;
+    Ok(CheckedSet {
+        text,
+        span: set,
+        guide,
+        faults,
+        codes,
+        envelope,
+    })
+}
+
+/// The faults of the segments of a set by its guide; none where it has no guide.
+fn set_faults(
+    alloc: Global,
+    set: &SetSpan,
+    segs: &[SegView],
+    guide: Option<&Guide>,
+) -> Result<Vec<Fault>, NoMemory>
+    requires some { 1 ≤ length segs.now }
+    requires room { 1 ≤ before_trailer set.now.closed (length segs.now) }
+    requires read { All (λ s. s.delims ≡ set.now.delims) segs.now }
+    ensures exact { IfOk result (λ v.
+        AreSetFaults (said_by (option_copied guide.entry)) (parts_of set.now.delims set.now.closed segs.now) v.items) }
+    ensures rising { IfOk result (λ v. AreRising v.items) }
+{
+    match guide {
+        None => Ok(Vec::new(alloc)),
+        Some(guide) => body_faults(alloc, set, segs, guide),
+    }
+}

@@ -1,0 +1,116 @@
+ghost use Rattle.std.specs.Prelude.{◌≡◌, ◌↔◌, IsTrue, []};
+
+use crate::envelope::Envelope;
+use guide_tree::Guide;
+use hub_kinds::{Fault, SetCode};
+use std::marker::Model;
+use x12_segs::SetSpan;
+
+/// A transaction set of a text that was checked, with what was found wrong with it: its faults and codes are those of its own
+/// span by its own guide.
+#[derive(Drop)]
+pub struct CheckedSet<'a> {
+    pub(crate) text: &'a [u8],
+    pub(crate) span: SetSpan,
+    pub(crate) guide: Option<&'a Guide>,
+    pub(crate) faults: Vec<Fault>,
+    pub(crate) codes: Vec<SetCode>,
+    pub(crate) envelope: Envelope<'a>,
+}
+
+impl<'a> Model for CheckedSet<'a> {
+    ghost use Rattle.std.specs.Option.{option_copied};
+    ghost use Rattle.set_check.specs.Checked.{Checked, IsChecked};
+    ghost use Rattle.set_check.specs.Envelope.{IsEnvelopeOf};
+    ghost use Rattle.set_check.specs.SetParts.{set_parts};
+    ghost use Rattle.guide_tree.specs.contracts.node.Node as node;
+    ghost use Rattle.std.specs.Coded.{codes as known_codes};
+
+    ghost Value = { Checked };
+
+    ghost coded = { Prim.hlevel (known_codes, node.the_row.coded) };
+
+    ghost view = { λ c. record {
+      text = c.text.now;
+      span = c.span;
+      guide = option_copied c.guide;
+      faults = c.faults.items;
+      codes = c.codes.items;
+    } };
+
+    ghost invariant = { λ c. IsChecked (record {
+      text = c.text.now;
+      span = c.span;
+      guide = option_copied c.guide;
+      faults = c.faults.items;
+      codes = c.codes.items;
+    }) × IsEnvelopeOf (set_parts c.text.now c.span) c.envelope };
+}
+
+impl<'a> CheckedSet<'a> {
+    ghost use Rattle.std.specs.Prelude.{◌≡◌, ◌↔◌, IsTrue};
+    ghost use Rattle.hub_kinds.specs.Fault.{AreRising};
+    ghost use Rattle.set_check.specs.Checked.{guide_in, parts_in};
+    ghost use Rattle.set_check.specs.Meets.{MeetsAlone};
+    ghost use Rattle.set_check.specs.SetFaults.{AreSetFaults, codes_with};
+    ghost use Rattle.x12_segs.specs.View.{element_of};
+
+    /// Where it stands in its text.
+    pub fn span(&self) -> SetSpan
+        ensures { result ≡ self.now.span }
+    {
+        self.span
+    }
+
+    /// Its transaction set identifier code, ST01, as it stands.
+    pub fn identifier(&self) -> &'a [u8]
+        ensures { result.now ≡ element_of (parts_in self.now).header 1 }
+    {
+        self.envelope.header.element(1)
+    }
+
+    /// Its transaction set control number, ST02, as it stands.
+    pub fn control(&self) -> &'a [u8]
+        ensures { result.now ≡ element_of (parts_in self.now).header 2 }
+    {
+        self.envelope.header.element(2)
+    }
+
+    /// Its implementation convention reference, ST03, as it stands; empty where it is absent.
+    pub fn convention(&self) -> &'a [u8]
+        ensures { result.now ≡ element_of (parts_in self.now).header 3 }
+    {
+        self.envelope.header.element(3)
+    }
+
+    /// Its faults (999 guide, IK3 and IK4), in their order, each once.
+    pub fn faults(&self) -> &[Fault]
+        ensures value { result.now ≡ self.now.faults }
+        ensures exact { AreSetFaults (guide_in self.now) (parts_in self.now) self.now.faults }
+        ensures rising { AreRising self.now.faults }
+    {
+        self.faults.as_slice()
+    }
+
+    /// Its codes (999 guide, IK5) in their order, the first five; whether an earlier set of its group has its ST02 isn't asked.
+    pub fn codes(&self) -> &[SetCode]
+        ensures value { result.now ≡ self.now.codes }
+        ensures exact { self.now.codes ≡ codes_with (guide_in self.now) (parts_in self.now) self.now.faults }
+    {
+        self.codes.as_slice()
+    }
+
+    /// Whether it meets its guide, looked at alone (X12.6): then it has neither a fault nor a code.
+    pub fn is_clean(&self) -> bool
+        ensures { IsTrue result ↔ MeetsAlone (guide_in self.now) (parts_in self.now) }
+    {
+        is_nothing_found(self.faults.as_slice(), self.codes.as_slice())
+    }
+}
+
+/// Whether there is neither a fault nor a code.
+fn is_nothing_found(faults: &[Fault], codes: &[SetCode]) -> bool
+    ensures { IsTrue result ↔ ((faults.now ≡ []) × (codes.now ≡ [])) }
+{
+    faults.is_empty() && codes.is_empty()
+}

@@ -1,0 +1,43 @@
+ghost use Rattle.std.specs.Prelude.{◌≡◌, ◌≤◌, length, take};
+ghost use Rattle.x12_bytes.specs.declared.delims.Delims.{Delims};
+ghost use Rattle.set_check.specs.Envelope.{IsEnvelopeOf};
+ghost use Rattle.set_check.specs.SetParts.{before_trailer, parts_of, trailer_of};
+
+use x12_segs::SegView;
+
+/// What the codes of a set speak of beside its faults (X12.6, transaction set header and trailer).
+#[derive(Drop)]
+pub(crate) struct Envelope<'a> {
+    /// Its ST.
+    pub(crate) header: SegView<'a>,
+    /// How many segments it has, ST and SE among them.
+    pub(crate) segments: u64,
+    /// Its SE, if it has one.
+    pub(crate) trailer: Option<SegView<'a>>,
+}
+
+/// Takes the SE off the segments of a set, where it has one.
+fn take_trailer<'a>(closed: bool, segs: &mut Vec<SegView<'a>>) -> Option<SegView<'a>>
+    requires { 1 ≤ length segs.old.items }
+    ensures value { result ≡ trailer_of closed segs.old.items }
+    ensures left { segs.new.items ≡ take (before_trailer closed (length segs.old.items)) segs.old.items }
+{
+    if closed { segs.pop() } else { None }
+}
+
+/// The first and the last segment of a set, and how many it has.
+pub(crate) fn envelope_of<'a>(closed: bool, segs: Vec<SegView<'a>>) -> Envelope<'a>
+    requires some { 1 ≤ length segs.items }
+    requires room { 1 ≤ before_trailer closed (length segs.items) }
+    ensures { (d : Delims) → IsEnvelopeOf (parts_of d closed segs.entry.items) result }
+{
+    let mut segs = segs;
+    let segments = segs.len() as u64;
+    let trailer = take_trailer(closed, &mut segs);
+    let header = segs.swap_remove(0);
+    Envelope {
+        header,
+        segments,
+        trailer,
+    }
+}
