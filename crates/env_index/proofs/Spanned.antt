@@ -1,5 +1,5 @@
 -- The sets of an index have spans.
-use Rattle.std.proofs.Common.{◌≡◌, ℕ, List, [], ◌∷◌, Some, true, subst}
+use Rattle.std.proofs.Common.{◌≡◌, ℕ, List, [], ◌∷◌, Some, true, subst, sym}
 use Rattle.std.specs.Prelude.{slice_get}
 use Rattle.std.specs.List.{All}
 use Rattle.std.proofs.lemmas.List.Elements.{All-nil, All-cons, All-get_or}
@@ -19,17 +19,16 @@ use Rattle.env_index.specs.Summary.{GroupEntry, set_entry, group_entry, groups_i
 use Rattle.env_index.proofs.Standing.{all_alone}
 
 -- of a list, what holds of each element holds of the one at an index
-pub at_index : {A : Type 0} (P : A → Type 0) (xs : List A) (i : ℕ) (x : A) → slice_get xs i ≡ Some x → All P xs → P x
+at_index : {A : Type 0} (P : A → Type 0) (xs : List A) (i : ℕ) (x : A) → slice_get xs i ≡ Some x → All P xs → P x
 at_index P xs i x is all = subst P (get_or_from_slice_get xs i x x is) (All-get_or P xs i x (slice_get_within xs i x is) all)
 
--- the set at an index of the group at an index
-pub set_has_span : (text : List ℕ) (x : InterchangeEntry) (i j : ℕ) (group : GroupEntry) (set : SetEnvelope) → HasSpans text x
-    → slice_get x.content.groups i ≡ Some group → slice_get group.sets j ≡ Some set
-    → IsSetSpan text (span_of (delims_of x.header) set)
-set_has_span text x i j group set has is its =
-    let d : Delims = delims_of x.header in
-    at_index (λ (e : SetEnvelope). IsSetSpan text (span_of d e)) group.sets j set its
-    (at_index (λ (g : GroupEntry). All (λ (e : SetEnvelope). IsSetSpan text (span_of d e)) g.sets) x.content.groups i group is has)
+-- the sets of the group at an index, read by the interchange's delimiters
+pub group_has_spans : (text : List ℕ) (x : InterchangeEntry) (i : ℕ) (group : GroupEntry) (d : Delims) → HasSpans text x
+    → slice_get x.content.groups i ≡ Some group → d ≡ delims_of x.header → All (λ set. IsSetSpan text (span_of d set)) group.sets
+group_has_spans text x i group d has is same =
+    subst (λ (e : Delims). All (λ (set : SetEnvelope). IsSetSpan text (span_of e set)) group.sets) (sym same)
+    (at_index (λ (g : GroupEntry). All (λ (set : SetEnvelope). IsSetSpan text (span_of (delims_of x.header) set)) g.sets)
+    x.content.groups i group is has)
 
 -- the sets of a tree of envelopes that stand alone
 module _ (text : List ℕ) (d : Delims) where
