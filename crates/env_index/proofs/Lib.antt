@@ -6,6 +6,7 @@ pub mod LeastEnd
 pub mod Mapped
 pub mod OneChain
 pub mod OneTree
+pub mod Spanned
 pub mod Standing
 pub mod Steps
 pub mod Surround

@@ -1,11 +1,12 @@
 -- The sets of an interchange stand alone in the text.
-use Rattle.std.proofs.Common.{◌≡◌, ℕ, ◌≤◌, List, [], ◌∷◌, ◌++◌, Bool, true, false, ◌&&◌, cond, Option, Some, None, is_some, length, map}
+use Rattle.std.proofs.Common.{◌≡◌, ℕ, ◌+◌, ◌≤◌, List, [], ◌∷◌, ◌++◌, Bool, true, false, ◌&&◌, cond, Option, Some, None, is_some, length, map}
 use Rattle.std.proofs.Common.{refl, sym, ap, subst, ◌∙◌, arith, append_assoc}
 use Rattle.std.specs.List.{flat_map, list_all}
 use Rattle.std.proofs.lemmas.List.{map-append}
+use Rattle.x12_bytes.specs.Header.{delims_of, header_at}
 use Rattle.x12_bytes.specs.HeaderTest.{is_head}
 use Rattle.x12_bytes.specs.declared.delims.Delims.{Delims}
-use Rattle.x12_segs.specs.Segs.{Seg, segs_from, segs_within}
+use Rattle.x12_segs.specs.Segs.{Seg, rest_from, segs_from, segs_within}
 use Rattle.x12_segs.specs.View.{SegValue, view_of}
 use Rattle.x12_segs.specs.Runs.{StandsAlone, start_of, end_of}
 use Rattle.x12_segs.specs.Spans.{span_segs, span_views, trailer_kinds}
@@ -14,11 +15,12 @@ use Rattle.x12_segs.specs.declared.kind.Kind.{Kind}
 use Rattle.x12_segs.specs.declared.kind.Kind.TheVariants.{SetHeader, SetTrailer}
 use Rattle.x12_segs.specs.declared.set_span.SetSpan.{SetSpan}
 use Rattle.x12_segs.proofs.RunLemmas.{stands_alone}
-use Rattle.env_index.specs.Envelope.{Set, InGroup, ASet, OutOfGroup, InBody, ANotice, AGroup, OutOfBody, option_items, set_items}
-use Rattle.env_index.specs.Envelope.{in_group_items, group_items, in_body_items, ends_set, Closed, IsSet, AreMembers, AreBodyMembers}
-use Rattle.env_index.specs.Extents.{Reach, behind, behind_last, onto_reach, ends_interchange, reach_of}
+use Rattle.env_index.specs.Envelope.{Set, InGroup, ASet, OutOfGroup, InBody, ANotice, AGroup, OutOfBody, Body, option_items, set_items}
+use Rattle.env_index.specs.Envelope.{in_group_items, group_items, in_body_items, ends_set, Closed, IsSet, AreMembers, AreBodyMembers, Derives}
+use Rattle.env_index.specs.Extents.{Reach, behind, behind_last, onto_reach, ends_interchange, reach_at, reach_of}
 use Rattle.env_index.specs.Spans.{SetStandsAlone, EachSet, EachSetIn, span_of}
 use Rattle.env_index.specs.Summary.{set_entry}
+use Rattle.env_index.proofs.Surround.{head_within}
 
 -- what holds of each set that stands among these segments holds of each set of their tree
 module _ (whole : List SegValue) (P : Set SegValue → Type 0) (holds : (before : List SegValue) (s : Set SegValue) (behind : List SegValue)
@@ -37,7 +39,7 @@ module _ (whole : List SegValue) (P : Set SegValue → Type 0) (holds : (before 
   in_group (OutOfGroup x ∷ ms) rest before are is =
       in_group ms rest (before ++ x ∷ []) are.1 (is ∙ sym (append_assoc before (x ∷ []) (flat_map in_group_items ms ++ rest)))
 
-  pub in_body : (ms : List (InBody SegValue)) (rest before : List SegValue) → AreBodyMembers kind_of ms rest
+  in_body : (ms : List (InBody SegValue)) (rest before : List SegValue) → AreBodyMembers kind_of ms rest
       → whole ≡ before ++ (flat_map in_body_items ms ++ rest) → EachSetIn P ms
   in_body [] rest before are is = tt
   in_body (ANotice x ∷ ms) rest before are is =
@@ -57,7 +59,7 @@ module _ (whole : List SegValue) (P : Set SegValue → Type 0) (holds : (before 
       in_body ms rest (before ++ x ∷ []) are.1 (is ∙ sym (append_assoc before (x ∷ []) (flat_map in_body_items ms ++ rest)))
 
 -- an interchange has the first of the segments that follow its header
-pub reach-first : (text : List ℕ) (segs : List SegValue) (rest : Seg)
+reach-first : (text : List ℕ) (segs : List SegValue) (rest : Seg)
     → (tail : List SegValue) × (segs ≡ (reach_of text segs rest).segs ++ tail)
 reach-first text [] rest = ([], refl)
 reach-first text (seg ∷ segs) rest = by_tests (is_head text seg.start) (ends_interchange (kind_of seg)) (reach-first text segs rest)
@@ -130,7 +132,7 @@ set_kinds s rest is =
     ∙ ap (λ (ks : List Kind). map kind_of s.inner ++ ks) (trailer_kind s.trailer rest is.trailer))
 
 -- a set among the segments of a text
-pub set_alone : (text : List ℕ) (d : Delims) (from : ℕ) (before : List SegValue) (s : Set SegValue) (behind rest : List SegValue)
+set_alone : (text : List ℕ) (d : Delims) (from : ℕ) (before : List SegValue) (s : Set SegValue) (behind rest : List SegValue)
     → from ≤ length text
     → map (view_of d) (segs_from text d.terminator from) ≡ before ++ (set_items s ++ behind) → IsSet kind_of s rest
     → SetStandsAlone text d s
@@ -159,3 +161,20 @@ set_alone text d from before s behind rest fits split is =
       };
       segs = views;
     }
+
+-- each set of the interchange whose header begins at an offset
+pub all_alone : (text : List ℕ) (start : ℕ) (tree : Body SegValue) → is_head text start ≡ true
+    → Derives kind_of (reach_at text start).segs tree → EachSetIn (SetStandsAlone text (delims_of (header_at text start))) tree.members
+all_alone text start tree head derives =
+    let d : Delims = delims_of (header_at text start) in
+    let from : ℕ = start + 106 in
+    let views : List SegValue = map (view_of d) (segs_from text d.terminator from) in
+    let first = reach-first text views (rest_from text d.terminator from) in
+    let whole : List SegValue = (reach_at text start).segs in
+    let fits : from ≤ length text = head_within text start head in
+    in_body whole (SetStandsAlone text d)
+    (λ before s behind split is.
+    set_alone text d from before s (behind ++ first.0) behind fits
+    (first.1 ∙ ap (λ (xs : List SegValue). xs ++ first.0) split ∙ append_assoc before (set_items s ++ behind) first.0
+    ∙ ap (λ (xs : List SegValue). before ++ xs) (append_assoc (set_items s) behind first.0)) is)
+    tree.members (option_items tree.trailer) [] derives.1.members (sym derives.0)

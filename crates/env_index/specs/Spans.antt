@@ -1,11 +1,14 @@
 -- X12.6, transaction set: where the sets of an interchange stand in the text.
 use Rattle.std.specs.Prelude.{◌≡◌, ℕ, List, [], ◌∷◌, is_some}
+use Rattle.std.specs.List.{All}
+use Rattle.x12_bytes.specs.Header.{delims_of}
 use Rattle.x12_bytes.specs.declared.delims.Delims.{Delims}
 use Rattle.x12_segs.specs.declared.set_span.SetSpan.{SetSpan}
 use Rattle.x12_segs.specs.View.{SegValue}
 use Rattle.x12_segs.specs.Spans.{IsSetSpan, span_views}
 use Rattle.env_index.specs.declared.entry.SetEnvelope.{SetEnvelope}
 use Rattle.env_index.specs.Envelope.{Set, InGroup, ASet, OutOfGroup, InBody, ANotice, AGroup, OutOfBody, set_items}
+use Rattle.env_index.specs.Interchange.{InterchangeEntry}
 use Rattle.env_index.specs.Summary.{set_entry}
 
 -- the span of a set of the index: from its ST to behind its last segment
@@ -29,3 +32,7 @@ EachSetIn P [] = Unit {0}
 EachSetIn P (ANotice x ∷ ms) = EachSetIn P ms
 EachSetIn P (AGroup g ∷ ms) = EachSet P g.members × EachSetIn P ms
 EachSetIn P (OutOfBody x ∷ ms) = EachSetIn P ms
+
+-- each set of an indexed interchange stands in a span of the text, read by the interchange's delimiters
+abbrev pub HasSpans : List ℕ → InterchangeEntry → Type 0
+HasSpans text x = All (λ group. All (λ set. IsSetSpan text (span_of (delims_of x.header) set)) group.sets) x.content.groups

@@ -1,4 +1,5 @@
-use x12_segs::SegView;
+use x12_bytes::Delims;
+use x12_segs::{SegView, SetSpan};
 
 /// The envelope of a transaction set (X12.6, transaction set header and trailer). Without a trailer
 /// the set ends before the next ST, GE, GS or IEA, or with the interchange.
@@ -12,4 +13,23 @@ pub struct SetEnvelope<'a> {
     pub trailer: Option<SegView<'a>>,
     /// The offset behind the terminator of its last segment.
     pub end: usize,
+}
+
+impl<'a> SetEnvelope<'a> {
+    ghost use Rattle.std.specs.Prelude.{◌≡◌};
+    ghost use Rattle.env_index.specs.Spans.{span_of};
+
+    /// The stretch of the text that the set takes, from the first byte of its ST to behind the
+    /// terminator of its last segment, read by the delimiters of its interchange (X12.6, transaction
+    /// set).
+    pub fn span(&self, delims: Delims) -> SetSpan
+        ensures { result ≡ span_of delims self.now }
+    {
+        SetSpan {
+            start: self.header.start(),
+            end: self.end,
+            delims,
+            closed: self.trailer.is_some(),
+        }
+    }
 }

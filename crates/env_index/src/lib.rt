@@ -15,7 +15,8 @@
 //! - of a segment nothing but its kind is asked (`envelope_is_of_kinds`), so a tree goes over to segments
 //!   that are held in another way, and back (`envelope_is_mapped`);
 //! - an interchange ends at the least of three offsets (`end_is_least`), and holds its header;
-//! - each set of an interchange can be read alone in its span of the text (`sets_stand_alone`).
+//! - each set of an interchange can be read alone in its span of the text (`sets_stand_alone`), and
+//!   the span that the index gives of it (`SetEnvelope::span`) is a set's.
 //!
 //! X12.5, interchange control header (ISA) and trailer (IEA), interchange acknowledgment (TA1);
 //! X12.6, functional group header (GS) and trailer (GE), transaction set header (ST) and trailer

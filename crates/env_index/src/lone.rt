@@ -7,6 +7,7 @@ ghost use Rattle.env_index.specs.Envelope.{Body, Derives};
 ghost use Rattle.env_index.specs.Extents.{Extent, is_filler, reach_at};
 ghost use Rattle.env_index.specs.Interchange.{interchange_of};
 ghost use Rattle.env_index.specs.Lone.{IsLone};
+ghost use Rattle.env_index.specs.Spans.{HasSpans};
 
 use crate::interchange::Interchange;
 use crate::read::read_interchange;
@@ -34,6 +35,7 @@ pub fn read_lone<'a>(alloc: Global, text: &'a [u8]) -> Result<Option<Interchange
         (λ found. IfSome found
         (λ x. (tree : Body SegValue) → Derives kind_of (reach_at text.entry.now x.start).segs tree
         → x ≡ interchange_of text.entry.now x.start tree)) }
+    ensures spans { IfOk result (λ found. IfSome found (λ x. HasSpans text.entry.now x)) }
 {
     let Some(interchange) = read_interchange(alloc, text, filler_len(text))? else {
         return Ok(None);

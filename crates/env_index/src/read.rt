@@ -7,6 +7,7 @@ ghost use Rattle.x12_segs.specs.Kinds.{kind_of};
 ghost use Rattle.env_index.specs.Envelope.{Body, Derives};
 ghost use Rattle.env_index.specs.Extents.{reach_at};
 ghost use Rattle.env_index.specs.Interchange.{interchange_of};
+ghost use Rattle.env_index.specs.Spans.{HasSpans};
 
 use crate::interchange::Interchange;
 use crate::source::TextParts;
@@ -38,6 +39,7 @@ pub fn read_interchange<'a>(
         (λ found. IfSome found
         (λ x. (tree : Body SegValue) → Derives kind_of (reach_at text.entry.now start).segs tree
         → x ≡ interchange_of text.entry.now start tree)) }
+    ensures spans { IfOk result (λ found. IfSome found (λ x. HasSpans text.entry.now x)) }
 {
     let Some(header) = read_header(text, start) else {
         return Ok(None);
