@@ -11,6 +11,8 @@ mod Rounds
 mod SoundPlaces
 mod Spans
 mod Told
+mod Verdicts
 mod Worked
 mod WorkedSets
+mod WorkedVerdicts
 pub mod Whole

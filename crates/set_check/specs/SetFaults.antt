@@ -1,5 +1,5 @@
 -- 999 guide, IK3 and IK4: what is wrong with the segments of a set, by its guide; and the set's codes.
-use Rattle.std.specs.Prelude.{ℕ, zero, suc, ◌+◌, ◌≡◌, ◌↔◌, ◌⊎◌, List, [], ◌∷◌, Option, Some, None, option_map, false}
+use Rattle.std.specs.Prelude.{ℕ, zero, suc, ◌+◌, ◌≡◌, ◌↔◌, ◌⊎◌, List, [], ◌∷◌, Option, Some, None, option_map, Bool, false}
 use Rattle.std.specs.List.{Contains, slice_get}
 use Rattle.hub_kinds.specs.declared.fault.Fault.{Fault}
 use Rattle.hub_kinds.specs.declared.fault.ElemFault.{ElemFault}
@@ -75,7 +75,11 @@ AreSetFaults guide parts faults = (f : Fault) → Contains faults f ↔ IsSetFau
 abbrev pub as_set_guide : GuideTree → SetGuide
 as_set_guide g = record { convention = g.head.convention }
 
--- the codes of a set that has these faults; whether an earlier set has its number isn't asked
+-- the codes of a set that has these faults, and whose ST02 an earlier set of its group may have
+abbrev pub codes_where : Option GuideTree → SetParts → List Fault → (earlier : Bool) → List SetCode
+codes_where guide parts faults earlier =
+    set_codes_of faults (option_map as_set_guide guide) parts.header (segment_count parts) parts.trailer earlier
+
+-- the same where that isn't asked
 abbrev pub codes_with : Option GuideTree → SetParts → List Fault → List SetCode
-codes_with guide parts faults =
-    set_codes_of faults (option_map as_set_guide guide) parts.header (segment_count parts) parts.trailer false
+codes_with guide parts faults = codes_where guide parts faults false

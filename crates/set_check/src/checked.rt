@@ -1,4 +1,5 @@
 ghost use Rattle.std.specs.Prelude.{◌≡◌, ◌↔◌, IsTrue, []};
+ghost use Rattle.set_check.specs.Verdict.{is_nothing_found};
 
 use crate::envelope::Envelope;
 use guide_tree::Guide;
@@ -109,8 +110,9 @@ impl<'a> CheckedSet<'a> {
 }
 
 /// Whether there is neither a fault nor a code.
-fn is_nothing_found(faults: &[Fault], codes: &[SetCode]) -> bool
-    ensures { IsTrue result ↔ ((faults.now ≡ []) × (codes.now ≡ [])) }
+pub(crate) fn is_nothing_found(faults: &[Fault], codes: &[SetCode]) -> bool
+    ensures value { result ≡ is_nothing_found faults.now codes.now }
+    ensures none { IsTrue result ↔ ((faults.now ≡ []) × (codes.now ≡ [])) }
 {
     faults.is_empty() && codes.is_empty()
 }

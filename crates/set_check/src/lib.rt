@@ -1,5 +1,5 @@
-//! The check of a transaction set by its guide: what is wrong with its segments and their elements, and the codes that its
-//! faults, its guide, its ST, its SE and its number of segments give.
+//! The check of a transaction set by its guide: what is wrong with its segments and their elements, the codes that its
+//! faults, its guide, its ST, its SE and its number of segments give, and the verdict.
 //!
 //! Proved:
 //! - `check_set` finds exactly the faults of a set, each once and in their order, and its codes; there is neither a fault nor
@@ -7,6 +7,9 @@
 //!   hierarchies and no dependencies, which aren't checked yet;
 //! - a `CheckedSet` keeps that its faults and codes are those of its own span of its text by its own guide, and `is_clean`
 //!   answers whether it meets that guide;
+//! - `verdict` is accepted exactly where the set meets its guide and no earlier set of its group has its ST02, and accepted with
+//!   errors exactly where all codes tell of faults and the guide tolerates each fault; `into_answer` is what an acknowledgment
+//!   reads of the set;
 //! - `set_codes` gives exactly the codes that hold of a set, in their order, the first five;
 //! - `answer_set`, for a set whose segments aren't checked, gives these codes, the verdict accepted exactly where there is
 //!   none, and ST01, ST02 and ST03 as they stand;
@@ -37,6 +40,8 @@ mod guide;
 mod law;
 mod loop_id;
 mod segments;
+mod tolerance;
+mod verdict;
 
 pub use answer::answer_set;
 pub use check::check_set;

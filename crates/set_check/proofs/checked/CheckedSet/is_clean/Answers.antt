@@ -7,4 +7,4 @@ pub returns : goal.returns
 returns c =
     clean_by c.args.self.now (subst IsChecked c.self.view_is c.self.invariant.0) c.as_slice.result.now c.as_slice-2.result.now
     c.is_nothing_found.result (c.as_slice.ensures.value ∙ ap (λ (k : Checked). k.faults) c.self.view_is)
-    (c.as_slice-2.ensures.value ∙ ap (λ (k : Checked). k.codes) c.self.view_is) c.is_nothing_found.ensures
+    (c.as_slice-2.ensures.value ∙ ap (λ (k : Checked). k.codes) c.self.view_is) c.is_nothing_found.ensures.none

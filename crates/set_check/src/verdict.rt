@@ -1,0 +1,102 @@
+//! The verdict on a checked set (999 guide, IK501), and what is answered to it.
+ghost use Rattle.std.specs.Prelude.{◌≡◌, if◌then◌else◌};
+ghost use Rattle.std.specs.List.{list_all};
+ghost use Rattle.std.specs.Option.{option_copied};
+ghost use Rattle.hub_kinds.specs.declared.set_codes.Verdict.TheVariants.{Rejected};
+ghost use Rattle.set_check.specs.Checked.{said_by};
+ghost use Rattle.set_check.specs.Verdict.{tells_of_faults, tolerates, verdict_on};
+
+use crate::checked::{CheckedSet, is_nothing_found};
+use crate::codes::set_codes;
+use crate::guide::set_guide_of;
+use crate::tolerance::tolerates;
+use guide_tree::Guide;
+use hub_kinds::{Fault, Items, Lent, NoMemory, SetAnswer, SetCode, Verdict};
+use std::alloc::Global;
+
+impl<'a> CheckedSet<'a> {
+    ghost use Rattle.std.specs.Prelude.{◌≡◌, ◌↔◌, false, IfOk};
+    ghost use Rattle.hub_kinds.specs.declared.set_codes.Verdict.TheVariants.{Accepted};
+    ghost use Rattle.set_check.specs.Answer.{answer_to};
+    ghost use Rattle.set_check.specs.Checked.{guide_in, parts_in};
+    ghost use Rattle.set_check.specs.Meets.{MeetsAlone};
+    ghost use Rattle.set_check.specs.Verdict.{verdict_with};
+
+    /// The verdict on it (999 guide, IK501), by whether an earlier set of its group has its ST02: accepted exactly where none has
+    /// and it meets its guide.
+    pub fn verdict(&self, earlier: bool) -> Verdict
+        ensures value { result ≡ verdict_with (guide_in self.now) (parts_in self.now) self.now.faults earlier }
+        ensures meets { result ≡ Accepted ↔ ((earlier ≡ false) × MeetsAlone (guide_in self.now) (parts_in self.now)) }
+    {
+        verdict_by(
+            self.guide,
+            self.faults.as_slice(),
+            self.codes.as_slice(),
+            earlier,
+        )
+    }
+
+    /// What an acknowledgment reads of it (999 guide, AK2 to IK5), by whether an earlier set of its group has its ST02. The only
+    /// error is want of memory.
+    pub fn into_answer(self, alloc: Global, earlier: bool) -> Result<SetAnswer<'a>, NoMemory>
+        ensures { IfOk result (λ answer. answer ≡ answer_to self.entry earlier) }
+    {
+        let verdict = self.verdict(earlier);
+        let known = set_guide_of(self.guide);
+        let envelope = self.envelope;
+        let codes = set_codes(
+            alloc,
+            self.faults.as_slice(),
+            known.as_ref(),
+            &envelope.header,
+            envelope.segments,
+            envelope.trailer.as_ref(),
+            earlier,
+        )?;
+        let (identifier, control, convention) = envelope.header.first_elements();
+        Ok(SetAnswer {
+            identifier: Lent::new(identifier),
+            control: Lent::new(control),
+            convention: Lent::new(convention),
+            faults: Items::from_vec(self.faults),
+            codes: Items::from_vec(codes),
+            verdict,
+        })
+    }
+}
+
+/// The verdict by the faults, the codes where no earlier set is asked for, and whether there is one: it rejects the set.
+fn verdict_by(guide: Option<&Guide>, faults: &[Fault], codes: &[SetCode], earlier: bool) -> Verdict
+    ensures { result ≡ if earlier then Rejected else verdict_on (said_by (option_copied guide.entry)) faults.now codes.now }
+{
+    if earlier {
+        Verdict::Rejected
+    } else if is_nothing_found(faults, codes) {
+        Verdict::Accepted
+    } else if tell_of_faults(codes) && are_tolerated(guide, faults) {
+        Verdict::AcceptedWithErrors
+    } else {
+        Verdict::Rejected
+    }
+}
+
+fn tell_of_faults(codes: &[SetCode]) -> bool
+    ensures { result ≡ list_all tells_of_faults codes.now }
+{
+    codes.iter().all(|code| tells_of_faults(*code))
+}
+
+fn tells_of_faults(code: SetCode) -> bool
+    ensures { result ≡ tells_of_faults code }
+{
+    matches!(
+        code,
+        SetCode::SegmentsInError | SetCode::ImplementationSegmentsInError
+    )
+}
+
+fn are_tolerated(guide: Option<&Guide>, faults: &[Fault]) -> bool
+    ensures { result ≡ list_all (tolerates (said_by (option_copied guide.entry))) faults.now }
+{
+    faults.iter().all(|fault| tolerates(guide, fault))
+}
