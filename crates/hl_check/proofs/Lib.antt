@@ -1,0 +1,8 @@
+mod Knowing
+mod Viewing
+mod Walking
+mod Faulty
+mod Rounds
+mod Collecting
+mod Keyed
+mod Worked

@@ -1,0 +1,16 @@
+use Rattle.std.proofs.Common.{◌≡◌, ◌++◌, ◌≤◌, length, drop}
+use Rattle.hl_check.specs.Found.{backward_faults}
+use Rattle.hl_check.specs.Known.{hls_view, KnowsNamed}
+use Rattle.hl_check.proofs.backward.add_backward.Given as goal
+
+-- what is told of those behind, and the numbers that they name
+abbrev pub invariant-loop-left : goal.invariant-loop-left
+invariant-loop-left l =
+    record {
+      within : l.left ≤ length l.hls;
+      named : KnowsNamed l.named l.delims (hls_view (drop l.left l.hls));
+      told : l.faults.items ≡ l.fn.faults.items ++ backward_faults l.delims (hls_view (drop l.left l.hls));
+    }
+
+abbrev pub decreases-loop-left : goal.decreases-loop-left
+decreases-loop-left l = l.left

@@ -1,0 +1,4 @@
+pub mod LoopIds
+pub mod Hierarchy
+pub mod Found
+pub mod Known

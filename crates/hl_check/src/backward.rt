@@ -1,0 +1,51 @@
+ghost use Rattle.std.specs.Prelude.{◌≡◌, ◌++◌, ◌∷◌, List, OnOk};
+ghost use Rattle.hub_kinds.specs.declared.codes.ElementCode.TheVariants.{PatternFailure};
+ghost use Rattle.hl_check.specs.Hierarchy.{HlSegment, is_child_wrong};
+ghost use Rattle.hl_check.specs.Found.{fault_if, backward_faults};
+ghost use Rattle.hl_check.specs.Known.{hl_view, hls_view, KnowsNamed};
+
+use crate::fault::add_if;
+use crate::known::add_named;
+use crate::placed::PlacedHl;
+use crate::rules::is_child_wrong;
+use hub_kinds::{ElementCode, Fault, NoMemory};
+use std::alloc::Global;
+use std::collections::BTreeSet;
+use x12_bytes::Delims;
+
+/// Adds what the later HLs show of an HL, and keeps the number that it names.
+fn add_before<'a>(
+    alloc: Global,
+    faults: &mut Vec<Fault>,
+    named: &mut BTreeSet<&'a [u8]>,
+    delims: Delims,
+    hl: &PlacedHl<'_, 'a, '_>,
+) -> Result<(), NoMemory>
+    ensures named { OnOk result ((later : List HlSegment) → KnowsNamed named.old delims later
+        → KnowsNamed named.new delims (hl_view hl.now ∷ later)) }
+    ensures faults { OnOk result ((later : List HlSegment) → KnowsNamed named.old delims later → faults.new.items
+        ≡ faults.old.items ++ fault_if (is_child_wrong delims (hl_view hl.now) later) (hl_view hl.now) 4 PatternFailure) }
+{
+    let (number, parent, _) = hl.seg.first_elements();
+    let wrong = is_child_wrong(hl.seg.element(4), named.contains(number));
+    add_if(alloc, faults, wrong, hl, 4, ElementCode::PatternFailure)?;
+    add_named(named, delims, parent)
+}
+
+/// Adds what the later HLs show of each, from the last on.
+pub fn add_backward(
+    alloc: Global,
+    faults: &mut Vec<Fault>,
+    delims: Delims,
+    hls: &[PlacedHl],
+) -> Result<(), NoMemory>
+    ensures { OnOk result (faults.new.items ≡ faults.old.items ++ backward_faults delims (hls_view hls.now)) }
+{
+    let mut named = BTreeSet::new(alloc);
+    let mut left = hls.len();
+    while left > 0 {
+        left -= 1;
+        add_before(alloc, faults, &mut named, delims, &hls[left])?;
+    }
+    Ok(())
+}

@@ -1,0 +1,86 @@
+ghost use Rattle.std.specs.Prelude.{◌≡◌, ◌↔◌, length, map, IfOk};
+ghost use Rattle.std.specs.List.{All, Contains};
+ghost use Rattle.x12_bytes.specs.declared.delims.Delims.{Delims};
+ghost use Rattle.x12_segs.specs.View.{elements_of};
+ghost use Rattle.hub_kinds.specs.declared.fault.Fault.{Fault};
+ghost use Rattle.hub_kinds.specs.Fault.{AreRising};
+ghost use Rattle.guide_tree.specs.View.{guide_of, nodes_view};
+ghost use Rattle.loop_match.specs.Given.{place_in};
+ghost use Rattle.hl_check.specs.Hierarchy.{hls_of, IsFaultAmong, IsHierarchyFault};
+ghost use Rattle.hl_check.specs.Found.{found_faults};
+ghost use Rattle.hl_check.specs.Known.{hls_view};
+
+use crate::backward::add_backward;
+use crate::collect::collect;
+use crate::forward::add_forward;
+use crate::placed::PlacedHl;
+use guide_tree::{Guide, HlRule, Node};
+use hub_kinds::{Fault, NoMemory, in_order};
+use loop_match::Placing;
+use std::alloc::Global;
+use x12_bytes::Delims;
+use x12_segs::SegView;
+
+/// The faults of these HLs, as the two walks find them.
+fn find_faults(
+    alloc: Global,
+    rule: &HlRule,
+    delims: Delims,
+    hls: &[PlacedHl],
+) -> Result<Vec<Fault>, NoMemory>
+    ensures { IfOk result (λ v. v.items ≡ found_faults rule.now delims (hls_view hls.now) (length hls.now)) }
+{
+    let mut faults = Vec::new(alloc);
+    add_forward(alloc, &mut faults, rule, delims, hls)?;
+    add_backward(alloc, &mut faults, delims, hls)?;
+    Ok(faults)
+}
+
+/// The faults of the HLs of a body, in their order.
+fn check_by_rule(
+    alloc: Global,
+    segs: &[SegView],
+    placing: &Placing,
+    nodes: &[Node],
+    rule: &HlRule,
+    delims: Delims,
+) -> Result<Vec<Fault>, NoMemory>
+    ensures faults { IfOk result (λ v. (f : Fault) → Contains v.items f ↔ IsFaultAmong rule.now delims
+        (hls_of (nodes_view nodes.now) (map elements_of segs.now) (map place_in placing.now.given)) f) }
+    ensures rising { IfOk result (λ v. AreRising v.items) }
+{
+    let hls = collect(alloc, segs, placing, nodes)?;
+    Ok(in_order(find_faults(alloc, rule, delims, hls.as_slice())?))
+}
+
+/// Exactly the faults of the hierarchy of a body by the rule of its guide, under these places of its segments, where all
+/// segments are read by the same delimiters; each once, by position and element. A position is a segment's number in the
+/// set, ST being 1. Where the guide has no rule there is none. The only error is want of memory. X12.6, hierarchical level
+/// segment; the 999 guide, IK4.
+pub fn check_hl(
+    alloc: Global,
+    segs: &[SegView],
+    placing: &Placing,
+    guide: &Guide,
+) -> Result<Vec<Fault>, NoMemory>
+    ensures faults { IfOk result (λ v. (delims : Delims) → All (λ s. s.delims ≡ delims) segs.now → (f : Fault)
+        → Contains v.items f ↔ IsHierarchyFault (guide_of guide.now) delims (map elements_of segs.now)
+        (map place_in placing.now.given) f) }
+    ensures rising { IfOk result (λ v. AreRising v.items) }
+{
+    let rows = guide.rows();
+    match &rows.hl {
+        None => Ok(Vec::new(alloc)),
+        Some(rule) => match segs.first() {
+            None => Ok(Vec::new(alloc)),
+            Some(first) => check_by_rule(
+                alloc,
+                segs,
+                placing,
+                rows.nodes.as_slice(),
+                rule,
+                first.delims(),
+            ),
+        },
+    }
+}

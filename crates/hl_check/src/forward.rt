@@ -1,0 +1,73 @@
+ghost use Rattle.std.specs.Prelude.{◌≡◌, ◌++◌, ◌+◌, ◌<◌, ◌^◌, ◌∷◌, [], List, length, OnOk};
+ghost use Rattle.hl_check.specs.Hierarchy.{HlSegment};
+ghost use Rattle.hl_check.specs.Found.{faults_behind, forward_faults};
+ghost use Rattle.hl_check.specs.Known.{hl_view, hls_view, KnowsLevels};
+
+use crate::fault::add_if;
+use crate::known::{add_level, level_with};
+use crate::placed::PlacedHl;
+use crate::rules::{is_filled, is_level_wrong, is_number_wrong};
+use guide_tree::HlRule;
+use hub_kinds::{ElementCode, Fault, NoMemory};
+use std::alloc::Global;
+use std::collections::BTreeMap;
+use x12_bytes::Delims;
+
+/// Adds what the earlier HLs show of the number, the parent and the level of an HL, and keeps its own.
+fn add_behind<'a>(
+    alloc: Global,
+    faults: &mut Vec<Fault>,
+    levels: &mut BTreeMap<&'a [u8], &'a [u8]>,
+    rule: &HlRule,
+    delims: Delims,
+    count: usize,
+    hl: &PlacedHl<'_, 'a, '_>,
+) -> Result<(), NoMemory>
+    ensures levels { OnOk result ((earlier : List HlSegment) → KnowsLevels levels.old earlier
+        → KnowsLevels levels.new (earlier ++ hl_view hl.now ∷ [])) }
+    ensures faults { OnOk result ((earlier : List HlSegment) → KnowsLevels levels.old earlier → count ≡ length earlier + 1
+        → faults.new.items ≡ faults.old.items ++ faults_behind rule.now delims earlier (hl_view hl.now)) }
+{
+    let (number, parent, level) = hl.seg.first_elements();
+    let known = level_with(levels, number).is_some();
+    let above = level_with(levels, parent);
+    let named = is_filled(delims, parent);
+    let number_wrong = is_number_wrong(rule, delims, number, known, count);
+    let level_wrong = is_level_wrong(rule, named, above, level);
+    add_if(
+        alloc,
+        faults,
+        number_wrong,
+        hl,
+        1,
+        ElementCode::PatternFailure,
+    )?;
+    add_if(
+        alloc,
+        faults,
+        named && above.is_none(),
+        hl,
+        2,
+        ElementCode::PatternFailure,
+    )?;
+    add_if(alloc, faults, level_wrong, hl, 3, ElementCode::CodeNotUsed)?;
+    add_level(levels, number, level)
+}
+
+/// Adds what the earlier HLs show of each.
+pub fn add_forward(
+    alloc: Global,
+    faults: &mut Vec<Fault>,
+    rule: &HlRule,
+    delims: Delims,
+    hls: &[PlacedHl],
+) -> Result<(), NoMemory>
+    ensures { OnOk result (faults.new.items
+        ≡ faults.old.items ++ forward_faults rule.now delims (hls_view hls.now) (length hls.now)) }
+{
+    let mut levels = BTreeMap::new(alloc);
+    for i in 0..hls.len() {
+        add_behind(alloc, faults, &mut levels, rule, delims, i + 1, &hls[i])?;
+    }
+    Ok(())
+}

@@ -1,0 +1,26 @@
+//! Hierarchies: what is wrong with the tree that the HL segments of a set make, by the rule that a guide has for it.
+//!
+//! Proved: `check_hl` gives exactly the faults of the hierarchy, each once, by position and element: a number that an
+//! earlier HL has or that isn't the count where the guide asks for it (HL01), a parent that no earlier HL is (HL02), a
+//! level that isn't listed below that of the parent (HL03), children that are told of and don't come, or come untold
+//! (HL04). Where the guide has no rule there is none.
+//!
+//! Numbers are looked up in an ordered map and an ordered set, so that the cost follows the bytes, but for a logarithm,
+//! whatever numbers somebody chooses; nothing goes as deep as the hierarchy.
+//!
+//! Source: X12.6, hierarchical level segment (HL); the 999 guide (005010X231), IK4. Which code stands for which fault is
+//! own.
+#![tactic(auto)]
+
+mod backward;
+mod check;
+mod collect;
+mod fault;
+mod forward;
+mod known;
+mod loop_id;
+mod place;
+mod placed;
+mod rules;
+
+pub use check::check_hl;

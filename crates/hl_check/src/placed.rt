@@ -1,0 +1,11 @@
+use guide_tree::Slot;
+use x12_segs::SegView;
+
+/// An HL segment that has a place: its position in the set, ST being 1, its slot, and the id of the innermost loop.
+#[derive(Clone, Copy)]
+pub struct PlacedHl<'s, 'a, 'g> {
+    pub position: u64,
+    pub seg: &'s SegView<'a>,
+    pub slot: &'g Slot,
+    pub loop_id: &'g [u8],
+}
