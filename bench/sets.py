@@ -4,12 +4,13 @@
 usage: bench/sets.py [SETS]
 
 A small program over set_check (bench/set_check.txt and bench/set_check_proof.txt, kept out of the gate by their names) is proved
-and built in a fresh folder (some minutes; what stands proved in `crates/*/out` isn't proved again). On SETS random sets (20,000 if absent), forty
-under each random guide (nested loops, bounds from 0 to 0 on, picks, a dictionary, random rows and conditions), on sets without a
-guide, and on all bodies of up to five segments of three small guides, the faults, their elements and the codes are compared with
-those that follow from the rules as they are worded: places from the list of all that may follow, faults by counts over the whole
-placing. A guide that the check refuses as ambiguous is left out. Then sets of 100,000 and of 1,000,000 segments are timed, and the
-growth printed; last, where there is valgrind, the instructions of each segment of a clean order of the house guide.
+and built in a fresh folder (some minutes; what stands proved in `crates/*/out` isn't proved again). On SETS random sets or more
+(20,000 if absent), forty under each random guide (nested loops, bounds from 0 to 0 on, picks, a dictionary, random rows and
+conditions), on sets without a guide, and on all bodies of up to five segments of three small guides, the faults, their elements and
+the codes are compared with those that follow from the rules as they are worded: places from the list of all that may follow, faults
+by counts over the whole placing. A guide that the check refuses as ambiguous is left out. Then sets of 100,000 and of 1,000,000
+segments are timed, and the growth printed; last, where there is valgrind, the instructions of each segment of clean orders of the
+house guide, and how they grow.
 """
 import itertools
 import os
@@ -429,6 +430,11 @@ def sealed(body):
     return b'ST*850*0001', body, b'SE*%d*0001' % (len(body) + 2)
 
 
+def long_set(part, count):
+    """A set of so many segments: an order's, then this part again and again."""
+    return sealed(ORDER_HEAD + (part * count)[:count - 2 - len(ORDER_HEAD)])
+
+
 def counting(folder, guide, made):
     """The words that have the program count the faults of one set by a guide file."""
     path, listed = os.path.join(folder, 'long.x12'), os.path.join(folder, 'cases')
@@ -444,11 +450,11 @@ def grow(built, folder):
     wide = os.path.join(folder, 'wide.toml')
     with open(HOUSE) as text, open(wide, 'w') as out:
         out.write(text.read().replace('max=99999,', 'max=999999,'))
-    for name, part in (('clean lines', ORDER_LINE), ('an element wrong in each', [b'PO1*1*5*EA*2.50*TE*UP', b'PID*G']), ('strays', [b'QQ*1']),
-                       ('one segment too often', ORDER_HEAD[:1]), ('one loop too often', ORDER_HEAD[3:5])):
+    for name, part in (('clean lines', ORDER_LINE), ('an element wrong in each', [b'PO1*1*5*EA*2.50*TE*UP', b'PID*G']),
+                       ('strays', [b'QQ*1']), ('one segment too often', ORDER_HEAD[:1]), ('one loop too often', ORDER_HEAD[3:5])):
         took = []
         for count in (100_000, 1_000_000):
-            words = counting(folder, wide, sealed(ORDER_HEAD + (part * count)[:count - 2 - len(ORDER_HEAD)]))
+            words = counting(folder, wide, long_set(part, count))
             said = [subprocess.run([built, *words], capture_output=True, text=True, check=True).stdout for _ in range(RUNS)]
             told = re.findall(r'(\d+) faults in (\d+) nanoseconds', ''.join(said))
             took.append(min(int(nanoseconds) for _, nanoseconds in told) / 1e6)
@@ -456,10 +462,9 @@ def grow(built, folder):
               f'{RUNS} runs: growth {took[1] / took[0]:.1f}', flush=True)
 
 
-def instructions(built, words, listed=None):
-    """How many instructions the program spends in the check, and where, if that is asked for."""
-    out = listed or '/dev/null'
-    said = subprocess.run(['valgrind', '--tool=callgrind', f'--callgrind-out-file={out}', '--toggle-collect=*checked_set*',
+def instructions(built, words):
+    """How many instructions the program spends in the check."""
+    said = subprocess.run(['valgrind', '--tool=callgrind', '--callgrind-out-file=/dev/null', '--toggle-collect=*checked_set*',
                            built, *words], capture_output=True, text=True, check=True)
     assert '\n0 faults' in said.stdout, said.stdout
     return int(re.search(r'Collected : (\d+)', said.stderr)[1])
@@ -468,10 +473,10 @@ def instructions(built, words, listed=None):
 def clean(built, folder):
     if not shutil.which('valgrind'):
         return
-    few, many = (ORDER_HEAD + ORDER_LINE * lines for lines in (50, 1050))
-    spent = [instructions(built, counting(folder, HOUSE, sealed(body))) for body in (few, many)]
-    print(f'a clean order: {spent[0]} instructions for {len(few) + 2} segments, {(spent[1] - spent[0]) / (len(many) - len(few)):.0f} '
-          'for each segment of a further line', flush=True)
+    for name, part in (('lines with a description', ORDER_LINE), ('short lines', [b'PO1*1*5*EA*2.50'])):
+        few, many = (instructions(built, counting(folder, HOUSE, long_set(part, count))) for count in (10_000, 100_000))
+        print(f'a clean order, {name}: {many / 100_000:.0f} instructions a segment of 100,000, growth from 10,000 {many / few:.2f}',
+              flush=True)
 
 
 def main():
