@@ -1,18 +1,21 @@
 #!/usr/bin/env python3
-"""Places whole sets by the built rules, and compares the structural faults with those that this script works out by itself.
+"""Checks whole sets by the built rules, compares faults and codes with those that this script works out by itself, and times them.
 
 usage: bench/sets.py [SETS]
 
-A small program over loop_match (bench/place_check.txt, a Rattle source kept out of the gate by its name) is run unproved in a
-fresh folder, with checks while it runs (half an hour for all). On SETS random sets (20,000 if absent), forty under each random
-guide (nested loops, bounds from 0 to 0 on, picks, a dictionary), and on all bodies of up to five segments of three small guides,
-its faults are compared with those that follow from the rules as they are worded: places from the list of all that may follow,
-faults by counts over the whole placing. A guide that the check refuses as ambiguous is left out. Element faults and codes are
-worked out here too, for the call that is to check whole sets; `structural` leaves them out.
+A small program over set_check (bench/set_check.txt and bench/set_check_proof.txt, kept out of the gate by their names) is proved
+and built in a fresh folder (some minutes; what stands proved in `crates/*/out` isn't proved again). On SETS random sets or more
+(20,000 if absent), forty under each random guide (nested loops, bounds from 0 to 0 on, picks, a dictionary, random rows and
+conditions), on sets without a guide, and on all bodies of up to five segments of three small guides, the faults, their elements and
+the codes are compared with those that follow from the rules as they are worded: places from the list of all that may follow, faults
+by counts over the whole placing. A guide that the check refuses as ambiguous is left out. Then sets of 100,000 and of 1,000,000
+segments are timed, and the growth printed; last, where there is valgrind, the instructions of each segment of clean orders of the
+house guide, and how they grow.
 """
 import itertools
 import os
 import random
+import re
 import shutil
 import subprocess
 import sys
@@ -21,12 +24,18 @@ import tempfile
 from elements import IK403, element_faults, random_conditions, random_element, random_row, row_text
 
 HERE = os.path.dirname(os.path.abspath(__file__))
+HOUSE = os.path.join(HERE, '..', 'examples', 'guides', 'h850.toml')
 IK304 = ['1', '2', '3', '4', '5', '6', '7', '8', 'I4', 'I6', 'I7', 'I8', 'I9']
 BOUNDS = [(0, 0), (0, 1), (0, 1), (1, 1), (1, 1), (0, 2), (1, 2), (2, 2), (2, 3), (0, 9)]
-IDS = ['AAA', 'BB', 'C1', 'DDD', 'EE', 'F12', 'GG', 'H3']
+IDS = ['AAA', 'BB', 'CD', 'DDD', 'EE', 'FGH', 'GG', '4HX']
 EACH = 40
-# how many guides one run of the program takes, which prints a checksum a set and ends within two minutes
-AT_ONCE = 100
+CRATES = ('x12_bytes', 'x12_segs', 'hub_kinds', 'guide_tree', 'guide_law', 'guide_toml', 'elem_rules', 'loop_match', 'env_index',
+          'set_check')
+PROGRAM = 'set_checker: set_check env_index guide_toml guide_tree hub_kinds x12_segs x12_bytes\n'
+FRONT = (b'ISA*00*          *00*          *01*ACME           *ZZ*HUB            '
+         b'*260228*0900*^*00501*000000007*0*P*>~GS*PO*ACME*BOLT*20260228*0900*12*X*005010~')
+BACK = b'GE*1*12~IEA*1*000000007~'
+RUNS = 5
 
 
 def is_loop(node):
@@ -213,7 +222,7 @@ def random_nodes(draw, depth, trigger):
     for _ in range(draw.randint(0 if trigger else 1, 3)):
         if depth and draw.random() < .45:
             least, most = draw.choice(BOUNDS)
-            nodes.append({'loop': draw.choice(['L1', 'L2', 'N']), 'min': least, 'max': most, 'nodes': random_nodes(draw, depth - 1, True)})
+            nodes.append({'loop': draw.choice(['LA', 'LB', 'N']), 'min': least, 'max': most, 'nodes': random_nodes(draw, depth - 1, True)})
         else:
             nodes.append(random_slot(draw))
     return nodes
@@ -221,7 +230,7 @@ def random_nodes(draw, depth, trigger):
 
 def random_guide(draw):
     guide = {'nodes': random_nodes(draw, 3, False), 'dictionary': draw.sample(['XX', 'YYY', 'BB'], draw.randint(0, 2)),
-             'convention': draw.choice(['', '', 'CONV1'])}
+             'convention': draw.choice(['', '', 'CONV'])}
     numbered(guide['nodes'])
     return guide
 
@@ -274,7 +283,7 @@ def random_body(draw, guide):
         elif made == 2:
             body.insert(at, segment_for(draw, draw.choice(slots)))
         elif made == 3:
-            body.insert(at, draw.choice([b'XX*1', b'YYY', b'Q9*1', b'BB*C', b'AAA*B', b'TA1*1']))
+            body.insert(at, draw.choice([b'XX*1', b'YYY', b'QQ*1', b'BB*C', b'AAA*B', b'TA1*1']))
         else:
             draw.shuffle(body)
     return body
@@ -283,7 +292,7 @@ def random_body(draw, guide):
 def random_set(draw, guide):
     body = random_body(draw, guide)
     control = draw.choice([b'0001', b'0001', b'0001', b'12', b'ABC123'])
-    convention = draw.choice([b'', b'', b'*CONV1', b'*OTHER'])
+    convention = draw.choice([b'', b'', b'*CONV', b'*OTHER'])
     header = b'ST*850*' + control + convention
     trailer = None
     if draw.random() < .9:
@@ -295,14 +304,14 @@ def random_set(draw, guide):
 def wanted_of(guide, made):
     header, body, trailer = made
     faults = faults_of(guide, body) if guide else []
-    lines = []
+    codes = codes_of(guide, faults, header, body, trailer)
+    lines = ['set ' + ' '.join(str(list(element(header, k))) for k in (1, 2, 3))]
     for position, code, name, loop_id, number, told in faults:
         line = f'{position} {list(name.encode("latin-1"))} {list(loop_id.encode())} {code} {number}'
         if told:
             line += f' {told[0]} {told[1]} {told[2]} {told[3]} {list(told[4])} {list(told[5])}'
         lines.append(line)
-    lines.append('codes ' + ' '.join(codes_of(guide, faults, header, body, trailer)))
-    return lines
+    return lines + [' '.join(['codes', *codes]), 'clean ' + ('true' if not faults and not codes else 'false')]
 
 
 def set_text(made):
@@ -311,12 +320,12 @@ def set_text(made):
 
 
 SMALL = [
-    [{'seg': 'A1', 'min': 1, 'max': 1}, {'loop': 'L', 'min': 0, 'max': 2, 'nodes': [{'seg': 'B1', 'min': 1, 'max': 1},
-                                                                                    {'seg': 'C1', 'min': 0, 'max': 1}]}],
-    [{'loop': 'L', 'min': 1, 'max': 1, 'nodes': [{'seg': 'A1', 'min': 1, 'max': 1}, {'loop': 'M', 'min': 2, 'max': 3, 'nodes': [
-        {'seg': 'B1', 'min': 1, 'max': 1}]}, {'seg': 'C1', 'min': 1, 'max': 1}]}],
-    [{'seg': 'A1', 'min': 0, 'max': 0}, {'seg': 'B1', 'min': 2, 'max': 2}, {'loop': 'L', 'min': 0, 'max': 0, 'nodes': [
-        {'seg': 'C1', 'min': 1, 'max': 1}]}],
+    [{'seg': 'AB', 'min': 1, 'max': 1}, {'loop': 'L', 'min': 0, 'max': 2, 'nodes': [{'seg': 'BC', 'min': 1, 'max': 1},
+                                                                                    {'seg': 'CD', 'min': 0, 'max': 1}]}],
+    [{'loop': 'L', 'min': 1, 'max': 1, 'nodes': [{'seg': 'AB', 'min': 1, 'max': 1}, {'loop': 'M', 'min': 2, 'max': 3, 'nodes': [
+        {'seg': 'BC', 'min': 1, 'max': 1}]}, {'seg': 'CD', 'min': 1, 'max': 1}]}],
+    [{'seg': 'AB', 'min': 0, 'max': 0}, {'seg': 'BC', 'min': 2, 'max': 2}, {'loop': 'L', 'min': 0, 'max': 0, 'nodes': [
+        {'seg': 'CD', 'min': 1, 'max': 1}]}],
 ]
 
 
@@ -331,9 +340,9 @@ def filled(nodes):
 
 def small_cases():
     for nodes in SMALL:
-        guide = {'nodes': filled(nodes), 'dictionary': ['D1'], 'convention': ''}
+        guide = {'nodes': filled(nodes), 'dictionary': ['DE'], 'convention': ''}
         numbered(guide['nodes'])
-        bodies = [list(body) for length in range(6) for body in itertools.product([b'A1', b'B1', b'C1', b'D1', b'E1'], repeat=length)]
+        bodies = [list(body) for length in range(6) for body in itertools.product([b'AB', b'BC', b'CD', b'DE', b'EF'], repeat=length)]
         yield guide, [(b'ST*850*0001', body, b'SE*%d*0001' % (len(body) + 2)) for body in bodies]
 
 
@@ -342,90 +351,143 @@ def random_cases(count):
     for _ in range(count // EACH):
         guide = random_guide(draw)
         yield guide, [random_set(draw, guide) for _ in range(EACH)]
+        if draw.random() < .05:
+            yield None, [random_set(draw, guide) for _ in range(EACH)]
 
 
 # the program
 
 def build(folder):
     crates = os.path.join(folder, 'crates')
-    shutil.copytree(os.path.join(HERE, '..', 'crates'), crates, ignore=shutil.ignore_patterns('trial_*', 'nighthub', 'wrong'))
-    program = os.path.join(crates, 'place_checker')
+    for crate in CRATES:
+        shutil.copytree(os.path.join(HERE, '..', 'crates', crate), os.path.join(crates, crate))
+    program = os.path.join(crates, 'set_checker')
     os.makedirs(os.path.join(program, 'src'))
-    shutil.copy(os.path.join(HERE, 'place_check.txt'), os.path.join(program, 'src', 'main.rt'))
+    shutil.copy(os.path.join(HERE, 'set_check.txt'), os.path.join(program, 'src', 'main.rt'))
+    proof = os.path.join(program, 'proofs', 'check_interchange')
+    os.makedirs(proof)
+    shutil.copy(os.path.join(HERE, 'set_check_proof.txt'), os.path.join(proof, 'Answers.antt'))
     with open(os.path.join(HERE, '..', 'crates.txt')) as listed:
-        kept = [line for line in listed if not line.startswith(('trial_', 'nighthub'))]
+        kept = [line for line in listed if line.split(':')[0] in CRATES]
     with open(os.path.join(folder, 'crates.txt'), 'w') as out:
-        out.writelines(kept + ['place_checker: loop_match guide_toml guide_tree hub_kinds x12_segs x12_bytes\n'])
+        out.writelines(kept + [PROGRAM])
     open(os.path.join(folder, 'MODULE.bazel'), 'w').close()
-    return program
+    said = subprocess.run(['rt', 'run'], cwd=program, capture_output=True, text=True)
+    built = os.path.join(program, 'out', 'set_checker')
+    if not os.path.exists(built):
+        sys.exit(said.stdout + said.stderr)
+    return built
 
 
-def checksum(lines):
-    value = 14695981039346656037
-    for byte in ''.join(line + '\n' for line in lines).encode():
-        value = (value ^ byte) * 1099511628211 % 2 ** 64
-    return value
+def write_case(folder, number, guide, sets):
+    """A line for the program: the path of the guide, and that of an interchange with one group of these sets."""
+    paths = [os.path.join(folder, f'{number}.{end}') for end in ('toml', 'x12')]
+    with open(paths[0], 'w') as out:
+        out.write(guide_text(guide) if guide else '')
+    with open(paths[1], 'wb') as out:
+        out.write(FRONT + b''.join(set_text(made) for made in sets) + BACK)
+    return f'{paths[0] if guide else "-"} {paths[1]}\n'
 
 
-def run(program, folder, cases, *words):
-    """One case a line in a file of cases: the guide's path and the sets' path. What is printed, case by case."""
-    lines = []
-    for number, (guide, sets) in enumerate(cases):
-        paths = [os.path.join(folder, f'{number}.{end}') for end in ('toml', 'sets')]
-        with open(paths[0], 'w') as out:
-            out.write(guide_text(guide) if guide else '')
-        with open(paths[1], 'wb') as out:
-            out.write(b''.join((b'c' if made[2] else b'o') + set_text(made) + b'\n' for made in sets))
-        lines.append(f'{paths[0]} {paths[1]}\n')
+def run(built, folder, cases):
+    """What is printed, case by case and set by set; nothing of a guide that is refused."""
     listed = os.path.join(folder, 'cases')
     with open(listed, 'w') as out:
-        out.writelines(lines)
-    said = subprocess.run(['rt', 'try', '--', listed, *words], cwd=program, capture_output=True, text=True)
-    if said.returncode:
-        sys.exit(said.stdout[-2000:] + said.stderr[-4000:])
-    parts = said.stdout.split('case\n')[1:]
+        out.writelines(write_case(folder, number, guide, sets) for number, (guide, sets) in enumerate(cases))
+    said = subprocess.run([built, listed], capture_output=True, text=True, check=True).stdout
+    parts = said.split('case\n')[1:]
     assert len(parts) == len(cases), (len(parts), len(cases))
-    return parts
+    return [part.replace('\nset ', '\n\nset ').split('\n\n') for part in parts]
 
 
-def differ(program, folder, guide, made, wanted):
-    """Prints what is got for one set, in words, beside what is wanted."""
-    got = run(program, folder, [(guide, [made])], 'each')[0].splitlines()[:-1]
-    told = '\n'.join(f'{"  " if a == b else "! "}{a!s:60} {b}' for a, b in itertools.zip_longest(got, wanted))
-    sys.exit(f'{guide_text(guide) if guide else "no guide"}\n{set_text(made)}\ngot, and wanted:\n{told}')
+def compare(title, built, folder, cases):
+    refused = compared = faults = clean = 0
+    for printed, (guide, sets) in zip(run(built, folder, cases), cases):
+        if printed[0].startswith('refused'):
+            refused += 1
+            continue
+        assert len(printed) == len(sets), (len(printed), len(sets))
+        for told, made in zip(printed, sets):
+            got, wanted = told.splitlines(), wanted_of(guide, made)
+            if got != wanted:
+                beside = '\n'.join(f'{"  " if a == b else "! "}{a!s:60} {b}' for a, b in itertools.zip_longest(got, wanted))
+                sys.exit(f'{guide_text(guide) if guide else "no guide"}\n{set_text(made)}\ngot, and wanted:\n{beside}')
+            compared += 1
+            faults += len(wanted) - 3
+            clean += wanted[-1] == 'clean true'
+    print(f'{title}: {compared} sets, {faults} faults, {clean} sets clean, all equal; {refused} of {len(cases)} guides refused',
+          flush=True)
 
 
-def structural(lines):
-    return [line for line in lines if not line.startswith('codes') and line.split(']')[2].split()[0] != '8']
+# what large sets cost
+
+ORDER_HEAD = [b'BEG*00*SA*PO100**20260228', b'REF*DP*100*SALES', b'DTM*002*20260228*0900', b'N9*DP*100', b'MSG*HANDLE WITH CARE',
+              b'N1*ST*NORTH STORE*92*0001', b'N3*1 MAIN STREET*SUITE 2', b'N4*NORTHTOWN*NY*10001*US']
+ORDER_LINE = [b'PO1*1*5*EA*2.50*TE*UP*012345678905', b'PID*F*08***BLUE CHAIR']
 
 
-def compare(title, program, folder, cases):
-    refused = compared = faults = 0
-    for first in range(0, len(cases), AT_ONCE):
-        some = cases[first:first + AT_ONCE]
-        for part, (guide, sets) in zip(run(program, folder, some), some):
-            if part.startswith('refused'):
-                refused += 1
-                continue
-            sums = part.split()
-            assert len(sums) >= len(sets), (len(sums), len(sets))
-            for told, made in zip(sums, sets):
-                wanted = structural(wanted_of(guide, made))
-                if int(told) != checksum(wanted):
-                    differ(program, folder, guide, made, wanted)
-                compared += 1
-                faults += len(wanted)
-    print(f'{title}: {compared} sets, {faults} faults, all equal; {refused} of {len(cases)} guides refused', flush=True)
+def sealed(body):
+    return b'ST*850*0001', body, b'SE*%d*0001' % (len(body) + 2)
+
+
+def long_set(part, count):
+    """A set of so many segments: an order's, then this part again and again."""
+    return sealed(ORDER_HEAD + (part * count)[:count - 2 - len(ORDER_HEAD)])
+
+
+def counting(folder, guide, made):
+    """The words that have the program count the faults of one set by a guide file."""
+    path, listed = os.path.join(folder, 'long.x12'), os.path.join(folder, 'cases')
+    with open(path, 'wb') as out:
+        out.write(FRONT + set_text(made) + BACK)
+    with open(listed, 'w') as out:
+        out.write(f'{guide} {path}\n')
+    return [listed, 'count']
+
+
+def grow(built, folder):
+    # the house guide, but for the greatest number of lines
+    wide = os.path.join(folder, 'wide.toml')
+    with open(HOUSE) as text, open(wide, 'w') as out:
+        out.write(text.read().replace('max=99999,', 'max=999999,'))
+    for name, part in (('clean lines', ORDER_LINE), ('an element wrong in each', [b'PO1*1*5*EA*2.50*TE*UP', b'PID*G']),
+                       ('strays', [b'QQ*1']), ('one segment too often', ORDER_HEAD[:1]), ('one loop too often', ORDER_HEAD[3:5])):
+        took = []
+        for count in (100_000, 1_000_000):
+            words = counting(folder, wide, long_set(part, count))
+            said = [subprocess.run([built, *words], capture_output=True, text=True, check=True).stdout for _ in range(RUNS)]
+            told = re.findall(r'(\d+) faults in (\d+) nanoseconds', ''.join(said))
+            took.append(min(int(nanoseconds) for _, nanoseconds in told) / 1e6)
+        print(f'{name}: {took[1]:.0f} ms for 1,000,000 segments with {told[0][0]} faults, {took[0]:.1f} ms for 100,000, the least of '
+              f'{RUNS} runs: growth {took[1] / took[0]:.1f}', flush=True)
+
+
+def instructions(built, words):
+    """How many instructions the program spends in the check."""
+    said = subprocess.run(['valgrind', '--tool=callgrind', '--callgrind-out-file=/dev/null', '--toggle-collect=*checked_set*',
+                           built, *words], capture_output=True, text=True, check=True)
+    assert '\n0 faults' in said.stdout, said.stdout
+    return int(re.search(r'Collected : (\d+)', said.stderr)[1])
+
+
+def clean(built, folder):
+    if not shutil.which('valgrind'):
+        return
+    for name, part in (('lines with a description', ORDER_LINE), ('short lines', [b'PO1*1*5*EA*2.50'])):
+        few, many = (instructions(built, counting(folder, HOUSE, long_set(part, count))) for count in (10_000, 100_000))
+        print(f'a clean order, {name}: {many / 100_000:.0f} instructions a segment of 100,000, growth from 10,000 {many / few:.2f}',
+              flush=True)
 
 
 def main():
     count = int(sys.argv[1]) if len(sys.argv) > 1 else 20_000
     with tempfile.TemporaryDirectory() as folder:
-        program = build(folder)
-        compare('all bodies of up to five segments', program, folder, list(small_cases()))
-        # about half of the random guides are ambiguous, so more than twice as many are made
-        made = list(random_cases(5 * count // 2))
-        compare('random sets under random guides', program, folder, made)
+        built = build(folder)
+        compare('all bodies of up to five segments', built, folder, list(small_cases()))
+        # more than half of the random guides are ambiguous, so three times as many are made
+        compare('random sets under random guides', built, folder, list(random_cases(3 * count)))
+        grow(built, folder)
+        clean(built, folder)
 
 
 if __name__ == '__main__':
