@@ -5,3 +5,4 @@ mod Giving
 mod Finding
 mod Passing
 mod Numbered
+mod Rounds

@@ -1,4 +1,5 @@
 pub mod Given
 pub mod Steps
 pub mod Leaving
+pub mod LoopIds
 pub mod Passed

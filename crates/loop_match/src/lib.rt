@@ -11,6 +11,7 @@
 mod fit;
 mod found;
 mod leaving;
+mod loop_id;
 mod next;
 mod pass;
 mod placing;
@@ -19,5 +20,6 @@ mod steps;
 mod stray;
 mod walk;
 
+pub use loop_id::loop_id_of;
 pub use next::Step;
 pub use placing::{Placing, place_all};
