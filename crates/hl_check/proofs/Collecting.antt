@@ -10,7 +10,8 @@ use Rattle.guide_tree.specs.Nexts.{Candidate}
 use Rattle.loop_match.specs.Given.{place_in}
 use Rattle.hl_check.specs.Hierarchy.{HlSegment, hl_placed, and_then, first_hls}
 
-place_there : (given : List (Option Candidate)) (i : ℕ) → slice_index_or (map place_in given) i None ≡ place_in (slice_index_or given i None)
+place_there : (given : List (Option Candidate)) (i : ℕ)
+    → slice_index_or (map place_in given) i None ≡ place_in (slice_index_or given i None)
 place_there given i = get_or-map place_in given i None
 
 texts_there : (segs : List SegValue) (i : ℕ) (seg : SegValue) → seg ≡ get_or segs i seg → i < length segs
@@ -24,6 +25,7 @@ pub next_hls : (ts : Trees) (segs : List SegValue) (given : List (Option Candida
 next_hls ts segs given i seg o e l is =
     let before = first_hls ts (map elements_of segs) (map place_in given) i in
     ap (first_hls ts (map elements_of segs) (map place_in given)) (add-one i)
-    ∙ ap (λ (s : List (List ℕ)). and_then before (hl_placed ts i s (slice_index_or (map place_in given) i None))) (texts_there segs i seg e l)
+    ∙ ap (λ (s : List (List ℕ)). and_then before (hl_placed ts i s (slice_index_or (map place_in given) i None)))
+    (texts_there segs i seg e l)
     ∙ ap (λ (p : Option Place). and_then before (hl_placed ts i (elements_of seg) p)) (place_there given i)
     ∙ ap (and_then before) (sym is)

@@ -42,7 +42,8 @@ from_behind rule d earlier h later f c =
     ]
 
 abbrev ShowsBehind : HlRule → Delims → List HlSegment → ℕ → Fault → Type 0
-ShowsBehind rule d hls n f = (k : ℕ) × (h : HlSegment) × (k < n) × (slice_get hls k ≡ Some h) × Contains (faults_behind rule d (take k hls) h) f
+ShowsBehind rule d hls n f =
+    (k : ℕ) × (h : HlSegment) × (k < n) × (slice_get hls k ≡ Some h) × Contains (faults_behind rule d (take k hls) h) f
 
 from_at : (rule : HlRule) (d : Delims) (hls : List HlSegment) (n : ℕ) (o : Option HlSegment) (f : Fault) → slice_get hls n ≡ o
     → Contains (faults_at rule d (take n hls) o) f → ShowsBehind rule d hls (suc n) f

@@ -93,7 +93,8 @@ body_of texts = map (parts 42) (codes "BSN*00" ∷ texts)
 
 -- a body of BSN and these texts has exactly these faults by a guide with these rows of HL and this rule
 record Shows (hl : List Element) (rule : Option HlRule) (texts : List (List ℕ)) (faults : List Fault) : Type 0 where
-  pub each : (f : Fault) → IsHierarchyFault (guide hl rule) delims (body_of texts) (placing_of (notice hl) (body_of texts)) f ↔ Contains faults f
+  pub each : (f : Fault)
+      → IsHierarchyFault (guide hl rule) delims (body_of texts) (placing_of (notice hl) (body_of texts)) f ↔ Contains faults f
 
 abbrev hls : List Element → List (List ℕ) → List HlSegment
 hls hl texts = hls_of (notice hl) (body_of texts) (placing_of (notice hl) (body_of texts))
@@ -130,7 +131,8 @@ abbrev wrong_child : ℕ → List ℕ → Fault
 wrong_child position copy = told position 4 ik403.PatternFailure (codes "736") copy
 
 -- a hierarchy in which nothing is wrong, and a set without HL
-clean : Shows rows (Some (rule true)) (codes "HL*1**S*1" ∷ codes "HL*2*1*O*1" ∷ codes "HL*3*2*P*0" ∷ codes "HL*4*2*P" ∷ codes "HL*5**S*0" ∷ [])
+clean : Shows rows (Some (rule true))
+    (codes "HL*1**S*1" ∷ codes "HL*2*1*O*1" ∷ codes "HL*3*2*P*0" ∷ codes "HL*4*2*P" ∷ codes "HL*5**S*0" ∷ [])
     []
 unfolding digits
 clean = exactly refl

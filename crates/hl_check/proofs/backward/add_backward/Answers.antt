@@ -11,7 +11,8 @@ loop-left-preserved c =
     let all : List HlSegment = hls_view (drop (c.loop-left.left - 1) c.args.hls.now) in
     let known = c.loop-left.invariant.named in
     let e : all ≡ hl_view c.index-hls-left.result ∷ later =
-    drop_views c.args.hls.now (c.loop-left.left - 1) c.loop-left.left c.index-hls-left.result c.index-hls-left.is (omega arith) (omega arith) in
+    drop_views c.args.hls.now (c.loop-left.left - 1) c.loop-left.left c.index-hls-left.result c.index-hls-left.is (omega arith)
+    (omega arith) in
     record {
       within = omega arith;
       named = subst (KnowsNamed c.add_before.new.named c.args.delims) (sym e) (c.in_ok-add_before.ensures.named later known);

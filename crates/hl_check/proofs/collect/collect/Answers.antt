@@ -13,4 +13,5 @@ loop-i-preserved c =
     ∙ ap (λ (hls : List HlSegment). and_then hls next) c.loop-i.invariant
     ∙ sym (next_hls (nodes_view c.args.nodes.now) c.args.segs.now c.args.placing.now.given c.loop-i.i c.index-segs-i.result next
     c.index-segs-i.is c.loop-i-test.true
-    (c.hl_placed-next.ensures ∙ ap (hl_placed (nodes_view c.args.nodes.now) c.loop-i.i (elements_of c.index-segs-i.result)) c.place.ensures))
+    (c.hl_placed-next.ensures ∙ ap (hl_placed (nodes_view c.args.nodes.now) c.loop-i.i (elements_of c.index-segs-i.result))
+    c.place.ensures))

@@ -18,6 +18,7 @@ loop-i-preserved c =
       levels = subst (KnowsLevels c.add_behind.new.levels) (sym (take_views c.args.hls.now c.loop-i.i c.index-hls-i.result c.index-hls-i.is
           (omega arith))) (c.in_ok-add_behind.ensures.levels earlier known);
       told = forward_more c.args.faults.now.items c.loop-i.faults.items c.add_behind.new.faults.items c.args.rule.now c.args.delims hls
-          c.loop-i.i (hl_view c.index-hls-i.result) (view_there c.args.hls.now c.loop-i.i c.index-hls-i.result c.index-hls-i.is (omega arith))
+          c.loop-i.i (hl_view c.index-hls-i.result) (view_there c.args.hls.now c.loop-i.i c.index-hls-i.result c.index-hls-i.is
+          (omega arith))
           c.loop-i.invariant.told (c.in_ok-add_behind.ensures.faults earlier known count);
     }
