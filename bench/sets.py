@@ -9,13 +9,14 @@ and built in a fresh folder (some minutes; what stands proved in `crates/*/out` 
 conditions), on sets without a guide, and on all bodies of up to five segments of three small guides, the faults, their elements and
 the codes are compared with those that follow from the rules as they are worded: places from the list of all that may follow, faults
 by counts over the whole placing. A guide that the check refuses as ambiguous is left out. Then sets of 100,000 and of 1,000,000
-segments are timed, and the growth printed; last, where there is valgrind, the instructions of each segment of clean orders of the
-house guide, and how they grow.
+segments are timed, and the growth of the processor time printed; last, where there is valgrind, the instructions of each segment of
+clean orders of the house guide, and how they grow.
 """
 import itertools
 import os
 import random
 import re
+import resource
 import shutil
 import subprocess
 import sys
@@ -445,6 +446,12 @@ def counting(folder, guide, made):
     return [listed, 'count']
 
 
+def processor():
+    """The processor seconds of all programs that were run so far."""
+    used = resource.getrusage(resource.RUSAGE_CHILDREN)
+    return used.ru_utime + used.ru_stime
+
+
 def grow(built, folder):
     # the house guide, but for the greatest number of lines
     wide = os.path.join(folder, 'wide.toml')
@@ -452,14 +459,16 @@ def grow(built, folder):
         out.write(text.read().replace('max=99999,', 'max=999999,'))
     for name, part in (('clean lines', ORDER_LINE), ('an element wrong in each', [b'PO1*1*5*EA*2.50*TE*UP', b'PID*G']),
                        ('strays', [b'QQ*1']), ('one segment too often', ORDER_HEAD[:1]), ('one loop too often', ORDER_HEAD[3:5])):
-        took = []
+        took, spent = [], []
         for count in (100_000, 1_000_000):
-            words = counting(folder, wide, long_set(part, count))
+            words, before = counting(folder, wide, long_set(part, count)), processor()
             said = [subprocess.run([built, *words], capture_output=True, text=True, check=True).stdout for _ in range(RUNS)]
             told = re.findall(r'(\d+) faults in (\d+) nanoseconds', ''.join(said))
             took.append(min(int(nanoseconds) for _, nanoseconds in told) / 1e6)
+            spent.append((processor() - before) / RUNS)
         print(f'{name}: {took[1]:.0f} ms for 1,000,000 segments with {told[0][0]} faults, {took[0]:.1f} ms for 100,000, the least of '
-              f'{RUNS} runs: growth {took[1] / took[0]:.1f}', flush=True)
+              f'{RUNS} runs; the whole program {spent[1]:.2f} and {spent[0]:.3f} processor seconds: growth {spent[1] / spent[0]:.1f}',
+              flush=True)
 
 
 def instructions(built, words):

@@ -1,7 +1,6 @@
 -- The sets of an interchange stand alone in the text.
-use Rattle.std.proofs.Common.{◌≡◌, ℕ, ◌+◌, ◌≤◌, List, [], ◌∷◌, ◌++◌, Bool, true, false, ◌&&◌, cond, length, map}
-use Rattle.std.proofs.Common.{Option, Some, None, is_some}
-use Rattle.std.proofs.Common.{refl, sym, ap, subst, ◌∙◌, arith, append_assoc}
+use Rattle.std.proofs.Common.{◌≡◌, ℕ, ◌+◌, ◌≤◌, List, [], ◌∷◌, ◌++◌, Bool, true, false, ◌&&◌, cond, Option, Some, None, is_some}
+use Rattle.std.proofs.Common.{length, map, refl, sym, ap, subst, ◌∙◌, arith, append_assoc}
 use Rattle.std.specs.List.{flat_map, list_all}
 use Rattle.std.proofs.lemmas.List.{map-append}
 use Rattle.x12_bytes.specs.Header.{delims_of, header_at}
@@ -17,8 +16,8 @@ use Rattle.x12_segs.specs.declared.kind.Kind.TheVariants.{SetHeader, SetTrailer}
 use Rattle.x12_segs.specs.declared.set_span.SetSpan.{SetSpan}
 use Rattle.x12_segs.proofs.RunLemmas.{stands_alone}
 use Rattle.env_index.specs.Envelope.{Set, InGroup, ASet, OutOfGroup, InBody, ANotice, AGroup, OutOfBody, Body, option_items, set_items}
-use Rattle.env_index.specs.Envelope.{in_group_items, group_items, in_body_items, ends_set}
-use Rattle.env_index.specs.Envelope.{Closed, IsSet, AreMembers, AreBodyMembers, Derives}
+use Rattle.env_index.specs.Envelope.{in_group_items, group_items, in_body_items, ends_set, Closed, IsSet, AreMembers, AreBodyMembers}
+use Rattle.env_index.specs.Envelope.{Derives}
 use Rattle.env_index.specs.Extents.{Reach, behind, behind_last, onto_reach, ends_interchange, reach_at, reach_of}
 use Rattle.env_index.specs.Spans.{SetStandsAlone, EachSet, EachSetIn, span_of}
 use Rattle.env_index.specs.Summary.{set_entry}

@@ -1,0 +1,160 @@
+//! What is found in the sets of an interchange.
+ghost use Rattle.std.specs.Prelude.{◌≤◌, length, IsTrue, Some};
+ghost use Rattle.std.specs.List.{All};
+ghost use Rattle.std.specs.Option.{option_copied};
+ghost use Rattle.hub_kinds.specs.declared.limits.TheConstants.{LONGEST_TEXT};
+ghost use Rattle.x12_segs.specs.Spans.{IsSetSpan};
+ghost use Rattle.env_index.specs.Spans.{HasSpans, span_of};
+ghost use Rattle.guide_tree.specs.View.{guide_of};
+ghost use Rattle.set_check.specs.Checked.{IsPlain, said_by};
+
+use env_index::{GroupEnvelope, Interchange, read_interchange};
+use guide_tree::Guide;
+use hub_kinds::{ElemFault, Fault, SetCode, code_text, within_limit};
+use set_check::check_set;
+use std::alloc::Global;
+use std::test::Fail;
+use x12_bytes::Delims;
+use x12_segs::SetSpan;
+
+const FRONT: &[u8] =
+    b"ISA*00*          *00*          *01*ACME           *ZZ*HUB            *260228*0900*^*00501*000000007*0*P*>~\
+      GS*PO*ACME*BOLT*20260228*0900*12*X*005010~";
+
+const BACK: &[u8] = b"GE*1*12~IEA*1*000000007~";
+
+fn add_elem(out: &mut Vec<u8>, alloc: Global, elem: &ElemFault) -> Result<(), Fail> {
+    let numbers = format!(in alloc;
+        " {}.{}.{} {} ",
+        elem.element,
+        elem.component,
+        elem.repetition,
+        code_text(elem.code)
+    )?;
+    out.extend_from_slice(numbers.as_bytes())?;
+    out.extend_from_slice(elem.reference.as_slice())?;
+    out.push(b' ')?;
+    out.extend_from_slice(elem.copy.as_slice())?;
+    Ok(())
+}
+
+fn add_fault(out: &mut Vec<u8>, alloc: Global, fault: &Fault) -> Result<(), Fail> {
+    out.extend_from_slice(format!(in alloc; "{} ", fault.position)?.as_bytes())?;
+    out.extend_from_slice(fault.id.as_slice())?;
+    out.push(b'(')?;
+    out.extend_from_slice(fault.loop_id.as_slice())?;
+    let rest = format!(in alloc; ") {} {}", code_text(fault.code), fault.slot)?;
+    out.extend_from_slice(rest.as_bytes())?;
+    if let Some(elem) = &fault.elem {
+        add_elem(out, alloc, elem)?;
+    }
+    out.push(b';')?;
+    Ok(())
+}
+
+fn add_faults(out: &mut Vec<u8>, alloc: Global, faults: &[Fault]) -> Result<(), Fail> {
+    for fault in faults {
+        add_fault(out, alloc, fault)?;
+    }
+    Ok(())
+}
+
+fn add_codes(out: &mut Vec<u8>, codes: &[SetCode]) -> Result<(), Fail> {
+    for code in codes {
+        out.push(b' ')?;
+        out.extend_from_slice(code_text(*code).as_bytes())?;
+    }
+    out.push(b'\n')?;
+    Ok(())
+}
+
+fn add_set(
+    out: &mut Vec<u8>,
+    alloc: Global,
+    text: &[u8],
+    span: SetSpan,
+    guide: Option<&Guide>,
+) -> Result<(), Fail>
+    requires span { IsSetSpan text.now span }
+    requires plain { IsPlain (said_by (option_copied guide)) }
+{
+    let set = check_set(alloc, text, span, guide)?;
+    if set.is_clean() {
+        out.extend_from_slice(b" clean")?;
+    }
+    add_faults(out, alloc, set.faults())?;
+    add_codes(out, set.codes())
+}
+
+fn add_group(
+    out: &mut Vec<u8>,
+    alloc: Global,
+    text: &[u8],
+    delims: Delims,
+    group: &GroupEnvelope,
+    guide: Option<&Guide>,
+) -> Result<(), Fail>
+    requires spans { All (λ set. IsSetSpan text.now (span_of delims set)) group.now.sets }
+    requires plain { IsPlain (said_by (option_copied guide)) }
+{
+    for index in 0..group.set_count() {
+        let set = group.set(index);
+        add_set(out, alloc, text, set.span(delims), guide)?;
+    }
+    Ok(())
+}
+
+fn add_interchange(
+    out: &mut Vec<u8>,
+    alloc: Global,
+    text: &[u8],
+    interchange: &Interchange,
+    guide: Option<&Guide>,
+) -> Result<(), Fail>
+    requires spans { HasSpans text.now interchange.now }
+    requires plain { IsPlain (said_by (option_copied guide)) }
+{
+    let delims = interchange.header().delims();
+    for index in 0..interchange.group_count() {
+        let group = interchange.group(index);
+        add_group(out, alloc, text, delims, &group, guide)?;
+    }
+    Ok(())
+}
+
+/// What is found in each of these sets of one group, written.
+fn told(alloc: Global, guide: Option<&Guide>, sets: &str) -> Result<Vec<u8>, Fail>
+    requires plain { IsPlain (said_by (option_copied guide)) }
+{
+    let mut text = Vec::from_slice(alloc, FRONT)?;
+    text.extend_from_slice(sets.as_bytes())?;
+    text.extend_from_slice(BACK)?;
+    if !within_limit(text.len() as u64) {
+        return Err("too long".into());
+    }
+    let interchange = read_interchange(alloc, text.as_slice(), 0)?.ok_or("no interchange")?;
+    let mut out = Vec::new(alloc);
+    add_interchange(&mut out, alloc, text.as_slice(), &interchange, guide)?;
+    Ok(out)
+}
+
+/// Whether a guide has neither a rule of hierarchies nor dependencies.
+fn is_plain(guide: &Guide) -> bool
+    ensures { IsTrue result → IsPlain (Some (guide_of guide.now)) }
+{
+    let rows = guide.rows();
+    rows.hl.is_none() && rows.depends.as_slice().is_empty()
+}
+
+/// What is found in each of these sets by a guide.
+pub fn told_by(alloc: Global, guide: &Guide, sets: &str) -> Result<Vec<u8>, Fail> {
+    if !is_plain(guide) {
+        return Err("not plain".into());
+    }
+    told(alloc, Some(guide), sets)
+}
+
+/// What is found in each of these sets without a guide.
+pub fn told_alone(alloc: Global, sets: &str) -> Result<Vec<u8>, Fail> {
+    told(alloc, None, sets)
+}
