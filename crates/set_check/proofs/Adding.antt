@@ -15,7 +15,8 @@ use Rattle.guide_tree.specs.Places.{Place, slot_at, slot_given}
 use Rattle.guide_law.proofs.Among.{in_map, in_mapped, in_contains, contains_in}
 use Rattle.elem_rules.specs.ElementFaults.{IsElementFault}
 use Rattle.loop_match.specs.Given.{place_in, slot_in}
-use Rattle.set_check.specs.SetFaults.{told_by, loop_id_of}
+use Rattle.loop_match.specs.LoopIds.{loop_id_of}
+use Rattle.set_check.specs.SetFaults.{told_by}
 use Rattle.set_check.specs.Adding.{IsTold, IsErrorBelow, Adds}
 
 pub told_adds : (old new : List Fault) (found : List ElemFault) (position : ℕ) (seg : SegValue) (loop_id : List ℕ) (slot : Slot)

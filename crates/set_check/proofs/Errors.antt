@@ -14,7 +14,8 @@ use Rattle.guide_law.proofs.Among.{in_left, in_right, in_cases, in_map, in_mappe
 use Rattle.elem_rules.specs.ElementFaults.{IsElementFault}
 use Rattle.elem_rules.specs.Found.{found}
 use Rattle.elem_rules.proofs.Membership.{found_is, is_found}
-use Rattle.set_check.specs.SetFaults.{told_by, loop_id_of}
+use Rattle.loop_match.specs.LoopIds.{loop_id_of}
+use Rattle.set_check.specs.SetFaults.{told_by}
 use Rattle.set_check.specs.Adding.{AreSound}
 
 abbrev pub told : Trees → Delims → (at : ℕ) → Segment → Place → Option Slot → List Fault

@@ -20,7 +20,8 @@ use Rattle.guide_tree.specs.Structure.{past_code, few_code, stray_code, IsStruct
 use Rattle.elem_rules.specs.ElementFaults.{IsElementFault}
 use Rattle.elem_rules.proofs.Membership.{is_found, keyed}
 use Rattle.set_check.specs.SetParts.{SetParts, end_position}
-use Rattle.set_check.specs.SetFaults.{IsSetFault, IsErrorIn, told_by, loop_id_of}
+use Rattle.loop_match.specs.LoopIds.{loop_id_of}
+use Rattle.set_check.specs.SetFaults.{IsSetFault, IsErrorIn, told_by}
 use Rattle.set_check.specs.Adding.{AreSound}
 
 -- no structural fault has code 8

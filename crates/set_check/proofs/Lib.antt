@@ -7,7 +7,6 @@ mod Keyed
 mod Meeting
 mod NoCodes
 mod NoFaults
-mod Rounds
 mod SoundPlaces
 mod Spans
 mod Told

@@ -14,7 +14,8 @@ use Rattle.guide_tree.specs.Structure.{IsStructureFault}
 use Rattle.guide_law.specs.Law.{HasSlots, IsFaultless, DerivedIsPlaced, PlacedIsDerived, IsOnlyPlacing}
 use Rattle.elem_rules.specs.ElementFaults.{IsElementFault}
 use Rattle.set_check.specs.SetParts.{SetParts, end_position}
-use Rattle.set_check.specs.SetFaults.{IsSetFault, told_by, loop_id_of}
+use Rattle.loop_match.specs.LoopIds.{loop_id_of}
+use Rattle.set_check.specs.SetFaults.{IsSetFault, told_by}
 
 -- a member stands at an index, and what stands at an index is a member
 pub index_of : {X : Type 0} (xs : List X) (x : X) → Contains xs x → (i : ℕ) × (slice_get xs i ≡ Some x)

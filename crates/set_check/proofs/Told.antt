@@ -11,7 +11,8 @@ use Rattle.guide_tree.proofs.Among.{In}
 use Rattle.guide_law.proofs.Among.{in_left, in_right, in_cases, in_contains, contains_in}
 use Rattle.guide_law.proofs.Faulty.{members}
 use Rattle.set_check.specs.SetParts.{SetParts, end_position}
-use Rattle.set_check.specs.SetFaults.{IsErrorIn, AreSetFaults, codes_with, told_by, loop_id_of}
+use Rattle.loop_match.specs.LoopIds.{loop_id_of}
+use Rattle.set_check.specs.SetFaults.{IsErrorIn, AreSetFaults, codes_with, told_by}
 use Rattle.set_check.specs.Meets.{MeetsAlone}
 use Rattle.set_check.specs.MeetsLaw.{IsWellGuided}
 use Rattle.set_check.proofs.Errors.{errors_from, IsErrorFrom, is_error, error_is}

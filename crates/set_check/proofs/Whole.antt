@@ -23,7 +23,8 @@ use Rattle.guide_tree.specs.Structure.{IsStructureFault}
 use Rattle.elem_rules.specs.ElementFaults.{IsElementFault}
 use Rattle.elem_rules.proofs.Members.{no_member}
 use Rattle.set_check.specs.SetParts.{parts_of, inner_of, before_trailer, end_position}
-use Rattle.set_check.specs.SetFaults.{AreSetFaults, IsSetFault, IsErrorIn, told_by, loop_id_of}
+use Rattle.loop_match.specs.LoopIds.{loop_id_of}
+use Rattle.set_check.specs.SetFaults.{AreSetFaults, IsSetFault, IsErrorIn, told_by}
 use Rattle.set_check.specs.Adding.{Adds, IsErrorBelow}
 use Rattle.guide_law.proofs.Keyed.{keyed}
 use Rattle.hub_kinds.specs.Fault.{key_of}

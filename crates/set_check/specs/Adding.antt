@@ -9,7 +9,8 @@ use Rattle.guide_tree.specs.Tree.{Trees}
 use Rattle.guide_tree.specs.Places.{Place, slot_at}
 use Rattle.guide_tree.specs.Slots.{IsSound}
 use Rattle.elem_rules.specs.ElementFaults.{IsElementFault}
-use Rattle.set_check.specs.SetFaults.{told_by, loop_id_of}
+use Rattle.loop_match.specs.LoopIds.{loop_id_of}
+use Rattle.set_check.specs.SetFaults.{told_by}
 
 -- a fault of a segment's elements, as the segment at a position tells it
 pub record IsTold (position : ℕ) (seg : SegValue) (loop_id : List ℕ) (slot : Slot) (f : Fault) : Type 0 where

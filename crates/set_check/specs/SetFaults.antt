@@ -1,40 +1,21 @@
 -- 999 guide, IK3 and IK4: what is wrong with the segments of a set, by its guide; and the set's codes.
-use Rattle.std.specs.Prelude.{ℕ, zero, suc, ◌+◌, ◌≡◌, ◌↔◌, ◌⊎◌, List, [], ◌∷◌, Option, Some, None, option_map, Bool, false}
+use Rattle.std.specs.Prelude.{ℕ, ◌+◌, ◌≡◌, ◌↔◌, ◌⊎◌, List, Option, Some, None, option_map, Bool, false}
 use Rattle.std.specs.List.{Contains, slice_get}
 use Rattle.hub_kinds.specs.declared.fault.Fault.{Fault}
 use Rattle.hub_kinds.specs.declared.fault.ElemFault.{ElemFault}
 use Rattle.hub_kinds.specs.declared.codes.SegmentCode.TheVariants as ik304
 use Rattle.hub_kinds.specs.declared.set_codes.SetCode.{SetCode}
 use Rattle.guide_tree.specs.declared.slot.Slot.{Slot}
-use Rattle.guide_tree.specs.Tree.{Tree, Trees, segment, loop, no_trees, tree, GuideTree}
+use Rattle.guide_tree.specs.Tree.{Trees, GuideTree}
 use Rattle.guide_tree.specs.Segments.{Segment, id_of}
 use Rattle.guide_tree.specs.Places.{Place, slot_at}
 use Rattle.guide_tree.specs.Nexts.{placing_of}
 use Rattle.guide_tree.specs.Structure.{IsStructureFault}
 use Rattle.elem_rules.specs.ElementFaults.{IsElementFault}
+use Rattle.loop_match.specs.LoopIds.{loop_id_of}
 use Rattle.set_check.specs.declared.guide.SetGuide.{SetGuide}
 use Rattle.set_check.specs.Codes.{set_codes_of}
 use Rattle.set_check.specs.SetParts.{SetParts, segment_count, end_position}
-
--- the id of the innermost loop on a place's way down from a node, or among nodes to a child of theirs; outer where there is none
-abbrev mutual
-  pub loop_id_in : (outer : List ℕ) → Tree → Place → List ℕ
-  loop_id_in outer (segment s) q = outer
-  loop_id_in outer (loop l ts) [] = l.id
-  loop_id_in outer (loop l ts) (a ∷ q) = loop_id_nth l.id ts a.child q
-
-  pub loop_id_nth : (outer : List ℕ) → Trees → (child : ℕ) → Place → List ℕ
-  loop_id_nth outer no_trees n q = outer
-  loop_id_nth outer (tree t ts) zero q = loop_id_in outer t q
-  loop_id_nth outer (tree t ts) (suc n) q = loop_id_nth outer ts n q
-
-abbrev pub loop_id_under : (outer : List ℕ) → Trees → Place → List ℕ
-loop_id_under outer ts [] = outer
-loop_id_under outer ts (a ∷ q) = loop_id_nth outer ts a.child q
-
--- the id of the innermost loop in which a place stands; empty where it is in none
-abbrev pub loop_id_of : Trees → Place → List ℕ
-loop_id_of ts q = loop_id_under [] ts q
 
 -- an element fault, as its segment shows it
 abbrev pub told_by : (position : ℕ) → Segment → (loop_id : List ℕ) → Slot → ElemFault → Fault

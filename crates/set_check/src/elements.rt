@@ -7,14 +7,14 @@ ghost use Rattle.guide_tree.specs.View.{nodes_view};
 ghost use Rattle.loop_match.specs.Given.{place_in, slot_in};
 ghost use Rattle.loop_match.specs.Steps.{place_view};
 ghost use Rattle.guide_tree.specs.Places.{slot_given};
-ghost use Rattle.set_check.specs.SetFaults.{told_by, loop_id_of};
+ghost use Rattle.loop_match.specs.LoopIds.{loop_id_of};
+ghost use Rattle.set_check.specs.SetFaults.{told_by};
 ghost use Rattle.set_check.specs.Adding.{IsTold, IsErrorBelow, Adds, AreSound};
 
-use crate::loop_id::loop_id_of;
 use elem_rules::check_segment;
 use guide_tree::{Node, Slot};
 use hub_kinds::{ElemFault, Fault, NoMemory, SegmentCode, copy_text};
-use loop_match::{Placing, Step};
+use loop_match::{Placing, Step, loop_id_of};
 use std::alloc::Global;
 use x12_segs::SegView;
 

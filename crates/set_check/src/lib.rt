@@ -38,7 +38,6 @@ mod envelope;
 mod faults;
 mod guide;
 mod law;
-mod loop_id;
 mod segments;
 mod tolerance;
 mod verdict;
