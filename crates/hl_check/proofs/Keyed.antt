@@ -19,7 +19,7 @@ use Rattle.guide_tree.specs.Tree.{Trees}
 use Rattle.guide_tree.specs.Segments.{Segment, id_of}
 use Rattle.guide_tree.specs.Places.{Place, slot_at}
 use Rattle.elem_rules.proofs.Members.{no_member, contains_one}
-use Rattle.hl_check.specs.LoopIds.{loop_id_of}
+use Rattle.loop_match.specs.LoopIds.{loop_id_of}
 use Rattle.hl_check.specs.Hierarchy.{HlSegment, hl_placed, hl_at, and_then, first_hls, hls_of, hl_fault, IsHlFault, IsFaultAmong}
 use Rattle.hl_check.specs.Found.{found_faults}
 use Rattle.hl_check.proofs.Faulty.{members}

@@ -18,7 +18,7 @@ use Rattle.guide_tree.specs.Segments.{Segment, element_of, id_of}
 use Rattle.guide_tree.specs.Places.{Place, slot_at}
 use Rattle.elem_rules.specs.Divided.{is_filled}
 use Rattle.elem_rules.specs.Rows.{nth, element_reference}
-use Rattle.hl_check.specs.LoopIds.{loop_id_of}
+use Rattle.loop_match.specs.LoopIds.{loop_id_of}
 
 -- an HL segment that has a place: its position in the set, ST being 1, its slot, and the id of the innermost loop round it
 pub record HlSegment : Type 0 where

@@ -18,7 +18,6 @@ mod collect;
 mod fault;
 mod forward;
 mod known;
-mod loop_id;
 mod place;
 mod placed;
 mod rules;
