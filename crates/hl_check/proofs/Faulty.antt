@@ -79,13 +79,15 @@ ShowsBefore d hls f = (k : ℕ) × (h : HlSegment) × (slice_get hls k ≡ Some 
 from_backward : (d : Delims) (hls : List HlSegment) (f : Fault) → Contains (backward_faults d hls) f → ShowsBefore d hls f
 from_backward d [] f c = absurd (no_member f c)
 from_backward d (h ∷ later) f c =
-    elim (Contains-append_cases (backward_faults d later) (fault_if (is_child_wrong d h.segment (segments_of later)) h 4 ik403.PatternFailure) f c) [
+    let wrong : Bool = is_child_wrong d h.segment (segments_of later) in
+    elim (Contains-append_cases (backward_faults d later) (fault_if wrong h 4 ik403.PatternFailure) f c) [
       | inl e ↦ let r = from_backward d later f e in (suc r.0, r.1, r.2, r.3)
       | inr e ↦ (0, h, refl, from_fault_if (is_child_wrong d h.segment (segments_of later)) h 4 ik403.PatternFailure f e)
     ]
 
 in_backward : (d : Delims) (hls : List HlSegment) (k : ℕ) (h : HlSegment) (f : Fault) → slice_get hls k ≡ Some h
-    → (is_child_wrong d h.segment (segments_of (drop (suc k) hls)) ≡ true) × (f ≡ hl_fault h 4 ik403.PatternFailure) → Contains (backward_faults d hls) f
+    → (is_child_wrong d h.segment (segments_of (drop (suc k) hls)) ≡ true) × (f ≡ hl_fault h 4 ik403.PatternFailure)
+    → Contains (backward_faults d hls) f
 in_backward d [] k h f there r = cc
 in_backward d (x ∷ later) zero h f there r =
     let e : x ≡ h = cc in

@@ -159,7 +159,7 @@ pub faultless_as_whole : (rule : Option HlRule) (d : Delims) (hls : List HlSegme
 faultless_as_whole None d hls = (λ none. tt, λ whole f h. absurd h)
 faultless_as_whole (Some rule) d hls = (faultless_whole rule d hls, whole_faultless rule d hls)
 
--- of a body whose segments have places that lead to the slots that they are given
+-- as a derivation of the body gives it: each segment has a place that leads to its slot
 pub hierarchy_whole : (g : GuideTree) (d : Delims) (xs : List Given) (body : List Segment) (given : List (Option Place))
     → map (λ (x : Given). x.0) xs ≡ body → map (slot_given g.nodes) given ≡ map (λ (x : Given). Some x.1) xs
     → ((f : Fault) → IsHierarchyFault g d body given f → ⊥) ↔ IsHierarchyWhole g.hl d (hl_segments body)

@@ -1,5 +1,6 @@
 -- Hierarchies of ship notices, worked: the faults, these and no others.
-use Rattle.std.proofs.Common.{◌≡◌, ◌↔◌, ℕ, List, [], ◌∷◌, codes, map, length, Bool, true, false, Option, Some, None, refl, sym, subst, arith}
+use Rattle.std.proofs.Common.{◌≡◌, ◌↔◌, ℕ, List, [], ◌∷◌, codes, map, length, Bool, true, false}
+use Rattle.std.proofs.Common.{Option, Some, None, refl, sym, subst, arith}
 use Rattle.std.specs.Fmt.{digits}
 use Rattle.std.specs.List.{Contains}
 use Rattle.x12_bytes.specs.declared.delims.Delims.{Delims}

@@ -5,5 +5,6 @@ use Rattle.hl_check.proofs.backward.add_before.Goals as goal
 
 pub returns-clause-named : goal.returns-clause-named
 returns-clause-named c =
-    on_ok_weaker c.add_named.result (λ added later knows. added later (elements_of c.args.hl.now.seg.now) (sym c.first_elements.ensures.second) knows)
+    on_ok_weaker c.add_named.result
+    (λ added later knows. added later (elements_of c.args.hl.now.seg.now) (sym c.first_elements.ensures.second) knows)
     c.add_named.ensures
