@@ -11,7 +11,7 @@ use Rattle.hub_kinds.specs.declared.codes.ElementCode.{ElementCode}
 use Rattle.hub_kinds.specs.declared.codes.ElementCode.TheVariants as ik403
 use Rattle.guide_tree.specs.declared.rows.HlRule.{HlRule}
 use Rattle.elem_rules.proofs.Members.{no_member, contains_one, one_contains}
-use Rattle.hl_check.specs.Hierarchy.{HlSegment, hl_fault, IsHlFault, IsFaultAmong}
+use Rattle.hl_check.specs.Hierarchy.{HlSegment, segments_of, hl_fault, IsHlFault, IsFaultAmong}
 use Rattle.hl_check.specs.Hierarchy.{is_number_wrong, is_parent_wrong, is_level_wrong, is_child_wrong}
 use Rattle.hl_check.specs.Found.{fault_if, faults_behind, faults_at, forward_faults, backward_faults, found_faults}
 
@@ -28,25 +28,25 @@ in_fault_if wrong h element code f (w, e) =
 
 -- what the earlier HLs show is one of the first three faults
 from_behind : (rule : HlRule) (d : Delims) (earlier : List HlSegment) (h : HlSegment) (later : List HlSegment) (f : Fault)
-    → Contains (faults_behind rule d earlier h) f → IsHlFault rule d earlier h later f
+    → Contains (faults_behind rule d (segments_of earlier) h) f → IsHlFault rule d earlier h later f
 from_behind rule d earlier h later f c =
-    let first = fault_if (is_number_wrong rule d earlier h) h 1 ik403.PatternFailure in
-    let second = fault_if (is_parent_wrong d earlier h) h 2 ik403.PatternFailure in
-    let third = fault_if (is_level_wrong rule d earlier h) h 3 ik403.CodeNotUsed in
+    let first = fault_if (is_number_wrong rule d (segments_of earlier) h.segment) h 1 ik403.PatternFailure in
+    let second = fault_if (is_parent_wrong d (segments_of earlier) h.segment) h 2 ik403.PatternFailure in
+    let third = fault_if (is_level_wrong rule d (segments_of earlier) h.segment) h 3 ik403.CodeNotUsed in
     elim (Contains-append_cases first (second ++ third) f c) [
-      | inl e ↦ inl (from_fault_if (is_number_wrong rule d earlier h) h 1 ik403.PatternFailure f e)
+      | inl e ↦ inl (from_fault_if (is_number_wrong rule d (segments_of earlier) h.segment) h 1 ik403.PatternFailure f e)
       | inr e ↦ elim (Contains-append_cases second third f e) [
-        | inl g ↦ inr (inl (from_fault_if (is_parent_wrong d earlier h) h 2 ik403.PatternFailure f g))
-        | inr g ↦ inr (inr (inl (from_fault_if (is_level_wrong rule d earlier h) h 3 ik403.CodeNotUsed f g)))
+        | inl g ↦ inr (inl (from_fault_if (is_parent_wrong d (segments_of earlier) h.segment) h 2 ik403.PatternFailure f g))
+        | inr g ↦ inr (inr (inl (from_fault_if (is_level_wrong rule d (segments_of earlier) h.segment) h 3 ik403.CodeNotUsed f g)))
       ]
     ]
 
 abbrev ShowsBehind : HlRule → Delims → List HlSegment → ℕ → Fault → Type 0
 ShowsBehind rule d hls n f =
-    (k : ℕ) × (h : HlSegment) × (k < n) × (slice_get hls k ≡ Some h) × Contains (faults_behind rule d (take k hls) h) f
+    (k : ℕ) × (h : HlSegment) × (k < n) × (slice_get hls k ≡ Some h) × Contains (faults_behind rule d (segments_of (take k hls)) h) f
 
 from_at : (rule : HlRule) (d : Delims) (hls : List HlSegment) (n : ℕ) (o : Option HlSegment) (f : Fault) → slice_get hls n ≡ o
-    → Contains (faults_at rule d (take n hls) o) f → ShowsBehind rule d hls (suc n) f
+    → Contains (faults_at rule d (segments_of (take n hls)) o) f → ShowsBehind rule d hls (suc n) f
 from_at rule d hls n None f e c = absurd (no_member f c)
 from_at rule d hls n (Some h) f e c = (n, h, omega arith, e, c)
 
@@ -54,7 +54,7 @@ from_forward : (rule : HlRule) (d : Delims) (hls : List HlSegment) (n : ℕ) (f 
     → Contains (forward_faults rule d hls n) f → ShowsBehind rule d hls n f
 from_forward rule d hls zero f c = absurd (no_member f c)
 from_forward rule d hls (suc n) f c =
-    elim (Contains-append_cases (forward_faults rule d hls n) (faults_at rule d (take n hls) (slice_get hls n)) f c) [
+    elim (Contains-append_cases (forward_faults rule d hls n) (faults_at rule d (segments_of (take n hls)) (slice_get hls n)) f c) [
       | inl e ↦ let r = from_forward rule d hls n f e in (r.0, r.1, omega (arith, r.2), r.3, r.4)
       | inr e ↦ from_at rule d hls n (slice_get hls n) f refl e
     ]
@@ -65,39 +65,41 @@ in_forward rule d hls zero f r = absurd (omega (arith, r.2))
 in_forward rule d hls (suc n) f r =
     let l : r.0 < suc n = r.2 in
     elim (cases_eq r.0 n) [
-      | inl e ↦ Contains-append_right (forward_faults rule d hls n) (faults_at rule d (take n hls) (slice_get hls n)) f
-          (subst (λ (k : ℕ). Contains (faults_at rule d (take k hls) (slice_get hls k)) f) e
-          (subst (λ (o : Option HlSegment). Contains (faults_at rule d (take r.0 hls) o) f) (sym r.3) r.4))
-      | inr e ↦ Contains-append_left (forward_faults rule d hls n) (faults_at rule d (take n hls) (slice_get hls n)) f
+      | inl e ↦ Contains-append_right (forward_faults rule d hls n) (faults_at rule d (segments_of (take n hls)) (slice_get hls n)) f
+          (subst (λ (k : ℕ). Contains (faults_at rule d (segments_of (take k hls)) (slice_get hls k)) f) e
+          (subst (λ (o : Option HlSegment). Contains (faults_at rule d (segments_of (take r.0 hls)) o) f) (sym r.3) r.4))
+      | inr e ↦ Contains-append_left (forward_faults rule d hls n) (faults_at rule d (segments_of (take n hls)) (slice_get hls n)) f
           (in_forward rule d hls n f (r.0, r.1, omega arith, r.3, r.4))
     ]
 
 abbrev ShowsBefore : Delims → List HlSegment → Fault → Type 0
 ShowsBefore d hls f = (k : ℕ) × (h : HlSegment) × (slice_get hls k ≡ Some h)
-    × ((is_child_wrong d h (drop (suc k) hls) ≡ true) × (f ≡ hl_fault h 4 ik403.PatternFailure))
+    × ((is_child_wrong d h.segment (segments_of (drop (suc k) hls)) ≡ true) × (f ≡ hl_fault h 4 ik403.PatternFailure))
 
 from_backward : (d : Delims) (hls : List HlSegment) (f : Fault) → Contains (backward_faults d hls) f → ShowsBefore d hls f
 from_backward d [] f c = absurd (no_member f c)
 from_backward d (h ∷ later) f c =
-    elim (Contains-append_cases (backward_faults d later) (fault_if (is_child_wrong d h later) h 4 ik403.PatternFailure) f c) [
+    let wrong : Bool = is_child_wrong d h.segment (segments_of later) in
+    elim (Contains-append_cases (backward_faults d later) (fault_if wrong h 4 ik403.PatternFailure) f c) [
       | inl e ↦ let r = from_backward d later f e in (suc r.0, r.1, r.2, r.3)
-      | inr e ↦ (0, h, refl, from_fault_if (is_child_wrong d h later) h 4 ik403.PatternFailure f e)
+      | inr e ↦ (0, h, refl, from_fault_if (is_child_wrong d h.segment (segments_of later)) h 4 ik403.PatternFailure f e)
     ]
 
 in_backward : (d : Delims) (hls : List HlSegment) (k : ℕ) (h : HlSegment) (f : Fault) → slice_get hls k ≡ Some h
-    → (is_child_wrong d h (drop (suc k) hls) ≡ true) × (f ≡ hl_fault h 4 ik403.PatternFailure) → Contains (backward_faults d hls) f
+    → (is_child_wrong d h.segment (segments_of (drop (suc k) hls)) ≡ true) × (f ≡ hl_fault h 4 ik403.PatternFailure)
+    → Contains (backward_faults d hls) f
 in_backward d [] k h f there r = cc
 in_backward d (x ∷ later) zero h f there r =
     let e : x ≡ h = cc in
-    Contains-append_right (backward_faults d later) (fault_if (is_child_wrong d x later) x 4 ik403.PatternFailure) f
-    (subst (λ (y : HlSegment). Contains (fault_if (is_child_wrong d y later) y 4 ik403.PatternFailure) f) (sym e)
-    (in_fault_if (is_child_wrong d h later) h 4 ik403.PatternFailure f r))
+    Contains-append_right (backward_faults d later) (fault_if (is_child_wrong d x.segment (segments_of later)) x 4 ik403.PatternFailure) f
+    (subst (λ (y : HlSegment). Contains (fault_if (is_child_wrong d y.segment (segments_of later)) y 4 ik403.PatternFailure) f) (sym e)
+    (in_fault_if (is_child_wrong d h.segment (segments_of later)) h 4 ik403.PatternFailure f r))
 in_backward d (x ∷ later) (suc k) h f there r =
-    Contains-append_left (backward_faults d later) (fault_if (is_child_wrong d x later) x 4 ik403.PatternFailure) f
+    Contains-append_left (backward_faults d later) (fault_if (is_child_wrong d x.segment (segments_of later)) x 4 ik403.PatternFailure) f
     (in_backward d later k h f there r)
 
 abbrev IsChildFault : Delims → HlSegment → List HlSegment → Fault → Type 0
-IsChildFault d h later f = (is_child_wrong d h later ≡ true) × (f ≡ hl_fault h 4 ik403.PatternFailure)
+IsChildFault d h later f = (is_child_wrong d h.segment (segments_of later) ≡ true) × (f ≡ hl_fault h 4 ik403.PatternFailure)
 
 is_fault : (rule : HlRule) (d : Delims) (hls : List HlSegment) (f : Fault) → Contains (found_faults rule d hls (length hls)) f
     → IsFaultAmong rule d hls f
@@ -120,20 +122,20 @@ is_fault rule d hls f c =
     ]
 
 in_behind : (rule : HlRule) (d : Delims) (earlier : List HlSegment) (h : HlSegment) (later : List HlSegment) (f : Fault)
-    → IsHlFault rule d earlier h later f → Contains (faults_behind rule d earlier h) f ⊎ IsChildFault d h later f
+    → IsHlFault rule d earlier h later f → Contains (faults_behind rule d (segments_of earlier) h) f ⊎ IsChildFault d h later f
 in_behind rule d earlier h later f wrong =
-    let first = fault_if (is_number_wrong rule d earlier h) h 1 ik403.PatternFailure in
-    let second = fault_if (is_parent_wrong d earlier h) h 2 ik403.PatternFailure in
-    let third = fault_if (is_level_wrong rule d earlier h) h 3 ik403.CodeNotUsed in
+    let first = fault_if (is_number_wrong rule d (segments_of earlier) h.segment) h 1 ik403.PatternFailure in
+    let second = fault_if (is_parent_wrong d (segments_of earlier) h.segment) h 2 ik403.PatternFailure in
+    let third = fault_if (is_level_wrong rule d (segments_of earlier) h.segment) h 3 ik403.CodeNotUsed in
     elim wrong [
       | inl w ↦ inl (Contains-append_left first (second ++ third) f
-          (in_fault_if (is_number_wrong rule d earlier h) h 1 ik403.PatternFailure f w))
+          (in_fault_if (is_number_wrong rule d (segments_of earlier) h.segment) h 1 ik403.PatternFailure f w))
       | inr v ↦ elim v [
         | inl w ↦ inl (Contains-append_right first (second ++ third) f (Contains-append_left second third f
-            (in_fault_if (is_parent_wrong d earlier h) h 2 ik403.PatternFailure f w)))
+            (in_fault_if (is_parent_wrong d (segments_of earlier) h.segment) h 2 ik403.PatternFailure f w)))
         | inr u ↦ elim u [
           | inl w ↦ inl (Contains-append_right first (second ++ third) f (Contains-append_right second third f
-              (in_fault_if (is_level_wrong rule d earlier h) h 3 ik403.CodeNotUsed f w)))
+              (in_fault_if (is_level_wrong rule d (segments_of earlier) h.segment) h 3 ik403.CodeNotUsed f w)))
           | inr w ↦ inr w
         ]
       ]

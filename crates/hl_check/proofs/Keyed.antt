@@ -1,10 +1,9 @@
 -- Two faults of a hierarchy that have one place in the order of faults are one.
 use Rattle.std.proofs.Common.{◌≡◌, ◌⊎◌, inl, inr, ℕ, zero, suc, ◌+◌, ◌==◌, List, [], ◌∷◌, Bool, true, false, Option, Some, None}
-use Rattle.std.proofs.Common.{sym, ap, subst, ◌∙◌, arith, if◌then◌else◌, length, codes, get_or, take, drop}
+use Rattle.std.proofs.Common.{sym, ap, subst, ◌∙◌, arith, if◌then◌else◌, length, get_or, take, drop}
 use Rattle.std.specs.Prelude.{option_map, slice_index_or}
 use Rattle.std.specs.List.{Contains, slice_get}
 use Rattle.std.specs.List.Sorted.{IsStrictlySortedBy}
-use Rattle.std.specs.Str.{bytes_eq}
 use Rattle.std.proofs.lemmas.List.Elements.{Contains-append_cases, Contains-get_or}
 use Rattle.std.proofs.lemmas.Option.{slice_get_within, get_or_from_slice_get}
 use Rattle.x12_bytes.specs.declared.delims.Delims.{Delims}
@@ -16,15 +15,15 @@ use Rattle.hub_kinds.specs.Rising.{IsKeyedBy}
 use Rattle.guide_tree.specs.declared.rows.HlRule.{HlRule}
 use Rattle.guide_tree.specs.declared.slot.Slot.{Slot}
 use Rattle.guide_tree.specs.Tree.{Trees}
-use Rattle.guide_tree.specs.Segments.{Segment, id_of}
+use Rattle.guide_tree.specs.Segments.{Segment}
 use Rattle.guide_tree.specs.Places.{Place, slot_at}
 use Rattle.elem_rules.proofs.Members.{no_member, contains_one}
-use Rattle.hl_check.specs.LoopIds.{loop_id_of}
-use Rattle.hl_check.specs.Hierarchy.{HlSegment, hl_placed, hl_at, and_then, first_hls, hls_of, hl_fault, IsHlFault, IsFaultAmong}
+use Rattle.loop_match.specs.LoopIds.{loop_id_of}
+use Rattle.hl_check.specs.Hierarchy.{HlSegment, is_hl, hl_placed, hl_at, and_then, first_hls, hls_of, hl_fault, IsHlFault, IsFaultAmong}
 use Rattle.hl_check.specs.Found.{found_faults}
 use Rattle.hl_check.proofs.Faulty.{members}
 
-abbrev made : ℕ → Segment → List ℕ → Slot → HlSegment
+abbrev pub made : ℕ → Segment → List ℕ → Slot → HlSegment
 made index s loop_id slot = record { position = index + 2; segment = s; slot = slot; loop_id = loop_id }
 
 position_if : (is : Bool) (o : Option Slot) (index : ℕ) (s : Segment) (loop_id : List ℕ) (h : HlSegment)
@@ -36,7 +35,7 @@ position_if false o index s loop_id h e = cc
 position_of : (ts : Trees) (index : ℕ) (s : Segment) (place : Option Place) (h : HlSegment)
     → hl_placed ts index s place ≡ Some h → h.position ≡ index + 2
 position_of ts index s None h e = cc
-position_of ts index s (Some q) h e = position_if (bytes_eq (id_of s) (codes "HL")) (slot_at ts q) index s (loop_id_of ts q) h e
+position_of ts index s (Some q) h e = position_if (is_hl s) (slot_at ts q) index s (loop_id_of ts q) h e
 
 abbrev Stands : Trees → List Segment → List (Option Place) → HlSegment → Type 0
 Stands ts body given h = (index : ℕ) × (hl_at ts body given index ≡ Some h)

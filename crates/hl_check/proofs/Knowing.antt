@@ -12,43 +12,44 @@ use Rattle.std.proofs.lemmas.List.Folds.{find-append}
 use Rattle.std.proofs.lemmas.Map.Text.{is_eq-slice_cmp}
 use Rattle.x12_bytes.specs.declared.delims.Delims.{Delims}
 use Rattle.elem_rules.specs.Divided.{is_filled}
-use Rattle.hl_check.specs.Hierarchy.{HlSegment, numbered, number_of, parent_of, level_of, is_named}
+use Rattle.guide_tree.specs.Segments.{Segment}
+use Rattle.hl_check.specs.Hierarchy.{numbered, number_of, parent_of, level_of, is_named}
 use Rattle.hl_check.specs.Known.{KnowsLevels, KnowsNamed, by_text}
 use denote.Ref.{Bor}
 
-numbered_more : (q : List ℕ) (hls : List HlSegment) (h : HlSegment)
+numbered_more : (q : List ℕ) (hls : List Segment) (h : Segment)
     → numbered q (hls ++ h ∷ []) ≡ option_or (numbered q hls) (cond (bytes_eq (number_of h) q) (Some h) None)
 numbered_more q hls h = find-append (λ x. bytes_eq (number_of x) q) hls (h ∷ [])
 
 abbrev level_in : Option (Bor (List ℕ)) → Option (List ℕ)
 level_in o = option_map (λ (l : Bor (List ℕ)). l.now) o
 
-no_level : (o : Option HlSegment) → option_map level_of o ≡ None → o ≡ None
+no_level : (o : Option Segment) → option_map level_of o ≡ None → o ≡ None
 no_level None e = refl
 no_level (Some h) e = cc
 
-put : (b : Bool) (o : Option (Bor (List ℕ))) (level : Bor (List ℕ)) (found : Option HlSegment) (h : HlSegment)
+put : (b : Bool) (o : Option (Bor (List ℕ))) (level : Bor (List ℕ)) (found : Option Segment) (h : Segment)
     → (b ≡ true → found ≡ None) → level_of h ≡ level.now → level_in o ≡ option_map level_of found
     → level_in (cond b (Some level) o) ≡ option_map level_of (option_or found (cond b (Some h) None))
 put true o level found h none l e =
-    ap Some (sym l) ∙ sym (ap (λ (f : Option HlSegment). option_map level_of (option_or f (Some h))) (none refl))
+    ap Some (sym l) ∙ sym (ap (λ (f : Option Segment). option_map level_of (option_or f (Some h))) (none refl))
 put false o level None h none l e = e
 put false o level (Some x) h none l e = e
 
-kept : (b : Bool) (found : Option HlSegment) (h : HlSegment) → (b ≡ true → is_none found ≡ false)
+kept : (b : Bool) (found : Option Segment) (h : Segment) → (b ≡ true → is_none found ≡ false)
     → found ≡ option_or found (cond b (Some h) None)
 kept b (Some x) h some = refl
 kept true None h some = absurd (true≢false (some refl))
 kept false None h some = refl
 
 -- where a number is this one, the map knows what it knows of this one
-same_found : (levels : BTreeMap (Bor (List ℕ)) (Bor (List ℕ))) (hls : List HlSegment) (number : Bor (List ℕ)) (q : List ℕ)
+same_found : (levels : BTreeMap (Bor (List ℕ)) (Bor (List ℕ))) (hls : List Segment) (number : Bor (List ℕ)) (q : List ℕ)
     → KnowsLevels levels hls → bytes_eq number.now q ≡ true
     → option_map level_of (numbered q hls) ≡ level_in (get by_text levels number)
 same_found levels hls number q knows e =
     sym (knows number ∙ ap (λ (n : List ℕ). option_map level_of (numbered n hls)) ((bytes_decides number.now q).0 e))
 
-pub level_more : (old new : BTreeMap (Bor (List ℕ)) (Bor (List ℕ))) (number level : Bor (List ℕ)) (hls : List HlSegment) (h : HlSegment)
+pub level_more : (old new : BTreeMap (Bor (List ℕ)) (Bor (List ℕ))) (number level : Bor (List ℕ)) (hls : List Segment) (h : Segment)
     → number_of h ≡ number.now → level_of h ≡ level.now → get by_text old number ≡ None
     → ((q : Bor (List ℕ)) → get by_text new q ≡ cond (is_eq (by_text number q)) (Some level) (get by_text old q))
     → KnowsLevels old hls → KnowsLevels new (hls ++ h ∷ [])
@@ -60,13 +61,13 @@ level_more old new number level hls h n l none added knows = λ q.
     ∙ ap (λ (m : List ℕ). option_map level_of (option_or (numbered q.now hls) (cond (bytes_eq m q.now) (Some h) None))) (sym n)
     ∙ ap (option_map level_of) (sym (numbered_more q.now hls h))
 
-is_some_of : (o : Option HlSegment) (p : Option (Bor (List ℕ))) → option_map level_of o ≡ level_in p → is_none p ≡ false
+is_some_of : (o : Option Segment) (p : Option (Bor (List ℕ))) → option_map level_of o ≡ level_in p → is_none p ≡ false
     → is_none o ≡ false
 is_some_of (Some h) p e s = refl
 is_some_of None (Some l) e s = cc
 is_some_of None None e s = s
 
-pub level_kept : (levels : BTreeMap (Bor (List ℕ)) (Bor (List ℕ))) (number : Bor (List ℕ)) (hls : List HlSegment) (h : HlSegment)
+pub level_kept : (levels : BTreeMap (Bor (List ℕ)) (Bor (List ℕ))) (number : Bor (List ℕ)) (hls : List Segment) (h : Segment)
     → number_of h ≡ number.now → is_none (get by_text levels number) ≡ false
     → KnowsLevels levels hls → KnowsLevels levels (hls ++ h ∷ [])
 level_kept levels number hls h n some knows = λ q.
@@ -81,7 +82,7 @@ chosen true true c e = refl
 chosen false true c e = refl
 chosen b false c e = absurd (true≢false (sym e))
 
-pub named_more : (old new : BTreeSet (Bor (List ℕ))) (delims : Delims) (parent : Bor (List ℕ)) (hls : List HlSegment) (h : HlSegment)
+pub named_more : (old new : BTreeSet (Bor (List ℕ))) (delims : Delims) (parent : Bor (List ℕ)) (hls : List Segment) (h : Segment)
     → parent_of h ≡ parent.now → is_filled delims parent.now ≡ true
     → ((q : Bor (List ℕ)) → contains by_text new q ≡ cond (is_eq (by_text parent q)) true (contains by_text old q))
     → KnowsNamed old delims hls → KnowsNamed new delims (h ∷ hls)

@@ -5,4 +5,5 @@ mod Faulty
 mod Rounds
 mod Collecting
 mod Keyed
+pub mod Whole
 mod Worked

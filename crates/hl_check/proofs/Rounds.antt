@@ -1,4 +1,4 @@
--- The loop round a place and the slot at it, found step by step.
+-- The slot at a place, found step by step.
 use Rattle.std.proofs.Common.{◌≡◌, ℕ, zero, suc, ◌+◌, ◌<◌, ◌≤◌, List, [], ◌∷◌, length, get_or, drop, Some, None}
 use Rattle.std.proofs.Common.{refl, sym, ap, ◌∙◌, arith, add-one, drop-cons, true, false, nat_lt, rules}
 use Rattle.std.specs.Prelude.{Vec}
@@ -15,22 +15,9 @@ use Rattle.guide_tree.specs.Places.{Place, slot_in, slot_nth, slot_at}
 use Rattle.guide_tree.proofs.Behind.{view_loop}
 use Rattle.loop_match.specs.declared.next.Step.{Step}
 use Rattle.loop_match.specs.Steps.{place_view, step_view}
-use Rattle.hl_check.specs.LoopIds.{loop_id_in, loop_id_nth, loop_id_under}
 
 abbrev pub no_step : Step
 no_step = record { child = 0; use_no = 0 }
-
-id_by_child : (outer : List ℕ) (ns : List Node) (n : ℕ) (q : Place) (d : Node) → n < length ns
-    → loop_id_nth outer (nodes_view ns) n q ≡ loop_id_in outer (view (get_or ns n d)) q
-id_by_child outer [] n q d h = absurd (omega arith)
-id_by_child outer (x ∷ ns) zero q d h = refl
-id_by_child outer (x ∷ ns) (suc n) q d h = id_by_child outer ns n q d (omega arith)
-
-id_past_child : (outer : List ℕ) (ns : List Node) (n : ℕ) (q : Place) → length ns ≤ n
-    → loop_id_nth outer (nodes_view ns) n q ≡ outer
-id_past_child outer [] n q h = refl
-id_past_child outer (x ∷ ns) zero q h = absurd (omega arith)
-id_past_child outer (x ∷ ns) (suc n) q h = id_past_child outer ns n q (omega arith)
 
 slot_by_child : (ns : List Node) (n : ℕ) (q : Place) (d : Node) → n < length ns
     → slot_nth (nodes_view ns) n q ≡ slot_in (view (get_or ns n d)) q
@@ -47,20 +34,6 @@ slot_past_child (x ∷ ns) (suc n) q h = slot_past_child ns n q (omega arith)
 steps_left : (place : List Step) (i : ℕ) (d : Step) → i < length place
     → place_view (drop i place) ≡ step_view (get_or place i d) ∷ place_view (drop (i + 1) place)
 steps_left place i d h = rw (add-one) (ap place_view (drop-cons place i d h))
-
-pub past_here : (outer : List ℕ) (ns : List Node) (place : List Step) (i : ℕ) (d : Step) → i < length place
-    → length ns ≤ (get_or place i d).child → loop_id_under outer (nodes_view ns) (place_view (drop i place)) ≡ outer
-past_here outer ns place i d h l =
-    ap (loop_id_under outer (nodes_view ns)) (steps_left place i d h)
-    ∙ id_past_child outer ns (get_or place i d).child (place_view (drop (i + 1) place)) l
-
-pub at_here : (outer : List ℕ) (ns : List Node) (place : List Step) (i : ℕ) (d : Step) (node : Node) → i < length place
-    → (get_or place i d).child < length ns → node ≡ get_or ns (get_or place i d).child node
-    → loop_id_under outer (nodes_view ns) (place_view (drop i place)) ≡ loop_id_in outer (view node) (place_view (drop (i + 1) place))
-at_here outer ns place i d node h l e =
-    ap (loop_id_under outer (nodes_view ns)) (steps_left place i d h)
-    ∙ id_by_child outer ns (get_or place i d).child (place_view (drop (i + 1) place)) node l
-    ∙ ap (λ (x : Node). loop_id_in outer (view x) (place_view (drop (i + 1) place))) (sym e)
 
 pub no_slot : (ns : List Node) (place : List Step) (i : ℕ) (d : Step) → i < length place
     → length ns ≤ (get_or place i d).child → slot_at (nodes_view ns) (place_view (drop i place)) ≡ None

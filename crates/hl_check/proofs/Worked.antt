@@ -1,5 +1,6 @@
 -- Hierarchies of ship notices, worked: the faults, these and no others.
-use Rattle.std.proofs.Common.{◌≡◌, ◌↔◌, ℕ, List, [], ◌∷◌, codes, map, length, Bool, true, false, Option, Some, None, refl, sym, subst}
+use Rattle.std.proofs.Common.{◌≡◌, ◌↔◌, ℕ, List, [], ◌∷◌, codes, map, length, Bool, true, false}
+use Rattle.std.proofs.Common.{Option, Some, None, refl, sym, subst, arith}
 use Rattle.std.specs.Fmt.{digits}
 use Rattle.std.specs.List.{Contains}
 use Rattle.x12_bytes.specs.declared.delims.Delims.{Delims}
@@ -20,9 +21,10 @@ use Rattle.guide_tree.specs.Tree.{Trees, segment, loop, no_trees, tree, GuideTre
 use Rattle.guide_tree.specs.Nexts.{placing_of}
 use Rattle.guide_tree.specs.Segments.{Segment}
 use Rattle.elem_rules.proofs.Members.{no_member}
-use Rattle.hl_check.specs.Hierarchy.{HlSegment, hls_of, IsHierarchyFault}
+use Rattle.hl_check.specs.Hierarchy.{HlSegment, segments_of, hl_segments, hls_of, IsHierarchyFault, IsHierarchyWhole}
 use Rattle.hl_check.specs.Found.{found_faults}
 use Rattle.hl_check.proofs.Faulty.{members}
+use Rattle.hl_check.proofs.Whole.{faultless_as_whole}
 
 abbrev simple : (reference : List ℕ) → Element
 simple reference = element.Simple (record {
@@ -217,3 +219,65 @@ stray = exactly refl
 -- without a rule nothing is wrong
 unruled : Shows rows None (codes "HL*1*2*X*1" ∷ codes "HL*1**X*1" ∷ []) []
 unruled = record { each = λ f. (λ h. absurd h, λ h. no_member f h) }
+
+-- nothing is wrong with the HL segments of BSN and these texts
+record Holds (sequential : Bool) (texts : List (List ℕ)) : Type 0 where
+  pub whole : IsHierarchyWhole (Some (rule sequential)) delims (hl_segments (body_of texts))
+
+record Breaks (sequential : Bool) (texts : List (List ℕ)) : Type 0 where
+  pub broken : IsHierarchyWhole (Some (rule sequential)) delims (hl_segments (body_of texts)) → ⊥
+
+abbrev found_in : (sequential : Bool) → List (List ℕ) → List Fault
+found_in sequential texts = found_faults (rule sequential) delims (hls rows texts) (length (hls rows texts))
+
+holds : {sequential : Bool} {texts : List (List ℕ)} → found_in sequential texts ≡ []
+    → segments_of (hls rows texts) ≡ hl_segments (body_of texts) → Holds sequential texts
+holds {sequential} {texts} none same = record {
+  whole = subst (IsHierarchyWhole (Some (rule sequential)) delims) same
+      ((faultless_as_whole (Some (rule sequential)) delims (hls rows texts)).0
+      (λ f h. no_member f (subst (λ (l : List Fault). Contains l f) none ((members (rule sequential) delims (hls rows texts) f).1 h))));
+}
+
+breaks : {sequential : Bool} {texts : List (List ℕ)} (f : Fault) (more : List Fault) → found_in sequential texts ≡ f ∷ more
+    → segments_of (hls rows texts) ≡ hl_segments (body_of texts) → Breaks sequential texts
+breaks {sequential} {texts} f more found same = record {
+  broken = λ whole. (faultless_as_whole (Some (rule sequential)) delims (hls rows texts)).1
+      (subst (IsHierarchyWhole (Some (rule sequential)) delims) (sym same) whole) f
+      ((members (rule sequential) delims (hls rows texts) f).0
+      (subst (λ (l : List Fault). Contains l f) (sym found) (0, omega arith, refl)));
+}
+
+-- a hierarchy of five HLs, one of none, and one whose count isn't asked for
+five_hold : Holds true (codes "HL*1**S*1" ∷ codes "HL*2*1*O*1" ∷ codes "HL*3*2*P*0" ∷ codes "HL*4*2*P" ∷ codes "HL*5**S*0" ∷ [])
+unfolding digits
+five_hold = holds refl refl
+
+none_hold : Holds true (codes "MAN*A" ∷ codes "CTT" ∷ [])
+none_hold = holds refl refl
+
+uncounted_hold : Holds false (codes "HL*01**S" ∷ codes "MAN*A" ∷ codes "HL*2*01*O" ∷ [])
+uncounted_hold = holds refl refl
+
+-- broken by each of the four: a number out of count or that comes twice, a parent that comes later, a level, children
+count_breaks : Breaks true (codes "HL*01**S" ∷ codes "MAN*A" ∷ codes "HL*2*01*O" ∷ [])
+unfolding digits
+count_breaks = breaks (wrong_number 3 (codes "01")) [] refl refl
+
+twice_breaks : Breaks false (codes "HL*1**S" ∷ codes "HL*1*1*O" ∷ [])
+twice_breaks = breaks (wrong_number 4 (codes "1")) [] refl refl
+
+parent_breaks : Breaks false (codes "HL*2*1*O" ∷ codes "HL*1**S" ∷ [])
+parent_breaks = breaks (wrong_parent 3 (codes "1")) [] refl refl
+
+level_breaks : Breaks false (codes "HL*1**S" ∷ codes "HL*2*1*P" ∷ [])
+level_breaks = breaks (wrong_level 4 (codes "P")) [] refl refl
+
+child_breaks : Breaks false (codes "HL*1**S*0" ∷ codes "HL*2*1*O" ∷ [])
+child_breaks = breaks (wrong_child 3 (codes "0")) [] refl refl
+
+childless_breaks : Breaks false (codes "HL*1**S*1" ∷ codes "HL*2**S" ∷ [])
+childless_breaks = breaks (wrong_child 3 (codes "1")) [] refl refl
+
+-- without a rule nothing is asked
+unruled_holds : IsHierarchyWhole None delims (hl_segments (body_of (codes "HL*1*2*X*1" ∷ codes "HL*1**X*1" ∷ [])))
+unruled_holds = tt

@@ -1,8 +1,9 @@
 -- X12.6, hierarchical level segment (HL): what is wrong with the hierarchy of a set. How the 999 guide's IK4 tells it is own.
-use Rattle.std.specs.Prelude.{ℕ, zero, suc, ◌+◌, ◌≡◌, ◌⊎◌, IsTrue, IsSomeAnd, List, [], ◌∷◌, ◌++◌, length, take, drop, codes, decimal}
+use Rattle.std.specs.Prelude.{ℕ, zero, suc, ◌+◌, ◌≡◌, ◌⊎◌, IsTrue, IsFalse, IsSomeAnd, codes, decimal}
+use Rattle.std.specs.Prelude.{List, [], ◌∷◌, ◌++◌, length, map, take, drop}
 use Rattle.std.specs.Prelude.{Option, Some, None, option_map, is_some, is_none, slice_index_or, slice_get}
 use Rattle.std.specs.Prelude.{Bool, false, ◌&&◌, ◌||◌, not, if◌then◌else◌}
-use Rattle.std.specs.List.{find, list_any}
+use Rattle.std.specs.List.{filter, find, list_any}
 use Rattle.std.specs.Option.{option_map_or}
 use Rattle.std.specs.Str.{bytes_eq}
 use Rattle.x12_bytes.specs.declared.delims.Delims.{Delims}
@@ -18,7 +19,84 @@ use Rattle.guide_tree.specs.Segments.{Segment, element_of, id_of}
 use Rattle.guide_tree.specs.Places.{Place, slot_at}
 use Rattle.elem_rules.specs.Divided.{is_filled}
 use Rattle.elem_rules.specs.Rows.{nth, element_reference}
-use Rattle.hl_check.specs.LoopIds.{loop_id_of}
+use Rattle.loop_match.specs.LoopIds.{loop_id_of}
+
+abbrev pub is_hl : Segment → Bool
+is_hl s = bytes_eq (id_of s) (codes "HL")
+
+-- HL01, the segment's own number; HL02, its parent's; HL03, its level; HL04, whether it has children
+abbrev pub number_of : Segment → List ℕ
+number_of h = element_of h 1
+
+abbrev pub parent_of : Segment → List ℕ
+parent_of h = element_of h 2
+
+abbrev pub level_of : Segment → List ℕ
+level_of h = element_of h 3
+
+abbrev pub child_of : Segment → List ℕ
+child_of h = element_of h 4
+
+-- Values are compared byte by byte. Empty is what has no byte but component and repetition separators.
+
+-- the first HL of some with a number
+abbrev pub numbered : (number : List ℕ) → List Segment → Option Segment
+numbered number hls = find (λ h. bytes_eq (number_of h) number) hls
+
+-- HL01 isn't empty, and is that of an earlier HL, or isn't the count of HLs where the guide asks for it
+abbrev pub is_number_wrong : HlRule → Delims → (earlier : List Segment) → Segment → Bool
+is_number_wrong rule delims earlier h =
+    is_filled delims (number_of h)
+    && (is_some (numbered (number_of h) earlier)
+    || (rule.sequential && not (bytes_eq (number_of h) (decimal (length earlier + 1)))))
+
+-- HL02 isn't empty, and no earlier HL has it
+abbrev pub is_parent_wrong : Delims → (earlier : List Segment) → Segment → Bool
+is_parent_wrong delims earlier h = is_filled delims (parent_of h) && is_none (numbered (parent_of h) earlier)
+
+-- a guide's pair of a level and the level of its parent; a root has no parent
+abbrev pub is_pair : (parent : Option (List ℕ)) → (child : List ℕ) → HlPair → Bool
+is_pair None child pair = is_none pair.parent && bytes_eq pair.child child
+is_pair (Some level) child pair = option_map_or (λ own. bytes_eq own level) pair.parent false && bytes_eq pair.child child
+
+abbrev pub is_listed : HlRule → (parent : Option (List ℕ)) → (child : List ℕ) → Bool
+is_listed rule parent child = list_any (is_pair parent child) rule.pairs
+
+-- HL03 isn't listed below the level of its parent, the first earlier HL that HL02 names; where HL02 is empty, as that of a root.
+-- Where HL02 names none it isn't judged.
+abbrev pub is_level_wrong : HlRule → Delims → (earlier : List Segment) → Segment → Bool
+is_level_wrong rule delims earlier h =
+    if is_filled delims (parent_of h)
+    then option_map_or (λ p. not (is_listed rule (Some (level_of p)) (level_of h))) (numbered (parent_of h) earlier) false
+    else not (is_listed rule None (level_of h))
+
+-- some HL02 is this number; an empty one is none
+abbrev pub is_named : Delims → List Segment → (number : List ℕ) → Bool
+is_named delims hls number = list_any (λ h. is_filled delims (parent_of h) && bytes_eq (parent_of h) number) hls
+
+-- HL04 says that there are children and none comes later, or that there are none and one does
+abbrev pub is_child_wrong : Delims → Segment → (later : List Segment) → Bool
+is_child_wrong delims h later =
+    (bytes_eq (child_of h) (codes "1") && not (is_named delims later (number_of h)))
+    || (bytes_eq (child_of h) (codes "0") && is_named delims later (number_of h))
+
+-- the HL segments of a body, in their order
+abbrev pub hl_segments : List Segment → List Segment
+hl_segments body = filter is_hl body
+
+-- nothing is wrong with an HL that stands behind the earlier and before the later ones
+abbrev pub IsHlWhole : HlRule → Delims → (earlier : List Segment) → Segment → (later : List Segment) → Type 0
+IsHlWhole rule delims earlier h later =
+    IsFalse (is_number_wrong rule delims earlier h)
+    × IsFalse (is_parent_wrong delims earlier h)
+    × IsFalse (is_level_wrong rule delims earlier h)
+    × IsFalse (is_child_wrong delims h later)
+
+-- nothing is wrong with any of these HLs; without a rule nothing is asked
+abbrev pub IsHierarchyWhole : Option HlRule → Delims → List Segment → Type 0
+IsHierarchyWhole None delims hls = Unit {0}
+IsHierarchyWhole (Some rule) delims hls =
+    (count : ℕ) (h : Segment) → slice_get hls count ≡ Some h → IsHlWhole rule delims (take count hls) h (drop (count + 1) hls)
 
 -- an HL segment that has a place: its position in the set, ST being 1, its slot, and the id of the innermost loop round it
 pub record HlSegment : Type 0 where
@@ -27,24 +105,14 @@ pub record HlSegment : Type 0 where
   pub slot : Slot
   pub loop_id : List ℕ
 
--- HL01, the segment's own number; HL02, its parent's; HL03, its level; HL04, whether it has children
-abbrev pub number_of : HlSegment → List ℕ
-number_of h = element_of h.segment 1
-
-abbrev pub parent_of : HlSegment → List ℕ
-parent_of h = element_of h.segment 2
-
-abbrev pub level_of : HlSegment → List ℕ
-level_of h = element_of h.segment 3
-
-abbrev pub child_of : HlSegment → List ℕ
-child_of h = element_of h.segment 4
+abbrev pub segments_of : List HlSegment → List Segment
+segments_of hls = map (λ h. h.segment) hls
 
 -- the segment with an index in the body, if it is an HL that has a place
 abbrev pub hl_placed : Trees → (index : ℕ) → Segment → Option Place → Option HlSegment
 hl_placed ts index s None = None
 hl_placed ts index s (Some q) =
-    if bytes_eq (id_of s) (codes "HL")
+    if is_hl s
     then option_map (λ slot. record { position = index + 2; segment = s; slot = slot; loop_id = loop_id_of ts q }) (slot_at ts q)
     else None
 
@@ -62,49 +130,6 @@ first_hls ts body given (suc n) = and_then (first_hls ts body given n) (hl_at ts
 
 abbrev pub hls_of : Trees → List Segment → List (Option Place) → List HlSegment
 hls_of ts body given = first_hls ts body given (length body)
-
--- Values are compared byte by byte. Empty is what has no byte but component and repetition separators.
-
--- the first HL of some with a number
-abbrev pub numbered : (number : List ℕ) → List HlSegment → Option HlSegment
-numbered number hls = find (λ h. bytes_eq (number_of h) number) hls
-
--- HL01 isn't empty, and is that of an earlier HL, or isn't the count of HLs where the guide asks for it
-abbrev pub is_number_wrong : HlRule → Delims → (earlier : List HlSegment) → HlSegment → Bool
-is_number_wrong rule delims earlier h =
-    is_filled delims (number_of h)
-    && (is_some (numbered (number_of h) earlier)
-    || (rule.sequential && not (bytes_eq (number_of h) (decimal (length earlier + 1)))))
-
--- HL02 isn't empty, and no earlier HL has it
-abbrev pub is_parent_wrong : Delims → (earlier : List HlSegment) → HlSegment → Bool
-is_parent_wrong delims earlier h = is_filled delims (parent_of h) && is_none (numbered (parent_of h) earlier)
-
--- a guide's pair of a level and the level of its parent; a root has no parent
-abbrev pub is_pair : (parent : Option (List ℕ)) → (child : List ℕ) → HlPair → Bool
-is_pair None child pair = is_none pair.parent && bytes_eq pair.child child
-is_pair (Some level) child pair = option_map_or (λ own. bytes_eq own level) pair.parent false && bytes_eq pair.child child
-
-abbrev pub is_listed : HlRule → (parent : Option (List ℕ)) → (child : List ℕ) → Bool
-is_listed rule parent child = list_any (is_pair parent child) rule.pairs
-
--- HL03 isn't listed below the level of its parent, the first earlier HL that HL02 names; where HL02 is empty, as that of a root.
--- Where HL02 names none it isn't judged.
-abbrev pub is_level_wrong : HlRule → Delims → (earlier : List HlSegment) → HlSegment → Bool
-is_level_wrong rule delims earlier h =
-    if is_filled delims (parent_of h)
-    then option_map_or (λ p. not (is_listed rule (Some (level_of p)) (level_of h))) (numbered (parent_of h) earlier) false
-    else not (is_listed rule None (level_of h))
-
--- some HL02 is this number; an empty one is none
-abbrev pub is_named : Delims → List HlSegment → (number : List ℕ) → Bool
-is_named delims hls number = list_any (λ h. is_filled delims (parent_of h) && bytes_eq (parent_of h) number) hls
-
--- HL04 says that there are children and none comes later, or that there are none and one does
-abbrev pub is_child_wrong : Delims → HlSegment → (later : List HlSegment) → Bool
-is_child_wrong delims h later =
-    (bytes_eq (child_of h) (codes "1") && not (is_named delims later (number_of h)))
-    || (bytes_eq (child_of h) (codes "0") && is_named delims later (number_of h))
 
 -- a fault of an element of an HL: with the reference number of the element's row, where its slot has one, and the whole element
 abbrev pub hl_fault : HlSegment → (element : ℕ) → ElementCode → Fault
@@ -127,10 +152,10 @@ hl_fault h element code = record {
 -- what is wrong with an HL that stands behind the earlier and before the later ones
 abbrev pub IsHlFault : HlRule → Delims → (earlier : List HlSegment) → HlSegment → (later : List HlSegment) → Fault → Type 0
 IsHlFault rule delims earlier h later f =
-    (IsTrue (is_number_wrong rule delims earlier h) × (f ≡ hl_fault h 1 ik403.PatternFailure))
-    ⊎ ((IsTrue (is_parent_wrong delims earlier h) × (f ≡ hl_fault h 2 ik403.PatternFailure))
-    ⊎ ((IsTrue (is_level_wrong rule delims earlier h) × (f ≡ hl_fault h 3 ik403.CodeNotUsed))
-    ⊎ (IsTrue (is_child_wrong delims h later) × (f ≡ hl_fault h 4 ik403.PatternFailure))))
+    (IsTrue (is_number_wrong rule delims (segments_of earlier) h.segment) × (f ≡ hl_fault h 1 ik403.PatternFailure))
+    ⊎ ((IsTrue (is_parent_wrong delims (segments_of earlier) h.segment) × (f ≡ hl_fault h 2 ik403.PatternFailure))
+    ⊎ ((IsTrue (is_level_wrong rule delims (segments_of earlier) h.segment) × (f ≡ hl_fault h 3 ik403.CodeNotUsed))
+    ⊎ (IsTrue (is_child_wrong delims h.segment (segments_of later)) × (f ≡ hl_fault h 4 ik403.PatternFailure))))
 
 -- one of these HLs has the fault
 pub record IsFaultAmong (rule : HlRule) (delims : Delims) (hls : List HlSegment) (f : Fault) : Type 0 where

@@ -9,6 +9,7 @@ use Rattle.std.specs.declared.cmp.Ordering.{Ordering}
 use Rattle.x12_bytes.specs.declared.delims.Delims.{Delims}
 use Rattle.x12_segs.specs.View.{elements_of}
 use Rattle.hl_check.specs.declared.placed.PlacedHl.{PlacedHl}
+use Rattle.guide_tree.specs.Segments.{Segment}
 use Rattle.hl_check.specs.Hierarchy.{HlSegment, numbered, level_of, is_named}
 use denote.Ref.{Bor}
 
@@ -23,9 +24,9 @@ abbrev pub by_text : Bor (List ℕ) → Bor (List ℕ) → Ordering
 by_text a b = slice_cmp nat_cmp a.now b.now
 
 -- the map has the level of the first HL with each number
-abbrev pub KnowsLevels : BTreeMap (Bor (List ℕ)) (Bor (List ℕ)) → List HlSegment → Type 0
+abbrev pub KnowsLevels : BTreeMap (Bor (List ℕ)) (Bor (List ℕ)) → List Segment → Type 0
 KnowsLevels levels hls = (q : Bor (List ℕ)) → option_map (λ l. l.now) (get by_text levels q) ≡ option_map level_of (numbered q.now hls)
 
 -- the set has exactly the numbers that some HL02 is
-abbrev pub KnowsNamed : BTreeSet (Bor (List ℕ)) → Delims → List HlSegment → Type 0
+abbrev pub KnowsNamed : BTreeSet (Bor (List ℕ)) → Delims → List Segment → Type 0
 KnowsNamed named delims hls = (q : Bor (List ℕ)) → contains by_text named q ≡ is_named delims hls q.now

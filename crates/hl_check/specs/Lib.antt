@@ -1,4 +1,3 @@
-pub mod LoopIds
 pub mod Hierarchy
 pub mod Found
 pub mod Known

@@ -1,6 +1,8 @@
 ghost use Rattle.std.specs.Prelude.{◌≡◌, ◌++◌, ◌∷◌, List, OnOk};
 ghost use Rattle.hub_kinds.specs.declared.codes.ElementCode.TheVariants.{PatternFailure};
-ghost use Rattle.hl_check.specs.Hierarchy.{HlSegment, is_child_wrong};
+ghost use Rattle.x12_segs.specs.View.{elements_of};
+ghost use Rattle.guide_tree.specs.Segments.{Segment};
+ghost use Rattle.hl_check.specs.Hierarchy.{is_child_wrong};
 ghost use Rattle.hl_check.specs.Found.{fault_if, backward_faults};
 ghost use Rattle.hl_check.specs.Known.{hl_view, hls_view, KnowsNamed};
 
@@ -21,10 +23,10 @@ fn add_before<'a>(
     delims: Delims,
     hl: &PlacedHl<'_, 'a, '_>,
 ) -> Result<(), NoMemory>
-    ensures named { OnOk result ((later : List HlSegment) → KnowsNamed named.old delims later
-        → KnowsNamed named.new delims (hl_view hl.now ∷ later)) }
-    ensures faults { OnOk result ((later : List HlSegment) → KnowsNamed named.old delims later → faults.new.items
-        ≡ faults.old.items ++ fault_if (is_child_wrong delims (hl_view hl.now) later) (hl_view hl.now) 4 PatternFailure) }
+    ensures named { OnOk result ((later : List Segment) → KnowsNamed named.old delims later
+        → KnowsNamed named.new delims (elements_of hl.now.seg.now ∷ later)) }
+    ensures faults { OnOk result ((later : List Segment) → KnowsNamed named.old delims later → faults.new.items
+        ≡ faults.old.items ++ fault_if (is_child_wrong delims (elements_of hl.now.seg.now) later) (hl_view hl.now) 4 PatternFailure) }
 {
     let (number, parent, _) = hl.seg.first_elements();
     let wrong = is_child_wrong(hl.seg.element(4), named.contains(number));

@@ -6,12 +6,11 @@ ghost use Rattle.loop_match.specs.Steps.{place_view};
 ghost use Rattle.hl_check.specs.Hierarchy.{and_then, hl_placed, hls_of};
 ghost use Rattle.hl_check.specs.Known.{hl_view, hls_view};
 
-use crate::loop_id::loop_id_of;
 use crate::place::slot_at;
 use crate::placed::PlacedHl;
 use guide_tree::Node;
 use hub_kinds::NoMemory;
-use loop_match::{Placing, Step};
+use loop_match::{Placing, Step, loop_id_of};
 use std::alloc::Global;
 use x12_segs::SegView;
 

@@ -1,5 +1,6 @@
 ghost use Rattle.std.specs.Prelude.{◌≡◌, ◌++◌, ◌+◌, ◌<◌, ◌^◌, ◌∷◌, [], List, length, OnOk};
-ghost use Rattle.hl_check.specs.Hierarchy.{HlSegment};
+ghost use Rattle.x12_segs.specs.View.{elements_of};
+ghost use Rattle.guide_tree.specs.Segments.{Segment};
 ghost use Rattle.hl_check.specs.Found.{faults_behind, forward_faults};
 ghost use Rattle.hl_check.specs.Known.{hl_view, hls_view, KnowsLevels};
 
@@ -23,9 +24,9 @@ fn add_behind<'a>(
     count: usize,
     hl: &PlacedHl<'_, 'a, '_>,
 ) -> Result<(), NoMemory>
-    ensures levels { OnOk result ((earlier : List HlSegment) → KnowsLevels levels.old earlier
-        → KnowsLevels levels.new (earlier ++ hl_view hl.now ∷ [])) }
-    ensures faults { OnOk result ((earlier : List HlSegment) → KnowsLevels levels.old earlier → count ≡ length earlier + 1
+    ensures levels { OnOk result ((earlier : List Segment) → KnowsLevels levels.old earlier
+        → KnowsLevels levels.new (earlier ++ elements_of hl.now.seg.now ∷ [])) }
+    ensures faults { OnOk result ((earlier : List Segment) → KnowsLevels levels.old earlier → count ≡ length earlier + 1
         → faults.new.items ≡ faults.old.items ++ faults_behind rule.now delims earlier (hl_view hl.now)) }
 {
     let (number, parent, level) = hl.seg.first_elements();

@@ -1,6 +1,7 @@
 ghost use Rattle.std.specs.Prelude.{◌≡◌, ◌++◌, [], ◌∷◌, List, OnOk, option_map};
 ghost use Rattle.x12_bytes.specs.declared.delims.Delims.{Delims};
-ghost use Rattle.hl_check.specs.Hierarchy.{HlSegment, numbered, number_of, parent_of, level_of, is_named};
+ghost use Rattle.guide_tree.specs.Segments.{Segment};
+ghost use Rattle.hl_check.specs.Hierarchy.{numbered, number_of, parent_of, level_of, is_named};
 ghost use Rattle.hl_check.specs.Known.{KnowsLevels, KnowsNamed};
 
 use crate::rules::is_filled;
@@ -10,7 +11,7 @@ use x12_bytes::Delims;
 
 /// The level of the first HL with a number.
 pub fn level_with<'a>(levels: &BTreeMap<&'a [u8], &'a [u8]>, number: &[u8]) -> Option<&'a [u8]>
-    ensures { (hls : List HlSegment) → KnowsLevels levels.now hls
+    ensures { (hls : List Segment) → KnowsLevels levels.now hls
         → option_map (λ l. l.now) result ≡ option_map level_of (numbered number.now hls) }
 {
     levels.get(number).copied()
@@ -22,7 +23,7 @@ pub fn add_level<'a>(
     number: &'a [u8],
     level: &'a [u8],
 ) -> Result<(), NoMemory>
-    ensures { OnOk result ((hls : List HlSegment) (h : HlSegment) → number_of h ≡ number.entry.now → level_of h ≡ level.entry.now
+    ensures { OnOk result ((hls : List Segment) (h : Segment) → number_of h ≡ number.entry.now → level_of h ≡ level.entry.now
         → KnowsLevels levels.old hls → KnowsLevels levels.new (hls ++ h ∷ [])) }
 {
     if levels.get(number).is_none() {
@@ -37,7 +38,7 @@ pub fn add_named<'a>(
     delims: Delims,
     parent: &'a [u8],
 ) -> Result<(), NoMemory>
-    ensures { OnOk result ((hls : List HlSegment) (h : HlSegment) → parent_of h ≡ parent.entry.now
+    ensures { OnOk result ((hls : List Segment) (h : Segment) → parent_of h ≡ parent.entry.now
         → KnowsNamed named.old delims hls → KnowsNamed named.new delims (h ∷ hls)) }
 {
     if is_filled(delims, parent) {

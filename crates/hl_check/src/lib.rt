@@ -5,6 +5,9 @@
 //! level that isn't listed below that of the parent (HL03), children that are told of and don't come, or come untold
 //! (HL04). Where the guide has no rule there is none.
 //!
+//! `IsHierarchyWhole` of `specs/Hierarchy.antt` says of HL segments alone that nothing is wrong with them; where each segment
+//! of a body has a place that leads to a slot, there is no fault exactly then (`proofs/Whole.antt`).
+//!
 //! Numbers are looked up in an ordered map and an ordered set, so that the cost follows the bytes, but for a logarithm,
 //! whatever numbers somebody chooses; nothing goes as deep as the hierarchy.
 //!
@@ -18,7 +21,6 @@ mod collect;
 mod fault;
 mod forward;
 mod known;
-mod loop_id;
 mod place;
 mod placed;
 mod rules;

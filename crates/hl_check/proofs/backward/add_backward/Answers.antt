@@ -1,5 +1,5 @@
 use Rattle.std.proofs.Common.{◌≡◌, ◌-◌, ◌∷◌, List, drop, sym, subst, arith}
-use Rattle.hl_check.specs.Hierarchy.{HlSegment}
+use Rattle.hl_check.specs.Hierarchy.{HlSegment, segments_of}
 use Rattle.hl_check.specs.Known.{hl_view, hls_view, KnowsNamed}
 use Rattle.hl_check.proofs.Viewing.{drop_views}
 use Rattle.hl_check.proofs.Walking.{backward_more}
@@ -15,7 +15,9 @@ loop-left-preserved c =
     (omega arith) in
     record {
       within = omega arith;
-      named = subst (KnowsNamed c.add_before.new.named c.args.delims) (sym e) (c.in_ok-add_before.ensures.named later known);
+      named = subst (λ (l : List HlSegment). KnowsNamed c.add_before.new.named c.args.delims (segments_of l)) (sym e)
+          (c.in_ok-add_before.ensures.named (segments_of later) known);
       told = backward_more c.args.faults.now.items c.loop-left.faults.items c.add_before.new.faults.items c.args.delims
-          (hl_view c.index-hls-left.result) later all e c.loop-left.invariant.told (c.in_ok-add_before.ensures.faults later known);
+          (hl_view c.index-hls-left.result) later all e c.loop-left.invariant.told
+          (c.in_ok-add_before.ensures.faults (segments_of later) known);
     }

@@ -1,4 +1,5 @@
 use Rattle.std.proofs.Common.{◌≡◌, ◌++◌, ◌≤◌, length, drop}
+use Rattle.hl_check.specs.Hierarchy.{segments_of}
 use Rattle.hl_check.specs.Found.{backward_faults}
 use Rattle.hl_check.specs.Known.{hls_view, KnowsNamed}
 use Rattle.hl_check.proofs.backward.add_backward.Given as goal
@@ -8,7 +9,7 @@ abbrev pub invariant-loop-left : goal.invariant-loop-left
 invariant-loop-left l =
     record {
       within : l.left ≤ length l.hls;
-      named : KnowsNamed l.named l.delims (hls_view (drop l.left l.hls));
+      named : KnowsNamed l.named l.delims (segments_of (hls_view (drop l.left l.hls)));
       told : l.faults.items ≡ l.fn.faults.items ++ backward_faults l.delims (hls_view (drop l.left l.hls));
     }
 

@@ -1,4 +1,5 @@
 use Rattle.std.proofs.Common.{◌≡◌, ◌++◌, take}
+use Rattle.hl_check.specs.Hierarchy.{segments_of}
 use Rattle.hl_check.specs.Found.{forward_faults}
 use Rattle.hl_check.specs.Known.{hls_view, KnowsLevels}
 use Rattle.hl_check.proofs.forward.add_forward.Given as goal
@@ -7,6 +8,6 @@ use Rattle.hl_check.proofs.forward.add_forward.Given as goal
 abbrev pub invariant-loop-i : goal.invariant-loop-i
 invariant-loop-i l =
     record {
-      levels : KnowsLevels l.levels (take l.i (hls_view l.hls));
+      levels : KnowsLevels l.levels (segments_of (take l.i (hls_view l.hls)));
       told : l.faults.items ≡ l.fn.faults.items ++ forward_faults l.rule l.delims (hls_view l.hls) l.i;
     }
