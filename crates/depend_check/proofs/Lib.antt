@@ -1,0 +1,7 @@
+mod Lists
+mod Rounds
+mod Collecting
+mod Members
+mod Seats
+mod Keyed
+mod Worked

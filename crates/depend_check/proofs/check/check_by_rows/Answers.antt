@@ -1,0 +1,47 @@
+use Rattle.std.proofs.Common.{◌≡◌, List, map, length, sym, subst, ap, ◌∙◌, ◌+◌}
+use Rattle.std.specs.List.{Contains}
+use Rattle.hub_kinds.specs.declared.fault.Fault.{Fault}
+use Rattle.x12_segs.specs.View.{elements_of}
+use Rattle.guide_tree.specs.Tree.{GuideTree}
+use Rattle.guide_tree.specs.View.{nodes_view}
+use Rattle.guide_tree.specs.declared.node.Node.{Node}
+use Rattle.loop_match.specs.Given.{place_in}
+use Rattle.depend_check.specs.Dependencies.{placed_segments}
+use Rattle.depend_check.specs.Found.{found_faults}
+use Rattle.depend_check.proofs.Members.{members}
+use Rattle.depend_check.proofs.Keyed.{keyed}
+use Rattle.depend_check.proofs.check.check_by_rows.Goals as goal
+
+pub in_order-requires : goal.in_order-requires
+in_order-requires c =
+    let rows = c.args.rows.now in
+    let body = map elements_of c.args.segs.now in
+    let given = map place_in c.args.placing.now.given in
+    let ts = nodes_view rows.nodes.items in
+    keyed ts ts c.args.delims (length c.args.segs.now + 2) body given rows.depends c.in_ok-find_in_body.field-0.items
+    (ap (λ (g : GuideTree). g.nodes) c.requires.numbered)
+    (c.in_ok-find_in_body.ensures
+    ∙ ap (λ (ns : List Node). found_faults (nodes_view ns) c.args.delims (length c.args.segs.now + 2)
+    (placed_segments (nodes_view ns) body given) c.as_slice-depends.result.now) c.as_slice-nodes.ensures.value
+    ∙ ap (found_faults ts c.args.delims (length c.args.segs.now + 2) (placed_segments ts body given)) c.as_slice-depends.ensures)
+
+pub returns-clause-faults : goal.returns-clause-faults
+returns-clause-faults c f =
+    let rows = c.args.rows.now in
+    let body = map elements_of c.args.segs.now in
+    let given = map place_in c.args.placing.now.given in
+    let ts = nodes_view rows.nodes.items in
+    let end = length c.args.segs.now + 2 in
+    let all = placed_segments ts body given in
+    let found : c.in_ok-find_in_body.field-0.items ≡ found_faults ts c.args.delims end all rows.depends =
+    c.in_ok-find_in_body.ensures
+    ∙ ap (λ (ns : List Node). found_faults (nodes_view ns) c.args.delims end
+    (placed_segments (nodes_view ns) body given) c.as_slice-depends.result.now) c.as_slice-nodes.ensures.value
+    ∙ ap (found_faults ts c.args.delims end all) c.as_slice-depends.ensures in
+    let both = members ts c.args.delims end all rows.depends f in
+    let same = c.in_order.ensures.same f in (
+      λ h. let r = both.0 (subst (λ (l : List Fault). Contains l f) found (same.0 h)) in
+          record { dependency = r.dependency; listed = r.listed; triggered = r.triggered; broken = r.broken },
+      λ h. same.1 (subst (λ (l : List Fault). Contains l f) (sym found)
+          (both.1 (record { dependency = h.dependency; listed = h.listed; triggered = h.triggered; broken = h.broken }))),
+    )

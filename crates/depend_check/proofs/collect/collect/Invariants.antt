@@ -1,0 +1,12 @@
+use Rattle.std.proofs.Common.{◌≡◌, map}
+use Rattle.x12_segs.specs.View.{elements_of}
+use Rattle.guide_tree.specs.View.{nodes_view}
+use Rattle.loop_match.specs.Given.{place_in}
+use Rattle.depend_check.specs.Dependencies.{first_placed}
+use Rattle.depend_check.specs.Viewed.{placed_views}
+use Rattle.depend_check.proofs.collect.collect.Given as goal
+
+-- those of the segments so far
+abbrev pub invariant-loop-i : goal.invariant-loop-i
+invariant-loop-i l =
+    placed_views l.placed.items ≡ first_placed (nodes_view l.nodes) (map elements_of l.segs) (map place_in l.placing.given) l.i

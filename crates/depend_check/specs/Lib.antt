@@ -1,0 +1,3 @@
+pub mod Dependencies
+pub mod Viewed
+pub mod Found
