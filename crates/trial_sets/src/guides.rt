@@ -4,12 +4,14 @@ use guide_tree::Guide;
 use std::alloc::Global;
 use std::test::Fail;
 
-/// A purchase order. The slots are BEG 1, REF 2, DTM 3, loop N1 4, N1 5, N3 6, loop PO1 7, PO1 8, PID 9, CTT 10.
+/// A purchase order, of which an element that is too long is tolerated. The slots are BEG 1, REF 2, DTM 3, loop N1 4, N1 5, N3 6,
+/// loop PO1 7, PO1 8, PID 9, CTT 10.
 pub const ORDER: &str = r#"name = "ORDER"
 group = "PO"
 set = "850"
 version = "005010"
 dictionary = ["PER", "SAC"]
+tolerate_element = ["5"]
 nodes = [
  {seg="BEG", min=1, max=1, elements=["353 M ID 2 2 = 00 05 ! 01 04", "92 M ID 2 2 = NE SA", "324 M AN 1 22", "328 O AN 1 30",
   "373 M DT 8 8"]},

@@ -17,7 +17,8 @@ use std::test::Fail;
 use x12_bytes::Delims;
 use x12_segs::SetSpan;
 
-const FRONT: &[u8] =
+/// A header of an interchange, and one of a group.
+pub const FRONT: &[u8] =
     b"ISA*00*          *00*          *01*ACME           *ZZ*HUB            *260228*0900*^*00501*000000007*0*P*>~\
       GS*PO*ACME*BOLT*20260228*0900*12*X*005010~";
 
@@ -139,7 +140,7 @@ fn told(alloc: Global, guide: Option<&Guide>, sets: &str) -> Result<Vec<u8>, Fai
 }
 
 /// Whether a guide has neither a rule of hierarchies nor dependencies.
-fn is_plain(guide: &Guide) -> bool
+pub fn is_plain(guide: &Guide) -> bool
     ensures { IsTrue result → IsPlain (Some (guide_of guide.now)) }
 {
     let rows = guide.rows();
