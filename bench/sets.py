@@ -424,6 +424,7 @@ def compare(title, built, folder, cases):
 
 ORDER_HEAD = [b'BEG*00*SA*PO100**20260228', b'REF*DP*100*SALES', b'DTM*002*20260228*0900', b'N9*DP*100', b'MSG*HANDLE WITH CARE',
               b'N1*ST*NORTH STORE*92*0001', b'N3*1 MAIN STREET*SUITE 2', b'N4*NORTHTOWN*NY*10001*US']
+SECOND_PARTNER = [b'N1*BT*SOUTH OFFICE*92*0002', b'N3*2 HIGH ROAD', b'N4*SOUTHTOWN*NY*10002*US']
 ORDER_LINE = [b'PO1*1*5*EA*2.50*TE*UP*012345678905', b'PID*F*08***BLUE CHAIR']
 
 
@@ -482,6 +483,9 @@ def instructions(built, words):
 def clean(built, folder):
     if not shutil.which('valgrind'):
         return
+    ordinary = sealed(ORDER_HEAD + SECOND_PARTNER + ORDER_LINE * 10 + [b'CTT*10'])
+    used = instructions(built, counting(folder, HOUSE, ordinary)) / (len(ordinary[1]) + 2)
+    print(f'a clean order of ten lines with a description, of two partners: {used:.0f} instructions a segment', flush=True)
     for name, part in (('lines with a description', ORDER_LINE), ('short lines', [b'PO1*1*5*EA*2.50'])):
         few, many = (instructions(built, counting(folder, HOUSE, long_set(part, count))) for count in (10_000, 100_000))
         print(f'a clean order, {name}: {many / 100_000:.0f} instructions a segment of 100,000, growth from 10,000 {many / few:.2f}',

@@ -73,7 +73,7 @@ pub rises-from : (key : Fault → ℕ) (Q : Fault → Type 0) → ((f g : Fault)
 rises-from key Q step [] all rising = tt
 rises-from key Q step (x ∷ xs) all rising = (
   behind key Q step x xs all.0 all.1
-  (recursion_from_All (λ y. order_by key_of x y ≡ Less) xs (All-after_first (order_by key_of) x xs rising)),
+      (recursion_from_All (λ y. order_by key_of x y ≡ Less) xs (All-after_first (order_by key_of) x xs rising)),
   rises-from key Q step xs all.1 (sorted_tail (order_by key_of) x xs rising),
 )
 
