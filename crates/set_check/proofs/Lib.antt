@@ -7,6 +7,7 @@ mod Keyed
 mod Meeting
 mod NoCodes
 mod NoFaults
+mod Rising
 mod SoundPlaces
 mod Spans
 mod Told

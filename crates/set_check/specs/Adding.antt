@@ -1,8 +1,12 @@
--- 999 guide, IK4 (own): the element faults that a walk over a body adds, segment by segment. Private.
-use Rattle.std.specs.Prelude.{ℕ, ◌+◌, ◌≡◌, ◌<◌, ◌↔◌, ◌⊎◌, List, Option, Some}
-use Rattle.std.specs.List.{Contains, slice_get}
+-- 999 guide, IK4 (own): the element faults that a walk over a body adds, segment by segment, and which other faults stand beside
+-- them. Private.
+use Rattle.std.specs.Prelude.{ℕ, ◌+◌, ◌≡◌, ◌<◌, ◌↔◌, ◌⊎◌, Bool, List, Option, Some}
+use Rattle.std.specs.Ordering.{eq_by_cmp}
+use Rattle.std.specs.List.{Contains, list_any, slice_get}
 use Rattle.hub_kinds.specs.declared.fault.Fault.{Fault}
 use Rattle.hub_kinds.specs.declared.fault.ElemFault.{ElemFault}
+use Rattle.hub_kinds.specs.Fault.{key_of}
+use Rattle.hub_kinds.specs.Rising.{order_by}
 use Rattle.x12_segs.specs.View.{SegValue, elements_of}
 use Rattle.guide_tree.specs.declared.slot.Slot.{Slot}
 use Rattle.guide_tree.specs.Tree.{Trees}
@@ -33,6 +37,17 @@ pub record IsErrorBelow (ts : Trees) (segs : List SegValue) (given : List (Optio
 -- a list has what another has, and these
 abbrev pub Adds : (old new : List Fault) → (Fault → Type 0) → Type 0
 Adds old new P = (f : Fault) → Contains new f ↔ (Contains old f ⊎ P f)
+
+-- one of some faults has the key of this one
+abbrev pub has_key_among : List Fault → Fault → Bool
+has_key_among faults f = list_any (λ e. eq_by_cmp (order_by key_of) e f) faults
+
+abbrev pub HasKeyAmong : List Fault → Fault → Type 0
+HasKeyAmong faults f = (e : Fault) × Contains faults e × (key_of e ≡ key_of f)
+
+-- one of the first, or one of the others whose key none of the first has
+abbrev pub IsBeside : (first others : List Fault) → Fault → Type 0
+IsBeside first others f = Contains first f ⊎ (Contains others f × (HasKeyAmong first f → ⊥))
 
 -- each slot to which a place leads keeps to what it has to
 abbrev pub AreSound : Trees → Type 0

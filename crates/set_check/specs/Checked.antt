@@ -1,5 +1,5 @@
 -- X12.6, transaction set, and the 999 guide, IK3 to IK5 (own): a set that was checked.
-use Rattle.std.specs.Prelude.{◌≡◌, ℕ, List, [], Option, Some, None, option_map}
+use Rattle.std.specs.Prelude.{◌≡◌, ℕ, List, Option, option_map}
 use Rattle.hub_kinds.specs.declared.fault.Fault.{Fault}
 use Rattle.hub_kinds.specs.declared.set_codes.SetCode.{SetCode}
 use Rattle.hub_kinds.specs.Fault.{AreRising}
@@ -35,8 +35,3 @@ pub record IsChecked (c : Checked) : Type 0 where
   pub faults : AreSetFaults (guide_in c) (parts_in c) c.faults
   pub rising : AreRising c.faults
   pub codes : c.codes ≡ codes_with (guide_in c) (parts_in c) c.faults
-
--- the guide has no rule for hierarchies and no dependencies, which aren't checked
-abbrev pub IsPlain : Option GuideTree → Type 0
-IsPlain None = Unit {0}
-IsPlain (Some g) = (g.hl ≡ None) × (g.depends ≡ [])

@@ -6,6 +6,8 @@ use Rattle.hub_kinds.specs.declared.fault.ElemFault.{ElemFault}
 use Rattle.guide_tree.specs.Tree.{GuideTree}
 use Rattle.guide_tree.specs.Grammar.{Given, Derives}
 use Rattle.elem_rules.specs.ElementFaults.{IsElementFault}
+use Rattle.hl_check.specs.Hierarchy.{IsHierarchyWhole, hl_segments}
+use Rattle.depend_check.specs.Kept.{AreDependenciesKept}
 use Rattle.x12_segs.specs.View.{SegValue, element_of}
 use Rattle.set_check.specs.Codes.{control_of}
 use Rattle.set_check.specs.SetParts.{SetParts, segment_count}
@@ -15,8 +17,9 @@ abbrev pub MeetsConvention : Option (List ℕ) → List ℕ → Type 0
 MeetsConvention None given = Unit {0}
 MeetsConvention (Some convention) given = (given ≡ []) ⊎ (given ≡ convention)
 
--- The set has a guide, which derives its body, each segment with its slot; under these slots no element is at fault; it has an SE,
--- whose SE01 is 1 to 10 digits that write the number of its segments and whose SE02 is ST02; ST02 has 4 or more bytes.
+-- The set has a guide, which derives its body, each segment with its slot; under these slots no element is at fault and the guide's
+-- dependencies are kept; its HL segments make a whole hierarchy; it has an SE, whose SE01 is 1 to 10 digits that write the number of
+-- its segments and whose SE02 is ST02; ST02 has 4 or more bytes.
 pub record MeetsAlone (guide : Option GuideTree) (parts : SetParts) : Type 0 where
   pub known : GuideTree
   pub guided : guide ≡ Some known
@@ -24,6 +27,8 @@ pub record MeetsAlone (guide : Option GuideTree) (parts : SetParts) : Type 0 whe
   pub body : map (λ x. x.0) slots ≡ parts.body
   pub derived : Derives known.nodes slots
   pub elements : (x : Given) (e : ElemFault) → Contains slots x → IsElementFault parts.delims x.0 x.1 e → ⊥
+  pub hierarchy : IsHierarchyWhole known.hl parts.delims (hl_segments parts.body)
+  pub dependencies : AreDependenciesKept known.depends parts.delims slots
   pub trailer : SegValue
   pub closed : parts.trailer ≡ Some trailer
   pub counted : number_of 10 (element_of trailer 1) ≡ Some (segment_count parts)

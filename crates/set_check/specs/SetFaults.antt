@@ -1,10 +1,13 @@
--- 999 guide, IK3 and IK4: what is wrong with the segments of a set, by its guide; and the set's codes.
+-- 999 guide, IK3 and IK4: what is wrong with the segments of a set, by its guide; and the set's codes. Which of two faults of one
+-- key stands is own.
 use Rattle.std.specs.Prelude.{ℕ, ◌+◌, ◌≡◌, ◌↔◌, ◌⊎◌, List, Option, Some, None, option_map, Bool, false}
 use Rattle.std.specs.List.{Contains, slice_get}
+use Rattle.x12_bytes.specs.declared.delims.Delims.{Delims}
 use Rattle.hub_kinds.specs.declared.fault.Fault.{Fault}
 use Rattle.hub_kinds.specs.declared.fault.ElemFault.{ElemFault}
 use Rattle.hub_kinds.specs.declared.codes.SegmentCode.TheVariants as ik304
 use Rattle.hub_kinds.specs.declared.set_codes.SetCode.{SetCode}
+use Rattle.hub_kinds.specs.Fault.{key_of}
 use Rattle.guide_tree.specs.declared.slot.Slot.{Slot}
 use Rattle.guide_tree.specs.Tree.{Trees, GuideTree}
 use Rattle.guide_tree.specs.Segments.{Segment, id_of}
@@ -13,6 +16,8 @@ use Rattle.guide_tree.specs.Nexts.{placing_of}
 use Rattle.guide_tree.specs.Structure.{IsStructureFault}
 use Rattle.elem_rules.specs.ElementFaults.{IsElementFault}
 use Rattle.loop_match.specs.LoopIds.{loop_id_of}
+use Rattle.hl_check.specs.Hierarchy.{IsHierarchyFault}
+use Rattle.depend_check.specs.Dependencies.{IsDependencyFault}
 use Rattle.set_check.specs.declared.guide.SetGuide.{SetGuide}
 use Rattle.set_check.specs.Codes.{set_codes_of}
 use Rattle.set_check.specs.SetParts.{SetParts, segment_count, end_position}
@@ -41,12 +46,26 @@ pub record IsErrorIn (ts : Trees) (parts : SetParts) (given : List (Option Place
   pub wrong : IsElementFault parts.delims segment slot elem
   pub is : f ≡ told_by (index + 2) segment (loop_id_of ts place) slot elem
 
--- the faults of a set: those of its structure, and of its elements; none where it has no guide
+-- a fault of the hierarchy of HL segments, or of a dependency
+abbrev pub IsRuleFault : GuideTree → Delims → List Segment → List (Option Place) → (end : ℕ) → Fault → Type 0
+IsRuleFault g delims body given end f = IsHierarchyFault g delims body given f ⊎ IsDependencyFault g delims body given end f
+
+-- an element fault has the same key, by which faults are ordered
+abbrev pub HasKeyOfError : Trees → SetParts → List (Option Place) → Fault → Type 0
+HasKeyOfError ts parts given f = (e : Fault) × IsErrorIn ts parts given e × (key_of e ≡ key_of f)
+
+-- what is wrong with a set whose segments are given these places: its structure, an element, or a hierarchy or dependency; where an
+-- element fault and one of these have one key, the element fault stands alone
+abbrev pub IsFaultUnder : GuideTree → SetParts → List (Option Place) → Fault → Type 0
+IsFaultUnder g parts given f =
+    IsStructureFault g parts.body given (end_position parts) f
+    ⊎ (IsErrorIn g.nodes parts given f
+    ⊎ (IsRuleFault g parts.delims parts.body given (end_position parts) f × (HasKeyOfError g.nodes parts given f → ⊥)))
+
+-- the faults of a set under the places that its guide gives; none where it has no guide
 abbrev pub IsSetFault : Option GuideTree → SetParts → Fault → Type 0
 IsSetFault None parts f = ⊥
-IsSetFault (Some g) parts f =
-    IsStructureFault g parts.body (placing_of g.nodes parts.body) (end_position parts) f
-    ⊎ IsErrorIn g.nodes parts (placing_of g.nodes parts.body) f
+IsSetFault (Some g) parts f = IsFaultUnder g parts (placing_of g.nodes parts.body) f
 
 -- a list has exactly the set's faults
 abbrev pub AreSetFaults : Option GuideTree → SetParts → List Fault → Type 0

@@ -6,6 +6,7 @@ ghost use Rattle.set_check.specs.SetParts.{before_trailer, inner_of, parts_of};
 ghost use Rattle.set_check.specs.SetFaults.{AreSetFaults};
 
 use crate::elements::add_elements;
+use crate::rules::{rule_faults, with_others};
 use guide_tree::Guide;
 use hub_kinds::{Fault, NoMemory, in_order};
 use loop_match::place_all;
@@ -46,8 +47,10 @@ pub fn body_faults(
     let rows = guide.rows();
     let body = inner_of(set.closed, segs);
     let placing = place_all(alloc, body, guide)?;
-    let mut faults = Vec::new(alloc);
-    add_elements(alloc, &mut faults, body, rows.nodes.as_slice(), &placing)?;
+    let mut errors = Vec::new(alloc);
+    add_elements(alloc, &mut errors, body, rows.nodes.as_slice(), &placing)?;
+    let others = rule_faults(alloc, body, &placing, guide)?;
+    let mut faults = with_others(errors, others)?;
     let mut structure = placing.into_faults().into_vec();
     faults.append(&mut structure)?;
     Ok(in_order(faults))

@@ -2,7 +2,7 @@ ghost use Rattle.std.specs.Prelude.{◌≡◌, ◌≤◌, ◌↔◌, [], length,
 ghost use Rattle.std.specs.List.{All};
 ghost use Rattle.std.specs.Option.{option_copied};
 ghost use Rattle.hub_kinds.specs.Fault.{AreRising};
-ghost use Rattle.set_check.specs.Checked.{IsPlain, guide_in, parts_in, said_by};
+ghost use Rattle.set_check.specs.Checked.{guide_in, parts_in, said_by};
 ghost use Rattle.set_check.specs.Meets.{MeetsAlone};
 ghost use Rattle.set_check.specs.SetFaults.{AreSetFaults, codes_with};
 ghost use Rattle.set_check.specs.SetParts.{before_trailer, parts_of};
@@ -21,8 +21,7 @@ use x12_segs::{SegView, SetSpan};
 
 /// Checks a transaction set (X12.6) of a text by its guide, if it has one: its faults (999 guide, IK3 and IK4), in their
 /// order, each once, and its codes (IK5) but for the one that an earlier set of its group gives. Without a guide its segments
-/// aren't checked. A guide with a rule for hierarchies or with dependencies isn't taken, since these aren't checked. The only
-/// error is want of memory.
+/// aren't checked. The only error is want of memory.
 pub fn check_set<'a>(
     alloc: Global,
     text: &'a [u8],
@@ -30,7 +29,6 @@ pub fn check_set<'a>(
     guide: Option<&'a Guide>,
 ) -> Result<CheckedSet<'a>, NoMemory>
     requires span { IsSetSpan text.now set }
-    requires plain { IsPlain (said_by (option_copied guide)) }
     ensures text { IfOk result (λ c. c.text ≡ text.entry.now) }
     ensures span { IfOk result (λ c. c.span ≡ set) }
     ensures guide { IfOk result (λ c. c.guide ≡ option_copied guide.entry) }

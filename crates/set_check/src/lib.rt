@@ -3,8 +3,8 @@
 //!
 //! Proved:
 //! - `check_set` finds exactly the faults of a set, each once and in their order, and its codes; there is neither a fault nor
-//!   a code exactly where the set meets its guide by the grammar, looked at alone. Its guide must have no rule for
-//!   hierarchies and no dependencies, which aren't checked yet;
+//!   a code exactly where the set meets its guide, looked at alone: by the grammar, its elements, its hierarchy and its
+//!   dependencies. Where an element fault and one of a hierarchy or dependency have one key, the element fault stands;
 //! - a `CheckedSet` keeps that its faults and codes are those of its own span of its text by its own guide, and `is_clean`
 //!   answers whether it meets that guide;
 //! - `verdict` is accepted exactly where the set meets its guide and no earlier set of its group has its ST02, and accepted with
@@ -38,6 +38,7 @@ mod envelope;
 mod faults;
 mod guide;
 mod law;
+mod rules;
 mod segments;
 mod tolerance;
 mod verdict;
