@@ -4,4 +4,7 @@ mod Collecting
 mod Members
 mod Seats
 mod Keyed
+mod Leading
+pub mod Whole
 mod Worked
+mod WorkedKept

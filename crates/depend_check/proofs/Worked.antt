@@ -35,7 +35,7 @@ simple reference = element.Simple (record {
   codes = None;
 }) 1
 
-abbrev slot : (number : ℕ) → List ℕ → List Element → Slot
+abbrev pub slot : (number : ℕ) → List ℕ → List Element → Slot
 slot number id rows = record {
   number = number;
   id = id;
@@ -53,7 +53,7 @@ repeated number id = record { number = number; id = id; min = 0; max = 99 }
 abbrev first_slot : (number : ℕ) → List ℕ → List Element → Slot
 first_slot number id rows = record (slot number id rows) { min = 1; max = 1 }
 
-abbrev man_rows : List Element
+abbrev pub man_rows : List Element
 man_rows = simple (codes "88") ∷ simple (codes "87") ∷ []
 
 -- BSN; loops HL, in each HL and up to nine MAN; up to nine REF behind them
@@ -62,11 +62,11 @@ notice = tree (segment (first_slot 1 (codes "BSN") [])) (tree (loop (repeated 2 
     (tree (segment (first_slot 3 (codes "HL") [])) (tree (segment (slot 4 (codes "MAN") man_rows)) no_trees)))
     (tree (segment (slot 5 (codes "REF") (simple (codes "128") ∷ []))) no_trees))
 
-abbrev delims : Delims
+abbrev pub delims : Delims
 delims = record { element = 42; component = 62; repetition = Some 94; terminator = 126 }
 
 -- where HL03 is P
-abbrev where_packed : DependencyKind → (target : List ℕ) → (element : ℕ) → Dependency
+abbrev pub where_packed : DependencyKind → (target : List ℕ) → (element : ℕ) → Dependency
 where_packed kind target element =
     record { kind = kind; slot = codes "HL"; at = 3; codes = codes "P" ∷ []; target = target; element = element }
 
@@ -118,7 +118,7 @@ told_on position element code reference copy = record (told position (codes "MAN
   elem = Some (record { element = element; component = 0; repetition = 0; code = code; reference = reference; copy = copy });
 }
 
-abbrev man : List ℕ
+abbrev pub man : List ℕ
 man = codes "MAN"
 
 abbrev levels : List (List ℕ)

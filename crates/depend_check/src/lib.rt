@@ -5,6 +5,10 @@
 //! Then a slot that it needs and that has no use is told of at the end; each use of a slot that it bans; each use of its
 //! target that lacks a needed element, or has a banned one.
 //!
+//! `AreDependenciesKept` of `specs/Kept.antt` says of segments with their slots alone that they keep the dependencies of an
+//! accepted guide; where each segment of a body has a place that leads to its slot, there is no fault exactly then
+//! (`proofs/Whole.antt`).
+//!
 //! The cost is the uses of slots for each dependency, and memory for one entry a segment; a guide without dependencies
 //! takes neither.
 //!

@@ -1,0 +1,38 @@
+-- Own: a set keeps the dependencies of its guide, looked at alone: over its segments, each with the slot that a derivation gives it.
+use Rattle.std.specs.Prelude.{ℕ, zero, suc, IsTrue, IsFalse, List, Bool, ◌&&◌}
+use Rattle.std.specs.List.{Contains, list_any}
+use Rattle.x12_bytes.specs.declared.delims.Delims.{Delims}
+use Rattle.guide_tree.specs.declared.rows.Dependency.{Dependency}
+use Rattle.guide_tree.specs.declared.rows.DependencyKind.{DependencyKind}
+use Rattle.guide_tree.specs.declared.rows.DependencyKind.TheVariants as kind
+use Rattle.guide_tree.specs.Conditions.{has_label}
+use Rattle.guide_tree.specs.Grammar.{Given}
+use Rattle.guide_tree.specs.Segments.{element_of, contains_text}
+use Rattle.elem_rules.specs.Divided.{is_filled}
+
+-- a segment's slot has the label
+abbrev pub stands_at : (label : List ℕ) → Given → Bool
+stands_at label x = has_label label x.1
+
+-- a segment has the element
+abbrev pub fills : Delims → (element : ℕ) → Given → Bool
+fills delims element x = is_filled delims (element_of x.0 element)
+
+-- a segment with its slot is a use of the dependency's slot that has one of the listed codes in its element
+abbrev pub triggers : Dependency → Given → Bool
+triggers d x = has_label d.slot x.1 && contains_text d.codes (element_of x.0 d.at)
+
+-- What a dependency asks of segments with their slots: a needed slot is some segment's, a banned one none's; each segment of
+-- the slot has a needed element, none has a banned one.
+abbrev pub IsTargetKept : Delims → List Given → (label : List ℕ) → DependencyKind → (element : ℕ) → Type 0
+IsTargetKept delims xs label kind.Need zero = IsTrue (list_any (stands_at label) xs)
+IsTargetKept delims xs label kind.Ban zero = IsFalse (list_any (stands_at label) xs)
+IsTargetKept delims xs label kind.Need (suc e) =
+    (x : Given) → Contains xs x → IsTrue (stands_at label x) → IsTrue (fills delims (suc e) x)
+IsTargetKept delims xs label kind.Ban (suc e) =
+    (x : Given) → Contains xs x → IsTrue (stands_at label x) → IsFalse (fills delims (suc e) x)
+
+-- each dependency that is triggered is kept
+abbrev pub AreDependenciesKept : List Dependency → Delims → List Given → Type 0
+AreDependenciesKept depends delims xs =
+    (d : Dependency) → Contains depends d → IsTrue (list_any (triggers d) xs) → IsTargetKept delims xs d.target d.kind d.element
