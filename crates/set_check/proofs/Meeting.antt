@@ -14,13 +14,14 @@ use Rattle.set_check.proofs.NoCodes.{Enveloped, codeless, guideless_has_a_code, 
 
 -- the laws of the guide that are asked
 pub record Laws (g : GuideTree) : Type 0 where
+  pub well : IsWellFormed g
   pub only : IsOnlyPlacing g
   pub derived : DerivedIsPlaced g
   pub placed : PlacedIsDerived g
 
 pub clean_meets : (g : GuideTree) (parts : SetParts) → Laws g → IsClean (Some g) parts → MeetsAlone (Some g) parts
 clean_meets g parts laws h =
-    let d = faultless_derived g parts laws.only laws.placed h.0 in
+    let d = faultless_derived g parts laws.well laws.only laws.placed h.0 in
     let v = codeless g parts h.1 in
     record {
       known = g;
@@ -29,6 +30,8 @@ clean_meets g parts laws h =
       body = d.body;
       derived = d.derived;
       elements = d.elements;
+      hierarchy = d.hierarchy;
+      dependencies = d.dependencies;
       trailer = v.trailer;
       closed = v.closed;
       counted = v.counted;
@@ -40,7 +43,14 @@ clean_meets g parts laws h =
 pub meets_clean : (g : GuideTree) (parts : SetParts) → Laws g → MeetsAlone (Some g) parts → IsClean (Some g) parts
 meets_clean g parts laws m =
     let same : m.known ≡ g = let e : Some g ≡ Some m.known = m.guided in cc in
-    let d : Derived m.known parts = record { slots = m.slots; body = m.body; derived = m.derived; elements = m.elements } in
+    let d : Derived m.known parts = record {
+      slots = m.slots;
+      body = m.body;
+      derived = m.derived;
+      elements = m.elements;
+      hierarchy = m.hierarchy;
+      dependencies = m.dependencies;
+    } in
     let v : Enveloped m.known parts = record {
       trailer = m.trailer;
       closed = m.closed;
@@ -49,7 +59,7 @@ meets_clean g parts laws m =
       long_control = m.long_control;
       convention = m.convention;
     } in (
-      derived_faultless g parts laws.only laws.derived (subst (λ (k : GuideTree). Derived k parts) same d),
+      derived_faultless g parts laws.well laws.only laws.derived (subst (λ (k : GuideTree). Derived k parts) same d),
       enveloped_codeless g parts (subst (λ (k : GuideTree). Enveloped k parts) same v),
     )
 
@@ -58,6 +68,7 @@ guideless parts m = let e : None ≡ Some m.known = m.guided in cc
 
 laws : (g : GuideTree) → IsWellFormed g → Laws g
 laws g w = record {
+  well = w;
   only = only_placing g (triggers g w) (placed_one_way g w);
   derived = derived_is_placed g w;
   placed = placed_is_derived g w;

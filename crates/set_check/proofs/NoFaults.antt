@@ -1,4 +1,5 @@
--- Under a guide without fault a body has no fault exactly where it is derived and no element is at fault by the derivation's slots.
+-- Under a guide without fault a body has no fault exactly where it is derived, no element is at fault by the derivation's slots, these
+-- keep the dependencies, and the hierarchy is whole.
 use Rattle.std.proofs.Common.{◌≡◌, ℕ, zero, suc, ◌+◌, inl, inr, List, [], ◌∷◌, map, Option, Some, None, refl, sym, ◌∙◌, ap, subst}
 use Rattle.std.specs.List.{Contains, slice_get}
 use Rattle.std.proofs.lemmas.Option.{slice_get_within, slice_get-get_or, get_or_from_slice_get}
@@ -15,7 +16,13 @@ use Rattle.guide_law.specs.Law.{HasSlots, IsFaultless, DerivedIsPlaced, PlacedIs
 use Rattle.elem_rules.specs.ElementFaults.{IsElementFault}
 use Rattle.set_check.specs.SetParts.{SetParts, end_position}
 use Rattle.loop_match.specs.LoopIds.{loop_id_of}
-use Rattle.set_check.specs.SetFaults.{IsSetFault, told_by}
+use Rattle.guide_tree.specs.Faults.{IsWellFormed}
+use Rattle.hl_check.specs.Hierarchy.{IsHierarchyFault, IsHierarchyWhole, hl_segments}
+use Rattle.hl_check.proofs.Whole.{hierarchy_whole}
+use Rattle.depend_check.specs.Dependencies.{IsDependencyFault}
+use Rattle.depend_check.specs.Kept.{AreDependenciesKept}
+use Rattle.depend_check.proofs.Whole.{dependencies_kept}
+use Rattle.set_check.specs.SetFaults.{IsSetFault, IsErrorIn, IsRuleFault, told_by}
 
 -- a member stands at an index, and what stands at an index is a member
 pub index_of : {X : Type 0} (xs : List X) (x : X) → Contains xs x → (i : ℕ) × (slice_get xs i ≡ Some x)
@@ -72,24 +79,26 @@ body_at : (xs : List Given) (body : List Segment) (i : ℕ) (x : Given) → map 
     → slice_get xs i ≡ Some x → slice_get body i ≡ Some x.0
 body_at xs body i x b e = ap (λ (l : List Segment). slice_get l i) (sym b) ∙ first_at xs i x e
 
--- what the law gives of a body without structural fault
+-- what is known of a body without fault
 pub record Derived (g : GuideTree) (parts : SetParts) : Type 0 where
   pub slots : List Given
   pub body : map (λ x. x.0) slots ≡ parts.body
   pub derived : Derives g.nodes slots
   pub elements : (x : Given) (e : ElemFault) → Contains slots x → IsElementFault parts.delims x.0 x.1 e → ⊥
+  pub hierarchy : IsHierarchyWhole g.hl parts.delims (hl_segments parts.body)
+  pub dependencies : AreDependenciesKept g.depends parts.delims slots
 
 placed_here : (g : GuideTree) (parts : SetParts) → IsOnlyPlacing g → IsPlacing g.nodes None parts.body (placing_of g.nodes parts.body)
 placed_here g parts only = (only parts.body (placing_of g.nodes parts.body)).1 refl
 
 error_at : (g : GuideTree) (parts : SetParts) (slots : List Given) → map (λ (x : Given). x.0) slots ≡ parts.body
     → HasSlots g.nodes (placing_of g.nodes parts.body) slots → (x : Given) (e : ElemFault) → Contains slots x
-    → IsElementFault parts.delims x.0 x.1 e → (f : Fault) × IsSetFault (Some g) parts f
+    → IsElementFault parts.delims x.0 x.1 e → (f : Fault) × IsErrorIn g.nodes parts (placing_of g.nodes parts.body) f
 error_at g parts slots b k x e h w =
     let i = index_of slots x h in
     let l = led g.nodes (placing_of g.nodes parts.body) slots i.0 x k i.1 in (
       told_by (i.0 + 2) x.0 (loop_id_of g.nodes l.place) x.1 e,
-      inr (record {
+      record {
         index = i.0;
         segment = x.0;
         place = l.place;
@@ -100,36 +109,50 @@ error_at g parts slots b k x e h w =
         leads = l.leads;
         wrong = w;
         is = refl;
-      }),
+      },
     )
 
-pub faultless_derived : (g : GuideTree) (parts : SetParts) → IsOnlyPlacing g → PlacedIsDerived g
-    → ((f : Fault) → IsSetFault (Some g) parts f → ⊥) → Derived g parts
-faultless_derived g parts only placed none =
-    let d = placed parts.body (placing_of g.nodes parts.body) (end_position parts) (placed_here g parts only) (λ f x. none f (inl x)) in
-    record {
-      slots = d.0;
-      body = d.1;
-      derived = d.2;
-      elements = λ x e h w. let r = error_at g parts d.0 d.1 d.3 x e h w in none r.0 r.1;
-    }
+module _ (g : GuideTree) (parts : SetParts) (well : IsWellFormed g) (only : IsOnlyPlacing g) where
+  abbrev given_body : List (Option Place)
+  given_body = placing_of g.nodes parts.body
 
-refused : (g : GuideTree) (parts : SetParts) (d : Derived g parts) (f : Fault)
-    → IsFaultless g (map (λ (x : Given). x.0) d.slots) (placing_of g.nodes parts.body) (end_position parts)
-    → HasSlots g.nodes (placing_of g.nodes parts.body) d.slots → IsSetFault (Some g) parts f → ⊥
-refused g parts d f none k (inl s) =
-    none f (subst (λ (b : List Segment). IsStructureFault g b (placing_of g.nodes parts.body) (end_position parts) f) (sym d.body) s)
-refused g parts d f none k (inr r) =
-    let e : slice_get (map (λ (x : Given). x.0) d.slots) r.index ≡ Some r.segment =
-    ap (λ (b : List Segment). slice_get b r.index) d.body ∙ r.there in
-    let h =
-    given_there g.nodes (placing_of g.nodes parts.body) d.slots r.index r.segment r.place r.slot k e r.placed r.leads in
-    d.elements (r.segment, r.slot) r.elem (member_at d.slots r.index (r.segment, r.slot) h) r.wrong
+  -- where no element is at fault, no fault of a hierarchy or dependency has the key of one
+  no_rule_fault : ((f : Fault) → IsSetFault (Some g) parts f → ⊥) → (f : Fault)
+      → IsRuleFault g parts.delims parts.body given_body (end_position parts) f → ⊥
+  no_rule_fault none f h = none f (inr (inr (h, λ k. none k.0 (inr (inl k.1)))))
 
-pub derived_faultless : (g : GuideTree) (parts : SetParts) → IsOnlyPlacing g → DerivedIsPlaced g → Derived g parts
-    → (f : Fault) → IsSetFault (Some g) parts f → ⊥
-derived_faultless g parts only derived d f x =
-    let given = placing_of g.nodes parts.body in
-    let p = subst (λ (b : List Segment). IsPlacing g.nodes None b given) (sym d.body) (placed_here g parts only) in
-    let k = derived d.slots given (end_position parts) d.derived p in
-    refused g parts d f k.0 k.1 x
+  pub faultless_derived : PlacedIsDerived g → ((f : Fault) → IsSetFault (Some g) parts f → ⊥) → Derived g parts
+  faultless_derived placed none =
+      let d = placed parts.body given_body (end_position parts) (placed_here g parts only) (λ f x. none f (inl x)) in
+      record {
+        slots = d.0;
+        body = d.1;
+        derived = d.2;
+        elements = λ x e h w. let r = error_at g parts d.0 d.1 d.3 x e h w in none r.0 (inr (inl r.1));
+        hierarchy = (hierarchy_whole g parts.delims d.0 parts.body given_body d.1 d.3).0 (λ f h. no_rule_fault none f (inl h));
+        dependencies = (dependencies_kept g parts.delims d.0 parts.body given_body (end_position parts) well d.1 d.3).0
+            (λ f h. no_rule_fault none f (inr h));
+      }
+
+  not_of_rules : (d : Derived g parts) → HasSlots g.nodes given_body d.slots → (f : Fault)
+      → IsRuleFault g parts.delims parts.body given_body (end_position parts) f → ⊥
+  not_of_rules d k f (inl h) = (hierarchy_whole g parts.delims d.slots parts.body given_body d.body k).1 d.hierarchy f h
+  not_of_rules d k f (inr h) =
+      (dependencies_kept g parts.delims d.slots parts.body given_body (end_position parts) well d.body k).1 d.dependencies f h
+
+  refused : (d : Derived g parts) (f : Fault) → IsFaultless g (map (λ (x : Given). x.0) d.slots) given_body (end_position parts)
+      → HasSlots g.nodes given_body d.slots → IsSetFault (Some g) parts f → ⊥
+  refused d f none k (inl s) =
+      none f (subst (λ (b : List Segment). IsStructureFault g b given_body (end_position parts) f) (sym d.body) s)
+  refused d f none k (inr (inl r)) =
+      let e : slice_get (map (λ (x : Given). x.0) d.slots) r.index ≡ Some r.segment =
+      ap (λ (b : List Segment). slice_get b r.index) d.body ∙ r.there in
+      let h = given_there g.nodes given_body d.slots r.index r.segment r.place r.slot k e r.placed r.leads in
+      d.elements (r.segment, r.slot) r.elem (member_at d.slots r.index (r.segment, r.slot) h) r.wrong
+  refused d f none k (inr (inr r)) = not_of_rules d k f r.0
+
+  pub derived_faultless : DerivedIsPlaced g → Derived g parts → (f : Fault) → IsSetFault (Some g) parts f → ⊥
+  derived_faultless derived d f x =
+      let p = subst (λ (b : List Segment). IsPlacing g.nodes None b given_body) (sym d.body) (placed_here g parts only) in
+      let k = derived d.slots given_body (end_position parts) d.derived p in
+      refused d f k.0 k.1 x

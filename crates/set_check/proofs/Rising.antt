@@ -85,19 +85,21 @@ among_key : (faults : List Fault) (f : Fault) → HasKeyAmong faults f → has_k
 among_key faults f (e, c, k) =
     list_any_at (λ x. is_eq (order x f)) faults c.0 e c.1 (ap (λ (x : Fault). is_eq (order x f)) c.2 ∙ ap is_eq (tied e f k))
 
+kept_by : {X : Type 0} (p : X → Bool) (y : X) (xs : List X) (x : X) (b : Bool) → p y ≡ b
+    → In (filter p xs) x ↔ (In xs x × (p x ≡ true))
+    → In (if b then y ∷ filter p xs else filter p xs) x ↔ ((y ≡ x ⊎ In xs x) × (p x ≡ true))
+kept_by p y xs x true e rest = (
+  λ h. ⊎_elim (λ a. (inl a, ap p (sym a) ∙ e)) (λ t. (inr (rest.0 t).0, (rest.0 t).1)) h,
+  λ h. ⊎_elim (λ a. inl a) (λ t. inr (rest.1 (t, h.1))) h.0,
+)
+kept_by p y xs x false e rest = (
+  λ h. (inr (rest.0 h).0, (rest.0 h).1),
+  λ h. ⊎_elim (λ a. absurd (true≢false (sym h.1 ∙ ap p (sym a) ∙ e))) (λ t. rest.1 (t, h.1)) h.0,
+)
+
 kept : {X : Type 0} (p : X → Bool) (xs : List X) (x : X) → In (filter p xs) x ↔ (In xs x × (p x ≡ true))
 kept p [] x = (λ h. absurd h, λ h. absurd h.0)
-kept {X} p (y ∷ xs) x = by (p y) refl
-  where
-    by : (b : Bool) → p y ≡ b → In (if b then y ∷ filter p xs else filter p xs) x ↔ ((y ≡ x ⊎ In xs x) × (p x ≡ true))
-    by true e = (
-      λ h. ⊎_elim (λ a. (inl a, ap p (sym a) ∙ e)) (λ t. let k = (kept p xs x).0 t in (inr k.0, k.1)) h,
-      λ h. ⊎_elim (λ a. inl a) (λ t. inr ((kept p xs x).1 (t, h.1))) h.0,
-    )
-    by false e = (
-      λ h. let k = (kept p xs x).0 h in (inr k.0, k.1),
-      λ h. ⊎_elim (λ a. absurd (true≢false (sym h.1 ∙ ap p (sym a) ∙ e))) (λ t. (kept p xs x).1 (t, h.1)) h.0,
-    )
+kept p (y ∷ xs) x = kept_by p y xs x (p y) refl (kept p xs x)
 
 -- these faults, and behind them those of the others whose key none of them has
 pub put_beside : (errors inside others kept_others all : List Fault) → ((f : Fault) → Contains inside f ↔ Contains errors f)
@@ -106,7 +108,7 @@ pub put_beside : (errors inside others kept_others all : List Fault) → ((f : F
 put_beside errors inside others kept_others all same are is f = (to, back)
   where
     alone : has_key_among inside f ≡ false → HasKeyAmong errors f → ⊥
-    alone no h = true≢false (sym (among_key inside f (h.0, (same h.0).1 h.1, h.2)) ∙ no)
+    alone free h = true≢false (sym (among_key inside f (h.0, (same h.0).1 h.1, h.2)) ∙ free)
 
     told : Contains inside f ⊎ Contains kept_others f → IsBeside errors others f
     told (inl c) = inl ((same f).0 c)
@@ -121,9 +123,9 @@ put_beside errors inside others kept_others all same are is f = (to, back)
     back : IsBeside errors others f → Contains all f
     back (inl c) = subst (λ (l : List Fault). Contains l f) (sym is) (Contains-append_left inside kept_others f ((same f).1 c))
     back (inr (c, none)) =
-        let no : has_key_among inside f ≡ false = false_from_ne_true (has_key_among inside f)
+        let free : has_key_among inside f ≡ false = false_from_ne_true (has_key_among inside f)
         (λ h. let k = key_among inside f h in none (k.0, (same k.0).0 k.1, k.2)) in
         let k = in_contains (filter (λ x. not (has_key_among inside x)) others) f
-        ((kept (λ x. not (has_key_among inside x)) others f).1 (contains_in others f c, ap not no)) in
+        ((kept (λ x. not (has_key_among inside x)) others f).1 (contains_in others f c, ap not free)) in
         subst (λ (l : List Fault). Contains l f) (sym is) (Contains-append_right inside kept_others f
         (subst (λ (l : List Fault). Contains l f) (sym are) k))
