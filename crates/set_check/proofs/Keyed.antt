@@ -1,6 +1,10 @@
 -- Two faults of a set that have one place in the order of faults are one.
 use Rattle.std.proofs.Common.{◌≡◌, inl, inr, ℕ, ◌+◌, Bool, true, false, List, Option, Some, get_or, drop}
-use Rattle.std.proofs.Common.{sym, ◌∙◌, ap, subst, arith, if◌then◌else◌, ◌==◌}
+use Rattle.std.proofs.Common.{sym, ◌∙◌, ap, subst, arith, if◌then◌else◌, ◌==◌, ◌||◌, ◌++◌, ◌⊎◌, ◌↔◌, None, zero, suc, true≢false}
+use Rattle.std.specs.Prelude.{IsSomeAnd}
+use Rattle.std.specs.List.{Contains}
+use Rattle.std.proofs.lemmas.Bool.{false≢true}
+use Rattle.std.proofs.lemmas.List.Elements.{Contains-append_cases}
 use Rattle.std.specs.List.{slice_get}
 use Rattle.hub_kinds.specs.declared.fault.Fault.{Fault}
 use Rattle.hub_kinds.specs.declared.fault.ElemFault.{ElemFault}
@@ -11,55 +15,63 @@ use Rattle.hub_kinds.specs.Fault.{key_of, elem_key}
 use Rattle.x12_bytes.specs.declared.delims.Delims.{Delims}
 use Rattle.guide_tree.specs.declared.slot.Slot.{Slot}
 use Rattle.std.specs.Str.{bytes_eq}
-use Rattle.guide_tree.specs.Tree.{Tree, segment, loop, GuideTree, any_slot}
+use Rattle.guide_tree.specs.Tree.{Tree, Trees, segment, loop, GuideTree, any_slot}
+use Rattle.guide_tree.specs.declared.rows.HlRule.{HlRule}
+use Rattle.guide_tree.specs.declared.rows.DependencyKind.{DependencyKind}
+use Rattle.guide_tree.specs.declared.rows.DependencyKind.TheVariants as kind
+use Rattle.hub_kinds.specs.Rising.{IsKeyedBy}
+use Rattle.hl_check.specs.Hierarchy.{IsFaultAmong, IsHierarchyFault, hls_of}
+use Rattle.depend_check.specs.Dependencies.{IsBroken, IsDependencyFault, PlacedSegment, placed_segments}
 use Rattle.guide_tree.specs.Segments.{Segment, id_of, fits, contains_text}
 use Rattle.guide_tree.specs.Places.{Place, slot_at}
-use Rattle.guide_tree.specs.Nexts.{placing_of}
 use Rattle.guide_tree.specs.Slots.{IsSound}
 use Rattle.guide_tree.specs.Structure.{past_code, few_code, stray_code, IsStructureFault}
 use Rattle.elem_rules.specs.ElementFaults.{IsElementFault}
 use Rattle.elem_rules.proofs.Membership.{is_found, keyed}
 use Rattle.set_check.specs.SetParts.{SetParts, end_position}
 use Rattle.loop_match.specs.LoopIds.{loop_id_of}
-use Rattle.set_check.specs.SetFaults.{IsSetFault, IsErrorIn, told_by}
+use Rattle.set_check.specs.SetFaults.{IsFaultUnder, IsErrorIn, IsRuleFault, HasKeyOfError, told_by}
 use Rattle.set_check.specs.Adding.{AreSound}
 
--- no structural fault has code 8
-abbrev IsEight : SegmentCode → Type 0
-IsEight code = segment_rank code ≡ 7
+-- the codes of element errors and of dependencies, which no structural fault has
+abbrev is_apart : (rank : ℕ) → Bool
+is_apart rank = (rank == 7) || ((rank == 9) || (rank == 12))
 
-either : (b : Bool) (x y : SegmentCode) → (IsEight x → ⊥) → (IsEight y → ⊥) → IsEight (if b then x else y) → ⊥
+abbrev IsApart : SegmentCode → Type 0
+IsApart code = is_apart (segment_rank code) ≡ true
+
+either : (b : Bool) (x y : SegmentCode) → (IsApart x → ⊥) → (IsApart y → ⊥) → IsApart (if b then x else y) → ⊥
 either true x y p q h = p h
 either false x y p q h = q h
 
-past_is_not : (t : Tree) → IsEight (past_code t) → ⊥
-past_is_not (segment s) h = either (s.max == 0) ik304.NotUsedPresent ik304.SegmentTooOften (λ e. omega arith) (λ e. omega arith) h
-past_is_not (loop l ts) h = either (l.max == 0) ik304.NotUsedPresent ik304.LoopTooOften (λ e. omega arith) (λ e. omega arith) h
+past_is_not : (t : Tree) → IsApart (past_code t) → ⊥
+past_is_not (segment s) h = either (s.max == 0) ik304.NotUsedPresent ik304.SegmentTooOften false≢true false≢true h
+past_is_not (loop l ts) h = either (l.max == 0) ik304.NotUsedPresent ik304.LoopTooOften false≢true false≢true h
 
-few_is_not : (t : Tree) → IsEight (few_code t) → ⊥
-few_is_not (segment s) h = omega arith
-few_is_not (loop l ts) h = omega arith
+few_is_not : (t : Tree) → IsApart (few_code t) → ⊥
+few_is_not (segment s) h = false≢true h
+few_is_not (loop l ts) h = false≢true h
 
-stray_is_not : (g : GuideTree) (s : Segment) → IsEight (stray_code g s) → ⊥
+stray_is_not : (g : GuideTree) (s : Segment) → IsApart (stray_code g s) → ⊥
 stray_is_not g s h =
     let known = any_slot (λ slot. bytes_eq slot.id (id_of s)) g.nodes in
     let fit = any_slot (λ slot. fits slot s) g.nodes in
     let listed = contains_text g.head.dictionary (id_of s) in
     either known (if fit then ik304.OutOfSequence else ik304.UnexpectedSegment)
     (if listed then ik304.NotInSet else ik304.UnrecognizedSegment)
-    (either fit ik304.OutOfSequence ik304.UnexpectedSegment (λ e. omega arith) (λ e. omega arith))
-    (either listed ik304.NotInSet ik304.UnrecognizedSegment (λ e. omega arith) (λ e. omega arith)) h
+    (either fit ik304.OutOfSequence ik304.UnexpectedSegment false≢true false≢true)
+    (either listed ik304.NotInSet ik304.UnrecognizedSegment false≢true false≢true) h
 
 structure_is_not : (g : GuideTree) (body : List Segment) (given : List (Option Place)) (end : ℕ) (f : Fault)
-    → IsStructureFault g body given end f → IsEight f.code → ⊥
-structure_is_not g body given end f (inl r) h = past_is_not r.node (ap (λ (x : Fault). segment_rank x.code) (sym r.is) ∙ h)
+    → IsStructureFault g body given end f → IsApart f.code → ⊥
+structure_is_not g body given end f (inl r) h = past_is_not r.node (ap (λ (x : Fault). is_apart (segment_rank x.code)) (sym r.is) ∙ h)
 structure_is_not g body given end f (inr (inl r)) h =
-    let e : IsEight r.code = ap (λ (x : Fault). segment_rank x.code) (sym r.is) ∙ h in elim r.cases [
-      | inl c ↦ (let k : IsEight ik304.RequiredSegmentMissing = ap segment_rank (sym c.1) ∙ e in omega arith)
-      | inr c ↦ few_is_not r.node (ap segment_rank (sym c.2) ∙ e)
+    let e : IsApart r.code = ap (λ (x : Fault). is_apart (segment_rank x.code)) (sym r.is) ∙ h in elim r.cases [
+      | inl c ↦ false≢true (ap (λ (x : SegmentCode). is_apart (segment_rank x)) (sym c.1) ∙ e)
+      | inr c ↦ few_is_not r.node (ap (λ (x : SegmentCode). is_apart (segment_rank x)) (sym c.2) ∙ e)
     ]
 structure_is_not g body given end f (inr (inr r)) h =
-    stray_is_not g r.segment (ap (λ (x : Fault). segment_rank x.code) (sym r.is) ∙ h)
+    stray_is_not g r.segment (ap (λ (x : Fault). is_apart (segment_rank x.code)) (sym r.is) ∙ h)
 
 one_elem : (d : Delims) (s : Segment) (slot : Slot) (e c : ElemFault) → IsSound slot → IsElementFault d s slot e
     → IsElementFault d s slot c → elem_key (Some e) ≡ elem_key (Some c) → e ≡ c
@@ -87,7 +99,7 @@ one_error g parts given i s t q r a b e c ok h k m =
     ∙ ap (λ (z : Place). told_by (i + 2) s (loop_id_of g.nodes z) b c) y
     ∙ ap (λ (z : Segment). told_by (i + 2) z (loop_id_of g.nodes r) b c) x
 
-errors_keyed : (g : GuideTree) (parts : SetParts) (given : List (Option Place)) (f h : Fault) → AreSound g.nodes
+pub errors_keyed : (g : GuideTree) (parts : SetParts) (given : List (Option Place)) (f h : Fault) → AreSound g.nodes
     → IsErrorIn g.nodes parts given f → IsErrorIn g.nodes parts given h → key_of f ≡ key_of h → f ≡ h
 errors_keyed g parts given f h ok a b e =
     let k = ap key_of (sym a.is) ∙ e ∙ ap key_of b.is in
@@ -102,21 +114,86 @@ errors_keyed g parts given f h ok a b e =
     ∙ ap (λ (n : ℕ). told_by (n + 2) b.segment (loop_id_of g.nodes b.place) b.slot b.elem) (sym i)
     ∙ sym b.is
 
-eight_of : (f : Fault) (position : ℕ) (s : Segment) (loop_id : List ℕ) (slot : Slot) (e : ElemFault)
-    → f ≡ told_by position s loop_id slot e → IsEight f.code
-eight_of f position s loop_id slot e is = ap (λ (x : Fault). segment_rank x.code) is
+abbrev apart_at : Fault → Bool
+apart_at f = is_apart (segment_rank f.code)
 
-pub set_keyed : (g : GuideTree) (parts : SetParts) (f h : Fault) → AreSound g.nodes
-    → ((x y : Fault) → IsStructureFault g parts.body (placing_of g.nodes parts.body) (end_position parts) x
-    → IsStructureFault g parts.body (placing_of g.nodes parts.body) (end_position parts) y → key_of x ≡ key_of y → x ≡ y)
-    → IsSetFault (Some g) parts f → IsSetFault (Some g) parts h → key_of f ≡ key_of h → f ≡ h
-set_keyed g parts f h ok one (inl a) (inl b) e = one f h a b e
-set_keyed g parts f h ok one (inr a) (inr b) e = errors_keyed g parts (placing_of g.nodes parts.body) f h ok a b e
-set_keyed g parts f h ok one (inl a) (inr b) e =
-    let r : segment_rank f.code ≡ segment_rank h.code = ap (λ (l : List ℕ). get_or l 1 0) e in
-    absurd (structure_is_not g parts.body (placing_of g.nodes parts.body) (end_position parts) f a
-    (r ∙ eight_of h (b.index + 2) b.segment (loop_id_of g.nodes b.place) b.slot b.elem b.is))
-set_keyed g parts f h ok one (inr a) (inl b) e =
-    let r : segment_rank f.code ≡ segment_rank h.code = ap (λ (l : List ℕ). get_or l 1 0) e in
-    absurd (structure_is_not g parts.body (placing_of g.nodes parts.body) (end_position parts) h b
-    (sym r ∙ eight_of f (a.index + 2) a.segment (loop_id_of g.nodes a.place) a.slot a.elem a.is))
+-- the element codes of hierarchies, which no dependency's fault has
+abbrev of_hierarchy : Fault → Bool
+of_hierarchy f = let rank = get_or (key_of f) 6 0 in (rank == 12) || (rank == 15)
+
+among_hierarchy : (g : GuideTree) (d : Delims) (body : List Segment) (given : List (Option Place)) (rule : Option HlRule) (f : Fault)
+    → IsSomeAnd rule (λ r. IsFaultAmong r d (hls_of g.nodes body given) f) → (apart_at f ≡ true) × (of_hierarchy f ≡ true)
+among_hierarchy g d body given None f h = absurd h
+among_hierarchy g d body given (Some rule) f r = elim r.wrong [
+  | inl w ↦ (ap apart_at w.1, ap of_hierarchy w.1)
+  | inr v ↦ elim v [
+    | inl w ↦ (ap apart_at w.1, ap of_hierarchy w.1)
+    | inr u ↦ elim u [ inl w ↦ (ap apart_at w.1, ap of_hierarchy w.1) | inr w ↦ (ap apart_at w.1, ap of_hierarchy w.1) ]
+  ]
+]
+
+breaking : (ts : Trees) (d : Delims) (end : ℕ) (placed : List PlacedSegment) (label : List ℕ) (which : DependencyKind) (element : ℕ)
+    (f : Fault) → IsBroken ts d end placed label which element f → (apart_at f ≡ true) × (of_hierarchy f ≡ false)
+breaking ts d end placed label kind.Need zero f b = (ap apart_at b.3, ap of_hierarchy b.3)
+breaking ts d end placed label kind.Ban zero f b = (ap apart_at b.3, ap of_hierarchy b.3)
+breaking ts d end placed label kind.Need (suc e) f b = (ap apart_at b.2, ap of_hierarchy b.2)
+breaking ts d end placed label kind.Ban (suc e) f b = (ap apart_at b.2, ap of_hierarchy b.2)
+
+module _ (g : GuideTree) (d : Delims) (body : List Segment) (given : List (Option Place)) (end : ℕ) where
+  of_hierarchies : (f : Fault) → IsHierarchyFault g d body given f → (apart_at f ≡ true) × (of_hierarchy f ≡ true)
+  of_hierarchies f h = among_hierarchy g d body given g.hl f h
+
+  of_dependencies : (f : Fault) → IsDependencyFault g d body given end f → (apart_at f ≡ true) × (of_hierarchy f ≡ false)
+  of_dependencies f r =
+      breaking g.nodes d end (placed_segments g.nodes body given) r.dependency.target r.dependency.kind r.dependency.element f r.broken
+
+  rule_is_apart : (f : Fault) → IsRuleFault g d body given end f → apart_at f ≡ true
+  rule_is_apart f (inl h) = (of_hierarchies f h).0
+  rule_is_apart f (inr h) = (of_dependencies f h).0
+
+  -- hierarchies and dependencies have no key in common
+  differ : (f h : Fault) → IsHierarchyFault g d body given f → IsDependencyFault g d body given end h → key_of f ≡ key_of h → ⊥
+  differ f h a b e =
+      let same : of_hierarchy f ≡ of_hierarchy h =
+      ap (λ (l : List ℕ). let rank = get_or l 6 0 in (rank == 12) || (rank == 15)) e in
+      true≢false (sym (of_hierarchies f a).1 ∙ same ∙ (of_dependencies h b).1)
+
+  pub rules_keyed : (hierarchies dependencies all : List Fault) → IsKeyedBy key_of hierarchies → IsKeyedBy key_of dependencies
+      → ((f : Fault) → Contains hierarchies f ↔ IsHierarchyFault g d body given f)
+      → ((f : Fault) → Contains dependencies f ↔ IsDependencyFault g d body given end f) → all ≡ hierarchies ++ dependencies
+      → IsKeyedBy key_of all
+  rules_keyed hierarchies dependencies all one two by_hl by_need is x y c k e =
+      either_way (Contains-append_cases hierarchies dependencies x (subst (λ (l : List Fault). Contains l x) is c))
+      (Contains-append_cases hierarchies dependencies y (subst (λ (l : List Fault). Contains l y) is k))
+    where
+      either_way : Contains hierarchies x ⊎ Contains dependencies x → Contains hierarchies y ⊎ Contains dependencies y → x ≡ y
+      either_way (inl a) (inl b) = one x y a b e
+      either_way (inr a) (inr b) = two x y a b e
+      either_way (inl a) (inr b) = absurd (differ x y ((by_hl x).0 a) ((by_need y).0 b) e)
+      either_way (inr a) (inl b) = absurd (differ y x ((by_hl y).0 b) ((by_need x).0 a) (sym e))
+
+beside_is_apart : (g : GuideTree) (parts : SetParts) (given : List (Option Place)) (f : Fault)
+    → IsErrorIn g.nodes parts given f
+    ⊎ (IsRuleFault g parts.delims parts.body given (end_position parts) f × (HasKeyOfError g.nodes parts given f → ⊥))
+    → apart_at f ≡ true
+beside_is_apart g parts given f (inl r) = ap apart_at r.is
+beside_is_apart g parts given f (inr r) = rule_is_apart g parts.delims parts.body given (end_position parts) f r.0
+
+same_apart : (f h : Fault) → key_of f ≡ key_of h → apart_at f ≡ apart_at h
+same_apart f h e = ap (λ (l : List ℕ). is_apart (get_or l 1 0)) e
+
+pub set_keyed : (g : GuideTree) (parts : SetParts) (given : List (Option Place)) (f h : Fault) → AreSound g.nodes
+    → ((x y : Fault) → IsStructureFault g parts.body given (end_position parts) x
+    → IsStructureFault g parts.body given (end_position parts) y → key_of x ≡ key_of y → x ≡ y)
+    → ((x y : Fault) → IsRuleFault g parts.delims parts.body given (end_position parts) x
+    → IsRuleFault g parts.delims parts.body given (end_position parts) y → key_of x ≡ key_of y → x ≡ y)
+    → IsFaultUnder g parts given f → IsFaultUnder g parts given h → key_of f ≡ key_of h → f ≡ h
+set_keyed g parts given f h ok one two (inl a) (inl b) e = one f h a b e
+set_keyed g parts given f h ok one two (inr (inl a)) (inr (inl b)) e = errors_keyed g parts given f h ok a b e
+set_keyed g parts given f h ok one two (inr (inr a)) (inr (inr b)) e = two f h a.0 b.0 e
+set_keyed g parts given f h ok one two (inr (inl a)) (inr (inr b)) e = absurd (b.1 (f, a, e))
+set_keyed g parts given f h ok one two (inr (inr a)) (inr (inl b)) e = absurd (a.1 (h, b, sym e))
+set_keyed g parts given f h ok one two (inl a) (inr b) e =
+    absurd (structure_is_not g parts.body given (end_position parts) f a (same_apart f h e ∙ beside_is_apart g parts given h b))
+set_keyed g parts given f h ok one two (inr a) (inl b) e =
+    absurd (structure_is_not g parts.body given (end_position parts) h b (sym (same_apart f h e) ∙ beside_is_apart g parts given f a))
