@@ -5,7 +5,7 @@ ghost use Rattle.hub_kinds.specs.Fault.{AreRising};
 ghost use Rattle.set_check.specs.SetParts.{before_trailer, inner_of, parts_of};
 ghost use Rattle.set_check.specs.SetFaults.{AreSetFaults};
 
-use crate::elements::add_elements;
+use crate::elements::element_faults;
 use crate::rules::{rule_faults, with_others};
 use guide_tree::Guide;
 use hub_kinds::{Fault, NoMemory, in_order};
@@ -44,11 +44,9 @@ pub fn body_faults(
         AreSetFaults (Some (guide_of guide.now)) (parts_of set.now.delims set.now.closed segs.now) v.items) }
     ensures rising { IfOk result (λ v. AreRising v.items) }
 {
-    let rows = guide.rows();
     let body = inner_of(set.closed, segs);
     let placing = place_all(alloc, body, guide)?;
-    let mut errors = Vec::new(alloc);
-    add_elements(alloc, &mut errors, body, rows.nodes.as_slice(), &placing)?;
+    let errors = element_faults(alloc, body, &placing, guide)?;
     let others = rule_faults(alloc, body, &placing, guide)?;
     let mut faults = with_others(errors, others)?;
     let mut structure = placing.into_faults().into_vec();

@@ -1,9 +1,10 @@
-ghost use Rattle.std.specs.Prelude.{◌≡◌, ◌++◌, ◌+◌, ◌<◌, ◌^◌, List, Some, map, length, OnOk};
+ghost use Rattle.std.specs.Prelude.{◌≡◌, ◌++◌, ◌+◌, ◌<◌, ◌^◌, List, [], Some, map, length, IfOk, OnOk};
 ghost use Rattle.std.specs.List.{slice_get};
 ghost use Rattle.hub_kinds.specs.declared.fault.Fault.{Fault};
 ghost use Rattle.x12_segs.specs.View.{SegValue, elements_of};
+ghost use Rattle.guide_tree.specs.Faults.{IsWellFormed};
 ghost use Rattle.guide_tree.specs.Slots.{IsSound};
-ghost use Rattle.guide_tree.specs.View.{nodes_view};
+ghost use Rattle.guide_tree.specs.View.{guide_of, nodes_view};
 ghost use Rattle.loop_match.specs.Given.{place_in, slot_in};
 ghost use Rattle.loop_match.specs.Steps.{place_view};
 ghost use Rattle.guide_tree.specs.Places.{slot_given};
@@ -12,7 +13,7 @@ ghost use Rattle.set_check.specs.SetFaults.{told_by};
 ghost use Rattle.set_check.specs.Adding.{IsTold, IsErrorBelow, Adds, AreSound};
 
 use elem_rules::check_segment;
-use guide_tree::{Node, Slot};
+use guide_tree::{Guide, Node, Slot};
 use hub_kinds::{ElemFault, Fault, NoMemory, SegmentCode, copy_text};
 use loop_match::{Placing, Step, loop_id_of};
 use std::alloc::Global;
@@ -94,7 +95,7 @@ fn add_at(
 }
 
 /// Adds the element faults of the segments that have a place.
-pub fn add_elements(
+fn add_elements(
     alloc: Global,
     faults: &mut Vec<Fault>,
     segs: &[SegView],
@@ -110,4 +111,22 @@ pub fn add_elements(
         add_at(alloc, faults, i, &segs[i], nodes, placing)?;
     }
     Ok(())
+}
+
+/// The element faults of the segments that have a place.
+pub fn element_faults(
+    alloc: Global,
+    segs: &[SegView],
+    placing: &Placing,
+    guide: &Guide,
+) -> Result<Vec<Fault>, NoMemory>
+    requires { map slot_in placing.now.given ≡ map (slot_given (guide_of guide.now).nodes) (map place_in placing.now.given) }
+    ensures errors { IfOk result (λ v. Adds [] v.items
+        (IsErrorBelow (guide_of guide.now).nodes segs.now (map place_in placing.now.given) (length segs.now))) }
+    ensures well { IsWellFormed (guide_of guide.now) }
+{
+    let rows = guide.rows();
+    let mut faults = Vec::new(alloc);
+    add_elements(alloc, &mut faults, segs, rows.nodes.as_slice(), placing)?;
+    Ok(faults)
 }
