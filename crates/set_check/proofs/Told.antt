@@ -1,9 +1,15 @@
--- All faults of a set, computed: in a guide without fault they are those of the definition, and there is none exactly where the set's
--- body is met.
-use Rattle.std.proofs.Common.{⊎_elim, ◌≡◌, ◌+◌, inl, inr, List, [], ◌∷◌, ◌++◌, Option, Some, refl, ap, ◌∙◌, subst, sym, arith, ℕ}
+-- The faults of a set's structure and elements, computed: where nothing is wrong by a hierarchy or dependency, they are all faults.
+use Rattle.std.proofs.Common.{⊎_elim, ◌≡◌, ◌+◌, inl, inr, ◌↔◌, List, [], ◌∷◌, ◌++◌, Option, Some, None, refl, ap, ◌∙◌, subst, sym, arith, ℕ}
+use Rattle.std.specs.Prelude.{IsSomeAnd}
+use Rattle.std.specs.List.{Contains}
 use Rattle.hub_kinds.specs.declared.fault.Fault.{Fault}
 use Rattle.hub_kinds.specs.declared.set_codes.SetCode.{SetCode}
+use Rattle.guide_tree.specs.declared.rows.Dependency.{Dependency}
+use Rattle.guide_tree.specs.declared.rows.HlRule.{HlRule}
+use Rattle.guide_tree.specs.Structure.{IsStructureFault}
 use Rattle.guide_tree.specs.Tree.{GuideTree}
+use Rattle.elem_rules.proofs.Members.{no_member}
+use Rattle.hl_check.specs.Hierarchy.{IsFaultAmong, hls_of}
 use Rattle.guide_tree.specs.Faults.{IsWellFormed}
 use Rattle.guide_tree.specs.Nexts.{placing_of}
 use Rattle.guide_tree.specs.Pass.{structure_faults}
@@ -12,7 +18,7 @@ use Rattle.guide_law.proofs.Among.{in_left, in_right, in_cases, in_contains, con
 use Rattle.guide_law.proofs.Faulty.{members}
 use Rattle.set_check.specs.SetParts.{SetParts, end_position}
 use Rattle.loop_match.specs.LoopIds.{loop_id_of}
-use Rattle.set_check.specs.SetFaults.{IsErrorIn, AreSetFaults, codes_with, told_by}
+use Rattle.set_check.specs.SetFaults.{IsErrorIn, IsRuleFault, IsSetFault, AreSetFaults, codes_with, told_by}
 use Rattle.set_check.specs.Meets.{MeetsAlone}
 use Rattle.set_check.specs.MeetsLaw.{IsWellGuided}
 use Rattle.set_check.proofs.Errors.{errors_from, IsErrorFrom, is_error, error_is}
@@ -63,30 +69,62 @@ error_out g parts f r =
       is = r.is ∙ ap (λ (n : ℕ). told_by n r.segment (loop_id_of g.nodes r.place) r.slot r.elem) k;
     }
 
-pub all_are : (g : GuideTree) (parts : SetParts) → IsWellFormed g → AreSetFaults (Some g) parts (all_faults g parts)
-all_are g parts w f = (
-  (λ h. ⊎_elim
-      (λ a. inl ((members g w parts.body (end_position parts) f).0 (in_contains (structure g parts) f a)))
-      (λ b. inr (error_in g parts f (is_error g.nodes parts.delims 2 parts.body (placing_of g.nodes parts.body) f (sound_places g w) b)))
-      (in_cases (structure g parts) (errors g parts) f (contains_in (all_faults g parts) f h))),
-  (λ h. in_contains (all_faults g parts) f (⊎_elim
-      (λ a. in_left (structure g parts) (errors g parts) f
-      (contains_in (structure g parts) f ((members g w parts.body (end_position parts) f).1 a)))
-      (λ b. in_right (structure g parts) (errors g parts) f
-      (error_is g.nodes parts.delims 2 parts.body (placing_of g.nodes parts.body) f (sound_places g w) (error_out g parts f b)))
-      h)),
+abbrev pub IsOfRules : GuideTree → SetParts → Fault → Type 0
+IsOfRules g parts f = IsRuleFault g parts.delims parts.body (placing_of g.nodes parts.body) (end_position parts) f
+
+-- a guide without hierarchy and dependencies
+pub none_of_rules : (g : GuideTree) (parts : SetParts) → g.hl ≡ None → g.depends ≡ [] → (f : Fault) → IsOfRules g parts f → ⊥
+none_of_rules g parts h d f (inl x) = subst (λ (r : Option HlRule). IsSomeAnd r (λ rule. IsFaultAmong rule parts.delims
+    (hls_of g.nodes parts.body (placing_of g.nodes parts.body)) f)) h x
+none_of_rules g parts h d f (inr x) = no_member x.dependency (subst (λ (l : List Dependency). Contains l x.dependency) d x.listed)
+
+pub in_errors : (g : GuideTree) (parts : SetParts) → IsWellFormed g → (f : Fault)
+    → In (errors g parts) f ↔ IsErrorIn g.nodes parts (placing_of g.nodes parts.body) f
+in_errors g parts w f = (
+  λ h. error_in g parts f (is_error g.nodes parts.delims 2 parts.body (placing_of g.nodes parts.body) f (sound_places g w) h),
+  λ h. error_is g.nodes parts.delims 2 parts.body (placing_of g.nodes parts.body) f (sound_places g w) (error_out g parts f h),
 )
 
--- a set without a computed fault and without a code meets its guide, and no other does
-pub meets_by : (g : GuideTree) (parts : SetParts) → IsWellFormed g → all_faults g parts ≡ [] → codes_with (Some g) parts [] ≡ []
-    → MeetsAlone (Some g) parts
-meets_by g parts w e c = (clean_as_it_meets (Some g) w parts).0
-    ((λ f h. absurd (subst (λ (l : List Fault). In l f) e (contains_in (all_faults g parts) f ((all_are g parts w f).1 h)))), c)
+pub in_structure : (g : GuideTree) (parts : SetParts) → IsWellFormed g → (f : Fault)
+    → In (structure g parts) f ↔ IsStructureFault g parts.body (placing_of g.nodes parts.body) (end_position parts) f
+in_structure g parts w f = (
+  λ h. (members g w parts.body (end_position parts) f).0 (in_contains (structure g parts) f h),
+  λ h. contains_in (structure g parts) f ((members g w parts.body (end_position parts) f).1 h),
+)
+
+pub all_are : (g : GuideTree) (parts : SetParts) → IsWellFormed g → ((f : Fault) → IsOfRules g parts f → ⊥)
+    → AreSetFaults (Some g) parts (all_faults g parts)
+all_are g parts w none f = (
+  (λ h. ⊎_elim
+      (λ a. inl ((in_structure g parts w f).0 a))
+      (λ b. inr (inl ((in_errors g parts w f).0 b)))
+      (in_cases (structure g parts) (errors g parts) f (contains_in (all_faults g parts) f h))),
+  (λ h. in_contains (all_faults g parts) f (⊎_elim
+      (λ a. in_left (structure g parts) (errors g parts) f ((in_structure g parts w f).1 a))
+      (λ b. ⊎_elim (λ x. in_right (structure g parts) (errors g parts) f ((in_errors g parts w f).1 x))
+      (λ x. absurd (none f x.0)) b) h)),
+)
+
+-- a set without a computed fault, without one of a hierarchy or dependency, and without a code meets its guide, and no other does
+pub meets_by : (g : GuideTree) (parts : SetParts) → IsWellFormed g → ((f : Fault) → IsOfRules g parts f → ⊥)
+    → all_faults g parts ≡ [] → codes_with (Some g) parts [] ≡ [] → MeetsAlone (Some g) parts
+meets_by g parts w none e c = (clean_as_it_meets (Some g) w parts).0
+    ((λ f h. absurd (subst (λ (l : List Fault). In l f) e (contains_in (all_faults g parts) f ((all_are g parts w none f).1 h)))), c)
+
+pub fails_by : (g : GuideTree) (parts : SetParts) (f : Fault) → IsWellFormed g → IsSetFault (Some g) parts f
+    → MeetsAlone (Some g) parts → ⊥
+fails_by g parts f w h m = ((clean_as_it_meets (Some g) w parts).1 m).0 f h
 
 pub fails_by_fault : (g : GuideTree) (parts : SetParts) (f : Fault) (more : List Fault) → IsWellFormed g
-    → all_faults g parts ≡ f ∷ more → MeetsAlone (Some g) parts → ⊥
-fails_by_fault g parts f more w e m = ((clean_as_it_meets (Some g) w parts).1 m).0 f
-    ((all_are g parts w f).0 (in_contains (all_faults g parts) f (subst (λ (l : List Fault). In l f) (sym e) (inl refl))))
+    → ((f : Fault) → IsOfRules g parts f → ⊥) → all_faults g parts ≡ f ∷ more → MeetsAlone (Some g) parts → ⊥
+fails_by_fault g parts f more w none e m = fails_by g parts f w
+    ((all_are g parts w none f).0 (in_contains (all_faults g parts) f (subst (λ (l : List Fault). In l f) (sym e) (inl refl)))) m
+
+-- where no element is at fault, each fault of a hierarchy or dependency is one of the set
+pub fault_of_rules : (g : GuideTree) (parts : SetParts) (f : Fault) → IsWellFormed g → errors g parts ≡ [] → IsOfRules g parts f
+    → IsSetFault (Some g) parts f
+fault_of_rules g parts f w e r =
+    inr (inr (r, λ k. subst (λ (l : List Fault). In l k.0) e ((in_errors g parts w k.0).1 k.1)))
 
 pub fails_by_code : (guide : Option GuideTree) (parts : SetParts) (c : SetCode) (more : List SetCode) → IsWellGuided guide
     → codes_with guide parts [] ≡ c ∷ more → MeetsAlone guide parts → ⊥

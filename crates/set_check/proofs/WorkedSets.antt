@@ -18,7 +18,7 @@ use Rattle.guide_tree.specs.Faults.{IsWellFormed}
 use Rattle.guide_tree.proofs.Judged.{accepted}
 use Rattle.set_check.specs.SetParts.{SetParts, parts_of}
 use Rattle.set_check.specs.Meets.{MeetsAlone}
-use Rattle.set_check.proofs.Told.{all_faults, meets_by, fails_by_fault, fails_by_code}
+use Rattle.set_check.proofs.Told.{IsOfRules, all_faults, none_of_rules, meets_by, fails_by_fault, fails_by_code}
 
 -- one element, mandatory, of 1 to 3 bytes
 abbrev name : List Element
@@ -74,6 +74,9 @@ guide = record {
 sound : IsWellFormed guide
 sound = accepted guide refl refl
 
+plain : (parts : SetParts) (f : Fault) → IsOfRules guide parts f → ⊥
+plain parts = none_of_rules guide parts refl refl
+
 abbrev delims : Delims
 delims = record { element = 42; component = 62; repetition = None; terminator = 126 }
 
@@ -91,12 +94,14 @@ abbrev whole : List (List ℕ)
 whole = codes "BEG*A" ∷ codes "N1*A" ∷ codes "N3*A" ∷ codes "PER*A" ∷ codes "CTT*A" ∷ []
 
 meets : MeetsAlone (Some guide) (with_body whole (codes "7"))
-meets = meets_by guide (with_body whole (codes "7")) sound refl refl
+meets = meets_by guide (with_body whole (codes "7")) sound (plain (with_body whole (codes "7"))) refl refl
 
 -- without ST03 it does as well
-meets_without_convention : MeetsAlone (Some guide) (set true (codes "ST*850*0001" ∷ codes "BEG*A" ∷ codes "SE*0003*0001" ∷ []))
-meets_without_convention =
-    meets_by guide (set true (codes "ST*850*0001" ∷ codes "BEG*A" ∷ codes "SE*0003*0001" ∷ [])) sound refl refl
+abbrev without_convention : SetParts
+without_convention = set true (codes "ST*850*0001" ∷ codes "BEG*A" ∷ codes "SE*0003*0001" ∷ [])
+
+meets_without_convention : MeetsAlone (Some guide) without_convention
+meets_without_convention = meets_by guide without_convention sound (plain without_convention) refl refl
 
 abbrev of_element : (position : ℕ) → (id loop_id : List ℕ) → (slot : ℕ) → ElementCode → (copy : List ℕ) → Fault
 of_element position id loop_id slot code copy = record {
@@ -125,8 +130,11 @@ element_faults : all_faults guide (with_body wrong (codes "8")) ≡
 element_faults = refl
 
 -- an element fault alone
-fails_by_element : MeetsAlone (Some guide) (with_body (codes "BEG*ABCD" ∷ []) (codes "3")) → ⊥
-fails_by_element = fails_by_fault guide (with_body (codes "BEG*ABCD" ∷ []) (codes "3")) _ _ sound refl
+abbrev with_long_element : SetParts
+with_long_element = with_body (codes "BEG*ABCD" ∷ []) (codes "3")
+
+fails_by_element : MeetsAlone (Some guide) with_long_element → ⊥
+fails_by_element = fails_by_fault guide with_long_element _ _ sound (plain with_long_element) refl
 
 -- what is missing at the end shows at SE, or without SE behind the last segment
 missing_before_trailer : all_faults guide (with_body [] (codes "2")) ≡ of_segment 2 (codes "BEG") [] 1 ik304.RequiredSegmentMissing ∷ []
@@ -142,7 +150,7 @@ missing_at_the_end : all_faults guide (set false (codes "ST*850*0001*H1" ∷ cod
 missing_at_the_end = refl
 
 fails_by_structure : MeetsAlone (Some guide) (with_body [] (codes "2")) → ⊥
-fails_by_structure = fails_by_fault guide (with_body [] (codes "2")) _ _ sound refl
+fails_by_structure = fails_by_fault guide (with_body [] (codes "2")) _ _ sound (plain (with_body [] (codes "2"))) refl
 
 -- each of the rest fails a set whose body is derived: no guide, no SE, another SE01 or SE02, a short ST02, another ST03
 abbrev one : List ℕ → List ℕ → SetParts

@@ -1,4 +1,3 @@
-use Rattle.set_check.proofs.Keyed.{set_keyed}
 use Rattle.set_check.proofs.Meeting.{clean_as_it_meets}
 use Rattle.set_check.proofs.law.clean_sets_meet_their_guides.Goals as goal
 
