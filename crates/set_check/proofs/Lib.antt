@@ -13,6 +13,7 @@ mod Spans
 mod Told
 mod Verdicts
 mod Worked
+mod WorkedRules
 mod WorkedSets
 mod WorkedVerdicts
 pub mod Whole

@@ -10,7 +10,7 @@ use Rattle.set_check.proofs.Rising.{rising_keyed}
 use Rattle.set_check.proofs.rules.rule_faults.Goals as goal
 
 pub returns-clause-exact : goal.returns-clause-exact
-returns-clause-exact c delims read f = 
+returns-clause-exact c delims read f =
     let hierarchies = c.in_ok-faults.faults.items in
     let dependencies = c.in_ok-dependencies.dependencies.items in
     let by_hl = c.in_ok-faults.ensures.faults delims read f in
