@@ -1,14 +1,12 @@
 //! What is answered to a group of sets that are checked by a guide: its 999, byte for byte.
 ghost use Rattle.std.specs.Prelude.{◌≡◌, IfOk};
 ghost use Rattle.std.specs.List.{All};
-ghost use Rattle.std.specs.Option.{option_copied};
 ghost use Rattle.x12_segs.specs.Spans.{IsSetSpan};
 ghost use Rattle.env_index.specs.Spans.{HasSpans, span_of};
 ghost use Rattle.ack_999.specs.Group.{totals_of};
-ghost use Rattle.set_check.specs.Checked.{IsPlain, said_by};
 
 use super::guides::{ORDER, guide_of};
-use super::sets::{FRONT, is_plain};
+use super::sets::interchange_of;
 use ack_999::{GroupSupport, GroupTrailer, Totals, group_codes, group_verdict, write_999};
 use env_index::{GroupEnvelope, Interchange, read_interchange};
 use guide_tree::Guide;
@@ -17,8 +15,6 @@ use set_check::check_set;
 use std::alloc::Global;
 use std::test::Fail;
 use x12_bytes::Delims;
-
-const BACK: &[u8] = b"IEA*1*000000007~";
 
 /// Whether a set that is answered has this number, ST02.
 fn is_there(answers: &[SetAnswer], control: &[u8]) -> bool {
@@ -39,7 +35,6 @@ fn answers_to<'a>(
     guide: Option<&'a Guide>,
 ) -> Result<Vec<SetAnswer<'a>>, NoMemory>
     requires spans { All (λ set. IsSetSpan text.now (span_of delims set)) group.now.sets }
-    requires plain { IsPlain (said_by (option_copied guide)) }
 {
     let mut answers = Vec::new(alloc);
     for index in 0..group.set_count() {
@@ -102,7 +97,6 @@ fn acknowledgment<'a>(
     guide: Option<&'a Guide>,
 ) -> Result<Vec<u8>, Fail>
     requires spans { HasSpans text.now interchange.now }
-    requires plain { IsPlain (said_by (option_copied guide)) }
 {
     if interchange.group_count() == 0 {
         return Err("no group".into());
@@ -114,14 +108,10 @@ fn acknowledgment<'a>(
     Ok(write_999(alloc, &answer, sets.as_slice(), &delims, 1)?)
 }
 
-/// The acknowledgment of a group whose segments behind GS are these, its sets checked by a guide.
-fn answered(alloc: Global, guide: &Guide, body: &str) -> Result<Vec<u8>, Fail> {
-    if !is_plain(guide) {
-        return Err("not plain".into());
-    }
-    let mut text = Vec::from_slice(alloc, FRONT)?;
-    text.extend_from_slice(body.as_bytes())?;
-    text.extend_from_slice(BACK)?;
+/// The acknowledgment of a group with this functional identifier code, whose segments behind GS are these, its sets checked by a
+/// guide.
+pub fn answered(alloc: Global, guide: &Guide, group: &str, body: &str) -> Result<Vec<u8>, Fail> {
+    let text = interchange_of(alloc, group, body)?;
     if !within_limit(text.len() as u64) {
         return Err("too long".into());
     }
@@ -187,7 +177,7 @@ const ORDERS: &[(&str, &str)] = &[
 fn orders(rt: HostRuntime) -> Result<(), Fail> {
     let guide = guide_of(rt.alloc(), ORDER)?;
     for (body, wanted) in ORDERS {
-        let found = answered(rt.alloc(), &guide, body)?;
+        let found = answered(rt.alloc(), &guide, "PO", body)?;
         assert_eq!(rt; found.as_slice(), wanted.as_bytes(), "{body}");
     }
     Ok(())

@@ -49,6 +49,30 @@ nodes = [
 ]
 "#;
 
+/// A shipment with a hierarchy and dependencies. The slots are BSN 1, loop HL 2, HL 3, MAN 4, loop LX 5, LX 6, and HL 7, which has
+/// no rows.
+pub const SHIPMENT: &str = r#"name = "SHIPMENT"
+group = "SH"
+set = "856"
+version = "005010"
+hl = {pairs=["/S", "S/O", "O/P", "O/I", "P/I"], sequential=true}
+depends = [
+ {kind="need", slot="HL", at=3, codes=["P"], target="MAN", element=0},
+ {kind="need", slot="MAN", at=1, codes=["GM"], target="HL", element=4},
+ {kind="ban", slot="MAN", at=1, codes=["UC"], target="HL", element=4},
+ {kind="ban", slot="MAN", at=1, codes=["AA"], target="LX", element=0},
+]
+nodes = [
+ {seg="BSN", min=1, max=1, elements=["353 M ID 2 2", "396 M AN 2 30", "373 M DT 8 8", "337 M TM 4 8"]},
+ {loop="HL", min=0, max=99999, nodes=[
+  {seg="HL", label="HL", min=1, max=1, elements=["628 M AN 1 12", "734 O AN 1 12", "735 M ID 1 2 = I O P S ! T", "736 O ID 1 1 = 0 1"]},
+  {seg="MAN", label="MAN", min=0, max=10, elements=["88 M ID 1 2", "87 M AN 1 48"]}]},
+ {loop="LX", min=0, max=9, nodes=[
+  {seg="LX", label="LX", min=1, max=1, elements=["554 M N0 1 6"]},
+  {seg="HL", min=0, max=1, elements=[]}]},
+]
+"#;
+
 pub fn guide_of(alloc: Global, text: &str) -> Result<Guide, Fail> {
     Ok(read_guide(alloc, text.as_bytes())?)
 }

@@ -14,6 +14,8 @@ mod envelopes;
 #[cfg(test)]
 mod guides;
 #[cfg(test)]
+mod rules;
+#[cfg(test)]
 mod sets;
 #[cfg(test)]
 mod structure;

@@ -1,12 +1,7 @@
 //! What is found in the sets of an interchange.
-ghost use Rattle.std.specs.Prelude.{◌≤◌, length, IsTrue, Some};
 ghost use Rattle.std.specs.List.{All};
-ghost use Rattle.std.specs.Option.{option_copied};
-ghost use Rattle.hub_kinds.specs.declared.limits.TheConstants.{LONGEST_TEXT};
 ghost use Rattle.x12_segs.specs.Spans.{IsSetSpan};
 ghost use Rattle.env_index.specs.Spans.{HasSpans, span_of};
-ghost use Rattle.guide_tree.specs.View.{guide_of};
-ghost use Rattle.set_check.specs.Checked.{IsPlain, said_by};
 
 use env_index::{GroupEnvelope, Interchange, read_interchange};
 use guide_tree::Guide;
@@ -17,12 +12,9 @@ use std::test::Fail;
 use x12_bytes::Delims;
 use x12_segs::SetSpan;
 
-/// A header of an interchange, and one of a group.
-pub const FRONT: &[u8] =
-    b"ISA*00*          *00*          *01*ACME           *ZZ*HUB            *260228*0900*^*00501*000000007*0*P*>~\
-      GS*PO*ACME*BOLT*20260228*0900*12*X*005010~";
-
-const BACK: &[u8] = b"GE*1*12~IEA*1*000000007~";
+/// The header of an interchange.
+const FRONT: &[u8] =
+    b"ISA*00*          *00*          *01*ACME           *ZZ*HUB            *260228*0900*^*00501*000000007*0*P*>~";
 
 fn add_elem(out: &mut Vec<u8>, alloc: Global, elem: &ElemFault) -> Result<(), Fail> {
     let numbers = format!(in alloc;
@@ -77,7 +69,6 @@ fn add_set(
     guide: Option<&Guide>,
 ) -> Result<(), Fail>
     requires span { IsSetSpan text.now span }
-    requires plain { IsPlain (said_by (option_copied guide)) }
 {
     let set = check_set(alloc, text, span, guide)?;
     if set.is_clean() {
@@ -96,7 +87,6 @@ fn add_group(
     guide: Option<&Guide>,
 ) -> Result<(), Fail>
     requires spans { All (λ set. IsSetSpan text.now (span_of delims set)) group.now.sets }
-    requires plain { IsPlain (said_by (option_copied guide)) }
 {
     for index in 0..group.set_count() {
         let set = group.set(index);
@@ -113,7 +103,6 @@ fn add_interchange(
     guide: Option<&Guide>,
 ) -> Result<(), Fail>
     requires spans { HasSpans text.now interchange.now }
-    requires plain { IsPlain (said_by (option_copied guide)) }
 {
     let delims = interchange.header().delims();
     for index in 0..interchange.group_count() {
@@ -123,13 +112,20 @@ fn add_interchange(
     Ok(())
 }
 
-/// What is found in each of these sets of one group, written.
-fn told(alloc: Global, guide: Option<&Guide>, sets: &str) -> Result<Vec<u8>, Fail>
-    requires plain { IsPlain (said_by (option_copied guide)) }
-{
+/// An interchange of one group with this functional identifier code, whose segments behind GS are these.
+pub fn interchange_of(alloc: Global, group: &str, body: &str) -> Result<Vec<u8>, Fail> {
+    let rest = format!(in alloc;
+        "GS*{group}*ACME*BOLT*20260228*0900*12*X*005010~{body}IEA*1*000000007~"
+    )?;
     let mut text = Vec::from_slice(alloc, FRONT)?;
-    text.extend_from_slice(sets.as_bytes())?;
-    text.extend_from_slice(BACK)?;
+    text.extend_from_slice(rest.as_bytes())?;
+    Ok(text)
+}
+
+/// What is found in each of these sets of one group, written.
+fn told(alloc: Global, guide: Option<&Guide>, sets: &str) -> Result<Vec<u8>, Fail> {
+    let body = format!(in alloc; "{sets}GE*1*12~")?;
+    let text = interchange_of(alloc, "PO", body.as_str())?;
     if !within_limit(text.len() as u64) {
         return Err("too long".into());
     }
@@ -139,19 +135,8 @@ fn told(alloc: Global, guide: Option<&Guide>, sets: &str) -> Result<Vec<u8>, Fai
     Ok(out)
 }
 
-/// Whether a guide has neither a rule of hierarchies nor dependencies.
-pub fn is_plain(guide: &Guide) -> bool
-    ensures { IsTrue result → IsPlain (Some (guide_of guide.now)) }
-{
-    let rows = guide.rows();
-    rows.hl.is_none() && rows.depends.as_slice().is_empty()
-}
-
 /// What is found in each of these sets by a guide.
 pub fn told_by(alloc: Global, guide: &Guide, sets: &str) -> Result<Vec<u8>, Fail> {
-    if !is_plain(guide) {
-        return Err("not plain".into());
-    }
     told(alloc, Some(guide), sets)
 }
 
