@@ -30,8 +30,8 @@ IK304 = ['1', '2', '3', '4', '5', '6', '7', '8', 'I4', 'I6', 'I7', 'I8', 'I9']
 BOUNDS = [(0, 0), (0, 1), (0, 1), (1, 1), (1, 1), (0, 2), (1, 2), (2, 2), (2, 3), (0, 9)]
 IDS = ['AAA', 'BB', 'CD', 'DDD', 'EE', 'FGH', 'GG', '4HX']
 EACH = 40
-CRATES = ('x12_bytes', 'x12_segs', 'hub_kinds', 'guide_tree', 'guide_law', 'guide_toml', 'elem_rules', 'loop_match', 'env_index',
-          'set_check')
+CRATES = ('x12_bytes', 'x12_segs', 'hub_kinds', 'guide_tree', 'guide_law', 'guide_toml', 'elem_rules', 'loop_match', 'hl_check',
+          'depend_check', 'env_index', 'set_check')
 PROGRAM = 'set_checker: set_check env_index guide_toml guide_tree hub_kinds x12_segs x12_bytes\n'
 FRONT = (b'ISA*00*          *00*          *01*ACME           *ZZ*HUB            '
          b'*260228*0900*^*00501*000000007*0*P*>~GS*PO*ACME*BOLT*20260228*0900*12*X*005010~')

@@ -1,4 +1,5 @@
--- X12.6, transaction set: when a set meets its guide, looked at alone. A grammar, with no cursor, no counter and no list of faults.
+-- X12.6, transaction set: when a set meets its guide, looked at alone: a grammar, and what its elements, its HL segments and its
+-- dependencies keep to, with no cursor and no list of faults.
 use Rattle.std.specs.Prelude.{◌≡◌, ◌≤◌, ℕ, List, [], map, length, Option, Some, None, ◌⊎◌}
 use Rattle.std.specs.List.{Contains}
 use Rattle.hub_kinds.specs.Numbers.{number_of}
