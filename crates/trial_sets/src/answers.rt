@@ -34,7 +34,7 @@ fn answers_to<'a>(
     group: &GroupEnvelope<'_, 'a>,
     guide: Option<&'a Guide>,
 ) -> Result<Vec<SetAnswer<'a>>, NoMemory>
-    requires spans { All (λ set. IsSetSpan text.now (span_of delims set)) group.now.sets }
+    requires { All (λ set. IsSetSpan text.now (span_of delims set)) group.now.sets }
 {
     let mut answers = Vec::new(alloc);
     for index in 0..group.set_count() {
@@ -96,7 +96,7 @@ fn acknowledgment<'a>(
     interchange: &Interchange<'a>,
     guide: Option<&'a Guide>,
 ) -> Result<Vec<u8>, Fail>
-    requires spans { HasSpans text.now interchange.now }
+    requires { HasSpans text.now interchange.now }
 {
     if interchange.group_count() == 0 {
         return Err("no group".into());

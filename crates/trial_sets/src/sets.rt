@@ -68,7 +68,7 @@ fn add_set(
     span: SetSpan,
     guide: Option<&Guide>,
 ) -> Result<(), Fail>
-    requires span { IsSetSpan text.now span }
+    requires { IsSetSpan text.now span }
 {
     let set = check_set(alloc, text, span, guide)?;
     if set.is_clean() {
@@ -86,7 +86,7 @@ fn add_group(
     group: &GroupEnvelope,
     guide: Option<&Guide>,
 ) -> Result<(), Fail>
-    requires spans { All (λ set. IsSetSpan text.now (span_of delims set)) group.now.sets }
+    requires { All (λ set. IsSetSpan text.now (span_of delims set)) group.now.sets }
 {
     for index in 0..group.set_count() {
         let set = group.set(index);
@@ -102,7 +102,7 @@ fn add_interchange(
     interchange: &Interchange,
     guide: Option<&Guide>,
 ) -> Result<(), Fail>
-    requires spans { HasSpans text.now interchange.now }
+    requires { HasSpans text.now interchange.now }
 {
     let delims = interchange.header().delims();
     for index in 0..interchange.group_count() {

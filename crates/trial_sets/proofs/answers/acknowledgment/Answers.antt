@@ -3,7 +3,7 @@ use Rattle.x12_bytes.specs.Header.{delims_of}
 use Rattle.env_index.proofs.Spanned.{group_has_spans}
 use Rattle.trial_sets.proofs.answers.acknowledgment.Goals as goal
 
-pub answers_to-requires-clause-spans : goal.answers_to-requires-clause-spans
-answers_to-requires-clause-spans c =
-    group_has_spans c.args.text.now c.args.interchange.now 0 c.group-group.result c.delims-delims.result c.requires.spans
+pub answers_to-requires : goal.answers_to-requires
+answers_to-requires c =
+    group_has_spans c.args.text.now c.args.interchange.now 0 c.group-group.result c.delims-delims.result c.requires
     c.group-group.ensures (c.delims-delims.ensures.value ∙ ap delims_of c.header.ensures)
