@@ -1,10 +1,8 @@
 -- Two faults of dependencies that have one place in the order of faults are one.
-use Rattle.std.proofs.Common.{◌≡◌, ◌⊎◌, inl, inr, ℕ, zero, suc, ◌+◌, ◌<◌, List, [], ◌∷◌, Option, Some, None, get_or}
+use Rattle.std.proofs.Common.{◌≡◌, ◌⊎◌, inl, inr, ℕ, zero, suc, ◌<◌, List, [], Option, Some, None, get_or}
 use Rattle.std.proofs.Common.{refl, sym, ap, subst, ◌∙◌, arith}
-use Rattle.std.specs.Prelude.{option_map, slice_index_or}
 use Rattle.std.specs.List.{Contains}
 use Rattle.std.specs.List.Sorted.{IsStrictlySortedBy}
-use Rattle.std.proofs.lemmas.List.Elements.{Contains-append_cases}
 use Rattle.x12_bytes.specs.declared.delims.Delims.{Delims}
 use Rattle.hub_kinds.specs.declared.fault.Fault.{Fault}
 use Rattle.hub_kinds.specs.declared.codes.SegmentCode.TheVariants as ik304
@@ -15,59 +13,15 @@ use Rattle.hub_kinds.specs.Rising.{IsKeyedBy}
 use Rattle.guide_tree.specs.declared.rows.Dependency.{Dependency}
 use Rattle.guide_tree.specs.declared.rows.DependencyKind.{DependencyKind}
 use Rattle.guide_tree.specs.declared.rows.DependencyKind.TheVariants as kind
-use Rattle.guide_tree.specs.declared.slot.Slot.{Slot}
 use Rattle.guide_tree.specs.Tree.{Trees, numbered}
 use Rattle.guide_tree.specs.Segments.{Segment, element_of}
-use Rattle.guide_tree.specs.Places.{Place, slot_at}
-use Rattle.elem_rules.proofs.Members.{no_member, contains_one}
-use Rattle.loop_match.specs.LoopIds.{loop_id_of}
-use Rattle.depend_check.specs.Dependencies.{PlacedSegment, placed_by, placed_at, and_then, first_placed, placed_segments}
+use Rattle.guide_tree.specs.Places.{Place}
+use Rattle.loop_match.specs.PlacedSegments.{PlacedSegment, placed_segments}
+use Rattle.loop_match.proofs.Standing.{one_placed}
 use Rattle.depend_check.specs.Dependencies.{Seat, seat_of, unused_fault, use_fault, element_fault, IsBroken}
 use Rattle.depend_check.specs.Found.{found_faults}
 use Rattle.depend_check.proofs.Members.{IsFound, members}
 use Rattle.depend_check.proofs.Seats.{one_seat}
-
-abbrev stood : ℕ → Segment → List ℕ → Slot → PlacedSegment
-stood index s loop_id slot = record { position = index + 2; segment = s; slot = slot; loop_id = loop_id }
-
-position_with : (o : Option Slot) (index : ℕ) (s : Segment) (loop_id : List ℕ) (p : PlacedSegment)
-    → option_map (stood index s loop_id) o ≡ Some p → p.position ≡ index + 2
-position_with (Some slot) index s loop_id p e =
-    let m : stood index s loop_id slot ≡ p = cc in ap (λ (x : PlacedSegment). x.position) (sym m)
-position_with None index s loop_id p e = cc
-
-position_of : (ts : Trees) (index : ℕ) (s : Segment) (place : Option Place) (p : PlacedSegment)
-    → placed_by ts index s place ≡ Some p → p.position ≡ index + 2
-position_of ts index s None p e = cc
-position_of ts index s (Some q) p e = position_with (slot_at ts q) index s (loop_id_of ts q) p e
-
-abbrev Stands : Trees → List Segment → List (Option Place) → PlacedSegment → Type 0
-Stands ts body given p = (index : ℕ) × (placed_at ts body given index ≡ Some p)
-
-from_and_then : (placed : List PlacedSegment) (o : Option PlacedSegment) (p : PlacedSegment) → Contains (and_then placed o) p
-    → Contains placed p ⊎ (o ≡ Some p)
-from_and_then placed None p c = inl c
-from_and_then placed (Some x) p c = elim (Contains-append_cases placed (x ∷ []) p c) [
-  | inl e ↦ inl e
-  | inr e ↦ inr (ap Some (sym (contains_one x p e)))
-]
-
-stands : (ts : Trees) (body : List Segment) (given : List (Option Place)) (n : ℕ) (p : PlacedSegment)
-    → Contains (first_placed ts body given n) p → Stands ts body given p
-stands ts body given zero p c = absurd (no_member p c)
-stands ts body given (suc n) p c = elim (from_and_then (first_placed ts body given n) (placed_at ts body given n) p c) [
-  | inl e ↦ stands ts body given n p e
-  | inr e ↦ (n, e)
-]
-
-one_placed : (ts : Trees) (body : List Segment) (given : List (Option Place)) (x y : PlacedSegment)
-    → Stands ts body given x → Stands ts body given y → x.position ≡ y.position → x ≡ y
-one_placed ts body given x y (i, a) (j, b) p =
-    let e : x.position ≡ i + 2 = position_of ts i (slice_index_or body i []) (slice_index_or given i None) x a in
-    let f : y.position ≡ j + 2 = position_of ts j (slice_index_or body j []) (slice_index_or given j None) y b in
-    let same : i ≡ j = omega arith in
-    let is : Some x ≡ Some y = sym a ∙ ap (placed_at ts body given) same ∙ b in
-    cc
 
 -- what is told of a use
 abbrev IsTold : DependencyKind → ℕ → Type 0
@@ -155,7 +109,7 @@ same_use : (ts : Trees) (body : List Segment) (given : List (Option Place)) (f g
 same_use ts body given f g a b h =
     let k = sym (ap key_of a.is) ∙ h ∙ ap key_of b.is in
     let p : a.use_of ≡ b.use_of =
-    one_placed ts body given a.use_of b.use_of (stands ts body given _ a.use_of a.listed) (stands ts body given _ b.use_of b.listed)
+    one_placed ts body given a.use_of b.use_of a.listed b.listed
     (sym (position_key a.kind a.element a.use_of) ∙ ap (λ (l : List ℕ). get_or l 0 0) k ∙ position_key b.kind b.element b.use_of) in
     let e : a.element ≡ b.element =
     sym (element_key a.kind a.element a.use_of) ∙ ap (λ (l : List ℕ). get_or l 3 0) k ∙ element_key b.kind b.element b.use_of in

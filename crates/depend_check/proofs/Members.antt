@@ -18,7 +18,8 @@ use Rattle.guide_tree.specs.declared.rows.DependencyKind.TheVariants as kind
 use Rattle.guide_tree.specs.Tree.{Trees}
 use Rattle.elem_rules.proofs.Members.{no_member, contains_one, one_contains, from_if, in_then, from_option, in_option}
 use Rattle.elem_rules.proofs.Members.{from_flat_map, in_flat_map}
-use Rattle.depend_check.specs.Dependencies.{PlacedSegment, Seat, is_use, is_triggered, has_element, seat_of, unused_fault, IsBroken}
+use Rattle.loop_match.specs.PlacedSegments.{PlacedSegment}
+use Rattle.depend_check.specs.Dependencies.{Seat, is_use, is_triggered, has_element, seat_of, unused_fault, IsBroken}
 use Rattle.depend_check.specs.Dependencies.{use_fault, element_fault}
 use Rattle.depend_check.specs.Found.{is_broken_by, told_of, faults_of_use, is_left_out, faults_of_slot, faults_of_target, faults_of}
 use Rattle.depend_check.specs.Found.{found_faults}

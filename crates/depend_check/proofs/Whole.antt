@@ -26,11 +26,12 @@ use Rattle.guide_tree.specs.Grammar.{Given}
 use Rattle.guide_tree.specs.Places.{Place, slot_given}
 use Rattle.guide_tree.specs.Segments.{Segment, element_of}
 use Rattle.elem_rules.proofs.Members.{no_member, contains_one, one_contains}
-use Rattle.depend_check.specs.Dependencies.{PlacedSegment, placed_segments, is_use, is_trigger, Seat, seat_in, seat_among}
+use Rattle.loop_match.specs.PlacedSegments.{PlacedSegment, placed_segments, as_given}
+use Rattle.loop_match.proofs.Leading.{placed_given}
+use Rattle.depend_check.specs.Dependencies.{is_use, is_trigger, Seat, seat_in, seat_among}
 use Rattle.depend_check.specs.Dependencies.{seat_of, unused_fault, use_fault, element_fault, IsBroken, IsDependencyFault}
 use Rattle.depend_check.specs.Kept.{stands_at, fills, triggers, IsTargetKept, AreDependenciesKept}
 use Rattle.depend_check.proofs.Lists.{any_view}
-use Rattle.depend_check.proofs.Leading.{as_given, placed_given}
 
 abbrev slot_of : Option Seat → Option Slot
 slot_of o = option_map (λ (x : Seat). x.slot) o

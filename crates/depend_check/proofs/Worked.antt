@@ -20,7 +20,8 @@ use Rattle.guide_tree.specs.declared.rows.DependencyKind.TheVariants as kind
 use Rattle.guide_tree.specs.Tree.{Trees, segment, loop, no_trees, tree, GuideTree}
 use Rattle.guide_tree.specs.Nexts.{placing_of}
 use Rattle.guide_tree.specs.Segments.{Segment}
-use Rattle.depend_check.specs.Dependencies.{PlacedSegment, placed_segments, IsDependencyFault}
+use Rattle.loop_match.specs.PlacedSegments.{PlacedSegment, placed_segments}
+use Rattle.depend_check.specs.Dependencies.{IsDependencyFault}
 use Rattle.depend_check.specs.Found.{found_faults}
 use Rattle.depend_check.proofs.Members.{members}
 

@@ -1,8 +1,7 @@
 -- Own: dependencies between the segments of a set, over the whole set; how the 999 guide's IK3 and IK4 tell that one is broken.
-use Rattle.std.specs.Prelude.{ℕ, zero, suc, ◌+◌, ◌≡◌, IsTrue, IsFalse, List, [], ◌∷◌, ◌++◌, length, ◌&&◌, Bool, true, false}
-use Rattle.std.specs.Prelude.{Option, Some, None, option_map, slice_index_or, if◌then◌else◌}
+use Rattle.std.specs.Prelude.{ℕ, zero, suc, ◌≡◌, IsTrue, IsFalse, List, [], ◌&&◌, Bool, true, false}
+use Rattle.std.specs.Prelude.{Option, Some, None, if◌then◌else◌}
 use Rattle.std.specs.List.{Contains, list_any}
-use Rattle.std.specs.Option.{option_map_or}
 use Rattle.x12_bytes.specs.declared.delims.Delims.{Delims}
 use Rattle.hub_kinds.specs.declared.codes.SegmentCode.{SegmentCode}
 use Rattle.hub_kinds.specs.declared.codes.SegmentCode.TheVariants as ik304
@@ -17,37 +16,10 @@ use Rattle.guide_tree.specs.declared.slot.Slot.{Slot}
 use Rattle.guide_tree.specs.Tree.{Tree, Trees, segment, loop, no_trees, tree, GuideTree, or_else}
 use Rattle.guide_tree.specs.Segments.{Segment, element_of, id_of, contains_text}
 use Rattle.guide_tree.specs.Conditions.{has_label}
-use Rattle.guide_tree.specs.Places.{Place, slot_at}
+use Rattle.guide_tree.specs.Places.{Place}
 use Rattle.elem_rules.specs.Divided.{is_filled}
-use Rattle.elem_rules.specs.Rows.{nth, element_reference}
-use Rattle.loop_match.specs.LoopIds.{loop_id_of}
-
--- a segment that has a place: its position in the set, ST being 1, its slot, and the id of the innermost loop round it
-pub record PlacedSegment : Type 0 where
-  pub position : ℕ
-  pub segment : Segment
-  pub slot : Slot
-  pub loop_id : List ℕ
-
-abbrev pub placed_by : Trees → (index : ℕ) → Segment → Option Place → Option PlacedSegment
-placed_by ts index s None = None
-placed_by ts index s (Some q) =
-    option_map (λ slot. record { position = index + 2; segment = s; slot = slot; loop_id = loop_id_of ts q }) (slot_at ts q)
-
-abbrev pub placed_at : Trees → List Segment → List (Option Place) → (index : ℕ) → Option PlacedSegment
-placed_at ts body given index = placed_by ts index (slice_index_or body index []) (slice_index_or given index None)
-
-abbrev pub and_then : List PlacedSegment → Option PlacedSegment → List PlacedSegment
-and_then placed None = placed
-and_then placed (Some p) = placed ++ p ∷ []
-
--- those of the first n segments, in their order
-abbrev pub first_placed : Trees → List Segment → List (Option Place) → (n : ℕ) → List PlacedSegment
-first_placed ts body given zero = []
-first_placed ts body given (suc n) = and_then (first_placed ts body given n) (placed_at ts body given n)
-
-abbrev pub placed_segments : Trees → List Segment → List (Option Place) → List PlacedSegment
-placed_segments ts body given = first_placed ts body given (length body)
+use Rattle.elem_rules.specs.Rows.{reference_at}
+use Rattle.loop_match.specs.PlacedSegments.{PlacedSegment, placed_segments}
 
 -- the segment is a use of the slot with a label
 abbrev pub is_use : (label : List ℕ) → PlacedSegment → Bool
@@ -108,7 +80,7 @@ element_fault p element code copy =
       component = 0;
       repetition = 0;
       code = code;
-      reference = option_map_or element_reference (nth p.slot.elements element) [];
+      reference = reference_at p.slot.elements element;
       copy = copy;
     }))
 

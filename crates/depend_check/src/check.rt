@@ -7,18 +7,17 @@ ghost use Rattle.hub_kinds.specs.Fault.{AreRising};
 ghost use Rattle.guide_tree.specs.Accepted.{IsAccepted};
 ghost use Rattle.guide_tree.specs.View.{guide_of, nodes_view};
 ghost use Rattle.loop_match.specs.Given.{place_in};
-ghost use Rattle.depend_check.specs.Dependencies.{IsDependencyFault, placed_segments};
+ghost use Rattle.loop_match.specs.PlacedSegments.{placed_segments};
+ghost use Rattle.depend_check.specs.Dependencies.{IsDependencyFault};
 ghost use Rattle.depend_check.specs.Found.{faults_of_slot, faults_of, found_faults};
-ghost use Rattle.depend_check.specs.Viewed.{placed_views};
+ghost use Rattle.loop_match.specs.Viewed.{placed_views};
 
-use crate::collect::collect;
 use crate::fault::unused_fault;
-use crate::placed::PlacedUse;
 use crate::seat::seat_among;
 use crate::uses::{add_uses, is_left_out, is_triggered};
 use guide_tree::{Dependency, Guide, GuideRows, Node};
 use hub_kinds::{Fault, NoMemory, in_order};
-use loop_match::Placing;
+use loop_match::{PlacedSeg, Placing, placed_segments};
 use std::alloc::Global;
 use x12_bytes::Delims;
 use x12_segs::SegView;
@@ -29,7 +28,7 @@ fn add_left_out(
     faults: &mut Vec<Fault>,
     nodes: &[Node],
     end: u64,
-    placed: &[PlacedUse],
+    placed: &[PlacedSeg],
     dependency: &Dependency,
 ) -> Result<(), NoMemory>
     ensures { OnOk result (faults.new.items ≡ faults.old.items ++ faults_of_slot (nodes_view nodes.now) end (placed_views placed.now)
@@ -50,7 +49,7 @@ fn add_dependency(
     nodes: &[Node],
     delims: Delims,
     end: u64,
-    placed: &[PlacedUse],
+    placed: &[PlacedSeg],
     dependency: &Dependency,
 ) -> Result<(), NoMemory>
     ensures { OnOk result (faults.new.items
@@ -69,7 +68,7 @@ fn find_faults(
     nodes: &[Node],
     delims: Delims,
     end: u64,
-    placed: &[PlacedUse],
+    placed: &[PlacedSeg],
     depends: &[Dependency],
 ) -> Result<Vec<Fault>, NoMemory>
     ensures { IfOk result (λ v. v.items ≡ found_faults (nodes_view nodes.now) delims end (placed_views placed.now) depends.now) }
@@ -93,7 +92,7 @@ fn find_in_body(
     ensures { IfOk result (λ v. v.items ≡ found_faults (nodes_view nodes.now) delims (length segs.now + 2)
         (placed_segments (nodes_view nodes.now) (map elements_of segs.now) (map place_in placing.now.given)) depends.now) }
 {
-    let placed = collect(alloc, segs, placing, nodes)?;
+    let placed = placed_segments(alloc, segs, placing, nodes)?;
     let end = segs.len() as u64 + 2;
     find_faults(alloc, nodes, delims, end, placed.as_slice(), depends)
 }

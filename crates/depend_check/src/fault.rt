@@ -1,52 +1,15 @@
-ghost use Rattle.std.specs.Prelude.{◌≡◌, [], IfOk};
-ghost use Rattle.std.specs.Option.{option_map_or};
-ghost use Rattle.guide_tree.specs.Segments.{element_of};
-ghost use Rattle.x12_segs.specs.View.{elements_of};
-ghost use Rattle.elem_rules.specs.Rows.{nth, element_reference};
+ghost use Rattle.std.specs.Prelude.{◌≡◌, IfOk};
 ghost use Rattle.depend_check.specs.Dependencies.{unused_fault, element_fault, use_fault};
 ghost use Rattle.depend_check.specs.Found.{told_of};
-ghost use Rattle.depend_check.specs.Viewed.{placed_view, seat_view};
+ghost use Rattle.loop_match.specs.Viewed.{placed_view};
+ghost use Rattle.depend_check.specs.Viewed.{seat_view};
 
-use crate::placed::PlacedUse;
 use crate::seat::GuideSeat;
-use guide_tree::{DependencyKind, Element, Slot};
+use elem_rules::reference_at;
+use guide_tree::DependencyKind;
 use hub_kinds::{ElemFault, ElementCode, Fault, NO_NUMBER, NoMemory, SegmentCode, copy_text};
+use loop_match::{PlacedSeg, text_at};
 use std::alloc::Global;
-use x12_segs::SegView;
-
-/// The element with a number, or at 0 the id.
-pub fn text_at<'a>(seg: &SegView<'a>, k: u32) -> &'a [u8]
-    ensures { result.now ≡ element_of (elements_of seg.now) k }
-{
-    if k == 0 {
-        seg.id()
-    } else {
-        seg.element(k as usize)
-    }
-}
-
-fn element_reference(row: &Element) -> &[u8]
-    ensures { result.now ≡ element_reference row.entry.now }
-{
-    match row {
-        Element::NotUsed(reference) => reference.as_slice(),
-        Element::Simple(row, _) => row.reference.as_slice(),
-        Element::Composite(row) => row.reference.as_slice(),
-    }
-}
-
-/// The reference number of an element's row; empty where there is none.
-fn reference_of(slot: &Slot, element: u32) -> &[u8]
-    ensures { result.now ≡ option_map_or element_reference (nth slot.entry.now.elements element) [] }
-{
-    if element == 0 {
-        return b"";
-    }
-    match slot.elements.as_slice().get(element as usize - 1) {
-        None => b"",
-        Some(row) => element_reference(row),
-    }
-}
 
 /// What is told of a slot that is needed and isn't used.
 pub fn unused_fault(alloc: Global, end: u64, seat: &GuideSeat) -> Result<Fault, NoMemory>
@@ -64,7 +27,7 @@ pub fn unused_fault(alloc: Global, end: u64, seat: &GuideSeat) -> Result<Fault, 
 
 fn use_fault(
     alloc: Global,
-    placed: &PlacedUse,
+    placed: &PlacedSeg,
     code: SegmentCode,
     elem: Option<ElemFault>,
 ) -> Result<Fault, NoMemory>
@@ -82,7 +45,7 @@ fn use_fault(
 
 fn element_fault(
     alloc: Global,
-    placed: &PlacedUse,
+    placed: &PlacedSeg,
     element: u32,
     code: ElementCode,
     copy: &[u8],
@@ -94,7 +57,10 @@ fn element_fault(
         component: NO_NUMBER,
         repetition: NO_NUMBER,
         code,
-        reference: copy_text(alloc, reference_of(placed.slot, element))?,
+        reference: copy_text(
+            alloc,
+            reference_at(placed.slot.elements.as_slice(), element),
+        )?,
         copy: copy_text(alloc, copy)?,
     };
     use_fault(alloc, placed, SegmentCode::ElementErrors, Some(elem))
@@ -105,7 +71,7 @@ pub fn told_of(
     alloc: Global,
     kind: DependencyKind,
     element: u32,
-    placed: &PlacedUse,
+    placed: &PlacedSeg,
 ) -> Result<Fault, NoMemory>
     ensures { IfOk result (λ f. f ≡ told_of kind element (placed_view placed.now)) }
 {
@@ -126,7 +92,7 @@ pub fn told_of(
                     placed,
                     element,
                     ElementCode::DependentNotUsedPresent,
-                    text_at(placed.seg, element),
+                    text_at(placed.seg, element as usize),
                 )
             }
         }

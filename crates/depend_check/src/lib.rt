@@ -16,10 +16,7 @@
 #![tactic(auto)]
 
 mod check;
-mod collect;
 mod fault;
-mod place;
-mod placed;
 mod seat;
 mod uses;
 

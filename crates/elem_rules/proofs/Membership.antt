@@ -16,10 +16,10 @@ use Rattle.hub_kinds.specs.declared.codes.ElementCode.{ElementCode}
 use Rattle.hub_kinds.specs.declared.codes.ElementCode.TheVariants as ik403
 use Rattle.hub_kinds.specs.declared.fault.ElemFault.{ElemFault}
 use Rattle.elem_rules.specs.Divided.{has_more}
-use Rattle.elem_rules.specs.Rows.{nth, reference_in}
+use Rattle.elem_rules.specs.Rows.{nth, reference_in, reference_at}
 use Rattle.elem_rules.specs.Conditions.{is_present, broken_at, condition_code}
 use Rattle.elem_rules.specs.ElementFaults.{Wrong, copy_in, fault_at, IsExtraElement, IsRowFault, IsConditionFault, IsElementFault}
-use Rattle.elem_rules.specs.Found.{fault, text_at, texts_of, is_present_in, reference_at, condition_copy, broken_found, condition_found}
+use Rattle.elem_rules.specs.Found.{fault, text_at, texts_of, is_present_in, condition_copy, broken_found, condition_found}
 use Rattle.hub_kinds.specs.Fault.{element_key_of}
 use Rattle.hub_kinds.specs.Rising.{IsKeyedBy}
 use Rattle.elem_rules.specs.Found.{conditions_found, element_found, rows_found, extra_found, found}

@@ -17,7 +17,7 @@ use Rattle.hub_kinds.specs.declared.codes.ElementCode.TheVariants as ik403
 use Rattle.hub_kinds.specs.declared.fault.ElemFault.{ElemFault}
 use Rattle.elem_rules.specs.Conditions.{broken_at, condition_code}
 use Rattle.elem_rules.specs.Divided.{is_empty, is_filled, has_more, occurrence_in, component_in}
-use Rattle.elem_rules.specs.Rows.{Usage, usage_of, nth, shown_repetition, element_reference, component_reference}
+use Rattle.elem_rules.specs.Rows.{Usage, usage_of, nth, shown_repetition, element_reference, component_reference, reference_at}
 use Rattle.elem_rules.specs.ElementFaults.{component_fault, whole_fault}
 
 -- what f gives of the numbers from 1 to n, one behind another
@@ -121,9 +121,6 @@ extra_found delims slot s =
     if has_more delims (length slot.elements) (drop 1 s)
     then fault (length slot.elements + 1) 0 0 ik403.TooManyElements [] (element_of s (length slot.elements + 1)) ∷ []
     else []
-
-abbrev pub reference_at : List Element → ℕ → List ℕ
-reference_at rows position = option_map_or element_reference (nth rows position) []
 
 -- what a broken condition copies: an element that is too much
 abbrev pub condition_copy : ElementCode → List ℕ → List ℕ

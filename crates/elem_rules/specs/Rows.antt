@@ -62,6 +62,10 @@ abbrev pub nth : {X : Type 0} → List X → ℕ → Option X
 nth xs zero = None
 nth xs (suc n) = slice_get xs n
 
+-- the reference number of the row at a position, from 1; empty where there is none
+abbrev pub reference_at : List Element → (position : ℕ) → List ℕ
+reference_at rows position = option_map_or element_reference (nth rows position) []
+
 -- the component rows of an element
 abbrev pub components_of : Element → List Component
 components_of (element.NotUsed reference) = []

@@ -1,8 +1,9 @@
 ghost use Rattle.std.specs.Prelude.{◌≡◌, ◌↔◌, ◌⊎◌, ◌++◌, ◌<◌, ◌≤◌, All, length, OnOk};
 ghost use Rattle.std.specs.List.{Contains};
 ghost use Rattle.hub_kinds.specs.declared.fault.ElemFault.{ElemFault};
-ghost use Rattle.elem_rules.specs.Found.{read, text_at, reference_at, broken_found, conditions_found};
+ghost use Rattle.elem_rules.specs.Found.{read, text_at, broken_found, conditions_found};
 ghost use Rattle.elem_rules.specs.Marks.{marked_found};
+ghost use Rattle.elem_rules.specs.Rows.{reference_at};
 
 use crate::broken::broken_by;
 use crate::element::element_reference;
@@ -34,8 +35,8 @@ pub fn text_at<'a>(texts: &[&'a [u8]], position: u32) -> &'a [u8]
     }
 }
 
-/// The reference number of the row at a position, from 1 on; empty where there is none.
-fn reference_at(rows: &[Element], position: u32) -> &[u8]
+/// The reference number of the row at a position, from 1 on; empty where there is none (X12.6, data elements).
+pub fn reference_at(rows: &[Element], position: u32) -> &[u8]
     ensures { result.now ≡ reference_at rows.now position }
 {
     let Some(index) = position.checked_sub(1) else {

@@ -10,7 +10,7 @@ fn is_inner_separator(delims: Delims, byte: u8) -> bool
     byte == delims.component || delims.repetition == Some(byte)
 }
 
-/// Whether a text has no byte other than component and repetition separators.
+/// Whether a text has no byte other than component and repetition separators (own).
 pub fn is_empty(delims: Delims, text: &[u8]) -> bool
     ensures { result ≡ is_empty delims text.now }
 {

@@ -7,6 +7,8 @@
 //!   shows the reference number of the row at its place and, whole, the text that its code speaks of;
 //! - `At::read` answers a moment exactly for the twelve digits CCYYMMDDHHMM of a day and a time that exist, which is
 //!   where `check_segment` finds nothing wrong with the first eight as a date and the last four as a time;
+//! - `is_empty` and `reference_at`, by which crates above tell of elements: whether a text counts as empty, and the reference
+//!   number of the row at a position;
 //! - `date`, `short_date` and `time` are a moment's CCYYMMDD, YYMMDD and HHMM.
 //!
 //! A segment is walked a fixed number of times, whatever its rows and conditions; memory is taken for the texts of the
@@ -40,4 +42,6 @@ mod presence;
 mod value;
 
 pub use check::check_segment;
+pub use conditions::reference_at;
+pub use divided::is_empty;
 pub use moment::At;

@@ -19,11 +19,11 @@ use Rattle.guide_law.proofs.Faulty.{fault_is}
 
 -- a node, and the id of its innermost loop, where the tree stands in the loop with the id outer
 abbrev mutual
-  IsNamedIn : (outer : List ℕ) → Tree → Tree → List ℕ → Type 0
+  pub IsNamedIn : (outer : List ℕ) → Tree → Tree → List ℕ → Type 0
   IsNamedIn outer (segment s) x l = (x ≡ segment s) × (l ≡ outer)
   IsNamedIn outer (loop k ts) x l = ((x ≡ loop k ts) × (l ≡ k.id)) ⊎ IsNamed k.id ts x l
 
-  IsNamed : (outer : List ℕ) → Trees → Tree → List ℕ → Type 0
+  pub IsNamed : (outer : List ℕ) → Trees → Tree → List ℕ → Type 0
   IsNamed outer no_trees x l = ⊥
   IsNamed outer (tree t ts) x l = IsNamedIn outer t x l ⊎ IsNamed outer ts x l
 
@@ -52,17 +52,17 @@ mutual
       let a : number_of x ≡ n = ap number_of h.0 in let b = (range (n + 1) ts k.id y m g).0 in absurd (omega arith)
   one_in n (loop k ts) o x y l m (inr h) (inl g) e =
       let a : number_of y ≡ n = ap number_of g.0 in let b = (range (n + 1) ts k.id x l h).0 in absurd (omega arith)
-  one_in n (loop k ts) o x y l m (inr h) (inr g) e = one (n + 1) ts k.id x y l m h g e
+  one_in n (loop k ts) o x y l m (inr h) (inr g) e = one_named (n + 1) ts k.id x y l m h g e
 
-  one : (n : ℕ) (ts : Trees) (o : List ℕ) (x y : Tree) (l m : List ℕ) → IsNamed o (numbered n ts) x l
+  pub one_named : (n : ℕ) (ts : Trees) (o : List ℕ) (x y : Tree) (l m : List ℕ) → IsNamed o (numbered n ts) x l
       → IsNamed o (numbered n ts) y m → number_of x ≡ number_of y → (x ≡ y) × (l ≡ m)
-  one n no_trees o x y l m h g e = absurd h
-  one n (tree t ts) o x y l m (inl h) (inl g) e = one_in n t o x y l m h g e
-  one n (tree t ts) o x y l m (inl h) (inr g) e =
+  one_named n no_trees o x y l m h g e = absurd h
+  one_named n (tree t ts) o x y l m (inl h) (inl g) e = one_in n t o x y l m h g e
+  one_named n (tree t ts) o x y l m (inl h) (inr g) e =
       let a = (range_in n t o x l h).1 in let b = (range (n + count_in t) ts o y m g).0 in absurd (omega arith)
-  one n (tree t ts) o x y l m (inr h) (inl g) e =
+  one_named n (tree t ts) o x y l m (inr h) (inl g) e =
       let a = (range_in n t o y m g).1 in let b = (range (n + count_in t) ts o x l h).0 in absurd (omega arith)
-  one n (tree t ts) o x y l m (inr h) (inr g) e = one (n + count_in t) ts o x y l m h g e
+  one_named n (tree t ts) o x y l m (inr h) (inr g) e = one_named (n + count_in t) ts o x y l m h g e
 
 -- a place's node is named by the loop that the place is in
 abbrev own : Option Tree → List ℕ
@@ -172,7 +172,7 @@ same_made at two c d t u l m e f g h =
 same_node : (ts : Trees) (f h : Fault) → OfNode (numbered 1 ts) f → OfNode (numbered 1 ts) h → key_of f ≡ key_of h → f ≡ h
 same_node ts f h r s e =
     let k = sym (ap key_of r.is) ∙ e ∙ ap key_of s.is in
-    let both = one 1 ts [] r.node s.node r.named s.named r.there s.there (ap (λ (l : List ℕ). get_or l 2 0) k) in
+    let both = one_named 1 ts [] r.node s.node r.named s.named r.there s.there (ap (λ (l : List ℕ). get_or l 2 0) k) in
     r.is
     ∙ same_made r.at s.at r.code s.code r.node s.node r.named s.named (ap (λ (l : List ℕ). get_or l 0 0) k)
     (same_code r.code s.code (ap (λ (l : List ℕ). get_or l 1 0) k)) both.0 both.1

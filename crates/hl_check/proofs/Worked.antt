@@ -21,7 +21,8 @@ use Rattle.guide_tree.specs.Tree.{Trees, segment, loop, no_trees, tree, GuideTre
 use Rattle.guide_tree.specs.Nexts.{placing_of}
 use Rattle.guide_tree.specs.Segments.{Segment}
 use Rattle.elem_rules.proofs.Members.{no_member}
-use Rattle.hl_check.specs.Hierarchy.{HlSegment, segments_of, hl_segments, hls_of, IsHierarchyFault, IsHierarchyWhole}
+use Rattle.loop_match.specs.PlacedSegments.{PlacedSegment}
+use Rattle.hl_check.specs.Hierarchy.{segments_of, hl_segments, hls_of, IsHierarchyFault, IsHierarchyWhole}
 use Rattle.hl_check.specs.Found.{found_faults}
 use Rattle.hl_check.proofs.Faulty.{members}
 use Rattle.hl_check.proofs.Whole.{faultless_as_whole}
@@ -98,7 +99,7 @@ record Shows (hl : List Element) (rule : Option HlRule) (texts : List (List ℕ)
   pub each : (f : Fault)
       → IsHierarchyFault (guide hl rule) delims (body_of texts) (placing_of (notice hl) (body_of texts)) f ↔ Contains faults f
 
-abbrev hls : List Element → List (List ℕ) → List HlSegment
+abbrev hls : List Element → List (List ℕ) → List PlacedSegment
 hls hl texts = hls_of (notice hl) (body_of texts) (placing_of (notice hl) (body_of texts))
 
 exactly : {hl : List Element} {r : HlRule} {texts : List (List ℕ)} {faults : List Fault}

@@ -1,7 +1,7 @@
 -- X12.6, hierarchical level segment (HL): what is wrong with the hierarchy of a set. How the 999 guide's IK4 tells it is own.
-use Rattle.std.specs.Prelude.{ℕ, zero, suc, ◌+◌, ◌≡◌, ◌⊎◌, IsTrue, IsFalse, IsSomeAnd, codes, decimal}
-use Rattle.std.specs.Prelude.{List, [], ◌∷◌, ◌++◌, length, map, take, drop}
-use Rattle.std.specs.Prelude.{Option, Some, None, option_map, is_some, is_none, slice_index_or, slice_get}
+use Rattle.std.specs.Prelude.{ℕ, ◌+◌, ◌≡◌, ◌⊎◌, IsTrue, IsFalse, IsSomeAnd, codes, decimal}
+use Rattle.std.specs.Prelude.{List, length, map, take, drop}
+use Rattle.std.specs.Prelude.{Option, Some, None, is_some, is_none, slice_get}
 use Rattle.std.specs.Prelude.{Bool, false, ◌&&◌, ◌||◌, not, if◌then◌else◌}
 use Rattle.std.specs.List.{filter, find, list_any}
 use Rattle.std.specs.Option.{option_map_or}
@@ -13,13 +13,12 @@ use Rattle.hub_kinds.specs.declared.codes.ElementCode.TheVariants as ik403
 use Rattle.hub_kinds.specs.declared.fault.Fault.{Fault}
 use Rattle.guide_tree.specs.declared.rows.HlRule.{HlRule}
 use Rattle.guide_tree.specs.declared.rows.HlPair.{HlPair}
-use Rattle.guide_tree.specs.declared.slot.Slot.{Slot}
 use Rattle.guide_tree.specs.Tree.{Trees, GuideTree}
 use Rattle.guide_tree.specs.Segments.{Segment, element_of, id_of}
-use Rattle.guide_tree.specs.Places.{Place, slot_at}
+use Rattle.guide_tree.specs.Places.{Place}
 use Rattle.elem_rules.specs.Divided.{is_filled}
-use Rattle.elem_rules.specs.Rows.{nth, element_reference}
-use Rattle.loop_match.specs.LoopIds.{loop_id_of}
+use Rattle.elem_rules.specs.Rows.{reference_at}
+use Rattle.loop_match.specs.PlacedSegments.{PlacedSegment, placed_segments}
 
 abbrev pub is_hl : Segment → Bool
 is_hl s = bytes_eq (id_of s) (codes "HL")
@@ -98,41 +97,15 @@ IsHierarchyWhole None delims hls = Unit {0}
 IsHierarchyWhole (Some rule) delims hls =
     (count : ℕ) (h : Segment) → slice_get hls count ≡ Some h → IsHlWhole rule delims (take count hls) h (drop (count + 1) hls)
 
--- an HL segment that has a place: its position in the set, ST being 1, its slot, and the id of the innermost loop round it
-pub record HlSegment : Type 0 where
-  pub position : ℕ
-  pub segment : Segment
-  pub slot : Slot
-  pub loop_id : List ℕ
-
-abbrev pub segments_of : List HlSegment → List Segment
+abbrev pub segments_of : List PlacedSegment → List Segment
 segments_of hls = map (λ h. h.segment) hls
 
--- the segment with an index in the body, if it is an HL that has a place
-abbrev pub hl_placed : Trees → (index : ℕ) → Segment → Option Place → Option HlSegment
-hl_placed ts index s None = None
-hl_placed ts index s (Some q) =
-    if is_hl s
-    then option_map (λ slot. record { position = index + 2; segment = s; slot = slot; loop_id = loop_id_of ts q }) (slot_at ts q)
-    else None
-
-abbrev pub hl_at : Trees → List Segment → List (Option Place) → (index : ℕ) → Option HlSegment
-hl_at ts body given index = hl_placed ts index (slice_index_or body index []) (slice_index_or given index None)
-
-abbrev pub and_then : List HlSegment → Option HlSegment → List HlSegment
-and_then hls None = hls
-and_then hls (Some h) = hls ++ h ∷ []
-
--- those of the first n segments, in their order
-abbrev pub first_hls : Trees → List Segment → List (Option Place) → (n : ℕ) → List HlSegment
-first_hls ts body given zero = []
-first_hls ts body given (suc n) = and_then (first_hls ts body given n) (hl_at ts body given n)
-
-abbrev pub hls_of : Trees → List Segment → List (Option Place) → List HlSegment
-hls_of ts body given = first_hls ts body given (length body)
+-- the HL segments that have places, in their order
+abbrev pub hls_of : Trees → List Segment → List (Option Place) → List PlacedSegment
+hls_of ts body given = filter (λ h. is_hl h.segment) (placed_segments ts body given)
 
 -- a fault of an element of an HL: with the reference number of the element's row, where its slot has one, and the whole element
-abbrev pub hl_fault : HlSegment → (element : ℕ) → ElementCode → Fault
+abbrev pub hl_fault : PlacedSegment → (element : ℕ) → ElementCode → Fault
 hl_fault h element code = record {
   position = h.position;
   id = id_of h.segment;
@@ -144,13 +117,13 @@ hl_fault h element code = record {
     component = 0;
     repetition = 0;
     code = code;
-    reference = option_map_or element_reference (nth h.slot.elements element) [];
+    reference = reference_at h.slot.elements element;
     copy = element_of h.segment element;
   });
 }
 
 -- what is wrong with an HL that stands behind the earlier and before the later ones
-abbrev pub IsHlFault : HlRule → Delims → (earlier : List HlSegment) → HlSegment → (later : List HlSegment) → Fault → Type 0
+abbrev pub IsHlFault : HlRule → Delims → (earlier : List PlacedSegment) → PlacedSegment → (later : List PlacedSegment) → Fault → Type 0
 IsHlFault rule delims earlier h later f =
     (IsTrue (is_number_wrong rule delims (segments_of earlier) h.segment) × (f ≡ hl_fault h 1 ik403.PatternFailure))
     ⊎ ((IsTrue (is_parent_wrong delims (segments_of earlier) h.segment) × (f ≡ hl_fault h 2 ik403.PatternFailure))
@@ -158,9 +131,9 @@ IsHlFault rule delims earlier h later f =
     ⊎ (IsTrue (is_child_wrong delims h.segment (segments_of later)) × (f ≡ hl_fault h 4 ik403.PatternFailure))))
 
 -- one of these HLs has the fault
-pub record IsFaultAmong (rule : HlRule) (delims : Delims) (hls : List HlSegment) (f : Fault) : Type 0 where
+pub record IsFaultAmong (rule : HlRule) (delims : Delims) (hls : List PlacedSegment) (f : Fault) : Type 0 where
   pub count : ℕ
-  pub hl : HlSegment
+  pub hl : PlacedSegment
   pub there : slice_get hls count ≡ Some hl
   pub wrong : IsHlFault rule delims (take count hls) hl (drop (count + 1) hls) f
 

@@ -4,13 +4,14 @@ ghost use Rattle.x12_segs.specs.View.{elements_of};
 ghost use Rattle.guide_tree.specs.Segments.{Segment};
 ghost use Rattle.hl_check.specs.Hierarchy.{is_child_wrong};
 ghost use Rattle.hl_check.specs.Found.{fault_if, backward_faults};
-ghost use Rattle.hl_check.specs.Known.{hl_view, hls_view, KnowsNamed};
+ghost use Rattle.loop_match.specs.Viewed.{placed_view, placed_views};
+ghost use Rattle.hl_check.specs.Known.{KnowsNamed};
 
 use crate::fault::add_if;
 use crate::known::add_named;
-use crate::placed::PlacedHl;
 use crate::rules::is_child_wrong;
 use hub_kinds::{ElementCode, Fault, NoMemory};
+use loop_match::PlacedSeg;
 use std::alloc::Global;
 use std::collections::BTreeSet;
 use x12_bytes::Delims;
@@ -21,12 +22,12 @@ fn add_before<'a>(
     faults: &mut Vec<Fault>,
     named: &mut BTreeSet<&'a [u8]>,
     delims: Delims,
-    hl: &PlacedHl<'_, 'a, '_>,
+    hl: &PlacedSeg<'_, 'a, '_>,
 ) -> Result<(), NoMemory>
     ensures named { OnOk result ((later : List Segment) → KnowsNamed named.old delims later
         → KnowsNamed named.new delims (elements_of hl.now.seg.now ∷ later)) }
     ensures faults { OnOk result ((later : List Segment) → KnowsNamed named.old delims later → faults.new.items
-        ≡ faults.old.items ++ fault_if (is_child_wrong delims (elements_of hl.now.seg.now) later) (hl_view hl.now) 4 PatternFailure) }
+        ≡ faults.old.items ++ fault_if (is_child_wrong delims (elements_of hl.now.seg.now) later) (placed_view hl.now) 4 PatternFailure) }
 {
     let (number, parent, _) = hl.seg.first_elements();
     let wrong = is_child_wrong(hl.seg.element(4), named.contains(number));
@@ -39,9 +40,9 @@ pub fn add_backward(
     alloc: Global,
     faults: &mut Vec<Fault>,
     delims: Delims,
-    hls: &[PlacedHl],
+    hls: &[PlacedSeg],
 ) -> Result<(), NoMemory>
-    ensures { OnOk result (faults.new.items ≡ faults.old.items ++ backward_faults delims (hls_view hls.now)) }
+    ensures { OnOk result (faults.new.items ≡ faults.old.items ++ backward_faults delims (placed_views hls.now)) }
 {
     let mut named = BTreeSet::new(alloc);
     let mut left = hls.len();

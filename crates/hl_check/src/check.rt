@@ -8,15 +8,14 @@ ghost use Rattle.guide_tree.specs.View.{guide_of, nodes_view};
 ghost use Rattle.loop_match.specs.Given.{place_in};
 ghost use Rattle.hl_check.specs.Hierarchy.{hls_of, IsFaultAmong, IsHierarchyFault};
 ghost use Rattle.hl_check.specs.Found.{found_faults};
-ghost use Rattle.hl_check.specs.Known.{hls_view};
+ghost use Rattle.loop_match.specs.Viewed.{placed_views};
 
 use crate::backward::add_backward;
-use crate::collect::collect;
 use crate::forward::add_forward;
-use crate::placed::PlacedHl;
+use crate::hls::hls_of;
 use guide_tree::{Guide, HlRule, Node};
 use hub_kinds::{Fault, NoMemory, in_order};
-use loop_match::Placing;
+use loop_match::{PlacedSeg, Placing};
 use std::alloc::Global;
 use x12_bytes::Delims;
 use x12_segs::SegView;
@@ -26,9 +25,9 @@ fn find_faults(
     alloc: Global,
     rule: &HlRule,
     delims: Delims,
-    hls: &[PlacedHl],
+    hls: &[PlacedSeg],
 ) -> Result<Vec<Fault>, NoMemory>
-    ensures { IfOk result (λ v. v.items ≡ found_faults rule.now delims (hls_view hls.now) (length hls.now)) }
+    ensures { IfOk result (λ v. v.items ≡ found_faults rule.now delims (placed_views hls.now) (length hls.now)) }
 {
     let mut faults = Vec::new(alloc);
     add_forward(alloc, &mut faults, rule, delims, hls)?;
@@ -49,7 +48,7 @@ fn check_by_rule(
         (hls_of (nodes_view nodes.now) (map elements_of segs.now) (map place_in placing.now.given)) f) }
     ensures rising { IfOk result (λ v. AreRising v.items) }
 {
-    let hls = collect(alloc, segs, placing, nodes)?;
+    let hls = hls_of(alloc, segs, placing, nodes)?;
     Ok(in_order(find_faults(alloc, rule, delims, hls.as_slice())?))
 }
 

@@ -2,14 +2,15 @@ ghost use Rattle.std.specs.Prelude.{◌≡◌, ◌++◌, ◌+◌, ◌<◌, ◌^�
 ghost use Rattle.x12_segs.specs.View.{elements_of};
 ghost use Rattle.guide_tree.specs.Segments.{Segment};
 ghost use Rattle.hl_check.specs.Found.{faults_behind, forward_faults};
-ghost use Rattle.hl_check.specs.Known.{hl_view, hls_view, KnowsLevels};
+ghost use Rattle.loop_match.specs.Viewed.{placed_view, placed_views};
+ghost use Rattle.hl_check.specs.Known.{KnowsLevels};
 
 use crate::fault::add_if;
 use crate::known::{add_level, level_with};
-use crate::placed::PlacedHl;
 use crate::rules::{is_filled, is_level_wrong, is_number_wrong};
 use guide_tree::HlRule;
 use hub_kinds::{ElementCode, Fault, NoMemory};
+use loop_match::PlacedSeg;
 use std::alloc::Global;
 use std::collections::BTreeMap;
 use x12_bytes::Delims;
@@ -22,12 +23,12 @@ fn add_behind<'a>(
     rule: &HlRule,
     delims: Delims,
     count: usize,
-    hl: &PlacedHl<'_, 'a, '_>,
+    hl: &PlacedSeg<'_, 'a, '_>,
 ) -> Result<(), NoMemory>
     ensures levels { OnOk result ((earlier : List Segment) → KnowsLevels levels.old earlier
         → KnowsLevels levels.new (earlier ++ elements_of hl.now.seg.now ∷ [])) }
     ensures faults { OnOk result ((earlier : List Segment) → KnowsLevels levels.old earlier → count ≡ length earlier + 1
-        → faults.new.items ≡ faults.old.items ++ faults_behind rule.now delims earlier (hl_view hl.now)) }
+        → faults.new.items ≡ faults.old.items ++ faults_behind rule.now delims earlier (placed_view hl.now)) }
 {
     let (number, parent, level) = hl.seg.first_elements();
     let known = level_with(levels, number).is_some();
@@ -61,10 +62,10 @@ pub fn add_forward(
     faults: &mut Vec<Fault>,
     rule: &HlRule,
     delims: Delims,
-    hls: &[PlacedHl],
+    hls: &[PlacedSeg],
 ) -> Result<(), NoMemory>
     ensures { OnOk result (faults.new.items
-        ≡ faults.old.items ++ forward_faults rule.now delims (hls_view hls.now) (length hls.now)) }
+        ≡ faults.old.items ++ forward_faults rule.now delims (placed_views hls.now) (length hls.now)) }
 {
     let mut levels = BTreeMap::new(alloc);
     for i in 0..hls.len() {

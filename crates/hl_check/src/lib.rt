@@ -17,12 +17,10 @@
 
 mod backward;
 mod check;
-mod collect;
 mod fault;
 mod forward;
+mod hls;
 mod known;
-mod place;
-mod placed;
 mod rules;
 
 pub use check::check_hl;

@@ -2,24 +2,13 @@ ghost use Rattle.std.specs.Prelude.{◌≡◌, false, ◌&&◌, ◌||◌, not, c
 ghost use Rattle.std.specs.List.{list_any};
 ghost use Rattle.std.specs.Option.{option_map_or};
 ghost use Rattle.std.specs.Str.{bytes_eq};
-ghost use Rattle.elem_rules.specs.Divided.{is_inner_separator, is_empty, is_filled};
+ghost use Rattle.elem_rules.specs.Divided.{is_filled};
 ghost use Rattle.hl_check.specs.Hierarchy.{is_pair, is_listed};
 
+use elem_rules::is_empty;
 use guide_tree::{HlPair, HlRule};
 use itoa::Buffer;
 use x12_bytes::Delims;
-
-fn is_inner_separator(delims: Delims, byte: u8) -> bool
-    ensures { result ≡ is_inner_separator delims byte }
-{
-    byte == delims.component || delims.repetition == Some(byte)
-}
-
-fn is_empty(delims: Delims, text: &[u8]) -> bool
-    ensures { result ≡ is_empty delims text.now }
-{
-    text.iter().all(|byte| is_inner_separator(delims, *byte))
-}
 
 /// Whether a text has a byte other than component and repetition separators.
 pub fn is_filled(delims: Delims, text: &[u8]) -> bool

@@ -6,3 +6,8 @@ mod Finding
 mod Passing
 mod Numbered
 mod Rounds
+mod Slots
+mod Collecting
+pub mod Standing
+pub mod Leading
+mod WorkedSegments

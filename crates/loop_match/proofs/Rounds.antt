@@ -22,7 +22,7 @@ past_child outer (x ∷ ns) zero q h = absurd (omega arith)
 past_child outer (x ∷ ns) (suc n) q h = past_child outer ns n q (omega arith)
 
 -- what is left of a place begins with its next step
-steps_left : (place : List Step) (i : ℕ) (d : Step) → i < length place
+pub steps_left : (place : List Step) (i : ℕ) (d : Step) → i < length place
     → place_view (drop i place) ≡ step_view (get_or place i d) ∷ place_view (drop (i + 1) place)
 steps_left place i d h = rw (add-one) (ap place_view (drop-cons place i d h))
 

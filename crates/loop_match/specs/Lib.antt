@@ -3,3 +3,5 @@ pub mod Steps
 pub mod Leaving
 pub mod LoopIds
 pub mod Passed
+pub mod PlacedSegments
+pub mod Viewed

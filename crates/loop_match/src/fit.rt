@@ -7,15 +7,15 @@ use guide_tree::{Pick, Slot};
 use hub_kinds::Text;
 use x12_segs::SegView;
 
-/// Whether the text is one of the list.
+/// Whether the text is one of the list, byte for byte (own).
 pub fn contains_text(texts: &[Text], text: &[u8]) -> bool
     ensures { result ≡ contains_text texts.now text.now }
 {
     texts.iter().any(|own| own.as_slice() == text)
 }
 
-/// The element with a number, or at 0 the id.
-fn text_at<'a>(seg: &SegView<'a>, k: usize) -> &'a [u8]
+/// The element with a number, or at 0 the id (X12.6, segment); empty where it isn't there.
+pub fn text_at<'a>(seg: &SegView<'a>, k: usize) -> &'a [u8]
     ensures { result.now ≡ element_of (elements_of seg.now) k }
 {
     if k == 0 { seg.id() } else { seg.element(k) }

@@ -3,7 +3,8 @@
 //!
 //! Proved: `place_all` gives each segment the place and the slot that the definition gives it, or no place where it is a
 //! stray; and its faults are exactly the structural faults of the body under that placing: uses past a maximum, what is
-//! missing, what is used too few times, strays; each once, by position, code and slot.
+//! missing, what is used too few times, strays; each once, by position, code and slot. `placed_segments` gives the segments
+//! that have places, each with its position, its slot and the loop that it stands in.
 //!
 //! Source: X12.6, order of segments in a transaction set; the 999 guide (005010X231), IK304.
 #![tactic(auto)]
@@ -14,12 +15,16 @@ mod leaving;
 mod loop_id;
 mod next;
 mod pass;
+mod place;
+mod placed;
 mod placing;
 mod stepping;
 mod steps;
 mod stray;
 mod walk;
 
+pub use fit::{contains_text, text_at};
 pub use loop_id::loop_id_of;
 pub use next::Step;
+pub use placed::{PlacedSeg, placed_segments};
 pub use placing::{Placing, place_all};

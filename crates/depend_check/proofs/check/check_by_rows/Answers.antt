@@ -6,7 +6,7 @@ use Rattle.guide_tree.specs.Tree.{GuideTree}
 use Rattle.guide_tree.specs.View.{nodes_view}
 use Rattle.guide_tree.specs.declared.node.Node.{Node}
 use Rattle.loop_match.specs.Given.{place_in}
-use Rattle.depend_check.specs.Dependencies.{placed_segments}
+use Rattle.loop_match.specs.PlacedSegments.{placed_segments}
 use Rattle.depend_check.specs.Found.{found_faults}
 use Rattle.depend_check.proofs.Members.{members}
 use Rattle.depend_check.proofs.Keyed.{keyed}

@@ -1,7 +1,7 @@
 use Rattle.std.proofs.Common.{◌≡◌, take}
 use Rattle.guide_tree.specs.View.{nodes_view}
 use Rattle.depend_check.specs.Found.{found_faults}
-use Rattle.depend_check.specs.Viewed.{placed_views}
+use Rattle.loop_match.specs.Viewed.{placed_views}
 use Rattle.depend_check.proofs.check.find_faults.Given as goal
 
 -- what is wrong by the dependencies so far

@@ -1,7 +1,7 @@
 use Rattle.std.proofs.Common.{◌≡◌, ◌++◌, take}
 use Rattle.std.specs.List.{flat_map}
 use Rattle.depend_check.specs.Found.{faults_of_use}
-use Rattle.depend_check.specs.Viewed.{placed_views}
+use Rattle.loop_match.specs.Viewed.{placed_views}
 use Rattle.depend_check.proofs.uses.add_uses.Given as goal
 
 -- what the segments so far break

@@ -1,6 +1,6 @@
 use Rattle.std.proofs.Common.{◌∙◌}
 use Rattle.depend_check.specs.Dependencies.{is_trigger}
-use Rattle.depend_check.specs.Viewed.{placed_view}
+use Rattle.loop_match.specs.Viewed.{placed_view}
 use Rattle.depend_check.proofs.Lists.{any_view}
 use Rattle.depend_check.proofs.uses.is_triggered.Goals as goal
 

@@ -5,9 +5,10 @@ use Rattle.hub_kinds.specs.declared.fault.Fault.{Fault}
 use Rattle.x12_segs.specs.View.{elements_of}
 use Rattle.guide_tree.specs.View.{nodes_view}
 use Rattle.loop_match.specs.Given.{place_in}
-use Rattle.hl_check.specs.Hierarchy.{HlSegment, hls_of}
+use Rattle.loop_match.specs.PlacedSegments.{PlacedSegment}
+use Rattle.hl_check.specs.Hierarchy.{hls_of}
 use Rattle.hl_check.specs.Found.{found_faults}
-use Rattle.hl_check.specs.Known.{hl_view, hls_view}
+use Rattle.loop_match.specs.Viewed.{placed_view, placed_views}
 use Rattle.hl_check.proofs.Faulty.{members}
 use Rattle.hl_check.proofs.Keyed.{keyed}
 use Rattle.hl_check.proofs.check.check_by_rule.Goals as goal
@@ -19,9 +20,10 @@ in_order-requires c =
     let ts = nodes_view c.args.nodes.now in
     keyed ts body given c.args.rule.now c.args.delims c.in_ok-find_faults.field-0.items
     (c.in_ok-find_faults.ensures
-    ∙ ap (found_faults c.args.rule.now c.args.delims (hls_view c.as_slice.result.now)) (sym (length-map c.as_slice.result.now hl_view))
-    ∙ ap (λ (hls : List HlSegment). found_faults c.args.rule.now c.args.delims hls (length hls))
-    (ap hls_view c.as_slice.ensures.value ∙ c.in_ok-hls.ensures))
+    ∙ ap (found_faults c.args.rule.now c.args.delims (placed_views c.as_slice.result.now))
+    (sym (length-map c.as_slice.result.now placed_view))
+    ∙ ap (λ (hls : List PlacedSegment). found_faults c.args.rule.now c.args.delims hls (length hls))
+    (ap placed_views c.as_slice.ensures.value ∙ c.in_ok-hls.ensures))
 
 pub returns-clause-faults : goal.returns-clause-faults
 returns-clause-faults c f =
@@ -30,9 +32,10 @@ returns-clause-faults c f =
     let all = hls_of (nodes_view c.args.nodes.now) body given in
     let found : c.in_ok-find_faults.field-0.items ≡ found_faults c.args.rule.now c.args.delims all (length all) =
     c.in_ok-find_faults.ensures
-    ∙ ap (found_faults c.args.rule.now c.args.delims (hls_view c.as_slice.result.now)) (sym (length-map c.as_slice.result.now hl_view))
-    ∙ ap (λ (hls : List HlSegment). found_faults c.args.rule.now c.args.delims hls (length hls))
-    (ap hls_view c.as_slice.ensures.value ∙ c.in_ok-hls.ensures) in
+    ∙ ap (found_faults c.args.rule.now c.args.delims (placed_views c.as_slice.result.now))
+    (sym (length-map c.as_slice.result.now placed_view))
+    ∙ ap (λ (hls : List PlacedSegment). found_faults c.args.rule.now c.args.delims hls (length hls))
+    (ap placed_views c.as_slice.ensures.value ∙ c.in_ok-hls.ensures) in
     let both = members c.args.rule.now c.args.delims all f in
     let same = c.in_order.ensures.same f in (
       λ h. both.0 (subst (λ (l : List Fault). Contains l f) found (same.0 h)),

@@ -1,7 +1,8 @@
 use Rattle.std.proofs.Common.{◌+◌, ◌∙◌, sym, ap, drop, Some, arith}
 use Rattle.loop_match.specs.Steps.{place_view}
-use Rattle.depend_check.proofs.Rounds.{no_slot, slot_here, at_end, before_last, further, behind_last, before_end, no_step}
-use Rattle.depend_check.proofs.place.slot_at.Goals as goal
+use Rattle.loop_match.proofs.Rounds.{behind_last, before_end, no_step}
+use Rattle.loop_match.proofs.Slots.{no_slot, slot_here, at_end, before_last, further}
+use Rattle.loop_match.proofs.place.slot_at.Goals as goal
 
 pub returns-in-None : goal.returns-in-None
 returns-in-None c =

@@ -2,9 +2,9 @@ use Rattle.std.proofs.Common.{◌≡◌, map}
 use Rattle.x12_segs.specs.View.{elements_of}
 use Rattle.guide_tree.specs.View.{nodes_view}
 use Rattle.loop_match.specs.Given.{place_in}
-use Rattle.depend_check.specs.Dependencies.{first_placed}
-use Rattle.depend_check.specs.Viewed.{placed_views}
-use Rattle.depend_check.proofs.collect.collect.Given as goal
+use Rattle.loop_match.specs.PlacedSegments.{first_placed}
+use Rattle.loop_match.specs.Viewed.{placed_views}
+use Rattle.loop_match.proofs.placed.placed_segments.Given as goal
 
 -- those of the segments so far
 abbrev pub invariant-loop-i : goal.invariant-loop-i

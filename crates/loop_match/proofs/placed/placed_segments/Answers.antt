@@ -1,10 +1,10 @@
 use Rattle.std.proofs.Common.{sym, ap, ◌∙◌, option_map, List}
 use Rattle.x12_segs.specs.View.{elements_of}
 use Rattle.guide_tree.specs.View.{nodes_view}
-use Rattle.depend_check.specs.Dependencies.{PlacedSegment, and_then, placed_by}
-use Rattle.depend_check.specs.Viewed.{placed_view}
-use Rattle.depend_check.proofs.Collecting.{next_placed}
-use Rattle.depend_check.proofs.collect.collect.Goals as goal
+use Rattle.loop_match.specs.PlacedSegments.{PlacedSegment, and_then, placed_by}
+use Rattle.loop_match.specs.Viewed.{placed_view}
+use Rattle.loop_match.proofs.Collecting.{next_placed}
+use Rattle.loop_match.proofs.placed.placed_segments.Goals as goal
 
 pub loop-i-preserved : goal.loop-i-preserved
 loop-i-preserved c =

@@ -2,7 +2,7 @@ use Rattle.std.proofs.Common.{◌≡◌, drop}
 use Rattle.guide_tree.specs.Places.{slot_at}
 use Rattle.guide_tree.specs.View.{nodes_view}
 use Rattle.loop_match.specs.Steps.{place_view}
-use Rattle.hl_check.proofs.place.slot_at.Given as goal
+use Rattle.loop_match.proofs.place.slot_at.Given as goal
 
 -- what is found further down is what is found from the beginning
 abbrev pub invariant-loop-i : goal.invariant-loop-i

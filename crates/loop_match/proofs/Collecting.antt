@@ -8,7 +8,7 @@ use Rattle.guide_tree.specs.Tree.{Trees}
 use Rattle.guide_tree.specs.Places.{Place}
 use Rattle.guide_tree.specs.Nexts.{Candidate}
 use Rattle.loop_match.specs.Given.{place_in}
-use Rattle.depend_check.specs.Dependencies.{PlacedSegment, placed_by, and_then, first_placed}
+use Rattle.loop_match.specs.PlacedSegments.{PlacedSegment, placed_by, and_then, first_placed}
 
 place_there : (given : List (Option Candidate)) (i : ℕ)
     → slice_index_or (map place_in given) i None ≡ place_in (slice_index_or given i None)

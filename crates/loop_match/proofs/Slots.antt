@@ -1,9 +1,8 @@
 -- The slot at a place, found step by step.
 use Rattle.std.proofs.Common.{◌≡◌, ℕ, zero, suc, ◌+◌, ◌<◌, ◌≤◌, List, [], ◌∷◌, length, get_or, drop, Some, None}
-use Rattle.std.proofs.Common.{refl, sym, ap, ◌∙◌, arith, add-one, drop-cons, true, false, nat_lt, rules}
+use Rattle.std.proofs.Common.{refl, sym, ap, ◌∙◌, arith, rules}
 use Rattle.std.specs.Prelude.{Vec}
 use Rattle.std.specs.declared.alloc.Global.{Global}
-use Rattle.std.proofs.lemmas.Bool.Decides.{nat_tests}
 use Rattle.std.proofs.lemmas.List.{drop_all}
 use Rattle.guide_tree.specs.declared.node.Node.{Node, the_lemmas}
 use Rattle.guide_tree.specs.declared.slot.Slot.{Slot}
@@ -14,10 +13,8 @@ use Rattle.guide_tree.specs.View.{view, nodes_view}
 use Rattle.guide_tree.specs.Places.{Place, slot_in, slot_nth, slot_at}
 use Rattle.guide_tree.proofs.Behind.{view_loop}
 use Rattle.loop_match.specs.declared.next.Step.{Step}
-use Rattle.loop_match.specs.Steps.{place_view, step_view}
-
-abbrev pub no_step : Step
-no_step = record { child = 0; use_no = 0 }
+use Rattle.loop_match.specs.Steps.{place_view}
+use Rattle.loop_match.proofs.Rounds.{no_step, steps_left}
 
 slot_by_child : (ns : List Node) (n : ℕ) (q : Place) (d : Node) → n < length ns
     → slot_nth (nodes_view ns) n q ≡ slot_in (view (get_or ns n d)) q
@@ -29,11 +26,6 @@ slot_past_child : (ns : List Node) (n : ℕ) (q : Place) → length ns ≤ n →
 slot_past_child [] n q h = refl
 slot_past_child (x ∷ ns) zero q h = absurd (omega arith)
 slot_past_child (x ∷ ns) (suc n) q h = slot_past_child ns n q (omega arith)
-
--- what is left of a place begins with its next step
-steps_left : (place : List Step) (i : ℕ) (d : Step) → i < length place
-    → place_view (drop i place) ≡ step_view (get_or place i d) ∷ place_view (drop (i + 1) place)
-steps_left place i d h = rw (add-one) (ap place_view (drop-cons place i d h))
 
 pub no_slot : (ns : List Node) (place : List Step) (i : ℕ) (d : Step) → i < length place
     → length ns ≤ (get_or place i d).child → slot_at (nodes_view ns) (place_view (drop i place)) ≡ None
@@ -75,9 +67,3 @@ further n head inner nodes q e same =
     ap (λ (t : Tree). slot_in t q) (view_loop n head inner e)
     ∙ in_loop head inner.items q
     ∙ ap (λ (l : List Node). slot_at (nodes_view l) q) (sym same)
-
-pub behind_last : (k n : ℕ) → false ≡ nat_lt k n → n ≤ k
-behind_last k n h = grind (arith, nat_tests)
-
-pub before_end : (k n : ℕ) → true ≡ nat_lt k n → k < n
-before_end k n h = grind (arith, nat_tests)

@@ -3,8 +3,8 @@ ghost use Rattle.guide_tree.specs.Places.{slot_at};
 ghost use Rattle.guide_tree.specs.View.{nodes_view};
 ghost use Rattle.loop_match.specs.Steps.{place_view};
 
+use crate::next::Step;
 use guide_tree::{Node, Slot};
-use loop_match::Step;
 
 /// The slot that a place leads to.
 pub fn slot_at<'g>(nodes: &'g [Node], place: &[Step]) -> Option<&'g Slot>

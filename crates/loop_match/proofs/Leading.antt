@@ -1,5 +1,5 @@
 -- The segments of a body, where each has a place that leads to the slot that it is given: placed, they are these with their slots.
-use Rattle.std.proofs.Common.{◌≡◌, ℕ, zero, suc, ◌+◌, ◌<◌, ◌≤◌, List, [], ◌∷◌, ◌++◌, length, map, take, Option, Some, None}
+use Rattle.std.proofs.Common.{◌≡◌, ℕ, zero, suc, ◌<◌, ◌≤◌, List, [], ◌∷◌, ◌++◌, length, map, take, Option, Some, None}
 use Rattle.std.proofs.Common.{refl, sym, ap, ◌∙◌, arith, add-one}
 use Rattle.std.specs.Prelude.{option_map, slice_index_or}
 use Rattle.std.specs.List.{slice_get}
@@ -11,17 +11,11 @@ use Rattle.guide_tree.specs.Segments.{Segment}
 use Rattle.guide_tree.specs.Grammar.{Given}
 use Rattle.guide_tree.specs.Places.{Place, slot_at, slot_given}
 use Rattle.loop_match.specs.LoopIds.{loop_id_of}
-use Rattle.depend_check.specs.Dependencies.{PlacedSegment, placed_by, and_then, first_placed, placed_segments}
-
-abbrev pub as_given : PlacedSegment → Given
-as_given p = (p.segment, p.slot)
+use Rattle.loop_match.specs.PlacedSegments.{PlacedSegment, placed_by, and_then, first_placed, placed_segments, as_given, AreLed}
+use Rattle.loop_match.proofs.Standing.{stood}
 
 abbrev segments_in : List Given → List Segment
 segments_in xs = map (λ (x : Given). x.0) xs
-
--- each segment has a place that leads to the slot that it is given
-abbrev pub AreLed : Trees → List (Option Place) → List Given → Type 0
-AreLed ts given xs = map (slot_given ts) given ≡ map (λ (x : Given). Some x.1) xs
 
 abbrev Leads : Trees → List (Option Place) → ℕ → Slot → Type 0
 Leads ts given n slot = (place : Option Place) × (slice_get given n ≡ Some place) × (slot_given ts place ≡ Some slot)
@@ -47,9 +41,6 @@ leads_there ts given xs n x led there =
     ∙ ap (λ (l : List (Option Slot)). slice_get l n) led
     ∙ slice_get-map (λ (z : Given). Some z.1) xs n
     ∙ ap (option_map (λ (z : Given). Some z.1)) there)
-
-abbrev stood : ℕ → Segment → List ℕ → Slot → PlacedSegment
-stood index s loop_id slot = record { position = index + 2; segment = s; slot = slot; loop_id = loop_id }
 
 next_by : (before : List PlacedSegment) (n : ℕ) (s : Segment) (loop_id : List ℕ) (o : Option Slot) (slot : Slot) → o ≡ Some slot
     → map as_given (and_then before (option_map (stood n s loop_id) o)) ≡ map as_given before ++ (s, slot) ∷ []
