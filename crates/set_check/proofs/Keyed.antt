@@ -21,7 +21,8 @@ use Rattle.guide_tree.specs.declared.rows.DependencyKind.{DependencyKind}
 use Rattle.guide_tree.specs.declared.rows.DependencyKind.TheVariants as kind
 use Rattle.hub_kinds.specs.Rising.{IsKeyedBy}
 use Rattle.hl_check.specs.Hierarchy.{IsFaultAmong, IsHierarchyFault, hls_of}
-use Rattle.depend_check.specs.Dependencies.{IsBroken, IsDependencyFault, PlacedSegment, placed_segments}
+use Rattle.depend_check.specs.Dependencies.{IsBroken, IsDependencyFault}
+use Rattle.loop_match.specs.PlacedSegments.{PlacedSegment, placed_segments}
 use Rattle.guide_tree.specs.Segments.{Segment, id_of, fits, contains_text}
 use Rattle.guide_tree.specs.Places.{Place, slot_at}
 use Rattle.guide_tree.specs.Slots.{IsSound}

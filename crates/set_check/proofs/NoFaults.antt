@@ -17,9 +17,8 @@ use Rattle.elem_rules.specs.ElementFaults.{IsElementFault}
 use Rattle.set_check.specs.SetParts.{SetParts, end_position}
 use Rattle.loop_match.specs.LoopIds.{loop_id_of}
 use Rattle.guide_tree.specs.Faults.{IsWellFormed}
-use Rattle.hl_check.specs.Hierarchy.{IsHierarchyFault, IsHierarchyWhole, hl_segments}
+use Rattle.hl_check.specs.Hierarchy.{IsHierarchyWhole, hl_segments}
 use Rattle.hl_check.proofs.Whole.{hierarchy_whole}
-use Rattle.depend_check.specs.Dependencies.{IsDependencyFault}
 use Rattle.depend_check.specs.Kept.{AreDependenciesKept}
 use Rattle.depend_check.proofs.Whole.{dependencies_kept}
 use Rattle.set_check.specs.SetFaults.{IsSetFault, IsErrorIn, IsRuleFault, told_by}

@@ -1,5 +1,5 @@
 -- Sets of a small notice with a hierarchy and a dependency, worked: which faults stand, and which sets meet the guide.
-use Rattle.std.proofs.Common.{◌≡◌, ℕ, zero, suc, ◌++◌, List, [], ◌∷◌, codes, map, Bool, true, false, Option, Some, None, refl, inl, inr}
+use Rattle.std.proofs.Common.{◌≡◌, ℕ, zero, suc, ◌++◌, List, [], ◌∷◌, codes, map, true, false, Option, Some, None, refl, inl, inr}
 use Rattle.std.proofs.Common.{sym, subst, ap, option_map, IsTrue}
 use Rattle.std.specs.List.{list_any}
 use Rattle.std.proofs.lemmas.Bool.{false≢true}

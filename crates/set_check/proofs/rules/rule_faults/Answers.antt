@@ -1,4 +1,4 @@
-use Rattle.std.proofs.Common.{◌+◌, ◌↔◌, ⊎_elim, inl, inr, length, map, sym, subst, List, ◌++◌, ◌∙◌, ap}
+use Rattle.std.proofs.Common.{◌+◌, ⊎_elim, inl, inr, length, map, sym, subst, List}
 use Rattle.std.specs.List.{Contains}
 use Rattle.std.proofs.lemmas.List.Elements.{Contains-append_left, Contains-append_right, Contains-append_cases}
 use Rattle.hub_kinds.specs.declared.fault.Fault.{Fault}

@@ -1,6 +1,5 @@
-use Rattle.std.proofs.Common.{◌≡◌, ◌∙◌, List, [], rules, sym, subst, not, filter}
+use Rattle.std.proofs.Common.{◌≡◌, rules, not, filter}
 use Rattle.std.proofs.lemmas.Fn.{filter_same}
-use Rattle.hub_kinds.specs.declared.fault.Fault.{Fault}
 use Rattle.set_check.specs.Adding.{has_key_among}
 use Rattle.set_check.proofs.Rising.{put_beside}
 use Rattle.set_check.proofs.rules.with_others.Goals as goal
