@@ -60,7 +60,8 @@ behind a Greater e h = refl
 sorted : (faults : List Fault) → AreRising faults → IsSorted order faults
 sorted faults up k d l m =
     behind (order (get_or faults k d) (get_or faults (k + 1) d)) (order (get_or faults (k + 1) d) (get_or faults k d))
-    (total.antisymm (get_or faults k d) (get_or faults (k + 1) d)) (Less-from_sorted order faults k (k + 1) d up (omega arith) (omega arith))
+    (total.antisymm (get_or faults k d) (get_or faults (k + 1) d))
+    (Less-from_sorted order faults k (k + 1) d up (omega arith) (omega arith))
 
 searchable : (faults : List Fault) (f : Fault) → AreRising faults → IsNonDecreasingBy (λ y. ordering_index (order y f)) faults
 searchable faults f up = searchable_from_sorted nat_list_cmp_total key_of faults (key_of f) (sorted faults up)

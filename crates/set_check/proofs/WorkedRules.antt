@@ -217,6 +217,7 @@ hierarchy_gives_way (inl s) = (in_structure guide twice_wrong sound of_hierarchy
 hierarchy_gives_way (inr (inl e)) =
     other ((in_errors guide twice_wrong sound of_hierarchy).1 e) where
       other : In (of_element ∷ []) of_hierarchy → ⊥
-      other (inl k) = let no : Some (codes "P") ≡ Some (codes "P>") = ap (λ (f : Fault). option_map (λ (e : ElemFault). e.copy) f.elem) k in cc
+      other (inl k) =
+          let no : Some (codes "P") ≡ Some (codes "P>") = ap (λ (f : Fault). option_map (λ (e : ElemFault). e.copy) f.elem) k in cc
       other (inr k) = k
 hierarchy_gives_way (inr (inr r)) = r.1 (of_element, element_at_fault, refl)

@@ -6,7 +6,7 @@ ghost use Rattle.env_index.specs.Spans.{HasSpans, span_of};
 ghost use Rattle.ack_999.specs.Group.{totals_of};
 
 use super::guides::{ORDER, guide_of};
-use super::sets::interchange_of;
+use super::sets::{Cases, expect_same, interchange_of};
 use ack_999::{GroupSupport, GroupTrailer, Totals, group_codes, group_verdict, write_999};
 use env_index::{GroupEnvelope, Interchange, read_interchange};
 use guide_tree::Guide;
@@ -110,7 +110,7 @@ fn acknowledgment<'a>(
 
 /// The acknowledgment of a group with this functional identifier code, whose segments behind GS are these, its sets checked by a
 /// guide.
-pub fn answered(alloc: Global, guide: &Guide, group: &str, body: &str) -> Result<Vec<u8>, Fail> {
+fn answered(alloc: Global, guide: &Guide, group: &str, body: &str) -> Result<Vec<u8>, Fail> {
     let text = interchange_of(alloc, group, body)?;
     if !within_limit(text.len() as u64) {
         return Err("too long".into());
@@ -119,8 +119,28 @@ pub fn answered(alloc: Global, guide: &Guide, group: &str, body: &str) -> Result
     acknowledgment(alloc, text.as_slice(), &interchange, Some(guide))
 }
 
+fn expect_answer(
+    alloc: Global,
+    guide: &Guide,
+    group: &str,
+    body: &str,
+    wanted: &str,
+) -> Result<(), Fail> {
+    let found = answered(alloc, guide, group, body)?;
+    expect_same(alloc, body, found.as_slice(), wanted)
+}
+
+/// Whether the 999 beside each of these groups answers it by a guide.
+pub fn expect_answers(alloc: Global, guide: &str, group: &str, cases: Cases) -> Result<(), Fail> {
+    let guide = guide_of(alloc, guide)?;
+    for (body, wanted) in cases {
+        expect_answer(alloc, &guide, group, body, wanted)?;
+    }
+    Ok(())
+}
+
 /// Sets of an order and the GE behind them, and the 999 that answers them.
-const ORDERS: &[(&str, &str)] = &[
+const ORDERS: Cases = &[
     // clean
     (
         "ST*850*0001~BEG*00*SA*PO100**20260228~PO1*1*5*EA*2.50~SE*4*0001~GE*1*12~",
@@ -175,10 +195,5 @@ const ORDERS: &[(&str, &str)] = &[
 
 #[test]
 fn orders(rt: HostRuntime) -> Result<(), Fail> {
-    let guide = guide_of(rt.alloc(), ORDER)?;
-    for (body, wanted) in ORDERS {
-        let found = answered(rt.alloc(), &guide, "PO", body)?;
-        assert_eq!(rt; found.as_slice(), wanted.as_bytes(), "{body}");
-    }
-    Ok(())
+    expect_answers(rt.alloc(), ORDER, "PO", ORDERS)
 }

@@ -1,10 +1,11 @@
 //! Sets with elements in error.
 use super::guides::{NOTICE, ORDER, guide_of};
-use super::sets::told_by;
+use super::sets::{Cases, expect, expect_told};
+use std::alloc::Global;
 use std::test::Fail;
 
 /// Sets of an order, and what is found in each.
-const ORDERS: &[(&str, &str)] = &[
+const ORDERS: Cases = &[
     // a code that isn't used, a day and a time that don't exist, a condition; no number may have a sign in its length
     (
         "ST*850*0001~BEG*01*SA*P1**20260229~REF*DP*7~DTM*002**2460~PO1*1*-0012.5*EA***UP~SE*6*0001~",
@@ -33,16 +34,11 @@ const ORDERS: &[(&str, &str)] = &[
 
 #[test]
 fn orders(rt: HostRuntime) -> Result<(), Fail> {
-    let guide = guide_of(rt.alloc(), ORDER)?;
-    for (sets, wanted) in ORDERS {
-        let found = told_by(rt.alloc(), &guide, sets)?;
-        assert_eq!(rt; found.as_slice(), wanted.as_bytes(), "{sets}");
-    }
-    Ok(())
+    expect(rt.alloc(), ORDER, ORDERS)
 }
 
 /// A notice whose N4 has a composite, which may be repeated once, and what is found in it.
-const PLACES: &[(&str, &str)] = &[
+const PLACES: Cases = &[
     ("NY>AB^X", " clean\n"),
     (
         "NY>A>C^>AB^Z",
@@ -50,15 +46,19 @@ const PLACES: &[(&str, &str)] = &[
     ),
 ];
 
-#[test]
-fn components(rt: HostRuntime) -> Result<(), Fail> {
-    let guide = guide_of(rt.alloc(), NOTICE)?;
-    for (place, wanted) in PLACES {
-        let set = format!(in rt.alloc();
+/// Whether just this is found in a notice with each of these places.
+fn expect_places(alloc: Global, cases: Cases) -> Result<(), Fail> {
+    let guide = guide_of(alloc, NOTICE)?;
+    for (place, wanted) in cases {
+        let set = format!(in alloc;
             "ST*856*0001~BSN*00~HL*1~REF*IA*X~REF*IA*Y~N1*ST~N4*{place}~SE*8*0001~"
         )?;
-        let found = told_by(rt.alloc(), &guide, set.as_str())?;
-        assert_eq!(rt; found.as_slice(), wanted.as_bytes(), "{place}");
+        expect_told(alloc, Some(&guide), set.as_str(), wanted)?;
     }
     Ok(())
+}
+
+#[test]
+fn components(rt: HostRuntime) -> Result<(), Fail> {
+    expect_places(rt.alloc(), PLACES)
 }

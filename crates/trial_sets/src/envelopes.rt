@@ -1,6 +1,7 @@
 //! Sets whose header and trailer are in error, and sets without a guide.
 use super::guides::{NOTICE, ORDER, guide_of};
-use super::sets::{told_alone, told_by};
+use super::sets::{Cases, expect, expect_told};
+use std::alloc::Global;
 use std::test::Fail;
 
 /// What stands before a clean body and behind it, and what is found.
@@ -27,19 +28,23 @@ const ORDERS: &[(&str, &str, &str)] = &[
     ("ST*850*0001**X", "SE*4*0001*X~", " clean\n"),
 ];
 
-#[test]
-fn envelopes(rt: HostRuntime) -> Result<(), Fail> {
-    let guide = guide_of(rt.alloc(), ORDER)?;
-    for (header, trailer, wanted) in ORDERS {
-        let set = format!(in rt.alloc(); "{header}~BEG*00*SA*P1**20260228~PO1*1*5*EA~{trailer}")?;
-        let found = told_by(rt.alloc(), &guide, set.as_str())?;
-        assert_eq!(rt; found.as_slice(), wanted.as_bytes(), "{set}");
+/// Whether just this is found in an order between each of these.
+fn expect_envelopes(alloc: Global, cases: &[(&str, &str, &str)]) -> Result<(), Fail> {
+    let guide = guide_of(alloc, ORDER)?;
+    for (header, trailer, wanted) in cases {
+        let set = format!(in alloc; "{header}~BEG*00*SA*P1**20260228~PO1*1*5*EA~{trailer}")?;
+        expect_told(alloc, Some(&guide), set.as_str(), wanted)?;
     }
     Ok(())
 }
 
+#[test]
+fn envelopes(rt: HostRuntime) -> Result<(), Fail> {
+    expect_envelopes(rt.alloc(), ORDERS)
+}
+
 /// ST03 of a notice under a convention, and what is found.
-const CONVENTIONS: &[(&str, &str)] = &[
+const CONVENTIONS: Cases = &[
     ("", " clean\n"),
     ("*", " clean\n"),
     ("*HUB1", " clean\n"),
@@ -47,21 +52,25 @@ const CONVENTIONS: &[(&str, &str)] = &[
     ("*HUB", " I6\n"),
 ];
 
-#[test]
-fn conventions(rt: HostRuntime) -> Result<(), Fail> {
-    let guide = guide_of(rt.alloc(), NOTICE)?;
-    for (convention, wanted) in CONVENTIONS {
-        let set = format!(in rt.alloc();
+/// Whether just this is found in a notice with each of these.
+fn expect_conventions(alloc: Global, cases: Cases) -> Result<(), Fail> {
+    let guide = guide_of(alloc, NOTICE)?;
+    for (convention, wanted) in cases {
+        let set = format!(in alloc;
             "ST*856*0001{convention}~BSN*00~HL*1~REF*IA*X~REF*IA*Y~SE*6*0001~"
         )?;
-        let found = told_by(rt.alloc(), &guide, set.as_str())?;
-        assert_eq!(rt; found.as_slice(), wanted.as_bytes(), "{convention}");
+        expect_told(alloc, Some(&guide), set.as_str(), wanted)?;
     }
     Ok(())
 }
 
+#[test]
+fn conventions(rt: HostRuntime) -> Result<(), Fail> {
+    expect_conventions(rt.alloc(), CONVENTIONS)
+}
+
 /// Sets of one group, one behind the other, and what is found in each.
-const GROUPS: &[(&str, &str)] = &[
+const GROUPS: Cases = &[
     // an open set ends before the next one; whether a number was seen before isn't asked
     (
         "ST*850*0001~BEG*00*SA*P1**20260228~PO1*1*5*EA~ST*850*0001~BEG*00*SA*P1**20260228~PO1*1*5*EA~SE*4*0001~",
@@ -76,16 +85,11 @@ const GROUPS: &[(&str, &str)] = &[
 
 #[test]
 fn groups(rt: HostRuntime) -> Result<(), Fail> {
-    let guide = guide_of(rt.alloc(), ORDER)?;
-    for (sets, wanted) in GROUPS {
-        let found = told_by(rt.alloc(), &guide, sets)?;
-        assert_eq!(rt; found.as_slice(), wanted.as_bytes(), "{sets}");
-    }
-    Ok(())
+    expect(rt.alloc(), ORDER, GROUPS)
 }
 
 /// Sets without a guide, and what is found: no segment is looked at.
-const ALONE: &[(&str, &str)] = &[
+const ALONE: Cases = &[
     (
         "ST*860*0001~BEG*00*SA*P1**20260228~PO1*1*5*EA~SE*4*0001~",
         " 1\n",
@@ -95,11 +99,14 @@ const ALONE: &[(&str, &str)] = &[
     ("ST*860*001~QQ~SE*9*0001~", " 1 3 4 7\n"),
 ];
 
-#[test]
-fn sets_without_a_guide(rt: HostRuntime) -> Result<(), Fail> {
-    for (sets, wanted) in ALONE {
-        let found = told_alone(rt.alloc(), sets)?;
-        assert_eq!(rt; found.as_slice(), wanted.as_bytes(), "{sets}");
+fn expect_alone(alloc: Global, cases: Cases) -> Result<(), Fail> {
+    for (sets, wanted) in cases {
+        expect_told(alloc, None, sets, wanted)?;
     }
     Ok(())
+}
+
+#[test]
+fn sets_without_a_guide(rt: HostRuntime) -> Result<(), Fail> {
+    expect_alone(rt.alloc(), ALONE)
 }

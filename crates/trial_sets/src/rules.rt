@@ -1,7 +1,8 @@
 //! Sets with hierarchies and dependencies.
-use super::answers::answered;
+use super::answers::expect_answers;
 use super::guides::{SHIPMENT, guide_of};
-use super::sets::told_by;
+use super::sets::{Cases, expect_told};
+use std::alloc::Global;
 use std::test::Fail;
 
 /// What stands behind BSN in a shipment, its SE01, and what is found.
@@ -55,52 +56,57 @@ const SHIPMENTS: &[(&str, &str, &str)] = &[
     ),
 ];
 
-#[test]
-fn shipments(rt: HostRuntime) -> Result<(), Fail> {
-    let guide = guide_of(rt.alloc(), SHIPMENT)?;
-    for (body, count, wanted) in SHIPMENTS {
-        let set = format!(in rt.alloc();
-            "ST*856*0001~BSN*00*SH1*20260228*0900~{body}SE*{count}*0001~"
-        )?;
-        let found = told_by(rt.alloc(), &guide, set.as_str())?;
-        assert_eq!(rt; found.as_slice(), wanted.as_bytes(), "{body}");
+/// Whether just this is found in a shipment with each of these behind its BSN.
+fn expect_shipments(alloc: Global, cases: &[(&str, &str, &str)]) -> Result<(), Fail> {
+    let guide = guide_of(alloc, SHIPMENT)?;
+    for (body, count, wanted) in cases {
+        let set = format!(in alloc; "ST*856*0001~BSN*00*SH1*20260228*0900~{body}SE*{count}*0001~")?;
+        expect_told(alloc, Some(&guide), set.as_str(), wanted)?;
     }
     Ok(())
 }
 
-/// Whether the guide tolerates that a slot is needed or banned, a shipment and the GE behind it, and the 999 that answers it.
-const ANSWERS: &[(bool, &str, &str)] = &[
+#[test]
+fn shipments(rt: HostRuntime) -> Result<(), Fail> {
+    expect_shipments(rt.alloc(), SHIPMENTS)
+}
+
+/// Shipments and the GE behind them, and the 999 that answers them.
+const ANSWERS: Cases = &[
     (
-        false,
         "ST*856*0001~BSN*00*SH1*20260228*0900~HL*1**S*0~HL*2*3*O~HL*3*1*I~SE*6*0001~GE*1*12~",
         "ST*999*0001*005010X231~AK1*SH*12*005010~AK2*856*0001~IK3*HL*3*HL*8~IK4*4*736*I12*0~IK3*HL*4*HL*8~IK4*2*734*I12*3~\
           IK3*HL*5*HL*8~IK4*3*735*I6*I~IK5*R*I5~AK9*R*1*1*0~SE*12*0001~",
     ),
     (
-        false,
         "ST*856*0001~BSN*00*SH1*20260228*0900~HL*1**S~HL*2*1*O~HL*3*2*P~SE*6*0001~GE*1*12~",
         "ST*999*0001*005010X231~AK1*SH*12*005010~AK2*856*0001~IK3*MAN*6*HL*I6~IK5*R*I5~AK9*R*1*1*0~SE*7*0001~",
-    ),
-    (
-        true,
-        "ST*856*0001~BSN*00*SH1*20260228*0900~HL*1**S~HL*2*1*O~HL*3*2*P~SE*6*0001~GE*1*12~",
-        "ST*999*0001*005010X231~AK1*SH*12*005010~AK2*856*0001~IK3*MAN*6*HL*I6~IK5*E*I5~AK9*E*1*1*1~SE*7*0001~",
-    ),
-    (
-        true,
-        "ST*856*0001~BSN*00*SH1*20260228*0900~HL*1**S~MAN*AA*1~LX*1~SE*6*0001~GE*1*12~",
-        "ST*999*0001*005010X231~AK1*SH*12*005010~AK2*856*0001~IK3*LX*5*LX*I9~IK5*E*I5~AK9*E*1*1*1~SE*7*0001~",
     ),
 ];
 
 #[test]
 fn answers(rt: HostRuntime) -> Result<(), Fail> {
-    for (tolerant, body, wanted) in ANSWERS {
-        let tolerated = if *tolerant { "\"I6\", \"I9\"" } else { "" };
-        let text = format!(in rt.alloc(); "tolerate_segment = [{tolerated}]\n{}", SHIPMENT)?;
-        let guide = guide_of(rt.alloc(), text.as_str())?;
-        let found = answered(rt.alloc(), &guide, "SH", body)?;
-        assert_eq!(rt; found.as_slice(), wanted.as_bytes(), "{body}");
-    }
-    Ok(())
+    expect_answers(rt.alloc(), SHIPMENT, "SH", ANSWERS)
+}
+
+/// The same by a guide that tolerates that a slot is needed, or banned.
+const TOLERATED: Cases = &[
+    (
+        "ST*856*0001~BSN*00*SH1*20260228*0900~HL*1**S~HL*2*1*O~HL*3*2*P~SE*6*0001~GE*1*12~",
+        "ST*999*0001*005010X231~AK1*SH*12*005010~AK2*856*0001~IK3*MAN*6*HL*I6~IK5*E*I5~AK9*E*1*1*1~SE*7*0001~",
+    ),
+    (
+        "ST*856*0001~BSN*00*SH1*20260228*0900~HL*1**S~MAN*AA*1~LX*1~SE*6*0001~GE*1*12~",
+        "ST*999*0001*005010X231~AK1*SH*12*005010~AK2*856*0001~IK3*LX*5*LX*I9~IK5*E*I5~AK9*E*1*1*1~SE*7*0001~",
+    ),
+];
+
+fn expect_tolerated(alloc: Global, cases: Cases) -> Result<(), Fail> {
+    let guide = format!(in alloc; "tolerate_segment = [\"I6\", \"I9\"]\n{}", SHIPMENT)?;
+    expect_answers(alloc, guide.as_str(), "SH", cases)
+}
+
+#[test]
+fn tolerated(rt: HostRuntime) -> Result<(), Fail> {
+    expect_tolerated(rt.alloc(), TOLERATED)
 }

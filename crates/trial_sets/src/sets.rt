@@ -3,6 +3,7 @@ ghost use Rattle.std.specs.List.{All};
 ghost use Rattle.x12_segs.specs.Spans.{IsSetSpan};
 ghost use Rattle.env_index.specs.Spans.{HasSpans, span_of};
 
+use super::guides::guide_of;
 use env_index::{GroupEnvelope, Interchange, read_interchange};
 use guide_tree::Guide;
 use hub_kinds::{ElemFault, Fault, SetCode, code_text, within_limit};
@@ -135,12 +136,34 @@ fn told(alloc: Global, guide: Option<&Guide>, sets: &str) -> Result<Vec<u8>, Fai
     Ok(out)
 }
 
-/// What is found in each of these sets by a guide.
-pub fn told_by(alloc: Global, guide: &Guide, sets: &str) -> Result<Vec<u8>, Fail> {
-    told(alloc, Some(guide), sets)
+/// Text, beside what is made of it.
+pub type Cases = &'static [(&'static str, &'static str)];
+
+/// Whether what was made of a text is what is wanted.
+pub fn expect_same(alloc: Global, text: &str, found: &[u8], wanted: &str) -> Result<(), Fail> {
+    if found == wanted.as_bytes() {
+        return Ok(());
+    }
+    let found = String::from_utf8_lossy(alloc, found)?;
+    Err(Fail::new(format!(in alloc; "{text} gives {found}")?))
 }
 
-/// What is found in each of these sets without a guide.
-pub fn told_alone(alloc: Global, sets: &str) -> Result<Vec<u8>, Fail> {
-    told(alloc, None, sets)
+/// Whether just this is found in each of these sets of one group by a guide, or without one.
+pub fn expect_told(
+    alloc: Global,
+    guide: Option<&Guide>,
+    sets: &str,
+    wanted: &str,
+) -> Result<(), Fail> {
+    let found = told(alloc, guide, sets)?;
+    expect_same(alloc, sets, found.as_slice(), wanted)
+}
+
+/// Whether what stands beside each of these groups of sets is found in it by a guide.
+pub fn expect(alloc: Global, guide: &str, cases: Cases) -> Result<(), Fail> {
+    let guide = guide_of(alloc, guide)?;
+    for (sets, wanted) in cases {
+        expect_told(alloc, Some(&guide), sets, wanted)?;
+    }
+    Ok(())
 }

@@ -1,10 +1,10 @@
 //! Sets whose structure is wrong, and strays.
-use super::guides::{NOTICE, ORDER, guide_of};
-use super::sets::told_by;
+use super::guides::{NOTICE, ORDER};
+use super::sets::{Cases, expect};
 use std::test::Fail;
 
 /// Sets of an order, and what is found in each.
-const ORDERS: &[(&str, &str)] = &[
+const ORDERS: Cases = &[
     // clean, with and without what may be left out
     (
         "ST*850*0001~BEG*00*SA*PO100**20260228~PO1*1*5*EA*2.50~SE*4*0001~",
@@ -45,16 +45,11 @@ const ORDERS: &[(&str, &str)] = &[
 
 #[test]
 fn orders(rt: HostRuntime) -> Result<(), Fail> {
-    let guide = guide_of(rt.alloc(), ORDER)?;
-    for (sets, wanted) in ORDERS {
-        let found = told_by(rt.alloc(), &guide, sets)?;
-        assert_eq!(rt; found.as_slice(), wanted.as_bytes(), "{sets}");
-    }
-    Ok(())
+    expect(rt.alloc(), ORDER, ORDERS)
 }
 
 /// Sets of a notice, and what is found in each.
-const NOTICES: &[(&str, &str)] = &[
+const NOTICES: Cases = &[
     (
         "ST*856*0001~BSN*00~HL*1~REF*IA*X~REF*IA*Y~CTT*1~SE*7*0001~",
         " clean\n",
@@ -88,10 +83,5 @@ const NOTICES: &[(&str, &str)] = &[
 
 #[test]
 fn notices(rt: HostRuntime) -> Result<(), Fail> {
-    let guide = guide_of(rt.alloc(), NOTICE)?;
-    for (sets, wanted) in NOTICES {
-        let found = told_by(rt.alloc(), &guide, sets)?;
-        assert_eq!(rt; found.as_slice(), wanted.as_bytes(), "{sets}");
-    }
-    Ok(())
+    expect(rt.alloc(), NOTICE, NOTICES)
 }

@@ -18,8 +18,8 @@ add_elements-requires-clause-sound c =
 pub add_elements-requires-clause-slots : goal.add_elements-requires-clause-slots
 add_elements-requires-clause-slots c =
     let nodes = c.as_slice.ensures.value ∙ ap (λ (r : GuideRows). r.nodes.items) c.rows-rows.ensures.same in
-    subst (λ (ns : List Node). map slot_in c.args.placing.now.given ≡ map (slot_given (nodes_view ns)) (map place_in c.args.placing.now.given))
-    (sym nodes) c.requires
+    let given = c.args.placing.now.given in
+    subst (λ (ns : List Node). map slot_in given ≡ map (slot_given (nodes_view ns)) (map place_in given)) (sym nodes) c.requires
 
 pub returns-clause-errors : goal.returns-clause-errors
 returns-clause-errors c =
