@@ -1,5 +1,5 @@
 -- Two faults of dependencies that have one place in the order of faults are one.
-use Rattle.std.proofs.Common.{◌≡◌, ◌⊎◌, inl, inr, ℕ, zero, suc, ◌<◌, List, [], Option, Some, None, get_or}
+use Rattle.std.proofs.Common.{◌≡◌, ◌↔◌, ◌⊎◌, inl, inr, ℕ, zero, suc, ◌<◌, List, [], Option, Some, None, get_or}
 use Rattle.std.proofs.Common.{refl, sym, ap, subst, ◌∙◌, arith}
 use Rattle.std.specs.List.{Contains}
 use Rattle.std.specs.List.Sorted.{IsStrictlySortedBy}
@@ -19,8 +19,7 @@ use Rattle.guide_tree.specs.Places.{Place}
 use Rattle.loop_match.specs.PlacedSegments.{PlacedSegment, placed_segments}
 use Rattle.loop_match.proofs.Standing.{one_placed}
 use Rattle.depend_check.specs.Dependencies.{Seat, seat_of, unused_fault, use_fault, element_fault, IsBroken}
-use Rattle.depend_check.specs.Found.{found_faults}
-use Rattle.depend_check.proofs.Members.{IsFound, members}
+use Rattle.depend_check.specs.Uses.{IsFound}
 use Rattle.depend_check.proofs.Seats.{one_seat}
 
 -- what is told of a use
@@ -134,14 +133,12 @@ same_fault ts us body given end f g n (inr a) (inr b) h = same_use ts body given
 
 -- what is found has one fault for each key, where the nodes are numbered
 pub keyed : (ts us : Trees) (d : Delims) (end : ℕ) (body : List Segment) (given : List (Option Place)) (depends : List Dependency)
-    (faults : List Fault) → ts ≡ numbered 1 us → faults ≡ found_faults ts d end (placed_segments ts body given) depends
-    → IsKeyedBy key_of faults
+    (faults : List Fault) → ts ≡ numbered 1 us
+    → ((f : Fault) → Contains faults f ↔ IsFound ts d end (placed_segments ts body given) depends f) → IsKeyedBy key_of faults
 keyed ts us d end body given depends faults n found f g a b h =
     let placed = placed_segments ts body given in
-    let is : (x : Fault) → Contains faults x → IsFound ts d end placed depends x =
-    λ x c. (members ts d end placed depends x).0 (subst (λ (l : List Fault). Contains l x) found c) in
-    let x = is f a in
-    let y = is g b in
+    let x = (found f).0 a in
+    let y = (found g).0 b in
     same_fault ts us body given end f g n
     (shape ts d end placed x.dependency.target x.dependency.kind x.dependency.element f x.broken)
     (shape ts d end placed y.dependency.target y.dependency.kind y.dependency.element g y.broken) h

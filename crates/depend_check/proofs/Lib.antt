@@ -1,5 +1,8 @@
 mod Lists
+mod Grouping
+mod Knowing
 mod Members
+mod Asking
 mod Seats
 mod Keyed
 pub mod Whole

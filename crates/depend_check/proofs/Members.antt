@@ -23,6 +23,7 @@ use Rattle.depend_check.specs.Dependencies.{Seat, is_use, is_triggered, has_elem
 use Rattle.depend_check.specs.Dependencies.{use_fault, element_fault}
 use Rattle.depend_check.specs.Found.{is_broken_by, told_of, faults_of_use, is_left_out, faults_of_slot, faults_of_target, faults_of}
 use Rattle.depend_check.specs.Found.{found_faults}
+use Rattle.depend_check.specs.Uses.{IsFound}
 
 left_of : (a b : Bool) → (a && b) ≡ true → a ≡ true
 left_of true b h = refl
@@ -93,7 +94,7 @@ from_slot ts d end placed label k e f h =
       | inr w ↦ absurd (no_member f w.1)
     ]
 
-from_target : (ts : Trees) (d : Delims) (end : ℕ) (placed : List PlacedSegment) (label : List ℕ) (k : DependencyKind) (e : ℕ)
+pub from_target : (ts : Trees) (d : Delims) (end : ℕ) (placed : List PlacedSegment) (label : List ℕ) (k : DependencyKind) (e : ℕ)
     (f : Fault) → Contains (faults_of_target ts d end placed label k e) f → IsBroken ts d end placed label k e f
 from_target ts d end placed label k e f h =
     elim (Contains-append_cases (faults_of_slot ts end placed label k e) (flat_map (faults_of_use d label k e) placed) f h) [
@@ -119,7 +120,7 @@ in_slot ts d end placed label k e seat f b s is =
     (in_option (told_at end) (seat_of ts label) seat f s
     (subst (Contains (told_at end seat)) (sym is) (one_contains (unused_fault end seat)))))
 
-in_target : (ts : Trees) (d : Delims) (end : ℕ) (placed : List PlacedSegment) (label : List ℕ) (k : DependencyKind) (e : ℕ)
+pub in_target : (ts : Trees) (d : Delims) (end : ℕ) (placed : List PlacedSegment) (label : List ℕ) (k : DependencyKind) (e : ℕ)
     (f : Fault) → IsBroken ts d end placed label k e f → Contains (faults_of_target ts d end placed label k e) f
 in_target ts d end placed label kind.Need zero f r =
     in_slot ts d end placed label kind.Need 0 r.0 f (not_from_false (list_any (is_use label) placed) r.2) r.1 r.3
@@ -131,14 +132,6 @@ in_target ts d end placed label kind.Ban (suc e) f r =
     in_uses ts d end placed label kind.Ban (suc e) r.0 f r.1.listed r.1.used
     (subst (λ (z : Bool). (z || has_element d r.0 (suc e)) ≡ true) (sym (never e)) r.1.has)
     (subst (λ (z : Bool). f ≡ banned z (suc e) r.0) (sym (never e)) r.2)
-
--- a dependency that is triggered, and broken
-pub record IsFound (ts : Trees) (d : Delims) (end : ℕ) (placed : List PlacedSegment) (depends : List Dependency) (f : Fault)
-    : Type 0 where
-  pub dependency : Dependency
-  pub listed : Contains depends dependency
-  pub triggered : is_triggered dependency placed ≡ true
-  pub broken : IsBroken ts d end placed dependency.target dependency.kind dependency.element f
 
 from_found : (ts : Trees) (d : Delims) (end : ℕ) (placed : List PlacedSegment) (depends : List Dependency) (f : Fault)
     → Contains (found_faults ts d end placed depends) f → IsFound ts d end placed depends f

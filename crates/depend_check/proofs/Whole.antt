@@ -1,15 +1,13 @@
 -- No fault of a dependency is told of the segments of a body that all have places exactly where the dependencies are kept.
-use Rattle.std.proofs.Common.{◌≡◌, ◌↔◌, inl, inr, ℕ, zero, suc, Bool, true, false, ◌||◌, ◌==◌, List, [], ◌∷◌, length, map}
-use Rattle.std.proofs.Common.{refl, sym, ap, subst, ◌∙◌, arith, true≢false, Option, Some, None, if◌then◌else◌}
+use Rattle.std.proofs.Common.{◌≡◌, ◌↔◌, inl, ℕ, zero, suc, Bool, true, false, ◌||◌, ◌==◌, List, [], map}
+use Rattle.std.proofs.Common.{refl, sym, ap, subst, ◌∙◌, true≢false, Option, Some, None, if◌then◌else◌}
 use Rattle.std.specs.Prelude.{IsTrue, option_map}
 use Rattle.std.specs.List.{Contains, list_any, list_all}
 use Rattle.std.specs.Option.{option_map_or}
 use Rattle.std.proofs.lemmas.Bool.{and_parts, false_from_ne_true}
-use Rattle.std.proofs.lemmas.List.{length-map}
-use Rattle.std.proofs.lemmas.List.Elements.{All-contains, Contains-append_left, Contains-append_right, Contains-append_cases}
-use Rattle.std.proofs.lemmas.List.Folds.{Any-from_list_any, list_any_at}
+use Rattle.std.proofs.lemmas.List.Elements.{All-contains}
+use Rattle.std.proofs.lemmas.List.Folds.{Any-from_list_any}
 use Rattle.std.proofs.lemmas.List.Sums.{AllPass-from_list_all}
-use Rattle.std.proofs.lemmas.List as texts
 use Rattle.x12_bytes.specs.declared.delims.Delims.{Delims}
 use Rattle.hub_kinds.specs.declared.codes.SegmentCode.TheVariants as ik304
 use Rattle.hub_kinds.specs.declared.codes.ElementCode.TheVariants as ik403
@@ -25,13 +23,12 @@ use Rattle.guide_tree.specs.Faults.{IsWellFormed}
 use Rattle.guide_tree.specs.Grammar.{Given}
 use Rattle.guide_tree.specs.Places.{Place, slot_given}
 use Rattle.guide_tree.specs.Segments.{Segment, element_of}
-use Rattle.elem_rules.proofs.Members.{no_member, contains_one, one_contains}
 use Rattle.loop_match.specs.PlacedSegments.{PlacedSegment, placed_segments, as_given}
 use Rattle.loop_match.proofs.Leading.{placed_given}
 use Rattle.depend_check.specs.Dependencies.{is_use, is_trigger, Seat, seat_in, seat_among}
 use Rattle.depend_check.specs.Dependencies.{seat_of, unused_fault, use_fault, element_fault, IsBroken, IsDependencyFault}
 use Rattle.depend_check.specs.Kept.{stands_at, fills, triggers, IsTargetKept, AreDependenciesKept}
-use Rattle.depend_check.proofs.Lists.{any_view}
+use Rattle.depend_check.proofs.Lists.{any_view, any_with, from_map, in_map}
 
 abbrev slot_of : Option Seat → Option Slot
 slot_of o = option_map (λ (x : Seat). x.slot) o
@@ -84,18 +81,6 @@ seated g d well c =
     (and_parts (option_map_or (λ s. has_row s d.at) (labelled g.nodes d.slot) false) _ own).1 in
     seated_by g.nodes d.target (seat_of g.nodes d.target) target.0 refl (same_among [] d.target g.nodes ∙ target.1)
 
-from_given : (ps : List PlacedSegment) (x : Given) → Contains (map as_given ps) x → (p : PlacedSegment) × Contains ps p × (as_given p ≡ x)
-from_given [] x c = absurd (no_member x c)
-from_given (p ∷ ps) x c = elim (Contains-append_cases (as_given p ∷ []) (map as_given ps) x c) [
-  | inl e ↦ (p, Contains-append_left (p ∷ []) ps p (one_contains p), sym (contains_one (as_given p) x e))
-  | inr e ↦ let r = from_given ps x e in (r.0, Contains-append_right (p ∷ []) ps r.0 r.1, r.2)
-]
-
-in_given : (ps : List PlacedSegment) (p : PlacedSegment) → Contains ps p → Contains (map as_given ps) (as_given p)
-in_given ps p (k, l, e) =
-    let n : length (map as_given ps) ≡ length ps = length-map ps as_given in
-    (k, omega arith, texts.get_or-map as_given ps k p (as_given p) l ∙ ap as_given e)
-
 used_given : (label : List ℕ) (ps : List PlacedSegment) → list_any (is_use label) ps ≡ list_any (stands_at label) (map as_given ps)
 used_given label ps = any_view (stands_at label) as_given ps
 
@@ -110,7 +95,7 @@ target_kept ts d end ps label kind.Ban zero seat none =
     (λ h. let a = Any-from_list_any (is_use label) ps (used_given label ps ∙ h) in
     none (use_fault a.1 ik304.DependentNotUsedPresent None) (a.1, (a.0, a.2, a.3), a.4, refl))
 target_kept ts d end ps label kind.Need (suc e) seat none = λ x c u.
-    let r = from_given ps x c in
+    let r = from_map as_given ps x c in
     true_unless (fills d (suc e) x) (λ h. none (element_fault r.0 (suc e) ik403.DependentMissing []) (
       r.0,
       record {
@@ -121,7 +106,7 @@ target_kept ts d end ps label kind.Need (suc e) seat none = λ x c u.
       refl,
     ))
 target_kept ts d end ps label kind.Ban (suc e) seat none = λ x c u.
-    let r = from_given ps x c in
+    let r = from_map as_given ps x c in
     false_from_ne_true (fills d (suc e) x)
     (λ h. none (element_fault r.0 (suc e) ik403.DependentNotUsedPresent (element_of r.0.segment (suc e))) (
       r.0,
@@ -138,11 +123,11 @@ nothing_told : (ts : Trees) (d : Delims) (end : ℕ) (ps : List PlacedSegment) (
     → IsTargetKept d (map as_given ps) label k e → IsBroken ts d end ps label k e f → ⊥
 nothing_told ts d end ps label kind.Need zero f kept r = true≢false (sym kept ∙ sym (used_given label ps) ∙ r.2)
 nothing_told ts d end ps label kind.Ban zero f kept (p, c, u, is) =
-    true≢false (sym (list_any_at (is_use label) ps c.0 p c.1 (ap (is_use label) c.2 ∙ u)) ∙ used_given label ps ∙ kept)
+    true≢false (sym (any_with (is_use label) ps p c u) ∙ used_given label ps ∙ kept)
 nothing_told ts d end ps label kind.Need (suc e) f kept (p, r, is) =
-    true≢false (sym (kept (as_given p) (in_given ps p r.listed) r.used) ∙ r.has)
+    true≢false (sym (kept (as_given p) (in_map as_given ps p r.listed) r.used) ∙ r.has)
 nothing_told ts d end ps label kind.Ban (suc e) f kept (p, r, is) =
-    true≢false (sym r.has ∙ kept (as_given p) (in_given ps p r.listed) r.used)
+    true≢false (sym r.has ∙ kept (as_given p) (in_map as_given ps p r.listed) r.used)
 
 triggered_given : (d : Dependency) (ps : List PlacedSegment) → list_any (is_trigger d) ps ≡ list_any (triggers d) (map as_given ps)
 triggered_given d ps = any_view (triggers d) as_given ps

@@ -2,3 +2,4 @@ pub mod Dependencies
 pub mod Kept
 pub mod Viewed
 pub mod Found
+pub mod Uses

@@ -9,78 +9,18 @@ ghost use Rattle.guide_tree.specs.View.{guide_of, nodes_view};
 ghost use Rattle.loop_match.specs.Given.{place_in};
 ghost use Rattle.loop_match.specs.PlacedSegments.{placed_segments};
 ghost use Rattle.depend_check.specs.Dependencies.{IsDependencyFault};
-ghost use Rattle.depend_check.specs.Found.{faults_of_slot, faults_of, found_faults};
-ghost use Rattle.loop_match.specs.Viewed.{placed_views};
+ghost use Rattle.depend_check.specs.Uses.{IsFound};
 
-use crate::fault::unused_fault;
-use crate::seat::seat_among;
-use crate::uses::{add_uses, is_left_out, is_triggered};
+use crate::asked::find_faults;
+use crate::groups::sort_by_label;
 use guide_tree::{Dependency, Guide, GuideRows, Node};
 use hub_kinds::{Fault, NoMemory, in_order};
-use loop_match::{PlacedSeg, Placing, placed_segments};
+use loop_match::{Placing, placed_segments};
 use std::alloc::Global;
 use x12_bytes::Delims;
 use x12_segs::SegView;
 
-/// Adds what is told of a target that is needed and has no use.
-fn add_left_out(
-    alloc: Global,
-    faults: &mut Vec<Fault>,
-    nodes: &[Node],
-    end: u64,
-    placed: &[PlacedSeg],
-    dependency: &Dependency,
-) -> Result<(), NoMemory>
-    ensures { OnOk result (faults.new.items ≡ faults.old.items ++ faults_of_slot (nodes_view nodes.now) end (placed_views placed.now)
-        dependency.now.target dependency.now.kind dependency.now.element) }
-{
-    if is_left_out(dependency, placed) {
-        if let Some(seat) = seat_among(b"", nodes, dependency.target.as_slice()) {
-            faults.push(unused_fault(alloc, end, &seat)?)?;
-        }
-    }
-    Ok(())
-}
-
-/// Adds what is wrong by a dependency.
-fn add_dependency(
-    alloc: Global,
-    faults: &mut Vec<Fault>,
-    nodes: &[Node],
-    delims: Delims,
-    end: u64,
-    placed: &[PlacedSeg],
-    dependency: &Dependency,
-) -> Result<(), NoMemory>
-    ensures { OnOk result (faults.new.items
-        ≡ faults.old.items ++ faults_of (nodes_view nodes.now) delims end (placed_views placed.now) dependency.now) }
-{
-    if is_triggered(dependency, placed) {
-        add_left_out(alloc, faults, nodes, end, placed, dependency)?;
-        add_uses(alloc, faults, delims, dependency, placed)?;
-    }
-    Ok(())
-}
-
-/// What is wrong by these dependencies, one by one.
-fn find_faults(
-    alloc: Global,
-    nodes: &[Node],
-    delims: Delims,
-    end: u64,
-    placed: &[PlacedSeg],
-    depends: &[Dependency],
-) -> Result<Vec<Fault>, NoMemory>
-    ensures { IfOk result (λ v. v.items ≡ found_faults (nodes_view nodes.now) delims end (placed_views placed.now) depends.now) }
-{
-    let mut faults = Vec::new(alloc);
-    for i in 0..depends.len() {
-        add_dependency(alloc, &mut faults, nodes, delims, end, placed, &depends[i])?;
-    }
-    Ok(faults)
-}
-
-/// The same of a body whose segments have these places.
+/// What is wrong by these dependencies with a body whose segments have these places.
 fn find_in_body(
     alloc: Global,
     segs: &[SegView],
@@ -89,10 +29,11 @@ fn find_in_body(
     delims: Delims,
     depends: &[Dependency],
 ) -> Result<Vec<Fault>, NoMemory>
-    ensures { IfOk result (λ v. v.items ≡ found_faults (nodes_view nodes.now) delims (length segs.now + 2)
-        (placed_segments (nodes_view nodes.now) (map elements_of segs.now) (map place_in placing.now.given)) depends.now) }
+    ensures { IfOk result (λ v. (f : Fault) → Contains v.items f ↔ IsFound (nodes_view nodes.now) delims (length segs.now + 2)
+        (placed_segments (nodes_view nodes.now) (map elements_of segs.now) (map place_in placing.now.given)) depends.now f) }
 {
-    let placed = placed_segments(alloc, segs, placing, nodes)?;
+    let mut placed = placed_segments(alloc, segs, placing, nodes)?;
+    sort_by_label(&mut placed);
     let end = segs.len() as u64 + 2;
     find_faults(alloc, nodes, delims, end, placed.as_slice(), depends)
 }

@@ -9,15 +9,21 @@
 //! accepted guide; where each segment of a body has a place that leads to its slot, there is no fault exactly then
 //! (`proofs/Whole.antt`).
 //!
-//! The cost is the uses of slots for each dependency, and memory for one entry a segment; a guide without dependencies
-//! takes neither.
+//! The cost follows the bytes of the set and of the dependencies, but for a logarithm: the uses of a slot are found by their
+//! label, and gone over once for each element that triggers and once for each thing that is asked of the slot, however many
+//! dependencies there are. Memory is taken for one entry a segment, one a dependency, and the texts that trigger; a guide
+//! without dependencies takes neither time nor memory.
 //!
 //! Source: own; how it is told, the 999 guide (005010X231), IK3 and IK4.
 #![tactic(auto)]
 
+mod asked;
 mod check;
 mod fault;
+mod groups;
 mod seat;
+mod texts;
+mod triggered;
 mod uses;
 
 pub use check::check_dependencies;

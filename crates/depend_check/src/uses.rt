@@ -1,6 +1,6 @@
 ghost use Rattle.std.specs.Prelude.{◌≡◌, ◌++◌, OnOk};
 ghost use Rattle.std.specs.List.{list_any, flat_map};
-ghost use Rattle.depend_check.specs.Dependencies.{is_use, is_trigger, is_triggered};
+ghost use Rattle.depend_check.specs.Dependencies.{is_use};
 ghost use Rattle.depend_check.specs.Found.{is_broken_by, faults_of_use, is_left_out};
 ghost use Rattle.loop_match.specs.Viewed.{placed_view, placed_views};
 
@@ -9,25 +9,15 @@ use crate::seat::has_label;
 use elem_rules::is_empty;
 use guide_tree::{Dependency, DependencyKind};
 use hub_kinds::{Fault, NoMemory};
-use loop_match::{PlacedSeg, contains_text, text_at};
+use loop_match::{PlacedSeg, text_at};
 use std::alloc::Global;
 use x12_bytes::Delims;
 
 /// Whether a segment is a use of the slot with a label.
-fn is_use(label: &[u8], placed: &PlacedSeg) -> bool
+pub fn is_use(label: &[u8], placed: &PlacedSeg) -> bool
     ensures { result ≡ is_use label.now (placed_view placed.now) }
 {
     has_label(placed.slot, label)
-}
-
-fn is_trigger(dependency: &Dependency, placed: &PlacedSeg) -> bool
-    ensures { result ≡ is_trigger dependency.now (placed_view placed.now) }
-{
-    is_use(dependency.slot.as_slice(), placed)
-        && contains_text(
-            dependency.codes.as_slice(),
-            text_at(placed.seg, dependency.at as usize),
-        )
 }
 
 fn has_use(label: &[u8], placed: &[PlacedSeg]) -> bool
@@ -41,19 +31,6 @@ fn is_used(label: &[u8], placed: &[PlacedSeg]) -> bool
     ensures { result ≡ list_any (is_use label.now) (placed_views placed.now) }
 {
     has_use(label, placed)
-}
-
-fn has_trigger(dependency: &Dependency, placed: &[PlacedSeg]) -> bool
-    ensures { result ≡ list_any (λ p. is_trigger dependency.now (placed_view p)) placed.now }
-{
-    placed.iter().any(|one| is_trigger(dependency, one))
-}
-
-/// Whether some use of the dependency's slot has one of the listed codes in its element.
-pub fn is_triggered(dependency: &Dependency, placed: &[PlacedSeg]) -> bool
-    ensures { result ≡ is_triggered dependency.now (placed_views placed.now) }
-{
-    has_trigger(dependency, placed)
 }
 
 /// Whether the target as a whole is needed, and has no use.

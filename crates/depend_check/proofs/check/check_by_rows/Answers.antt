@@ -1,14 +1,14 @@
-use Rattle.std.proofs.Common.{◌≡◌, List, map, length, sym, subst, ap, ◌∙◌, ◌+◌}
+use Rattle.std.proofs.Common.{◌↔◌, List, map, length, subst, ap, ◌+◌}
 use Rattle.std.specs.List.{Contains}
 use Rattle.hub_kinds.specs.declared.fault.Fault.{Fault}
 use Rattle.x12_segs.specs.View.{elements_of}
 use Rattle.guide_tree.specs.Tree.{GuideTree}
 use Rattle.guide_tree.specs.View.{nodes_view}
 use Rattle.guide_tree.specs.declared.node.Node.{Node}
+use Rattle.guide_tree.specs.declared.rows.Dependency.{Dependency}
 use Rattle.loop_match.specs.Given.{place_in}
 use Rattle.loop_match.specs.PlacedSegments.{placed_segments}
-use Rattle.depend_check.specs.Found.{found_faults}
-use Rattle.depend_check.proofs.Members.{members}
+use Rattle.depend_check.specs.Uses.{IsFound}
 use Rattle.depend_check.proofs.Keyed.{keyed}
 use Rattle.depend_check.proofs.check.check_by_rows.Goals as goal
 
@@ -18,12 +18,14 @@ in_order-requires c =
     let body = map elements_of c.args.segs.now in
     let given = map place_in c.args.placing.now.given in
     let ts = nodes_view rows.nodes.items in
-    keyed ts ts c.args.delims (length c.args.segs.now + 2) body given rows.depends c.in_ok-find_in_body.field-0.items
+    let end = length c.args.segs.now + 2 in
+    keyed ts ts c.args.delims end body given rows.depends c.in_ok-find_in_body.field-0.items
     (ap (λ (g : GuideTree). g.nodes) c.requires.numbered)
-    (c.in_ok-find_in_body.ensures
-    ∙ ap (λ (ns : List Node). found_faults (nodes_view ns) c.args.delims (length c.args.segs.now + 2)
-    (placed_segments (nodes_view ns) body given) c.as_slice-depends.result.now) c.as_slice-nodes.ensures.value
-    ∙ ap (found_faults ts c.args.delims (length c.args.segs.now + 2) (placed_segments ts body given)) c.as_slice-depends.ensures)
+    (subst (λ (ds : List Dependency). (f : Fault) → Contains c.in_ok-find_in_body.field-0.items f
+    ↔ IsFound ts c.args.delims end (placed_segments ts body given) ds f) c.as_slice-depends.ensures
+    (subst (λ (ns : List Node). (f : Fault) → Contains c.in_ok-find_in_body.field-0.items f
+    ↔ IsFound (nodes_view ns) c.args.delims end (placed_segments (nodes_view ns) body given) c.as_slice-depends.result.now f)
+    c.as_slice-nodes.ensures.value c.in_ok-find_in_body.ensures))
 
 pub returns-clause-faults : goal.returns-clause-faults
 returns-clause-faults c f =
@@ -32,16 +34,14 @@ returns-clause-faults c f =
     let given = map place_in c.args.placing.now.given in
     let ts = nodes_view rows.nodes.items in
     let end = length c.args.segs.now + 2 in
-    let all = placed_segments ts body given in
-    let found : c.in_ok-find_in_body.field-0.items ≡ found_faults ts c.args.delims end all rows.depends =
-    c.in_ok-find_in_body.ensures
-    ∙ ap (λ (ns : List Node). found_faults (nodes_view ns) c.args.delims end
-    (placed_segments (nodes_view ns) body given) c.as_slice-depends.result.now) c.as_slice-nodes.ensures.value
-    ∙ ap (found_faults ts c.args.delims end all) c.as_slice-depends.ensures in
-    let both = members ts c.args.delims end all rows.depends f in
+    let found = subst (λ (ds : List Dependency). Contains c.in_ok-find_in_body.field-0.items f
+    ↔ IsFound ts c.args.delims end (placed_segments ts body given) ds f) c.as_slice-depends.ensures
+    (subst (λ (ns : List Node). Contains c.in_ok-find_in_body.field-0.items f
+    ↔ IsFound (nodes_view ns) c.args.delims end (placed_segments (nodes_view ns) body given) c.as_slice-depends.result.now f)
+    c.as_slice-nodes.ensures.value (c.in_ok-find_in_body.ensures f)) in
     let same = c.in_order.ensures.same f in (
-      λ h. let r = both.0 (subst (λ (l : List Fault). Contains l f) found (same.0 h)) in
+      λ h. let r = found.0 (same.0 h) in
           record { dependency = r.dependency; listed = r.listed; triggered = r.triggered; broken = r.broken },
-      λ h. same.1 (subst (λ (l : List Fault). Contains l f) (sym found)
-          (both.1 (record { dependency = h.dependency; listed = h.listed; triggered = h.triggered; broken = h.broken }))),
+      λ h. same.1 (found.1
+          (record { dependency = h.dependency; listed = h.listed; triggered = h.triggered; broken = h.broken })),
     )
