@@ -111,6 +111,12 @@ const NOT_USED_AND_WITHOUT_A_ROW: Cases = &[
     ("CMP*a****x**>^", ""),
 ];
 
+/// Whether each segment has just the faults beside it by the guide of composites.
+fn expect_by_composites(alloc: Global, delims: Delims, tables: &[Cases]) -> Result<(), Fail> {
+    let guide = composites(alloc)?;
+    expect(alloc, delims, &guide, tables)
+}
+
 const TABLES: &[Cases] = &[
     COMPONENTS_OF_COMPOSITES,
     OCCURRENCES,
@@ -119,11 +125,7 @@ const TABLES: &[Cases] = &[
 
 #[test]
 fn composites_and_repetitions(rt: HostRuntime) -> Result<(), Fail> {
-    let guide = composites(rt.alloc())?;
-    for cases in TABLES {
-        expect(rt.alloc(), DELIMS, &guide, cases)?;
-    }
-    Ok(())
+    expect_by_composites(rt.alloc(), DELIMS, TABLES)
 }
 
 const WITHOUT_A_REPETITION_SEPARATOR: Cases = &[
@@ -133,16 +135,16 @@ const WITHOUT_A_REPETITION_SEPARATOR: Cases = &[
     ("CMP*a***^*x", "4 0 0 I10 4 ^;"),
 ];
 
+const NO_REPETITION_SEPARATOR: Delims = Delims {
+    repetition: None,
+    ..DELIMS
+};
+
 #[test]
 fn without_a_repetition_separator_an_element_occurs_once(rt: HostRuntime) -> Result<(), Fail> {
-    let delims = Delims {
-        repetition: None,
-        ..DELIMS
-    };
-    expect(
+    expect_by_composites(
         rt.alloc(),
-        delims,
-        &composites(rt.alloc())?,
-        WITHOUT_A_REPETITION_SEPARATOR,
+        NO_REPETITION_SEPARATOR,
+        &[WITHOUT_A_REPETITION_SEPARATOR],
     )
 }

@@ -187,22 +187,27 @@ pub fn guide_of(alloc: Global, lines: &[Line], related: &[Related]) -> Result<Gu
     guide(alloc, rows, conditions)
 }
 
-/// Each fault as `element component repetition code reference copy;`.
+/// Adds `element component repetition code reference copy;`.
+fn add_fault(out: &mut Vec<u8>, alloc: Global, fault: &ElemFault) -> Result<(), Fail> {
+    let place = format!(in alloc;
+        "{} {} {} {} ",
+        fault.element,
+        fault.component,
+        fault.repetition,
+        code_text(fault.code)
+    )?;
+    out.extend_from_slice(place.as_bytes())?;
+    out.extend_from_slice(fault.reference.as_slice())?;
+    out.push(b' ')?;
+    out.extend_from_slice(fault.copy.as_slice())?;
+    out.push(b';')?;
+    Ok(())
+}
+
 fn written(alloc: Global, faults: &[ElemFault]) -> Result<Vec<u8>, Fail> {
     let mut out = Vec::new(alloc);
     for fault in faults {
-        let place = format!(in alloc;
-            "{} {} {} {} ",
-            fault.element,
-            fault.component,
-            fault.repetition,
-            code_text(fault.code)
-        )?;
-        out.extend_from_slice(place.as_bytes())?;
-        out.extend_from_slice(fault.reference.as_slice())?;
-        out.push(b' ')?;
-        out.extend_from_slice(fault.copy.as_slice())?;
-        out.push(b';')?;
+        add_fault(&mut out, alloc, fault)?;
     }
     Ok(out)
 }
@@ -217,32 +222,68 @@ fn expect_one(
 ) -> Result<(), Fail> {
     let slot = guide.slot(1).ok_or("a guide without a slot")?;
     let found = check_segment(alloc, &SegView::new(0, segment, delims), slot)?;
-    if written(alloc, found.as_slice())?.as_slice() != faults {
-        return Err("other faults than those expected")?;
+    let found = written(alloc, found.as_slice())?;
+    if found.as_slice() == faults {
+        return Ok(());
     }
-    Ok(())
-}
-
-/// Whether each segment has just the faults beside it, where not all of it is text.
-pub fn expect_bytes(
-    alloc: Global,
-    delims: Delims,
-    guide: &Guide,
-    cases: &[(&[u8], &[u8])],
-) -> Result<(), Fail> {
-    for (segment, faults) in cases {
-        expect_one(alloc, delims, guide, segment, faults)?;
-    }
-    Ok(())
+    let segment = String::from_utf8_lossy(alloc, segment)?;
+    let found = String::from_utf8_lossy(alloc, found.as_slice())?;
+    Err(Fail::new(format!(in alloc; "{segment} has {found}")?))
 }
 
 /// Segments, each beside its faults.
 pub type Cases = &'static [(&'static str, &'static str)];
 
-/// Whether each segment has just the faults beside it.
-pub fn expect(alloc: Global, delims: Delims, guide: &Guide, cases: Cases) -> Result<(), Fail> {
+fn expect_cases(alloc: Global, delims: Delims, guide: &Guide, cases: Cases) -> Result<(), Fail> {
     for (segment, faults) in cases {
         expect_one(alloc, delims, guide, segment.as_bytes(), faults.as_bytes())?;
     }
     Ok(())
+}
+
+/// Whether each segment has just the faults beside it.
+pub fn expect(alloc: Global, delims: Delims, guide: &Guide, tables: &[Cases]) -> Result<(), Fail> {
+    for cases in tables {
+        expect_cases(alloc, delims, guide, cases)?;
+    }
+    Ok(())
+}
+
+/// Rows, their conditions, and segments with their faults.
+pub type Group = (&'static [Line], &'static [Related], &'static [Cases]);
+
+/// Whether each segment has by these rows just the faults beside it.
+pub fn expect_by_rows(
+    alloc: Global,
+    lines: &[Line],
+    related: &[Related],
+    tables: &[Cases],
+) -> Result<(), Fail> {
+    let guide = guide_of(alloc, lines, related)?;
+    expect(alloc, DELIMS, &guide, tables)
+}
+
+/// Whether each segment has by its rows just the faults beside it.
+pub fn expect_groups(alloc: Global, groups: &[Group]) -> Result<(), Fail> {
+    for (lines, related, tables) in groups {
+        expect_by_rows(alloc, lines, related, tables)?;
+    }
+    Ok(())
+}
+
+fn expect_each_of_bytes(
+    alloc: Global,
+    guide: &Guide,
+    cases: &[(&[u8], &[u8])],
+) -> Result<(), Fail> {
+    for (segment, faults) in cases {
+        expect_one(alloc, DELIMS, guide, segment, faults)?;
+    }
+    Ok(())
+}
+
+/// Whether each segment has by these rows just the faults beside it, where not all of it is text.
+pub fn expect_bytes(alloc: Global, lines: &[Line], cases: &[(&[u8], &[u8])]) -> Result<(), Fail> {
+    let guide = guide_of(alloc, lines, &[])?;
+    expect_each_of_bytes(alloc, &guide, cases)
 }

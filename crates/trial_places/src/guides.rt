@@ -163,15 +163,11 @@ fn add_fault(out: &mut Vec<u8>, alloc: Global, fault: &Fault) -> Result<(), Fail
     Ok(())
 }
 
-/// The faults of a body, written.
-pub fn faults_of(alloc: Global, guide: &Guide, body: &str) -> Result<Vec<u8>, Fail> {
-    let segs: Vec<SegView> = segments(body.as_bytes(), DELIMS).collect(alloc)?;
-    let placing = place_all(alloc, segs.as_slice(), guide)?;
-    let mut out = Vec::new(alloc);
+fn add_faults(out: &mut Vec<u8>, alloc: Global, placing: &Placing) -> Result<(), Fail> {
     for fault in placing.faults() {
-        add_fault(&mut out, alloc, fault)?;
+        add_fault(out, alloc, fault)?;
     }
-    Ok(out)
+    Ok(())
 }
 
 fn add_place(out: &mut Vec<u8>, alloc: Global, place: &[Step]) -> Result<(), Fail> {
@@ -198,13 +194,67 @@ fn add_segment(
     add_place(out, alloc, placing.place(index).unwrap_or(&[]))
 }
 
-/// The slot and the place of each segment of a body, written.
-pub fn places_of(alloc: Global, guide: &Guide, body: &str) -> Result<Vec<u8>, Fail> {
+fn add_segments(out: &mut Vec<u8>, alloc: Global, placing: &Placing) -> Result<(), Fail> {
+    for index in 0..placing.len() {
+        add_segment(out, alloc, placing, index)?;
+    }
+    Ok(())
+}
+
+/// What is shown of the placing of a body.
+#[derive(Clone, Copy)]
+pub enum Shown {
+    /// Its faults.
+    Faults,
+    /// The slot and the place of each segment.
+    Places,
+}
+
+fn written(alloc: Global, guide: &Guide, body: &str, shown: Shown) -> Result<Vec<u8>, Fail> {
     let segs: Vec<SegView> = segments(body.as_bytes(), DELIMS).collect(alloc)?;
     let placing = place_all(alloc, segs.as_slice(), guide)?;
     let mut out = Vec::new(alloc);
-    for index in 0..placing.len() {
-        add_segment(&mut out, alloc, &placing, index)?;
+    match shown {
+        Shown::Faults => add_faults(&mut out, alloc, &placing)?,
+        Shown::Places => add_segments(&mut out, alloc, &placing)?,
     }
     Ok(out)
+}
+
+fn expect_one(
+    alloc: Global,
+    guide: &Guide,
+    body: &str,
+    wanted: &str,
+    shown: Shown,
+) -> Result<(), Fail> {
+    let found = written(alloc, guide, body, shown)?;
+    if found.as_slice() == wanted.as_bytes() {
+        return Ok(());
+    }
+    let found = String::from_utf8(found)?;
+    Err(Fail::new(format!(in alloc; "{body} has {found} and not {wanted}")?))
+}
+
+fn expect_each(
+    alloc: Global,
+    guide: &Guide,
+    bodies: &[(&str, &str)],
+    shown: Shown,
+) -> Result<(), Fail> {
+    for (body, wanted) in bodies {
+        expect_one(alloc, guide, body, wanted, shown)?;
+    }
+    Ok(())
+}
+
+/// Whether each body has by the guide of these rows what stands beside it.
+pub fn expect(
+    alloc: Global,
+    rows: &[Row],
+    bodies: &[(&str, &str)],
+    shown: Shown,
+) -> Result<(), Fail> {
+    let guide = guide_of(alloc, rows)?;
+    expect_each(alloc, &guide, bodies, shown)
 }

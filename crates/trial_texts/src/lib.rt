@@ -15,3 +15,5 @@ mod kinds;
 mod orders;
 #[cfg(test)]
 mod segments;
+#[cfg(test)]
+mod texts;
