@@ -1,5 +1,6 @@
 //! What is told of a set's faults.
-use crate::samples::{DELIMS, ElemRow, FaultRow, GroupRow, SetRow, acknowledgment, same, set};
+use crate::samples::{DELIMS, ElemRow, FaultRow, GroupRow, SetRow, acknowledgment, set};
+use crate::texts::same;
 use ack_999::append_set;
 use hub_kinds::{ElementCode, GroupCode, GroupVerdict, NoMemory, SegmentCode, SetCode, Verdict};
 use std::alloc::Global;
@@ -263,7 +264,7 @@ pub fn tells(
 ) -> Result<(), Fail> {
     let out = told(alloc, delims, &rejected(faults, &[]))?;
     let whole = between(alloc, wanted)?;
-    same(alloc, out.as_slice(), whole.as_slice())
+    same(alloc, "a set", out.as_slice(), whole.as_slice())
 }
 
 /// The whole text of group 12, of this behind its AK1.
@@ -289,7 +290,7 @@ fn answers(
     };
     let bytes = acknowledgment(alloc, &group, &[rejected(faults, set_codes)], 1)?;
     let whole = behind_the_head(alloc, wanted)?;
-    same(alloc, bytes.as_slice(), whole.as_slice())
+    same(alloc, "a group", bytes.as_slice(), whole.as_slice())
 }
 
 fn answers_each(alloc: Global, cases: &[Answer]) -> Result<(), Fail> {

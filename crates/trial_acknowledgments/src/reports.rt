@@ -1,7 +1,6 @@
 //! Whole acknowledgments of groups whose sets have no faults, and the interchange around one.
-use crate::samples::{
-    ACCEPTED_GROUP, ACCEPTED_SET, DELIMS, GroupRow, SetRow, acknowledgment, same,
-};
+use crate::samples::{ACCEPTED_GROUP, ACCEPTED_SET, DELIMS, GroupRow, SetRow, acknowledgment};
+use crate::texts::same;
 use ack_999::{Envelope, append_closing, write_ack_interchange};
 use elem_rules::At;
 use hub_kinds::{GroupCode, GroupVerdict, Items, Lent, NoMemory, SetCode, Verdict};
@@ -110,7 +109,7 @@ const CASES: &[Case] = &[
 
 fn writes(alloc: Global, case: &Case) -> Result<(), Fail> {
     let bytes = acknowledgment(alloc, &case.group, case.sets, case.number)?;
-    same(alloc, bytes.as_slice(), case.text)
+    same(alloc, "a report", bytes.as_slice(), case.text)
 }
 
 fn writes_each(alloc: Global, cases: &[Case]) -> Result<(), Fail> {
@@ -154,7 +153,7 @@ fn sent(alloc: Global, at: &At) -> Result<Vec<u8>, NoMemory> {
 fn sends_an_acknowledgment_to_the_partner(rt: HostRuntime) -> Result<(), Fail> {
     let at = At::read(b"202603011530").ok_or("no moment")?;
     let bytes = sent(rt.alloc(), &at)?;
-    same(rt.alloc(), bytes.as_slice(), SENT)
+    same(rt.alloc(), "an interchange", bytes.as_slice(), SENT)
 }
 
 #[test]
@@ -163,6 +162,7 @@ fn appends_behind_what_is_there(rt: HostRuntime) -> Result<(), Fail> {
     append_closing(&mut out, &envelope(), 1, 1)?;
     same(
         rt.alloc(),
+        "a closing",
         out.as_slice(),
         b"SE*6*0001~GE*1*1~IEA*1*000000001~",
     )
@@ -180,8 +180,8 @@ fn reads_back(alloc: Global, text: &[u8]) -> Result<(), Fail> {
     if header.delims() != DELIMS {
         return Err("other delimiters")?;
     }
-    same(alloc, header.field(6), b"HUB            ")?;
-    same(alloc, header.field(13), b"999999999")
+    same(alloc, "ISA06", header.field(6), b"HUB            ")?;
+    same(alloc, "ISA13", header.field(13), b"999999999")
 }
 
 #[test]
@@ -218,5 +218,5 @@ fn delivered(alloc: Global, at: &At) -> Result<Vec<u8>, NoMemory> {
 fn writes_a_group_of_two_sets_under_its_number(rt: HostRuntime) -> Result<(), Fail> {
     let at = At::read(b"202603011530").ok_or("no moment")?;
     let out = delivered(rt.alloc(), &at)?;
-    same(rt.alloc(), out.as_slice(), DELIVERED)
+    same(rt.alloc(), "a group", out.as_slice(), DELIVERED)
 }

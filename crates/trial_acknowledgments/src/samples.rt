@@ -5,7 +5,6 @@ use hub_kinds::{
     SegmentCode, SetAnswer, SetCode, Text, Verdict,
 };
 use std::alloc::Global;
-use std::test::Fail;
 use x12_bytes::Delims;
 
 pub const DELIMS: Delims = Delims {
@@ -158,11 +157,3 @@ pub const ACCEPTED_SET: SetRow<'static> = SetRow {
     codes: &[],
     verdict: Verdict::Accepted,
 };
-
-/// Refuses another text than the one that is wanted, and shows it.
-pub fn same(alloc: Global, found: &[u8], wanted: &[u8]) -> Result<(), Fail> {
-    if found == wanted {
-        return Ok(());
-    }
-    Err(Fail::new(String::from_utf8_lossy(alloc, found)?))
-}

@@ -229,12 +229,16 @@ fn gives(alloc: Global, mut parts: Parts<'_>, wanted: &[&[u8]]) -> Result<(), Fa
     }
 }
 
+fn expect_parts_of(alloc: Global, segment: &SegView) -> Result<(), Fail> {
+    gives(alloc, segment.elements(), ALL_ELEMENTS)?;
+    gives(alloc, segment.occurrences(1), ALL_OCCURRENCES)?;
+    gives(alloc, segment.components(1, 2), ALL_COMPONENTS)
+}
+
 #[test]
 fn walks_the_parts(rt: HostRuntime) -> Result<(), Fail> {
     let segment = first_segment(DIVIDED).ok_or("no segment")?;
-    gives(rt.alloc(), segment.elements(), ALL_ELEMENTS)?;
-    gives(rt.alloc(), segment.occurrences(1), ALL_OCCURRENCES)?;
-    gives(rt.alloc(), segment.components(1, 2), ALL_COMPONENTS)
+    expect_parts_of(rt.alloc(), &segment)
 }
 
 const NO_REPETITION_SEPARATOR: Delims = Delims {

@@ -1,5 +1,5 @@
 //! Segments of an order, by the rows of its guide.
-use super::guides::{Cases, Group, Line, OPTIONAL, expect_groups};
+use super::slots::{Cases, Group, Line, OPTIONAL, expect_groups};
 use guide_tree::{ElementType, Relation, Requirement};
 use std::test::Fail;
 

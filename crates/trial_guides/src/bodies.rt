@@ -1,5 +1,6 @@
 //! Bodies and their structural faults.
-use super::guides::{NOTICE, Row, Shown, expect};
+use super::placings::{NOTICE, Shown, expect};
+use super::rows::Row;
 use std::test::Fail;
 
 /// Bodies of a notice, and the faults of each.

@@ -1,5 +1,5 @@
 //! Bodies and the places of their segments.
-use super::guides::{NOTICE, Shown, expect};
+use super::placings::{NOTICE, Shown, expect};
 use std::test::Fail;
 
 /// Bodies, and the slot and the place of each segment.

@@ -1,10 +1,10 @@
 //! Composites, repetitions, elements that aren't used, and elements without a row.
-use super::guides::{
-    Cases, DELIMS, Line, OPTIONAL, add_components, add_rows, composite, expect, guide, text,
+use super::rows::text;
+use super::slots::{
+    Cases, DELIMS, Line, OPTIONAL, add_components, add_rows, composite, expect, guide,
 };
 use guide_tree::{Component, Element, ElementType, Guide, Requirement};
-use hub_kinds::NoMemory;
-use std::alloc::Global;
+use std::alloc::{AllocError, Global};
 use std::test::Fail;
 use x12_bytes::Delims;
 
@@ -23,10 +23,10 @@ const THIRD_OF_THREE: &[Line] = &[Line {
 }];
 
 /// A mandatory composite that may occur three times; its second component isn't used.
-fn three_components(alloc: Global) -> Result<Element, NoMemory> {
+fn three_components(alloc: Global) -> Result<Element, AllocError> {
     let mut components = Vec::new(alloc);
     add_components(alloc, &mut components, FIRST_OF_THREE)?;
-    components.push(Component::NotUsed(text(alloc, "12")?))?;
+    components.push(Component::NotUsed(text(alloc, b"12")?))?;
     add_components(alloc, &mut components, THIRD_OF_THREE)?;
     composite(alloc, "C1", Requirement::Mandatory, 3, components)
 }
@@ -37,7 +37,7 @@ const ONLY_COMPONENT: &[Line] = &[Line {
     ..OPTIONAL
 }];
 
-fn one_component(alloc: Global) -> Result<Element, NoMemory> {
+fn one_component(alloc: Global) -> Result<Element, AllocError> {
     let mut components = Vec::new(alloc);
     add_components(alloc, &mut components, ONLY_COMPONENT)?;
     composite(alloc, "C2", Requirement::Optional, 1, components)
@@ -61,7 +61,7 @@ fn composites(alloc: Global) -> Result<Guide, Fail> {
     rows.push(three_components(alloc)?)?;
     rows.push(one_component(alloc)?)?;
     add_rows(alloc, &mut rows, ROW_TWICE)?;
-    rows.push(Element::NotUsed(text(alloc, "4")?))?;
+    rows.push(Element::NotUsed(text(alloc, b"4")?))?;
     add_rows(alloc, &mut rows, LAST_ROW)?;
     let none = composite(alloc, "C6", Requirement::Optional, 1, Vec::new(alloc))?;
     rows.push(none)?;

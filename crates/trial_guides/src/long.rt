@@ -1,5 +1,7 @@
 //! Bodies of 20,000 segments.
-use super::guides::{DELIMS, NOTICE, Row, guide_of};
+use super::placings::NOTICE;
+use super::rows::{Row, guide_of};
+use super::slots::DELIMS;
 use guide_tree::Guide;
 use loop_match::place_all;
 use std::alloc::Global;

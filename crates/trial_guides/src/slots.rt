@@ -1,11 +1,13 @@
 //! Guides of one slot and segments of the tests, and how their faults are written.
+use super::rows::{guide_of_nodes, none, segment, text};
+use super::texts::same;
 use elem_rules::check_segment;
 use guide_tree::{
-    CodeList, Component, CompositeRow, Condition, Element, ElementType, Guide, GuideHead,
-    GuideRows, Node, Relation, Requirement, SimpleRow, Slot,
+    CodeList, Component, CompositeRow, Condition, Element, ElementType, Guide, Relation,
+    Requirement, SimpleRow,
 };
-use hub_kinds::{ElemFault, Items, NoMemory, Text, Texts, code_text};
-use std::alloc::Global;
+use hub_kinds::{ElemFault, Items, Texts, code_text};
+use std::alloc::{AllocError, Global};
 use std::test::Fail;
 use x12_bytes::Delims;
 use x12_segs::SegView;
@@ -44,23 +46,15 @@ pub const OPTIONAL: Line = Line {
     unused: "",
 };
 
-fn none<T>(alloc: Global) -> Items<T> {
-    Items::from_vec(Vec::new(alloc))
-}
-
-pub fn text(alloc: Global, bytes: &str) -> Result<Text, NoMemory> {
-    Ok(Items::from_vec(Vec::from_slice(alloc, bytes.as_bytes())?))
-}
-
-fn texts(alloc: Global, listed: &str) -> Result<Texts, NoMemory> {
+fn texts(alloc: Global, listed: &str) -> Result<Texts, AllocError> {
     let mut texts = Vec::new(alloc);
     for code in listed.split(' ') {
-        texts.push(text(alloc, code)?)?;
+        texts.push(text(alloc, code.as_bytes())?)?;
     }
     Ok(Items::from_vec(texts))
 }
 
-fn codes(alloc: Global, line: &Line) -> Result<Option<CodeList>, NoMemory> {
+fn codes(alloc: Global, line: &Line) -> Result<Option<CodeList>, AllocError> {
     if line.used.is_empty() {
         return Ok(None);
     }
@@ -69,10 +63,10 @@ fn codes(alloc: Global, line: &Line) -> Result<Option<CodeList>, NoMemory> {
     Ok(Some(CodeList { used, unused }))
 }
 
-fn row(alloc: Global, line: &Line) -> Result<SimpleRow, NoMemory> {
+fn row(alloc: Global, line: &Line) -> Result<SimpleRow, AllocError> {
     let codes = codes(alloc, line)?;
     Ok(SimpleRow {
-        reference: text(alloc, line.reference)?,
+        reference: text(alloc, line.reference.as_bytes())?,
         requirement: line.requirement,
         data_type: line.data_type,
         min: line.min,
@@ -83,7 +77,7 @@ fn row(alloc: Global, line: &Line) -> Result<SimpleRow, NoMemory> {
 }
 
 /// Adds a row for each line.
-pub fn add_rows(alloc: Global, rows: &mut Vec<Element>, lines: &[Line]) -> Result<(), NoMemory> {
+pub fn add_rows(alloc: Global, rows: &mut Vec<Element>, lines: &[Line]) -> Result<(), AllocError> {
     for line in lines {
         let row = row(alloc, line)?;
         rows.push(Element::Simple(row, line.repeat))?;
@@ -96,7 +90,7 @@ pub fn add_components(
     alloc: Global,
     components: &mut Vec<Component>,
     lines: &[Line],
-) -> Result<(), NoMemory> {
+) -> Result<(), AllocError> {
     for line in lines {
         let row = row(alloc, line)?;
         components.push(Component::Simple(row))?;
@@ -110,9 +104,9 @@ pub fn composite(
     requirement: Requirement,
     repeat: u32,
     components: Vec<Component>,
-) -> Result<Element, NoMemory> {
+) -> Result<Element, AllocError> {
     Ok(Element::Composite(CompositeRow {
-        reference: text(alloc, reference)?,
+        reference: text(alloc, reference.as_bytes())?,
         requirement,
         repeat,
         components: Items::from_vec(components),
@@ -124,7 +118,7 @@ fn add_condition(
     conditions: &mut Vec<Condition>,
     relation: Relation,
     positions: &[u32],
-) -> Result<(), NoMemory> {
+) -> Result<(), AllocError> {
     let positions = Items::from_vec(Vec::from_slice(alloc, positions)?);
     conditions.push(Condition {
         relation,
@@ -133,44 +127,17 @@ fn add_condition(
     Ok(())
 }
 
-fn head(alloc: Global) -> Result<GuideHead, NoMemory> {
-    Ok(GuideHead {
-        name: text(alloc, "H")?,
-        group: text(alloc, "PO")?,
-        set: text(alloc, "850")?,
-        version: text(alloc, "005010")?,
-        convention: None,
-        dictionary: none(alloc),
-        tolerate_segment: none(alloc),
-        tolerate_element: none(alloc),
-    })
-}
-
 /// A guide of one segment, which may be there.
 pub fn guide(
     alloc: Global,
     elements: Vec<Element>,
     conditions: Vec<Condition>,
 ) -> Result<Guide, Fail> {
-    let slot = Slot {
-        number: 0,
-        id: text(alloc, "SEG")?,
-        label: None,
-        min: 0,
-        max: 1,
-        picks: none(alloc),
-        elements: Items::from_vec(elements),
-        conditions: Items::from_vec(conditions),
-    };
+    let elements = Items::from_vec(elements);
+    let conditions = Items::from_vec(conditions);
     let mut nodes = Vec::new(alloc);
-    nodes.push(Node::Segment(slot))?;
-    let rows = GuideRows {
-        head: head(alloc)?,
-        hl: None,
-        depends: none(alloc),
-        nodes,
-    };
-    Ok(Guide::check(rows)?)
+    nodes.push(segment(alloc, b"SEG", (0, 1), none(alloc), elements, conditions)?)?;
+    guide_of_nodes(alloc, nodes)
 }
 
 /// A relational condition and its positions.
@@ -223,12 +190,7 @@ fn expect_one(
     let slot = guide.slot(1).ok_or("a guide without a slot")?;
     let found = check_segment(alloc, &SegView::new(0, segment, delims), slot)?;
     let found = written(alloc, found.as_slice())?;
-    if found.as_slice() == faults {
-        return Ok(());
-    }
-    let segment = String::from_utf8_lossy(alloc, segment)?;
-    let found = String::from_utf8_lossy(alloc, found.as_slice())?;
-    Err(Fail::new(format!(in alloc; "{segment} has {found}")?))
+    same(alloc, segment, found.as_slice(), faults)
 }
 
 /// Segments, each beside its faults.

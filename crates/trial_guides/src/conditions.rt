@@ -1,5 +1,5 @@
 //! Relational conditions over a segment of six elements.
-use super::guides::{Cases, Group, Line, OPTIONAL, Related, expect_groups};
+use super::slots::{Cases, Group, Line, OPTIONAL, Related, expect_groups};
 use guide_tree::Relation;
 use std::test::Fail;
 

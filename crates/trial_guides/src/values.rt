@@ -1,5 +1,5 @@
 //! Values of each type: which bytes and forms it allows, how its length counts, its codes, dates and times.
-use super::guides::{Cases, Line, OPTIONAL, expect_by_rows, expect_bytes};
+use super::slots::{Cases, Line, OPTIONAL, expect_by_rows, expect_bytes};
 use guide_tree::ElementType;
 use std::test::Fail;
 
