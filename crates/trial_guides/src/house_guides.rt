@@ -3,7 +3,7 @@ use super::files::{expect, fault_of};
 use super::house::{H850, H856};
 use super::texts::same;
 use guide_toml::read_guide;
-use guide_tree::{CodeList, Element, ElementType, Guide, Node};
+use guide_tree::{CodeList, Element, ElementType, Guide, Node, SimpleRow};
 use std::alloc::{AllocError, Global};
 use std::test::Fail;
 
@@ -48,18 +48,22 @@ fn counts_codes(codes: &CodeList, used: usize) -> bool {
     codes.used.as_slice().len() == used && codes.unused.is_some()
 }
 
-/// Whether it is an identifier of this reference, once, with so many codes that are used and some that are not.
-fn is_identifier(element: &Element, reference: &[u8], used: usize) -> bool {
-    match element {
-        Element::Simple(row, repeat) => {
+/// Whether it is an identifier of this reference, with so many codes that are used and some that are not.
+fn is_identifier_row(row: &SimpleRow, reference: &[u8], used: usize) -> bool {
+    match &row.codes {
+        None => false,
+        Some(codes) => {
             row.reference.as_slice() == reference
                 && row.data_type == ElementType::Identifier
-                && *repeat == 1
-                && row
-                    .codes
-                    .as_ref()
-                    .is_some_and(|codes| counts_codes(codes, used))
+                && counts_codes(codes, used)
         }
+    }
+}
+
+/// The same of an element, which occurs once.
+fn is_identifier(element: &Element, reference: &[u8], used: usize) -> bool {
+    match element {
+        Element::Simple(row, repeat) => { *repeat == 1 && is_identifier_row(row, reference, used) }
         _ => false,
     }
 }

@@ -18,7 +18,10 @@ fn start(alloc: Global, text: &[u8]) -> Result<Option<usize>, Fail> {
     if 1000 <= text.len() {
         return Err("long text".into());
     }
-    Ok(read_lone(alloc, text)?.map(|x| x.start()))
+    match read_lone(alloc, text)? {
+        None => Ok(None),
+        Some(found) => Ok(Some(found.start())),
+    }
 }
 
 fn expect_start(

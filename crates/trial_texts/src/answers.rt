@@ -52,7 +52,10 @@ fn view(bytes: &[u8]) -> SegView<'_> {
 /// Whether a set is rejected with these codes.
 fn rejects(alloc: Global, case: &Rejected) -> Result<(), Fail> {
     let (header, trailer, segments, earlier, codes) = *case;
-    let trailer = trailer.map(view);
+    let trailer = match trailer {
+        None => None,
+        Some(bytes) => Some(view(bytes)),
+    };
     let answer = answer_set(alloc, &view(header), segments, trailer.as_ref(), earlier)?;
     if answer.codes.as_slice() == codes && answer.verdict == Verdict::Rejected {
         return Ok(());

@@ -110,9 +110,12 @@ fn faults(
 }
 
 fn codes_of(alloc: Global, case: &Case, faults: &[Fault]) -> Result<Vec<SetCode>, NoMemory> {
-    let guide = case.convention.map(|text| SetGuide {
-        convention: Some(Lent::new(text)),
-    });
+    let guide = match case.convention {
+        None => None,
+        Some(text) => Some(SetGuide {
+            convention: Some(Lent::new(text)),
+        }),
+    };
     let header = SegView::new(0, case.header, DELIMS);
     set_codes(alloc, faults, guide.as_ref(), &header, 3, None, true)
 }
