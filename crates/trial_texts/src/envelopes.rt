@@ -271,10 +271,7 @@ fn has_set(found: &Interchange, wanted: &Set) -> bool {
         return false;
     }
     let set = group.set(wanted.place.1);
-    let trailer = match set.trailer {
-        None => None,
-        Some(trailer) => Some(trailer.element(1)),
-    };
+    let trailer = set.trailer.map(|x| x.element(1));
     let is_sized = (set.segments, set.end) == (wanted.segments, wanted.end);
     set.header.element(2) == wanted.control && trailer == wanted.counted && is_sized
 }
