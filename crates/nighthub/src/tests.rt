@@ -1,6 +1,7 @@
 use crate::failure::Failure;
 use crate::input::read_all;
 use crate::night::night_main;
+use std::alloc::{AllocError, Global};
 use std::fs::OpenFile;
 use std::io::{Read, Write};
 use std::test::Fail;
@@ -42,30 +43,61 @@ const USAGE: &[u8] = b"nighthub: usage\n";
 
 const INPUT: &[u8] = b"nighthub: input\n";
 
-/// A run by these words: its status, and what it printed on standard output and standard error.
-fn ran(rt: &HostRuntime, words: &[&str]) -> (u8, Vec<u8>, Vec<u8>) {
+/// What a run gave: its status, and what it printed on standard output and standard error.
+type Answer = (u8, Vec<u8>, Vec<u8>);
+
+/// A run by these words.
+fn ran(rt: &HostRuntime, words: &[&str]) -> Answer {
     let mut out = Vec::new(rt.alloc());
     let mut err = Vec::new(rt.alloc());
     let status = night_main(rt, words, &mut out, &mut err);
     (status, out, err)
 }
 
-/// A run on a file of these parts, in a folder of its own that is gone when the run is over.
-fn ran_on(rt: &HostRuntime, folder: &str, parts: &[&[u8]]) -> Result<(u8, Vec<u8>, Vec<u8>), Fail> {
-    let mut bytes = Vec::new(rt.alloc());
+fn joined(alloc: Global, parts: &[&[u8]]) -> Result<Vec<u8>, AllocError> {
+    let mut bytes = Vec::new(alloc);
     for part in parts {
         bytes.extend_from_slice(part)?;
     }
+    Ok(bytes)
+}
+
+/// A run on a file of these bytes, in a folder of its own that is gone when the run is over.
+fn ran_on(rt: &HostRuntime, folder: &str, bytes: &[u8]) -> Result<Answer, Fail> {
     fs::create_dir(rt, folder)?;
     let path = format!(in rt.alloc(); "{folder}/in.edi")?;
-    fs::write(rt, path.as_str(), bytes.as_slice())?;
+    fs::write(rt, path.as_str(), bytes)?;
     let answer = ran(rt, &["--in", path.as_str(), "--at", "202603011530"]);
     fs::remove_dir_all(rt, folder)?;
     Ok(answer)
 }
 
+/// Whether a text is the one that is wanted; if not, it is shown.
+fn same(alloc: Global, found: &[u8], wanted: &[u8]) -> Result<(), Fail> {
+    if found == wanted {
+        return Ok(());
+    }
+    Err(Fail::new(String::from_utf8_lossy(alloc, found)?))
+}
+
+fn expect(alloc: Global, answer: &Answer, status: u8, out: &[u8], err: &[u8]) -> Result<(), Fail> {
+    if answer.0 != status {
+        return Err(Fail::new(format!(in alloc; "status {}", answer.0)?));
+    }
+    same(alloc, answer.1.as_slice(), out)?;
+    same(alloc, answer.2.as_slice(), err)
+}
+
 /// A folder, the parts of the input, the status, standard output and standard error.
-const INPUTS: &[(&str, &[&[u8]], u8, &[u8], &[u8])] = &[
+type Input = (
+    &'static str,
+    &'static [&'static [u8]],
+    u8,
+    &'static [u8],
+    &'static [u8],
+);
+
+const INPUTS: &[Input] = &[
     ("accepted", &[ORDER, IEA], 0, ORDER_ACCEPTED, b""),
     ("rejected", &[SET_NUMBERS_WRONG], 1, SET_REJECTED, b""),
     (
@@ -80,19 +112,29 @@ const INPUTS: &[(&str, &[&[u8]], u8, &[u8], &[u8])] = &[
     ("cut_off", &[ORDER], 4, b"", INPUT),
 ];
 
-#[test]
-fn answers_inputs(rt: HostRuntime) -> Result<(), Fail> {
-    for (folder, parts, status, out, err) in INPUTS {
-        let answer = ran_on(&rt, folder, parts)?;
-        assert_eq!(rt; answer.0, *status, "{folder}");
-        assert_eq!(rt; answer.1.as_slice(), *out, "{folder}");
-        assert_eq!(rt; answer.2.as_slice(), *err, "{folder}");
+fn answers_input(rt: &HostRuntime, input: &Input) -> Result<(), Fail> {
+    let (folder, parts, status, out, err) = *input;
+    let bytes = joined(rt.alloc(), parts)?;
+    let answer = ran_on(rt, folder, bytes.as_slice())?;
+    expect(rt.alloc(), &answer, status, out, err)
+}
+
+fn answers_each_input(rt: &HostRuntime, inputs: &[Input]) -> Result<(), Fail> {
+    for input in inputs {
+        answers_input(rt, input)?;
     }
     Ok(())
 }
 
+#[test]
+fn answers_inputs(rt: HostRuntime) -> Result<(), Fail> {
+    answers_each_input(&rt, INPUTS)
+}
+
 /// Words, the status, standard output and standard error; the last three words name no file that can be read.
-const WORDS: &[(&[&str], u8, &[u8], &[u8])] = &[
+type Words = (&'static [&'static str], u8, &'static [u8], &'static [u8]);
+
+const WORDS: &[Words] = &[
     (&[], 2, b"", USAGE),
     (&["--in", "in.edi"], 2, b"", USAGE),
     (&["--at", "202603011530"], 2, b"", USAGE),
@@ -128,14 +170,22 @@ const WORDS: &[(&[&str], u8, &[u8], &[u8])] = &[
     (&["--in", ".", "--at", "202603011530"], 4, b"", INPUT),
 ];
 
-#[test]
-fn answers_words(rt: HostRuntime) {
-    for (words, status, out, err) in WORDS {
-        let answer = ran(&rt, words);
-        assert_eq!(rt; answer.0, *status);
-        assert_eq!(rt; answer.1.as_slice(), *out);
-        assert_eq!(rt; answer.2.as_slice(), *err);
+fn answers_one(rt: &HostRuntime, case: &Words) -> Result<(), Fail> {
+    let (words, status, out, err) = *case;
+    let answer = ran(rt, words);
+    expect(rt.alloc(), &answer, status, out, err)
+}
+
+fn answers_each(rt: &HostRuntime, cases: &[Words]) -> Result<(), Fail> {
+    for case in cases {
+        answers_one(rt, case)?;
     }
+    Ok(())
+}
+
+#[test]
+fn answers_words(rt: HostRuntime) -> Result<(), Fail> {
+    answers_each(&rt, WORDS)
 }
 
 #[test]
@@ -146,19 +196,18 @@ fn shows_help(rt: HostRuntime) {
     assert!(rt; answer.2.is_empty());
 }
 
+fn ran_on_a_long_file(rt: &HostRuntime) -> Result<Answer, Fail> {
+    fs::create_dir(rt, "too_long")?;
+    fs::create(rt, "too_long/in.edi")?.set_len(4_294_967_296)?;
+    let answer = ran(rt, &["--in", "too_long/in.edi", "--at", "202603011530"]);
+    fs::remove_dir_all(rt, "too_long")?;
+    Ok(answer)
+}
+
 #[test]
 fn refuses_a_file_that_is_too_long(rt: HostRuntime) -> Result<(), Fail> {
-    fs::create_dir(&rt, "too_long")?;
-    fs::create(&rt, "too_long/in.edi")?.set_len(4_294_967_296)?;
-    let answer = ran(&rt, &["--in", "too_long/in.edi", "--at", "202603011530"]);
-    fs::remove_dir_all(&rt, "too_long")?;
-    assert_eq!(rt; answer.0, 4);
-    assert!(rt; answer.1.is_empty());
-    assert_eq!(rt;
-        answer.2.as_slice(),
-        b"nighthub: input too long\n".as_slice()
-    );
-    Ok(())
+    let answer = ran_on_a_long_file(&rt)?;
+    expect(rt.alloc(), &answer, 4, b"", b"nighthub: input too long\n")
 }
 
 /// A reader or writer that fails: a reader at its second read, a writer at its first write or only when it
@@ -199,18 +248,26 @@ impl Write for Broken {
 /// Standard output that fails, by whether it fails at its first write.
 const OUTPUTS: &[bool] = &[true, false];
 
-#[test]
-fn says_that_standard_output_failed(rt: HostRuntime) -> Result<(), Fail> {
-    for at_first in OUTPUTS {
-        let mut out = Broken {
-            at_first: *at_first,
-        };
-        let mut err = Vec::new(rt.alloc());
-        let status = night_main(&rt, ["--version"].as_slice(), &mut out, &mut err);
-        assert_eq!(rt; status, 5);
-        assert_eq!(rt; err.as_slice(), b"nighthub: output stdout\n".as_slice());
+fn says_that_it_failed(rt: &HostRuntime, at_first: bool) -> Result<(), Fail> {
+    let mut out = Broken { at_first };
+    let mut err = Vec::new(rt.alloc());
+    let status = night_main(rt, ["--version"].as_slice(), &mut out, &mut err);
+    if status != 5 {
+        return Err("another status")?;
+    }
+    same(rt.alloc(), err.as_slice(), b"nighthub: output stdout\n")
+}
+
+fn each_says_that_it_failed(rt: &HostRuntime, outputs: &[bool]) -> Result<(), Fail> {
+    for at_first in outputs {
+        says_that_it_failed(rt, *at_first)?;
     }
     Ok(())
+}
+
+#[test]
+fn says_that_standard_output_failed(rt: HostRuntime) -> Result<(), Fail> {
+    each_says_that_it_failed(&rt, OUTPUTS)
 }
 
 #[test]
@@ -225,27 +282,43 @@ fn passes_over_a_fault_of_standard_error(rt: HostRuntime) {
 /// How long a reader is said to be that fails at its first or its second read.
 const READERS: &[(bool, u64)] = &[(true, 0), (true, 1), (false, 1), (false, 4096)];
 
-#[test]
-fn reads_nothing_from_a_reader_that_fails(rt: HostRuntime) {
-    for (at_first, said) in READERS {
-        let input = Broken {
-            at_first: *at_first,
-        };
-        let answer = read_all(rt.alloc(), input, *said);
-        assert!(rt; matches!(&answer, Err(Failure::Input)));
+fn reads_nothing(alloc: Global, at_first: bool, said: u64) -> Result<(), Fail> {
+    match read_all(alloc, Broken { at_first }, said) {
+        Err(Failure::Input) => Ok(()),
+        _ => Err("read, or another failure")?,
     }
+}
+
+fn each_reads_nothing(alloc: Global, readers: &[(bool, u64)]) -> Result<(), Fail> {
+    for (at_first, said) in readers {
+        reads_nothing(alloc, *at_first, *said)?;
+    }
+    Ok(())
+}
+
+#[test]
+fn reads_nothing_from_a_reader_that_fails(rt: HostRuntime) -> Result<(), Fail> {
+    each_reads_nothing(rt.alloc(), READERS)
 }
 
 /// What the length of the order may be said to be: nothing, too little, right, too much.
 const SAID: &[u64] = &[0, 7, 220, 4096];
 
-#[test]
-fn reads_all_whatever_the_length_is_said_to_be(rt: HostRuntime) -> Result<(), Fail> {
-    for said in SAID {
-        match read_all(rt.alloc(), ORDER, *said) {
-            Ok(text) => assert_eq!(rt; text.as_slice(), ORDER),
-            Err(_) => return Err(Fail::from("refused")),
-        }
+fn reads_all(alloc: Global, said: u64) -> Result<(), Fail> {
+    match read_all(alloc, ORDER, said) {
+        Ok(text) => same(alloc, text.as_slice(), ORDER),
+        Err(_) => Err("refused")?,
+    }
+}
+
+fn each_reads_all(alloc: Global, lengths: &[u64]) -> Result<(), Fail> {
+    for said in lengths {
+        reads_all(alloc, *said)?;
     }
     Ok(())
+}
+
+#[test]
+fn reads_all_whatever_the_length_is_said_to_be(rt: HostRuntime) -> Result<(), Fail> {
+    each_reads_all(rt.alloc(), SAID)
 }

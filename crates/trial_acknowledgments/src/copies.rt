@@ -3,7 +3,6 @@ use crate::faults::tells;
 use crate::samples::{DELIMS, ElemRow, FaultRow};
 use hub_kinds::{ElementCode, NoMemory, SegmentCode};
 use std::alloc::Global;
-use std::process::Abort;
 use std::test::Fail;
 use x12_bytes::Delims;
 
@@ -57,17 +56,21 @@ fn note_that_shows(alloc: Global, shown: &[u8]) -> Result<Vec<u8>, NoMemory> {
 }
 
 /// What is written of an element that is too long and has this text.
-fn tells_text<R: Abort + AllocGlobal>(rt: &R, copy: &[u8], shown: &[u8]) -> Result<(), Fail> {
-    let wanted = note_that_shows(rt.alloc(), shown)?;
-    tells(rt, &DELIMS, &[too_long(copy)], wanted.as_slice())
+fn tells_text(alloc: Global, copy: &[u8], shown: &[u8]) -> Result<(), Fail> {
+    let wanted = note_that_shows(alloc, shown)?;
+    tells(alloc, &DELIMS, &[too_long(copy)], wanted.as_slice())
+}
+
+fn tells_texts(alloc: Global, cases: &[(&[u8], &[u8])]) -> Result<(), Fail> {
+    for (copy, shown) in cases {
+        tells_text(alloc, copy, shown)?;
+    }
+    Ok(())
 }
 
 #[test]
 fn copies_what_prints_and_is_no_delimiter(rt: HostRuntime) -> Result<(), Fail> {
-    for (copy, shown) in COPIES {
-        tells_text(&rt, copy, shown)?;
-    }
-    Ok(())
+    tells_texts(rt.alloc(), COPIES)
 }
 
 /// 99 letters A and this byte.
@@ -77,21 +80,31 @@ fn long_and(alloc: Global, last: u8) -> Result<Vec<u8>, NoMemory> {
     Ok(letters)
 }
 
-#[test]
-fn judges_the_whole_text_before_it_is_cut(rt: HostRuntime) -> Result<(), Fail> {
-    for (last, shown) in LAST_BYTES {
-        let letters = long_and(rt.alloc(), *last)?;
-        tells_text(&rt, letters.as_slice(), shown)?;
+fn tells_long(alloc: Global, last: u8, shown: &[u8]) -> Result<(), Fail> {
+    let letters = long_and(alloc, last)?;
+    tells_text(alloc, letters.as_slice(), shown)
+}
+
+fn tells_each_long(alloc: Global, cases: &[(u8, &[u8])]) -> Result<(), Fail> {
+    for (last, shown) in cases {
+        tells_long(alloc, *last, shown)?;
     }
     Ok(())
 }
 
 #[test]
+fn judges_the_whole_text_before_it_is_cut(rt: HostRuntime) -> Result<(), Fail> {
+    tells_each_long(rt.alloc(), LAST_BYTES)
+}
+
+const NO_REPETITION_SEPARATOR: Delims = Delims {
+    repetition: None,
+    ..DELIMS
+};
+
+#[test]
 fn copies_a_caret_where_nothing_repeats(rt: HostRuntime) -> Result<(), Fail> {
-    let delims = Delims {
-        repetition: None,
-        ..DELIMS
-    };
     let faults = [too_long(b"A^B")];
-    tells(&rt, &delims, &faults, b"IK3*REF*3**8~IK4*2*352*5*A^B~")
+    let wanted = b"IK3*REF*3**8~IK4*2*352*5*A^B~";
+    tells(rt.alloc(), &NO_REPETITION_SEPARATOR, &faults, wanted)
 }

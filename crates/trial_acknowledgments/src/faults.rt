@@ -1,9 +1,9 @@
 //! What is told of a set's faults.
 use crate::samples::{DELIMS, ElemRow, FaultRow, GroupRow, SetRow, acknowledgment, set};
+use crate::texts::same;
 use ack_999::append_set;
 use hub_kinds::{ElementCode, GroupCode, GroupVerdict, NoMemory, SegmentCode, SetCode, Verdict};
 use std::alloc::Global;
-use std::process::Abort;
 use std::test::Fail;
 use x12_bytes::Delims;
 
@@ -115,7 +115,14 @@ const SEGMENT_FAULTS: &[FaultRow<'static>] = &[
 ];
 
 /// The faults of a group's one set, its codes, the group's codes, and what is told behind AK1.
-const ANSWERS: &[(&[FaultRow<'static>], &[SetCode], &[GroupCode], &[u8])] = &[
+type Answer = (
+    &'static [FaultRow<'static>],
+    &'static [SetCode],
+    &'static [GroupCode],
+    &'static [u8],
+);
+
+const ANSWERS: &[Answer] = &[
     (
         ELEMENT_FAULTS_OF_FIVE_KINDS,
         &[
@@ -143,7 +150,9 @@ const ANSWERS: &[(&[FaultRow<'static>], &[SetCode], &[GroupCode], &[u8])] = &[
 ];
 
 /// The faults of a set, and what is told of them.
-const NOTES: &[(&[FaultRow<'static>], &[u8])] = &[
+type Note = (&'static [FaultRow<'static>], &'static [u8]);
+
+const NOTES: &[Note] = &[
     // a level of the hierarchy that may not stand there
     (
         &[FaultRow {
@@ -247,16 +256,15 @@ fn between(alloc: Global, wanted: &[u8]) -> Result<Vec<u8>, NoMemory> {
 }
 
 /// What is written of one set with these faults, between its AK2 and its IK5.
-pub fn tells<R: Abort + AllocGlobal>(
-    rt: &R,
+pub fn tells(
+    alloc: Global,
     delims: &Delims,
     faults: &[FaultRow],
     wanted: &[u8],
 ) -> Result<(), Fail> {
-    let out = told(rt.alloc(), delims, &rejected(faults, &[]))?;
-    let whole = between(rt.alloc(), wanted)?;
-    assert_eq!(rt; out.as_slice(), whole.as_slice());
-    Ok(())
+    let out = told(alloc, delims, &rejected(faults, &[]))?;
+    let whole = between(alloc, wanted)?;
+    same(alloc, "a set", out.as_slice(), whole.as_slice())
 }
 
 /// The whole text of group 12, of this behind its AK1.
@@ -267,8 +275,8 @@ fn behind_the_head(alloc: Global, wanted: &[u8]) -> Result<Vec<u8>, NoMemory> {
 }
 
 /// What is written of a group of one set with these faults.
-fn answers<R: Abort + AllocGlobal>(
-    rt: &R,
+fn answers(
+    alloc: Global,
     faults: &[FaultRow],
     set_codes: &[SetCode],
     group_codes: &[GroupCode],
@@ -280,60 +288,82 @@ fn answers<R: Abort + AllocGlobal>(
         codes: group_codes,
         verdict: GroupVerdict::Rejected,
     };
-    let bytes = acknowledgment(rt.alloc(), &group, &[rejected(faults, set_codes)], 1)?;
-    let whole = behind_the_head(rt.alloc(), wanted)?;
-    assert_eq!(rt; bytes.as_slice(), whole.as_slice());
+    let bytes = acknowledgment(alloc, &group, &[rejected(faults, set_codes)], 1)?;
+    let whole = behind_the_head(alloc, wanted)?;
+    same(alloc, "a group", bytes.as_slice(), whole.as_slice())
+}
+
+fn answers_each(alloc: Global, cases: &[Answer]) -> Result<(), Fail> {
+    for (faults, set_codes, group_codes, wanted) in cases {
+        answers(alloc, faults, set_codes, group_codes, wanted)?;
+    }
     Ok(())
 }
 
 #[test]
 fn answers_a_group_of_one_set(rt: HostRuntime) -> Result<(), Fail> {
-    for (faults, set_codes, group_codes, wanted) in ANSWERS {
-        answers(&rt, faults, set_codes, group_codes, wanted)?;
+    answers_each(rt.alloc(), ANSWERS)
+}
+
+fn tells_each(alloc: Global, cases: &[Note]) -> Result<(), Fail> {
+    for (faults, wanted) in cases {
+        tells(alloc, &DELIMS, faults, wanted)?;
     }
     Ok(())
 }
 
 #[test]
 fn tells_of_faults(rt: HostRuntime) -> Result<(), Fail> {
-    for (faults, wanted) in NOTES {
-        tells(&rt, &DELIMS, faults, wanted)?;
+    tells_each(rt.alloc(), NOTES)
+}
+
+/// A code that is not used, at the element, component and repetition of these numbers.
+fn invalid_code(numbers: [u32; 3]) -> FaultRow<'static> {
+    FaultRow {
+        position: 7,
+        id: b"SV1",
+        loop_id: b"LX",
+        code: SegmentCode::ElementErrors,
+        elem: Some(ElemRow {
+            numbers,
+            code: ElementCode::InvalidCode,
+            reference: b"",
+            copy: b"X",
+        }),
+    }
+}
+
+fn tells_positions(alloc: Global, cases: &[([u32; 3], &[u8])]) -> Result<(), Fail> {
+    for (numbers, wanted) in cases {
+        tells(alloc, &DELIMS, &[invalid_code(*numbers)], wanted)?;
     }
     Ok(())
 }
 
 #[test]
 fn writes_positions_with_a_gap_and_without(rt: HostRuntime) -> Result<(), Fail> {
-    for (numbers, wanted) in POSITIONS {
-        let elem = ElemRow {
-            numbers: *numbers,
-            code: ElementCode::InvalidCode,
-            reference: b"",
-            copy: b"X",
-        };
-        let fault = FaultRow {
-            position: 7,
-            id: b"SV1",
-            loop_id: b"LX",
-            code: SegmentCode::ElementErrors,
-            elem: Some(elem),
-        };
-        tells(&rt, &DELIMS, &[fault], wanted)?;
+    tells_positions(rt.alloc(), POSITIONS)
+}
+
+/// A segment of this id that no guide has.
+fn unrecognized(id: &[u8]) -> FaultRow<'_> {
+    FaultRow {
+        position: 4,
+        id,
+        loop_id: b"",
+        code: SegmentCode::UnrecognizedSegment,
+        elem: None,
+    }
+}
+
+fn tells_ids(alloc: Global, cases: &[(&[u8], &[u8])]) -> Result<(), Fail> {
+    for (id, wanted) in cases {
+        tells(alloc, &DELIMS, &[unrecognized(id)], wanted)?;
     }
     Ok(())
 }
 
 #[test]
 fn writes_zzz_for_what_is_no_id(rt: HostRuntime) -> Result<(), Fail> {
-    for (id, wanted) in IDS {
-        let fault = FaultRow {
-            position: 4,
-            id,
-            loop_id: b"",
-            code: SegmentCode::UnrecognizedSegment,
-            elem: None,
-        };
-        tells(&rt, &DELIMS, &[fault], wanted)?;
-    }
-    Ok(())
+    tells_ids(rt.alloc(), IDS)
 }

@@ -91,13 +91,24 @@ fn codes_of(alloc: Global, group: &GroupCase) -> Result<Items<GroupCode>, NoMemo
     )
 }
 
-#[test]
-fn finds_the_codes_of_a_group(rt: HostRuntime) -> Result<(), Fail> {
-    for group in CODES {
-        let codes = codes_of(rt.alloc(), group)?;
-        assert_eq!(rt; codes.as_slice(), group.codes);
+fn expect_codes(alloc: Global, group: &GroupCase) -> Result<(), Fail> {
+    let codes = codes_of(alloc, group)?;
+    if codes.as_slice() == group.codes {
+        return Ok(());
+    }
+    Err(Fail::new(format!(in alloc; "{codes:?}")?))
+}
+
+fn expect_each(alloc: Global, groups: &[GroupCase]) -> Result<(), Fail> {
+    for group in groups {
+        expect_codes(alloc, group)?;
     }
     Ok(())
+}
+
+#[test]
+fn finds_the_codes_of_a_group(rt: HostRuntime) -> Result<(), Fail> {
+    expect_each(rt.alloc(), CODES)
 }
 
 /// The totals of two sets with these verdicts.
@@ -117,13 +128,25 @@ fn totals_of_two(alloc: Global, first: Verdict, second: Verdict) -> Result<Total
     Ok(totals)
 }
 
-#[test]
-fn judges_a_group_of_two_sets(rt: HostRuntime) -> Result<(), Fail> {
-    for (first, second, verdict) in VERDICTS {
-        let totals = totals_of_two(rt.alloc(), *first, *second)?;
-        assert_eq!(rt; group_verdict(&[], &totals), *verdict);
+fn expect_verdict(alloc: Global, case: &(Verdict, Verdict, GroupVerdict)) -> Result<(), Fail> {
+    let (first, second, wanted) = *case;
+    let verdict = group_verdict(&[], &totals_of_two(alloc, first, second)?);
+    if verdict == wanted {
+        return Ok(());
+    }
+    Err(Fail::new(format!(in alloc; "{first:?} and {second:?}: {verdict:?}")?))
+}
+
+fn expect_verdicts(alloc: Global, cases: &[(Verdict, Verdict, GroupVerdict)]) -> Result<(), Fail> {
+    for case in cases {
+        expect_verdict(alloc, case)?;
     }
     Ok(())
+}
+
+#[test]
+fn judges_a_group_of_two_sets(rt: HostRuntime) -> Result<(), Fail> {
+    expect_verdicts(rt.alloc(), VERDICTS)
 }
 
 #[test]

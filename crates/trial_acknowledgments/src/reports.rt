@@ -1,8 +1,10 @@
 //! Whole acknowledgments of groups whose sets have no faults, and the interchange around one.
 use crate::samples::{ACCEPTED_GROUP, ACCEPTED_SET, DELIMS, GroupRow, SetRow, acknowledgment};
+use crate::texts::same;
 use ack_999::{Envelope, append_closing, write_ack_interchange};
 use elem_rules::At;
-use hub_kinds::{GroupCode, GroupVerdict, Items, Lent, SetCode, Verdict};
+use hub_kinds::{GroupCode, GroupVerdict, Items, Lent, NoMemory, SetCode, Verdict};
+use std::alloc::Global;
 use std::test::Fail;
 use x12_bytes::read_header;
 use x12_write::{GroupHeader, append_group, append_header, append_trailer};
@@ -105,13 +107,21 @@ const CASES: &[Case] = &[
     },
 ];
 
-#[test]
-fn writes_acknowledgments(rt: HostRuntime) -> Result<(), Fail> {
-    for case in CASES {
-        let bytes = acknowledgment(rt.alloc(), &case.group, case.sets, case.number)?;
-        assert_eq!(rt; bytes.as_slice(), case.text);
+fn writes(alloc: Global, case: &Case) -> Result<(), Fail> {
+    let bytes = acknowledgment(alloc, &case.group, case.sets, case.number)?;
+    same(alloc, "a report", bytes.as_slice(), case.text)
+}
+
+fn writes_each(alloc: Global, cases: &[Case]) -> Result<(), Fail> {
+    for case in cases {
+        writes(alloc, case)?;
     }
     Ok(())
+}
+
+#[test]
+fn writes_acknowledgments(rt: HostRuntime) -> Result<(), Fail> {
+    writes_each(rt.alloc(), CASES)
 }
 
 fn envelope() -> Envelope<'static> {
@@ -133,58 +143,80 @@ const SENT: &[u8] =
       GS*FA*HUB*ACME*20260301*1530*1*X*005010X231~ST*999*0001*005010X231~AK1*PO*12*005010~AK2*850*0001~IK5*A~\
       AK9*A*1*1*1~SE*6*0001~GE*1*1~IEA*1*000000001~";
 
+/// What is sent of an accepted set, made at a moment.
+fn sent(alloc: Global, at: &At) -> Result<Vec<u8>, NoMemory> {
+    let report = acknowledgment(alloc, &ACCEPTED_GROUP, &[ACCEPTED_SET], 1)?;
+    write_ack_interchange(alloc, &envelope(), at, 1, &[Items::from_vec(report)])
+}
+
 #[test]
 fn sends_an_acknowledgment_to_the_partner(rt: HostRuntime) -> Result<(), Fail> {
-    let alloc = rt.alloc();
     let at = At::read(b"202603011530").ok_or("no moment")?;
-    let report = acknowledgment(alloc, &ACCEPTED_GROUP, &[ACCEPTED_SET], 1)?;
-    let bytes = write_ack_interchange(alloc, &envelope(), &at, 1, &[Items::from_vec(report)])?;
-    assert_eq!(rt; bytes.as_slice(), SENT);
-    Ok(())
+    let bytes = sent(rt.alloc(), &at)?;
+    same(rt.alloc(), "an interchange", bytes.as_slice(), SENT)
 }
 
 #[test]
 fn appends_behind_what_is_there(rt: HostRuntime) -> Result<(), Fail> {
     let mut out = Vec::from_slice(rt.alloc(), b"SE*6*0001~")?;
     append_closing(&mut out, &envelope(), 1, 1)?;
-    assert_eq!(rt;
+    same(
+        rt.alloc(),
+        "a closing",
         out.as_slice(),
-        b"SE*6*0001~GE*1*1~IEA*1*000000001~".as_slice()
-    );
-    Ok(())
+        b"SE*6*0001~GE*1*1~IEA*1*000000001~",
+    )
+}
+
+/// A header behind a terminator.
+fn header(alloc: Global, at: &At) -> Result<Vec<u8>, NoMemory> {
+    let mut out = Vec::from_slice(alloc, b"~")?;
+    append_header(&mut out, &envelope(), at, 999_999_999)?;
+    Ok(out)
+}
+
+fn reads_back(alloc: Global, text: &[u8]) -> Result<(), Fail> {
+    let header = read_header(text, 1).ok_or("no header")?;
+    if header.delims() != DELIMS {
+        return Err("other delimiters")?;
+    }
+    same(alloc, "ISA06", header.field(6), b"HUB            ")?;
+    same(alloc, "ISA13", header.field(13), b"999999999")
 }
 
 #[test]
 fn reads_back_the_header_that_is_sent(rt: HostRuntime) -> Result<(), Fail> {
     let at = At::read(b"202603011530").ok_or("no moment")?;
-    let mut out = Vec::from_slice(rt.alloc(), b"~")?;
-    append_header(&mut out, &envelope(), &at, 999_999_999)?;
-    let header = read_header(out.as_slice(), 1).ok_or("no header")?;
-    assert_eq!(rt; header.delims(), DELIMS);
-    assert_eq!(rt; header.field(6), b"HUB            ".as_slice());
-    assert_eq!(rt; header.field(13), b"999999999".as_slice());
-    Ok(())
+    let out = header(rt.alloc(), &at)?;
+    reads_back(rt.alloc(), out.as_slice())
 }
 
 const DELIVERED: &[u8] =
     b"GS*PO*ACME*BOLT*20260301*1530*12*X*005010~ST*850*0001~SE*2*0001~ST*850*0002~SE*2*0002~GE*2*12~IEA*3*000000007~";
 
-#[test]
-fn writes_a_group_of_two_sets_under_its_number(rt: HostRuntime) -> Result<(), Fail> {
-    let alloc = rt.alloc();
-    let at = At::read(b"202603011530").ok_or("no moment")?;
-    let header = GroupHeader {
+fn orders() -> GroupHeader<'static> {
+    GroupHeader {
         functional_id: Lent::new(b"PO"),
         sender: Lent::new(b"ACME"),
         receiver: Lent::new(b"BOLT"),
         control: 12,
         version: Lent::new(b"005010"),
-    };
+    }
+}
+
+/// A group of two sets and the end of its interchange.
+fn delivered(alloc: Global, at: &At) -> Result<Vec<u8>, NoMemory> {
     let first = Items::from_vec(Vec::from_slice(alloc, b"ST*850*0001~SE*2*0001~")?);
     let second = Items::from_vec(Vec::from_slice(alloc, b"ST*850*0002~SE*2*0002~")?);
     let mut out = Vec::new(alloc);
-    append_group(&mut out, &DELIMS, &at, &header, &[first, second])?;
+    append_group(&mut out, &DELIMS, at, &orders(), &[first, second])?;
     append_trailer(&mut out, &DELIMS, 3, 7)?;
-    assert_eq!(rt; out.as_slice(), DELIVERED);
-    Ok(())
+    Ok(out)
+}
+
+#[test]
+fn writes_a_group_of_two_sets_under_its_number(rt: HostRuntime) -> Result<(), Fail> {
+    let at = At::read(b"202603011530").ok_or("no moment")?;
+    let out = delivered(rt.alloc(), &at)?;
+    same(rt.alloc(), "a group", out.as_slice(), DELIVERED)
 }

@@ -1,5 +1,5 @@
 //! Guides that the check refuses, and one that it doesn't.
-use super::rows::{Row, fault_of, guide_of, loop_of, none, row_fault, segment};
+use super::rows::{Row, fault_of, guide_of, loop_of, plain, row_fault};
 use guide_tree::{Guide, GuideFault, Node};
 use std::alloc::{AllocError, Global};
 use std::test::Fail;
@@ -8,59 +8,72 @@ use std::test::Fail;
 const CHECKED: &[(&[Row], Option<GuideFault>)] = &[
     (&[], None),
     (
-        &[Row::Segment(b"REF", 0, 1), Row::Segment(b"REF", 0, 1)],
+        &[Row::Segment("REF", 0, 1), Row::Segment("REF", 0, 1)],
         Some(GuideFault::Ambiguous(1, 2)),
     ),
     (
-        &[Row::Segment(b"N1", 1, 2), Row::Loop(1)],
+        &[Row::Segment("N1", 1, 2), Row::Loop("L", 0, 9, 1)],
         Some(GuideFault::BadTrigger(1)),
     ),
+    (&[Row::Segment("REF", 2, 1)], Some(GuideFault::BadBounds(1))),
     (
-        &[Row::Segment(b"REF", 2, 1)],
-        Some(GuideFault::BadBounds(1)),
-    ),
-    (
-        &[Row::Segment(b"BEG", 1, 1), Row::Conditioned(b"REF")],
+        &[Row::Segment("BEG", 1, 1), Row::Conditioned("REF")],
         Some(GuideFault::BadCondition(2)),
     ),
     // a rival outside a loop, behind many repetitions
     (
         &[
-            Row::Segment(b"N1", 1, 1),
-            Row::Segment(b"REF", 0, 1),
-            Row::Loop(2),
-            Row::Segment(b"CTT", 0, 1),
-            Row::Segment(b"REF", 0, 1),
+            Row::Segment("N1", 1, 1),
+            Row::Segment("REF", 0, 1),
+            Row::Loop("L", 0, 9, 2),
+            Row::Segment("CTT", 0, 1),
+            Row::Segment("REF", 0, 1),
         ],
         Some(GuideFault::Ambiguous(3, 5)),
     ),
     // a condition is judged before rivals
     (
         &[
-            Row::Segment(b"REF", 0, 1),
-            Row::Segment(b"REF", 0, 1),
-            Row::Conditioned(b"CTT"),
+            Row::Segment("REF", 0, 1),
+            Row::Segment("REF", 0, 1),
+            Row::Conditioned("CTT"),
         ],
         Some(GuideFault::BadCondition(3)),
     ),
 ];
 
-#[test]
-fn faults_of_rows(rt: HostRuntime) -> Result<(), AllocError> {
-    for (rows, want) in CHECKED {
-        assert_eq!(rt; row_fault(rt.alloc(), rows)?, *want);
+/// Whether it is the fault that is wanted; if not, it is shown.
+fn expect(
+    alloc: Global,
+    found: Option<GuideFault>,
+    wanted: Option<GuideFault>,
+) -> Result<(), Fail> {
+    if found == wanted {
+        return Ok(());
+    }
+    Err(Fail::new(format!(in alloc; "{found:?}")?))
+}
+
+fn expect_checked(alloc: Global, cases: &[(&[Row], Option<GuideFault>)]) -> Result<(), Fail> {
+    for (rows, wanted) in cases {
+        expect(alloc, row_fault(alloc, rows)?, *wanted)?;
     }
     Ok(())
+}
+
+#[test]
+fn faults_of_rows(rt: HostRuntime) -> Result<(), Fail> {
+    expect_checked(rt.alloc(), CHECKED)
 }
 
 /// A loop of a segment and of these nodes.
 fn around(alloc: Global, id: &[u8], inner: Vec<Node>) -> Result<Node, AllocError> {
     let mut nodes = Vec::new(alloc);
-    nodes.push(segment(alloc, id, 1, 1, none(alloc))?)?;
+    nodes.push(plain(alloc, id, 1, 1)?)?;
     for node in inner {
         nodes.push(node)?;
     }
-    loop_of(alloc, nodes)
+    loop_of(alloc, b"L", 0, 9, nodes)
 }
 
 /// Loops nested so deep, each with a first segment of its own.
@@ -84,7 +97,7 @@ fn many(alloc: Global, count: u32) -> Result<Vec<Node>, AllocError> {
             b'A' + (i / 26 % 26) as u8,
             b'A' + (i % 26) as u8,
         ];
-        nodes.push(segment(alloc, &id, 0, 1, none(alloc))?)?;
+        nodes.push(plain(alloc, &id, 0, 1)?)?;
     }
     Ok(nodes)
 }
@@ -100,14 +113,18 @@ fn fault_of_many(alloc: Global, count: u32) -> Result<Option<GuideFault>, AllocE
 /// How deep loops are nested, and the fault.
 const NESTED: &[(u8, Option<GuideFault>)] = &[(8, None), (9, Some(GuideFault::TooDeep))];
 
-#[test]
-fn limits(rt: HostRuntime) -> Result<(), AllocError> {
-    let alloc = rt.alloc();
-    for (depth, want) in NESTED {
-        assert_eq!(rt; nested_fault(alloc, *depth)?, *want);
+fn expect_nested(alloc: Global, cases: &[(u8, Option<GuideFault>)]) -> Result<(), Fail> {
+    for (depth, wanted) in cases {
+        expect(alloc, nested_fault(alloc, *depth)?, *wanted)?;
     }
-    assert_eq!(rt; fault_of_many(alloc, 2_001)?, Some(GuideFault::TooMany));
     Ok(())
+}
+
+#[test]
+fn limits(rt: HostRuntime) -> Result<(), Fail> {
+    expect_nested(rt.alloc(), NESTED)?;
+    let found = fault_of_many(rt.alloc(), 2_001)?;
+    expect(rt.alloc(), found, Some(GuideFault::TooMany))
 }
 
 /// The numbers of the nodes and of what is in them, parents first.
@@ -131,28 +148,43 @@ fn numbers_of(alloc: Global, guide: &Guide) -> Result<Vec<u32>, AllocError> {
 }
 
 const PARTY: &[Row] = &[
-    Row::Segment(b"BEG", 1, 1),
-    Row::Segment(b"N1", 1, 1),
-    Row::Segment(b"N3", 0, 2),
-    Row::Loop(2),
+    Row::Segment("BEG", 1, 1),
+    Row::Segment("N1", 1, 1),
+    Row::Segment("N3", 0, 2),
+    Row::Loop("L", 0, 9, 2),
 ];
 
 const PARTY_AND_TOTAL: &[Row] = &[
-    Row::Segment(b"BEG", 1, 1),
-    Row::Segment(b"N1", 1, 1),
-    Row::Segment(b"N3", 0, 2),
-    Row::Loop(2),
-    Row::Segment(b"CTT", 0, 1),
+    Row::Segment("BEG", 1, 1),
+    Row::Segment("N1", 1, 1),
+    Row::Segment("N3", 0, 2),
+    Row::Loop("L", 0, 9, 2),
+    Row::Segment("CTT", 0, 1),
 ];
+
+/// Whether the numbers of a guide's nodes are these, and no slot has the label.
+fn expect_numbers(alloc: Global, guide: &Guide, numbers: &[u32], label: &[u8]) -> Result<(), Fail> {
+    let found = numbers_of(alloc, guide)?;
+    if found.as_slice() == numbers && guide.slot_labelled(label).is_none() {
+        return Ok(());
+    }
+    Err(Fail::new(format!(in alloc; "{found:?}")?))
+}
+
+fn expect_numbers_of(
+    alloc: Global,
+    rows: &[Row],
+    numbers: &[u32],
+    label: &[u8],
+) -> Result<(), Fail> {
+    let guide = guide_of(alloc, rows)?;
+    expect_numbers(alloc, &guide, numbers, label)
+}
 
 /// Slots are numbered parents first, whatever the rows say.
 #[test]
 fn numbers(rt: HostRuntime) -> Result<(), Fail> {
-    let guide = guide_of(rt.alloc(), PARTY_AND_TOTAL)?;
-    let numbers = numbers_of(rt.alloc(), &guide)?;
-    assert_eq!(rt; numbers.as_slice(), [1, 2, 3, 4, 5].as_slice());
-    assert!(rt; guide.slot_labelled(b"REF").is_none());
-    Ok(())
+    expect_numbers_of(rt.alloc(), PARTY_AND_TOTAL, &[1, 2, 3, 4, 5], b"REF")
 }
 
 #[test]
@@ -171,11 +203,21 @@ fn slot_id(guide: &Guide, number: u32) -> &[u8] {
 /// Numbers, and the id of the slot that has it: a loop's number is no slot's.
 const SLOTS: &[(u32, &[u8])] = &[(4, b"N3"), (2, b""), (5, b"")];
 
-#[test]
-fn slots_by_their_numbers(rt: HostRuntime) -> Result<(), Fail> {
-    let guide = guide_of(rt.alloc(), PARTY)?;
-    for (number, id) in SLOTS {
-        assert!(rt; slot_id(&guide, *number) == *id);
+fn expect_slots(guide: &Guide, slots: &[(u32, &[u8])]) -> Result<(), Fail> {
+    for (number, id) in slots {
+        if slot_id(guide, *number) != *id {
+            return Err("another slot")?;
+        }
     }
     Ok(())
+}
+
+fn expect_slots_of(alloc: Global, rows: &[Row], slots: &[(u32, &[u8])]) -> Result<(), Fail> {
+    let guide = guide_of(alloc, rows)?;
+    expect_slots(&guide, slots)
+}
+
+#[test]
+fn slots_by_their_numbers(rt: HostRuntime) -> Result<(), Fail> {
+    expect_slots_of(rt.alloc(), PARTY, SLOTS)
 }

@@ -1,34 +1,55 @@
 //! Guide files that are refused, and some that are read.
-use guide_toml::read_guide;
+use super::texts::same;
+use guide_toml::{GuideFileFault, read_guide};
 use std::alloc::{AllocError, Global};
+use std::test::Fail;
 
 const HEAD: &str = "name=\"G\"\ngroup=\"PO\"\nset=\"850\"\nversion=\"005010\"\n";
 
-/// The fault of a file, as a text; `None` where it is read.
-pub fn fault_of(alloc: Global, file: &[u8]) -> Result<String, AllocError> {
+/// The fault of a file; `None` where it is read.
+pub fn fault_of(alloc: Global, file: &[u8]) -> Option<GuideFileFault> {
     match read_guide(alloc, file) {
-        Ok(_) => String::from_str(alloc, "None"),
-        Err(fault) => format!(in alloc; "{fault:?}"),
+        Ok(_) => None,
+        Err(fault) => Some(fault),
     }
 }
 
-/// The same of a file with these nodes.
-pub fn node_fault(alloc: Global, nodes: &str) -> Result<String, AllocError> {
+/// How a fault is written; `None` where there is none.
+fn written(alloc: Global, fault: &Option<GuideFileFault>) -> Result<String, AllocError> {
+    match fault {
+        None => String::from_str(alloc, "None"),
+        Some(fault) => format!(in alloc; "{fault:?}"),
+    }
+}
+
+/// Whether it is the fault that is written so; if not, it is shown behind what it is told of.
+pub fn expect(
+    alloc: Global,
+    of: &[u8],
+    fault: &Option<GuideFileFault>,
+    wanted: &str,
+) -> Result<(), Fail> {
+    let found = written(alloc, fault)?;
+    same(alloc, of, found.as_bytes(), wanted.as_bytes())
+}
+
+/// The fault of a file with these nodes.
+fn node_fault(alloc: Global, nodes: &str) -> Result<Option<GuideFileFault>, AllocError> {
     let file = format!(in alloc; "{HEAD}nodes=[{nodes}]\n")?;
-    fault_of(alloc, file.as_bytes())
+    Ok(fault_of(alloc, file.as_bytes()))
 }
 
 /// The same of a file of one segment with this row.
-fn row_fault(alloc: Global, row: &str) -> Result<String, AllocError> {
+fn row_fault(alloc: Global, row: &str) -> Result<Option<GuideFileFault>, AllocError> {
     let node = format!(in alloc; "{{seg=\"REF\",min=0,max=1,elements=[\"{row}\"]}}")?;
     node_fault(alloc, node.as_str())
 }
 
-/// The number of the refusal of a file; 0 where it is read.
-fn number_of(alloc: Global, file: &[u8]) -> u32 {
-    match read_guide(alloc, file) {
-        Ok(_) => 0,
-        Err(fault) => fault.number(),
+/// The number of a refusal; 0 where there is none.
+fn number_of(fault: &Option<GuideFileFault>) -> u32 {
+    match fault {
+        None => 0,
+        Some(fault) => fault.number(),
     }
 }
 
@@ -41,13 +62,25 @@ const FILES: &[(&[u8], &str, u32)] = &[
     (&[0xff], "NotToml", 1),
 ];
 
-#[test]
-fn first_faults(rt: HostRuntime) -> Result<(), AllocError> {
-    for (file, want, number) in FILES {
-        assert_eq!(rt; fault_of(rt.alloc(), file)?.as_str(), *want);
-        assert_eq!(rt; number_of(rt.alloc(), file), *number);
+fn expect_file(alloc: Global, case: &(&[u8], &str, u32)) -> Result<(), Fail> {
+    let (file, wanted, number) = *case;
+    let fault = fault_of(alloc, file);
+    if number_of(&fault) != number {
+        return Err("another number")?;
+    }
+    expect(alloc, file, &fault, wanted)
+}
+
+fn expect_files(alloc: Global, cases: &[(&[u8], &str, u32)]) -> Result<(), Fail> {
+    for case in cases {
+        expect_file(alloc, case)?;
     }
     Ok(())
+}
+
+#[test]
+fn first_faults(rt: HostRuntime) -> Result<(), Fail> {
+    expect_files(rt.alloc(), FILES)
 }
 
 /// Nodes of a file, and the fault of each.
@@ -76,12 +109,21 @@ const NODES: &[(&str, &str)] = &[
     ),
 ];
 
-#[test]
-fn first_faults_of_nodes(rt: HostRuntime) -> Result<(), AllocError> {
-    for (nodes, want) in NODES {
-        assert_eq!(rt; node_fault(rt.alloc(), nodes)?.as_str(), *want);
+pub fn expect_node(alloc: Global, nodes: &str, wanted: &str) -> Result<(), Fail> {
+    let fault = node_fault(alloc, nodes)?;
+    expect(alloc, nodes.as_bytes(), &fault, wanted)
+}
+
+fn expect_nodes(alloc: Global, cases: &[(&str, &str)]) -> Result<(), Fail> {
+    for (nodes, wanted) in cases {
+        expect_node(alloc, nodes, wanted)?;
     }
     Ok(())
+}
+
+#[test]
+fn first_faults_of_nodes(rt: HostRuntime) -> Result<(), Fail> {
+    expect_nodes(rt.alloc(), NODES)
 }
 
 const MALFORMED: &str = "WrongKind(\"elements\")";
@@ -116,10 +158,19 @@ const ROWS: &[(&str, &str)] = &[
     ("353 M ID 1 2 x0", OUT_OF_BOUNDS),
 ];
 
-#[test]
-fn element_rows(rt: HostRuntime) -> Result<(), AllocError> {
-    for (row, want) in ROWS {
-        assert_eq!(rt; row_fault(rt.alloc(), row)?.as_str(), *want, "{row}");
+fn expect_row(alloc: Global, row: &str, wanted: &str) -> Result<(), Fail> {
+    let fault = row_fault(alloc, row)?;
+    expect(alloc, row.as_bytes(), &fault, wanted)
+}
+
+fn expect_rows(alloc: Global, cases: &[(&str, &str)]) -> Result<(), Fail> {
+    for (row, wanted) in cases {
+        expect_row(alloc, row, wanted)?;
     }
     Ok(())
+}
+
+#[test]
+fn element_rows(rt: HostRuntime) -> Result<(), Fail> {
+    expect_rows(rt.alloc(), ROWS)
 }

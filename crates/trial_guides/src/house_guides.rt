@@ -1,8 +1,9 @@
 //! What the house guides read as.
-use super::files::fault_of;
+use super::files::{expect, fault_of};
 use super::house::{H850, H856};
+use super::texts::same;
 use guide_toml::read_guide;
-use guide_tree::{CodeList, Element, ElementType, Guide, Node};
+use guide_tree::{CodeList, Element, ElementType, Guide, Node, SimpleRow};
 use std::alloc::{AllocError, Global};
 use std::test::Fail;
 
@@ -37,8 +38,7 @@ fn guide_of(alloc: Global, file: &str) -> Result<Guide, Fail> {
     Ok(read_guide(alloc, file.as_bytes())?)
 }
 
-fn slots(alloc: Global, file: &str) -> Result<String, Fail> {
-    let guide = guide_of(alloc, file)?;
+fn slots(alloc: Global, guide: &Guide) -> Result<String, AllocError> {
     let mut out = String::new(alloc);
     listed(&guide.rows().nodes, &mut out)?;
     Ok(out)
@@ -48,18 +48,22 @@ fn counts_codes(codes: &CodeList, used: usize) -> bool {
     codes.used.as_slice().len() == used && codes.unused.is_some()
 }
 
-/// Whether it is an identifier of this reference, once, with so many codes that are used and some that are not.
-fn is_identifier(element: &Element, reference: &[u8], used: usize) -> bool {
-    match element {
-        Element::Simple(row, repeat) => {
+/// Whether it is an identifier of this reference, with so many codes that are used and some that are not.
+fn is_identifier_row(row: &SimpleRow, reference: &[u8], used: usize) -> bool {
+    match &row.codes {
+        None => false,
+        Some(codes) => {
             row.reference.as_slice() == reference
                 && row.data_type == ElementType::Identifier
-                && *repeat == 1
-                && row
-                    .codes
-                    .as_ref()
-                    .is_some_and(|codes| counts_codes(codes, used))
+                && counts_codes(codes, used)
         }
+    }
+}
+
+/// The same of an element, which occurs once.
+fn is_identifier(element: &Element, reference: &[u8], used: usize) -> bool {
+    match element {
+        Element::Simple(row, repeat) => { *repeat == 1 && is_identifier_row(row, reference, used) }
         _ => false,
     }
 }
@@ -108,11 +112,6 @@ fn facts(alloc: Global, guide: &Guide) -> Result<String, AllocError> {
     format!(in alloc; "{known} {tolerated} {dependencies} {hierarchy:?} {elements}")
 }
 
-fn facts_of(alloc: Global, file: &str) -> Result<String, Fail> {
-    let guide = guide_of(alloc, file)?;
-    Ok(facts(alloc, &guide)?)
-}
-
 fn is_named(guide: &Guide, name: &[u8]) -> bool {
     guide.rows().head.name.as_slice() == name
 }
@@ -131,19 +130,52 @@ const HOUSE: &[(&str, &str, &str)] = &[
     ),
 ];
 
-#[test]
-fn house_guides(rt: HostRuntime) -> Result<(), Fail> {
-    for (file, slots_and_ids, others) in HOUSE {
-        assert_eq!(rt; slots(rt.alloc(), file)?.as_str(), *slots_and_ids);
-        assert_eq!(rt; facts_of(rt.alloc(), file)?.as_str(), *others);
+fn expect_slots(alloc: Global, guide: &Guide, wanted: &str) -> Result<(), Fail> {
+    let found = slots(alloc, guide)?;
+    same(alloc, b"slots", found.as_bytes(), wanted.as_bytes())
+}
+
+fn expect_facts(alloc: Global, guide: &Guide, wanted: &str) -> Result<(), Fail> {
+    let found = facts(alloc, guide)?;
+    same(alloc, b"facts", found.as_bytes(), wanted.as_bytes())
+}
+
+fn expect_both(
+    alloc: Global,
+    guide: &Guide,
+    slots_and_ids: &str,
+    others: &str,
+) -> Result<(), Fail> {
+    expect_slots(alloc, guide, slots_and_ids)?;
+    expect_facts(alloc, guide, others)
+}
+
+fn expect_house(alloc: Global, case: &(&str, &str, &str)) -> Result<(), Fail> {
+    let (file, slots_and_ids, others) = *case;
+    let guide = guide_of(alloc, file)?;
+    expect_both(alloc, &guide, slots_and_ids, others)
+}
+
+fn expect_houses(alloc: Global, cases: &[(&str, &str, &str)]) -> Result<(), Fail> {
+    for case in cases {
+        expect_house(alloc, case)?;
     }
     Ok(())
 }
 
 #[test]
+fn house_guides(rt: HostRuntime) -> Result<(), Fail> {
+    expect_houses(rt.alloc(), HOUSE)
+}
+
+fn is_order_that_begins_with_purpose(alloc: Global, file: &str) -> Result<bool, Fail> {
+    let guide = guide_of(alloc, file)?;
+    Ok(is_named(&guide, b"H850") && begins_with_purpose(&guide))
+}
+
+#[test]
 fn house_order_begins_with_purpose(rt: HostRuntime) -> Result<(), Fail> {
-    let guide = guide_of(rt.alloc(), H850)?;
-    assert!(rt; is_named(&guide, b"H850") && begins_with_purpose(&guide));
+    assert!(rt; is_order_that_begins_with_purpose(rt.alloc(), H850)?);
     Ok(())
 }
 
@@ -159,9 +191,8 @@ fn with_rival(alloc: Global) -> Result<String, AllocError> {
 }
 
 #[test]
-fn rival_in_a_house_guide(rt: HostRuntime) -> Result<(), AllocError> {
+fn rival_in_a_house_guide(rt: HostRuntime) -> Result<(), Fail> {
     let file = with_rival(rt.alloc())?;
-    let found = fault_of(rt.alloc(), file.as_bytes())?;
-    assert_eq!(rt; found.as_str(), "Guide(Ambiguous(2, 3))");
-    Ok(())
+    let fault = fault_of(rt.alloc(), file.as_bytes());
+    expect(rt.alloc(), b"a rival", &fault, "Guide(Ambiguous(2, 3))")
 }

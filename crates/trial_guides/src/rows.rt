@@ -1,6 +1,9 @@
 //! Guides that are made row by row, and what their check answers.
-use guide_tree::{Condition, Guide, GuideFault, GuideHead, GuideRows, Loop, Node, Relation, Slot};
-use hub_kinds::{Items, Text};
+use guide_tree::{
+    Condition, Element, ElementType, Guide, GuideFault, GuideHead, GuideRows, Loop, Node, Pick,
+    Relation, Requirement, SimpleRow, Slot,
+};
+use hub_kinds::{Items, Text, Texts};
 use std::alloc::{AllocError, Global};
 use std::test::Fail;
 
@@ -8,14 +11,16 @@ use std::test::Fail;
 #[derive(Clone, Copy)]
 pub enum Row {
     /// A segment, with its least and greatest use.
-    Segment(&'static [u8], u32, u32),
+    Segment(&'static str, u32, u32),
+    /// A segment that is picked by a code in its first element.
+    Picked(&'static str, u32, u32, &'static str),
     /// A segment with a relational condition of one position.
-    Conditioned(&'static [u8]),
-    /// A loop of the last so many nodes.
-    Loop(usize),
+    Conditioned(&'static str),
+    /// A loop of the last so many nodes, with its least and greatest number of repetitions.
+    Loop(&'static str, u32, u32, usize),
 }
 
-fn text(alloc: Global, bytes: &[u8]) -> Result<Text, AllocError> {
+pub fn text(alloc: Global, bytes: &[u8]) -> Result<Text, AllocError> {
     Ok(Items::from_vec(Vec::from_slice(alloc, bytes)?))
 }
 
@@ -23,40 +28,100 @@ pub fn none<T>(alloc: Global) -> Items<T> {
     Items::from_vec(Vec::new(alloc))
 }
 
+/// A list of one text.
+fn one_text(alloc: Global, bytes: &[u8]) -> Result<Texts, AllocError> {
+    let mut texts = Vec::new(alloc);
+    texts.push(text(alloc, bytes)?)?;
+    Ok(Items::from_vec(texts))
+}
+
+/// A segment by its id, its least and greatest use, its picks, its elements and its conditions.
 pub fn segment(
     alloc: Global,
     id: &[u8],
-    min: u32,
-    max: u32,
+    uses: (u32, u32),
+    picks: Items<Pick>,
+    elements: Items<Element>,
     conditions: Items<Condition>,
 ) -> Result<Node, AllocError> {
+    let (min, max) = uses;
     Ok(Node::Segment(Slot {
         number: 0,
         id: text(alloc, id)?,
         label: None,
         min,
         max,
-        picks: none(alloc),
-        elements: none(alloc),
+        picks,
+        elements,
         conditions,
     }))
 }
 
-/// A relational condition of one position.
-fn condition(alloc: Global) -> Result<Items<Condition>, AllocError> {
-    let condition = Condition {
-        relation: Relation::Required,
-        positions: Items::from_vec(vec![in alloc; 2u32]?),
-    };
-    Ok(Items::from_vec(vec![in alloc; condition]?))
+/// A segment by its id, and its least and greatest use.
+pub fn plain(alloc: Global, id: &[u8], min: u32, max: u32) -> Result<Node, AllocError> {
+    let uses = (min, max);
+    segment(alloc, id, uses, none(alloc), none(alloc), none(alloc))
 }
 
-pub fn loop_of(alloc: Global, nodes: Vec<Node>) -> Result<Node, AllocError> {
+/// The row of one code.
+fn code_row(alloc: Global) -> Result<Items<Element>, AllocError> {
+    let row = SimpleRow {
+        reference: text(alloc, b"128")?,
+        requirement: Requirement::Mandatory,
+        data_type: ElementType::Text,
+        min: 2,
+        max: 2,
+        wide: false,
+        codes: None,
+    };
+    let mut rows = Vec::new(alloc);
+    rows.push(Element::Simple(row, 1))?;
+    Ok(Items::from_vec(rows))
+}
+
+fn pick(alloc: Global, code: &[u8]) -> Result<Items<Pick>, AllocError> {
+    let mut picks = Vec::new(alloc);
+    picks.push(Pick {
+        position: 1,
+        codes: one_text(alloc, code)?,
+    })?;
+    Ok(Items::from_vec(picks))
+}
+
+fn picked(alloc: Global, id: &[u8], uses: (u32, u32), code: &[u8]) -> Result<Node, AllocError> {
+    let picks = pick(alloc, code)?;
+    segment(alloc, id, uses, picks, code_row(alloc)?, none(alloc))
+}
+
+/// A relational condition of one position.
+fn condition(alloc: Global) -> Result<Items<Condition>, AllocError> {
+    let mut positions = Vec::new(alloc);
+    positions.push(2u32)?;
+    let mut conditions = Vec::new(alloc);
+    conditions.push(Condition {
+        relation: Relation::Required,
+        positions: Items::from_vec(positions),
+    })?;
+    Ok(Items::from_vec(conditions))
+}
+
+fn conditioned(alloc: Global, id: &[u8]) -> Result<Node, AllocError> {
+    let conditions = condition(alloc)?;
+    segment(alloc, id, (0, 1), none(alloc), none(alloc), conditions)
+}
+
+pub fn loop_of(
+    alloc: Global,
+    id: &[u8],
+    min: u32,
+    max: u32,
+    nodes: Vec<Node>,
+) -> Result<Node, AllocError> {
     let head = Loop {
         number: 0,
-        id: text(alloc, b"L")?,
-        min: 0,
-        max: 9,
+        id: text(alloc, id)?,
+        min,
+        max,
     };
     Ok(Node::Loop(head, nodes))
 }
@@ -64,11 +129,14 @@ pub fn loop_of(alloc: Global, nodes: Vec<Node>) -> Result<Node, AllocError> {
 /// The node of a row; a loop takes its nodes off.
 fn node_of(alloc: Global, row: Row, nodes: &mut Vec<Node>) -> Result<Node, AllocError> {
     match row {
-        Row::Segment(id, min, max) => segment(alloc, id, min, max, none(alloc)),
-        Row::Conditioned(id) => segment(alloc, id, 0, 1, condition(alloc)?),
-        Row::Loop(count) => {
+        Row::Segment(id, min, max) => plain(alloc, id.as_bytes(), min, max),
+        Row::Picked(id, min, max, code) => {
+            picked(alloc, id.as_bytes(), (min, max), code.as_bytes())
+        }
+        Row::Conditioned(id) => conditioned(alloc, id.as_bytes()),
+        Row::Loop(id, min, max, count) => {
             let from = nodes.len().saturating_sub(count);
-            loop_of(alloc, nodes.split_off(from)?)
+            loop_of(alloc, id.as_bytes(), min, max, nodes.split_off(from)?)
         }
     }
 }
@@ -82,6 +150,7 @@ fn nodes_of(alloc: Global, rows: &[Row]) -> Result<Vec<Node>, AllocError> {
     Ok(nodes)
 }
 
+/// The head of an order; PER is known beside the segments of its nodes.
 fn head(alloc: Global) -> Result<GuideHead, AllocError> {
     Ok(GuideHead {
         name: text(alloc, b"H")?,
@@ -89,7 +158,7 @@ fn head(alloc: Global) -> Result<GuideHead, AllocError> {
         set: text(alloc, b"850")?,
         version: text(alloc, b"005010")?,
         convention: None,
-        dictionary: none(alloc),
+        dictionary: one_text(alloc, b"PER")?,
         tolerate_segment: none(alloc),
         tolerate_element: none(alloc),
     })
@@ -115,6 +184,10 @@ pub fn row_fault(alloc: Global, rows: &[Row]) -> Result<Option<GuideFault>, Allo
     fault_of(alloc, nodes_of(alloc, rows)?)
 }
 
+pub fn guide_of_nodes(alloc: Global, nodes: Vec<Node>) -> Result<Guide, Fail> {
+    Ok(Guide::check(rows_of(alloc, nodes)?)?)
+}
+
 pub fn guide_of(alloc: Global, rows: &[Row]) -> Result<Guide, Fail> {
-    Ok(Guide::check(rows_of(alloc, nodes_of(alloc, rows)?)?)?)
+    guide_of_nodes(alloc, nodes_of(alloc, rows)?)
 }

@@ -1,6 +1,7 @@
 //! What the check of the guide refuses for its size.
-use super::files::node_fault;
+use super::files::expect_node;
 use std::alloc::{AllocError, Global};
+use std::test::Fail;
 
 /// Loops nested so deep, each with a first segment of its own.
 fn nested(alloc: Global, depth: u8) -> Result<String, AllocError> {
@@ -27,27 +28,28 @@ fn many(alloc: Global, count: u32) -> Result<String, AllocError> {
     Ok(nodes)
 }
 
-fn nested_fault(alloc: Global, depth: u8) -> Result<String, AllocError> {
+fn expect_nested(alloc: Global, depth: u8, wanted: &str) -> Result<(), Fail> {
     let nodes = nested(alloc, depth)?;
-    node_fault(alloc, nodes.as_str())
+    expect_node(alloc, nodes.as_str(), wanted)
 }
 
-fn fault_of_many(alloc: Global, count: u32) -> Result<String, AllocError> {
+fn expect_each(alloc: Global, cases: &[(u8, &str)]) -> Result<(), Fail> {
+    for (depth, wanted) in cases {
+        expect_nested(alloc, *depth, wanted)?;
+    }
+    Ok(())
+}
+
+fn expect_many(alloc: Global, count: u32, wanted: &str) -> Result<(), Fail> {
     let nodes = many(alloc, count)?;
-    node_fault(alloc, nodes.as_str())
+    expect_node(alloc, nodes.as_str(), wanted)
 }
 
 /// How deep loops are nested, and the fault.
 const NESTED: &[(u8, &str)] = &[(8, "None"), (9, "Guide(TooDeep)")];
 
 #[test]
-fn limits(rt: HostRuntime) -> Result<(), AllocError> {
-    for (depth, want) in NESTED {
-        assert_eq!(rt; nested_fault(rt.alloc(), *depth)?.as_str(), *want);
-    }
-    assert_eq!(rt;
-        fault_of_many(rt.alloc(), 2_001)?.as_str(),
-        "Guide(TooMany)"
-    );
-    Ok(())
+fn limits(rt: HostRuntime) -> Result<(), Fail> {
+    expect_each(rt.alloc(), NESTED)?;
+    expect_many(rt.alloc(), 2_001, "Guide(TooMany)")
 }

@@ -1,6 +1,15 @@
 //! Headers of interchanges, and ids in their full width.
+use crate::texts::same;
+use std::alloc::Global;
 use std::test::Fail;
-use x12_bytes::{Delims, HEADER_LEN, read_header, without_trailing_spaces};
+use x12_bytes::{Delims, HEADER_LEN, Header, read_header, without_trailing_spaces};
+
+const DELIMS: Delims = Delims {
+    element: b'*',
+    component: b'>',
+    repetition: Some(b'^'),
+    terminator: b'~',
+};
 
 const ACME: &[u8] =
     b"ISA*00*          *00*          *01*ACME           *ZZ*HUB            *260228*0900*^*00501*000000007*0*P*>~";
@@ -30,27 +39,32 @@ const IDS: &[(&[u8], &[u8])] = &[
     (b"   ", b""),
 ];
 
-#[test]
-fn reads_a_header(rt: HostRuntime) -> Result<(), Fail> {
-    assert_eq!(rt; ACME.len(), HEADER_LEN);
+fn expect_field(alloc: Global, header: &Header, field: &(usize, &[u8])) -> Result<(), Fail> {
+    let (k, wanted) = *field;
+    if k < 1 || 16 < k {
+        return Err("no such field")?;
+    }
+    same(alloc, header.field(k), wanted)
+}
+
+fn expect_fields(alloc: Global, fields: &[(usize, &[u8])]) -> Result<(), Fail> {
     let header = read_header(ACME, 0).ok_or("no header")?;
-    for (k, want) in FIELDS {
-        assert!(rt; 1 <= *k && *k <= 16);
-        assert_eq!(rt; header.field(*k), *want, "field {k}");
+    for field in fields {
+        expect_field(alloc, &header, field)?;
     }
     Ok(())
 }
 
 #[test]
+fn reads_a_header(rt: HostRuntime) -> Result<(), Fail> {
+    assert_eq!(rt; ACME.len(), HEADER_LEN);
+    expect_fields(rt.alloc(), FIELDS)
+}
+
+#[test]
 fn reads_the_delimiters(rt: HostRuntime) -> Result<(), Fail> {
     let header = read_header(ACME, 0).ok_or("no header")?;
-    let want = Delims {
-        element: b'*',
-        component: b'>',
-        repetition: Some(b'^'),
-        terminator: b'~',
-    };
-    assert_eq!(rt; header.delims(), want);
+    assert_eq!(rt; header.delims(), DELIMS);
     Ok(())
 }
 
@@ -62,17 +76,26 @@ fn a_letter_separates_no_repetitions(rt: HostRuntime) -> Result<(), Fail> {
     Ok(())
 }
 
-#[test]
-fn reads_none_elsewhere(rt: HostRuntime) {
-    assert!(rt; read_header(ACME, 1).is_none());
-    assert!(rt; read_header(ACME, usize::MAX).is_none());
-    assert!(rt; read_header(&ACME[..105], 0).is_none());
-    assert!(rt; read_header(b"", 0).is_none());
+fn has_header(text: &[u8], start: usize) -> bool {
+    read_header(text, start).is_some()
 }
 
 #[test]
-fn cuts_spaces_at_the_end(rt: HostRuntime) {
-    for (text, id) in IDS {
-        assert_eq!(rt; without_trailing_spaces(text), *id);
+fn reads_none_elsewhere(rt: HostRuntime) {
+    assert!(rt; !has_header(ACME, 1));
+    assert!(rt; !has_header(ACME, usize::MAX));
+    assert!(rt; !has_header(&ACME[..105], 0));
+    assert!(rt; !has_header(b"", 0));
+}
+
+fn expect_ids(alloc: Global, ids: &[(&[u8], &[u8])]) -> Result<(), Fail> {
+    for (text, id) in ids {
+        same(alloc, without_trailing_spaces(text), id)?;
     }
+    Ok(())
+}
+
+#[test]
+fn cuts_spaces_at_the_end(rt: HostRuntime) -> Result<(), Fail> {
+    expect_ids(rt.alloc(), IDS)
 }

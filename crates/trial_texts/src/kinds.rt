@@ -1,4 +1,5 @@
 //! Numbers and words, the texts of codes, and lists that are given back.
+use crate::texts::same;
 use hub_kinds::{
     Code, ElementCode, GroupCode, GroupVerdict, InterchangeFault, Items, Lent, SegmentCode,
     SetCode, Verdict, code_of, code_text, is_alphanumeric, read_number,
@@ -28,19 +29,38 @@ const WORDS: &[(&[u8], usize, usize, bool)] = &[
     (b"\xC4A", 1, 9, false),
 ];
 
-#[test]
-fn reads_numbers(rt: HostRuntime) {
-    for (text, most, number) in NUMBERS {
-        assert!(rt; *most <= 19);
-        assert_eq!(rt; read_number(text, *most), *number);
+fn expect_number(case: &(&[u8], usize, Option<u64>)) -> Result<(), Fail> {
+    let (text, most, number) = *case;
+    if 19 < most || read_number(text, most) != number {
+        return Err("another number")?;
     }
+    Ok(())
+}
+
+fn expect_numbers(cases: &[(&[u8], usize, Option<u64>)]) -> Result<(), Fail> {
+    for case in cases {
+        expect_number(case)?;
+    }
+    Ok(())
 }
 
 #[test]
-fn tells_letters_and_digits(rt: HostRuntime) {
-    for (text, least, most, is) in WORDS {
-        assert_eq!(rt; is_alphanumeric(text, *least, *most), *is);
+fn reads_numbers() -> Result<(), Fail> {
+    expect_numbers(NUMBERS)
+}
+
+fn expect_words(cases: &[(&[u8], usize, usize, bool)]) -> Result<(), Fail> {
+    for (text, least, most, is) in cases {
+        if is_alphanumeric(text, *least, *most) != *is {
+            return Err("otherwise so many letters or digits")?;
+        }
     }
+    Ok(())
+}
+
+#[test]
+fn tells_letters_and_digits() -> Result<(), Fail> {
+    expect_words(WORDS)
 }
 
 /// This is the text of the code, and the code is read back from it.
@@ -63,18 +83,24 @@ fn writes_codes_and_reads_them_back(rt: HostRuntime) {
 /// Texts that no segment code has.
 const NO_CODES: &[&[u8]] = &[b"", b"9", b"08", b"i4", b"I44"];
 
-#[test]
-fn reads_no_other_text_as_a_code(rt: HostRuntime) {
-    for text in NO_CODES {
-        assert!(rt; code_of::<SegmentCode>(text).is_none());
+fn expect_no_codes(texts: &[&[u8]]) -> Result<(), Fail> {
+    for text in texts {
+        if code_of::<SegmentCode>(text).is_some() {
+            return Err("a code")?;
+        }
     }
+    Ok(())
+}
+
+#[test]
+fn reads_no_other_text_as_a_code() -> Result<(), Fail> {
+    expect_no_codes(NO_CODES)
 }
 
 #[test]
 fn gives_the_list_back(rt: HostRuntime) -> Result<(), Fail> {
     let items = Items::from_vec(Vec::from_slice(rt.alloc(), b"ACME")?);
-    assert_eq!(rt; items.as_slice(), b"ACME".as_slice());
-    assert_eq!(rt; items.into_vec().as_slice(), b"ACME".as_slice());
-    assert_eq!(rt; Lent::new(b"ACME").bytes(), b"ACME".as_slice());
-    Ok(())
+    same(rt.alloc(), items.as_slice(), b"ACME")?;
+    same(rt.alloc(), items.into_vec().as_slice(), b"ACME")?;
+    same(rt.alloc(), Lent::new(b"ACME").bytes(), b"ACME")
 }

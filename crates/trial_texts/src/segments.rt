@@ -1,10 +1,11 @@
 //! Segments of a text, and their elements, occurrences and components.
-use std::process::Abort;
+use crate::texts::same;
+use std::alloc::Global;
 use std::test::Fail;
 use x12_bytes::{Delims, read_header};
 use x12_segs::{
-    Kind, Part, Parts, SegView, SetSpan, components, kind_of, lead, next_part, occurrences,
-    runs_stand_alone, segments,
+    Kind, Part, Parts, SegView, Segments, SetSpan, components, kind_of, lead, next_part,
+    occurrences, runs_stand_alone, segments,
 };
 
 const ORDER: &[u8] =
@@ -48,7 +49,9 @@ const DIVIDED: &[u8] = b"A*1^2>3**4~";
 const ELEMENTS: &[(usize, &[u8])] = &[(1, b"1^2>3"), (2, b""), (3, b"4"), (4, b"")];
 
 /// The numbers of an occurrence and a component of element 1, and its text.
-const COMPONENTS: &[(usize, usize, &[u8])] = &[(2, 2, b"3"), (3, 1, b"")];
+type ComponentCase = (usize, usize, &'static [u8]);
+
+const COMPONENTS: &[ComponentCase] = &[(2, 2, b"3"), (3, 1, b"")];
 
 /// The elements of the segment, in their order.
 const ALL_ELEMENTS: &[&[u8]] = &[b"1^2>3", b"", b"4"];
@@ -58,41 +61,76 @@ const ALL_OCCURRENCES: &[&[u8]] = &[b"1", b"2>3"];
 
 const ALL_COMPONENTS: &[&[u8]] = &[b"2", b"3"];
 
+/// The next segment, which begins there.
+fn next_at<'a>(left: &mut Segments<'a>, start: usize) -> Result<SegView<'a>, Fail> {
+    let segment = left.next().ok_or("no segment")?;
+    if segment.start() != start {
+        return Err("a segment elsewhere")?;
+    }
+    Ok(segment)
+}
+
+fn ends(mut left: Segments<'_>) -> Result<(), Fail> {
+    match left.next() {
+        None => Ok(()),
+        Some(_) => Err("one segment more")?,
+    }
+}
+
+/// The walk gives just segments of these ids, which begin there.
+fn gives_ids(alloc: Global, mut left: Segments<'_>, wanted: &[(&[u8], usize)]) -> Result<(), Fail> {
+    for (id, start) in wanted {
+        let segment = next_at(&mut left, *start)?;
+        same(alloc, segment.id(), id)?;
+    }
+    ends(left)
+}
+
+/// The walk gives just these segments, which begin there.
+fn gives_segments(
+    alloc: Global,
+    mut left: Segments<'_>,
+    wanted: &[(&[u8], usize)],
+) -> Result<(), Fail> {
+    for (bytes, start) in wanted {
+        let segment = next_at(&mut left, *start)?;
+        same(alloc, segment.bytes(), bytes)?;
+    }
+    ends(left)
+}
+
 #[test]
 fn reads_the_segments_of_an_interchange(rt: HostRuntime) -> Result<(), Fail> {
     assert_eq!(rt; ORDER.len(), 236);
     let delims = read_header(ORDER, 0).ok_or("no header")?.delims();
-    let mut left = segments(&ORDER[106..], delims);
-    for (id, start) in IDS {
-        let segment = left.next().ok_or("no segment")?;
-        assert_eq!(rt; segment.id(), *id);
-        assert_eq!(rt; segment.start(), *start);
-    }
-    assert!(rt; left.next().is_none());
-    Ok(())
+    gives_ids(rt.alloc(), segments(&ORDER[106..], delims), IDS)
 }
 
 #[test]
 fn passes_over_line_ends_and_empty_parts(rt: HostRuntime) -> Result<(), Fail> {
     runs_stand_alone(LINES, 0, b'~');
-    let mut left = segments(LINES, DELIMS);
-    for (bytes, start) in LINE_SEGMENTS {
-        let segment = left.next().ok_or("no segment")?;
-        assert_eq!(rt; segment.bytes(), *bytes);
-        assert_eq!(rt; segment.start(), *start);
-    }
-    assert!(rt; left.next().is_none());
     assert_eq!(rt; lead(b"\r\n\nA\r"), 3);
+    gives_segments(rt.alloc(), segments(LINES, DELIMS), LINE_SEGMENTS)
+}
+
+fn expect_part(from: usize, part: Part) -> Result<(), Fail> {
+    if LINES.len() < from || next_part(LINES, from, b'~') != part {
+        return Err("another part")?;
+    }
+    Ok(())
+}
+
+fn expect_parts(parts: &[(usize, Part)]) -> Result<(), Fail> {
+    for (from, part) in parts {
+        expect_part(*from, *part)?;
+    }
     Ok(())
 }
 
 #[test]
-fn finds_the_next_part(rt: HostRuntime) {
-    for (from, part) in LINE_PARTS {
-        assert!(rt; *from <= LINES.len());
-        assert_eq!(rt; next_part(LINES, *from, b'~'), *part);
-    }
+fn finds_the_next_part(rt: HostRuntime) -> Result<(), Fail> {
     assert_eq!(rt; LINES.len(), 18);
+    expect_parts(LINE_PARTS)
 }
 
 /// The first segment of a text.
@@ -100,69 +138,120 @@ fn first_segment(text: &[u8]) -> Option<SegView<'_>> {
     segments(text, DELIMS).next()
 }
 
+fn expect_element(alloc: Global, segment: &SegView, element: &(usize, &[u8])) -> Result<(), Fail> {
+    let (k, wanted) = *element;
+    if k < 1 {
+        return Err("no such element")?;
+    }
+    same(alloc, segment.element(k), wanted)
+}
+
+fn expect_elements(
+    alloc: Global,
+    segment: &SegView,
+    elements: &[(usize, &[u8])],
+) -> Result<(), Fail> {
+    for element in elements {
+        expect_element(alloc, segment, element)?;
+    }
+    Ok(())
+}
+
 #[test]
 fn reads_elements_by_number(rt: HostRuntime) -> Result<(), Fail> {
     let segment = first_segment(DIVIDED).ok_or("no segment")?;
-    for (k, text) in ELEMENTS {
-        assert!(rt; 1 <= *k);
-        assert_eq!(rt; segment.element(*k), *text);
-    }
     assert_eq!(rt; segment.delims(), DELIMS);
-    Ok(())
+    expect_elements(rt.alloc(), &segment, ELEMENTS)
 }
 
 /// A segment with elements of nine, eight and seven bytes, and one that isn't there.
 const LONG: &[u8] = b"A*123456789*12345678*1234567~";
 
+fn expect_first_elements(alloc: Global, segment: &SegView) -> Result<(), Fail> {
+    let (first, second, third) = segment.first_elements();
+    same(alloc, first, b"123456789")?;
+    same(alloc, second, b"12345678")?;
+    same(alloc, third, b"1234567")
+}
+
+fn expect_one_element(alloc: Global, mut elements: Parts<'_>) -> Result<(), Fail> {
+    same(alloc, elements.next_or_empty(), b"1")?;
+    same(alloc, elements.next_or_empty(), b"")
+}
+
 #[test]
 fn reads_the_first_elements_in_one_walk(rt: HostRuntime) -> Result<(), Fail> {
-    let segment = first_segment(LONG).ok_or("no segment")?;
-    let (first, second, third) = segment.first_elements();
-    assert_eq!(rt; first, b"123456789".as_slice());
-    assert_eq!(rt; second, b"12345678".as_slice());
-    assert_eq!(rt; third, b"1234567".as_slice());
-    let mut elements = first_segment(b"A*1~").ok_or("no segment")?.elements();
-    assert_eq!(rt; elements.next_or_empty(), b"1".as_slice());
-    assert_eq!(rt; elements.next_or_empty(), b"".as_slice());
+    let long = first_segment(LONG).ok_or("no segment")?;
+    expect_first_elements(rt.alloc(), &long)?;
+    let short = first_segment(b"A*1~").ok_or("no segment")?;
+    expect_one_element(rt.alloc(), short.elements())
+}
+
+fn expect_component(
+    alloc: Global,
+    segment: &SegView,
+    component: &ComponentCase,
+) -> Result<(), Fail> {
+    let (n, m, wanted) = *component;
+    if n < 1 || m < 1 {
+        return Err("no such component")?;
+    }
+    same(alloc, segment.component(1, n, m), wanted)
+}
+
+fn expect_components(
+    alloc: Global,
+    segment: &SegView,
+    components: &[ComponentCase],
+) -> Result<(), Fail> {
+    for component in components {
+        expect_component(alloc, segment, component)?;
+    }
     Ok(())
 }
 
 #[test]
 fn reads_occurrences_and_components_by_number(rt: HostRuntime) -> Result<(), Fail> {
     let segment = first_segment(DIVIDED).ok_or("no segment")?;
-    assert_eq!(rt; segment.occurrence(1, 2), b"2>3".as_slice());
-    for (n, m, text) in COMPONENTS {
-        assert!(rt; 1 <= *n && 1 <= *m);
-        assert_eq!(rt; segment.component(1, *n, *m), *text);
-    }
-    Ok(())
+    same(rt.alloc(), segment.occurrence(1, 2), b"2>3")?;
+    expect_components(rt.alloc(), &segment, COMPONENTS)
 }
 
 /// The walk gives just these parts.
-fn gives<R: Abort>(rt: &R, mut parts: Parts<'_>, wanted: &[&[u8]]) {
+fn gives(alloc: Global, mut parts: Parts<'_>, wanted: &[&[u8]]) -> Result<(), Fail> {
     for part in wanted {
-        assert_eq!(rt; parts.next(), Some(*part));
+        let found = parts.next().ok_or("no part")?;
+        same(alloc, found, part)?;
     }
-    assert_eq!(rt; parts.next(), None);
+    match parts.next() {
+        None => Ok(()),
+        Some(_) => Err("one part more")?,
+    }
+}
+
+fn expect_parts_of(alloc: Global, segment: &SegView) -> Result<(), Fail> {
+    gives(alloc, segment.elements(), ALL_ELEMENTS)?;
+    gives(alloc, segment.occurrences(1), ALL_OCCURRENCES)?;
+    gives(alloc, segment.components(1, 2), ALL_COMPONENTS)
 }
 
 #[test]
 fn walks_the_parts(rt: HostRuntime) -> Result<(), Fail> {
     let segment = first_segment(DIVIDED).ok_or("no segment")?;
-    gives(&rt, segment.elements(), ALL_ELEMENTS);
-    gives(&rt, segment.occurrences(1), ALL_OCCURRENCES);
-    gives(&rt, segment.components(1, 2), ALL_COMPONENTS);
-    Ok(())
+    expect_parts_of(rt.alloc(), &segment)
 }
 
+const NO_REPETITION_SEPARATOR: Delims = Delims {
+    repetition: None,
+    ..DELIMS
+};
+
 #[test]
-fn without_a_repetition_separator_an_element_occurs_once(rt: HostRuntime) {
-    let delims = Delims {
-        repetition: None,
-        ..DELIMS
-    };
-    gives(&rt, occurrences(b"1^2>3", delims), &[b"1^2>3"]);
-    gives(&rt, components(b"1^2>3", delims), &[b"1^2", b"3"]);
+fn without_a_repetition_separator_an_element_occurs_once(rt: HostRuntime) -> Result<(), Fail> {
+    let found = occurrences(b"1^2>3", NO_REPETITION_SEPARATOR);
+    gives(rt.alloc(), found, &[b"1^2>3"])?;
+    let found = components(b"1^2>3", NO_REPETITION_SEPARATOR);
+    gives(rt.alloc(), found, &[b"1^2", b"3"])
 }
 
 /// A segment, and its kind.
@@ -178,11 +267,18 @@ const KINDS: &[(&[u8], Kind)] = &[
     (b"", Kind::Other),
 ];
 
-#[test]
-fn tells_segments_by_their_ids(rt: HostRuntime) {
-    for (bytes, kind) in KINDS {
-        assert_eq!(rt; kind_of(&SegView::new(0, bytes, DELIMS)), *kind);
+fn expect_kinds(kinds: &[(&[u8], Kind)]) -> Result<(), Fail> {
+    for (bytes, kind) in kinds {
+        if kind_of(&SegView::new(0, bytes, DELIMS)) != *kind {
+            return Err("another kind")?;
+        }
     }
+    Ok(())
+}
+
+#[test]
+fn tells_segments_by_their_ids() -> Result<(), Fail> {
+    expect_kinds(KINDS)
 }
 
 /// The segments of the order's set, and where they begin in the text.
@@ -202,12 +298,5 @@ fn reads_the_segments_of_a_span(rt: HostRuntime) -> Result<(), Fail> {
         closed: true,
     };
     assert!(rt; span.end <= ORDER.len());
-    let mut left = span.segments(ORDER);
-    for (bytes, start) in SET {
-        let segment = left.next().ok_or("no segment")?;
-        assert_eq!(rt; segment.bytes(), *bytes);
-        assert_eq!(rt; segment.start(), *start);
-    }
-    assert!(rt; left.next().is_none());
-    Ok(())
+    gives_segments(rt.alloc(), span.segments(ORDER), SET)
 }

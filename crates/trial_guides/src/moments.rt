@@ -1,15 +1,27 @@
 //! Moments of a run.
 use elem_rules::At;
+use std::alloc::Global;
 use std::test::Fail;
+
+/// Whether a part of a moment is this text.
+fn expect_part(alloc: Global, found: &[u8], wanted: &[u8]) -> Result<(), Fail> {
+    if found == wanted {
+        return Ok(());
+    }
+    Err(Fail::new(String::from_utf8_lossy(alloc, found)?))
+}
+
+fn expect_parts(alloc: Global, at: &At) -> Result<(), Fail> {
+    expect_part(alloc, at.digits(), b"202603011530")?;
+    expect_part(alloc, at.date(), b"20260301")?;
+    expect_part(alloc, at.short_date(), b"260301")?;
+    expect_part(alloc, at.time(), b"1530")
+}
 
 #[test]
 fn reads_the_parts_of_a_moment(rt: HostRuntime) -> Result<(), Fail> {
     let at = At::read(b"202603011530").ok_or("no moment")?;
-    assert_eq!(rt; at.digits(), b"202603011530".as_slice());
-    assert_eq!(rt; at.date(), b"20260301".as_slice());
-    assert_eq!(rt; at.short_date(), b"260301".as_slice());
-    assert_eq!(rt; at.time(), b"1530".as_slice());
-    Ok(())
+    expect_parts(rt.alloc(), &at)
 }
 
 /// Texts, and whether each is a moment.

@@ -1,7 +1,9 @@
 //! One group of an interchange, and what is answered to it.
 
 use crate::shown::answered;
+use crate::texts::same;
 use hub_kinds::GroupVerdict;
+use std::alloc::{AllocError, Global};
 use std::test::Fail;
 
 const HEADER: &[u8] =
@@ -14,7 +16,9 @@ const OPENING: &[u8] =
 const CLOSING: &[u8] = b"GE*1*1~IEA*1*000000001~";
 
 /// A name, what stands between ISA and IEA, what is answered behind ST and before GE, and the verdict.
-const CASES: &[(&str, &[u8], &[u8], GroupVerdict)] = &[
+type Case = (&'static str, &'static [u8], &'static [u8], GroupVerdict);
+
+const CASES: &[Case] = &[
     (
         "accepts a set",
         b"GS*PO*ACME*BOLT*20260228*0900*12*X*005010~ST*850*0001~BEG*00*SA*PO100**20260228~PO1*1*5*EA*2.50~SE*4*0001~\
@@ -56,19 +60,33 @@ const CASES: &[(&str, &[u8], &[u8], GroupVerdict)] = &[
     ),
 ];
 
-#[test]
-fn answers_groups(rt: HostRuntime) -> Result<(), Fail> {
-    let alloc = rt.alloc();
-    for (name, body, answer, verdict) in CASES {
-        let mut text = Vec::from_slice(alloc, HEADER)?;
-        text.extend_from_slice(body)?;
-        text.extend_from_slice(b"IEA*1*000000007~")?;
-        let mut wanted = Vec::from_slice(alloc, OPENING)?;
-        wanted.extend_from_slice(answer)?;
-        wanted.extend_from_slice(CLOSING)?;
-        let first = answered(alloc, text.as_slice())?;
-        assert_eq!(rt; first.ack.as_slice(), wanted.as_slice(), "{name}");
-        assert_eq!(rt; first.verdict, *verdict, "{name}");
+/// A text between two others.
+fn between(alloc: Global, front: &[u8], text: &[u8], back: &[u8]) -> Result<Vec<u8>, AllocError> {
+    let mut whole = Vec::from_slice(alloc, front)?;
+    whole.extend_from_slice(text)?;
+    whole.extend_from_slice(back)?;
+    Ok(whole)
+}
+
+fn answers(alloc: Global, case: &Case) -> Result<(), Fail> {
+    let (name, body, answer, verdict) = *case;
+    let text = between(alloc, HEADER, body, b"IEA*1*000000007~")?;
+    let wanted = between(alloc, OPENING, answer, CLOSING)?;
+    let first = answered(alloc, text.as_slice())?;
+    if first.verdict != verdict {
+        return Err("another verdict")?;
+    }
+    same(alloc, name, first.ack.as_slice(), wanted.as_slice())
+}
+
+fn answers_each(alloc: Global, cases: &[Case]) -> Result<(), Fail> {
+    for case in cases {
+        answers(alloc, case)?;
     }
     Ok(())
+}
+
+#[test]
+fn answers_groups(rt: HostRuntime) -> Result<(), Fail> {
+    answers_each(rt.alloc(), CASES)
 }

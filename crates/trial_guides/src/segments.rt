@@ -1,5 +1,5 @@
 //! Segments of an order, by the rows of its guide.
-use super::guides::{Cases, DELIMS, Line, OPTIONAL, Related, expect, guide_of};
+use super::slots::{Cases, Group, Line, OPTIONAL, expect_groups};
 use guide_tree::{ElementType, Relation, Requirement};
 use std::test::Fail;
 
@@ -171,18 +171,17 @@ const LINE_OF_AN_ORDER: Cases = &[
     ("PO1**0*DZ**PE", "3 0 0 I6 355 DZ;4 0 0 2 212 ;"),
 ];
 
-/// Rows, their conditions, and segments with their faults.
-const SEGMENTS: &[(&[Line], &[Related], Cases)] = &[
-    (BEGINNING_OF_AN_ORDER_ROWS, &[], BEGINNING_OF_AN_ORDER),
+const SEGMENTS: &[Group] = &[
+    (BEGINNING_OF_AN_ORDER_ROWS, &[], &[BEGINNING_OF_AN_ORDER]),
     (
         REFERENCE_IDENTIFICATION_ROWS,
         &[(Relation::Required, &[2, 3])],
-        REFERENCE_IDENTIFICATION,
+        &[REFERENCE_IDENTIFICATION],
     ),
     (
         DATE_OR_TIME_ROWS,
         &[(Relation::Required, &[2, 3])],
-        DATE_OR_TIME,
+        &[DATE_OR_TIME],
     ),
     (
         BASELINE_ITEM_ROWS,
@@ -190,15 +189,11 @@ const SEGMENTS: &[(&[Line], &[Related], Cases)] = &[
             (Relation::Conditional, &[5, 4]),
             (Relation::Paired, &[6, 7]),
         ],
-        LINE_OF_AN_ORDER,
+        &[LINE_OF_AN_ORDER],
     ),
 ];
 
 #[test]
 fn segments_of_an_order(rt: HostRuntime) -> Result<(), Fail> {
-    for (rows, related, cases) in SEGMENTS {
-        let guide = guide_of(rt.alloc(), rows, related)?;
-        expect(rt.alloc(), DELIMS, &guide, cases)?;
-    }
-    Ok(())
+    expect_groups(rt.alloc(), SEGMENTS)
 }

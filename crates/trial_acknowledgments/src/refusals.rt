@@ -2,6 +2,7 @@
 
 use elem_rules::At;
 use hub_run::{FirstFault, run_first, within_limit};
+use std::alloc::Global;
 use std::test::Fail;
 
 /// Nothing, a line end, and an interchange that ends behind its header.
@@ -11,16 +12,24 @@ const CASES: &[&[u8]] = &[
     b"ISA*00*          *00*          *01*ACME           *ZZ*HUB            *260228*0900*^*00501*000000007*0*P*>~",
 ];
 
+fn refuses(alloc: Global, text: &[u8], at: &At) -> Result<(), Fail> {
+    match run_first(alloc, text, at) {
+        Err(FirstFault::NotOne) => Ok(()),
+        _ => Err("answered, or another fault")?,
+    }
+}
+
+fn refuses_each(alloc: Global, texts: &[&[u8]], at: &At) -> Result<(), Fail> {
+    for text in texts {
+        refuses(alloc, text, at)?;
+    }
+    Ok(())
+}
+
 #[test]
 fn refuses_what_is_not_one(rt: HostRuntime) -> Result<(), Fail> {
     let at = At::read(b"202603011530").ok_or("no moment")?;
-    for text in CASES {
-        match run_first(rt.alloc(), text, &at) {
-            Ok(_) => return Err(Fail::from("answered")),
-            Err(fault) => assert_eq!(rt; fault, FirstFault::NotOne),
-        }
-    }
-    Ok(())
+    refuses_each(rt.alloc(), CASES, &at)
 }
 
 #[test]

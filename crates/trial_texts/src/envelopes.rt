@@ -1,5 +1,5 @@
 //! Interchanges, their groups and their sets: where each ends, and what the index keeps of it.
-use crate::texts::{
+use crate::interchanges::{
     HEADER_AS_A_SEGMENT, HEADER_IN_AN_ELEMENT, NOTICES, ORDER, ORDER_WITHOUT_TRAILER,
     WITHOUT_TRAILERS, read,
 };
@@ -126,17 +126,38 @@ fn look(alloc: Global, text: &[u8], start: usize) -> Result<Seen, Fail> {
     })
 }
 
-#[test]
-fn reads_interchanges(rt: HostRuntime) -> Result<(), Fail> {
-    for (text, start, wanted) in INTERCHANGES {
-        assert_eq!(rt; look(rt.alloc(), text, *start)?, *wanted);
+fn expect_seen(alloc: Global, case: &(&[u8], usize, Seen)) -> Result<(), Fail> {
+    let (text, start, wanted) = *case;
+    let found = look(alloc, text, start)?;
+    if found == wanted {
+        return Ok(());
+    }
+    Err(Fail::new(format!(in alloc; "{found:?}")?))
+}
+
+fn expect_all_seen(alloc: Global, cases: &[(&[u8], usize, Seen)]) -> Result<(), Fail> {
+    for case in cases {
+        expect_seen(alloc, case)?;
     }
     Ok(())
 }
 
+#[test]
+fn reads_interchanges(rt: HostRuntime) -> Result<(), Fail> {
+    expect_all_seen(rt.alloc(), INTERCHANGES)
+}
+
 /// A text, a group's number in its first interchange, its GS06, its GE01 if it has a GE, and how many
 /// sets it has.
-const GROUPS: &[(&[u8], usize, &[u8], Option<&[u8]>, usize)] = &[
+type Group = (
+    &'static [u8],
+    usize,
+    &'static [u8],
+    Option<&'static [u8]>,
+    usize,
+);
+
+const GROUPS: &[Group] = &[
     (ORDER, 0, b"12", Some(b"1"), 1),
     (HEADER_IN_AN_ELEMENT, 0, b"12", Some(b"1"), 1),
     (NOTICES, 0, b"", Some(b"1"), 1),
@@ -145,29 +166,37 @@ const GROUPS: &[(&[u8], usize, &[u8], Option<&[u8]>, usize)] = &[
 ];
 
 /// Whether an interchange has such a group.
-fn has_group(
-    alloc: Global,
-    text: &[u8],
-    index: usize,
-    control: &[u8],
-    listed: Option<&[u8]>,
-    sets: usize,
-) -> Result<bool, Fail> {
-    let found = read(alloc, text, 0)?;
+fn has_group(found: &Interchange, case: &Group) -> bool {
+    let (_, index, control, listed, sets) = *case;
     if found.group_count() <= index {
-        return Ok(false);
+        return false;
     }
     let group = found.group(index);
-    let trailer = group.trailer().map(|x| x.element(1));
-    Ok(group.header().element(6) == control && trailer == listed && group.set_count() == sets)
+    let trailer = match group.trailer() {
+        None => None,
+        Some(trailer) => Some(trailer.element(1)),
+    };
+    group.header().element(6) == control && trailer == listed && group.set_count() == sets
+}
+
+fn expect_group(alloc: Global, case: &Group) -> Result<(), Fail> {
+    let found = read(alloc, case.0, 0)?;
+    if has_group(&found, case) {
+        return Ok(());
+    }
+    Err("another group")?
+}
+
+fn expect_groups(alloc: Global, cases: &[Group]) -> Result<(), Fail> {
+    for case in cases {
+        expect_group(alloc, case)?;
+    }
+    Ok(())
 }
 
 #[test]
 fn reads_groups(rt: HostRuntime) -> Result<(), Fail> {
-    for (text, index, control, listed, sets) in GROUPS {
-        assert!(rt; has_group(rt.alloc(), text, *index, control, *listed, *sets)?);
-    }
-    Ok(())
+    expect_groups(rt.alloc(), GROUPS)
 }
 
 /// A set of a text's first interchange, by the numbers of its group and of it in that.
@@ -233,41 +262,48 @@ const SETS: &[Set] = &[
 ];
 
 /// Whether an interchange has such a set, of so many segments, which ends there.
-fn has_set(
-    alloc: Global,
-    text: &[u8],
-    place: (usize, usize),
-    control: &[u8],
-    counted: Option<&[u8]>,
-    size: (u64, usize),
-) -> Result<bool, Fail> {
-    let found = read(alloc, text, 0)?;
-    if found.group_count() <= place.0 {
-        return Ok(false);
+fn has_set(found: &Interchange, wanted: &Set) -> bool {
+    if found.group_count() <= wanted.place.0 {
+        return false;
     }
-    let group = found.group(place.0);
-    if group.set_count() <= place.1 {
-        return Ok(false);
+    let group = found.group(wanted.place.0);
+    if group.set_count() <= wanted.place.1 {
+        return false;
     }
-    let set = group.set(place.1);
+    let set = group.set(wanted.place.1);
     let trailer = set.trailer.map(|x| x.element(1));
-    Ok(set.header.element(2) == control && trailer == counted && (set.segments, set.end) == size)
+    let is_sized = (set.segments, set.end) == (wanted.segments, wanted.end);
+    set.header.element(2) == wanted.control && trailer == wanted.counted && is_sized
+}
+
+fn expect_set(alloc: Global, set: &Set) -> Result<(), Fail> {
+    let found = read(alloc, set.text, 0)?;
+    if has_set(&found, set) {
+        return Ok(());
+    }
+    Err("another set")?
+}
+
+fn expect_sets(alloc: Global, sets: &[Set]) -> Result<(), Fail> {
+    for set in sets {
+        expect_set(alloc, set)?;
+    }
+    Ok(())
 }
 
 #[test]
 fn reads_sets(rt: HostRuntime) -> Result<(), Fail> {
-    for set in SETS {
-        let size = (set.segments, set.end);
-        assert!(rt;
-            has_set(
-                rt.alloc(),
-                set.text,
-                set.place,
-                set.control,
-                set.counted,
-                size
-            )?
-        );
+    expect_sets(rt.alloc(), SETS)
+}
+
+fn expect_lent(found: &Interchange) -> Result<(), Fail> {
+    let trailer = found.trailer().ok_or("no IEA")?;
+    let extent = (found.start(), found.end());
+    if extent != (0, 236) || found.header().field(13) != b"000000007".as_slice() {
+        return Err("another interchange")?;
+    }
+    if trailer.bytes() != b"IEA*1*000000007".as_slice() {
+        return Err("another IEA")?;
     }
     Ok(())
 }
@@ -276,11 +312,7 @@ fn reads_sets(rt: HostRuntime) -> Result<(), Fail> {
 fn lends_the_header_and_the_trailer(rt: HostRuntime) -> Result<(), Fail> {
     assert_eq!(rt; ORDER.len(), 236);
     let found = read_interchange(rt.alloc(), ORDER, 0)?.ok_or("no header")?;
-    assert_eq!(rt; (found.start(), found.end()), (0, 236));
-    assert_eq!(rt; found.header().field(13), b"000000007".as_slice());
-    let trailer = found.trailer().ok_or("no IEA")?;
-    assert_eq!(rt; trailer.bytes(), b"IEA*1*000000007".as_slice());
-    Ok(())
+    expect_lent(&found)
 }
 
 #[test]

@@ -1,5 +1,6 @@
 //! Bodies and their structural faults.
-use super::guides::{NOTICE, Row, faults_of, guide_of};
+use super::placings::{NOTICE, Shown, expect};
+use super::rows::Row;
 use std::test::Fail;
 
 /// Bodies of a notice, and the faults of each.
@@ -49,12 +50,7 @@ const BODIES: &[(&str, &str)] = &[
 
 #[test]
 fn faults_of_bodies(rt: HostRuntime) -> Result<(), Fail> {
-    let guide = guide_of(rt.alloc(), NOTICE)?;
-    for (body, faults) in BODIES {
-        let found = faults_of(rt.alloc(), &guide, body)?;
-        assert_eq!(rt; found.as_slice(), faults.as_bytes());
-    }
-    Ok(())
+    expect(rt.alloc(), NOTICE, BODIES, Shown::Faults)
 }
 
 /// An order with two lines at least.
@@ -79,10 +75,5 @@ const LINES: &[(&str, &str)] = &[
 
 #[test]
 fn faults_of_repetitions(rt: HostRuntime) -> Result<(), Fail> {
-    let guide = guide_of(rt.alloc(), ORDER)?;
-    for (body, faults) in LINES {
-        let found = faults_of(rt.alloc(), &guide, body)?;
-        assert_eq!(rt; found.as_slice(), faults.as_bytes());
-    }
-    Ok(())
+    expect(rt.alloc(), ORDER, LINES, Shown::Faults)
 }

@@ -1,5 +1,5 @@
 //! Bodies and the places of their segments.
-use super::guides::{NOTICE, guide_of, places_of};
+use super::placings::{NOTICE, Shown, expect};
 use std::test::Fail;
 
 /// Bodies, and the slot and the place of each segment.
@@ -22,10 +22,5 @@ const BODIES: &[(&str, &str)] = &[
 
 #[test]
 fn places_of_bodies(rt: HostRuntime) -> Result<(), Fail> {
-    let guide = guide_of(rt.alloc(), NOTICE)?;
-    for (body, places) in BODIES {
-        let found = places_of(rt.alloc(), &guide, body)?;
-        assert_eq!(rt; found.as_slice(), places.as_bytes());
-    }
-    Ok(())
+    expect(rt.alloc(), NOTICE, BODIES, Shown::Places)
 }

@@ -1,10 +1,10 @@
 //! Composites, repetitions, elements that aren't used, and elements without a row.
-use super::guides::{
-    Cases, DELIMS, Line, OPTIONAL, add_components, add_rows, composite, expect, guide, text,
+use super::rows::text;
+use super::slots::{
+    Cases, DELIMS, Line, OPTIONAL, add_components, add_rows, composite, expect, guide,
 };
 use guide_tree::{Component, Element, ElementType, Guide, Requirement};
-use hub_kinds::NoMemory;
-use std::alloc::Global;
+use std::alloc::{AllocError, Global};
 use std::test::Fail;
 use x12_bytes::Delims;
 
@@ -23,10 +23,10 @@ const THIRD_OF_THREE: &[Line] = &[Line {
 }];
 
 /// A mandatory composite that may occur three times; its second component isn't used.
-fn three_components(alloc: Global) -> Result<Element, NoMemory> {
+fn three_components(alloc: Global) -> Result<Element, AllocError> {
     let mut components = Vec::new(alloc);
     add_components(alloc, &mut components, FIRST_OF_THREE)?;
-    components.push(Component::NotUsed(text(alloc, "12")?))?;
+    components.push(Component::NotUsed(text(alloc, b"12")?))?;
     add_components(alloc, &mut components, THIRD_OF_THREE)?;
     composite(alloc, "C1", Requirement::Mandatory, 3, components)
 }
@@ -37,7 +37,7 @@ const ONLY_COMPONENT: &[Line] = &[Line {
     ..OPTIONAL
 }];
 
-fn one_component(alloc: Global) -> Result<Element, NoMemory> {
+fn one_component(alloc: Global) -> Result<Element, AllocError> {
     let mut components = Vec::new(alloc);
     add_components(alloc, &mut components, ONLY_COMPONENT)?;
     composite(alloc, "C2", Requirement::Optional, 1, components)
@@ -61,7 +61,7 @@ fn composites(alloc: Global) -> Result<Guide, Fail> {
     rows.push(three_components(alloc)?)?;
     rows.push(one_component(alloc)?)?;
     add_rows(alloc, &mut rows, ROW_TWICE)?;
-    rows.push(Element::NotUsed(text(alloc, "4")?))?;
+    rows.push(Element::NotUsed(text(alloc, b"4")?))?;
     add_rows(alloc, &mut rows, LAST_ROW)?;
     let none = composite(alloc, "C6", Requirement::Optional, 1, Vec::new(alloc))?;
     rows.push(none)?;
@@ -111,6 +111,12 @@ const NOT_USED_AND_WITHOUT_A_ROW: Cases = &[
     ("CMP*a****x**>^", ""),
 ];
 
+/// Whether each segment has just the faults beside it by the guide of composites.
+fn expect_by_composites(alloc: Global, delims: Delims, tables: &[Cases]) -> Result<(), Fail> {
+    let guide = composites(alloc)?;
+    expect(alloc, delims, &guide, tables)
+}
+
 const TABLES: &[Cases] = &[
     COMPONENTS_OF_COMPOSITES,
     OCCURRENCES,
@@ -119,11 +125,7 @@ const TABLES: &[Cases] = &[
 
 #[test]
 fn composites_and_repetitions(rt: HostRuntime) -> Result<(), Fail> {
-    let guide = composites(rt.alloc())?;
-    for cases in TABLES {
-        expect(rt.alloc(), DELIMS, &guide, cases)?;
-    }
-    Ok(())
+    expect_by_composites(rt.alloc(), DELIMS, TABLES)
 }
 
 const WITHOUT_A_REPETITION_SEPARATOR: Cases = &[
@@ -133,16 +135,16 @@ const WITHOUT_A_REPETITION_SEPARATOR: Cases = &[
     ("CMP*a***^*x", "4 0 0 I10 4 ^;"),
 ];
 
+const NO_REPETITION_SEPARATOR: Delims = Delims {
+    repetition: None,
+    ..DELIMS
+};
+
 #[test]
 fn without_a_repetition_separator_an_element_occurs_once(rt: HostRuntime) -> Result<(), Fail> {
-    let delims = Delims {
-        repetition: None,
-        ..DELIMS
-    };
-    expect(
+    expect_by_composites(
         rt.alloc(),
-        delims,
-        &composites(rt.alloc())?,
-        WITHOUT_A_REPETITION_SEPARATOR,
+        NO_REPETITION_SEPARATOR,
+        &[WITHOUT_A_REPETITION_SEPARATOR],
     )
 }

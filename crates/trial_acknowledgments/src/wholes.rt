@@ -1,10 +1,14 @@
 //! Whole texts, and their whole acknowledgments.
 
 use crate::shown::answered;
+use crate::texts::same;
+use std::alloc::Global;
 use std::test::Fail;
 
 /// A name, a text, and its acknowledgment.
-const CASES: &[(&str, &[u8], &[u8])] = &[
+type Case = (&'static str, &'static [u8], &'static [u8]);
+
+const CASES: &[Case] = &[
     (
         "passes over line ends",
         b"ISA*00*          *00*          *01*ACME           *ZZ*HUB            *260228*0900*^*00501*000000007*0*P*>~\r\n\
@@ -33,11 +37,20 @@ const CASES: &[(&str, &[u8], &[u8])] = &[
     ),
 ];
 
-#[test]
-fn answers_whole_texts(rt: HostRuntime) -> Result<(), Fail> {
-    for (name, text, wanted) in CASES {
-        let first = answered(rt.alloc(), text)?;
-        assert_eq!(rt; first.ack.as_slice(), *wanted, "{name}");
+fn answers(alloc: Global, case: &Case) -> Result<(), Fail> {
+    let (name, text, wanted) = *case;
+    let first = answered(alloc, text)?;
+    same(alloc, name, first.ack.as_slice(), wanted)
+}
+
+fn answers_each(alloc: Global, cases: &[Case]) -> Result<(), Fail> {
+    for case in cases {
+        answers(alloc, case)?;
     }
     Ok(())
+}
+
+#[test]
+fn answers_whole_texts(rt: HostRuntime) -> Result<(), Fail> {
+    answers_each(rt.alloc(), CASES)
 }

@@ -1,3 +1,4 @@
+//! What the first path answers.
 use elem_rules::At;
 use hub_run::{First, run_first};
 use std::alloc::Global;

@@ -1,5 +1,7 @@
 //! Bodies of 20,000 segments.
-use super::guides::{DELIMS, NOTICE, guide_of};
+use super::placings::NOTICE;
+use super::rows::{Row, guide_of};
+use super::slots::DELIMS;
 use guide_tree::Guide;
 use loop_match::place_all;
 use std::alloc::Global;
@@ -7,7 +9,9 @@ use std::test::Fail;
 use x12_segs::{SegView, segments};
 
 /// A front, what is repeated behind it and how often, how many faults there are, and the position of the last.
-const LONG: &[(&str, &str, u32, usize, u64)] = &[
+type Long = (&'static str, &'static str, u32, usize, u64);
+
+const LONG: &[Long] = &[
     // strays alone; behind them all that is needed is missing
     ("", "XYZ~", 20_000, 20_003, 20_002),
     // one segment under a maximum of 1; a loop and CTT are missing
@@ -36,14 +40,31 @@ fn repeated(alloc: Global, front: &str, part: &str, times: u32) -> Result<String
     Ok(body)
 }
 
-#[test]
-fn long_bodies(rt: HostRuntime) -> Result<(), Fail> {
-    let guide = guide_of(rt.alloc(), NOTICE)?;
-    for (front, part, times, faults, last) in LONG {
-        let body = repeated(rt.alloc(), front, part, *times)?;
-        let found = counted(rt.alloc(), &guide, body.as_str())?;
-        assert_eq!(rt; found.0, *faults);
-        assert_eq!(rt; found.1, *last);
+fn expect_one(alloc: Global, guide: &Guide, case: &Long) -> Result<(), Fail> {
+    let (front, part, times, count, last) = *case;
+    let body = repeated(alloc, front, part, times)?;
+    let found = counted(alloc, guide, body.as_str())?;
+    if found == (count, last) {
+        return Ok(());
+    }
+    let (count, last) = found;
+    Err(Fail::new(format!(in alloc; "{front}, {part}: {count} faults, the last at {last}")?))
+}
+
+fn expect_each(alloc: Global, guide: &Guide, cases: &[Long]) -> Result<(), Fail> {
+    for case in cases {
+        expect_one(alloc, guide, case)?;
     }
     Ok(())
+}
+
+/// Whether each body has so many faults by the guide of these rows, the last of them there.
+fn expect_counts(alloc: Global, rows: &[Row], cases: &[Long]) -> Result<(), Fail> {
+    let guide = guide_of(alloc, rows)?;
+    expect_each(alloc, &guide, cases)
+}
+
+#[test]
+fn long_bodies(rt: HostRuntime) -> Result<(), Fail> {
+    expect_counts(rt.alloc(), NOTICE, LONG)
 }

@@ -1,11 +1,13 @@
 //! Guides of one slot and segments of the tests, and how their faults are written.
+use super::rows::{guide_of_nodes, none, segment, text};
+use super::texts::same;
 use elem_rules::check_segment;
 use guide_tree::{
-    CodeList, Component, CompositeRow, Condition, Element, ElementType, Guide, GuideHead,
-    GuideRows, Node, Relation, Requirement, SimpleRow, Slot,
+    CodeList, Component, CompositeRow, Condition, Element, ElementType, Guide, Relation,
+    Requirement, SimpleRow,
 };
-use hub_kinds::{ElemFault, Items, NoMemory, Text, Texts, code_text};
-use std::alloc::Global;
+use hub_kinds::{ElemFault, Items, Texts, code_text};
+use std::alloc::{AllocError, Global};
 use std::test::Fail;
 use x12_bytes::Delims;
 use x12_segs::SegView;
@@ -44,23 +46,15 @@ pub const OPTIONAL: Line = Line {
     unused: "",
 };
 
-fn none<T>(alloc: Global) -> Items<T> {
-    Items::from_vec(Vec::new(alloc))
-}
-
-pub fn text(alloc: Global, bytes: &str) -> Result<Text, NoMemory> {
-    Ok(Items::from_vec(Vec::from_slice(alloc, bytes.as_bytes())?))
-}
-
-fn texts(alloc: Global, listed: &str) -> Result<Texts, NoMemory> {
+fn texts(alloc: Global, listed: &str) -> Result<Texts, AllocError> {
     let mut texts = Vec::new(alloc);
     for code in listed.split(' ') {
-        texts.push(text(alloc, code)?)?;
+        texts.push(text(alloc, code.as_bytes())?)?;
     }
     Ok(Items::from_vec(texts))
 }
 
-fn codes(alloc: Global, line: &Line) -> Result<Option<CodeList>, NoMemory> {
+fn codes(alloc: Global, line: &Line) -> Result<Option<CodeList>, AllocError> {
     if line.used.is_empty() {
         return Ok(None);
     }
@@ -69,10 +63,10 @@ fn codes(alloc: Global, line: &Line) -> Result<Option<CodeList>, NoMemory> {
     Ok(Some(CodeList { used, unused }))
 }
 
-fn row(alloc: Global, line: &Line) -> Result<SimpleRow, NoMemory> {
+fn row(alloc: Global, line: &Line) -> Result<SimpleRow, AllocError> {
     let codes = codes(alloc, line)?;
     Ok(SimpleRow {
-        reference: text(alloc, line.reference)?,
+        reference: text(alloc, line.reference.as_bytes())?,
         requirement: line.requirement,
         data_type: line.data_type,
         min: line.min,
@@ -83,7 +77,7 @@ fn row(alloc: Global, line: &Line) -> Result<SimpleRow, NoMemory> {
 }
 
 /// Adds a row for each line.
-pub fn add_rows(alloc: Global, rows: &mut Vec<Element>, lines: &[Line]) -> Result<(), NoMemory> {
+pub fn add_rows(alloc: Global, rows: &mut Vec<Element>, lines: &[Line]) -> Result<(), AllocError> {
     for line in lines {
         let row = row(alloc, line)?;
         rows.push(Element::Simple(row, line.repeat))?;
@@ -96,7 +90,7 @@ pub fn add_components(
     alloc: Global,
     components: &mut Vec<Component>,
     lines: &[Line],
-) -> Result<(), NoMemory> {
+) -> Result<(), AllocError> {
     for line in lines {
         let row = row(alloc, line)?;
         components.push(Component::Simple(row))?;
@@ -110,9 +104,9 @@ pub fn composite(
     requirement: Requirement,
     repeat: u32,
     components: Vec<Component>,
-) -> Result<Element, NoMemory> {
+) -> Result<Element, AllocError> {
     Ok(Element::Composite(CompositeRow {
-        reference: text(alloc, reference)?,
+        reference: text(alloc, reference.as_bytes())?,
         requirement,
         repeat,
         components: Items::from_vec(components),
@@ -124,7 +118,7 @@ fn add_condition(
     conditions: &mut Vec<Condition>,
     relation: Relation,
     positions: &[u32],
-) -> Result<(), NoMemory> {
+) -> Result<(), AllocError> {
     let positions = Items::from_vec(Vec::from_slice(alloc, positions)?);
     conditions.push(Condition {
         relation,
@@ -133,44 +127,17 @@ fn add_condition(
     Ok(())
 }
 
-fn head(alloc: Global) -> Result<GuideHead, NoMemory> {
-    Ok(GuideHead {
-        name: text(alloc, "H")?,
-        group: text(alloc, "PO")?,
-        set: text(alloc, "850")?,
-        version: text(alloc, "005010")?,
-        convention: None,
-        dictionary: none(alloc),
-        tolerate_segment: none(alloc),
-        tolerate_element: none(alloc),
-    })
-}
-
 /// A guide of one segment, which may be there.
 pub fn guide(
     alloc: Global,
     elements: Vec<Element>,
     conditions: Vec<Condition>,
 ) -> Result<Guide, Fail> {
-    let slot = Slot {
-        number: 0,
-        id: text(alloc, "SEG")?,
-        label: None,
-        min: 0,
-        max: 1,
-        picks: none(alloc),
-        elements: Items::from_vec(elements),
-        conditions: Items::from_vec(conditions),
-    };
+    let elements = Items::from_vec(elements);
+    let conditions = Items::from_vec(conditions);
     let mut nodes = Vec::new(alloc);
-    nodes.push(Node::Segment(slot))?;
-    let rows = GuideRows {
-        head: head(alloc)?,
-        hl: None,
-        depends: none(alloc),
-        nodes,
-    };
-    Ok(Guide::check(rows)?)
+    nodes.push(segment(alloc, b"SEG", (0, 1), none(alloc), elements, conditions)?)?;
+    guide_of_nodes(alloc, nodes)
 }
 
 /// A relational condition and its positions.
@@ -187,22 +154,27 @@ pub fn guide_of(alloc: Global, lines: &[Line], related: &[Related]) -> Result<Gu
     guide(alloc, rows, conditions)
 }
 
-/// Each fault as `element component repetition code reference copy;`.
+/// Adds `element component repetition code reference copy;`.
+fn add_fault(out: &mut Vec<u8>, alloc: Global, fault: &ElemFault) -> Result<(), Fail> {
+    let place = format!(in alloc;
+        "{} {} {} {} ",
+        fault.element,
+        fault.component,
+        fault.repetition,
+        code_text(fault.code)
+    )?;
+    out.extend_from_slice(place.as_bytes())?;
+    out.extend_from_slice(fault.reference.as_slice())?;
+    out.push(b' ')?;
+    out.extend_from_slice(fault.copy.as_slice())?;
+    out.push(b';')?;
+    Ok(())
+}
+
 fn written(alloc: Global, faults: &[ElemFault]) -> Result<Vec<u8>, Fail> {
     let mut out = Vec::new(alloc);
     for fault in faults {
-        let place = format!(in alloc;
-            "{} {} {} {} ",
-            fault.element,
-            fault.component,
-            fault.repetition,
-            code_text(fault.code)
-        )?;
-        out.extend_from_slice(place.as_bytes())?;
-        out.extend_from_slice(fault.reference.as_slice())?;
-        out.push(b' ')?;
-        out.extend_from_slice(fault.copy.as_slice())?;
-        out.push(b';')?;
+        add_fault(&mut out, alloc, fault)?;
     }
     Ok(out)
 }
@@ -217,32 +189,63 @@ fn expect_one(
 ) -> Result<(), Fail> {
     let slot = guide.slot(1).ok_or("a guide without a slot")?;
     let found = check_segment(alloc, &SegView::new(0, segment, delims), slot)?;
-    if written(alloc, found.as_slice())?.as_slice() != faults {
-        return Err("other faults than those expected")?;
-    }
-    Ok(())
-}
-
-/// Whether each segment has just the faults beside it, where not all of it is text.
-pub fn expect_bytes(
-    alloc: Global,
-    delims: Delims,
-    guide: &Guide,
-    cases: &[(&[u8], &[u8])],
-) -> Result<(), Fail> {
-    for (segment, faults) in cases {
-        expect_one(alloc, delims, guide, segment, faults)?;
-    }
-    Ok(())
+    let found = written(alloc, found.as_slice())?;
+    same(alloc, segment, found.as_slice(), faults)
 }
 
 /// Segments, each beside its faults.
 pub type Cases = &'static [(&'static str, &'static str)];
 
-/// Whether each segment has just the faults beside it.
-pub fn expect(alloc: Global, delims: Delims, guide: &Guide, cases: Cases) -> Result<(), Fail> {
+fn expect_cases(alloc: Global, delims: Delims, guide: &Guide, cases: Cases) -> Result<(), Fail> {
     for (segment, faults) in cases {
         expect_one(alloc, delims, guide, segment.as_bytes(), faults.as_bytes())?;
     }
     Ok(())
+}
+
+/// Whether each segment has just the faults beside it.
+pub fn expect(alloc: Global, delims: Delims, guide: &Guide, tables: &[Cases]) -> Result<(), Fail> {
+    for cases in tables {
+        expect_cases(alloc, delims, guide, cases)?;
+    }
+    Ok(())
+}
+
+/// Rows, their conditions, and segments with their faults.
+pub type Group = (&'static [Line], &'static [Related], &'static [Cases]);
+
+/// Whether each segment has by these rows just the faults beside it.
+pub fn expect_by_rows(
+    alloc: Global,
+    lines: &[Line],
+    related: &[Related],
+    tables: &[Cases],
+) -> Result<(), Fail> {
+    let guide = guide_of(alloc, lines, related)?;
+    expect(alloc, DELIMS, &guide, tables)
+}
+
+/// Whether each segment has by its rows just the faults beside it.
+pub fn expect_groups(alloc: Global, groups: &[Group]) -> Result<(), Fail> {
+    for (lines, related, tables) in groups {
+        expect_by_rows(alloc, lines, related, tables)?;
+    }
+    Ok(())
+}
+
+fn expect_each_of_bytes(
+    alloc: Global,
+    guide: &Guide,
+    cases: &[(&[u8], &[u8])],
+) -> Result<(), Fail> {
+    for (segment, faults) in cases {
+        expect_one(alloc, DELIMS, guide, segment, faults)?;
+    }
+    Ok(())
+}
+
+/// Whether each segment has by these rows just the faults beside it, where not all of it is text.
+pub fn expect_bytes(alloc: Global, lines: &[Line], cases: &[(&[u8], &[u8])]) -> Result<(), Fail> {
+    let guide = guide_of(alloc, lines, &[])?;
+    expect_each_of_bytes(alloc, &guide, cases)
 }

@@ -1,5 +1,5 @@
 //! Relational conditions over a segment of six elements.
-use super::guides::{Cases, DELIMS, Line, OPTIONAL, Related, expect, guide_of};
+use super::slots::{Cases, Group, Line, OPTIONAL, Related, expect_groups};
 use guide_tree::Relation;
 use std::test::Fail;
 
@@ -58,28 +58,33 @@ const ONE_OTHER_WITH_THE_FIRST: Cases = &[
     ("S**a", ""),
 ];
 
-/// A condition, and segments with their faults.
-const CONDITIONS: &[(Related, Cases)] = &[
-    ((Relation::Paired, &[2, 3, 5]), PAIRED),
-    ((Relation::Required, &[2, 3, 5]), AT_LEAST_ONE),
-    ((Relation::Exclusion, &[5, 2, 3]), AT_MOST_ONE),
+const CONDITIONS: &[Group] = &[
+    (SIX_ROWS, &[(Relation::Paired, &[2, 3, 5])], &[PAIRED]),
     (
-        (Relation::Conditional, &[5, 2, 3]),
-        ALL_OTHERS_WITH_THE_FIRST,
+        SIX_ROWS,
+        &[(Relation::Required, &[2, 3, 5])],
+        &[AT_LEAST_ONE],
     ),
     (
-        (Relation::ListConditional, &[5, 2, 3]),
-        ONE_OTHER_WITH_THE_FIRST,
+        SIX_ROWS,
+        &[(Relation::Exclusion, &[5, 2, 3])],
+        &[AT_MOST_ONE],
+    ),
+    (
+        SIX_ROWS,
+        &[(Relation::Conditional, &[5, 2, 3])],
+        &[ALL_OTHERS_WITH_THE_FIRST],
+    ),
+    (
+        SIX_ROWS,
+        &[(Relation::ListConditional, &[5, 2, 3])],
+        &[ONE_OTHER_WITH_THE_FIRST],
     ),
 ];
 
 #[test]
 fn conditions(rt: HostRuntime) -> Result<(), Fail> {
-    for (related, cases) in CONDITIONS {
-        let guide = guide_of(rt.alloc(), SIX_ROWS, &[*related])?;
-        expect(rt.alloc(), DELIMS, &guide, cases)?;
-    }
-    Ok(())
+    expect_groups(rt.alloc(), CONDITIONS)
 }
 
 const FOUR_ROWS: &[Line] = &[
@@ -125,14 +130,12 @@ const FOUND_OF_SEVERAL: Cases = &[
     ("S*c", ""),
 ];
 
-/// Conditions, and segments with their faults.
-const TOGETHER: &[(&[Related], Cases)] = &[(TWICE, FOUND_TWICE), (SEVERAL, FOUND_OF_SEVERAL)];
+const TOGETHER: &[Group] = &[
+    (FOUR_ROWS, TWICE, &[FOUND_TWICE]),
+    (FOUR_ROWS, SEVERAL, &[FOUND_OF_SEVERAL]),
+];
 
 #[test]
 fn a_fault_of_two_conditions_stands_once(rt: HostRuntime) -> Result<(), Fail> {
-    for (related, cases) in TOGETHER {
-        let guide = guide_of(rt.alloc(), FOUR_ROWS, related)?;
-        expect(rt.alloc(), DELIMS, &guide, cases)?;
-    }
-    Ok(())
+    expect_groups(rt.alloc(), TOGETHER)
 }

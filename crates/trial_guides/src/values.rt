@@ -1,7 +1,6 @@
 //! Values of each type: which bytes and forms it allows, how its length counts, its codes, dates and times.
-use super::guides::{Cases, DELIMS, Line, OPTIONAL, expect, expect_bytes, guide_of};
-use guide_tree::{ElementType, Guide};
-use std::alloc::Global;
+use super::slots::{Cases, Line, OPTIONAL, expect_by_rows, expect_bytes};
+use guide_tree::ElementType;
 use std::test::Fail;
 
 const EACH_TYPE_ROWS: &[Line] = &[
@@ -53,10 +52,6 @@ const EACH_TYPE_ROWS: &[Line] = &[
         ..OPTIONAL
     },
 ];
-
-fn each_type(alloc: Global) -> Result<Guide, Fail> {
-    guide_of(alloc, EACH_TYPE_ROWS, &[])
-}
 
 const STRINGS: Cases = &[
     ("TYP*abcde", ""),
@@ -136,6 +131,14 @@ const TIMES_OF_DAY: Cases = &[
     ("TYP******123456789", "6 0 0 5 6 123456789;"),
 ];
 
+const BYTES_THAT_ARE_NO_CHARACTERS: &[(&[u8], &[u8])] = &[
+    (b"TYP*a\x7F", b"1 0 0 6 1 a\x7F;"),
+    (b"TYP*\x1F", b"1 0 0 6 1 \x1F;"),
+    (b"TYP*\x80", b"1 0 0 6 1 \x80;"),
+    (b"TYP*******a\x80\xFF", b""),
+    (b"TYP*******\x7F", b"7 0 0 6 7 \x7F;"),
+];
+
 const TABLES: &[Cases] = &[
     STRINGS,
     CODES_USED_AND_NOT_USED,
@@ -147,27 +150,10 @@ const TABLES: &[Cases] = &[
 
 #[test]
 fn values_of_each_type(rt: HostRuntime) -> Result<(), Fail> {
-    let guide = each_type(rt.alloc())?;
-    for cases in TABLES {
-        expect(rt.alloc(), DELIMS, &guide, cases)?;
-    }
-    Ok(())
+    expect_by_rows(rt.alloc(), EACH_TYPE_ROWS, &[], TABLES)
 }
-
-const BYTES_THAT_ARE_NO_CHARACTERS: &[(&[u8], &[u8])] = &[
-    (b"TYP*a\x7F", b"1 0 0 6 1 a\x7F;"),
-    (b"TYP*\x1F", b"1 0 0 6 1 \x1F;"),
-    (b"TYP*\x80", b"1 0 0 6 1 \x80;"),
-    (b"TYP*******a\x80\xFF", b""),
-    (b"TYP*******\x7F", b"7 0 0 6 7 \x7F;"),
-];
 
 #[test]
 fn bytes_that_are_no_characters(rt: HostRuntime) -> Result<(), Fail> {
-    expect_bytes(
-        rt.alloc(),
-        DELIMS,
-        &each_type(rt.alloc())?,
-        BYTES_THAT_ARE_NO_CHARACTERS,
-    )
+    expect_bytes(rt.alloc(), EACH_TYPE_ROWS, BYTES_THAT_ARE_NO_CHARACTERS)
 }

@@ -1,0 +1,13 @@
+//! Texts beside those that are wanted.
+use std::alloc::Global;
+use std::test::Fail;
+
+/// Refuses another text than the one that is wanted, and shows it behind what it is told of.
+pub fn same(alloc: Global, of: &[u8], found: &[u8], wanted: &[u8]) -> Result<(), Fail> {
+    if found == wanted {
+        return Ok(());
+    }
+    let of = String::from_utf8_lossy(alloc, of)?;
+    let found = String::from_utf8_lossy(alloc, found)?;
+    Err(Fail::new(format!(in alloc; "{of}: {found}")?))
+}
