@@ -25,6 +25,7 @@
 
 mod answers;
 mod codes;
+mod counters;
 mod fault;
 mod interchange;
 mod items;
@@ -39,6 +40,7 @@ mod words;
 
 pub use answers::{GroupAnswer, SetAnswer};
 pub use codes::{Code, ElementCode, SegmentCode, code_of, code_text};
+pub use counters::Counters;
 pub use fault::{ElemFault, Fault, NO_NUMBER, element_fault_order, fault_order};
 pub use interchange::{InterchangeFault, interchange_fault_order};
 pub use items::{Items, Text, Texts, copy_text};
