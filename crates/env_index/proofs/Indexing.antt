@@ -1,13 +1,13 @@
 -- An index goes on by the next interchange.
-use Rattle.std.proofs.Common.{◌≡◌, ℕ, ◌+◌, ◌-◌, ◌<◌, ◌≤◌, not, List, [], ◌∷◌, ◌++◌, length, map, drop, refl, sym, ap, subst, ◌∙◌, append_assoc, arith}
+use Rattle.std.proofs.Common.{◌≡◌, ℕ, ◌+◌, ◌-◌, ◌<◌, ◌≤◌, not, List, [], ◌∷◌, ◌++◌, length, drop}
+use Rattle.std.proofs.Common.{sym, ap, subst, ◌∙◌, append_assoc, arith}
 use Rattle.std.specs.Prelude.{count_by, slice_range}
-use Rattle.std.specs.List.{All}
 use Rattle.std.proofs.lemmas.List.{append-nil, length-take, map-append, take_rest}
 use Rattle.std.proofs.lemmas.List.Sums.{count_by-le-length}
-use Rattle.env_index.specs.Extents.{Extent, Chain, ChainFrom, IsNextHead, count_outside, is_filler, reach_at}
+use Rattle.env_index.specs.Extents.{Extent, Chain, ChainFrom, count_outside, is_filler, reach_at}
 use Rattle.env_index.specs.Faults.{fault_of}
 use Rattle.env_index.specs.Index.{IndexEntry, IsEntryOf, IsReadIn, IsNextIn, extent_of, extents_of}
-use Rattle.env_index.specs.Interchange.{InterchangeEntry, interchange_of}
+use Rattle.env_index.specs.Interchange.{InterchangeEntry}
 
 extents_more : (es new : List IndexEntry) (e : IndexEntry) (xs : List Extent) → new ≡ es ++ e ∷ []
     → extents_of new ++ xs ≡ extents_of es ++ extent_of e ∷ xs

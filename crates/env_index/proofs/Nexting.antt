@@ -1,13 +1,13 @@
 -- The next header of a text: none begins where the letter I doesn't stand.
-use Rattle.std.proofs.Common.{◌≡◌, ℕ, ◌+◌, ◌-◌, ◌<◌, ◌≤◌, List, Bool, true, false, nat_eq, length, drop, take, get_or, inl, inr, refl, sym}
+use Rattle.std.proofs.Common.{◌≡◌, ℕ, ◌+◌, ◌-◌, ◌<◌, ◌≤◌, List, true, false, nat_eq, length, get_or, inl, inr, refl, sym}
 use Rattle.std.proofs.Common.{ap, subst, ◌∙◌, arith}
-use Rattle.std.specs.Prelude.{slice_index, slice_range}
+use Rattle.std.specs.Prelude.{slice_range}
 use Rattle.std.proofs.lemmas.Bool.{false_from_ne_true}
 use Rattle.std.proofs.lemmas.Bool.Decides.{leb_tells}
 use Rattle.std.proofs.lemmas.List.{get_or-drop, length-drop, take_rest}
 use Rattle.memchr.specs.Find.{Nowhere, Passes, is_byte}
 use Rattle.x12_bytes.specs.HeaderTest.{is_head}
-use Rattle.env_index.proofs.Surround.{head_letter, no_head_past}
+use Rattle.env_index.proofs.Surround.{head_letter}
 
 -- behind an offset, up to which no letter I stands
 pub no_head_ahead : (text : List ℕ) (at ahead q : ℕ) → Nowhere (Passes (is_byte 73) (slice_range text at (length text))) 0 ahead

@@ -1,11 +1,10 @@
 -- A text has one index at most.
-use Rattle.std.proofs.Common.{◌≡◌, ℕ, List, [], ◌∷◌, Option, map, refl, sym, ap, subst, ◌∙◌}
+use Rattle.std.proofs.Common.{◌≡◌, ℕ, List, [], ◌∷◌, Option, refl, sym, ap, subst, ◌∙◌}
 use Rattle.std.specs.List.{All}
 use Rattle.std.proofs.lemmas.List.Elements.{All-head, All-tail}
 use Rattle.hub_kinds.specs.declared.interchange.InterchangeFault.{InterchangeFault}
-use Rattle.x12_segs.specs.View.{SegValue}
 use Rattle.x12_segs.specs.Kinds.{kind_of}
-use Rattle.env_index.specs.Envelope.{Body, Derives}
+use Rattle.env_index.specs.Envelope.{Derives}
 use Rattle.env_index.specs.Extents.{Extent, reach_at, count_outside}
 use Rattle.env_index.specs.Faults.{fault_of}
 use Rattle.env_index.specs.Index.{IndexEntry, IndexValue, IsEntryOf, IsIndex, extent_of, extents_of}

@@ -11,7 +11,8 @@ none_left [] h = refl
 none_left (b ∷ bs) h = grind arith
 
 joined_behind : (front middle new back rest : List Run) (first : Run) → (length back == 0) ≡ false
-    → first ≡ slice_index_or back 0 first → rest ≡ remove back 0 → middle ≡ join_runs front (first ∷ []) → new ≡ middle ++ rest → new ≡ join_runs front back
+    → first ≡ slice_index_or back 0 first → rest ≡ remove back 0 → middle ≡ join_runs front (first ∷ []) → new ≡ middle ++ rest
+    → new ≡ join_runs front back
 joined_behind front middle new [] rest first h fe re me ne = grind arith
 joined_behind front middle new (b ∷ bs) rest first h fe re me ne =
     ne ∙ ap (λ (m : List Run). m ++ rest) me ∙ ap (λ (r : List Run). join_runs front (first ∷ []) ++ r) re

@@ -1,4 +1,4 @@
-use Rattle.std.proofs.Common.{◌≡◌, ◌≤◌, ◌++◌, ◌+◌, ◌-◌, ℕ, List, length}
+use Rattle.std.proofs.Common.{◌≡◌, ◌≤◌, ◌++◌, ◌+◌, ◌-◌, List, length}
 use Rattle.std.specs.List.{All}
 use Rattle.env_index.specs.Extents.{Extent, Chain, ChainFrom, count_outside}
 use Rattle.env_index.specs.Index.{IsEntryOf, extents_of}
