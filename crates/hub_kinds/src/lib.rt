@@ -36,6 +36,7 @@ mod numbers;
 mod place;
 mod rising;
 mod set_codes;
+mod twice;
 mod words;
 
 pub use answers::{GroupAnswer, SetAnswer};
@@ -53,4 +54,5 @@ pub use numbers::{is_alphanumeric, read_number};
 pub use place::{Place, place_order};
 pub use rising::{Keyed, in_order};
 pub use set_codes::{GroupCode, GroupVerdict, SetCode, Verdict};
+pub use twice::has_twice;
 pub use words::is_segment_id;
