@@ -1,3 +1,5 @@
 pub mod Answers
 pub mod CountersFile
+pub mod Setup
+pub mod SetupFaults
 pub mod SetupFile

@@ -2,14 +2,22 @@
 #![tactic(auto)]
 
 mod counters_file;
+mod delimiters;
 mod file_fault;
+mod ids;
 mod keyed;
+mod partner;
 mod row;
 mod rows;
+mod setup_fault;
 mod setup_file;
+mod told;
+mod twice;
 mod values;
 
 pub use counters_file::read_counters;
 pub use file_fault::FileFault;
+pub use partner::{Partner, Route};
 pub use rows::{CounterRow, CounterRows, HubRow, PartnerRow, RouteRow, SetupRows, Usage};
+pub use setup_fault::SetupFault;
 pub use setup_file::read_setup;
