@@ -1,5 +1,7 @@
 pub mod Answers
 pub mod CountersFile
+pub mod Known
+pub mod Names
 pub mod Setup
 pub mod SetupFaults
 pub mod SetupFile

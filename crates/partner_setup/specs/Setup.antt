@@ -1,7 +1,7 @@
 -- The setup (own): the hub, its partners, where sets go, and the guides; what is looked up in it.
-use Rattle.std.specs.Prelude.{◌≡◌, ◌<◌, ℕ, Bool, false, ◌&&◌, List, [], ◌∷◌, length, map, Option, Some, None, find, position, is_none, not, if◌then◌else◌}
+use Rattle.std.specs.Prelude.{◌≡◌, ◌<◌, ℕ, ◌+◌, Bool, false, ◌&&◌, List, [], ◌∷◌, length, map, Option, Some, None, find, position, is_none, not, if◌then◌else◌}
 use Rattle.std.specs.Prelude.{slice_index_or, option_and_then, slice_get}
-use Rattle.std.specs.List.{position_or_len, list_any}
+use Rattle.std.specs.List.{list_any}
 use Rattle.std.specs.Option.{option_map_or}
 use Rattle.std.specs.Str.{bytes_eq}
 use Rattle.x12_bytes.specs.Header.{field_of}
@@ -16,6 +16,7 @@ use Rattle.partner_setup.specs.declared.rows.HubRow.{HubRow}
 use Rattle.partner_setup.specs.declared.rows.PartnerRow.{PartnerRow}
 use Rattle.partner_setup.specs.declared.rows.RouteRow.{RouteRow}
 use Rattle.partner_setup.specs.declared.rows.SetupRows.{SetupRows}
+use Rattle.partner_setup.specs.Names.{places_of_texts}
 use Rattle.partner_setup.specs.SetupFaults.{delims_of, guide_name, partner_name}
 
 pub record SetupValue : Type 0 where
@@ -23,10 +24,6 @@ pub record SetupValue : Type 0 where
   pub partners : List Partner
   pub routes : List Route
   pub guides : List GuideRows
-
--- the first place of a text among some; behind them where it isn't there
-abbrev pub place_of : List (List ℕ) → (text : List ℕ) → ℕ
-place_of texts text = position_or_len (λ t. bytes_eq t text) texts
 
 -- a partner without a row of counters starts at 1
 abbrev pub first_counters : Counters
@@ -47,11 +44,11 @@ partner_of counters guides row = record {
   delims = option_map_or (λ d. d) (delims_of row) no_delims;
   cap = row.cap;
   counters = counters_of counters row.name;
-  guides = map (place_of (map guide_name guides)) row.guides;
+  guides = places_of_texts (map guide_name guides) row.guides;
 }
 
 abbrev pub route_by : List PartnerRow → RouteRow → Route
-route_by partners row = record { code = row.code; to = place_of (map partner_name partners) row.to ∷ [] }
+route_by partners row = record { code = row.code; to = places_of_texts (map partner_name partners) (row.to ∷ []) }
 
 -- the setup that rows, counters and guides make where nothing is refused
 abbrev pub setup_of : SetupRows → List CounterRow → List GuideRows → SetupValue

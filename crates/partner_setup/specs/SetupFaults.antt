@@ -9,6 +9,7 @@ use Rattle.hub_kinds.specs.Words.{is_word}
 use Rattle.x12_bytes.specs.declared.delims.Delims.{Delims}
 use Rattle.guide_tree.specs.declared.rows.GuideRows.{GuideRows}
 use Rattle.guide_tree.specs.Segments.{contains_text}
+use Rattle.partner_setup.specs.Names.{places_of_texts, those_at}
 use Rattle.partner_setup.specs.declared.rows.CounterRow.{CounterRow}
 use Rattle.partner_setup.specs.declared.rows.PartnerRow.{PartnerRow}
 use Rattle.partner_setup.specs.declared.rows.RouteRow.{RouteRow}
@@ -90,19 +91,6 @@ has_ids p = is_word 1 20 p.name && are_ids p.qualifier p.id p.code
 abbrev pub has_bad_id : SetupRows → Bool
 has_bad_id rows = not (are_ids rows.hub.qualifier rows.hub.id rows.hub.code) || not (list_all has_ids rows.partners)
 
--- the first guide with a name
-abbrev pub guide_named : List GuideRows → List ℕ → Option GuideRows
-guide_named guides name = find (λ g. bytes_eq g.head.name name) guides
-
--- the guides that names name
-abbrev pub and_more : Option GuideRows → List GuideRows → List GuideRows
-and_more None gs = gs
-and_more (Some g) gs = g ∷ gs
-
-abbrev pub guides_named : List GuideRows → List (List ℕ) → List GuideRows
-guides_named guides [] = []
-guides_named guides (name ∷ names) = and_more (guide_named guides name) (guides_named guides names)
-
 abbrev pub guide_name : GuideRows → List ℕ
 guide_name g = g.head.name
 
@@ -111,8 +99,11 @@ abbrev pub purpose_key : GuideRows → List ℕ
 purpose_key g = told_by g.head.group g.head.version g.head.set
 
 -- the partner's guides are there, and no two of them are for the same
+abbrev pub guides_of : List GuideRows → PartnerRow → List GuideRows
+guides_of guides p = those_at guides (places_of_texts (map guide_name guides) p.guides)
+
 abbrev pub has_guides : List GuideRows → PartnerRow → Bool
-has_guides guides p = list_all (contains_text (map guide_name guides)) p.guides && not (has_twice purpose_key (guides_named guides p.guides))
+has_guides guides p = list_all (contains_text (map guide_name guides)) p.guides && not (has_twice purpose_key (guides_of guides p))
 
 -- 4: a name that no guide has, two of a partner's guides for the same, or two guides with one name
 abbrev pub has_bad_guides : List PartnerRow → List GuideRows → Bool
