@@ -16,7 +16,7 @@ use Rattle.partner_setup.specs.declared.rows.HubRow.{HubRow}
 use Rattle.partner_setup.specs.declared.rows.PartnerRow.{PartnerRow}
 use Rattle.partner_setup.specs.declared.rows.RouteRow.{RouteRow}
 use Rattle.partner_setup.specs.declared.rows.SetupRows.{SetupRows}
-use Rattle.partner_setup.specs.Names.{places_of_texts}
+use Rattle.partner_setup.specs.Names.{place_of, places_of_texts}
 use Rattle.partner_setup.specs.SetupFaults.{delims_of, guide_name, partner_name}
 
 pub record SetupValue : Type 0 where
@@ -29,11 +29,17 @@ pub record SetupValue : Type 0 where
 abbrev pub first_counters : Counters
 first_counters = record { interchange = 1; set = 1 }
 
+abbrev pub row_of : List CounterRow → (name : List ℕ) → Option CounterRow
+row_of rows name = option_and_then (slice_get rows) (place_of (map (λ (c : CounterRow). c.partner) rows) name)
+
 abbrev pub counters_of : List CounterRow → (name : List ℕ) → Counters
-counters_of rows name = option_map_or (λ c. c.counters) (find (λ c. bytes_eq c.partner name) rows) first_counters
+counters_of rows name = option_map_or (λ c. c.counters) (row_of rows name) first_counters
 
 abbrev pub no_delims : Delims
 no_delims = record { element = 0; component = 0; repetition = None; terminator = 0 }
+
+abbrev pub delims_or_none : PartnerRow → Delims
+delims_or_none row = option_map_or (λ d. d) (delims_of row) no_delims
 
 abbrev pub partner_of : List CounterRow → List GuideRows → PartnerRow → Partner
 partner_of counters guides row = record {
@@ -41,7 +47,7 @@ partner_of counters guides row = record {
   qualifier = row.qualifier;
   id = row.id;
   code = row.code;
-  delims = option_map_or (λ d. d) (delims_of row) no_delims;
+  delims = delims_or_none row;
   cap = row.cap;
   counters = counters_of counters row.name;
   guides = places_of_texts (map guide_name guides) row.guides;

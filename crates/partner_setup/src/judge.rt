@@ -38,7 +38,7 @@ fn are_names(places: &BTreeMap<&[u8], usize>, names: &[Text]) -> bool
 }
 
 /// Adds a place, if there is one.
-fn push_some(places: &mut Vec<usize>, place: Option<usize>) -> Result<(), NoMemory>
+pub fn push_some(places: &mut Vec<usize>, place: Option<usize>) -> Result<(), NoMemory>
     ensures { OnOk result (places.new.items ≡ places.old.items ++ and_some place []) }
 {
     if let Some(place) = place {

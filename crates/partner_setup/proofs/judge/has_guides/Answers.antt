@@ -8,13 +8,12 @@ use Rattle.partner_setup.specs.declared.told.Told.{Told}
 use Rattle.partner_setup.proofs.Telling.{twice_alike}
 use Rattle.partner_setup.proofs.judge.has_guides.Goals as goal
 
-
 pub returns : goal.returns
 returns c =
     let guides = c.args.guides.now in
     let names = map guide_name guides in
     let p = c.args.partner.now in
-    let there : list_all (contains_text names) p.guides ≡ true 
+    let there : list_all (contains_text names) p.guides ≡ true
     = sym (c.are_names.ensures names c.requires ∙ ap (λ (l : List (List ℕ)). list_all (contains_text names) l) c.as_slice-names.ensures)
     ∙ c.if-not-are_names.false in
     let places = c.as_slice.ensures.value ∙ c.in_ok-found.ensures names c.requires
