@@ -1,5 +1,6 @@
 pub mod Answers
 pub mod CountersFile
+pub mod CountersText
 pub mod Known
 pub mod Names
 pub mod Setup

@@ -1,6 +1,6 @@
 -- The setup (own): the hub, its partners, where sets go, and the guides; what is looked up in it.
-use Rattle.std.specs.Prelude.{◌≡◌, ◌<◌, ℕ, ◌+◌, Bool, false, ◌&&◌, List, [], ◌∷◌, length, map, Option, Some, None, find, position, is_none, not, if◌then◌else◌}
-use Rattle.std.specs.Prelude.{slice_index_or, option_and_then, slice_get}
+use Rattle.std.specs.Prelude.{ℕ, Bool, ◌&&◌, List, [], ◌∷◌, map, Option, None, find, position, if◌then◌else◌}
+use Rattle.std.specs.Prelude.{option_and_then, slice_get}
 use Rattle.std.specs.List.{list_any}
 use Rattle.std.specs.Option.{option_map_or}
 use Rattle.std.specs.Str.{bytes_eq}
@@ -16,7 +16,7 @@ use Rattle.partner_setup.specs.declared.rows.HubRow.{HubRow}
 use Rattle.partner_setup.specs.declared.rows.PartnerRow.{PartnerRow}
 use Rattle.partner_setup.specs.declared.rows.RouteRow.{RouteRow}
 use Rattle.partner_setup.specs.declared.rows.SetupRows.{SetupRows}
-use Rattle.partner_setup.specs.Names.{place_of, places_of_texts}
+use Rattle.partner_setup.specs.Names.{place_of, places_of_texts, those_at}
 use Rattle.partner_setup.specs.SetupFaults.{delims_of, guide_name, partner_name}
 
 pub record SetupValue : Type 0 where
@@ -65,30 +65,30 @@ setup_of rows counters guides = record {
   guides = guides;
 }
 
--- the sender: the partner with ISA05 as qualifier and ISA06 without its trailing spaces as id
-abbrev pub is_sender : (header : List ℕ) → Partner → Bool
-is_sender header p = bytes_eq p.qualifier (field_of header 5) && bytes_eq p.id (without_trailing_spaces (field_of header 6))
+abbrev pub has_id : Partner → (qualifier id : List ℕ) → Bool
+has_id p qualifier id = bytes_eq p.qualifier qualifier && bytes_eq p.id id
 
+-- the sender: the partner with ISA05 as qualifier and ISA06 without its trailing spaces as id
 abbrev pub sender_of : SetupValue → (header : List ℕ) → Option ℕ
-sender_of setup header = position (is_sender header) setup.partners
+sender_of setup header = position (λ p. has_id p (field_of header 5) (without_trailing_spaces (field_of header 6))) setup.partners
+
+abbrev pub has_code : (code : List ℕ) → Route → Bool
+has_code code route = bytes_eq route.code code
 
 -- where sets for a GS03 go: the places of partners; nowhere without a route
-abbrev pub targets : Option Route → List ℕ
-targets None = []
-targets (Some route) = route.to
+abbrev pub targets_in : List Route → (code : List ℕ) → List ℕ
+targets_in [] code = []
+targets_in (route ∷ routes) code = if has_code code route then route.to else targets_in routes code
 
 abbrev pub route_of : SetupValue → (code : List ℕ) → List ℕ
-route_of setup code = targets (find (λ (r : Route). bytes_eq r.code code) setup.routes)
+route_of setup code = targets_in setup.routes code
 
--- the guides of a partner, by their places
-abbrev pub guides_at : List GuideRows → (places : List ℕ) → List (Option GuideRows)
-guides_at guides places = map (slice_get guides) places
-
+-- the guides of a partner
 abbrev pub places_of : SetupValue → (partner : ℕ) → List ℕ
 places_of setup partner = option_map_or (λ (p : Partner). p.guides) (slice_get setup.partners partner) []
 
-abbrev pub guides_of : SetupValue → (partner : ℕ) → List (Option GuideRows)
-guides_of setup partner = guides_at setup.guides (places_of setup partner)
+abbrev pub guides_of : SetupValue → (partner : ℕ) → List GuideRows
+guides_of setup partner = those_at setup.guides (places_of setup partner)
 
 -- GS01; with GS08; and with ST01 too
 abbrev pub is_for_group : (group : List ℕ) → GuideRows → Bool
@@ -101,17 +101,11 @@ abbrev pub is_for_set : (group version set : List ℕ) → GuideRows → Bool
 is_for_set group version set g = is_for_version group version g && bytes_eq g.head.set set
 
 abbrev pub has_group : SetupValue → (partner : ℕ) → (group : List ℕ) → Bool
-has_group setup partner group = list_any (λ g. option_map_or (is_for_group group) g false) (guides_of setup partner)
+has_group setup partner group = list_any (is_for_group group) (guides_of setup partner)
 
 abbrev pub has_version : SetupValue → (partner : ℕ) → (group version : List ℕ) → Bool
-has_version setup partner group version =
-    list_any (λ g. option_map_or (is_for_version group version) g false) (guides_of setup partner)
+has_version setup partner group version = list_any (is_for_version group version) (guides_of setup partner)
 
 -- the partner's guide for a GS01, GS08 and ST01
-abbrev pub first_for : (group version set : List ℕ) → List (Option GuideRows) → Option GuideRows
-first_for group version set [] = None
-first_for group version set (None ∷ gs) = first_for group version set gs
-first_for group version set (Some g ∷ gs) = if is_for_set group version set g then Some g else first_for group version set gs
-
 abbrev pub guide_of : SetupValue → (partner : ℕ) → (group version set : List ℕ) → Option GuideRows
-guide_of setup partner group version set = first_for group version set (guides_of setup partner)
+guide_of setup partner group version set = find (is_for_set group version set) (guides_of setup partner)

@@ -1,8 +1,7 @@
 -- The setup (own): what is refused of the rows, the counters and the guides that are to make one, and in which order.
-use Rattle.std.specs.Prelude.{ℕ, ◌==◌, Bool, true, false, not, ◌&&◌, ◌||◌, nat_le, List, [], ◌∷◌, ◌++◌, length, map, Option, Some, None, is_none}
-use Rattle.std.specs.Prelude.{slice_index, if◌then◌else◌, find, option_map, ◌-◌}
+use Rattle.std.specs.Prelude.{ℕ, ◌==◌, Bool, not, ◌&&◌, ◌||◌, nat_le, List, [], ◌∷◌, ◌++◌, length, map, Option, Some, None, is_none}
+use Rattle.std.specs.Prelude.{slice_index, if◌then◌else◌, ◌-◌}
 use Rattle.std.specs.List.{list_all, list_any}
-use Rattle.std.specs.Str.{bytes_eq}
 use Rattle.std.specs.Char.{is_ascii_alphanumeric}
 use Rattle.hub_kinds.specs.Twice.{has_twice}
 use Rattle.hub_kinds.specs.Words.{is_word}

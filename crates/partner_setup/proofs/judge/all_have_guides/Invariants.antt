@@ -1,4 +1,4 @@
-use Rattle.std.proofs.Common.{◌≡◌, List, map, drop}
+use Rattle.std.proofs.Common.{◌≡◌, drop}
 use Rattle.std.specs.List.{list_all}
 use Rattle.partner_setup.specs.SetupFaults.{has_guides}
 use Rattle.partner_setup.proofs.judge.all_have_guides.Given as goal

@@ -1,4 +1,4 @@
-use Rattle.std.proofs.Common.{◌≡◌, ◌<◌, ◌+◌, ◌-◌, ℕ, map, drop, length, sym, subst, arith}
+use Rattle.std.proofs.Common.{◌≡◌, ◌+◌, ◌-◌, ℕ, map, drop, length, subst, arith}
 use Rattle.partner_setup.specs.Known.{KnowsPlaces}
 use Rattle.partner_setup.proofs.Naming.{more_behind}
 use Rattle.partner_setup.proofs.names.places_by_name.Goals as goal
