@@ -2,9 +2,12 @@ pub mod Derived
 pub mod Each
 pub mod EndingTrees
 pub mod Finishing
+pub mod Indexing
 pub mod LeastEnd
 pub mod Mapped
+pub mod Nexting
 pub mod OneChain
+pub mod OneIndex
 pub mod OneTree
 pub mod Spanned
 pub mod Standing

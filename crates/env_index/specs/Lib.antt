@@ -2,6 +2,7 @@ pub mod Ends
 pub mod Envelope
 pub mod Extents
 pub mod Faults
+pub mod Index
 pub mod Interchange
 pub mod Lone
 pub mod Mapped

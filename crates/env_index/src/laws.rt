@@ -8,6 +8,7 @@ ghost use Rattle.x12_segs.specs.declared.kind.Kind.{Kind};
 ghost use Rattle.env_index.specs.Mapped.{EndsWithTrailer, KeepsKinds, MapsTrees, MapsTreesBack};
 ghost use Rattle.env_index.specs.Ends.{EndsLeast};
 ghost use Rattle.env_index.specs.Extents.{Extent, Chain, reach_at};
+ghost use Rattle.env_index.specs.Index.{IndexValue, IsIndex};
 ghost use Rattle.env_index.specs.Spans.{SetStandsAlone, EachSetIn};
 
 /// A law, with nothing to run: the segments of an interchange derive at most one tree of envelopes
@@ -40,6 +41,11 @@ pub fn envelope_is_mapped<X, Y>()
 /// A law, with nothing to run: a text has at most one chain of interchanges (X12.5, interchange).
 pub fn chain_is_one()
     ensures { (text : List ℕ) (xs ys : List Extent) → Chain text xs → Chain text ys → xs ≡ ys }
+{}
+
+/// A law, with nothing to run: a text has at most one index (X12.5, interchange).
+pub fn index_is_one()
+    ensures { (text : List ℕ) (a b : IndexValue) → IsIndex text a → IsIndex text b → a ≡ b }
 {}
 
 /// A law, with nothing to run: an interchange ends at the least of three offsets: behind the terminator of

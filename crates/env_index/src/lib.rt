@@ -8,6 +8,8 @@
 //!   of the one tree of envelopes that its segments derive;
 //! - `read_lone` answers an interchange exactly where the text is one, with nothing but CR, LF and
 //!   space around it;
+//! - `index_plain` answers the index of a text: its one chain of interchanges, each with its envelopes and the least of
+//!   its faults 1 to 7, and the count of bytes outside; a text has one index (`index_is_one`);
 //! - `judge` answers the least of an interchange's faults 1 to 7, and none exactly where it has
 //!   none;
 //! - the segments of each interchange derive a tree (`envelope_is_there`), and only one
@@ -34,10 +36,13 @@ mod builder;
 mod entry;
 mod envelopes;
 mod faults;
+mod index;
 mod interchange;
 mod laws;
 mod lone;
+mod next;
 mod places;
+mod plain;
 mod read;
 mod segment_at;
 mod source;
@@ -45,10 +50,12 @@ mod walk;
 
 pub use entry::SetEnvelope;
 pub use faults::judge;
+pub use index::{Index, IndexedInterchange};
 pub use interchange::{GroupEnvelope, Interchange};
 pub use laws::{
     chain_is_one, end_is_least, envelope_is_mapped, envelope_is_of_kinds, envelope_is_one,
-    envelope_is_there, sets_stand_alone,
+    envelope_is_there, index_is_one, sets_stand_alone,
 };
 pub use lone::read_lone;
+pub use plain::index_plain;
 pub use read::read_interchange;

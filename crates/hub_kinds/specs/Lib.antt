@@ -5,4 +5,5 @@ pub mod Numbers
 pub mod Place
 pub mod Rising
 pub mod SetCodes
+pub mod Twice
 pub mod Words

@@ -25,6 +25,7 @@
 
 mod answers;
 mod codes;
+mod counters;
 mod fault;
 mod interchange;
 mod items;
@@ -35,10 +36,12 @@ mod numbers;
 mod place;
 mod rising;
 mod set_codes;
+mod twice;
 mod words;
 
 pub use answers::{GroupAnswer, SetAnswer};
 pub use codes::{Code, ElementCode, SegmentCode, code_of, code_text};
+pub use counters::Counters;
 pub use fault::{ElemFault, Fault, NO_NUMBER, element_fault_order, fault_order};
 pub use interchange::{InterchangeFault, interchange_fault_order};
 pub use items::{Items, Text, Texts, copy_text};
@@ -51,4 +54,5 @@ pub use numbers::{is_alphanumeric, read_number};
 pub use place::{Place, place_order};
 pub use rising::{Keyed, in_order};
 pub use set_codes::{GroupCode, GroupVerdict, SetCode, Verdict};
+pub use twice::has_twice;
 pub use words::is_segment_id;

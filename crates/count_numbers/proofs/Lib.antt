@@ -1,0 +1,6 @@
+pub mod Keys
+pub mod Joining
+pub mod Tallying
+pub mod Expanding
+pub mod Pushing
+pub mod Worked

@@ -1,0 +1,8 @@
+use Rattle.count_numbers.proofs.Expanding.{runs_suffice, sets_counted}
+use Rattle.count_numbers.proofs.laws.runs_suffice.Goals as goal
+
+pub returns-clause-layout : goal.returns-clause-layout
+returns-clause-layout c = runs_suffice
+
+pub returns-clause-sets : goal.returns-clause-sets
+returns-clause-sets c = sets_counted

@@ -1,0 +1,47 @@
+-- X12.5, interchange, and X12.6, functional group: which delivered interchanges and groups a tally stands for (own).
+use Rattle.std.specs.Prelude.{◌≡◌, ℕ, ◌+◌, ◌*◌, ◌/◌, ◌%◌, ◌==◌, if◌then◌else◌, ◌^◌, ◌<◌, List, [], ◌∷◌, map, length, take}
+use Rattle.std.specs.Prelude.{drop, replicate}
+use Rattle.std.specs.List.{flat_map, range_with_len}
+use Rattle.count_numbers.specs.declared.run.RunKey.{RunKey}
+use Rattle.count_numbers.specs.declared.run.Run.{Run}
+use Rattle.count_numbers.specs.Runs.{runs_of, together}
+
+-- set k stands in delivered interchange k / cap
+abbrev pub in_interchange : {A : Type 0} → (cap : ℕ) → List A → (m : ℕ) → List A
+in_interchange cap xs m = take cap (drop (m * cap) xs)
+
+-- as many as are full, and one more for what is left
+abbrev pub interchange_count : (cap sets : ℕ) → ℕ
+interchange_count cap sets = if sets % cap == 0 then sets / cap else sets / cap + 1
+
+abbrev pub interchanges_of : {A : Type 0} → (cap : ℕ) → List A → List (List A)
+interchanges_of cap xs = map (in_interchange cap xs) (range_with_len 0 (interchange_count cap (length xs)))
+
+-- the groups of each delivered interchange, by the keys of the sets
+abbrev pub layout_of : (cap : ℕ) → List RunKey → List (List Run)
+layout_of cap keys = map runs_of (interchanges_of cap keys)
+
+-- the keys of a run's sets
+abbrev pub keys_in : Run → List RunKey
+keys_in run = replicate run.sets run.key
+
+-- the keys that runs stand for
+abbrev pub keys_of_runs : List Run → List RunKey
+keys_of_runs runs = flat_map keys_in runs
+
+-- the groups of each delivered interchange, by the runs of a tally
+abbrev pub layout_by : (cap : ℕ) → List Run → List (List Run)
+layout_by cap runs = layout_of cap (keys_of_runs runs)
+
+-- fewer than 2^64 sets are laid out by their runs as they are by themselves
+abbrev pub RunsSuffice : Type 0
+RunsSuffice = (cap : ℕ) (keys : List RunKey) → length keys < 2 ^ 64 → layout_by cap (runs_of keys) ≡ layout_of cap keys
+
+-- how many sets are in runs
+abbrev pub set_count : List Run → ℕ
+set_count [] = 0
+set_count (run ∷ runs) = together run.sets (set_count runs)
+
+-- fewer than 2^64 sets are as many as their runs tell
+abbrev pub SetsAreCounted : Type 0
+SetsAreCounted = (keys : List RunKey) → length keys < 2 ^ 64 → set_count (runs_of keys) ≡ length keys

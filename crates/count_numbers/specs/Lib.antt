@@ -1,0 +1,5 @@
+pub mod Layout
+pub mod Num
+pub mod Numbers
+pub mod Runs
+pub mod Tally

@@ -1,0 +1,27 @@
+//! Control numbers: which numbers a partner's interchanges and transaction sets get in a night, and from which the next
+//! night goes on.
+//!
+//! Proved:
+//! - `num` is the number that comes so far behind a first one, where 1 follows 999,999,999;
+//! - a `Tally` tells of what happens for a partner, in the order of the text, how many acknowledgments there are, and
+//!   the runs of delivered sets that go into one group;
+//! - tallies join like the stretches that they are of (`tally_laws`), so that it doesn't matter where a text is cut;
+//! - a tally is enough: delivered interchanges and their groups follow from its runs as they do from the sets
+//!   themselves, and so does the number of sets, where there are fewer than 2^64 (`runs_suffice`);
+//! - `numbers_for` gives each partner's first numbers and its next counters.
+//!
+//! Source: X12.5, interchange control number (ISA13); X12.6, transaction set control number (ST02) and functional group;
+//! how they are counted is own.
+#![tactic(auto)]
+
+mod laws;
+mod number;
+mod numbering;
+mod run;
+mod tally;
+
+pub use laws::{runs_suffice, tally_laws};
+pub use number::num;
+pub use numbering::{Numbers, PartnerNumbers, numbers_for};
+pub use run::{Run, RunKey};
+pub use tally::Tally;

@@ -1,0 +1,89 @@
+use crate::run::{Run, RunKey, join_runs, push_run, single, together};
+use hub_kinds::NoMemory;
+use std::alloc::Global;
+use std::marker::Model;
+
+/// What a stretch of a night leaves to be numbered for one partner.
+#[derive(Debug, Drop)]
+pub struct Tally<'a> {
+    acknowledgments: u64,
+    runs: Vec<Run<'a>>,
+}
+
+impl<'a> Model for Tally<'a> {
+    ghost use Rattle.count_numbers.specs.Tally.{PartnerTally};
+
+    ghost Value = { PartnerTally };
+
+    ghost view = { λ t. record { acknowledgments = t.acknowledgments; runs = t.runs.items } };
+}
+
+impl<'a> Tally<'a> {
+    ghost use Rattle.std.specs.Prelude.{◌≡◌, ◌++◌, [], ◌∷◌, List, IfOk, OnOk, OnErr};
+    ghost use Rattle.count_numbers.specs.Tally.{Entry, Acknowledged, Delivered, tally_of, empty_tally, joined};
+
+    /// How many acknowledgments there are.
+    pub fn acknowledgments(&self) -> u64
+        ensures { result ≡ self.now.acknowledgments }
+    {
+        let Tally {
+            acknowledgments,
+            ..
+        } = self;
+        *acknowledgments
+    }
+
+    /// The runs of delivered sets that go into one group, in their order.
+    pub fn runs(&self) -> &[Run<'a>]
+        ensures { result.now ≡ self.now.runs }
+    {
+        self.runs.as_slice()
+    }
+
+    /// Of nothing.
+    pub fn new(alloc: Global) -> Tally<'a>
+        ensures value { result ≡ empty_tally }
+        ensures empty { result ≡ tally_of [] }
+    {
+        Tally {
+            acknowledgments: 0,
+            runs: Vec::new(alloc),
+        }
+    }
+
+    /// Counts one acknowledgment more.
+    pub fn acknowledge(&mut self)
+        ensures { (es : List Entry) → self.old ≡ tally_of es → self.new ≡ tally_of (es ++ Acknowledged ∷ []) }
+    {
+        self.acknowledgments = together(self.acknowledgments, 1);
+    }
+
+    /// Counts one delivered set more.
+    pub fn deliver(&mut self, key: RunKey<'a>) -> Result<(), NoMemory>
+        ensures counted { OnOk result ((es : List Entry) → self.old ≡ tally_of es
+            → self.new ≡ tally_of (es ++ Delivered key.entry ∷ [])) }
+        ensures kept { OnErr result (self.new ≡ self.old) }
+    {
+        push_run(&mut self.runs, single(key))
+    }
+
+    /// The tally of two stretches that follow each other.
+    pub fn join(self, back: Tally<'a>) -> Result<Tally<'a>, NoMemory>
+        ensures { IfOk result (λ t. t ≡ joined self.entry back.entry) }
+    {
+        let Tally {
+            acknowledgments,
+            runs,
+        } = self;
+        let Tally {
+            acknowledgments: more,
+            runs: more_runs,
+        } = back;
+        let acknowledgments = together(acknowledgments, more);
+        let runs = join_runs(runs, more_runs)?;
+        Ok(Tally {
+            acknowledgments,
+            runs,
+        })
+    }
+}

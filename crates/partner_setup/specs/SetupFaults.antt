@@ -1,0 +1,147 @@
+-- The setup (own): what is refused of the rows, the counters and the guides that are to make one, and in which order.
+use Rattle.std.specs.Prelude.{ℕ, ◌==◌, Bool, not, ◌&&◌, ◌||◌, nat_le, List, [], ◌∷◌, ◌++◌, length, map, Option, Some, None, is_none}
+use Rattle.std.specs.Prelude.{slice_index, if◌then◌else◌, ◌-◌}
+use Rattle.std.specs.List.{list_all, list_any}
+use Rattle.std.specs.Char.{is_ascii_alphanumeric}
+use Rattle.hub_kinds.specs.Twice.{has_twice}
+use Rattle.hub_kinds.specs.Words.{is_word}
+use Rattle.x12_bytes.specs.declared.delims.Delims.{Delims}
+use Rattle.guide_tree.specs.declared.rows.GuideRows.{GuideRows}
+use Rattle.guide_tree.specs.Segments.{contains_text}
+use Rattle.partner_setup.specs.Names.{places_of_texts, those_at}
+use Rattle.partner_setup.specs.declared.rows.CounterRow.{CounterRow}
+use Rattle.partner_setup.specs.declared.rows.PartnerRow.{PartnerRow}
+use Rattle.partner_setup.specs.declared.rows.RouteRow.{RouteRow}
+use Rattle.partner_setup.specs.declared.rows.SetupRows.{SetupRows}
+use Rattle.partner_setup.specs.declared.setup_fault.SetupFault.{SetupFault}
+use Rattle.partner_setup.specs.declared.setup_fault.SetupFault.TheVariants as fault
+
+-- a text behind its length, so that what follows can't be taken for a part of it
+abbrev pub told : List ℕ → List ℕ → List ℕ
+told text behind = length text ∷ (text ++ behind)
+
+-- what up to three texts tell apart
+abbrev pub told_by : (first second third : List ℕ) → List ℕ
+told_by first second third = told first (told second (told third []))
+
+abbrev pub by_name : (name : List ℕ) → List ℕ
+by_name name = told_by name [] []
+
+-- 1: a name given twice, or a qualifier and id given twice
+abbrev pub has_same_partner : List PartnerRow → Bool
+has_same_partner ps = has_twice (λ (p : PartnerRow). by_name p.name) ps || has_twice (λ (p : PartnerRow). told_by p.qualifier p.id []) ps
+
+-- the bytes that may delimit: 0x1C to 0x1F, and 0x21 to 0x7E but letters, digits, `-`, `.` and `_`; a terminator may be CR or LF too
+abbrev pub is_name_byte : ℕ → Bool
+is_name_byte b = is_ascii_alphanumeric b || b == 45 || b == 46 || b == 95
+
+abbrev pub may_delimit : ℕ → Bool
+may_delimit b = (nat_le 28 b && nat_le b 31) || (nat_le 33 b && nat_le b 126 && not (is_name_byte b))
+
+abbrev pub may_end : ℕ → Bool
+may_end b = may_delimit b || b == 13 || b == 10
+
+-- the one byte of a text
+abbrev pub byte_of : List ℕ → Option ℕ
+byte_of [] = None
+byte_of (b ∷ []) = Some b
+byte_of (b ∷ c ∷ bs) = None
+
+abbrev pub are_apart : (a b c d : ℕ) → Bool
+are_apart a b c d =
+    not (a == b) && not (a == c) && not (a == d) && not (b == c) && not (b == d) && not (c == d)
+
+abbrev pub are_delimiters : (element component repetition terminator : ℕ) → Bool
+are_delimiters e c r t = may_delimit e && may_delimit c && may_delimit r && may_end t && are_apart e c r t
+
+abbrev pub delims_by : (element component repetition terminator : Option ℕ) → Option Delims
+delims_by (Some e) (Some c) (Some r) (Some t) =
+    if are_delimiters e c r t
+    then Some (record { element = e; component = c; repetition = Some r; terminator = t })
+    else None
+delims_by _ _ _ _ = None
+
+abbrev pub delims_of : PartnerRow → Option Delims
+delims_of p = delims_by (byte_of p.element) (byte_of p.component) (byte_of p.repetition) (byte_of p.terminator)
+
+-- 2: one of the four isn't one byte, two are equal, or one isn't allowed
+abbrev pub has_bad_delimiters : List PartnerRow → Bool
+has_bad_delimiters ps = list_any (λ p. is_none (delims_of p)) ps
+
+-- letters, digits, `-`, `.`, `_` and, inside, spaces
+abbrev pub is_outer : ℕ → Bool
+is_outer b = is_name_byte b
+
+abbrev pub is_inner : ℕ → Bool
+is_inner b = is_name_byte b || b == 32
+
+abbrev pub is_id : (least most : ℕ) → List ℕ → Bool
+is_id least most s =
+    nat_le least (length s) && nat_le (length s) most && list_all is_inner s
+    && is_outer (slice_index s 0) && is_outer (slice_index s (length s - 1))
+
+-- 3: the hub's or a partner's qualifier, id or code, or a partner's name, hasn't its form
+abbrev pub are_ids : (qualifier id code : List ℕ) → Bool
+are_ids qualifier id code = is_word 2 2 qualifier && is_id 1 15 id && is_id 2 15 code
+
+abbrev pub has_ids : PartnerRow → Bool
+has_ids p = is_word 1 20 p.name && are_ids p.qualifier p.id p.code
+
+abbrev pub has_bad_id : SetupRows → Bool
+has_bad_id rows = not (are_ids rows.hub.qualifier rows.hub.id rows.hub.code) || not (list_all has_ids rows.partners)
+
+abbrev pub guide_name : GuideRows → List ℕ
+guide_name g = g.head.name
+
+-- what a guide is for: group, version and set
+abbrev pub purpose_key : GuideRows → List ℕ
+purpose_key g = told_by g.head.group g.head.version g.head.set
+
+-- the partner's guides are there, and no two of them are for the same
+abbrev pub guides_of : List GuideRows → PartnerRow → List GuideRows
+guides_of guides p = those_at guides (places_of_texts (map guide_name guides) p.guides)
+
+abbrev pub has_guides : List GuideRows → PartnerRow → Bool
+has_guides guides p = list_all (contains_text (map guide_name guides)) p.guides && not (has_twice purpose_key (guides_of guides p))
+
+-- 4: a name that no guide has, two of a partner's guides for the same, or two guides with one name
+abbrev pub has_bad_guides : List PartnerRow → List GuideRows → Bool
+has_bad_guides ps guides = not (list_all (has_guides guides) ps) || has_twice (λ g. by_name (guide_name g)) guides
+
+abbrev pub partner_name : PartnerRow → List ℕ
+partner_name p = p.name
+
+-- 5: a target that is no partner, a code that hasn't its form, or one given twice
+abbrev pub is_route : List PartnerRow → RouteRow → Bool
+is_route ps r = contains_text (map partner_name ps) r.to && is_id 2 15 r.code
+
+abbrev pub has_bad_route : List PartnerRow → List RouteRow → Bool
+has_bad_route ps routes = not (list_all (is_route ps) routes) || has_twice (λ (r : RouteRow). by_name r.code) routes
+
+-- 6: a number out of 1 to 999,999,999, a partner that isn't there, or one given twice
+abbrev pub is_counter : ℕ → Bool
+is_counter n = nat_le 1 n && nat_le n 999999999
+
+abbrev pub counts_for : List PartnerRow → CounterRow → Bool
+counts_for ps c = is_counter c.counters.interchange && is_counter c.counters.set && contains_text (map partner_name ps) c.partner
+
+abbrev pub has_bad_counter : List PartnerRow → List CounterRow → Bool
+has_bad_counter ps cs = not (list_all (counts_for ps) cs) || has_twice (λ (c : CounterRow). by_name c.partner) cs
+
+-- 7: a cap out of 1 to 99,999
+abbrev pub is_cap : ℕ → Bool
+is_cap n = nat_le 1 n && nat_le n 99999
+
+abbrev pub has_bad_cap : List PartnerRow → Bool
+has_bad_cap ps = not (list_all (λ p. is_cap p.cap) ps)
+
+-- the first of these, in the order of their numbers
+abbrev pub first_fault : SetupRows → List CounterRow → List GuideRows → Option SetupFault
+first_fault rows counters guides =
+    if has_same_partner rows.partners then Some fault.SamePartner
+    else (if has_bad_delimiters rows.partners then Some fault.BadDelimiters
+    else (if has_bad_id rows then Some fault.BadId
+    else (if has_bad_guides rows.partners guides then Some fault.BadGuides
+    else (if has_bad_route rows.partners rows.routes then Some fault.BadRoute
+    else (if has_bad_counter rows.partners counters then Some fault.BadCounter
+    else (if has_bad_cap rows.partners then Some fault.BadCap else None))))))

@@ -1,0 +1,282 @@
+ghost use Rattle.std.specs.Prelude.{◌≡◌, ◌++◌, [], ℕ, List, map, option_map, slice_get, IfOk, OnOk};
+ghost use Rattle.std.specs.List.{list_all};
+ghost use Rattle.guide_tree.specs.Segments.{contains_text};
+ghost use Rattle.partner_setup.specs.Known.{KnowsPlaces};
+ghost use Rattle.partner_setup.specs.Names.{and_some, places_of_texts, those_at};
+ghost use Rattle.partner_setup.specs.SetupFaults as faults;
+
+use crate::delimiters::has_bad_delimiters;
+use crate::ids::{has_bad_id, is_id};
+use crate::names::{is_name, place_of, places_by_name};
+use crate::rows::{CounterRow, PartnerRow, RouteRow, SetupRows};
+use crate::setup_fault::SetupFault;
+use crate::told::Told;
+use crate::twice::{CounterPartner, GuideName, PartnerId, PartnerName, RouteCode, given_twice};
+use guide_tree::Guide;
+use hub_kinds::{NoMemory, Text, has_twice};
+use std::alloc::Global;
+use std::collections::BTreeMap;
+
+fn has_same_partner(alloc: Global, partners: &[PartnerRow]) -> Result<bool, NoMemory>
+    ensures { IfOk result (λ same. same ≡ faults.has_same_partner partners.now) }
+{
+    if given_twice::<PartnerName>(alloc, partners)? {
+        return Ok(true);
+    }
+    given_twice::<PartnerId>(alloc, partners)
+}
+
+fn are_names(places: &BTreeMap<&[u8], usize>, names: &[Text]) -> bool
+    ensures { (known : List (List ℕ)) → KnowsPlaces places.now 0 known → result ≡ list_all (contains_text known) names.now }
+{
+    for name in names {
+        if !is_name(places, name.as_slice()) {
+            return false;
+        }
+    }
+    true
+}
+
+/// Adds a place, if there is one.
+pub fn push_some(places: &mut Vec<usize>, place: Option<usize>) -> Result<(), NoMemory>
+    ensures { OnOk result (places.new.items ≡ places.old.items ++ and_some place []) }
+{
+    if let Some(place) = place {
+        places.push(place)?;
+    }
+    Ok(())
+}
+
+/// The places of names, of those that are there.
+pub fn places_of(
+    alloc: Global,
+    places: &BTreeMap<&[u8], usize>,
+    names: &[Text],
+) -> Result<Vec<usize>, NoMemory>
+    ensures { IfOk result (λ found. (known : List (List ℕ)) → KnowsPlaces places.now 0 known
+        → found.items ≡ places_of_texts known names.now) }
+{
+    let mut found = Vec::new(alloc);
+    for name in names {
+        push_some(&mut found, place_of(places, name.as_slice()))?;
+    }
+    Ok(found)
+}
+
+fn purpose_of(guide: &Guide) -> Told<'_>
+    ensures { faults.told_by result.first.now result.second.now result.third.now ≡ faults.purpose_key guide.entry.now }
+{
+    let head = &guide.rows().head;
+    Told {
+        first: head.group.as_slice(),
+        second: head.version.as_slice(),
+        third: head.set.as_slice(),
+    }
+}
+
+/// Adds what a guide is for, if there is one.
+fn push_purpose<'a>(told: &mut Vec<Told<'a>>, guide: Option<&'a Guide>) -> Result<(), NoMemory>
+    ensures { OnOk result (map (λ t. faults.told_by t.first.now t.second.now t.third.now) told.new.items
+        ≡ map (λ t. faults.told_by t.first.now t.second.now t.third.now) told.old.items
+        ++ map faults.purpose_key (and_some (option_map (λ g. g.now) guide.entry) [])) }
+{
+    if let Some(guide) = guide {
+        told.push(purpose_of(guide))?;
+    }
+    Ok(())
+}
+
+fn guide_at(guides: &[Guide], place: usize) -> Option<&Guide>
+    ensures { option_map (λ g. g.now) result ≡ slice_get guides.entry.now place }
+{
+    guides.get(place)
+}
+
+fn purposes_at<'a>(
+    alloc: Global,
+    guides: &'a [Guide],
+    places: &[usize],
+) -> Result<Vec<Told<'a>>, NoMemory>
+    ensures { IfOk result (λ told. map (λ t. faults.told_by t.first.now t.second.now t.third.now) told.items
+        ≡ map faults.purpose_key (those_at guides.entry.now places.now)) }
+{
+    let mut told = Vec::new(alloc);
+    for place in places {
+        push_purpose(&mut told, guide_at(guides, *place))?;
+    }
+    Ok(told)
+}
+
+/// Whether a partner's guides are there, and no two of them are for the same sets.
+fn has_guides(
+    alloc: Global,
+    places: &BTreeMap<&[u8], usize>,
+    guides: &[Guide],
+    partner: &PartnerRow,
+) -> Result<bool, NoMemory>
+    requires { KnowsPlaces places.now 0 (map faults.guide_name guides.now) }
+    ensures { IfOk result (λ has. has ≡ faults.has_guides guides.now partner.now) }
+{
+    let names = partner.guides.as_slice();
+    if !are_names(places, names) {
+        return Ok(false);
+    }
+    let found = places_of(alloc, places, names)?;
+    Ok(!has_twice(purposes_at(alloc, guides, found.as_slice())?))
+}
+
+fn all_have_guides(
+    alloc: Global,
+    places: &BTreeMap<&[u8], usize>,
+    guides: &[Guide],
+    partners: &[PartnerRow],
+) -> Result<bool, NoMemory>
+    requires { KnowsPlaces places.now 0 (map faults.guide_name guides.now) }
+    ensures { IfOk result (λ all. all ≡ list_all (faults.has_guides guides.now) partners.now) }
+{
+    for partner in partners {
+        if !has_guides(alloc, places, guides, partner)? {
+            return Ok(false);
+        }
+    }
+    Ok(true)
+}
+
+fn has_bad_guides(
+    alloc: Global,
+    partners: &[PartnerRow],
+    guides: &[Guide],
+) -> Result<bool, NoMemory>
+    ensures { IfOk result (λ bad. bad ≡ faults.has_bad_guides partners.now guides.now) }
+{
+    let places = places_by_name(alloc, guides)?;
+    if !all_have_guides(alloc, &places, guides, partners)? {
+        return Ok(true);
+    }
+    given_twice::<GuideName>(alloc, guides)
+}
+
+fn is_route(places: &BTreeMap<&[u8], usize>, route: &RouteRow) -> bool
+    ensures { (ps : List PartnerRow) → KnowsPlaces places.now 0 (map faults.partner_name ps) → result ≡ faults.is_route ps route.now }
+{
+    is_name(places, route.to.as_slice()) && is_id(route.code.as_slice(), 2, 15)
+}
+
+fn are_routes(places: &BTreeMap<&[u8], usize>, routes: &[RouteRow]) -> bool
+    ensures { (ps : List PartnerRow) → KnowsPlaces places.now 0 (map faults.partner_name ps)
+        → result ≡ list_all (faults.is_route ps) routes.now }
+{
+    for route in routes {
+        if !is_route(places, route) {
+            return false;
+        }
+    }
+    true
+}
+
+fn has_bad_route(
+    alloc: Global,
+    places: &BTreeMap<&[u8], usize>,
+    routes: &[RouteRow],
+) -> Result<bool, NoMemory>
+    ensures { IfOk result (λ bad. (ps : List PartnerRow) → KnowsPlaces places.now 0 (map faults.partner_name ps)
+        → bad ≡ faults.has_bad_route ps routes.now) }
+{
+    if !are_routes(places, routes) {
+        return Ok(true);
+    }
+    given_twice::<RouteCode>(alloc, routes)
+}
+
+fn is_counter(number: u32) -> bool
+    ensures { result ≡ faults.is_counter number }
+{
+    1 <= number && number <= 999_999_999
+}
+
+fn counts_for(places: &BTreeMap<&[u8], usize>, row: &CounterRow) -> bool
+    ensures { (ps : List PartnerRow) → KnowsPlaces places.now 0 (map faults.partner_name ps) → result ≡ faults.counts_for ps row.now }
+{
+    is_counter(row.counters.interchange)
+        && is_counter(row.counters.set)
+        && is_name(places, row.partner.as_slice())
+}
+
+fn all_count(places: &BTreeMap<&[u8], usize>, rows: &[CounterRow]) -> bool
+    ensures { (ps : List PartnerRow) → KnowsPlaces places.now 0 (map faults.partner_name ps)
+        → result ≡ list_all (faults.counts_for ps) rows.now }
+{
+    for row in rows {
+        if !counts_for(places, row) {
+            return false;
+        }
+    }
+    true
+}
+
+fn has_bad_counter(
+    alloc: Global,
+    places: &BTreeMap<&[u8], usize>,
+    rows: &[CounterRow],
+) -> Result<bool, NoMemory>
+    ensures { IfOk result (λ bad. (ps : List PartnerRow) → KnowsPlaces places.now 0 (map faults.partner_name ps)
+        → bad ≡ faults.has_bad_counter ps rows.now) }
+{
+    if !all_count(places, rows) {
+        return Ok(true);
+    }
+    given_twice::<CounterPartner>(alloc, rows)
+}
+
+fn is_capped(partner: &PartnerRow) -> bool
+    ensures { result ≡ faults.is_cap partner.now.cap }
+{
+    1 <= partner.cap && partner.cap <= 99_999
+}
+
+fn are_capped(partners: &[PartnerRow]) -> bool
+    ensures { result ≡ list_all (λ p. faults.is_cap p.cap) partners.now }
+{
+    partners.iter().all(|partner| is_capped(partner))
+}
+
+fn has_bad_cap(partners: &[PartnerRow]) -> bool
+    ensures { result ≡ faults.has_bad_cap partners.now }
+{
+    !are_capped(partners)
+}
+
+/// The first refusal of rows, counters and guides that are to make a setup.
+pub fn first_fault(
+    alloc: Global,
+    rows: &SetupRows,
+    counters: &[CounterRow],
+    guides: &[Guide],
+) -> Result<Option<SetupFault>, NoMemory>
+    ensures { IfOk result (λ fault. fault ≡ faults.first_fault rows.now counters.now guides.now) }
+{
+    let partners = rows.partners.as_slice();
+    if has_same_partner(alloc, partners)? {
+        return Ok(Some(SetupFault::SamePartner));
+    }
+    if has_bad_delimiters(partners) {
+        return Ok(Some(SetupFault::BadDelimiters));
+    }
+    if has_bad_id(rows) {
+        return Ok(Some(SetupFault::BadId));
+    }
+    if has_bad_guides(alloc, partners, guides)? {
+        return Ok(Some(SetupFault::BadGuides));
+    }
+    let places = places_by_name(alloc, partners)?;
+    if has_bad_route(alloc, &places, rows.routes.as_slice())? {
+        return Ok(Some(SetupFault::BadRoute));
+    }
+    if has_bad_counter(alloc, &places, counters)? {
+        return Ok(Some(SetupFault::BadCounter));
+    }
+    if has_bad_cap(partners) {
+        return Ok(Some(SetupFault::BadCap));
+    }
+    Ok(None)
+}

@@ -1,0 +1,44 @@
+//! The hub's setup: its partners, their guides and delimiters, and where sets go, written in TOML; and the counters that go
+//! from night to night.
+//!
+//! Proved:
+//! - `read_setup` and `read_counters` refuse bytes as no TOML exactly where `toml` reads no table from them, want of memory
+//!   aside; else the answer is a function of the table: its first fault, or the rows that it writes;
+//! - `Setup::build` is the setup that rows, counters and guides make, exactly where nothing of them is refused, and else the
+//!   first refusal, in the order of the refusals' numbers;
+//! - `Setup::sender_of`, `route_of`, `has_group`, `has_version` and `guide_of` look up the rows;
+//! - `Setup::counters_text` is the counters file of the next night.
+//!
+//! What is given twice is found by sorting and names by an ordered map, so that the cost of a setup follows its bytes, but
+//! for a logarithm. The look-ups go over the partners, the routes, or a partner's guides.
+//!
+//! Source: own; X12.5, interchange sender and receiver ids and delimiters; X12.6, functional group header.
+#![tactic(auto)]
+
+mod build;
+mod counters_file;
+mod counters_text;
+mod delimiters;
+mod file_fault;
+mod ids;
+mod judge;
+mod keyed;
+mod lookup;
+mod names;
+mod partner;
+mod row;
+mod rows;
+mod setup;
+mod setup_fault;
+mod setup_file;
+mod told;
+mod twice;
+mod values;
+
+pub use counters_file::read_counters;
+pub use file_fault::FileFault;
+pub use partner::{Partner, Route};
+pub use rows::{CounterRow, CounterRows, HubRow, PartnerRow, RouteRow, SetupRows, Usage};
+pub use setup::Setup;
+pub use setup_fault::SetupFault;
+pub use setup_file::read_setup;

@@ -1,0 +1,78 @@
+use crate::partner::{Partner, Route};
+use crate::rows::HubRow;
+use guide_tree::Guide;
+use std::marker::Model;
+
+/// The hub, its partners, where sets go, and the guides: accepted, so that nothing is refused of it.
+#[derive(Drop)]
+pub struct Setup {
+    hub: HubRow,
+    partners: Vec<Partner>,
+    routes: Vec<Route>,
+    guides: Vec<Guide>,
+}
+
+impl Model for Setup {
+    ghost use Rattle.partner_setup.specs.Setup.{SetupValue};
+    ghost use Rattle.guide_tree.specs.contracts.node.Node as node;
+    ghost use Rattle.std.specs.Coded.{codes};
+
+    ghost Value = { SetupValue };
+
+    ghost coded = { Prim.hlevel (codes, node.the_row.coded) };
+
+    ghost view = { λ s. record {
+      hub = s.hub;
+      partners = s.partners.items;
+      routes = s.routes.items;
+      guides = s.guides.items;
+    } };
+}
+
+impl Setup {
+    ghost use Rattle.std.specs.Prelude.{◌≡◌};
+
+    pub(crate) fn of(
+        hub: HubRow,
+        partners: Vec<Partner>,
+        routes: Vec<Route>,
+        guides: Vec<Guide>,
+    ) -> Setup
+        ensures { result ≡ record { hub = hub; partners = partners.items; routes = routes.items; guides = guides.items } }
+    {
+        Setup {
+            hub,
+            partners,
+            routes,
+            guides,
+        }
+    }
+
+    /// How the hub is named where it sends.
+    pub fn hub(&self) -> &HubRow
+        ensures { result.now ≡ self.now.hub }
+    {
+        &self.hub
+    }
+
+    /// The partners, in their order.
+    pub fn partners(&self) -> &[Partner]
+        ensures { result.now ≡ self.now.partners }
+    {
+        self.partners.as_slice()
+    }
+
+    /// The routes, in their order.
+    pub fn routes(&self) -> &[Route]
+        ensures { result.now ≡ self.now.routes }
+    {
+        self.routes.as_slice()
+    }
+
+    /// The guides, in their order.
+    pub fn guides(&self) -> &[Guide]
+        ensures { result.now ≡ self.now.guides }
+    {
+        self.guides.as_slice()
+    }
+}

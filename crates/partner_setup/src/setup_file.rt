@@ -1,0 +1,176 @@
+ghost use Rattle.std.specs.Prelude.{◌≡◌, ◌≢◌, ◌↔◌, None, Some, Err, ◌∷◌, ◌++◌, [], IfErr, OnOk};
+ghost use Rattle.std.specs.Str.{IsUtf8};
+ghost use Rattle.toml.specs.Data.{Members, as_str};
+ghost use Rattle.toml.specs.View.{table_view, items_view, view};
+ghost use Rattle.toml.specs.Parse.{parse_document};
+ghost use Rattle.guide_toml.specs.Meanings.{GivesAs};
+ghost use Rattle.guide_toml.specs.Tables as tables;
+ghost use Rattle.partner_setup.specs.Answers.{Gives, meaning_of};
+ghost use Rattle.partner_setup.specs.SetupFile as file;
+
+use crate::file_fault::FileFault;
+use crate::keyed::{count_at, refuse_others, text_at};
+use crate::row::{Row, rows_in};
+use crate::rows::{HubRow, PartnerRow, RouteRow, SetupRows};
+use crate::values::UsageText;
+use guide_toml::{AnyText, ListOf, required, some_tables_at, table_at, tables_at};
+use hub_kinds::Texts;
+use std::alloc::Global;
+use toml::{Table, Value};
+
+const TOP_KEYS: &[&str] = &["hub", "partner", "route"];
+
+const HUB_KEYS: &[&str] = &["qualifier", "id", "code", "usage"];
+
+const PARTNER_KEYS: &[&str] = &[
+    "name",
+    "qualifier",
+    "id",
+    "code",
+    "element",
+    "component",
+    "repetition",
+    "terminator",
+    "cap",
+    "guides",
+];
+
+const ROUTE_KEYS: &[&str] = &["code", "to"];
+
+#[tactic(auto, unfolding(crate::specs::SetupFile::hub_of))]
+fn hub_of(alloc: Global, table: &Table) -> Result<HubRow, FileFault>
+    ensures { Gives result (file.hub_of (table_view table.now)) }
+{
+    let qualifier = text_at(alloc, table, "qualifier")?;
+    let id = text_at(alloc, table, "id")?;
+    let code = text_at(alloc, table, "code")?;
+    let usage = required(alloc, table, "usage", &UsageText)?;
+    Ok(HubRow {
+        qualifier,
+        id,
+        code,
+        usage,
+    })
+}
+
+fn known_hub(alloc: Global, table: &Table) -> Result<HubRow, FileFault>
+    ensures { Gives result (file.known file.hub_keys (table_view table.now) (file.hub_of (table_view table.now))) }
+{
+    refuse_others(alloc, table, HUB_KEYS)?;
+    hub_of(alloc, table)
+}
+
+fn guides_at(alloc: Global, table: &Table, key: &'static str) -> Result<Texts, FileFault>
+    ensures { Gives result (tables.required (tables.list_in as_str) key.now (table_view table.now)) }
+{
+    required(alloc, table, key, &ListOf(AnyText))
+}
+
+#[tactic(auto, unfolding(crate::specs::SetupFile::partner_of))]
+fn partner_of(alloc: Global, table: &Table) -> Result<PartnerRow, FileFault>
+    ensures { Gives result (file.partner_of (table_view table.now)) }
+{
+    let name = text_at(alloc, table, "name")?;
+    let qualifier = text_at(alloc, table, "qualifier")?;
+    let id = text_at(alloc, table, "id")?;
+    let code = text_at(alloc, table, "code")?;
+    let element = text_at(alloc, table, "element")?;
+    let component = text_at(alloc, table, "component")?;
+    let repetition = text_at(alloc, table, "repetition")?;
+    let terminator = text_at(alloc, table, "terminator")?;
+    let cap = count_at(alloc, table, "cap")?;
+    let guides = guides_at(alloc, table, "guides")?;
+    Ok(PartnerRow {
+        name,
+        qualifier,
+        id,
+        code,
+        element,
+        component,
+        repetition,
+        terminator,
+        cap,
+        guides,
+    })
+}
+
+fn known_partner(alloc: Global, table: &Table) -> Result<PartnerRow, FileFault>
+    ensures { Gives result (file.known file.partner_keys (table_view table.now) (file.partner_of (table_view table.now))) }
+{
+    refuse_others(alloc, table, PARTNER_KEYS)?;
+    partner_of(alloc, table)
+}
+
+#[tactic(auto, unfolding(crate::specs::SetupFile::route_of))]
+fn route_of(alloc: Global, table: &Table) -> Result<RouteRow, FileFault>
+    ensures { Gives result (file.route_of (table_view table.now)) }
+{
+    let code = text_at(alloc, table, "code")?;
+    let to = text_at(alloc, table, "to")?;
+    Ok(RouteRow { code, to })
+}
+
+fn known_route(alloc: Global, table: &Table) -> Result<RouteRow, FileFault>
+    ensures { Gives result (file.known file.route_keys (table_view table.now) (file.route_of (table_view table.now))) }
+{
+    refuse_others(alloc, table, ROUTE_KEYS)?;
+    route_of(alloc, table)
+}
+
+impl Row for PartnerRow {
+    ghost reading = { file.partner_in };
+
+    fn read(alloc: Global, value: &Value) -> Result<PartnerRow, FileFault> {
+        match value {
+            Value::Table(table) => known_partner(alloc, table),
+            _ => Err(FileFault::WrongKind("partner")),
+        }
+    }
+}
+
+impl Row for RouteRow {
+    ghost reading = { file.route_in };
+
+    fn read(alloc: Global, value: &Value) -> Result<RouteRow, FileFault> {
+        match value {
+            Value::Table(table) => known_route(alloc, table),
+            _ => Err(FileFault::WrongKind("route")),
+        }
+    }
+}
+
+#[tactic(auto, unfolding(crate::specs::SetupFile::setup_of_table, crate::specs::SetupFile::top_of))]
+fn rows_of(alloc: Global, table: &Table) -> Result<SetupRows, FileFault>
+    ensures { Gives result (file.setup_of_table (table_view table.now)) }
+{
+    refuse_others(alloc, table, TOP_KEYS)?;
+    let hub = table_at::<FileFault>(table, "hub")?;
+    let partners = tables_at::<FileFault>(table, "partner")?;
+    let routes = some_tables_at::<FileFault>(table, "route")?;
+    let hub = known_hub(alloc, hub)?;
+    let partners = rows_in(alloc, partners)?;
+    let routes = rows_in(alloc, routes)?;
+    Ok(SetupRows {
+        hub,
+        partners,
+        routes,
+    })
+}
+
+/// Reads a setup file. Its bytes are TOML. The first fault of its table is the least key that the top table may not
+/// have; then its keys in their order; then those of `hub`, of each `partner` and of each `route`, each table's least
+/// unknown key first.
+pub fn read_setup(alloc: Global, bytes: &[u8]) -> Result<SetupRows, FileFault>
+    ensures table { (t : Members) → IsUtf8 bytes.now → parse_document bytes.now ≡ Some t → Gives result (file.setup_of_table t) }
+    ensures not_toml { (result ≡ Err FileFault.NotToml)
+        ↔ ((result ≢ Err FileFault.NoMemory) × (IsUtf8 bytes.now → parse_document bytes.now ≡ None)) }
+{
+    let Ok(text) = std::str::from_utf8(bytes) else {
+        return Err(FileFault::NotToml);
+    };
+    match toml::table_from_str(alloc, text) {
+        Ok(table) => rows_of(alloc, &table),
+        Err(e) if e.is_memory() => Err(FileFault::NoMemory),
+        Err(_) => Err(FileFault::NotToml),
+    }
+}

@@ -1,0 +1,45 @@
+ghost use Rattle.std.specs.Prelude.{◌≡◌, ◌++◌, ◌∷◌, [], List, ℕ, length};
+ghost use Rattle.std.specs.Ordering.{nat_cmp, ordering_then};
+ghost use Rattle.std.specs.Cmp.Lexicographic.{slice_cmp};
+ghost use Rattle.partner_setup.specs.SetupFaults.{told, told_by};
+
+use hub_kinds::Keyed;
+use std::cmp::Ordering;
+
+/// What up to three texts tell apart.
+#[derive(Drop)]
+pub struct Told<'a> {
+    pub first: &'a [u8],
+    pub second: &'a [u8],
+    pub third: &'a [u8],
+}
+
+/// What a name alone tells apart.
+pub fn by_name(name: &[u8]) -> Told<'_>
+    ensures first { result.first.now ≡ name.entry.now }
+    ensures second { result.second.now ≡ [] }
+    ensures third { result.third.now ≡ [] }
+{
+    Told {
+        first: name,
+        second: &[],
+        third: &[],
+    }
+}
+
+/// By their lengths, and then byte by byte.
+fn order_text(a: &[u8], b: &[u8]) -> Ordering
+    ensures { (r s : List ℕ) → slice_cmp nat_cmp (told a.now r) (told b.now s) ≡ ordering_then result (slice_cmp nat_cmp r s) }
+{
+    a.len().cmp(&b.len()).then(a.cmp(b))
+}
+
+impl<'a> Keyed for Told<'a> {
+    ghost key = { λ t. told_by t.first.now t.second.now t.third.now };
+
+    fn order(&self, other: &Told<'a>) -> Ordering {
+        order_text(self.first, other.first)
+            .then(order_text(self.second, other.second))
+            .then(order_text(self.third, other.third))
+    }
+}

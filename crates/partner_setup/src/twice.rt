@@ -1,0 +1,107 @@
+ghost use Rattle.std.specs.Prelude.{◌≡◌, ℕ, List, [], map, IfOk};
+ghost use Rattle.hub_kinds.specs.Twice.{has_twice};
+ghost use Rattle.partner_setup.specs.SetupFaults as faults;
+
+use crate::rows::{CounterRow, PartnerRow, RouteRow};
+use crate::told::{Told, by_name};
+use guide_tree::Guide;
+use hub_kinds::{NoMemory, has_twice};
+use std::alloc::Global;
+
+/// What rows are told apart by.
+pub trait Tells {
+    type Row;
+
+    /// What tells a row from others.
+    ghost tells: { Self.Row → List ℕ };
+
+    /// What tells a row from others.
+    fn tell<'a>(row: &'a Self::Row) -> Told<'a>
+        ensures { faults.told_by result.first.now result.second.now result.third.now ≡ tells row.entry.now };
+}
+
+/// Partners by their names.
+pub struct PartnerName;
+
+impl Tells for PartnerName {
+    type Row = PartnerRow;
+
+    ghost tells = { λ p. faults.by_name p.name };
+
+    fn tell<'a>(row: &'a PartnerRow) -> Told<'a> {
+        by_name(row.name.as_slice())
+    }
+}
+
+/// Partners by their qualifiers and ids.
+pub struct PartnerId;
+
+impl Tells for PartnerId {
+    type Row = PartnerRow;
+
+    ghost tells = { λ p. faults.told_by p.qualifier p.id [] };
+
+    fn tell<'a>(row: &'a PartnerRow) -> Told<'a> {
+        Told {
+            first: row.qualifier.as_slice(),
+            second: row.id.as_slice(),
+            third: &[],
+        }
+    }
+}
+
+/// Routes by their codes.
+pub struct RouteCode;
+
+impl Tells for RouteCode {
+    type Row = RouteRow;
+
+    ghost tells = { λ r. faults.by_name r.code };
+
+    fn tell<'a>(row: &'a RouteRow) -> Told<'a> {
+        by_name(row.code.as_slice())
+    }
+}
+
+/// Counters by their partners.
+pub struct CounterPartner;
+
+impl Tells for CounterPartner {
+    type Row = CounterRow;
+
+    ghost tells = { λ c. faults.by_name c.partner };
+
+    fn tell<'a>(row: &'a CounterRow) -> Told<'a> {
+        by_name(row.partner.as_slice())
+    }
+}
+
+/// Guides by their names.
+pub struct GuideName;
+
+impl Tells for GuideName {
+    type Row = Guide;
+
+    ghost tells = { λ g. faults.by_name (faults.guide_name g) };
+
+    fn tell<'a>(row: &'a Guide) -> Told<'a> {
+        by_name(row.rows().head.name.as_slice())
+    }
+}
+
+fn told_apart<'a, K: Tells>(alloc: Global, rows: &'a [K::Row]) -> Result<Vec<Told<'a>>, NoMemory>
+    ensures { IfOk result (λ told. map (λ t. faults.told_by t.first.now t.second.now t.third.now) told.items ≡ map K.tells rows.entry.now) }
+{
+    let mut told = Vec::new(alloc);
+    for i in 0..rows.len() {
+        told.push(K::tell(&rows[i]))?;
+    }
+    Ok(told)
+}
+
+/// Whether two rows can't be told apart.
+pub fn given_twice<K: Tells>(alloc: Global, rows: &[K::Row]) -> Result<bool, NoMemory>
+    ensures { IfOk result (λ twice. twice ≡ has_twice K.tells rows.now) }
+{
+    Ok(has_twice(told_apart::<K>(alloc, rows)?))
+}
