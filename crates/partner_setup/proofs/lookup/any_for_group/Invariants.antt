@@ -5,4 +5,6 @@ use Rattle.partner_setup.specs.Names.{those_at}
 use Rattle.partner_setup.proofs.lookup.any_for_group.Given as goal
 
 abbrev pub invariant-loop-place : goal.invariant-loop-place
-invariant-loop-place l = list_any (is_for_group l.group) (those_at l.guides (drop l.place-index l.places)) ≡ list_any (is_for_group l.group) (those_at l.guides l.places)
+invariant-loop-place l =
+    list_any (is_for_group l.group) (those_at l.guides (drop l.place-index l.places))
+    ≡ list_any (is_for_group l.group) (those_at l.guides l.places)
