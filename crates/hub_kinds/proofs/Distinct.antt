@@ -71,7 +71,8 @@ level_twice key found sorted moved up k d within level = true_from_ne_false (has
     let apart = IsDistinct-IsPermutation (has_same_key key) (eq_by_cmp_equiv (on_texts key)).symm found sorted moved
     (distinct_from key found none) in
     let other = apart_from_distinct (has_same_key key) sorted k (k + 1) d apart (omega arith) within in
-    let same = ties (order_by key (get_or sorted k d) (get_or sorted (k + 1) d)) (order_by key (get_or sorted (k + 1) d) (get_or sorted k d))
+    let same = ties (order_by key (get_or sorted k d) (get_or sorted (k + 1) d))
+    (order_by key (get_or sorted (k + 1) d) (get_or sorted k d))
     ((on_texts key).antisymm _ _) level (up k d (omega arith) within) in
     true≢false (sym same ∙ other))
 

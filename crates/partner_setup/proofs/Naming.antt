@@ -1,5 +1,6 @@
 -- The map of first places, with one more name in front.
-use Rattle.std.proofs.Common.{◌≡◌, ◌<◌, ℕ, ◌+◌, Bool, true, false, ◌||◌, List, [], ◌∷◌, ◌++◌, map, drop, length, get_or, cond, refl, sym, ap, subst, ◌∙◌}
+use Rattle.std.proofs.Common.{◌≡◌, ◌<◌, ℕ, ◌+◌, Bool, true, false, ◌||◌, List, [], ◌∷◌, ◌++◌, map, drop, length}
+use Rattle.std.proofs.Common.{get_or, cond, refl, sym, ap, subst, ◌∙◌}
 use Rattle.std.proofs.Common.{Option, Some, None}
 use Rattle.std.specs.Prelude.{is_some}
 use Rattle.std.specs.BTreeMap.{BTreeMap, get}
@@ -21,8 +22,8 @@ one_more old new name i x rest is added knows = λ q.
     ∙ ap (cond (bytes_eq name.now q.now) (Some i)) (knows q)
     ∙ ap (λ (m : List ℕ). cond (bytes_eq m q.now) (Some i) (place_from (i + 1) rest q.now)) is
 
-pub more_behind : {A : Type 0} (f : A → List ℕ) (rows : List A) (old new : BTreeMap (Bor (List ℕ)) ℕ) (name : Bor (List ℕ)) (i : ℕ) (row : A)
-    → i < length rows → row ≡ get_or rows i row → name.now ≡ f row
+pub more_behind : {A : Type 0} (f : A → List ℕ) (rows : List A) (old new : BTreeMap (Bor (List ℕ)) ℕ) (name : Bor (List ℕ))
+    (i : ℕ) (row : A) → i < length rows → row ≡ get_or rows i row → name.now ≡ f row
     → ((q : Bor (List ℕ)) → get by_text new q ≡ cond (is_eq (by_text name q)) (Some i) (get by_text old q))
     → KnowsPlaces old (i + 1) (map f (drop (i + 1) rows)) → KnowsPlaces new i (map f (drop i rows))
 more_behind f rows old new name i row within is named added knows =

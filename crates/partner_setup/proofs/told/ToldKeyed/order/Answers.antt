@@ -14,6 +14,7 @@ returns c =
     (sym (then_equal c.order_text-3.result))
     ∙ ap (λ (o : Ordering). ordering_then c.order_text.result (ordering_then c.order_text-2.result o))
     (sym (c.order_text-3.ensures [] []))
-    ∙ ap (ordering_then c.order_text.result) (sym (c.order_text-2.ensures (told c.args.self.now.third.now []) (told c.args.other.now.third.now [])))
+    ∙ ap (ordering_then c.order_text.result)
+    (sym (c.order_text-2.ensures (told c.args.self.now.third.now []) (told c.args.other.now.third.now [])))
     ∙ sym (c.order_text.ensures (told c.args.self.now.second.now (told c.args.self.now.third.now []))
     (told c.args.other.now.second.now (told c.args.other.now.third.now [])))
