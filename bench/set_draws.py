@@ -277,7 +277,8 @@ def planted(draw, guide, body):
 def uprooted(draw, body, share):
     """The body with single elements of its HL segments made odd: repeated, unknown, later, empty, with separators."""
     body = list(body)
-    odd = {1: [b'', b'>', b'1', b'01', b'1>', b'2^', b'X', b'7', b'1234567890123'], 2: [b'', b'^', b'>', b'1', b'2', b'9', b'X', b'1>', b'01'],
+    odd = {1: [b'', b'>', b'1', b'01', b'1>', b'2^', b'X', b'7', b'1234567890123'],
+           2: [b'', b'^', b'>', b'1', b'2', b'9', b'X', b'1>', b'01'],
            3: [b'', b'>', b'S', b'O', b'T', b'S>', b'O^', b'S>O', b'ZZ'], 4: [b'', b'0', b'1', b'1>', b'0^', b'2', b'01', b'>']}
     for at, segment in enumerate(body):
         while segment.split(b'*')[0] == b'HL' and draw.random() < share:

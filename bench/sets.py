@@ -4,19 +4,26 @@
 usage: bench/sets.py [SETS]
 
 A small program over set_check (bench/set_check.txt and bench/set_check_proof.txt, kept out of the gate by their names) is proved
-and built in a fresh folder (some minutes; what stands proved in `crates/*/out` isn't proved again). On SETS random sets or more
-(20,000 if absent), forty under each random guide (nested loops, bounds from 0 to 0 on, picks, a dictionary, random rows and
-conditions), on sets without a guide, and on all bodies of up to five segments of three small guides, the faults, their elements and
-the codes are compared with those that follow from the rules as they are worded: places from the list of all that may follow, faults
-by counts over the whole placing. A guide that the check refuses as ambiguous is left out. Then sets of 100,000 and of 1,000,000
-segments are timed, and the growth of the processor time printed; last, where there is valgrind, the instructions of each segment of
-clean orders of the house guide, and how they grow.
+and built in a fresh folder (some minutes; what stands proved in `crates/*/out` isn't proved again). Faults, their elements, codes,
+whether a set is clean and its verdicts are compared with those that follow from the rules as they are worded (set_rules.py), on
+random guides and sets (set_draws.py):
+- all bodies of up to five segments of three small guides;
+- SETS random sets or more (20,000 if absent), forty under each random guide: nested loops, bounds from 0 to 0 on, picks, a
+  dictionary, random rows and conditions, tolerated codes; and sets without a guide;
+- as many, twenty under each guide with a hierarchy, with dependencies or with both: HL slots with strict rows, others and none,
+  numbers that are repeated, unknown, later or empty, needs and bans of slots and elements, several on one slot.
+A guide that the check refuses as ambiguous is left out, and is to be ambiguous by the script too. Then sets of 100,000 and of
+1,000,000 segments are timed, and the growth of the processor time printed; then trees of 10,000 and 100,000 HL segments, and orders
+with forty dependencies and without. Last, where there is valgrind, the same in instructions, and those of each segment of clean
+orders of the house guide.
 """
 import itertools
 import os
+import random
 import re
 import resource
 import shutil
+import statistics
 import subprocess
 import sys
 import tempfile
@@ -144,11 +151,18 @@ def long_set(part, count):
     return sealed(ORDER_HEAD + (part * count)[:count - 2 - len(ORDER_HEAD)])
 
 
-def counting(folder, guide, made):
-    """The words that have the program count the faults of one set by a guide file."""
+def written(folder, text, name='timed'):
+    path = os.path.join(folder, f'{name}.toml')
+    with open(path, 'w') as out:
+        out.write(text)
+    return path
+
+
+def counting(folder, guide, *sets):
+    """The words that have the program count the faults of sets by a guide file."""
     path, listed = os.path.join(folder, 'long.x12'), os.path.join(folder, 'cases')
     with open(path, 'wb') as out:
-        out.write(FRONT + set_text(made) + BACK)
+        out.write(FRONT + b''.join(set_text(made) for made in sets) + BACK)
     with open(listed, 'w') as out:
         out.write(f'{guide} {path}\n')
     return [listed, 'count']
@@ -162,9 +176,8 @@ def processor():
 
 def grow(built, folder):
     # the house guide, but for the greatest number of lines
-    wide = os.path.join(folder, 'wide.toml')
-    with open(HOUSE) as text, open(wide, 'w') as out:
-        out.write(text.read().replace('max=99999,', 'max=999999,'))
+    with open(HOUSE) as house:
+        wide = written(folder, house.read().replace('max=99999,', 'max=999999,'))
     for name, part in (('clean lines', ORDER_LINE), ('an element wrong in each', [b'PO1*1*5*EA*2.50*TE*UP', b'PID*G']),
                        ('strays', [b'QQ*1']), ('one segment too often', ORDER_HEAD[:1]), ('one loop too often', ORDER_HEAD[3:5])):
         took, spent = [], []
@@ -177,6 +190,105 @@ def grow(built, folder):
         print(f'{name}: {took[1]:.0f} ms for 1,000,000 segments with {told[0][0]} faults, {took[0]:.1f} ms for 100,000, the least of '
               f'{RUNS} runs; the whole program {spent[1]:.2f} and {spent[0]:.3f} processor seconds: growth {spent[1] / spent[0]:.1f}',
               flush=True)
+
+
+def median(built, folder, guide, sets, runs=RUNS):
+    """Nanoseconds that the check of a set takes, which must be clean: the median over all sets and runs."""
+    words = counting(folder, guide, *sets)
+    said = ''.join(subprocess.run([built, *words], capture_output=True, text=True, check=True).stdout for _ in range(runs))
+    told = re.findall(r'(\d+) faults in (\d+) nanoseconds', said)
+    assert {count for count, _ in told} == {'0'}, told[:3]
+    return statistics.median(int(nanoseconds) for _, nanoseconds in told)
+
+
+HIERARCHY = """name = "BENCH"
+group = "SH"
+set = "856"
+version = "005010"
+hl = {pairs=["/S", "S/O", "O/O"], sequential=%s}
+nodes = [{loop="HL", min=1, max=999999, nodes=[
+ {seg="HL", min=1, max=1, elements=["628 M AN 1 99", "734 O AN 1 99", "735 M ID 1 2 = S O", "736 O ID 1 1 = 0 1"]}]}]
+"""
+
+
+def tree(numbers, parents):
+    """A set of HL segments with these numbers, each but the first with a parent, named by its index."""
+    named = set(parents)
+    made = [b'HL*' + numbers[0] + b'**S*1']
+    made += [b'HL*%s*%s*O*%d' % (numbers[n], numbers[above], n in named) for n, above in enumerate(parents, 1)]
+    return sealed(made)
+
+
+def counted(count):
+    return [b'%d' % n for n in range(1, count + 1)]
+
+
+def alike(count):
+    """Numbers of 86 bytes that differ in the last six alone."""
+    return [b'A' * 80 + b'%06d' % n for n in range(count)]
+
+
+def scattered(draw, numbers):
+    return tree(draw.sample(numbers, len(numbers)), [draw.randrange(n) for n in range(1, len(numbers))])
+
+
+# what is special, whether HL01 counts, and the set with so many HL segments
+TREES = [
+    ('all name one parent', 'true', lambda count: tree(counted(count), [0] * (count - 1))),
+    ('each names the one before', 'true', lambda count: tree(counted(count), range(count - 1))),
+    ('each names the one before by 86 bytes, the first 80 always the same', 'false', lambda count: tree(alike(count), range(count - 1))),
+    ('the same numbers in random order, each names an earlier one at random', 'false',
+     lambda count: scattered(random.Random(7), alike(count))),
+]
+
+
+def grow_hierarchies(built, folder):
+    for name, sequential, shape in TREES:
+        guide = written(folder, HIERARCHY % sequential)
+        few, many = (shape(count) for count in (10_000, 100_000))
+        # by turns, so that both have the same work beside them
+        took = [(median(built, folder, guide, [few], 1), median(built, folder, guide, [many], 1)) for _ in range(2 * RUNS + 1)]
+        few_takes, many_takes = (statistics.median(one) for one in zip(*took))
+        print(f'HL segments, {name}: {many_takes / 1e6:.1f} ms for 100,000, {few_takes / 1e6:.2f} ms for 10,000: growth '
+              f'{many_takes / few_takes:.1f}', flush=True)
+        if shutil.which('valgrind'):
+            few, many = (instructions(built, counting(folder, guide, made)) for made in (few, many))
+            print(f'  {few / 1e4:.0f} instructions a segment of 10,000, {many / 1e5:.0f} of 100,000: growth {many / few:.2f}', flush=True)
+
+
+# slots with an element and the code that triggers; and what is asked, which the orders here keep
+OF_MANY_SLOTS = ([('BEG', 1, '00'), ('REF', 1, 'DP'), ('DTM', 1, '002'), ('PO1', 3, 'EA'), ('PID', 1, 'F')],
+                 [('need', 'PO1', 0), ('need', 'PO1', 2), ('need', 'PID', 1), ('ban', 'PID', 3), ('need', 'N1', 4), ('ban', 'CTT', 0),
+                  ('ban', 'BEG', 4), ('need', 'MSG', 1)])
+OF_ONE_SLOT = ([('PO1', 1, '1'), ('PO1', 2, '5'), ('PO1', 3, 'EA'), ('PO1', 4, '2.50'), ('PO1', 5, 'TE')],
+               [('need', 'PO1', k) for k in range(8)])
+
+
+def with_forty(text, triggers, targets):
+    """The house guide of orders, each slot with its id for a label, and with forty dependencies that the orders here keep."""
+    asked = [f'{{kind="{kind}", slot="{slot}", at={at}, codes=["{code}"], target="{target}", element={k}}}'
+             for slot, at, code in triggers for kind, target, k in targets]
+    assert len(set(asked)) == 40
+    labelled = re.sub(r'seg="(\w+)",', r'seg="\1", label="\1",', text)
+    return labelled.replace('nodes = [', 'depends = [\n' + ',\n'.join(asked) + ']\nnodes = [', 1)
+
+
+def dear_dependencies(built, folder):
+    with open(HOUSE) as house:
+        text = house.read()
+    plain = written(folder, text, 'plain')
+    for name, asked in (('many slots', OF_MANY_SLOTS), ('one slot', OF_ONE_SLOT)):
+        ruled = written(folder, with_forty(text, *asked), 'ruled')
+        for count, copies in ((30, 2_000), (1_000, 100), (100_000, 1)):
+            # by turns, so that both have the same work beside them
+            made = [long_set(ORDER_LINE, count)] * copies
+            took = [(median(built, folder, ruled, made, 1), median(built, folder, plain, made, 1)) for _ in range(RUNS)]
+            ruled_takes, plain_takes = (statistics.median(one) for one in zip(*took))
+            print(f'an order of {count} segments: {ruled_takes / 1e3:.1f} microseconds with forty dependencies of {name}, all triggered '
+                  f'and kept, {plain_takes / 1e3:.1f} without: {ruled_takes / plain_takes:.2f} times', flush=True)
+            if count < 100_000 and shutil.which('valgrind'):
+                one, other = (instructions(built, counting(folder, guide, made[0])) for guide in (ruled, plain))
+                print(f'  {one} and {other} instructions: {one / other:.2f} times', flush=True)
 
 
 def instructions(built, words):
@@ -206,9 +318,10 @@ def main():
         compare('all bodies of up to five segments', built, folder, list(small_cases()))
         # more than half of the random guides are ambiguous, so three times as many are made
         compare('random sets under random guides', built, folder, list(random_cases(3 * count)))
-        # about two thirds of these
         compare('random sets under random guides with a hierarchy or dependencies', built, folder, list(ruled_cases(3 * count)))
         grow(built, folder)
+        grow_hierarchies(built, folder)
+        dear_dependencies(built, folder)
         clean(built, folder)
 
 
