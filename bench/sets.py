@@ -131,7 +131,8 @@ def compare(title, built, folder, cases):
     print(f'{title}: {len(cases) - refused} guides, {refused} refused as ambiguous; {verdicts.total()} sets, {seen.total()} faults, '
           f'{clean} sets without one, verdicts ' + ', '.join(f'{name} {verdicts[name]}' for name in 'AER') + '; all equal')
     for name, order in (('IK304', IK304), ('IK403', IK403)):
-        print(f'  {name}: ' + ', '.join(f'{code} {seen[f"{name} {code}"]}' for code in order), flush=True)
+        print(f'  {name}: ' + ', '.join(f'{code} {seen[f"{name} {code}"]}' for code in order if (name, code) != ('IK304', '8')),
+              flush=True)
 
 
 # what large sets cost
