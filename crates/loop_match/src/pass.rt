@@ -89,8 +89,8 @@ pub fn pass_all<'g>(alloc: Global, segs: &[SegView], guide: &'g Guide) -> Result
         (placing_of (nodes_view guide.now.nodes.items) (map elements_of segs.now))) }
 {
     let walk = Walk {
-        steps: Vec::new(alloc),
-        marks: Vec::new(alloc),
+        steps: Vec::with_capacity(alloc, segs.len())?,
+        marks: Vec::with_capacity(alloc, segs.len())?,
         last: Vec::new(alloc),
     };
     let mut pass = Pass {

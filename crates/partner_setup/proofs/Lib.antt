@@ -1,3 +1,5 @@
 pub mod Lines
 pub mod Naming
 pub mod Telling
+mod Worked
+mod WorkedSetup

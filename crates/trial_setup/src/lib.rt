@@ -1,0 +1,18 @@
+//! Trials of `partner_setup`: a setup file and a counters file of two partners, read, built with two small guides, looked up and
+//! written again; and files, rows and counters beside their first refusals.
+//!
+//! Nothing is proved here but that the trials are safe and end.
+#![tactic(auto)]
+
+#[cfg(test)]
+mod built;
+#[cfg(test)]
+mod counters;
+#[cfg(test)]
+mod examples;
+#[cfg(test)]
+mod files;
+#[cfg(test)]
+mod lookups;
+#[cfg(test)]
+mod refusals;

@@ -1,0 +1,171 @@
+//! Rows and counters that make no setup, and why.
+use super::built::{NoSetup, built_of};
+use super::examples::ACME;
+use partner_setup::{Setup, SetupFault};
+use std::alloc::{AllocError, Global};
+use std::test::Fail;
+
+/// What files say beside ACME: of the partner BOLT, of its route and of its counters.
+#[derive(Clone, Copy)]
+struct Case {
+    name: &'static str,
+    code: &'static str,
+    component: &'static str,
+    cap: &'static str,
+    guide: &'static str,
+    to: &'static str,
+    set: &'static str,
+    wanted: SetupFault,
+}
+
+const PLAIN: Case = Case {
+    name: "BOLT",
+    code: "BOLT",
+    component: ":",
+    cap: "1",
+    guide: "H850",
+    to: "BOLT",
+    set: "1",
+    wanted: SetupFault::NoMemory,
+};
+
+const CASES: &[Case] = &[
+    Case {
+        name: "ACME",
+        wanted: SetupFault::SamePartner,
+        ..PLAIN
+    },
+    Case {
+        component: "|",
+        wanted: SetupFault::BadDelimiters,
+        ..PLAIN
+    },
+    Case {
+        component: "-",
+        wanted: SetupFault::BadDelimiters,
+        ..PLAIN
+    },
+    Case {
+        code: "A",
+        wanted: SetupFault::BadId,
+        ..PLAIN
+    },
+    Case {
+        guide: "H999",
+        wanted: SetupFault::BadGuides,
+        ..PLAIN
+    },
+    Case {
+        to: "CARL",
+        wanted: SetupFault::BadRoute,
+        ..PLAIN
+    },
+    Case {
+        set: "0",
+        wanted: SetupFault::BadCounter,
+        ..PLAIN
+    },
+    Case {
+        cap: "100000",
+        wanted: SetupFault::BadCap,
+        ..PLAIN
+    },
+    // the first of two refusals
+    Case {
+        component: "|",
+        set: "0",
+        wanted: SetupFault::BadDelimiters,
+        ..PLAIN
+    },
+];
+
+fn partner(alloc: Global, case: &Case) -> Result<String, AllocError> {
+    let head = format!(in alloc;
+        "[[partner]]\nname=\"{}\"\nqualifier=\"ZZ\"\nid=\"BOLT\"\n",
+        case.name
+    )?;
+    let marks = format!(in alloc;
+        "element=\"|\"\ncomponent=\"{}\"\nrepetition=\"^\"\nterminator=\"!\"\n",
+        case.component
+    )?;
+    format!(in alloc;
+        "{head}code=\"{}\"\n{marks}cap={}\nguides=[\"{}\"]\n",
+        case.code, case.cap, case.guide
+    )
+}
+
+fn route(alloc: Global, case: &Case) -> Result<String, AllocError> {
+    format!(in alloc; "[[route]]\ncode=\"BOLT\"\nto=\"{}\"\n", case.to)
+}
+
+fn counters(alloc: Global, case: &Case) -> Result<String, AllocError> {
+    format!(in alloc;
+        "version=1\n[[counter]]\npartner=\"ACME\"\ninterchange=1\nset={}\n",
+        case.set
+    )
+}
+
+fn built_by(alloc: Global, case: &Case) -> Result<Setup, NoSetup> {
+    let bolt = partner(alloc, case)?;
+    let route = route(alloc, case)?;
+    let counters = counters(alloc, case)?;
+    built_of(
+        alloc,
+        ACME,
+        bolt.as_str(),
+        route.as_str(),
+        counters.as_str(),
+    )
+}
+
+fn refusal_of(alloc: Global, case: &Case) -> Option<NoSetup> {
+    match built_by(alloc, case) {
+        Ok(_) => None,
+        Err(refusal) => Some(refusal),
+    }
+}
+
+fn fault_in(refusal: &NoSetup) -> Option<SetupFault> {
+    match refusal {
+        NoSetup::Setup(fault) => Some(*fault),
+        _ => None,
+    }
+}
+
+fn expect_refusal(alloc: Global, case: &Case) -> Result<(), Fail> {
+    let refusal = refusal_of(alloc, case).ok_or("no refusal")?;
+    if fault_in(&refusal) == Some(case.wanted) {
+        return Ok(());
+    }
+    Err(refusal)?
+}
+
+fn expect_refusals(alloc: Global, cases: &[Case]) -> Result<(), Fail> {
+    for case in cases {
+        expect_refusal(alloc, case)?;
+    }
+    Ok(())
+}
+
+#[test]
+fn first_refusals(rt: HostRuntime) -> Result<(), Fail> {
+    expect_refusals(rt.alloc(), CASES)
+}
+
+const NUMBERS: &[(SetupFault, u32)] = &[
+    (SetupFault::SamePartner, 1),
+    (SetupFault::BadDelimiters, 2),
+    (SetupFault::BadId, 3),
+    (SetupFault::BadGuides, 4),
+    (SetupFault::BadRoute, 5),
+    (SetupFault::BadCounter, 6),
+    (SetupFault::BadCap, 7),
+    (SetupFault::NoMemory, 8),
+];
+
+#[test]
+fn numbers_of_refusals(rt: HostRuntime) {
+    for (fault, number) in NUMBERS {
+        assert_eq!(rt; fault.number(), *number);
+    }
+}
