@@ -9,6 +9,7 @@ pub mod Nexting
 pub mod OneChain
 pub mod OneIndex
 pub mod OneTree
+pub mod Settling
 pub mod Spanned
 pub mod Standing
 pub mod Steps
@@ -17,3 +18,4 @@ pub mod Tails
 pub mod Trees
 pub mod Walking
 mod WorkedNumbers
+mod WorkedSettled

@@ -9,6 +9,7 @@ pub mod Mapped
 pub mod Numbers
 pub mod Places
 pub mod Reading
+pub mod Settled
 pub mod Source
 pub mod Spans
 pub mod Summary

@@ -10,6 +10,7 @@
 //!   space around it;
 //! - `index_plain` answers the index of a text: its one chain of interchanges, each with its envelopes and the least of
 //!   its faults 1 to 7, and the count of bytes outside; a text has one index (`index_is_one`);
+//! - `Index::settle` gives each interchange of an index the fault that is handed in for it, and leaves all else;
 //! - `judge` answers the least of an interchange's faults 1 to 7, and none exactly where it has
 //!   none;
 //! - the segments of each interchange derive a tree (`envelope_is_there`), and only one
@@ -45,6 +46,7 @@ mod places;
 mod plain;
 mod read;
 mod segment_at;
+mod settle;
 mod source;
 mod walk;
 

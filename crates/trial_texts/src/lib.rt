@@ -19,6 +19,8 @@ mod faults;
 #[cfg(test)]
 mod headers;
 #[cfg(test)]
+mod indexes;
+#[cfg(test)]
 mod interchange_faults;
 #[cfg(test)]
 mod interchanges;
