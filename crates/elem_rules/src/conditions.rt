@@ -23,7 +23,7 @@ pub struct Elements<'a> {
 }
 
 /// The text of the element at a position, from 1 on; empty where there is none.
-pub fn text_at<'a>(texts: &[&'a [u8]], position: u32) -> &'a [u8]
+pub(crate) fn text_at<'a>(texts: &[&'a [u8]], position: u32) -> &'a [u8]
     ensures { result.now ≡ text_at (read texts.now) position }
 {
     let Some(index) = position.checked_sub(1) else {

@@ -25,7 +25,7 @@ pub fn has_more(delims: Delims, n: usize, parts: Parts) -> bool
 }
 
 /// The next part; the empty text where none is left.
-pub fn next_part<'a>(parts: &mut Parts<'a>) -> &'a [u8]
+pub(crate) fn next_part<'a>(parts: &mut Parts<'a>) -> &'a [u8]
     ensures text { result.now ≡ slice_index_or parts.old 0 [] }
     ensures rest { parts.new ≡ drop 1 parts.old }
 {
@@ -33,7 +33,7 @@ pub fn next_part<'a>(parts: &mut Parts<'a>) -> &'a [u8]
 }
 
 /// Part `n`, from 0; the empty text where it isn't there.
-pub fn part_at<'a>(parts: Parts<'a>, n: usize) -> &'a [u8]
+pub(crate) fn part_at<'a>(parts: Parts<'a>, n: usize) -> &'a [u8]
     ensures { result.now ≡ slice_index_or parts.entry n [] }
 {
     let mut parts = parts;

@@ -238,7 +238,8 @@ number_written = ap (λ (digits : List ℕ). codes "set = " ++ (digits ++ line_e
 lines_of_a_partner : counter_lines (codes "ACME") (record { interchange = 2; set = 10 })
     ≡ codes "\n[[counter]]\npartner = \"ACME\"\ninterchange = 2\nset = 10\n"
 lines_of_a_partner =
-    ap (λ (digits : List ℕ). name_lines (codes "ACME") ++ ((codes "interchange = " ++ (digits ++ line_end)) ++ number_line (codes "set") 10))
+    ap (λ (digits : List ℕ).
+    name_lines (codes "ACME") ++ ((codes "interchange = " ++ (digits ++ line_end)) ++ number_line (codes "set") 10))
     (decimal-digits_of 2 (omega arith) (omega arith))
     ∙ ap (λ (digits : List ℕ). codes "\n[[counter]]\npartner = \"ACME\"\ninterchange = 2\nset = " ++ (digits ++ line_end))
     (decimal-digits_of 10 (omega arith) (omega arith))
