@@ -1,6 +1,7 @@
 pub mod Derived
 pub mod Each
 pub mod EndingTrees
+pub mod Few
 pub mod Finishing
 pub mod Indexing
 pub mod LeastEnd
@@ -9,6 +10,7 @@ pub mod Nexting
 pub mod OneChain
 pub mod OneIndex
 pub mod OneTree
+pub mod Placing
 pub mod Settling
 pub mod Spanned
 pub mod Standing
@@ -17,5 +19,6 @@ pub mod Surround
 pub mod Tails
 pub mod Trees
 pub mod Walking
-mod WorkedNumbers
+pub mod WorkedNumbers
+mod WorkedPlaced
 mod WorkedSettled

@@ -36,19 +36,19 @@ interchange trailer groups = record {
   content = record { groups = groups; notices = 0; misplaced = false; trailer = trailer };
 }
 
-abbrev first_set : SetEnvelope
+abbrev pub first_set : SetEnvelope
 first_set = set (codes "ST*850*0001")
 
-abbrev twelve : List SetEnvelope → GroupEntry
+abbrev pub twelve : List SetEnvelope → GroupEntry
 twelve sets = group (codes "GS*PO*A*B*20260228*0900*12*X*005010") sets
 
 abbrev with_zero : List SetEnvelope → GroupEntry
 with_zero sets = group (codes "GS*PO*A*B*20260228*0900*012*X*005010") sets
 
-abbrev one_group : GroupEntry → InterchangeEntry
+abbrev pub one_group : GroupEntry → InterchangeEntry
 one_group g = interchange (Some (seg (codes "IEA*1*000000007"))) (g ∷ [])
 
-abbrev two_groups : GroupEntry → GroupEntry → InterchangeEntry
+abbrev pub two_groups : GroupEntry → GroupEntry → InterchangeEntry
 two_groups g h = interchange (Some (seg (codes "IEA*2*000000007"))) (g ∷ h ∷ [])
 
 abbrev everyone : List ℕ → Bool

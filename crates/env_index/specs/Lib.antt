@@ -7,6 +7,7 @@ pub mod Interchange
 pub mod Lone
 pub mod Mapped
 pub mod Numbers
+pub mod Placed
 pub mod Places
 pub mod Reading
 pub mod Settled

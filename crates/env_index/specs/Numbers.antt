@@ -48,11 +48,15 @@ groups_from isa gs (group ∷ groups) =
 abbrev pub is_indexed : (List ℕ → Bool) → InterchangeEntry → Bool
 is_indexed knows x = is_none (fault_of x) && knows x.header
 
-abbrev pub interchange_places : (List ℕ → Bool) → ℕ → InterchangeEntry → List Numbered
-interchange_places knows isa x =
-    if is_indexed knows x
+-- the places of an interchange that has some
+abbrev pub kept_places : Bool → ℕ → InterchangeEntry → List Numbered
+kept_places is_kept isa x =
+    if is_kept
     then record { place = place_at isa 0 0; number = interchange_number x.header } ∷ groups_from isa 1 x.content.groups
     else []
+
+abbrev pub interchange_places : (List ℕ → Bool) → ℕ → InterchangeEntry → List Numbered
+interchange_places knows isa x = kept_places (is_indexed knows x) isa x
 
 -- the places of the interchanges of a text, in its order; each interchange is counted, also one without places
 abbrev pub places_from : (List ℕ → Bool) → ℕ → List InterchangeEntry → List Numbered

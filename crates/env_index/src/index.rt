@@ -15,6 +15,10 @@ impl<'a> Model for IndexedInterchange<'a> {
     ghost Value = { IndexEntry };
 
     ghost view = { λ x. record { interchange = x.interchange; fault = x.fault } };
+
+    ghost use Rattle.env_index.specs.Placed.{AreFew};
+
+    ghost invariant = { λ x. AreFew x.interchange };
 }
 
 impl<'a> IndexedInterchange<'a> {
@@ -50,6 +54,11 @@ impl<'a> Model for Index<'a> {
     ghost Value = { IndexValue };
 
     ghost view = { λ i. record { text = i.text.now; entries = i.interchanges.items; outside = i.outside } };
+
+    ghost use Rattle.std.specs.Prelude.{◌≤◌, length};
+    ghost use Rattle.hub_kinds.specs.declared.limits.TheConstants.{LONGEST_TEXT};
+
+    ghost invariant = { λ i. length i.interchanges.items ≤ LONGEST_TEXT };
 }
 
 impl<'a> Index<'a> {

@@ -11,6 +11,7 @@
 //! - `index_plain` answers the index of a text: its one chain of interchanges, each with its envelopes and the least of
 //!   its faults 1 to 7, and the count of bytes outside; a text has one index (`index_is_one`);
 //! - `Index::settle` gives each interchange of an index the fault that is handed in for it, and leaves all else;
+//! - `Index::places` lists the places of the interchanges without a fault, of their groups and of their sets;
 //! - `judge` answers the least of an interchange's faults 1 to 7, and none exactly where it has
 //!   none;
 //! - the segments of each interchange derive a tree (`envelope_is_there`), and only one
@@ -42,6 +43,7 @@ mod interchange;
 mod laws;
 mod lone;
 mod next;
+mod placed;
 mod places;
 mod plain;
 mod read;

@@ -3,6 +3,7 @@ ghost use Rattle.hub_kinds.specs.declared.limits.TheConstants.{LONGEST_TEXT};
 ghost use Rattle.env_index.specs.Extents.{is_filler};
 ghost use Rattle.env_index.specs.Faults.{fault_of};
 ghost use Rattle.env_index.specs.Index.{IsIndex};
+ghost use Rattle.env_index.specs.Placed.{AreFew};
 
 use crate::faults::judge;
 use crate::index::{Index, IndexedInterchange};
@@ -26,6 +27,7 @@ fn count_others(text: &[u8]) -> u64
 
 /// An interchange with the least of its faults 1 to 7.
 fn judged(interchange: Interchange<'_>) -> IndexedInterchange<'_>
+    requires { AreFew interchange }
     ensures interchange { result.interchange ≡ interchange.entry }
     ensures fault { result.fault ≡ fault_of interchange.entry }
 {

@@ -5,7 +5,8 @@ use crate::interchanges::{
 };
 use env_index::{
     Interchange, chain_is_one, end_is_least, envelope_is_mapped, envelope_is_of_kinds,
-    envelope_is_one, envelope_is_there, index_is_one, judge, read_interchange, read_lone, sets_stand_alone,
+    envelope_is_one, envelope_is_there, index_is_one, judge, read_interchange, read_lone,
+    sets_stand_alone,
 };
 use hub_kinds::InterchangeFault;
 use std::alloc::Global;

@@ -1,11 +1,13 @@
-use Rattle.std.proofs.Common.{◌≡◌, ◌+◌, ◌≤◌, ℕ, not, List, length, refl, sym, ap, subst, ◌∙◌}
+use Rattle.std.proofs.Common.{◌≡◌, ◌+◌, ◌≤◌, ℕ, not, List, [], ◌∷◌, length, arith, refl, sym, ap, subst, ◌∙◌}
 use Rattle.std.specs.List.{All}
+use Rattle.std.proofs.lemmas.List.{length-append}
 use Rattle.std.proofs.lemmas.List.Elements.{All-push}
 use Rattle.std.specs.Prelude.{count_by, slice_range}
 use Rattle.env_index.specs.Extents.{is_filler}
 use Rattle.env_index.specs.Index.{IndexEntry, IsEntryOf, IsNextIn}
 use Rattle.env_index.specs.Interchange.{InterchangeEntry}
 use Rattle.env_index.proofs.Indexing.{chain_ends, chain_more, count_ends, counted_more, entry_of, few_more}
+use Rattle.env_index.proofs.Few.{are_few}
 use Rattle.env_index.proofs.plain.index_plain.Goals as goal
 
 abbrev others_from : List ℕ → (from to : ℕ) → ℕ
@@ -26,6 +28,15 @@ loop-interchanges-preserved c =
           (few_more text c.loop-interchanges.at x.start x.end c.loop-interchanges.outside c.count_others-outside.result
           c.loop-interchanges.invariant.few next.next.behind (rw c.in-Some.is at c.in_ok-interchange.ensures.behind)
           (c.count_others-outside.ensures ∙ ap (others_from text c.loop-interchanges.at) c.start.ensures));
+      many = omega (
+        arith,
+        ap (λ (es : List IndexEntry). length es) all,
+        length-append c.loop-interchanges.interchanges.items (e ∷ []),
+        c.loop-interchanges.invariant.many,
+        next.next.behind,
+        rw c.in-Some.is at c.in_ok-interchange.ensures.behind,
+        c.end-at.ensures,
+      );
       entries = subst (All (IsEntryOf text)) (sym all)
           (All-push (IsEntryOf text) c.loop-interchanges.interchanges.items e c.loop-interchanges.invariant.entries
           (entry_of text c.loop-interchanges.at x e same c.judged.ensures.fault next));
@@ -48,3 +59,9 @@ returns c =
       outside = count_ends text _ c.loop-interchanges.at c.loop-interchanges.outside _ c.count_others-outside-2.ensures
           c.loop-interchanges.invariant.counted;
     }
+
+pub judged-requires : goal.judged-requires
+judged-requires c =
+    let next : IsNextIn c.args.text.now c.loop-interchanges.at c.in-Some.interchange
+    = rw c.in-Some.is at c.in_ok-interchange.ensures.next in
+    are_few c.args.text.now c.in-Some.interchange next.read next.next.head c.requires

@@ -8,6 +8,7 @@ abbrev pub invariant-loop-interchanges : goal.invariant-loop-interchanges
 invariant-loop-interchanges l = record {
   inside : l.at ≤ length l.text;
   few : l.outside ≤ l.at;
+  many : length l.interchanges.items ≤ l.at;
   entries : All (IsEntryOf l.text) l.interchanges.items;
   chain : (xs : List Extent) → ChainFrom l.text l.at xs → Chain l.text (extents_of l.interchanges.items ++ xs);
   counted : (xs : List Extent) → count_outside l.text 0 (extents_of l.interchanges.items ++ xs)
