@@ -12,7 +12,7 @@ use Rattle.hub_kinds.specs.Codes.{segment_rank}
 use Rattle.hub_kinds.specs.declared.codes.SegmentCode.TheVariants.{ElementErrors}
 use Rattle.hub_kinds.specs.declared.fault.ElemFault.{ElemFault}
 use Rattle.hub_kinds.specs.declared.fault.Fault.{Fault}
-use Rattle.ack_999.specs.Copy.{is_this}
+use Rattle.x12_write.specs.Delimiters.{is_this}
 use Rattle.ack_999.specs.Faults.{Note, SegmentNote, ElementNote, notes_for, notes_on, notes_behind, notes, element_position, note_segment}
 use Rattle.hub_kinds.specs.Fault.{AreRising, key_of}
 use Rattle.hub_kinds.specs.Rising.{order_by}

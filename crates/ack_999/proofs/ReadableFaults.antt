@@ -8,7 +8,8 @@ use Rattle.x12_bytes.specs.declared.delims.Delims.{Delims}
 use Rattle.hub_kinds.specs.declared.fault.Fault.{Fault}
 use Rattle.hub_kinds.specs.declared.fault.ElemFault.{ElemFault}
 use Rattle.hub_kinds.specs.Codes as code
-use Rattle.ack_999.specs.Copy.{is_this, is_delimiter, may_be_copied, copy_text}
+use Rattle.ack_999.specs.Copy.{may_be_copied, copy_text}
+use Rattle.x12_write.specs.Delimiters.{is_this, is_delimiter}
 use Rattle.ack_999.specs.Faults.{Note, SegmentNote, ElementNote, id_text, code_shown, number_text, position_text, note_segment, notes_for}
 use Rattle.ack_999.specs.Faults.{notes_on, notes_behind, element_position}
 use Rattle.ack_999.specs.ReadBack.{IsQuotableElement, IsQuotableFault}

@@ -10,7 +10,8 @@ use Rattle.hub_kinds.specs.declared.fault.ElemFault.{ElemFault}
 use Rattle.hub_kinds.specs.declared.fault.TheConstants.{NO_NUMBER}
 use Rattle.hub_kinds.specs.Codes as code
 use Rattle.hub_kinds.specs.Words.{is_segment_id}
-use Rattle.ack_999.specs.Copy.{is_this, copy_text}
+use Rattle.ack_999.specs.Copy.{copy_text}
+use Rattle.x12_write.specs.Delimiters.{is_this}
 use Rattle.x12_write.specs.Segment.{Segment, segment, segment_text, elements_text, trimmed}
 
 -- IK301: an id of 2 or 3 upper-case letters or digits stands, any other is written ZZZ (own)

@@ -1,8 +1,9 @@
 ghost use Rattle.std.specs.Prelude.{◌≡◌, take};
 ghost use Rattle.std.specs.List.{list_all};
-ghost use Rattle.ack_999.specs.Copy.{is_this, is_delimiter, may_be_copied, copy_text};
+ghost use Rattle.ack_999.specs.Copy.{may_be_copied, copy_text};
 
 use x12_bytes::Delims;
+use x12_write::is_delimiter;
 
 /// The most bytes of a copy.
 const LONGEST_COPY: usize = 99;
@@ -38,22 +39,4 @@ fn may_be_copied(delims: &Delims, byte: u8) -> bool
     ensures { result ≡ may_be_copied delims.now byte }
 {
     b' ' <= byte && byte <= b'~' && !is_delimiter(delims, byte)
-}
-
-fn is_delimiter(delims: &Delims, byte: u8) -> bool
-    ensures { result ≡ is_delimiter delims.now byte }
-{
-    byte == delims.element
-        || byte == delims.component
-        || byte == delims.terminator
-        || is_repetition(delims, byte)
-}
-
-fn is_repetition(delims: &Delims, byte: u8) -> bool
-    ensures { result ≡ is_this delims.now.repetition byte }
-{
-    match delims.repetition {
-        Some(separator) => separator == byte,
-        None => false,
-    }
 }

@@ -6,7 +6,7 @@ use crate::totals::Totals;
 use hub_kinds::{GroupAnswer, GroupCode, SetAnswer, read_number};
 
 /// AK902: how many sets the group's trailer lists.
-pub fn listed_sets(group: &GroupAnswer, totals: &Totals) -> u128
+pub(crate) fn listed_sets(group: &GroupAnswer, totals: &Totals) -> u128
     ensures { result ≡ listed_sets group.now.listed totals.now }
 {
     match read_number(group.listed.bytes(), 6) {
@@ -27,7 +27,7 @@ pub fn accepted_sets(group: &GroupAnswer, totals: &Totals) -> u128
 }
 
 /// SE01: how many segments there are from ST to SE.
-pub fn segment_count(group: &GroupAnswer, totals: &Totals) -> u128
+pub(crate) fn segment_count(group: &GroupAnswer, totals: &Totals) -> u128
     requires { IsCountable totals.now }
     ensures { result ≡ segment_count group.now totals.now }
 {
@@ -47,7 +47,7 @@ fn set_segment_count(totals: &Totals) -> u128
 }
 
 /// Whether the sets of a group with these codes are shown.
-pub fn shows_sets(codes: &[GroupCode]) -> bool
+pub(crate) fn shows_sets(codes: &[GroupCode]) -> bool
     ensures { result ≡ shows_sets codes.now }
 {
     !codes.iter().any(|code| hides_sets(*code))

@@ -1,5 +1,5 @@
 ghost use Rattle.std.specs.Prelude.{◌≡◌, ◌++◌, ◌*◌, ◌≤◌, OnOk, length};
-ghost use Rattle.ack_999.specs.Copy.{is_this};
+ghost use Rattle.x12_write.specs.Delimiters.{is_this};
 ghost use Rattle.ack_999.specs.Faults.{element_position, notes, notes_on, notes_text, fault_segments};
 ghost use Rattle.x12_write.specs.Segment.{segments_text};
 ghost use Rattle.x12_write.specs.Extends.{Extends};

@@ -6,7 +6,7 @@
 //! Proved:
 //! - `write_999` writes exactly the 999's segments, among them what is told of each set's faults,
 //!   and SE01 is their number; read again by the same delimiters, the text has these segments;
-//!   `append_head`, `append_set` and `append_tail` write the same, one part after another;
+//!   `append_999` writes it behind what is there; `append_head`, `append_set` and `append_tail` write the same, one part after another;
 //! - `write_ack_interchange` writes exactly the interchange: its header in its fixed width, one
 //!   group, the acknowledgments, the trailers; `append_opening` and `append_closing` are its ends, and what they write,
 //!   with acknowledgments between, is the interchange; its header is read again where the envelope is fit to be sent;
@@ -42,9 +42,10 @@ mod trailer;
 mod verdict;
 
 pub use codes::group_codes;
+pub use counts::{accepted_sets, totals_of};
 pub use interchange::{append_closing, append_opening, write_ack_interchange};
 pub use law::each_position_is_told;
-pub use report::{append_head, append_set, append_tail, write_999};
+pub use report::{append_999, append_head, append_set, append_tail, write_999};
 pub use support::GroupSupport;
 pub use totals::Totals;
 pub use trailer::GroupTrailer;

@@ -31,10 +31,24 @@ pub fn write_999(
         (λ v. ReadsBack delims.now group.now sets.now n v.items) }
 {
     let mut out = Vec::new(alloc);
-    append_head(&mut out, delims, group, n)?;
-    append_sets(&mut out, delims, group, sets)?;
-    append_tail(&mut out, delims, group, &totals_of(sets), n)?;
+    append_999(&mut out, delims, group, sets, n)?;
     Ok(out)
+}
+
+/// Writes the implementation acknowledgment of a functional group behind what is there.
+pub fn append_999(
+    out: &mut Vec<u8>,
+    delims: &Delims,
+    group: &GroupAnswer,
+    sets: &[SetAnswer],
+    n: u32,
+) -> Result<(), NoMemory>
+    ensures text { OnOk result (out.new.items ≡ out.old.items ++ text_999 delims.now group.now sets.now n) }
+    ensures kept { Extends out.old.items out.new.items }
+{
+    append_head(out, delims, group, n)?;
+    append_sets(out, delims, group, sets)?;
+    append_tail(out, delims, group, &totals_of(sets), n)
 }
 
 /// Writes an acknowledgment's ST and AK1 behind what is there. Where memory is refused, here and in

@@ -19,7 +19,7 @@
 //! Source: X12.6, data element types, composite and repeated data elements, relational conditions; the 999 guide
 //! (005010X231), IK4. `jiff` says which days exist. What counts as empty, and dates of six digits, are own.
 //!
-//! A call, as `trial_elements` makes it:
+//! A call, as `trial_guides` makes it:
 //!
 //! ```
 //! let slot = guide.slot(1).ok_or("a guide without a slot")?;

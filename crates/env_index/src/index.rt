@@ -22,11 +22,13 @@ impl<'a> Model for IndexedInterchange<'a> {
 }
 
 impl<'a> IndexedInterchange<'a> {
-    ghost use Rattle.std.specs.Prelude.{◌≡◌};
+    ghost use Rattle.std.specs.Prelude.{◌≡◌, ◌≤◌, length};
+    ghost use Rattle.hub_kinds.specs.declared.limits.TheConstants.{LONGEST_TEXT};
 
-    /// The interchange.
+    /// The interchange; its groups can be counted in 32 bits.
     pub fn interchange(&self) -> &Interchange<'a>
-        ensures { result.now ≡ self.now.interchange }
+        ensures value { result.now ≡ self.now.interchange }
+        ensures few { length self.now.interchange.content.groups ≤ LONGEST_TEXT }
     {
         &self.interchange
     }
@@ -62,7 +64,8 @@ impl<'a> Model for Index<'a> {
 }
 
 impl<'a> Index<'a> {
-    ghost use Rattle.std.specs.Prelude.{◌≡◌};
+    ghost use Rattle.std.specs.Prelude.{◌≡◌, ◌≤◌, length};
+    ghost use Rattle.hub_kinds.specs.declared.limits.TheConstants.{LONGEST_TEXT};
 
     /// The text.
     pub fn text(&self) -> &'a [u8]
@@ -71,9 +74,10 @@ impl<'a> Index<'a> {
         self.text
     }
 
-    /// Its interchanges, in their order.
+    /// Its interchanges, in their order; they can be counted in 32 bits.
     pub fn interchanges(&self) -> &[IndexedInterchange<'a>]
-        ensures { result.now ≡ self.now.entries }
+        ensures value { result.now ≡ self.now.entries }
+        ensures few { length self.now.entries ≤ LONGEST_TEXT }
     {
         self.interchanges.as_slice()
     }

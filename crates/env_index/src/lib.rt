@@ -26,7 +26,7 @@
 //! X12.6, functional group header (GS) and trailer (GE), transaction set header (ST) and trailer
 //! (SE).
 //!
-//! As its trial, the crate `trial_envelopes`, calls it:
+//! As its trial, the crate `trial_texts`, calls it:
 //!
 //! ```rust
 //! let found = read_interchange(rt.alloc(), ORDER, 0)?.ok_or("no header")?;

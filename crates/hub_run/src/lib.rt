@@ -8,7 +8,7 @@
 //! - it refuses a text as too long exactly over 4,294,967,295 bytes (`within_limit`), and as not one only where
 //!   no such reading exists.
 //!
-//! As `trial_first_path` calls it:
+//! As `trial_acknowledgments` calls it:
 //!
 //! ```
 //! let at = At::read(b"202603011530").ok_or("no moment")?;

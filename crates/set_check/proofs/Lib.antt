@@ -7,11 +7,12 @@ mod Keyed
 mod Meeting
 mod NoCodes
 mod NoFaults
+pub mod Once
 mod Rising
 mod SoundPlaces
 mod Spans
 mod Told
-mod Verdicts
+pub mod Verdicts
 mod Worked
 mod WorkedRules
 mod WorkedSets

@@ -1,6 +1,7 @@
 pub mod Adding
 pub mod Answer
 pub mod Checked
+pub mod CheckedLaw
 pub mod Codes
 pub mod Envelope
 pub mod Meets

@@ -13,13 +13,14 @@
 //! - `set_codes` gives exactly the codes that hold of a set, in their order, the first five;
 //! - `answer_set`, for a set whose segments aren't checked, gives these codes, the verdict accepted exactly where there is
 //!   none, and ST01, ST02 and ST03 as they stand;
-//! - `clean_sets_meet_their_guides` is the law of this by the definitions alone.
+//! - `clean_sets_meet_their_guides` and `accepted_sets_meet_their_guides` are the laws of this by the definitions alone, and a set
+//!   is checked in one way (`checks_are_one`).
 //!
 //! A set without a guide has code 1 and no fault: none of its segments is checked. The segments are found once.
 //!
 //! X12.6, transaction set, header (ST) and trailer (SE); 999 guide, IK3 to IK5.
 //!
-//! As its trial, the crate `trial_envelopes`, calls it:
+//! As its trial, the crate `trial_texts`, calls it:
 //!
 //! ```rust
 //! let answer = answer_set(rt.alloc(), &header, 4, Some(&trailer), false)?;
@@ -48,4 +49,4 @@ pub use check::check_set;
 pub use checked::CheckedSet;
 pub use codes::set_codes;
 pub use guide::SetGuide;
-pub use law::clean_sets_meet_their_guides;
+pub use law::{accepted_sets_meet_their_guides, checks_are_one, clean_sets_meet_their_guides};

@@ -1,3 +1,4 @@
+pub mod Delimiters
 pub mod Segment
 pub mod Extends
 pub mod Number

@@ -13,11 +13,13 @@
 //! - `append_trailer` writes the number of groups and the interchange's number in nine digits;
 //! - `append_segment` leaves off exactly the empty elements at the end; `append_coded_segment` does the same of
 //!   elements behind which codes stand;
-//! - a `PaddedNumber` is the number in decimal, with zeros in front up to a width.
+//! - a `PaddedNumber` is the number in decimal, with zeros in front up to a width;
+//! - `is_delimiter` tells the bytes that divide a text.
 //!
 //! Source: X12.5, interchange control header and trailer; X12.6, functional group header and trailer, segment.
 #![tactic(auto)]
 
+mod delimiter;
 mod envelope;
 mod group;
 mod header;
@@ -25,6 +27,7 @@ mod number;
 mod segment;
 mod trailer;
 
+pub use delimiter::is_delimiter;
 pub use envelope::Envelope;
 pub use group::{GroupHeader, append_group, append_group_header, append_group_trailer};
 pub use header::append_header;
