@@ -1,5 +1,8 @@
 pub mod Lines
+pub mod Marks
 pub mod Naming
+pub mod Sending
+pub mod Sounding
 pub mod Telling
 mod Worked
 mod WorkedSetup

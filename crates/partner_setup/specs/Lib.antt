@@ -1,8 +1,10 @@
 pub mod Answers
 pub mod CountersFile
 pub mod CountersText
+pub mod Envelopes
 pub mod Known
 pub mod Names
 pub mod Setup
 pub mod SetupFaults
 pub mod SetupFile
+pub mod Sound

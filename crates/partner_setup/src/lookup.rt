@@ -131,21 +131,24 @@ fn first_for_set<'s>(
 }
 
 impl Setup {
-    ghost use Rattle.std.specs.Prelude.{◌≡◌, option_map};
+    ghost use Rattle.std.specs.Prelude.{◌≡◌, ◌<◌, IfSome, length, option_map};
     ghost use Rattle.partner_setup.specs.Names.{those_at};
     ghost use Rattle.partner_setup.specs.Setup as setup;
+    ghost use Rattle.partner_setup.specs.Sound.{AreWithin};
 
     /// The place of the partner that sends an interchange with this header: ISA05 is its qualifier, ISA06 without trailing
     /// spaces its id (X12.5, interchange sender).
     pub fn sender_of(&self, header: &Header<'_>) -> Option<usize>
-        ensures { result ≡ setup.sender_of self.now header.now }
+        ensures sender { result ≡ setup.sender_of self.now header.now }
+        ensures within { IfSome result (λ q. q < length self.now.partners) }
     {
         with_id(self.partners(), qualifier_in(header), id_in(header))
     }
 
     /// The places of the partners to whom sets for an application code go (GS03); none without a route.
     pub fn route_of(&self, code: &[u8]) -> &[usize]
-        ensures { result.now ≡ setup.route_of self.now code.now }
+        ensures targets { result.now ≡ setup.route_of self.now code.now }
+        ensures within { AreWithin (length self.now.partners) result.now }
     {
         targets_in(self.routes(), code)
     }

@@ -15,6 +15,7 @@ pub struct Setup {
 impl Model for Setup {
     ghost use Rattle.partner_setup.specs.Setup.{SetupValue};
     ghost use Rattle.guide_tree.specs.contracts.node.Node as node;
+    ghost use Rattle.partner_setup.specs.Sound.{IsSoundSetup};
     ghost use Rattle.std.specs.Coded.{codes};
 
     ghost Value = { SetupValue };
@@ -27,10 +28,19 @@ impl Model for Setup {
       routes = s.routes.items;
       guides = s.guides.items;
     } };
+
+    ghost invariant = { λ s. IsSoundSetup (record {
+      hub = s.hub;
+      partners = s.partners.items;
+      routes = s.routes.items;
+      guides = s.guides.items;
+    }) };
 }
 
 impl Setup {
-    ghost use Rattle.std.specs.Prelude.{◌≡◌};
+    ghost use Rattle.std.specs.Prelude.{◌≡◌, All, IsTrue, length};
+    ghost use Rattle.partner_setup.specs.Sound.{AreWithin, IsSoundPartner, IsSoundSetup};
+    ghost use Rattle.partner_setup.specs.SetupFaults.{are_ids};
 
     pub(crate) fn of(
         hub: HubRow,
@@ -38,6 +48,7 @@ impl Setup {
         routes: Vec<Route>,
         guides: Vec<Guide>,
     ) -> Setup
+        requires { IsSoundSetup (record { hub = hub; partners = partners.items; routes = routes.items; guides = guides.items }) }
         ensures { result ≡ record { hub = hub; partners = partners.items; routes = routes.items; guides = guides.items } }
     {
         Setup {
@@ -48,23 +59,26 @@ impl Setup {
         }
     }
 
-    /// How the hub is named where it sends.
+    /// How the hub is named where it sends. Its qualifier, its id and its code have their forms.
     pub fn hub(&self) -> &HubRow
-        ensures { result.now ≡ self.now.hub }
+        ensures hub { result.now ≡ self.now.hub }
+        ensures ids { IsTrue (are_ids self.now.hub.qualifier self.now.hub.id self.now.hub.code) }
     {
         &self.hub
     }
 
-    /// The partners, in their order.
+    /// The partners, in their order. Each one's cap, counters, delimiters, names and guides are what they have to be.
     pub fn partners(&self) -> &[Partner]
-        ensures { result.now ≡ self.now.partners }
+        ensures partners { result.now ≡ self.now.partners }
+        ensures sound { All (IsSoundPartner (length self.now.guides)) self.now.partners }
     {
         self.partners.as_slice()
     }
 
-    /// The routes, in their order.
+    /// The routes, in their order. Each leads to partners of the setup.
     pub fn routes(&self) -> &[Route]
-        ensures { result.now ≡ self.now.routes }
+        ensures routes { result.now ≡ self.now.routes }
+        ensures within { All (λ r. AreWithin (length self.now.partners) r.to) self.now.routes }
     {
         self.routes.as_slice()
     }

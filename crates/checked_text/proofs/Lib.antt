@@ -1,0 +1,10 @@
+pub mod Accepted
+pub mod Acknowledging
+pub mod Among
+pub mod Growing
+pub mod Numbering
+pub mod Once
+pub mod Pairing
+pub mod Reporting
+pub mod Settling
+pub mod Starting

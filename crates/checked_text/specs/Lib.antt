@@ -1,0 +1,9 @@
+pub mod Acknowledgments
+pub mod Answers
+pub mod CheckedText
+pub mod Known
+pub mod Meets
+pub mod Pairs
+pub mod Seen
+pub mod Settled
+pub mod Standings

@@ -1,0 +1,119 @@
+ghost use Rattle.std.specs.Prelude.{◌≡◌, List, false, IfOk};
+ghost use Rattle.std.specs.List.{All};
+ghost use Rattle.x12_segs.specs.Spans.{IsSetSpan};
+ghost use Rattle.env_index.specs.Spans.{span_of};
+ghost use Rattle.env_index.specs.Summary.{GroupEntry};
+ghost use Rattle.mailbox.specs.Judged.{is_fa};
+ghost use Rattle.checked_text.specs.Answers.{AreGroupAnswers, IsGroupAnswer, IsGroupAnswered, answer_by, codes_where, has_number_among};
+
+use crate::answered::AnsweredGroup;
+use crate::numbers::{add_number, group_number};
+use crate::sent::Sent;
+use crate::sets::answer_sets;
+use crate::support::{group_trailer, listed, support_of};
+use ack_999::{Totals, group_codes, group_verdict, totals_of};
+use env_index::{GroupEnvelope, Interchange};
+use hub_kinds::{GroupAnswer, GroupCode, Items, Lent, NoMemory, SetAnswer};
+use mailbox::is_fa;
+use std::alloc::Global;
+use std::collections::BTreeSet;
+
+/// The answers to the groups of an interchange, in their order; none to one that acknowledges something itself.
+pub(crate) fn answer_groups<'a>(
+    alloc: Global,
+    sent: &Sent<'a>,
+    interchange: &Interchange<'a>,
+) -> Result<Vec<Option<AnsweredGroup<'a>>>, NoMemory>
+    requires { All (λ group. All (λ set. IsSetSpan sent.now.text (span_of sent.now.delims set)) group.sets) interchange.now.content.groups }
+    ensures { IfOk result (λ v. AreGroupAnswers sent.now interchange.now.content.groups v.items) }
+{
+    let mut answers = Vec::new(alloc);
+    let mut numbers = BTreeSet::new(alloc);
+    for index in 0..interchange.group_count() {
+        let group = interchange.group(index);
+        let earlier = add_number(&mut numbers, group_number(&group))?;
+        let answer = answer_other(alloc, sent, &group, earlier)?;
+        answers.push(answer)?;
+    }
+    Ok(answers)
+}
+
+/// The answer to a group, unless it acknowledges something itself.
+fn answer_other<'a>(
+    alloc: Global,
+    sent: &Sent<'a>,
+    group: &GroupEnvelope<'_, 'a>,
+    earlier: bool,
+) -> Result<Option<AnsweredGroup<'a>>, NoMemory>
+    requires { All (λ set. IsSetSpan sent.now.text (span_of sent.now.delims set)) group.now.sets }
+    ensures { IfOk result (λ answer. (before : List GroupEntry) → earlier ≡ has_number_among before group.now
+        → IsGroupAnswered sent.now before group.now answer) }
+{
+    if is_fa(group) {
+        return Ok(None);
+    }
+    let answered = answer_group(alloc, sent, group, earlier)?;
+    Ok(Some(answered))
+}
+
+/// The answer to a group that acknowledges nothing itself.
+fn answer_group<'a>(
+    alloc: Global,
+    sent: &Sent<'a>,
+    group: &GroupEnvelope<'_, 'a>,
+    earlier: bool,
+) -> Result<AnsweredGroup<'a>, NoMemory>
+    requires spans { All (λ set. IsSetSpan sent.now.text (span_of sent.now.delims set)) group.now.sets }
+    requires other { is_fa group.now ≡ false }
+    ensures { IfOk result (λ answer. (before : List GroupEntry) → earlier ≡ has_number_among before group.now
+        → IsGroupAnswer sent.now before group.now answer) }
+{
+    let sets = answer_sets(alloc, sent, group)?;
+    let codes = codes_where(alloc, sent, group, earlier)?;
+    let answer = answer_by(codes, group, sets.as_slice());
+    Ok(AnsweredGroup {
+        answer,
+        sets: Items::from_vec(sets),
+    })
+}
+
+/// The codes of a group.
+fn codes_where(
+    alloc: Global,
+    sent: &Sent<'_>,
+    group: &GroupEnvelope<'_, '_>,
+    earlier: bool,
+) -> Result<Items<GroupCode>, NoMemory>
+    ensures { IfOk result (λ codes. codes ≡ codes_where sent.now earlier group.now) }
+{
+    let header = group.header();
+    let trailer = group_trailer(group);
+    group_codes(
+        alloc,
+        support_of(sent, &header),
+        header.element(6),
+        trailer.as_ref(),
+        group.set_count() as u64,
+        earlier,
+    )
+}
+
+/// The answer to a group with these codes and these answers to its sets.
+fn answer_by<'a>(
+    codes: Items<GroupCode>,
+    group: &GroupEnvelope<'_, 'a>,
+    sets: &[SetAnswer<'_>],
+) -> GroupAnswer<'a>
+    ensures { result ≡ answer_by codes group.now sets.now }
+{
+    let header = group.header();
+    let verdict = group_verdict(codes.as_slice(), &totals_of(sets));
+    GroupAnswer {
+        functional_id: Lent::new(header.element(1)),
+        control: Lent::new(header.element(6)),
+        version: Lent::new(header.element(8)),
+        listed: Lent::new(listed(group)),
+        codes,
+        verdict,
+    }
+}

@@ -1,0 +1,39 @@
+//! What is known of a text once its sets are checked: which of its interchanges are refused, what is answered to the groups and
+//! sets of the others, and the acknowledgments that each partner is sent.
+//!
+//! Proved:
+//! - `settled_faults` gives each interchange of an index its least fault of 1 to 9: 8 where no partner of the setup is its
+//!   sender, 9 where an earlier interchange without faults 1 to 8 has the same number;
+//! - `check_text` checks each set of the interchanges without a fault by its sender's guide, and answers each group and set: the
+//!   standings that it leaves, and the acknowledgments of each partner, byte for byte, are those of these answers;
+//! - `append_acknowledgment` writes the acknowledgment of an interchange, with a 999 for each group but those of acknowledgments;
+//! - the interchanges of a text are answered in one way (`answers_are_one`), and the answer to a set tells that it is accepted
+//!   exactly where the set meets its guide and no earlier set of its group has its ST02 (`accepted_as_it_meets`).
+//!
+//! Numbers are looked up in ordered sets, so that the cost follows the bytes but for a logarithm, whatever numbers somebody
+//! chooses. The answers to one interchange are held at a time.
+//!
+//! Source: X12.5, interchange sender and control number; X12.6, functional group and transaction set; 999 guide (005010X231).
+#![tactic(auto)]
+
+mod acknowledge;
+mod answered;
+mod files;
+mod groups;
+mod laws;
+mod numbers;
+mod seen;
+mod sending;
+mod sent;
+mod sets;
+mod settled;
+mod standings;
+mod support;
+mod walk;
+
+pub use acknowledge::append_acknowledgment;
+pub use answered::AnsweredGroup;
+pub use files::Acknowledgments;
+pub use laws::{accepted_as_it_meets, answers_are_one};
+pub use settled::settled_faults;
+pub use walk::{CheckedText, check_text};

@@ -1,0 +1,124 @@
+ghost use Rattle.std.specs.Prelude.{◌≡◌, ◌-◌, true, false, is_some, take, drop, if◌then◌else◌};
+ghost use Rattle.std.specs.List.{list_any, remove};
+ghost use Rattle.env_index.specs.declared.entry.SetEnvelope.{SetEnvelope};
+ghost use Rattle.mailbox.specs.Judged.{delims_in};
+ghost use Rattle.mailbox.specs.Deliveries.{is_blocked, is_in_the_way, is_text_in_the_way, kept_parts};
+ghost use Rattle.mailbox.specs.Blocking.{AllShared};
+
+use crate::placed::PlacedSet;
+use env_index::SetEnvelope;
+use x12_bytes::Delims;
+use x12_segs::{Parts, SegView, Segments};
+use x12_write::is_delimiter;
+
+/// Whether a byte is no delimiter where it comes from, and one where it goes to.
+fn is_in_the_way(from: &Delims, to: &Delims, byte: u8) -> bool
+    ensures { result ≡ is_in_the_way from.now to.now byte }
+{
+    !is_delimiter(from, byte) && is_delimiter(to, byte)
+}
+
+fn is_text_in_the_way(from: &Delims, to: &Delims, text: &[u8]) -> bool
+    ensures { result ≡ is_text_in_the_way from.now to.now text.now }
+{
+    text.iter().any(|byte| is_in_the_way(from, to, *byte))
+}
+
+/// The same of what is kept of an ST.
+fn is_header_blocked(from: &Delims, to: &Delims, header: &SegView<'_>) -> bool
+    ensures { result ≡ list_any (is_text_in_the_way from.now to.now) (kept_parts header.now) }
+{
+    is_text_in_the_way(from, to, header.id()) || are_kept_blocked(from, to, header.elements())
+}
+
+/// The same of an ST's elements but the second.
+fn are_kept_blocked(from: &Delims, to: &Delims, elements: Parts<'_>) -> bool
+    ensures { result ≡ list_any (is_text_in_the_way from.now to.now) (remove elements.entry 1) }
+{
+    let mut left = elements;
+    let first = is_next_blocked(from, to, &mut left);
+    let _number = left.next();
+    let more = are_left_blocked(from, to, left);
+    first || more
+}
+
+fn is_next_blocked(from: &Delims, to: &Delims, left: &mut Parts<'_>) -> bool
+    ensures first { result ≡ list_any (is_text_in_the_way from.now to.now) (take 1 left.old) }
+    ensures rest { left.new ≡ drop 1 left.old }
+{
+    match left.next() {
+        Some(part) => is_text_in_the_way(from, to, part),
+        None => false,
+    }
+}
+
+fn are_left_blocked(from: &Delims, to: &Delims, left: Parts<'_>) -> bool
+    ensures { result ≡ list_any (is_text_in_the_way from.now to.now) left.entry }
+{
+    let mut left = left;
+    left.any(|part| is_text_in_the_way(from, to, part))
+}
+
+/// The same of the first segments of those that are left, `most` of them.
+fn are_segments_blocked(from: &Delims, to: &Delims, mut left: Segments<'_>, most: u64) -> bool
+    ensures { result ≡ list_any (λ seg. is_text_in_the_way from.now to.now seg.bytes) (take most left.entry) }
+{
+    let mut count = most;
+    while count > 0 {
+        match left.next() {
+            Some(seg) => {
+                if is_text_in_the_way(from, to, seg.bytes()) {
+                    return true;
+                }
+            }
+            None => return false,
+        }
+        count -= 1;
+    }
+    false
+}
+
+/// Whether each delimiter of the receiver is one of the source's, so that nothing can be in the way.
+fn are_shared(from: &Delims, to: &Delims) -> bool
+    ensures { result ≡ true → AllShared from.now to.now }
+{
+    let repetition = match to.repetition {
+        Some(separator) => is_delimiter(from, separator),
+        None => true,
+    };
+    repetition
+        && is_delimiter(from, to.element)
+        && is_delimiter(from, to.component)
+        && is_delimiter(from, to.terminator)
+}
+
+/// Whether in what is kept of a set, its SE left aside, a byte stands that is no delimiter there and one of the receiver's.
+pub(crate) fn is_blocked(to: &Delims, placed: &PlacedSet<'_, '_, '_>) -> bool
+    ensures { result ≡ is_blocked to.now placed.now }
+{
+    let from = placed.delims();
+    if are_shared(&from, to) {
+        return false;
+    }
+    is_exactly_blocked(&from, to, placed)
+}
+
+fn is_exactly_blocked(from: &Delims, to: &Delims, placed: &PlacedSet<'_, '_, '_>) -> bool
+    requires { from.now ≡ delims_in placed.now }
+    ensures { result ≡ is_blocked to.now placed.now }
+{
+    let set = placed.set();
+    is_header_blocked(from, to, &set.header)
+        || are_segments_blocked(from, to, placed.behind_header(&set), inner_count(&set))
+}
+
+/// How many segments stand between ST and SE.
+pub(crate) fn inner_count(set: &SetEnvelope<'_>) -> u64
+    ensures { result ≡ (if is_some set.now.trailer then set.now.segments - 2 else set.now.segments - 1) }
+{
+    if set.trailer.is_some() {
+        set.segments.saturating_sub(2)
+    } else {
+        set.segments.saturating_sub(1)
+    }
+}

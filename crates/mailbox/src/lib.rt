@@ -1,0 +1,36 @@
+//! Which transaction sets may be delivered, what becomes of one for a receiver of its route, and what a partner finds in its
+//! mailbox: its delivered sets, numbered anew, in interchanges and groups of its own, in its delimiters. Nothing of the text is
+//! copied but into the mailbox; a delivered set is a place in its interchange.
+//!
+//! Proved:
+//! - `is_deliverable` and `outcome_at` are their definitions: which verdicts, groups and interchanges a set may be delivered from,
+//!   and whether a byte that is kept of it is in the way;
+//! - `render_set` appends a set with ST02 and SE written anew and each delimiter changed to the receiver's;
+//! - `assemble` writes exactly the mailbox of the definition: interchanges that hold as many sets as the partner's cap says,
+//!   numbered behind its acknowledgments, in each the longest groups of sets of one sender, GS01 and GS08, and sets that are
+//!   numbered throughout.
+//!
+//! Source: X12.5, interchange; X12.6, functional group and transaction set; who is sent what, and how it is numbered, is own.
+#![tactic(auto)]
+
+mod assembling;
+mod blocking;
+mod eligible;
+mod group_text;
+mod grouping;
+mod judged;
+mod mapped;
+mod outcome;
+mod placed;
+mod receiving;
+mod render;
+mod standing;
+
+pub use assembling::assemble;
+pub use eligible::{is_deliverable, is_fa};
+pub use judged::JudgedInterchange;
+pub use outcome::Outcome;
+pub use placed::PlacedSet;
+pub use receiving::outcome_at;
+pub use render::render_set;
+pub use standing::GroupStanding;

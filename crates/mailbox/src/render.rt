@@ -1,0 +1,126 @@
+ghost use Rattle.std.specs.Prelude.{◌≡◌, ◌++◌, ◌+◌, ◌≤◌, OnOk, IfOk, OnErr, length, take};
+ghost use Rattle.std.specs.List.{flat_map};
+ghost use Rattle.mailbox.specs.Deliveries.{inner_in};
+ghost use Rattle.mailbox.specs.Judged.{delims_in};
+ghost use Rattle.mailbox.specs.Mailbox.{set_header_text, inner_text, set_trailer_text, set_text};
+
+use crate::blocking::inner_count;
+use crate::mapped::{append_inner, append_mapped_elements, append_next_element};
+use crate::placed::PlacedSet;
+use env_index::SetEnvelope;
+use hub_kinds::NoMemory;
+use itoa::Buffer;
+use x12_bytes::Delims;
+use x12_segs::{SegView, Segments};
+use x12_write::{PaddedNumber, append_segment};
+
+/// Writes a set's ST with its number written anew.
+fn append_set_header(
+    out: &mut Vec<u8>,
+    from: &Delims,
+    to: &Delims,
+    header: &SegView<'_>,
+    number: u32,
+) -> Result<(), NoMemory>
+    ensures { OnOk result (out.new.items ≡ out.old.items ++ set_header_text from.now to.now header.now number) }
+{
+    out.extend_from_slice(b"ST")?;
+    let mut left = header.elements();
+    append_next_element(out, from, to, &mut left)?;
+    let _old_number = left.next();
+    out.push(to.element)?;
+    out.extend_from_slice(PaddedNumber::new(number, 4).bytes())?;
+    append_mapped_elements(out, from, to, left)?;
+    out.push(to.terminator)?;
+    Ok(())
+}
+
+/// Writes the first of the segments that are left, `most` of them, and answers how many there are.
+fn append_inners(
+    out: &mut Vec<u8>,
+    from: &Delims,
+    to: &Delims,
+    mut left: Segments<'_>,
+    most: u64,
+) -> Result<u64, NoMemory>
+    ensures text { OnOk result (out.new.items ≡ out.old.items ++ flat_map (inner_text from.now to.now) (take most left.entry)) }
+    ensures count { IfOk result (λ n. n ≡ length (take most left.entry)) }
+{
+    let mut written = 0;
+    let mut count = most;
+    while count > 0 {
+        match left.next() {
+            Some(seg) => append_inner(out, from, to, &seg)?,
+            None => return Ok(written),
+        }
+        written += 1;
+        count -= 1;
+    }
+    Ok(written)
+}
+
+/// Writes the SE of a set with so many segments.
+fn append_set_trailer(
+    out: &mut Vec<u8>,
+    to: &Delims,
+    segments: u128,
+    number: u32,
+) -> Result<(), NoMemory>
+    ensures { OnOk result (out.new.items ≡ out.old.items ++ set_trailer_text to.now segments number) }
+{
+    let mut count = Buffer::new();
+    let number = PaddedNumber::new(number, 4);
+    append_segment(
+        out,
+        to,
+        b"SE",
+        &[count.format(segments).as_bytes(), number.bytes()],
+    )
+}
+
+/// Writes the ST of a placed set with its number written anew.
+fn append_header_of(
+    out: &mut Vec<u8>,
+    to: &Delims,
+    placed: &PlacedSet<'_, '_, '_>,
+    set: &SetEnvelope<'_>,
+    number: u32,
+) -> Result<(), NoMemory>
+    requires { set.now ≡ placed.now.set }
+    ensures { OnOk result (out.new.items
+        ≡ out.old.items ++ set_header_text (delims_in placed.now) to.now placed.now.set.header number) }
+{
+    append_set_header(out, &placed.delims(), to, &set.header, number)
+}
+
+/// Writes the segments between ST and SE of a placed set, and answers how many there are.
+fn append_inner_of<'a>(
+    out: &mut Vec<u8>,
+    to: &Delims,
+    placed: &PlacedSet<'_, '_, 'a>,
+    set: &SetEnvelope<'a>,
+) -> Result<u64, NoMemory>
+    requires { set.now ≡ placed.now.set }
+    ensures text { OnOk result (out.new.items
+        ≡ out.old.items ++ flat_map (inner_text (delims_in placed.now) to.now) (inner_in placed.now)) }
+    ensures count { IfOk result (λ n. n ≡ length (inner_in placed.now)) }
+{
+    let from = placed.delims();
+    append_inners(out, &from, to, placed.behind_header(set), inner_count(set))
+}
+
+/// Writes a set as it is delivered, as set number `number`, behind what is there: with the receiver's delimiters, ST02 and SE
+/// written anew (X12.6, transaction set header and trailer).
+pub fn render_set(
+    out: &mut Vec<u8>,
+    to: &Delims,
+    placed: &PlacedSet<'_, '_, '_>,
+    number: u32,
+) -> Result<(), NoMemory>
+    ensures { OnOk result (out.new.items ≡ out.old.items ++ set_text to.now placed.now number) }
+{
+    let set = placed.set();
+    append_header_of(out, to, placed, &set, number)?;
+    let inner = append_inner_of(out, to, placed, &set)?;
+    append_set_trailer(out, to, u128::from(inner) + 2, number)
+}

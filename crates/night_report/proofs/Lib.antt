@@ -1,0 +1,8 @@
+mod Adding
+mod Counting
+mod Ending
+mod Spacing
+mod Walking
+mod WorkedClean
+mod WorkedLines
+mod WorkedNights

@@ -1,0 +1,15 @@
+use Rattle.std.proofs.Common.{◌≡◌, ◌++◌, drop}
+use Rattle.std.specs.List.{flat_map}
+use Rattle.night_report.specs.Adding.{added, group_totals}
+use Rattle.night_report.specs.Report.{group_lines, shown_from}
+use Rattle.night_report.proofs.groups.append_groups.Given as goal
+
+abbrev pub invariant-loop-n : goal.invariant-loop-n
+invariant-loop-n l =
+    record {
+      text : l.out.items
+          ++ flat_map (group_lines l.setup) (shown_from l.interchange l.n (drop l.n l.interchange.interchange.content.groups))
+          ≡ l.initial.out.items ++ flat_map (group_lines l.setup) (shown_from l.interchange 0 l.interchange.interchange.content.groups);
+      totals : added (group_totals l.setup) l.totals (shown_from l.interchange l.n (drop l.n l.interchange.interchange.content.groups))
+          ≡ added (group_totals l.setup) l.initial.totals (shown_from l.interchange 0 l.interchange.interchange.content.groups);
+    }

@@ -1,0 +1,13 @@
+use Rattle.std.proofs.Common.{◌≡◌, ◌++◌, map, take}
+use Rattle.std.specs.List.{flat_map, count_by}
+use Rattle.mailbox.specs.Deliveries.{is_held, outcome_at}
+use Rattle.night_report.specs.Report.{outcome_line}
+use Rattle.night_report.proofs.held.append_for_each.Given as goal
+
+abbrev pub invariant-loop-to : goal.invariant-loop-to
+invariant-loop-to l =
+    record {
+      text : l.out.items ≡ l.initial.out.items
+          ++ flat_map (outcome_line l.ordinal) (map (outcome_at l.setup l.placed) (take l.to-index l.route));
+      held : l.held ≡ count_by is_held (map (outcome_at l.setup l.placed) (take l.to-index l.route));
+    }

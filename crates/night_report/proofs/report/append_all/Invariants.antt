@@ -1,0 +1,13 @@
+use Rattle.std.proofs.Common.{◌≡◌, ◌++◌, ◌+◌, drop}
+use Rattle.night_report.specs.Adding.{added, none, interchange_totals}
+use Rattle.night_report.specs.Report.{all_lines}
+use Rattle.night_report.proofs.report.append_all.Given as goal
+
+abbrev pub invariant-loop-i : goal.invariant-loop-i
+invariant-loop-i l =
+    record {
+      text : l.out.items ++ all_lines l.setup (l.i + 1) (drop l.i l.interchanges)
+          ≡ l.initial.out.items ++ all_lines l.setup 1 l.interchanges;
+      totals : added (interchange_totals l.setup) l.totals (drop l.i l.interchanges)
+          ≡ added (interchange_totals l.setup) none l.interchanges;
+    }

@@ -1,0 +1,5 @@
+pub mod Adding
+pub mod AreClean
+pub mod Clean
+pub mod Lines
+pub mod Report

@@ -1,0 +1,111 @@
+-- The report of a night (own), line by line: each interchange (X12.5), each of its groups (X12.6), each set that is held.
+use Rattle.std.specs.Prelude.{ℕ, ◌+◌, Bool, not, List, [], ◌∷◌, ◌++◌, Option, Some, None, if◌then◌else◌}
+use Rattle.std.specs.Prelude.{filter, length, codes, sum_by, count_by, slice_get}
+use Rattle.std.specs.List.{flat_map}
+use Rattle.x12_segs.specs.View.{element_of}
+use Rattle.env_index.specs.Summary.{GroupEntry}
+use Rattle.partner_setup.specs.declared.partner.Partner.{Partner}
+use Rattle.partner_setup.specs.Setup.{SetupValue}
+use Rattle.mailbox.specs.declared.outcome.Outcome.{Outcome}
+use Rattle.mailbox.specs.declared.outcome.Outcome.TheVariants.{DeliveredTo, HeldForDelimiter, HeldForRoute}
+use Rattle.mailbox.specs.declared.standing.GroupStanding.{GroupStanding}
+use Rattle.mailbox.specs.Deliveries.{outcomes, is_held}
+use Rattle.mailbox.specs.Judged.{JudgedValue, PlacedValue, standing_at, is_fa, is_refused, sets_from, all_sets}
+use Rattle.night_report.specs.Lines.{control_shown, interchange_line, notice_line, fa_line, answered_line, held_line, total_line}
+use Rattle.night_report.specs.declared.totals.Totals.{Totals}
+
+abbrev pub name_by : Option Partner → List ℕ
+name_by None = codes "?"
+name_by (Some partner) = partner.name
+
+-- the name of a partner by its place in the setup; of none where there is no partner
+abbrev pub sender_name : SetupValue → (sender : Option ℕ) → List ℕ
+sender_name setup None = codes "?"
+sender_name setup (Some sender) = name_by (slice_get setup.partners sender)
+
+-- a group with its interchange and its standing
+pub record ShownGroup : Type 0 where
+  pub interchange : JudgedValue
+  pub group : GroupEntry
+  pub standing : GroupStanding
+
+-- groups of an interchange, the first of them having this number, counted from 0
+abbrev pub shown_from : JudgedValue → ℕ → List GroupEntry → List ShownGroup
+shown_from x n [] = []
+shown_from x n (group ∷ groups) =
+    record { interchange = x; group = group; standing = standing_at x.standings n } ∷ shown_from x (n + 1) groups
+
+-- the groups of an interchange; none of one that is refused
+abbrev pub groups_shown : JudgedValue → List ShownGroup
+groups_shown x = if is_refused x then [] else shown_from x 0 x.interchange.content.groups
+
+abbrev pub sets_in : ShownGroup → List PlacedValue
+sets_in g = sets_from g.interchange g.group g.standing 0 g.group.sets
+
+-- a group of acknowledgments, or one that is answered
+abbrev pub group_line : GroupEntry → GroupStanding → List ℕ
+group_line group standing =
+    if is_fa group then fa_line (element_of group.header 6) (length group.sets)
+    else answered_line (element_of group.header 1) (element_of group.header 6) standing.verdict (length group.sets)
+    standing.accepted
+
+-- what becomes of set number so and so of a group, counted from 1: nothing is told of one that is delivered
+abbrev pub outcome_line : (ordinal : ℕ) → Outcome → List ℕ
+outcome_line ordinal (DeliveredTo to) = []
+outcome_line ordinal (HeldForDelimiter to) = held_line ordinal (codes "delimiter")
+outcome_line ordinal HeldForRoute = held_line ordinal (codes "route")
+
+abbrev pub held_lines : SetupValue → PlacedValue → List ℕ
+held_lines setup p = flat_map (outcome_line (p.index + 1)) (outcomes setup p)
+
+-- a group, and behind it its sets that are held
+abbrev pub group_lines : SetupValue → ShownGroup → List ℕ
+group_lines setup g = group_line g.group g.standing ++ flat_map (held_lines setup) (sets_in g)
+
+-- its received TA1 and its groups, where an interchange isn't refused
+abbrev pub content_lines : SetupValue → JudgedValue → List ℕ
+content_lines setup x =
+    if is_refused x then [] else notice_line x.interchange.content.notices ++ flat_map (group_lines setup) (groups_shown x)
+
+-- interchange n of the text, counted from 1
+abbrev pub first_line : SetupValue → (n : ℕ) → JudgedValue → List ℕ
+first_line setup n x =
+    interchange_line n x.interchange.start (sender_name setup x.sender) (control_shown x.interchange.header) x.fault
+
+abbrev pub interchange_lines : SetupValue → (n : ℕ) → JudgedValue → List ℕ
+interchange_lines setup n x = first_line setup n x ++ content_lines setup x
+
+abbrev pub all_lines : SetupValue → (n : ℕ) → List JudgedValue → List ℕ
+all_lines setup n [] = []
+all_lines setup n (x ∷ xs) = interchange_lines setup n x ++ all_lines setup (n + 1) xs
+
+abbrev pub is_counted : ShownGroup → Bool
+is_counted g = not (is_fa g.group)
+
+-- the groups that are counted: those that aren't FA, of interchanges that aren't refused
+abbrev pub counted_groups : List JudgedValue → List ShownGroup
+counted_groups xs = filter is_counted (flat_map groups_shown xs)
+
+abbrev pub set_count : ShownGroup → ℕ
+set_count g = length g.group.sets
+
+abbrev pub accepted_count : ShownGroup → ℕ
+accepted_count g = g.standing.accepted
+
+-- how often a set is held
+abbrev pub held_count : SetupValue → PlacedValue → ℕ
+held_count setup p = count_by is_held (outcomes setup p)
+
+abbrev pub totals_of : SetupValue → List JudgedValue → Totals
+totals_of setup xs = record {
+  interchanges = length xs;
+  refused = count_by is_refused xs;
+  groups = length (counted_groups xs);
+  sets = sum_by set_count (counted_groups xs);
+  accepted = sum_by accepted_count (counted_groups xs);
+  held = sum_by (held_count setup) (all_sets xs);
+}
+
+-- the report: what is known of the interchanges of a text, front to back, and how many bytes stand outside of them
+abbrev pub report_text : SetupValue → List JudgedValue → (outside : ℕ) → List ℕ
+report_text setup xs outside = all_lines setup 1 xs ++ total_line (totals_of setup xs) outside

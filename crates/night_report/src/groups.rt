@@ -1,0 +1,158 @@
+ghost use Rattle.std.specs.Prelude.{◌≡◌, ◌++◌, ◌<◌, IfOk, OnOk, length};
+ghost use Rattle.std.specs.List.{flat_map};
+ghost use Rattle.x12_segs.specs.View.{element_of};
+ghost use Rattle.partner_setup.specs.Setup.{route_of};
+ghost use Rattle.mailbox.specs.Judged.{standing_at};
+ghost use Rattle.night_report.specs.Adding as adding;
+ghost use Rattle.night_report.specs.Report as report;
+
+use crate::held::append_held_lines;
+use crate::lines::{append_answered_line, append_fa_line};
+use crate::totals::{Totals, sum};
+use env_index::GroupEnvelope;
+use hub_kinds::{GroupVerdict, NoMemory};
+use mailbox::{GroupStanding, JudgedInterchange, PlacedSet, is_fa};
+use partner_setup::Setup;
+
+/// The verdict on group `n` (AK901).
+fn verdict_at(standings: &[GroupStanding], n: usize) -> GroupVerdict
+    ensures { result ≡ (standing_at standings.now n).verdict }
+{
+    match standings.get(n) {
+        Some(standing) => standing.verdict,
+        None => GroupVerdict::Rejected,
+    }
+}
+
+/// How many sets of group `n` are accepted (AK904).
+fn accepted_at(standings: &[GroupStanding], n: usize) -> u64
+    ensures { result ≡ (standing_at standings.now n).accepted }
+{
+    match standings.get(n) {
+        Some(standing) => standing.accepted,
+        None => 0,
+    }
+}
+
+/// Group `n`, counted from 0.
+fn group_at<'i, 'a>(interchange: &JudgedInterchange<'i, 'a>, n: usize) -> GroupEnvelope<'i, 'a>
+    requires { n < length interchange.now.interchange.content.groups }
+    ensures { result ≡ (adding.shown_at interchange.now n).group }
+{
+    interchange.interchange().group(n)
+}
+
+/// Writes the line of group `n`.
+fn append_group_line(
+    out: &mut Vec<u8>,
+    group: &GroupEnvelope<'_, '_>,
+    standings: &[GroupStanding],
+    n: usize,
+) -> Result<(), NoMemory>
+    ensures { OnOk result (out.new.items
+        ≡ out.old.items ++ report.group_line group.now (standing_at standings.now n)) }
+{
+    let header = group.header();
+    if is_fa(group) {
+        return append_fa_line(out, header.element(6), group.set_count());
+    }
+    append_answered_line(
+        out,
+        header.element(1),
+        header.element(6),
+        verdict_at(standings, n),
+        group.set_count(),
+        accepted_at(standings, n),
+    )
+}
+
+/// Writes a line for each time that a set of group `n` is held, its route being this, and gives how often that is.
+fn append_held_of_group(
+    out: &mut Vec<u8>,
+    setup: &Setup,
+    interchange: &JudgedInterchange<'_, '_>,
+    n: usize,
+    count: usize,
+    route: &[usize],
+) -> Result<u128, NoMemory>
+    requires group { n < length interchange.now.interchange.content.groups }
+    requires sets { count ≡ length (adding.shown_at interchange.now n).group.sets }
+    requires route { route.now ≡ route_of setup.now (element_of (adding.shown_at interchange.now n).group.header 3) }
+    ensures text { OnOk result (out.new.items ≡ out.old.items
+        ++ flat_map (report.held_lines setup.now) (report.sets_in (adding.shown_at interchange.now n))) }
+    ensures held { IfOk result (λ held. held ≡ adding.held_in setup.now (adding.shown_at interchange.now n)) }
+{
+    let mut held = 0u128;
+    for i in 0..count {
+        let placed = PlacedSet::new(interchange, n, i);
+        held = sum(held, append_held_lines(out, setup, &placed, route)?)?;
+    }
+    Ok(held)
+}
+
+/// What is counted of group `n`, of whose sets so many are held.
+fn group_totals(
+    group: &GroupEnvelope<'_, '_>,
+    standings: &[GroupStanding],
+    n: usize,
+    held: u128,
+) -> Totals
+    ensures { result ≡ adding.totals_with group.now (standing_at standings.now n) held }
+{
+    if is_fa(group) {
+        return Totals {
+            interchanges: 0,
+            refused: 0,
+            groups: 0,
+            sets: 0,
+            accepted: 0,
+            held,
+        };
+    }
+    Totals {
+        interchanges: 0,
+        refused: 0,
+        groups: 1,
+        sets: group.set_count() as u128,
+        accepted: u128::from(accepted_at(standings, n)),
+        held,
+    }
+}
+
+/// Writes the lines of group `n`, and gives what is counted of it.
+fn append_group(
+    out: &mut Vec<u8>,
+    setup: &Setup,
+    interchange: &JudgedInterchange<'_, '_>,
+    n: usize,
+) -> Result<Totals, NoMemory>
+    requires { n < length interchange.now.interchange.content.groups }
+    ensures text { OnOk result (out.new.items
+        ≡ out.old.items ++ report.group_lines setup.now (adding.shown_at interchange.now n)) }
+    ensures totals { IfOk result (λ totals. totals ≡ adding.group_totals setup.now (adding.shown_at interchange.now n)) }
+{
+    let group = group_at(interchange, n);
+    append_group_line(out, &group, interchange.standings(), n)?;
+    let route = setup.route_of(group.header().element(3));
+    let held = append_held_of_group(out, setup, interchange, n, group.set_count(), route)?;
+    Ok(group_totals(&group, interchange.standings(), n, held))
+}
+
+/// Writes the lines of an interchange's groups, and gives what is counted with them behind what was counted before.
+pub(crate) fn append_groups(
+    out: &mut Vec<u8>,
+    setup: &Setup,
+    interchange: &JudgedInterchange<'_, '_>,
+    before: Totals,
+) -> Result<Totals, NoMemory>
+    ensures text { OnOk result (out.new.items ≡ out.old.items
+        ++ flat_map (report.group_lines setup.now) (report.shown_from interchange.now 0 interchange.now.interchange.content.groups)) }
+    ensures totals { IfOk result (λ totals. totals ≡ adding.added (adding.group_totals setup.now) before
+        (report.shown_from interchange.now 0 interchange.now.interchange.content.groups)) }
+{
+    let mut totals = before;
+    for n in 0..interchange.interchange().group_count() {
+        totals = totals.with(&append_group(out, setup, interchange, n)?)?;
+    }
+    Ok(totals)
+}

@@ -1,0 +1,22 @@
+//! The report of a night: a line for each interchange, for each of its groups and for each set that is held, and a last
+//! line of totals; and whether a night was clean, read from its report.
+//!
+//! Proved:
+//! - `report_text` is the report of what is known of a text, byte for byte;
+//! - `is_clean` is false exactly where a line of the report tells of something refused or held, or its last line doesn't
+//!   say that nothing stands outside interchanges.
+//!
+//! Source: own; X12.5, interchange control number (ISA13); X12.6, functional group header; 999 guide, AK901 and AK904.
+#![tactic(auto)]
+
+mod clean;
+mod groups;
+mod held;
+mod lines;
+mod named;
+mod report;
+mod spaced;
+mod totals;
+
+pub use clean::is_clean;
+pub use report::report_text;

@@ -1,0 +1,102 @@
+ghost use Rattle.std.specs.Prelude.{◌≡◌, ◌++◌, ◌+◌, IfOk, OnOk};
+ghost use Rattle.mailbox.specs.Judged.{is_refused};
+ghost use Rattle.night_report.specs.Adding as adding;
+ghost use Rattle.night_report.specs.Report as report;
+
+use crate::groups::append_groups;
+use crate::lines::{append_interchange_line, append_notice_line, append_total_line, control_shown};
+use crate::named::sender_name;
+use crate::totals::Totals;
+use hub_kinds::{Items, NoMemory, Text};
+use mailbox::JudgedInterchange;
+use partner_setup::Setup;
+use std::alloc::Global;
+
+/// Writes the line of interchange `n`, counted from 1.
+fn append_first_line(
+    out: &mut Vec<u8>,
+    setup: &Setup,
+    n: usize,
+    interchange: &JudgedInterchange<'_, '_>,
+) -> Result<(), NoMemory>
+    ensures { OnOk result (out.new.items ≡ out.old.items ++ report.first_line setup.now n interchange.now) }
+{
+    let indexed = interchange.interchange();
+    append_interchange_line(
+        out,
+        n,
+        indexed.start(),
+        sender_name(setup, interchange.sender()),
+        control_shown(indexed.header()),
+        interchange.fault(),
+    )
+}
+
+fn is_refused(interchange: &JudgedInterchange<'_, '_>) -> bool
+    ensures { result ≡ is_refused interchange.now }
+{
+    !interchange.fault().is_none()
+}
+
+/// Writes what is told of an interchange behind its line, and gives what is counted of it.
+fn append_content(
+    out: &mut Vec<u8>,
+    setup: &Setup,
+    interchange: &JudgedInterchange<'_, '_>,
+) -> Result<Totals, NoMemory>
+    ensures text { OnOk result (out.new.items ≡ out.old.items ++ report.content_lines setup.now interchange.now) }
+    ensures totals { IfOk result (λ totals. totals ≡ adding.interchange_totals setup.now interchange.now) }
+{
+    if is_refused(interchange) {
+        return Ok(Totals::of_refused());
+    }
+    append_notice_line(out, interchange.interchange().notices())?;
+    append_groups(out, setup, interchange, Totals::of_accepted())
+}
+
+/// Writes the lines of interchange `n`, counted from 1, and gives what is counted of it.
+fn append_interchange(
+    out: &mut Vec<u8>,
+    setup: &Setup,
+    n: usize,
+    interchange: &JudgedInterchange<'_, '_>,
+) -> Result<Totals, NoMemory>
+    ensures text { OnOk result (out.new.items ≡ out.old.items ++ report.interchange_lines setup.now n interchange.now) }
+    ensures totals { IfOk result (λ totals. totals ≡ adding.interchange_totals setup.now interchange.now) }
+{
+    append_first_line(out, setup, n, interchange)?;
+    append_content(out, setup, interchange)
+}
+
+/// Writes the lines of all interchanges, and gives what is counted of them.
+fn append_all(
+    out: &mut Vec<u8>,
+    setup: &Setup,
+    interchanges: &[JudgedInterchange<'_, '_>],
+) -> Result<Totals, NoMemory>
+    ensures text { OnOk result (out.new.items ≡ out.old.items ++ report.all_lines setup.now 1 interchanges.now) }
+    ensures totals { IfOk result (λ totals. totals ≡ report.totals_of setup.now interchanges.now) }
+{
+    let mut totals = Totals::none();
+    for i in 0..interchanges.len() {
+        let of_this = append_interchange(out, setup, i + 1, &interchanges[i])?;
+        totals = totals.with(&of_this)?;
+    }
+    Ok(totals)
+}
+
+/// The report of a night: what is known of each interchange of the text, of its groups, and of the sets that are held, and
+/// last what is counted, with the bytes that stand outside interchanges. The only error is want of memory.
+pub fn report_text(
+    alloc: Global,
+    setup: &Setup,
+    interchanges: &[JudgedInterchange<'_, '_>],
+    outside: u64,
+) -> Result<Text, NoMemory>
+    ensures { IfOk result (λ text. text ≡ report.report_text setup.now interchanges.now outside) }
+{
+    let mut out = Vec::new(alloc);
+    let totals = append_all(&mut out, setup, interchanges)?;
+    append_total_line(&mut out, &totals, outside)?;
+    Ok(Items::from_vec(out))
+}

@@ -1,0 +1,113 @@
+//! Texts that are checked by the setup of the two partners: what is acknowledged, delivered and reported.
+ghost use Rattle.std.specs.List.{All};
+ghost use Rattle.env_index.specs.Spans.{HasSpans};
+
+use super::built::example;
+use checked_text::{CheckedText, check_text, settled_faults};
+use elem_rules::At;
+use env_index::{Index, index_plain};
+use hub_kinds::{NoMemory, within_limit};
+use mailbox::{JudgedInterchange, PlacedSet, assemble};
+use night_report::{is_clean, report_text};
+use partner_setup::Setup;
+use std::alloc::Global;
+use std::test::Fail;
+
+/// An order from ACME to BOLT, and behind it the same interchange again.
+const TWICE: &[u8] =
+    b"ISA*00*          *00*          *01*ACME           *ZZ*HUB            *260228*0900*^*00501*000000007*0*P*>~\
+    GS*PO*ACME*BOLT*20260228*0900*12*X*005010~ST*850*0001~BEG*00~SE*3*0001~GE*1*12~IEA*1*000000007~\
+    ISA*00*          *00*          *01*ACME           *ZZ*HUB            *260228*0900*^*00501*000000007*0*P*>~\
+    GS*PO*ACME*BOLT*20260228*0900*12*X*005010~ST*850*0001~BEG*00~SE*3*0001~GE*1*12~IEA*1*000000007~";
+
+const ACKNOWLEDGED: &[u8] =
+    b"ISA*00*          *00*          *ZZ*HUB            *01*ACME           *260301*1530*^*00501*000000001*0*P*>~\
+    GS*FA*HUB*ACME*20260301*1530*1*X*005010X231~ST*999*0001*005010X231~AK1*PO*12*005010~AK2*850*0001~IK5*A~AK9*A*1*1*1~\
+    SE*6*0001~GE*1*1~IEA*1*000000001~";
+
+const DELIVERED: &[u8] =
+    b"ISA|00|          |00|          |ZZ|HUB            |ZZ|BOLT           |260301|1530|^|00501|000000001|0|P|:!\
+    GS|PO|ACME|BOLT|20260301|1530|1|X|005010!ST|850|0001!BEG|00!SE|3|0001!GE|1|1!IEA|1|000000001!";
+
+const REPORTED: &[u8] = b"interchange 1 at 0 from ACME control 000000007 accepted\n\
+    group PO 12 A sets 1 accepted 1\n\
+    interchange 2 at 201 from ACME control 000000007 refused 9\n\
+    total interchanges 2 refused 1 groups 1 sets 1 accepted 1 held 0 outside 0\n";
+
+fn expect_bytes(found: &[u8], wanted: &[u8]) -> Result<(), Fail> {
+    if found != wanted {
+        return Err("other bytes")?;
+    }
+    Ok(())
+}
+
+/// The mailbox of the second partner, with the first set of an interchange.
+fn delivered(
+    alloc: Global,
+    setup: &Setup,
+    at: &At,
+    interchange: &JudgedInterchange<'_, '_>,
+) -> Result<Vec<u8>, Fail> {
+    let groups = interchange.interchange();
+    if setup.partners().len() < 2 || groups.group_count() == 0 {
+        return Err("no group or no partner")?;
+    }
+    if groups.group(0).set_count() == 0 {
+        return Err("no set")?;
+    }
+    let set = PlacedSet::new(interchange, 0, 0);
+    Ok(assemble(alloc, setup, 1, at, 0, &[set])?)
+}
+
+fn expect_checked(
+    alloc: Global,
+    setup: &Setup,
+    at: &At,
+    checked: &CheckedText<'_, '_>,
+) -> Result<(), Fail> {
+    let interchanges = checked.interchanges.as_slice();
+    let report = report_text(alloc, setup, interchanges, 0)?;
+    expect_bytes(report.as_slice(), REPORTED)?;
+    if is_clean(report.as_slice()) {
+        return Err("clean")?;
+    }
+    let first = interchanges.first().ok_or("no interchange")?;
+    let found = delivered(alloc, setup, at, first)?;
+    expect_bytes(found.as_slice(), DELIVERED)?;
+    let acknowledged = checked
+        .acknowledgments
+        .as_slice()
+        .first()
+        .ok_or("no partner")?;
+    expect_bytes(acknowledged.text(), ACKNOWLEDGED)
+}
+
+/// The text of a settled index, checked.
+fn checked_by<'i, 'a>(
+    alloc: Global,
+    setup: &'a Setup,
+    at: &At,
+    index: &'i Index<'a>,
+) -> Result<CheckedText<'i, 'a>, NoMemory>
+    requires { All (λ e. HasSpans index.now.text e.interchange) index.now.entries }
+{
+    check_text(alloc, setup, at, index)
+}
+
+fn expect_night<'a>(alloc: Global, setup: &'a Setup, text: &'a [u8]) -> Result<(), Fail> {
+    if !within_limit(text.len() as u64) {
+        return Err("too long")?;
+    }
+    let at = At::read(b"202603011530").ok_or("no moment")?;
+    let mut index = index_plain(alloc, text)?;
+    let faults = settled_faults(alloc, setup, &index)?;
+    index.settle(faults.as_slice());
+    let checked = checked_by(alloc, setup, &at, &index)?;
+    expect_checked(alloc, setup, &at, &checked)
+}
+
+#[test]
+fn an_order_and_its_duplicate(rt: HostRuntime) -> Result<(), Fail> {
+    let setup = example(rt.alloc())?;
+    expect_night(rt.alloc(), &setup, TWICE)
+}
