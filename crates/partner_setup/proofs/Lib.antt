@@ -3,6 +3,7 @@ pub mod Marks
 pub mod Naming
 pub mod Sending
 pub mod Sounding
+pub mod Tabling
 pub mod Telling
 mod Worked
 mod WorkedSetup

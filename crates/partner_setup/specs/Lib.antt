@@ -8,3 +8,4 @@ pub mod Setup
 pub mod SetupFaults
 pub mod SetupFile
 pub mod Sound
+pub mod Tables

@@ -7,6 +7,7 @@ ghost use Rattle.partner_setup.specs.SetupFaults as faults;
 
 use crate::delimiters::delims_of;
 use crate::judge::{first_fault, places_of, push_some};
+use crate::keys::places_by_key;
 use crate::names::{place_of, places_by_name};
 use crate::partner::{Partner, Route};
 use crate::rows::{CounterRow, CounterRows, PartnerRow, RouteRow, SetupRows};
@@ -169,6 +170,8 @@ impl Setup {
         } = rows;
         let routes = routes_of(alloc, partners.as_slice(), routes)?;
         let partners = partners_of(alloc, partners, counters.as_slice(), guides.as_slice())?;
-        Ok(Setup::of(hub, partners, routes, guides))
+        let senders = places_by_key(alloc, partners.as_slice())?;
+        let codes = places_by_key(alloc, routes.as_slice())?;
+        Ok(Setup::of(hub, partners, routes, guides, senders, codes))
     }
 }

@@ -13,7 +13,8 @@
 //! - `Setup::counters_text` is the counters file of the next night.
 //!
 //! What is given twice is found by sorting and names by an ordered map, so that the cost of a setup follows its bytes, but
-//! for a logarithm. The look-ups go over the partners, the routes, or a partner's guides.
+//! for a logarithm. A partner is found by its qualifier and id and a route by its code in ordered maps; only a partner's own
+//! guides are gone over.
 //!
 //! Source: own; X12.5, interchange sender and receiver ids and delimiters; X12.6, functional group header.
 #![tactic(auto)]
@@ -27,6 +28,7 @@ mod file_fault;
 mod ids;
 mod judge;
 mod keyed;
+mod keys;
 mod lookup;
 mod names;
 mod partner;

@@ -1,4 +1,4 @@
-ghost use Rattle.std.specs.Prelude.{◌≡◌, ◌&&◌, ℕ, List, false, position, find, option_map, slice_get};
+ghost use Rattle.std.specs.Prelude.{◌≡◌, ◌≤◌, ◌+◌, ◌++◌, [], find, length, option_and_then, option_map, slice_get, take};
 ghost use Rattle.std.specs.List.{list_any};
 ghost use Rattle.std.specs.Option.{option_map_or};
 ghost use Rattle.x12_bytes.specs.Header.{field_of};
@@ -6,23 +6,30 @@ ghost use Rattle.x12_bytes.specs.Spaces.{without_trailing_spaces};
 ghost use Rattle.partner_setup.specs.Names.{those_at};
 ghost use Rattle.partner_setup.specs.Setup as setup;
 
-use crate::partner::{Partner, Route};
+use crate::partner::Route;
 use crate::setup::Setup;
 use guide_tree::Guide;
 use x12_bytes::{Header, without_trailing_spaces};
 
-fn has_id(partner: &Partner, qualifier: &[u8], id: &[u8]) -> bool
-    ensures { result ≡ setup.has_id partner.now qualifier.now id.now }
-{
-    partner.qualifier.as_slice() == qualifier && partner.id.as_slice() == id
-}
+/// The length of a qualifier.
+const QUALIFIER_LEN: usize = 2;
 
-fn with_id(partners: &[Partner], qualifier: &[u8], id: &[u8]) -> Option<usize>
-    ensures { result ≡ position (λ p. setup.has_id p qualifier.now id.now) partners.now }
+/// The greatest length of an id.
+const ID_LEN: usize = 15;
+
+/// A qualifier, and an id behind it.
+fn key_of(qualifier: &[u8], id: &[u8]) -> [u8; 17]
+    requires qualifier { length qualifier.now ≡ 2 }
+    requires id { length id.now ≤ 15 }
+    ensures { take (2 + length id.now) result ≡ qualifier.now ++ id.now }
 {
-    partners
-        .iter()
-        .position(|partner| has_id(partner, qualifier, id))
+    let mut key = [0; QUALIFIER_LEN + ID_LEN];
+    key[0] = qualifier[0];
+    key[1] = qualifier[1];
+    for i in 0..id.len() {
+        key[i + QUALIFIER_LEN] = id[i];
+    }
+    key
 }
 
 /// ISA05.
@@ -39,21 +46,16 @@ fn id_in<'a>(header: &Header<'a>) -> &'a [u8]
     without_trailing_spaces(header.field(6))
 }
 
-fn has_code(route: &Route, code: &[u8]) -> bool
-    ensures { result ≡ setup.has_code code.now route.now }
+fn targets_at<'s>(routes: &'s [Route], place: Option<usize>) -> &'s [usize]
+    ensures { result.now ≡ option_map_or (λ r. r.to) (option_and_then (slice_get routes.entry.now) place) [] }
 {
-    route.code.as_slice() == code
-}
-
-fn targets_in<'s>(routes: &'s [Route], code: &[u8]) -> &'s [usize]
-    ensures { result.now ≡ setup.targets_in routes.entry.now code.now }
-{
-    for route in routes {
-        if has_code(route, code) {
-            return route.to.as_slice();
-        }
+    let Some(place) = place else {
+        return &[];
+    };
+    match routes.get(place) {
+        None => &[],
+        Some(route) => route.to.as_slice(),
     }
-    &[]
 }
 
 fn guide_at(guides: &[Guide], place: usize) -> Option<&Guide>
@@ -131,10 +133,24 @@ fn first_for_set<'s>(
 }
 
 impl Setup {
-    ghost use Rattle.std.specs.Prelude.{◌≡◌, ◌<◌, IfSome, length, option_map};
+    ghost use Rattle.std.specs.Prelude.{◌≡◌, ◌<◌, IfSome, length, option_map, position};
     ghost use Rattle.partner_setup.specs.Names.{those_at};
     ghost use Rattle.partner_setup.specs.Setup as setup;
     ghost use Rattle.partner_setup.specs.Sound.{AreWithin};
+
+    fn with_id(&self, qualifier: &[u8], id: &[u8]) -> Option<usize>
+        ensures { result ≡ position (λ p. setup.has_id p qualifier.now id.now) self.now.partners }
+    {
+        let _ = self.partners();
+        if qualifier.len() != QUALIFIER_LEN {
+            return None;
+        }
+        if id.len() > ID_LEN {
+            return None;
+        }
+        let key = key_of(qualifier, id);
+        self.place_with_id(&key[..QUALIFIER_LEN + id.len()])
+    }
 
     /// The place of the partner that sends an interchange with this header: ISA05 is its qualifier, ISA06 without trailing
     /// spaces its id (X12.5, interchange sender).
@@ -142,7 +158,7 @@ impl Setup {
         ensures sender { result ≡ setup.sender_of self.now header.now }
         ensures within { IfSome result (λ q. q < length self.now.partners) }
     {
-        with_id(self.partners(), qualifier_in(header), id_in(header))
+        self.with_id(qualifier_in(header), id_in(header))
     }
 
     /// The places of the partners to whom sets for an application code go (GS03); none without a route.
@@ -150,7 +166,7 @@ impl Setup {
         ensures targets { result.now ≡ setup.route_of self.now code.now }
         ensures within { AreWithin (length self.now.partners) result.now }
     {
-        targets_in(self.routes(), code)
+        targets_at(self.routes(), self.place_with_code(code))
     }
 
     /// The places of a partner's guides.

@@ -1,6 +1,8 @@
+use crate::keys::place_in;
 use crate::partner::{Partner, Route};
 use crate::rows::HubRow;
 use guide_tree::Guide;
+use std::collections::BTreeMap;
 use std::marker::Model;
 
 /// The hub, its partners, where sets go, and the guides: accepted, so that nothing is refused of it.
@@ -10,12 +12,16 @@ pub struct Setup {
     partners: Vec<Partner>,
     routes: Vec<Route>,
     guides: Vec<Guide>,
+    sender_places: BTreeMap<Vec<u8>, usize>,
+    route_places: BTreeMap<Vec<u8>, usize>,
 }
 
 impl Model for Setup {
     ghost use Rattle.partner_setup.specs.Setup.{SetupValue};
     ghost use Rattle.guide_tree.specs.contracts.node.Node as node;
     ghost use Rattle.partner_setup.specs.Sound.{IsSoundSetup};
+    ghost use Rattle.partner_setup.specs.Tables.{KeepsPlaces, sender_key, route_key};
+    ghost use Rattle.std.specs.Prelude.{map};
     ghost use Rattle.std.specs.Coded.{codes};
 
     ghost Value = { SetupValue };
@@ -34,11 +40,13 @@ impl Model for Setup {
       partners = s.partners.items;
       routes = s.routes.items;
       guides = s.guides.items;
-    }) };
+    }) × KeepsPlaces s.sender_places 0 (map sender_key s.partners.items) × KeepsPlaces s.route_places 0 (map route_key s.routes.items) };
 }
 
 impl Setup {
-    ghost use Rattle.std.specs.Prelude.{◌≡◌, All, IsTrue, length};
+    ghost use Rattle.std.specs.Prelude.{◌≡◌, All, IsTrue, length, map};
+    ghost use Rattle.partner_setup.specs.Names.{place_of};
+    ghost use Rattle.partner_setup.specs.Tables.{KeepsPlaces, sender_key, route_key};
     ghost use Rattle.partner_setup.specs.Sound.{AreWithin, IsSoundPartner, IsSoundSetup};
     ghost use Rattle.partner_setup.specs.SetupFaults.{are_ids};
 
@@ -47,8 +55,12 @@ impl Setup {
         partners: Vec<Partner>,
         routes: Vec<Route>,
         guides: Vec<Guide>,
+        sender_places: BTreeMap<Vec<u8>, usize>,
+        route_places: BTreeMap<Vec<u8>, usize>,
     ) -> Setup
-        requires { IsSoundSetup (record { hub = hub; partners = partners.items; routes = routes.items; guides = guides.items }) }
+        requires senders { KeepsPlaces sender_places 0 (map sender_key partners.items) }
+        requires codes { KeepsPlaces route_places 0 (map route_key routes.items) }
+        requires sound { IsSoundSetup (record { hub = hub; partners = partners.items; routes = routes.items; guides = guides.items }) }
         ensures { result ≡ record { hub = hub; partners = partners.items; routes = routes.items; guides = guides.items } }
     {
         Setup {
@@ -56,7 +68,23 @@ impl Setup {
             partners,
             routes,
             guides,
+            sender_places,
+            route_places,
         }
+    }
+
+    /// The first place of a partner with a qualifier and an id behind it.
+    pub(crate) fn place_with_id(&self, key: &[u8]) -> Option<usize>
+        ensures { result ≡ place_of (map sender_key self.now.partners) key.now }
+    {
+        place_in(&self.sender_places, key)
+    }
+
+    /// The first place of a route with a code.
+    pub(crate) fn place_with_code(&self, code: &[u8]) -> Option<usize>
+        ensures { result ≡ place_of (map route_key self.now.routes) code.now }
+    {
+        place_in(&self.route_places, code)
     }
 
     /// How the hub is named where it sends. Its qualifier, its id and its code have their forms.

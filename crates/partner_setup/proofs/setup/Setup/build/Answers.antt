@@ -5,8 +5,8 @@ use Rattle.partner_setup.specs.declared.rows.CounterRow.{CounterRow}
 use Rattle.partner_setup.proofs.Sounding.{sound}
 use Rattle.partner_setup.proofs.setup.Setup.build.Goals as goal
 
-pub of-requires : goal.of-requires
-of-requires c =
+pub of-requires-clause-sound : goal.of-requires-clause-sound
+of-requires-clause-sound c =
     let counters : List CounterRow = c.args.counters in
     let guides : List GuideRows = c.args.guides.items in
     let judged = ap (λ (cs : List CounterRow). first_fault c.args.rows cs guides) (sym c.as_slice.ensures)
