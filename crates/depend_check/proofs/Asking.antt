@@ -1,8 +1,11 @@
 -- What is told of dependencies by the uses of their slots is what is told of them by all placed segments.
-use Rattle.std.proofs.Common.{◌≡◌, ◌↔◌, ◌⊎◌, inl, inr, ℕ, zero, suc, true, List, [], ◌∷◌, ◌++◌, sym, ap, subst, ◌∙◌}
-use Rattle.std.proofs.Common.{Option, Some, None}
-use Rattle.std.specs.Prelude.{IfSome, IsSomeAnd, IsTrue}
-use Rattle.std.specs.List.{Contains, list_any, flat_map}
+use Rattle.std.proofs.Common.{◌≡◌, ◌↔◌, ◌⊎◌, inl, inr, refl, ℕ, zero, suc, true, List, [], ◌∷◌, ◌++◌, sym, ap, subst, ◌∙◌}
+use Rattle.std.proofs.Common.{Option, Some, None, true≢false}
+use Rattle.elem_rules.proofs.Members.{no_member}
+use Rattle.std.specs.Prelude.{IfSome, IsSomeAnd, IsTrue, Bool, false, ◌&&◌, is_some}
+use Rattle.std.specs.List.{Contains, list_any, flat_map, filter}
+use Rattle.std.specs.Option.{option_map_or}
+use Rattle.std.specs.Str.{bytes_eq}
 use Rattle.std.proofs.lemmas.List.{append_assoc}
 use Rattle.std.proofs.lemmas.List.Elements.{Contains-append_left, Contains-append_right, Contains-append_cases}
 use Rattle.std.proofs.lemmas.List.Elements.{Contains-push, Contains-push_cases}
@@ -11,13 +14,18 @@ use Rattle.hub_kinds.specs.declared.fault.Fault.{Fault}
 use Rattle.guide_tree.specs.declared.rows.Dependency.{Dependency}
 use Rattle.guide_tree.specs.declared.rows.DependencyKind.{DependencyKind}
 use Rattle.guide_tree.specs.declared.rows.DependencyKind.TheVariants as kind
+use Rattle.guide_tree.specs.Segments.{contains_text, element_of}
 use Rattle.guide_tree.specs.Tree.{Trees}
 use Rattle.loop_match.specs.PlacedSegments.{PlacedSegment}
 use Rattle.depend_check.specs.Dependencies.{is_use, is_trigger, is_triggered, IsBroken}
 use Rattle.depend_check.specs.Found.{faults_of_use, faults_of_slot, faults_of_target}
-use Rattle.depend_check.specs.Uses.{HaveSameUses, HaveSameTarget, IsBrokenAmong, IsFound}
-use Rattle.depend_check.proofs.Lists.{any_with, with_any, same_truth}
+use Rattle.depend_check.specs.Uses.{is_labelled, HaveSameUses, HaveSameTarget, IsBrokenAmong, IsFound, IsFoundBy}
+use Rattle.depend_check.proofs.Lists.{any_with, of_filter, with_any, same_truth}
 use Rattle.depend_check.proofs.Members.{from_target, in_target}
+
+first_holds : (a b : Bool) → (a && b) ≡ true → a ≡ true
+first_holds true b h = refl
+first_holds false b h = cc
 
 turned : (label : List ℕ) (xs ys : List PlacedSegment) → HaveSameUses label xs ys → HaveSameUses label ys xs
 turned label xs ys same p u = ((same p u).1, (same p u).0)
@@ -112,23 +120,93 @@ among_found ts d end ps depends asked f same = (
   λ r. (r.dependency, (same r.dependency).1 (r.listed, r.triggered), r.broken),
 )
 
-triggered_too : (x : Dependency) (xs ys : List PlacedSegment) → ((p : PlacedSegment) → Contains xs p → Contains ys p)
-    → is_triggered x xs ≡ true → is_triggered x ys ≡ true
-triggered_too x xs ys same h = let p = with_any (is_trigger x) xs h in any_with (is_trigger x) ys p.0 (same p.0 p.1) p.2
+triggered_too : (x : Dependency) (xs ys : List PlacedSegment) → HaveSameUses x.slot xs ys → is_triggered x xs ≡ true
+    → is_triggered x ys ≡ true
+triggered_too x xs ys same h =
+    let p = with_any (is_trigger x) xs h in
+    any_with (is_trigger x) ys p.0
+    ((same p.0 (first_holds (is_use x.slot p.0) (contains_text x.codes (element_of p.0.segment x.at)) p.2)).0 p.1)
+    p.2
 
--- the order of placed segments is all the same
+-- other segments than uses, and the order of these, are all the same
 found_too : (ts : Trees) (d : Delims) (end : ℕ) (xs ys : List PlacedSegment) (depends : List Dependency) (f : Fault)
-    → ((p : PlacedSegment) → Contains xs p ↔ Contains ys p) → IsFound ts d end xs depends f → IsFound ts d end ys depends f
+    → ((label : List ℕ) → HaveSameUses label xs ys) → IsFound ts d end xs depends f → IsFound ts d end ys depends f
 found_too ts d end xs ys depends f same r =
     let x = r.dependency in
     record {
       dependency = x;
       listed = r.listed;
-      triggered = triggered_too x xs ys (λ p c. (same p).0 c) r.triggered;
-      broken = broken_too ts d end xs ys x.target x.kind x.element f (λ p u. same p) r.broken;
+      triggered = triggered_too x xs ys (same x.slot) r.triggered;
+      broken = broken_too ts d end xs ys x.target x.kind x.element f (same x.target) r.broken;
     }
 
 pub found_of : (ts : Trees) (d : Delims) (end : ℕ) (xs ys : List PlacedSegment) (depends : List Dependency) (f : Fault)
-    → ((p : PlacedSegment) → Contains xs p ↔ Contains ys p) → IsFound ts d end xs depends f ↔ IsFound ts d end ys depends f
-found_of ts d end xs ys depends f same =
-    (found_too ts d end xs ys depends f same, found_too ts d end ys xs depends f (λ p. ((same p).1, (same p).0)))
+    → ((label : List ℕ) → HaveSameUses label xs ys) → IsFound ts d end xs depends f ↔ IsFound ts d end ys depends f
+found_of ts d end xs ys depends f same = (
+  found_too ts d end xs ys depends f same,
+  found_too ts d end ys xs depends f (λ label. turned label xs ys (same label)),
+)
+
+-- a use has a label
+label_there : (label : List ℕ) (own : Option (List ℕ)) → option_map_or (λ l. bytes_eq l label) own false ≡ true → is_some own ≡ true
+label_there label None h = cc
+label_there label (Some l) h = refl
+
+-- what has a label, in any order, has the uses
+pub labelled_uses : (all kept : List PlacedSegment) → ((p : PlacedSegment) → Contains kept p ↔ Contains (filter is_labelled all) p)
+    → (label : List ℕ) → HaveSameUses label kept all
+labelled_uses all kept same label p used =
+    let filtered = of_filter is_labelled all p in (
+      λ c. (filtered.0 ((same p).0 c)).0,
+      λ c. (same p).1 (filtered.1 (c, label_there label p.slot.label used)),
+    )
+
+-- one more dependency
+found_before : (ts : Trees) (d : Delims) (end : ℕ) (ps : List PlacedSegment) (ds : List Dependency) (x : Dependency) (f : Fault)
+    → IsFound ts d end ps (ds ++ x ∷ []) f → IsFound ts d end ps ds f ⊎ IsFoundBy ts d end ps x f
+found_before ts d end ps ds x f r = elim (Contains-push_cases ds x r.dependency r.listed) [
+  | inl e ↦ inl (record { dependency = r.dependency; listed = e; triggered = r.triggered; broken = r.broken })
+  | inr e ↦ inr (subst (λ (z : Dependency). IsFoundBy ts d end ps z f) (sym e) (r.triggered, r.broken))
+]
+
+found_behind : (ts : Trees) (d : Delims) (end : ℕ) (ps : List PlacedSegment) (ds : List Dependency) (x : Dependency) (f : Fault)
+    → IsFound ts d end ps ds f ⊎ IsFoundBy ts d end ps x f → IsFound ts d end ps (ds ++ x ∷ []) f
+found_behind ts d end ps ds x f (inl r) = record {
+  dependency = r.dependency;
+  listed = Contains-append_left ds (x ∷ []) r.dependency r.listed;
+  triggered = r.triggered;
+  broken = r.broken;
+}
+found_behind ts d end ps ds x f (inr b) =
+    record { dependency = x; listed = Contains-push ds x; triggered = b.0; broken = b.1 }
+
+pub found_more : (ts : Trees) (d : Delims) (end : ℕ) (ps : List PlacedSegment) (ds all : List Dependency) (x : Dependency)
+    (old new : List Fault) → all ≡ ds ++ x ∷ [] → ((f : Fault) → Contains old f ↔ IsFound ts d end ps ds f)
+    → ((f : Fault) → Contains new f ↔ (Contains old f ⊎ IsFoundBy ts d end ps x f))
+    → (f : Fault) → Contains new f ↔ IsFound ts d end ps all f
+found_more ts d end ps ds all x old new is told added f =
+    subst (λ (l : List Dependency). Contains new f ↔ IsFound ts d end ps l f) (sym is) (
+      λ c. found_behind ts d end ps ds x f (elim ((added f).0 c) [ inl w ↦ inl ((told f).0 w) | inr w ↦ inr w ]),
+      λ h. (added f).1 (elim (found_before ts d end ps ds x f h) [ inl w ↦ inl ((told f).1 w) | inr w ↦ inr w ]),
+    )
+
+pub found_nothing : (ts : Trees) (d : Delims) (end : ℕ) (ps : List PlacedSegment) (f : Fault) → Contains [] f ↔ IsFound ts d end ps [] f
+found_nothing ts d end ps f = (λ c. absurd (no_member f c), λ r. absurd (no_member r.dependency r.listed))
+
+pub same_uses : (label : List ℕ) (ps : List PlacedSegment) → HaveSameUses label ps ps
+same_uses label ps p used = (λ c. c, λ c. c)
+
+-- a dependency that isn't triggered adds nothing
+pub not_found_by : (ts : Trees) (d : Delims) (end : ℕ) (ps : List PlacedSegment) (x : Dependency) (old : List Fault)
+    → is_triggered x ps ≡ false → (f : Fault) → Contains old f ↔ (Contains old f ⊎ IsFoundBy ts d end ps x f)
+not_found_by ts d end ps x old none f =
+    (λ c. inl c, λ h. elim h [ inl c ↦ c | inr b ↦ absurd (true≢false (sym b.0 ∙ none)) ])
+
+-- one that is adds what breaks it
+pub found_by_broken : (ts : Trees) (d : Delims) (end : ℕ) (ps : List PlacedSegment) (x : Dependency) (old new : List Fault)
+    → is_triggered x ps ≡ true → ((f : Fault) → Contains new f ↔ (Contains old f ⊎ IsBroken ts d end ps x.target x.kind x.element f))
+    → (f : Fault) → Contains new f ↔ (Contains old f ⊎ IsFoundBy ts d end ps x f)
+found_by_broken ts d end ps x old new is added f = (
+  λ c. elim ((added f).0 c) [ inl w ↦ inl w | inr b ↦ inr (is, b) ],
+  λ h. (added f).1 (elim h [ inl w ↦ inl w | inr b ↦ inr b.1 ]),
+)

@@ -116,3 +116,14 @@ kept_more test v all i x old new is l told more =
     ∙ ap (λ ys. ys ++ cond (test (v x)) (v x ∷ []) []) told
     ∙ ap (λ y. filter test (take i (map v all)) ++ cond (test y) (y ∷ []) []) (sym e)
     ∙ sym (filter_more test (map v all) i (v x) (omega arith))
+
+kept_view : {X Y : Type 0} (b : Bool) (v : X → Y) (x : X) (xs : List X) (ys : List Y) → map v xs ≡ ys
+    → map v (cond b (x ∷ xs) xs) ≡ cond b (v x ∷ ys) ys
+kept_view true v x xs ys e = ap (λ l. v x ∷ l) e
+kept_view false v x xs ys e = e
+
+-- what a test keeps of a view
+pub filter_view : {X Y : Type 0} (test : Y → Bool) (v : X → Y) (xs : List X) → map v (filter (λ x. test (v x)) xs) ≡ filter test (map v xs)
+filter_view test v [] = refl
+filter_view test v (x ∷ xs) =
+    kept_view (test (v x)) v x (filter (λ y. test (v y)) xs) (filter test (map v xs)) (filter_view test v xs)

@@ -1,5 +1,5 @@
 -- Own: the uses of slots by their labels, what they have in an element, and what is found by them. Private.
-use Rattle.std.specs.Prelude.{ℕ, ◌≡◌, ◌↔◌, IsTrue, Bool, List, [], map, ◌&&◌}
+use Rattle.std.specs.Prelude.{ℕ, ◌≡◌, ◌↔◌, IsTrue, Bool, List, [], map, is_some, ◌&&◌}
 use Rattle.std.specs.BTreeSet.{BTreeSet, contains_by}
 use Rattle.std.specs.Cmp.Lexicographic.{slice_cmp}
 use Rattle.std.specs.List.{Contains, list_any}
@@ -27,6 +27,10 @@ label_at p = label_of p.slot.now
 -- they rise by the labels of their slots
 abbrev pub AreByLabel : List PlacedSeg → Type 0
 AreByLabel placed = IsSortedByKey label_at (slice_cmp nat_cmp) placed
+
+-- its slot has a label, so that a dependency can name it
+abbrev pub is_labelled : PlacedSegment → Bool
+is_labelled p = is_some p.slot.label
 
 -- two lists have the same uses of the slot with a label
 abbrev pub HaveSameUses : (label : List ℕ) → List PlacedSegment → List PlacedSegment → Type 0
@@ -66,3 +70,7 @@ pub record HaveSameTarget (d e : Dependency) : Type 0 where
   pub target : d.target ≡ e.target
   pub kind : d.kind ≡ e.kind
   pub element : d.element ≡ e.element
+
+-- a dependency is triggered by placed segments, and broken
+abbrev pub IsFoundBy : Trees → Delims → (end : ℕ) → List PlacedSegment → Dependency → Fault → Type 0
+IsFoundBy ts delims end placed d f = IsTrue (is_triggered d placed) × IsBroken ts delims end placed d.target d.kind d.element f

@@ -52,7 +52,7 @@ fn in_target_order<'d>(
 }
 
 /// Adds what is told of a target that is needed and has no use.
-fn add_left_out(
+pub fn add_left_out(
     alloc: Global,
     faults: &mut Vec<Fault>,
     nodes: &[Node],

@@ -12,13 +12,17 @@ ghost use Rattle.depend_check.specs.Dependencies.{IsDependencyFault};
 ghost use Rattle.depend_check.specs.Uses.{IsFound};
 
 use crate::asked::find_faults;
-use crate::groups::sort_by_label;
+use crate::few::find_few;
+use crate::groups::{keep_labelled, sort_by_label};
 use guide_tree::{Dependency, Guide, GuideRows, Node};
 use hub_kinds::{Fault, NoMemory, in_order};
 use loop_match::{Placing, placed_segments};
 use std::alloc::Global;
 use x12_bytes::Delims;
 use x12_segs::SegView;
+
+/// How many dependencies each look at all segments: sorting these would cost more.
+const FEW: usize = 4;
 
 /// What is wrong by these dependencies with a body whose segments have these places.
 fn find_in_body(
@@ -33,8 +37,12 @@ fn find_in_body(
         (placed_segments (nodes_view nodes.now) (map elements_of segs.now) (map place_in placing.now.given)) depends.now f) }
 {
     let mut placed = placed_segments(alloc, segs, placing, nodes)?;
-    sort_by_label(&mut placed);
     let end = segs.len() as u64 + 2;
+    if depends.len() <= FEW {
+        return find_few(alloc, nodes, delims, end, placed.as_slice(), depends);
+    }
+    keep_labelled(&mut placed);
+    sort_by_label(&mut placed);
     find_faults(alloc, nodes, delims, end, placed.as_slice(), depends)
 }
 

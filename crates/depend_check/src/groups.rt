@@ -1,10 +1,10 @@
-ghost use Rattle.std.specs.Prelude.{◌≡◌, ◌↔◌};
+ghost use Rattle.std.specs.Prelude.{◌≡◌, ◌↔◌, is_some};
 ghost use Rattle.std.specs.Cmp.Lexicographic.{slice_cmp};
-ghost use Rattle.std.specs.List.{Contains};
+ghost use Rattle.std.specs.List.{Contains, filter};
 ghost use Rattle.std.specs.Ordering.{is_le, is_lt, nat_cmp};
 ghost use Rattle.loop_match.specs.PlacedSegments.{PlacedSegment};
 ghost use Rattle.loop_match.specs.Viewed.{placed_views};
-ghost use Rattle.depend_check.specs.Uses.{label_of, label_at, AreByLabel, HaveSameUses};
+ghost use Rattle.depend_check.specs.Uses.{is_labelled, label_of, label_at, AreByLabel, HaveSameUses};
 
 use guide_tree::Slot;
 use loop_match::PlacedSeg;
@@ -24,6 +24,19 @@ fn by_label(a: &PlacedSeg, b: &PlacedSeg) -> Ordering
     ensures { result ≡ slice_cmp nat_cmp (label_at a.now) (label_at b.now) }
 {
     label_of(a.slot).cmp(label_of(b.slot))
+}
+
+fn has_a_label(slot: &Slot) -> bool
+    ensures { result ≡ is_some slot.now.label }
+{
+    slot.label.is_some()
+}
+
+/// Lets go of the uses of slots without a label, which no dependency names.
+pub fn keep_labelled(placed: &mut Vec<PlacedSeg>)
+    ensures { placed_views placed.new.items ≡ filter is_labelled (placed_views placed.old.items) }
+{
+    placed.retain(|one| has_a_label(one.slot));
 }
 
 /// Brings placed segments into the order of their slots' labels, so that the uses of a slot stand side by side.

@@ -20,6 +20,7 @@
 mod asked;
 mod check;
 mod fault;
+mod few;
 mod groups;
 mod seat;
 mod texts;

@@ -2,6 +2,7 @@ pub mod Agreeing
 pub mod Both
 pub mod Bounded
 pub mod Examples
+pub mod Free
 pub mod Keys
 pub mod Looks
 pub mod Marks

@@ -1,14 +1,18 @@
 -- A text without component and repetition separators is its one part, and so are the parts of it.
 use Rattle.std.proofs.Common.{◌≡◌, ℕ, zero, suc, ◌<◌, ◌∙◌, List, [], ◌∷◌, Bool, true, false, cond, length, get_or, refl, ap, sym, arith}
-use Rattle.std.specs.Prelude.{Option, Some, None, ◌==◌, ◌||◌}
-use Rattle.std.specs.List.{list_any, slice_split, onto_first}
+use Rattle.std.specs.Prelude.{Option, Some, None, ◌==◌, ◌||◌, ◌&&◌, not, nat_le}
+use Rattle.std.specs.Bool.{OnTrue}
+use Rattle.std.specs.List.{list_any, list_all, slice_split, onto_first}
 use Rattle.std.specs.Option.{option_map_or}
 use Rattle.std.proofs.lemmas.Bool.{false_from_ne_true}
 use Rattle.memchr.specs.Find.{IsFirstByte, is_byte, is_byte2}
 use Rattle.x12_bytes.specs.declared.delims.Delims.{Delims}
 use Rattle.x12_segs.specs.Parts.{parts, parts_by}
 use Rattle.x12_segs.specs.View.{occurrences, components}
+use Rattle.guide_tree.specs.Bounds.{is_within}
+use Rattle.elem_rules.specs.Clean.{is_odd, is_odd_by, is_strange}
 use Rattle.elem_rules.specs.Divided.{is_inner_separator, is_empty}
+use Rattle.elem_rules.specs.Values.{is_character}
 
 neither : (a b : Bool) → (a || b) ≡ false → (a ≡ false) × (b ≡ false)
 neither true b h = cc
@@ -115,3 +119,57 @@ plain_two delims text separator is h =
     same_tests (is_inner_separator delims) (is_byte2 delims.component separator) text
     (λ x. ap (λ o. (x == delims.component) || option_map_or (λ separator. x == separator) o false) is)
     ∙ none_passes (is_byte2 delims.component separator) text (λ j lt. h j (omega arith) lt)
+
+-- what a look at all bytes finds
+or_same : (b : Bool) → (b || b) ≡ b
+or_same true = refl
+or_same false = refl
+
+inner_byte : (delims : Delims) → delims.repetition ≡ None → (x : ℕ) → is_inner_separator delims x ≡ (x == delims.component)
+inner_byte delims none x =
+    ap (λ o. (x == delims.component) || option_map_or (λ separator. x == separator) o false) none ∙ sym (or_false (x == delims.component))
+
+odd_one : (delims : Delims) → delims.repetition ≡ None → (x : ℕ) → is_odd_by delims.component delims.component x ≡ is_odd delims x
+odd_one delims none x =
+    ap (λ b. b || is_strange x) (or_same (x == delims.component) ∙ sym (inner_byte delims none x))
+
+odd_two : (delims : Delims) (separator : ℕ) → delims.repetition ≡ Some separator → (x : ℕ)
+    → is_odd_by delims.component separator x ≡ is_odd delims x
+odd_two delims separator is x =
+    sym (ap (λ o. ((x == delims.component) || option_map_or (λ separator. x == separator) o false) || is_strange x) is)
+
+pub odd_by_one : (delims : Delims) (text : List ℕ) → delims.repetition ≡ None
+    → list_any (is_odd_by delims.component delims.component) text ≡ list_any (is_odd delims) text
+odd_by_one delims text none = same_tests (is_odd_by delims.component delims.component) (is_odd delims) text (odd_one delims none)
+
+pub odd_by_two : (delims : Delims) (text : List ℕ) (separator : ℕ) → delims.repetition ≡ Some separator
+    → list_any (is_odd_by delims.component separator) text ≡ list_any (is_odd delims) text
+odd_by_two delims text separator is = same_tests (is_odd_by delims.component separator) (is_odd delims) text (odd_two delims separator is)
+
+pub neither_found : (delims : Delims) (text : List ℕ) → list_any (is_odd delims) text ≡ false
+    → IsPlain delims text × (list_any is_strange text ≡ false)
+neither_found delims text h = any_either (is_inner_separator delims) is_strange text h
+
+-- a part of a text is as narrow as the text
+pub narrow_part : (narrow : Bool) (separator : ℕ) (text : List ℕ) (n : ℕ) → OnTrue narrow (list_any is_strange text ≡ false)
+    → OnTrue narrow (list_any is_strange (get_or (parts separator text) n []) ≡ false)
+narrow_part true separator text n h = part_none is_strange (λ b. b == separator) text h n
+narrow_part false separator text n h = tt
+
+-- characters from space to tilde are characters of any row
+both_true : (a b : Bool) → a ≡ true → b ≡ true → (a && b) ≡ true
+both_true true b g h = h
+both_true false b g h = cc
+
+within_wide : (a b : Bool) → not (a || false) ≡ false → (a || b) ≡ true
+within_wide true b h = refl
+within_wide false b h = cc
+
+narrow_character : (wide : Bool) (x : ℕ) → is_strange x ≡ false → is_character wide x ≡ true
+narrow_character wide x h = within_wide (is_within 32 126 x) (wide && nat_le 128 x) h
+
+pub narrow_characters : (wide : Bool) (text : List ℕ) → list_any is_strange text ≡ false → list_all (is_character wide) text ≡ true
+narrow_characters wide [] h = refl
+narrow_characters wide (x ∷ xs) h =
+    let e = neither (is_strange x) (list_any is_strange xs) h in
+    both_true (is_character wide x) (list_all (is_character wide) xs) (narrow_character wide x e.0) (narrow_characters wide xs e.1)

@@ -1,19 +1,47 @@
 -- Own: what a quick look at a segment without component and repetition separators asks for.
 use Rattle.std.specs.Prelude.{ℕ, zero, suc, ◌*◌, ◌%◌, ◌^◌, ◌==◌, ◌&&◌, nat_lt, bit_or, if◌then◌else◌, List, [], ◌∷◌, take, drop, Bool, true}
-use Rattle.std.specs.Prelude.{false, not, ◌||◌, nat_le, length, is_none}
+use Rattle.std.specs.Prelude.{false, not, ◌||◌, nat_le, length, is_none, Option, None}
 use Rattle.std.specs.List.{list_any, list_all, filter}
 use Rattle.std.specs.Int.{bit_at}
 use Rattle.guide_tree.specs.declared.element.Requirement.{Requirement}
 use Rattle.guide_tree.specs.declared.element.Requirement.TheVariants.{Mandatory, Optional}
+use Rattle.guide_tree.specs.declared.element.CodeList.{CodeList}
+use Rattle.guide_tree.specs.declared.element.ElementType.{ElementType}
+use Rattle.guide_tree.specs.declared.element.ElementType.TheVariants.{Text, Identifier}
+use Rattle.guide_tree.specs.declared.element.SimpleRow.{SimpleRow}
 use Rattle.guide_tree.specs.declared.element.Element.{Element}
 use Rattle.guide_tree.specs.declared.element.Element.TheVariants as element
 use Rattle.guide_tree.specs.declared.slot.Relation.{Relation}
 use Rattle.guide_tree.specs.declared.slot.Relation.TheVariants.{Paired, Required, Exclusion, Conditional, ListConditional}
-use Rattle.elem_rules.specs.Values.{value_fault}
+use Rattle.x12_bytes.specs.declared.delims.Delims.{Delims}
+use Rattle.elem_rules.specs.Divided.{is_inner_separator}
+use Rattle.elem_rules.specs.Values.{is_character, value_fault}
+
+-- no character from space to tilde
+abbrev pub is_strange : ℕ → Bool
+is_strange byte = not (is_character false byte)
+
+-- one of two separators, or no character from space to tilde
+abbrev pub is_odd_by : (component separator : ℕ) → ℕ → Bool
+is_odd_by component separator byte = (byte == component || byte == separator) || is_strange byte
+
+-- a component or repetition separator, or no character from space to tilde
+abbrev pub is_odd : Delims → ℕ → Bool
+is_odd delims byte = is_inner_separator delims byte || is_strange byte
 
 abbrev pub is_optional : Requirement → Bool
 is_optional Mandatory = false
 is_optional Optional = true
+
+-- a value whose bytes its type doesn't restrict, and no codes
+abbrev pub is_free : ElementType → Option CodeList → Bool
+is_free Text None = true
+is_free Identifier None = true
+is_free other codes = false
+
+-- such a value, of a length that its row allows
+abbrev pub is_free_text : SimpleRow → List ℕ → Bool
+is_free_text row text = is_free row.data_type row.codes && nat_le row.min (length text) && nat_le (length text) row.max
 
 -- an element may be empty
 abbrev pub fits_empty : Element → Bool

@@ -1,4 +1,4 @@
-ghost use Rattle.std.specs.Prelude.{◌≡◌, ◌≤◌, ◌<◌, ℕ, IsTrue, IfSome, Some, length, drop, false, []};
+ghost use Rattle.std.specs.Prelude.{◌≡◌, ◌≤◌, ◌<◌, ℕ, IsTrue, IfSome, Some, is_none, length, drop, false, []};
 ghost use Rattle.std.specs.Bool.{OnTrue};
 ghost use Rattle.std.specs.List.{list_any, list_all, filter};
 ghost use Rattle.guide_tree.specs.declared.element.Element.{Element as Row};
@@ -10,12 +10,18 @@ ghost use Rattle.x12_segs.specs.View.{elements_of};
 ghost use Rattle.elem_rules.specs.Divided.{is_inner_separator};
 ghost use Rattle.elem_rules.specs.Rows.{nth};
 ghost use Rattle.elem_rules.specs.ElementFaults.{IsElementFault};
-ghost use Rattle.elem_rules.specs.Clean.{is_optional, fits_empty, fits_value, fits, holds, is_set, marked, bits_to, has_bytes};
+ghost use Rattle.elem_rules.specs.Values.{value_fault};
+ghost use Rattle.std.specs.Option.{option_map};
+ghost use Rattle.elem_rules.specs.Clean.{is_optional, fits_empty, fits_value, fits, holds, is_free, is_free_text};
+ghost use Rattle.elem_rules.specs.Clean.{is_set, is_odd, is_odd_by, is_strange, marked, bits_to, has_bytes};
 
 use crate::divided::next_part;
+use crate::form::is_character;
 use crate::presence::{has_present, have_all, marked, present_in};
-use crate::value::value_fault;
-use guide_tree::{Condition, Element, Relation, Requirement, Slot};
+use crate::value::value_fault_by;
+use guide_tree::{
+    CodeList, Condition, Element, ElementType, Relation, Requirement, SimpleRow, Slot,
+};
 use memchr::{memchr, memchr2};
 use x12_bytes::Delims;
 use x12_segs::SegView;
@@ -39,22 +45,55 @@ fn fits_empty(row: &Element) -> bool
     }
 }
 
-fn fits_value(row: &Element, text: &[u8]) -> bool
+/// Whether a value without codes, whose bytes its type doesn't restrict, has a length that its row allows.
+fn is_free_text(row: &SimpleRow, text: &[u8]) -> bool
+    ensures { result ≡ is_free_text row.now text.now }
+{
+    is_free(row.data_type, row.codes.as_ref())
+        && row.min as usize <= text.len()
+        && text.len() <= row.max as usize
+}
+
+fn is_free(data_type: ElementType, codes: Option<&CodeList>) -> bool
+    ensures { result ≡ is_free data_type (option_map (λ listed. listed.now) codes.entry) }
+{
+    match data_type {
+        ElementType::Text | ElementType::Identifier => codes.is_none(),
+        _ => false,
+    }
+}
+
+fn is_good(row: &SimpleRow, text: &[u8], narrow: bool) -> bool
+    requires { OnTrue narrow (list_any is_strange text.now ≡ false) }
+    ensures { result ≡ is_none (value_fault row.now text.now) }
+{
+    if !narrow {
+        return value_fault_by(row, text, false).is_none();
+    }
+    if is_free_text(row, text) {
+        return true;
+    }
+    value_fault_by(row, text, narrow).is_none()
+}
+
+fn fits_value(row: &Element, text: &[u8], narrow: bool) -> bool
+    requires { OnTrue narrow (list_any is_strange text.now ≡ false) }
     ensures { result ≡ fits_value row.now text.now }
 {
     match row {
-        Element::Simple(row, _) => value_fault(row, text).is_none(),
+        Element::Simple(row, _) => is_good(row, text, narrow),
         _ => false,
     }
 }
 
 /// Whether an element without inner separators fits its row.
-fn fits(row: &Element, text: &[u8]) -> bool
+fn fits(row: &Element, text: &[u8], narrow: bool) -> bool
+    requires { OnTrue narrow (list_any is_strange text.now ≡ false) }
     ensures { result ≡ fits row.now text.now }
 {
     match text {
         [] => fits_empty(row),
-        _ => fits_value(row, text),
+        _ => fits_value(row, text, narrow),
     }
 }
 
@@ -68,10 +107,54 @@ fn is_plain(delims: Delims, text: &[u8]) -> bool
     }
 }
 
+fn is_odd(component: u8, separator: u8, byte: u8) -> bool
+    ensures { result ≡ is_odd_by component separator byte }
+{
+    byte == component || byte == separator || !is_character(byte, false)
+}
+
+/// Whether a text has one of two separators, or a byte that is no character from space to tilde. No byte ends the walk, so that
+/// many are looked at together.
+fn has_odd_by(component: u8, separator: u8, text: &[u8]) -> bool
+    ensures { result ≡ list_any (is_odd_by component separator) text.now }
+{
+    let mut found = false;
+    for i in 0..text.len() {
+        found |= is_odd(component, separator, text[i]);
+    }
+    found
+}
+
+/// The same of the component and the repetition separator.
+fn has_odd(delims: Delims, text: &[u8]) -> bool
+    ensures { result ≡ list_any (is_odd delims) text.now }
+{
+    match delims.repetition {
+        None => has_odd_by(delims.component, delims.component, text),
+        Some(separator) => has_odd_by(delims.component, separator, text),
+    }
+}
+
+/// What a look at a segment's bytes shows: nothing where it may have component or repetition separators, else whether all
+/// are surely characters from space to tilde.
+fn look(delims: Delims, text: &[u8]) -> Option<bool>
+    ensures plain { IfSome result (λ _. list_any (is_inner_separator delims) text.now ≡ false) }
+    ensures narrow { IfSome result (λ narrow. OnTrue narrow (list_any is_strange text.now ≡ false)) }
+{
+    if !has_odd(delims, text) {
+        return Some(true);
+    }
+    if is_plain(delims, text) {
+        return Some(false);
+    }
+    None
+}
+
 /// Bit k for each element k that isn't empty, where each element fits its row; `None` where one doesn't, or there are more
 /// elements than rows.
-fn present_if_fit(seg: &SegView, rows: &[Element]) -> Option<u64>
-    requires { length rows.now ≤ 40 }
+fn present_if_fit(seg: &SegView, rows: &[Element], narrow: bool) -> Option<u64>
+    requires few { length rows.now ≤ 40 }
+    requires narrow { OnTrue narrow (list_any is_strange seg.now.bytes ≡ false) }
     ensures bits { IfSome result (λ bits. bits ≡ bits_to (λ k. has_bytes (element_of (elements_of seg.now) k)) (length rows.now)) }
     ensures fit { IfSome result
         (λ _. (k : ℕ) (row : Row) → nth rows.now k ≡ Some row → IsTrue (fits row (element_of (elements_of seg.now) k))) }
@@ -81,7 +164,7 @@ fn present_if_fit(seg: &SegView, rows: &[Element]) -> Option<u64>
     let mut present = 0;
     for k in 0..rows.len() {
         let text = next_part(&mut parts);
-        if !fits(&rows[k], text) {
+        if !fits(&rows[k], text, narrow) {
             return None;
         }
         present = marked(present, k as u32 + 1, !text.is_empty());
@@ -113,6 +196,20 @@ fn hold_all(bits: u64, conditions: &[Condition]) -> bool
     conditions.iter().all(|condition| holds(bits, condition))
 }
 
+/// The same of a segment without component and repetition separators.
+fn fits_slot(seg: &SegView, slot: &Slot, narrow: bool) -> bool
+    requires bounded { IsTrue (is_slot_bounded slot.now) }
+    requires conditions { IsTrue (list_all (is_condition_of slot.now) slot.now.conditions) }
+    requires plain { list_any (is_inner_separator seg.now.delims) seg.now.bytes ≡ false }
+    requires narrow { OnTrue narrow (list_any is_strange seg.now.bytes ≡ false) }
+    ensures { OnTrue result ((f : ElemFault) → IsElementFault seg.now.delims (elements_of seg.now) slot.now f → ⊥) }
+{
+    match present_if_fit(seg, slot.elements.as_slice(), narrow) {
+        None => false,
+        Some(present) => hold_all(present, slot.conditions.as_slice()),
+    }
+}
+
 /// A quick look at a segment, without memory: `true` only where no element has a fault. A clean segment with component or
 /// repetition separators may be answered with `false`.
 pub fn is_clean(seg: &SegView, slot: &Slot) -> bool
@@ -120,11 +217,8 @@ pub fn is_clean(seg: &SegView, slot: &Slot) -> bool
     requires conditions { IsTrue (list_all (is_condition_of slot.now) slot.now.conditions) }
     ensures { OnTrue result ((f : ElemFault) → IsElementFault seg.now.delims (elements_of seg.now) slot.now f → ⊥) }
 {
-    if !is_plain(seg.delims(), seg.bytes()) {
-        return false;
-    }
-    match present_if_fit(seg, slot.elements.as_slice()) {
+    match look(seg.delims(), seg.bytes()) {
         None => false,
-        Some(present) => hold_all(present, slot.conditions.as_slice()),
+        Some(narrow) => fits_slot(seg, slot, narrow),
     }
 }

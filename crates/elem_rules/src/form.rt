@@ -1,12 +1,14 @@
-ghost use Rattle.std.specs.Prelude.{◌≡◌, ◌≤◌, ◌==◌, ◌||◌, Some, None, length, if◌then◌else◌};
-ghost use Rattle.std.specs.List.{list_all, count_by};
+ghost use Rattle.std.specs.Prelude.{◌≡◌, ◌≤◌, ◌==◌, ◌||◌, Some, None, false, true, length, if◌then◌else◌};
+ghost use Rattle.std.specs.List.{list_any, list_all, count_by};
+ghost use Rattle.std.specs.Bool.{OnTrue};
 ghost use Rattle.std.specs.Char.{is_ascii_digit};
+ghost use Rattle.elem_rules.specs.Clean.{is_strange};
 ghost use Rattle.elem_rules.specs.Values.{is_character, without_sign, is_whole, is_point, is_decimal, is_form, value_length};
 
 use crate::calendar::is_digits;
 use guide_tree::ElementType;
 
-fn is_character(byte: u8, wide: bool) -> bool
+pub fn is_character(byte: u8, wide: bool) -> bool
     ensures { result ≡ is_character wide byte }
 {
     matches!(byte, b' '..=b'~') || (wide && byte >= 0x80)
@@ -16,6 +18,17 @@ fn are_characters(text: &[u8], wide: bool) -> bool
     ensures { result ≡ list_all (is_character wide) text.now }
 {
     text.iter().all(|byte| is_character(*byte, wide))
+}
+
+/// The same; where `narrow` is true, they are known to be characters from space to tilde.
+fn are_known_characters(text: &[u8], wide: bool, narrow: bool) -> bool
+    requires { OnTrue narrow (list_any is_strange text.now ≡ false) }
+    ensures { result ≡ list_all (is_character wide) text.now }
+{
+    if narrow {
+        return true;
+    }
+    are_characters(text, wide)
 }
 
 /// A number without the minus sign that it may begin with.
@@ -78,13 +91,14 @@ fn whole_digits(text: &[u8]) -> Option<usize>
 }
 
 /// The length of a value, where it has the bytes and the form that its type allows: its bytes, or the digits of a number,
-/// whose sign and point don't count.
-pub fn measured(data_type: ElementType, wide: bool, text: &[u8]) -> Option<usize>
+/// whose sign and point don't count. Where `narrow` is true, its bytes are known to be characters from space to tilde.
+pub fn measured(data_type: ElementType, wide: bool, text: &[u8], narrow: bool) -> Option<usize>
+    requires { OnTrue narrow (list_any is_strange text.now ≡ false) }
     ensures { result ≡ if is_form data_type wide text.now then Some (value_length data_type text.now) else None }
 {
     match data_type {
         ElementType::Text | ElementType::Identifier => {
-            if are_characters(text, wide) {
+            if are_known_characters(text, wide, narrow) {
                 Some(text.len())
             } else {
                 None

@@ -1,7 +1,10 @@
-ghost use Rattle.std.specs.Prelude.{◌≡◌};
+ghost use Rattle.std.specs.Prelude.{◌≡◌, false};
+ghost use Rattle.std.specs.Bool.{OnTrue};
+ghost use Rattle.std.specs.List.{list_any};
 ghost use Rattle.std.specs.Str.{bytes_eq};
 ghost use Rattle.std.specs.Option.{option_map};
 ghost use Rattle.guide_tree.specs.Segments.{contains_text};
+ghost use Rattle.elem_rules.specs.Clean.{is_strange};
 ghost use Rattle.elem_rules.specs.Values.{code_fault, calendar_fault, value_fault};
 
 use crate::calendar::{is_date, is_time};
@@ -49,7 +52,15 @@ fn calendar_fault(data_type: ElementType, text: &[u8]) -> Option<ElementCode>
 pub fn value_fault(row: &SimpleRow, text: &[u8]) -> Option<ElementCode>
     ensures { result ≡ value_fault row.now text.now }
 {
-    let Some(length) = measured(row.data_type, row.wide, text) else {
+    value_fault_by(row, text, false)
+}
+
+/// The same; where `narrow` is true, the value's bytes are known to be characters from space to tilde.
+pub fn value_fault_by(row: &SimpleRow, text: &[u8], narrow: bool) -> Option<ElementCode>
+    requires { OnTrue narrow (list_any is_strange text.now ≡ false) }
+    ensures { result ≡ value_fault row.now text.now }
+{
+    let Some(length) = measured(row.data_type, row.wide, text, narrow) else {
         return Some(ElementCode::InvalidCharacter);
     };
     if length < row.min as usize {

@@ -1,4 +1,6 @@
-ghost use Rattle.std.specs.Prelude.{◌≡◌};
+ghost use Rattle.std.specs.Prelude.{◌≡◌, false};
+ghost use Rattle.std.specs.Bool.{OnTrue};
+ghost use Rattle.std.specs.Str.{bytes_eq};
 ghost use Rattle.std.specs.List.{list_all};
 ghost use Rattle.x12_segs.specs.View.{elements_of};
 ghost use Rattle.guide_tree.specs.Segments.{contains_text, element_of, fits};
@@ -33,9 +35,31 @@ fn are_picked(picks: &[Pick], seg: &SegView) -> bool
     picks.iter().all(|pick| is_picked(pick, seg))
 }
 
+/// Whether a segment surely has another id: most are told apart by their first byte.
+fn begins_otherwise(id: &[u8], seg: &SegView) -> bool
+    ensures { OnTrue result (bytes_eq id.now (element_of (elements_of seg.now) 0) ≡ false) }
+{
+    let Some(own) = id.first() else {
+        return false;
+    };
+    let Some(byte) = seg.bytes().first() else {
+        return false;
+    };
+    *own != *byte
+}
+
+fn has_id(id: &[u8], seg: &SegView) -> bool
+    ensures { result ≡ bytes_eq id.now (element_of (elements_of seg.now) 0) }
+{
+    if begins_otherwise(id, seg) {
+        return false;
+    }
+    id == seg.id()
+}
+
 /// Whether the segment fits the slot.
 pub fn fits(slot: &Slot, seg: &SegView) -> bool
     ensures { result ≡ fits slot.now (elements_of seg.now) }
 {
-    slot.id.as_slice() == seg.id() && are_picked(slot.picks.as_slice(), seg)
+    has_id(slot.id.as_slice(), seg) && are_picked(slot.picks.as_slice(), seg)
 }

@@ -1,6 +1,6 @@
 -- Which sets are delivered to whom, and which are held, and why (own; X12.6, transaction set).
-use Rattle.std.specs.Prelude.{ℕ, ◌-◌, slice_get, ◌==◌, Bool, true, false, not, ◌&&◌, ◌||◌, List, [], ◌∷◌, Option, Some, None, map}
-use Rattle.std.specs.Prelude.{filter, take, drop, is_some, if◌then◌else◌}
+use Rattle.std.specs.Prelude.{ℕ, ◌≡◌, ◌<◌, ◌-◌, slice_get, ◌==◌, Bool, true, false, not, ◌&&◌, ◌||◌, List, [], ◌∷◌, Option, Some, None}
+use Rattle.std.specs.Prelude.{map, filter, take, drop, is_some, length, if◌then◌else◌}
 use Rattle.std.specs.List.{list_any, remove}
 use Rattle.x12_bytes.specs.declared.delims.Delims.{Delims}
 use Rattle.x12_segs.specs.View.{SegValue, id_of, element_of, elements_of}
@@ -82,3 +82,8 @@ is_delivered_to setup partner p = list_any (is_delivery_to partner) (outcomes se
 -- the sets that are delivered to a partner: all sets, front to back, filtered
 abbrev pub delivered_to : SetupValue → (partner : ℕ) → List JudgedValue → List PlacedValue
 delivered_to setup partner xs = filter (is_delivered_to setup partner) (all_sets xs)
+
+-- for each partner of a setup, by its place, the sets that are delivered to it
+pub record AreDelivered (setup : SetupValue) (xs : List JudgedValue) (lists : List (List PlacedValue)) : Type 0 where
+  pub count : length lists ≡ length setup.partners
+  pub each : (partner : ℕ) → partner < length setup.partners → slice_get lists partner ≡ Some (delivered_to setup partner xs)

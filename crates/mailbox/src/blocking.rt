@@ -1,12 +1,14 @@
 ghost use Rattle.std.specs.Prelude.{◌≡◌, ◌-◌, true, false, is_some, take, drop, if◌then◌else◌};
+ghost use Rattle.std.specs.Bool.{OnTrue};
 ghost use Rattle.std.specs.List.{list_any, remove};
 ghost use Rattle.env_index.specs.declared.entry.SetEnvelope.{SetEnvelope};
 ghost use Rattle.mailbox.specs.Judged.{delims_in};
-ghost use Rattle.mailbox.specs.Deliveries.{is_blocked, is_in_the_way, is_text_in_the_way, kept_parts};
-ghost use Rattle.mailbox.specs.Blocking.{AllShared};
+ghost use Rattle.mailbox.specs.Deliveries.{inner_in, is_blocked, is_in_the_way, is_text_in_the_way, kept_parts};
+ghost use Rattle.mailbox.specs.Blocking.{AllShared, is_foreign, is_foreign_if};
 
 use crate::placed::PlacedSet;
 use env_index::SetEnvelope;
+use memchr::memchr;
 use x12_bytes::Delims;
 use x12_segs::{Parts, SegView, Segments};
 use x12_write::is_delimiter;
@@ -108,8 +110,55 @@ fn is_exactly_blocked(from: &Delims, to: &Delims, placed: &PlacedSet<'_, '_, '_>
     ensures { result ≡ is_blocked to.now placed.now }
 {
     let set = placed.set();
-    is_header_blocked(from, to, &set.header)
-        || are_segments_blocked(from, to, placed.behind_header(&set), inner_count(&set))
+    is_header_blocked(from, to, &set.header) || is_inner_blocked(from, to, placed, &set)
+}
+
+/// The same of the segments between ST and SE. Most sets are seen to be clear without looking at their segments.
+fn is_inner_blocked<'a>(
+    from: &Delims,
+    to: &Delims,
+    placed: &PlacedSet<'_, '_, 'a>,
+    set: &SetEnvelope<'a>,
+) -> bool
+    requires { set.now ≡ placed.now.set }
+    ensures { result ≡ list_any (λ seg. is_text_in_the_way from.now to.now seg.bytes) (inner_in placed.now) }
+{
+    if is_clear(from, to, placed.stretch(set)) {
+        return false;
+    }
+    are_segments_blocked(from, to, placed.behind_header(set), inner_count(set))
+}
+
+/// Whether surely no byte of a text is in the way.
+fn is_clear(from: &Delims, to: &Delims, text: &[u8]) -> bool
+    ensures { OnTrue result (is_text_in_the_way from.now to.now text.now ≡ false) }
+{
+    if !is_passed_over(from, to.element, text) {
+        return false;
+    }
+    if !is_passed_over(from, to.component, text) {
+        return false;
+    }
+    if !is_passed_over(from, to.terminator, text) {
+        return false;
+    }
+    is_repetition_passed_over(from, to.repetition, text)
+}
+
+fn is_repetition_passed_over(from: &Delims, repetition: Option<u8>, text: &[u8]) -> bool
+    ensures { OnTrue result (list_any (is_foreign_if from.now repetition) text.now ≡ false) }
+{
+    match repetition {
+        Some(separator) => is_passed_over(from, separator, text),
+        None => true,
+    }
+}
+
+/// Whether a byte is a delimiter where a text comes from, or doesn't stand in it.
+fn is_passed_over(from: &Delims, byte: u8, text: &[u8]) -> bool
+    ensures { OnTrue result (list_any (is_foreign from.now byte) text.now ≡ false) }
+{
+    is_delimiter(from, byte) || memchr(byte, text).is_none()
 }
 
 /// How many segments stand between ST and SE.

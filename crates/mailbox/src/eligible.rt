@@ -15,7 +15,7 @@ pub fn is_fa(group: &GroupEnvelope<'_, '_>) -> bool
 }
 
 /// A or E.
-fn is_accepted(verdict: Verdict) -> bool
+pub(crate) fn is_accepted(verdict: Verdict) -> bool
     ensures { result ≡ is_accepted verdict }
 {
     match verdict {
@@ -25,7 +25,7 @@ fn is_accepted(verdict: Verdict) -> bool
     }
 }
 
-fn is_refused(interchange: &JudgedInterchange<'_, '_>) -> bool
+pub(crate) fn is_refused(interchange: &JudgedInterchange<'_, '_>) -> bool
     ensures { result ≡ is_refused interchange.now }
 {
     !interchange.fault().is_none()

@@ -5,6 +5,8 @@
 //! Proved:
 //! - `is_deliverable` and `outcome_at` are their definitions: which verdicts, groups and interchanges a set may be delivered from,
 //!   and whether a byte that is kept of it is in the way;
+//! - `deliver` gives each partner exactly the sets that are delivered to it by the definition, front to back, in one pass over the
+//!   sets: those of its routes that may be delivered and aren't held;
 //! - `render_set` appends a set with ST02 and SE written anew and each delimiter changed to the receiver's;
 //! - `assemble` writes exactly the mailbox of the definition: interchanges that hold as many sets as the partner's cap says,
 //!   numbered behind its acknowledgments, in each the longest groups of sets of one sender, GS01 and GS08, and sets that are
@@ -15,9 +17,12 @@
 
 mod assembling;
 mod blocking;
+mod deliveries;
+mod delivering;
 mod eligible;
 mod group_text;
 mod grouping;
+mod inner;
 mod judged;
 mod mapped;
 mod outcome;
@@ -27,6 +32,8 @@ mod render;
 mod standing;
 
 pub use assembling::assemble;
+pub use deliveries::{Delivered, Deliveries};
+pub use delivering::deliver;
 pub use eligible::{is_deliverable, is_fa};
 pub use judged::JudgedInterchange;
 pub use outcome::Outcome;

@@ -7,7 +7,7 @@ use x12_bytes::Delims;
 use x12_segs::{Parts, SegView};
 
 /// A byte of a set, with the delimiters changed to the receiver's.
-fn mapped_byte(from: &Delims, to: &Delims, byte: u8) -> u8
+pub(crate) fn mapped_byte(from: &Delims, to: &Delims, byte: u8) -> u8
     ensures { result ≡ mapped_byte from.now to.now byte }
 {
     if byte == from.element {
@@ -38,7 +38,16 @@ fn repetition_or(to: &Delims, byte: u8) -> u8
     to.repetition.unwrap_or(byte)
 }
 
-/// Writes bytes of a set with the receiver's delimiters, byte by byte.
+/// Changes the delimiters among bytes of a set to the receiver's.
+pub(crate) fn change(from: Delims, to: Delims, bytes: &mut [u8])
+    ensures { bytes.new ≡ mapped from to bytes.old }
+{
+    for i in 0..bytes.len() {
+        bytes[i] = mapped_byte(&from, &to, bytes[i]);
+    }
+}
+
+/// Writes bytes of a set with the receiver's delimiters.
 fn append_changed(
     out: &mut Vec<u8>,
     from: &Delims,
@@ -47,9 +56,9 @@ fn append_changed(
 ) -> Result<(), NoMemory>
     ensures { OnOk result (out.new.items ≡ out.old.items ++ mapped from.now to.now bytes.now) }
 {
-    for byte in bytes {
-        out.push(mapped_byte(from, to, *byte))?;
-    }
+    let start = out.len();
+    out.extend_from_slice(bytes)?;
+    change(*from, *to, &mut out[start..]);
     Ok(())
 }
 

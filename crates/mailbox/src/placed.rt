@@ -1,4 +1,5 @@
-ghost use Rattle.std.specs.Prelude.{◌≡◌, slice_index_or};
+ghost use Rattle.std.specs.Prelude.{◌≡◌, ℕ, Bool, false, slice_index_or, drop, take};
+ghost use Rattle.std.specs.List.{list_any};
 ghost use Rattle.x12_segs.specs.Spans.{IsSetSpan, span_views};
 ghost use Rattle.hub_kinds.specs.declared.set_codes.Verdict.TheVariants as the_verdict;
 
@@ -29,7 +30,8 @@ impl<'j, 'i, 'a> Model for PlacedSet<'j, 'i, 'a> {
 }
 
 impl<'j, 'i, 'a> PlacedSet<'j, 'i, 'a> {
-    ghost use Rattle.std.specs.Prelude.{◌≡◌, ◌<◌, Some, drop, length, slice_get};
+    ghost use Rattle.std.specs.Prelude.{◌≡◌, ◌<◌, ℕ, Bool, false, Some, drop, length, slice_get};
+    ghost use Rattle.std.specs.List.{list_any};
     ghost use Rattle.env_index.specs.declared.entry.SetEnvelope.{SetEnvelope};
     ghost use Rattle.env_index.specs.Summary.{GroupEntry};
     ghost use Rattle.mailbox.specs.Judged.{delims_in, segments_in, standing_at, verdict_on};
@@ -118,6 +120,17 @@ impl<'j, 'i, 'a> PlacedSet<'j, 'i, 'a> {
         segments
     }
 
+    /// The stretch of the text in which its segments stand.
+    pub(crate) fn stretch(&self, set: &SetEnvelope<'a>) -> &'a [u8]
+        requires { set.now ≡ self.now.set }
+        ensures { (test : ℕ → Bool) → list_any test result.now ≡ false
+            → list_any (λ seg. list_any test seg.bytes) (segments_in self.now) ≡ false }
+    {
+        let interchange = self.interchange.interchange();
+        let span = set.span(interchange.header().delims());
+        stretch_in(self.interchange.text(), &span)
+    }
+
     /// Whether its group has no code (999 guide, AK905).
     pub fn is_clear(&self) -> bool
         ensures { result ≡ self.now.standing.clear }
@@ -147,6 +160,24 @@ fn verdict_at(verdicts: &[Verdict], n: usize) -> Verdict
         Some(verdict) => *verdict,
         None => Verdict::Rejected,
     }
+}
+
+/// The bytes in which the segments of a set's span stand.
+fn stretch_in<'a>(text: &'a [u8], span: &SetSpan) -> &'a [u8]
+    requires { IsSetSpan text.now span.now }
+    ensures { (test : ℕ → Bool) → list_any test result.now ≡ false
+        → list_any (λ seg. list_any test seg.bytes) (span_views text.entry.now span.now) ≡ false }
+{
+    stretch_of(text, span)
+}
+
+/// The bytes of a set's span.
+fn stretch_of<'a>(text: &'a [u8], span: &SetSpan) -> &'a [u8]
+    requires { IsSetSpan text.now span.now }
+    ensures { result.now ≡ drop span.now.start (take span.now.end text.entry.now) }
+{
+    let front = &text[..span.end];
+    &front[span.start..]
 }
 
 /// The segments of a set's span.

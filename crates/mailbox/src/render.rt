@@ -1,17 +1,18 @@
-ghost use Rattle.std.specs.Prelude.{◌≡◌, ◌++◌, ◌+◌, ◌≤◌, OnOk, IfOk, OnErr, length, take};
+ghost use Rattle.std.specs.Prelude.{◌≡◌, ◌++◌, ◌+◌, OnOk, IfOk, OnErr, length};
 ghost use Rattle.std.specs.List.{flat_map};
 ghost use Rattle.mailbox.specs.Deliveries.{inner_in};
 ghost use Rattle.mailbox.specs.Judged.{delims_in};
 ghost use Rattle.mailbox.specs.Mailbox.{set_header_text, inner_text, set_trailer_text, set_text};
 
 use crate::blocking::inner_count;
-use crate::mapped::{append_inner, append_mapped_elements, append_next_element};
+use crate::inner::append_inners;
+use crate::mapped::{append_mapped_elements, append_next_element};
 use crate::placed::PlacedSet;
 use env_index::SetEnvelope;
 use hub_kinds::NoMemory;
 use itoa::Buffer;
 use x12_bytes::Delims;
-use x12_segs::{SegView, Segments};
+use x12_segs::SegView;
 use x12_write::{PaddedNumber, append_segment};
 
 /// Writes a set's ST with its number written anew.
@@ -33,30 +34,6 @@ fn append_set_header(
     append_mapped_elements(out, from, to, left)?;
     out.push(to.terminator)?;
     Ok(())
-}
-
-/// Writes the first of the segments that are left, `most` of them, and answers how many there are.
-fn append_inners(
-    out: &mut Vec<u8>,
-    from: &Delims,
-    to: &Delims,
-    mut left: Segments<'_>,
-    most: u64,
-) -> Result<u64, NoMemory>
-    ensures text { OnOk result (out.new.items ≡ out.old.items ++ flat_map (inner_text from.now to.now) (take most left.entry)) }
-    ensures count { IfOk result (λ n. n ≡ length (take most left.entry)) }
-{
-    let mut written = 0;
-    let mut count = most;
-    while count > 0 {
-        match left.next() {
-            Some(seg) => append_inner(out, from, to, &seg)?,
-            None => return Ok(written),
-        }
-        written += 1;
-        count -= 1;
-    }
-    Ok(written)
 }
 
 /// Writes the SE of a set with so many segments.

@@ -11,9 +11,28 @@ pub(crate) fn find_near(byte: u8, text: &[u8]) -> Option<usize>
     memchr_iter(byte, text).next()
 }
 
-/// The first place of a byte in a text, of any length. A call costs less than its body would in each walk over elements.
-#[inline(never)]
+/// How many bytes are looked at one by one: most elements are shorter.
+const NEAR: usize = 16;
+
+/// The first place of a byte in a text, of any length: near its front by itself, else by a search.
+#[inline(always)]
 pub(crate) fn find(byte: u8, text: &[u8]) -> Option<usize>
+    ensures { IsFirstByte (is_byte byte) text.now result }
+{
+    for at in 0..text.len().min(NEAR) {
+        if text[at] == byte {
+            return Some(at);
+        }
+    }
+    if text.len() <= NEAR {
+        return None;
+    }
+    find_far(byte, text)
+}
+
+/// The same by a search alone. A call costs less than its body would in each walk over elements.
+#[inline(never)]
+fn find_far(byte: u8, text: &[u8]) -> Option<usize>
     ensures { IsFirstByte (is_byte byte) text.now result }
 {
     memchr(byte, text)

@@ -1,11 +1,25 @@
-use Rattle.std.proofs.Common.{◌≡◌, ◌+◌, arith, sym, ◌∙◌}
+use Rattle.std.proofs.Common.{◌≡◌, ◌+◌, arith, sym, subst, ◌∙◌}
+use Rattle.std.specs.Prelude.{ℕ, List, false}
+use Rattle.std.specs.Bool.{OnTrue}
+use Rattle.std.specs.List.{list_any}
 use Rattle.guide_tree.specs.Segments.{element_of}
 use Rattle.x12_segs.specs.View.{elements_of}
+use Rattle.elem_rules.specs.Clean.{is_strange}
 use Rattle.elem_rules.proofs.Members.{nth_within}
+use Rattle.elem_rules.proofs.Plain.{narrow_part}
 use Rattle.elem_rules.proofs.Steps.{left_more}
 use Rattle.elem_rules.proofs.Looks.{element_next, fit_more, bits_more}
 use Rattle.std.proofs.Common.{drop}
 use Rattle.elem_rules.proofs.clean.present_if_fit.Goals as goal
+
+pub fits-requires : goal.fits-requires
+fits-requires c =
+    let seg = c.args.seg.now in
+    let text = c.next_part-text.result.now in
+    let at : text ≡ element_of (elements_of seg) (c.loop-k.k + 1) =
+    element_next (elements_of seg) c.loop-k.parts text c.loop-k.k c.loop-k.invariant.left c.next_part-text.ensures.text in
+    subst (λ (t : List ℕ). OnTrue c.args.narrow (list_any is_strange t ≡ false)) (sym at)
+    (narrow_part c.args.narrow seg.delims.element seg.bytes (c.loop-k.k + 1) c.requires.narrow)
 
 pub loop-k-preserved : goal.loop-k-preserved
 loop-k-preserved c =

@@ -1,0 +1,189 @@
+-- The lists of delivered sets, with a receiver, a set, a group and an interchange more.
+use Rattle.std.proofs.Common.{◌≡◌, ◌<◌, ℕ, zero, suc, ◌+◌, Bool, true, false, cond, not, ◌&&◌, List, [], ◌∷◌, ◌++◌, Some, length}
+use Rattle.std.proofs.Common.{replicate, take, refl, sym, ap, subst, ◌∙◌, arith, append_assoc, append-nil}
+use Rattle.std.specs.Prelude.{slice_get}
+use Rattle.std.specs.List.{filter, list_any}
+use Rattle.std.proofs.lemmas.List.{length-replicate}
+use Rattle.std.proofs.lemmas.List.Concat.{flat_map-append}
+use Rattle.std.proofs.lemmas.List.Elements.{filter-append}
+use Rattle.std.proofs.lemmas.Option.{slice_get_within}
+use Rattle.x12_segs.specs.View.{element_of}
+use Rattle.env_index.specs.declared.entry.SetEnvelope.{SetEnvelope}
+use Rattle.env_index.specs.Summary.{GroupEntry}
+use Rattle.partner_setup.specs.Setup.{SetupValue, route_of}
+use Rattle.mailbox.specs.declared.standing.GroupStanding.{GroupStanding}
+use Rattle.mailbox.specs.Deliveries.{AreDelivered, is_accepted, is_deliverable, is_delivered_to, is_delivery_to, outcomes_on}
+use Rattle.mailbox.specs.Delivering.{HasGrown, HasSent, HasTaken, is_sent_by, may_leave}
+use Rattle.mailbox.specs.Judged.{JudgedValue, PlacedValue, all_sets, groups_from, is_fa, is_refused, sets_from, sets_of, standing_at}
+use Rattle.mailbox.specs.Judged.{verdict_on}
+use Rattle.mailbox.proofs.Replacing.{get_replicated, take_one_more}
+
+abbrev pub Lists : Type 0
+Lists = List (List PlacedValue)
+
+-- nothing is added
+pub grown_none : (by : ℕ → List PlacedValue) (lists : Lists) → ((q : ℕ) → by q ≡ []) → HasGrown by lists lists
+grown_none by lists none = record {
+  count = refl;
+  each = λ q xs there. there ∙ ap (λ (ys : List PlacedValue). Some ys) (sym (append-nil xs)
+      ∙ ap (λ (ys : List PlacedValue). xs ++ ys) (sym (none q)));
+}
+
+-- added is what was said in other words
+pub grown_as : (f g : ℕ → List PlacedValue) (a b : Lists) → ((q : ℕ) → f q ≡ g q) → HasGrown f a b → HasGrown g a b
+grown_as f g a b same grown = record {
+  count = grown.count;
+  each = λ q xs there. grown.each q xs there ∙ ap (λ (ys : List PlacedValue). Some (xs ++ ys)) (same q);
+}
+
+-- one behind the other
+pub grown_twice : (f g : ℕ → List PlacedValue) (a b c : Lists) → HasGrown f a b → HasGrown g b c → HasGrown (λ q. f q ++ g q) a c
+grown_twice f g a b c first second = record {
+  count = second.count ∙ first.count;
+  each = λ q xs there. second.each q (xs ++ f q) (first.each q xs there)
+      ∙ ap (λ (ys : List PlacedValue). Some ys) (append_assoc xs (f q) (g q));
+}
+
+pub taken_none : (setup : SetupValue) (lists : Lists) → HasTaken setup [] lists lists
+taken_none setup lists = grown_none (λ q. []) lists (λ q. refl)
+
+pub taken_more : (setup : SetupValue) (ps qs : List PlacedValue) (a b c : Lists) → HasTaken setup ps a b → HasTaken setup qs b c
+    → HasTaken setup (ps ++ qs) a c
+taken_more setup ps qs a b c first second =
+    grown_as _ _ a c (λ q. sym (filter-append (is_delivered_to setup q) ps qs)) (grown_twice _ _ a b c first second)
+
+taken_as : (setup : SetupValue) (ps qs : List PlacedValue) (a b : Lists) → ps ≡ qs → HasTaken setup ps a b → HasTaken setup qs a b
+taken_as setup ps qs a b same taken = subst (λ (xs : List PlacedValue). HasTaken setup xs a b) same taken
+
+not_delivered : (setup : SetupValue) (q : ℕ) (p : PlacedValue) → is_deliverable p ≡ false → is_delivered_to setup q p ≡ false
+not_delivered setup q p is =
+    ap (λ (b : Bool). list_any (is_delivery_to q) (cond b (outcomes_on setup p (route_of setup (element_of p.group.header 3))) [])) is
+
+and_assoc : (a b c d : Bool) → (a && b && c && d) ≡ (a && (b && c && d))
+and_assoc true b c d = refl
+and_assoc false b c d = refl
+
+as_group : (p : PlacedValue) → is_deliverable p ≡ (is_accepted (verdict_on p) && may_leave p.interchange p.standing p.group)
+as_group p = and_assoc (is_accepted (verdict_on p)) p.standing.clear (not (is_fa p.group)) (not (is_refused p.interchange))
+
+and_false : (b : Bool) → (b && false) ≡ false
+and_false true = refl
+and_false false = refl
+
+-- a set that isn't accepted
+pub taken_rejected : (setup : SetupValue) (p : PlacedValue) (lists : Lists) → is_accepted (verdict_on p) ≡ false
+    → HasTaken setup (p ∷ []) lists lists
+taken_rejected setup p lists is = grown_none _ lists (λ q.
+    ap (λ (b : Bool). cond b (p ∷ []) []) (not_delivered setup q p
+    (as_group p ∙ ap (λ (b : Bool). b && may_leave p.interchange p.standing p.group) is)))
+
+by_route : (setup : SetupValue) (q : ℕ) (p : PlacedValue) (route : List ℕ)
+    → is_sent_by setup p q route ≡ list_any (is_delivery_to q) (outcomes_on setup p route)
+by_route setup q p [] = refl
+by_route setup q p (t ∷ ts) = refl
+
+-- a set that was sent to its route
+pub taken_sent : (setup : SetupValue) (p : PlacedValue) (route : List ℕ) (a b : Lists) → may_leave p.interchange p.standing p.group ≡ true
+    → is_accepted (verdict_on p) ≡ true → route ≡ route_of setup (element_of p.group.header 3)
+    → HasSent setup p route a b → HasTaken setup (p ∷ []) a b
+taken_sent setup p route a b leaves accepted is sent =
+    let deliverable : is_deliverable p ≡ true = as_group p
+    ∙ ap (λ (c : Bool). c && may_leave p.interchange p.standing p.group) accepted ∙ leaves in
+    grown_as _ _ a b (λ q. ap (λ (c : Bool). cond c (p ∷ []) []) (by_route setup q p route
+    ∙ ap (λ (ts : List ℕ). list_any (is_delivery_to q) (outcomes_on setup p ts)) is
+    ∙ sym (ap (λ (c : Bool). list_any (is_delivery_to q) (cond c
+    (outcomes_on setup p (route_of setup (element_of p.group.header 3))) [])) deliverable)))
+    sent
+
+-- a set of a group that no set may leave
+nothing_leaves : (setup : SetupValue) (q : ℕ) (x : JudgedValue) (g : GroupEntry) (standing : GroupStanding) (n : ℕ)
+    (sets : List SetEnvelope)
+    → may_leave x standing g ≡ false → filter (is_delivered_to setup q) (sets_from x g standing n sets) ≡ []
+nothing_leaves setup q x g standing n [] stay = refl
+nothing_leaves setup q x g standing n (set ∷ sets) stay =
+    let p : PlacedValue = record { interchange = x; group = g; standing = standing; index = n; set = set } in
+    ap (λ (b : Bool). cond b (p ∷ filter (is_delivered_to setup q) (sets_from x g standing (n + 1) sets))
+    (filter (is_delivered_to setup q) (sets_from x g standing (n + 1) sets)))
+    (not_delivered setup q p (as_group p ∙ ap (λ (b : Bool). is_accepted (verdict_on p) && b) stay
+    ∙ and_false (is_accepted (verdict_on p))))
+    ∙ nothing_leaves setup q x g standing (n + 1) sets stay
+
+pub taken_stayed : (setup : SetupValue) (x : JudgedValue) (g : GroupEntry) (standing : GroupStanding) (lists : Lists)
+    → may_leave x standing g ≡ false → HasTaken setup (sets_from x g standing 0 g.sets) lists lists
+taken_stayed setup x g standing lists stay = grown_none _ lists (λ q. nothing_leaves setup q x g standing 0 g.sets stay)
+
+sets_snoc : (x : JudgedValue) (g : GroupEntry) (standing : GroupStanding) (n m : ℕ) (sets : List SetEnvelope) (set : SetEnvelope)
+    → n + length sets ≡ m → sets_from x g standing n (sets ++ set ∷ [])
+    ≡ sets_from x g standing n sets ++ (record { interchange = x; group = g; standing = standing; index = m; set = set }) ∷ []
+sets_snoc x g standing n m [] set is = ap (λ (k : ℕ). let p : PlacedValue = record {
+  interchange = x;
+  group = g;
+  standing = standing;
+  index = k;
+  set = set;
+} in p ∷ []) (omega (arith, is))
+sets_snoc x g standing n m (s ∷ sets) set is = ap (λ (ps : List PlacedValue). let p : PlacedValue = record {
+  interchange = x;
+  group = g;
+  standing = standing;
+  index = n;
+  set = s;
+} in p ∷ ps) (sets_snoc x g standing (n + 1) m sets set (omega (arith, is)))
+
+groups_snoc : (x : JudgedValue) (n m : ℕ) (groups : List GroupEntry) (g : GroupEntry) → n + length groups ≡ m
+    → groups_from x n (groups ++ g ∷ []) ≡ groups_from x n groups ++ sets_from x g (standing_at x.standings m) 0 g.sets
+groups_snoc x n m [] g is = append-nil _ ∙ ap (λ (k : ℕ). sets_from x g (standing_at x.standings k) 0 g.sets) (omega (arith, is))
+groups_snoc x n m (h ∷ groups) g is =
+    ap (λ (ps : List PlacedValue). sets_from x h (standing_at x.standings n) 0 h.sets ++ ps)
+    (groups_snoc x (n + 1) m groups g (omega (arith, is)))
+    ∙ sym (append_assoc (sets_from x h (standing_at x.standings n) 0 h.sets) (groups_from x (n + 1) groups)
+    (sets_from x g (standing_at x.standings m) 0 g.sets))
+
+length_take : {A : Type 0} (xs : List A) (i : ℕ) → i < length xs → length (take i xs) ≡ i
+length_take [] i within = absurd (omega (arith, within))
+length_take (x ∷ xs) zero within = refl
+length_take (x ∷ xs) (suc i) within = ap suc (length_take xs i (omega (arith, within)))
+
+-- one set more of a group
+pub set_taken : (setup : SetupValue) (x : JudgedValue) (g : GroupEntry) (standing : GroupStanding) (i : ℕ) (set : SetEnvelope)
+    (p : PlacedValue)
+    (a b c : Lists) → slice_get g.sets i ≡ Some set
+    → p ≡ record { interchange = x; group = g; standing = standing; index = i; set = set }
+    → HasTaken setup (sets_from x g standing 0 (take i g.sets)) a b → HasTaken setup (p ∷ []) b c
+    → HasTaken setup (sets_from x g standing 0 (take (i + 1) g.sets)) a c
+set_taken setup x g standing i set p a b c there is before next =
+    taken_as setup _ _ a c
+    (ap (λ (q : PlacedValue). sets_from x g standing 0 (take i g.sets) ++ q ∷ []) is
+    ∙ sym (sets_snoc x g standing 0 i (take i g.sets) set (omega (arith, length_take g.sets i (slice_get_within g.sets i set there))))
+    ∙ ap (sets_from x g standing 0) (sym (take_one_more g.sets i set there)))
+    (taken_more setup (sets_from x g standing 0 (take i g.sets)) (p ∷ []) a b c before next)
+
+-- one group more of an interchange
+pub group_taken : (setup : SetupValue) (x : JudgedValue) (i : ℕ) (g : GroupEntry) (a b c : Lists)
+    → slice_get x.interchange.content.groups i ≡ Some g
+    → HasTaken setup (groups_from x 0 (take i x.interchange.content.groups)) a b
+    → HasTaken setup (sets_from x g (standing_at x.standings i) 0 g.sets) b c
+    → HasTaken setup (groups_from x 0 (take (i + 1) x.interchange.content.groups)) a c
+group_taken setup x i g a b c there before next =
+    let groups : List GroupEntry = x.interchange.content.groups in
+    taken_as setup _ _ a c
+    (sym (groups_snoc x 0 i (take i groups) g (omega (arith, length_take groups i (slice_get_within groups i g there))))
+    ∙ ap (groups_from x 0) (sym (take_one_more groups i g there)))
+    (taken_more setup (groups_from x 0 (take i groups)) (sets_from x g (standing_at x.standings i) 0 g.sets) a b c before next)
+
+-- one interchange more
+pub interchange_taken : (setup : SetupValue) (xs : List JudgedValue) (i : ℕ) (x : JudgedValue) (a b c : Lists) → slice_get xs i ≡ Some x
+    → HasTaken setup (all_sets (take i xs)) a b → HasTaken setup (sets_of x) b c → HasTaken setup (all_sets (take (i + 1) xs)) a c
+interchange_taken setup xs i x a b c there before next =
+    taken_as setup _ _ a c
+    (sym (ap all_sets (take_one_more xs i x there) ∙ flat_map-append sets_of (take i xs) (x ∷ [])
+    ∙ ap (λ (ps : List PlacedValue). all_sets (take i xs) ++ ps) (append-nil (sets_of x))))
+    (taken_more setup (all_sets (take i xs)) (sets_of x) a b c before next)
+
+-- lists that began empty
+pub all_delivered : (setup : SetupValue) (xs : List JudgedValue) (first lists : Lists) → first ≡ replicate (length setup.partners) []
+    → HasTaken setup (all_sets xs) first lists → AreDelivered setup xs lists
+all_delivered setup xs first lists is taken = record {
+  count = taken.count ∙ ap (λ (ls : Lists). length ls) is ∙ length-replicate (length setup.partners) [];
+  each = λ q within. taken.each q [] (ap (λ (ls : Lists). slice_get ls q) is ∙ get_replicated (length setup.partners) q [] within);
+}

@@ -1,0 +1,117 @@
+ghost use Rattle.std.specs.Prelude.{◌≡◌, ◌==◌, ◌++◌, ◌+◌, ◌≤◌, OnOk, IfOk, length, take, drop, vec_len};
+ghost use Rattle.std.specs.List.{flat_map};
+ghost use Rattle.mailbox.specs.Mailbox.{inner_text, mapped, mapped_byte};
+ghost use Rattle.mailbox.specs.Read.{text_as_read};
+
+use crate::mapped::{append_inner, change, mapped_byte};
+use hub_kinds::NoMemory;
+use x12_bytes::Delims;
+use x12_segs::{SegView, Segments};
+
+/// Writes the first of the segments that are left, `most` of them, each with the receiver's delimiters; answers how many there are.
+fn append_one_by_one(
+    out: &mut Vec<u8>,
+    from: &Delims,
+    to: &Delims,
+    mut left: Segments<'_>,
+    most: u64,
+) -> Result<u64, NoMemory>
+    ensures text { OnOk result (out.new.items ≡ out.old.items ++ flat_map (inner_text from.now to.now) (take most left.entry)) }
+    ensures count { IfOk result (λ n. n ≡ length (take most left.entry)) }
+{
+    let mut written = 0;
+    let mut count = most;
+    while count > 0 {
+        match left.next() {
+            Some(seg) => append_inner(out, from, to, &seg)?,
+            None => return Ok(written),
+        }
+        written += 1;
+        count -= 1;
+    }
+    Ok(written)
+}
+
+/// Writes a segment as it is read, with the terminator of its text.
+fn append_one_as_read(out: &mut Vec<u8>, from: &Delims, seg: &SegView<'_>) -> Result<(), NoMemory>
+    ensures { OnOk result (out.new.items ≡ out.old.items ++ text_as_read from.now seg.now) }
+{
+    out.extend_from_slice(seg.bytes())?;
+    out.push(from.terminator)?;
+    Ok(())
+}
+
+/// Writes them as they are read, each with the terminator of their text.
+fn append_as_read(
+    out: &mut Vec<u8>,
+    from: &Delims,
+    mut left: Segments<'_>,
+    most: u64,
+) -> Result<u64, NoMemory>
+    ensures text { OnOk result (out.new.items ≡ out.old.items ++ flat_map (text_as_read from.now) (take most left.entry)) }
+    ensures count { IfOk result (λ n. n ≡ length (take most left.entry)) }
+{
+    let mut written = 0;
+    let mut count = most;
+    while count > 0 {
+        match left.next() {
+            Some(seg) => append_one_as_read(out, from, &seg)?,
+            None => return Ok(written),
+        }
+        written += 1;
+        count -= 1;
+    }
+    Ok(written)
+}
+
+/// Changes the delimiters to the receiver's from a place on.
+fn change_from(out: &mut Vec<u8>, start: usize, from: &Delims, to: &Delims)
+    requires { start ≤ vec_len out.old }
+    ensures { out.new.items ≡ take start out.old.items ++ mapped from.now to.now (drop start out.old.items) }
+{
+    change(*from, *to, &mut out[start..]);
+}
+
+/// Writes them with the receiver's delimiters, where the terminator becomes the receiver's as any byte does: all are changed at
+/// once, which costs less.
+fn append_together(
+    out: &mut Vec<u8>,
+    from: &Delims,
+    to: &Delims,
+    left: Segments<'_>,
+    most: u64,
+) -> Result<u64, NoMemory>
+    requires { mapped_byte from.now to.now from.now.terminator ≡ to.now.terminator }
+    ensures text { OnOk result (out.new.items ≡ out.old.items ++ flat_map (inner_text from.now to.now) (take most left.entry)) }
+    ensures count { IfOk result (λ n. n ≡ length (take most left.entry)) }
+{
+    let start = out.len();
+    let written = append_as_read(out, from, left, most)?;
+    change_from(out, start, from, to);
+    Ok(written)
+}
+
+/// Whether the terminator becomes the receiver's as any byte does: where no other delimiter is the same byte.
+fn changes_terminator(from: &Delims, to: &Delims) -> bool
+    ensures { result ≡ (mapped_byte from.now to.now from.now.terminator == to.now.terminator) }
+{
+    mapped_byte(from, to, from.terminator) == to.terminator
+}
+
+/// Writes the first of the segments that are left, `most` of them, with the receiver's delimiters; answers how many there are.
+pub(crate) fn append_inners(
+    out: &mut Vec<u8>,
+    from: &Delims,
+    to: &Delims,
+    left: Segments<'_>,
+    most: u64,
+) -> Result<u64, NoMemory>
+    ensures text { OnOk result (out.new.items ≡ out.old.items ++ flat_map (inner_text from.now to.now) (take most left.entry)) }
+    ensures count { IfOk result (λ n. n ≡ length (take most left.entry)) }
+{
+    if changes_terminator(from, to) {
+        append_together(out, from, to, left, most)
+    } else {
+        append_one_by_one(out, from, to, left, most)
+    }
+}
