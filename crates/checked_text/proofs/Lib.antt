@@ -1,10 +1,15 @@
 pub mod Accepted
 pub mod Acknowledging
 pub mod Among
+pub mod Duplicates
+pub mod FirstUses
 pub mod Growing
+pub mod Least
 pub mod Numbering
 pub mod Once
 pub mod Pairing
+pub mod Places
 pub mod Reporting
 pub mod Settling
+pub mod SoundHeaders
 pub mod Starting

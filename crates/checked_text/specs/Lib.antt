@@ -1,6 +1,7 @@
 pub mod Acknowledgments
 pub mod Answers
 pub mod CheckedText
+pub mod FirstUse
 pub mod Known
 pub mod Meets
 pub mod Pairs

@@ -1,8 +1,9 @@
 ghost use Rattle.std.specs.Prelude.{◌≡◌, ℕ, List};
-ghost use Rattle.env_index.specs.Index.{IndexEntry};
+ghost use Rattle.env_index.specs.Index.{IndexEntry, IndexValue, IsIndex};
 ghost use Rattle.partner_setup.specs.Setup.{SetupValue};
 ghost use Rattle.checked_text.specs.Answers.{IsSetAnswer, SentValue};
 ghost use Rattle.checked_text.specs.CheckedText.{AnsweredInterchange, AreAnswered};
+ghost use Rattle.checked_text.specs.FirstUse.{AreToldByFirstUse};
 ghost use Rattle.checked_text.specs.Meets.{IsAcceptedAsItMeets};
 
 /// The interchanges of a text are answered in one way. It does nothing: its contract is the law.
@@ -15,4 +16,10 @@ pub fn answers_are_one()
 /// of its group has its ST02. It does nothing: its contract is the law.
 pub fn accepted_as_it_meets()
     ensures { IsAcceptedAsItMeets }
+{}
+
+/// What is told of earlier numbers (an interchange is a duplicate; AK905 19; IK502 23) is told exactly where the first use of the
+/// number, by the order of places in the text, is an earlier place. It does nothing: its contract is the law.
+pub fn numbers_told_by_first_use()
+    ensures { (text : List ℕ) (setup : SetupValue) (index : IndexValue) → IsIndex text index → AreToldByFirstUse setup index.entries }
 {}

@@ -8,7 +8,9 @@
 //!   standings that it leaves, and the acknowledgments of each partner, byte for byte, are those of these answers;
 //! - `append_acknowledgment` writes the acknowledgment of an interchange, with a 999 for each group but those of acknowledgments;
 //! - the interchanges of a text are answered in one way (`answers_are_one`), and the answer to a set tells that it is accepted
-//!   exactly where the set meets its guide and no earlier set of its group has its ST02 (`accepted_as_it_meets`).
+//!   exactly where the set meets its guide and no earlier set of its group has its ST02 (`accepted_as_it_meets`);
+//! - a duplicate, a group's code 19 and a set's code 23 are told exactly where the first use of the number, by the order of places, is
+//!   an earlier place (`numbers_told_by_first_use`).
 //!
 //! Numbers are looked up in ordered sets, so that the cost follows the bytes but for a logarithm, whatever numbers somebody
 //! chooses. The answers to one interchange are held at a time.
@@ -34,6 +36,6 @@ mod walk;
 pub use acknowledge::append_acknowledgment;
 pub use answered::AnsweredGroup;
 pub use files::Acknowledgments;
-pub use laws::{accepted_as_it_meets, answers_are_one};
+pub use laws::{accepted_as_it_meets, answers_are_one, numbers_told_by_first_use};
 pub use settled::settled_faults;
 pub use walk::{CheckedText, check_text};
