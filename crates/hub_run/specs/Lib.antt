@@ -1,4 +1,6 @@
-pub mod Answers
-pub mod First
-pub mod Seen
-pub mod Known
+pub mod ByPlace
+pub mod Night
+pub mod Quotable
+pub mod ReadBack
+pub mod Responses
+pub mod Told

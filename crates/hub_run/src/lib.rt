@@ -1,35 +1,31 @@
-//! The runs of the hub. So far the first path: a text that is one interchange with one group is answered by
-//! an acknowledgment; no guide is asked for. This crate composes what the crates below it promise.
+//! The run of a whole night: a text, a setup and a moment in; each partner's acknowledgments, mailbox and next counters, and the
+//! report out. This crate composes what the crates below it promise.
 //!
 //! Proved:
-//! - `run_first` answers Ok only for a text that is one interchange without faults 1 to 7, with one group, not
-//!   FA, and nothing outside; what it gives is then the definition's acknowledgment, byte for byte, and the
-//!   group's verdict, and no other reading of the text gives another;
-//! - it refuses a text as too long exactly over 4,294,967,295 bytes (`within_limit`), and as not one only where
-//!   no such reading exists.
-//!
-//! As `trial_acknowledgments` calls it:
-//!
-//! ```
-//! let at = At::read(b"202603011530").ok_or("no moment")?;
-//! match run_first(alloc, text, &at) {
-//!     Ok(first) => Ok(first),
-//!     Err(_) => Err(Fail::from("refused")),
-//! }
-//! ```
+//! - `run_plain` gives the night of the definition: each partner's acknowledgments, byte for byte, its mailbox, whose interchanges
+//!   are numbered behind them, its next counters, and the report; a text, a setup and a moment have one night (`night_is_one`);
+//! - the bytes of its acknowledgments are, one behind the other, those of the interchanges that are answered, with a 999 for each
+//!   group and an AK2 loop for each set; the loop ends with an IK5 whose code is A exactly where the set meets its guide and no
+//!   earlier set of its group has its ST02, and then tells of nothing else (`sets_are_told_as_they_meet`);
+//! - a partner that reads its acknowledgments by its delimiters finds in them ST01, ST02 and IK501 of each of its sets that it is told
+//!   of, in their order, and no other response (`acknowledgments_are_read_as_sets_meet`), where its element separator and terminator
+//!   stand in no name of its guides;
+//! - it refuses a text as too long exactly over 4,294,967,295 bytes (`within_limit`).
 //!
 //! X12.5, interchange; X12.6, functional group and transaction set; 999 guide (005010X231).
 #![tactic(auto)]
 
-mod answers;
-mod envelope;
-mod fault;
-mod first;
-mod group;
-mod reply;
-mod seen;
+mod boxes;
+mod laws;
+mod next;
+mod night;
+mod plain;
+mod run_fault;
+mod writing;
 
-pub use fault::FirstFault;
-pub use first::run_first;
 pub use hub_kinds::within_limit;
-pub use reply::First;
+pub use laws::{acknowledgments_are_read_as_sets_meet, night_is_one, sets_are_told_as_they_meet};
+pub use night::Night;
+pub use night_report::is_clean;
+pub use plain::run_plain;
+pub use run_fault::RunFault;

@@ -1,3 +1,10 @@
 pub mod CommandLine
+pub mod Ending
+pub mod Failing
+pub mod Files
+pub mod OneSetup
 pub mod Reading
+pub mod Refusing
+pub mod SettingUp
+pub mod Writing
 mod WorkedWords

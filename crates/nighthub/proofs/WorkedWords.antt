@@ -3,26 +3,35 @@ use Rattle.std.proofs.Common.{◌≡◌, List, [], ◌∷◌, Some, true, false,
 use Rattle.clap.specs.Words.{Text, fault_of, takes}
 use Rattle.clap.specs.declared.error.kind.ErrorKind.TheVariants.{DisplayHelp, DisplayVersion}
 use Rattle.clap.proofs.OnLiterals.{clap_on_literals}
-use Rattle.nighthub.specs.CommandLine.{hub_app, value_of}
+use Rattle.nighthub.specs.CommandLine.{hub_app, value_of, values_of}
+
+-- all words but those that name guides
+abbrev others : List Text
+others = codes "--counters" ∷ codes "c" ∷ codes "--at" ∷ codes "202603011530" ∷ codes "--in" ∷ codes "i" ∷ codes "--out" ∷ codes "o"
+    ∷ codes "--setup" ∷ codes "s" ∷ []
 
 abbrev words : List Text
-words = codes "--in" ∷ codes "a" ∷ codes "--at" ∷ codes "202603011530" ∷ []
+words = codes "--guide" ∷ codes "g" ∷ codes "--guide" ∷ codes "h" ∷ others
 
 taken : takes hub_app words ≡ true
 unfolding clap_on_literals
 taken = refl
 
-input : value_of (codes "in") words ≡ Some (codes "a")
+guides : values_of words (codes "guide") ≡ Some (codes "g" ∷ codes "h" ∷ [])
 unfolding clap_on_literals
-input = refl
+guides = refl
 
-at : value_of (codes "at") words ≡ Some (codes "202603011530")
+setup : value_of words (codes "setup") ≡ Some (codes "s")
 unfolding clap_on_literals
-at = refl
+setup = refl
 
-without_moment : takes hub_app (codes "--in" ∷ codes "a" ∷ []) ≡ false
+output : value_of words (codes "out") ≡ Some (codes "o")
 unfolding clap_on_literals
-without_moment = refl
+output = refl
+
+without_guide : takes hub_app others ≡ false
+unfolding clap_on_literals
+without_guide = refl
 
 twice : takes hub_app (codes "--in" ∷ codes "b" ∷ words) ≡ false
 unfolding clap_on_literals
@@ -31,6 +40,10 @@ twice = refl
 one_more : takes hub_app (codes "b" ∷ words) ≡ false
 unfolding clap_on_literals
 one_more = refl
+
+unknown : takes hub_app (codes "--workers" ∷ codes "4" ∷ words) ≡ false
+unfolding clap_on_literals
+unknown = refl
 
 help : fault_of hub_app (codes "--help" ∷ []) ≡ DisplayHelp ∷ []
 unfolding clap_on_literals

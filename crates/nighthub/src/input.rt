@@ -5,24 +5,36 @@ use crate::failure::Failure;
 use hub_kinds::LONGEST_TEXT;
 use hub_run::within_limit;
 use std::alloc::Global;
-use std::fs;
 use std::fs::OpenFile;
 use std::io::Read;
 use std::rt::Files;
+use std::{fs, io};
 
 /// The bytes of a file.
-pub fn read_input<R: Files + AllocGlobal>(rt: &R, path: &str) -> Result<Vec<u8>, Failure>
+pub fn read_input<'a, R: Files + AllocGlobal>(rt: &R, path: &str) -> Result<Vec<u8>, Failure<'a>>
     ensures within { IfOk result (λ text. vec_len text ≤ LONGEST_TEXT) }
     ensures err { IfErr result IsOfInput }
 {
-    let file = fs::open(rt, path).map_err(Failure::of_input)?;
-    let said = file.metadata().map_err(Failure::of_input)?.len();
-    read_all(rt.alloc(), file, said)
+    match opened(rt, path) {
+        Ok((file, said)) => read_all(rt.alloc(), file, said),
+        Err(error) => Err(Failure::of_fault(error, Failure::Input)),
+    }
+}
+
+/// A file, and how long it is said to be.
+fn opened<R: Files>(rt: &R, path: &str) -> io::Result<(R::File, u64)> {
+    let file = fs::open(rt, path)?;
+    let said = file.metadata()?.len();
+    Ok((file, said))
 }
 
 /// All bytes of a reader that is said to have so many. If these are too many it isn't read, and never are
 /// more than the most bytes and one held.
-pub fn read_all<I: Read + Drop>(alloc: Global, input: I, said: u64) -> Result<Vec<u8>, Failure>
+pub fn read_all<'a, I: Read + Drop>(
+    alloc: Global,
+    input: I,
+    said: u64,
+) -> Result<Vec<u8>, Failure<'a>>
     ensures all { IfOk result (λ text. IfSome (I.remaining input) (λ bytes. text.items ≡ bytes)) }
     ensures within { IfOk result (λ text. vec_len text ≤ LONGEST_TEXT) }
     ensures too_long { IsErrOf result Failure.InputTooLong
@@ -42,7 +54,11 @@ pub fn read_all<I: Read + Drop>(alloc: Global, input: I, said: u64) -> Result<Ve
 }
 
 /// The first bytes of a reader, the most bytes and one where there are so many.
-fn read_first<I: Read + Drop>(alloc: Global, input: I, room: usize) -> Result<Vec<u8>, Failure>
+fn read_first<'a, I: Read + Drop>(
+    alloc: Global,
+    input: I,
+    room: usize,
+) -> Result<Vec<u8>, Failure<'a>>
     ensures first { IfOk result (λ text. IfSome (I.remaining input)
         (λ bytes. text.items ≡ take (LONGEST_TEXT + 1) bytes)) }
     ensures err { IfErr result IsOfReading }
@@ -50,6 +66,16 @@ fn read_first<I: Read + Drop>(alloc: Global, input: I, room: usize) -> Result<Ve
     let mut text = Vec::with_capacity(alloc, room)?;
     match input.take(LONGEST_TEXT + 1).read_to_end(&mut text) {
         Ok(_) => Ok(text),
-        Err(error) => Err(Failure::of_input(error)),
+        Err(error) => Err(Failure::of_fault(error, Failure::Input)),
     }
+}
+
+/// All bytes of a reader.
+pub fn read_whole<I: Read + Drop>(alloc: Global, input: I) -> io::Result<Vec<u8>>
+    ensures { IfOk result (λ text. IfSome (I.remaining input) (λ bytes. text.items ≡ bytes)) }
+{
+    let mut input = input;
+    let mut text = Vec::new(alloc);
+    input.read_to_end(&mut text)?;
+    Ok(text)
 }

@@ -1,324 +1,253 @@
-use crate::failure::Failure;
-use crate::input::read_all;
+//! Whole nights, each in a folder of its own that is gone when the night is over.
+use crate::examples::{
+    ACME_ACK, ACME_BOX, BOLT_ACK, BOLT_BOX, COUNTERS, H850, H856, NEXT, REPORT, SETUP, TOTAL,
+    TWO_PARTNERS,
+};
 use crate::night::night_main;
 use std::alloc::{AllocError, Global};
+use std::fs;
 use std::fs::OpenFile;
-use std::io::{Read, Write};
 use std::test::Fail;
-use std::{fs, io};
-
-const ORDER: &[u8] =
-    b"ISA*00*          *00*          *01*ACME           *ZZ*HUB            *260228*0900*^*00501*000000007*0*P*>~\
-      GS*PO*ACME*BOLT*20260228*0900*12*X*005010~ST*850*0001~BEG*00*SA*PO100**20260228~PO1*1*5*EA*2.50~SE*4*0001~\
-      GE*1*12~";
-
-const IEA: &[u8] = b"IEA*1*000000007~";
-
-const ORDER_ACCEPTED: &[u8] =
-    b"ISA*00*          *00*          *ZZ*HUB            *01*ACME           *260301*1530*^*00501*000000001*0*P*>~\
-      GS*FA*HUB*ACME*20260301*1530*1*X*005010X231~ST*999*0001*005010X231~AK1*PO*12*005010~AK2*850*0001~IK5*A~\
-      AK9*A*1*1*1~SE*6*0001~GE*1*1~IEA*1*000000001~";
-
-const SET_NUMBERS_WRONG: &[u8] =
-    b"ISA*00*          *00*          *01*ACME           *ZZ*HUB            *260228*0900*^*00501*000000007*0*P*>~\
-      GS*PO*ACME*BOLT*20260228*0900*12*X*005010~ST*850*001~BEG*00*SA*PO100**20260228~PO1*1*5*EA*2.50~SE*5*0002~\
-      GE*1*12~IEA*1*000000007~";
-
-const SET_REJECTED: &[u8] =
-    b"ISA*00*          *00*          *ZZ*HUB            *01*ACME           *260301*1530*^*00501*000000001*0*P*>~\
-      GS*FA*HUB*ACME*20260301*1530*1*X*005010X231~ST*999*0001*005010X231~AK1*PO*12*005010~AK2*850*001~\
-      IK5*R*3*4*7~AK9*R*1*1*0~SE*6*0001~GE*1*1~IEA*1*000000001~";
-
-const SET_SENT_TWICE: &[u8] =
-    b"ISA*00*          *00*          *01*ACME           *ZZ*HUB            *260228*0900*^*00501*000000007*0*P*>~\
-      GS*PO*ACME*BOLT*20260228*0900*12*X*005010~ST*850*0001~BEG*00*SA*PO100**20260228~PO1*1*5*EA*2.50~SE*4*0001~\
-      ST*850*0001~BEG*00*SA*PO100**20260228~PO1*1*5*EA*2.50~SE*4*0001~GE*2*12~IEA*1*000000007~";
-
-const SECOND_SET_REJECTED: &[u8] =
-    b"ISA*00*          *00*          *ZZ*HUB            *01*ACME           *260301*1530*^*00501*000000001*0*P*>~\
-      GS*FA*HUB*ACME*20260301*1530*1*X*005010X231~ST*999*0001*005010X231~AK1*PO*12*005010~AK2*850*0001~IK5*A~\
-      AK2*850*0001~IK5*R*23~AK9*P*2*2*1~SE*8*0001~GE*1*1~IEA*1*000000001~";
-
-const USAGE: &[u8] = b"nighthub: usage\n";
-
-const INPUT: &[u8] = b"nighthub: input\n";
 
 /// What a run gave: its status, and what it printed on standard output and standard error.
-type Answer = (u8, Vec<u8>, Vec<u8>);
+pub type Answer = (u8, Vec<u8>, Vec<u8>);
 
-/// A run by these words.
-fn ran(rt: &HostRuntime, words: &[&str]) -> Answer {
+/// The name of a file, and its bytes.
+pub type NamedBytes = (&'static str, &'static [u8]);
+
+/// The files of the night of the two partners.
+pub const FILES: &[NamedBytes] = &[
+    ("setup.toml", SETUP),
+    ("h850.toml", H850),
+    ("h856.toml", H856),
+    ("counters.toml", COUNTERS),
+    ("in.x12", TWO_PARTNERS),
+];
+
+/// The options, and the files that they name.
+const OPTIONS: &[(&str, &str)] = &[
+    ("--setup", "setup.toml"),
+    ("--guide", "h850.toml"),
+    ("--guide", "h856.toml"),
+    ("--counters", "counters.toml"),
+    ("--in", "in.x12"),
+    ("--out", "out"),
+];
+
+/// The words of a night in this folder.
+pub(crate) fn words_in(alloc: Global, folder: &str) -> Result<Vec<String>, AllocError> {
+    let mut words = Vec::new(alloc);
+    words.push(String::from_str(alloc, "--at")?)?;
+    words.push(String::from_str(alloc, "202603011530")?)?;
+    for (option, file) in OPTIONS {
+        words.push(String::from_str(alloc, option)?)?;
+        words.push(format!(in alloc; "{folder}/{file}")?)?;
+    }
+    Ok(words)
+}
+
+/// Writes files into a folder.
+fn write_files(rt: &HostRuntime, folder: &str, files: &[NamedBytes]) -> Result<(), Fail> {
+    for (name, bytes) in files {
+        let path = format!(in rt.alloc(); "{folder}/{name}")?;
+        fs::write(rt, path.as_str(), *bytes)?;
+    }
+    Ok(())
+}
+
+/// Makes a folder of this name with the files of the night, and one in it for what is written.
+pub(crate) fn make_folder(rt: &HostRuntime, folder: &str) -> Result<(), Fail> {
+    fs::create_dir(rt, folder)?;
+    let out = format!(in rt.alloc(); "{folder}/out")?;
+    fs::create_dir(rt, out.as_str())?;
+    write_files(rt, folder, FILES)
+}
+
+/// A run by the words of this folder.
+pub(crate) fn ran_in(rt: &HostRuntime, folder: &str) -> Result<Answer, Fail> {
+    let words = words_in(rt.alloc(), folder)?;
     let mut out = Vec::new(rt.alloc());
     let mut err = Vec::new(rt.alloc());
-    let status = night_main(rt, words, &mut out, &mut err);
-    (status, out, err)
-}
-
-fn joined(alloc: Global, parts: &[&[u8]]) -> Result<Vec<u8>, AllocError> {
-    let mut bytes = Vec::new(alloc);
-    for part in parts {
-        bytes.extend_from_slice(part)?;
-    }
-    Ok(bytes)
-}
-
-/// A run on a file of these bytes, in a folder of its own that is gone when the run is over.
-fn ran_on(rt: &HostRuntime, folder: &str, bytes: &[u8]) -> Result<Answer, Fail> {
-    fs::create_dir(rt, folder)?;
-    let path = format!(in rt.alloc(); "{folder}/in.edi")?;
-    fs::write(rt, path.as_str(), bytes)?;
-    let answer = ran(rt, &["--in", path.as_str(), "--at", "202603011530"]);
-    fs::remove_dir_all(rt, folder)?;
-    Ok(answer)
+    let status = night_main(rt, words.as_slice(), &mut out, &mut err);
+    Ok((status, out, err))
 }
 
 /// Whether a text is the one that is wanted; if not, it is shown.
-fn same(alloc: Global, found: &[u8], wanted: &[u8]) -> Result<(), Fail> {
+pub(crate) fn same(alloc: Global, found: &[u8], wanted: &[u8]) -> Result<(), Fail> {
     if found == wanted {
         return Ok(());
     }
     Err(Fail::new(String::from_utf8_lossy(alloc, found)?))
 }
 
-fn expect(alloc: Global, answer: &Answer, status: u8, out: &[u8], err: &[u8]) -> Result<(), Fail> {
+/// Whether a run gave this status, and printed this on standard output and on standard error.
+pub(crate) fn expect(
+    alloc: Global,
+    answer: &Answer,
+    status: u8,
+    out: &[u8],
+    err: &[u8],
+) -> Result<(), Fail> {
+    same(alloc, answer.1.as_slice(), out)?;
+    same(alloc, answer.2.as_slice(), err)?;
     if answer.0 != status {
         return Err(Fail::new(format!(in alloc; "status {}", answer.0)?));
     }
-    same(alloc, answer.1.as_slice(), out)?;
-    same(alloc, answer.2.as_slice(), err)
+    Ok(())
 }
 
-/// A folder, the parts of the input, the status, standard output and standard error.
-type Input = (
+/// Whether these files, and no others, stand in the folder's own for what is written.
+pub(crate) fn expect_files(
+    rt: &HostRuntime,
+    folder: &str,
+    files: &[NamedBytes],
+) -> Result<(), Fail> {
+    for (name, bytes) in files {
+        let path = format!(in rt.alloc(); "{folder}/out/{name}")?;
+        let found = fs::read(rt, path.as_str())?;
+        same(rt.alloc(), found.as_slice(), bytes)?;
+        fs::remove_file(rt, path.as_str())?;
+    }
+    let out = format!(in rt.alloc(); "{folder}/out")?;
+    fs::remove_dir(rt, out.as_str())?;
+    Ok(())
+}
+
+/// The files that the night of the two partners writes.
+pub const WRITTEN: &[NamedBytes] = &[
+    ("ACME.ack", ACME_ACK),
+    ("ACME.box", ACME_BOX),
+    ("BOLT.ack", BOLT_ACK),
+    ("BOLT.box", BOLT_BOX),
+    ("report.txt", REPORT),
+    ("counters.toml", NEXT),
+];
+
+/// An order whose numbers, count and control number are wrong.
+const WRONG_NUMBERS: &[u8] =
+    b"ISA*00*          *00*          *01*ACME           *ZZ*HUB            *260228*0900*^*00501*000000007*0*P*>~\
+      GS*PO*ACME*BOLT*20260228*0900*12*X*005010~ST*850*001~BEG*00*SA*PO100**20260228~PO1*1*5*EA*2.50~SE*5*0002~GE*1*12~\
+      IEA*1*000000007~";
+
+const REJECTED: &[u8] =
+    b"ISA*00*          *00*          *ZZ*HUB            *01*ACME           *260301*1530*^*00501*000000001*0*P*>~\
+      GS*FA*HUB*ACME*20260301*1530*1*X*005010X231~ST*999*0001*005010X231~AK1*PO*12*005010~AK2*850*001~IK5*R*3*4*7~\
+      AK9*R*1*1*0~SE*6*0001~GE*1*1~IEA*1*000000001~";
+
+const REJECTED_REPORT: &[u8] = b"interchange 1 at 0 from ACME control 000000007 accepted\n\
+    group PO 12 R sets 1 accepted 0\n\
+    total interchanges 1 refused 0 groups 1 sets 1 accepted 0 held 0 outside 0\n";
+
+const REJECTED_TOTAL: &[u8] =
+    b"total interchanges 1 refused 0 groups 1 sets 1 accepted 0 held 0 outside 0\n";
+
+const REJECTED_NEXT: &[u8] =
+    b"version = 1\n\n[[counter]]\npartner = \"ACME\"\ninterchange = 2\nset = 1\n\n\
+    [[counter]]\npartner = \"BOLT\"\ninterchange = 1\nset = 1\n";
+
+const FIRST: &[u8] = b"version = 1\n\n[[counter]]\npartner = \"ACME\"\ninterchange = 1\nset = 1\n\n\
+    [[counter]]\npartner = \"BOLT\"\ninterchange = 1\nset = 1\n";
+
+const NOTHING: &[u8] =
+    b"total interchanges 0 refused 0 groups 0 sets 0 accepted 0 held 0 outside 0\n";
+
+/// The header, of which one byte is missing.
+const HEADER_CUT_OFF: &[u8] =
+    b"ISA*00*          *00*          *01*ACME           *ZZ*HUB            *260228*0900*^*00501*000000007*0*P*>";
+
+const OUTSIDE: &[u8] =
+    b"total interchanges 0 refused 0 groups 0 sets 0 accepted 0 held 0 outside 62\n";
+
+/// A folder, what came in, the status, what is printed, and the files that are written.
+type NightCase = (
     &'static str,
-    &'static [&'static [u8]],
+    &'static [u8],
     u8,
     &'static [u8],
-    &'static [u8],
+    &'static [NamedBytes],
 );
 
-const INPUTS: &[Input] = &[
-    ("accepted", &[ORDER, IEA], 0, ORDER_ACCEPTED, b""),
-    ("rejected", &[SET_NUMBERS_WRONG], 1, SET_REJECTED, b""),
+const NIGHTS: &[NightCase] = &[
+    ("night_two_partners", TWO_PARTNERS, 0, TOTAL, WRITTEN),
     (
-        "partly_accepted",
-        &[SET_SENT_TWICE],
+        "night_of_nothing",
+        b"",
+        0,
+        NOTHING,
+        &[
+            ("ACME.ack", b""),
+            ("ACME.box", b""),
+            ("BOLT.ack", b""),
+            ("BOLT.box", b""),
+            ("report.txt", NOTHING),
+            ("counters.toml", FIRST),
+        ],
+    ),
+    (
+        "night_rejected",
+        WRONG_NUMBERS,
         1,
-        SECOND_SET_REJECTED,
-        b"",
+        REJECTED_TOTAL,
+        &[
+            ("ACME.ack", REJECTED),
+            ("ACME.box", b""),
+            ("BOLT.ack", b""),
+            ("BOLT.box", b""),
+            ("report.txt", REJECTED_REPORT),
+            ("counters.toml", REJECTED_NEXT),
+        ],
     ),
-    ("empty", &[], 4, b"", INPUT),
-    ("twice", &[ORDER, IEA, ORDER, IEA], 4, b"", INPUT),
-    ("cut_off", &[ORDER], 4, b"", INPUT),
+    (
+        "night_cut_off",
+        HEADER_CUT_OFF,
+        1,
+        OUTSIDE,
+        &[
+            ("ACME.ack", b""),
+            ("ACME.box", b""),
+            ("BOLT.ack", b""),
+            ("BOLT.box", b""),
+            ("report.txt", OUTSIDE),
+            ("counters.toml", FIRST),
+        ],
+    ),
 ];
 
-fn answers_input(rt: &HostRuntime, input: &Input) -> Result<(), Fail> {
-    let (folder, parts, status, out, err) = *input;
-    let bytes = joined(rt.alloc(), parts)?;
-    let answer = ran_on(rt, folder, bytes.as_slice())?;
-    expect(rt.alloc(), &answer, status, out, err)
+fn runs_night(rt: &HostRuntime, night: &NightCase) -> Result<(), Fail> {
+    let (folder, bytes, status, out, files) = *night;
+    make_folder(rt, folder)?;
+    write_files(rt, folder, &[("in.x12", bytes)])?;
+    let answer = ran_in(rt, folder)?;
+    expect(rt.alloc(), &answer, status, out, b"")?;
+    expect_files(rt, folder, files)?;
+    fs::remove_dir_all(rt, folder)?;
+    Ok(())
 }
 
-fn answers_each_input(rt: &HostRuntime, inputs: &[Input]) -> Result<(), Fail> {
-    for input in inputs {
-        answers_input(rt, input)?;
+fn runs_each_night(rt: &HostRuntime, nights: &[NightCase]) -> Result<(), Fail> {
+    for night in nights {
+        runs_night(rt, night)?;
     }
     Ok(())
 }
 
 #[test]
-fn answers_inputs(rt: HostRuntime) -> Result<(), Fail> {
-    answers_each_input(&rt, INPUTS)
+fn writes_nights(rt: HostRuntime) -> Result<(), Fail> {
+    runs_each_night(&rt, NIGHTS)
 }
 
-/// Words, the status, standard output and standard error; the last three words name no file that can be read.
-type Words = (&'static [&'static str], u8, &'static [u8], &'static [u8]);
-
-const WORDS: &[Words] = &[
-    (&[], 2, b"", USAGE),
-    (&["--in", "in.edi"], 2, b"", USAGE),
-    (&["--at", "202603011530"], 2, b"", USAGE),
-    (&["--in", "in.edi", "--at", "202602291530"], 2, b"", USAGE),
-    (&["--in", "in.edi", "--at", "20260301153"], 2, b"", USAGE),
-    (
-        &["--in", "a", "--in", "b", "--at", "202603011530"],
-        2,
-        b"",
-        USAGE,
-    ),
-    (
-        &["--in", "a", "--at", "202603011530", "--at", "202603011530"],
-        2,
-        b"",
-        USAGE,
-    ),
-    (
-        &["--in", "a", "--at", "202603011530", "--out", "b"],
-        2,
-        b"",
-        USAGE,
-    ),
-    (&["--in", "a", "--at", "202603011530", "b"], 2, b"", USAGE),
-    (&["--version"], 0, b"nighthub 0.1.0\n", b""),
-    (
-        &["--in", "no_such_folder/in.edi", "--at", "202603011530"],
-        4,
-        b"",
-        INPUT,
-    ),
-    (&["--in", "", "--at", "202603011530"], 4, b"", INPUT),
-    (&["--in", ".", "--at", "202603011530"], 4, b"", INPUT),
-];
-
-fn answers_one(rt: &HostRuntime, case: &Words) -> Result<(), Fail> {
-    let (words, status, out, err) = *case;
-    let answer = ran(rt, words);
-    expect(rt.alloc(), &answer, status, out, err)
-}
-
-fn answers_each(rt: &HostRuntime, cases: &[Words]) -> Result<(), Fail> {
-    for case in cases {
-        answers_one(rt, case)?;
-    }
-    Ok(())
-}
-
-#[test]
-fn answers_words(rt: HostRuntime) -> Result<(), Fail> {
-    answers_each(&rt, WORDS)
-}
-
-#[test]
-fn shows_help(rt: HostRuntime) {
-    let answer = ran(&rt, &["--help"]);
-    assert_eq!(rt; answer.0, 0);
-    assert!(rt; answer.1.len() > 100);
-    assert!(rt; answer.2.is_empty());
-}
-
-fn ran_on_a_long_file(rt: &HostRuntime) -> Result<Answer, Fail> {
-    fs::create_dir(rt, "too_long")?;
-    fs::create(rt, "too_long/in.edi")?.set_len(4_294_967_296)?;
-    let answer = ran(rt, &["--in", "too_long/in.edi", "--at", "202603011530"]);
-    fs::remove_dir_all(rt, "too_long")?;
+fn ran_on_a_long_file(rt: &HostRuntime, folder: &str) -> Result<Answer, Fail> {
+    make_folder(rt, folder)?;
+    let path = format!(in rt.alloc(); "{folder}/in.x12")?;
+    fs::create(rt, path.as_str())?.set_len(4_294_967_296)?;
+    let answer = ran_in(rt, folder)?;
+    expect_files(rt, folder, &[])?;
+    fs::remove_dir_all(rt, folder)?;
     Ok(answer)
 }
 
 #[test]
 fn refuses_a_file_that_is_too_long(rt: HostRuntime) -> Result<(), Fail> {
-    let answer = ran_on_a_long_file(&rt)?;
+    let answer = ran_on_a_long_file(&rt, "night_too_long")?;
     expect(rt.alloc(), &answer, 4, b"", b"nighthub: input too long\n")
-}
-
-/// A reader or writer that fails: a reader at its second read, a writer at its first write or only when it
-/// is flushed.
-#[derive(Drop)]
-struct Broken {
-    at_first: bool,
-}
-
-fn broken_pipe() -> io::Error {
-    io::Error::from(io::ErrorKind::BrokenPipe)
-}
-
-impl Read for Broken {
-    fn read(&mut self, bytes: &mut [u8]) -> io::Result<usize> {
-        if self.at_first || bytes.is_empty() {
-            return Err(broken_pipe());
-        }
-        self.at_first = true;
-        bytes[0] = b'I';
-        Ok(1)
-    }
-}
-
-impl Write for Broken {
-    fn write(&mut self, bytes: &[u8]) -> io::Result<usize> {
-        if self.at_first {
-            return Err(broken_pipe());
-        }
-        Ok(bytes.len())
-    }
-
-    fn flush(&mut self) -> io::Result<()> {
-        Err(broken_pipe())
-    }
-}
-
-/// Standard output that fails, by whether it fails at its first write.
-const OUTPUTS: &[bool] = &[true, false];
-
-fn says_that_it_failed(rt: &HostRuntime, at_first: bool) -> Result<(), Fail> {
-    let mut out = Broken { at_first };
-    let mut err = Vec::new(rt.alloc());
-    let status = night_main(rt, ["--version"].as_slice(), &mut out, &mut err);
-    if status != 5 {
-        return Err("another status")?;
-    }
-    same(rt.alloc(), err.as_slice(), b"nighthub: output stdout\n")
-}
-
-fn each_says_that_it_failed(rt: &HostRuntime, outputs: &[bool]) -> Result<(), Fail> {
-    for at_first in outputs {
-        says_that_it_failed(rt, *at_first)?;
-    }
-    Ok(())
-}
-
-#[test]
-fn says_that_standard_output_failed(rt: HostRuntime) -> Result<(), Fail> {
-    each_says_that_it_failed(&rt, OUTPUTS)
-}
-
-#[test]
-fn passes_over_a_fault_of_standard_error(rt: HostRuntime) {
-    let mut out = Vec::new(rt.alloc());
-    let mut err = Broken { at_first: true };
-    let status = night_main(&rt, ["--in"].as_slice(), &mut out, &mut err);
-    assert_eq!(rt; status, 2);
-    assert!(rt; out.is_empty());
-}
-
-/// How long a reader is said to be that fails at its first or its second read.
-const READERS: &[(bool, u64)] = &[(true, 0), (true, 1), (false, 1), (false, 4096)];
-
-fn reads_nothing(alloc: Global, at_first: bool, said: u64) -> Result<(), Fail> {
-    match read_all(alloc, Broken { at_first }, said) {
-        Err(Failure::Input) => Ok(()),
-        _ => Err("read, or another failure")?,
-    }
-}
-
-fn each_reads_nothing(alloc: Global, readers: &[(bool, u64)]) -> Result<(), Fail> {
-    for (at_first, said) in readers {
-        reads_nothing(alloc, *at_first, *said)?;
-    }
-    Ok(())
-}
-
-#[test]
-fn reads_nothing_from_a_reader_that_fails(rt: HostRuntime) -> Result<(), Fail> {
-    each_reads_nothing(rt.alloc(), READERS)
-}
-
-/// What the length of the order may be said to be: nothing, too little, right, too much.
-const SAID: &[u64] = &[0, 7, 220, 4096];
-
-fn reads_all(alloc: Global, said: u64) -> Result<(), Fail> {
-    match read_all(alloc, ORDER, said) {
-        Ok(text) => same(alloc, text.as_slice(), ORDER),
-        Err(_) => Err("refused")?,
-    }
-}
-
-fn each_reads_all(alloc: Global, lengths: &[u64]) -> Result<(), Fail> {
-    for said in lengths {
-        reads_all(alloc, *said)?;
-    }
-    Ok(())
-}
-
-#[test]
-fn reads_all_whatever_the_length_is_said_to_be(rt: HostRuntime) -> Result<(), Fail> {
-    each_reads_all(rt.alloc(), SAID)
 }

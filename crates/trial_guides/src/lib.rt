@@ -1,6 +1,6 @@
 //! Trials of `guide_tree`, `guide_toml`, `elem_rules` and `loop_match`: guides made row by row and guide files, each beside its
 //! first fault; what the house guides read as; the faults of worked segments by guides of one slot, and moments; bodies under
-//! small guides, each beside the places of its segments or its structural faults.
+//! small guides, each beside the places of its segments or its structural faults. The house guides are lent to other trials.
 //!
 //! Nothing is proved here but that the trials are safe and end. A segment's faults are written as
 //! `element component repetition code reference copy;`, a body's as `position id(loop) code slot;`, a placed segment as
@@ -17,8 +17,7 @@ mod composites;
 mod conditions;
 #[cfg(test)]
 mod files;
-#[cfg(test)]
-mod house;
+pub mod house;
 #[cfg(test)]
 mod house_guides;
 #[cfg(test)]

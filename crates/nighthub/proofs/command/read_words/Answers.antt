@@ -1,9 +1,9 @@
-use Rattle.std.proofs.Common.{◌≡◌, ◌∙◌, ap, subst, map, codes, true}
+use Rattle.std.proofs.Common.{◌≡◌, ◌∙◌, ap, subst, map, true}
 use Rattle.std.proofs.lemmas.Result.{IfOk-weaker}
 use Rattle.clap.specs.Words.{App, HasKind, HasMatchesOf, app_of, fault_of, is_simple_and_free, kind_of, takes}
 use Rattle.clap.specs.declared.error.kind.ErrorKind.TheVariants.{OutOfMemory}
 use Rattle.nighthub.specs.CommandLine.{hub_app}
-use Rattle.nighthub.proofs.CommandLine.{asked, found, free, shown}
+use Rattle.nighthub.proofs.CommandLine.{all_given, asked, free, shown}
 use Rattle.nighthub.proofs.command.read_words.Goals as goal
 
 pub returns-in-Ok-clause-asked : goal.returns-in-Ok-clause-asked
@@ -19,8 +19,7 @@ returns-in-Ok-clause-usage g c usage line =
     let words = map g.S.AsStr.text c.args.words.now in
     let m = c.in-Ok.matches in
     let has = subst (λ (a : App). HasMatchesOf a words m) app c.in-Ok.ensures.matches in
-    c.run_asked.ensures.usage usage line.input line.at
-    (found words m (codes "in") has ∙ line.input_named) (found words m (codes "at") has ∙ line.at_named) line.moment
+    c.run_asked.ensures.usage usage (all_given words m has line.given)
 
 pub returns-in-Err-clause-asked : goal.returns-in-Err-clause-asked
 returns-in-Err-clause-asked g c =

@@ -1,0 +1,278 @@
+-- What a partner reads in the acknowledgments of a night.
+use Rattle.std.proofs.Common.{◌≡◌, ℕ, ◌+◌, Bool, true, false, cond, not, List, [], ◌∷◌, ◌++◌, Option, Some, None, length, refl, sym}
+use Rattle.std.proofs.Common.{ap, subst, ◌∙◌, arith, append-nil}
+use Rattle.std.specs.Prelude.{filter}
+use Rattle.std.specs.List.{All, flat_map}
+use Rattle.std.proofs.lemmas.List.Elements.{All-cons, All-head, All-nil, All-tail}
+use Rattle.x12_bytes.specs.declared.delims.Delims.{Delims}
+use Rattle.x12_write.specs.declared.envelope.Envelope.{Envelope}
+use Rattle.x12_write.specs.Group.{texts_in_row}
+use Rattle.x12_write.specs.Header.{header_text}
+use Rattle.x12_write.specs.Segment.{Segment, segment_text}
+use Rattle.x12_write.specs.Undivided.{CanDivide, IsUndivided}
+use Rattle.elem_rules.specs.Moment.{IsMoment}
+use Rattle.env_index.specs.Index.{IndexEntry}
+use Rattle.env_index.specs.Settled.{settled}
+use Rattle.env_index.specs.Summary.{GroupEntry}
+use Rattle.count_numbers.specs.Num.{num}
+use Rattle.partner_setup.specs.declared.partner.Partner.{Partner}
+use Rattle.partner_setup.specs.Envelopes.{envelope_to}
+use Rattle.partner_setup.specs.Setup.{SetupValue}
+use Rattle.partner_setup.specs.Sound.{IsSoundPartner, IsSoundSetup}
+use Rattle.partner_setup.specs.SetupFaults.{are_ids}
+use Rattle.mailbox.specs.Judged.{answered_groups}
+use Rattle.ack_999.specs.Interchange.{interchange_text}
+use Rattle.ack_999.specs.ReadBack.{written_parts}
+use Rattle.ack_999.proofs.ReadBack.{IsReadable}
+use Rattle.ack_999.specs.Report.{shows_sets, text_999}
+use Rattle.checked_text.specs.declared.answered.AnsweredGroup.{AnsweredGroup}
+use Rattle.checked_text.specs.Acknowledgments.{acknowledgment_text, present, reports_from}
+use Rattle.checked_text.specs.Answers.{SentValue}
+use Rattle.checked_text.specs.CheckedText.{AnsweredInterchange, AreAnswered, IsAnswered, acknowledged_to, acknowledgments_from}
+use Rattle.checked_text.specs.CheckedText.{is_acknowledged_to, is_partner, recipient_by, sent_by}
+use Rattle.checked_text.specs.Pairs.{AreAllPairs}
+use Rattle.checked_text.specs.Settled.{settled_faults}
+use Rattle.hub_run.specs.declared.night.Night.{Night}
+use Rattle.hub_run.specs.Night.{IsNight, acks_of}
+use Rattle.hub_run.specs.Quotable.{IsGroupQuotable}
+use Rattle.hub_run.specs.ReadBack.{AreReadBack, IsReadBack, IsResponseTo, SentSet}
+use Rattle.hub_run.specs.ReadBack.{sets_in, sets_in_group, sets_told_to}
+use Rattle.hub_run.specs.Responses.{Response, responses_behind}
+use Rattle.hub_run.specs.Told.{is_answered_to}
+use Rattle.hub_run.proofs.Enveloping.{component, ge, gs, iea, isa, isa_text, readable_ge, readable_gs, readable_iea, readable_isa}
+use Rattle.hub_run.proofs.Headers.{HasHeader, HaveHeaders, at_index, settled_headers}
+use Rattle.hub_run.proofs.Pairs.{pairs_tail, pairs_weaker_at}
+use Rattle.hub_run.proofs.QuotedElements.{AreElementsUndivided, elements_undivided}
+use Rattle.hub_run.proofs.Reading.{shown_responses}
+use Rattle.hub_run.proofs.ReadingSets.{group_quoted, group_together}
+use Rattle.hub_run.proofs.SettledSound.{IsSettledSound, answered_sound, settled_sound}
+use Rattle.hub_run.proofs.TellingNights.{IsAnsweredGroup, acknowledged_as_told, answered_anywhere, sent_here}
+use Rattle.hub_run.proofs.Together.{Together, together_append, together_pairs}
+use Rattle.hub_run.proofs.Written.{IsWritten, nothing_written, one_behind, other_written, report_written, responses_read}
+
+-- a text in which responses to these sets are read
+pub record AreResponses (d : Delims) (sets : List SentSet) (text : List ℕ) : Type 0 where
+  pub responses : List Response
+  pub written : IsWritten d text responses
+  pub together : Together IsResponseTo sets responses
+
+pub no_responses : (d : Delims) → AreResponses d [] []
+no_responses d = record { responses = []; written = nothing_written d; together = tt }
+
+both_read : (d : Delims) (xs ys : List SentSet) (a b : List ℕ) → AreResponses d xs a → AreResponses d ys b
+    → AreResponses d (xs ++ ys) (a ++ b)
+both_read d xs ys a b front back = record {
+  responses = front.responses ++ back.responses;
+  written = one_behind d a b front.responses back.responses front.written back.written;
+  together = together_append IsResponseTo xs ys front.responses back.responses front.together back.together;
+}
+
+-- the sets of a group have the STs that are read, and its elements are undivided
+abbrev IsGroupRead : Delims → SentValue → GroupEntry → Type 0
+IsGroupRead d sent g = All (HasHeader sent.text sent.delims) g.sets × AreElementsUndivided d g
+
+-- both of each group
+groups_read : (d : Delims) (sent : SentValue) (gs : List GroupEntry)
+    → All (λ (g : GroupEntry). All (HasHeader sent.text sent.delims) g.sets) gs → All (AreElementsUndivided d) gs
+    → All (IsGroupRead d sent) gs
+groups_read d sent [] headers elements = All-nil (IsGroupRead d sent)
+groups_read d sent (g ∷ gs) headers elements =
+    let H : GroupEntry → Type 0 = λ x. All (HasHeader sent.text sent.delims) x.sets in
+    let E : GroupEntry → Type 0 = AreElementsUndivided d in
+    All-cons (IsGroupRead d sent) g gs (All-head H g gs headers, All-head E g gs elements)
+    (groups_read d sent gs (All-tail H g gs headers) (All-tail E g gs elements))
+
+-- the sets of an interchange have the STs that are read, and without a fault it has none of the faults 1 to 7
+abbrev IsRead : (text : List ℕ) → IndexEntry → Type 0
+IsRead text entry = HaveHeaders text entry.interchange × IsSettledSound entry
+
+-- the 999s of the groups that are answered
+reports_read : (d : Delims) → CanDivide d → IsUndivided d (d.component ∷ []) → (sent : SentValue) (n : ℕ)
+    (groups : List GroupEntry) (answers : List (Option AnsweredGroup))
+    → All (IsGroupRead d sent) groups → All (IsGroupQuotable d sent) (answered_groups groups)
+    → AreAllPairs (λ m group answered. IsAnsweredGroup sent group answered) groups answers
+    → AreResponses d (sets_in sent groups) (texts_in_row (reports_from d n (present answers)))
+reports_read d can separator sent n [] [] headers quotable are = no_responses d
+reports_read d can separator sent n [] (a ∷ more) headers quotable are = absurd (omega (arith, are.count))
+reports_read d can separator sent n (g ∷ gs) [] headers quotable are = absurd (omega (arith, are.count))
+reports_read d can separator sent n (g ∷ gs) (None ∷ more) headers quotable are =
+    let H : GroupEntry → Type 0 = IsGroupRead d sent in
+    let first : IsAnsweredGroup sent g None = are.each 0 g None refl refl in
+    let same : answered_groups (g ∷ gs) ≡ answered_groups gs =
+    ap (λ (b : Bool). cond (not b) (g ∷ answered_groups gs) (answered_groups gs)) first.1 in
+    subst (λ (xs : List GroupEntry). AreResponses d (flat_map (sets_in_group sent) xs) (texts_in_row (reports_from d n (present more))))
+    (sym same)
+    (reports_read d can separator sent n gs more (All-tail H g gs headers) (subst (All (IsGroupQuotable d sent)) same quotable)
+    (pairs_tail (λ m group answered. IsAnsweredGroup sent group answered) g None gs more are))
+reports_read d can separator sent n (g ∷ gs) (Some a ∷ more) headers quotable are =
+    let H : GroupEntry → Type 0 = IsGroupRead d sent in
+    let Q : GroupEntry → Type 0 = IsGroupQuotable d sent in
+    let first : IsAnsweredGroup sent g (Some a) = are.each 0 g (Some a) refl refl in
+    let same : answered_groups (g ∷ gs) ≡ g ∷ answered_groups gs =
+    ap (λ (b : Bool). cond (not b) (g ∷ answered_groups gs) (answered_groups gs)) first.1.other in
+    let quoted : All Q (g ∷ answered_groups gs) = subst (All Q) same quotable in
+    let read : IsGroupRead d sent g = All-head H g gs headers in
+    let one : AreResponses d (sets_in_group sent g) (text_999 d a.answer a.sets n) = record {
+      responses = shown_responses (shows_sets a.answer.codes) a.sets;
+      written = report_written d a.answer a.sets n can
+          (group_quoted sent first.0 g a first.1 read.0 d separator read.1 (All-head Q g (answered_groups gs) quoted));
+      together = group_together sent first.0 g a first.1 read.0;
+    } in
+    subst (λ (xs : List GroupEntry). AreResponses d (flat_map (sets_in_group sent) xs)
+    (texts_in_row (reports_from d n (present (Some a ∷ more))))) (sym same)
+    (both_read d (sets_in_group sent g) (flat_map (sets_in_group sent) (answered_groups gs)) (text_999 d a.answer a.sets n)
+    (texts_in_row (reports_from d (n + 1) (present more))) one
+    (reports_read d can separator sent (n + 1) gs more (All-tail H g gs headers) (All-tail Q g (answered_groups gs) quoted)
+    (pairs_tail (λ m group answered. IsAnsweredGroup sent group answered) g (Some a) gs more are)))
+
+module _ (text : List ℕ) (setup : SetupValue) (at : List ℕ) (moment : IsMoment at) (place : ℕ) (p : Partner) (count : ℕ)
+    (hub_ids : are_ids setup.hub.qualifier setup.hub.id setup.hub.code ≡ true) (sound : IsSoundPartner count p) where
+  abbrev d : Delims
+  d = p.delims
+
+  abbrev e : Envelope
+  e = envelope_to setup p
+
+  -- a segment around acknowledgments has no response
+  silent : (s : Segment) → IsReadable d s
+      → ((i c : List ℕ) (ss : List (List (List ℕ))) → responses_behind i c (written_parts s ∷ ss) ≡ responses_behind i c ss)
+      → AreResponses d [] (segment_text d s.id s.elements)
+  silent s readable past = record { responses = []; written = other_written d s readable past; together = tt }
+
+  isa_read : (number : ℕ) → AreResponses d [] (header_text e at number)
+  isa_read number =
+      subst (AreResponses d []) (sym (isa_text e at number))
+      (silent (isa e at number) (readable_isa setup p count hub_ids sound at moment number) (λ i c ss. refl))
+
+  gs_read : AreResponses d [] (segment_text d (gs e at).id (gs e at).elements)
+  gs_read = silent (gs e at) (readable_gs setup p count hub_ids sound at moment) (λ i c ss. refl)
+
+  ge_read : (reports : ℕ) → AreResponses d [] (segment_text d (ge reports).id (ge reports).elements)
+  ge_read reports = silent (ge reports) (readable_ge setup p count hub_ids sound at moment reports) (λ i c ss. refl)
+
+  iea_read : (number : ℕ) → AreResponses d [] (segment_text d (iea number).id (iea number).elements)
+  iea_read number = silent (iea number) (readable_iea setup p count hub_ids sound at moment number) (λ i c ss. refl)
+
+  -- an interchange has the responses of its reports
+  around : (number : ℕ) (reports : List (List ℕ)) (sets : List SentSet) → AreResponses d sets (texts_in_row reports)
+      → AreResponses d sets (interchange_text e at number reports)
+  around number reports sets inner =
+      let head : List ℕ = header_text e at number in
+      let first : List ℕ = segment_text d (gs e at).id (gs e at).elements in
+      let rows : List ℕ = texts_in_row reports in
+      let last : List ℕ = segment_text d (ge (length reports)).id (ge (length reports)).elements in
+      let end : List ℕ = segment_text d (iea number).id (iea number).elements in
+      let group = both_read d sets [] (first ++ rows) last (both_read d [] sets first rows gs_read inner) (ge_read (length reports)) in
+      let all = both_read d (sets ++ []) [] (head ++ ((first ++ rows) ++ last)) end
+      (both_read d [] (sets ++ []) head ((first ++ rows) ++ last) (isa_read number) group) (iea_read number) in
+      subst (λ (xs : List SentSet). AreResponses d xs (interchange_text e at number reports))
+      (append-nil (sets ++ []) ∙ append-nil sets) all
+
+  abbrev Quotable : IndexEntry → Type 0
+  Quotable x = All (IsGroupQuotable d (sent_by text setup place x)) (answered_groups x.interchange.content.groups)
+
+  abbrev sets_of_entry : IndexEntry → List SentSet
+  sets_of_entry x = sets_in (sent_by text setup place x) x.interchange.content.groups
+
+  interchange_read : (number : ℕ) (entry : IndexEntry) (x : AnsweredInterchange) → IsRead text entry
+      → IsAnswered text setup entry x → is_acknowledged_to place x ≡ true → Quotable entry
+      → AreResponses d (sets_of_entry entry) (acknowledgment_text e at number x.groups)
+  interchange_read number entry x read is told quotable =
+      let sent : SentValue = sent_by text setup place entry in
+      let faultless = answered_sound setup place entry (sym (acknowledged_as_told text setup place entry x is) ∙ told) read.1 in
+      let headers = groups_read d sent entry.interchange.content.groups read.0
+      (elements_undivided d sound.divides entry.interchange faultless) in
+      let here : is_partner place (recipient_by x.sender entry.fault x.groups) ≡ true =
+      sym (ap (λ (y : IndexEntry). is_partner place (recipient_by x.sender y.fault x.groups)) is.entry) ∙ told in
+      let groups = sent_here text setup place entry entry.fault x.sender x.groups is.groups here in
+      around number (reports_from d 1 (present x.groups)) (sets_of_entry entry)
+      (reports_read d sound.divides (component setup p count hub_ids sound at moment) sent 1
+      entry.interchange.content.groups x.groups headers quotable
+      (answered_anywhere sent entry.interchange.content.groups x.groups groups))
+
+  -- what is read of interchanges, the first acknowledgment being number k
+  abbrev AreRead : ℕ → List IndexEntry → List AnsweredInterchange → Type 0
+  AreRead k es xs =
+      All Quotable (filter (is_answered_to setup place) es)
+      → AreResponses d (sets_told_to text setup place es) (acknowledgments_from setup p at k (acknowledged_to place xs))
+
+  one_in_front : (k : ℕ) (entry : IndexEntry) (x : AnsweredInterchange) (es : List IndexEntry) (xs : List AnsweredInterchange)
+      → IsRead text entry → IsAnswered text setup entry x → AreRead (k + 1) es xs → AreRead k es xs
+      → (b : Bool) → is_acknowledged_to place x ≡ b → AreRead k (entry ∷ es) (x ∷ xs)
+  one_in_front k entry x es xs headers is next same true known = λ quotable.
+      let rest : List IndexEntry = filter (is_answered_to setup place) es in
+      let here : List AnsweredInterchange = acknowledged_to place xs in
+      let told : filter (is_answered_to setup place) (entry ∷ es) ≡ entry ∷ rest =
+      ap (λ (c : Bool). cond c (entry ∷ rest) rest) (sym (acknowledged_as_told text setup place entry x is) ∙ known) in
+      let kept : acknowledged_to place (x ∷ xs) ≡ x ∷ here = ap (λ (c : Bool). cond c (x ∷ here) here) known in
+      let quoted : All Quotable (entry ∷ rest) = subst (All Quotable) told quotable in
+      let number : ℕ = num p.counters.interchange k in
+      subst (λ (ys : List IndexEntry). AreResponses d (flat_map sets_of_entry ys)
+      (acknowledgments_from setup p at k (acknowledged_to place (x ∷ xs)))) (sym told)
+      (subst (λ (zs : List AnsweredInterchange). AreResponses d (flat_map sets_of_entry (entry ∷ rest))
+      (acknowledgments_from setup p at k zs)) (sym kept)
+      (both_read d (sets_of_entry entry) (flat_map sets_of_entry rest) (acknowledgment_text e at number x.groups)
+      (acknowledgments_from setup p at (k + 1) here)
+      (interchange_read number entry x headers is known (All-head Quotable entry rest quoted))
+      (next (All-tail Quotable entry rest quoted))))
+  one_in_front k entry x es xs headers is next same false known = λ quotable.
+      let rest : List IndexEntry = filter (is_answered_to setup place) es in
+      let here : List AnsweredInterchange = acknowledged_to place xs in
+      let told : filter (is_answered_to setup place) (entry ∷ es) ≡ rest =
+      ap (λ (c : Bool). cond c (entry ∷ rest) rest) (sym (acknowledged_as_told text setup place entry x is) ∙ known) in
+      let kept : acknowledged_to place (x ∷ xs) ≡ here = ap (λ (c : Bool). cond c (x ∷ here) here) known in
+      subst (λ (ys : List IndexEntry). AreResponses d (flat_map sets_of_entry ys)
+      (acknowledgments_from setup p at k (acknowledged_to place (x ∷ xs)))) (sym told)
+      (subst (λ (zs : List AnsweredInterchange). AreResponses d (flat_map sets_of_entry rest)
+      (acknowledgments_from setup p at k zs)) (sym kept) (same (subst (All Quotable) told quotable)))
+
+  interchanges_read : (k : ℕ) (es : List IndexEntry) (xs : List AnsweredInterchange)
+      → All (IsRead text) es → AreAnswered text setup es xs → AreRead k es xs
+  interchanges_read k [] [] headers are = λ quotable. no_responses d
+  interchanges_read k [] (x ∷ xs) headers are = absurd (omega (arith, are.count))
+  interchanges_read k (entry ∷ es) [] headers are = absurd (omega (arith, are.count))
+  interchanges_read k (entry ∷ es) (x ∷ xs) headers are =
+      let H : IndexEntry → Type 0 = IsRead text in
+      let behind = All-tail H entry es headers in
+      let rest : AreAnswered text setup es xs = pairs_tail (λ n e x. IsAnswered text setup e x) entry x es xs are in
+      one_in_front k entry x es xs (All-head H entry es headers) (are.each 0 entry x refl refl)
+      (interchanges_read (k + 1) es xs behind rest) (interchanges_read k es xs behind rest) (is_acknowledged_to place x) refl
+
+  partner_read : (es : List IndexEntry) (xs : List AnsweredInterchange)
+      → All (IsRead text) es → AreAnswered text setup es xs
+      → IsReadBack text setup es place p (acks_of setup at xs place p)
+  partner_read es xs headers are = λ quotable.
+      let all = interchanges_read 0 es xs headers are quotable in
+      let told : List SentSet = sets_told_to text setup place es in
+      subst (AreAllPairs (λ n s response. IsResponseTo s response) told)
+      (sym (responses_read d (acks_of setup at xs place p) all.responses sound.divides.apart all.written))
+      (together_pairs IsResponseTo told all.responses all.together)
+
+-- both of each interchange
+all_read : (text : List ℕ) (es : List IndexEntry) → All (λ e. HaveHeaders text e.interchange) es → All IsSettledSound es
+    → All (IsRead text) es
+all_read text [] headers sound = All-nil (IsRead text)
+all_read text (e ∷ es) headers sound =
+    let H : IndexEntry → Type 0 = λ y. HaveHeaders text y.interchange in
+    All-cons (IsRead text) e es (All-head H e es headers, All-head IsSettledSound e es sound)
+    (all_read text es (All-tail H e es headers) (All-tail IsSettledSound e es sound))
+
+pub read_by_night : (text : List ℕ) (setup : SetupValue) (at : List ℕ) (night : Night) → IsSoundSetup setup → IsMoment at
+    → IsNight text setup at night → AreReadBack text setup night.acks
+read_by_night text setup at night sound moment is =
+    let index = is.is_known.index in
+    let entries : List IndexEntry = (settled index (settled_faults setup index.entries)).entries in
+    let read = is.is_known.read in
+    let headers = all_read text entries (settled_headers text index (settled_faults setup index.entries) read)
+    (settled_sound text setup index read) in
+    let count : ℕ = length setup.guides in
+    record {
+      index = index;
+      read = read;
+      each = pairs_weaker_at (λ place partner acks. acks ≡ acks_of setup at is.known place partner)
+          (λ place partner told. IsReadBack text setup entries place partner told) setup.partners night.acks
+          (λ place partner acks at_place same. subst (IsReadBack text setup entries place partner) (sym same)
+          (partner_read text setup at moment place partner count sound.hub
+          (at_index (IsSoundPartner count) setup.partners place partner at_place sound.partners)
+          entries is.known headers is.is_known.answered)) is.is.acks;
+    }

@@ -1,0 +1,70 @@
+-- Texts that are segments, and the responses that are read in them.
+use Rattle.std.proofs.Common.{◌≡◌, ◌≢◌, ℕ, List, [], ◌∷◌, ◌++◌, map, refl, sym, ap, ◌∙◌, append_assoc, append-nil}
+use Rattle.std.specs.List.{All}
+use Rattle.std.proofs.lemmas.List.{map-append}
+use Rattle.std.proofs.lemmas.List.Concat.{flat_map-append}
+use Rattle.std.proofs.lemmas.List.Elements.{All-append, All-cons, All-nil}
+use Rattle.x12_bytes.specs.declared.delims.Delims.{Delims}
+use Rattle.x12_write.specs.Segment.{Segment, segment_text, segments_text}
+use Rattle.x12_write.specs.Undivided.{CanDivide}
+use Rattle.hub_kinds.specs.declared.answers.GroupAnswer.{GroupAnswer}
+use Rattle.hub_kinds.specs.declared.answers.SetAnswer.{SetAnswer}
+use Rattle.ack_999.specs.ReadBack.{IsQuotable, written_parts}
+use Rattle.ack_999.specs.Report.{segments_999, shows_sets, text_999}
+use Rattle.ack_999.proofs.ReadBack.{IsReadable, segments_text-reads_back}
+use Rattle.ack_999.proofs.Readable.{readable-999}
+use Rattle.hub_run.specs.Responses.{Response, responses_behind, responses_in}
+use Rattle.hub_run.proofs.Reading.{Gives, report_read, shown_responses}
+
+-- a text is made of segments that are read again, with these responses
+pub record IsWritten (d : Delims) (text : List ℕ) (rs : List Response) : Type 0 where
+  pub segs : List Segment
+  pub is : text ≡ segments_text d segs
+  pub readable : All (IsReadable d) segs
+  pub gives : (ss : List (List (List ℕ))) (more : List Response) → Gives ss more → Gives (map written_parts segs ++ ss) (rs ++ more)
+
+pub nothing_written : (d : Delims) → IsWritten d [] []
+nothing_written d = record { segs = []; is = refl; readable = All-nil (IsReadable d); gives = λ ss more gives. gives }
+
+pub one_behind : (d : Delims) (a b : List ℕ) (rs us : List Response) → IsWritten d a rs → IsWritten d b us → IsWritten d (a ++ b) (rs ++ us)
+one_behind d a b rs us front back = record {
+  segs = front.segs ++ back.segs;
+  is = ap (λ (t : List ℕ). t ++ b) front.is ∙ ap (λ (t : List ℕ). segments_text d front.segs ++ t) back.is
+      ∙ sym (flat_map-append (λ (s : Segment). segment_text d s.id s.elements) front.segs back.segs);
+  readable = All-append (IsReadable d) front.segs back.segs front.readable back.readable;
+  gives = λ ss more gives i c.
+      ap (λ (xs : List (List (List ℕ))). responses_behind i c (xs ++ ss)) (map-append written_parts front.segs back.segs)
+      ∙ ap (responses_behind i c) (append_assoc (map written_parts front.segs) (map written_parts back.segs) ss)
+      ∙ front.gives (map written_parts back.segs ++ ss) (us ++ more) (back.gives ss more gives) i c
+      ∙ sym (append_assoc rs us more);
+}
+
+-- a segment that is neither AK2 nor IK5
+pub other_written : (d : Delims) (s : Segment) → IsReadable d s
+    → ((i c : List ℕ) (ss : List (List (List ℕ))) → responses_behind i c (written_parts s ∷ ss) ≡ responses_behind i c ss)
+    → IsWritten d (segment_text d s.id s.elements) []
+other_written d s readable past = record {
+  segs = s ∷ [];
+  is = sym (append-nil (segment_text d s.id s.elements));
+  readable = All-cons (IsReadable d) s [] readable (All-nil (IsReadable d));
+  gives = λ ss more gives i c. past i c ss ∙ gives i c;
+}
+
+pub report_written : (d : Delims) (g : GroupAnswer) (sets : List SetAnswer) (n : ℕ) → CanDivide d → IsQuotable d g sets
+    → IsWritten d (text_999 d g sets n) (shown_responses (shows_sets g.codes) sets)
+report_written d g sets n can quotable = record {
+  segs = segments_999 d g sets n;
+  is = refl;
+  readable = readable-999 d g sets n can quotable;
+  gives = λ ss more gives. report_read d g sets n ss more gives;
+}
+
+-- read again, it has these responses
+pub responses_read : (d : Delims) (text : List ℕ) (rs : List Response) → d.element ≢ d.terminator → IsWritten d text rs
+    → responses_in d text ≡ rs
+responses_read d text rs apart written =
+    let w : List (List (List ℕ)) = map written_parts written.segs in
+    ap (responses_in d) written.is
+    ∙ ap (responses_behind [] []) (segments_text-reads_back d written.segs apart written.readable ∙ sym (append-nil w))
+    ∙ written.gives [] [] (λ i c. refl) [] []
+    ∙ append-nil rs

@@ -1,0 +1,38 @@
+use Rattle.std.proofs.Common.{◌≡◌, ℕ, List, ap, subst, ◌∙◌}
+use Rattle.mailbox.specs.Deliveries.{AreDelivered}
+use Rattle.mailbox.specs.Judged.{JudgedValue, PlacedValue}
+use Rattle.night_report.specs.Report.{report_text}
+use Rattle.checked_text.specs.CheckedText.{SentValues}
+use Rattle.hub_run.specs.ByPlace.{box_by, next_by}
+use Rattle.hub_run.specs.Night.{AreForPartners}
+use Rattle.hub_run.proofs.Joining.{joined}
+use Rattle.hub_run.proofs.writing.write_night.Goals as goal
+
+pub returns : goal.returns
+returns c =
+    let checked = c.in_ok-checked.ensures in
+    let setup = c.args.setup.now in
+    let at = c.args.at.now in
+    let xs : List JudgedValue = c.in_ok-checked.checked.interchanges.items in
+    let files : List SentValues = c.in_ok-checked.checked.acknowledgments.items in
+    let lists : List (List PlacedValue) = c.in_ok-lists.lists.items in
+    let delivered : AreDelivered setup xs lists =
+    subst (λ (ys : List JudgedValue). AreDelivered setup ys lists) c.as_slice-2.ensures.value c.in_ok-lists.ensures in
+    let boxes : AreForPartners setup (box_by setup at files lists) c.in_ok-boxes.boxes =
+    subst (λ (fs : List SentValues). AreForPartners setup (box_by setup at fs lists) c.in_ok-boxes.boxes) c.as_slice-3.ensures.value
+    (subst (λ (ls : List (List PlacedValue)). AreForPartners setup (box_by setup at c.as_slice-3.result.now ls) c.in_ok-boxes.boxes)
+    c.as_slice-4.ensures.value c.in_ok-boxes.ensures) in
+    let next : AreForPartners setup (next_by files lists) c.in_ok-next.next =
+    subst (λ (fs : List SentValues). AreForPartners setup (next_by fs lists) c.in_ok-next.next) c.as_slice-5.ensures.value
+    (subst (λ (ls : List (List PlacedValue)). AreForPartners setup (next_by c.as_slice-5.result.now ls) c.in_ok-next.next)
+    c.as_slice-6.ensures.value c.in_ok-next.ensures) in
+    let report : c.in_ok-report.report ≡ report_text setup xs c.args.index.now.outside = c.in_ok-report.ensures
+    ∙ ap (λ (ys : List JudgedValue). report_text setup ys c.outside.result) c.as_slice.ensures.value
+    ∙ ap (λ (n : ℕ). report_text setup xs n) c.outside.ensures in
+    record {
+      known = checked.answered;
+      answered = checked.are;
+      is = joined c.args.index.now.text setup at checked.answered xs files lists c.args.index.now.outside _ checked.acknowledged
+          checked.judged
+          delivered c.in_ok-acks.ensures boxes report next;
+    }

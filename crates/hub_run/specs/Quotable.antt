@@ -1,0 +1,50 @@
+-- X12.6, delimiters and data elements: where the names of guides that an acknowledgment repeats hold none of its own delimiters, so that
+-- it can be read.
+use Rattle.std.specs.Prelude.{ℕ, List, filter, IfSome}
+use Rattle.std.specs.List.{All}
+use Rattle.x12_bytes.specs.declared.delims.Delims.{Delims}
+use Rattle.x12_segs.specs.View.{element_of}
+use Rattle.x12_write.specs.Undivided.{IsUndivided}
+use Rattle.guide_tree.specs.declared.element.Element.{Element}
+use Rattle.guide_tree.specs.Tree.{GuideTree, Tree, Trees, loop, no_trees, segment, tree}
+use Rattle.elem_rules.specs.Rows.{component_reference, components_of, element_reference}
+use Rattle.env_index.specs.Index.{IndexEntry}
+use Rattle.env_index.specs.Summary.{GroupEntry}
+use Rattle.partner_setup.specs.declared.partner.Partner.{Partner}
+use Rattle.partner_setup.specs.Setup.{SetupValue, guide_of}
+use Rattle.set_check.specs.Checked.{said_by}
+use Rattle.mailbox.specs.Judged.{answered_groups}
+use Rattle.checked_text.specs.Answers.{SentValue}
+use Rattle.checked_text.specs.CheckedText.{sent_by}
+use Rattle.hub_run.specs.Told.{is_answered_to}
+
+-- neither the element separator nor the terminator stands in the reference numbers of a row and of its components
+abbrev pub IsRowQuotable : Delims → Element → Type 0
+IsRowQuotable d row =
+    IsUndivided d (element_reference row) × All (λ component. IsUndivided d (component_reference component)) (components_of row)
+
+-- nor in those of a guide's rows, nor in the ids of its loops
+abbrev mutual
+  pub IsNodeQuotable : Delims → Tree → Type 0
+  IsNodeQuotable d (segment s) = All (IsRowQuotable d) s.elements
+  IsNodeQuotable d (loop l ts) = IsUndivided d l.id × AreNodesQuotable d ts
+
+  pub AreNodesQuotable : Delims → Trees → Type 0
+  AreNodesQuotable d no_trees = Unit {0}
+  AreNodesQuotable d (tree t ts) = IsNodeQuotable d t × AreNodesQuotable d ts
+
+abbrev pub IsGuideQuotable : Delims → GuideTree → Type 0
+IsGuideQuotable d g = AreNodesQuotable d g.nodes
+
+-- nor in the guides by which the sets of a group are checked
+abbrev pub IsGroupQuotable : Delims → SentValue → GroupEntry → Type 0
+IsGroupQuotable d sent group =
+    All (λ set. IfSome
+    (said_by (guide_of sent.setup sent.sender (element_of group.header 1) (element_of group.header 8) (element_of set.header 1)))
+    (IsGuideQuotable d)) group.sets
+
+-- of each group of each interchange that is answered to a partner
+abbrev pub AreQuotable : (text : List ℕ) → SetupValue → (place : ℕ) → Partner → List IndexEntry → Type 0
+AreQuotable text setup place partner entries =
+    All (λ e. All (IsGroupQuotable partner.delims (sent_by text setup place e)) (answered_groups e.interchange.content.groups))
+    (filter (is_answered_to setup place) entries)

@@ -1,0 +1,64 @@
+-- 999 guide (005010X231), AK2 and IK5: what a partner reads in the acknowledgments of a night is, set by set, whether it meets its guide.
+use Rattle.std.specs.Prelude.{◌≡◌, ◌↔◌, ℕ, List, [], ◌∷◌, ◌++◌, codes, filter}
+use Rattle.std.specs.List.{flat_map}
+use Rattle.x12_segs.specs.View.{SegValue, element_of}
+use Rattle.env_index.specs.Index.{IndexEntry, IndexValue, IsIndex}
+use Rattle.env_index.specs.Settled.{settled}
+use Rattle.env_index.specs.Summary.{GroupEntry}
+use Rattle.env_index.specs.declared.entry.SetEnvelope.{SetEnvelope}
+use Rattle.partner_setup.specs.declared.partner.Partner.{Partner}
+use Rattle.partner_setup.specs.Setup.{SetupValue}
+use Rattle.mailbox.specs.Judged.{answered_groups}
+use Rattle.checked_text.specs.Answers.{SentValue}
+use Rattle.checked_text.specs.CheckedText.{sent_by}
+use Rattle.checked_text.specs.Meets.{Meets}
+use Rattle.checked_text.specs.Pairs.{AreAllPairs}
+use Rattle.checked_text.specs.Settled.{settled_faults}
+use Rattle.hub_run.specs.Quotable.{AreQuotable}
+use Rattle.hub_run.specs.Responses.{Response, responses_in}
+use Rattle.hub_run.specs.Told.{is_answered_to, told_sets}
+
+-- a set that was sent, with the GS of its group and the sets before it there
+pub record SentSet : Type 0 where
+  pub sent : SentValue
+  pub gs : SegValue
+  pub before : List SetEnvelope
+  pub set : SetEnvelope
+
+-- the sets of a group behind these
+abbrev pub sets_behind : SentValue → (gs : SegValue) → (before : List SetEnvelope) → List SetEnvelope → List SentSet
+sets_behind sent gs before [] = []
+sets_behind sent gs before (set ∷ sets) =
+    record { sent = sent; gs = gs; before = before; set = set } ∷ sets_behind sent gs (before ++ set ∷ []) sets
+
+-- the sets that a partner is told of: of its answered interchanges, in their order, the sets of the groups that it has a guide for
+abbrev pub sets_in_group : SentValue → GroupEntry → List SentSet
+sets_in_group sent group = sets_behind sent group.header [] (told_sets sent group)
+
+abbrev pub sets_in : SentValue → List GroupEntry → List SentSet
+sets_in sent groups = flat_map (sets_in_group sent) (answered_groups groups)
+
+abbrev pub sets_told_to : (text : List ℕ) → SetupValue → (place : ℕ) → List IndexEntry → List SentSet
+sets_told_to text setup place entries =
+    flat_map (λ e. sets_in (sent_by text setup place e) e.interchange.content.groups) (filter (is_answered_to setup place) entries)
+
+-- a response to a set: its ST01 and ST02, and A exactly where it meets its guide
+pub record IsResponseTo (s : SentSet) (response : Response) : Type 0 where
+  pub identifier : response.identifier ≡ element_of s.set.header 1
+  pub control : response.control ≡ element_of s.set.header 2
+  pub accepted : response.code ≡ codes "A" ↔ Meets s.sent s.gs s.before s.set
+
+-- a partner's acknowledgments, read by its delimiters, have a response to each of these sets in their order, and no other
+abbrev pub IsReadBack : (text : List ℕ) → SetupValue → List IndexEntry → (place : ℕ) → Partner → (acknowledgments : List ℕ) → Type 0
+IsReadBack text setup entries place partner acknowledgments =
+    AreQuotable text setup place partner entries
+    → AreAllPairs (λ n s response. IsResponseTo s response) (sets_told_to text setup place entries)
+    (responses_in partner.delims acknowledgments)
+
+-- so have those of each partner
+pub record AreReadBack (text : List ℕ) (setup : SetupValue) (acknowledgments : List (List ℕ)) : Type 0 where
+  pub index : IndexValue
+  pub read : IsIndex text index
+  pub each : AreAllPairs
+      (λ place partner told. IsReadBack text setup (settled index (settled_faults setup index.entries)).entries place partner told)
+      setup.partners acknowledgments

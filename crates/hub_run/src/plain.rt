@@ -1,0 +1,61 @@
+ghost use Rattle.std.specs.Prelude.{◌↔◌, ◌<◌, ◌≤◌, length, IfOk, IsErrOf};
+ghost use Rattle.elem_rules.specs.Moment.{IsMoment};
+ghost use Rattle.partner_setup.specs.Sound.{IsSoundSetup};
+ghost use Rattle.hub_run.specs.Night.{IsNight};
+ghost use Rattle.hub_run.specs.ReadBack.{AreReadBack};
+ghost use Rattle.hub_run.specs.Told.{AreSetsTold};
+
+use crate::night::Night;
+use crate::run_fault::RunFault;
+use crate::writing::write_night;
+use checked_text::settled_faults;
+use elem_rules::At;
+use env_index::index_plain;
+use hub_kinds::{LONGEST_TEXT, NoMemory, within_limit};
+use partner_setup::Setup;
+use std::alloc::Global;
+
+/// The night of a text that is read front to back on one thread, by a setup and at a moment. A text of more than `LONGEST_TEXT`
+/// bytes is refused; the only other error is want of memory. The bytes of the acknowledgments tell of each set that it is accepted
+/// (IK501 is A) exactly where it meets its guide, and a partner that reads its own finds just that of its sets. X12.5, interchange;
+/// X12.6, functional group and transaction set; 999 guide (005010X231).
+pub fn run_plain(alloc: Global, text: &[u8], setup: &Setup, at: &At) -> Result<Night, RunFault>
+    ensures too_long { IsErrOf result RunFault.InputTooLong ↔ (LONGEST_TEXT < length text.now) }
+    ensures night { IfOk result (IsNight text.now setup.now at.now) }
+    ensures told { IfOk result (λ night. AreSetsTold text.now setup.now at.now night.acks) }
+    ensures read { IfOk result (λ night. AreReadBack text.now setup.now night.acks) }
+{
+    if !within_limit(text.len() as u64) {
+        return Err(RunFault::InputTooLong);
+    }
+    are_sound(setup, at);
+    let night = read_night(alloc, text, setup, at)?;
+    Ok(night)
+}
+
+/// Every setup is sound, and every moment is one. It does nothing: its contract says so.
+fn are_sound(setup: &Setup, at: &At)
+    ensures setup { IsSoundSetup setup.now }
+    ensures moment { IsMoment at.now }
+{
+    let _hub = setup.hub();
+    let _partners = setup.partners();
+    let _routes = setup.routes();
+    let _digits = at.digits();
+}
+
+/// The night of a text that isn't too long.
+fn read_night<'a>(
+    alloc: Global,
+    text: &'a [u8],
+    setup: &'a Setup,
+    at: &At,
+) -> Result<Night, NoMemory>
+    requires { length text.now ≤ LONGEST_TEXT }
+    ensures { IfOk result (IsNight text.now setup.now at.now) }
+{
+    let mut index = index_plain(alloc, text)?;
+    let faults = settled_faults(alloc, setup, &index)?;
+    index.settle(faults.as_slice());
+    write_night(alloc, setup, at, &index)
+}

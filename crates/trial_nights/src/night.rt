@@ -1,0 +1,114 @@
+//! A worked night, and its comparison with what `run_plain` gives.
+use super::setups::two_partners;
+use super::{accepted, held, refused, rejected};
+use elem_rules::At;
+use hub_kinds::{Counters, Text};
+use hub_run::{Night, run_plain};
+use night_report::is_clean;
+use partner_setup::Setup;
+use std::alloc::{AllocError, Global};
+use std::test::Fail;
+
+/// A night of ACME and BOLT. Texts are written as their pieces; what goes to a partner stands in the order of the partners.
+pub struct WorkedNight {
+    /// ACME's cap and its next interchange number.
+    pub starts: (u32, u32),
+    pub text: &'static [&'static [u8]],
+    pub acks: [&'static [&'static [u8]]; 2],
+    pub boxes: [&'static [&'static [u8]]; 2],
+    pub report: &'static [u8],
+    /// The next interchange number and the next set number.
+    pub next: [(u32, u32); 2],
+    pub clean: bool,
+}
+
+fn joined(alloc: Global, pieces: &[&[u8]]) -> Result<Vec<u8>, AllocError> {
+    let mut text = Vec::new(alloc);
+    for piece in pieces {
+        text.extend_from_slice(piece)?;
+    }
+    Ok(text)
+}
+
+fn expect_bytes(alloc: Global, found: &[u8], wanted: &[u8]) -> Result<(), Fail> {
+    if found == wanted {
+        return Ok(());
+    }
+    Err(Fail::new(String::from_utf8_lossy(alloc, found)?))
+}
+
+fn expect_text(alloc: Global, found: Option<&Text>, wanted: &[&[u8]]) -> Result<(), Fail> {
+    let wanted = joined(alloc, wanted)?;
+    let found = found.ok_or("a partner is left out")?;
+    expect_bytes(alloc, found.as_slice(), wanted.as_slice())
+}
+
+fn expect_texts(alloc: Global, found: &[Text], wanted: &[&[&[u8]]; 2]) -> Result<(), Fail> {
+    if found.len() != 2 {
+        return Err("other partners")?;
+    }
+    expect_text(alloc, found.first(), wanted[0])?;
+    expect_text(alloc, found.get(1), wanted[1])
+}
+
+fn expect_next(found: &[Counters], wanted: &[(u32, u32); 2]) -> Result<(), Fail> {
+    let ([acme, bolt], [wanted_acme, wanted_bolt]) = (found, wanted) else {
+        return Err("other partners")?;
+    };
+    if (acme.interchange, acme.set) != *wanted_acme || (bolt.interchange, bolt.set) != *wanted_bolt
+    {
+        return Err("other counters")?;
+    }
+    Ok(())
+}
+
+fn expect_given(alloc: Global, night: &Night, worked: &WorkedNight) -> Result<(), Fail> {
+    expect_texts(alloc, night.acks.as_slice(), &worked.acks)?;
+    expect_texts(alloc, night.boxes.as_slice(), &worked.boxes)?;
+    expect_bytes(alloc, night.report.as_slice(), worked.report)?;
+    expect_next(night.next.as_slice(), &worked.next)?;
+    if is_clean(night.report.as_slice()) != worked.clean {
+        return Err("clean, or not clean")?;
+    }
+    Ok(())
+}
+
+fn night_of(alloc: Global, setup: &Setup, text: &[u8]) -> Result<Night, Fail> {
+    let at = At::read(b"202603011530").ok_or("no moment")?;
+    Ok(run_plain(alloc, text, setup, &at)?)
+}
+
+fn expect_night(alloc: Global, worked: &WorkedNight) -> Result<(), Fail> {
+    let (cap, next) = worked.starts;
+    let setup = two_partners(alloc, cap, next)?;
+    let text = joined(alloc, worked.text)?;
+    let night = night_of(alloc, &setup, text.as_slice())?;
+    expect_given(alloc, &night, worked)
+}
+
+fn expect_nights(alloc: Global, nights: &[&WorkedNight]) -> Result<(), Fail> {
+    for worked in nights {
+        expect_night(alloc, worked)?;
+    }
+    Ok(())
+}
+
+#[test]
+fn nights_of_accepted_texts(rt: HostRuntime) -> Result<(), Fail> {
+    expect_nights(rt.alloc(), accepted::NIGHTS)
+}
+
+#[test]
+fn nights_with_sets_that_are_held(rt: HostRuntime) -> Result<(), Fail> {
+    expect_nights(rt.alloc(), held::NIGHTS)
+}
+
+#[test]
+fn nights_of_what_nobody_can_check(rt: HostRuntime) -> Result<(), Fail> {
+    expect_nights(rt.alloc(), refused::NIGHTS)
+}
+
+#[test]
+fn nights_of_rejected_sets(rt: HostRuntime) -> Result<(), Fail> {
+    expect_nights(rt.alloc(), rejected::NIGHTS)
+}
