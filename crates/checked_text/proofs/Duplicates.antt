@@ -125,7 +125,7 @@ interchange_uses known xs h nine = record {
           ap (λ (a : Numbered). a.place) e,
           holds_there (has_key known (number_key h)) xs of.n of.x of.there
               (both_true of.indexed ((bytes_eq-Decides (number_key h) (number_key of.x.header)).1 (key_of_number h of.x.header
-                  (ap number_in e)))),
+              (ap number_in e)))),
         )
         | inr g ↦ elim g.is [
           | inl e ↦ absurd (group_is_no_interchange _ _ _ (sym (ap number_in e)))
@@ -287,7 +287,7 @@ duplicates_by_place text setup es all n e there =
           let mine = interchange_by_place (knows setup) (entries_of es) n e.interchange h.1.number (entry_there es n e there)
           (of_places (knows setup) 1 (entries_of es) _ h.1.mine) in
           settled ∙ ap (λ (f : Option InterchangeFault). Some f) (told_as_duplicate (fault_alone setup e) earlier (none_is
-              (fault_alone setup e) (alone ∙ mine.0))
+          (fault_alone setup e) (alone ∙ mine.0))
           ((earlier_interchange text setup es n e all there mine.0).1 h)),
     )
 

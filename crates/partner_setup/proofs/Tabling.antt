@@ -122,7 +122,7 @@ two p h =
     let parts = and_parts (is_word 2 2 p.qualifier && is_id 1 15 p.id) (is_id 2 15 p.code) h in
     let word = (and_parts (is_word 2 2 p.qualifier) (is_id 1 15 p.id) parts.0).0 in
     let lengths = (and_parts (nat_le 2 (length p.qualifier) && nat_le (length p.qualifier) 2)
-        (list_all is_ascii_alphanumeric p.qualifier) word).0 in
+    (list_all is_ascii_alphanumeric p.qualifier) word).0 in
     let ends = and_parts (nat_le 2 (length p.qualifier)) (nat_le (length p.qualifier) 2) lengths in
     omega (arith, leb-true 2 (length p.qualifier) ends.0, leb-true (length p.qualifier) 2 ends.1)
 

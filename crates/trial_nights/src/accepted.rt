@@ -1,8 +1,8 @@
 //! Nights of texts that are accepted.
 use super::night::WorkedNight;
 use super::pieces::{
-    ACKNOWLEDGMENT, ACKNOWLEDGMENT_END, ANSWERED_ORDERS, FROM_ACME, ORDER, ORDERS, ORDERS_END,
-    ORDER_ACKNOWLEDGED, ORDER_FOR_BOLT, ORDER_IN_ITS_INTERCHANGE,
+    ACKNOWLEDGMENT, ACKNOWLEDGMENT_END, ANSWERED_ORDERS, FROM_ACME, ORDER, ORDER_ACKNOWLEDGED,
+    ORDER_FOR_BOLT, ORDER_IN_ITS_INTERCHANGE, ORDERS, ORDERS_END,
 };
 
 /// A text of no bytes.
@@ -71,20 +71,26 @@ const ORDER_FROM_EACH_OF_TWO_PARTNERS: WorkedNight = WorkedNight {
         GS|PO|BOLT|ACME|20260228|0915|3|X|005010!ST|850|0001!BEG|05|NE|B7||20260227!PO1||1|CA!SE|4|0001!GE|1|3!\
         IEA|1|000000003!",
     ],
-    acks: [&[ORDER_ACKNOWLEDGED], &[
-        b"ISA|00|          |00|          |ZZ|HUB            |ZZ|BOLT           |260301|1530|^|00501|000000001|0|P|:!\
+    acks: [
+        &[ORDER_ACKNOWLEDGED],
+        &[
+            b"ISA|00|          |00|          |ZZ|HUB            |ZZ|BOLT           |260301|1530|^|00501|000000001|0|P|:!\
         GS|FA|HUB|BOLT|20260301|1530|1|X|005010X231!ST|999|0001|005010X231!AK1|PO|3|005010!AK2|850|0001!IK5|A!\
         AK9|A|1|1|1!SE|6|0001!GE|1|1!IEA|1|000000001!",
-    ]],
-    boxes: [&[
-        b"ISA*00*          *00*          *ZZ*HUB            *01*ACME           *260301*1530*^*00501*000000002*0*P*>~\
+        ],
+    ],
+    boxes: [
+        &[
+            b"ISA*00*          *00*          *ZZ*HUB            *01*ACME           *260301*1530*^*00501*000000002*0*P*>~\
         GS*PO*BOLT*ACME*20260301*1530*1*X*005010~ST*850*0001~BEG*05*NE*B7**20260227~PO1**1*CA~SE*4*0001~GE*1*1~\
         IEA*1*000000002~",
-    ], &[
-        b"ISA|00|          |00|          |ZZ|HUB            |ZZ|BOLT           |260301|1530|^|00501|000000002|0|P|:!\
+        ],
+        &[
+            b"ISA|00|          |00|          |ZZ|HUB            |ZZ|BOLT           |260301|1530|^|00501|000000002|0|P|:!\
         GS|PO|ACME|BOLT|20260301|1530|1|X|005010!ST|850|0001!BEG|00|SA|PO100||20260228!PO1|1|5|EA|2.50!SE|4|0001!\
         GE|1|1!IEA|1|000000002!",
-    ]],
+        ],
+    ],
     report: b"interchange 1 at 0 from ACME control 000000007 accepted\ngroup PO 12 A sets 1 accepted 1\n\
         interchange 2 at 236 from BOLT control 000000003 accepted\ngroup PO 3 A sets 1 accepted 1\n\
         total interchanges 2 refused 0 groups 2 sets 2 accepted 2 held 0 outside 0\n",
@@ -102,19 +108,25 @@ const TOLERATED_FAULT: WorkedNight = WorkedNight {
         AAAAAAAAAAAAAAAAAAAAAAAAAAAAAAAAAAAAA~PO1*1*5*EA*2.50~SE*5*0001~",
         ORDERS_END,
     ],
-    acks: [&[
-        ACKNOWLEDGMENT,
-        ANSWERED_ORDERS,
-        b"AK2*850*0001~IK3*REF*3**8~IK4*3*352*5*AAAAAAAAAAAAAAAAAAAAAAAAAAAAAAAAAAAAAAAAAAAAAAAAAAAAAAAAAAAAAAAAAAAAAAAA\
+    acks: [
+        &[
+            ACKNOWLEDGMENT,
+            ANSWERED_ORDERS,
+            b"AK2*850*0001~IK3*REF*3**8~IK4*3*352*5*AAAAAAAAAAAAAAAAAAAAAAAAAAAAAAAAAAAAAAAAAAAAAAAAAAAAAAAAAAAAAAAAAAAAAAAA\
         AAAAAAAAAAAAAAAAAAAAAAAAAAA~IK5*E*5~AK9*E*1*1*1~SE*8*0001~",
-        ACKNOWLEDGMENT_END,
-    ], &[]],
-    boxes: [&[], &[
-        b"ISA|00|          |00|          |ZZ|HUB            |ZZ|BOLT           |260301|1530|^|00501|000000001|0|P|:!\
+            ACKNOWLEDGMENT_END,
+        ],
+        &[],
+    ],
+    boxes: [
+        &[],
+        &[
+            b"ISA|00|          |00|          |ZZ|HUB            |ZZ|BOLT           |260301|1530|^|00501|000000001|0|P|:!\
         GS|PO|ACME|BOLT|20260301|1530|1|X|005010!ST|850|0001!BEG|00|SA|PO100||20260228!\
         REF|DP|7|AAAAAAAAAAAAAAAAAAAAAAAAAAAAAAAAAAAAAAAAAAAAAAAAAAAAAAAAAAAAAAAAAAAAAAAAAAAAAAAAAAAAAAAAAAAAAAAAAAAA!\
         PO1|1|5|EA|2.50!SE|5|0001!GE|1|1!IEA|1|000000001!",
-    ]],
+        ],
+    ],
     report: b"interchange 1 at 0 from ACME control 000000007 accepted\ngroup PO 12 E sets 1 accepted 1\n\
         total interchanges 1 refused 0 groups 1 sets 1 accepted 1 held 0 outside 0\n",
     next: [(2, 1), (2, 2)],
@@ -131,24 +143,30 @@ const CAP_OF_ONE_AND_COUNTERS_THAT_BEGIN_ANEW: WorkedNight = WorkedNight {
         b"ST*850*0002~BEG*00*SA*PO100**20260228~PO1*1*5*EA*2.50~SE*4*0002~ST*850*0003~BEG*00*SA*PO100**20260228~\
         PO1*1*5*EA*2.50~SE*4*0003~GE*3*12~IEA*1*000000007~",
     ],
-    acks: [&[
-        b"ISA*00*          *00*          *ZZ*HUB            *01*ACME           *260301*1530*^*00501*999999998*0*P*>~\
+    acks: [
+        &[
+            b"ISA*00*          *00*          *ZZ*HUB            *01*ACME           *260301*1530*^*00501*999999998*0*P*>~\
         GS*FA*HUB*ACME*20260301*1530*1*X*005010X231~ST*999*0001*005010X231~",
-        ANSWERED_ORDERS,
-        b"AK2*850*0001~IK5*A~AK2*850*0002~IK5*A~AK2*850*0003~IK5*A~AK9*A*3*3*3~SE*10*0001~GE*1*1~IEA*1*999999998~",
-    ], &[]],
-    boxes: [&[
-        b"ISA*00*          *00*          *ZZ*HUB            *01*ACME           *260301*1530*^*00501*999999999*0*P*>~\
+            ANSWERED_ORDERS,
+            b"AK2*850*0001~IK5*A~AK2*850*0002~IK5*A~AK2*850*0003~IK5*A~AK9*A*3*3*3~SE*10*0001~GE*1*1~IEA*1*999999998~",
+        ],
+        &[],
+    ],
+    boxes: [
+        &[
+            b"ISA*00*          *00*          *ZZ*HUB            *01*ACME           *260301*1530*^*00501*999999999*0*P*>~\
         GS*PO*ACME*ACME*20260301*1530*1*X*005010~",
-        ORDER,
-        b"GE*1*1~IEA*1*999999999~ISA*00*          *00*          *ZZ*HUB            *01*ACME           *260301*1530*^*005\
+            ORDER,
+            b"GE*1*1~IEA*1*999999999~ISA*00*          *00*          *ZZ*HUB            *01*ACME           *260301*1530*^*005\
         01*000000001*0*P*>~GS*PO*ACME*ACME*20260301*1530*1*X*005010~ST*850*0002~BEG*00*SA*PO100**20260228~\
         PO1*1*5*EA*2.50~SE*4*0002~",
-        ACKNOWLEDGMENT_END,
-        b"ISA*00*          *00*          *ZZ*HUB            *01*ACME           *260301*1530*^*00501*000000002*0*P*>~\
+            ACKNOWLEDGMENT_END,
+            b"ISA*00*          *00*          *ZZ*HUB            *01*ACME           *260301*1530*^*00501*000000002*0*P*>~\
         GS*PO*ACME*ACME*20260301*1530*1*X*005010~ST*850*0003~BEG*00*SA*PO100**20260228~PO1*1*5*EA*2.50~SE*4*0003~\
         GE*1*1~IEA*1*000000002~",
-    ], &[]],
+        ],
+        &[],
+    ],
     report: b"interchange 1 at 0 from ACME control 000000007 accepted\ngroup PO 12 A sets 3 accepted 3\n\
         total interchanges 1 refused 0 groups 1 sets 3 accepted 3 held 0 outside 0\n",
     next: [(3, 4), (1, 1)],

@@ -1,8 +1,8 @@
 //! Nights whose sets are accepted, and not all delivered or not all of the text.
 use super::night::WorkedNight;
 use super::pieces::{
-    FROM_ACME, ORDER, ORDERS, ORDERS_END, ORDER_ACKNOWLEDGED, ORDER_FOR_BOLT,
-    ORDER_IN_ITS_INTERCHANGE,
+    FROM_ACME, ORDER, ORDER_ACKNOWLEDGED, ORDER_FOR_BOLT, ORDER_IN_ITS_INTERCHANGE, ORDERS,
+    ORDERS_END,
 };
 
 /// A header within an element.
@@ -44,7 +44,12 @@ const ELEMENT_SEPARATOR_OF_ITS_RECEIVER: WorkedNight = WorkedNight {
 /// A receiver without a route.
 const RECEIVER_WITHOUT_A_ROUTE: WorkedNight = WorkedNight {
     starts: (2, 1),
-    text: &[FROM_ACME, b"GS*PO*ACME*NOBODY*20260228*0900*12*X*005010~", ORDER, ORDERS_END],
+    text: &[
+        FROM_ACME,
+        b"GS*PO*ACME*NOBODY*20260228*0900*12*X*005010~",
+        ORDER,
+        ORDERS_END,
+    ],
     acks: [&[ORDER_ACKNOWLEDGED], &[]],
     boxes: [&[], &[]],
     report: b"interchange 1 at 0 from ACME control 000000007 accepted\ngroup PO 12 A sets 1 accepted 1\nheld set 1 route\n\

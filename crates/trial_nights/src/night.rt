@@ -55,7 +55,8 @@ fn expect_next(found: &[Counters], wanted: &[(u32, u32); 2]) -> Result<(), Fail>
     let ([acme, bolt], [wanted_acme, wanted_bolt]) = (found, wanted) else {
         return Err("other partners")?;
     };
-    if (acme.interchange, acme.set) != *wanted_acme || (bolt.interchange, bolt.set) != *wanted_bolt
+    if (acme.interchange, acme.set) != *wanted_acme
+        || (bolt.interchange, bolt.set) != *wanted_bolt
     {
         return Err("other counters")?;
     }

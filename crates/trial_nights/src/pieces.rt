@@ -23,16 +23,13 @@ pub const FROM_ACME: &[u8] =
     b"ISA*00*          *00*          *01*ACME           *ZZ*HUB            *260228*0900*^*00501*000000007*0*P*>~";
 
 /// The header of a group of orders.
-pub const ORDERS: &[u8] =
-    b"GS*PO*ACME*BOLT*20260228*0900*12*X*005010~";
+pub const ORDERS: &[u8] = b"GS*PO*ACME*BOLT*20260228*0900*12*X*005010~";
 
 /// An order.
-pub const ORDER: &[u8] =
-    b"ST*850*0001~BEG*00*SA*PO100**20260228~PO1*1*5*EA*2.50~SE*4*0001~";
+pub const ORDER: &[u8] = b"ST*850*0001~BEG*00*SA*PO100**20260228~PO1*1*5*EA*2.50~SE*4*0001~";
 
 /// The trailers behind one order.
-pub const ORDERS_END: &[u8] =
-    b"GE*1*12~IEA*1*000000007~";
+pub const ORDERS_END: &[u8] = b"GE*1*12~IEA*1*000000007~";
 
 /// The first acknowledgment to ACME up to its set's header.
 pub const ACKNOWLEDGMENT: &[u8] =
@@ -40,10 +37,7 @@ pub const ACKNOWLEDGMENT: &[u8] =
         GS*FA*HUB*ACME*20260301*1530*1*X*005010X231~ST*999*0001*005010X231~";
 
 /// AK1 of the group of orders.
-pub const ANSWERED_ORDERS: &[u8] =
-    b"AK1*PO*12*005010~";
+pub const ANSWERED_ORDERS: &[u8] = b"AK1*PO*12*005010~";
 
 /// The trailers of the first acknowledgment.
-pub const ACKNOWLEDGMENT_END: &[u8] =
-    b"GE*1*1~IEA*1*000000001~";
-
+pub const ACKNOWLEDGMENT_END: &[u8] = b"GE*1*1~IEA*1*000000001~";

@@ -1,8 +1,8 @@
 //! Nights of interchanges, groups and sets that nobody can check.
 use super::night::WorkedNight;
 use super::pieces::{
-    ACKNOWLEDGMENT, ACKNOWLEDGMENT_END, ANSWERED_ORDERS, FROM_ACME, ORDER, ORDERS, ORDERS_END,
-    ORDER_ACKNOWLEDGED, ORDER_FOR_BOLT, ORDER_IN_ITS_INTERCHANGE,
+    ACKNOWLEDGMENT, ACKNOWLEDGMENT_END, ANSWERED_ORDERS, FROM_ACME, ORDER, ORDER_ACKNOWLEDGED,
+    ORDER_FOR_BOLT, ORDER_IN_ITS_INTERCHANGE, ORDERS, ORDERS_END,
 };
 
 /// A header within a set.
@@ -54,7 +54,14 @@ const ACKNOWLEDGMENTS_AND_A_GROUP_THAT_NO_GUIDE_SERVES: WorkedNight = WorkedNigh
         b"TA1*000000001*260228*0900*A*000~GS*FA*ACME*HUB*20260228*0900*5*X*005010X231~ST*999*0001*005010X231~SE*2*0001~\
         GE*1*5~GS*IN*ACME*BOLT*20260228*0900*6*X*005010~ST*810*0001~SE*2*0001~GE*1*6~IEA*2*000000007~",
     ],
-    acks: [&[ACKNOWLEDGMENT, b"AK1*IN*6*005010~AK9*R*1*1*0*1~SE*4*0001~", ACKNOWLEDGMENT_END], &[]],
+    acks: [
+        &[
+            ACKNOWLEDGMENT,
+            b"AK1*IN*6*005010~AK9*R*1*1*0*1~SE*4*0001~",
+            ACKNOWLEDGMENT_END,
+        ],
+        &[],
+    ],
     boxes: [&[], &[]],
     report: b"interchange 1 at 0 from ACME control 000000007 accepted\nta1 1\ngroup FA 5 listed sets 1\n\
         group IN 6 R sets 1 accepted 0\ntotal interchanges 1 refused 0 groups 1 sets 1 accepted 0 held 0 outside 0\n",
@@ -65,8 +72,20 @@ const ACKNOWLEDGMENTS_AND_A_GROUP_THAT_NO_GUIDE_SERVES: WorkedNight = WorkedNigh
 /// A version that no guide serves.
 const VERSION_THAT_NO_GUIDE_SERVES: WorkedNight = WorkedNight {
     starts: (2, 1),
-    text: &[FROM_ACME, b"GS*PO*ACME*BOLT*20260228*0900*12*X*004010~", ORDER, ORDERS_END],
-    acks: [&[ACKNOWLEDGMENT, b"AK1*PO*12*004010~AK9*R*1*1*0*2~SE*4*0001~", ACKNOWLEDGMENT_END], &[]],
+    text: &[
+        FROM_ACME,
+        b"GS*PO*ACME*BOLT*20260228*0900*12*X*004010~",
+        ORDER,
+        ORDERS_END,
+    ],
+    acks: [
+        &[
+            ACKNOWLEDGMENT,
+            b"AK1*PO*12*004010~AK9*R*1*1*0*2~SE*4*0001~",
+            ACKNOWLEDGMENT_END,
+        ],
+        &[],
+    ],
     boxes: [&[], &[]],
     report: b"interchange 1 at 0 from ACME control 000000007 accepted\ngroup PO 12 R sets 1 accepted 0\n\
         total interchanges 1 refused 0 groups 1 sets 1 accepted 0 held 0 outside 0\n",
@@ -83,12 +102,15 @@ const SET_THAT_NO_GUIDE_SERVES: WorkedNight = WorkedNight {
         b"ST*860*0001~BEG*00*SA*PO100**20260228~PO1*1*5*EA*2.50~SE*4*0001~",
         ORDERS_END,
     ],
-    acks: [&[
-        ACKNOWLEDGMENT,
-        ANSWERED_ORDERS,
-        b"AK2*860*0001~IK5*R*1~AK9*R*1*1*0~SE*6*0001~",
-        ACKNOWLEDGMENT_END,
-    ], &[]],
+    acks: [
+        &[
+            ACKNOWLEDGMENT,
+            ANSWERED_ORDERS,
+            b"AK2*860*0001~IK5*R*1~AK9*R*1*1*0~SE*6*0001~",
+            ACKNOWLEDGMENT_END,
+        ],
+        &[],
+    ],
     boxes: [&[], &[]],
     report: b"interchange 1 at 0 from ACME control 000000007 accepted\ngroup PO 12 R sets 1 accepted 0\n\
         total interchanges 1 refused 0 groups 1 sets 1 accepted 0 held 0 outside 0\n",

@@ -108,7 +108,9 @@ fn built(alloc: Global, setup: &str, counters: &str) -> Result<Setup, NoSetup> {
 /// The setup of the two partners, by ACME's cap and its next interchange number.
 pub fn two_partners(alloc: Global, cap: u32, next: u32) -> Result<Setup, NoSetup> {
     let setup = format!(in alloc; "{TO_CAP}{cap}{BEHIND_CAP}")?;
-    let counters = format!(in alloc; "version = 1\n[[counter]]\npartner = \"ACME\"\ninterchange = {next}\nset = 1\n\
-        [[counter]]\npartner = \"BOLT\"\ninterchange = 1\nset = 1\n")?;
+    let counters = format!(in alloc;
+        "version = 1\n[[counter]]\npartner = \"ACME\"\ninterchange = {next}\nset = 1\n\
+        [[counter]]\npartner = \"BOLT\"\ninterchange = 1\nset = 1\n"
+    )?;
     built(alloc, setup.as_str(), counters.as_str())
 }
