@@ -20,7 +20,7 @@
 //! Source: the 999 guide (005010X231), ST, AK1, AK2, IK3, IK4, IK5, AK9 and SE; X12.5, interchange control
 //! header and trailer; X12.6, functional group header and trailer, segment.
 //!
-//! As its trial, the crate `trial_acknowledgments`, calls it:
+//! As its trial, the crate `trial_texts`, calls it:
 //!
 //! ```rust
 //! let bytes = write_ack_interchange(alloc, &envelope(), &at, 1, &[Items::from_vec(report)])?;

@@ -69,46 +69,46 @@ fn composites(alloc: Global) -> Result<Guide, Fail> {
 }
 
 const COMPONENTS_OF_COMPOSITES: Cases = &[
-    ("CMP*a****x", ""),
-    ("CMP", "1 0 0 1 C1 ;5 0 0 1 5 ;"),
-    ("CMP*>>^>****x", "1 0 0 1 C1 ;"),
-    ("CMP*a>>12****x", ""),
-    ("CMP*>>1****x", "1 1 1 1 11 ;"),
-    ("CMP*a>b****x", "1 2 1 I10 12 b;"),
-    ("CMP*abcd>>x****x", "1 1 1 5 11 abcd;1 3 1 6 13 x;"),
-    ("CMP*abcd>b>x>z>y****x", "1 4 1 13 C1 z;"),
-    ("CMP*a>>1>>****x", ""),
-    ("CMP*a*abc***x", "2 1 0 5 21 abc;"),
-    ("CMP*a*a>b***x", "2 2 0 13 C2 b;"),
-    ("CMP*a****x*z", "6 1 0 13 C6 z;"),
-    ("CMP*a****x*>z", "6 1 0 13 C6 ;"),
+    ["CMP*a****x", ""],
+    ["CMP", "1 0 0 1 C1 ;5 0 0 1 5 ;"],
+    ["CMP*>>^>****x", "1 0 0 1 C1 ;"],
+    ["CMP*a>>12****x", ""],
+    ["CMP*>>1****x", "1 1 1 1 11 ;"],
+    ["CMP*a>b****x", "1 2 1 I10 12 b;"],
+    ["CMP*abcd>>x****x", "1 1 1 5 11 abcd;1 3 1 6 13 x;"],
+    ["CMP*abcd>b>x>z>y****x", "1 4 1 13 C1 z;"],
+    ["CMP*a>>1>>****x", ""],
+    ["CMP*a*abc***x", "2 1 0 5 21 abc;"],
+    ["CMP*a*a>b***x", "2 2 0 13 C2 b;"],
+    ["CMP*a****x*z", "6 1 0 13 C6 z;"],
+    ["CMP*a****x*>z", "6 1 0 13 C6 ;"],
 ];
 
 const OCCURRENCES: Cases = &[
-    ("CMP*a^^b^^****x", ""),
-    ("CMP*a^b^c^d>e****x", "1 0 4 12 C1 d>e;"),
-    ("CMP*a^b^c^^d****x", "1 0 4 12 C1 ;"),
-    (
+    ["CMP*a^^b^^****x", ""],
+    ["CMP*a^b^c^d>e****x", "1 0 4 12 C1 d>e;"],
+    ["CMP*a^b^c^^d****x", "1 0 4 12 C1 ;"],
+    [
         "CMP*abcd^>>x^c>>y^abcd****x",
         "1 0 4 12 C1 abcd;1 1 1 5 11 abcd;1 1 2 1 11 ;1 3 2 6 13 x;1 3 3 6 13 y;",
-    ),
-    ("CMP*a^b>>>c****x", "1 4 2 13 C1 c;"),
-    ("CMP*a*a^bcd^e***x", "2 0 2 12 C2 bcd;"),
-    ("CMP*a**ab^abc**x", "3 0 2 5 3 abc;"),
-    ("CMP*a**a>b^c**x", "3 2 1 13 3 b;"),
-    ("CMP*a**abc^^x**x", "3 0 1 5 3 abc;3 0 3 12 3 x;"),
-    ("CMP*a**a>>^b>**x", ""),
-    ("CMP*a****x^y", "5 0 2 12 5 y;"),
+    ],
+    ["CMP*a^b>>>c****x", "1 4 2 13 C1 c;"],
+    ["CMP*a*a^bcd^e***x", "2 0 2 12 C2 bcd;"],
+    ["CMP*a**ab^abc**x", "3 0 2 5 3 abc;"],
+    ["CMP*a**a>b^c**x", "3 2 1 13 3 b;"],
+    ["CMP*a**abc^^x**x", "3 0 1 5 3 abc;3 0 3 12 3 x;"],
+    ["CMP*a**a>>^b>**x", ""],
+    ["CMP*a****x^y", "5 0 2 12 5 y;"],
 ];
 
 const NOT_USED_AND_WITHOUT_A_ROW: Cases = &[
-    ("CMP*a***q>^w*x", "4 0 0 I10 4 q>^w;"),
-    ("CMP*a***>^*x", ""),
-    ("CMP*a****x****", ""),
-    ("CMP*a****x**7", "7 0 0 3  7;"),
-    ("CMP*a****x****q", "7 0 0 3  ;"),
-    ("CMP*a****x**7*8*9", "7 0 0 3  7;"),
-    ("CMP*a****x**>^", ""),
+    ["CMP*a***q>^w*x", "4 0 0 I10 4 q>^w;"],
+    ["CMP*a***>^*x", ""],
+    ["CMP*a****x****", ""],
+    ["CMP*a****x**7", "7 0 0 3  7;"],
+    ["CMP*a****x****q", "7 0 0 3  ;"],
+    ["CMP*a****x**7*8*9", "7 0 0 3  7;"],
+    ["CMP*a****x**>^", ""],
 ];
 
 /// Whether each segment has just the faults beside it by the guide of composites.
@@ -129,10 +129,10 @@ fn composites_and_repetitions(rt: HostRuntime) -> Result<(), Fail> {
 }
 
 const WITHOUT_A_REPETITION_SEPARATOR: Cases = &[
-    ("CMP*a^b****x", ""),
-    ("CMP*a^bc>>1****x", "1 1 1 5 11 a^bc;"),
-    ("CMP*a****^", ""),
-    ("CMP*a***^*x", "4 0 0 I10 4 ^;"),
+    ["CMP*a^b****x", ""],
+    ["CMP*a^bc>>1****x", "1 1 1 5 11 a^bc;"],
+    ["CMP*a****^", ""],
+    ["CMP*a***^*x", "4 0 0 I10 4 ^;"],
 ];
 
 const NO_REPETITION_SEPARATOR: Delims = Delims {

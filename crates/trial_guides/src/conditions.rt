@@ -31,31 +31,31 @@ const SIX_ROWS: &[Line] = &[
 ];
 
 const PAIRED: Cases = &[
-    ("S", ""),
-    ("S**a", "3 0 0 2 3 ;5 0 0 2 5 ;"),
-    ("S**>*b", "2 0 0 2 2 ;5 0 0 2 5 ;"),
-    ("S**a*b**c", ""),
+    ["S", ""],
+    ["S**a", "3 0 0 2 3 ;5 0 0 2 5 ;"],
+    ["S**>*b", "2 0 0 2 2 ;5 0 0 2 5 ;"],
+    ["S**a*b**c", ""],
 ];
 
-const AT_LEAST_ONE: Cases = &[("S*a", "2 0 0 2 2 ;"), ("S***x", ""), ("S*****x", "")];
+const AT_LEAST_ONE: Cases = &[["S*a", "2 0 0 2 2 ;"], ["S***x", ""], ["S*****x", ""]];
 
 const AT_MOST_ONE: Cases = &[
-    ("S**a*b**c", "2 0 0 10 2 a;3 0 0 10 3 b;"),
-    ("S**a*b>c", "3 0 0 10 3 b>c;3 2 0 13 3 c;"),
-    ("S****x", ""),
-    ("S*****e", ""),
+    ["S**a*b**c", "2 0 0 10 2 a;3 0 0 10 3 b;"],
+    ["S**a*b>c", "3 0 0 10 3 b>c;3 2 0 13 3 c;"],
+    ["S****x", ""],
+    ["S*****e", ""],
 ];
 
 const ALL_OTHERS_WITH_THE_FIRST: Cases = &[
-    ("S*****e", "2 0 0 2 2 ;3 0 0 2 3 ;"),
-    ("S**a***e", "3 0 0 2 3 ;"),
-    ("S**a", ""),
+    ["S*****e", "2 0 0 2 2 ;3 0 0 2 3 ;"],
+    ["S**a***e", "3 0 0 2 3 ;"],
+    ["S**a", ""],
 ];
 
 const ONE_OTHER_WITH_THE_FIRST: Cases = &[
-    ("S*****e", "2 0 0 2 2 ;"),
-    ("S***b**e", ""),
-    ("S**a", ""),
+    ["S*****e", "2 0 0 2 2 ;"],
+    ["S***b**e", ""],
+    ["S**a", ""],
 ];
 
 const CONDITIONS: &[Group] = &[
@@ -112,7 +112,7 @@ const TWICE: &[Related] = &[
     (Relation::Conditional, &[2, 4, 3]),
 ];
 
-const FOUND_TWICE: Cases = &[("S**a", "3 0 0 2 3 ;4 0 0 2 4 ;"), ("S***b", "2 0 0 2 2 ;")];
+const FOUND_TWICE: Cases = &[["S**a", "3 0 0 2 3 ;4 0 0 2 4 ;"], ["S***b", "2 0 0 2 2 ;"]];
 
 /// Conditions of three relations, two of which exclude the same element.
 const SEVERAL: &[Related] = &[
@@ -123,11 +123,11 @@ const SEVERAL: &[Related] = &[
 ];
 
 const FOUND_OF_SEVERAL: Cases = &[
-    (
+    [
         "S**a**b",
         "1 0 0 2 1 ;2 0 0 10 2 a;3 0 0 2 3 ;4 0 0 10 4 b;",
-    ),
-    ("S*c", ""),
+    ],
+    ["S*c", ""],
 ];
 
 const TOGETHER: &[Group] = &[

@@ -84,29 +84,29 @@ fn first_faults(rt: HostRuntime) -> Result<(), Fail> {
 }
 
 /// Nodes of a file, and the fault of each.
-const NODES: &[(&str, &str)] = &[
-    ("", "None"),
-    ("1", "WrongKind(\"nodes\")"),
-    ("{}", "WrongKind(\"seg\")"),
-    ("{seg=\"REF\",loop=\"REF\",z=1}", "Unknown(\"z\")"),
-    ("{seg=\"REF\",min=0}", "Missing(\"max\")"),
-    ("{loop=\"L\",min=0,nodes=[{}]}", "Missing(\"max\")"),
-    (
+const NODES: &[[&str; 2]] = &[
+    ["", "None"],
+    ["1", "WrongKind(\"nodes\")"],
+    ["{}", "WrongKind(\"seg\")"],
+    ["{seg=\"REF\",loop=\"REF\",z=1}", "Unknown(\"z\")"],
+    ["{seg=\"REF\",min=0}", "Missing(\"max\")"],
+    ["{loop=\"L\",min=0,nodes=[{}]}", "Missing(\"max\")"],
+    [
         "{seg=\"REF\",min=2,max=1,elements=[]}",
         "Guide(BadBounds(1))",
-    ),
-    (
+    ],
+    [
         "{seg=\"REF\",min=0,max=1,elements=[\"1 M AN 1 1\",\"2 O AN 1 1\"],conditions=[\"R02\"]}",
         "Guide(BadCondition(1))",
-    ),
-    (
+    ],
+    [
         "{seg=\"REF\",min=0,max=1,elements=[]},{seg=\"REF\",min=0,max=1,elements=[]}",
         "Guide(Ambiguous(1, 2))",
-    ),
-    (
+    ],
+    [
         "{seg=\"BEG\",min=1,max=1,elements=[]},{loop=\"L\",min=0,max=9,nodes=[{seg=\"N1\",min=1,max=2,elements=[]}]}",
         "Guide(BadTrigger(2))",
-    ),
+    ],
 ];
 
 pub fn expect_node(alloc: Global, nodes: &str, wanted: &str) -> Result<(), Fail> {
@@ -114,8 +114,8 @@ pub fn expect_node(alloc: Global, nodes: &str, wanted: &str) -> Result<(), Fail>
     expect(alloc, nodes.as_bytes(), &fault, wanted)
 }
 
-fn expect_nodes(alloc: Global, cases: &[(&str, &str)]) -> Result<(), Fail> {
-    for (nodes, wanted) in cases {
+fn expect_nodes(alloc: Global, cases: &[[&str; 2]]) -> Result<(), Fail> {
+    for [nodes, wanted] in cases {
         expect_node(alloc, nodes, wanted)?;
     }
     Ok(())
@@ -131,31 +131,31 @@ const MALFORMED: &str = "WrongKind(\"elements\")";
 const OUT_OF_BOUNDS: &str = "Guide(BadBounds(1))";
 
 /// Element rows, and the fault of each.
-const ROWS: &[(&str, &str)] = &[
-    ("353 M ID 2 2", "None"),
-    ("- O N2 1 9 x3", "None"),
-    ("128 N", "None"),
-    ("1 O AN 1 30 wide = A B ! C", "None"),
-    ("40 O C x2 ; 1 M AN 1 2 ; 2 N", "None"),
-    ("40 O C", "None"),
-    ("1 M R 01 0004", "None"),
-    ("", MALFORMED),
-    ("353", MALFORMED),
-    ("353 M", MALFORMED),
-    ("353  M ID 2 2", MALFORMED),
-    ("353 M ID 2 2 ! A", MALFORMED),
-    ("353 M ID 2 2 = A ;", MALFORMED),
-    ("12345 M ID 2 2", MALFORMED),
-    ("353 M NA 2 2", MALFORMED),
-    ("353 M ID 2 4294967296", MALFORMED),
-    ("353 N ; 1 N", MALFORMED),
-    ("40 O C ; 1 M AN 1 2 x2", MALFORMED),
-    ("353 M ID 2 2 wide x2", MALFORMED),
-    ("353 M ID 2 2 =", OUT_OF_BOUNDS),
-    ("353 M ID 2 2 = A !", OUT_OF_BOUNDS),
-    ("353 M ID 0 2", OUT_OF_BOUNDS),
-    ("353 M ID 3 2", OUT_OF_BOUNDS),
-    ("353 M ID 1 2 x0", OUT_OF_BOUNDS),
+const ROWS: &[[&str; 2]] = &[
+    ["353 M ID 2 2", "None"],
+    ["- O N2 1 9 x3", "None"],
+    ["128 N", "None"],
+    ["1 O AN 1 30 wide = A B ! C", "None"],
+    ["40 O C x2 ; 1 M AN 1 2 ; 2 N", "None"],
+    ["40 O C", "None"],
+    ["1 M R 01 0004", "None"],
+    ["", MALFORMED],
+    ["353", MALFORMED],
+    ["353 M", MALFORMED],
+    ["353  M ID 2 2", MALFORMED],
+    ["353 M ID 2 2 ! A", MALFORMED],
+    ["353 M ID 2 2 = A ;", MALFORMED],
+    ["12345 M ID 2 2", MALFORMED],
+    ["353 M NA 2 2", MALFORMED],
+    ["353 M ID 2 4294967296", MALFORMED],
+    ["353 N ; 1 N", MALFORMED],
+    ["40 O C ; 1 M AN 1 2 x2", MALFORMED],
+    ["353 M ID 2 2 wide x2", MALFORMED],
+    ["353 M ID 2 2 =", OUT_OF_BOUNDS],
+    ["353 M ID 2 2 = A !", OUT_OF_BOUNDS],
+    ["353 M ID 0 2", OUT_OF_BOUNDS],
+    ["353 M ID 3 2", OUT_OF_BOUNDS],
+    ["353 M ID 1 2 x0", OUT_OF_BOUNDS],
 ];
 
 fn expect_row(alloc: Global, row: &str, wanted: &str) -> Result<(), Fail> {
@@ -163,8 +163,8 @@ fn expect_row(alloc: Global, row: &str, wanted: &str) -> Result<(), Fail> {
     expect(alloc, row.as_bytes(), &fault, wanted)
 }
 
-fn expect_rows(alloc: Global, cases: &[(&str, &str)]) -> Result<(), Fail> {
-    for (row, wanted) in cases {
+fn expect_rows(alloc: Global, cases: &[[&str; 2]]) -> Result<(), Fail> {
+    for [row, wanted] in cases {
         expect_row(alloc, row, wanted)?;
     }
     Ok(())

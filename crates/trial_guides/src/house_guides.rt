@@ -117,17 +117,17 @@ fn is_named(guide: &Guide, name: &[u8]) -> bool {
 }
 
 /// The house guides, the numbers and ids of their slots, and what else they say.
-const HOUSE: &[(&str, &str, &str)] = &[
-    (
+const HOUSE: &[[&str; 3]] = &[
+    [
         H850,
         " 1 BEG 2 REF 3 DTM 4 loop N9 5 N9 6 MSG 7 loop N1 8 N1 9 N3 10 N4 11 loop PO1 12 PO1 13 PID 14 CTT",
         "5 1 0 None 5",
-    ),
-    (
+    ],
+    [
         H856,
         " 1 BSN 2 loop HL 3 HL 4 LIN 5 SN1 6 PRF 7 TD5 8 REF 9 MAN 10 DTM 11 loop N1 12 N1",
         "4 0 1 Some((true, 5)) 5",
-    ),
+    ],
 ];
 
 fn expect_slots(alloc: Global, guide: &Guide, wanted: &str) -> Result<(), Fail> {
@@ -150,13 +150,13 @@ fn expect_both(
     expect_facts(alloc, guide, others)
 }
 
-fn expect_house(alloc: Global, case: &(&str, &str, &str)) -> Result<(), Fail> {
-    let (file, slots_and_ids, others) = *case;
+fn expect_house(alloc: Global, case: &[&str; 3]) -> Result<(), Fail> {
+    let [file, slots_and_ids, others] = *case;
     let guide = guide_of(alloc, file)?;
     expect_both(alloc, &guide, slots_and_ids, others)
 }
 
-fn expect_houses(alloc: Global, cases: &[(&str, &str, &str)]) -> Result<(), Fail> {
+fn expect_houses(alloc: Global, cases: &[[&str; 3]]) -> Result<(), Fail> {
     for case in cases {
         expect_house(alloc, case)?;
     }

@@ -105,22 +105,17 @@ fn expect_one(
 fn expect_each(
     alloc: Global,
     guide: &Guide,
-    bodies: &[(&str, &str)],
+    bodies: &[[&str; 2]],
     shown: Shown,
 ) -> Result<(), Fail> {
-    for (body, wanted) in bodies {
+    for [body, wanted] in bodies {
         expect_one(alloc, guide, body, wanted, shown)?;
     }
     Ok(())
 }
 
 /// Whether each body has by the guide of these rows what stands beside it.
-pub fn expect(
-    alloc: Global,
-    rows: &[Row],
-    bodies: &[(&str, &str)],
-    shown: Shown,
-) -> Result<(), Fail> {
+pub fn expect(alloc: Global, rows: &[Row], bodies: &[[&str; 2]], shown: Shown) -> Result<(), Fail> {
     let guide = guide_of(alloc, rows)?;
     expect_each(alloc, &guide, bodies, shown)
 }

@@ -46,12 +46,12 @@ const BEGINNING_OF_AN_ORDER_ROWS: &[Line] = &[
 ];
 
 const BEGINNING_OF_AN_ORDER: Cases = &[
-    ("BEG*00*SA*P1**20260228", ""),
-    (
+    ["BEG*00*SA*P1**20260228", ""],
+    [
         "BEG*01*SA*P1**20260229",
         "1 0 0 I6 353 01;5 0 0 8 373 20260229;",
-    ),
-    ("BEG*02*SA**", "1 0 0 7 353 02;3 0 0 1 324 ;5 0 0 1 373 ;"),
+    ],
+    ["BEG*02*SA**", "1 0 0 7 353 02;3 0 0 1 324 ;5 0 0 1 373 ;"],
 ];
 
 const REFERENCE_IDENTIFICATION_ROWS: &[Line] = &[
@@ -76,12 +76,12 @@ const REFERENCE_IDENTIFICATION_ROWS: &[Line] = &[
 ];
 
 const REFERENCE_IDENTIFICATION: Cases = &[
-    ("REF*DP*7", ""),
-    ("REF*DP", "2 0 0 2 127 ;"),
-    (
+    ["REF*DP*7", ""],
+    ["REF*DP", "2 0 0 2 127 ;"],
+    [
         "REF*DP*7*AAAAAAAAAAAAAAAAAAAAAAAAAAAAAAAAAAAAAAAAAAAAAAAAAAAAAAAAAAAAAAAAAAAAAAAAAAAAAAAAAAAAAAAAAAAAAAAAAAAA",
         "3 0 0 5 352 AAAAAAAAAAAAAAAAAAAAAAAAAAAAAAAAAAAAAAAAAAAAAAAAAAAAAAAAAAAAAAAAAAAAAAAAAAAAAAAAAAAAAAAAAAAAAAAAAAAA;",
-    ),
+    ],
 ];
 
 const DATE_OR_TIME_ROWS: &[Line] = &[
@@ -110,9 +110,9 @@ const DATE_OR_TIME_ROWS: &[Line] = &[
 ];
 
 const DATE_OR_TIME: Cases = &[
-    ("DTM*002*20260228", ""),
-    ("DTM*002**2460", "3 0 0 9 337 2460;"),
-    ("DTM*002", "2 0 0 2 373 ;"),
+    ["DTM*002*20260228", ""],
+    ["DTM*002**2460", "3 0 0 9 337 2460;"],
+    ["DTM*002", "2 0 0 2 373 ;"],
 ];
 
 const BASELINE_ITEM_ROWS: &[Line] = &[
@@ -166,9 +166,9 @@ const BASELINE_ITEM_ROWS: &[Line] = &[
 ];
 
 const LINE_OF_AN_ORDER: Cases = &[
-    ("PO1*1*5*EA*2.50*PE", ""),
-    ("PO1*1*-0012.5*EA***UP", "7 0 0 2 234 ;"),
-    ("PO1**0*DZ**PE", "3 0 0 I6 355 DZ;4 0 0 2 212 ;"),
+    ["PO1*1*5*EA*2.50*PE", ""],
+    ["PO1*1*-0012.5*EA***UP", "7 0 0 2 234 ;"],
+    ["PO1**0*DZ**PE", "3 0 0 I6 355 DZ;4 0 0 2 212 ;"],
 ];
 
 const SEGMENTS: &[Group] = &[

@@ -194,10 +194,10 @@ fn expect_one(
 }
 
 /// Segments, each beside its faults.
-pub type Cases = &'static [(&'static str, &'static str)];
+pub type Cases = &'static [[&'static str; 2]];
 
 fn expect_cases(alloc: Global, delims: Delims, guide: &Guide, cases: Cases) -> Result<(), Fail> {
-    for (segment, faults) in cases {
+    for [segment, faults] in cases {
         expect_one(alloc, delims, guide, segment.as_bytes(), faults.as_bytes())?;
     }
     Ok(())

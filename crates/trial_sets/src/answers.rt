@@ -133,7 +133,7 @@ fn expect_answer(
 /// Whether the 999 beside each of these groups answers it by a guide.
 pub fn expect_answers(alloc: Global, guide: &str, group: &str, cases: Cases) -> Result<(), Fail> {
     let guide = guide_of(alloc, guide)?;
-    for (body, wanted) in cases {
+    for [body, wanted] in cases {
         expect_answer(alloc, &guide, group, body, wanted)?;
     }
     Ok(())
@@ -142,33 +142,33 @@ pub fn expect_answers(alloc: Global, guide: &str, group: &str, cases: Cases) -> 
 /// Sets of an order and the GE behind them, and the 999 that answers them.
 const ORDERS: Cases = &[
     // clean
-    (
+    [
         "ST*850*0001~BEG*00*SA*PO100**20260228~PO1*1*5*EA*2.50~SE*4*0001~GE*1*12~",
         "ST*999*0001*005010X231~AK1*PO*12*005010~AK2*850*0001~IK5*A~AK9*A*1*1*1~SE*6*0001~",
-    ),
+    ],
     // a header and a trailer in error
-    (
+    [
         "ST*850*001~BEG*00*SA*PO100**20260228~PO1*1*5*EA*2.50~SE*5*0002~GE*1*12~",
         "ST*999*0001*005010X231~AK1*PO*12*005010~AK2*850*001~IK5*R*3*4*7~AK9*R*1*1*0~SE*6*0001~",
-    ),
+    ],
     // the second has the number of the first
-    (
+    [
         "ST*850*0001~BEG*00*SA*PO100**20260228~PO1*1*5*EA*2.50~SE*4*0001~\
           ST*850*0001~BEG*00*SA*PO100**20260228~PO1*1*5*EA*2.50~SE*4*0001~GE*2*12~",
         "ST*999*0001*005010X231~AK1*PO*12*005010~AK2*850*0001~IK5*A~AK2*850*0001~IK5*R*23~AK9*P*2*2*1~SE*8*0001~",
-    ),
+    ],
     // what is needed is missing, a loop is there too often, an id is unknown
-    (
+    [
         "ST*850*0001~REF*DP*7~N1*ST*A~N1*BT*B~N1*VN*C~Q9*1~PO1*1*5*EA~SE*8*0001~GE*1*12~",
         "ST*999*0001*005010X231~AK1*PO*12*005010~AK2*850*0001~IK3*BEG*2**3~IK3*N1*5*N1*4~IK3*Q9*6**1~IK5*R*5~\
           AK9*R*1*1*0~SE*9*0001~",
-    ),
-    (
+    ],
+    [
         "ST*850*0001~BEG*00*SA*PO100**20260228~SE*3*0001~GE*1*12~",
         "ST*999*0001*005010X231~AK1*PO*12*005010~AK2*850*0001~IK3*PO1*3*PO1*3~IK5*R*5~AK9*R*1*1*0~SE*7*0001~",
-    ),
+    ],
     // elements in error, of which one alone is tolerated; 99 bytes are shown of the 100 that stand in REF
-    (
+    [
         "ST*850*0001~BEG*01*SA*P1**20260229~REF*DP*7*\
           AAAAAAAAAAAAAAAAAAAAAAAAAAAAAAAAAAAAAAAAAAAAAAAAAAAAAAAAAAAAAAAAAAAAAAAAAAAAAAAAAAAAAAAAAAAAAAAAAAAA~\
           DTM*002**2460~PO1*1*-0012.5*EA***UP~SE*6*0001~GE*1*12~",
@@ -176,21 +176,21 @@ const ORDERS: Cases = &[
           IK3*BEG*2**8~IK4*1*353*I6*01~IK4*5*373*8*20260229~IK3*REF*3**8~IK4*3*352*5*\
           AAAAAAAAAAAAAAAAAAAAAAAAAAAAAAAAAAAAAAAAAAAAAAAAAAAAAAAAAAAAAAAAAAAAAAAAAAAAAAAAAAAAAAAAAAAAAAAAAAA~\
           IK3*DTM*4**8~IK4*3*337*9*2460~IK3*PO1*5*PO1*8~IK4*7*234*2~IK5*R*5*I5~AK9*R*1*1*0~SE*15*0001~",
-    ),
+    ],
     // the tolerated one alone
-    (
+    [
         "ST*850*0001~BEG*00*SA*PO100**20260228~REF*DP*7*\
           AAAAAAAAAAAAAAAAAAAAAAAAAAAAAAAAAAAAAAAAAAAAAAAAAAAAAAAAAAAAAAAAAAAAAAAAAAAAAAAAAAAAAAAAAAAAAAAAAAAA~\
           PO1*1*5*EA*2.50~SE*5*0001~GE*1*12~",
         "ST*999*0001*005010X231~AK1*PO*12*005010~AK2*850*0001~IK3*REF*3**8~IK4*3*352*5*\
           AAAAAAAAAAAAAAAAAAAAAAAAAAAAAAAAAAAAAAAAAAAAAAAAAAAAAAAAAAAAAAAAAAAAAAAAAAAAAAAAAAAAAAAAAAAAAAAAAAA~\
           IK5*E*5~AK9*E*1*1*1~SE*8*0001~",
-    ),
+    ],
     // another one alone
-    (
+    [
         "ST*850*0001~BEG*00*SA*PO100**20260228~PO1*1*5*XX~SE*4*0001~GE*1*12~",
         "ST*999*0001*005010X231~AK1*PO*12*005010~AK2*850*0001~IK3*PO1*3*PO1*8~IK4*3*355*7*XX~IK5*R*5~AK9*R*1*1*0~SE*8*0001~",
-    ),
+    ],
 ];
 
 #[test]

@@ -5,33 +5,33 @@ use std::alloc::Global;
 use std::test::Fail;
 
 /// What stands before a clean body and behind it, and what is found.
-const ORDERS: &[(&str, &str, &str)] = &[
-    ("ST*850*0001", "SE*4*0001~", " clean\n"),
+const ORDERS: &[[&str; 3]] = &[
+    ["ST*850*0001", "SE*4*0001~", " clean\n"],
     // SE01 is a number: zeros before it don't count, and it has 10 digits at most
-    ("ST*850*0001", "SE*0000000004*0001~", " clean\n"),
-    ("ST*850*0001", "SE*00000000004*0001~", " 4\n"),
+    ["ST*850*0001", "SE*0000000004*0001~", " clean\n"],
+    ["ST*850*0001", "SE*00000000004*0001~", " 4\n"],
     // it counts ST and SE
-    ("ST*850*0001", "SE*2*0001~", " 4\n"),
-    ("ST*850*0001", "SE*3*0001~", " 4\n"),
-    ("ST*850*0001", "SE**0001~", " 4\n"),
-    ("ST*850*0001", "SE*4*0002~", " 3\n"),
-    ("ST*850*0001", "SE*4*1~", " 3\n"),
-    ("ST*850*0001", "SE~", " 3 4\n"),
-    ("ST*850*001", "SE*5*0002~", " 3 4 7\n"),
-    ("ST*850*001", "SE*4*001~", " 7\n"),
-    ("ST*850", "SE*4~", " 7\n"),
-    ("ST*850*0001", "", " 2\n"),
-    ("ST*850*001", "", " 2 7\n"),
+    ["ST*850*0001", "SE*2*0001~", " 4\n"],
+    ["ST*850*0001", "SE*3*0001~", " 4\n"],
+    ["ST*850*0001", "SE**0001~", " 4\n"],
+    ["ST*850*0001", "SE*4*0002~", " 3\n"],
+    ["ST*850*0001", "SE*4*1~", " 3\n"],
+    ["ST*850*0001", "SE~", " 3 4\n"],
+    ["ST*850*001", "SE*5*0002~", " 3 4 7\n"],
+    ["ST*850*001", "SE*4*001~", " 7\n"],
+    ["ST*850", "SE*4~", " 7\n"],
+    ["ST*850*0001", "", " 2\n"],
+    ["ST*850*001", "", " 2 7\n"],
     // a guide without a convention asks for none
-    ("ST*850*0001*OTHER", "SE*4*0001~", " clean\n"),
+    ["ST*850*0001*OTHER", "SE*4*0001~", " clean\n"],
     // further elements aren't looked at
-    ("ST*850*0001**X", "SE*4*0001*X~", " clean\n"),
+    ["ST*850*0001**X", "SE*4*0001*X~", " clean\n"],
 ];
 
 /// Whether just this is found in an order between each of these.
-fn expect_envelopes(alloc: Global, cases: &[(&str, &str, &str)]) -> Result<(), Fail> {
+fn expect_envelopes(alloc: Global, cases: &[[&str; 3]]) -> Result<(), Fail> {
     let guide = guide_of(alloc, ORDER)?;
-    for (header, trailer, wanted) in cases {
+    for [header, trailer, wanted] in cases {
         let set = format!(in alloc; "{header}~BEG*00*SA*P1**20260228~PO1*1*5*EA~{trailer}")?;
         expect_told(alloc, Some(&guide), set.as_str(), wanted)?;
     }
@@ -45,17 +45,17 @@ fn envelopes(rt: HostRuntime) -> Result<(), Fail> {
 
 /// ST03 of a notice under a convention, and what is found.
 const CONVENTIONS: Cases = &[
-    ("", " clean\n"),
-    ("*", " clean\n"),
-    ("*HUB1", " clean\n"),
-    ("*HUB2", " I6\n"),
-    ("*HUB", " I6\n"),
+    ["", " clean\n"],
+    ["*", " clean\n"],
+    ["*HUB1", " clean\n"],
+    ["*HUB2", " I6\n"],
+    ["*HUB", " I6\n"],
 ];
 
 /// Whether just this is found in a notice with each of these.
 fn expect_conventions(alloc: Global, cases: Cases) -> Result<(), Fail> {
     let guide = guide_of(alloc, NOTICE)?;
-    for (convention, wanted) in cases {
+    for [convention, wanted] in cases {
         let set = format!(in alloc;
             "ST*856*0001{convention}~BSN*00~HL*1~REF*IA*X~REF*IA*Y~SE*6*0001~"
         )?;
@@ -72,15 +72,15 @@ fn conventions(rt: HostRuntime) -> Result<(), Fail> {
 /// Sets of one group, one behind the other, and what is found in each.
 const GROUPS: Cases = &[
     // an open set ends before the next one; whether a number was seen before isn't asked
-    (
+    [
         "ST*850*0001~BEG*00*SA*P1**20260228~PO1*1*5*EA~ST*850*0001~BEG*00*SA*P1**20260228~PO1*1*5*EA~SE*4*0001~",
         " 2\n clean\n",
-    ),
-    (
+    ],
+    [
         "ST*850*0001~ST*850*0002~SE*2*0002~",
         "2 BEG() 3 1;2 PO1(PO1) 3 7; 5 2\n2 BEG() 3 1;2 PO1(PO1) 3 7; 5\n",
-    ),
-    ("", ""),
+    ],
+    ["", ""],
 ];
 
 #[test]
@@ -90,17 +90,17 @@ fn groups(rt: HostRuntime) -> Result<(), Fail> {
 
 /// Sets without a guide, and what is found: no segment is looked at.
 const ALONE: Cases = &[
-    (
+    [
         "ST*860*0001~BEG*00*SA*P1**20260228~PO1*1*5*EA~SE*4*0001~",
         " 1\n",
-    ),
-    ("ST*860*0001~QQ~SE*3*0001~", " 1\n"),
-    ("ST*860*001*HUB2~QQ~", " 1 2 7\n"),
-    ("ST*860*001~QQ~SE*9*0001~", " 1 3 4 7\n"),
+    ],
+    ["ST*860*0001~QQ~SE*3*0001~", " 1\n"],
+    ["ST*860*001*HUB2~QQ~", " 1 2 7\n"],
+    ["ST*860*001~QQ~SE*9*0001~", " 1 3 4 7\n"],
 ];
 
 fn expect_alone(alloc: Global, cases: Cases) -> Result<(), Fail> {
-    for (sets, wanted) in cases {
+    for [sets, wanted] in cases {
         expect_told(alloc, None, sets, wanted)?;
     }
     Ok(())

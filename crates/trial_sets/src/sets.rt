@@ -137,7 +137,7 @@ fn told(alloc: Global, guide: Option<&Guide>, sets: &str) -> Result<Vec<u8>, Fai
 }
 
 /// Text, beside what is made of it.
-pub type Cases = &'static [(&'static str, &'static str)];
+pub type Cases = &'static [[&'static str; 2]];
 
 /// Whether what was made of a text is what is wanted.
 pub fn expect_same(alloc: Global, text: &str, found: &[u8], wanted: &str) -> Result<(), Fail> {
@@ -162,7 +162,7 @@ pub fn expect_told(
 /// Whether what stands beside each of these groups of sets is found in it by a guide.
 pub fn expect(alloc: Global, guide: &str, cases: Cases) -> Result<(), Fail> {
     let guide = guide_of(alloc, guide)?;
-    for (sets, wanted) in cases {
+    for [sets, wanted] in cases {
         expect_told(alloc, Some(&guide), sets, wanted)?;
     }
     Ok(())

@@ -1,0 +1,162 @@
+-- The program's failures (own): the line that each prints, and the status that it ends with.
+use Rattle.std.specs.Prelude.{ℕ, ◌≡◌, ◌≢◌, List, [], ◌++◌, Option, None, Some, Result, Ok, IsErr, codes, decimal}
+use Rattle.std.specs.Borrow.{Bor}
+use Rattle.std.specs.declared.io.ErrorKind.{ErrorKind}
+use Rattle.std.specs.declared.io.ErrorKind.TheVariants.{OutOfMemory}
+use Rattle.guide_tree.specs.Faults as guide
+use Rattle.guide_tree.specs.declared.fault.GuideFault.{GuideFault}
+use Rattle.guide_tree.specs.declared.fault.GuideFault.TheVariants as own
+use Rattle.guide_toml.specs.Refusals as guide_file
+use Rattle.guide_toml.specs.declared.fault.GuideFileFault.{GuideFileFault}
+use Rattle.guide_toml.specs.declared.fault.GuideFileFault.TheVariants as fault
+use Rattle.partner_setup.specs.Answers.{refusal_number, setup_number}
+use Rattle.partner_setup.specs.declared.file_fault.FileFault.{FileFault}
+use Rattle.partner_setup.specs.declared.file_fault.FileFault.TheVariants as file
+use Rattle.partner_setup.specs.declared.setup_fault.SetupFault.{SetupFault}
+use Rattle.partner_setup.specs.declared.setup_fault.SetupFault.TheVariants as setup
+use Rattle.night_command.specs.declared.failure.Failure.{Failure}
+use Rattle.night_command.specs.declared.failure.Failure.TheVariants as failure
+
+-- what failed
+abbrev pub subject_of : Failure → List ℕ
+subject_of failure.Usage = codes "usage"
+subject_of (failure.Guide path refusal) = codes "guide "
+subject_of (failure.SetupFile refusal) = codes "setup file"
+subject_of (failure.CountersFile refusal) = codes "counters file"
+subject_of (failure.Setup refusal) = codes "setup"
+subject_of failure.Input = codes "input"
+subject_of failure.InputTooLong = codes "input too long"
+subject_of (failure.Output name) = codes "output "
+subject_of failure.Stdout = codes "output stdout"
+subject_of failure.Memory = codes "memory"
+
+-- the path of a guide, as it was given, or the name of a file that is written
+abbrev pub name_of : Failure → List ℕ
+name_of (failure.Guide path refusal) = path.now
+name_of (failure.Output name) = name
+name_of _ = []
+
+-- a number behind a space
+abbrev pub number_text : ℕ → List ℕ
+number_text n = codes " " ++ decimal n
+
+-- the number of a file's refusal, and 0 where the file can't be read
+abbrev pub file_number : Option FileFault → ℕ
+file_number None = 0
+file_number (Some refusal) = refusal_number refusal
+
+abbrev pub guide_file_number : Option GuideFileFault → ℕ
+guide_file_number None = 0
+guide_file_number (Some refusal) = guide_file.refusal_number refusal
+
+-- behind a point, the number of a guide's own fault
+abbrev pub own_number : Option GuideFileFault → List ℕ
+own_number (Some (fault.Guide refused)) = codes "." ++ decimal (guide.refusal_number refused)
+own_number _ = []
+
+-- the number of the refusal
+abbrev pub number_of : Failure → List ℕ
+number_of (failure.Guide path refusal) = number_text (guide_file_number refusal) ++ own_number refusal
+number_of (failure.SetupFile refusal) = number_text (file_number refusal)
+number_of (failure.CountersFile refusal) = number_text (file_number refusal)
+number_of (failure.Setup refusal) = number_text (setup_number refusal)
+number_of _ = []
+
+-- the line on standard error
+abbrev pub line_of : Failure → List ℕ
+line_of f = codes "nighthub: " ++ (subject_of f ++ (name_of f ++ (number_of f ++ codes "\n")))
+
+abbrev pub status_of : Failure → ℕ
+status_of failure.Usage = 2
+status_of (failure.Guide path refusal) = 3
+status_of (failure.SetupFile refusal) = 3
+status_of (failure.CountersFile refusal) = 3
+status_of (failure.Setup refusal) = 3
+status_of failure.Input = 4
+status_of failure.InputTooLong = 4
+status_of (failure.Output name) = 5
+status_of failure.Stdout = 5
+status_of failure.Memory = 6
+
+-- what reading the words may fail by
+abbrev pub IsOfWords : Failure → Type 0
+IsOfWords failure.Usage = Unit {0}
+IsOfWords failure.Memory = Unit {0}
+IsOfWords _ = ⊥
+
+-- what a run may fail by whose words are a command line
+abbrev pub IsOfRun : Failure → Type 0
+IsOfRun failure.Usage = ⊥
+IsOfRun _ = Unit {0}
+
+-- what a refusal fails by: want of memory is never one of the file
+abbrev pub own_failure : Bor (List ℕ) → GuideFault → Failure
+own_failure path own.NoMemory = failure.Memory
+own_failure path own.TooDeep = failure.Guide path (Some (fault.Guide own.TooDeep))
+own_failure path own.TooMany = failure.Guide path (Some (fault.Guide own.TooMany))
+own_failure path (own.BadBounds slot) = failure.Guide path (Some (fault.Guide (own.BadBounds slot)))
+own_failure path (own.BadTrigger slot) = failure.Guide path (Some (fault.Guide (own.BadTrigger slot)))
+own_failure path (own.Ambiguous a b) = failure.Guide path (Some (fault.Guide (own.Ambiguous a b)))
+own_failure path (own.BadCondition slot) = failure.Guide path (Some (fault.Guide (own.BadCondition slot)))
+
+abbrev pub guide_failure : Bor (List ℕ) → GuideFileFault → Failure
+guide_failure path fault.NotToml = failure.Guide path (Some fault.NotToml)
+guide_failure path (fault.Missing key) = failure.Guide path (Some (fault.Missing key))
+guide_failure path (fault.WrongKind key) = failure.Guide path (Some (fault.WrongKind key))
+guide_failure path (fault.Unknown key) = failure.Guide path (Some (fault.Unknown key))
+guide_failure path (fault.Guide refused) = own_failure path refused
+guide_failure path fault.NoMemory = failure.Memory
+
+abbrev pub setup_file_failure : FileFault → Failure
+setup_file_failure file.NoMemory = failure.Memory
+setup_file_failure file.NotToml = failure.SetupFile (Some file.NotToml)
+setup_file_failure (file.Missing key) = failure.SetupFile (Some (file.Missing key))
+setup_file_failure (file.WrongKind key) = failure.SetupFile (Some (file.WrongKind key))
+setup_file_failure (file.Unknown key) = failure.SetupFile (Some (file.Unknown key))
+
+abbrev pub counters_failure : FileFault → Failure
+counters_failure file.NoMemory = failure.Memory
+counters_failure file.NotToml = failure.CountersFile (Some file.NotToml)
+counters_failure (file.Missing key) = failure.CountersFile (Some (file.Missing key))
+counters_failure (file.WrongKind key) = failure.CountersFile (Some (file.WrongKind key))
+counters_failure (file.Unknown key) = failure.CountersFile (Some (file.Unknown key))
+
+abbrev pub setup_failure : SetupFault → Failure
+setup_failure setup.NoMemory = failure.Memory
+setup_failure setup.SamePartner = failure.Setup setup.SamePartner
+setup_failure setup.BadDelimiters = failure.Setup setup.BadDelimiters
+setup_failure setup.BadId = failure.Setup setup.BadId
+setup_failure setup.BadGuides = failure.Setup setup.BadGuides
+setup_failure setup.BadRoute = failure.Setup setup.BadRoute
+setup_failure setup.BadCounter = failure.Setup setup.BadCounter
+setup_failure setup.BadCap = failure.Setup setup.BadCap
+
+-- what the night of a text may fail by
+abbrev pub IsOfNight : Failure → Type 0
+IsOfNight failure.InputTooLong = Unit {0}
+IsOfNight (failure.Output name) = Unit {0}
+IsOfNight failure.Memory = Unit {0}
+IsOfNight _ = ⊥
+
+-- what reading the input may fail by
+abbrev pub IsOfInput : Failure → Type 0
+IsOfInput failure.Input = Unit {0}
+IsOfInput failure.InputTooLong = Unit {0}
+IsOfInput failure.Memory = Unit {0}
+IsOfInput _ = ⊥
+
+-- what a reader may fail by
+abbrev pub IsOfReading : Failure → Type 0
+IsOfReading failure.Input = Unit {0}
+IsOfReading failure.Memory = Unit {0}
+IsOfReading _ = ⊥
+
+-- a fault of the system is want of memory, or stands for another failure
+pub record IsMemoryOr (kind : ErrorKind) (other failed : Failure) : Type 0 where
+  pub memory : kind ≡ OutOfMemory → failed ≡ failure.Memory
+  pub other_fault : kind ≢ OutOfMemory → failed ≡ other
+
+-- a fault of the system is want of memory, or leaves a file without bytes
+pub record IsMissing {A E : Type 0} (kind : ErrorKind) (result : Result (Option A) E) : Type 0 where
+  pub memory : kind ≡ OutOfMemory → IsErr result
+  pub other_fault : kind ≢ OutOfMemory → result ≡ Ok None

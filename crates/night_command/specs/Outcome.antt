@@ -1,0 +1,61 @@
+-- The program's results (own): what is printed, and the status.
+use Rattle.std.specs.Prelude.{◌≡◌, ◌≤◌, ℕ, if◌then◌else◌, List, ◌++◌, Option, codes, length, string_bytes}
+use Rattle.std.specs.Io.KnownBytes.{Appends}
+use Rattle.hub_kinds.specs.declared.limits.TheConstants.{LONGEST_TEXT}
+use Rattle.hub_run.specs.Night.{IsNight}
+use Rattle.hub_run.specs.declared.night.Night.{Night}
+use Rattle.night_report.specs.Clean.{is_clean, last_of, lines_of}
+use Rattle.partner_setup.specs.Setup.{SetupValue}
+use Rattle.clap.specs.Words.{Text}
+use Rattle.night_command.specs.CommandLine.{AreOptions, AsksForText, guide_paths, value_of, values_of}
+use Rattle.night_command.specs.Folder.{AddsFiles, File}
+use Rattle.night_command.specs.NightFiles.{night_files}
+use Rattle.night_command.specs.SetupFiles.{IsSetupAt}
+use Rattle.night_command.specs.declared.command.Options.{Options}
+use Rattle.night_command.specs.declared.outcome.Outcome.{Outcome}
+use Rattle.night_command.specs.declared.outcome.Outcome.TheVariants.{Shown, Ran}
+
+-- the report's last line, with its LF
+abbrev pub last_line : (report : List ℕ) → List ℕ
+last_line report = last_of (lines_of report) ++ codes "\n"
+
+-- the bytes that are printed
+abbrev pub text_of : Outcome → List ℕ
+text_of (Shown text) = string_bytes text
+text_of (Ran night) = last_line night.report
+
+-- 0 where the night was clean
+abbrev pub status_of : Outcome → ℕ
+status_of (Shown text) = 0
+status_of (Ran night) = if is_clean night.report then 0 else 1
+
+-- the night of some text that isn't too long, at the moment of the options and by a setup that some files make, whose guides have the
+-- paths of the options
+pub record IsNightBy (options : Options) (night : Night) : Type 0 where
+  pub setup : SetupValue
+  pub made : IsSetupAt (guide_paths options) setup
+  pub text : List ℕ
+  pub within : length text ≤ LONGEST_TEXT
+  pub is_night : IsNight text setup options.at night
+
+-- such a night was run: what was printed is the last line of its report, and the status is its own
+pub record IsPrinted (options : Options) (status : ℕ) (was is : Option (List ℕ)) : Type 0 where
+  pub night : Night
+  pub by : IsNightBy options night
+  pub own_status : status ≡ status_of (Ran night)
+  pub printed : Appends was is (text_of (Ran night))
+
+-- a night is given: it is that of a text, a setup and a moment, its files stand in the folder behind what that had, the last line of its
+-- report is printed, and the status is its own
+pub record IsGiven (text : List ℕ) (setup : SetupValue) (at : List ℕ) (status : ℕ) (had has : Option (List File))
+    (was is : Option (List ℕ)) : Type 0 where
+  pub night : Night
+  pub is_night : IsNight text setup at night
+  pub files : AddsFiles had has (night_files setup night)
+  pub own_status : status ≡ status_of (Ran night)
+  pub printed : Appends was is (text_of (Ran night))
+
+-- what these words may have printed: a text where they ask for one, otherwise a night by the options that they give
+abbrev pub IsOutcome : List Text → Outcome → Type 0
+IsOutcome words (Shown text) = AsksForText words
+IsOutcome words (Ran night) = (options : Options) × AreOptions (value_of words) (values_of words) options × IsNightBy options night

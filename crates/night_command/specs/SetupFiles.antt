@@ -1,0 +1,150 @@
+-- The files of a setup (own): what the bytes of each say, the setup that they make together, and the first refusal where they make none.
+-- A file that can't be read has no bytes.
+use Rattle.std.specs.Prelude.{◌≡◌, ◌⊎◌, ⊤, ℕ, List, [], ◌∷◌, map, Option, None, Some, Result, Ok, if◌then◌else◌}
+use Rattle.std.specs.Str.{is_utf8}
+use Rattle.toml.specs.Data.{Members}
+use Rattle.toml.specs.Parse.{parse_document}
+use Rattle.guide_tree.specs.declared.rows.GuideRows.{GuideRows}
+use Rattle.guide_toml.specs.Answers.{Answers, Refuses}
+use Rattle.guide_toml.specs.Guides.{guide_of_table}
+use Rattle.guide_toml.specs.Meanings.{FailsAs}
+use Rattle.guide_toml.specs.Refusals.{Refusal}
+use Rattle.guide_toml.specs.declared.fault.GuideFileFault.{GuideFileFault}
+use Rattle.guide_toml.specs.declared.fault.GuideFileFault.TheVariants as fault
+use Rattle.partner_setup.specs.Answers.{meaning_of}
+use Rattle.partner_setup.specs.CountersFile.{counters_of_table}
+use Rattle.partner_setup.specs.Setup.{SetupValue, setup_of}
+use Rattle.partner_setup.specs.SetupFaults.{first_fault}
+use Rattle.partner_setup.specs.SetupFile.{setup_of_table}
+use Rattle.partner_setup.specs.declared.file_fault.FileFault.{FileFault}
+use Rattle.partner_setup.specs.declared.file_fault.FileFault.TheVariants as file
+use Rattle.partner_setup.specs.declared.rows.CounterRow.{CounterRow}
+use Rattle.partner_setup.specs.declared.rows.SetupRows.{SetupRows}
+use Rattle.night_command.specs.declared.failure.Failure.{Failure}
+use Rattle.night_command.specs.declared.failure.Failure.TheVariants as failure
+use Rattle.night_command.specs.declared.setup_files.GuideFile.{GuideFile}
+use Rattle.night_command.specs.declared.setup_files.SetupFiles.{SetupFiles}
+
+-- the table that bytes write
+abbrev pub table_of : (bytes : List ℕ) → Option Members
+table_of bytes = if is_utf8 bytes then parse_document bytes else None
+
+-- bytes write a table of which this holds
+abbrev pub HasTable : (bytes : List ℕ) → (Members → Type 0) → Type 0
+HasTable bytes P = (t : Members) × (table_of bytes ≡ Some t) × P t
+
+-- the rows that a setup file or a counters file writes, where its table is read so
+abbrev pub IsFileOf : {A : Type 0} → (Members → Result A Refusal) → Option (List ℕ) → A → Type 0
+IsFileOf read None rows = ⊥
+IsFileOf read (Some bytes) rows = HasTable bytes (λ t. read t ≡ Ok rows)
+
+-- why its bytes write none: they are no table, or the first fault of the table; want of memory says nothing of them
+abbrev pub IsFaultOf : {A : Type 0} → (Members → Result A Refusal) → (bytes : List ℕ) → FileFault → Type 0
+IsFaultOf read bytes file.NotToml = table_of bytes ≡ None
+IsFaultOf read bytes file.NoMemory = ⊥
+IsFaultOf read bytes refusal = HasTable bytes (λ t. FailsAs (meaning_of refusal) (read t))
+
+-- why a file writes none; none stands for the refusal of one that can't be read
+abbrev pub IsFileRefused : {A : Type 0} → (Members → Result A Refusal) → Option (List ℕ) → Option FileFault → Type 0
+IsFileRefused read None None = ⊤
+IsFileRefused read None (Some refusal) = ⊥
+IsFileRefused read (Some bytes) None = ⊥
+IsFileRefused read (Some bytes) (Some refusal) = IsFaultOf read bytes refusal
+
+-- the guide that a guide file writes
+abbrev pub IsGuideOf : Option (List ℕ) → GuideRows → Type 0
+IsGuideOf None guide = ⊥
+IsGuideOf (Some bytes) guide = HasTable bytes (λ t. Answers (Ok guide) (guide_of_table t))
+
+-- why its bytes write none
+abbrev pub IsGuideFaultOf : (bytes : List ℕ) → GuideFileFault → Type 0
+IsGuideFaultOf bytes fault.NotToml = table_of bytes ≡ None
+IsGuideFaultOf bytes fault.NoMemory = ⊥
+IsGuideFaultOf bytes refusal = HasTable bytes (λ t. Refuses refusal (guide_of_table t))
+
+-- why a guide file writes none
+abbrev pub IsGuideRefused : Option (List ℕ) → Option GuideFileFault → Type 0
+IsGuideRefused None None = ⊤
+IsGuideRefused None (Some refusal) = ⊥
+IsGuideRefused (Some bytes) None = ⊥
+IsGuideRefused (Some bytes) (Some refusal) = IsGuideFaultOf bytes refusal
+
+abbrev pub path_of : GuideFile → List ℕ
+path_of file = file.path.now
+
+-- the guides of all guide files, in their order
+abbrev pub AreGuidesOf : List GuideFile → List GuideRows → Type 0
+AreGuidesOf [] [] = ⊤
+AreGuidesOf [] (g ∷ gs) = ⊥
+AreGuidesOf (f ∷ fs) [] = ⊥
+AreGuidesOf (f ∷ fs) (g ∷ gs) = IsGuideOf f.bytes g × AreGuidesOf fs gs
+
+-- the first guide file that writes none, and why
+abbrev pub IsFirstGuideRefused : List GuideFile → (path : List ℕ) → Option GuideFileFault → Type 0
+IsFirstGuideRefused [] path refusal = ⊥
+IsFirstGuideRefused (f ∷ fs) path refusal =
+    ((path_of f ≡ path) × IsGuideRefused f.bytes refusal)
+    ⊎ ((g : GuideRows) × IsGuideOf f.bytes g × IsFirstGuideRefused fs path refusal)
+
+-- what the files write where none is refused: the guides, then the setup file's rows, then those of the counters file
+abbrev pub AreRead : SetupFiles → List GuideRows → SetupRows → List CounterRow → Type 0
+AreRead files guides rows counters =
+    AreGuidesOf files.guides guides × IsFileOf setup_of_table files.setup rows × IsFileOf counters_of_table files.counters counters
+
+-- the setup that the files make
+pub record IsSetupOf (files : SetupFiles) (setup : SetupValue) : Type 0 where
+  pub guides : List GuideRows
+  pub rows : SetupRows
+  pub counters : List CounterRow
+  pub read : AreRead files guides rows counters
+  pub accepted : first_fault rows counters guides ≡ None
+  pub made : setup ≡ setup_of rows counters guides
+
+-- the first refusal, in the order in which the files are read: the guides, the setup file, the counters file; then that of the setup
+abbrev pub IsFirstRefusal : SetupFiles → Failure → Type 0
+IsFirstRefusal files (failure.Guide path refusal) = IsFirstGuideRefused files.guides path.now refusal
+IsFirstRefusal files (failure.SetupFile refusal) =
+    (guides : List GuideRows) × AreGuidesOf files.guides guides × IsFileRefused setup_of_table files.setup refusal
+IsFirstRefusal files (failure.CountersFile refusal) =
+    (guides : List GuideRows) × (rows : SetupRows) × AreGuidesOf files.guides guides × IsFileOf setup_of_table files.setup rows
+    × IsFileRefused counters_of_table files.counters refusal
+IsFirstRefusal files (failure.Setup refusal) =
+    (guides : List GuideRows) × (rows : SetupRows) × (counters : List CounterRow) × AreRead files guides rows counters
+    × (first_fault rows counters guides ≡ Some refusal)
+IsFirstRefusal files _ = ⊥
+
+-- want of memory, or this
+abbrev pub IsMemoryOrIs : (Failure → Type 0) → Failure → Type 0
+IsMemoryOrIs P failed = (failed ≡ failure.Memory) ⊎ P failed
+
+abbrev pub paths_of : SetupFiles → List (List ℕ)
+paths_of files = map path_of files.guides
+
+-- the setup that some files make, the guides' of which have these paths
+pub record IsSetupAt (paths : List (List ℕ)) (setup : SetupValue) : Type 0 where
+  pub files : SetupFiles
+  pub at : paths_of files ≡ paths
+  pub made : IsSetupOf files setup
+
+-- the first refusal of such files
+pub record IsRefusedAt (paths : List (List ℕ)) (failed : Failure) : Type 0 where
+  pub files : SetupFiles
+  pub at : paths_of files ≡ paths
+  pub refused : IsFirstRefusal files failed
+
+-- the same of one file (no public clause cites these)
+abbrev pub IsOfGuide : GuideFile → Failure → Type 0
+IsOfGuide file (failure.Guide path refusal) = (path_of file ≡ path.now) × IsGuideRefused file.bytes refusal
+IsOfGuide file _ = ⊥
+
+abbrev pub IsOfGuides : List GuideFile → Failure → Type 0
+IsOfGuides files (failure.Guide path refusal) = IsFirstGuideRefused files path.now refusal
+IsOfGuides files _ = ⊥
+
+abbrev pub IsOfSetupFile : Option (List ℕ) → Failure → Type 0
+IsOfSetupFile bytes (failure.SetupFile refusal) = IsFileRefused setup_of_table bytes refusal
+IsOfSetupFile bytes _ = ⊥
+
+abbrev pub IsOfCounters : Option (List ℕ) → Failure → Type 0
+IsOfCounters bytes (failure.CountersFile refusal) = IsFileRefused counters_of_table bytes refusal
+IsOfCounters bytes _ = ⊥

@@ -1,0 +1,57 @@
+//! The night of a hub, as its words name it: the words are read, then the files that they name; the night of what came in is
+//! run, its files are put into a folder, and the last line of its report is printed. A run that fails prints one line. The
+//! program `nighthub` is `night_main`, called on its arguments, standard output and standard error.
+//!
+//! Proved:
+//! - `night_main` is safe and ends on every input, and its status is 0 to 6;
+//! - a run that doesn't fail has printed what its words ask for, and nothing else: help or the version where they ask for
+//!   that; otherwise the last line of the report of the night of some text, no longer than the limit, at the moment that
+//!   the words name, by a setup that the bytes of some files make, one guide file for each guide that the words name; the
+//!   status is then 0 exactly where that report is clean (`night_main`, `printed`);
+//! - the setup of files is what their bytes make, all of it, or their first refusal: of the guides in their order, of the
+//!   setup file, of the counters file, of what they make together, a file that can't be read being refused at its place;
+//!   files that make a setup have no refusal, and only want of memory comes before the first one (`setup_of`);
+//! - a night that is given is that of its text, its setup and its moment; its files stand in the folder behind what that had, the
+//!   last line of its report is what was printed, and the status is 0 exactly where it is clean (`give_night`, `given`);
+//! - the files of a night are put into the folder when all of it is known, those of each partner in the order of the setup,
+//!   then the report and the counters; where one can't be put it is named, and those before it are there (`night_in`,
+//!   `put_night`, `put_all`);
+//! - a failed run leaves standard output as it was, unless standard output itself failed, and a run
+//!   that doesn't fail leaves standard error as it was; the line of a failure is what the definitions say (`Failure`);
+//! - a run says usage only where its words are no command line, and blames setup or input only where they name the files
+//!   and the moment of a night; which words do is said by clap's definitions;
+//! - what is read of a reader is all of its bytes, and too long is said of it only over the limit (`read_all`,
+//!   `read_whole`).
+//!
+//! Only tested: that the bytes of a setup's files and of the input are those of the files at the paths that the words
+//! name, since no contract says what a file of the system holds; and that a folder of the system holds what is put there.
+//!
+//! As its trials call it:
+//!
+//! ```
+//! let words = words_in(rt.alloc(), folder)?;
+//! let mut out = Vec::new(rt.alloc());
+//! let mut err = Vec::new(rt.alloc());
+//! let status = night_main(rt, words.as_slice(), &mut out, &mut err);
+//! ```
+//!
+//! Source: X12.5, interchange; X12.6, functional group and transaction set; the 999 guide (005010X231); the command line,
+//! the files and the statuses are this hub's own.
+#![tactic(auto)]
+
+mod command;
+mod failure;
+mod folder;
+mod input;
+mod night;
+mod night_files;
+mod outcome;
+mod setup;
+mod setup_files;
+
+pub use failure::Failure;
+pub use folder::Folder;
+pub use input::{read_all, read_whole};
+pub use night::{give_night, night_in, night_main};
+pub use setup::setup_of;
+pub use setup_files::{GuideFile, SetupFiles};

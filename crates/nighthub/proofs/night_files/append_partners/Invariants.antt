@@ -1,8 +1,0 @@
-use Rattle.std.proofs.Common.{◌≡◌, ◌++◌, drop, map}
-use Rattle.nighthub.specs.Folder.{file_of}
-use Rattle.nighthub.specs.NightFiles.{partner_files}
-use Rattle.nighthub.proofs.night_files.append_partners.Given as goal
-
-abbrev pub invariant-loop-i : goal.invariant-loop-i
-invariant-loop-i l = map file_of l.files.items ++ partner_files (drop l.i l.partners) (drop l.i l.acks) (drop l.i l.boxes)
-    ≡ map file_of l.initial.files.items ++ partner_files l.partners l.acks l.boxes

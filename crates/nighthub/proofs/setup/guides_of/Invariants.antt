@@ -1,6 +1,0 @@
-use Rattle.std.proofs.Common.{take}
-use Rattle.nighthub.specs.SetupFiles.{AreGuidesOf}
-use Rattle.nighthub.proofs.setup.guides_of.Given as goal
-
-abbrev pub invariant-loop-file : goal.invariant-loop-file
-invariant-loop-file l = AreGuidesOf (take l.file-index l.files) l.guides.items

@@ -1,0 +1,297 @@
+//! Readers, writers and folders that fail at each call in turn.
+use crate::examples::{COUNTERS, H850, H856, SETUP, TOTAL, TWO_PARTNERS};
+use crate::tests::{WRITTEN, expect, expect_files, make_folder, ran_in, same, words_in};
+use elem_rules::At;
+use hub_kinds::{Items, NoMemory, copy_text};
+use night_command::{
+    Failure, Folder, GuideFile, SetupFiles, night_in, night_main, read_all, read_whole, setup_of,
+};
+use partner_setup::Setup;
+use std::alloc::{AllocError, Global};
+use std::io::{ErrorKind, Read, Write};
+use std::test::Fail;
+use std::{fs, io};
+
+/// A reader of bytes, at most seven at once, that fails behind so many reads.
+#[derive(Drop)]
+struct Reader {
+    left: &'static [u8],
+    reads: usize,
+    fault: ErrorKind,
+}
+
+impl Read for Reader {
+    fn read(&mut self, bytes: &mut [u8]) -> io::Result<usize> {
+        if self.reads == 0 {
+            return Err(io::Error::from(self.fault));
+        }
+        self.reads -= 1;
+        let count = bytes.len().min(self.left.len()).min(7);
+        let (first, left) = self.left.split_at(count);
+        bytes[..count].copy_from_slice(first);
+        self.left = left;
+        Ok(count)
+    }
+}
+
+const TWENTY: &[u8] = b"ISA*00*          *00";
+
+fn failing_reader(reads: usize, fault: ErrorKind) -> Reader {
+    Reader {
+        left: TWENTY,
+        reads,
+        fault,
+    }
+}
+
+/// How long a reader may be said to be: nothing, too little, right, too much.
+const SAID: &[u64] = &[0, 7, 20, 4096];
+
+fn is_input(read: Result<Vec<u8>, Failure>) -> bool {
+    matches!(read, Err(Failure::Input))
+}
+
+fn is_memory(read: Result<Vec<u8>, Failure>) -> bool {
+    matches!(read, Err(Failure::Memory))
+}
+
+#[test]
+fn input_that_fails_at_some_read_is_none(rt: HostRuntime) -> Result<(), Fail> {
+    for said in SAID {
+        for reads in 0..4 {
+            let read = read_all(
+                rt.alloc(),
+                failing_reader(reads, ErrorKind::BrokenPipe),
+                *said,
+            );
+            assert!(rt; is_input(read), "at read {reads}");
+            let read = read_all(
+                rt.alloc(),
+                failing_reader(reads, ErrorKind::OutOfMemory),
+                *said,
+            );
+            assert!(rt; is_memory(read), "at read {reads}");
+        }
+    }
+    Ok(())
+}
+
+fn all_of<'a>(read: Result<Vec<u8>, Failure<'a>>) -> Result<Vec<u8>, Fail> {
+    match read {
+        Ok(text) => Ok(text),
+        Err(_) => Err("refused")?,
+    }
+}
+
+#[test]
+fn input_is_read_whole_whatever_its_length_is_said_to_be(rt: HostRuntime) -> Result<(), Fail> {
+    for said in SAID {
+        let read = read_all(rt.alloc(), failing_reader(64, ErrorKind::BrokenPipe), *said);
+        same(rt.alloc(), all_of(read)?.as_slice(), TWENTY)?;
+    }
+    Ok(())
+}
+
+#[test]
+fn a_setup_that_fails_at_some_read_is_none(rt: HostRuntime) -> Result<(), Fail> {
+    for reads in 0..4 {
+        let read = read_whole(rt.alloc(), failing_reader(reads, ErrorKind::BrokenPipe));
+        assert!(rt; read.is_err(), "at read {reads}");
+    }
+    let read = read_whole(rt.alloc(), failing_reader(64, ErrorKind::BrokenPipe))?;
+    same(rt.alloc(), read.as_slice(), TWENTY)
+}
+
+/// A writer that takes at most five bytes at once, and fails behind so many calls.
+#[derive(Drop)]
+struct Writer {
+    taken: Vec<u8>,
+    calls: usize,
+}
+
+impl Write for Writer {
+    fn write(&mut self, bytes: &[u8]) -> io::Result<usize> {
+        if self.calls == 0 {
+            return Err(io::Error::from(ErrorKind::BrokenPipe));
+        }
+        self.calls -= 1;
+        let count = bytes.len().min(5);
+        self.taken.extend_from_slice(&bytes[..count])?;
+        Ok(count)
+    }
+
+    fn flush(&mut self) -> io::Result<()> {
+        if self.calls == 0 {
+            return Err(io::Error::from(ErrorKind::BrokenPipe));
+        }
+        self.calls -= 1;
+        Ok(())
+    }
+}
+
+/// The line takes fifteen writes, its end one, and then it is flushed.
+fn prints_until(rt: &HostRuntime, folder: &str, calls: usize) -> Result<(), Fail> {
+    let words = words_in(rt.alloc(), folder)?;
+    let mut out = Writer {
+        taken: Vec::new(rt.alloc()),
+        calls,
+    };
+    let mut err = Vec::new(rt.alloc());
+    let status = night_main(rt, words.as_slice(), &mut out, &mut err);
+    let is_whole = calls >= 17;
+    let line: &[u8] = if is_whole {
+        b""
+    } else {
+        b"nighthub: output stdout\n"
+    };
+    same(rt.alloc(), err.as_slice(), line)?;
+    if status != (if is_whole { 0 } else { 5 }) || !TOTAL.starts_with(out.taken.as_slice()) {
+        return Err(Fail::new(format!(in rt.alloc(); "status {status} at {calls}")?));
+    }
+    Ok(())
+}
+
+#[test]
+fn says_that_standard_output_failed(rt: HostRuntime) -> Result<(), Fail> {
+    make_folder(&rt, "faults_of_output")?;
+    for calls in 0..18 {
+        prints_until(&rt, "faults_of_output", calls)?;
+    }
+    expect_files(&rt, "faults_of_output", WRITTEN)?;
+    fs::remove_dir_all(&rt, "faults_of_output")?;
+    Ok(())
+}
+
+/// What a usage prints on a standard error that fails behind so many calls.
+const LINES: &[&[u8]] = &[
+    b"",
+    b"night",
+    b"nighthub: ",
+    b"nighthub: usage",
+    b"nighthub: usage\n",
+    b"nighthub: usage\n",
+];
+
+#[test]
+fn passes_over_a_fault_of_standard_error(rt: HostRuntime) -> Result<(), Fail> {
+    for (calls, line) in LINES.iter().enumerate() {
+        let mut out = Vec::new(rt.alloc());
+        let mut err = Writer {
+            taken: Vec::new(rt.alloc()),
+            calls,
+        };
+        let status = night_main(&rt, ["--in"].as_slice(), &mut out, &mut err);
+        assert_eq!(rt; status, 2);
+        assert!(rt; out.is_empty());
+        same(rt.alloc(), err.taken.as_slice(), line)?;
+    }
+    Ok(())
+}
+
+/// A folder that keeps the names of its files, a line each, and fails behind so many.
+#[derive(Drop)]
+struct Names {
+    names: Vec<u8>,
+    puts: usize,
+    fault: ErrorKind,
+}
+
+impl Folder for Names {
+    fn put(&mut self, name: &[u8], _bytes: &[u8]) -> io::Result<()> {
+        if self.puts == 0 {
+            return Err(io::Error::from(self.fault));
+        }
+        self.puts -= 1;
+        self.names.extend_from_slice(name)?;
+        self.names.push(b'\n')?;
+        Ok(())
+    }
+}
+
+fn example(alloc: Global) -> Result<Setup, Fail> {
+    let mut guides = Vec::new(alloc);
+    for (path, bytes) in [("h850.toml", H850), ("h856.toml", H856)] {
+        let bytes = Some(copy_text(alloc, bytes)?);
+        guides.push(GuideFile { path, bytes })?;
+    }
+    let files = SetupFiles {
+        guides: Items::from_vec(guides),
+        setup: Some(copy_text(alloc, SETUP)?),
+        counters: Some(copy_text(alloc, COUNTERS)?),
+    };
+    match setup_of(alloc, &files) {
+        Ok(setup) => Ok(setup),
+        Err(_) => Err("no setup")?,
+    }
+}
+
+/// The names of the files of a night, and which of them were put before it failed, a line each.
+const PUT: &[(&[u8], &[u8])] = &[
+    (b"ACME.ack", b""),
+    (b"ACME.box", b"ACME.ack\n"),
+    (b"BOLT.ack", b"ACME.ack\nACME.box\n"),
+    (b"BOLT.box", b"ACME.ack\nACME.box\nBOLT.ack\n"),
+    (b"report.txt", b"ACME.ack\nACME.box\nBOLT.ack\nBOLT.box\n"),
+    (
+        b"counters.toml",
+        b"ACME.ack\nACME.box\nBOLT.ack\nBOLT.box\nreport.txt\n",
+    ),
+];
+
+/// What a night in a folder that fails so gives, and the names of the files that were put.
+fn night_until(
+    alloc: Global,
+    puts: usize,
+    fault: ErrorKind,
+) -> Result<(Option<Failure<'static>>, Vec<u8>), Fail> {
+    let setup = example(alloc)?;
+    let Some(at) = At::read(b"202603011530") else {
+        return Err("no moment")?;
+    };
+    let mut folder = Names {
+        names: Vec::new(alloc),
+        puts,
+        fault,
+    };
+    let night = night_in(alloc, &mut folder, TWO_PARTNERS, &setup, &at);
+    Ok((night.err(), folder.names))
+}
+
+#[test]
+fn names_the_file_that_failed(rt: HostRuntime) -> Result<(), Fail> {
+    for (puts, (name, put)) in PUT.iter().enumerate() {
+        let (failure, names) = night_until(rt.alloc(), puts, ErrorKind::StorageFull)?;
+        same(rt.alloc(), names.as_slice(), put)?;
+        match failure {
+            Some(Failure::Output(failed)) => same(rt.alloc(), failed.as_slice(), name)?,
+            _ => return Err("no file is named")?,
+        }
+    }
+    Ok(())
+}
+
+#[test]
+fn puts_all_files(rt: HostRuntime) -> Result<(), Fail> {
+    let (failure, names) = night_until(rt.alloc(), 6, ErrorKind::StorageFull)?;
+    assert!(rt; failure.is_none());
+    let all = b"ACME.ack\nACME.box\nBOLT.ack\nBOLT.box\nreport.txt\ncounters.toml\n";
+    same(rt.alloc(), names.as_slice(), all)?;
+    let (failure, _) = night_until(rt.alloc(), 2, ErrorKind::OutOfMemory)?;
+    assert!(rt; matches!(failure, Some(Failure::Memory)));
+    Ok(())
+}
+
+/// Names the file that can't be written in the folder, where no folder is, and where a folder stands in the file's place.
+#[test]
+fn names_the_file_that_cannot_be_written(rt: HostRuntime) -> Result<(), Fail> {
+    make_folder(&rt, "faults_of_folders")?;
+    fs::create_dir(&rt, "faults_of_folders/out/BOLT.box")?;
+    let answer = ran_in(&rt, "faults_of_folders")?;
+    expect(rt.alloc(), &answer, 5, b"", b"nighthub: output BOLT.box\n")?;
+    fs::remove_dir(&rt, "faults_of_folders/out/BOLT.box")?;
+    expect_files(&rt, "faults_of_folders", &WRITTEN[..3])?;
+    let answer = ran_in(&rt, "faults_of_folders")?;
+    expect(rt.alloc(), &answer, 5, b"", b"nighthub: output ACME.ack\n")?;
+    fs::remove_dir_all(&rt, "faults_of_folders")?;
+    Ok(())
+}

@@ -1,0 +1,154 @@
+//! The trial of count_numbers: what a night leaves of a partner, in one stretch and cut anywhere, and the numbers that
+//! follow from it.
+//!
+//! X12.5, interchange control number; X12.6, functional group and transaction set control number.
+use count_numbers::{PartnerNumbers, Run, RunKey, Tally, numbers_for};
+use hub_kinds::{Counters, Lent, NoMemory};
+use std::alloc::Global;
+use std::test::Fail;
+
+/// What happens for a partner: an acknowledgment, or a delivered set of a sender with a GS01.
+enum Event {
+    Acknowledgment,
+    Delivery(u32, &'static [u8]),
+}
+
+struct Case {
+    events: &'static [Event],
+    counters: Counters,
+    cap: u32,
+    numbers: PartnerNumbers,
+    /// The lengths of the runs.
+    runs: &'static [u64],
+}
+
+const CASES: &[Case] = &[
+    Case {
+        events: &[],
+        counters: Counters {
+            interchange: 1,
+            set: 1,
+        },
+        cap: 2,
+        runs: &[],
+        numbers: PartnerNumbers {
+            first_acknowledgment: 1,
+            first_delivered: 1,
+            first_set: 1,
+            delivered: 0,
+            sets: 0,
+            next: Counters {
+                interchange: 1,
+                set: 1,
+            },
+        },
+    },
+    Case {
+        events: &[
+            Event::Delivery(0, b"PO"),
+            Event::Delivery(0, b"PO"),
+            Event::Acknowledgment,
+            Event::Delivery(0, b"PO"),
+        ],
+        counters: Counters {
+            interchange: 999_999_998,
+            set: 1,
+        },
+        cap: 1,
+        runs: &[3],
+        numbers: PartnerNumbers {
+            first_acknowledgment: 999_999_998,
+            first_delivered: 999_999_999,
+            first_set: 1,
+            delivered: 3,
+            sets: 3,
+            next: Counters {
+                interchange: 3,
+                set: 4,
+            },
+        },
+    },
+    Case {
+        events: &[
+            Event::Acknowledgment,
+            Event::Delivery(0, b"PO"),
+            Event::Delivery(0, b"SH"),
+            Event::Delivery(1, b"SH"),
+            Event::Acknowledgment,
+            Event::Delivery(1, b"SH"),
+            Event::Delivery(0, b"PO"),
+        ],
+        counters: Counters {
+            interchange: 7,
+            set: 999_999_997,
+        },
+        cap: 2,
+        runs: &[1, 1, 2, 1],
+        numbers: PartnerNumbers {
+            first_acknowledgment: 7,
+            first_delivered: 9,
+            first_set: 999_999_997,
+            delivered: 3,
+            sets: 5,
+            next: Counters {
+                interchange: 12,
+                set: 3,
+            },
+        },
+    },
+];
+
+fn tally_of(alloc: Global, events: &[Event]) -> Result<Tally<'static>, NoMemory> {
+    let mut tally = Tally::new(alloc);
+    for event in events {
+        match event {
+            Event::Acknowledgment => tally.acknowledge(),
+            Event::Delivery(sender, kind) => tally.deliver(RunKey {
+                sender: *sender,
+                functional_id: Lent::new(kind),
+                version: Lent::new(b"005010"),
+            })?,
+        }
+    }
+    Ok(tally)
+}
+
+/// Whether runs have these lengths.
+fn have_lengths(runs: &[Run<'_>], lengths: &[u64]) -> bool {
+    runs.iter().map(|run| run.sets).eq(lengths.iter().copied())
+}
+
+/// Whether the case's numbers come where its events are cut at a place.
+fn is_as_told(alloc: Global, case: &Case, cut: usize) -> Result<bool, NoMemory> {
+    let (front, back) = case.events.split_at(cut.min(case.events.len()));
+    let tally = tally_of(alloc, front)?.join(tally_of(alloc, back)?)?;
+    if !have_lengths(tally.runs(), case.runs) {
+        return Ok(false);
+    }
+    let (counters, cap) = (case.counters, case.cap);
+    let greatest = 999_999_999;
+    if counters.interchange < 1
+        || counters.interchange > greatest
+        || counters.set < 1
+        || counters.set > greatest
+        || cap < 1
+    {
+        return Ok(false);
+    }
+    let numbers = numbers_for(alloc, &[tally], &[counters], &[cap])?;
+    Ok(match numbers.as_slice().first() {
+        None => false,
+        Some(one) => *one == case.numbers,
+    })
+}
+
+#[test]
+fn numbers_follow_wherever_events_are_cut(rt: HostRuntime) -> Result<(), Fail> {
+    let alloc = rt.alloc();
+    for case in CASES {
+        for cut in 0..=case.events.len() {
+            assert!(rt; is_as_told(alloc, case, cut)?);
+        }
+    }
+    Ok(())
+}
