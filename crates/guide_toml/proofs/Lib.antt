@@ -3,6 +3,7 @@ pub mod Groups
 pub mod ComponentSteps
 pub mod LeastKey
 pub mod PositionSteps
+pub mod RowSteps
 pub mod Forests
 pub mod WrittenNumbers
 pub mod WrittenRows

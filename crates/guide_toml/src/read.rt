@@ -1,10 +1,14 @@
-ghost use Rattle.std.specs.Prelude.{◌≡◌, ◌≢◌, ◌↔◌, None, Some, [], ◌∷◌, ◌++◌, option_map, IfErr, OnOk};
+ghost use Rattle.std.specs.Prelude.{◌≡◌, ◌≢◌, ◌↔◌, Ok, None, Some, [], ◌∷◌, ◌++◌, codes, option_map, IfOk, IfErr, OnOk};
 ghost use Rattle.std.specs.Str.{IsUtf8};
 ghost use Rattle.toml.specs.Data.{Members, no_items};
 ghost use Rattle.toml.specs.View.{table_view, items_view, view};
 ghost use Rattle.toml.specs.Parse.{parse_document};
 ghost use Rattle.guide_tree.specs.View.{guide_of};
-ghost use Rattle.guide_toml.specs.Answers.{Gives, Answers};
+ghost use Rattle.guide_toml.specs.declared.entry.Form.TheVariants as form;
+ghost use Rattle.guide_toml.specs.Answers.{Gives, Answers, meaning_of};
+ghost use Rattle.guide_toml.specs.Entries.{formed, segment_code_of, element_code_of};
+ghost use Rattle.guide_toml.specs.Meanings.{FailsAs};
+ghost use Rattle.guide_toml.specs.Tables.{◌>>=◌ as ◌⊳◌};
 ghost use Rattle.guide_toml.specs.Tables as tables;
 ghost use Rattle.guide_toml.specs.Guides as guides;
 
@@ -18,32 +22,121 @@ use crate::table::{
 };
 use crate::tables::{some_table_at, some_tables_at, tables_at};
 use guide_tree::{Dependency, Guide, GuideHead, GuideRows, HlRule};
-use hub_kinds::Items;
+use hub_kinds::{ElementCode, Items, SegmentCode, Text, Texts};
 use std::alloc::Global;
 use toml::{Table, Value};
 
+/// What a guide is called, and for which sets it is.
+struct Purpose {
+    name: Text,
+    group: Text,
+    set: Text,
+    version: Text,
+}
+
+impl Drop for Purpose {
+    fn drop(self) {
+        let Purpose {
+            name: _,
+            group: _,
+            set: _,
+            version: _,
+        } = self;
+    }
+}
+
+impl Purpose {
+    ghost use Rattle.std.specs.Prelude.{◌≡◌};
+
+    /// The head of the guide that is for this.
+    fn into_head(
+        self,
+        convention: Option<Text>,
+        dictionary: Texts,
+        tolerate_segment: Items<SegmentCode>,
+        tolerate_element: Items<ElementCode>,
+    ) -> GuideHead
+        ensures { result ≡ record {
+          name = self.name;
+          group = self.group;
+          set = self.set;
+          version = self.version;
+          convention = convention;
+          dictionary = dictionary;
+          tolerate_segment = tolerate_segment;
+          tolerate_element = tolerate_element;
+        } }
+    {
+        let Purpose {
+            name,
+            group,
+            set,
+            version,
+        } = self;
+        GuideHead {
+            name,
+            group,
+            set,
+            version,
+            convention,
+            dictionary,
+            tolerate_segment,
+            tolerate_element,
+        }
+    }
+}
+
 #[tactic(auto, unfolding(crate::specs::Guides::head_of))]
-fn head_of(alloc: Global, table: &Table) -> Result<GuideHead, GuideFileFault>
-    ensures { Gives (λ x. x) result (guides.head_of (table_view table.now)) }
+fn purpose_of(alloc: Global, table: &Table) -> Result<Purpose, GuideFileFault>
+    ensures name { IfOk result (λ p. tables.required (tables.word_in 1 20) (codes "name") (table_view table.now) ≡ Ok p.name) }
+    ensures group { IfOk result (λ p. tables.required tables.group_in (codes "group") (table_view table.now) ≡ Ok p.group) }
+    ensures set { IfOk result (λ p. tables.required (tables.word_in 3 3) (codes "set") (table_view table.now) ≡ Ok p.set) }
+    ensures version { IfOk result (λ p. tables.required (tables.word_in 1 12) (codes "version") (table_view table.now) ≡ Ok p.version) }
+    ensures fault { IfErr result (λ e. FailsAs (meaning_of e) (guides.head_of (table_view table.now))) }
 {
     let name = word_at(alloc, table, "name", 1, 20)?;
     let group = group_at(alloc, table, "group")?;
     let set = word_at(alloc, table, "set", 3, 3)?;
     let version = word_at(alloc, table, "version", 1, 12)?;
-    let convention = some_word_at(alloc, table, "convention", 1, 35)?;
-    let dictionary = some_texts_at(alloc, table, "dictionary", Form::SegmentId)?;
-    let tolerate_segment = some_entries_at(alloc, table, "tolerate_segment")?;
-    let tolerate_element = some_entries_at(alloc, table, "tolerate_element")?;
-    Ok(GuideHead {
+    Ok(Purpose {
         name,
         group,
         set,
         version,
-        convention,
-        dictionary,
-        tolerate_segment,
-        tolerate_element,
     })
+}
+
+/// The head of a guide of which it is read what it is for.
+fn head_for(alloc: Global, table: &Table, purpose: Purpose) -> Result<GuideHead, GuideFileFault>
+    ensures { Gives (λ x. x) result
+        (tables.optional None (tables.some_word_in 1 35) (codes "convention") (table_view table.now) ⊳ λ convention.
+        tables.optional [] (tables.texts_in (formed form.SegmentId)) (codes "dictionary") (table_view table.now) ⊳ λ dictionary.
+        tables.optional [] (tables.texts_in segment_code_of) (codes "tolerate_segment") (table_view table.now) ⊳ λ segments.
+        tables.optional [] (tables.texts_in element_code_of) (codes "tolerate_element") (table_view table.now) ⊳ λ elements.
+        Ok (record {
+          name = purpose.name;
+          group = purpose.group;
+          set = purpose.set;
+          version = purpose.version;
+          convention = convention;
+          dictionary = dictionary;
+          tolerate_segment = segments;
+          tolerate_element = elements;
+        })) }
+{
+    let convention = some_word_at(alloc, table, "convention", 1, 35)?;
+    let dictionary = some_texts_at(alloc, table, "dictionary", Form::SegmentId)?;
+    let segments = some_entries_at(alloc, table, "tolerate_segment")?;
+    let elements = some_entries_at(alloc, table, "tolerate_element")?;
+    Ok(purpose.into_head(convention, dictionary, segments, elements))
+}
+
+#[tactic(auto, unfolding(crate::specs::Guides::head_of))]
+fn head_of(alloc: Global, table: &Table) -> Result<GuideHead, GuideFileFault>
+    ensures { Gives (λ x. x) result (guides.head_of (table_view table.now)) }
+{
+    let purpose = purpose_of(alloc, table)?;
+    head_for(alloc, table, purpose)
 }
 
 fn known_head(alloc: Global, table: &Table) -> Result<GuideHead, GuideFileFault>

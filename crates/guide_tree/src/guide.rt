@@ -16,9 +16,15 @@ use hub_kinds::MOST_NODES;
 use std::marker::Model;
 
 /// A guide that was checked: its rows, in which each node has its slot number.
-#[derive(Debug, Drop)]
+#[derive(Debug)]
 pub struct Guide {
     rows: GuideRows,
+}
+
+impl Drop for Guide {
+    fn drop(self) {
+        let Guide { rows: _ } = self;
+    }
 }
 
 impl Model for Guide {

@@ -2,7 +2,7 @@ use crate::node::Node;
 use hub_kinds::{ElementCode, Items, SegmentCode, Text, Texts};
 
 /// What a guide says of itself.
-#[derive(Debug, Drop)]
+#[derive(Debug)]
 pub struct GuideHead {
     pub name: Text,
     /// The functional identifier code, GS01.
@@ -19,6 +19,21 @@ pub struct GuideHead {
     pub tolerate_segment: Items<SegmentCode>,
     /// The element faults that are accepted with errors noted.
     pub tolerate_element: Items<ElementCode>,
+}
+
+impl Drop for GuideHead {
+    fn drop(self) {
+        let GuideHead {
+            name: _,
+            group: _,
+            set: _,
+            version: _,
+            convention: _,
+            dictionary: _,
+            tolerate_segment: _,
+            tolerate_element: _,
+        } = self;
+    }
 }
 
 /// A level of the hierarchy (X12.6, HL03) and the level of its parent; none for a root.
@@ -57,10 +72,21 @@ pub struct Dependency {
 }
 
 /// A guide that is to be checked.
-#[derive(Debug, Drop)]
+#[derive(Debug)]
 pub struct GuideRows {
     pub head: GuideHead,
     pub hl: Option<HlRule>,
     pub depends: Items<Dependency>,
     pub nodes: Vec<Node>,
+}
+
+impl Drop for GuideRows {
+    fn drop(self) {
+        let GuideRows {
+            head: _,
+            hl: _,
+            depends: _,
+            nodes: _,
+        } = self;
+    }
 }

@@ -1,5 +1,5 @@
 ghost use Rattle.std.specs.Prelude.{◌≡◌, ◌≢◌, false, map, IfOk, IfErr, IsErrOf};
-ghost use Rattle.clap.specs.Words.{app_of, first_value, found_of, kind_of, rule_of};
+ghost use Rattle.clap.specs.Words.{app_of, first_value, found_of, kind_of, rule_of, with_rule};
 ghost use Rattle.night_command.specs.CommandLine.{AreGiven, IsAsked, IsCommandLine, IsGiven, IsShown, hub_app, option_named};
 ghost use Rattle.night_command.specs.CommandLine.{option_repeated, setup_app, values_found};
 ghost use Rattle.night_command.specs.Failure.{IsOfWords};
@@ -53,36 +53,46 @@ pub fn read_words<'a, S: AsStr>(alloc: Global, words: &'a [S]) -> Result<Asked<'
 fn command<'a>(alloc: Global) -> Result<Command<'a>, AllocError>
     ensures { IfOk result (λ command. app_of command ≡ hub_app) }
 {
+    let command = setup_command(alloc)?;
     let at = option(
         alloc,
         "at",
         "CCYYMMDDHHMM",
         "The day and time that the night bears",
     );
+    let command = with_option(command, at)?;
     let input = option(alloc, "in", "FILE", "The interchanges that came in");
+    let command = with_option(command, input)?;
     let output = option(
         alloc,
         "out",
         "DIR",
         "The folder, which exists, for the files that are written",
     );
-    setup_command(alloc)?.arg(at)?.arg(input)?.arg(output)
+    with_option(command, output)
 }
 
 /// The command with the options that name the setup.
 fn setup_command<'a>(alloc: Global) -> Result<Command<'a>, AllocError>
     ensures { IfOk result (λ command. app_of command ≡ setup_app) }
 {
-    let setup = option(alloc, "setup", "FILE", "The partners and routes");
-    let guide = repeated(alloc, "guide", "FILE", "A guide, given once for each");
-    let counters = option(alloc, "counters", "FILE", "The numbers to go on from");
-    Command::new(alloc, "nighthub")
+    let command = Command::new(alloc, "nighthub")
         .about("Acknowledges the X12 interchanges of a night and delivers their sets")
         .version("0.1.0")
-        .no_binary_name(true)
-        .arg(setup)?
-        .arg(guide)?
-        .arg(counters)
+        .no_binary_name(true);
+    let setup = option(alloc, "setup", "FILE", "The partners and routes");
+    let command = with_option(command, setup)?;
+    let guide = repeated(alloc, "guide", "FILE", "A guide, given once for each");
+    let command = with_option(command, guide)?;
+    let counters = option(alloc, "counters", "FILE", "The numbers to go on from");
+    with_option(command, counters)
+}
+
+fn with_option<'a>(command: Command<'a>, option: Arg<'a>) -> Result<Command<'a>, AllocError>
+    requires { option.global ≡ false }
+    ensures { IfOk result (λ more. app_of more ≡ with_rule (app_of command.entry) (rule_of option.entry)) }
+{
+    command.arg(option)
 }
 
 /// An option of this name that takes one value, and is wanted.
@@ -112,13 +122,27 @@ fn run_asked<'a>(alloc: Global, matches: &ArgMatches<'a>) -> Result<Asked<'a>, F
         → AreGiven (first_value (found_of matches.now)) (values_found (found_of matches.now)) → ⊥ }
     ensures err { IfErr result IsOfWords }
 {
-    let setup = matches.get_str("setup").ok_or(Failure::Usage)?;
-    let guides = matches.get_strs("guide").ok_or(Failure::Usage)?;
-    let counters = matches.get_str("counters").ok_or(Failure::Usage)?;
-    let at = matches.get_str("at").ok_or(Failure::Usage)?;
-    let at = At::read(at.as_bytes()).ok_or(Failure::Usage)?;
-    let input = matches.get_str("in").ok_or(Failure::Usage)?;
-    let output = matches.get_str("out").ok_or(Failure::Usage)?;
+    let Some(setup) = matches.get_str("setup") else {
+        return Err(Failure::Usage);
+    };
+    let Some(guides) = matches.get_strs("guide") else {
+        return Err(Failure::Usage);
+    };
+    let Some(counters) = matches.get_str("counters") else {
+        return Err(Failure::Usage);
+    };
+    let Some(at) = matches.get_str("at") else {
+        return Err(Failure::Usage);
+    };
+    let Some(at) = At::read(at.as_bytes()) else {
+        return Err(Failure::Usage);
+    };
+    let Some(input) = matches.get_str("in") else {
+        return Err(Failure::Usage);
+    };
+    let Some(output) = matches.get_str("out") else {
+        return Err(Failure::Usage);
+    };
     let guides = copied(alloc, guides)?;
     Ok(Asked::Run(Options {
         setup,

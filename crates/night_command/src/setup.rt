@@ -46,6 +46,21 @@ pub fn setup_of<'a>(alloc: Global, files: &SetupFiles<'a>) -> Result<Setup, Fail
         Ok(rows) => rows,
         Err(failure) => return Err(failure),
     };
+    setup_from(alloc, files, guides, rows)
+}
+
+/// The same, of the guides and the rows that were read of these files.
+fn setup_from<'a>(
+    alloc: Global,
+    files: &SetupFiles<'a>,
+    guides: Vec<Guide>,
+    rows: SetupRows,
+) -> Result<Setup, Failure<'a>>
+    requires guides { AreGuidesOf files.now.guides guides.items }
+    requires rows { IsFileOf setup_of_table files.now.setup rows }
+    ensures made { IfOk result (IsSetupOf files.now) }
+    ensures refused { IfErr result (IsMemoryOrIs (IsFirstRefusal files.now)) }
+{
     let counters = match counter_rows_of(alloc, &files.counters) {
         Ok(counters) => counters,
         Err(failure) => return Err(failure),

@@ -81,16 +81,7 @@ fn partner_of(
     let delims = delims_or_none(&row);
     let counters = counters_of(counters, counter_rows, row.name.as_slice());
     let guides = places_of(alloc, guides, row.guides.as_slice())?;
-    Ok(Partner {
-        name: row.name,
-        qualifier: row.qualifier,
-        id: row.id,
-        code: row.code,
-        delims,
-        cap: row.cap,
-        counters,
-        guides: Items::from_vec(guides),
-    })
+    Ok(row.into_partner(delims, counters, Items::from_vec(guides)))
 }
 
 fn partners_of(
@@ -163,13 +154,26 @@ impl Setup {
         if let Some(fault) = first_fault(alloc, &rows, counters.as_slice(), guides.as_slice())? {
             return Err(fault);
         }
+        Ok(Setup::made(alloc, rows, counters.as_slice(), guides)?)
+    }
+
+    /// The setup of rows, counters and guides of which nothing is refused.
+    fn made(
+        alloc: Global,
+        rows: SetupRows,
+        counters: &[CounterRow],
+        guides: Vec<Guide>,
+    ) -> Result<Setup, NoMemory>
+        requires { first_fault rows counters.now guides.items ≡ None }
+        ensures { IfOk result (λ setup. setup ≡ setup_of rows counters.now guides.items) }
+    {
         let SetupRows {
             hub,
             partners,
             routes,
         } = rows;
         let routes = routes_of(alloc, partners.as_slice(), routes)?;
-        let partners = partners_of(alloc, partners, counters.as_slice(), guides.as_slice())?;
+        let partners = partners_of(alloc, partners, counters, guides.as_slice())?;
         let senders = places_by_key(alloc, partners.as_slice())?;
         let codes = places_by_key(alloc, routes.as_slice())?;
         Ok(Setup::of(hub, partners, routes, guides, senders, codes))

@@ -1,9 +1,10 @@
-ghost use Rattle.std.specs.Prelude.{◌≡◌, ◌++◌, [], ℕ, List, map, option_map, slice_get, IfOk, OnOk};
+ghost use Rattle.std.specs.Prelude.{◌≡◌, ◌++◌, [], ℕ, List, Some, None, if◌then◌else◌, map, option_map, slice_get, IfOk, OnOk};
 ghost use Rattle.std.specs.List.{list_all};
 ghost use Rattle.guide_tree.specs.Segments.{contains_text};
 ghost use Rattle.partner_setup.specs.Known.{KnowsPlaces};
 ghost use Rattle.partner_setup.specs.Names.{and_some, places_of_texts, those_at};
 ghost use Rattle.partner_setup.specs.SetupFaults as faults;
+ghost use Rattle.partner_setup.specs.declared.setup_fault.SetupFault.TheVariants as refusal;
 
 use crate::delimiters::has_bad_delimiters;
 use crate::ids::{has_bad_id, is_id};
@@ -246,6 +247,30 @@ fn has_bad_cap(partners: &[PartnerRow]) -> bool
     !are_capped(partners)
 }
 
+/// The first refusal of what speaks of partners by their names, or of a cap.
+fn fault_of_names(
+    alloc: Global,
+    rows: &SetupRows,
+    counters: &[CounterRow],
+) -> Result<Option<SetupFault>, NoMemory>
+    ensures { IfOk result (λ fault. fault ≡ (if faults.has_bad_route rows.now.partners rows.now.routes then Some refusal.BadRoute
+        else (if faults.has_bad_counter rows.now.partners counters.now then Some refusal.BadCounter
+        else (if faults.has_bad_cap rows.now.partners then Some refusal.BadCap else None)))) }
+{
+    let partners = rows.partners.as_slice();
+    let places = places_by_name(alloc, partners)?;
+    if has_bad_route(alloc, &places, rows.routes.as_slice())? {
+        return Ok(Some(SetupFault::BadRoute));
+    }
+    if has_bad_counter(alloc, &places, counters)? {
+        return Ok(Some(SetupFault::BadCounter));
+    }
+    if has_bad_cap(partners) {
+        return Ok(Some(SetupFault::BadCap));
+    }
+    Ok(None)
+}
+
 /// The first refusal of rows, counters and guides that are to make a setup.
 pub fn first_fault(
     alloc: Global,
@@ -268,15 +293,5 @@ pub fn first_fault(
     if has_bad_guides(alloc, partners, guides)? {
         return Ok(Some(SetupFault::BadGuides));
     }
-    let places = places_by_name(alloc, partners)?;
-    if has_bad_route(alloc, &places, rows.routes.as_slice())? {
-        return Ok(Some(SetupFault::BadRoute));
-    }
-    if has_bad_counter(alloc, &places, counters)? {
-        return Ok(Some(SetupFault::BadCounter));
-    }
-    if has_bad_cap(partners) {
-        return Ok(Some(SetupFault::BadCap));
-    }
-    Ok(None)
+    fault_of_names(alloc, rows, counters)
 }

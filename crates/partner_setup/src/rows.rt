@@ -1,4 +1,6 @@
+use crate::partner::Partner;
 use hub_kinds::{Counters, Items, Text, Texts};
+use x12_bytes::Delims;
 
 /// The usage indicator (X12.5, ISA15).
 #[derive(Clone, Copy, Debug, PartialEq, Eq)]
@@ -10,7 +12,7 @@ pub enum Usage {
 }
 
 /// How the hub is named where it sends.
-#[derive(Debug, Drop)]
+#[derive(Debug)]
 pub struct HubRow {
     /// Its id qualifier, ISA05.
     pub qualifier: Text,
@@ -21,8 +23,19 @@ pub struct HubRow {
     pub usage: Usage,
 }
 
+impl Drop for HubRow {
+    fn drop(self) {
+        let HubRow {
+            qualifier: _,
+            id: _,
+            code: _,
+            usage: _,
+        } = self;
+    }
+}
+
 /// A partner.
-#[derive(Debug, Drop)]
+#[derive(Debug)]
 pub struct PartnerRow {
     /// Its name in files and reports.
     pub name: Text,
@@ -44,6 +57,69 @@ pub struct PartnerRow {
     pub cap: u32,
     /// The names of the guides to which it keeps.
     pub guides: Texts,
+}
+
+impl Drop for PartnerRow {
+    fn drop(self) {
+        let PartnerRow {
+            name: _,
+            qualifier: _,
+            id: _,
+            code: _,
+            element: _,
+            component: _,
+            repetition: _,
+            terminator: _,
+            cap: _,
+            guides: _,
+        } = self;
+    }
+}
+
+impl PartnerRow {
+    ghost use Rattle.std.specs.Prelude.{◌≡◌};
+
+    /// The partner that it becomes, with what is made of the rest of it.
+    pub(crate) fn into_partner(
+        self,
+        delims: Delims,
+        counters: Counters,
+        guides: Items<usize>,
+    ) -> Partner
+        ensures { result ≡ record {
+          name = self.name;
+          qualifier = self.qualifier;
+          id = self.id;
+          code = self.code;
+          delims = delims;
+          cap = self.cap;
+          counters = counters;
+          guides = guides;
+        } }
+    {
+        let PartnerRow {
+            name,
+            qualifier,
+            id,
+            code,
+            element: _,
+            component: _,
+            repetition: _,
+            terminator: _,
+            cap,
+            guides: _,
+        } = self;
+        Partner {
+            name,
+            qualifier,
+            id,
+            code,
+            delims,
+            cap,
+            counters,
+            guides,
+        }
+    }
 }
 
 /// Where sets for an application code go.

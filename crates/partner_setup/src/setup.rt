@@ -6,7 +6,6 @@ use std::collections::BTreeMap;
 use std::marker::Model;
 
 /// The hub, its partners, where sets go, and the guides: accepted, so that nothing is refused of it.
-#[derive(Drop)]
 pub struct Setup {
     hub: HubRow,
     partners: Vec<Partner>,
@@ -14,6 +13,19 @@ pub struct Setup {
     guides: Vec<Guide>,
     sender_places: BTreeMap<Vec<u8>, usize>,
     route_places: BTreeMap<Vec<u8>, usize>,
+}
+
+impl Drop for Setup {
+    fn drop(self) {
+        let Setup {
+            hub: _,
+            partners: _,
+            routes: _,
+            guides: _,
+            sender_places: _,
+            route_places: _,
+        } = self;
+    }
 }
 
 impl Model for Setup {

@@ -1,9 +1,10 @@
-ghost use Rattle.std.specs.Prelude.{◌≡◌, ◌≢◌, ◌↔◌, None, Some, Err, ◌∷◌, ◌++◌, [], IfErr, OnOk};
+ghost use Rattle.std.specs.Prelude.{◌≡◌, ◌≢◌, ◌↔◌, None, Some, Ok, Err, ◌∷◌, ◌++◌, [], codes, IfOk, IfErr, OnOk};
 ghost use Rattle.std.specs.Str.{IsUtf8};
 ghost use Rattle.toml.specs.Data.{Members, as_str};
 ghost use Rattle.toml.specs.View.{table_view, items_view, view};
 ghost use Rattle.toml.specs.Parse.{parse_document};
-ghost use Rattle.guide_toml.specs.Meanings.{GivesAs};
+ghost use Rattle.guide_toml.specs.Meanings.{GivesAs, FailsAs};
+ghost use Rattle.guide_toml.specs.Tables.{◌>>=◌ as ◌⊳◌};
 ghost use Rattle.guide_toml.specs.Tables as tables;
 ghost use Rattle.partner_setup.specs.Answers.{Gives, meaning_of};
 ghost use Rattle.partner_setup.specs.SetupFile as file;
@@ -14,7 +15,7 @@ use crate::row::{Row, rows_in};
 use crate::rows::{HubRow, PartnerRow, RouteRow, SetupRows};
 use crate::values::UsageText;
 use guide_toml::{AnyText, ListOf, required, some_tables_at, table_at, tables_at};
-use hub_kinds::Texts;
+use hub_kinds::{Text, Texts};
 use std::alloc::Global;
 use toml::{Table, Value};
 
@@ -66,32 +67,136 @@ fn guides_at(alloc: Global, table: &Table, key: &'static str) -> Result<Texts, F
     required(alloc, table, key, &ListOf(AnyText))
 }
 
+/// How a partner is named, in files and where it sends.
+struct Names {
+    name: Text,
+    qualifier: Text,
+    id: Text,
+    code: Text,
+}
+
+impl Drop for Names {
+    fn drop(self) {
+        let Names {
+            name: _,
+            qualifier: _,
+            id: _,
+            code: _,
+        } = self;
+    }
+}
+
+/// What a partner is written to with.
+#[derive(Drop)]
+struct Marks {
+    element: Text,
+    component: Text,
+    repetition: Text,
+    terminator: Text,
+}
+
+impl Names {
+    ghost use Rattle.std.specs.Prelude.{◌≡◌};
+
+    /// The row of the partner with these names.
+    fn into_row(self, marks: Marks, cap: u32, guides: Texts) -> PartnerRow
+        ensures { result ≡ record {
+          name = self.name;
+          qualifier = self.qualifier;
+          id = self.id;
+          code = self.code;
+          element = marks.element;
+          component = marks.component;
+          repetition = marks.repetition;
+          terminator = marks.terminator;
+          cap = cap;
+          guides = guides;
+        } }
+    {
+        let Names {
+            name,
+            qualifier,
+            id,
+            code,
+        } = self;
+        PartnerRow {
+            name,
+            qualifier,
+            id,
+            code,
+            element: marks.element,
+            component: marks.component,
+            repetition: marks.repetition,
+            terminator: marks.terminator,
+            cap,
+            guides,
+        }
+    }
+}
+
 #[tactic(auto, unfolding(crate::specs::SetupFile::partner_of))]
-fn partner_of(alloc: Global, table: &Table) -> Result<PartnerRow, FileFault>
-    ensures { Gives result (file.partner_of (table_view table.now)) }
+fn names_of(alloc: Global, table: &Table) -> Result<Names, FileFault>
+    ensures name { IfOk result (λ n. tables.required as_str (codes "name") (table_view table.now) ≡ Ok n.name) }
+    ensures qualifier { IfOk result (λ n. tables.required as_str (codes "qualifier") (table_view table.now) ≡ Ok n.qualifier) }
+    ensures id { IfOk result (λ n. tables.required as_str (codes "id") (table_view table.now) ≡ Ok n.id) }
+    ensures code { IfOk result (λ n. tables.required as_str (codes "code") (table_view table.now) ≡ Ok n.code) }
+    ensures fault { IfErr result (λ e. FailsAs (meaning_of e) (file.partner_of (table_view table.now))) }
 {
     let name = text_at(alloc, table, "name")?;
     let qualifier = text_at(alloc, table, "qualifier")?;
     let id = text_at(alloc, table, "id")?;
     let code = text_at(alloc, table, "code")?;
-    let element = text_at(alloc, table, "element")?;
-    let component = text_at(alloc, table, "component")?;
-    let repetition = text_at(alloc, table, "repetition")?;
-    let terminator = text_at(alloc, table, "terminator")?;
-    let cap = count_at(alloc, table, "cap")?;
-    let guides = guides_at(alloc, table, "guides")?;
-    Ok(PartnerRow {
+    Ok(Names {
         name,
         qualifier,
         id,
         code,
+    })
+}
+
+/// The row of a partner of which the names are read.
+fn named_partner(alloc: Global, table: &Table, names: Names) -> Result<PartnerRow, FileFault>
+    ensures { Gives result
+        (tables.required as_str (codes "element") (table_view table.now) ⊳ λ element.
+        tables.required as_str (codes "component") (table_view table.now) ⊳ λ component.
+        tables.required as_str (codes "repetition") (table_view table.now) ⊳ λ repetition.
+        tables.required as_str (codes "terminator") (table_view table.now) ⊳ λ terminator.
+        tables.required tables.count_in (codes "cap") (table_view table.now) ⊳ λ cap.
+        tables.required (tables.list_in as_str) (codes "guides") (table_view table.now) ⊳ λ guides.
+        Ok (record {
+          name = names.name;
+          qualifier = names.qualifier;
+          id = names.id;
+          code = names.code;
+          element = element;
+          component = component;
+          repetition = repetition;
+          terminator = terminator;
+          cap = cap;
+          guides = guides;
+        })) }
+{
+    let element = text_at(alloc, table, "element")?;
+    let component = text_at(alloc, table, "component")?;
+    let repetition = text_at(alloc, table, "repetition")?;
+    let terminator = text_at(alloc, table, "terminator")?;
+    let marks = Marks {
         element,
         component,
         repetition,
         terminator,
-        cap,
-        guides,
-    })
+    };
+    let cap = count_at(alloc, table, "cap")?;
+    let guides = guides_at(alloc, table, "guides")?;
+    Ok(names.into_row(marks, cap, guides))
+}
+
+#[tactic(auto, unfolding(crate::specs::SetupFile::partner_of))]
+fn partner_of(alloc: Global, table: &Table) -> Result<PartnerRow, FileFault>
+    ensures { Gives result (file.partner_of (table_view table.now)) }
+{
+    let names = names_of(alloc, table)?;
+    named_partner(alloc, table, names)
 }
 
 fn known_partner(alloc: Global, table: &Table) -> Result<PartnerRow, FileFault>

@@ -1,6 +1,6 @@
 //! Readers, writers and folders that fail at each call in turn.
 use crate::examples::{COUNTERS, H850, H856, SETUP, TOTAL, TWO_PARTNERS};
-use crate::tests::{WRITTEN, expect, expect_files, make_folder, ran_in, same, words_in};
+use crate::tests::{Answer, WRITTEN, expect, expect_files, make_folder, ran_in, same, words_in};
 use elem_rules::At;
 use hub_kinds::{Items, NoMemory, copy_text};
 use night_command::{
@@ -129,8 +129,8 @@ impl Write for Writer {
     }
 }
 
-/// The line takes fifteen writes, its end one, and then it is flushed.
-fn prints_until(rt: &HostRuntime, folder: &str, calls: usize) -> Result<(), Fail> {
+/// A run in this folder, whose standard output fails behind so many calls.
+fn ran_until(rt: &HostRuntime, folder: &str, calls: usize) -> Result<Answer, Fail> {
     let words = words_in(rt.alloc(), folder)?;
     let mut out = Writer {
         taken: Vec::new(rt.alloc()),
@@ -138,17 +138,28 @@ fn prints_until(rt: &HostRuntime, folder: &str, calls: usize) -> Result<(), Fail
     };
     let mut err = Vec::new(rt.alloc());
     let status = night_main(rt, words.as_slice(), &mut out, &mut err);
+    Ok((status, out.taken, err))
+}
+
+/// The line takes fifteen writes, its end one, and then it is flushed.
+fn expect_until(alloc: Global, answer: &Answer, calls: usize) -> Result<(), Fail> {
     let is_whole = calls >= 17;
     let line: &[u8] = if is_whole {
         b""
     } else {
         b"nighthub: output stdout\n"
     };
-    same(rt.alloc(), err.as_slice(), line)?;
-    if status != (if is_whole { 0 } else { 5 }) || !TOTAL.starts_with(out.taken.as_slice()) {
-        return Err(Fail::new(format!(in rt.alloc(); "status {status} at {calls}")?));
+    same(alloc, answer.2.as_slice(), line)?;
+    let status = answer.0;
+    if status != (if is_whole { 0 } else { 5 }) || !TOTAL.starts_with(answer.1.as_slice()) {
+        return Err(Fail::new(format!(in alloc; "status {status} at {calls}")?));
     }
     Ok(())
+}
+
+fn prints_until(rt: &HostRuntime, folder: &str, calls: usize) -> Result<(), Fail> {
+    let answer = ran_until(rt, folder, calls)?;
+    expect_until(rt.alloc(), &answer, calls)
 }
 
 #[test]
@@ -172,18 +183,22 @@ const LINES: &[&[u8]] = &[
     b"nighthub: usage\n",
 ];
 
+/// A usage, whose standard error fails behind so many calls.
+fn usage_until(rt: &HostRuntime, calls: usize) -> Answer {
+    let mut out = Vec::new(rt.alloc());
+    let mut err = Writer {
+        taken: Vec::new(rt.alloc()),
+        calls,
+    };
+    let status = night_main(rt, ["--in"].as_slice(), &mut out, &mut err);
+    (status, out, err.taken)
+}
+
 #[test]
 fn passes_over_a_fault_of_standard_error(rt: HostRuntime) -> Result<(), Fail> {
     for (calls, line) in LINES.iter().enumerate() {
-        let mut out = Vec::new(rt.alloc());
-        let mut err = Writer {
-            taken: Vec::new(rt.alloc()),
-            calls,
-        };
-        let status = night_main(&rt, ["--in"].as_slice(), &mut out, &mut err);
-        assert_eq!(rt; status, 2);
-        assert!(rt; out.is_empty());
-        same(rt.alloc(), err.taken.as_slice(), line)?;
+        let answer = usage_until(&rt, calls);
+        expect(rt.alloc(), &answer, 2, b"", line)?;
     }
     Ok(())
 }
@@ -208,17 +223,28 @@ impl Folder for Names {
     }
 }
 
-fn example(alloc: Global) -> Result<Setup, Fail> {
+fn guide_files(alloc: Global) -> Result<Items<GuideFile<'static>>, Fail> {
     let mut guides = Vec::new(alloc);
     for (path, bytes) in [("h850.toml", H850), ("h856.toml", H856)] {
         let bytes = Some(copy_text(alloc, bytes)?);
         guides.push(GuideFile { path, bytes })?;
     }
-    let files = SetupFiles {
-        guides: Items::from_vec(guides),
-        setup: Some(copy_text(alloc, SETUP)?),
-        counters: Some(copy_text(alloc, COUNTERS)?),
-    };
+    Ok(Items::from_vec(guides))
+}
+
+fn setup_files(alloc: Global) -> Result<SetupFiles<'static>, Fail> {
+    let guides = guide_files(alloc)?;
+    let setup = Some(copy_text(alloc, SETUP)?);
+    let counters = Some(copy_text(alloc, COUNTERS)?);
+    Ok(SetupFiles {
+        guides,
+        setup,
+        counters,
+    })
+}
+
+fn example(alloc: Global) -> Result<Setup, Fail> {
+    let files = setup_files(alloc)?;
     match setup_of(alloc, &files) {
         Ok(setup) => Ok(setup),
         Err(_) => Err("no setup")?,

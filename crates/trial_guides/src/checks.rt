@@ -189,7 +189,7 @@ fn numbers(rt: HostRuntime) -> Result<(), Fail> {
 
 #[test]
 fn refusal_numbers(rt: HostRuntime) {
-    assert_eq!(rt; GuideFault::BadCondition(1).number(), 6);
+    assert!(rt; GuideFault::BadCondition(1).number() == 6);
 }
 
 /// The id of the slot with a number; empty where no segment has it.
@@ -206,7 +206,7 @@ const SLOTS: &[(u32, &[u8])] = &[(4, b"N3"), (2, b""), (5, b"")];
 fn expect_slots(guide: &Guide, slots: &[(u32, &[u8])]) -> Result<(), Fail> {
     for (number, id) in slots {
         if slot_id(guide, *number) != *id {
-            return Err("another slot")?;
+            return Err("another slot".into());
         }
     }
     Ok(())

@@ -22,12 +22,16 @@ const THIRD_OF_THREE: &[Line] = &[Line {
     ..OPTIONAL
 }];
 
+fn add_three(alloc: Global, components: &mut Vec<Component>) -> Result<(), AllocError> {
+    add_components(alloc, components, FIRST_OF_THREE)?;
+    components.push(Component::NotUsed(text(alloc, b"12")?))?;
+    add_components(alloc, components, THIRD_OF_THREE)
+}
+
 /// A mandatory composite that may occur three times; its second component isn't used.
 fn three_components(alloc: Global) -> Result<Element, AllocError> {
     let mut components = Vec::new(alloc);
-    add_components(alloc, &mut components, FIRST_OF_THREE)?;
-    components.push(Component::NotUsed(text(alloc, b"12")?))?;
-    add_components(alloc, &mut components, THIRD_OF_THREE)?;
+    add_three(alloc, &mut components)?;
     composite(alloc, "C1", Requirement::Mandatory, 3, components)
 }
 
@@ -56,15 +60,34 @@ const LAST_ROW: &[Line] = &[Line {
     ..OPTIONAL
 }];
 
-fn composites(alloc: Global) -> Result<Guide, Fail> {
-    let mut rows = Vec::new(alloc);
+fn add_composites(alloc: Global, rows: &mut Vec<Element>) -> Result<(), AllocError> {
     rows.push(three_components(alloc)?)?;
     rows.push(one_component(alloc)?)?;
-    add_rows(alloc, &mut rows, ROW_TWICE)?;
+    Ok(())
+}
+
+fn add_not_used(alloc: Global, rows: &mut Vec<Element>) -> Result<(), AllocError> {
     rows.push(Element::NotUsed(text(alloc, b"4")?))?;
-    add_rows(alloc, &mut rows, LAST_ROW)?;
+    Ok(())
+}
+
+fn add_without_components(alloc: Global, rows: &mut Vec<Element>) -> Result<(), AllocError> {
     let none = composite(alloc, "C6", Requirement::Optional, 1, Vec::new(alloc))?;
     rows.push(none)?;
+    Ok(())
+}
+
+fn add_all(alloc: Global, rows: &mut Vec<Element>) -> Result<(), AllocError> {
+    add_composites(alloc, rows)?;
+    add_rows(alloc, rows, ROW_TWICE)?;
+    add_not_used(alloc, rows)?;
+    add_rows(alloc, rows, LAST_ROW)?;
+    add_without_components(alloc, rows)
+}
+
+fn composites(alloc: Global) -> Result<Guide, Fail> {
+    let mut rows = Vec::new(alloc);
+    add_all(alloc, &mut rows)?;
     guide(alloc, rows, Vec::new(alloc))
 }
 

@@ -66,7 +66,7 @@ fn expect_file(alloc: Global, case: &(&[u8], &str, u32)) -> Result<(), Fail> {
     let (file, wanted, number) = *case;
     let fault = fault_of(alloc, file);
     if number_of(&fault) != number {
-        return Err("another number")?;
+        return Err("another number".into());
     }
     expect(alloc, file, &fault, wanted)
 }

@@ -3,6 +3,7 @@ use super::placings::NOTICE;
 use super::rows::{Row, guide_of};
 use super::slots::DELIMS;
 use guide_tree::Guide;
+use hub_kinds::Fault;
 use loop_match::place_all;
 use std::alloc::Global;
 use std::test::Fail;
@@ -20,15 +21,22 @@ const LONG: &[Long] = &[
     ("BSN~HL~REF*IA~REF*IA~", "N1~N4~", 10_000, 10_000, 20_006),
 ];
 
+fn last_position(faults: &[Fault]) -> u64 {
+    match faults.last() {
+        None => 0,
+        Some(fault) => fault.position,
+    }
+}
+
+fn counted_in(alloc: Global, guide: &Guide, segs: &[SegView]) -> Result<(usize, u64), Fail> {
+    let faults = place_all(alloc, segs, guide)?.into_faults();
+    Ok((faults.as_slice().len(), last_position(faults.as_slice())))
+}
+
 /// How many faults a body has, and the position of the last.
 fn counted(alloc: Global, guide: &Guide, body: &str) -> Result<(usize, u64), Fail> {
     let segs: Vec<SegView> = segments(body.as_bytes(), DELIMS).collect(alloc)?;
-    let faults = place_all(alloc, segs.as_slice(), guide)?.into_faults();
-    let last = match faults.as_slice().last() {
-        None => 0,
-        Some(fault) => fault.position,
-    };
-    Ok((faults.as_slice().len(), last))
+    counted_in(alloc, guide, segs.as_slice())
 }
 
 fn repeated(alloc: Global, front: &str, part: &str, times: u32) -> Result<String, Fail> {
@@ -40,10 +48,15 @@ fn repeated(alloc: Global, front: &str, part: &str, times: u32) -> Result<String
     Ok(body)
 }
 
-fn expect_one(alloc: Global, guide: &Guide, case: &Long) -> Result<(), Fail> {
-    let (front, part, times, count, last) = *case;
+fn counted_of(alloc: Global, guide: &Guide, case: &Long) -> Result<(usize, u64), Fail> {
+    let (front, part, times, _, _) = *case;
     let body = repeated(alloc, front, part, times)?;
-    let found = counted(alloc, guide, body.as_str())?;
+    counted(alloc, guide, body.as_str())
+}
+
+fn expect_one(alloc: Global, guide: &Guide, case: &Long) -> Result<(), Fail> {
+    let (front, part, _, count, last) = *case;
+    let found = counted_of(alloc, guide, case)?;
     if found == (count, last) {
         return Ok(());
     }

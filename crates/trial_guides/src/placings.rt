@@ -1,8 +1,8 @@
 //! What placing a body by a guide shows.
 use super::rows::{Row, guide_of};
 use super::slots::DELIMS;
-use super::texts::same;
-use guide_tree::Guide;
+use super::texts::{add_digits, add_number, add_text, same};
+use guide_tree::{Guide, Slot};
 use hub_kinds::{Fault, code_text};
 use loop_match::{Placing, Step, place_all};
 use std::alloc::Global;
@@ -24,13 +24,12 @@ pub const NOTICE: &[Row] = &[
 ];
 
 fn add_fault(out: &mut Vec<u8>, alloc: Global, fault: &Fault) -> Result<(), Fail> {
-    out.extend_from_slice(format!(in alloc; "{} ", fault.position)?.as_bytes())?;
-    out.extend_from_slice(fault.id.as_slice())?;
-    out.push(b'(')?;
-    out.extend_from_slice(fault.loop_id.as_slice())?;
-    let rest = format!(in alloc; ") {} {};", code_text(fault.code), fault.slot)?;
-    out.extend_from_slice(rest.as_bytes())?;
-    Ok(())
+    add_number(out, alloc, fault.position, b' ')?;
+    add_text(out, fault.id.as_slice(), b'(')?;
+    add_text(out, fault.loop_id.as_slice(), b')')?;
+    out.push(b' ')?;
+    add_text(out, code_text(fault.code).as_bytes(), b' ')?;
+    add_number(out, alloc, u64::from(fault.slot), b';')
 }
 
 fn add_faults(out: &mut Vec<u8>, alloc: Global, placing: &Placing) -> Result<(), Fail> {
@@ -40,15 +39,27 @@ fn add_faults(out: &mut Vec<u8>, alloc: Global, placing: &Placing) -> Result<(),
     Ok(())
 }
 
+fn add_step(out: &mut Vec<u8>, alloc: Global, step: &Step) -> Result<(), Fail> {
+    add_number(out, alloc, step.child as u64, b'.')?;
+    add_digits(out, alloc, step.use_no)
+}
+
 fn add_place(out: &mut Vec<u8>, alloc: Global, place: &[Step]) -> Result<(), Fail> {
     let mut mark = b':';
     for step in place {
         out.push(mark)?;
-        out.extend_from_slice(format!(in alloc; "{}.{}", step.child, step.use_no)?.as_bytes())?;
+        add_step(out, alloc, step)?;
         mark = b'/';
     }
     out.push(b';')?;
     Ok(())
+}
+
+fn add_slot(out: &mut Vec<u8>, alloc: Global, slot: Option<&Slot>) -> Result<(), Fail> {
+    match slot {
+        None => Ok(out.push(b'-')?),
+        Some(slot) => add_digits(out, alloc, u64::from(slot.number)),
+    }
 }
 
 fn add_segment(
@@ -57,10 +68,7 @@ fn add_segment(
     placing: &Placing,
     index: usize,
 ) -> Result<(), Fail> {
-    match placing.slot(index) {
-        None => out.push(b'-')?,
-        Some(slot) => out.extend_from_slice(format!(in alloc; "{}", slot.number)?.as_bytes())?,
-    }
+    add_slot(out, alloc, placing.slot(index))?;
     add_place(out, alloc, placing.place(index).unwrap_or(&[]))
 }
 
@@ -80,14 +88,34 @@ pub enum Shown {
     Places,
 }
 
+fn add_shown(
+    out: &mut Vec<u8>,
+    alloc: Global,
+    placing: &Placing,
+    shown: Shown,
+) -> Result<(), Fail> {
+    match shown {
+        Shown::Faults => add_faults(out, alloc, placing),
+        Shown::Places => add_segments(out, alloc, placing),
+    }
+}
+
+/// Adds what is shown of the placing of segments.
+fn add_placed(
+    out: &mut Vec<u8>,
+    alloc: Global,
+    guide: &Guide,
+    segs: &[SegView],
+    shown: Shown,
+) -> Result<(), Fail> {
+    let placing = place_all(alloc, segs, guide)?;
+    add_shown(out, alloc, &placing, shown)
+}
+
 fn written(alloc: Global, guide: &Guide, body: &str, shown: Shown) -> Result<Vec<u8>, Fail> {
     let segs: Vec<SegView> = segments(body.as_bytes(), DELIMS).collect(alloc)?;
-    let placing = place_all(alloc, segs.as_slice(), guide)?;
     let mut out = Vec::new(alloc);
-    match shown {
-        Shown::Faults => add_faults(&mut out, alloc, &placing)?,
-        Shown::Places => add_segments(&mut out, alloc, &placing)?,
-    }
+    add_placed(&mut out, alloc, guide, segs.as_slice(), shown)?;
     Ok(out)
 }
 

@@ -30,8 +30,9 @@ pub fn none<T>(alloc: Global) -> Items<T> {
 
 /// A list of one text.
 fn one_text(alloc: Global, bytes: &[u8]) -> Result<Texts, AllocError> {
+    let text = text(alloc, bytes)?;
     let mut texts = Vec::new(alloc);
-    texts.push(text(alloc, bytes)?)?;
+    texts.push(text)?;
     Ok(Items::from_vec(texts))
 }
 
@@ -80,11 +81,9 @@ fn code_row(alloc: Global) -> Result<Items<Element>, AllocError> {
 }
 
 fn pick(alloc: Global, code: &[u8]) -> Result<Items<Pick>, AllocError> {
+    let codes = one_text(alloc, code)?;
     let mut picks = Vec::new(alloc);
-    picks.push(Pick {
-        position: 1,
-        codes: one_text(alloc, code)?,
-    })?;
+    picks.push(Pick { position: 1, codes })?;
     Ok(Items::from_vec(picks))
 }
 
@@ -95,12 +94,11 @@ fn picked(alloc: Global, id: &[u8], uses: (u32, u32), code: &[u8]) -> Result<Nod
 
 /// A relational condition of one position.
 fn condition(alloc: Global) -> Result<Items<Condition>, AllocError> {
-    let mut positions = Vec::new(alloc);
-    positions.push(2u32)?;
+    let positions = Items::from_vec(Vec::from_slice(alloc, &[2u32])?);
     let mut conditions = Vec::new(alloc);
     conditions.push(Condition {
         relation: Relation::Required,
-        positions: Items::from_vec(positions),
+        positions,
     })?;
     Ok(Items::from_vec(conditions))
 }

@@ -1,6 +1,6 @@
 //! Guides of one slot and segments of the tests, and how their faults are written.
 use super::rows::{guide_of_nodes, none, segment, text};
-use super::texts::same;
+use super::texts::{add_number, add_text, same};
 use elem_rules::check_segment;
 use guide_tree::{
     CodeList, Component, CompositeRow, Condition, Element, ElementType, Guide, Relation,
@@ -64,9 +64,10 @@ fn codes(alloc: Global, line: &Line) -> Result<Option<CodeList>, AllocError> {
 }
 
 fn row(alloc: Global, line: &Line) -> Result<SimpleRow, AllocError> {
+    let reference = text(alloc, line.reference.as_bytes())?;
     let codes = codes(alloc, line)?;
     Ok(SimpleRow {
-        reference: text(alloc, line.reference.as_bytes())?,
+        reference,
         requirement: line.requirement,
         data_type: line.data_type,
         min: line.min,
@@ -105,8 +106,9 @@ pub fn composite(
     repeat: u32,
     components: Vec<Component>,
 ) -> Result<Element, AllocError> {
+    let reference = text(alloc, reference.as_bytes())?;
     Ok(Element::Composite(CompositeRow {
-        reference: text(alloc, reference.as_bytes())?,
+        reference,
         requirement,
         repeat,
         components: Items::from_vec(components),
@@ -135,40 +137,44 @@ pub fn guide(
 ) -> Result<Guide, Fail> {
     let elements = Items::from_vec(elements);
     let conditions = Items::from_vec(conditions);
+    let node = segment(alloc, b"SEG", (0, 1), none(alloc), elements, conditions)?;
     let mut nodes = Vec::new(alloc);
-    nodes.push(segment(alloc, b"SEG", (0, 1), none(alloc), elements, conditions)?)?;
+    nodes.push(node)?;
     guide_of_nodes(alloc, nodes)
 }
 
 /// A relational condition and its positions.
 pub type Related = (Relation, &'static [u32]);
 
-/// A guide of a segment of simple rows with conditions.
-pub fn guide_of(alloc: Global, lines: &[Line], related: &[Related]) -> Result<Guide, Fail> {
+fn conditions_of(alloc: Global, related: &[Related]) -> Result<Vec<Condition>, AllocError> {
     let mut conditions = Vec::new(alloc);
     for (relation, positions) in related {
         add_condition(alloc, &mut conditions, *relation, positions)?;
     }
+    Ok(conditions)
+}
+
+fn rows_of(alloc: Global, lines: &[Line]) -> Result<Vec<Element>, AllocError> {
     let mut rows = Vec::new(alloc);
     add_rows(alloc, &mut rows, lines)?;
+    Ok(rows)
+}
+
+/// A guide of a segment of simple rows with conditions.
+pub fn guide_of(alloc: Global, lines: &[Line], related: &[Related]) -> Result<Guide, Fail> {
+    let conditions = conditions_of(alloc, related)?;
+    let rows = rows_of(alloc, lines)?;
     guide(alloc, rows, conditions)
 }
 
 /// Adds `element component repetition code reference copy;`.
 fn add_fault(out: &mut Vec<u8>, alloc: Global, fault: &ElemFault) -> Result<(), Fail> {
-    let place = format!(in alloc;
-        "{} {} {} {} ",
-        fault.element,
-        fault.component,
-        fault.repetition,
-        code_text(fault.code)
-    )?;
-    out.extend_from_slice(place.as_bytes())?;
-    out.extend_from_slice(fault.reference.as_slice())?;
-    out.push(b' ')?;
-    out.extend_from_slice(fault.copy.as_slice())?;
-    out.push(b';')?;
-    Ok(())
+    add_number(out, alloc, u64::from(fault.element), b' ')?;
+    add_number(out, alloc, u64::from(fault.component), b' ')?;
+    add_number(out, alloc, u64::from(fault.repetition), b' ')?;
+    add_text(out, code_text(fault.code).as_bytes(), b' ')?;
+    add_text(out, fault.reference.as_slice(), b' ')?;
+    add_text(out, fault.copy.as_slice(), b';')
 }
 
 fn written(alloc: Global, faults: &[ElemFault]) -> Result<Vec<u8>, Fail> {
@@ -179,6 +185,15 @@ fn written(alloc: Global, faults: &[ElemFault]) -> Result<Vec<u8>, Fail> {
     Ok(out)
 }
 
+/// What is found in a segment by the one slot of a guide, written.
+fn told(alloc: Global, delims: Delims, guide: &Guide, segment: &[u8]) -> Result<Vec<u8>, Fail> {
+    let Some(slot) = guide.slot(1) else {
+        return Err("a guide without a slot".into());
+    };
+    let found = check_segment(alloc, &SegView::new(0, segment, delims), slot)?;
+    written(alloc, found.as_slice())
+}
+
 /// Whether a segment has just these faults by the one slot of a guide.
 fn expect_one(
     alloc: Global,
@@ -187,9 +202,7 @@ fn expect_one(
     segment: &[u8],
     faults: &[u8],
 ) -> Result<(), Fail> {
-    let slot = guide.slot(1).ok_or("a guide without a slot")?;
-    let found = check_segment(alloc, &SegView::new(0, segment, delims), slot)?;
-    let found = written(alloc, found.as_slice())?;
+    let found = told(alloc, delims, guide, segment)?;
     same(alloc, segment, found.as_slice(), faults)
 }
 

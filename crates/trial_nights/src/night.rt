@@ -79,12 +79,26 @@ fn night_of(alloc: Global, setup: &Setup, text: &[u8]) -> Result<Night, Fail> {
     Ok(run_plain(alloc, text, setup, &at)?)
 }
 
+/// Whether the night of a text gives what is wanted.
+fn expect_night_of(
+    alloc: Global,
+    setup: &Setup,
+    text: &[u8],
+    worked: &WorkedNight,
+) -> Result<(), Fail> {
+    let night = night_of(alloc, setup, text)?;
+    expect_given(alloc, &night, worked)
+}
+
+fn expect_night_by(alloc: Global, setup: &Setup, worked: &WorkedNight) -> Result<(), Fail> {
+    let text = joined(alloc, worked.text)?;
+    expect_night_of(alloc, setup, text.as_slice(), worked)
+}
+
 fn expect_night(alloc: Global, worked: &WorkedNight) -> Result<(), Fail> {
     let (cap, next) = worked.starts;
     let setup = two_partners(alloc, cap, next)?;
-    let text = joined(alloc, worked.text)?;
-    let night = night_of(alloc, &setup, text.as_slice())?;
-    expect_given(alloc, &night, worked)
+    expect_night_by(alloc, &setup, worked)
 }
 
 fn expect_nights(alloc: Global, nights: &[&WorkedNight]) -> Result<(), Fail> {

@@ -15,6 +15,7 @@ use set_check::check_set;
 use std::alloc::Global;
 use std::test::Fail;
 use x12_bytes::Delims;
+use x12_segs::SetSpan;
 
 /// Whether a set that is answered has this number, ST02.
 fn is_there(answers: &[SetAnswer], control: &[u8]) -> bool {
@@ -24,6 +25,22 @@ fn is_there(answers: &[SetAnswer], control: &[u8]) -> bool {
         }
     }
     false
+}
+
+/// Adds the answer to a set that stands behind those that have these answers.
+fn add_answer<'a>(
+    answers: &mut Vec<SetAnswer<'a>>,
+    alloc: Global,
+    text: &'a [u8],
+    span: SetSpan,
+    guide: Option<&'a Guide>,
+) -> Result<(), NoMemory>
+    requires { IsSetSpan text.now span }
+{
+    let checked = check_set(alloc, text, span, guide)?;
+    let earlier = is_there(answers.as_slice(), checked.control());
+    answers.push(checked.into_answer(alloc, earlier)?)?;
+    Ok(())
 }
 
 /// The answers to the sets of a group.
@@ -39,9 +56,7 @@ fn answers_to<'a>(
     let mut answers = Vec::new(alloc);
     for index in 0..group.set_count() {
         let set = group.set(index);
-        let checked = check_set(alloc, text, set.span(delims), guide)?;
-        let earlier = is_there(answers.as_slice(), checked.control());
-        answers.push(checked.into_answer(alloc, earlier)?)?;
+        add_answer(&mut answers, alloc, text, set.span(delims), guide)?;
     }
     Ok(answers)
 }
@@ -63,7 +78,9 @@ fn group_answer<'a>(
     sets: &[SetAnswer],
 ) -> Result<GroupAnswer<'a>, Fail> {
     let header = group.header();
-    let end = group.trailer().ok_or("no trailer")?;
+    let Some(end) = group.trailer() else {
+        return Err("no trailer".into());
+    };
     let trailer = GroupTrailer {
         listed: Lent::new(end.element(1)),
         control: Lent::new(end.element(2)),
@@ -89,6 +106,17 @@ fn group_answer<'a>(
     })
 }
 
+/// The acknowledgment of a group with these answers to its sets.
+fn acknowledged(
+    alloc: Global,
+    group: &GroupEnvelope,
+    sets: &[SetAnswer],
+    delims: &Delims,
+) -> Result<Vec<u8>, Fail> {
+    let answer = group_answer(alloc, group, sets)?;
+    Ok(write_999(alloc, &answer, sets, delims, 1)?)
+}
+
 /// The acknowledgment of the first group of an interchange, written with its delimiters.
 fn acknowledgment<'a>(
     alloc: Global,
@@ -104,19 +132,25 @@ fn acknowledgment<'a>(
     let delims = interchange.header().delims();
     let group = interchange.group(0);
     let sets = answers_to(alloc, text, delims, &group, guide)?;
-    let answer = group_answer(alloc, &group, sets.as_slice())?;
-    Ok(write_999(alloc, &answer, sets.as_slice(), &delims, 1)?)
+    acknowledged(alloc, &group, sets.as_slice(), &delims)
+}
+
+/// The acknowledgment of the first group of the interchange with which a text begins.
+fn first_acknowledgment(alloc: Global, guide: &Guide, text: &[u8]) -> Result<Vec<u8>, Fail> {
+    if !within_limit(text.len() as u64) {
+        return Err("too long".into());
+    }
+    match read_interchange(alloc, text, 0)? {
+        None => Err("no interchange".into()),
+        Some(interchange) => acknowledgment(alloc, text, &interchange, Some(guide)),
+    }
 }
 
 /// The acknowledgment of a group with this functional identifier code, whose segments behind GS are these, its sets checked by a
 /// guide.
 fn answered(alloc: Global, guide: &Guide, group: &str, body: &str) -> Result<Vec<u8>, Fail> {
     let text = interchange_of(alloc, group, body)?;
-    if !within_limit(text.len() as u64) {
-        return Err("too long".into());
-    }
-    let interchange = read_interchange(alloc, text.as_slice(), 0)?.ok_or("no interchange")?;
-    acknowledgment(alloc, text.as_slice(), &interchange, Some(guide))
+    first_acknowledgment(alloc, guide, text.as_slice())
 }
 
 fn expect_answer(
@@ -131,12 +165,17 @@ fn expect_answer(
 }
 
 /// Whether the 999 beside each of these groups answers it by a guide.
-pub fn expect_answers(alloc: Global, guide: &str, group: &str, cases: Cases) -> Result<(), Fail> {
-    let guide = guide_of(alloc, guide)?;
+fn expect_each(alloc: Global, guide: &Guide, group: &str, cases: Cases) -> Result<(), Fail> {
     for [body, wanted] in cases {
-        expect_answer(alloc, &guide, group, body, wanted)?;
+        expect_answer(alloc, guide, group, body, wanted)?;
     }
     Ok(())
+}
+
+/// The same by the guide of a file.
+pub fn expect_answers(alloc: Global, guide: &str, group: &str, cases: Cases) -> Result<(), Fail> {
+    let guide = guide_of(alloc, guide)?;
+    expect_each(alloc, &guide, group, cases)
 }
 
 /// Sets of an order and the GE behind them, and the 999 that answers them.

@@ -1,7 +1,8 @@
 //! Sets with elements in error.
 use super::guides::{NOTICE, ORDER, guide_of};
 use super::sets::{Cases, expect, expect_told};
-use std::alloc::Global;
+use guide_tree::Guide;
+use std::alloc::{AllocError, Global};
 use std::test::Fail;
 
 /// Sets of an order, and what is found in each.
@@ -46,19 +47,27 @@ const PLACES: Cases = &[
     ],
 ];
 
+/// A notice with this place.
+fn notice(alloc: Global, place: &str) -> Result<String, AllocError> {
+    format!(in alloc; "ST*856*0001~BSN*00~HL*1~REF*IA*X~REF*IA*Y~N1*ST~N4*{place}~SE*8*0001~")
+}
+
+fn expect_place(alloc: Global, guide: &Guide, case: &[&str; 2]) -> Result<(), Fail> {
+    let [place, wanted] = *case;
+    let set = notice(alloc, place)?;
+    expect_told(alloc, Some(guide), set.as_str(), wanted)
+}
+
 /// Whether just this is found in a notice with each of these places.
-fn expect_places(alloc: Global, cases: Cases) -> Result<(), Fail> {
-    let guide = guide_of(alloc, NOTICE)?;
-    for [place, wanted] in cases {
-        let set = format!(in alloc;
-            "ST*856*0001~BSN*00~HL*1~REF*IA*X~REF*IA*Y~N1*ST~N4*{place}~SE*8*0001~"
-        )?;
-        expect_told(alloc, Some(&guide), set.as_str(), wanted)?;
+fn expect_places(alloc: Global, guide: &Guide, cases: Cases) -> Result<(), Fail> {
+    for case in cases {
+        expect_place(alloc, guide, case)?;
     }
     Ok(())
 }
 
 #[test]
 fn components(rt: HostRuntime) -> Result<(), Fail> {
-    expect_places(rt.alloc(), PLACES)
+    let guide = guide_of(rt.alloc(), NOTICE)?;
+    expect_places(rt.alloc(), &guide, PLACES)
 }

@@ -1,7 +1,8 @@
 //! Sets whose header and trailer are in error, and sets without a guide.
 use super::guides::{NOTICE, ORDER, guide_of};
-use super::sets::{Cases, expect, expect_told};
-use std::alloc::Global;
+use super::sets::{Cases, expect, expect_each, expect_told};
+use guide_tree::Guide;
+use std::alloc::{AllocError, Global};
 use std::test::Fail;
 
 /// What stands before a clean body and behind it, and what is found.
@@ -28,19 +29,29 @@ const ORDERS: &[[&str; 3]] = &[
     ["ST*850*0001**X", "SE*4*0001*X~", " clean\n"],
 ];
 
+/// An order between these.
+fn order(alloc: Global, header: &str, trailer: &str) -> Result<String, AllocError> {
+    format!(in alloc; "{header}~BEG*00*SA*P1**20260228~PO1*1*5*EA~{trailer}")
+}
+
+fn expect_order(alloc: Global, guide: &Guide, case: &[&str; 3]) -> Result<(), Fail> {
+    let [header, trailer, wanted] = *case;
+    let set = order(alloc, header, trailer)?;
+    expect_told(alloc, Some(guide), set.as_str(), wanted)
+}
+
 /// Whether just this is found in an order between each of these.
-fn expect_envelopes(alloc: Global, cases: &[[&str; 3]]) -> Result<(), Fail> {
-    let guide = guide_of(alloc, ORDER)?;
-    for [header, trailer, wanted] in cases {
-        let set = format!(in alloc; "{header}~BEG*00*SA*P1**20260228~PO1*1*5*EA~{trailer}")?;
-        expect_told(alloc, Some(&guide), set.as_str(), wanted)?;
+fn expect_orders(alloc: Global, guide: &Guide, cases: &[[&str; 3]]) -> Result<(), Fail> {
+    for case in cases {
+        expect_order(alloc, guide, case)?;
     }
     Ok(())
 }
 
 #[test]
 fn envelopes(rt: HostRuntime) -> Result<(), Fail> {
-    expect_envelopes(rt.alloc(), ORDERS)
+    let guide = guide_of(rt.alloc(), ORDER)?;
+    expect_orders(rt.alloc(), &guide, ORDERS)
 }
 
 /// ST03 of a notice under a convention, and what is found.
@@ -52,21 +63,29 @@ const CONVENTIONS: Cases = &[
     ["*HUB", " I6\n"],
 ];
 
+/// A notice with this.
+fn notice(alloc: Global, convention: &str) -> Result<String, AllocError> {
+    format!(in alloc; "ST*856*0001{convention}~BSN*00~HL*1~REF*IA*X~REF*IA*Y~SE*6*0001~")
+}
+
+fn expect_notice(alloc: Global, guide: &Guide, case: &[&str; 2]) -> Result<(), Fail> {
+    let [convention, wanted] = *case;
+    let set = notice(alloc, convention)?;
+    expect_told(alloc, Some(guide), set.as_str(), wanted)
+}
+
 /// Whether just this is found in a notice with each of these.
-fn expect_conventions(alloc: Global, cases: Cases) -> Result<(), Fail> {
-    let guide = guide_of(alloc, NOTICE)?;
-    for [convention, wanted] in cases {
-        let set = format!(in alloc;
-            "ST*856*0001{convention}~BSN*00~HL*1~REF*IA*X~REF*IA*Y~SE*6*0001~"
-        )?;
-        expect_told(alloc, Some(&guide), set.as_str(), wanted)?;
+fn expect_notices(alloc: Global, guide: &Guide, cases: Cases) -> Result<(), Fail> {
+    for case in cases {
+        expect_notice(alloc, guide, case)?;
     }
     Ok(())
 }
 
 #[test]
 fn conventions(rt: HostRuntime) -> Result<(), Fail> {
-    expect_conventions(rt.alloc(), CONVENTIONS)
+    let guide = guide_of(rt.alloc(), NOTICE)?;
+    expect_notices(rt.alloc(), &guide, CONVENTIONS)
 }
 
 /// Sets of one group, one behind the other, and what is found in each.
@@ -99,14 +118,7 @@ const ALONE: Cases = &[
     ["ST*860*001~QQ~SE*9*0001~", " 1 3 4 7\n"],
 ];
 
-fn expect_alone(alloc: Global, cases: Cases) -> Result<(), Fail> {
-    for [sets, wanted] in cases {
-        expect_told(alloc, None, sets, wanted)?;
-    }
-    Ok(())
-}
-
 #[test]
 fn sets_without_a_guide(rt: HostRuntime) -> Result<(), Fail> {
-    expect_alone(rt.alloc(), ALONE)
+    expect_each(rt.alloc(), None, ALONE)
 }

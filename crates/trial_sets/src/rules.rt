@@ -2,7 +2,8 @@
 use super::answers::expect_answers;
 use super::guides::{SHIPMENT, guide_of};
 use super::sets::{Cases, expect_told};
-use std::alloc::Global;
+use guide_tree::Guide;
+use std::alloc::{AllocError, Global};
 use std::test::Fail;
 
 /// What stands behind BSN in a shipment, its SE01, and what is found.
@@ -56,19 +57,29 @@ const SHIPMENTS: &[[&str; 3]] = &[
     ],
 ];
 
+/// A shipment with this behind its BSN, and this SE01.
+fn shipment(alloc: Global, body: &str, count: &str) -> Result<String, AllocError> {
+    format!(in alloc; "ST*856*0001~BSN*00*SH1*20260228*0900~{body}SE*{count}*0001~")
+}
+
+fn expect_shipment(alloc: Global, guide: &Guide, case: &[&str; 3]) -> Result<(), Fail> {
+    let [body, count, wanted] = *case;
+    let set = shipment(alloc, body, count)?;
+    expect_told(alloc, Some(guide), set.as_str(), wanted)
+}
+
 /// Whether just this is found in a shipment with each of these behind its BSN.
-fn expect_shipments(alloc: Global, cases: &[[&str; 3]]) -> Result<(), Fail> {
-    let guide = guide_of(alloc, SHIPMENT)?;
-    for [body, count, wanted] in cases {
-        let set = format!(in alloc; "ST*856*0001~BSN*00*SH1*20260228*0900~{body}SE*{count}*0001~")?;
-        expect_told(alloc, Some(&guide), set.as_str(), wanted)?;
+fn expect_shipments(alloc: Global, guide: &Guide, cases: &[[&str; 3]]) -> Result<(), Fail> {
+    for case in cases {
+        expect_shipment(alloc, guide, case)?;
     }
     Ok(())
 }
 
 #[test]
 fn shipments(rt: HostRuntime) -> Result<(), Fail> {
-    expect_shipments(rt.alloc(), SHIPMENTS)
+    let guide = guide_of(rt.alloc(), SHIPMENT)?;
+    expect_shipments(rt.alloc(), &guide, SHIPMENTS)
 }
 
 /// Shipments and the GE behind them, and the 999 that answers them.

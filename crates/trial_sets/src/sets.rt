@@ -17,33 +17,42 @@ use x12_segs::SetSpan;
 const FRONT: &[u8] =
     b"ISA*00*          *00*          *01*ACME           *ZZ*HUB            *260228*0900*^*00501*000000007*0*P*>~";
 
-fn add_elem(out: &mut Vec<u8>, alloc: Global, elem: &ElemFault) -> Result<(), Fail> {
-    let numbers = format!(in alloc;
-        " {}.{}.{} {} ",
-        elem.element,
-        elem.component,
-        elem.repetition,
-        code_text(elem.code)
-    )?;
-    out.extend_from_slice(numbers.as_bytes())?;
-    out.extend_from_slice(elem.reference.as_slice())?;
-    out.push(b' ')?;
-    out.extend_from_slice(elem.copy.as_slice())?;
+/// Adds a number and the byte behind it.
+fn add_number(out: &mut Vec<u8>, alloc: Global, number: u64, behind: u8) -> Result<(), Fail> {
+    out.extend_from_slice(format!(in alloc; "{number}")?.as_bytes())?;
+    out.push(behind)?;
     Ok(())
 }
 
-fn add_fault(out: &mut Vec<u8>, alloc: Global, fault: &Fault) -> Result<(), Fail> {
-    out.extend_from_slice(format!(in alloc; "{} ", fault.position)?.as_bytes())?;
-    out.extend_from_slice(fault.id.as_slice())?;
-    out.push(b'(')?;
-    out.extend_from_slice(fault.loop_id.as_slice())?;
-    let rest = format!(in alloc; ") {} {}", code_text(fault.code), fault.slot)?;
-    out.extend_from_slice(rest.as_bytes())?;
-    if let Some(elem) = &fault.elem {
-        add_elem(out, alloc, elem)?;
-    }
-    out.push(b';')?;
+/// Adds a text and the byte behind it.
+fn add_text(out: &mut Vec<u8>, text: &[u8], behind: u8) -> Result<(), Fail> {
+    out.extend_from_slice(text)?;
+    out.push(behind)?;
     Ok(())
+}
+
+fn add_elem(out: &mut Vec<u8>, alloc: Global, elem: &ElemFault) -> Result<(), Fail> {
+    add_number(out, alloc, u64::from(elem.element), b'.')?;
+    add_number(out, alloc, u64::from(elem.component), b'.')?;
+    add_number(out, alloc, u64::from(elem.repetition), b' ')?;
+    add_text(out, code_text(elem.code).as_bytes(), b' ')?;
+    add_text(out, elem.reference.as_slice(), b' ')?;
+    add_text(out, elem.copy.as_slice(), b';')
+}
+
+fn add_fault(out: &mut Vec<u8>, alloc: Global, fault: &Fault) -> Result<(), Fail> {
+    add_number(out, alloc, fault.position, b' ')?;
+    add_text(out, fault.id.as_slice(), b'(')?;
+    add_text(out, fault.loop_id.as_slice(), b')')?;
+    out.push(b' ')?;
+    add_text(out, code_text(fault.code).as_bytes(), b' ')?;
+    match &fault.elem {
+        None => add_number(out, alloc, u64::from(fault.slot), b';'),
+        Some(elem) => {
+            add_number(out, alloc, u64::from(fault.slot), b' ')?;
+            add_elem(out, alloc, elem)
+        }
+    }
 }
 
 fn add_faults(out: &mut Vec<u8>, alloc: Global, faults: &[Fault]) -> Result<(), Fail> {
@@ -123,17 +132,38 @@ pub fn interchange_of(alloc: Global, group: &str, body: &str) -> Result<Vec<u8>,
     Ok(text)
 }
 
-/// What is found in each of these sets of one group, written.
-fn told(alloc: Global, guide: Option<&Guide>, sets: &str) -> Result<Vec<u8>, Fail> {
-    let body = format!(in alloc; "{sets}GE*1*12~")?;
-    let text = interchange_of(alloc, "PO", body.as_str())?;
+/// Adds what is found in each set of the interchange with which a text begins.
+fn add_first(
+    out: &mut Vec<u8>,
+    alloc: Global,
+    text: &[u8],
+    guide: Option<&Guide>,
+) -> Result<(), Fail> {
     if !within_limit(text.len() as u64) {
         return Err("too long".into());
     }
-    let interchange = read_interchange(alloc, text.as_slice(), 0)?.ok_or("no interchange")?;
+    match read_interchange(alloc, text, 0)? {
+        None => Err("no interchange".into()),
+        Some(interchange) => add_interchange(out, alloc, text, &interchange, guide),
+    }
+}
+
+fn told_of(alloc: Global, guide: Option<&Guide>, text: &[u8]) -> Result<Vec<u8>, Fail> {
     let mut out = Vec::new(alloc);
-    add_interchange(&mut out, alloc, text.as_slice(), &interchange, guide)?;
+    add_first(&mut out, alloc, text, guide)?;
     Ok(out)
+}
+
+/// The text of these sets as the one group of an interchange.
+fn text_of(alloc: Global, sets: &str) -> Result<Vec<u8>, Fail> {
+    let body = format!(in alloc; "{sets}GE*1*12~")?;
+    interchange_of(alloc, "PO", body.as_str())
+}
+
+/// What is found in each of these sets of one group, written.
+fn told(alloc: Global, guide: Option<&Guide>, sets: &str) -> Result<Vec<u8>, Fail> {
+    let text = text_of(alloc, sets)?;
+    told_of(alloc, guide, text.as_slice())
 }
 
 /// Text, beside what is made of it.
@@ -159,11 +189,16 @@ pub fn expect_told(
     expect_same(alloc, sets, found.as_slice(), wanted)
 }
 
-/// Whether what stands beside each of these groups of sets is found in it by a guide.
-pub fn expect(alloc: Global, guide: &str, cases: Cases) -> Result<(), Fail> {
-    let guide = guide_of(alloc, guide)?;
+/// Whether what stands beside each of these groups of sets is found in it by a guide, or without one.
+pub fn expect_each(alloc: Global, guide: Option<&Guide>, cases: Cases) -> Result<(), Fail> {
     for [sets, wanted] in cases {
-        expect_told(alloc, Some(&guide), sets, wanted)?;
+        expect_told(alloc, guide, sets, wanted)?;
     }
     Ok(())
+}
+
+/// The same by the guide of a file.
+pub fn expect(alloc: Global, guide: &str, cases: Cases) -> Result<(), Fail> {
+    let guide = guide_of(alloc, guide)?;
+    expect_each(alloc, Some(&guide), cases)
 }

@@ -1,5 +1,6 @@
 //! Texts that are one interchange and nothing else.
 use crate::interchanges::{ORDER, ORDER_IN_LINES, joined};
+use crate::texts::holds;
 use env_index::{Interchange, judge, read_lone};
 use std::alloc::Global;
 use std::test::Fail;
@@ -14,7 +15,7 @@ const FRONTS: &[(&[u8], Option<usize>)] = &[
 ];
 
 /// Where the one interchange of a short text begins.
-fn start(alloc: Global, text: &[u8]) -> Result<Option<usize>, Fail> {
+pub fn start(alloc: Global, text: &[u8]) -> Result<Option<usize>, Fail> {
     if 1000 <= text.len() {
         return Err("long text".into());
     }
@@ -52,16 +53,15 @@ fn tells_an_interchange_that_is_alone(rt: HostRuntime) -> Result<(), Fail> {
     expect_start(rt.alloc(), b"", b"", None)
 }
 
-fn expect_lines(lines: &Interchange) -> Result<(), Fail> {
-    if (lines.start(), lines.end()) != (0, 250) || judge(lines).is_some() {
-        return Err("another interchange")?;
-    }
-    Ok(())
+fn is_sound(lines: &Interchange) -> bool {
+    (lines.start(), lines.end()) == (0, 250) && judge(lines).is_none()
 }
 
 #[test]
 fn line_ends_may_follow_each_terminator(rt: HostRuntime) -> Result<(), Fail> {
     assert!(rt; ORDER_IN_LINES.len() == 252);
-    let lines = read_lone(rt.alloc(), ORDER_IN_LINES)?.ok_or("not alone")?;
-    expect_lines(&lines)
+    match read_lone(rt.alloc(), ORDER_IN_LINES)? {
+        None => Err("not alone".into()),
+        Some(lines) => holds(is_sound(&lines), "another interchange"),
+    }
 }

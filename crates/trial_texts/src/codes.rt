@@ -120,13 +120,22 @@ fn codes_of(alloc: Global, case: &Case, faults: &[Fault]) -> Result<Vec<SetCode>
     set_codes(alloc, faults, guide.as_ref(), &header, 3, None, true)
 }
 
-fn expect_codes(alloc: Global, case: &Case) -> Result<(), Fail> {
-    let faults = faults(alloc, case.faults)?;
-    let codes = codes_of(alloc, case, faults.as_slice())?;
-    if codes.as_slice() == case.codes {
+fn expect_same(alloc: Global, found: &[SetCode], wanted: &[SetCode]) -> Result<(), Fail> {
+    if found == wanted {
         return Ok(());
     }
-    Err(Fail::new(format!(in alloc; "{codes:?}")?))
+    Err(Fail::new(format!(in alloc; "{found:?}")?))
+}
+
+/// Whether a set with these faults has the codes of the case.
+fn expect_codes_by(alloc: Global, case: &Case, faults: &[Fault]) -> Result<(), Fail> {
+    let codes = codes_of(alloc, case, faults)?;
+    expect_same(alloc, codes.as_slice(), case.codes)
+}
+
+fn expect_codes(alloc: Global, case: &Case) -> Result<(), Fail> {
+    let faults = faults(alloc, case.faults)?;
+    expect_codes_by(alloc, case, faults.as_slice())
 }
 
 fn expect_each(alloc: Global, cases: &[Case]) -> Result<(), Fail> {

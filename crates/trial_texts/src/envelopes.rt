@@ -1,12 +1,13 @@
 //! Interchanges, their groups and their sets: where each ends, and what the index keeps of it.
+use crate::alone::start;
 use crate::interchanges::{
     HEADER_AS_A_SEGMENT, HEADER_IN_AN_ELEMENT, NOTICES, ORDER, ORDER_WITHOUT_TRAILER,
     WITHOUT_TRAILERS, read,
 };
+use crate::texts::{holds, same};
 use env_index::{
     Interchange, chain_is_one, end_is_least, envelope_is_mapped, envelope_is_of_kinds,
-    envelope_is_one, envelope_is_there, index_is_one, judge, read_interchange, read_lone,
-    sets_stand_alone,
+    envelope_is_one, envelope_is_there, index_is_one, judge, read_interchange, sets_stand_alone,
 };
 use hub_kinds::InterchangeFault;
 use std::alloc::Global;
@@ -115,16 +116,20 @@ const INTERCHANGES: &[(&[u8], usize, Seen)] = &[
     ),
 ];
 
-/// The interchange whose header begins at this offset.
-fn look(alloc: Global, text: &[u8], start: usize) -> Result<Seen, Fail> {
-    let found = read(alloc, text, start)?;
-    Ok(Seen {
+fn kept_of(found: &Interchange) -> Seen {
+    Seen {
         extent: (found.start(), found.end()),
         notices: found.notices(),
         misplaced: found.is_misplaced(),
         groups: found.group_count(),
-        fault: judge(&found),
-    })
+        fault: judge(found),
+    }
+}
+
+/// The interchange whose header begins at this offset.
+fn look(alloc: Global, text: &[u8], start: usize) -> Result<Seen, Fail> {
+    let found = read(alloc, text, start)?;
+    Ok(kept_of(&found))
 }
 
 fn expect_seen(alloc: Global, case: &(&[u8], usize, Seen)) -> Result<(), Fail> {
@@ -182,10 +187,7 @@ fn has_group(found: &Interchange, case: &Group) -> bool {
 
 fn expect_group(alloc: Global, case: &Group) -> Result<(), Fail> {
     let found = read(alloc, case.0, 0)?;
-    if has_group(&found, case) {
-        return Ok(());
-    }
-    Err("another group")?
+    holds(has_group(&found, case), "another group")
 }
 
 fn expect_groups(alloc: Global, cases: &[Group]) -> Result<(), Fail> {
@@ -279,10 +281,7 @@ fn has_set(found: &Interchange, wanted: &Set) -> bool {
 
 fn expect_set(alloc: Global, set: &Set) -> Result<(), Fail> {
     let found = read(alloc, set.text, 0)?;
-    if has_set(&found, set) {
-        return Ok(());
-    }
-    Err("another set")?
+    holds(has_set(&found, set), "another set")
 }
 
 fn expect_sets(alloc: Global, sets: &[Set]) -> Result<(), Fail> {
@@ -297,39 +296,46 @@ fn reads_sets(rt: HostRuntime) -> Result<(), Fail> {
     expect_sets(rt.alloc(), SETS)
 }
 
-fn expect_lent(found: &Interchange) -> Result<(), Fail> {
-    let trailer = found.trailer().ok_or("no IEA")?;
+fn has_trailer(found: &Interchange, bytes: &[u8]) -> bool {
+    match found.trailer() {
+        None => false,
+        Some(trailer) => trailer.bytes() == bytes,
+    }
+}
+
+fn is_lent(found: &Interchange) -> bool {
     let extent = (found.start(), found.end());
-    if extent != (0, 236) || found.header().field(13) != b"000000007".as_slice() {
-        return Err("another interchange")?;
-    }
-    if trailer.bytes() != b"IEA*1*000000007".as_slice() {
-        return Err("another IEA")?;
-    }
-    Ok(())
+    let is_numbered = found.header().field(13) == b"000000007".as_slice();
+    extent == (0, 236) && is_numbered && has_trailer(found, b"IEA*1*000000007")
 }
 
 #[test]
 fn lends_the_header_and_the_trailer(rt: HostRuntime) -> Result<(), Fail> {
-    assert_eq!(rt; ORDER.len(), 236);
-    let found = read_interchange(rt.alloc(), ORDER, 0)?.ok_or("no header")?;
-    expect_lent(&found)
+    assert!(rt; ORDER.len() == 236);
+    let found = read(rt.alloc(), ORDER, 0)?;
+    holds(is_lent(&found), "another interchange")
+}
+
+/// Whether the header of an interchange begins at this offset of a short text.
+fn begins_at(alloc: Global, text: &[u8], start: usize) -> Result<bool, Fail> {
+    if 1000 <= text.len() {
+        return Err("long text".into());
+    }
+    Ok(read_interchange(alloc, text, start)?.is_some())
 }
 
 #[test]
 fn no_interchange_begins_elsewhere(rt: HostRuntime) -> Result<(), Fail> {
     let text = ORDER_WITHOUT_TRAILER;
-    assert!(rt; text.len() == 456);
-    assert!(rt; read_interchange(rt.alloc(), text, 1)?.is_none());
-    Ok(())
+    holds(text.len() == 456, "another length")?;
+    holds(!begins_at(rt.alloc(), text, 1)?, "an interchange")
 }
 
 #[test]
 fn an_interchange_with_a_header_in_an_element_is_alone(rt: HostRuntime) -> Result<(), Fail> {
     let text = HEADER_IN_AN_ELEMENT;
-    assert!(rt; text.len() == 358);
-    assert!(rt; read_lone(rt.alloc(), text)?.is_some());
-    Ok(())
+    holds(text.len() == 358, "another length")?;
+    holds(start(rt.alloc(), text)?.is_some(), "not alone")
 }
 
 #[test]
@@ -354,7 +360,8 @@ fn first_group_header(interchange: Interchange<'_>) -> Option<SegView<'_>> {
 
 #[test]
 fn a_group_lends_as_long_as_the_text_lives(rt: HostRuntime) -> Result<(), Fail> {
-    let header = first_group_header(read(rt.alloc(), ORDER, 0)?).ok_or("no group")?;
-    assert_eq!(rt; header.element(2), b"ACME".as_slice());
-    Ok(())
+    match first_group_header(read(rt.alloc(), ORDER, 0)?) {
+        None => Err("no group".into()),
+        Some(header) => same(rt.alloc(), header.element(2), b"ACME"),
+    }
 }

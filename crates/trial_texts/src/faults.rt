@@ -1,4 +1,5 @@
 //! The order of faults, which asks their numbers and codes alone.
+use crate::texts::holds;
 use hub_kinds::{ElemFault, ElementCode, Fault, Items, NoMemory, SegmentCode, Text, fault_order};
 use std::alloc::Global;
 use std::cmp::Ordering;
@@ -83,38 +84,48 @@ fn elem(alloc: Global, row: &Row) -> Result<Option<ElemFault>, NoMemory> {
     let Some(element) = row.element else {
         return Ok(None);
     };
+    let reference = text(alloc, b"352")?;
+    let copy = text(alloc, row.copy)?;
     Ok(Some(ElemFault {
         element,
         component: 0,
         repetition: 0,
         code: ElementCode::TooLong,
-        reference: text(alloc, b"352")?,
-        copy: text(alloc, row.copy)?,
+        reference,
+        copy,
     }))
 }
 
 fn fault(alloc: Global, row: &Row) -> Result<Fault, NoMemory> {
+    let id = text(alloc, row.id)?;
+    let elem = elem(alloc, row)?;
     Ok(Fault {
         position: row.position,
-        id: text(alloc, row.id)?,
-        loop_id: text(alloc, b"")?,
+        id,
+        loop_id: Items::from_vec(Vec::new(alloc)),
         code: row.code,
         slot: 4,
-        elem: elem(alloc, row)?,
+        elem,
     })
+}
+
+fn order_with(alloc: Global, first: &Fault, second: &Row) -> Result<Ordering, NoMemory> {
+    let second = fault(alloc, second)?;
+    Ok(fault_order(first, &second))
 }
 
 /// How two faults are ordered.
 fn order(alloc: Global, first: &Row, second: &Row) -> Result<Ordering, NoMemory> {
-    Ok(fault_order(&fault(alloc, first)?, &fault(alloc, second)?))
+    let first = fault(alloc, first)?;
+    order_with(alloc, &first, second)
 }
 
 fn expect_order(alloc: Global, case: &(Row, Row, Ordering)) -> Result<(), Fail> {
     let (first, second, wanted) = case;
-    if order(alloc, first, second)? == *wanted {
-        return Ok(());
-    }
-    Err("faults in another order")?
+    holds(
+        order(alloc, first, second)? == *wanted,
+        "faults in another order",
+    )
 }
 
 fn expect_orders(alloc: Global, cases: &[(Row, Row, Ordering)]) -> Result<(), Fail> {

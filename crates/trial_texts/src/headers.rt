@@ -1,5 +1,5 @@
 //! Headers of interchanges, and ids in their full width.
-use crate::texts::same;
+use crate::texts::{holds, same};
 use std::alloc::Global;
 use std::test::Fail;
 use x12_bytes::{Delims, HEADER_LEN, Header, read_header, without_trailing_spaces};
@@ -42,38 +42,54 @@ const IDS: &[(&[u8], &[u8])] = &[
 fn expect_field(alloc: Global, header: &Header, field: &(usize, &[u8])) -> Result<(), Fail> {
     let (k, wanted) = *field;
     if k < 1 || 16 < k {
-        return Err("no such field")?;
+        return Err("no such field".into());
     }
     same(alloc, header.field(k), wanted)
 }
 
-fn expect_fields(alloc: Global, fields: &[(usize, &[u8])]) -> Result<(), Fail> {
-    let header = read_header(ACME, 0).ok_or("no header")?;
+fn expect_fields(alloc: Global, header: &Header, fields: &[(usize, &[u8])]) -> Result<(), Fail> {
     for field in fields {
-        expect_field(alloc, &header, field)?;
+        expect_field(alloc, header, field)?;
     }
     Ok(())
 }
 
 #[test]
 fn reads_a_header(rt: HostRuntime) -> Result<(), Fail> {
-    assert_eq!(rt; ACME.len(), HEADER_LEN);
-    expect_fields(rt.alloc(), FIELDS)
+    assert!(rt; ACME.len() == HEADER_LEN);
+    let Some(header) = read_header(ACME, 0) else {
+        return Err("no header".into());
+    };
+    expect_fields(rt.alloc(), &header, FIELDS)
+}
+
+/// Whether a text begins with a header that has these delimiters.
+fn has_delims(text: &[u8], delims: Delims) -> bool {
+    match read_header(text, 0) {
+        None => false,
+        Some(header) => header.delims() == delims,
+    }
 }
 
 #[test]
-fn reads_the_delimiters(rt: HostRuntime) -> Result<(), Fail> {
-    let header = read_header(ACME, 0).ok_or("no header")?;
-    assert_eq!(rt; header.delims(), DELIMS);
-    Ok(())
+fn reads_the_delimiters() -> Result<(), Fail> {
+    holds(has_delims(ACME, DELIMS), "other delimiters")
+}
+
+/// Whether a text begins with a header that separates no repetitions and ends segments so.
+fn separates_none(text: &[u8], terminator: u8) -> bool {
+    match read_header(text, 0) {
+        None => false,
+        Some(header) => {
+            let delims = header.delims();
+            delims.repetition.is_none() && delims.terminator == terminator
+        }
+    }
 }
 
 #[test]
-fn a_letter_separates_no_repetitions(rt: HostRuntime) -> Result<(), Fail> {
-    let header = read_header(BOLT, 0).ok_or("no header")?;
-    assert_eq!(rt; header.delims().repetition, None);
-    assert_eq!(rt; header.delims().terminator, b'!');
-    Ok(())
+fn a_letter_separates_no_repetitions() -> Result<(), Fail> {
+    holds(separates_none(BOLT, b'!'), "other delimiters")
 }
 
 fn has_header(text: &[u8], start: usize) -> bool {
@@ -81,11 +97,10 @@ fn has_header(text: &[u8], start: usize) -> bool {
 }
 
 #[test]
-fn reads_none_elsewhere(rt: HostRuntime) {
-    assert!(rt; !has_header(ACME, 1));
-    assert!(rt; !has_header(ACME, usize::MAX));
-    assert!(rt; !has_header(&ACME[..105], 0));
-    assert!(rt; !has_header(b"", 0));
+fn reads_none_elsewhere() -> Result<(), Fail> {
+    let is_elsewhere = has_header(ACME, 1) || has_header(ACME, usize::MAX);
+    let is_cut_off = has_header(&ACME[..105], 0) || has_header(b"", 0);
+    holds(!is_elsewhere && !is_cut_off, "a header")
 }
 
 fn expect_ids(alloc: Global, ids: &[(&[u8], &[u8])]) -> Result<(), Fail> {

@@ -63,22 +63,31 @@ fn expect_entries(
     wanted: &[Seen],
 ) -> Result<(), Fail> {
     if entries.len() != wanted.len() {
-        return Err("another number of interchanges")?;
+        return Err("another number of interchanges".into());
     }
-    for (entry, seen) in entries.iter().zip(wanted) {
-        expect_entry(alloc, entry, *seen)?;
+    for i in 0..entries.len() {
+        expect_entry(alloc, &entries[i], wanted[i])?;
     }
     Ok(())
 }
 
-fn expect_index(alloc: Global, case: &Case) -> Result<(), Fail> {
-    let (front, behind, wanted, outside) = *case;
-    let text = joined(alloc, front, behind)?;
-    let found = index(alloc, &text)?;
-    if found.text() != text.as_slice() || found.outside() != outside {
-        return Err("another text, or another number of bytes outside")?;
+fn expect_found(alloc: Global, found: &Index, text: &[u8], case: &Case) -> Result<(), Fail> {
+    let (_, _, wanted, outside) = *case;
+    if found.text() != text || found.outside() != outside {
+        return Err("another text, or another number of bytes outside".into());
     }
     expect_entries(alloc, found.interchanges(), wanted)
+}
+
+fn expect_index_of(alloc: Global, text: &[u8], case: &Case) -> Result<(), Fail> {
+    let found = index(alloc, text)?;
+    expect_found(alloc, &found, text, case)
+}
+
+fn expect_index(alloc: Global, case: &Case) -> Result<(), Fail> {
+    let (front, behind, _, _) = *case;
+    let text = joined(alloc, front, behind)?;
+    expect_index_of(alloc, text.as_slice(), case)
 }
 
 fn expect_each(alloc: Global, cases: &[Case]) -> Result<(), Fail> {

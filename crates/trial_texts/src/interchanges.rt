@@ -62,5 +62,8 @@ pub fn read(alloc: Global, text: &[u8], start: usize) -> Result<Interchange<'_>,
     if 1000 <= text.len() {
         return Err("long text".into());
     }
-    Ok(read_interchange(alloc, text, start)?.ok_or("no header")?)
+    match read_interchange(alloc, text, start)? {
+        None => Err("no header".into()),
+        Some(found) => Ok(found),
+    }
 }

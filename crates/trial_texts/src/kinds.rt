@@ -1,10 +1,9 @@
 //! Numbers and words, the texts of codes, and lists that are given back.
-use crate::texts::same;
+use crate::texts::{holds, same};
 use hub_kinds::{
     Code, ElementCode, GroupCode, GroupVerdict, InterchangeFault, Items, Lent, SegmentCode,
     SetCode, Verdict, code_of, code_text, is_alphanumeric, read_number,
 };
-use std::process::Abort;
 use std::test::Fail;
 
 /// A text, how many digits it may have, and the number that it writes.
@@ -29,78 +28,79 @@ const WORDS: &[(&[u8], usize, usize, bool)] = &[
     (b"\xC4A", 1, 9, false),
 ];
 
-fn expect_number(case: &(&[u8], usize, Option<u64>)) -> Result<(), Fail> {
+fn writes_number(case: &(&[u8], usize, Option<u64>)) -> bool {
     let (text, most, number) = *case;
-    if 19 < most || read_number(text, most) != number {
-        return Err("another number")?;
-    }
-    Ok(())
+    most <= 19 && read_number(text, most) == number
 }
 
-fn expect_numbers(cases: &[(&[u8], usize, Option<u64>)]) -> Result<(), Fail> {
+fn write_numbers(cases: &[(&[u8], usize, Option<u64>)]) -> bool {
     for case in cases {
-        expect_number(case)?;
+        if !writes_number(case) {
+            return false;
+        }
     }
-    Ok(())
+    true
 }
 
 #[test]
 fn reads_numbers() -> Result<(), Fail> {
-    expect_numbers(NUMBERS)
+    holds(write_numbers(NUMBERS), "another number")
 }
 
-fn expect_words(cases: &[(&[u8], usize, usize, bool)]) -> Result<(), Fail> {
+fn are_words(cases: &[(&[u8], usize, usize, bool)]) -> bool {
     for (text, least, most, is) in cases {
         if is_alphanumeric(text, *least, *most) != *is {
-            return Err("otherwise so many letters or digits")?;
+            return false;
         }
     }
-    Ok(())
+    true
 }
 
 #[test]
 fn tells_letters_and_digits() -> Result<(), Fail> {
-    expect_words(WORDS)
+    holds(are_words(WORDS), "otherwise so many letters or digits")
 }
 
-/// This is the text of the code, and the code is read back from it.
-fn writes<R: Abort, C: Code + PartialEq>(rt: &R, code: C, text: &str) {
-    assert_eq!(rt; code_text(code), text);
-    assert!(rt; code_of(text.as_bytes()) == Some(code));
+/// Whether this is the text of the code, and the code is read back from it.
+fn is_text_of<C: Code + PartialEq>(text: &str, code: C) -> bool {
+    code_text(code) == text && code_of(text.as_bytes()) == Some(code)
+}
+
+fn are_texts_of_verdicts() -> bool {
+    is_text_of("E", Verdict::AcceptedWithErrors) && is_text_of("P", GroupVerdict::PartlyAccepted)
 }
 
 #[test]
-fn writes_codes_and_reads_them_back(rt: HostRuntime) {
-    writes(&rt, SegmentCode::LoopTooOften, "4");
-    writes(&rt, ElementCode::TooManyRepetitions, "12");
-    writes(&rt, SetCode::ControlNumberNotUnique, "23");
-    writes(&rt, Verdict::AcceptedWithErrors, "E");
-    writes(&rt, GroupVerdict::PartlyAccepted, "P");
-    writes(&rt, GroupCode::ControlNumberNotUnique, "19");
-    writes(&rt, InterchangeFault::SenderUnknown, "8");
+fn writes_codes_and_reads_them_back() -> Result<(), Fail> {
+    let are_written = is_text_of("4", SegmentCode::LoopTooOften)
+        && is_text_of("12", ElementCode::TooManyRepetitions)
+        && is_text_of("23", SetCode::ControlNumberNotUnique)
+        && is_text_of("19", GroupCode::ControlNumberNotUnique)
+        && is_text_of("8", InterchangeFault::SenderUnknown);
+    holds(are_written && are_texts_of_verdicts(), "another text")
 }
 
 /// Texts that no segment code has.
 const NO_CODES: &[&[u8]] = &[b"", b"9", b"08", b"i4", b"I44"];
 
-fn expect_no_codes(texts: &[&[u8]]) -> Result<(), Fail> {
+fn are_no_codes(texts: &[&[u8]]) -> bool {
     for text in texts {
         if code_of::<SegmentCode>(text).is_some() {
-            return Err("a code")?;
+            return false;
         }
     }
-    Ok(())
+    true
 }
 
 #[test]
 fn reads_no_other_text_as_a_code() -> Result<(), Fail> {
-    expect_no_codes(NO_CODES)
+    holds(are_no_codes(NO_CODES), "a code")
 }
 
 #[test]
 fn gives_the_list_back(rt: HostRuntime) -> Result<(), Fail> {
+    same(rt.alloc(), Lent::new(b"ACME").bytes(), b"ACME")?;
     let items = Items::from_vec(Vec::from_slice(rt.alloc(), b"ACME")?);
-    same(rt.alloc(), items.as_slice(), b"ACME")?;
-    same(rt.alloc(), items.into_vec().as_slice(), b"ACME")?;
-    same(rt.alloc(), Lent::new(b"ACME").bytes(), b"ACME")
+    holds(items.as_slice() == b"ACME".as_slice(), "another list")?;
+    same(rt.alloc(), items.into_vec().as_slice(), b"ACME")
 }

@@ -115,31 +115,49 @@ fn tally_of(alloc: Global, events: &[Event]) -> Result<Tally<'static>, NoMemory>
 
 /// Whether runs have these lengths.
 fn have_lengths(runs: &[Run<'_>], lengths: &[u64]) -> bool {
-    runs.iter().map(|run| run.sets).eq(lengths.iter().copied())
+    if runs.len() != lengths.len() {
+        return false;
+    }
+    for i in 0..runs.len() {
+        if runs[i].sets != lengths[i] {
+            return false;
+        }
+    }
+    true
+}
+
+/// The tally of events that are cut at a place.
+fn tally_of_cut(alloc: Global, events: &[Event], cut: usize) -> Result<Tally<'static>, NoMemory> {
+    let (front, back) = events.split_at(cut.min(events.len()));
+    let front = tally_of(alloc, front)?;
+    front.join(tally_of(alloc, back)?)
+}
+
+const GREATEST: u32 = 999_999_999;
+
+/// Whether one partner's tally gives the case's numbers.
+fn gives_numbers(alloc: Global, tallies: &[Tally<'_>], case: &Case) -> Result<bool, NoMemory> {
+    let (counters, cap) = (case.counters, case.cap);
+    if counters.interchange < 1
+        || counters.interchange > GREATEST
+        || counters.set < 1
+        || counters.set > GREATEST
+        || cap < 1
+        || tallies.len() != 1
+    {
+        return Ok(false);
+    }
+    let numbers = numbers_for(alloc, tallies, &[counters], &[cap])?;
+    Ok(numbers.as_slice() == [case.numbers].as_slice())
 }
 
 /// Whether the case's numbers come where its events are cut at a place.
 fn is_as_told(alloc: Global, case: &Case, cut: usize) -> Result<bool, NoMemory> {
-    let (front, back) = case.events.split_at(cut.min(case.events.len()));
-    let tally = tally_of(alloc, front)?.join(tally_of(alloc, back)?)?;
+    let tally = tally_of_cut(alloc, case.events, cut)?;
     if !have_lengths(tally.runs(), case.runs) {
         return Ok(false);
     }
-    let (counters, cap) = (case.counters, case.cap);
-    let greatest = 999_999_999;
-    if counters.interchange < 1
-        || counters.interchange > greatest
-        || counters.set < 1
-        || counters.set > greatest
-        || cap < 1
-    {
-        return Ok(false);
-    }
-    let numbers = numbers_for(alloc, &[tally], &[counters], &[cap])?;
-    Ok(match numbers.as_slice().first() {
-        None => false,
-        Some(one) => *one == case.numbers,
-    })
+    gives_numbers(alloc, &[tally], case)
 }
 
 #[test]

@@ -1,4 +1,5 @@
 //! The order of places and of an interchange's faults, and the limit of a text's length.
+use crate::texts::holds;
 use hub_kinds::{
     InterchangeFault, LONGEST_TEXT, Place, interchange_fault_order, place_order, within_limit,
 };
@@ -75,32 +76,32 @@ const FAULTS: &[(InterchangeFault, InterchangeFault, Ordering)] = &[
     ),
 ];
 
-fn expect_places(cases: &[(Place, Place, Ordering)]) -> Result<(), Fail> {
+fn are_ordered(cases: &[(Place, Place, Ordering)]) -> bool {
     for (a, b, wanted) in cases {
         if place_order(*a, *b) != *wanted {
-            return Err("places in another order")?;
+            return false;
         }
     }
-    Ok(())
+    true
 }
 
 #[test]
 fn orders_places() -> Result<(), Fail> {
-    expect_places(PLACES)
+    holds(are_ordered(PLACES), "places in another order")
 }
 
-fn expect_faults(cases: &[(InterchangeFault, InterchangeFault, Ordering)]) -> Result<(), Fail> {
+fn are_faults_ordered(cases: &[(InterchangeFault, InterchangeFault, Ordering)]) -> bool {
     for (a, b, wanted) in cases {
         if interchange_fault_order(*a, *b) != *wanted {
-            return Err("faults in another order")?;
+            return false;
         }
     }
-    Ok(())
+    true
 }
 
 #[test]
 fn orders_faults_of_an_interchange() -> Result<(), Fail> {
-    expect_faults(FAULTS)
+    holds(are_faults_ordered(FAULTS), "faults in another order")
 }
 
 #[test]

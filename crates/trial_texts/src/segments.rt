@@ -1,5 +1,5 @@
 //! Segments of a text, and their elements, occurrences and components.
-use crate::texts::same;
+use crate::texts::{holds, same};
 use std::alloc::Global;
 use std::test::Fail;
 use x12_bytes::{Delims, read_header};
@@ -63,18 +63,20 @@ const ALL_COMPONENTS: &[&[u8]] = &[b"2", b"3"];
 
 /// The next segment, which begins there.
 fn next_at<'a>(left: &mut Segments<'a>, start: usize) -> Result<SegView<'a>, Fail> {
-    let segment = left.next().ok_or("no segment")?;
-    if segment.start() != start {
-        return Err("a segment elsewhere")?;
+    match left.next() {
+        None => Err("no segment".into()),
+        Some(segment) => {
+            if segment.start() == start {
+                Ok(segment)
+            } else {
+                Err("a segment elsewhere".into())
+            }
+        }
     }
-    Ok(segment)
 }
 
 fn ends(mut left: Segments<'_>) -> Result<(), Fail> {
-    match left.next() {
-        None => Ok(()),
-        Some(_) => Err("one segment more")?,
-    }
+    holds(left.next().is_none(), "one segment more")
 }
 
 /// The walk gives just segments of these ids, which begin there.
@@ -101,36 +103,36 @@ fn gives_segments(
 
 #[test]
 fn reads_the_segments_of_an_interchange(rt: HostRuntime) -> Result<(), Fail> {
-    assert_eq!(rt; ORDER.len(), 236);
-    let delims = read_header(ORDER, 0).ok_or("no header")?.delims();
-    gives_ids(rt.alloc(), segments(&ORDER[106..], delims), IDS)
+    assert!(rt; ORDER.len() == 236);
+    match read_header(ORDER, 0) {
+        None => Err("no header".into()),
+        Some(header) => gives_ids(rt.alloc(), segments(&ORDER[106..], header.delims()), IDS),
+    }
 }
 
 #[test]
 fn passes_over_line_ends_and_empty_parts(rt: HostRuntime) -> Result<(), Fail> {
     runs_stand_alone(LINES, 0, b'~');
-    assert_eq!(rt; lead(b"\r\n\nA\r"), 3);
+    holds(lead(b"\r\n\nA\r") == 3, "another lead")?;
     gives_segments(rt.alloc(), segments(LINES, DELIMS), LINE_SEGMENTS)
 }
 
-fn expect_part(from: usize, part: Part) -> Result<(), Fail> {
-    if LINES.len() < from || next_part(LINES, from, b'~') != part {
-        return Err("another part")?;
-    }
-    Ok(())
+fn is_part(from: usize, part: Part) -> bool {
+    from <= LINES.len() && next_part(LINES, from, b'~') == part
 }
 
-fn expect_parts(parts: &[(usize, Part)]) -> Result<(), Fail> {
+fn are_parts(parts: &[(usize, Part)]) -> bool {
     for (from, part) in parts {
-        expect_part(*from, *part)?;
+        if !is_part(*from, *part) {
+            return false;
+        }
     }
-    Ok(())
+    true
 }
 
 #[test]
-fn finds_the_next_part(rt: HostRuntime) -> Result<(), Fail> {
-    assert_eq!(rt; LINES.len(), 18);
-    expect_parts(LINE_PARTS)
+fn finds_the_next_part() -> Result<(), Fail> {
+    holds(LINES.len() == 18 && are_parts(LINE_PARTS), "another part")
 }
 
 /// The first segment of a text.
@@ -141,7 +143,7 @@ fn first_segment(text: &[u8]) -> Option<SegView<'_>> {
 fn expect_element(alloc: Global, segment: &SegView, element: &(usize, &[u8])) -> Result<(), Fail> {
     let (k, wanted) = *element;
     if k < 1 {
-        return Err("no such element")?;
+        return Err("no such element".into());
     }
     same(alloc, segment.element(k), wanted)
 }
@@ -159,8 +161,10 @@ fn expect_elements(
 
 #[test]
 fn reads_elements_by_number(rt: HostRuntime) -> Result<(), Fail> {
-    let segment = first_segment(DIVIDED).ok_or("no segment")?;
-    assert_eq!(rt; segment.delims(), DELIMS);
+    let Some(segment) = first_segment(DIVIDED) else {
+        return Err("no segment".into());
+    };
+    holds(segment.delims() == DELIMS, "other delimiters")?;
     expect_elements(rt.alloc(), &segment, ELEMENTS)
 }
 
@@ -181,9 +185,10 @@ fn expect_one_element(alloc: Global, mut elements: Parts<'_>) -> Result<(), Fail
 
 #[test]
 fn reads_the_first_elements_in_one_walk(rt: HostRuntime) -> Result<(), Fail> {
-    let long = first_segment(LONG).ok_or("no segment")?;
+    let (Some(long), Some(short)) = (first_segment(LONG), first_segment(b"A*1~")) else {
+        return Err("no segment".into());
+    };
     expect_first_elements(rt.alloc(), &long)?;
-    let short = first_segment(b"A*1~").ok_or("no segment")?;
     expect_one_element(rt.alloc(), short.elements())
 }
 
@@ -194,7 +199,7 @@ fn expect_component(
 ) -> Result<(), Fail> {
     let (n, m, wanted) = *component;
     if n < 1 || m < 1 {
-        return Err("no such component")?;
+        return Err("no such component".into());
     }
     same(alloc, segment.component(1, n, m), wanted)
 }
@@ -212,21 +217,27 @@ fn expect_components(
 
 #[test]
 fn reads_occurrences_and_components_by_number(rt: HostRuntime) -> Result<(), Fail> {
-    let segment = first_segment(DIVIDED).ok_or("no segment")?;
+    let Some(segment) = first_segment(DIVIDED) else {
+        return Err("no segment".into());
+    };
     same(rt.alloc(), segment.occurrence(1, 2), b"2>3")?;
     expect_components(rt.alloc(), &segment, COMPONENTS)
+}
+
+/// The walk goes on with this part.
+fn gives_next(alloc: Global, parts: &mut Parts<'_>, wanted: &[u8]) -> Result<(), Fail> {
+    match parts.next() {
+        None => Err("no part".into()),
+        Some(found) => same(alloc, found, wanted),
+    }
 }
 
 /// The walk gives just these parts.
 fn gives(alloc: Global, mut parts: Parts<'_>, wanted: &[&[u8]]) -> Result<(), Fail> {
     for part in wanted {
-        let found = parts.next().ok_or("no part")?;
-        same(alloc, found, part)?;
+        gives_next(alloc, &mut parts, part)?;
     }
-    match parts.next() {
-        None => Ok(()),
-        Some(_) => Err("one part more")?,
-    }
+    holds(parts.next().is_none(), "one part more")
 }
 
 fn expect_parts_of(alloc: Global, segment: &SegView) -> Result<(), Fail> {
@@ -237,8 +248,10 @@ fn expect_parts_of(alloc: Global, segment: &SegView) -> Result<(), Fail> {
 
 #[test]
 fn walks_the_parts(rt: HostRuntime) -> Result<(), Fail> {
-    let segment = first_segment(DIVIDED).ok_or("no segment")?;
-    expect_parts_of(rt.alloc(), &segment)
+    match first_segment(DIVIDED) {
+        None => Err("no segment".into()),
+        Some(segment) => expect_parts_of(rt.alloc(), &segment),
+    }
 }
 
 const NO_REPETITION_SEPARATOR: Delims = Delims {
@@ -267,18 +280,18 @@ const KINDS: &[(&[u8], Kind)] = &[
     (b"", Kind::Other),
 ];
 
-fn expect_kinds(kinds: &[(&[u8], Kind)]) -> Result<(), Fail> {
+fn are_of_kinds(kinds: &[(&[u8], Kind)]) -> bool {
     for (bytes, kind) in kinds {
         if kind_of(&SegView::new(0, bytes, DELIMS)) != *kind {
-            return Err("another kind")?;
+            return false;
         }
     }
-    Ok(())
+    true
 }
 
 #[test]
 fn tells_segments_by_their_ids() -> Result<(), Fail> {
-    expect_kinds(KINDS)
+    holds(are_of_kinds(KINDS), "another kind")
 }
 
 /// The segments of the order's set, and where they begin in the text.

@@ -64,9 +64,10 @@ pub fn built(
     counters: &[u8],
     files: [&str; 2],
 ) -> Result<Setup, NoSetup> {
-    let rows = read_setup(alloc, setup)?;
     let counters = read_counters(alloc, counters)?;
-    let setup = Setup::build(alloc, rows, counters, guides(alloc, files)?)?;
+    let guides = guides(alloc, files)?;
+    let rows = read_setup(alloc, setup)?;
+    let setup = Setup::build(alloc, rows, counters, guides)?;
     Ok(setup)
 }
 

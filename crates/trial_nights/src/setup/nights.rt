@@ -6,7 +6,7 @@ use super::built::example;
 use checked_text::{CheckedText, check_text, settled_faults};
 use elem_rules::At;
 use env_index::{Index, index_plain};
-use hub_kinds::{NoMemory, within_limit};
+use hub_kinds::within_limit;
 use mailbox::{JudgedInterchange, PlacedSet, assemble};
 use night_report::{is_clean, report_text};
 use partner_setup::Setup;
@@ -59,6 +59,29 @@ fn delivered(
     Ok(assemble(alloc, setup, 1, at, 0, &[set])?)
 }
 
+fn expect_delivered(
+    alloc: Global,
+    setup: &Setup,
+    at: &At,
+    interchange: &JudgedInterchange<'_, '_>,
+) -> Result<(), Fail> {
+    let found = delivered(alloc, setup, at, interchange)?;
+    expect_bytes(found.as_slice(), DELIVERED)
+}
+
+fn expect_report(
+    alloc: Global,
+    setup: &Setup,
+    interchanges: &[JudgedInterchange<'_, '_>],
+) -> Result<(), Fail> {
+    let report = report_text(alloc, setup, interchanges, 0)?;
+    expect_bytes(report.as_slice(), REPORTED)?;
+    if is_clean(report.as_slice()) {
+        return Err("clean")?;
+    }
+    Ok(())
+}
+
 fn expect_checked(
     alloc: Global,
     setup: &Setup,
@@ -66,14 +89,9 @@ fn expect_checked(
     checked: &CheckedText<'_, '_>,
 ) -> Result<(), Fail> {
     let interchanges = checked.interchanges.as_slice();
-    let report = report_text(alloc, setup, interchanges, 0)?;
-    expect_bytes(report.as_slice(), REPORTED)?;
-    if is_clean(report.as_slice()) {
-        return Err("clean")?;
-    }
+    expect_report(alloc, setup, interchanges)?;
     let first = interchanges.first().ok_or("no interchange")?;
-    let found = delivered(alloc, setup, at, first)?;
-    expect_bytes(found.as_slice(), DELIVERED)?;
+    expect_delivered(alloc, setup, at, first)?;
     let acknowledged = checked
         .acknowledgments
         .as_slice()
@@ -82,16 +100,17 @@ fn expect_checked(
     expect_bytes(acknowledged.text(), ACKNOWLEDGED)
 }
 
-/// The text of a settled index, checked.
-fn checked_by<'i, 'a>(
+/// Checks the text of a settled index.
+fn expect_settled<'i, 'a>(
     alloc: Global,
     setup: &'a Setup,
     at: &At,
     index: &'i Index<'a>,
-) -> Result<CheckedText<'i, 'a>, NoMemory>
+) -> Result<(), Fail>
     requires { All (λ e. HasSpans index.now.text e.interchange) index.now.entries }
 {
-    check_text(alloc, setup, at, index)
+    let checked = check_text(alloc, setup, at, index)?;
+    expect_checked(alloc, setup, at, &checked)
 }
 
 fn expect_night<'a>(alloc: Global, setup: &'a Setup, text: &'a [u8]) -> Result<(), Fail> {
@@ -102,8 +121,7 @@ fn expect_night<'a>(alloc: Global, setup: &'a Setup, text: &'a [u8]) -> Result<(
     let mut index = index_plain(alloc, text)?;
     let faults = settled_faults(alloc, setup, &index)?;
     index.settle(faults.as_slice());
-    let checked = checked_by(alloc, setup, &at, &index)?;
-    expect_checked(alloc, setup, &at, &checked)
+    expect_settled(alloc, setup, &at, &index)
 }
 
 #[test]

@@ -79,19 +79,25 @@ const CASES: &[Case] = &[
     },
 ];
 
-fn partner(alloc: Global, case: &Case) -> Result<String, AllocError> {
-    let head = format!(in alloc;
-        "[[partner]]\nname=\"{}\"\nqualifier=\"ZZ\"\nid=\"BOLT\"\n",
-        case.name
-    )?;
-    let marks = format!(in alloc;
-        "element=\"|\"\ncomponent=\"{}\"\nrepetition=\"^\"\nterminator=\"!\"\n",
-        case.component
-    )?;
+/// The partner up to its component separator.
+fn head(alloc: Global, case: &Case) -> Result<String, AllocError> {
     format!(in alloc;
-        "{head}code=\"{}\"\n{marks}cap={}\nguides=[\"{}\"]\n",
-        case.code, case.cap, case.guide
+        "[[partner]]\nname=\"{}\"\nqualifier=\"ZZ\"\nid=\"BOLT\"\ncode=\"{}\"\nelement=\"|\"\n",
+        case.name, case.code
     )
+}
+
+/// What stands behind this head.
+fn partner_behind(alloc: Global, head: &str, case: &Case) -> Result<String, AllocError> {
+    format!(in alloc;
+        "{head}component=\"{}\"\nrepetition=\"^\"\nterminator=\"!\"\ncap={}\nguides=[\"{}\"]\n",
+        case.component, case.cap, case.guide
+    )
+}
+
+fn partner(alloc: Global, case: &Case) -> Result<String, AllocError> {
+    let head = head(alloc, case)?;
+    partner_behind(alloc, head.as_str(), case)
 }
 
 fn route(alloc: Global, case: &Case) -> Result<String, AllocError> {
@@ -105,17 +111,16 @@ fn counters(alloc: Global, case: &Case) -> Result<String, AllocError> {
     )
 }
 
+/// What is built of this partner and this route.
+fn built_with(alloc: Global, bolt: &str, route: &str, case: &Case) -> Result<Setup, NoSetup> {
+    let counters = counters(alloc, case)?;
+    built_of(alloc, ACME, bolt, route, counters.as_str())
+}
+
 fn built_by(alloc: Global, case: &Case) -> Result<Setup, NoSetup> {
     let bolt = partner(alloc, case)?;
     let route = route(alloc, case)?;
-    let counters = counters(alloc, case)?;
-    built_of(
-        alloc,
-        ACME,
-        bolt.as_str(),
-        route.as_str(),
-        counters.as_str(),
-    )
+    built_with(alloc, bolt.as_str(), route.as_str(), case)
 }
 
 fn refusal_of(alloc: Global, case: &Case) -> Option<NoSetup> {

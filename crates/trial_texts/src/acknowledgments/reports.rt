@@ -1,12 +1,13 @@
 //! Whole acknowledgments of groups whose sets have no faults, and the interchange around one.
 use super::samples::{ACCEPTED_GROUP, ACCEPTED_SET, DELIMS, GroupRow, SetRow, acknowledgment};
 use super::texts::same;
+use crate::texts::holds;
 use ack_999::{Envelope, append_closing, write_ack_interchange};
 use elem_rules::At;
 use hub_kinds::{GroupCode, GroupVerdict, Items, Lent, NoMemory, SetCode, Verdict};
 use std::alloc::Global;
 use std::test::Fail;
-use x12_bytes::read_header;
+use x12_bytes::{Header, read_header};
 use x12_write::{GroupHeader, append_group, append_header, append_trailer};
 
 /// What is answered to a group, and the text of it.
@@ -143,6 +144,14 @@ const SENT: &[u8] =
       GS*FA*HUB*ACME*20260301*1530*1*X*005010X231~ST*999*0001*005010X231~AK1*PO*12*005010~AK2*850*0001~IK5*A~\
       AK9*A*1*1*1~SE*6*0001~GE*1*1~IEA*1*000000001~";
 
+/// The moment at which these are made.
+fn moment() -> Result<At, Fail> {
+    match At::read(b"202603011530") {
+        None => Err("no moment".into()),
+        Some(at) => Ok(at),
+    }
+}
+
 /// What is sent of an accepted set, made at a moment.
 fn sent(alloc: Global, at: &At) -> Result<Vec<u8>, NoMemory> {
     let report = acknowledgment(alloc, &ACCEPTED_GROUP, &[ACCEPTED_SET], 1)?;
@@ -151,7 +160,7 @@ fn sent(alloc: Global, at: &At) -> Result<Vec<u8>, NoMemory> {
 
 #[test]
 fn sends_an_acknowledgment_to_the_partner(rt: HostRuntime) -> Result<(), Fail> {
-    let at = At::read(b"202603011530").ok_or("no moment")?;
+    let at = moment()?;
     let bytes = sent(rt.alloc(), &at)?;
     same(rt.alloc(), "an interchange", bytes.as_slice(), SENT)
 }
@@ -175,18 +184,22 @@ fn header(alloc: Global, at: &At) -> Result<Vec<u8>, NoMemory> {
     Ok(out)
 }
 
-fn reads_back(alloc: Global, text: &[u8]) -> Result<(), Fail> {
-    let header = read_header(text, 1).ok_or("no header")?;
-    if header.delims() != DELIMS {
-        return Err("other delimiters")?;
-    }
+fn expect_header(alloc: Global, header: &Header) -> Result<(), Fail> {
+    holds(header.delims() == DELIMS, "other delimiters")?;
     same(alloc, "ISA06", header.field(6), b"HUB            ")?;
     same(alloc, "ISA13", header.field(13), b"999999999")
 }
 
+fn reads_back(alloc: Global, text: &[u8]) -> Result<(), Fail> {
+    match read_header(text, 1) {
+        None => Err("no header".into()),
+        Some(header) => expect_header(alloc, &header),
+    }
+}
+
 #[test]
 fn reads_back_the_header_that_is_sent(rt: HostRuntime) -> Result<(), Fail> {
-    let at = At::read(b"202603011530").ok_or("no moment")?;
+    let at = moment()?;
     let out = header(rt.alloc(), &at)?;
     reads_back(rt.alloc(), out.as_slice())
 }
@@ -216,7 +229,7 @@ fn delivered(alloc: Global, at: &At) -> Result<Vec<u8>, NoMemory> {
 
 #[test]
 fn writes_a_group_of_two_sets_under_its_number(rt: HostRuntime) -> Result<(), Fail> {
-    let at = At::read(b"202603011530").ok_or("no moment")?;
+    let at = moment()?;
     let out = delivered(rt.alloc(), &at)?;
     same(rt.alloc(), "a group", out.as_slice(), DELIVERED)
 }

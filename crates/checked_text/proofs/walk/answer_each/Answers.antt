@@ -2,9 +2,10 @@ use Rattle.std.proofs.Common.{◌≡◌, ℕ, ◌+◌, List, [], ◌∷◌, ◌+
 use Rattle.std.specs.Prelude.{slice_get}
 use Rattle.std.proofs.lemmas.Option.{slice_get_read}
 use Rattle.env_index.specs.Index.{IndexEntry}
+use Rattle.env_index.specs.Spans.{HasSpans}
 use Rattle.mailbox.specs.Judged.{JudgedValue}
 use Rattle.checked_text.specs.CheckedText.{AnsweredInterchange, IsAnswered, judged}
-use Rattle.checked_text.proofs.Growing.{map_snoc}
+use Rattle.checked_text.proofs.Growing.{at_index, map_snoc}
 use Rattle.checked_text.proofs.Pairing.{no_pairs, pairs_more}
 use Rattle.checked_text.proofs.Starting.{none_yet, room_left}
 use Rattle.checked_text.proofs.walk.answer_each.Goals as goal
@@ -17,6 +18,15 @@ loop-i-init c = (
   c.new-interchanges.ensures.items,
   none_yet c.args.setup.now c.args.at.now c.args.files.now c.requires.empty,
 )
+
+pub answer_interchange-requires-clause-spans : goal.answer_interchange-requires-clause-spans
+answer_interchange-requires-clause-spans c =
+    let read : slice_get c.interchanges-entries.result.now c.loop-i.i ≡ Some c.index-entries-i.result =
+    slice_get_read c.interchanges-entries.result.now _ c.loop-i.i c.index-entries-i.result refl c.loop-i-test.true c.index-entries-i.is in
+    subst (λ (text : List ℕ). HasSpans text c.index-entries-i.result.interchange) (sym c.text-text.ensures)
+    (at_index (λ (e : IndexEntry). HasSpans c.args.index.now.text e.interchange) c.args.index.now.entries c.loop-i.i
+    c.index-entries-i.result
+    (ap (λ (es : List IndexEntry). slice_get es c.loop-i.i) (sym c.interchanges-entries.ensures.value) ∙ read) c.requires.spans)
 
 pub answer_interchange-requires-clause-room : goal.answer_interchange-requires-clause-room
 answer_interchange-requires-clause-room c n f there =

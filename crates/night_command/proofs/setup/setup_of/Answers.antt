@@ -7,11 +7,5 @@ returns-in-Err-clause-never_both c = never_both c.args.files.now
 pub returns-in-Err-setup_rows_of-clause-never_both : goal.returns-in-Err-setup_rows_of-clause-never_both
 returns-in-Err-setup_rows_of-clause-never_both c = never_both c.args.files.now
 
-pub returns-in-Err-counter_rows_of-clause-never_both : goal.returns-in-Err-counter_rows_of-clause-never_both
-returns-in-Err-counter_rows_of-clause-never_both c = never_both c.args.files.now
-
-pub returns-in-Ok-build-clause-never_both : goal.returns-in-Ok-build-clause-never_both
-returns-in-Ok-build-clause-never_both c = never_both c.args.files.now
-
-pub returns-in-Err-build-clause-never_both : goal.returns-in-Err-build-clause-never_both
-returns-in-Err-build-clause-never_both c = never_both c.args.files.now
+pub returns-clause-never_both : goal.returns-clause-never_both
+returns-clause-never_both c = never_both c.args.files.now

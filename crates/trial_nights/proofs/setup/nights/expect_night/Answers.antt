@@ -8,6 +8,6 @@ settle-requires c =
     ap (λ (fs : List (Option InterchangeFault)). length fs) (c.as_slice.ensures.value ∙ c.in_ok-faults.ensures)
     ∙ faults_length c.args.setup.now [] c.in_ok-index.index.entries
 
-pub checked_by-requires : goal.checked_by-requires
-checked_by-requires c =
+pub expect_settled-requires : goal.expect_settled-requires
+expect_settled-requires c =
     settled_spans c.args.text.now c.in_ok-index.index c.settle.new.self c.as_slice.result.now c.in_ok-index.ensures c.settle.ensures
