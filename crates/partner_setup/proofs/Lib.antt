@@ -1,7 +1,6 @@
 pub mod Lines
 pub mod Marks
 pub mod Naming
-pub mod RowSteps
 pub mod Sending
 pub mod Sounding
 pub mod Tabling
