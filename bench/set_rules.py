@@ -260,7 +260,8 @@ def codes_of(guide, faults, header, body, trailer, earlier):
         codes.append('7')
     if earlier:
         codes.append('23')
-    if guide and guide['convention'] and element(header, 3) not in (b'', guide['convention'].encode()):
+    given = element(header, 3)
+    if guide and guide['convention'] and not empty(given) and given != guide['convention'].encode():
         codes.append('I6')
     return codes[:5]
 

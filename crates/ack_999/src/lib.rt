@@ -23,8 +23,8 @@
 //! As its trial, the crate `trial_texts`, calls it:
 //!
 //! ```rust
-//! let bytes = write_ack_interchange(alloc, &envelope(), &at, 1, &[Items::from_vec(report)])?;
-//! assert_eq!(rt; bytes.as_slice(), SENT);
+//! let report = acknowledgment(alloc, &ACCEPTED_GROUP, &[ACCEPTED_SET], 1)?;
+//! write_ack_interchange(alloc, &envelope(), at, 1, &[Items::from_vec(report)])
 //! ```
 #![tactic(auto)]
 

@@ -4,7 +4,8 @@ ghost use Rattle.x12_segs.specs.Spans.{IsSetSpan};
 ghost use Rattle.env_index.specs.Spans.{span_of};
 ghost use Rattle.env_index.specs.Summary.{GroupEntry};
 ghost use Rattle.mailbox.specs.Judged.{is_fa};
-ghost use Rattle.checked_text.specs.Answers.{AreGroupAnswers, IsGroupAnswer, IsGroupAnswered, answer_by, codes_where, has_number_among};
+ghost use Rattle.checked_text.specs.Answers.{AreGroupAnswers, AreSetAnswers, IsGroupAnswer, IsGroupAnswered, answer_by, codes_where};
+ghost use Rattle.checked_text.specs.Answers.{has_number_among};
 
 use crate::answered::AnsweredGroup;
 use crate::numbers::{add_number, group_number};
@@ -69,6 +70,22 @@ fn answer_group<'a>(
         → IsGroupAnswer sent.now before group.now answer) }
 {
     let sets = answer_sets(alloc, sent, group)?;
+    answer_with(alloc, sent, group, earlier, sets)
+}
+
+/// The answer to a group that acknowledges nothing itself, with these answers to its sets.
+pub(crate) fn answer_with<'a>(
+    alloc: Global,
+    sent: &Sent<'a>,
+    group: &GroupEnvelope<'_, 'a>,
+    earlier: bool,
+    sets: Vec<SetAnswer<'a>>,
+) -> Result<AnsweredGroup<'a>, NoMemory>
+    requires other { is_fa group.now ≡ false }
+    requires sets { AreSetAnswers sent.now group.now.header group.now.sets sets.items }
+    ensures { IfOk result (λ answer. (before : List GroupEntry) → earlier ≡ has_number_among before group.now
+        → IsGroupAnswer sent.now before group.now answer) }
+{
     let codes = codes_where(alloc, sent, group, earlier)?;
     let answer = answer_by(codes, group, sets.as_slice());
     Ok(AnsweredGroup {

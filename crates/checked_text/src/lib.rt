@@ -21,6 +21,8 @@
 mod acknowledge;
 mod answered;
 mod files;
+mod finding;
+mod found;
 mod groups;
 mod laws;
 mod numbers;
@@ -29,6 +31,8 @@ mod sending;
 mod sent;
 mod sets;
 mod settled;
+mod source;
+mod spot;
 mod standings;
 mod support;
 mod walk;
@@ -36,6 +40,9 @@ mod walk;
 pub use acknowledge::append_acknowledgment;
 pub use answered::AnsweredGroup;
 pub use files::Acknowledgments;
-pub use laws::{accepted_as_it_meets, answers_are_one, numbers_told_by_first_use};
+pub use finding::Finding;
+pub use laws::{
+    accepted_as_it_meets, answers_are_one, asked_by_first_use, numbers_told_by_first_use,
+};
 pub use settled::settled_faults;
-pub use walk::{CheckedText, check_text};
+pub use walk::{CheckedText, answer_found, check_text};

@@ -5,8 +5,8 @@ use Rattle.count_numbers.specs.declared.run.RunKey.{RunKey}
 use Rattle.count_numbers.specs.declared.run.Run.{Run}
 use Rattle.count_numbers.specs.Runs.{same_key, together, single, onto_runs, runs_of}
 use Rattle.count_numbers.specs.Layout.{keys_in, keys_of_runs, layout_of, set_count, RunsSuffice, SetsAreCounted}
-use Rattle.count_numbers.proofs.Keys.{equal_keys}
-use Rattle.count_numbers.proofs.Joining.{onto_same, onto_other}
+use Rattle.count_numbers.specs.Keys.{equal_keys}
+use Rattle.count_numbers.specs.Joining.{onto_same, onto_other}
 
 replicate_len : (n : ℕ) (k : RunKey) → length (replicate n k) ≡ n
 replicate_len zero k = refl

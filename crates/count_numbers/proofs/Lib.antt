@@ -1,6 +1,5 @@
-pub mod Keys
-pub mod Joining
-pub mod Tallying
+pub mod Counting
+pub mod Counts
 pub mod Expanding
 pub mod Pushing
 pub mod Worked

@@ -3,7 +3,7 @@ use Rattle.std.proofs.Common.{◌≡◌, ◌<◌, ℕ, zero, suc, true, false, L
 use Rattle.std.specs.Prelude.{slice_index_or, slice_set}
 use Rattle.count_numbers.specs.declared.run.Run.{Run}
 use Rattle.count_numbers.specs.Runs.{same_key, together, merged, join_runs}
-use Rattle.count_numbers.proofs.Joining.{onto_same, onto_other}
+use Rattle.count_numbers.specs.Joining.{onto_same, onto_other}
 
 pub into_last : (xs : List Run) (n : ℕ) (last r : Run) → suc n ≡ length xs → last ≡ slice_index_or xs n last
     → same_key last.key r.key ≡ true → slice_set xs n (merged last r) ≡ join_runs xs (r ∷ [])

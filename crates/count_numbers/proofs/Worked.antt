@@ -1,12 +1,21 @@
 -- Numbers, runs and tallies on examples.
-use Rattle.std.specs.Prelude.{◌≡◌, [], ◌∷◌, refl, codes, ℕ, false, true}
+use Rattle.std.specs.Prelude.{◌≡◌, [], ◌∷◌, refl, codes, ℕ, List, false, true}
+use Rattle.count_numbers.specs.declared.entry.Entry.{Entry}
+use Rattle.count_numbers.specs.declared.entry.PartnerEntry.{PartnerEntry}
+use Rattle.count_numbers.specs.Counted.{acknowledgments_in, numbers_behind, sets_in}
+use Rattle.count_numbers.specs.Tallies.{all_joined, entries_for, tallies_between, tallies_of}
+use Rattle.count_numbers.specs.TallyPieces.{tally_between}
 use Rattle.count_numbers.specs.declared.run.RunKey.{RunKey}
 use Rattle.count_numbers.specs.declared.run.Run.{Run}
 use Rattle.count_numbers.specs.Num.{num}
+use Rattle.count_numbers.specs.declared.number.TheConstants.{GREATEST_NUMBER}
 use Rattle.count_numbers.specs.Numbers.{numbers_of}
 use Rattle.count_numbers.specs.Runs.{same_key, together, runs_of, join_runs}
-use Rattle.count_numbers.specs.Tally.{Acknowledged, Delivered, tally_of}
+use Rattle.count_numbers.specs.Tally.{Acknowledged, Delivered, PartnerTally, joined, tally_of}
 use Rattle.count_numbers.specs.Layout.{interchange_count, layout_by}
+
+greatest_number : GREATEST_NUMBER ≡ 999999999
+greatest_number = refl
 
 first_number : num 1 0 ≡ 1
 first_number = refl
@@ -107,3 +116,96 @@ unnumbered : numbers_of (record { acknowledgments = 0; runs = [] }) (record { in
       next = record { interchange = 8; set = 9 };
     }
 unnumbered = refl
+
+abbrev tally : ℕ → List Run → PartnerTally
+tally acknowledgments runs = record { acknowledgments = acknowledgments; runs = runs }
+
+abbrev some_entries : List Entry
+some_entries = Delivered (key 0) ∷ Delivered (key 0) ∷ Acknowledged ∷ Delivered (key 0) ∷ Delivered (key 1) ∷ []
+
+-- a run goes on behind a cut
+tally_in_front : tally_between tt some_entries 0 2 ≡ tally 0 (run 2 (key 0) ∷ [])
+tally_in_front = refl
+
+tally_behind : tally_between tt some_entries 2 5 ≡ tally 1 (run 1 (key 0) ∷ run 1 (key 1) ∷ [])
+tally_behind = refl
+
+tally_of_both :
+    joined (tally_between tt some_entries 0 2) (tally_between tt some_entries 2 5) ≡ tally 1 (run 3 (key 0) ∷ run 1 (key 1) ∷ [])
+tally_of_both = refl
+
+-- two tallies whose only runs have one key make one run of both
+one_run_of_both : joined (tally 0 (run 2 (key 0) ∷ [])) (tally 0 (run 3 (key 0) ∷ [])) ≡ tally 0 (run 5 (key 0) ∷ [])
+one_run_of_both = refl
+
+-- which under a cap of 2 is delivered in interchanges of 2, 2 and 1 sets
+laid_out_from_both :
+    layout_by 2 (joined (tally 0 (run 2 (key 0) ∷ [])) (tally 0 (run 3 (key 0) ∷ []))).runs
+    ≡ (run 2 (key 0) ∷ []) ∷ (run 2 (key 0) ∷ []) ∷ (run 1 (key 0) ∷ []) ∷ []
+laid_out_from_both = refl
+
+-- a run ends where another key follows it
+another_key_behind_a_cut :
+    joined (tally 0 (run 2 (key 0) ∷ [])) (tally 1 (run 1 (key 1) ∷ [])) ≡ tally 1 (run 2 (key 0) ∷ run 1 (key 1) ∷ [])
+another_key_behind_a_cut = refl
+
+abbrev happens : ℕ → Entry → PartnerEntry
+happens partner entry = record { partner = partner; entry = entry }
+
+-- what happens for three partners, in the order of the text
+abbrev some_happenings : List PartnerEntry
+some_happenings =
+    happens 1 (Delivered (key 0)) ∷ happens 0 Acknowledged ∷ happens 2 Acknowledged ∷ happens 1 (Delivered (key 0))
+    ∷ happens 0 (Delivered (key 1)) ∷ []
+
+for_the_first : entries_for 0 some_happenings ≡ Acknowledged ∷ Delivered (key 1) ∷ []
+for_the_first = refl
+
+for_the_second : entries_for 1 some_happenings ≡ Delivered (key 0) ∷ Delivered (key 0) ∷ []
+for_the_second = refl
+
+for_nobody : entries_for 3 some_happenings ≡ []
+for_nobody = refl
+
+of_two_partners : tallies_of 2 some_happenings ≡ tally 1 (run 1 (key 1) ∷ []) ∷ tally 0 (run 2 (key 0) ∷ []) ∷ []
+of_two_partners = refl
+
+of_no_partner : tallies_of 0 some_happenings ≡ []
+of_no_partner = refl
+
+in_front_of_two : tallies_between 2 some_happenings 0 3 ≡ tally 1 [] ∷ tally 0 (run 1 (key 0) ∷ []) ∷ []
+in_front_of_two = refl
+
+-- what happens for one partner between two sets of another leaves their run one
+gathered_for_two :
+    all_joined (tallies_between 2 some_happenings 0 3) (tallies_between 2 some_happenings 3 5) ≡ tallies_of 2 some_happenings
+gathered_for_two = refl
+
+acknowledgments_counted : acknowledgments_in some_entries ≡ 1
+acknowledgments_counted = refl
+
+sets_counted : sets_in some_entries ≡ 4
+sets_counted = refl
+
+-- one acknowledgment and four sets, three at most in an interchange: the interchanges 7 and 8 are delivered
+four_sets_numbered : numbers_behind (record { interchange = 6; set = 9 }) 3 1 4
+    ≡ record {
+      first_acknowledgment = 6;
+      first_delivered = 7;
+      first_set = 9;
+      delivered = 2;
+      sets = 4;
+      next = record { interchange = 9; set = 13 };
+    }
+four_sets_numbered = refl
+
+nothing_numbered : numbers_behind (record { interchange = 6; set = 9 }) 3 0 0
+    ≡ record {
+      first_acknowledgment = 6;
+      first_delivered = 6;
+      first_set = 9;
+      delivered = 0;
+      sets = 0;
+      next = record { interchange = 6; set = 9 };
+    }
+nothing_numbered = refl

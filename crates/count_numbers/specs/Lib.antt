@@ -1,5 +1,13 @@
+pub mod Counted
+pub mod Joining
+pub mod Keys
 pub mod Layout
 pub mod Num
 pub mod Numbers
 pub mod Runs
+pub mod Tallies
+pub mod TalliesLaws
 pub mod Tally
+pub mod TallyPieceLaws
+pub mod TallyPieces
+pub mod Tallying

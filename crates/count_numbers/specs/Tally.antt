@@ -1,13 +1,10 @@
 -- What a stretch of a night leaves to be numbered for one partner (own): its acknowledgments and its delivered sets.
 use Rattle.std.specs.Prelude.{◌≡◌, ℕ, ◌≤◌, ◌-◌, ◌^◌, List, [], ◌∷◌, ◌++◌}
 use Rattle.count_numbers.specs.declared.run.RunKey.{RunKey}
+pub use Rattle.count_numbers.specs.declared.entry.Entry.{Entry}
+pub use Rattle.count_numbers.specs.declared.entry.Entry.TheVariants.{Acknowledged, Delivered}
 use Rattle.count_numbers.specs.declared.run.Run.{Run}
 use Rattle.count_numbers.specs.Runs.{together, runs_of, join_runs}
-
--- what happens for a partner, in the order of the text: an acknowledgment, or a set that is delivered to it
-pub data Entry : Type 0 where
-  Acknowledged : Entry
-  Delivered : RunKey → Entry
 
 -- how many acknowledgments, and the maximal runs of delivered sets that go into one group
 pub record PartnerTally : Type 0 where

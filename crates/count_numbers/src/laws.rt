@@ -1,3 +1,4 @@
+ghost use Rattle.count_numbers.specs.Counted.{NumbersAreCounted};
 ghost use Rattle.count_numbers.specs.Layout.{RunsSuffice, SetsAreCounted};
 ghost use Rattle.count_numbers.specs.Tally.{PieceLaws};
 
@@ -11,4 +12,10 @@ pub fn tally_laws()
 pub fn runs_suffice()
     ensures layout { RunsSuffice }
     ensures sets { SetsAreCounted }
+{}
+
+/// A law, with nothing to run: the first numbers and the next counters that a tally tells of fewer than 2^64 acknowledgments and
+/// delivered sets are those behind so many of them.
+pub fn numbers_are_counted()
+    ensures { NumbersAreCounted }
 {}

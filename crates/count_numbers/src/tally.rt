@@ -68,7 +68,7 @@ impl<'a> Tally<'a> {
     }
 
     /// The tally of two stretches that follow each other.
-    pub fn join(self, back: Tally<'a>) -> Result<Tally<'a>, NoMemory>
+    pub fn append(self, back: Tally<'a>) -> Result<Tally<'a>, NoMemory>
         ensures { IfOk result (λ t. t ≡ joined self.entry back.entry) }
     {
         let Tally {

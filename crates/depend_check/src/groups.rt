@@ -59,7 +59,8 @@ fn is_not_behind(label: &[u8], placed: &PlacedSeg) -> bool
     label_of(placed.slot).cmp(label).is_le()
 }
 
-/// The uses of the slot with a label, among segments in the order of labels.
+/// The uses of the slot with a label, among segments in the order of labels. Its clause asks that they are among what is given and
+/// that none is left out; that no others are is a matter of cost alone, since what is asked of them looks at the label again.
 pub fn uses_of<'x, 's, 'a, 'g>(
     label: &[u8],
     placed: &'x [PlacedSeg<'s, 'a, 'g>],

@@ -19,10 +19,12 @@
 //! Source: X12.6, data element types, composite and repeated data elements, relational conditions; the 999 guide
 //! (005010X231), IK4. `jiff` says which days exist. What counts as empty, and dates of six digits, are own.
 //!
-//! A call, as `trial_guides` makes it:
+//! As its trial, the crate `trial_guides`, calls it:
 //!
-//! ```
-//! let slot = guide.slot(1).ok_or("a guide without a slot")?;
+//! ```rust
+//! let Some(slot) = guide.slot(1) else {
+//!     return Err("a guide without a slot".into());
+//! };
 //! let found = check_segment(alloc, &SegView::new(0, segment, delims), slot)?;
 //! ```
 #![tactic(auto)]

@@ -1,9 +1,12 @@
+pub mod ByHeads
 pub mod Derived
 pub mod Each
 pub mod EndingTrees
 pub mod Few
 pub mod Finishing
+pub mod IndexPlacing
 pub mod Indexing
+pub mod KnownSegs
 pub mod LeastEnd
 pub mod Mapped
 pub mod Nexting
@@ -19,6 +22,8 @@ pub mod Surround
 pub mod Tails
 pub mod Trees
 pub mod Walking
+mod WorkedIndexPlaces
+mod WorkedMarks
 pub mod WorkedNumbers
 mod WorkedPlaced
 mod WorkedSettled

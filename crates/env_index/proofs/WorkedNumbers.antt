@@ -1,6 +1,6 @@
 -- Small interchanges, on whose places and numbers the first use of a number is computed.
 use Rattle.std.proofs.Common.{◌≡◌, ℕ, ◌<◌, Bool, true, false, List, [], ◌∷◌, codes, Option, Some, None, length, refl, sym, ap, subst}
-use Rattle.std.proofs.Common.{zero, suc, arith}
+use Rattle.std.proofs.Common.{zero, suc, arith, get_or}
 use Rattle.std.specs.Prelude.{Contains, slice_index_or}
 use Rattle.std.proofs.lemmas.Bool.{both_ways}
 use Rattle.x12_bytes.specs.declared.delims.Delims.{Delims}
@@ -8,7 +8,7 @@ use Rattle.x12_segs.specs.View.{SegValue}
 use Rattle.hub_kinds.specs.declared.place.Place.{Place}
 use Rattle.env_index.specs.declared.entry.SetEnvelope.{SetEnvelope}
 use Rattle.env_index.specs.Interchange.{InterchangeEntry}
-use Rattle.env_index.specs.Numbers.{Number, OfGroup, OfSet, Numbered, place_at, interchange_number, is_before, IsFirstUse}
+use Rattle.env_index.specs.Numbers.{Number, OfGroup, OfInterchange, OfSet, Numbered, place_at, interchange_number, is_before, IsFirstUse}
 use Rattle.env_index.specs.Numbers.{IsEarlier, index_places}
 use Rattle.env_index.specs.Summary.{GroupEntry}
 
@@ -20,6 +20,26 @@ seg bytes = record { start = 0; bytes = bytes; delims = plain }
 
 abbrev header : List ℕ
 header = codes "ISA*00*          *00*          *01*ACME           *ZZ*HUB            *260228*0900*^*00501*000000007*0*P*>~"
+
+-- the same sender and number for another receiver: another id, and another qualifier of the id
+abbrev to_another_id : List ℕ
+to_another_id = codes "ISA*00*          *00*          *01*ACME           *ZZ*HUB2           *260228*0900*^*00501*000000007*0*P*>~"
+
+abbrev to_another_qualifier : List ℕ
+to_another_qualifier = codes "ISA*00*          *00*          *01*ACME           *01*HUB            *260228*0900*^*00501*000000007*0*P*>~"
+
+-- each of the five fields counts
+abbrev parties : (qualifier id : List ℕ) → Number
+parties qualifier id = OfInterchange (codes "01" ∷ codes "ACME           " ∷ qualifier ∷ id ∷ codes "000000007" ∷ [])
+
+pub number_by_five_fields : interchange_number header ≡ parties (codes "ZZ") (codes "HUB            ")
+number_by_five_fields = refl
+
+pub number_for_another_id : interchange_number to_another_id ≡ parties (codes "ZZ") (codes "HUB2           ")
+number_for_another_id = refl
+
+pub number_for_another_qualifier : interchange_number to_another_qualifier ≡ parties (codes "01") (codes "HUB            ")
+number_for_another_qualifier = refl
 
 -- a set by its ST, a group by its GS, and an interchange by its IEA
 abbrev set : List ℕ → SetEnvelope
@@ -227,3 +247,31 @@ pub truncated_is_no_use : (q : Place) → IsEarlier everyone truncated_first (pl
 truncated_is_no_use q is = none_earlier (index_places everyone truncated_first) (place_at 2 0 0) (interchange_number header)
     ((λ e. refl), (other_gs (place_at 2 1 0) (place_at 2 0 0) (λ e. omega (arith, e)), tt))
     ((λ e. refl), ((λ e. refl), tt)) q is
+
+-- two interchanges of one sender with one number for two receivers are no uses of one number
+abbrev sent_with : List ℕ → InterchangeEntry
+sent_with isa = record {
+  header = isa;
+  start = 0;
+  end = 0;
+  content = record { groups = []; notices = 0; misplaced = false; trailer = Some (seg (codes "IEA*0*000000007")) };
+}
+
+-- a byte of one of the five fields
+abbrev byte_of : (field place : ℕ) → Number → ℕ
+byte_of field place (OfInterchange fields) = get_or (get_or fields field []) place 0
+byte_of field place (OfGroup isa control) = 0
+byte_of field place (OfSet isa gs control) = 0
+
+abbrev to_both : List ℕ → List InterchangeEntry
+to_both other = sent_with header ∷ sent_with other ∷ []
+
+pub another_receiver_id_is_apart : (q : Place) → IsEarlier everyone (to_both to_another_id) (place_at 2 0 0) q → ⊥
+another_receiver_id_is_apart q is = none_earlier (index_places everyone (to_both to_another_id)) (place_at 2 0 0)
+    (interchange_number to_another_id) (other_isa (place_at 1 0 0) (place_at 2 0 0) (λ e. omega (arith, e)), ((λ e. refl), tt))
+    ((λ e. let byte : 32 ≡ 50 = ap (byte_of 3 3) e in absurd (omega (arith, byte))), ((λ e. refl), tt)) q is
+
+pub another_receiver_qualifier_is_apart : (q : Place) → IsEarlier everyone (to_both to_another_qualifier) (place_at 2 0 0) q → ⊥
+another_receiver_qualifier_is_apart q is = none_earlier (index_places everyone (to_both to_another_qualifier)) (place_at 2 0 0)
+    (interchange_number to_another_qualifier) (other_isa (place_at 1 0 0) (place_at 2 0 0) (λ e. omega (arith, e)), ((λ e. refl), tt))
+    ((λ e. cc), ((λ e. refl), tt)) q is

@@ -3,7 +3,9 @@ pub mod Envelope
 pub mod Extents
 pub mod Faults
 pub mod Index
+pub mod IndexPlaces
 pub mod Interchange
+pub mod Known
 pub mod Lone
 pub mod Mapped
 pub mod Numbers
@@ -14,3 +16,4 @@ pub mod Settled
 pub mod Source
 pub mod Spans
 pub mod Summary
+pub mod Unjudged

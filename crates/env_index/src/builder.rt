@@ -35,6 +35,7 @@ impl Builder {
     ghost use Rattle.std.specs.Prelude.{◌≡◌, ℕ, ◌+◌, ◌<◌, ◌≤◌, ◌^◌, List, OnOk, IfOk, option_map, unwrap_or};
     ghost use Rattle.x12_bytes.specs.declared.delims.Delims.{Delims};
     ghost use Rattle.env_index.specs.Places.{seg_in, body_in};
+    ghost use Rattle.x12_segs.specs.declared.kind.Kind.TheVariants.{Other};
     ghost use Rattle.env_index.specs.Reading.{step, end_set, end_group, end_all, finished, nothing_read, state_of};
 
     /// Nothing yet.
@@ -146,6 +147,17 @@ impl Builder {
             Kind::Other => self.take_other(place),
         }
         Ok(())
+    }
+
+    /// Takes one more segment that is no control segment.
+    pub(crate) fn take_inner(&mut self, place: Stretch)
+        requires { self.old.seen + 3 < 2 ^ 32 }
+        ensures seen { self.new.seen ≡ self.old.seen + 1 }
+        ensures state { (text : List ℕ) (delims : Delims) →
+            state_of text delims self.new ≡ step Other (seg_in text delims place) (state_of text delims self.old) }
+    {
+        self.seen += 1;
+        self.take_other(place);
     }
 
     /// Ends all that is open, at the interchange's end.

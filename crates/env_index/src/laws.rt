@@ -1,4 +1,4 @@
-ghost use Rattle.std.specs.Prelude.{◌≡◌, ℕ, List, true};
+ghost use Rattle.std.specs.Prelude.{◌≡◌, ℕ, Bool, List, true};
 ghost use Rattle.x12_bytes.specs.Header.{delims_of, header_at};
 ghost use Rattle.x12_bytes.specs.HeaderTest.{is_head};
 ghost use Rattle.x12_segs.specs.View.{SegValue};
@@ -9,6 +9,8 @@ ghost use Rattle.env_index.specs.Mapped.{EndsWithTrailer, KeepsKinds, MapsTrees,
 ghost use Rattle.env_index.specs.Ends.{EndsLeast};
 ghost use Rattle.env_index.specs.Extents.{Extent, Chain, reach_at};
 ghost use Rattle.env_index.specs.Index.{IndexValue, IsIndex};
+ghost use Rattle.env_index.specs.Unjudged.{IsUnjudged, JudgedIs, JudgedIsIndex};
+ghost use Rattle.env_index.specs.IndexPlaces.{PlacesAreIndexPlaces};
 ghost use Rattle.env_index.specs.Spans.{SetStandsAlone, EachSetIn};
 
 /// A law, with nothing to run: the segments of an interchange derive at most one tree of envelopes
@@ -62,4 +64,17 @@ pub fn sets_stand_alone()
     ensures { (text : List ℕ) (start : ℕ) (tree : Body SegValue) → is_head text start ≡ true
         → Derives kind_of (reach_at text start).segs tree
         → EachSetIn (SetStandsAlone text (delims_of (header_at text start))) tree.members }
+{}
+
+/// A law, with nothing to run: an index that was not judged, once each of its interchanges is given the least of its faults 1
+/// to 7, is the index of the text, and so the one that is read front to back (X12.5, interchange).
+pub fn judged_is_index()
+    ensures index { (text : List ℕ) (index : IndexValue) → IsUnjudged text index → JudgedIsIndex text index }
+    ensures plain { (text : List ℕ) (index plain : IndexValue) → IsUnjudged text index → IsIndex text plain → JudgedIs index plain }
+{}
+
+/// A law, with nothing to run: an index that is settled with the least of the faults 1 to 8 of each interchange lists just the index
+/// places of its interchanges (X12.5, interchange; X12.6, functional group and transaction set; the faults' numbers are own).
+pub fn places_are_index_places()
+    ensures { (knows : List ℕ → Bool) (index : IndexValue) → PlacesAreIndexPlaces knows index }
 {}

@@ -10,10 +10,14 @@
 //!   space around it;
 //! - `index_plain` answers the index of a text: its one chain of interchanges, each with its envelopes and the least of
 //!   its faults 1 to 7, and the count of bytes outside; a text has one index (`index_is_one`);
+//! - `index_of` answers the same interchanges from the headers and the marks of the text's pieces, before they are judged: marks
+//!   under another pair, or none, do no harm. Settled with what `judge` answers for each, that is what `index_plain`
+//!   answers (`judged_is_index`);
+//! - `judge` answers the least of the faults 1 to 7 of an interchange of an index, `judge_interchange` that of any, and none
+//!   exactly where it has none;
 //! - `Index::settle` gives each interchange of an index the fault that is handed in for it, and leaves all else;
-//! - `Index::places` lists the places of the interchanges without a fault, of their groups and of their sets;
-//! - `judge` answers the least of an interchange's faults 1 to 7, and none exactly where it has
-//!   none;
+//! - `Index::places` lists the places of the interchanges without a fault, of their groups and of their sets; settled
+//!   with the least of the faults 1 to 8 they are the index places by which numbers are compared (`places_are_index_places`);
 //! - the segments of each interchange derive a tree (`envelope_is_there`), and only one
 //!   (`envelope_is_one`); a text has one chain of interchanges at most (`chain_is_one`);
 //! - of a segment nothing but its kind is asked (`envelope_is_of_kinds`), so a tree goes over to segments
@@ -29,19 +33,25 @@
 //! As its trial, the crate `trial_texts`, calls it:
 //!
 //! ```rust
-//! let found = read_interchange(rt.alloc(), ORDER, 0)?.ok_or("no header")?;
-//! assert_eq!(rt; (found.start(), found.end()), (0, 236));
+//! match read_interchange(alloc, text, start)? {
+//!     None => Err("no header".into()),
+//!     Some(found) => Ok(found),
+//! }
 //! ```
 #![tactic(auto)]
 
 mod builder;
+mod by_marks;
 mod entry;
 mod envelopes;
 mod faults;
 mod index;
 mod interchange;
+mod judging;
+mod known;
 mod laws;
 mod lone;
+mod mark_parts;
 mod next;
 mod placed;
 mod places;
@@ -52,13 +62,15 @@ mod settle;
 mod source;
 mod walk;
 
+pub use by_marks::index_of;
 pub use entry::SetEnvelope;
-pub use faults::judge;
+pub use faults::judge_interchange;
 pub use index::{Index, IndexedInterchange};
 pub use interchange::{GroupEnvelope, Interchange};
+pub use judging::judge;
 pub use laws::{
     chain_is_one, end_is_least, envelope_is_mapped, envelope_is_of_kinds, envelope_is_one,
-    envelope_is_there, index_is_one, sets_stand_alone,
+    envelope_is_there, index_is_one, judged_is_index, places_are_index_places, sets_stand_alone,
 };
 pub use lone::read_lone;
 pub use plain::index_plain;

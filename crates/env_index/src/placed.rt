@@ -76,6 +76,9 @@ impl<'a> Index<'a> {
     /// The places of the interchanges that have no fault, of their groups and of their sets, in the order of the text. Each
     /// interchange is counted, also one with a fault. The only error is want of memory. X12.5, interchange; X12.6, functional
     /// group and transaction set.
+    ///
+    /// An index is settled with the faults 1 to 8 for this, not with 9: the places of an interchange whose number is used
+    /// earlier are recorded and checked like others.
     pub fn places(&self, alloc: Global) -> Result<Items<Place>, NoMemory>
         ensures { IfOk result (λ places. places ≡ places_of self.now) }
     {

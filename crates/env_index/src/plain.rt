@@ -5,7 +5,7 @@ ghost use Rattle.env_index.specs.Faults.{fault_of};
 ghost use Rattle.env_index.specs.Index.{IsIndex};
 ghost use Rattle.env_index.specs.Placed.{AreFew};
 
-use crate::faults::judge;
+use crate::faults::judge_interchange;
 use crate::index::{Index, IndexedInterchange};
 use crate::interchange::Interchange;
 use crate::next::next_interchange;
@@ -19,7 +19,7 @@ fn is_filler(byte: u8) -> bool
 }
 
 /// How many bytes of a text are neither CR nor LF nor space.
-fn count_others(text: &[u8]) -> u64
+pub(crate) fn count_others(text: &[u8]) -> u64
     ensures { result ≡ count_by (λ b. not (is_filler b)) text.now }
 {
     text.iter().filter(|byte| !is_filler(**byte)).count() as u64
@@ -31,7 +31,7 @@ fn judged(interchange: Interchange<'_>) -> IndexedInterchange<'_>
     ensures interchange { result.interchange ≡ interchange.entry }
     ensures fault { result.fault ≡ fault_of interchange.entry }
 {
-    let fault = judge(&interchange);
+    let fault = judge_interchange(&interchange);
     IndexedInterchange { interchange, fault }
 }
 

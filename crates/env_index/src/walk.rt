@@ -4,6 +4,7 @@ ghost use Rattle.x12_bytes.specs.declared.layout.TheConstants.{HEADER_LEN};
 ghost use Rattle.x12_bytes.specs.HeaderTest.{is_head};
 ghost use Rattle.x12_segs.specs.View.{SegValue};
 ghost use Rattle.x12_segs.specs.Kinds.{kind_of};
+ghost use Rattle.x12_segs.specs.Letters.{is_control_letter};
 ghost use Rattle.env_index.specs.Envelope.{Body, Derives};
 ghost use Rattle.env_index.specs.Source.{reach_over};
 ghost use Rattle.env_index.specs.Places.{body_in};
@@ -42,14 +43,18 @@ pub(crate) fn read_body<P: PartSource + Drop>(
                 return builder.finish(alloc, None, rest_end(text, start));
             }
             Part::Segment { start, end } => {
-                if begins_at_header(text, start) {
-                    return builder.finish(alloc, None, start);
-                }
-                let segment = SegView::new(start, &text[start..end], delims);
                 let place = Stretch {
                     start: start as u32,
                     end: end as u32,
                 };
+                if !is_control_letter(text[start]) {
+                    builder.take_inner(place);
+                    continue;
+                }
+                if begins_at_header(text, start) {
+                    return builder.finish(alloc, None, start);
+                }
+                let segment = SegView::new(start, &text[start..end], delims);
                 match kind_of(&segment) {
                     Kind::InterchangeTrailer => {
                         return builder.finish(alloc, Some(place), end + 1);
@@ -59,6 +64,13 @@ pub(crate) fn read_body<P: PartSource + Drop>(
             }
         }
     }
+}
+
+/// Whether a segment that begins with this letter may be a header or a control segment. Most don't.
+fn is_control_letter(letter: u8) -> bool
+    ensures { result ≡ is_control_letter letter }
+{
+    matches!(letter, b'I' | b'G' | b'S' | b'T')
 }
 
 /// Where an interchange ends whose rest begins here.

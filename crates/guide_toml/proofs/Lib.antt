@@ -9,3 +9,5 @@ pub mod WrittenNumbers
 pub mod WrittenRows
 pub mod WrittenTokens
 pub mod WrittenElements
+pub mod References
+mod WorkedLimits

@@ -10,3 +10,4 @@ pub mod Refusals
 pub mod Tables
 pub mod Tokens
 pub mod Written
+pub mod References

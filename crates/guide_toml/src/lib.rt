@@ -8,12 +8,12 @@
 //! Source: the format is own; its words for rows and conditions are those of X12.6 (requirement designator, data
 //! element types, relational conditions).
 //!
-//! A call, as `trial_guides` makes it:
+//! As its trial, the crate `trial_guides`, calls it:
 //!
-//! ```
+//! ```rust
 //! match read_guide(alloc, file) {
-//!     Ok(_) => String::from_str(alloc, "None"),
-//!     Err(fault) => format!(in alloc; "{fault:?}"),
+//!     Ok(_) => None,
+//!     Err(fault) => Some(fault),
 //! }
 //! ```
 #![tactic(auto)]
@@ -39,7 +39,7 @@ mod values;
 pub use fault::GuideFileFault;
 pub use key_fault::KeyFault;
 pub use keys::refuse_unknown;
-pub use laws::written_row_is_read_back;
+pub use laws::{files_write_references, written_row_is_read_back};
 pub use lists::ListOf;
 pub use read::read_guide;
 pub use reading::{Present, Reading, optional, required};

@@ -14,3 +14,4 @@ pub mod Judged
 pub mod Checked
 mod Sound
 mod Few
+mod WorkedLimits

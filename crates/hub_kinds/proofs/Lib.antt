@@ -2,3 +2,4 @@ pub mod Powers
 pub mod Once
 pub mod Reading
 pub mod Distinct
+mod WorkedLimits

@@ -19,7 +19,9 @@
 //! As its trial, the crate `trial_texts`, calls it:
 //!
 //! ```rust
-//! assert_eq!(rt; Lent::new(b"ACME").bytes(), b"ACME".as_slice());
+//! same(rt.alloc(), Lent::new(b"ACME").bytes(), b"ACME")?;
+//! let items = Items::from_vec(Vec::from_slice(rt.alloc(), b"ACME")?);
+//! holds(items.as_slice() == b"ACME".as_slice(), "another list")?;
 //! ```
 #![tactic(auto)]
 

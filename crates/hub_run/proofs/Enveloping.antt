@@ -67,14 +67,14 @@ digits_undivided d text can all =
     )) text all
 
 -- the marks of a partner end no name
-ending : (d : Delims) (o : Option ℕ)
+pub ending : (d : Delims) (o : Option ℕ)
     → option_map_or (λ (r : ℕ). are_delimiters d.element d.component r d.terminator) o false ≡ true
     → (may_end d.element ≡ true) × (may_end d.terminator ≡ true)
 ending d None h = absurd (false≢true h)
 ending d (Some r) h =
     let marks = four d.element d.component r d.terminator h in (ends d.element marks.element, marks.terminator)
 
-code_inside : (qualifier id code : List ℕ) → are_ids qualifier id code ≡ true → list_all is_inner code ≡ true
+pub code_inside : (qualifier id code : List ℕ) → are_ids qualifier id code ≡ true → list_all is_inner code ≡ true
 code_inside qualifier id code h =
     let last = (and_parts (is_word 2 2 qualifier && is_id 1 15 id) (is_id 2 15 code) h).1 in
     let outer = (and_parts (nat_le 2 (length code) && nat_le (length code) 15 && list_all is_inner code && is_outer (slice_index code 0))
@@ -100,7 +100,7 @@ module _ (setup : SetupValue) (p : Partner) (count : ℕ) (hub_ids : are_ids set
   marks : (may_end d.element ≡ true) × (may_end d.terminator ≡ true)
   marks = ending d d.repetition sound.delims
 
-  inside : (text : List ℕ) → list_all is_inner text ≡ true → IsUndivided d text
+  pub inside : (text : List ℕ) → list_all is_inner text ≡ true → IsUndivided d text
   inside text h = undivided d.element d.terminator marks.0 marks.1 text h
 
   padded : (text : List ℕ) → IsUndivided d text → IsUndivided d (padded_text 15 text)
@@ -109,16 +109,16 @@ module _ (setup : SetupValue) (p : Partner) (count : ℕ) (hub_ids : are_ids set
       All-append P text (replicate (15 - length text) 32) all
       (All-replicate P (15 - length text) 32 (All-head P 32 [] (inside (32 ∷ []) refl)))
 
-  plain : (text : List ℕ) → is_plain text ≡ true → IsUndivided d text
+  pub plain : (text : List ℕ) → is_plain text ≡ true → IsUndivided d text
   plain text h = plain-undivided d can text h
 
-  date : IsUndivided d (date_of at)
+  pub date : IsUndivided d (date_of at)
   date = digits_undivided d (date_of at) can (All-take IsAsciiDigit 8 at moment.digits)
 
   short_date : IsUndivided d (short_date_of at)
   short_date = digits_undivided d (short_date_of at) can (All-take IsAsciiDigit 6 (drop 2 at) (All-drop IsAsciiDigit 2 at moment.digits))
 
-  time : IsUndivided d (time_of at)
+  pub time : IsUndivided d (time_of at)
   time = digits_undivided d (time_of at) can (All-take IsAsciiDigit 4 (drop 8 at) (All-drop IsAsciiDigit 8 at moment.digits))
 
   pub component : IsUndivided d (d.component ∷ [])

@@ -46,7 +46,7 @@ capital_alike b is = second_of _ (is_ascii_uppercase b) _ is
 
 -- what has the form of a header's element is undivided
 module _ (d : Delims) (can : CanDivide d) where
-  word_undivided : (least most : ℕ) (text : List ℕ) → is_word least most text ≡ true → IsUndivided d text
+  pub word_undivided : (least most : ℕ) (text : List ℕ) → is_word least most text ≡ true → IsUndivided d text
   word_undivided least most text word =
       plain-undivided d can text
       (and_parts (nat_le least (length text) && nat_le (length text) most) (list_all is_ascii_alphanumeric text) word).1

@@ -30,7 +30,8 @@ use Rattle.depend_check.specs.Dependencies.{IsBroken, element_fault, unused_faul
 use Rattle.set_check.specs.SetFaults.{IsErrorIn, IsFaultUnder, IsRuleFault, IsSetFault, told_by}
 use Rattle.set_check.specs.SetParts.{SetParts, end_position}
 use Rattle.ack_999.specs.ReadBack.{IsQuotableElement, IsQuotableFault}
-use Rattle.hub_run.specs.Quotable.{AreNodesQuotable, IsGuideQuotable, IsRowQuotable}
+use Rattle.hub_run.specs.Quotable.{IsRowQuotable}
+use Rattle.hub_run.proofs.Naming.{AreNodesNamed, IsGuideNamed}
 use Rattle.hub_run.proofs.Headers.{at_index}
 use Rattle.hub_run.proofs.QuotingNames.{IsPlacedQuotable, innermost_has, loop_of, node_has, nothing}
 use Rattle.hub_run.proofs.QuotingNames.{placed_have, reference, rows_at, seat_has}
@@ -40,14 +41,14 @@ module _ (d : Delims) (separator : IsUndivided d (d.component ∷ [])) where
   Q f = IsQuotableFault d f
 
   -- a fault of a node of the guide
-  of_node : (ts : Trees) (position : ℕ) (code : SegmentCode) (parent q : Place) (node : Tree) (f : Fault) → AreNodesQuotable d ts
+  of_node : (ts : Trees) (position : ℕ) (code : SegmentCode) (parent q : Place) (node : Tree) (f : Fault) → AreNodesNamed d ts
       → node_at ts q ≡ Some node → f ≡ node_fault ts position code parent node → Q f
   of_node ts position code parent q node f names there is =
       let own : Q (node_fault ts position code parent node) =
       record { loop_id = innermost_has d ts parent node names (node_has d ts q node there names); elem = tt } in
       subst Q (sym is) own
 
-  of_structure : (g : GuideTree) (body : List Segment) (given : List (Option Place)) (end : ℕ) (f : Fault) → IsGuideQuotable d g
+  of_structure : (g : GuideTree) (body : List Segment) (given : List (Option Place)) (end : ℕ) (f : Fault) → IsGuideNamed d g
       → IsStructureFault g body given end f → Q f
   of_structure g body given end f names (inl past) =
       of_node g.nodes (past.index + 2) (past_code past.node) past.parent (past.parent ++ use_of past.child past.use_no ∷ []) past.node f
@@ -74,7 +75,7 @@ module _ (d : Delims) (separator : IsUndivided d (d.component ∷ [])) where
   of_element delims s slot e rows (inr (inr broken)) =
       element_at delims s slot broken.position 0 0 (condition_code broken.condition.relation) e rows broken.is
 
-  of_error : (ts : Trees) (parts : SetParts) (given : List (Option Place)) (f : Fault) → AreNodesQuotable d ts
+  of_error : (ts : Trees) (parts : SetParts) (given : List (Option Place)) (f : Fault) → AreNodesNamed d ts
       → IsErrorIn ts parts given f → Q f
   of_error ts parts given f names error =
       let rows : All (IsRowQuotable d) error.slot.elements = rows_at d ts error.place error.slot error.leads names in
@@ -118,7 +119,7 @@ module _ (d : Delims) (separator : IsUndivided d (d.component ∷ [])) where
       subst Q (sym is) own
 
   of_broken : (ts : Trees) (delims : Delims) (end : ℕ) (placed : List PlacedSegment) (label : List ℕ) (k : DependencyKind) (element : ℕ)
-      (f : Fault) → AreNodesQuotable d ts → All (IsPlacedQuotable d) placed → IsBroken ts delims end placed label k element f → Q f
+      (f : Fault) → AreNodesNamed d ts → All (IsPlacedQuotable d) placed → IsBroken ts delims end placed label k element f → Q f
   of_broken ts delims end placed label kind.Need zero f names all broken =
       let own : Q (unused_fault end broken.0) = record { loop_id = seat_has d ts label broken.0 broken.1 names; elem = tt } in
       subst Q (sym broken.3) own
@@ -132,7 +133,7 @@ module _ (d : Delims) (separator : IsUndivided d (d.component ∷ [])) where
       of_use broken.0 (suc e) ik403.DependentNotUsedPresent (element_of broken.0.segment (suc e)) f
       (All-contains (IsPlacedQuotable d) placed broken.0 all broken.1.listed) broken.2
 
-  under : (g : GuideTree) (parts : SetParts) (given : List (Option Place)) (f : Fault) → IsGuideQuotable d g
+  under : (g : GuideTree) (parts : SetParts) (given : List (Option Place)) (f : Fault) → IsGuideNamed d g
       → IsFaultUnder g parts given f → Q f
   under g parts given f names (inl structure) = of_structure g parts.body given (end_position parts) f names structure
   under g parts given f names (inr (inl error)) = of_error g.nodes parts given f names error
@@ -150,6 +151,6 @@ module _ (d : Delims) (separator : IsUndivided d (d.component ∷ [])) where
           fault.dependency.kind fault.dependency.element f names placed fault.broken
 
   -- each fault of a set by its guide
-  pub of_set : (guide : Option GuideTree) (parts : SetParts) (f : Fault) → IfSome guide (IsGuideQuotable d) → IsSetFault guide parts f → Q f
+  pub of_set : (guide : Option GuideTree) (parts : SetParts) (f : Fault) → IfSome guide (IsGuideNamed d) → IsSetFault guide parts f → Q f
   of_set None parts f names fault = absurd fault
   of_set (Some g) parts f names fault = under g parts (placing_of g.nodes parts.body) f names fault

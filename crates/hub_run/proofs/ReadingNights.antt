@@ -115,7 +115,7 @@ reports_read d can separator sent n (g ∷ gs) (Some a ∷ more) headers quotabl
     let one : AreResponses d (sets_in_group sent g) (text_999 d a.answer a.sets n) = record {
       responses = shown_responses (shows_sets a.answer.codes) a.sets;
       written = report_written d a.answer a.sets n can
-          (group_quoted sent first.0 g a first.1 read.0 d separator read.1 (All-head Q g (answered_groups gs) quoted));
+          (group_quoted sent first.0 g a first.1 read.0 d can separator read.1 (All-head Q g (answered_groups gs) quoted));
       together = group_together sent first.0 g a first.1 read.0;
     } in
     subst (λ (xs : List GroupEntry). AreResponses d (flat_map (sets_in_group sent) xs)

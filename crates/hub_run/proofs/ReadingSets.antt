@@ -1,5 +1,5 @@
 -- The responses to the sets of a group.
-use Rattle.std.proofs.Common.{◌≡◌, ℕ, suc, Bool, true, false, List, [], ◌∷◌, ◌++◌, Some, map, take, length, refl, sym, ap}
+use Rattle.std.proofs.Common.{◌≡◌, ℕ, suc, Bool, true, false, List, [], ◌∷◌, ◌++◌, Option, Some, None, map, take, length, refl, sym, ap}
 use Rattle.std.proofs.Common.{subst, ◌∙◌, arith, append_assoc, append-nil}
 use Rattle.std.specs.Prelude.{IfSome, slice_get, if◌then◌else◌}
 use Rattle.std.specs.List.{All, Contains}
@@ -7,7 +7,8 @@ use Rattle.std.proofs.lemmas.List.Elements.{All-contains_itself, All-head, All-t
 use Rattle.x12_bytes.specs.declared.delims.Delims.{Delims}
 use Rattle.x12_segs.specs.View.{SegValue, element_of}
 use Rattle.x12_segs.specs.declared.set_span.SetSpan.{SetSpan}
-use Rattle.x12_write.specs.Undivided.{IsUndivided}
+use Rattle.x12_write.specs.Undivided.{CanDivide, IsUndivided}
+use Rattle.guide_tree.specs.Tree.{GuideTree}
 use Rattle.hub_kinds.specs.declared.answers.GroupAnswer.{GroupAnswer}
 use Rattle.hub_kinds.specs.declared.answers.SetAnswer.{SetAnswer}
 use Rattle.hub_kinds.specs.declared.fault.Fault.{Fault}
@@ -16,6 +17,7 @@ use Rattle.env_index.specs.Summary.{GroupEntry}
 use Rattle.env_index.specs.declared.entry.SetEnvelope.{SetEnvelope}
 use Rattle.partner_setup.specs.Setup.{guide_of}
 use Rattle.set_check.specs.Checked.{Checked, guide_in, parts_in, said_by}
+use Rattle.set_check.specs.MeetsLaw.{IsWellGuided}
 use Rattle.set_check.specs.SetParts.{SetParts, set_parts}
 use Rattle.ack_999.specs.ReadBack.{IsQuotable, IsQuotableFault}
 use Rattle.ack_999.specs.Report.{shows_sets}
@@ -28,9 +30,16 @@ use Rattle.hub_run.proofs.QuotedElements.{AreElementsUndivided}
 use Rattle.hub_run.proofs.QuotingFaults.{of_set}
 use Rattle.hub_run.specs.Told.{is_served}
 use Rattle.hub_run.proofs.Headers.{HasHeader, at_index}
+use Rattle.hub_run.proofs.Naming.{IsGuideNamed, guide_named}
 use Rattle.hub_run.proofs.Reading.{response_of, shown_responses}
 use Rattle.hub_run.proofs.TellingGroups.{shown_as_served}
 use Rattle.hub_run.proofs.Together.{Together, pairs_all}
+
+-- the guide of a set, if it has one
+well_named : (d : Delims) → CanDivide d → (guide : Option GuideTree) → IsWellGuided guide → IfSome guide (IsGuideQuotable d)
+    → IfSome guide (IsGuideNamed d)
+well_named d can None sound quotable = tt
+well_named d can (Some g) sound quotable = guide_named d can g sound quotable
 
 -- a set and its answer
 module _ (sent : SentValue) (gs : SegValue) (before : List SetEnvelope) (set : SetEnvelope) (answer : SetAnswer)
@@ -60,15 +69,16 @@ module _ (sent : SentValue) (gs : SegValue) (before : List SetEnvelope) (set : S
   pub control_quoted : (d : Delims) → IsUndivided d (element_of set.header 2) → IsUndivided d answer.control
   control_quoted d undivided = subst (IsUndivided d) (sym control) undivided
 
-  pub faults_quoted : (d : Delims) → IsUndivided d (d.component ∷ []) → IfSome
+  pub faults_quoted : (d : Delims) → CanDivide d → IsUndivided d (d.component ∷ []) → IfSome
       (said_by (guide_of sent.setup sent.sender (element_of gs 1) (element_of gs 8) (element_of set.header 1))) (IsGuideQuotable d)
       → All (IsQuotableFault d) answer.faults
-  faults_quoted d separator names =
+  faults_quoted d can separator names =
       let c : Checked = is.checked in
       let faults : c.faults ≡ answer.faults = sym (ap (λ (a : SetAnswer). a.faults) is.is) in
       let guide = subst (λ g. IfSome g (IsGuideQuotable d)) (sym (ap said_by is.guide)) names in
+      let named = well_named d can (guide_in c) is.exact.well_guided guide in
       let one : (f : Fault) → Contains c.faults f → IsQuotableFault d f = λ f found.
-      of_set d separator (guide_in c) (parts_in c) f guide ((is.exact.faults f).0 found) in
+      of_set d separator (guide_in c) (parts_in c) f named ((is.exact.faults f).0 found) in
       subst (All (IsQuotableFault d)) faults
       (All-weaker (Contains c.faults) (IsQuotableFault d) one c.faults (All-contains_itself c.faults))
 
@@ -109,9 +119,9 @@ module _ (sent : SentValue) (before : List GroupEntry) (group : GroupEntry) (ans
       (sets_together sent group.header [] group.sets answered.sets is.sets.count is.sets.each headers))
 
   -- it can be quoted, since its elements are undivided, where its guides' names are
-  pub group_quoted : (d : Delims) → IsUndivided d (d.component ∷ []) → AreElementsUndivided d group → IsGroupQuotable d sent group
-      → IsQuotable d answered.answer answered.sets
-  group_quoted d separator elements quotable = record {
+  pub group_quoted : (d : Delims) → CanDivide d → IsUndivided d (d.component ∷ []) → AreElementsUndivided d group
+      → IsGroupQuotable d sent group → IsQuotable d answered.answer answered.sets
+  group_quoted d can separator elements quotable = record {
     functional_id = subst (IsUndivided d) (sym (ap (λ (a : GroupAnswer). a.functional_id) is.is)) elements.functional_id;
     control = subst (IsUndivided d) (sym (ap (λ (a : GroupAnswer). a.control) is.is)) elements.control;
     version = subst (IsUndivided d) (sym (ap (λ (a : GroupAnswer). a.version) is.is)) elements.version;
@@ -120,7 +130,7 @@ module _ (sent : SentValue) (before : List GroupEntry) (group : GroupEntry) (ans
     controls = each (λ s. IsUndivided d s.control) (λ n set s at_set one.
         control_quoted sent group.header (take n group.sets) set s one (header n set at_set) d (st n set at_set).1);
     faults = each (λ s. All (IsQuotableFault d) s.faults) (λ n set s at_set one.
-        faults_quoted sent group.header (take n group.sets) set s one (header n set at_set) d separator
+        faults_quoted sent group.header (take n group.sets) set s one (header n set at_set) d can separator
         (at_index (λ set. IfSome (said_by (guide_of sent.setup sent.sender (element_of group.header 1) (element_of group.header 8)
         (element_of set.header 1))) (IsGuideQuotable d)) group.sets n set at_set quotable));
   }

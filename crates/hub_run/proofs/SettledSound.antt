@@ -44,7 +44,7 @@ pub settled_sound : (text : List ℕ) (setup : SetupValue) (index : IndexValue) 
     → All IsSettledSound (settled index (settled_faults setup index.entries)).entries
 settled_sound text setup index is = entries_sound text setup [] index.entries is.entries
 
-none_is : {A : Type 0} (o : Option A) → is_none o ≡ true → o ≡ None
+pub none_is : {A : Type 0} (o : Option A) → is_none o ≡ true → o ≡ None
 none_is None none = refl
 none_is (Some a) none = absurd (false≢true none)
 

@@ -122,7 +122,7 @@ parts_in_row st ak1 sets ak9 se =
 
 pub group_told : (d : Delims) (sent : SentValue) (n : ℕ) (before : List GroupEntry) (group : GroupEntry) (answered : AnsweredGroup)
     → All (HasHeader sent.text sent.delims) group.sets → IsGroupAnswer sent before group answered
-    → IsGroupTold d sent n group (text_999 d answered.answer answered.sets n)
+    → IsGroupTold d sent n before group (text_999 d answered.answer answered.sets n)
 group_told d sent n before group answered headers is =
     let g : GroupAnswer = answered.answer in
     let sets : List SetAnswer = answered.sets in
@@ -139,9 +139,9 @@ group_told d sent n before group answered headers is =
     let number : List ℕ = padded_number 4 n in
     let gs : SegValue = group.header in
     record {
+      answered = answered;
+      answers = is;
       loops = loops_if (is_served sent group) d sets;
-      elements = response.elements;
-      segments = segments;
       is = sym (text_999-parts d g sets n)
           ∙ ap (λ (t : List ℕ). t ++ sets_text d g sets ++ tail_text d g (totals_of sets) n) head
           ∙ ap (λ (t : List ℕ).

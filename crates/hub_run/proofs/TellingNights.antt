@@ -1,6 +1,6 @@
 -- The bytes of a night's acknowledgments.
 use Rattle.std.proofs.Common.{◌≡◌, ℕ, suc, ◌+◌, ◌==◌, Bool, true, false, cond, ◌&&◌, ◌||◌, not, List, [], ◌∷◌, ◌++◌, Option, Some, None}
-use Rattle.std.proofs.Common.{take, refl, sym, ap, subst, ◌∙◌, arith, eqb-true, true≢false}
+use Rattle.std.proofs.Common.{take, refl, sym, ap, subst, ◌∙◌, arith, append_assoc, append-nil, eqb-true, true≢false}
 use Rattle.std.specs.Prelude.{is_none, filter, if◌then◌else◌}
 use Rattle.std.specs.List.{All, list_any}
 use Rattle.std.proofs.lemmas.List.Elements.{All-head, All-tail}
@@ -15,7 +15,7 @@ use Rattle.count_numbers.specs.Num.{num}
 use Rattle.partner_setup.specs.declared.partner.Partner.{Partner}
 use Rattle.partner_setup.specs.Envelopes.{envelope_to}
 use Rattle.partner_setup.specs.Setup.{SetupValue}
-use Rattle.mailbox.specs.Judged.{answered_groups, is_fa}
+use Rattle.mailbox.specs.Judged.{is_fa}
 use Rattle.checked_text.specs.declared.answered.AnsweredGroup.{AnsweredGroup}
 use Rattle.checked_text.specs.Acknowledgments.{acknowledgment_text, present, reports_from}
 use Rattle.checked_text.specs.Answers.{AreGroupAnswers, IsGroupAnswered, SentValue}
@@ -26,7 +26,7 @@ use Rattle.checked_text.specs.Pairs.{AreAllPairs}
 use Rattle.checked_text.specs.Settled.{settled_faults}
 use Rattle.hub_run.specs.declared.night.Night.{Night}
 use Rattle.hub_run.specs.Night.{IsNight, acks_of}
-use Rattle.hub_run.specs.Told.{AreSetsTold, IsGroupTold, IsInterchangeTold, IsPartnerTold, is_answered_to}
+use Rattle.hub_run.specs.Told.{AreSetsTold, IsGroupTold, IsInterchangeTold, IsPartnerTold, ToldGroup, is_answered_to, told_groups}
 use Rattle.hub_run.proofs.Headers.{HasHeader, HaveHeaders, settled_headers}
 use Rattle.hub_run.proofs.Pairs.{no_pairs, pairs_cons, pairs_tail, pairs_weaker}
 use Rattle.hub_run.proofs.TellingGroups.{group_told}
@@ -41,36 +41,60 @@ answered_anywhere sent groups answers are =
     pairs_weaker (λ n group answered. IsGroupAnswered sent (take n groups) group answered)
     (λ n group answered. IsAnsweredGroup sent group answered) groups answers (λ n group answered is. (take n groups, is)) are
 
+-- a group behind these groups, by its place among those that follow
+abbrev IsAnsweredBehind : SentValue → (before groups : List GroupEntry) → ℕ → GroupEntry → Option AnsweredGroup → Type 0
+IsAnsweredBehind sent before groups m group answered = IsGroupAnswered sent (before ++ take m groups) group answered
+
+first_answered : (sent : SentValue) (before : List GroupEntry) (g : GroupEntry) (gs : List GroupEntry) (a : Option AnsweredGroup)
+    (more : List (Option AnsweredGroup)) → AreAllPairs (IsAnsweredBehind sent before (g ∷ gs)) (g ∷ gs) (a ∷ more)
+    → IsGroupAnswered sent before g a
+first_answered sent before g gs a more are =
+    subst (λ (front : List GroupEntry). IsGroupAnswered sent front g a) (append-nil before) (are.each 0 g a refl refl)
+
+others_answered : (sent : SentValue) (before : List GroupEntry) (g : GroupEntry) (gs : List GroupEntry) (a : Option AnsweredGroup)
+    (more : List (Option AnsweredGroup)) → AreAllPairs (IsAnsweredBehind sent before (g ∷ gs)) (g ∷ gs) (a ∷ more)
+    → AreAllPairs (IsAnsweredBehind sent (before ++ g ∷ []) gs) gs more
+others_answered sent before g gs a more are =
+    pairs_weaker (λ m group answered. IsAnsweredBehind sent before (g ∷ gs) (suc m) group answered)
+    (IsAnsweredBehind sent (before ++ g ∷ []) gs) gs more (λ m group answered is.
+    subst (λ (front : List GroupEntry). IsGroupAnswered sent front group answered) (sym (append_assoc before (g ∷ []) (take m gs))) is)
+    (pairs_tail (IsAnsweredBehind sent before (g ∷ gs)) g a gs more are)
+
 -- the 999s of the groups that are answered, the first of them as number n
-reports_told : (d : Delims) (sent : SentValue) (n : ℕ) (groups : List GroupEntry) (answers : List (Option AnsweredGroup))
-    → All (λ g. All (HasHeader sent.text sent.delims) g.sets) groups
-    → AreAllPairs (λ m group answered. IsAnsweredGroup sent group answered) groups answers
-    → AreAllPairs (λ k group report. IsGroupTold d sent (n + k) group report) (answered_groups groups) (reports_from d n (present answers))
-reports_told d sent n [] [] headers are = no_pairs (λ k group report. IsGroupTold d sent (n + k) group report)
-reports_told d sent n [] (a ∷ more) headers are = absurd (omega (arith, are.count))
-reports_told d sent n (g ∷ gs) [] headers are = absurd (omega (arith, are.count))
-reports_told d sent n (g ∷ gs) (None ∷ more) headers are =
-    let first : IsAnsweredGroup sent g None = are.each 0 g None refl refl in
-    let rest = reports_told d sent n gs more (All-tail (λ (x : GroupEntry). All (HasHeader sent.text sent.delims) x.sets) g gs headers)
-    (pairs_tail (λ m group answered. IsAnsweredGroup sent group answered) g None gs more are) in
-    subst (λ (b : Bool). AreAllPairs (λ k group report. IsGroupTold d sent (n + k) group report)
-    (cond (not b) (g ∷ answered_groups gs) (answered_groups gs)) (reports_from d n (present more))) (sym first.1) rest
-reports_told d sent n (g ∷ gs) (Some a ∷ more) headers are =
-    let R : ℕ → GroupEntry → List ℕ → Type 0 = λ k group report. IsGroupTold d sent (n + k) group report in
-    let first : IsAnsweredGroup sent g (Some a) = are.each 0 g (Some a) refl refl in
-    let H : GroupEntry → Type 0 = λ x. All (HasHeader sent.text sent.delims) x.sets in
-    let rest = reports_told d sent (n + 1) gs more (All-tail H g gs headers)
-    (pairs_tail (λ m group answered. IsAnsweredGroup sent group answered) g (Some a) gs more are) in
-    let shifted = pairs_weaker (λ k group report. IsGroupTold d sent ((n + 1) + k) group report)
-    (λ k group report. IsGroupTold d sent (n + suc k) group report) (answered_groups gs) (reports_from d (n + 1) (present more))
-    (λ k group report is. subst (λ (m : ℕ). IsGroupTold d sent m group report) (omega arith) is) rest in
-    let report : List ℕ = text_999 d a.answer a.sets n in
-    let all = pairs_cons R g report (answered_groups gs) (reports_from d (n + 1) (present more))
-    (subst (λ (m : ℕ). IsGroupTold d sent m g report) (omega arith) (group_told d sent n first.0 g a
-    (All-head H g gs headers) first.1)) shifted in
-    subst (λ (b : Bool). AreAllPairs R (cond (not b) (g ∷ answered_groups gs) (answered_groups gs))
-    (reports_from d n (present (Some a ∷ more))))
-    (sym first.1.other) all
+module _ (d : Delims) (sent : SentValue) where
+  abbrev H : GroupEntry → Type 0
+  H g = All (HasHeader sent.text sent.delims) g.sets
+
+  abbrev R : ℕ → ℕ → ToldGroup → List ℕ → Type 0
+  R n k told report = IsGroupTold d sent (n + k) told.before told.group report
+
+  abbrev this_group : (before : List GroupEntry) → GroupEntry → ToldGroup
+  this_group before g = record { before = before; group = g }
+
+  reports_told : (n : ℕ) (before groups : List GroupEntry) (answers : List (Option AnsweredGroup)) → All H groups
+      → AreAllPairs (IsAnsweredBehind sent before groups) groups answers
+      → AreAllPairs (R n) (told_groups before groups) (reports_from d n (present answers))
+  reports_told n before [] [] headers are = no_pairs (R n)
+  reports_told n before [] (a ∷ more) headers are = absurd (omega (arith, are.count))
+  reports_told n before (g ∷ gs) [] headers are = absurd (omega (arith, are.count))
+  reports_told n before (g ∷ gs) (None ∷ more) headers are =
+      let first : is_fa g ≡ true = first_answered sent before g gs None more are in
+      let behind : List ToldGroup = told_groups (before ++ g ∷ []) gs in
+      subst (λ (b : Bool). AreAllPairs (R n) (cond b behind (this_group before g ∷ behind)) (reports_from d n (present more))) (sym first)
+      (reports_told n (before ++ g ∷ []) gs more (All-tail H g gs headers) (others_answered sent before g gs None more are))
+  reports_told n before (g ∷ gs) (Some a ∷ more) headers are =
+      let first : IsGroupAnswered sent before g (Some a) = first_answered sent before g gs (Some a) more are in
+      let behind : List ToldGroup = told_groups (before ++ g ∷ []) gs in
+      let texts : List (List ℕ) = reports_from d (n + 1) (present more) in
+      let rest = reports_told (n + 1) (before ++ g ∷ []) gs more (All-tail H g gs headers)
+      (others_answered sent before g gs (Some a) more are) in
+      let shifted = pairs_weaker (R (n + 1)) (λ k told report. R n (suc k) told report) behind texts (λ k told report is.
+      subst (λ (m : ℕ). IsGroupTold d sent m told.before told.group report) (omega arith) is) rest in
+      let report : List ℕ = text_999 d a.answer a.sets n in
+      let one : R n 0 (this_group before g) report = subst (λ (m : ℕ). IsGroupTold d sent m before g report) (omega arith)
+      (group_told d sent n before g a (All-head H g gs headers) first) in
+      subst (λ (b : Bool). AreAllPairs (R n) (cond b behind (this_group before g ∷ behind)) (reports_from d n (present (Some a ∷ more))))
+      (sym first.other) (pairs_cons (R n) (this_group before g) report behind texts one shifted)
 
 -- something is answered to an interchange where it has a group that acknowledges nothing itself
 answers_something : (sent : SentValue) (groups : List GroupEntry) (answers : List (Option AnsweredGroup))
@@ -144,8 +168,7 @@ interchange_told text setup at place number partner e x headers is told =
     record {
       reports = reports_from (envelope_to setup partner).delims 1 (present x.groups);
       is = refl;
-      each = reports_told (envelope_to setup partner).delims sent 1 e.interchange.content.groups x.groups headers
-          (answered_anywhere sent e.interchange.content.groups x.groups groups);
+      each = reports_told (envelope_to setup partner).delims sent 1 [] e.interchange.content.groups x.groups headers groups;
     }
 
 pub acknowledged_as_told : (text : List ℕ) (setup : SetupValue) (place : ℕ) (e : IndexEntry) (x : AnsweredInterchange)

@@ -97,9 +97,8 @@ set_told d sent gs before set answer header is =
     ∙ ap (λ (t : List ℕ). t ++ notes_text d (notes answer.faults) ++ set_closing d answer.verdict answer.codes) opening in
     let law : IsToldAccepted answer ↔ Meets sent gs before set = accepted_as_it_meets sent gs before set answer is in
     record {
-      notes = notes answer.faults;
-      verdict = answer.verdict;
-      set_codes = answer.codes;
+      answer = answer;
+      answered = is;
       is = loop;
       accepted = (
         λ says. law.0 (accepted_by_bytes d answer.verdict answer.codes says),

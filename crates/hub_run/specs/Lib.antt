@@ -2,5 +2,8 @@ pub mod ByPlace
 pub mod Night
 pub mod Quotable
 pub mod ReadBack
+pub mod Refusals
 pub mod Responses
+pub mod SetsRead
+pub mod Tallied
 pub mod Told

@@ -1,12 +1,15 @@
--- X12.6, delimiters and data elements: where the names of guides that an acknowledgment repeats hold none of its own delimiters, so that
--- it can be read.
-use Rattle.std.specs.Prelude.{ℕ, List, filter, IfSome}
-use Rattle.std.specs.List.{All}
+-- X12.6, delimiters and data elements: where the reference numbers of guides, which an acknowledgment repeats, hold none of its own
+-- delimiters, so that it can be read. Ids of loops are words of letters and digits in every guide that is accepted.
+use Rattle.std.specs.Prelude.{◌≡◌, ℕ, true, List, filter, IfSome}
+use Rattle.std.specs.Char.{is_ascii_alphanumeric}
+use Rattle.std.specs.List.{All, list_all}
 use Rattle.x12_bytes.specs.declared.delims.Delims.{Delims}
 use Rattle.x12_segs.specs.View.{element_of}
 use Rattle.x12_write.specs.Undivided.{IsUndivided}
 use Rattle.guide_tree.specs.declared.element.Element.{Element}
-use Rattle.guide_tree.specs.Tree.{GuideTree, Tree, Trees, loop, no_trees, segment, tree}
+use Rattle.guide_tree.specs.declared.rows.GuideRows.{GuideRows}
+use Rattle.guide_tree.specs.Tree.{EachNode, GuideTree, Tree, loop, segment}
+use Rattle.guide_tree.specs.View as view
 use Rattle.elem_rules.specs.Rows.{component_reference, components_of, element_reference}
 use Rattle.env_index.specs.Index.{IndexEntry}
 use Rattle.env_index.specs.Summary.{GroupEntry}
@@ -23,18 +26,13 @@ abbrev pub IsRowQuotable : Delims → Element → Type 0
 IsRowQuotable d row =
     IsUndivided d (element_reference row) × All (λ component. IsUndivided d (component_reference component)) (components_of row)
 
--- nor in those of a guide's rows, nor in the ids of its loops
-abbrev mutual
-  pub IsNodeQuotable : Delims → Tree → Type 0
-  IsNodeQuotable d (segment s) = All (IsRowQuotable d) s.elements
-  IsNodeQuotable d (loop l ts) = IsUndivided d l.id × AreNodesQuotable d ts
-
-  pub AreNodesQuotable : Delims → Trees → Type 0
-  AreNodesQuotable d no_trees = Unit {0}
-  AreNodesQuotable d (tree t ts) = IsNodeQuotable d t × AreNodesQuotable d ts
+-- nor in those of a guide's rows
+abbrev pub IsNodeQuotable : Delims → Tree → Type 0
+IsNodeQuotable d (segment s) = All (IsRowQuotable d) s.elements
+IsNodeQuotable d (loop l ts) = Unit {0}
 
 abbrev pub IsGuideQuotable : Delims → GuideTree → Type 0
-IsGuideQuotable d g = AreNodesQuotable d g.nodes
+IsGuideQuotable d g = EachNode (IsNodeQuotable d) g.nodes
 
 -- nor in the guides by which the sets of a group are checked
 abbrev pub IsGroupQuotable : Delims → SentValue → GroupEntry → Type 0
@@ -48,3 +46,19 @@ abbrev pub AreQuotable : (text : List ℕ) → SetupValue → (place : ℕ) → 
 AreQuotable text setup place partner entries =
     All (λ e. All (IsGroupQuotable partner.delims (sent_by text setup place e)) (answered_groups e.interchange.content.groups))
     (filter (is_answered_to setup place) entries)
+
+-- letters and digits alone, for which no delimiter of a partner is taken
+abbrev pub IsPlainReference : (reference : List ℕ) → Type 0
+IsPlainReference reference = list_all is_ascii_alphanumeric reference ≡ true
+
+abbrev pub IsRowPlain : Element → Type 0
+IsRowPlain row =
+    IsPlainReference (element_reference row) × All (λ component. IsPlainReference (component_reference component)) (components_of row)
+
+-- of the rows of a guide
+abbrev pub IsNodePlain : Tree → Type 0
+IsNodePlain (segment s) = All IsRowPlain s.elements
+IsNodePlain (loop l ts) = Unit {0}
+
+abbrev pub IsGuidePlain : GuideRows → Type 0
+IsGuidePlain g = EachNode IsNodePlain (view.guide_of g).nodes

@@ -49,13 +49,25 @@ pub record IsResponseTo (s : SentSet) (response : Response) : Type 0 where
   pub accepted : response.code ≡ codes "A" ↔ Meets s.sent s.gs s.before s.set
 
 -- a partner's acknowledgments, read by its delimiters, have a response to each of these sets in their order, and no other
-abbrev pub IsReadBack : (text : List ℕ) → SetupValue → List IndexEntry → (place : ℕ) → Partner → (acknowledgments : List ℕ) → Type 0
-IsReadBack text setup entries place partner acknowledgments =
-    AreQuotable text setup place partner entries
-    → AreAllPairs (λ n s response. IsResponseTo s response) (sets_told_to text setup place entries)
+abbrev pub IsRead : (text : List ℕ) → SetupValue → List IndexEntry → (place : ℕ) → Partner → (acknowledgments : List ℕ) → Type 0
+IsRead text setup entries place partner acknowledgments =
+    AreAllPairs (λ n s response. IsResponseTo s response) (sets_told_to text setup place entries)
     (responses_in partner.delims acknowledgments)
 
--- so have those of each partner
+-- so it is where the reference numbers of its guides can be quoted
+abbrev pub IsReadBack : (text : List ℕ) → SetupValue → List IndexEntry → (place : ℕ) → Partner → (acknowledgments : List ℕ) → Type 0
+IsReadBack text setup entries place partner acknowledgments =
+    AreQuotable text setup place partner entries → IsRead text setup entries place partner acknowledgments
+
+-- each partner reads just that
+pub record AreSetsRead (text : List ℕ) (setup : SetupValue) (acknowledgments : List (List ℕ)) : Type 0 where
+  pub index : IndexValue
+  pub read : IsIndex text index
+  pub each : AreAllPairs
+      (λ place partner told. IsRead text setup (settled index (settled_faults setup index.entries)).entries place partner told)
+      setup.partners acknowledgments
+
+-- each partner does whose guides' reference numbers can be quoted
 pub record AreReadBack (text : List ℕ) (setup : SetupValue) (acknowledgments : List (List ℕ)) : Type 0 where
   pub index : IndexValue
   pub read : IsIndex text index

@@ -9,7 +9,9 @@ use Rattle.x12_write.specs.declared.envelope.Envelope.{Envelope}
 use Rattle.x12_write.specs.Group.{texts_in_row}
 use Rattle.x12_write.specs.Number.{padded_number}
 use Rattle.x12_write.specs.Segment.{segment_text}
-use Rattle.hub_kinds.specs.SetCodes.{set_code_text, verdict_text}
+use Rattle.hub_kinds.specs.SetCodes.{group_code_text, group_verdict_text, set_code_text, verdict_text}
+use Rattle.hub_kinds.specs.declared.answers.GroupAnswer.{GroupAnswer}
+use Rattle.hub_kinds.specs.declared.answers.SetAnswer.{SetAnswer}
 use Rattle.hub_kinds.specs.declared.set_codes.SetCode.{SetCode}
 use Rattle.hub_kinds.specs.declared.set_codes.Verdict.{Verdict}
 use Rattle.env_index.specs.Index.{IndexEntry, IndexValue, IsIndex}
@@ -20,11 +22,14 @@ use Rattle.count_numbers.specs.Num.{num}
 use Rattle.partner_setup.specs.declared.partner.Partner.{Partner}
 use Rattle.partner_setup.specs.Envelopes.{envelope_to}
 use Rattle.partner_setup.specs.Setup.{SetupValue, has_version, sender_of}
-use Rattle.ack_999.specs.Faults.{Note, notes_text}
+use Rattle.ack_999.specs.Faults.{notes, notes_text}
+use Rattle.ack_999.specs.Group.{received_sets, totals_of}
 use Rattle.ack_999.specs.Interchange.{interchange_text}
-use Rattle.ack_999.specs.Report.{convention_text}
-use Rattle.mailbox.specs.Judged.{answered_groups, is_fa}
-use Rattle.checked_text.specs.Answers.{SentValue}
+use Rattle.ack_999.specs.Report.{accepted_sets, convention_text, listed_sets, segment_count}
+use Rattle.ack_999.specs.declared.totals.Totals.{Totals}
+use Rattle.mailbox.specs.Judged.{is_fa}
+use Rattle.checked_text.specs.declared.answered.AnsweredGroup.{AnsweredGroup}
+use Rattle.checked_text.specs.Answers.{IsGroupAnswer, IsSetAnswer, SentValue}
 use Rattle.checked_text.specs.CheckedText.{is_partner, sent_by}
 use Rattle.checked_text.specs.Meets.{Meets}
 use Rattle.checked_text.specs.Pairs.{AreAllPairs}
@@ -46,15 +51,14 @@ accepted_closing d = codes "IK5" ++ d.element ∷ codes "A" ++ d.terminator ∷ 
 abbrev pub SaysAccepted : Delims → List ℕ → Type 0
 SaysAccepted d text = (rest : List ℕ) × (text ≡ codes "IK5" ++ d.element ∷ codes "A" ++ rest)
 
--- the AK2 loop of a set behind these sets of its group: AK2, an IK3 or IK4 for each note, and IK5, which says A exactly where the set
--- meets its guide; the loop is then AK2 and IK5 with the code A alone
+-- the AK2 loop of a set behind these sets of its group, by its answer: AK2, an IK3 or IK4 for each note on its faults, and IK5 with its
+-- verdict and codes (IK501 to IK506), which says A exactly where the set meets its guide; the loop is then AK2 and IK5 with A alone
 pub record IsSetTold (d : Delims) (sent : SentValue) (gs : SegValue) (before : List SetEnvelope) (set : SetEnvelope)
     (loop : List ℕ) : Type 0 where
-  pub notes : List Note
-  pub verdict : Verdict
-  pub set_codes : List SetCode
-  pub is : loop ≡ set_opening d set.header ++ notes_text d notes ++ set_closing d verdict set_codes
-  pub accepted : SaysAccepted d (set_closing d verdict set_codes) ↔ Meets sent gs before set
+  pub answer : SetAnswer
+  pub answered : IsSetAnswer sent gs before set answer
+  pub is : loop ≡ set_opening d set.header ++ notes_text d (notes answer.faults) ++ set_closing d answer.verdict answer.codes
+  pub accepted : SaysAccepted d (set_closing d answer.verdict answer.codes) ↔ Meets sent gs before set
   pub clean : Meets sent gs before set → loop ≡ set_opening d set.header ++ accepted_closing d
 
 -- ST and AK1 of the n-th 999, of a group with this GS: GS01, GS06 and GS08
@@ -63,10 +67,14 @@ group_opening d n gs =
     segment_text d (codes "ST") (codes "999" ∷ padded_number 4 n ∷ codes "005010X231" ∷ [])
     ++ segment_text d (codes "AK1") (element_of gs 1 ∷ element_of gs 6 ∷ element_of gs 8 ∷ [])
 
--- AK9 with these elements, and SE of the n-th 999
-abbrev pub group_closing : Delims → (n : ℕ) → List (List ℕ) → (segments : ℕ) → List ℕ
-group_closing d n elements segments =
-    segment_text d (codes "AK9") elements ++ segment_text d (codes "SE") (decimal segments ∷ padded_number 4 n ∷ [])
+-- AK9 with a group's verdict (AK901), the numbers of its sets that are listed, received and accepted (AK902 to AK904) and its codes (AK905
+-- to AK909), and SE of the n-th 999 with the number of its segments
+abbrev pub group_closing : Delims → (n : ℕ) → GroupAnswer → Totals → List ℕ
+group_closing d n g t =
+    segment_text d (codes "AK9")
+    (group_verdict_text g.verdict ∷ decimal (listed_sets g.listed t) ∷ decimal (received_sets t) ∷ decimal (accepted_sets g.codes t)
+    ∷ map group_code_text g.codes)
+    ++ segment_text d (codes "SE") (decimal (segment_count g t) ∷ padded_number 4 n ∷ [])
 
 -- the sender has a guide with GS01 and GS08 of the group
 abbrev pub is_served : SentValue → GroupEntry → Bool
@@ -76,23 +84,36 @@ is_served sent group = has_version sent.setup sent.sender (element_of group.head
 abbrev pub told_sets : SentValue → GroupEntry → List SetEnvelope
 told_sets sent group = if is_served sent group then group.sets else []
 
--- the n-th 999, of a group: ST and AK1, the AK2 loops of its sets in their order, AK9 and SE, and nothing else; no set of a group that
--- isn't served meets its guide
-pub record IsGroupTold (d : Delims) (sent : SentValue) (n : ℕ) (group : GroupEntry) (report : List ℕ) : Type 0 where
+-- the n-th 999, of a group behind these groups of its interchange: ST and AK1, the AK2 loops of its sets in their order, AK9 and SE by
+-- its answer, and nothing else; no set of a group that isn't served meets its guide
+pub record IsGroupTold (d : Delims) (sent : SentValue) (n : ℕ) (before : List GroupEntry) (group : GroupEntry)
+    (report : List ℕ) : Type 0 where
+  pub answered : AnsweredGroup
+  pub answers : IsGroupAnswer sent before group answered
   pub loops : List (List ℕ)
-  pub elements : List (List ℕ)
-  pub segments : ℕ
-  pub is : report ≡ group_opening d n group.header ++ texts_in_row loops ++ group_closing d n elements segments
+  pub is : report
+      ≡ group_opening d n group.header ++ texts_in_row loops ++ group_closing d n answered.answer (totals_of answered.sets)
   pub each : AreAllPairs (λ k set loop. IsSetTold d sent group.header (take k group.sets) set loop) (told_sets sent group) loops
   pub others : is_served sent group ≡ false → (before : List SetEnvelope) (set : SetEnvelope) → Meets sent group.header before set → ⊥
 
--- the acknowledgment of an interchange under this envelope: one group, in which a 999 stands for each group of the interchange that
--- acknowledges nothing itself, in their order, counted from 1
+-- the groups that acknowledge nothing themselves, each with the groups of its interchange in front of it
+pub record ToldGroup : Type 0 where
+  pub before : List GroupEntry
+  pub group : GroupEntry
+
+abbrev pub told_groups : (before : List GroupEntry) → List GroupEntry → List ToldGroup
+told_groups before [] = []
+told_groups before (group ∷ groups) =
+    if is_fa group then told_groups (before ++ group ∷ []) groups
+    else record { before = before; group = group } ∷ told_groups (before ++ group ∷ []) groups
+
+-- the acknowledgment of an interchange under this envelope: one group, in which a 999 stands for each of these groups, in their order,
+-- counted from 1
 pub record IsInterchangeTold (e : Envelope) (at : List ℕ) (number : ℕ) (sent : SentValue) (groups : List GroupEntry)
     (acknowledgment : List ℕ) : Type 0 where
   pub reports : List (List ℕ)
   pub is : acknowledgment ≡ interchange_text e at number reports
-  pub each : AreAllPairs (λ k group report. IsGroupTold e.delims sent (1 + k) group report) (answered_groups groups) reports
+  pub each : AreAllPairs (λ k told report. IsGroupTold e.delims sent (1 + k) told.before told.group report) (told_groups [] groups) reports
 
 -- an interchange without a fault from this partner, with a group that acknowledges nothing itself
 abbrev pub is_answered_to : SetupValue → (place : ℕ) → IndexEntry → Bool

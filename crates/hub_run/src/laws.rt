@@ -1,10 +1,14 @@
 ghost use Rattle.std.specs.Prelude.{◌≡◌, ℕ, List};
+ghost use Rattle.std.specs.List.{All};
 ghost use Rattle.elem_rules.specs.Moment.{IsMoment};
 ghost use Rattle.partner_setup.specs.Setup.{SetupValue};
 ghost use Rattle.partner_setup.specs.Sound.{IsSoundSetup};
 ghost use Rattle.hub_run.specs.declared.night.Night.{Night};
 ghost use Rattle.hub_run.specs.Night.{IsNight};
-ghost use Rattle.hub_run.specs.ReadBack.{AreReadBack};
+ghost use Rattle.hub_run.specs.Quotable.{IsGuidePlain};
+ghost use Rattle.hub_run.specs.ReadBack.{AreReadBack, AreSetsRead};
+ghost use Rattle.hub_run.specs.SetsRead.{AreBoxesRead};
+ghost use Rattle.hub_run.specs.Tallied.{AreCountersTallied, AreNumbersTallied};
 ghost use Rattle.hub_run.specs.Told.{AreSetsTold};
 
 /// A text has one night by a setup and at a moment. It does nothing: its contract is the law.
@@ -13,7 +17,8 @@ pub fn night_is_one()
 {}
 
 /// The bytes of a night's acknowledgments tell of each set that a partner sent: its AK2 loop ends with an IK5 whose code is A
-/// exactly where the set meets its guide (999 guide, 005010X231). It does nothing: its contract is the law.
+/// exactly where the set meets its guide, and the AK9 of its group has the verdict, the counts and the codes of the group's answer (999
+/// guide, 005010X231). It does nothing: its contract is the law.
 pub fn sets_are_told_as_they_meet()
     ensures { (text : List ℕ) (setup : SetupValue) (at : List ℕ) (night : Night) → IsNight text setup at night
         → AreSetsTold text setup at night.acks }
@@ -21,10 +26,33 @@ pub fn sets_are_told_as_they_meet()
 
 /// A partner that reads a night's acknowledgments, by its delimiters, finds a response to each of its sets that it is told of, in
 /// their order, and no other: ST01, ST02, and A as IK501 exactly where the set meets its guide (X12.6, segment; 999 guide, 005010X231).
-/// That is so where its element separator and its terminator stand in no loop id and no reference number of its guides; in the elements
-/// that are repeated of an interchange without fault (GS01, GS06, GS08, ST01, ST02) they never do. It does nothing: its contract is
-/// the law.
+/// That is so where its element separator and its terminator stand in no reference number of its guides; in the ids of their loops and
+/// in the elements that are repeated of an interchange without fault (GS01, GS06, GS08, ST01, ST02) they never do. It does nothing: its
+/// contract is the law.
 pub fn acknowledgments_are_read_as_sets_meet()
     ensures { (text : List ℕ) (setup : SetupValue) (at : List ℕ) (night : Night) → IsSoundSetup setup → IsMoment at
         → IsNight text setup at night → AreReadBack text setup night.acks }
+{}
+
+/// Where each guide of a sound setup has letters and digits alone as reference numbers, each partner reads in its acknowledgments just what
+/// becomes of its sets (X12.6, data element reference number). It does nothing: its contract is the law.
+pub fn plain_references_are_quoted()
+    ensures { (text : List ℕ) (setup : SetupValue) (acknowledgments : List (List ℕ)) → IsSoundSetup setup → All IsGuidePlain setup.guides
+        → AreReadBack text setup acknowledgments → AreSetsRead text setup acknowledgments }
+{}
+
+/// The next counters of a night are, partner by partner, those of the tally of its acknowledgments and its delivered sets, where there
+/// are fewer than 2^64 of them; and in whatever order these are told of all partners, a partner's tally among those of all tells its first
+/// numbers and its next counters (own). It does nothing: its contract is the law.
+pub fn counters_are_tallied()
+    ensures counters { AreCountersTallied }
+    ensures numbers { AreNumbersTallied }
+{}
+
+/// A partner that reads its mailbox, by its delimiters, finds in it just the sets that are delivered to it, in their order, from ST to
+/// SE: each with the components of the occurrences of the elements that its sender wrote, read by the sender's delimiters, but for
+/// ST02 and SE, which are written anew (X12.6, transaction set and segment). It does nothing: its contract is the law.
+pub fn mailboxes_are_read_as_sets()
+    ensures { (text : List ℕ) (setup : SetupValue) (at : List ℕ) (night : Night) → IsSoundSetup setup → IsMoment at
+        → IsNight text setup at night → AreBoxesRead text setup night.boxes }
 {}

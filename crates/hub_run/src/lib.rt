@@ -6,10 +6,15 @@
 //!   are numbered behind them, its next counters, and the report; a text, a setup and a moment have one night (`night_is_one`);
 //! - the bytes of its acknowledgments are, one behind the other, those of the interchanges that are answered, with a 999 for each
 //!   group and an AK2 loop for each set; the loop ends with an IK5 whose code is A exactly where the set meets its guide and no
-//!   earlier set of its group has its ST02, and then tells of nothing else (`sets_are_told_as_they_meet`);
+//!   earlier set of its group has its ST02, and then tells of nothing else; AK9 has the group's verdict, counts and codes
+//!   (`sets_are_told_as_they_meet`);
 //! - a partner that reads its acknowledgments by its delimiters finds in them ST01, ST02 and IK501 of each of its sets that it is told
 //!   of, in their order, and no other response (`acknowledgments_are_read_as_sets_meet`), where its element separator and terminator
-//!   stand in no name of its guides;
+//!   stand in no reference number of its guides, so in none of letters and digits (`plain_references_are_quoted`);
+//! - a partner that reads its mailbox by its delimiters finds in it just the sets that are delivered to it, in their order, each with what
+//!   its sender wrote, down to the components, but for ST02 and SE (`mailboxes_are_read_as_sets`);
+//! - its next counters are those of the tallies of what it sends, and a tally of that among all, in whatever order they are told,
+//!   tells them and its first numbers too (`counters_are_tallied`);
 //! - it refuses a text as too long exactly over 4,294,967,295 bytes (`within_limit`).
 //!
 //! X12.5, interchange; X12.6, functional group and transaction set; 999 guide (005010X231).
@@ -24,7 +29,10 @@ mod run_fault;
 mod writing;
 
 pub use hub_kinds::within_limit;
-pub use laws::{acknowledgments_are_read_as_sets_meet, night_is_one, sets_are_told_as_they_meet};
+pub use laws::{
+    acknowledgments_are_read_as_sets_meet, counters_are_tallied, mailboxes_are_read_as_sets,
+    night_is_one, plain_references_are_quoted, sets_are_told_as_they_meet,
+};
 pub use night::Night;
 pub use night_report::is_clean;
 pub use plain::run_plain;

@@ -12,6 +12,21 @@ pub enum RunFault {
     NoMemory,
 }
 
+impl RunFault {
+    ghost use Rattle.std.specs.Prelude.{◌≡◌};
+    ghost use Rattle.hub_run.specs.Refusals.{run_fault_number};
+
+    /// The number of the fault.
+    pub fn number(&self) -> u32
+        ensures { result ≡ run_fault_number self.now }
+    {
+        match self {
+            RunFault::InputTooLong => 1,
+            RunFault::NoMemory => 2,
+        }
+    }
+}
+
 impl From<NoMemory> for RunFault {
     ghost use Rattle.std.specs.Prelude.{◌≡◌};
     ghost use Rattle.hub_run.specs.declared.run_fault.RunFault.TheVariants.{NoMemory};

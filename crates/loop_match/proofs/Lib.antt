@@ -10,4 +10,5 @@ mod Slots
 mod Collecting
 pub mod Standing
 pub mod Leading
+mod WithPlaces
 mod WorkedSegments

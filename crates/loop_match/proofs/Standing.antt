@@ -20,7 +20,7 @@ position_with (Some slot) index s loop_id p e =
     let m : stood index s loop_id slot ≡ p = cc in ap (λ (x : PlacedSegment). x.position) (sym m)
 position_with None index s loop_id p e = cc
 
-position_of : (ts : Trees) (index : ℕ) (s : Segment) (place : Option Place) (p : PlacedSegment)
+pub position_of : (ts : Trees) (index : ℕ) (s : Segment) (place : Option Place) (p : PlacedSegment)
     → placed_by ts index s place ≡ Some p → p.position ≡ index + 2
 position_of ts index s None p e = cc
 position_of ts index s (Some q) p e = position_with (slot_at ts q) index s (loop_id_of ts q) p e
@@ -28,7 +28,7 @@ position_of ts index s (Some q) p e = position_with (slot_at ts q) index s (loop
 abbrev Stands : Trees → List Segment → List (Option Place) → PlacedSegment → Type 0
 Stands ts body given p = (index : ℕ) × (placed_at ts body given index ≡ Some p)
 
-from_and_then : (placed : List PlacedSegment) (o : Option PlacedSegment) (p : PlacedSegment) → Contains (and_then placed o) p
+pub from_and_then : (placed : List PlacedSegment) (o : Option PlacedSegment) (p : PlacedSegment) → Contains (and_then placed o) p
     → Contains placed p ⊎ (o ≡ Some p)
 from_and_then placed None p c = inl c
 from_and_then placed (Some x) p c = elim (Contains-push_cases placed x p c) [ inl e ↦ inl e | inr e ↦ inr (ap Some e) ]

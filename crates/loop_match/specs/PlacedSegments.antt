@@ -1,7 +1,8 @@
 -- X12.6, order of segments in a transaction set: the segments of a body that have places, each with its position, its slot and the
 -- loop that it stands in (999 guide, IK3: segment position, loop identifier code).
-use Rattle.std.specs.Prelude.{ℕ, zero, suc, ◌+◌, ◌≡◌, List, [], ◌∷◌, ◌++◌, length, map}
-use Rattle.std.specs.Prelude.{Option, Some, None, option_map, slice_index_or}
+use Rattle.std.specs.Prelude.{ℕ, zero, suc, ◌+◌, ◌<◌, ◌≡◌, ◌↔◌, List, [], ◌∷◌, ◌++◌, length, map}
+use Rattle.std.specs.Prelude.{Option, Some, None, option_map, slice_get, slice_index_or}
+use Rattle.std.specs.List.{Contains}
 use Rattle.guide_tree.specs.declared.slot.Slot.{Slot}
 use Rattle.guide_tree.specs.Tree.{Trees}
 use Rattle.guide_tree.specs.Segments.{Segment}
@@ -35,6 +36,25 @@ first_placed ts body given (suc n) = and_then (first_placed ts body given n) (pl
 
 abbrev pub placed_segments : Trees → List Segment → List (Option Place) → List PlacedSegment
 placed_segments ts body given = first_placed ts body given (length body)
+
+-- the segment with this index in the body has a place, which leads to a slot: so it stands at its position, with that slot and loop
+pub record IsPlacedAt (ts : Trees) (body : List Segment) (given : List (Option Place)) (index : ℕ) (p : PlacedSegment) : Type 0 where
+  pub place : Place
+  pub given_place : slice_get given index ≡ Some (Some place)
+  pub segment : slice_get body index ≡ Some p.segment
+  pub slot : slot_at ts place ≡ Some p.slot
+  pub position : p.position ≡ index + 2
+  pub loop_id : p.loop_id ≡ loop_id_of ts place
+
+-- the placed segments are those of the body that have a place which leads to a slot, and no other: no stray is among them
+abbrev pub AreThoseWithPlaces : Trees → List Segment → List (Option Place) → Type 0
+AreThoseWithPlaces ts body given =
+    (p : PlacedSegment) → Contains (placed_segments ts body given) p ↔ ((index : ℕ) × IsPlacedAt ts body given index p)
+
+-- they stand in the order of the body, each once
+abbrev pub AreInOrder : List PlacedSegment → Type 0
+AreInOrder placed = (j k : ℕ) (p q : PlacedSegment) → slice_get placed j ≡ Some p → slice_get placed k ≡ Some q → j < k
+    → p.position < q.position
 
 -- a placed segment as a derivation gives it: with its slot
 abbrev pub as_given : PlacedSegment → Given

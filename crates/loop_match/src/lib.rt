@@ -1,16 +1,18 @@
 //! Places: which segment slot of a guide each segment of a set's body stands at, and what is wrong with the order and the
 //! number of the segments.
 //!
-//! Proved: `place_all` gives each segment the place and the slot that the definition gives it, or no place where it is a
-//! stray; and its faults are exactly the structural faults of the body under that placing: uses past a maximum, what is
-//! missing, what is used too few times, strays; each once, by position, code and slot. `placed_segments` gives the segments
-//! that have places, each with its position, its slot and the loop that it stands in.
+//! Proved: `place_all` gives each segment the place that may follow the last one given and that it fits, with its slot, or no place
+//! where there is none; and its faults are exactly the structural faults of the body under that placing: uses past a maximum, what
+//! is missing, what is used too few times, strays; each once, by position, code and slot. `placed_segments` gives the segments that
+//! have places, each with its position, its slot and the loop that it stands in: these and no other, in their order
+//! (`placed_segments_have_places`).
 //!
 //! Source: X12.6, order of segments in a transaction set; the 999 guide (005010X231), IK304.
 #![tactic(auto)]
 
 mod fit;
 mod found;
+mod law;
 mod leaving;
 mod loop_id;
 mod next;
@@ -24,6 +26,7 @@ mod stray;
 mod walk;
 
 pub use fit::{contains_text, text_at};
+pub use law::placed_segments_have_places;
 pub use loop_id::loop_id_of;
 pub use next::Step;
 pub use placed::{PlacedSeg, placed_segments};

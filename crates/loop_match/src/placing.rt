@@ -1,10 +1,10 @@
-ghost use Rattle.std.specs.Prelude.{◌≡◌, ◌↔◌, ◌+◌, length, map, IfOk};
+ghost use Rattle.std.specs.Prelude.{◌≡◌, ◌↔◌, ◌+◌, length, map, None, IfOk};
 ghost use Rattle.std.specs.List.{Contains};
 ghost use Rattle.hub_kinds.specs.Fault.{AreRising};
 ghost use Rattle.hub_kinds.specs.declared.fault.Fault.{Fault};
 ghost use Rattle.x12_segs.specs.View.{elements_of};
 ghost use Rattle.guide_tree.specs.Nexts.{placing_of};
-ghost use Rattle.guide_tree.specs.Places.{slot_given};
+ghost use Rattle.guide_tree.specs.Places.{IsPlacing, slot_given};
 ghost use Rattle.guide_tree.specs.Structure.{IsStructureFault};
 ghost use Rattle.guide_tree.specs.View.{guide_of, nodes_view};
 ghost use Rattle.loop_match.specs.Given.{place_in, slot_in};
@@ -97,6 +97,8 @@ pub fn place_all<'g>(
 ) -> Result<Placing<'g>, NoMemory>
     ensures places { IfOk result (λ p. map place_in p.given
         ≡ placing_of (nodes_view guide.now.nodes.items) (map elements_of segs.now)) }
+    ensures placing { IfOk result (λ p.
+        IsPlacing (nodes_view guide.now.nodes.items) None (map elements_of segs.now) (map place_in p.given)) }
     ensures slots { IfOk result (λ p. map slot_in p.given
         ≡ map (slot_given (nodes_view guide.now.nodes.items)) (placing_of (nodes_view guide.now.nodes.items) (map elements_of segs.now))) }
     ensures faults { IfOk result (λ p. (f : Fault) → Contains p.faults f

@@ -11,3 +11,4 @@ pub mod Sending
 pub mod Stretch
 pub mod Together
 pub mod Writing
+pub mod Tallied

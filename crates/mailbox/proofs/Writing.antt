@@ -1,6 +1,7 @@
 -- What is written grows by a piece, and what is left to write shrinks by it.
 use Rattle.std.proofs.Common.{◌≡◌, ℕ, suc, ◌+◌, List, ◌∷◌, ◌++◌, take, length, sym, ap, ◌∙◌, arith, append_assoc}
 use Rattle.std.specs.List.{flat_map}
+use Rattle.x12_write.specs.Extends.{Extends}
 
 -- the first of the pieces that are left
 first_taken : {X : Type 0} (k m : ℕ) (left rest : List X) (x : X) → k ≡ suc m → left ≡ x ∷ rest → take k left ≡ x ∷ take m rest
@@ -23,3 +24,10 @@ three_parts old one two new a b c m n ea eb ec e =
     ec ∙ ap (λ (k : ℕ). two ++ c k) e
     ∙ ap (λ (t : List ℕ). t ++ c n) (eb ∙ ap (λ (t : List ℕ). t ++ b) ea ∙ append_assoc old a b)
     ∙ append_assoc old (a ++ b) (c n)
+
+-- what was there before is still the beginning, when more is written
+pub still_kept : {a b c : List ℕ} → Extends a b → Extends b c → Extends a c
+still_kept {a} first second = record {
+  rest = first.rest ++ second.rest;
+  is = second.is ∙ ap (λ (t : List ℕ). t ++ second.rest) first.is ∙ append_assoc a first.rest second.rest;
+}

@@ -8,3 +8,4 @@ pub mod Numbered
 pub mod Numbers
 pub mod Placed
 pub mod Read
+pub mod Tallied

@@ -1,5 +1,6 @@
 ghost use Rattle.std.specs.Prelude.{◌≡◌, ◌==◌, ◌++◌, ◌+◌, ◌≤◌, OnOk, IfOk, length, take, drop, vec_len};
 ghost use Rattle.std.specs.List.{flat_map};
+ghost use Rattle.x12_write.specs.Extends.{Extends};
 ghost use Rattle.mailbox.specs.Mailbox.{inner_text, mapped, mapped_byte};
 ghost use Rattle.mailbox.specs.Read.{text_as_read};
 
@@ -17,6 +18,7 @@ fn append_one_by_one(
     most: u64,
 ) -> Result<u64, NoMemory>
     ensures text { OnOk result (out.new.items ≡ out.old.items ++ flat_map (inner_text from.now to.now) (take most left.entry)) }
+    ensures kept { Extends out.old.items out.new.items }
     ensures count { IfOk result (λ n. n ≡ length (take most left.entry)) }
 {
     let mut written = 0;
@@ -34,7 +36,8 @@ fn append_one_by_one(
 
 /// Writes a segment as it is read, with the terminator of its text.
 fn append_one_as_read(out: &mut Vec<u8>, from: &Delims, seg: &SegView<'_>) -> Result<(), NoMemory>
-    ensures { OnOk result (out.new.items ≡ out.old.items ++ text_as_read from.now seg.now) }
+    ensures text { OnOk result (out.new.items ≡ out.old.items ++ text_as_read from.now seg.now) }
+    ensures kept { Extends out.old.items out.new.items }
 {
     out.extend_from_slice(seg.bytes())?;
     out.push(from.terminator)?;
@@ -49,6 +52,7 @@ fn append_as_read(
     most: u64,
 ) -> Result<u64, NoMemory>
     ensures text { OnOk result (out.new.items ≡ out.old.items ++ flat_map (text_as_read from.now) (take most left.entry)) }
+    ensures kept { Extends out.old.items out.new.items }
     ensures count { IfOk result (λ n. n ≡ length (take most left.entry)) }
 {
     let mut written = 0;
@@ -83,6 +87,7 @@ fn append_together(
 ) -> Result<u64, NoMemory>
     requires { mapped_byte from.now to.now from.now.terminator ≡ to.now.terminator }
     ensures text { OnOk result (out.new.items ≡ out.old.items ++ flat_map (inner_text from.now to.now) (take most left.entry)) }
+    ensures kept { Extends out.old.items out.new.items }
     ensures count { IfOk result (λ n. n ≡ length (take most left.entry)) }
 {
     let start = out.len();
@@ -107,6 +112,7 @@ pub(crate) fn append_inners(
     most: u64,
 ) -> Result<u64, NoMemory>
     ensures text { OnOk result (out.new.items ≡ out.old.items ++ flat_map (inner_text from.now to.now) (take most left.entry)) }
+    ensures kept { Extends out.old.items out.new.items }
     ensures count { IfOk result (λ n. n ≡ length (take most left.entry)) }
 {
     if changes_terminator(from, to) {

@@ -7,10 +7,12 @@
 //!   and whether a byte that is kept of it is in the way;
 //! - `deliver` gives each partner exactly the sets that are delivered to it by the definition, front to back, in one pass over the
 //!   sets: those of its routes that may be delivered and aren't held;
-//! - `render_set` appends a set with ST02 and SE written anew and each delimiter changed to the receiver's;
+//! - `render_set` appends a set with ST02 and SE written anew and each delimiter changed to the receiver's; for want of memory it
+//!   leaves what was there, and a part behind it;
 //! - `assemble` writes exactly the mailbox of the definition: interchanges that hold as many sets as the partner's cap says,
 //!   numbered behind its acknowledgments, in each the longest groups of sets of one sender, GS01 and GS08, and sets that are
-//!   numbered throughout.
+//!   numbered throughout;
+//! - the groups of a mailbox are the maximal runs that a tally counts, interchange by interchange (`groups_are_runs`).
 //!
 //! Source: X12.5, interchange; X12.6, functional group and transaction set; who is sent what, and how it is numbered, is own.
 #![tactic(auto)]
@@ -24,6 +26,7 @@ mod group_text;
 mod grouping;
 mod inner;
 mod judged;
+mod laws;
 mod mapped;
 mod outcome;
 mod placed;
@@ -36,6 +39,7 @@ pub use deliveries::{Delivered, Deliveries};
 pub use delivering::deliver;
 pub use eligible::{is_deliverable, is_fa};
 pub use judged::JudgedInterchange;
+pub use laws::groups_are_runs;
 pub use outcome::Outcome;
 pub use placed::PlacedSet;
 pub use receiving::outcome_at;

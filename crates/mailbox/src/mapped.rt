@@ -1,5 +1,6 @@
 ghost use Rattle.std.specs.Prelude.{◌≡◌, ◌++◌, ◌∷◌, true, OnOk, map, take, drop, List, ℕ, unwrap_or};
 ghost use Rattle.x12_write.specs.Delimiters.{is_this};
+ghost use Rattle.x12_write.specs.Extends.{Extends};
 ghost use Rattle.mailbox.specs.Mailbox.{mapped_byte, mapped, inner_text, mapped_elements};
 
 use hub_kinds::NoMemory;
@@ -54,7 +55,8 @@ fn append_changed(
     to: &Delims,
     bytes: &[u8],
 ) -> Result<(), NoMemory>
-    ensures { OnOk result (out.new.items ≡ out.old.items ++ mapped from.now to.now bytes.now) }
+    ensures text { OnOk result (out.new.items ≡ out.old.items ++ mapped from.now to.now bytes.now) }
+    ensures kept { Extends out.old.items out.new.items }
 {
     let start = out.len();
     out.extend_from_slice(bytes)?;
@@ -76,7 +78,8 @@ fn append_mapped(
     to: &Delims,
     bytes: &[u8],
 ) -> Result<(), NoMemory>
-    ensures { OnOk result (out.new.items ≡ out.old.items ++ mapped from.now to.now bytes.now) }
+    ensures text { OnOk result (out.new.items ≡ out.old.items ++ mapped from.now to.now bytes.now) }
+    ensures kept { Extends out.old.items out.new.items }
 {
     if are_same(from, to) {
         append_as_they_are(out, to, bytes)
@@ -87,7 +90,8 @@ fn append_mapped(
 
 /// Writes bytes that have the receiver's delimiters already.
 fn append_as_they_are(out: &mut Vec<u8>, to: &Delims, bytes: &[u8]) -> Result<(), NoMemory>
-    ensures { OnOk result (out.new.items ≡ out.old.items ++ mapped to.now to.now bytes.now) }
+    ensures text { OnOk result (out.new.items ≡ out.old.items ++ mapped to.now to.now bytes.now) }
+    ensures kept { Extends out.old.items out.new.items }
 {
     out.extend_from_slice(bytes)?;
     Ok(())
@@ -100,7 +104,8 @@ pub(crate) fn append_inner(
     to: &Delims,
     seg: &SegView<'_>,
 ) -> Result<(), NoMemory>
-    ensures { OnOk result (out.new.items ≡ out.old.items ++ inner_text from.now to.now seg.now) }
+    ensures text { OnOk result (out.new.items ≡ out.old.items ++ inner_text from.now to.now seg.now) }
+    ensures kept { Extends out.old.items out.new.items }
 {
     append_mapped(out, from, to, seg.bytes())?;
     out.push(to.terminator)?;
@@ -116,6 +121,7 @@ pub(crate) fn append_next_element(
     left: &mut Parts<'_>,
 ) -> Result<(), NoMemory>
     ensures text { OnOk result (out.new.items ≡ out.old.items ++ mapped_elements from.now to.now (take 1 left.old)) }
+    ensures kept { Extends out.old.items out.new.items }
     ensures rest { OnOk result (left.new ≡ drop 1 left.old) }
 {
     if let Some(part) = left.next() {
@@ -132,7 +138,8 @@ pub(crate) fn append_mapped_elements(
     to: &Delims,
     mut left: Parts<'_>,
 ) -> Result<(), NoMemory>
-    ensures { OnOk result (out.new.items ≡ out.old.items ++ mapped_elements from.now to.now left.entry) }
+    ensures text { OnOk result (out.new.items ≡ out.old.items ++ mapped_elements from.now to.now left.entry) }
+    ensures kept { Extends out.old.items out.new.items }
 {
     while let Some(part) = left.next() {
         out.push(to.element)?;

@@ -1,5 +1,6 @@
 ghost use Rattle.std.specs.Prelude.{◌≡◌, ◌++◌, ◌+◌, OnOk, IfOk, OnErr, length};
 ghost use Rattle.std.specs.List.{flat_map};
+ghost use Rattle.x12_write.specs.Extends.{Extends};
 ghost use Rattle.mailbox.specs.Deliveries.{inner_in};
 ghost use Rattle.mailbox.specs.Judged.{delims_in};
 ghost use Rattle.mailbox.specs.Mailbox.{set_header_text, inner_text, set_trailer_text, set_text};
@@ -23,7 +24,8 @@ fn append_set_header(
     header: &SegView<'_>,
     number: u32,
 ) -> Result<(), NoMemory>
-    ensures { OnOk result (out.new.items ≡ out.old.items ++ set_header_text from.now to.now header.now number) }
+    ensures text { OnOk result (out.new.items ≡ out.old.items ++ set_header_text from.now to.now header.now number) }
+    ensures kept { Extends out.old.items out.new.items }
 {
     out.extend_from_slice(b"ST")?;
     let mut left = header.elements();
@@ -43,7 +45,8 @@ fn append_set_trailer(
     segments: u128,
     number: u32,
 ) -> Result<(), NoMemory>
-    ensures { OnOk result (out.new.items ≡ out.old.items ++ set_trailer_text to.now segments number) }
+    ensures text { OnOk result (out.new.items ≡ out.old.items ++ set_trailer_text to.now segments number) }
+    ensures kept { Extends out.old.items out.new.items }
 {
     let mut count = Buffer::new();
     let number = PaddedNumber::new(number, 4);
@@ -64,8 +67,9 @@ fn append_header_of(
     number: u32,
 ) -> Result<(), NoMemory>
     requires { set.now ≡ placed.now.set }
-    ensures { OnOk result (out.new.items
+    ensures text { OnOk result (out.new.items
         ≡ out.old.items ++ set_header_text (delims_in placed.now) to.now placed.now.set.header number) }
+    ensures kept { Extends out.old.items out.new.items }
 {
     append_set_header(out, &placed.delims(), to, &set.header, number)
 }
@@ -80,6 +84,7 @@ fn append_inner_of<'a>(
     requires { set.now ≡ placed.now.set }
     ensures text { OnOk result (out.new.items
         ≡ out.old.items ++ flat_map (inner_text (delims_in placed.now) to.now) (inner_in placed.now)) }
+    ensures kept { Extends out.old.items out.new.items }
     ensures count { IfOk result (λ n. n ≡ length (inner_in placed.now)) }
 {
     let from = placed.delims();
@@ -87,14 +92,15 @@ fn append_inner_of<'a>(
 }
 
 /// Writes a set as it is delivered, as set number `number`, behind what is there: with the receiver's delimiters, ST02 and SE
-/// written anew (X12.6, transaction set header and trailer).
+/// written anew (X12.6, transaction set header and trailer). For want of memory a part of it may stand there.
 pub fn render_set(
     out: &mut Vec<u8>,
     to: &Delims,
     placed: &PlacedSet<'_, '_, '_>,
     number: u32,
 ) -> Result<(), NoMemory>
-    ensures { OnOk result (out.new.items ≡ out.old.items ++ set_text to.now placed.now number) }
+    ensures text { OnOk result (out.new.items ≡ out.old.items ++ set_text to.now placed.now number) }
+    ensures kept { Extends out.old.items out.new.items }
 {
     let set = placed.set();
     append_header_of(out, to, placed, &set, number)?;

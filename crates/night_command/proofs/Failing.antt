@@ -3,7 +3,7 @@ use Rattle.std.proofs.Common.{◌≡◌, ◌≢◌, ◌≤◌, ◌⊎◌, inl, i
 use Rattle.std.specs.declared.alloc.Global.{Global}
 use Rattle.std.specs.Io.KnownBytes.{Appends}
 use Rattle.clap.specs.Words.{Text}
-use Rattle.night_command.specs.CommandLine.{IsAsked, NamesNight}
+use Rattle.night_command.specs.CommandLine.{AsksForText, IsAsked, NamesNight}
 use Rattle.night_command.specs.Outcome.{IsOutcome, IsPrinted, status_of, text_of}
 use Rattle.night_command.specs.declared.command.Asked.{Asked}
 use Rattle.night_command.specs.declared.command.Asked.TheVariants.{Run, Show}
@@ -30,3 +30,7 @@ pub text_shown : (words : List Text) (asked : Asked) (text : String Global) (sta
 text_shown words asked text status was is so by most (inl own) printed =
     (Shown text, subst (λ (a : Asked). IsAsked words a) so by, own, printed (λ five. omega (arith, five, most)))
 text_shown words asked text status was is so by most (inr five) printed = absurd (omega (arith, five, most))
+
+-- words that ask for a text ask for it
+pub asked_for : (words : List Text) (asked : Asked) (text : String Global) → asked ≡ Show text → IsAsked words asked → AsksForText words
+asked_for words asked text so by = subst (λ (a : Asked). IsAsked words a) so by

@@ -1,10 +1,14 @@
 -- The files of a night, one partner on, and files that are put one after another.
 use Rattle.std.proofs.Common.{◌≡◌, ◌⊎◌, inl, inr, ◌<◌, ◌+◌, ◌++◌, [], ◌∷◌, ◌∙◌, ℕ, List, Option, None, Some, drop, length}
-use Rattle.std.proofs.Common.{get_or, map, sym, ap, append_assoc}
+use Rattle.std.proofs.Common.{get_or, map, sym, ap, append-nil, append_assoc}
 use Rattle.std.proofs.lemmas.List.{drop_more, map-append}
 use Rattle.partner_setup.specs.declared.partner.Partner.{Partner}
 use Rattle.night_command.specs.Folder.{AddsFiles, AddsSome, File, IsAtFile, KeepsFiles, file_of}
-use Rattle.night_command.specs.NightFiles.{files_of, partner_files}
+use Rattle.hub_run.specs.Night.{IsNight}
+use Rattle.hub_run.specs.declared.night.Night.{Night}
+use Rattle.partner_setup.specs.Setup.{SetupValue}
+use Rattle.night_command.specs.NightFiles.{files_of, night_files, partner_files}
+use Rattle.night_command.specs.Outcome.{LeavesFolder, LeavesFront, PutsFront}
 use Rattle.night_command.specs.declared.failure.Failure.{Failure}
 use Rattle.night_command.specs.declared.failure.Failure.TheVariants.{Memory, Output}
 use Rattle.night_command.specs.declared.folder.NamedText.{NamedText}
@@ -66,3 +70,28 @@ stopped old now new files done left rest file failed added kept whole is at = re
   added = add_none old now (map file_of done) added new kept;
   at = at_file left rest file failed is at;
 }
+
+-- all files of a night were put
+pub all_put : (text : List ℕ) (setup : SetupValue) (at : List ℕ) (had has : Option (List File)) (night : Night)
+    → IsNight text setup at night → AddsFiles had has (night_files setup night) → PutsFront text setup at had has
+all_put text setup at had has night is added = record {
+  night = night;
+  is_night = is;
+  done = night_files setup night;
+  left = [];
+  whole = sym (append-nil (night_files setup night));
+  added = added;
+}
+
+-- what failed is of no matter for what is left
+pub front_of : (text : List ℕ) (setup : SetupValue) (at : List ℕ) (had has : Option (List File)) (failed : Failure)
+    → LeavesFolder text setup at had has failed → LeavesFront text setup at had has
+front_of text setup at had has failed (inl kept) = inl kept
+front_of text setup at had has failed (inr front) = inr (record {
+  night = front.night;
+  is_night = front.is_night;
+  done = front.some.done;
+  left = front.some.left;
+  whole = front.some.whole;
+  added = front.some.added;
+})

@@ -1,17 +1,19 @@
 -- The program's results (own): what is printed, and the status.
-use Rattle.std.specs.Prelude.{◌≡◌, ◌≤◌, ℕ, if◌then◌else◌, List, ◌++◌, Option, codes, length, string_bytes}
+use Rattle.std.specs.Prelude.{◌≡◌, ◌≤◌, ◌⊎◌, ℕ, if◌then◌else◌, List, ◌++◌, Option, codes, length, string_bytes}
 use Rattle.std.specs.Io.KnownBytes.{Appends}
 use Rattle.hub_kinds.specs.declared.limits.TheConstants.{LONGEST_TEXT}
 use Rattle.hub_run.specs.Night.{IsNight}
+use Rattle.hub_run.specs.ReadBack.{AreSetsRead}
 use Rattle.hub_run.specs.declared.night.Night.{Night}
 use Rattle.night_report.specs.Clean.{is_clean, last_of, lines_of}
 use Rattle.partner_setup.specs.Setup.{SetupValue}
 use Rattle.clap.specs.Words.{Text}
 use Rattle.night_command.specs.CommandLine.{AreOptions, AsksForText, guide_paths, value_of, values_of}
-use Rattle.night_command.specs.Folder.{AddsFiles, File}
+use Rattle.night_command.specs.Folder.{AddsFiles, AddsSome, File, KeepsFiles}
 use Rattle.night_command.specs.NightFiles.{night_files}
 use Rattle.night_command.specs.SetupFiles.{IsSetupAt}
 use Rattle.night_command.specs.declared.command.Options.{Options}
+use Rattle.night_command.specs.declared.failure.Failure.{Failure}
 use Rattle.night_command.specs.declared.outcome.Outcome.{Outcome}
 use Rattle.night_command.specs.declared.outcome.Outcome.TheVariants.{Shown, Ran}
 
@@ -30,13 +32,14 @@ status_of (Shown text) = 0
 status_of (Ran night) = if is_clean night.report then 0 else 1
 
 -- the night of some text that isn't too long, at the moment of the options and by a setup that some files make, whose guides have the
--- paths of the options
+-- paths of the options; each partner reads in its acknowledgments just what becomes of its sets
 pub record IsNightBy (options : Options) (night : Night) : Type 0 where
   pub setup : SetupValue
   pub made : IsSetupAt (guide_paths options) setup
   pub text : List ℕ
   pub within : length text ≤ LONGEST_TEXT
   pub is_night : IsNight text setup options.at night
+  pub read : AreSetsRead text setup night.acks
 
 -- such a night was run: what was printed is the last line of its report, and the status is its own
 pub record IsPrinted (options : Options) (status : ℕ) (was is : Option (List ℕ)) : Type 0 where
@@ -45,12 +48,17 @@ pub record IsPrinted (options : Options) (status : ℕ) (was is : Option (List �
   pub own_status : status ≡ status_of (Ran night)
   pub printed : Appends was is (text_of (Ran night))
 
--- a night is given: it is that of a text, a setup and a moment, its files stand in the folder behind what that had, the last line of its
--- report is printed, and the status is its own
+-- where files make the setup, each partner reads in its acknowledgments just what becomes of its sets
+abbrev pub IsReadByFiles : (text : List ℕ) → SetupValue → Night → Type 0
+IsReadByFiles text setup night = (paths : List (List ℕ)) → IsSetupAt paths setup → AreSetsRead text setup night.acks
+
+-- a night is given: it is that of a text, a setup and a moment, which each partner reads so, its files are put behind what the folder had,
+-- the last line of its report is printed, and the status is its own
 pub record IsGiven (text : List ℕ) (setup : SetupValue) (at : List ℕ) (status : ℕ) (had has : Option (List File))
     (was is : Option (List ℕ)) : Type 0 where
   pub night : Night
   pub is_night : IsNight text setup at night
+  pub read : IsReadByFiles text setup night
   pub files : AddsFiles had has (night_files setup night)
   pub own_status : status ≡ status_of (Ran night)
   pub printed : Appends was is (text_of (Ran night))
@@ -59,3 +67,25 @@ pub record IsGiven (text : List ℕ) (setup : SetupValue) (at : List ℕ) (statu
 abbrev pub IsOutcome : List Text → Outcome → Type 0
 IsOutcome words (Shown text) = AsksForText words
 IsOutcome words (Ran night) = (options : Options) × AreOptions (value_of words) (values_of words) options × IsNightBy options night
+
+-- the first of the files of a night were put into a folder, and then something failed
+pub record PutsSome (text : List ℕ) (setup : SetupValue) (at : List ℕ) (had has : Option (List File)) (failed : Failure) : Type 0 where
+  pub night : Night
+  pub is_night : IsNight text setup at night
+  pub some : AddsSome had has (night_files setup night) failed
+
+-- a night that isn't given leaves the folder as it was, or with the first of its files
+abbrev pub LeavesFolder : (text : List ℕ) → SetupValue → (at : List ℕ) → (had has : Option (List File)) → Failure → Type 0
+LeavesFolder text setup at had has failed = KeepsFiles had has ⊎ PutsSome text setup at had has failed
+
+-- a night that isn't given, or isn't printed, leaves the folder as it was, or with the first of its files
+pub record PutsFront (text : List ℕ) (setup : SetupValue) (at : List ℕ) (had has : Option (List File)) : Type 0 where
+  pub night : Night
+  pub is_night : IsNight text setup at night
+  pub done : List File
+  pub left : List File
+  pub whole : night_files setup night ≡ done ++ left
+  pub added : AddsFiles had has done
+
+abbrev pub LeavesFront : (text : List ℕ) → SetupValue → (at : List ℕ) → (had has : Option (List File)) → Type 0
+LeavesFront text setup at had has = KeepsFiles had has ⊎ PutsFront text setup at had has

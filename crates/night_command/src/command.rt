@@ -11,6 +11,19 @@ use elem_rules::At;
 use std::alloc::{AllocError, Global};
 use std::convert::AsStr;
 
+/// What stands behind the options in the text of `--help`.
+const FILES_AND_STATUSES: &str =
+    "Files of DIR: NAME.ack and NAME.box for each partner, report.txt, counters.toml.
+
+Status:
+  0  a clean night
+  1  a whole night; see its report
+  2  usage
+  3  a guide, the setup or the counters
+  4  the input
+  5  an output
+  6  no memory";
+
 /// The files and the moment of a night. Each file is named by its path.
 #[derive(Debug, Drop)]
 pub struct Options<'a> {
@@ -79,6 +92,7 @@ fn setup_command<'a>(alloc: Global) -> Result<Command<'a>, AllocError>
     let command = Command::new(alloc, "nighthub")
         .about("Acknowledges the X12 interchanges of a night and delivers their sets")
         .version("0.1.0")
+        .after_help(FILES_AND_STATUSES)
         .no_binary_name(true);
     let setup = option(alloc, "setup", "FILE", "The partners and routes");
     let command = with_option(command, setup)?;

@@ -49,8 +49,8 @@ impl<'a> Failure<'a> {
         }
     }
 
-    /// Prints the failure's line, and gives the status that the program ends with. A fault of
-    /// standard error is passed over.
+    /// Prints the failure's line, as `print` does, and gives the status that the program ends with. A fault of standard error is
+    /// passed over.
     pub fn report<E: Write>(&self, err: &mut E) -> u8
         ensures { result ≡ status_of self.now }
     {
@@ -59,8 +59,8 @@ impl<'a> Failure<'a> {
         self.status()
     }
 
-    /// Writes the line that says what failed.
-    fn print<E: Write>(&self, err: &mut E) -> io::Result<()>
+    /// Writes the line that says what failed (own): `nighthub: ` and what it is, with its name and its number.
+    pub fn print<E: Write>(&self, err: &mut E) -> io::Result<()>
         ensures { OnOk result (Appends (E.contents err.old) (E.contents err.new) (line_of self.now)) }
     {
         err.write_all(b"nighthub: ")?;

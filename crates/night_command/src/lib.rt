@@ -4,15 +4,20 @@
 //!
 //! Proved:
 //! - `night_main` is safe and ends on every input, and its status is 0 to 6;
-//! - a run that doesn't fail has printed what its words ask for, and nothing else: help or the version where they ask for
-//!   that; otherwise the last line of the report of the night of some text, no longer than the limit, at the moment that
-//!   the words name, by a setup that the bytes of some files make, one guide file for each guide that the words name; the
-//!   status is then 0 exactly where that report is clean (`night_main`, `printed`);
+//! - a run that doesn't fail has printed what its words ask for, and nothing else, where the writer tells what it has: help or
+//!   the version where they ask for that; otherwise the last line of the report of the night of some text, no longer than the
+//!   limit, at the moment that the words name, by a setup that the bytes of some files make, one guide file for each guide that
+//!   the words name; each partner then reads in its acknowledgments what became of its sets, and the status is 0 exactly where
+//!   that report is clean (`night_main`, `printed`);
 //! - the setup of files is what their bytes make, all of it, or their first refusal: of the guides in their order, of the
 //!   setup file, of the counters file, of what they make together, a file that can't be read being refused at its place;
 //!   files that make a setup have no refusal, and only want of memory comes before the first one (`setup_of`);
-//! - a night that is given is that of its text, its setup and its moment; its files stand in the folder behind what that had, the
-//!   last line of its report is what was printed, and the status is 0 exactly where it is clean (`give_night`, `given`);
+//! - a night that is given is that of its text, its setup and its moment; its files were put into the folder, behind what that
+//!   had, where the folder tells what it has; the last line of its report was printed, where the writer tells what it has; and the
+//!   status is 0 exactly where it is clean (`give_night`, `given`); each partner then reads in its acknowledgments what became of its
+//!   sets, by whatever guide files (`night_in`, `read`);
+//! - a run that fails has put none of the files of a night, or a front part of them; a text that is too long leaves the folder
+//!   as it was (`give_night`, `left`, `none`, `too_long`; `night_in`, `none`, `some`);
 //! - the files of a night are put into the folder when all of it is known, those of each partner in the order of the setup,
 //!   then the report and the counters; where one can't be put it is named, and those before it are there (`night_in`,
 //!   `put_night`, `put_all`);
@@ -24,7 +29,8 @@
 //!   `read_whole`).
 //!
 //! Only tested: that the bytes of a setup's files and of the input are those of the files at the paths that the words
-//! name, since no contract says what a file of the system holds; and that a folder of the system holds what is put there.
+//! name, since no contract says what a file of the system holds; and that a folder of the system holds what is put there, and
+//! standard output what is printed, since neither tells what it has.
 //!
 //! As its trials call it:
 //!

@@ -1,11 +1,13 @@
-ghost use Rattle.std.specs.Prelude.{◌≡◌, ◌≢◌, ◌<◌, ◌≤◌, ◌↔◌, IfOk, IfErr, IsErrOf, length, map};
+ghost use Rattle.std.specs.Prelude.{◌≡◌, ◌≢◌, ◌<◌, ◌≤◌, ◌↔◌, ◌⊎◌, IfOk, IfErr, IsErrOf, length, map};
 ghost use Rattle.std.specs.Io.KnownBytes.{Appends};
 ghost use Rattle.hub_run.specs.Night.{IsNight};
-ghost use Rattle.night_command.specs.CommandLine.{IsCommandLine, NamesNight, guide_paths};
+ghost use Rattle.partner_setup.specs.Sound.{IsSoundSetup};
+ghost use Rattle.night_command.specs.CommandLine.{AsksForText, IsCommandLine, NamesNight, guide_paths};
 ghost use Rattle.night_command.specs.Failure.{IsOfNight};
-ghost use Rattle.night_command.specs.Folder.{AddsFiles};
+ghost use Rattle.night_command.specs.Folder.{AddsFiles, KeepsFiles};
 ghost use Rattle.night_command.specs.NightFiles.{night_files};
-ghost use Rattle.night_command.specs.Outcome.{IsGiven, IsOutcome, IsPrinted, status_of, text_of};
+ghost use Rattle.night_command.specs.Outcome.{IsGiven, IsOutcome, IsPrinted, IsReadByFiles};
+ghost use Rattle.night_command.specs.Outcome.{LeavesFolder, LeavesFront, status_of, text_of};
 ghost use Rattle.night_command.specs.SetupFiles.{IsSetupAt};
 ghost use Rattle.night_command.specs.declared.outcome.Outcome.{Outcome};
 
@@ -17,8 +19,9 @@ use crate::night_files::put_night;
 use crate::outcome::{Outcome, finish};
 use crate::setup::setup_at;
 use elem_rules::At;
+use guide_toml::files_write_references;
 use hub_kinds::LONGEST_TEXT;
-use hub_run::{Night, RunFault, run_plain};
+use hub_run::{Night, RunFault, plain_references_are_quoted, run_plain};
 use partner_setup::Setup;
 use std::alloc::Global;
 use std::convert::AsStr;
@@ -40,6 +43,7 @@ where
     ensures usage { result ≡ 2 → IsCommandLine (map S.text words.now) → ⊥ }
     ensures setup { result ≡ 3 → NamesNight (map S.text words.now) }
     ensures input { result ≡ 4 → NamesNight (map S.text words.now) }
+    ensures output { result ≡ 5 → NamesNight (map S.text words.now) ⊎ AsksForText (map S.text words.now) }
     ensures printed { result ≤ 1 → (o : Outcome) × IsOutcome (map S.text words.now) o
         × (result ≡ status_of o) × Appends (O.contents out.old) (O.contents out.new) (text_of o) }
 {
@@ -120,6 +124,9 @@ pub fn give_night<F: Folder, O: Write, E: Write>(
     ensures quiet { result ≤ 1 → err.new ≡ err.old }
     ensures given { result ≤ 1 → IsGiven text.now setup.now at.now result
         (F.contents folder.old) (F.contents folder.new) (O.contents out.old) (O.contents out.new) }
+    ensures too_long { result ≡ 4 ↔ (LONGEST_TEXT < length text.now) }
+    ensures none { result ≡ 4 → KeepsFiles (F.contents folder.old) (F.contents folder.new) }
+    ensures left { 2 ≤ result → LeavesFront text.now setup.now at.now (F.contents folder.old) (F.contents folder.new) }
 {
     match night_in(alloc, folder, text, setup, at) {
         Ok(night) => finish(&Outcome::Ran(night), out, err),
@@ -137,9 +144,15 @@ pub fn night_in<F: Folder>(
 ) -> Result<Night, Failure<'static>>
     ensures too_long { IsErrOf result Failure.InputTooLong ↔ (LONGEST_TEXT < length text.now) }
     ensures night { IfOk result (IsNight text.now setup.now at.now) }
+    ensures read { IfOk result (IsReadByFiles text.now setup.now) }
     ensures files { IfOk result (λ night. AddsFiles (F.contents folder.old) (F.contents folder.new) (night_files setup.now night)) }
+    ensures none { IsErrOf result Failure.InputTooLong → KeepsFiles (F.contents folder.old) (F.contents folder.new) }
+    ensures some { IfErr result (LeavesFolder text.now setup.now at.now (F.contents folder.old) (F.contents folder.new)) }
     ensures err { IfErr result IsOfNight }
 {
+    is_sound(setup);
+    files_write_references();
+    plain_references_are_quoted();
     match run_plain(alloc, text, setup, at) {
         Ok(night) => {
             put_night(alloc, folder, setup, &night)?;
@@ -148,4 +161,13 @@ pub fn night_in<F: Folder>(
         Err(RunFault::InputTooLong) => Err(Failure::InputTooLong),
         Err(RunFault::NoMemory) => Err(Failure::Memory),
     }
+}
+
+/// Every setup is sound. It does nothing: its contract says so.
+fn is_sound(setup: &Setup)
+    ensures { IsSoundSetup setup.now }
+{
+    let _hub = setup.hub();
+    let _partners = setup.partners();
+    let _routes = setup.routes();
 }

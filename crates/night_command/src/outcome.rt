@@ -20,7 +20,7 @@ pub enum Outcome {
     Ran(Night),
 }
 
-/// Prints the outcome on standard output, and nothing behind it. Gives its status, or that of a
+/// Prints the outcome on standard output, and nothing else, where the writer tells what it has. Gives its status, or that of a
 /// failure of standard output.
 pub fn finish<O: Write, E: Write>(outcome: &Outcome, out: &mut O, err: &mut E) -> u8
     ensures status { (result ≡ status_of outcome.now) ⊎ (result ≡ 5) }

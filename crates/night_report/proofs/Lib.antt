@@ -6,3 +6,4 @@ mod Walking
 mod WorkedClean
 mod WorkedLines
 mod WorkedNights
+mod Room

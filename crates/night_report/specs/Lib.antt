@@ -3,3 +3,4 @@ pub mod AreClean
 pub mod Clean
 pub mod Lines
 pub mod Report
+pub mod Room

@@ -1,14 +1,15 @@
-ghost use Rattle.std.specs.Prelude.{◌≡◌, ◌++◌, ◌<◌, IfOk, OnOk, length};
+ghost use Rattle.std.specs.Prelude.{◌≡◌, ◌++◌, ◌+◌, ◌<◌, ◌≤◌, ℕ, IfOk, OnOk, length};
 ghost use Rattle.std.specs.List.{flat_map};
 ghost use Rattle.x12_segs.specs.View.{element_of};
 ghost use Rattle.partner_setup.specs.Setup.{route_of};
 ghost use Rattle.mailbox.specs.Judged.{standing_at};
 ghost use Rattle.night_report.specs.Adding as adding;
 ghost use Rattle.night_report.specs.Report as report;
+ghost use Rattle.night_report.specs.Room.{HasRoom, IsOfInterchanges};
 
 use crate::held::append_held_lines;
 use crate::lines::{append_answered_line, append_fa_line};
-use crate::totals::{Totals, sum};
+use crate::totals::Totals;
 use env_index::GroupEnvelope;
 use hub_kinds::{GroupVerdict, NoMemory};
 use mailbox::{GroupStanding, JudgedInterchange, PlacedSet, is_fa};
@@ -49,8 +50,9 @@ fn append_group_line(
     standings: &[GroupStanding],
     n: usize,
 ) -> Result<(), NoMemory>
-    ensures { OnOk result (out.new.items
+    ensures text { OnOk result (out.new.items
         ≡ out.old.items ++ report.group_line group.now (standing_at standings.now n)) }
+    ensures room { OnOk result (length out.old.items < length out.new.items) }
 {
     let header = group.header();
     if is_fa(group) {
@@ -81,11 +83,12 @@ fn append_held_of_group(
     ensures text { OnOk result (out.new.items ≡ out.old.items
         ++ flat_map (report.held_lines setup.now) (report.sets_in (adding.shown_at interchange.now n))) }
     ensures held { IfOk result (λ held. held ≡ adding.held_in setup.now (adding.shown_at interchange.now n)) }
+    ensures room { IfOk result (λ held. length out.old.items + held ≤ length out.new.items) }
 {
     let mut held = 0u128;
     for i in 0..count {
         let placed = PlacedSet::new(interchange, n, i);
-        held = sum(held, append_held_lines(out, setup, &placed, route)?)?;
+        held += append_held_lines(out, setup, &placed, route)?;
     }
     Ok(held)
 }
@@ -97,7 +100,9 @@ fn group_totals(
     n: usize,
     held: u128,
 ) -> Totals
-    ensures { result ≡ adding.totals_with group.now (standing_at standings.now n) held }
+    ensures value { result ≡ adding.totals_with group.now (standing_at standings.now n) held }
+    ensures room { (before behind : ℕ) → before + held + 1 ≤ behind → HasRoom result before behind }
+    ensures of_none { IsOfInterchanges result 0 }
 {
     if is_fa(group) {
         return Totals {
@@ -130,6 +135,8 @@ fn append_group(
     ensures text { OnOk result (out.new.items
         ≡ out.old.items ++ report.group_lines setup.now (adding.shown_at interchange.now n)) }
     ensures totals { IfOk result (λ totals. totals ≡ adding.group_totals setup.now (adding.shown_at interchange.now n)) }
+    ensures room { IfOk result (λ totals. HasRoom totals (length out.old.items) (length out.new.items)) }
+    ensures of_none { IfOk result (λ totals. IsOfInterchanges totals 0) }
 {
     let group = group_at(interchange, n);
     append_group_line(out, &group, interchange.standings(), n)?;
@@ -145,14 +152,17 @@ pub(crate) fn append_groups(
     interchange: &JudgedInterchange<'_, '_>,
     before: Totals,
 ) -> Result<Totals, NoMemory>
+    requires { before ≡ adding.accepted_one }
     ensures text { OnOk result (out.new.items ≡ out.old.items
         ++ flat_map (report.group_lines setup.now) (report.shown_from interchange.now 0 interchange.now.interchange.content.groups)) }
     ensures totals { IfOk result (λ totals. totals ≡ adding.added (adding.group_totals setup.now) before
         (report.shown_from interchange.now 0 interchange.now.interchange.content.groups)) }
+    ensures room { IfOk result (λ totals. HasRoom totals (length out.old.items) (length out.new.items)) }
+    ensures of_one { IfOk result (λ totals. IsOfInterchanges totals 1) }
 {
     let mut totals = before;
     for n in 0..interchange.interchange().group_count() {
-        totals = totals.with(&append_group(out, setup, interchange, n)?)?;
+        totals = totals.with(&append_group(out, setup, interchange, n)?);
     }
     Ok(totals)
 }

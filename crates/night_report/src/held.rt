@@ -1,4 +1,4 @@
-ghost use Rattle.std.specs.Prelude.{◌≡◌, ◌++◌, ◌+◌, ◌∷◌, [], IfOk, OnOk, count_by, map};
+ghost use Rattle.std.specs.Prelude.{◌≡◌, ◌≤◌, ◌++◌, ◌+◌, ◌∷◌, [], IfOk, OnOk, count_by, length, map};
 ghost use Rattle.std.specs.List.{flat_map};
 ghost use Rattle.x12_segs.specs.View.{element_of};
 ghost use Rattle.partner_setup.specs.Setup.{route_of};
@@ -6,14 +6,14 @@ ghost use Rattle.mailbox.specs.Deliveries.{is_held, outcome_at, outcomes_on};
 ghost use Rattle.night_report.specs.Report as report;
 
 use crate::lines::append_held_line;
-use crate::totals::sum;
 use hub_kinds::NoMemory;
 use mailbox::{Outcome, PlacedSet, is_deliverable, outcome_at};
 use partner_setup::Setup;
 
 /// How often a set is held by an outcome.
 fn held_by(outcome: Outcome) -> u128
-    ensures { result ≡ count_by is_held (outcome ∷ []) }
+    ensures value { result ≡ count_by is_held (outcome ∷ []) }
+    ensures most { result ≤ 1 }
 {
     match outcome {
         Outcome::DeliveredTo(_) => 0,
@@ -24,7 +24,8 @@ fn held_by(outcome: Outcome) -> u128
 
 /// Writes what is told of an outcome.
 fn append_outcome(out: &mut Vec<u8>, ordinal: u128, outcome: Outcome) -> Result<(), NoMemory>
-    ensures { OnOk result (out.new.items ≡ out.old.items ++ report.outcome_line ordinal outcome) }
+    ensures text { OnOk result (out.new.items ≡ out.old.items ++ report.outcome_line ordinal outcome) }
+    ensures room { OnOk result (length out.old.items + count_by is_held (outcome ∷ []) ≤ length out.new.items) }
 {
     match outcome {
         Outcome::DeliveredTo(_) => Ok(()),
@@ -44,12 +45,13 @@ fn append_for_each(
     ensures text { OnOk result (out.new.items
         ≡ out.old.items ++ flat_map (report.outcome_line ordinal) (map (outcome_at setup.now placed.now) route.now)) }
     ensures held { IfOk result (λ held. held ≡ count_by is_held (map (outcome_at setup.now placed.now) route.now)) }
+    ensures room { IfOk result (λ held. length out.old.items + held ≤ length out.new.items) }
 {
     let mut held = 0u128;
     for to in route {
         let outcome = outcome_at(setup, placed, *to);
         append_outcome(out, ordinal, outcome)?;
-        held = sum(held, held_by(outcome))?;
+        held += held_by(outcome);
     }
     Ok(held)
 }
@@ -64,6 +66,7 @@ fn append_on_route(
     ensures text { OnOk result (out.new.items
         ≡ out.old.items ++ flat_map (report.outcome_line (placed.now.index + 1)) (outcomes_on setup.now placed.now route.now)) }
     ensures held { IfOk result (λ held. held ≡ count_by is_held (outcomes_on setup.now placed.now route.now)) }
+    ensures room { IfOk result (λ held. length out.old.items + held ≤ length out.new.items) }
 {
     let ordinal = placed.index() as u128 + 1;
     if route.is_empty() {
@@ -83,6 +86,7 @@ pub(crate) fn append_held_lines(
     requires { route.now ≡ route_of setup.now (element_of placed.now.group.header 3) }
     ensures text { OnOk result (out.new.items ≡ out.old.items ++ report.held_lines setup.now placed.now) }
     ensures held { IfOk result (λ held. held ≡ report.held_count setup.now placed.now) }
+    ensures room { IfOk result (λ held. length out.old.items + held ≤ length out.new.items) }
 {
     if !is_deliverable(placed) {
         return Ok(0);

@@ -1,7 +1,8 @@
-ghost use Rattle.std.specs.Prelude.{◌≡◌, ◌++◌, ◌+◌, IfOk, OnOk};
+ghost use Rattle.std.specs.Prelude.{◌≡◌, ◌++◌, ◌+◌, IfOk, OnOk, length};
 ghost use Rattle.mailbox.specs.Judged.{is_refused};
 ghost use Rattle.night_report.specs.Adding as adding;
 ghost use Rattle.night_report.specs.Report as report;
+ghost use Rattle.night_report.specs.Room.{HasRoom, IsOfInterchanges};
 
 use crate::groups::append_groups;
 use crate::lines::{append_interchange_line, append_notice_line, append_total_line, control_shown};
@@ -46,6 +47,8 @@ fn append_content(
 ) -> Result<Totals, NoMemory>
     ensures text { OnOk result (out.new.items ≡ out.old.items ++ report.content_lines setup.now interchange.now) }
     ensures totals { IfOk result (λ totals. totals ≡ adding.interchange_totals setup.now interchange.now) }
+    ensures room { IfOk result (λ totals. HasRoom totals (length out.old.items) (length out.new.items)) }
+    ensures of_one { IfOk result (λ totals. IsOfInterchanges totals 1) }
 {
     if is_refused(interchange) {
         return Ok(Totals::of_refused());
@@ -63,6 +66,8 @@ fn append_interchange(
 ) -> Result<Totals, NoMemory>
     ensures text { OnOk result (out.new.items ≡ out.old.items ++ report.interchange_lines setup.now n interchange.now) }
     ensures totals { IfOk result (λ totals. totals ≡ adding.interchange_totals setup.now interchange.now) }
+    ensures room { IfOk result (λ totals. HasRoom totals (length out.old.items) (length out.new.items)) }
+    ensures of_one { IfOk result (λ totals. IsOfInterchanges totals 1) }
 {
     append_first_line(out, setup, n, interchange)?;
     append_content(out, setup, interchange)
@@ -80,7 +85,7 @@ fn append_all(
     let mut totals = Totals::none();
     for i in 0..interchanges.len() {
         let of_this = append_interchange(out, setup, i + 1, &interchanges[i])?;
-        totals = totals.with(&of_this)?;
+        totals = totals.with(&of_this);
     }
     Ok(totals)
 }

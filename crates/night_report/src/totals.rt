@@ -1,7 +1,3 @@
-ghost use Rattle.std.specs.Prelude.{◌≡◌, ◌+◌, IfOk};
-
-use hub_kinds::NoMemory;
-
 /// What a night's report counts.
 #[derive(Debug, Drop)]
 pub struct Totals {
@@ -19,16 +15,10 @@ pub struct Totals {
     pub held: u128,
 }
 
-/// No memory holds so many things that a count of them doesn't fit.
-pub(crate) fn sum(a: u128, b: u128) -> Result<u128, NoMemory>
-    ensures { IfOk result (λ n. n ≡ a + b) }
-{
-    a.checked_add(b).ok_or(NoMemory)
-}
-
 impl Totals {
-    ghost use Rattle.std.specs.Prelude.{◌≡◌, IfOk};
+    ghost use Rattle.std.specs.Prelude.{◌≡◌};
     ghost use Rattle.night_report.specs.Adding as adding;
+    ghost use Rattle.night_report.specs.Room.{FitsWith};
 
     /// Of nothing.
     pub(crate) fn none() -> Totals
@@ -73,16 +63,17 @@ impl Totals {
     }
 
     /// What these and others count.
-    pub(crate) fn with(&self, more: &Totals) -> Result<Totals, NoMemory>
-        ensures { IfOk result (λ totals. totals ≡ adding.together self.now more.now) }
+    pub(crate) fn with(&self, more: &Totals) -> Totals
+        requires { FitsWith self.now more.now }
+        ensures { result ≡ adding.together self.now more.now }
     {
-        Ok(Totals {
-            interchanges: sum(self.interchanges, more.interchanges)?,
-            refused: sum(self.refused, more.refused)?,
-            groups: sum(self.groups, more.groups)?,
-            sets: sum(self.sets, more.sets)?,
-            accepted: sum(self.accepted, more.accepted)?,
-            held: sum(self.held, more.held)?,
-        })
+        Totals {
+            interchanges: self.interchanges + more.interchanges,
+            refused: self.refused + more.refused,
+            groups: self.groups + more.groups,
+            sets: self.sets + more.sets,
+            accepted: self.accepted + more.accepted,
+            held: self.held + more.held,
+        }
     }
 }

@@ -1,5 +1,5 @@
 -- What was found of a set's segments, put together: it is what is wrong with the set of the span.
-use Rattle.std.proofs.Common.{◌≡◌, ◌∙◌, ap, subst, ℕ, false, List, Option, option_map}
+use Rattle.std.proofs.Common.{◌≡◌, ◌∙◌, ap, subst, ℕ, false, List, Option}
 use Rattle.hub_kinds.specs.declared.fault.Fault.{Fault}
 use Rattle.hub_kinds.specs.declared.set_codes.SetCode.{SetCode}
 use Rattle.hub_kinds.specs.Fault.{AreRising}
@@ -8,41 +8,37 @@ use Rattle.x12_segs.specs.View.{SegValue}
 use Rattle.x12_segs.specs.declared.set_span.SetSpan.{SetSpan}
 use Rattle.guide_tree.specs.declared.rows.GuideRows.{GuideRows}
 use Rattle.set_check.specs.declared.envelope.Envelope.{Envelope}
-use Rattle.set_check.specs.declared.guide.SetGuide.{SetGuide}
 use Rattle.set_check.specs.Checked.{IsChecked, said_by}
 use Rattle.set_check.specs.Codes.{set_codes_of}
 use Rattle.set_check.specs.Envelope.{IsEnvelopeOf}
 use Rattle.set_check.specs.MeetsLaw.{IsWellGuided}
-use Rattle.set_check.specs.SetFaults.{AreSetFaults, as_set_guide, codes_with}
+use Rattle.set_check.specs.SetFaults.{AreSetFaults, codes_with}
 use Rattle.set_check.specs.SetParts.{SetParts, parts_of, set_parts, segment_count}
 
-codes_by : (guide : Option GuideRows) (parts : SetParts) (faults told : List Fault) (known : Option SetGuide) (e : Envelope)
-    (trailer : Option SegValue) (codes : List SetCode) → IsEnvelopeOf parts e → told ≡ faults
-    → known ≡ option_map as_set_guide (said_by guide) → trailer ≡ e.trailer
-    → codes ≡ set_codes_of told known e.header e.segments trailer false → codes ≡ codes_with (said_by guide) parts faults
-codes_by guide parts faults told known e trailer codes of t k l is =
+codes_by : (guide : Option GuideRows) (parts : SetParts) (faults told : List Fault) (e : Envelope) (trailer : Option SegValue)
+    (codes : List SetCode) → IsEnvelopeOf parts e → told ≡ faults → trailer ≡ e.trailer
+    → codes ≡ set_codes_of told (said_by guide) e.header e.segments trailer false → codes ≡ codes_with (said_by guide) parts faults
+codes_by guide parts faults told e trailer codes of t l is =
     is
-    ∙ ap (λ (x : List Fault). set_codes_of x known e.header e.segments trailer false) t
-    ∙ ap (λ (x : Option SetGuide). set_codes_of faults x e.header e.segments trailer false) k
-    ∙ ap (λ (x : SegValue). set_codes_of faults (option_map as_set_guide (said_by guide)) x e.segments trailer false) of.header
-    ∙ ap (λ (x : ℕ). set_codes_of faults (option_map as_set_guide (said_by guide)) parts.header x trailer false) of.segments
-    ∙ ap (λ (x : Option SegValue). set_codes_of faults (option_map as_set_guide (said_by guide)) parts.header (segment_count parts) x false)
-    (l ∙ of.trailer)
+    ∙ ap (λ (x : List Fault). set_codes_of x (said_by guide) e.header e.segments trailer false) t
+    ∙ ap (λ (x : SegValue). set_codes_of faults (said_by guide) x e.segments trailer false) of.header
+    ∙ ap (λ (x : ℕ). set_codes_of faults (said_by guide) parts.header x trailer false) of.segments
+    ∙ ap (λ (x : Option SegValue). set_codes_of faults (said_by guide) parts.header (segment_count parts) x false) (l ∙ of.trailer)
 
 pub put_down : (text : List ℕ) (span : SetSpan) (guide : Option GuideRows) (segs : List SegValue) (faults told : List Fault)
-    (known : Option SetGuide) (e : Envelope) (trailer : Option SegValue) (codes : List SetCode) → segs ≡ span_views text span
+    (e : Envelope) (trailer : Option SegValue) (codes : List SetCode) → segs ≡ span_views text span
     → IsWellGuided (said_by guide) → AreSetFaults (said_by guide) (parts_of span.delims span.closed segs) faults → AreRising faults
-    → IsEnvelopeOf (parts_of span.delims span.closed segs) e → told ≡ faults → known ≡ option_map as_set_guide (said_by guide)
-    → trailer ≡ e.trailer → codes ≡ set_codes_of told known e.header e.segments trailer false
+    → IsEnvelopeOf (parts_of span.delims span.closed segs) e → told ≡ faults
+    → trailer ≡ e.trailer → codes ≡ set_codes_of told (said_by guide) e.header e.segments trailer false
     → IsChecked (record { text = text; span = span; guide = guide; faults = faults; codes = codes }) × IsEnvelopeOf (set_parts text span) e
-put_down text span guide segs faults told known e trailer codes s w f r of t k l is =
+put_down text span guide segs faults told e trailer codes s w f r of t l is =
     let here : IsEnvelopeOf (set_parts text span) e =
     subst (λ (x : List SegValue). IsEnvelopeOf (parts_of span.delims span.closed x) e) s of in (
       record {
         well_guided = w;
         faults = subst (λ (x : List SegValue). AreSetFaults (said_by guide) (parts_of span.delims span.closed x) faults) s f;
         rising = r;
-        codes = codes_by guide (set_parts text span) faults told known e trailer codes here t k l is;
+        codes = codes_by guide (set_parts text span) faults told e trailer codes here t l is;
       },
       here,
     )

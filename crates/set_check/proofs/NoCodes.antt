@@ -1,7 +1,8 @@
 -- A set without a fault has no code exactly where it has a guide, and its ST and SE and the number of its segments agree.
 use Rattle.std.proofs.Common.{◌≡◌, ◌≤◌, ℕ, inl, inr, Bool, true, false, not, List, [], ◌∷◌, ◌++◌, Option, Some, None, refl}
 use Rattle.std.proofs.Common.{◌∙◌, ap, arith}
-use Rattle.std.specs.Prelude.{length, nat_lt}
+use Rattle.std.specs.Prelude.{length, nat_lt, ◌&&◌, ◌⊎◌}
+use Rattle.std.specs.Str.{bytes_eq}
 use Rattle.std.proofs.lemmas.Bool.{not-false}
 use Rattle.std.proofs.lemmas.Bool.Decides.{nat_tests, Decides-eqb}
 use Rattle.std.proofs.lemmas.Slice.Eq.{bytes_eq-Decides}
@@ -9,6 +10,8 @@ use Rattle.hub_kinds.specs.Numbers.{number_of}
 use Rattle.hub_kinds.specs.declared.set_codes.SetCode.{SetCode}
 use Rattle.hub_kinds.specs.declared.set_codes.SetCode.TheVariants as code
 use Rattle.guide_tree.specs.Tree.{GuideTree}
+use Rattle.x12_bytes.specs.declared.delims.Delims.{Delims}
+use Rattle.elem_rules.specs.Divided.{is_empty}
 use Rattle.x12_segs.specs.View.{SegValue, element_of}
 use Rattle.set_check.specs.Codes.{code_if, control_of, has_other_control, is_count, has_other_count, has_short_control}
 use Rattle.set_check.specs.Codes.{envelope_codes, is_other, first_five}
@@ -23,7 +26,7 @@ pub record Enveloped (g : GuideTree) (parts : SetParts) : Type 0 where
   pub counted : number_of 10 (element_of trailer 1) ≡ Some (segment_count parts)
   pub same_control : element_of trailer 2 ≡ control_of parts.header
   pub long_control : 4 ≤ length (control_of parts.header)
-  pub convention : MeetsConvention g.head.convention (element_of parts.header 3)
+  pub convention : MeetsConvention parts.header.delims g.head.convention (element_of parts.header 3)
 
 left_nil : (xs ys : List SetCode) → xs ++ ys ≡ [] → xs ≡ []
 left_nil [] ys h = refl
@@ -45,16 +48,29 @@ same_number : (n : ℕ) (o : Option ℕ) → is_count n o ≡ true → o ≡ Som
 same_number n None h = cc
 same_number n (Some m) h = ap Some ((Decides-eqb m n).0 h)
 
-meets_convention : (o : Option (List ℕ)) (given : List ℕ) → is_other o given ≡ false → MeetsConvention o given
-meets_convention None given h = tt
-meets_convention (Some c) [] h = inl refl
-meets_convention (Some c) (b ∷ bs) h = inr ((bytes_eq-Decides (b ∷ bs) c).0 (not-false _ h))
+either : (e s : Bool) → (not e && not s) ≡ false → (e ≡ true) ⊎ (s ≡ true)
+either true s h = inl refl
+either false true h = inr refl
+either false false h = cc
 
-is_not_other : (o : Option (List ℕ)) (given : List ℕ) → MeetsConvention o given → is_other o given ≡ false
-is_not_other None given h = refl
-is_not_other (Some c) [] h = refl
-is_not_other (Some c) (b ∷ bs) (inl e) = cc
-is_not_other (Some c) (b ∷ bs) (inr e) = ap not ((bytes_eq-Decides (b ∷ bs) c).1 e)
+neither : (e s : Bool) → (e ≡ true) ⊎ (s ≡ true) → (not e && not s) ≡ false
+neither true s h = refl
+neither false true h = refl
+neither false false (inl h) = cc
+neither false false (inr h) = cc
+
+meets_one : (d : Delims) (c given : List ℕ) → (is_empty d given ≡ true) ⊎ (bytes_eq given c ≡ true) → MeetsConvention d (Some c) given
+meets_one d c given (inl e) = inl e
+meets_one d c given (inr e) = inr ((bytes_eq-Decides given c).0 e)
+
+meets_convention : (d : Delims) (o : Option (List ℕ)) (given : List ℕ) → is_other d o given ≡ false → MeetsConvention d o given
+meets_convention d None given h = tt
+meets_convention d (Some c) given h = meets_one d c given (either (is_empty d given) (bytes_eq given c) h)
+
+is_not_other : (d : Delims) (o : Option (List ℕ)) (given : List ℕ) → MeetsConvention d o given → is_other d o given ≡ false
+is_not_other d None given h = refl
+is_not_other d (Some c) given (inl e) = neither (is_empty d given) (bytes_eq given c) (inl e)
+is_not_other d (Some c) given (inr e) = neither (is_empty d given) (bytes_eq given c) (inr ((bytes_eq-Decides given c).1 e))
 
 long_enough : (n : ℕ) → nat_lt n 4 ≡ false → 4 ≤ n
 long_enough n h = grind (arith, nat_tests)
@@ -64,8 +80,8 @@ not_short n h = grind (arith, nat_tests)
 
 -- by the SE, if there is one
 enveloped_by : (g : GuideTree) (parts : SetParts) (t : Option SegValue) → parts.trailer ≡ t
-    → envelope_codes parts.header (segment_count parts) t ≡ [] → MeetsConvention g.head.convention (element_of parts.header 3)
-    → Enveloped g parts
+    → envelope_codes parts.header (segment_count parts) t ≡ []
+    → MeetsConvention parts.header.delims g.head.convention (element_of parts.header 3) → Enveloped g parts
 enveloped_by g parts None e h k = cc
 enveloped_by g parts (Some t) e h k =
     let a = code_if (has_other_control parts.header (Some t)) code.ControlNumbersDiffer in
@@ -89,10 +105,10 @@ enveloped_by g parts (Some t) e h k =
 pub codeless : (g : GuideTree) (parts : SetParts) → codes_with (Some g) parts [] ≡ [] → Enveloped g parts
 codeless g parts h =
     let e = envelope_codes parts.header (segment_count parts) parts.trailer in
-    let i = code_if (is_other g.head.convention (element_of parts.header 3)) code.ConventionNotSupported in
+    let i = code_if (is_other parts.header.delims g.head.convention (element_of parts.header 3)) code.ConventionNotSupported in
     let all : (e ++ []) ++ i ≡ [] = none_of_five ((e ++ []) ++ i) h in
     enveloped_by g parts parts.trailer refl (left_nil e [] (left_nil (e ++ []) i all))
-    (meets_convention g.head.convention (element_of parts.header 3)
+    (meets_convention parts.header.delims g.head.convention (element_of parts.header 3)
     (no_code _ code.ConventionNotSupported (right_nil (e ++ []) i all)))
 
 pub guideless_has_a_code : (parts : SetParts) → codes_with None parts [] ≡ [] → ⊥
@@ -117,8 +133,8 @@ no_envelope_code g parts v =
 
 pub enveloped_codeless : (g : GuideTree) (parts : SetParts) → Enveloped g parts → codes_with (Some g) parts [] ≡ []
 enveloped_codeless g parts v =
-    let i = code_if (is_other g.head.convention (element_of parts.header 3)) code.ConventionNotSupported in
+    let i = code_if (is_other parts.header.delims g.head.convention (element_of parts.header 3)) code.ConventionNotSupported in
     ap (λ (t : Option SegValue). first_five ((envelope_codes parts.header (segment_count parts) t ++ []) ++ i)) v.closed
     ∙ ap (λ (l : List SetCode). first_five ((l ++ []) ++ i)) (no_envelope_code g parts v)
     ∙ ap (λ (b : Bool). first_five (code_if b code.ConventionNotSupported))
-    (is_not_other g.head.convention (element_of parts.header 3) v.convention)
+    (is_not_other parts.header.delims g.head.convention (element_of parts.header 3) v.convention)

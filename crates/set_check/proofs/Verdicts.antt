@@ -1,5 +1,5 @@
 -- The verdict on a checked set: accepted exactly where the set meets its guide and no earlier set has its ST02, which rejects it.
-use Rattle.std.proofs.Common.{◌≡◌, ◌↔◌, ◌∙◌, ap, sym, refl, ℕ, suc, Bool, true, false, List, [], ◌∷◌, ◌++◌, take, is_none, option_map}
+use Rattle.std.proofs.Common.{◌≡◌, ◌↔◌, ◌∙◌, ap, sym, refl, ℕ, suc, Bool, true, false, List, [], ◌∷◌, ◌++◌, take, is_none}
 use Rattle.std.proofs.Common.{Option, ◌&&◌, if◌then◌else◌}
 use Rattle.std.specs.List.{list_all, list_any}
 use Rattle.hub_kinds.specs.declared.fault.Fault.{Fault}
@@ -12,7 +12,7 @@ use Rattle.set_check.specs.Checked.{Checked, IsChecked, guide_in, parts_in}
 use Rattle.set_check.specs.Codes.{code_if, first_five, telling, has_i, has_no_i, lacks_trailer, has_other_control, has_other_count}
 use Rattle.set_check.specs.Codes.{has_short_control, convention_codes}
 use Rattle.set_check.specs.Meets.{MeetsAlone}
-use Rattle.set_check.specs.SetFaults.{as_set_guide, codes_where}
+use Rattle.set_check.specs.SetFaults.{codes_where}
 use Rattle.set_check.specs.SetParts.{SetParts, segment_count}
 use Rattle.set_check.specs.Verdict.{tells_of_faults, tolerates, verdict_on, verdict_with}
 use Rattle.set_check.proofs.Clean.{clean_as_met}
@@ -44,9 +44,9 @@ not_of_faults : (guide : Option GuideTree) (parts : SetParts) (faults : List Fau
     → list_all tells_of_faults (codes_where guide parts faults true) ≡ false
 not_of_faults guide parts faults =
     other_among (list_any (λ f. has_no_i (telling f)) faults) (list_any (λ f. has_i (telling f)) faults)
-    (is_none (option_map as_set_guide guide)) (lacks_trailer parts.trailer) (has_other_control parts.header parts.trailer)
+    (is_none guide) (lacks_trailer parts.trailer) (has_other_control parts.header parts.trailer)
     (has_other_count (segment_count parts) parts.trailer) (has_short_control parts.header)
-    (convention_codes (option_map as_set_guide guide) parts.header)
+    (convention_codes guide parts.header)
 
 rejected_by : (guide : Option GuideTree) (faults : List Fault) (codes : List SetCode) → list_all tells_of_faults codes ≡ false
     → verdict_on guide faults codes ≡ Rejected

@@ -8,9 +8,9 @@ use Rattle.hub_kinds.specs.declared.fault.ElemFault.{ElemFault}
 use Rattle.hub_kinds.specs.declared.fault.Fault.{Fault}
 use Rattle.hub_kinds.specs.declared.set_codes.SetCode.TheVariants as code
 use Rattle.x12_segs.specs.View.{SegValue}
-use Rattle.set_check.specs.declared.guide.SetGuide.{SetGuide}
+use Rattle.guide_tree.specs.Tree.{GuideTree, no_trees}
 use Rattle.set_check.specs.Codes.{fault_codes, guide_codes, envelope_codes, convention_codes}
-use Rattle.set_check.specs.Codes.{all_codes, set_codes_of, codes_of, plain_guide}
+use Rattle.set_check.specs.Codes.{all_codes, set_codes_of}
 
 abbrev fault_with : SegmentCode → Option ElemFault → Fault
 fault_with seg elem = record { position = 3; id = codes "PO1"; loop_id = []; code = seg; slot = 4; elem = elem }
@@ -23,15 +23,42 @@ of_element c =
 abbrev of_segment : SegmentCode → Fault
 of_segment c = fault_with c None
 
-abbrev segment_of : List ℕ → SegValue
-segment_of bytes = record {
+abbrev segment_under : Option ℕ → List ℕ → SegValue
+segment_under repetition bytes = record {
   start = 0;
   bytes = bytes;
-  delims = record { element = 42; component = 62; repetition = None; terminator = 126 };
+  delims = record { element = 42; component = 62; repetition = repetition; terminator = 126 };
 }
 
-abbrev asking : List ℕ → SetGuide
-asking convention = record { convention = Some convention }
+abbrev segment_of : List ℕ → SegValue
+segment_of = segment_under None
+
+-- the same where ^ is the repetition separator
+abbrev repeating : List ℕ → SegValue
+repeating = segment_under (Some 94)
+
+abbrev guide_with : Option (List ℕ) → GuideTree
+guide_with convention = record {
+  head = record {
+    name = codes "H";
+    group = codes "PO";
+    set = codes "850";
+    version = codes "005010";
+    convention = convention;
+    dictionary = [];
+    tolerate_segment = [];
+    tolerate_element = [];
+  };
+  hl = None;
+  depends = [];
+  nodes = no_trees;
+}
+
+abbrev asking : List ℕ → GuideTree
+asking convention = guide_with (Some convention)
+
+abbrev plain_guide : GuideTree
+plain_guide = guide_with None
 
 -- 5 and I5: no fault, neither; a code of each kind, one or both; 8 alone, neither; 8 with an element's code, that code's alone
 no_fault : fault_codes [] ≡ []
@@ -84,6 +111,24 @@ same_convention = refl
 empty_convention : convention_codes (Some (asking (codes "Y"))) (segment_of (codes "ST*850*0001*")) ≡ []
 empty_convention = refl
 
+-- separators alone are empty too, each kind; ^ is a byte as any where it separates nothing, and a text with separators is as it stands
+component_separator_alone : convention_codes (Some (asking (codes "CONV1"))) (segment_of (codes "ST*850*0001*>")) ≡ []
+component_separator_alone = refl
+
+repetition_separator_alone : convention_codes (Some (asking (codes "CONV1"))) (repeating (codes "ST*850*0001*^")) ≡ []
+repetition_separator_alone = refl
+
+separators_of_both_kinds : convention_codes (Some (asking (codes "CONV1"))) (repeating (codes "ST*850*0001*>^>")) ≡ []
+separators_of_both_kinds = refl
+
+byte_that_separates_nothing : convention_codes (Some (asking (codes "CONV1"))) (segment_of (codes "ST*850*0001*^"))
+    ≡ code.ConventionNotSupported ∷ []
+byte_that_separates_nothing = refl
+
+convention_and_separator : convention_codes (Some (asking (codes "CONV1"))) (segment_of (codes "ST*850*0001*CONV1>"))
+    ≡ code.ConventionNotSupported ∷ []
+convention_and_separator = refl
+
 convention_not_asked : convention_codes (Some plain_guide) (segment_of (codes "ST*850*0001*X")) ≡ []
 convention_not_asked = refl
 
@@ -103,11 +148,3 @@ first_of_six : set_codes_of faults_of_both (Some (asking (codes "Y"))) (segment_
     ≡ code.SegmentsInError ∷ code.ImplementationSegmentsInError ∷ code.TrailerMissing ∷ code.ControlNumberInvalid
     ∷ code.ControlNumberNotUnique ∷ []
 first_of_six = refl
-
--- where no guide is asked, neither its absence nor its convention gives a code
-not_asked : codes_of (segment_of (codes "ST*850*0001*X")) 3 (Some (segment_of (codes "SE*3*0001"))) false ≡ []
-not_asked = refl
-
-not_asked_earlier : codes_of (segment_of (codes "ST*850*0001*X")) 3 (Some (segment_of (codes "SE*3*0001"))) true
-    ≡ code.ControlNumberNotUnique ∷ []
-not_asked_earlier = refl

@@ -1,5 +1,5 @@
 -- 999 guide, implementation transaction set syntax error code (IK502): the codes of a set; which code stands for which fault is own.
-use Rattle.std.specs.Prelude.{ℕ, ◌==◌, Bool, true, false, not, nat_lt, List, [], ◌∷◌, ◌++◌, Option, Some, None, is_none, length, take}
+use Rattle.std.specs.Prelude.{ℕ, ◌==◌, Bool, true, false, not, ◌&&◌, nat_lt, List, [], ◌∷◌, ◌++◌, Option, Some, None, is_none, length, take}
 use Rattle.std.specs.List.{list_any}
 use Rattle.std.specs.Str.{bytes_eq}
 use Rattle.hub_kinds.specs.Codes.{segment_text, element_text}
@@ -10,8 +10,10 @@ use Rattle.hub_kinds.specs.declared.fault.ElemFault.{ElemFault}
 use Rattle.hub_kinds.specs.declared.fault.Fault.{Fault}
 use Rattle.hub_kinds.specs.declared.set_codes.SetCode.{SetCode}
 use Rattle.hub_kinds.specs.declared.set_codes.SetCode.TheVariants as code
-use Rattle.set_check.specs.declared.guide.SetGuide.{SetGuide}
+use Rattle.guide_tree.specs.Tree.{GuideTree}
+use Rattle.x12_bytes.specs.declared.delims.Delims.{Delims}
 use Rattle.x12_segs.specs.View.{SegValue, element_of}
+use Rattle.elem_rules.specs.Divided.{is_empty}
 
 -- the code, where there is cause for it
 abbrev pub code_if : Bool → SetCode → List SetCode
@@ -58,7 +60,7 @@ fault_codes faults =
     ++ code_if (list_any (λ f. has_i (telling f)) faults) code.ImplementationSegmentsInError
 
 -- 1: there is no guide for the set
-abbrev pub guide_codes : Option SetGuide → List SetCode
+abbrev pub guide_codes : Option GuideTree → List SetCode
 guide_codes guide = code_if (is_none guide) code.NotSupported
 
 -- the transaction set control number: ST02 of the header
@@ -101,22 +103,21 @@ envelope_codes header segments trailer =
 abbrev pub earlier_codes : Bool → List SetCode
 earlier_codes earlier = code_if earlier code.ControlNumberNotUnique
 
--- ST03 is there, and is another text than the convention
-abbrev pub is_other : Option (List ℕ) → List ℕ → Bool
-is_other None given = false
-is_other (Some convention) [] = false
-is_other (Some convention) (b ∷ bs) = not (bytes_eq (b ∷ bs) convention)
+-- ST03 isn't empty, and is another text than the convention
+abbrev pub is_other : Delims → Option (List ℕ) → List ℕ → Bool
+is_other delims None given = false
+is_other delims (Some convention) given = not (is_empty delims given) && not (bytes_eq given convention)
 
-abbrev pub has_other_convention : Option SetGuide → List ℕ → Bool
-has_other_convention None given = false
-has_other_convention (Some guide) given = is_other guide.convention given
+abbrev pub has_other_convention : Delims → Option GuideTree → List ℕ → Bool
+has_other_convention delims None given = false
+has_other_convention delims (Some guide) given = is_other delims guide.head.convention given
 
 -- I6: the guide has a convention, and ST03 names another
-abbrev pub convention_codes : Option SetGuide → SegValue → List SetCode
-convention_codes guide header = code_if (has_other_convention guide (element_of header 3)) code.ConventionNotSupported
+abbrev pub convention_codes : Option GuideTree → SegValue → List SetCode
+convention_codes guide header = code_if (has_other_convention header.delims guide (element_of header 3)) code.ConventionNotSupported
 
 -- all of a set's codes, in their order
-abbrev pub all_codes : List Fault → Option SetGuide → SegValue → ℕ → Option SegValue → Bool → List SetCode
+abbrev pub all_codes : List Fault → Option GuideTree → SegValue → ℕ → Option SegValue → Bool → List SetCode
 all_codes faults guide header segments trailer earlier =
     fault_codes faults ++ guide_codes guide ++ envelope_codes header segments trailer ++ earlier_codes earlier
     ++ convention_codes guide header
@@ -127,13 +128,5 @@ first_five codes = take 5 codes
 
 -- the codes of a set by its faults, its guide if it has one, its ST, its number of segments, its SE if it has one, and whether an
 -- earlier set of its group has its ST02
-abbrev pub set_codes_of : List Fault → Option SetGuide → SegValue → ℕ → Option SegValue → Bool → List SetCode
+abbrev pub set_codes_of : List Fault → Option GuideTree → SegValue → ℕ → Option SegValue → Bool → List SetCode
 set_codes_of faults guide header segments trailer earlier = first_five (all_codes faults guide header segments trailer earlier)
-
--- a guide without a convention
-abbrev pub plain_guide : SetGuide
-plain_guide = record { convention = None }
-
--- the same where the guide isn't asked: no fault is known, none of its codes comes
-abbrev pub codes_of : SegValue → ℕ → Option SegValue → Bool → List SetCode
-codes_of header segments trailer earlier = set_codes_of [] (Some plain_guide) header segments trailer earlier

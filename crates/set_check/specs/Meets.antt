@@ -1,11 +1,13 @@
 -- X12.6, transaction set: when a set meets its guide, looked at alone: a grammar, and what its elements, its HL segments and its
 -- dependencies keep to, with no cursor and no list of faults.
-use Rattle.std.specs.Prelude.{◌≡◌, ◌≤◌, ℕ, List, [], map, length, Option, Some, None, ◌⊎◌}
+use Rattle.std.specs.Prelude.{◌≡◌, ◌≤◌, ℕ, IsTrue, List, [], map, length, Option, Some, None, ◌⊎◌}
 use Rattle.std.specs.List.{Contains}
 use Rattle.hub_kinds.specs.Numbers.{number_of}
 use Rattle.hub_kinds.specs.declared.fault.ElemFault.{ElemFault}
 use Rattle.guide_tree.specs.Tree.{GuideTree}
 use Rattle.guide_tree.specs.Grammar.{Given, Derives}
+use Rattle.x12_bytes.specs.declared.delims.Delims.{Delims}
+use Rattle.elem_rules.specs.Divided.{is_empty}
 use Rattle.elem_rules.specs.ElementFaults.{IsElementFault}
 use Rattle.hl_check.specs.Hierarchy.{IsHierarchyWhole, hl_segments}
 use Rattle.depend_check.specs.Kept.{AreDependenciesKept}
@@ -14,9 +16,9 @@ use Rattle.set_check.specs.Codes.{control_of}
 use Rattle.set_check.specs.SetParts.{SetParts, segment_count}
 
 -- ST03 is empty or the guide's convention, where the guide has one
-abbrev pub MeetsConvention : Option (List ℕ) → List ℕ → Type 0
-MeetsConvention None given = Unit {0}
-MeetsConvention (Some convention) given = (given ≡ []) ⊎ (given ≡ convention)
+abbrev pub MeetsConvention : Delims → Option (List ℕ) → List ℕ → Type 0
+MeetsConvention delims None given = Unit {0}
+MeetsConvention delims (Some convention) given = IsTrue (is_empty delims given) ⊎ (given ≡ convention)
 
 -- The set has a guide, which derives its body, each segment with its slot; under these slots no element is at fault and the guide's
 -- dependencies are kept; its HL segments make a whole hierarchy; it has an SE, whose SE01 is 1 to 10 digits that write the number of
@@ -35,4 +37,4 @@ pub record MeetsAlone (guide : Option GuideTree) (parts : SetParts) : Type 0 whe
   pub counted : number_of 10 (element_of trailer 1) ≡ Some (segment_count parts)
   pub same_control : element_of trailer 2 ≡ control_of parts.header
   pub long_control : 4 ≤ length (control_of parts.header)
-  pub convention : MeetsConvention known.head.convention (element_of parts.header 3)
+  pub convention : MeetsConvention parts.header.delims known.head.convention (element_of parts.header 3)

@@ -18,7 +18,6 @@ use Rattle.elem_rules.specs.ElementFaults.{IsElementFault}
 use Rattle.loop_match.specs.LoopIds.{loop_id_of}
 use Rattle.hl_check.specs.Hierarchy.{IsHierarchyFault}
 use Rattle.depend_check.specs.Dependencies.{IsDependencyFault}
-use Rattle.set_check.specs.declared.guide.SetGuide.{SetGuide}
 use Rattle.set_check.specs.Codes.{set_codes_of}
 use Rattle.set_check.specs.SetParts.{SetParts, segment_count, end_position}
 
@@ -71,14 +70,10 @@ IsSetFault (Some g) parts f = IsFaultUnder g parts (placing_of g.nodes parts.bod
 abbrev pub AreSetFaults : Option GuideTree → SetParts → List Fault → Type 0
 AreSetFaults guide parts faults = (f : Fault) → Contains faults f ↔ IsSetFault guide parts f
 
--- what a guide says of a set as a whole
-abbrev pub as_set_guide : GuideTree → SetGuide
-as_set_guide g = record { convention = g.head.convention }
-
 -- the codes of a set that has these faults, and whose ST02 an earlier set of its group may have
 abbrev pub codes_where : Option GuideTree → SetParts → List Fault → (earlier : Bool) → List SetCode
 codes_where guide parts faults earlier =
-    set_codes_of faults (option_map as_set_guide guide) parts.header (segment_count parts) parts.trailer earlier
+    set_codes_of faults guide parts.header (segment_count parts) parts.trailer earlier
 
 -- the same where that isn't asked
 abbrev pub codes_with : Option GuideTree → SetParts → List Fault → List SetCode

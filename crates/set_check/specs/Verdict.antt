@@ -14,11 +14,6 @@ use Rattle.guide_tree.specs.Tree.{GuideTree}
 use Rattle.set_check.specs.SetParts.{SetParts}
 use Rattle.set_check.specs.SetFaults.{codes_where}
 
--- of a set whose segments aren't checked: accepted without a code; none of these codes is tolerated
-abbrev pub verdict_of : List SetCode → Verdict
-verdict_of [] = Accepted
-verdict_of (code ∷ codes) = Rejected
-
 -- 5 and I5 tell of faults in the segments, each other code of something else
 abbrev pub tells_of_faults : SetCode → Bool
 tells_of_faults code.SegmentsInError = true

@@ -12,7 +12,6 @@ use crate::body::body_faults;
 use crate::checked::CheckedSet;
 use crate::codes::set_codes;
 use crate::envelope::envelope_of;
-use crate::guide::set_guide_of;
 use crate::segments::segments_of;
 use guide_tree::Guide;
 use hub_kinds::{Fault, NoMemory};
@@ -39,12 +38,11 @@ pub fn check_set<'a>(
 {
     let segs = segments_of(alloc, text, &set)?;
     let faults = set_faults(alloc, &set, segs.as_slice(), guide)?;
-    let known = set_guide_of(guide);
     let envelope = envelope_of(set.closed, segs);
     let codes = set_codes(
         alloc,
         faults.as_slice(),
-        known.as_ref(),
+        guide,
         &envelope.header,
         envelope.segments,
         envelope.trailer.as_ref(),

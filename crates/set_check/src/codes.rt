@@ -3,11 +3,13 @@ ghost use Rattle.std.specs.Option.{option_copied};
 ghost use Rattle.hub_kinds.specs.declared.set_codes.SetCode.TheVariants.{ControlNumbersDiffer, SegmentCountWrong};
 ghost use Rattle.set_check.specs.Codes.{code_if, control_of, envelope_codes, fault_codes, has_other_control, has_other_count};
 ghost use Rattle.set_check.specs.Codes.{set_codes_of};
-ghost use Rattle.x12_segs.specs.View.{SegValue, element_of};
+ghost use Rattle.set_check.specs.Checked.{said_by};
+ghost use Rattle.set_check.specs.MeetsLaw.{IsWellGuided};
+ghost use Rattle.x12_segs.specs.View.{SegValue};
 
 use crate::convention::has_other_convention;
 use crate::faults::{has_base_fault, has_implementation_fault};
-use crate::guide::SetGuide;
+use guide_tree::Guide;
 use hub_kinds::{Fault, NoMemory, SetCode, read_number};
 use std::alloc::Global;
 use x12_segs::SegView;
@@ -22,49 +24,26 @@ const COUNT_DIGITS: usize = 10;
 /// The codes of a set, in their order, the first five (999 guide, IK502): by its faults, its guide
 /// if it has one, its ST, how many segments it has with ST and SE, its SE if it has one, and
 /// whether an earlier set of its group has its ST02. The only error is want of memory.
-pub fn set_codes(
+pub(crate) fn set_codes(
     alloc: Global,
     faults: &[Fault],
-    guide: Option<&SetGuide>,
+    guide: Option<&Guide>,
     header: &SegView,
     segments: u64,
     trailer: Option<&SegView>,
     earlier: bool,
 ) -> Result<Vec<SetCode>, NoMemory>
-    ensures { IfOk result (λ codes. codes.items
-        ≡ set_codes_of faults.now (option_copied guide.entry) header.now segments (option_copied trailer.entry) earlier) }
+    ensures codes { IfOk result (λ codes. codes.items
+        ≡ set_codes_of faults.now (said_by (option_copied guide.entry)) header.now segments (option_copied trailer.entry) earlier) }
+    ensures sound { IfOk result (λ _. IsWellGuided (said_by (option_copied guide.entry))) }
 {
-    codes_by(
-        alloc,
-        faults,
-        guide,
-        header.first_elements(),
-        segments,
-        trailer,
-        earlier,
-    )
-}
-
-/// The same by ST01, ST02 and ST03.
-pub(crate) fn codes_by(
-    alloc: Global,
-    faults: &[Fault],
-    guide: Option<&SetGuide>,
-    header: (&[u8], &[u8], &[u8]),
-    segments: u64,
-    trailer: Option<&SegView>,
-    earlier: bool,
-) -> Result<Vec<SetCode>, NoMemory>
-    ensures { IfOk result (λ codes. (st : SegValue) → control_of st ≡ header.entry.1.now → element_of st 3 ≡ header.entry.2.now
-        → codes.items ≡ set_codes_of faults.now (option_copied guide.entry) st segments (option_copied trailer.entry) earlier) }
-{
-    let (_, control, convention) = header;
+    let (_, control, convention) = header.first_elements();
     let mut codes = Vec::new(alloc);
     add_fault_codes(&mut codes, faults)?;
     add_if(&mut codes, guide.is_none(), SetCode::NotSupported)?;
     add_envelope_codes(&mut codes, control, segments, trailer)?;
     add_if(&mut codes, earlier, SetCode::ControlNumberNotUnique)?;
-    let other = has_other_convention(guide, convention);
+    let other = has_other_convention(header.delims(), guide, convention);
     add_if(&mut codes, other, SetCode::ConventionNotSupported)?;
     codes.truncate(MOST_CODES);
     Ok(codes)

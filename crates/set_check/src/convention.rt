@@ -1,25 +1,30 @@
 ghost use Rattle.std.specs.Prelude.{◌≡◌};
 ghost use Rattle.std.specs.Option.{option_copied};
+ghost use Rattle.set_check.specs.Checked.{said_by};
 ghost use Rattle.set_check.specs.Codes.{has_other_convention, is_other};
+ghost use Rattle.set_check.specs.MeetsLaw.{IsWellGuided};
 
-use crate::guide::SetGuide;
-use hub_kinds::Lent;
+use elem_rules::is_empty;
+use guide_tree::Guide;
+use hub_kinds::Text;
+use x12_bytes::Delims;
 
-/// Whether the guide has a convention, and ST03 names another.
-pub fn has_other_convention(guide: Option<&SetGuide>, given: &[u8]) -> bool
-    ensures { result ≡ has_other_convention (option_copied guide.entry) given.now }
+/// Whether the guide has a convention, and ST03 names another. A guide is well formed: it was checked when it was made.
+pub(crate) fn has_other_convention(delims: Delims, guide: Option<&Guide>, given: &[u8]) -> bool
+    ensures value { result ≡ has_other_convention delims (said_by (option_copied guide.entry)) given.now }
+    ensures sound { IsWellGuided (said_by (option_copied guide.entry)) }
 {
     match guide {
-        Some(guide) => is_other(&guide.convention, given),
+        Some(guide) => is_other(delims, &guide.rows().head.convention, given),
         None => false,
     }
 }
 
-fn is_other(convention: &Option<Lent>, given: &[u8]) -> bool
-    ensures { result ≡ is_other convention.now given.now }
+fn is_other(delims: Delims, convention: &Option<Text>, given: &[u8]) -> bool
+    ensures { result ≡ is_other delims convention.now given.now }
 {
     match convention {
-        Some(convention) => !given.is_empty() && given != convention.bytes(),
+        Some(convention) => !is_empty(delims, given) && given != convention.as_slice(),
         None => false,
     }
 }

@@ -10,25 +10,14 @@
 //! - `verdict` is accepted exactly where the set meets its guide and no earlier set of its group has its ST02, and accepted with
 //!   errors exactly where all codes tell of faults and the guide tolerates each fault; `into_answer` is what an acknowledgment
 //!   reads of the set;
-//! - `set_codes` gives exactly the codes that hold of a set, in their order, the first five;
-//! - `answer_set`, for a set whose segments aren't checked, gives these codes, the verdict accepted exactly where there is
-//!   none, and ST01, ST02 and ST03 as they stand;
 //! - `clean_sets_meet_their_guides` and `accepted_sets_meet_their_guides` are the laws of this by the definitions alone, and a set
 //!   is checked in one way (`checks_are_one`).
 //!
 //! A set without a guide has code 1 and no fault: none of its segments is checked. The segments are found once.
 //!
 //! X12.6, transaction set, header (ST) and trailer (SE); 999 guide, IK3 to IK5.
-//!
-//! As its trial, the crate `trial_texts`, calls it:
-//!
-//! ```rust
-//! let answer = answer_set(rt.alloc(), &header, 4, Some(&trailer), false)?;
-//! assert_eq!(rt; answer.identifier.bytes(), b"850".as_slice());
-//! ```
 #![tactic(auto)]
 
-mod answer;
 mod body;
 mod check;
 mod checked;
@@ -37,16 +26,12 @@ mod convention;
 mod elements;
 mod envelope;
 mod faults;
-mod guide;
 mod law;
 mod rules;
 mod segments;
 mod tolerance;
 mod verdict;
 
-pub use answer::answer_set;
 pub use check::check_set;
 pub use checked::CheckedSet;
-pub use codes::set_codes;
-pub use guide::SetGuide;
 pub use law::{accepted_sets_meet_their_guides, checks_are_one, clean_sets_meet_their_guides};

@@ -8,7 +8,6 @@ ghost use Rattle.set_check.specs.Verdict.{tells_of_faults, tolerates, verdict_on
 
 use crate::checked::{CheckedSet, is_nothing_found};
 use crate::codes::set_codes;
-use crate::guide::set_guide_of;
 use crate::tolerance::tolerates;
 use guide_tree::Guide;
 use hub_kinds::{Fault, Items, Lent, NoMemory, SetAnswer, SetCode, Verdict};
@@ -42,12 +41,11 @@ impl<'a> CheckedSet<'a> {
         ensures { IfOk result (λ answer. answer ≡ answer_to self.entry earlier) }
     {
         let verdict = self.verdict(earlier);
-        let known = set_guide_of(self.guide);
         let envelope = self.envelope;
         let codes = set_codes(
             alloc,
             self.faults.as_slice(),
-            known.as_ref(),
+            self.guide,
             &envelope.header,
             envelope.segments,
             envelope.trailer.as_ref(),

@@ -169,5 +169,13 @@ fn shows_help(rt: HostRuntime) -> Result<(), Fail> {
     for option in ["--setup", "--guide", "--counters", "--at", "--in", "--out"] {
         assert!(rt; text.as_str().contains(option), "{option}");
     }
+    for told in [
+        "NAME.ack and NAME.box",
+        "counters.toml",
+        "1  a whole night; see its report",
+        "6  no memory",
+    ] {
+        assert!(rt; text.as_str().contains(told), "{told}");
+    }
     Ok(())
 }

@@ -123,8 +123,10 @@ fn expect_nested(alloc: Global, cases: &[(u8, Option<GuideFault>)]) -> Result<()
 #[test]
 fn limits(rt: HostRuntime) -> Result<(), Fail> {
     expect_nested(rt.alloc(), NESTED)?;
-    let found = fault_of_many(rt.alloc(), 2_001)?;
-    expect(rt.alloc(), found, Some(GuideFault::TooMany))
+    let most = fault_of_many(rt.alloc(), 2_000)?;
+    expect(rt.alloc(), most, None)?;
+    let more = fault_of_many(rt.alloc(), 2_001)?;
+    expect(rt.alloc(), more, Some(GuideFault::TooMany))
 }
 
 /// The numbers of the nodes and of what is in them, parents first.

@@ -3,7 +3,7 @@ use super::setups::two_partners;
 use super::{accepted, held, refused, rejected};
 use elem_rules::At;
 use hub_kinds::{Counters, Text};
-use hub_run::{Night, run_plain};
+use hub_run::{Night, RunFault, run_plain};
 use night_report::is_clean;
 use partner_setup::Setup;
 use std::alloc::{AllocError, Global};
@@ -126,4 +126,14 @@ fn nights_of_what_nobody_can_check(rt: HostRuntime) -> Result<(), Fail> {
 #[test]
 fn nights_of_rejected_sets(rt: HostRuntime) -> Result<(), Fail> {
     expect_nights(rt.alloc(), rejected::NIGHTS)
+}
+
+/// Why a run gives nothing, by numbers.
+const NUMBERS: &[(RunFault, u32)] = &[(RunFault::InputTooLong, 1), (RunFault::NoMemory, 2)];
+
+#[test]
+fn numbers_of_runs_that_give_nothing(rt: HostRuntime) {
+    for (fault, number) in NUMBERS {
+        assert_eq!(rt; fault.number(), *number);
+    }
 }

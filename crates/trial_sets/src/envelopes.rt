@@ -59,6 +59,11 @@ const CONVENTIONS: Cases = &[
     ["", " clean\n"],
     ["*", " clean\n"],
     ["*HUB1", " clean\n"],
+    // separators alone are empty, and behind other bytes they are bytes as any
+    ["*>", " clean\n"],
+    ["*^", " clean\n"],
+    ["*^>>", " clean\n"],
+    ["*HUB1>", " I6\n"],
     ["*HUB2", " I6\n"],
     ["*HUB", " I6\n"],
 ];

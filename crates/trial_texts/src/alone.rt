@@ -1,7 +1,7 @@
 //! Texts that are one interchange and nothing else.
 use crate::interchanges::{ORDER, ORDER_IN_LINES, joined};
 use crate::texts::holds;
-use env_index::{Interchange, judge, read_lone};
+use env_index::{Interchange, judge_interchange, read_lone};
 use std::alloc::Global;
 use std::test::Fail;
 
@@ -54,7 +54,7 @@ fn tells_an_interchange_that_is_alone(rt: HostRuntime) -> Result<(), Fail> {
 }
 
 fn is_sound(lines: &Interchange) -> bool {
-    (lines.start(), lines.end()) == (0, 250) && judge(lines).is_none()
+    (lines.start(), lines.end()) == (0, 250) && judge_interchange(lines).is_none()
 }
 
 #[test]

@@ -7,7 +7,8 @@ use crate::interchanges::{
 use crate::texts::{holds, same};
 use env_index::{
     Interchange, chain_is_one, end_is_least, envelope_is_mapped, envelope_is_of_kinds,
-    envelope_is_one, envelope_is_there, index_is_one, judge, read_interchange, sets_stand_alone,
+    envelope_is_one, envelope_is_there, index_is_one, judge_interchange, read_interchange,
+    sets_stand_alone,
 };
 use hub_kinds::InterchangeFault;
 use std::alloc::Global;
@@ -122,7 +123,7 @@ fn kept_of(found: &Interchange) -> Seen {
         notices: found.notices(),
         misplaced: found.is_misplaced(),
         groups: found.group_count(),
-        fault: judge(found),
+        fault: judge_interchange(found),
     }
 }
 

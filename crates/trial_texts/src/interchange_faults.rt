@@ -1,6 +1,6 @@
 //! The faults of interchanges: the least is told.
 use crate::interchanges::{HEADER, LETTER_IN_CONTROL, joined, read};
-use env_index::judge;
+use env_index::judge_interchange;
 use hub_kinds::InterchangeFault;
 use std::alloc::Global;
 use std::test::Fail;
@@ -75,7 +75,7 @@ const CASES: &[Case] = &[
 fn fault(alloc: Global, header: &[u8], segments: &[u8]) -> Result<Option<InterchangeFault>, Fail> {
     let text = joined(alloc, header, segments)?;
     let found = read(alloc, &text, 0)?;
-    Ok(judge(&found))
+    Ok(judge_interchange(&found))
 }
 
 fn expect_fault(alloc: Global, case: &Case) -> Result<(), Fail> {

@@ -1,7 +1,6 @@
-//! The trial of what reads a text, x12_bytes, x12_segs, hub_kinds and env_index, and of what set_check answers to a set whose segments
-//! aren't checked: texts read through their public calls, with the answers that the standard and the 999 guide give for
-//! them. Beside it the trials of what is written, x12_write and ack_999 (`acknowledgments`), and of count_numbers (`numbers`). It has
-//! no code of its own.
+//! The trial of what reads a text, x12_bytes, x12_segs, hub_kinds and env_index: texts read through their public calls, with the answers
+//! that the standard and the 999 guide give for them. Beside it the trials of what is written, x12_write and ack_999 (`acknowledgments`),
+//! and of count_numbers, whose tallies are gathered from pieces by env_marks (`numbers`). It has no code of its own.
 //!
 //! X12.5, interchange control header, functional groups and transaction sets; X12.6, data segment and data element; 999 guide, the code
 //! lists of IK304, IK403, IK501, IK502, AK901 and AK905.
@@ -11,10 +10,6 @@
 mod acknowledgments;
 #[cfg(test)]
 mod alone;
-#[cfg(test)]
-mod answers;
-#[cfg(test)]
-mod codes;
 #[cfg(test)]
 mod envelopes;
 #[cfg(test)]

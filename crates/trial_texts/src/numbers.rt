@@ -1,8 +1,11 @@
-//! The trial of count_numbers: what a night leaves of a partner, in one stretch and cut anywhere, and the numbers that
-//! follow from it.
+//! The trial of count_numbers: what a night leaves of a partner, and of two partners, in one stretch and cut anywhere, and the
+//! numbers that follow from it.
 //!
 //! X12.5, interchange control number; X12.6, functional group and transaction set control number.
-use count_numbers::{PartnerNumbers, Run, RunKey, Tally, numbers_for};
+ghost use Rattle.std.specs.Prelude.{◌≡◌, length};
+
+use count_numbers::{Numbers, PartnerNumbers, Run, RunKey, Tallies, Tally, numbers_for};
+use env_marks::gather;
 use hub_kinds::{Counters, Lent, NoMemory};
 use std::alloc::Global;
 use std::test::Fail;
@@ -98,16 +101,20 @@ const CASES: &[Case] = &[
     },
 ];
 
+fn key_of(sender: u32, kind: &'static [u8]) -> RunKey<'static> {
+    RunKey {
+        sender,
+        functional_id: Lent::new(kind),
+        version: Lent::new(b"005010"),
+    }
+}
+
 fn tally_of(alloc: Global, events: &[Event]) -> Result<Tally<'static>, NoMemory> {
     let mut tally = Tally::new(alloc);
     for event in events {
         match event {
             Event::Acknowledgment => tally.acknowledge(),
-            Event::Delivery(sender, kind) => tally.deliver(RunKey {
-                sender: *sender,
-                functional_id: Lent::new(kind),
-                version: Lent::new(b"005010"),
-            })?,
+            Event::Delivery(sender, kind) => tally.deliver(key_of(*sender, kind))?,
         }
     }
     Ok(tally)
@@ -130,7 +137,7 @@ fn have_lengths(runs: &[Run<'_>], lengths: &[u64]) -> bool {
 fn tally_of_cut(alloc: Global, events: &[Event], cut: usize) -> Result<Tally<'static>, NoMemory> {
     let (front, back) = events.split_at(cut.min(events.len()));
     let front = tally_of(alloc, front)?;
-    front.join(tally_of(alloc, back)?)
+    front.append(tally_of(alloc, back)?)
 }
 
 const GREATEST: u32 = 999_999_999;
@@ -166,6 +173,106 @@ fn numbers_follow_wherever_events_are_cut(rt: HostRuntime) -> Result<(), Fail> {
     for case in CASES {
         for cut in 0..=case.events.len() {
             assert!(rt; is_as_told(alloc, case, cut)?);
+        }
+    }
+    Ok(())
+}
+
+/// What happens for two partners, in the order of the text.
+const HAPPENINGS: &[(usize, Event)] = &[
+    (1, Event::Delivery(0, b"PO")),
+    (0, Event::Acknowledgment),
+    (1, Event::Delivery(0, b"PO")),
+    (0, Event::Delivery(1, b"SH")),
+    (1, Event::Acknowledgment),
+    (1, Event::Delivery(0, b"PO")),
+    (0, Event::Delivery(1, b"SH")),
+    (0, Event::Acknowledgment),
+    (1, Event::Delivery(0, b"SH")),
+    (0, Event::Delivery(1, b"SH")),
+];
+
+/// Their numbers, of two sets at most in an interchange for the first and three for the second.
+const OF_TWO: &[PartnerNumbers] = &[
+    PartnerNumbers {
+        first_acknowledgment: 5,
+        first_delivered: 7,
+        first_set: 20,
+        delivered: 2,
+        sets: 3,
+        next: Counters {
+            interchange: 9,
+            set: 23,
+        },
+    },
+    PartnerNumbers {
+        first_acknowledgment: 999_999_998,
+        first_delivered: 999_999_999,
+        first_set: 999_999_999,
+        delivered: 2,
+        sets: 4,
+        next: Counters {
+            interchange: 2,
+            set: 4,
+        },
+    },
+];
+
+fn tallies_of(alloc: Global, events: &[(usize, Event)]) -> Result<Tallies<'static>, NoMemory> {
+    let mut tallies = Tallies::new(alloc, 2)?;
+    for (partner, event) in events {
+        if *partner >= tallies.list().len() {
+            continue;
+        }
+        match event {
+            Event::Acknowledgment => tallies.acknowledge(*partner),
+            Event::Delivery(sender, kind) => tallies.deliver(*partner, key_of(*sender, kind))?,
+        }
+    }
+    Ok(tallies)
+}
+
+/// The tallies of events that are cut twice, gathered from the three pieces.
+fn gathered(
+    alloc: Global,
+    events: &[(usize, Event)],
+    first: usize,
+    more: usize,
+) -> Result<Tallies<'static>, NoMemory> {
+    let (front, rest) = events.split_at(first.min(events.len()));
+    let (middle, back) = rest.split_at(more.min(rest.len()));
+    let front = tallies_of(alloc, front)?;
+    let middle = tallies_of(alloc, middle)?;
+    let back = tallies_of(alloc, back)?;
+    gather(alloc, Vec::from_array(alloc, [front, middle, back])?)
+}
+
+fn numbers_of_two(alloc: Global, tallies: &[Tally<'_>]) -> Result<Numbers, NoMemory>
+    requires { length tallies.now ≡ 2 }
+{
+    let first = Counters {
+        interchange: 5,
+        set: 20,
+    };
+    let second = Counters {
+        interchange: 999_999_998,
+        set: 999_999_999,
+    };
+    numbers_for(alloc, tallies, &[first, second], &[2, 3])
+}
+
+#[test]
+fn partners_numbers_follow_wherever_events_are_cut(rt: HostRuntime) -> Result<(), Fail> {
+    let alloc = rt.alloc();
+    for first in 0..=HAPPENINGS.len() {
+        for more in 0..=HAPPENINGS.len() {
+            let all = gathered(alloc, HAPPENINGS, first, more)?;
+            let tallies = all.list();
+            assert!(rt; tallies.len() == 2);
+            if tallies.len() == 2 {
+                let numbers = numbers_of_two(alloc, tallies)?;
+                assert!(rt; numbers.as_slice() == OF_TWO);
+            }
         }
     }
     Ok(())

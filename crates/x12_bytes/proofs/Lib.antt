@@ -1,1 +1,2 @@
 pub mod Testing
+mod WorkedLayout

@@ -3,7 +3,8 @@
 //! allocated; a `Header` lends its bytes from the text.
 //!
 //! Proved:
-//! - `read_header` finds a header exactly where one begins, and lends exactly its 106 bytes;
+//! - `read_header` finds a header exactly where one begins, and lends exactly its 106 bytes; so does
+//!   `header_there`, without a test, where one is known to begin;
 //! - each field is the bytes behind its separator, and holds neither the separator nor the
 //!   terminator;
 //! - the delimiters are those that the header names, ISA11 only where it can separate;
@@ -14,8 +15,12 @@
 //! As its trial, the crate `trial_texts`, calls it:
 //!
 //! ```rust
-//! let header = read_header(BOLT, 0).ok_or("no header")?;
-//! assert_eq!(rt; header.delims().repetition, None);
+//! fn has_delims(text: &[u8], delims: Delims) -> bool {
+//!     match read_header(text, 0) {
+//!         None => false,
+//!         Some(header) => header.delims() == delims,
+//!     }
+//! }
 //! ```
 #![tactic(auto)]
 
@@ -23,11 +28,15 @@ mod bytes;
 mod delims;
 mod header;
 mod layout;
+mod pair;
+mod piece;
 mod read;
 mod spaces;
 
 pub use delims::Delims;
 pub use header::Header;
 pub use layout::HEADER_LEN;
-pub use read::{head_is_tested, read_header};
+pub use pair::Pair;
+pub use piece::Piece;
+pub use read::{head_is_tested, header_there, read_header};
 pub use spaces::without_trailing_spaces;

@@ -1,4 +1,4 @@
-ghost use Rattle.std.specs.Prelude.{◌≡◌, ◌↔◌, ◌≤◌, ℕ, List, IsSome, IfSome, IsTrue, is_some, length};
+ghost use Rattle.std.specs.Prelude.{◌≡◌, ◌↔◌, ◌≤◌, true, ℕ, List, IsSome, IfSome, IsTrue, is_some, length};
 ghost use Rattle.x12_bytes.specs.Header.{Head, HasFields, IsFieldAt, IsHeader, header_at};
 ghost use Rattle.x12_bytes.specs.HeaderTest.{is_head};
 ghost use Rattle.x12_bytes.specs.declared.layout.TheConstants.{HEADER_LEN};
@@ -72,4 +72,12 @@ fn is_field_at(bytes: &[u8], k: usize) -> bool
         && layout::field(bytes, k)
             .iter()
             .all(|b| *b != element && *b != terminator)
+}
+
+/// The header that is known to begin at this offset of the text (X12.5, ISA): it isn't tested again.
+pub fn header_there(text: &[u8], at: usize) -> Header<'_>
+    requires { is_head text.now at ≡ true }
+    ensures { result ≡ header_at text.now at }
+{
+    Header::new(&text[at..at + HEADER_LEN])
 }

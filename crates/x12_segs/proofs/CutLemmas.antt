@@ -7,9 +7,9 @@ use Rattle.std.proofs.lemmas.List.{take-append-drop, take_more}
 use Rattle.std.proofs.lemmas.List.Splits.{length-slice_split, slice_split-cons_yes}
 use Rattle.x12_bytes.specs.Bytes.{is_line_end}
 use Rattle.x12_segs.specs.Parts.{parts}
-use Rattle.x12_segs.specs.Segs.{Seg, part_at, segs_of, segs_from}
+use Rattle.x12_segs.specs.Segs.{Seg, part_at, segs_of, segs_from, rest_of, rest_from}
 use Rattle.x12_segs.specs.Runs.{moved_by}
-use Rattle.x12_segs.proofs.SegLemmas.{segs_of-cons}
+use Rattle.x12_segs.proofs.SegLemmas.{segs_of-cons, rest_of-cons}
 
 split-append_step : (b : Bool) (x : ℕ) (list qs : List (List ℕ)) → 0 < length list
     → cond b ([] ∷ (list ++ qs)) (onto_first x (list ++ qs)) ≡ cond b ([] ∷ list) (onto_first x list) ++ qs
@@ -111,3 +111,32 @@ segs_from-cut text t s n below is =
     ∙ ap (λ (l : List (List ℕ)). segs_of s l ++ segs_of (s + span_of ps) qs) (sym front_parts)
     ∙ ap (λ k. segs_of s (parts t (slice_range text s (s + n + 1))) ++ segs_of k qs) end
     ∙ ap (λ (l : List ℕ). segs_of s (parts t (slice_range text s (s + n + 1))) ++ segs_of (s + n + 1) (parts t l)) behind
+
+-- the rest of parts, from one part on
+rest_of-append : (place : ℕ) (ps qs : List (List ℕ)) → 0 < length qs → rest_of place (ps ++ qs) ≡ rest_of (place + span_of ps) qs
+rest_of-append place [] qs some = ap (λ n. rest_of n qs) (let e : place ≡ place + 0 = omega arith in e)
+rest_of-append place (part ∷ ps) qs some =
+    let next : ℕ = place + length part + 1 in
+    let ends : next + span_of ps ≡ place + (length part + 1 + span_of ps) = omega arith in
+    rest_of-cons place part (ps ++ qs) (omega (arith, length-append ps qs))
+    ∙ rest_of-append next ps qs some ∙ ap (λ n. rest_of n qs) ends
+
+-- the rest of a text that is cut behind a terminator is that behind the cut
+pub rest_from-cut : (text : List ℕ) (t s n : ℕ) → s + n < length text → get_or text (s + n) 0 ≡ t
+    → rest_from text t s ≡ rest_from text t (s + n + 1)
+rest_from-cut text t s n below is =
+    let rest : List ℕ = drop s text in
+    let xs : List ℕ = take n rest in
+    let ys : List ℕ = drop (n + 1) rest in
+    let room : length rest ≡ length text - s = length-drop s text in
+    let at : get_or rest n 0 ≡ t = get_or-drop s text n 0 ∙ is in
+    let whole : rest ≡ xs ++ t ∷ ys = round_element rest n (omega arith) ∙ ap (λ (b : ℕ). xs ++ b ∷ ys) at in
+    let long : length xs ≡ n = length-take-le n rest (omega arith) in
+    let end : s + span_of (parts t xs) ≡ s + n + 1 = omega (arith, span-split (λ b. nat_eq b t) xs) in
+    let behind : ys ≡ drop (s + n + 1) text = drop-drop (n + 1) s text
+    ∙ ap (λ k. drop k text) (let sum : s + (n + 1) ≡ s + n + 1 = omega arith in sum) in
+    ap (λ (l : List ℕ). rest_of s (parts t l)) whole
+    ∙ ap (rest_of s) (parts-append t xs ys)
+    ∙ rest_of-append s (parts t xs) (parts t ys) (omega (arith, length-slice_split (λ b. nat_eq b t) ys))
+    ∙ ap (λ k. rest_of k (parts t ys)) end
+    ∙ ap (λ (l : List ℕ). rest_of (s + n + 1) (parts t l)) behind

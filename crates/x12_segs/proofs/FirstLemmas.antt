@@ -19,7 +19,7 @@ taken-first None all left took = sym (ap first_of took.0)
 taken-first (Some k) all left took = sym (ap first_of took)
 
 -- the search that always has an answer
-first_byte : (t : ℕ) (xs : List ℕ) → (r : Option ℕ) × IsFirstByte (is_byte t) xs r
+pub first_byte : (t : ℕ) (xs : List ℕ) → (r : Option ℕ) × IsFirstByte (is_byte t) xs r
 first_byte t xs =
     let p : ℕ → Bool = λ b. nat_eq b t in
     let k : ℕ = position_or_len p xs in
@@ -69,6 +69,8 @@ pub record IsFirstSeg (text : List ℕ) (t from : ℕ) (seg : Seg) (more : List 
   pub terminated : get_or text (seg.start + length seg.bytes) 0 ≡ t
   pub alone : segs_from text t seg.start ≡ seg ∷ more
   pub behind : segs_from text t (seg.start + length seg.bytes + 1) ≡ more
+  pub is : seg ≡ seg_at text seg.start (seg.start + length seg.bytes)
+  pub some : 0 < length seg.bytes
 
 -- a part without CR and LF at its front is its segment
 segs_from-here : (text : List ℕ) (t at len : ℕ) → IsCut text t at len → 0 < len
@@ -145,6 +147,8 @@ seg_found text t from len seg more fits h lt is =
       terminated = rw stop (sym (get_or-drop from text len 0) ∙ byte);
       alone = segs_from-inside text t from len fits h lead refl (omega arith);
       behind = ap (λ n. segs_from text t (n + 1)) stop;
+      is = ap (seg_at text (from + lead)) (sym stop);
+      some = omega arith;
     } in
     subst (λ (s : Seg). IsFirstSeg text t from s more) same_seg (subst (λ (m : List Seg). IsFirstSeg text t from here m) same_more base)
 
@@ -184,5 +188,13 @@ first_seg (suc fuel) text t from seg more measure fits is =
       | inr w ↦
           let found : IsFirstSeg text t w.0 seg more = first_seg fuel text t w.0 seg more (omega (arith, w.1, w.2, measure)) w.2 w.3 in
           let start : w.0 ≤ seg.start = found.start in
-          record { start = omega (arith, w.1); end = found.end; terminated = found.terminated; alone = found.alone; behind = found.behind }
+          record {
+            start = omega (arith, w.1);
+            end = found.end;
+            terminated = found.terminated;
+            alone = found.alone;
+            behind = found.behind;
+            is = found.is;
+            some = found.some;
+          }
     ]

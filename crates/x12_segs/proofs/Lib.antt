@@ -6,3 +6,4 @@ pub mod PartLemmas
 pub mod RunLemmas
 pub mod SegLemmas
 mod WorkedSpans
+pub mod ShortIds

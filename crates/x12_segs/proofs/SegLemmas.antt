@@ -20,7 +20,7 @@ pub segs_of-cons : (place : ℕ) (part : List ℕ) (more : List (List ℕ)) → 
 segs_of-cons place part [] h = absurd (omega (arith, h))
 segs_of-cons place part (next ∷ more) h = refl
 
-rest_of-cons : (place : ℕ) (part : List ℕ) (more : List (List ℕ)) → 0 < length more
+pub rest_of-cons : (place : ℕ) (part : List ℕ) (more : List (List ℕ)) → 0 < length more
     → rest_of place (part ∷ more) ≡ rest_of (place + length part + 1) more
 rest_of-cons place part [] h = absurd (omega (arith, h))
 rest_of-cons place part (next ∷ more) h = refl

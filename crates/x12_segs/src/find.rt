@@ -2,10 +2,10 @@ ghost use Rattle.memchr.specs.Find.{IsFirstByte, is_byte};
 
 use memchr::{memchr, memchr_iter};
 
-/// The first place of a byte in a text, where it is likely to be near: most segments are short. It stands in the walk over a
-/// text, so that what it prepares is prepared once.
+/// The offset of the first byte of this value in a text, where it is likely to be near: most segments are short. It stands in
+/// the walk over a text, so that what it prepares is prepared once.
 #[inline(always)]
-pub(crate) fn find_near(byte: u8, text: &[u8]) -> Option<usize>
+pub fn find_near(byte: u8, text: &[u8]) -> Option<usize>
     ensures { IsFirstByte (is_byte byte) text.now result }
 {
     memchr_iter(byte, text).next()
@@ -14,9 +14,9 @@ pub(crate) fn find_near(byte: u8, text: &[u8]) -> Option<usize>
 /// How many bytes are looked at one by one: most elements are shorter.
 const NEAR: usize = 16;
 
-/// The first place of a byte in a text, of any length: near its front by itself, else by a search.
+/// The offset of the first byte of this value in a text of any length: near its front by itself, else by a search.
 #[inline(always)]
-pub(crate) fn find(byte: u8, text: &[u8]) -> Option<usize>
+pub fn find_byte(byte: u8, text: &[u8]) -> Option<usize>
     ensures { IsFirstByte (is_byte byte) text.now result }
 {
     for at in 0..text.len().min(NEAR) {

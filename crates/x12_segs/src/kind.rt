@@ -1,5 +1,7 @@
 ghost use Rattle.std.specs.Prelude.{◌≡◌};
 ghost use Rattle.x12_segs.specs.Kinds.{kind_by_id, kind_of};
+ghost use Rattle.x12_segs.specs.Parts.{parts};
+ghost use Rattle.x12_segs.specs.View.{part_or_empty};
 ghost use Rattle.x12_segs.specs.Letters.{begins_as_control};
 
 use crate::view::SegView;
@@ -31,7 +33,7 @@ pub fn kind_of(segment: &SegView<'_>) -> Kind
     if !begins_as_control(segment.bytes()) {
         return Kind::Other;
     }
-    kind_by_id(segment.id())
+    kind_by_id(short_id(segment.bytes(), segment.delims().element))
 }
 
 /// Whether a segment begins with a letter with which a control segment's id begins.
@@ -42,6 +44,19 @@ fn begins_as_control(bytes: &[u8]) -> bool
         Some(first) => matches!(*first, b'I' | b'G' | b'S' | b'T'),
         None => false,
     }
+}
+
+/// A segment's id, or its first four bytes where it is longer: no control segment's id is.
+fn short_id(bytes: &[u8], element: u8) -> &[u8]
+    ensures { kind_by_id result.now ≡ kind_by_id (part_or_empty (parts element bytes.now) 0) }
+{
+    let most = bytes.len().min(4);
+    for at in 0..most {
+        if bytes[at] == element {
+            return &bytes[..at];
+        }
+    }
+    &bytes[..most]
 }
 
 fn kind_by_id(id: &[u8]) -> Kind

@@ -9,7 +9,8 @@
 //! - id, elements, occurrences and components are exactly the texts between the separators, one by
 //!   one and by number; one that isn't there is the empty text;
 //! - a run of segments, cut out of its text, reads as the same run;
-//! - `kind_of` tells a segment's kind by its id, and a span of the text lends just its segments.
+//! - `kind_of` tells a segment's kind by its id, and a span of the text lends just its segments;
+//! - `find_byte` and `find_near` give the first place of a byte, or none where it doesn't stand.
 //!
 //! X12.6, data segment, data element and their separators, control segments, transaction set; X12.5,
 //! interchange control segments.
@@ -17,8 +18,16 @@
 //! As its trial, the crate `trial_texts`, calls it:
 //!
 //! ```rust
-//! let segment = first_segment(DIVIDED).ok_or("no segment")?;
-//! assert_eq!(rt; segment.occurrence(1, 2), b"2>3".as_slice());
+//! const DIVIDED: &[u8] = b"A*1^2>3**4~";
+//! ...
+//! fn first_segment(text: &[u8]) -> Option<SegView<'_>> {
+//!     segments(text, DELIMS).next()
+//! }
+//! ...
+//! let Some(segment) = first_segment(DIVIDED) else {
+//!     return Err("no segment".into());
+//! };
+//! same(rt.alloc(), segment.occurrence(1, 2), b"2>3")?;
 //! ```
 #![tactic(auto)]
 
@@ -36,6 +45,7 @@ mod set_span;
 mod view;
 
 pub use divide::{components, occurrences};
+pub use find::{find_byte, find_near};
 pub use kind::{Kind, kind_of};
 pub use lend::segments;
 pub use line_ends::lead;

@@ -2,7 +2,7 @@ ghost use Rattle.std.specs.Prelude.{◌≡◌, ◌+◌, ◌<◌, ◌≤◌, ℕ,
 ghost use Rattle.std.specs.Iterator.{YieldsFirstRef, item_count};
 ghost use Rattle.x12_segs.specs.Parts.{parts_by, parts_left};
 
-use crate::find::find;
+use crate::find::find_byte;
 use std::marker::Model;
 
 /// The parts of a text round a separator that are still to come, each lent from the text. Without
@@ -67,7 +67,7 @@ pub(crate) fn first_end(text: &[u8], separator: Option<u8>) -> Option<usize>
         (λ end. (end < length text.now) × (parts_by separator text.now
         ≡ take end text.now ∷ parts_by separator (drop (end + 1) text.now))) }
 {
-    find(separator?, text)
+    find_byte(separator?, text)
 }
 
 /// Part `n` of a text, counted from 0; one that isn't there is the empty text.

@@ -1,4 +1,4 @@
-use Rattle.std.proofs.Common.{◌≡◌, ℕ, ◌+◌, List, [], ◌∷◌, ◌++◌, Some, length, refl, sym, ap, subst, ◌∙◌, arith, length-append}
+use Rattle.std.proofs.Common.{◌≡◌, ℕ, ◌+◌, drop, List, [], ◌∷◌, ◌++◌, Some, length, refl, sym, ap, subst, ◌∙◌, arith, length-append}
 use Rattle.std.specs.Prelude.{slice_get}
 use Rattle.std.proofs.lemmas.Option.{slice_get_read}
 use Rattle.env_index.specs.Index.{IndexEntry}
@@ -8,39 +8,59 @@ use Rattle.checked_text.specs.CheckedText.{AnsweredInterchange, IsAnswered, judg
 use Rattle.checked_text.proofs.Growing.{at_index, map_snoc}
 use Rattle.checked_text.proofs.Pairing.{no_pairs, pairs_more}
 use Rattle.checked_text.proofs.Starting.{none_yet, room_left}
+use Rattle.checked_text.proofs.Taking.{drop_one_more}
 use Rattle.checked_text.proofs.walk.answer_each.Goals as goal
 
 pub loop-i-init : goal.loop-i-init
-loop-i-init c = (
+loop-i-init g c = (
   [],
   no_pairs (λ n e x. IsAnswered c.args.index.now.text c.args.setup.now e x) c.args.index.now.entries,
   refl,
   c.new-interchanges.ensures.items,
   none_yet c.args.setup.now c.args.at.now c.args.files.now c.requires.empty,
+  c.requires.serves,
 )
 
-pub answer_interchange-requires-clause-spans : goal.answer_interchange-requires-clause-spans
-answer_interchange-requires-clause-spans c =
+pub answer_interchange-requires : goal.answer_interchange-requires
+answer_interchange-requires g c =
+    let entries : List IndexEntry = c.args.index.now.entries in
+    let done = c.loop-i.invariant in
     let read : slice_get c.interchanges-entries.result.now c.loop-i.i ≡ Some c.index-entries-i.result =
     slice_get_read c.interchanges-entries.result.now _ c.loop-i.i c.index-entries-i.result refl c.loop-i-test.true c.index-entries-i.is in
-    subst (λ (text : List ℕ). HasSpans text c.index-entries-i.result.interchange) (sym c.text-text.ensures)
-    (at_index (λ (e : IndexEntry). HasSpans c.args.index.now.text e.interchange) c.args.index.now.entries c.loop-i.i
-    c.index-entries-i.result
-    (ap (λ (es : List IndexEntry). slice_get es c.loop-i.i) (sym c.interchanges-entries.ensures.value) ∙ read) c.requires.spans)
-
-pub answer_interchange-requires-clause-room : goal.answer_interchange-requires-clause-room
-answer_interchange-requires-clause-room c n f there =
-    let done = c.loop-i.invariant in
-    let count = room_left c.args.setup.now c.args.at.now done.0 c.loop-i.files n f c.loop-i.i done.4 there done.2 in
-    let entries = ap (λ (es : List IndexEntry). length es) c.interchanges-entries.ensures.value in
-    omega (arith, count, entries, c.loop-i-test.true, c.interchanges-entries.ensures.few)
+    let there : slice_get entries c.loop-i.i ≡ Some c.index-entries-i.result =
+    ap (λ (es : List IndexEntry). slice_get es c.loop-i.i) (sym c.interchanges-entries.ensures.value) ∙ read in
+    λ k. (
+      (refl, (refl, tt)),
+      (
+        subst (λ (text : List ℕ). HasSpans text c.index-entries-i.result.interchange) (sym c.text-text.ensures)
+            (at_index (λ (e : IndexEntry). HasSpans c.args.index.now.text e.interchange) entries c.loop-i.i c.index-entries-i.result there
+            c.requires.spans),
+        (
+          (
+            drop (c.loop-i.i + 1) entries,
+            subst (λ (text : List ℕ). g.S.AnswerSource.serves c.loop-i.source text c.args.setup.now (c.index-entries-i.result ∷ drop
+                (c.loop-i.i + 1) entries))
+                (sym c.text-text.ensures)
+                (subst (λ (es : List IndexEntry). g.S.AnswerSource.serves c.loop-i.source c.args.index.now.text c.args.setup.now es)
+                (drop_one_more entries c.loop-i.i c.index-entries-i.result there) done.5),
+          ),
+          (
+            done.4.count,
+            λ n f at.
+                let count = room_left c.args.setup.now c.args.at.now done.0 c.loop-i.files n f c.loop-i.i done.4 at done.2 in
+                let entry_count = ap (λ (es : List IndexEntry). length es) c.interchanges-entries.ensures.value in
+                omega (arith, count, entry_count, c.loop-i-test.true, c.interchanges-entries.ensures.few),
+          ),
+        ),
+      ),
+    )
 
 pub loop-i-preserved : goal.loop-i-preserved
-loop-i-preserved c =
+loop-i-preserved g c =
     let entries : List IndexEntry = c.args.index.now.entries in
     let done : List AnsweredInterchange = c.loop-i.invariant.0 in
     let counted : length done ≡ c.loop-i.i = c.loop-i.invariant.2 in
-    let next = c.in_ok-judged.ensures in
+    let next = c.in_ok-judged.ensures.answered in
     let R = λ (n : ℕ) (e : IndexEntry) (x : AnsweredInterchange). IsAnswered c.args.index.now.text c.args.setup.now e x in
     let read : slice_get c.interchanges-entries.result.now c.loop-i.i ≡ Some c.index-entries-i.result =
     slice_get_read c.interchanges-entries.result.now _ c.loop-i.i c.index-entries-i.result refl c.loop-i-test.true c.index-entries-i.is in
@@ -58,10 +78,19 @@ loop-i-preserved c =
           ∙ ap (λ (js : List JudgedValue). js ++ judged c.args.index.now.text next.answered ∷ []) c.loop-i.invariant.3
           ∙ sym (map_snoc (judged c.args.index.now.text) done next.answered),
       next.acknowledged done c.loop-i.invariant.4,
+      subst (λ (text : List ℕ). g.S.AnswerSource.serves c.answer_interchange.new.source text c.args.setup.now
+          (drop (c.loop-i.i + 1) entries))
+          c.text-text.ensures
+          (c.in_ok-judged.ensures.serves (drop (c.loop-i.i + 1) entries)
+          (subst (λ (text : List ℕ). g.S.AnswerSource.serves c.loop-i.source text c.args.setup.now (c.index-entries-i.result ∷ drop
+          (c.loop-i.i + 1) entries)) (sym c.text-text.ensures)
+          (subst (λ (es : List IndexEntry). g.S.AnswerSource.serves c.loop-i.source c.args.index.now.text c.args.setup.now es)
+          (drop_one_more entries c.loop-i.i c.index-entries-i.result (ap (λ (n : ℕ). slice_get entries n) (sym counted) ∙ there))
+          c.loop-i.invariant.5))),
     )
 
 pub returns : goal.returns
-returns c = record {
+returns g c = record {
   answered = c.loop-i.invariant.0;
   are = record {
     count = omega (

@@ -1,4 +1,4 @@
-use Rattle.count_numbers.proofs.Tallying.{laws}
+use Rattle.count_numbers.specs.Tallying.{laws}
 use Rattle.count_numbers.proofs.laws.tally_laws.Goals as goal
 
 pub returns : goal.returns

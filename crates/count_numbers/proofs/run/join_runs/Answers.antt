@@ -3,7 +3,7 @@ use Rattle.std.specs.Prelude.{slice_index_or}
 use Rattle.std.specs.List.{remove}
 use Rattle.count_numbers.specs.declared.run.Run.{Run}
 use Rattle.count_numbers.specs.Runs.{join_runs}
-use Rattle.count_numbers.proofs.Joining.{join_first, join_nil}
+use Rattle.count_numbers.specs.Joining.{join_first, join_nil}
 use Rattle.count_numbers.proofs.run.join_runs.Goals as goal
 
 none_left : (back : List Run) → (length back == 0) ≡ true → back ≡ []

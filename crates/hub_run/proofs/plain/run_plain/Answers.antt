@@ -1,3 +1,4 @@
+use Rattle.hub_run.proofs.Delivered.{boxes_read_by_night}
 use Rattle.hub_run.proofs.ReadingNights.{read_by_night}
 use Rattle.hub_run.proofs.TellingNights.{told_by_night}
 use Rattle.hub_run.proofs.plain.run_plain.Goals as goal
@@ -10,3 +11,8 @@ pub returns-clause-read : goal.returns-clause-read
 returns-clause-read c =
     read_by_night c.args.text.now c.args.setup.now c.args.at.now c.in_ok-night.night c.are_sound.ensures.setup c.are_sound.ensures.moment
     c.in_ok-night.ensures
+
+pub returns-clause-found : goal.returns-clause-found
+returns-clause-found c =
+    boxes_read_by_night c.args.text.now c.args.setup.now c.args.at.now c.in_ok-night.night c.are_sound.ensures.setup
+    c.are_sound.ensures.moment c.in_ok-night.ensures

@@ -3,7 +3,10 @@ use Rattle.std.specs.List.{Contains}
 use Rattle.hub_kinds.specs.declared.fault.Fault.{Fault}
 use Rattle.x12_segs.specs.View.{elements_of}
 use Rattle.guide_tree.specs.View.{guide_of, nodes_view}
+use Rattle.guide_tree.specs.Places.{IsPlacing}
+use Rattle.guide_law.proofs.Computed.{is_placing}
 use Rattle.guide_law.proofs.Faulty.{members}
+use Rattle.guide_law.proofs.Placed.{triggers}
 use Rattle.loop_match.specs.Given.{place_in, slot_in}
 use Rattle.loop_match.proofs.Numbered.{found_keyed}
 use Rattle.loop_match.proofs.Giving.{places_given, slots_given}
@@ -13,6 +16,13 @@ pub returns-clause-places : goal.returns-clause-places
 returns-clause-places c =
     ap (map place_in) c.in_ok-pass.ensures.given
     ∙ places_given (nodes_view c.args.guide.now.nodes.items) None (map elements_of c.args.segs.now)
+
+pub returns-clause-placing : goal.returns-clause-placing
+returns-clause-placing c =
+    let ts = nodes_view c.args.guide.now.nodes.items in
+    let body = map elements_of c.args.segs.now in
+    subst (IsPlacing ts None body) (sym (returns-clause-places c))
+    (is_placing ts (triggers (guide_of c.args.guide.now) c.in_ok-pass.ensures.accepted.well_formed) body)
 
 pub returns-clause-slots : goal.returns-clause-slots
 returns-clause-slots c =

@@ -1,5 +1,5 @@
-use Rattle.std.proofs.Common.{map}
-use Rattle.night_command.proofs.Failing.{names, night_named, text_shown}
+use Rattle.std.proofs.Common.{inl, inr, map}
+use Rattle.night_command.proofs.Failing.{asked_for, names, night_named, text_shown}
 use Rattle.night_command.proofs.night.night_main.Goals as goal
 
 pub returns-in-Ok-Run-clause-setup : goal.returns-in-Ok-Run-clause-setup
@@ -19,3 +19,13 @@ pub returns-in-Ok-Show-clause-printed : goal.returns-in-Ok-Show-clause-printed
 returns-in-Ok-Show-clause-printed g c done =
     text_shown (map g.S.AsStr.text c.args.words.now) c.in-Ok-Show.field-0 c.in-Ok-Show.text c.finish.result _ _ c.in-Ok-Show.field-0-is
     c.in-Ok-Show.ensures.asked done c.finish.ensures.status c.finish.ensures.printed
+
+pub returns-in-Ok-Run-clause-output : goal.returns-in-Ok-Run-clause-output
+returns-in-Ok-Run-clause-output g c five =
+    inl (names (map g.S.AsStr.text c.args.words.now) c.in-Ok-Run.field-0 c.in-Ok-Run.options c.in-Ok-Run.field-0-is
+    c.in-Ok-Run.ensures.asked)
+
+pub returns-in-Ok-Show-clause-output : goal.returns-in-Ok-Show-clause-output
+returns-in-Ok-Show-clause-output g c five =
+    inr (asked_for (map g.S.AsStr.text c.args.words.now) c.in-Ok-Show.field-0 c.in-Ok-Show.text c.in-Ok-Show.field-0-is
+    c.in-Ok-Show.ensures.asked)

@@ -1,7 +1,8 @@
-use Rattle.std.proofs.Common.{◌≡◌, ◌++◌, drop}
+use Rattle.std.proofs.Common.{◌≡◌, ◌++◌, drop, length}
 use Rattle.std.specs.List.{flat_map}
 use Rattle.night_report.specs.Adding.{added, group_totals}
 use Rattle.night_report.specs.Report.{group_lines, shown_from}
+use Rattle.night_report.specs.Room.{HasRoom, IsOfInterchanges}
 use Rattle.night_report.proofs.groups.append_groups.Given as goal
 
 abbrev pub invariant-loop-n : goal.invariant-loop-n
@@ -10,6 +11,8 @@ invariant-loop-n l =
       text : l.out.items
           ++ flat_map (group_lines l.setup) (shown_from l.interchange l.n (drop l.n l.interchange.interchange.content.groups))
           ≡ l.initial.out.items ++ flat_map (group_lines l.setup) (shown_from l.interchange 0 l.interchange.interchange.content.groups);
+      room : HasRoom l.totals (length l.initial.out.items) (length l.out.items);
+      of_one : IsOfInterchanges l.totals 1;
       totals : added (group_totals l.setup) l.totals (shown_from l.interchange l.n (drop l.n l.interchange.interchange.content.groups))
           ≡ added (group_totals l.setup) l.initial.totals (shown_from l.interchange 0 l.interchange.interchange.content.groups);
     }

@@ -1,4 +1,4 @@
-use Rattle.std.proofs.Common.{◌≡◌, ◌++◌, ◌+◌, drop}
+use Rattle.std.proofs.Common.{◌≡◌, ◌≤◌, ◌++◌, ◌+◌, drop, length}
 use Rattle.std.specs.List.{flat_map, sum_by}
 use Rattle.mailbox.specs.Judged.{sets_from}
 use Rattle.night_report.specs.Adding.{shown_at}
@@ -11,6 +11,7 @@ invariant-loop-i l =
     record {
       text : l.out.items ++ flat_map (held_lines l.setup) (sets_from l.interchange g.group g.standing l.i (drop l.i g.group.sets))
           ≡ l.initial.out.items ++ flat_map (held_lines l.setup) (sets_in g);
+      room : length l.initial.out.items + l.held ≤ length l.out.items;
       held : l.held + sum_by (held_count l.setup) (sets_from l.interchange g.group g.standing l.i (drop l.i g.group.sets))
           ≡ sum_by (held_count l.setup) (sets_in g);
     }

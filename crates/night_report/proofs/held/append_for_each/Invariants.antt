@@ -1,4 +1,4 @@
-use Rattle.std.proofs.Common.{◌≡◌, ◌++◌, map, take}
+use Rattle.std.proofs.Common.{◌≡◌, ◌≤◌, ◌+◌, ◌++◌, length, map, take}
 use Rattle.std.specs.List.{flat_map, count_by}
 use Rattle.mailbox.specs.Deliveries.{is_held, outcome_at}
 use Rattle.night_report.specs.Report.{outcome_line}
@@ -9,5 +9,6 @@ invariant-loop-to l =
     record {
       text : l.out.items ≡ l.initial.out.items
           ++ flat_map (outcome_line l.ordinal) (map (outcome_at l.setup l.placed) (take l.to-index l.route));
+      room : length l.initial.out.items + l.held ≤ length l.out.items;
       held : l.held ≡ count_by is_held (map (outcome_at l.setup l.placed) (take l.to-index l.route));
     }

@@ -1,7 +1,10 @@
-use Rattle.std.proofs.Common.{◌+◌, ◌≤◌, length, ap, sym, ◌∙◌, arith}
+use Rattle.std.proofs.Common.{◌+◌, ◌≤◌, length, ap, sym, subst, ◌∙◌, arith}
 use Rattle.std.proofs.lemmas.List.{drop_all}
 use Rattle.night_report.specs.Adding.{added, interchange_totals}
+use Rattle.night_report.specs.Room.{HasRoom}
+use Rattle.night_report.specs.declared.totals.Totals.{Totals}
 use Rattle.night_report.proofs.Counting.{totals_are_added}
+use Rattle.night_report.proofs.Room.{room_goes_on}
 use Rattle.night_report.proofs.Walking.{lines_on, added_on}
 use Rattle.night_report.proofs.report.append_all.Goals as goal
 
@@ -15,8 +18,27 @@ loop-i-preserved c =
           c.loop-i-test.true
           c.index-interchanges-i.is c.in_ok-of_this.ensures.text c.loop-i.invariant.text;
       totals =
-          added_on (interchange_totals c.args.setup.now) xs c.loop-i.i x c.loop-i.totals c.in_ok-of_this.of_this c.in_ok-totals.totals _
-          c.loop-i-test.true c.index-interchanges-i.is c.in_ok-of_this.ensures.totals c.in_ok-totals.ensures c.loop-i.invariant.totals;
+          added_on (interchange_totals c.args.setup.now) xs c.loop-i.i x c.loop-i.totals c.in_ok-of_this.of_this c.with-totals.result _
+          c.loop-i-test.true c.index-interchanges-i.is c.in_ok-of_this.ensures.totals c.with-totals.ensures c.loop-i.invariant.totals;
+      room =
+          subst (λ (t : Totals). HasRoom t (length c.args.out.now.items) (length c.append_interchange.new.out.items))
+          (sym c.with-totals.ensures)
+          (room_goes_on c.loop-i.totals c.in_ok-of_this.of_this (length c.args.out.now.items) (length c.loop-i.out.items)
+          (length c.append_interchange.new.out.items) c.loop-i.invariant.room c.in_ok-of_this.ensures.room);
+      of_those = (
+        omega (
+          arith,
+          ap (λ (t : Totals). t.interchanges) c.with-totals.ensures,
+          c.loop-i.invariant.of_those.0,
+          c.in_ok-of_this.ensures.of_one.0,
+        ),
+        omega (
+          arith,
+          ap (λ (t : Totals). t.refused) c.with-totals.ensures,
+          c.loop-i.invariant.of_those.1,
+          c.in_ok-of_this.ensures.of_one.1,
+        ),
+      );
     }
 
 pub returns-clause-totals : goal.returns-clause-totals

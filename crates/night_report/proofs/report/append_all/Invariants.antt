@@ -1,6 +1,7 @@
-use Rattle.std.proofs.Common.{◌≡◌, ◌++◌, ◌+◌, drop}
+use Rattle.std.proofs.Common.{◌≡◌, ◌++◌, ◌+◌, drop, length}
 use Rattle.night_report.specs.Adding.{added, none, interchange_totals}
 use Rattle.night_report.specs.Report.{all_lines}
+use Rattle.night_report.specs.Room.{HasRoom, IsOfInterchanges}
 use Rattle.night_report.proofs.report.append_all.Given as goal
 
 abbrev pub invariant-loop-i : goal.invariant-loop-i
@@ -8,6 +9,8 @@ invariant-loop-i l =
     record {
       text : l.out.items ++ all_lines l.setup (l.i + 1) (drop l.i l.interchanges)
           ≡ l.initial.out.items ++ all_lines l.setup 1 l.interchanges;
+      room : HasRoom l.totals (length l.initial.out.items) (length l.out.items);
+      of_those : IsOfInterchanges l.totals l.i;
       totals : added (interchange_totals l.setup) l.totals (drop l.i l.interchanges)
           ≡ added (interchange_totals l.setup) none l.interchanges;
     }

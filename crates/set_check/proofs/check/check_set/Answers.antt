@@ -19,12 +19,12 @@ pub invariant_of-result : goal.invariant_of-result
 invariant_of-result c =
     let parts = parts_of c.args.set.delims c.args.set.closed in
     put_down c.args.text.now c.args.set (option_copied c.args.guide) c.in_ok-segs.segs.items c.in_ok-faults.faults.items
-    c.as_slice-2.result.now (option_copied c.as_ref.result) c.envelope_of-envelope.result (option_copied c.as_ref-2.result)
-    c.in_ok-codes.codes.items c.in_ok-segs.ensures c.set_guide_of-known.ensures.sound
+    c.as_slice-2.result.now c.envelope_of-envelope.result (option_copied c.as_ref.result)
+    c.in_ok-codes.codes.items c.in_ok-segs.ensures c.in_ok-codes.ensures.sound
     (subst (λ (x : List SegValue). AreSetFaults (said_by (option_copied c.args.guide)) (parts x) c.in_ok-faults.faults.items)
     c.as_slice.ensures.value c.in_ok-faults.ensures.exact)
     c.in_ok-faults.ensures.rising (c.envelope_of-envelope.ensures c.args.set.delims) c.as_slice-2.ensures.value
-    (c.as_ref.ensures.value ∙ c.set_guide_of-known.ensures.value) c.as_ref-2.ensures.value c.in_ok-codes.ensures
+    c.as_ref.ensures.value c.in_ok-codes.ensures.codes
 
 pub returns-clause-meets : goal.returns-clause-meets
 returns-clause-meets c = clean_as_met _ (invariant_of-result c).0

@@ -1,4 +1,7 @@
-use Rattle.std.proofs.Common.{◌≡◌, false, sym, ap, ◌∙◌, arith}
+use Rattle.std.proofs.Common.{◌≡◌, ℕ, List, false, sym, ap, ◌∙◌, arith}
+use Rattle.x12_bytes.specs.declared.delims.Delims.{Delims}
+use Rattle.x12_segs.specs.Parts.{parts}
+use Rattle.x12_segs.specs.View.{part_or_empty}
 use Rattle.std.proofs.lemmas.Grind.{common_steps}
 use Rattle.x12_segs.specs.Kinds.{kind_by_id, kind_of}
 use Rattle.x12_segs.specs.Letters.{begins_as_control}
@@ -12,4 +15,7 @@ returns-then-not-begins_as_control c =
 
 pub returns : goal.returns
 unfolding kind_of
-returns c = c.kind_by_id.ensures ∙ ap kind_by_id c.id.ensures.value
+returns c =
+    c.kind_by_id.ensures ∙ c.short_id.ensures
+    ∙ ap (λ (d : Delims). kind_by_id (part_or_empty (parts d.element c.bytes-2.result.now) 0)) c.delims.ensures
+    ∙ ap (λ (bytes : List ℕ). kind_by_id (part_or_empty (parts c.args.segment.now.delims.element bytes) 0)) c.bytes-2.ensures

@@ -4,4 +4,4 @@ use Rattle.x12_segs.proofs.parts.first_end.Goals as goal
 
 pub returns : goal.returns
 returns c =
-    parts_by-first c.args.separator c.in_ok-separator.field-0 c.args.text.now c.find.result (search rules) c.find.ensures
+    parts_by-first c.args.separator c.in_ok-separator.field-0 c.args.text.now c.find_byte.result (search rules) c.find_byte.ensures

@@ -1,5 +1,5 @@
 use Rattle.std.proofs.Common.{◌∙◌}
-use Rattle.count_numbers.proofs.Tallying.{acknowledgment_more}
+use Rattle.count_numbers.specs.Tallying.{acknowledgment_more}
 use Rattle.count_numbers.proofs.tally.Tally.acknowledge.Goals as goal
 
 pub returns : goal.returns

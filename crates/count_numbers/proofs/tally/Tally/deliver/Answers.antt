@@ -1,6 +1,6 @@
 use Rattle.std.proofs.Common.{◌∙◌}
 use Rattle.std.proofs.lemmas.Result.{on_ok_weaker}
-use Rattle.count_numbers.proofs.Tallying.{set_more}
+use Rattle.count_numbers.specs.Tallying.{set_more}
 use Rattle.count_numbers.proofs.tally.Tally.deliver.Goals as goal
 
 pub returns-clause-counted : goal.returns-clause-counted

@@ -1,0 +1,19 @@
+use crate::run::RunKey;
+
+/// What happens for a partner, in the order of the text.
+#[derive(Debug, Drop)]
+pub enum Entry<'a> {
+    /// An acknowledgment.
+    Acknowledged,
+    /// A set that is delivered to it.
+    Delivered(RunKey<'a>),
+}
+
+/// What happens for one of the partners of a setup.
+#[derive(Debug, Drop)]
+pub struct PartnerEntry<'a> {
+    /// The partner, by its place in the setup.
+    pub partner: usize,
+    /// What happens for it.
+    pub entry: Entry<'a>,
+}

@@ -1,0 +1,4 @@
+pub mod Pieces
+pub mod Steps
+pub mod Whole
+mod Worked

@@ -1,0 +1,5 @@
+pub mod IdLens
+pub mod Gathered
+pub mod PartSteps
+pub mod Guesses
+mod Worked

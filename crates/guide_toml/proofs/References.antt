@@ -1,0 +1,300 @@
+-- The rows that a guide file writes have reference numbers of digits, or none.
+use Rattle.std.proofs.Common.{◌≡◌, ◌⊎◌, inl, inr, ℕ, ◌+◌, List, [], ◌∷◌, Option, Some, None, Result, Ok, Err, Bool, true, false}
+use Rattle.std.proofs.Common.{option_map, refl, sym, ap, subst, codes, if◌then◌else◌}
+use Rattle.std.specs.declared.cmp.Ordering.{Ordering}
+use Rattle.std.specs.declared.cmp.Ordering.TheVariants as ordering
+use Rattle.std.specs.List.{All}
+use Rattle.std.specs.Str.{bytes_eq}
+use Rattle.std.specs.Ordering.{nat_cmp, match_ordering}
+use Rattle.std.specs.Cmp.Lexicographic.{slice_cmp}
+use Rattle.std.proofs.lemmas.List.Elements.{All-cons, All-nil}
+use Rattle.std.proofs.lemmas.Option.{option_and_then_some}
+use Rattle.toml.specs.Data.{Data, string, integer, float, boolean, datetime, array, table}
+use Rattle.toml.specs.Data.{Items, no_items, item, Members, no_members, member, get_member, as_array, as_str}
+use Rattle.hub_kinds.specs.Numbers.{is_number}
+use Rattle.guide_tree.specs.declared.element.Component.{Component}
+use Rattle.guide_tree.specs.declared.element.Component.TheVariants as component
+use Rattle.guide_tree.specs.declared.element.Element.{Element}
+use Rattle.guide_tree.specs.declared.element.Element.TheVariants as element
+use Rattle.guide_tree.specs.declared.element.Requirement.{Requirement}
+use Rattle.guide_tree.specs.declared.element.SimpleRow.{SimpleRow}
+use Rattle.guide_tree.specs.declared.slot.Slot.{Slot}
+use Rattle.guide_tree.specs.declared.rows.GuideRows.{GuideRows}
+use Rattle.guide_tree.specs.Tree.{EachIn, EachNode, GuideTree, Tree, Trees, count_in, loop, no_trees, numbered, numbered_in}
+use Rattle.guide_tree.specs.Tree.{segment, tree}
+use Rattle.guide_tree.specs.View.{guide_of}
+use Rattle.guide_toml.specs.declared.element_text.Measure.{Measure}
+use Rattle.guide_toml.specs.declared.keys.TableKind.TheVariants as kind
+use Rattle.guide_toml.specs.declared.nodes.NodeKind.{NodeKind}
+use Rattle.guide_toml.specs.declared.nodes.NodeKind.TheVariants as node
+use Rattle.guide_toml.specs.Answers.{Answers}
+use Rattle.guide_toml.specs.ElementTexts.{Tokens, alone, component_of, components_behind, components_of, composite_of, element_in}
+use Rattle.guide_toml.specs.ElementTexts.{element_of, measure_of, next_token, no_more, reference_of, requirement_of, row_of}
+use Rattle.guide_toml.specs.ElementTexts.{simple_of, take_repeat, used_component, used_element}
+use Rattle.guide_toml.specs.Entries.{condition_of, pick_of}
+use Rattle.guide_toml.specs.Guides.{dependencies_in, guide_of_table, head_of, hl_in, inner_in, known, list_in, loop_of, node_by, node_in}
+use Rattle.guide_toml.specs.Guides.{node_kind, nodes_in, segment_of}
+use Rattle.guide_toml.specs.Keys.{if_known, keys_of, least_unknown}
+use Rattle.guide_toml.specs.Reads.{◌>>=◌}
+use Rattle.guide_toml.specs.Refusals.{Refusal, unknown, wrong_kind}
+use Rattle.guide_toml.specs.References.{HasReference, HasReferences, HasReferencesIn, IsReference, WritesReferences}
+use Rattle.guide_toml.specs.Tables.{◌>>=◌ as ◌⊳◌, asked, count_in as number_in, each_item, optional, required, required_of, some_table}
+use Rattle.guide_toml.specs.Tables.{some_word_in, tables_in, text_item, texts_in}
+use Rattle.guide_toml.specs.Tokens.{groups_of}
+
+abbrev ok : {A : Type 0} → A → Result A Refusal
+ok x = Ok x
+
+of_result : {A : Type 0} (x y : A) → ok x ≡ ok y → x ≡ y
+of_result x y e = cc
+
+-- what each step of a reading gave
+of_step : {A B P : Type 0} (f : A → Option B) (o : Option A) (y : B) → (o >>= f) ≡ Some y
+    → ((x : A) → o ≡ Some x → f x ≡ Some y → P) → P
+of_step = option_and_then_some
+
+of_map : {A B P : Type 0} (f : A → B) (o : Option A) (y : B) → option_map f o ≡ Some y → ((x : A) → o ≡ Some x → f x ≡ y → P) → P
+of_map f None y e k = let no : None ≡ Some y = e in cc
+of_map f (Some x) y e k = k x refl (let is : Some (f x) ≡ Some y = e in cc)
+
+of_ok : {A B P : Type 0} (f : A → Result B Refusal) (r : Result A Refusal) (y : B) → (r ⊳ f) ≡ Ok y
+    → ((x : A) → r ≡ Ok x → f x ≡ Ok y → P) → P
+of_ok f (Ok x) y e k = k x refl e
+of_ok f (Err r) y e k = let no : Err r ≡ Ok y = e in cc
+
+reference_by : (dash digits : Bool) (t reference : List ℕ) → is_number 4 t ≡ digits
+    → (if dash then Some [] else (if digits then Some t else None)) ≡ Some reference → IsReference reference
+reference_by true digits t reference h e = let is : Some [] ≡ Some reference = e in inl cc
+reference_by false true t reference h e =
+    let is : Some t ≡ Some reference = e in
+    let same : t ≡ reference = cc in
+    inr (subst (λ (x : List ℕ). is_number 4 x ≡ true) same h)
+reference_by false false t reference h e = let no : None ≡ Some reference = e in cc
+
+has_reference : (t reference : List ℕ) → reference_of t ≡ Some reference → IsReference reference
+has_reference t reference e = reference_by (bytes_eq t (codes "-")) (is_number 4 t) t reference refl e
+
+same_row : (reference : List ℕ) (req : Requirement) (m : Measure) (ts : Tokens) (row : SimpleRow) → row_of reference req m ts ≡ Some row
+    → reference ≡ row.reference
+same_row reference req m ts row e = of_map _ _ row e (λ c is same. ap (λ (r : SimpleRow). r.reference) same)
+
+row_has : (reference : List ℕ) (req : Requirement) (m : Measure) (ts : Tokens) (row : SimpleRow) → row_of reference req m ts ≡ Some row
+    → IsReference reference → IsReference row.reference
+row_has reference req m ts row e has = subst IsReference (same_row reference req m ts row e) has
+
+component_is : (c d : Component) → Some c ≡ Some d → HasReference c → HasReference d
+component_is c d e has = let same : c ≡ d = cc in subst HasReference same has
+
+element_is : (c d : Element) → Some c ≡ Some d → HasReferences c → HasReferences d
+element_is c d e has = let same : c ≡ d = cc in subst HasReferences same has
+
+no_more_is : {A : Type 0} (x y : A) (ts : Tokens) → no_more x ts ≡ Some y → Some x ≡ Some y
+no_more_is x y [] e = e
+no_more_is x y (t ∷ ts) e = let no : None ≡ Some y = e in cc
+
+used_component_has : (reference word : List ℕ) (ts : Tokens) (c : Component) → used_component reference word ts ≡ Some c
+    → IsReference reference → HasReference c
+unfolding used_component
+used_component_has reference word ts c e has =
+    of_step _ (requirement_of word) c e (λ req is_req e1. of_step _ (measure_of ts) c e1 (λ (m : Measure × Tokens) is_m e2.
+    of_step _ (row_of reference req m.0 m.1) c e2 (λ row is_row e3.
+    component_is (component.Simple row) c e3 (row_has reference req m.0 m.1 row is_row has))))
+
+component_by : (b : Bool) (reference word : List ℕ) (ts : Tokens) (c : Component)
+    → (if b then no_more (component.NotUsed reference) ts else used_component reference word ts) ≡ Some c → IsReference reference
+    → HasReference c
+component_by true reference word ts c e has =
+    component_is (component.NotUsed reference) c (no_more_is (component.NotUsed reference) c ts e) has
+component_by false reference word ts c e has = used_component_has reference word ts c e has
+
+component_has : (ts : Tokens) (c : Component) → component_of ts ≡ Some c → HasReference c
+unfolding component_of
+component_has ts c e =
+    of_step _ (next_token ts) c e (λ (r : List ℕ × Tokens) is_r e1. of_step _ (reference_of r.0) c e1 (λ reference is_reference e2.
+    of_step _ (next_token r.1) c e2 (λ (u : List ℕ × Tokens) is_u e3.
+    component_by (bytes_eq u.0 (codes "N")) reference u.0 u.1 c e3 (has_reference r.0 reference is_reference))))
+
+none_of_any : {A : Type 0} (P : A → Type 0) (xs : List A) → Some [] ≡ Some xs → All P xs
+none_of_any P xs e = let same : [] ≡ xs = cc in subst (All P) same (All-nil P)
+
+components_have : (gs : List Tokens) (cs : List Component) → components_of gs ≡ Some cs → All HasReference cs
+components_have [] cs e = none_of_any HasReference cs e
+components_have (g ∷ gs) cs e =
+    of_step _ (component_of g) cs e (λ c is_c e1.
+    of_map (λ (more : List Component). c ∷ more) (components_of gs) cs e1 (λ more is_more same.
+    subst (All HasReference) same (All-cons HasReference c more (component_has g c is_c) (components_have gs more is_more))))
+
+behind_have : (behind : Option Tokens) (cs : List Component) → components_behind behind ≡ Some cs → All HasReference cs
+behind_have None cs e = none_of_any HasReference cs e
+behind_have (Some ts) cs e = components_have (groups_of ts) cs e
+
+alone_is : (behind : Option Tokens) (o : Option Element) (x : Element) → alone behind o ≡ Some x → o ≡ Some x
+alone_is None o x e = e
+alone_is (Some ts) o x e = let no : None ≡ Some x = e in cc
+
+simple_has : (reference : List ℕ) (req : Requirement) (ts : Tokens) (x : Element) → simple_of reference req ts ≡ Some x
+    → IsReference reference → HasReferences x
+unfolding simple_of
+simple_has reference req ts x e has =
+    of_step _ (measure_of ts) x e (λ (m : Measure × Tokens) is_m e1.
+    of_step _ (row_of reference req m.0 (take_repeat m.1).1) x e1 (λ row is_row e2.
+    element_is (element.Simple row (take_repeat m.1).0) x e2 (row_has reference req m.0 (take_repeat m.1).1 row is_row has)))
+
+composite_has : (reference : List ℕ) (req : Requirement) (ts : Tokens) (behind : Option Tokens) (x : Element)
+    → composite_of reference req ts behind ≡ Some x → IsReference reference → HasReferences x
+unfolding composite_of
+composite_has reference req ts behind x e has =
+    of_step _ (no_more (take_repeat ts).0 (take_repeat ts).1) x e (λ count is_count e1.
+    of_step _ (components_behind behind) x e1 (λ components is_components e2.
+    element_is (element.Composite (record { reference = reference; requirement = req; repeat = count; components = components })) x e2
+    (has, behind_have behind components is_components)))
+
+used_by : (b : Bool) (reference : List ℕ) (req : Requirement) (ts all : Tokens) (behind : Option Tokens) (x : Element)
+    → (if b then composite_of reference req ts behind else alone behind (simple_of reference req all)) ≡ Some x → IsReference reference
+    → HasReferences x
+used_by true reference req ts all behind x e has = composite_has reference req ts behind x e has
+used_by false reference req ts all behind x e has =
+    simple_has reference req all x (alone_is behind (simple_of reference req all) x e) has
+
+used_has : (reference word : List ℕ) (ts : Tokens) (behind : Option Tokens) (x : Element) → used_element reference word ts behind ≡ Some x
+    → IsReference reference → HasReferences x
+unfolding used_element
+used_has reference word ts behind x e has =
+    of_step _ (requirement_of word) x e (λ req is_req e1. of_step _ (next_token ts) x e1 (λ (t : List ℕ × Tokens) is_t e2.
+    used_by (bytes_eq t.0 (codes "C")) reference req t.1 ts behind x e2 has))
+
+element_by : (b : Bool) (reference word : List ℕ) (ts : Tokens) (behind : Option Tokens) (x : Element)
+    → (if b then alone behind (no_more (element.NotUsed reference) ts) else used_element reference word ts behind) ≡ Some x
+    → IsReference reference → HasReferences x
+element_by true reference word ts behind x e has =
+    element_is (element.NotUsed reference) x (no_more_is (element.NotUsed reference) x ts (alone_is behind _ x e)) has
+element_by false reference word ts behind x e has = used_has reference word ts behind x e has
+
+element_in_has : (head : Tokens) (behind : Option Tokens) (x : Element) → element_in head behind ≡ Some x → HasReferences x
+unfolding element_in
+element_in_has head behind x e =
+    of_step _ (next_token head) x e (λ (r : List ℕ × Tokens) is_r e1. of_step _ (reference_of r.0) x e1 (λ reference is_reference e2.
+    of_step _ (next_token r.1) x e2 (λ (u : List ℕ × Tokens) is_u e3.
+    element_by (bytes_eq u.0 (codes "N")) reference u.0 u.1 behind x e3 (has_reference r.0 reference is_reference))))
+
+each_has : (ds : Items) (xs : List Element) → each_item (text_item element_of) ds ≡ Some xs → All HasReferences xs
+each_has no_items xs e = none_of_any HasReferences xs e
+each_has (item d ds) xs e =
+    option_and_then_some _ (text_item element_of d) xs e (λ x is_x e1.
+    of_map (λ (more : List Element). x ∷ more) (each_item (text_item element_of) ds) xs e1 (λ more is_more same.
+    option_and_then_some element_of (as_str d) x is_x (λ text is_text e2.
+    subst (All HasReferences) same (All-cons HasReferences x more (element_in_has _ _ x e2) (each_has ds more is_more)))))
+
+list_has : (d : Data) (xs : List Element) → texts_in element_of d ≡ Some xs → All HasReferences xs
+list_has d xs e = option_and_then_some _ (as_array d) xs e (λ ds is_ds e1. each_has ds xs e1)
+
+asked_has : (key : List ℕ) (o : Option (List Element)) (xs : List Element) → asked key o ≡ Ok xs → o ≡ Some xs
+asked_has key None xs e = let no : asked key None ≡ Ok xs = e in cc
+asked_has key (Some ys) xs e = let is : Ok ys ≡ Ok xs = e in cc
+
+required_has : (key : List ℕ) (o : Option Data) (xs : List Element) → required_of (texts_in element_of) key o ≡ Ok xs → All HasReferences xs
+required_has key None xs e = let no : required_of (texts_in element_of) key None ≡ Ok xs = e in cc
+required_has key (Some d) xs e = list_has d xs (asked_has key (texts_in element_of d) xs e)
+
+segment_has : (ms : Members) (s : Slot) → segment_of ms ≡ Ok s → All HasReferences s.elements
+unfolding segment_of
+segment_has ms s e =
+    of_ok _ (required as_str (codes "seg") ms) s e (λ id is_id e1. of_ok _ (required number_in (codes "min") ms) s e1 (λ least is_least e2.
+    of_ok _ (required number_in (codes "max") ms) s e2 (λ most is_most e3.
+    of_ok _ (optional None (some_word_in 1 20) (codes "label") ms) s e3 (λ label is_label e4.
+    of_ok _ (optional [] (texts_in pick_of) (codes "pick") ms) s e4 (λ picks is_picks e5.
+    of_ok _ (required (texts_in element_of) (codes "elements") ms) s e5 (λ elements is_elements e6.
+    of_ok _ (optional [] (texts_in condition_of) (codes "conditions") ms) s e6 (λ conditions is_conditions e7.
+    let same : elements ≡ s.elements = ap (λ (x : Slot). x.elements) (of_result _ s e7) in
+    subst (All HasReferences) same (required_has (codes "elements") (get_member (codes "elements") ms) elements is_elements))))))))
+
+known_is : {A : Type 0} (o : Option (List ℕ)) (r : Result A Refusal) (x : A) → if_known o r ≡ Ok x → r ≡ Ok x
+known_is None r x e = e
+known_is (Some key) r x e = let no : Err (unknown key) ≡ Ok x = e in cc
+
+tree_is : (t u : Tree) → ok t ≡ ok u → EachIn HasReferencesIn t → EachIn HasReferencesIn u
+tree_is t u e has = let same : t ≡ u = cc in subst (EachIn HasReferencesIn) same has
+
+trees_are : (ts us : Trees) → ok ts ≡ ok us → EachNode HasReferencesIn ts → EachNode HasReferencesIn us
+trees_are ts us e has = let same : ts ≡ us = cc in subst (EachNode HasReferencesIn) same has
+
+segment_node_has : (ms : Members) (t : Tree) → (segment_of ms ⊳ (λ s. Ok (segment s))) ≡ Ok t → EachIn HasReferencesIn t
+segment_node_has ms t e = of_ok _ (segment_of ms) t e (λ s is_s e1. tree_is (segment s) t e1 (segment_has ms s is_s))
+
+-- a node by what it is, where the nodes in it have such references
+by_kind : (k : NodeKind) (ms : Members) (inner : Result Trees Refusal) (t : Tree)
+    → ((ts : Trees) → inner ≡ Ok ts → EachNode HasReferencesIn ts) → node_by k ms inner ≡ Ok t → EachIn HasReferencesIn t
+by_kind node.Segment ms inner t within e = segment_node_has ms t (known_is (least_unknown (keys_of kind.Segment) ms) _ t e)
+by_kind node.Loop ms inner t within e =
+    of_ok _ (known kind.Loop ms (loop_of ms)) t e (λ l is_l e1.
+    of_ok _ inner t e1 (λ ts is_ts e2. tree_is (loop l ts) t e2 (tt, within ts is_ts)))
+by_kind node.Unclear ms inner t within e =
+    let no : Err (wrong_kind (codes "seg")) ≡ Ok t = known_is (least_unknown (keys_of kind.Unclear) ms) _ t e in cc
+
+by_order : (o : Ordering) (a b : Result Trees Refusal) (ts : Trees) → match_ordering o a b a ≡ Ok ts
+    → (a ≡ Ok ts) ⊎ (b ≡ Ok ts)
+by_order ordering.Less a b ts e = inl e
+by_order ordering.Equal a b ts e = inr e
+by_order ordering.Greater a b ts e = inl e
+
+mutual
+  nodes_have : (ds : Items) (ts : Trees) → nodes_in ds ≡ Ok ts → EachNode HasReferencesIn ts
+  nodes_have no_items ts e = trees_are no_trees ts e tt
+  nodes_have (item d ds) ts e =
+      of_ok _ (node_in d) ts e (λ t is_t e1. of_ok _ (nodes_in ds) ts e1 (λ more is_more e2.
+      trees_are (tree t more) ts e2 (node_has d t is_t, nodes_have ds more is_more)))
+
+  node_has : (d : Data) (t : Tree) → node_in d ≡ Ok t → EachIn HasReferencesIn t
+  node_has (table ms) t e = by_kind (node_kind ms) ms (inner_in ms) t (λ ts h. inner_has ms ts h) e
+  node_has (string s) t e = let no : Err (wrong_kind (codes "nodes")) ≡ Ok t = e in cc
+  node_has (integer n) t e = let no : Err (wrong_kind (codes "nodes")) ≡ Ok t = e in cc
+  node_has (float x) t e = let no : Err (wrong_kind (codes "nodes")) ≡ Ok t = e in cc
+  node_has (boolean b) t e = let no : Err (wrong_kind (codes "nodes")) ≡ Ok t = e in cc
+  node_has (datetime x) t e = let no : Err (wrong_kind (codes "nodes")) ≡ Ok t = e in cc
+  node_has (array ds) t e = let no : Err (wrong_kind (codes "nodes")) ≡ Ok t = e in cc
+
+  inner_has : (ms : Members) (ts : Trees) → inner_in ms ≡ Ok ts → EachNode HasReferencesIn ts
+  inner_has no_members ts e = trees_are no_trees ts e tt
+  inner_has (member key d ms) ts e = elim (by_order (slice_cmp nat_cmp (codes "nodes") key) (inner_in ms) (list_in d) ts e) [
+    | inl h ↦ inner_has ms ts h
+    | inr h ↦ list_in_has d ts h
+  ]
+
+  list_in_has : (d : Data) (ts : Trees) → list_in d ≡ Ok ts → EachNode HasReferencesIn ts
+  list_in_has (array ds) ts e = nodes_have ds ts e
+  list_in_has (table ms) ts e = trees_are no_trees ts e tt
+  list_in_has (string s) ts e = trees_are no_trees ts e tt
+  list_in_has (integer n) ts e = trees_are no_trees ts e tt
+  list_in_has (float x) ts e = trees_are no_trees ts e tt
+  list_in_has (boolean b) ts e = trees_are no_trees ts e tt
+  list_in_has (datetime x) ts e = trees_are no_trees ts e tt
+
+-- numbers of slots change nothing in them
+mutual
+  numbered_in_has : (n : ℕ) (t : Tree) → EachIn HasReferencesIn t → EachIn HasReferencesIn (numbered_in n t)
+  numbered_in_has n (segment s) has = has
+  numbered_in_has n (loop l ts) has = (tt, numbered_has (n + 1) ts has.1)
+
+  numbered_has : (n : ℕ) (ts : Trees) → EachNode HasReferencesIn ts → EachNode HasReferencesIn (numbered n ts)
+  numbered_has n no_trees has = tt
+  numbered_has n (tree t ts) has = (numbered_in_has n t has.0, numbered_has (n + count_in t) ts has.1)
+
+guide_has : (ms : Members) (g : GuideTree) → guide_of_table ms ≡ Ok g → EachNode HasReferencesIn g.nodes
+unfolding guide_of_table
+guide_has ms g e =
+    of_ok _ (known kind.Guide ms (head_of ms)) g e (λ head is_head e1.
+    of_ok _ (optional None some_table (codes "hl") ms) g e1 (λ rule is_rule e2.
+    of_ok _ (optional no_items tables_in (codes "depends") ms) g e2 (λ rows is_rows e3.
+    of_ok _ (required tables_in (codes "nodes") ms) g e3 (λ ds is_ds e4. of_ok _ (hl_in rule) g e4 (λ hl is_hl e5.
+    of_ok _ (dependencies_in rows) g e5 (λ depends is_depends e6. of_ok _ (nodes_in ds) g e6 (λ trees is_trees e7.
+    let same : trees ≡ g.nodes = ap (λ (x : GuideTree). x.nodes) (of_result _ g e7) in
+    subst (EachNode HasReferencesIn) same (nodes_have ds trees is_trees))))))))
+
+answers_have : (read : Result GuideTree Refusal) (rows : GuideRows) → Answers (Ok rows) read
+    → ((g : GuideTree) → read ≡ Ok g → EachNode HasReferencesIn g.nodes) → EachNode HasReferencesIn (guide_of rows).nodes
+answers_have (Ok g) rows a has =
+    subst (EachNode HasReferencesIn) (sym (ap (λ (x : GuideTree). x.nodes) a.0)) (numbered_has 1 g.nodes (has g refl))
+answers_have (Err r) rows a has = absurd a
+
+pub writes_references : WritesReferences
+writes_references t rows a = answers_have (guide_of_table t) rows a (guide_has t)

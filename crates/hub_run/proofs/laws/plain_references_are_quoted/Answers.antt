@@ -1,0 +1,5 @@
+use Rattle.hub_run.proofs.PlainReferences.{plain_read}
+use Rattle.hub_run.proofs.laws.plain_references_are_quoted.Goals as goal
+
+pub returns : goal.returns
+returns c = plain_read

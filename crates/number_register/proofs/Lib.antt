@@ -1,0 +1,13 @@
+mod Comparing
+mod Earlier
+mod Families
+mod Fill
+mod Firsts
+mod Fullness
+mod Holding
+mod Ordering
+mod Places
+mod Putting
+mod Slotting
+mod Standing
+mod Uses

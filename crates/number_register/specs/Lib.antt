@@ -1,0 +1,6 @@
+pub mod Fresh
+pub mod Inside
+pub mod NoIndex
+pub mod Placing
+pub mod Recording
+pub mod Slots

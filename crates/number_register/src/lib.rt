@@ -1,0 +1,42 @@
+//! The register of control numbers: which places of a settled index were recorded, in whatever order they came, and
+//! behind them the first use of each place's number. A book has the numbers that can be compared with one another, by
+//! position: one for the interchanges of the text, one for the groups of each interchange, one for the sets of each group
+//! (`number_book`). While numbers rise with their places, as they mostly do, a record costs a look at its neighbours.
+//! Threads share a register's lock; a place's number is read before the lock is taken.
+//!
+//! Proved:
+//! - `Records::record` adds exactly the place, at the end; it answers `Already` exactly where the place was recorded
+//!   before, and leaves the records as they were where it refuses;
+//! - `Records::finish` answers Ok exactly where each place of the index is recorded, and hands the records back where
+//!   one is missing;
+//! - `FullRegister::earlier_of` answers the first use of a place's number where that is an earlier place (`IsFirstUse`),
+//!   and none where there is no such place, whatever was recorded first;
+//! - for every interleaving of the threads, whenever the lock is free the records are of the index that the register's
+//!   type names, and the ledger's book is their count; a `Recorded` names its place, and a fresh one raises the caller's
+//!   share by one; so `Register::open` gives as many records as the shares add up to.
+//!
+//! X12.5, interchange control number (ISA13) with sender and receiver (ISA05 to ISA08); X12.6, group control number
+//! (GS06) and transaction set control number (ST02). That numbers are told by first use is own. That a thread gets on
+//! isn't claimed, nor that `record_locked` ever answers a fresh one: the trial sees that it does.
+//!
+//! As its trial, the crate `trial_workers`, calls it:
+//!
+//! ```rust
+//! let mut records = Records::new(alloc, &index)?;
+//! assert_eq!(rt; records.record(place), Ok(()));
+//! assert_eq!(rt; records.record(place), Err(RecordFault::Already));
+//! ```
+#![tactic(auto)]
+
+mod fault;
+mod full;
+mod key;
+mod making;
+mod reading;
+mod records;
+mod register;
+
+pub use fault::RecordFault;
+pub use full::{FullRegister, Short};
+pub use records::Records;
+pub use register::{Named, RecordLock, Recorded, Register, Share};

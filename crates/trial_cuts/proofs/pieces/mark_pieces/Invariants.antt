@@ -1,0 +1,8 @@
+use Rattle.std.proofs.Common.{◌≡◌, take}
+use Rattle.env_marks.specs.Laws.{values}
+use Rattle.env_marks.specs.Marking.{marks_of}
+use Rattle.cut_plan.specs.Plan.{pieces}
+use Rattle.trial_cuts.proofs.pieces.mark_pieces.Given as goal
+
+abbrev pub invariant-loop-i : goal.invariant-loop-i
+invariant-loop-i l = l.list.items ≡ values marks_of l.pair l.text (take l.i (pieces l.cuts))

@@ -1,0 +1,13 @@
+use Rattle.std.proofs.Common.{List, [], Option, length, ap, ◌∙◌}
+use Rattle.hub_kinds.specs.declared.interchange.InterchangeFault.{InterchangeFault}
+use Rattle.checked_text.proofs.Settling.{faults_length, settled_spans}
+use Rattle.trial_nights.proofs.setup.found.expect_text.Goals as goal
+
+pub settle-requires : goal.settle-requires
+settle-requires c =
+    ap (λ (fs : List (Option InterchangeFault)). length fs) (c.as_slice.ensures.value ∙ c.in_ok-faults.ensures)
+    ∙ faults_length c.args.setup.now [] c.in_ok-index.index.entries
+
+pub expect_one_answer-requires : goal.expect_one_answer-requires
+expect_one_answer-requires c =
+    settled_spans c.args.text.now c.in_ok-index.index c.settle.new.self c.as_slice.result.now c.in_ok-index.ensures c.settle.ensures

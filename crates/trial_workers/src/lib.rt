@@ -1,0 +1,23 @@
+//! The trial of what workers share: the desk (claim_desk) by two threads, jobs done by up to 64 workers (job_pool), keys by position
+//! (number_book), the rule of claims, records and finishes (work_core), and the register of control numbers (number_register) by
+//! one thread and by four, over the index of a text. It has no code of the program.
+//!
+//! X12.5, interchange control number; X12.6, functional group and transaction set control number.
+#![tactic(auto)]
+
+#[cfg(test)]
+mod books;
+#[cfg(test)]
+mod desks;
+#[cfg(test)]
+mod events;
+#[cfg(test)]
+mod pools;
+#[cfg(test)]
+mod recording;
+#[cfg(test)]
+mod records;
+#[cfg(test)]
+mod shared;
+#[cfg(test)]
+mod texts;

@@ -1,0 +1,4 @@
+pub mod Complete
+pub mod Core
+pub mod Inside
+pub mod Once
