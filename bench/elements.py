@@ -24,12 +24,13 @@ import sys
 import tempfile
 
 HERE = os.path.dirname(os.path.abspath(__file__))
-CRATES = ('x12_bytes', 'x12_segs', 'hub_kinds', 'guide_tree', 'guide_toml', 'elem_rules')
+CRATES = ('x12_bytes', 'x12_segs', 'hub_kinds', 'guide_tree', 'toml_keys', 'guide_toml', 'elem_rules')
 LISTED = '''x12_bytes:
 x12_segs: x12_bytes memchr
 hub_kinds:
 guide_tree: hub_kinds
-guide_toml: guide_tree hub_kinds toml thiserror
+toml_keys: hub_kinds toml thiserror
+guide_toml: toml_keys guide_tree hub_kinds toml thiserror
 elem_rules: guide_tree hub_kinds x12_segs x12_bytes jiff memchr
 element_check: elem_rules guide_tree guide_toml hub_kinds x12_segs x12_bytes
 '''

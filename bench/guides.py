@@ -63,12 +63,13 @@ def rivals(count):
 def main():
     with tempfile.TemporaryDirectory() as folder:
         crates = os.path.join(folder, 'crates')
-        for crate in ('hub_kinds', 'guide_tree', 'guide_toml'):
+        for crate in ('hub_kinds', 'guide_tree', 'toml_keys', 'guide_toml'):
             shutil.copytree(os.path.join(HERE, '..', 'crates', crate), os.path.join(crates, crate))
         os.makedirs(os.path.join(crates, 'guide_check', 'src'))
         shutil.copy(os.path.join(HERE, 'guide_check.txt'), os.path.join(crates, 'guide_check', 'src', 'main.rt'))
         with open(os.path.join(folder, 'crates.txt'), 'w') as listed:
-            listed.write('hub_kinds:\nguide_tree: hub_kinds\nguide_toml: guide_tree hub_kinds toml thiserror\n'
+            listed.write('hub_kinds:\nguide_tree: hub_kinds\ntoml_keys: hub_kinds toml thiserror\n'
+                         'guide_toml: toml_keys guide_tree hub_kinds toml thiserror\n'
                          'guide_check: guide_toml\n')
         open(os.path.join(folder, 'MODULE.bazel'), 'w').close()
         for name, text in (('2,000 segments, an id each', one_id_each(2000)),

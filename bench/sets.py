@@ -35,7 +35,7 @@ from set_rules import IK304, codes_of, element, faults_of, is_ambiguous, verdict
 
 HERE = os.path.dirname(os.path.abspath(__file__))
 HOUSE = os.path.join(HERE, '..', 'examples', 'guides', 'h850.toml')
-CRATES = ('x12_bytes', 'x12_segs', 'hub_kinds', 'guide_tree', 'guide_law', 'guide_toml', 'elem_rules', 'loop_match', 'hl_check',
+CRATES = ('x12_bytes', 'x12_segs', 'hub_kinds', 'guide_tree', 'guide_law', 'toml_keys', 'guide_toml', 'elem_rules', 'loop_match', 'hl_check',
           'depend_check', 'env_index', 'set_check')
 PROGRAM = 'set_checker: set_check env_index guide_toml guide_tree hub_kinds x12_segs x12_bytes\n'
 FRONT = (b'ISA*00*          *00*          *01*ACME           *ZZ*HUB            '

@@ -4,6 +4,7 @@ use Rattle.std.specs.Prelude.{List, [], ◌∷◌, ◌++◌, length, map, count_
 use Rattle.std.specs.List.{list_all, sum_by}
 use Rattle.hub_kinds.specs.Numbers.{number_of}
 use Rattle.hub_kinds.specs.declared.answers.SetAnswer.{SetAnswer}
+use Rattle.hub_kinds.specs.declared.limits.TheConstants.{MOST_CONTROL_DIGITS, MOST_COUNT_DIGITS}
 use Rattle.hub_kinds.specs.declared.set_codes.GroupCode.{GroupCode}
 use Rattle.hub_kinds.specs.declared.set_codes.GroupCode.TheVariants as code
 use Rattle.hub_kinds.specs.declared.set_codes.Verdict.{Verdict}
@@ -36,8 +37,8 @@ support_codes support.VersionNotServed = code.VersionNotSupported ∷ []
 abbrev pub trailer_codes : List ℕ → Option GroupTrailer → ℕ → List GroupCode
 trailer_codes control None sets = code.TrailerMissing ∷ []
 trailer_codes control (Some trailer) sets =
-    unless (agree (number_of 9 trailer.control) (number_of 9 control)) code.ControlNumbersDiffer
-    ++ unless (agree (number_of 6 trailer.listed) (Some sets)) code.SetCountWrong
+    unless (agree (number_of MOST_CONTROL_DIGITS trailer.control) (number_of MOST_CONTROL_DIGITS control)) code.ControlNumbersDiffer
+    ++ unless (agree (number_of MOST_COUNT_DIGITS trailer.listed) (Some sets)) code.SetCountWrong
 
 -- 19: an earlier group of the interchange has the same GS06 as a number
 abbrev pub earlier_codes : Bool → List GroupCode

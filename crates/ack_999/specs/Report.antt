@@ -5,6 +5,7 @@ use Rattle.std.specs.List.{flat_map, list_any}
 use Rattle.x12_bytes.specs.declared.delims.Delims.{Delims}
 use Rattle.hub_kinds.specs.declared.answers.GroupAnswer.{GroupAnswer}
 use Rattle.hub_kinds.specs.declared.answers.SetAnswer.{SetAnswer}
+use Rattle.hub_kinds.specs.declared.limits.TheConstants.{MOST_COUNT_DIGITS}
 use Rattle.hub_kinds.specs.declared.set_codes.GroupCode.{GroupCode}
 use Rattle.hub_kinds.specs.declared.set_codes.GroupCode.TheVariants as code
 use Rattle.hub_kinds.specs.SetCodes.{set_code_text, group_code_text, verdict_text, group_verdict_text}
@@ -54,7 +55,7 @@ set_loops d g sets = if shows_sets g.codes then flat_map (set_segments d) sets e
 
 -- AK902: GE01 as a number where it is 1 to 6 digits, otherwise the number of sets
 abbrev pub listed_sets : List ℕ → Totals → ℕ
-listed_sets listed t = unwrap_or (number_of 6 listed) (received_sets t)
+listed_sets listed t = unwrap_or (number_of MOST_COUNT_DIGITS listed) (received_sets t)
 
 -- AK904: the number of sets that are accepted, with or without errors; none of a group with a code
 abbrev pub accepted_sets : List GroupCode → Totals → ℕ

@@ -4,7 +4,7 @@ ghost use Rattle.ack_999.specs.Group.{agree, group_codes_of, support_codes, trai
 
 use crate::support::GroupSupport;
 use crate::trailer::GroupTrailer;
-use hub_kinds::{GroupCode, Items, NoMemory, read_number};
+use hub_kinds::{GroupCode, Items, MOST_CONTROL_DIGITS, MOST_COUNT_DIGITS, NoMemory, read_number};
 use std::alloc::Global;
 
 /// What is wrong with a functional group, in the order of its codes (999 guide, AK905). `control`
@@ -56,12 +56,15 @@ fn add_trailer_codes(
         None => codes.push(GroupCode::TrailerMissing)?,
         Some(trailer) => {
             if !agree(
-                read_number(trailer.control.bytes(), 9),
-                read_number(control, 9),
+                read_number(trailer.control.bytes(), MOST_CONTROL_DIGITS),
+                read_number(control, MOST_CONTROL_DIGITS),
             ) {
                 codes.push(GroupCode::ControlNumbersDiffer)?;
             }
-            if !agree(read_number(trailer.listed.bytes(), 6), Some(sets)) {
+            if !agree(
+                read_number(trailer.listed.bytes(), MOST_COUNT_DIGITS),
+                Some(sets),
+            ) {
                 codes.push(GroupCode::SetCountWrong)?;
             }
         }

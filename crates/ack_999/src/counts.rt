@@ -3,13 +3,13 @@ ghost use Rattle.ack_999.specs.Group.{totals_of, set_segment_count, IsCountable}
 ghost use Rattle.ack_999.specs.Report.{segment_count, shows_sets, hides_sets, listed_sets, accepted_sets};
 
 use crate::totals::Totals;
-use hub_kinds::{GroupAnswer, GroupCode, SetAnswer, read_number};
+use hub_kinds::{GroupAnswer, GroupCode, MOST_COUNT_DIGITS, SetAnswer, read_number};
 
 /// AK902: how many sets the group's trailer lists.
 pub(crate) fn listed_sets(group: &GroupAnswer, totals: &Totals) -> u128
     ensures { result ≡ listed_sets group.now.listed totals.now }
 {
-    match read_number(group.listed.bytes(), 6) {
+    match read_number(group.listed.bytes(), MOST_COUNT_DIGITS) {
         Some(listed) => u128::from(listed),
         None => totals.sets(),
     }

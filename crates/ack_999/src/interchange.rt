@@ -3,8 +3,8 @@ ghost use Rattle.x12_write.specs.Extends.{Extends};
 ghost use Rattle.x12_write.specs.Sendable.{BeginsWithHeader};
 ghost use Rattle.ack_999.specs.Interchange.{Encloses, acknowledging_group, closing_text, interchange_text, opening_text};
 
-use elem_rules::At;
 use hub_kinds::{Lent, NoMemory, Text};
+use moment::At;
 use std::alloc::Global;
 use x12_write::{
     Envelope, GroupHeader, append_group, append_group_header, append_group_trailer, append_header,

@@ -3,7 +3,7 @@ ghost use Rattle.std.specs.List.{All};
 ghost use Rattle.x12_segs.specs.Spans.{IsSetSpan};
 ghost use Rattle.env_index.specs.Spans.{span_of};
 ghost use Rattle.env_index.specs.Summary.{GroupEntry};
-ghost use Rattle.mailbox.specs.Judged.{is_fa};
+ghost use Rattle.judged_text.specs.Judged.{is_fa};
 ghost use Rattle.checked_text.specs.Answers.{AreGroupAnswers, AreSetAnswers, IsGroupAnswer, IsGroupAnswered, answer_by, codes_where};
 ghost use Rattle.checked_text.specs.Answers.{has_number_among};
 
@@ -15,7 +15,7 @@ use crate::support::{group_trailer, listed, support_of};
 use ack_999::{Totals, group_codes, group_verdict, totals_of};
 use env_index::{GroupEnvelope, Interchange};
 use hub_kinds::{GroupAnswer, GroupCode, Items, Lent, NoMemory, SetAnswer};
-use mailbox::is_fa;
+use judged_text::is_fa;
 use std::alloc::Global;
 use std::collections::BTreeSet;
 

@@ -29,7 +29,7 @@ mod tally;
 pub use entry::{Entry, PartnerEntry};
 pub use laws::{numbers_are_counted, runs_suffice, tally_laws};
 pub use number::num;
-pub use numbering::{Numbers, PartnerNumbers, numbers_for};
+pub use numbering::{Numbers, PartnerNumbers, interchange_count, numbers_for};
 pub use run::{Run, RunKey};
 pub use tallies::Tallies;
 pub use tally::Tally;

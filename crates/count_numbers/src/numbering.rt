@@ -30,7 +30,7 @@ pub struct PartnerNumbers {
 pub type Numbers = Items<PartnerNumbers>;
 
 /// How many interchanges hold so many sets, each at most `cap`.
-fn interchange_count(cap: u32, sets: u64) -> u64
+pub fn interchange_count(cap: u32, sets: u64) -> u64
     requires { 1 ≤ cap }
     ensures { result ≡ interchange_count cap sets }
 {

@@ -11,13 +11,14 @@ use Rattle.std.proofs.lemmas.List.Elements.{Contains-append_left, Contains-appen
 use Rattle.std.proofs.lemmas.List.Elements.{Contains-push, Contains-push_cases}
 use Rattle.x12_bytes.specs.declared.delims.Delims.{Delims}
 use Rattle.hub_kinds.specs.declared.fault.Fault.{Fault}
+use Rattle.hub_kinds.specs.TextList.{contains_text}
 use Rattle.guide_tree.specs.declared.rows.Dependency.{Dependency}
 use Rattle.guide_tree.specs.declared.rows.DependencyKind.{DependencyKind}
 use Rattle.guide_tree.specs.declared.rows.DependencyKind.TheVariants as kind
-use Rattle.guide_tree.specs.Segments.{contains_text, element_of}
+use Rattle.guide_tree.specs.Segments.{element_of}
 use Rattle.guide_tree.specs.Tree.{Trees}
 use Rattle.loop_match.specs.PlacedSegments.{PlacedSegment}
-use Rattle.depend_check.specs.Dependencies.{is_use, is_trigger, is_triggered, IsBroken}
+use Rattle.depend_check.specs.Dependencies.{is_use, is_trigger, is_triggered, IsBroken, IsTargetBroken}
 use Rattle.depend_check.specs.Found.{faults_of_use, faults_of_slot, faults_of_target}
 use Rattle.depend_check.specs.Uses.{is_labelled, HaveSameUses, HaveSameTarget, IsBrokenAmong, IsFound, IsFoundBy}
 use Rattle.depend_check.proofs.Lists.{any_with, of_filter, with_any, same_truth}
@@ -35,7 +36,7 @@ used_too : (label : List ℕ) (xs ys : List PlacedSegment) → HaveSameUses labe
 used_too label xs ys same h = let p = with_any (is_use label) xs h in any_with (is_use label) ys p.0 ((same p.0 p.2).0 p.1) p.2
 
 broken_too : (ts : Trees) (d : Delims) (end : ℕ) (xs ys : List PlacedSegment) (label : List ℕ) (k : DependencyKind) (e : ℕ) (f : Fault)
-    → HaveSameUses label xs ys → IsBroken ts d end xs label k e f → IsBroken ts d end ys label k e f
+    → HaveSameUses label xs ys → IsTargetBroken ts d end xs label k e f → IsTargetBroken ts d end ys label k e f
 broken_too ts d end xs ys label kind.Need zero f same (seat, there, none, is) = (
   seat,
   there,
@@ -53,7 +54,7 @@ broken_too ts d end xs ys label kind.Ban (suc e) f same (p, r, is) =
 pub broken_added : (ts : Trees) (d : Delims) (end : ℕ) (uses all : List PlacedSegment) (label : List ℕ) (k : DependencyKind) (e : ℕ)
     (old between new : List Fault) → HaveSameUses label uses all → between ≡ old ++ faults_of_slot ts end uses label k e
     → new ≡ between ++ flat_map (faults_of_use d label k e) uses
-    → (f : Fault) → Contains new f ↔ (Contains old f ⊎ IsBroken ts d end all label k e f)
+    → (f : Fault) → Contains new f ↔ (Contains old f ⊎ IsTargetBroken ts d end all label k e f)
 broken_added ts d end uses all label k e old between new same first second f =
     let found = faults_of_target ts d end uses label k e in
     let is : new ≡ old ++ found =
@@ -72,20 +73,20 @@ broken_added ts d end uses all label k e old between new same first second f =
 
 -- one more dependency: its own faults, or those of one that asks the same
 among_more : (ts : Trees) (d : Delims) (end : ℕ) (ps : List PlacedSegment) (ds : List Dependency) (x : Dependency) (f : Fault)
-    → IsBrokenAmong ts d end ps (ds ++ x ∷ []) f → IsBrokenAmong ts d end ps ds f ⊎ IsBroken ts d end ps x.target x.kind x.element f
+    → IsBrokenAmong ts d end ps (ds ++ x ∷ []) f → IsBrokenAmong ts d end ps ds f ⊎ IsBroken ts d end ps x f
 among_more ts d end ps ds x f (y, c, b) = elim (Contains-push_cases ds x y c) [
   | inl e ↦ inl (y, e, b)
-  | inr e ↦ inr (subst (λ (z : Dependency). IsBroken ts d end ps z.target z.kind z.element f) (sym e) b)
+  | inr e ↦ inr (subst (λ (z : Dependency). IsBroken ts d end ps z f) (sym e) b)
 ]
 
 more_among : (ts : Trees) (d : Delims) (end : ℕ) (ps : List PlacedSegment) (ds : List Dependency) (x : Dependency) (f : Fault)
-    → IsBrokenAmong ts d end ps ds f ⊎ IsBroken ts d end ps x.target x.kind x.element f → IsBrokenAmong ts d end ps (ds ++ x ∷ []) f
+    → IsBrokenAmong ts d end ps ds f ⊎ IsBroken ts d end ps x f → IsBrokenAmong ts d end ps (ds ++ x ∷ []) f
 more_among ts d end ps ds x f (inl r) = (r.0, Contains-append_left ds (x ∷ []) r.0 r.1, r.2)
 more_among ts d end ps ds x f (inr b) = (x, Contains-push ds x, b)
 
 pub told_more : (ts : Trees) (d : Delims) (end : ℕ) (ps : List PlacedSegment) (ds all : List Dependency) (x : Dependency)
     (old new : List Fault) → all ≡ ds ++ x ∷ [] → ((f : Fault) → Contains old f ↔ IsBrokenAmong ts d end ps ds f)
-    → ((f : Fault) → Contains new f ↔ (Contains old f ⊎ IsBroken ts d end ps x.target x.kind x.element f))
+    → ((f : Fault) → Contains new f ↔ (Contains old f ⊎ IsBroken ts d end ps x f))
     → (f : Fault) → Contains new f ↔ IsBrokenAmong ts d end ps all f
 told_more ts d end ps ds all x old new is told added f =
     subst (λ (l : List Dependency). Contains new f ↔ IsBrokenAmong ts d end ps l f) (sym is) (
@@ -94,11 +95,11 @@ told_more ts d end ps ds all x old new is told added f =
     )
 
 same_broken : (ts : Trees) (d : Delims) (end : ℕ) (ps : List PlacedSegment) (x y : Dependency) (f : Fault) → HaveSameTarget x y
-    → IsBroken ts d end ps y.target y.kind y.element f → IsBroken ts d end ps x.target x.kind x.element f
+    → IsBroken ts d end ps y f → IsBroken ts d end ps x f
 same_broken ts d end ps x y f same b =
-    subst (λ (l : List ℕ). IsBroken ts d end ps l x.kind x.element f) (sym same.target)
-    (subst (λ (k : DependencyKind). IsBroken ts d end ps y.target k x.element f) (sym same.kind)
-    (subst (λ (e : ℕ). IsBroken ts d end ps y.target y.kind e f) (sym same.element) b))
+    subst (λ (l : List ℕ). IsTargetBroken ts d end ps l x.kind x.element f) (sym same.target)
+    (subst (λ (k : DependencyKind). IsTargetBroken ts d end ps y.target k x.element f) (sym same.kind)
+    (subst (λ (e : ℕ). IsTargetBroken ts d end ps y.target y.kind e f) (sym same.element) b))
 
 pub told_again : (ts : Trees) (d : Delims) (end : ℕ) (ps : List PlacedSegment) (ds all : List Dependency) (e x : Dependency)
     (old : List Fault) → all ≡ ds ++ x ∷ [] → Contains ds e → HaveSameTarget e x
@@ -204,7 +205,7 @@ not_found_by ts d end ps x old none f =
 
 -- one that is adds what breaks it
 pub found_by_broken : (ts : Trees) (d : Delims) (end : ℕ) (ps : List PlacedSegment) (x : Dependency) (old new : List Fault)
-    → is_triggered x ps ≡ true → ((f : Fault) → Contains new f ↔ (Contains old f ⊎ IsBroken ts d end ps x.target x.kind x.element f))
+    → is_triggered x ps ≡ true → ((f : Fault) → Contains new f ↔ (Contains old f ⊎ IsBroken ts d end ps x f))
     → (f : Fault) → Contains new f ↔ (Contains old f ⊎ IsFoundBy ts d end ps x f)
 found_by_broken ts d end ps x old new is added f = (
   λ c. elim ((added f).0 c) [ inl w ↦ inl w | inr b ↦ inr (is, b) ],

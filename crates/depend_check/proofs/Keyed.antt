@@ -18,7 +18,7 @@ use Rattle.guide_tree.specs.Segments.{Segment, element_of}
 use Rattle.guide_tree.specs.Places.{Place}
 use Rattle.loop_match.specs.PlacedSegments.{PlacedSegment, placed_segments}
 use Rattle.loop_match.proofs.Standing.{one_placed}
-use Rattle.depend_check.specs.Dependencies.{Seat, seat_of, unused_fault, use_fault, element_fault, IsBroken}
+use Rattle.depend_check.specs.Dependencies.{Seat, seat_of, unused_fault, use_fault, element_fault, IsTargetBroken}
 use Rattle.depend_check.specs.Uses.{IsFound}
 use Rattle.depend_check.proofs.Seats.{one_seat}
 
@@ -85,7 +85,7 @@ record OfUse (placed : List PlacedSegment) (f : Fault) : Type 0 where
   is : f ≡ told kind element use_of
 
 shape : (ts : Trees) (d : Delims) (end : ℕ) (placed : List PlacedSegment) (label : List ℕ) (k : DependencyKind) (e : ℕ) (f : Fault)
-    → IsBroken ts d end placed label k e f → OfSlot ts end f ⊎ OfUse placed f
+    → IsTargetBroken ts d end placed label k e f → OfSlot ts end f ⊎ OfUse placed f
 shape ts d end placed label kind.Need zero f r = inl (record { label = label; seat = r.0; there = r.1; is = r.3 })
 shape ts d end placed label kind.Ban zero f r =
     inr (record { kind = kind.Ban; element = 0; use_of = r.0; listed = r.1; told_of = tt; is = r.3 })

@@ -1,15 +1,17 @@
 -- The texts that uses of a slot have in an element, with one more segment; and whether they trigger a dependency.
 use Rattle.std.proofs.Common.{◌≡◌, ℕ, Bool, true, false, ◌&&◌, ◌||◌, cond, List, [], ◌∷◌, ◌++◌, refl, sym, ap, ◌∙◌}
 use Rattle.std.specs.BTreeSet.{BTreeSet, contains}
-use Rattle.std.specs.Cmp.Lexicographic.{slice_cmp, bytes_decides}
+use Rattle.std.specs.Cmp.Lexicographic.{bytes_decides}
 use Rattle.std.specs.List.{list_any}
-use Rattle.std.specs.Ordering.{is_eq, nat_cmp}
+use Rattle.std.specs.Ordering.{is_eq}
 use Rattle.std.specs.Str.{bytes_eq}
 use Rattle.std.proofs.lemmas.Bool.{and_parts, and_from}
 use Rattle.std.proofs.lemmas.List.Folds.{list_any-append}
 use Rattle.std.proofs.lemmas.Map.Text.{is_eq-slice_cmp}
+use Rattle.hub_kinds.specs.ByText.{by_text}
 use Rattle.guide_tree.specs.declared.rows.Dependency.{Dependency}
-use Rattle.guide_tree.specs.Segments.{element_of, contains_text}
+use Rattle.hub_kinds.specs.TextList.{contains_text}
+use Rattle.guide_tree.specs.Segments.{element_of}
 use Rattle.loop_match.specs.PlacedSegments.{PlacedSegment}
 use Rattle.depend_check.specs.Dependencies.{is_use, is_trigger, is_triggered}
 use Rattle.depend_check.specs.Uses.{has, has_text, KnowsTexts, HaveSameUses}
@@ -25,8 +27,8 @@ with_one false is known e = cc
 
 pub text_more : (old new : BTreeSet (Bor (List ℕ))) (own : Bor (List ℕ)) (label : List ℕ) (at : ℕ) (ps : List PlacedSegment)
     (p : PlacedSegment) → own.now ≡ element_of p.segment at → is_use label p ≡ true
-    → ((q : Bor (List ℕ)) → contains (λ a b. slice_cmp nat_cmp a.now b.now) new q
-    ≡ cond (is_eq (slice_cmp nat_cmp own.now q.now)) true (contains (λ a b. slice_cmp nat_cmp a.now b.now) old q))
+    → ((q : Bor (List ℕ)) → contains by_text new q
+    ≡ cond (is_eq (by_text own q)) true (contains by_text old q))
     → KnowsTexts old label at ps → KnowsTexts new label at (ps ++ p ∷ [])
 text_more old new own label at ps p is used added knows = λ text.
     added (record own { now = text })

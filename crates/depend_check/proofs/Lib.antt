@@ -4,6 +4,7 @@ mod Knowing
 mod Members
 mod Asking
 mod Seats
+mod Loops
 mod Keyed
 pub mod Whole
 mod Worked

@@ -19,7 +19,7 @@ use Rattle.guide_tree.specs.Tree.{Trees}
 use Rattle.elem_rules.proofs.Members.{no_member, contains_one, one_contains, from_if, in_then, from_option, in_option}
 use Rattle.elem_rules.proofs.Members.{from_flat_map, in_flat_map}
 use Rattle.loop_match.specs.PlacedSegments.{PlacedSegment}
-use Rattle.depend_check.specs.Dependencies.{Seat, is_use, is_triggered, has_element, seat_of, unused_fault, IsBroken}
+use Rattle.depend_check.specs.Dependencies.{Seat, is_use, is_triggered, has_element, seat_of, unused_fault, IsTargetBroken}
 use Rattle.depend_check.specs.Dependencies.{use_fault, element_fault}
 use Rattle.depend_check.specs.Found.{is_broken_by, told_of, faults_of_use, is_left_out, faults_of_slot, faults_of_target, faults_of}
 use Rattle.depend_check.specs.Found.{found_faults}
@@ -51,7 +51,7 @@ banned whole e p =
 -- the use breaks the dependency
 broken_use : (ts : Trees) (d : Delims) (end : ℕ) (placed : List PlacedSegment) (label : List ℕ) (k : DependencyKind) (e : ℕ)
     (p : PlacedSegment) (f : Fault) → Contains placed p → is_use label p ≡ true → is_broken_by d k e p ≡ true → f ≡ told_of k e p
-    → IsBroken ts d end placed label k e f
+    → IsTargetBroken ts d end placed label k e f
 broken_use ts d end placed label kind.Need zero p f c u b is = cc
 broken_use ts d end placed label kind.Ban zero p f c u b is = (p, c, u, is)
 broken_use ts d end placed label kind.Need (suc e) p f c u b is =
@@ -66,7 +66,7 @@ broken_use ts d end placed label kind.Ban (suc e) p f c u b is = (
 -- the slot isn't used
 broken_slot : (ts : Trees) (d : Delims) (end : ℕ) (placed : List PlacedSegment) (label : List ℕ) (k : DependencyKind) (e : ℕ)
     (seat : Seat) (f : Fault) → is_left_out label k e placed ≡ true → seat_of ts label ≡ Some seat → f ≡ unused_fault end seat
-    → IsBroken ts d end placed label k e f
+    → IsTargetBroken ts d end placed label k e f
 broken_slot ts d end placed label kind.Need zero seat f b s is = (seat, s, not-true (list_any (is_use label) placed) b, is)
 broken_slot ts d end placed label kind.Ban zero seat f b s is = cc
 broken_slot ts d end placed label kind.Need (suc e) seat f b s is =
@@ -74,7 +74,8 @@ broken_slot ts d end placed label kind.Need (suc e) seat f b s is =
 broken_slot ts d end placed label kind.Ban (suc e) seat f b s is = cc
 
 from_use : (ts : Trees) (d : Delims) (end : ℕ) (placed : List PlacedSegment) (label : List ℕ) (k : DependencyKind) (e : ℕ)
-    (p : PlacedSegment) (f : Fault) → Contains placed p → Contains (faults_of_use d label k e p) f → IsBroken ts d end placed label k e f
+    (p : PlacedSegment) (f : Fault) → Contains placed p → Contains (faults_of_use d label k e p) f
+    → IsTargetBroken ts d end placed label k e f
 from_use ts d end placed label k e p f c h =
     elim (from_if (is_use label p && is_broken_by d k e p) (told_of k e p ∷ []) [] f h) [
       | inl w ↦ broken_use ts d end placed label k e p f c (left_of (is_use label p) (is_broken_by d k e p) w.0)
@@ -86,7 +87,7 @@ abbrev told_at : ℕ → Seat → List Fault
 told_at end seat = unused_fault end seat ∷ []
 
 from_slot : (ts : Trees) (d : Delims) (end : ℕ) (placed : List PlacedSegment) (label : List ℕ) (k : DependencyKind) (e : ℕ)
-    (f : Fault) → Contains (faults_of_slot ts end placed label k e) f → IsBroken ts d end placed label k e f
+    (f : Fault) → Contains (faults_of_slot ts end placed label k e) f → IsTargetBroken ts d end placed label k e f
 from_slot ts d end placed label k e f h =
     elim (from_if (is_left_out label k e placed) (option_map_or (told_at end) (seat_of ts label) []) [] f h) [
       | inl w ↦ let r = from_option (told_at end) (seat_of ts label) f w.1 in
@@ -95,7 +96,7 @@ from_slot ts d end placed label k e f h =
     ]
 
 pub from_target : (ts : Trees) (d : Delims) (end : ℕ) (placed : List PlacedSegment) (label : List ℕ) (k : DependencyKind) (e : ℕ)
-    (f : Fault) → Contains (faults_of_target ts d end placed label k e) f → IsBroken ts d end placed label k e f
+    (f : Fault) → Contains (faults_of_target ts d end placed label k e) f → IsTargetBroken ts d end placed label k e f
 from_target ts d end placed label k e f h =
     elim (Contains-append_cases (faults_of_slot ts end placed label k e) (flat_map (faults_of_use d label k e) placed) f h) [
       | inl w ↦ from_slot ts d end placed label k e f w
@@ -121,7 +122,7 @@ in_slot ts d end placed label k e seat f b s is =
     (subst (Contains (told_at end seat)) (sym is) (one_contains (unused_fault end seat)))))
 
 pub in_target : (ts : Trees) (d : Delims) (end : ℕ) (placed : List PlacedSegment) (label : List ℕ) (k : DependencyKind) (e : ℕ)
-    (f : Fault) → IsBroken ts d end placed label k e f → Contains (faults_of_target ts d end placed label k e) f
+    (f : Fault) → IsTargetBroken ts d end placed label k e f → Contains (faults_of_target ts d end placed label k e) f
 in_target ts d end placed label kind.Need zero f r =
     in_slot ts d end placed label kind.Need 0 r.0 f (not_from_false (list_any (is_use label) placed) r.2) r.1 r.3
 in_target ts d end placed label kind.Ban zero f r = in_uses ts d end placed label kind.Ban 0 r.0 f r.1 r.2 refl r.3

@@ -7,14 +7,14 @@ use Rattle.guide_tree.specs.Conditions.{has_label}
 use Rattle.guide_law.proofs.Keyed.{IsNamedIn, IsNamed, one_named}
 use Rattle.depend_check.specs.Dependencies.{Seat, seat_in, seat_among, seat_of}
 
-abbrev seated : List ℕ → Slot → Seat
+abbrev pub seated : List ℕ → Slot → Seat
 seated outer s = record { slot = s; loop_id = outer }
 
-of_if : (b : Bool) (s x : Seat) → (if b then Some s else None) ≡ Some x → x ≡ s
+pub of_if : (b : Bool) (s x : Seat) → (if b then Some s else None) ≡ Some x → x ≡ s
 of_if true s x h = cc
 of_if false s x h = cc
 
-of_else : (a b : Option Seat) (x : Seat) → or_else a b ≡ Some x → (a ≡ Some x) ⊎ (b ≡ Some x)
+pub of_else : (a b : Option Seat) (x : Seat) → or_else a b ≡ Some x → (a ≡ Some x) ⊎ (b ≡ Some x)
 of_else None b x h = inr h
 of_else (Some s) b x h = inl h
 

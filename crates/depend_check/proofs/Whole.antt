@@ -26,8 +26,9 @@ use Rattle.guide_tree.specs.Segments.{Segment, element_of}
 use Rattle.loop_match.specs.PlacedSegments.{PlacedSegment, placed_segments, as_given}
 use Rattle.loop_match.proofs.Leading.{placed_given}
 use Rattle.depend_check.specs.Dependencies.{is_use, is_trigger, Seat, seat_in, seat_among}
-use Rattle.depend_check.specs.Dependencies.{seat_of, unused_fault, use_fault, element_fault, IsBroken, IsDependencyFault}
-use Rattle.depend_check.specs.Kept.{stands_at, fills, triggers, IsTargetKept, AreDependenciesKept}
+use Rattle.depend_check.specs.Dependencies.{seat_of, unused_fault, use_fault, element_fault, IsTargetBroken, IsDependencyFault}
+use Rattle.depend_check.specs.Kept.{IsTargetKept, AreDependenciesKept}
+use Rattle.depend_check.specs.Standing.{stands_at, fills, triggers}
 use Rattle.depend_check.proofs.Lists.{any_view, any_with, from_map, in_map}
 
 abbrev slot_of : Option Seat → Option Slot
@@ -86,7 +87,7 @@ used_given label ps = any_view (stands_at label) as_given ps
 
 -- where nothing is told of a target, it is kept
 target_kept : (ts : Trees) (d : Delims) (end : ℕ) (ps : List PlacedSegment) (label : List ℕ) (k : DependencyKind) (e : ℕ)
-    → Seated ts label → ((f : Fault) → IsBroken ts d end ps label k e f → ⊥) → IsTargetKept d (map as_given ps) label k e
+    → Seated ts label → ((f : Fault) → IsTargetBroken ts d end ps label k e f → ⊥) → IsTargetKept d (map as_given ps) label k e
 target_kept ts d end ps label kind.Need zero seat none =
     true_unless (list_any (stands_at label) (map as_given ps))
     (λ h. none (unused_fault end seat.0) (seat.0, seat.1, used_given label ps ∙ h, refl))
@@ -120,7 +121,7 @@ target_kept ts d end ps label kind.Ban (suc e) seat none = λ x c u.
 
 -- and back
 nothing_told : (ts : Trees) (d : Delims) (end : ℕ) (ps : List PlacedSegment) (label : List ℕ) (k : DependencyKind) (e : ℕ) (f : Fault)
-    → IsTargetKept d (map as_given ps) label k e → IsBroken ts d end ps label k e f → ⊥
+    → IsTargetKept d (map as_given ps) label k e → IsTargetBroken ts d end ps label k e f → ⊥
 nothing_told ts d end ps label kind.Need zero f kept r = true≢false (sym kept ∙ sym (used_given label ps) ∙ r.2)
 nothing_told ts d end ps label kind.Ban zero f kept (p, c, u, is) =
     true≢false (sym (any_with (is_use label) ps p c u) ∙ used_given label ps ∙ kept)

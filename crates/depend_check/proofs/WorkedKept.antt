@@ -10,7 +10,8 @@ use Rattle.guide_tree.specs.declared.rows.Dependency.{Dependency}
 use Rattle.guide_tree.specs.declared.rows.DependencyKind.TheVariants as kind
 use Rattle.guide_tree.specs.Grammar.{Given}
 use Rattle.elem_rules.proofs.Members.{contains_one}
-use Rattle.depend_check.specs.Kept.{stands_at, fills, triggers, IsTargetKept, AreDependenciesKept}
+use Rattle.depend_check.specs.Kept.{IsTargetKept, AreDependenciesKept}
+use Rattle.depend_check.specs.Standing.{stands_at, fills, triggers}
 use Rattle.depend_check.proofs.Worked.{slot, man, man_rows, delims, where_packed}
 
 abbrev at_hl : List ℕ → Given

@@ -1,5 +1,5 @@
 -- Own: dependencies between the segments of a set, over the whole set; how the 999 guide's IK3 and IK4 tell that one is broken.
-use Rattle.std.specs.Prelude.{ℕ, zero, suc, ◌≡◌, IsTrue, IsFalse, List, [], ◌&&◌, Bool, true, false}
+use Rattle.std.specs.Prelude.{ℕ, zero, suc, ◌≡◌, IsTrue, IsFalse, List, [], Bool, true, false}
 use Rattle.std.specs.Prelude.{Option, Some, None, if◌then◌else◌}
 use Rattle.std.specs.List.{Contains, list_any}
 use Rattle.x12_bytes.specs.declared.delims.Delims.{Delims}
@@ -14,20 +14,20 @@ use Rattle.guide_tree.specs.declared.rows.DependencyKind.{DependencyKind}
 use Rattle.guide_tree.specs.declared.rows.DependencyKind.TheVariants as kind
 use Rattle.guide_tree.specs.declared.slot.Slot.{Slot}
 use Rattle.guide_tree.specs.Tree.{Tree, Trees, segment, loop, no_trees, tree, GuideTree, or_else}
-use Rattle.guide_tree.specs.Segments.{Segment, element_of, id_of, contains_text}
+use Rattle.guide_tree.specs.Segments.{Segment, element_of, id_of}
 use Rattle.guide_tree.specs.Conditions.{has_label}
 use Rattle.guide_tree.specs.Places.{Place}
-use Rattle.elem_rules.specs.Divided.{is_filled}
 use Rattle.elem_rules.specs.Rows.{reference_at}
-use Rattle.loop_match.specs.PlacedSegments.{PlacedSegment, placed_segments}
+use Rattle.loop_match.specs.PlacedSegments.{PlacedSegment, placed_segments, as_given}
+use Rattle.depend_check.specs.Standing.{stands_at, fills, triggers}
 
 -- the segment is a use of the slot with a label
 abbrev pub is_use : (label : List ℕ) → PlacedSegment → Bool
-is_use label p = has_label label p.slot
+is_use label p = stands_at label (as_given p)
 
 -- a use of the dependency's slot that has one of the listed codes in the element
 abbrev pub is_trigger : Dependency → PlacedSegment → Bool
-is_trigger d p = is_use d.slot p && contains_text d.codes (element_of p.segment d.at)
+is_trigger d p = triggers d (as_given p)
 
 -- there is one somewhere in the set
 abbrev pub is_triggered : Dependency → List PlacedSegment → Bool
@@ -85,7 +85,7 @@ element_fault p element code copy =
     }))
 
 abbrev pub has_element : Delims → PlacedSegment → (element : ℕ) → Bool
-has_element delims p element = is_filled delims (element_of p.segment element)
+has_element delims p element = fills delims element (as_given p)
 
 -- a use of the slot with a label that has an element, or hasn't
 pub record IsUseWith (delims : Delims) (placed : List PlacedSegment) (label : List ℕ) (element : ℕ) (there : Bool)
@@ -96,18 +96,22 @@ pub record IsUseWith (delims : Delims) (placed : List PlacedSegment) (label : Li
 
 -- What breaks a dependency once it is triggered. A need without an element: the slot isn't used. A ban without one: each use.
 -- A need of an element: each use without it. A ban of one: each use with it.
-abbrev pub IsBroken : Trees → Delims → (end : ℕ) → List PlacedSegment → (label : List ℕ) → DependencyKind → (element : ℕ) → Fault
-    → Type 0
-IsBroken ts delims end placed label kind.Need zero f =
+abbrev pub IsTargetBroken : Trees → Delims → (end : ℕ) → List PlacedSegment → (label : List ℕ) → DependencyKind → (element : ℕ)
+    → Fault → Type 0
+IsTargetBroken ts delims end placed label kind.Need zero f =
     (seat : Seat) × (seat_of ts label ≡ Some seat) × IsFalse (list_any (is_use label) placed) × (f ≡ unused_fault end seat)
-IsBroken ts delims end placed label kind.Ban zero f =
+IsTargetBroken ts delims end placed label kind.Ban zero f =
     (p : PlacedSegment) × Contains placed p × IsTrue (is_use label p) × (f ≡ use_fault p ik304.DependentNotUsedPresent None)
-IsBroken ts delims end placed label kind.Need (suc e) f =
+IsTargetBroken ts delims end placed label kind.Need (suc e) f =
     (p : PlacedSegment) × IsUseWith delims placed label (suc e) false p
     × (f ≡ element_fault p (suc e) ik403.DependentMissing [])
-IsBroken ts delims end placed label kind.Ban (suc e) f =
+IsTargetBroken ts delims end placed label kind.Ban (suc e) f =
     (p : PlacedSegment) × IsUseWith delims placed label (suc e) true p
     × (f ≡ element_fault p (suc e) ik403.DependentNotUsedPresent (element_of p.segment (suc e)))
+
+-- the same of a dependency
+abbrev pub IsBroken : Trees → Delims → (end : ℕ) → List PlacedSegment → Dependency → Fault → Type 0
+IsBroken ts delims end placed d f = IsTargetBroken ts delims end placed d.target d.kind d.element f
 
 -- a dependency of the guide is triggered by these segments, and broken
 pub record IsDependencyFault (g : GuideTree) (delims : Delims) (body : List Segment) (given : List (Option Place)) (end : ℕ) (f : Fault)
@@ -115,5 +119,4 @@ pub record IsDependencyFault (g : GuideTree) (delims : Delims) (body : List Segm
   pub dependency : Dependency
   pub listed : Contains g.depends dependency
   pub triggered : IsTrue (is_triggered dependency (placed_segments g.nodes body given))
-  pub broken : IsBroken g.nodes delims end (placed_segments g.nodes body given) dependency.target dependency.kind
-      dependency.element f
+  pub broken : IsBroken g.nodes delims end (placed_segments g.nodes body given) dependency f

@@ -1,26 +1,12 @@
 -- Own: a set keeps the dependencies of its guide, looked at alone: over its segments, each with the slot that a derivation gives it.
-use Rattle.std.specs.Prelude.{ℕ, zero, suc, IsTrue, IsFalse, List, Bool, ◌&&◌}
+use Rattle.std.specs.Prelude.{ℕ, zero, suc, IsTrue, IsFalse, List}
 use Rattle.std.specs.List.{Contains, list_any}
 use Rattle.x12_bytes.specs.declared.delims.Delims.{Delims}
 use Rattle.guide_tree.specs.declared.rows.Dependency.{Dependency}
 use Rattle.guide_tree.specs.declared.rows.DependencyKind.{DependencyKind}
 use Rattle.guide_tree.specs.declared.rows.DependencyKind.TheVariants as kind
-use Rattle.guide_tree.specs.Conditions.{has_label}
 use Rattle.guide_tree.specs.Grammar.{Given}
-use Rattle.guide_tree.specs.Segments.{element_of, contains_text}
-use Rattle.elem_rules.specs.Divided.{is_filled}
-
--- a segment's slot has the label
-abbrev pub stands_at : (label : List ℕ) → Given → Bool
-stands_at label x = has_label label x.1
-
--- a segment has the element
-abbrev pub fills : Delims → (element : ℕ) → Given → Bool
-fills delims element x = is_filled delims (element_of x.0 element)
-
--- a segment with its slot is a use of the dependency's slot that has one of the listed codes in its element
-abbrev pub triggers : Dependency → Given → Bool
-triggers d x = has_label d.slot x.1 && contains_text d.codes (element_of x.0 d.at)
+use Rattle.depend_check.specs.Standing.{stands_at, fills, triggers}
 
 -- What a dependency asks of segments with their slots: a needed slot is some segment's, a banned one none's; each segment of
 -- the slot has a needed element, none has a banned one.

@@ -1,3 +1,4 @@
+pub mod Standing
 pub mod Dependencies
 pub mod Kept
 pub mod Viewed

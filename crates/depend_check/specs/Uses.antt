@@ -55,7 +55,7 @@ lent ds = map (λ (d : Bor Dependency). d.now) ds
 -- one of these dependencies, all of which are triggered, is broken
 abbrev pub IsBrokenAmong : Trees → Delims → (end : ℕ) → List PlacedSegment → List Dependency → Fault → Type 0
 IsBrokenAmong ts delims end placed ds f =
-    (d : Dependency) × Contains ds d × IsBroken ts delims end placed d.target d.kind d.element f
+    (d : Dependency) × Contains ds d × IsBroken ts delims end placed d f
 
 -- a dependency of the list is triggered by placed segments, and broken
 pub record IsFound (ts : Trees) (delims : Delims) (end : ℕ) (placed : List PlacedSegment) (depends : List Dependency) (f : Fault)
@@ -63,7 +63,7 @@ pub record IsFound (ts : Trees) (delims : Delims) (end : ℕ) (placed : List Pla
   pub dependency : Dependency
   pub listed : Contains depends dependency
   pub triggered : IsTrue (is_triggered dependency placed)
-  pub broken : IsBroken ts delims end placed dependency.target dependency.kind dependency.element f
+  pub broken : IsBroken ts delims end placed dependency f
 
 -- two dependencies ask the same of the same slot
 pub record HaveSameTarget (d e : Dependency) : Type 0 where
@@ -73,4 +73,4 @@ pub record HaveSameTarget (d e : Dependency) : Type 0 where
 
 -- a dependency is triggered by placed segments, and broken
 abbrev pub IsFoundBy : Trees → Delims → (end : ℕ) → List PlacedSegment → Dependency → Fault → Type 0
-IsFoundBy ts delims end placed d f = IsTrue (is_triggered d placed) × IsBroken ts delims end placed d.target d.kind d.element f
+IsFoundBy ts delims end placed d f = IsTrue (is_triggered d placed) × IsBroken ts delims end placed d f

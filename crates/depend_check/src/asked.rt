@@ -83,8 +83,7 @@ fn add_broken(
 ) -> Result<(), NoMemory>
     requires { AreByLabel placed.now }
     ensures { OnOk result ((f : Fault) → Contains faults.new.items f ↔ (Contains faults.old.items f
-        ⊎ IsBroken (nodes_view nodes.now) delims end (placed_views placed.now) dependency.now.target dependency.now.kind
-        dependency.now.element f)) }
+        ⊎ IsBroken (nodes_view nodes.now) delims end (placed_views placed.now) dependency.now f)) }
 {
     let uses = uses_of(dependency.target.as_slice(), placed);
     add_left_out(alloc, faults, nodes, end, uses, dependency)?;

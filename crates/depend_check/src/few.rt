@@ -1,9 +1,10 @@
 ghost use Rattle.std.specs.Prelude.{◌≡◌, ◌↔◌, ◌⊎◌, IfOk, OnOk};
 ghost use Rattle.std.specs.List.{Contains, list_any};
 ghost use Rattle.x12_segs.specs.View.{elements_of};
-ghost use Rattle.guide_tree.specs.Segments.{contains_text, element_of};
+ghost use Rattle.guide_tree.specs.Segments.{element_of};
 ghost use Rattle.guide_tree.specs.View.{nodes_view};
 ghost use Rattle.hub_kinds.specs.declared.fault.Fault.{Fault};
+ghost use Rattle.hub_kinds.specs.TextList.{contains_text};
 ghost use Rattle.loop_match.specs.Viewed.{placed_view, placed_views};
 ghost use Rattle.depend_check.specs.Dependencies.{is_trigger, is_triggered, IsBroken};
 ghost use Rattle.depend_check.specs.Uses.{IsFound, IsFoundBy};
@@ -11,8 +12,8 @@ ghost use Rattle.depend_check.specs.Uses.{IsFound, IsFoundBy};
 use crate::asked::add_left_out;
 use crate::uses::{add_uses, is_use};
 use guide_tree::{Dependency, Node};
-use hub_kinds::{Fault, NoMemory};
-use loop_match::{PlacedSeg, contains_text, text_at};
+use hub_kinds::{Fault, NoMemory, contains_text};
+use loop_match::{PlacedSeg, text_at};
 use std::alloc::Global;
 use x12_bytes::Delims;
 
@@ -54,8 +55,7 @@ fn add_broken_by(
     dependency: &Dependency,
 ) -> Result<(), NoMemory>
     ensures { OnOk result ((f : Fault) → Contains faults.new.items f ↔ (Contains faults.old.items f
-        ⊎ IsBroken (nodes_view nodes.now) delims end (placed_views placed.now) dependency.now.target dependency.now.kind
-        dependency.now.element f)) }
+        ⊎ IsBroken (nodes_view nodes.now) delims end (placed_views placed.now) dependency.now f)) }
 {
     add_left_out(alloc, faults, nodes, end, placed, dependency)?;
     add_uses(alloc, faults, delims, dependency, placed)

@@ -1,5 +1,4 @@
 ghost use Rattle.std.specs.Prelude.{◌≡◌, option_map};
-ghost use Rattle.guide_tree.specs.Conditions.{has_label};
 ghost use Rattle.guide_tree.specs.View.{nodes_view};
 ghost use Rattle.depend_check.specs.Dependencies.{seat_among};
 ghost use Rattle.depend_check.specs.Viewed.{seat_view};
@@ -13,16 +12,6 @@ pub struct GuideSeat<'g> {
     pub loop_id: &'g [u8],
 }
 
-/// Whether a slot has a label.
-pub fn has_label(slot: &Slot, label: &[u8]) -> bool
-    ensures { result ≡ has_label label.now slot.now }
-{
-    match &slot.label {
-        None => false,
-        Some(own) => own.as_slice() == label,
-    }
-}
-
 /// The first slot of nodes in a loop that has a label.
 pub fn seat_among<'g>(outer: &'g [u8], nodes: &'g [Node], label: &[u8]) -> Option<GuideSeat<'g>>
     ensures { option_map seat_view result ≡ seat_among outer.entry.now label.now (nodes_view nodes.entry.now) }
@@ -30,7 +19,7 @@ pub fn seat_among<'g>(outer: &'g [u8], nodes: &'g [Node], label: &[u8]) -> Optio
     for node in nodes {
         let found = match node {
             Node::Segment(slot) => {
-                if has_label(slot, label) {
+                if slot.has_label(label) {
                     Some(GuideSeat {
                         slot,
                         loop_id: outer,

@@ -5,7 +5,6 @@ ghost use Rattle.depend_check.specs.Found.{is_broken_by, faults_of_use, is_left_
 ghost use Rattle.loop_match.specs.Viewed.{placed_view, placed_views};
 
 use crate::fault::told_of;
-use crate::seat::has_label;
 use elem_rules::is_empty;
 use guide_tree::{Dependency, DependencyKind};
 use hub_kinds::{Fault, NoMemory};
@@ -17,7 +16,7 @@ use x12_bytes::Delims;
 pub fn is_use(label: &[u8], placed: &PlacedSeg) -> bool
     ensures { result ≡ is_use label.now (placed_view placed.now) }
 {
-    has_label(placed.slot, label)
+    placed.slot.has_label(label)
 }
 
 fn has_use(label: &[u8], placed: &[PlacedSeg]) -> bool

@@ -19,7 +19,7 @@ use Rattle.guide_tree.specs.Segments.{Segment, element_of}
 use Rattle.elem_rules.specs.Divided.{is_filled}
 use Rattle.elem_rules.specs.Conditions.{is_present, absent, broken_at}
 use Rattle.elem_rules.specs.Found.{text_at, texts_of, is_present_in}
-use Rattle.elem_rules.proofs.Both.{both}
+use Rattle.moment.proofs.Both.{both}
 
 pub text_of_row : (slot : Slot) (s : Segment) (position : ℕ) → 1 ≤ position → position ≤ length slot.elements
     → text_at (texts_of slot s) position ≡ element_of s position

@@ -15,7 +15,8 @@ use Rattle.guide_tree.specs.Segments.{Segment}
 use Rattle.hub_kinds.specs.declared.codes.ElementCode.TheVariants as ik403
 use Rattle.x12_bytes.specs.declared.delims.Delims.{Delims}
 use Rattle.elem_rules.specs.ElementFaults.{IsElementFault, wrong_at, copy_in, hierarchy_copy}
-use Rattle.elem_rules.specs.Values.{value_fault, is_date, is_time}
+use Rattle.elem_rules.specs.Values.{value_fault}
+use Rattle.moment.specs.Calendar.{is_date, is_time}
 
 delims : Delims
 delims = record { element = 42; component = 62; repetition = Some 94; terminator = 126 }

@@ -10,7 +10,7 @@ use Rattle.guide_tree.specs.declared.element.ElementType.TheVariants.{Text, Iden
 use Rattle.guide_tree.specs.declared.element.SimpleRow.{SimpleRow}
 use Rattle.elem_rules.specs.Clean.{is_free, is_free_text, is_strange}
 use Rattle.elem_rules.specs.Values.{calendar_fault, code_fault, is_character, is_form, value_fault, value_length}
-use Rattle.elem_rules.proofs.Both.{both}
+use Rattle.moment.proofs.Both.{both}
 use Rattle.elem_rules.proofs.Plain.{narrow_characters}
 
 free_form : (t : ElementType) (codes : Option CodeList) (wide : Bool) (text : List ℕ) → is_free t codes ≡ true

@@ -1,5 +1,4 @@
 pub mod Agreeing
-pub mod Both
 pub mod Bounded
 pub mod Examples
 pub mod Free
@@ -9,7 +8,6 @@ pub mod Marks
 pub mod Measures
 pub mod Members
 pub mod Membership
-pub mod Moments
 pub mod Plain
 pub mod Quick
 pub mod Shown

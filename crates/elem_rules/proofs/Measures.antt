@@ -7,8 +7,9 @@ use Rattle.std.proofs.lemmas.Bool.{eqb-true, le-leb, lt-leb, false≢true}
 use Rattle.std.proofs.lemmas.List.Sums.{length-filter}
 use Rattle.guide_tree.specs.declared.element.ElementType.{ElementType}
 use Rattle.guide_tree.specs.declared.element.ElementType.TheVariants.{Number}
-use Rattle.elem_rules.specs.Values.{without_sign, is_whole, is_digits, is_point, is_decimal, is_form, value_length}
-use Rattle.elem_rules.proofs.Both.{both}
+use Rattle.elem_rules.specs.Values.{without_sign, is_whole, is_point, is_decimal, is_form, value_length}
+use Rattle.moment.specs.Calendar.{is_digits}
+use Rattle.moment.proofs.Both.{both}
 
 -- digits alone are all counted
 all_digits : (text : List ℕ) → is_digits text ≡ true → length (filter is_ascii_digit text) ≡ length text

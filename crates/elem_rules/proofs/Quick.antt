@@ -46,7 +46,7 @@ use Rattle.elem_rules.proofs.Membership.{is_found}
 use Rattle.elem_rules.proofs.Agreeing.{text_of_row, broken_agrees, positions_have_rows, conditions_hold}
 use Rattle.std.proofs.lemmas.List.Elements.{All-weaker, All-head, All-tail, All-nil, All-cons}
 use Rattle.elem_rules.specs.Clean.{is_set, marked, bits_to, has_bytes, is_optional, fits_empty, fits_value, fits, holds}
-use Rattle.elem_rules.proofs.Both.{both}
+use Rattle.moment.proofs.Both.{both}
 use Rattle.elem_rules.proofs.Plain.{IsPlain, one_component, one_occurrence, filled_plain}
 
 pub drop_nil : {A : Type 0} (n : ℕ) (xs : List A) → xs ≡ [] → drop n xs ≡ []

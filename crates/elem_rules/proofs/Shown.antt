@@ -18,11 +18,12 @@ use Rattle.guide_tree.specs.declared.element.Component.{Component}
 use Rattle.guide_tree.specs.declared.element.Component.TheVariants as component
 use Rattle.guide_tree.specs.declared.element.Element.{Element}
 use Rattle.guide_tree.specs.declared.element.Element.TheVariants as element
-use Rattle.guide_tree.specs.Segments.{contains_text}
 use Rattle.hub_kinds.specs.declared.codes.ElementCode.{ElementCode}
 use Rattle.hub_kinds.specs.declared.codes.ElementCode.TheVariants as ik403
+use Rattle.hub_kinds.specs.TextList.{contains_text}
 use Rattle.elem_rules.specs.Divided.{is_empty, occurrence_in, component_in}
-use Rattle.elem_rules.specs.Values.{is_form, value_length, is_date, is_time, code_fault, calendar_fault, value_fault}
+use Rattle.elem_rules.specs.Values.{is_form, value_length, code_fault, calendar_fault, value_fault}
+use Rattle.moment.specs.Calendar.{is_date, is_time}
 use Rattle.elem_rules.specs.Rows.{Usage, simple_usage, composite_usage, nth, shown_component, shown_repetition, component_reference}
 use Rattle.elem_rules.specs.Rows.{reference_in}
 use Rattle.elem_rules.specs.ElementFaults.{copy_in, missing_fault, component_fault, whole_fault}

@@ -25,25 +25,28 @@ use Rattle.elem_rules.specs.Values.{value_fault}
 -- What is shown of a fault, by its place and code. A place is the number of an element, of a component of it and of a
 -- repetition of it; the last two are 0 where they aren't shown.
 
+-- a component of an occurrence of an element
+abbrev pub part_at : Delims → List ℕ → (component repetition : ℕ) → List ℕ
+part_at delims element component repetition = component_in delims (occurrence_in delims element repetition) component
+
 -- the text that a code speaks of: nothing that is missing; the whole element; an occurrence; else a component
 abbrev pub copy_in : Delims → List ℕ → (component repetition : ℕ) → ElementCode → List ℕ
 copy_in delims element component repetition ik403.RequiredMissing = []
 copy_in delims element component repetition ik403.ConditionalMissing = []
 copy_in delims element component repetition ik403.TooManyElements = element
-copy_in delims element component repetition ik403.TooShort = component_in delims (occurrence_in delims element repetition) component
-copy_in delims element component repetition ik403.TooLong = component_in delims (occurrence_in delims element repetition) component
-copy_in delims element component repetition ik403.InvalidCharacter = component_in delims (occurrence_in delims element repetition) component
-copy_in delims element component repetition ik403.InvalidCode = component_in delims (occurrence_in delims element repetition) component
-copy_in delims element component repetition ik403.InvalidDate = component_in delims (occurrence_in delims element repetition) component
-copy_in delims element component repetition ik403.InvalidTime = component_in delims (occurrence_in delims element repetition) component
+copy_in delims element component repetition ik403.TooShort = part_at delims element component repetition
+copy_in delims element component repetition ik403.TooLong = part_at delims element component repetition
+copy_in delims element component repetition ik403.InvalidCharacter = part_at delims element component repetition
+copy_in delims element component repetition ik403.InvalidCode = part_at delims element component repetition
+copy_in delims element component repetition ik403.InvalidDate = part_at delims element component repetition
+copy_in delims element component repetition ik403.InvalidTime = part_at delims element component repetition
 copy_in delims element component repetition ik403.ExclusionViolated = element
 copy_in delims element component repetition ik403.TooManyRepetitions = occurrence_in delims element repetition
-copy_in delims element component repetition ik403.TooManyComponents =
-    component_in delims (occurrence_in delims element repetition) component
-copy_in delims element component repetition ik403.CodeNotUsed = component_in delims (occurrence_in delims element repetition) component
+copy_in delims element component repetition ik403.TooManyComponents = part_at delims element component repetition
+copy_in delims element component repetition ik403.CodeNotUsed = part_at delims element component repetition
 copy_in delims element component repetition ik403.DependentMissing = []
 copy_in delims element component repetition ik403.NotUsedPresent =
-    if component == 0 then element else component_in delims (occurrence_in delims element repetition) component
+    if component == 0 then element else part_at delims element component repetition
 copy_in delims element component repetition ik403.PatternFailure = element
 copy_in delims element component repetition ik403.DependentNotUsedPresent = element
 

@@ -1,27 +1,23 @@
--- X12.6, data element types: what a value is made of, how its length is counted, which dates and times there are; and
--- the 999 guide, IK403: the first fault of a value. Dates of six digits are own.
-use Rattle.std.specs.Prelude.{ℕ, ◌==◌, ◌+◌, nat_le, nat_lt, List, [], ◌∷◌, length, take, drop, pos}
+-- X12.6, data element types: what a value is made of and how its length is counted; and the 999 guide, IK403: the first fault of
+-- a value.
+use Rattle.std.specs.Prelude.{ℕ, ◌==◌, nat_le, nat_lt, List, [], ◌∷◌, length}
 use Rattle.std.specs.Prelude.{Option, Some, None, Bool, false, ◌&&◌, ◌||◌, not, if◌then◌else◌}
 use Rattle.std.specs.List.{list_any, list_all, count_by}
 use Rattle.std.specs.Option.{option_map_or, option_or}
 use Rattle.std.specs.Char.{is_ascii_digit}
-use Rattle.jiff.specs.Words.{days_in_month}
 use Rattle.guide_tree.specs.declared.element.ElementType.{ElementType}
 use Rattle.guide_tree.specs.declared.element.ElementType.TheVariants.{Text, Identifier, Number, Decimal, Date, Time}
 use Rattle.guide_tree.specs.declared.element.CodeList.{CodeList}
 use Rattle.guide_tree.specs.declared.element.SimpleRow.{SimpleRow}
 use Rattle.guide_tree.specs.Bounds.{is_within}
-use Rattle.guide_tree.specs.Segments.{contains_text}
 use Rattle.hub_kinds.specs.declared.codes.ElementCode.{ElementCode}
 use Rattle.hub_kinds.specs.declared.codes.ElementCode.TheVariants as ik403
-use Rattle.elem_rules.specs.Moment.{pair_at, year_of}
+use Rattle.hub_kinds.specs.TextList.{contains_text}
+use Rattle.moment.specs.Calendar.{is_digits, is_date, is_time}
 
 -- from space to tilde, and where the row is wide from 0x80 on
 abbrev pub is_character : Bool → ℕ → Bool
 is_character wide byte = is_within 32 126 byte || (wide && nat_le 128 byte)
-
-abbrev pub is_digits : List ℕ → Bool
-is_digits text = list_all is_ascii_digit text
 
 -- a number without the minus sign that it may begin with
 abbrev pub without_sign : List ℕ → List ℕ
@@ -59,33 +55,6 @@ value_length (Number places) text = count_by is_ascii_digit text
 value_length Decimal text = count_by is_ascii_digit text
 value_length Date text = length text
 value_length Time text = length text
-
--- the calendar has this day
-abbrev pub is_day : ℕ → ℕ → ℕ → Bool
-is_day year month day = is_within 1 12 month && is_within 1 (days_in_month (pos year) month) day
-
--- CCYYMMDD of the years 0001 to 9999
-abbrev pub is_long_date : List ℕ → Bool
-is_long_date text = (length text == 8) && nat_le 1 (year_of text) && is_day (year_of text) (pair_at text 4) (pair_at text 6)
-
--- YYMMDD of the years 2000 to 2099
-abbrev pub is_short_date : List ℕ → Bool
-is_short_date text = (length text == 6) && is_day (2000 + pair_at text 0) (pair_at text 2) (pair_at text 4)
-
-abbrev pub is_date : List ℕ → Bool
-is_date text = is_digits text && (is_long_date text || is_short_date text)
-
--- HHMM, or HHMMSS, HHMMSSD, HHMMSSDD
-abbrev pub is_time : List ℕ → Bool
-is_time text =
-    is_digits text
-    && ((length text == 4) || (is_within 6 8 (length text) && nat_le (pair_at text 4) 59))
-    && nat_le (pair_at text 0) 23
-    && nat_le (pair_at text 2) 59
-
--- a moment is twelve digits, of which the first eight are a date and the last four a time
-abbrev pub is_moment : List ℕ → Bool
-is_moment text = (length text == 12) && is_date (take 8 text) && is_time (drop 8 text)
 
 -- a value that isn't among the used codes of its row: known, but not used, or not known
 abbrev pub code_fault : Option CodeList → List ℕ → Option ElementCode

@@ -5,8 +5,8 @@ ghost use Rattle.std.specs.Char.{is_ascii_digit};
 ghost use Rattle.elem_rules.specs.Clean.{is_strange};
 ghost use Rattle.elem_rules.specs.Values.{is_character, without_sign, is_whole, is_point, is_decimal, is_form, value_length};
 
-use crate::calendar::is_digits;
 use guide_tree::ElementType;
+use moment::is_digits;
 
 pub fn is_character(byte: u8, wide: bool) -> bool
     ensures { result ≡ is_character wide byte }

@@ -1,15 +1,14 @@
 //! Rules of data elements: what is wrong with the elements of a segment, by the rows and conditions that a guide has for
-//! it, and the moment of a run. Nothing here looks at more than one segment.
+//! it. Nothing here looks at more than one segment.
 //!
 //! Proved:
 //! - `check_segment` gives exactly the faults of a segment's elements: each fault of the definition and no other, each
 //!   once, rising by element, component, repetition and code, for any bytes, delimiters and number of elements. A fault
 //!   shows the reference number of the row at its place and, whole, the text that its code speaks of;
-//! - `At::read` answers a moment exactly for the twelve digits CCYYMMDDHHMM of a day and a time that exist, which is
-//!   where `check_segment` finds nothing wrong with the first eight as a date and the last four as a time;
 //! - `is_empty` and `reference_at`, by which crates above tell of elements: whether a text counts as empty, and the reference
-//!   number of the row at a position;
-//! - `date`, `short_date` and `time` are a moment's CCYYMMDD, YYMMDD and HHMM.
+//!   number of the row at a position.
+//!
+//! The moment of a run, `At`, is given on from `moment`, by whose calendar dates and times are judged.
 //!
 //! A segment is walked a fixed number of times, whatever its rows and conditions; memory is taken for the texts of the
 //! elements that have rows, for the positions at which one condition is broken and for the faults alone. A segment without
@@ -17,7 +16,7 @@
 //! are broken at one element, however many, one fault is made for each code.
 //!
 //! Source: X12.6, data element types, composite and repeated data elements, relational conditions; the 999 guide
-//! (005010X231), IK4. `jiff` says which days exist. What counts as empty, and dates of six digits, are own.
+//! (005010X231), IK4. What counts as empty is own.
 //!
 //! As its trial, the crate `trial_guides`, calls it:
 //!
@@ -30,7 +29,6 @@
 #![tactic(auto)]
 
 mod broken;
-mod calendar;
 mod check;
 mod clean;
 mod conditions;
@@ -38,7 +36,6 @@ mod divided;
 mod element;
 mod findings;
 mod form;
-mod moment;
 mod occurrence;
 mod presence;
 mod value;

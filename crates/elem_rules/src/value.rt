@@ -1,29 +1,14 @@
 ghost use Rattle.std.specs.Prelude.{◌≡◌, false};
 ghost use Rattle.std.specs.Bool.{OnTrue};
 ghost use Rattle.std.specs.List.{list_any};
-ghost use Rattle.std.specs.Str.{bytes_eq};
 ghost use Rattle.std.specs.Option.{option_map};
-ghost use Rattle.guide_tree.specs.Segments.{contains_text};
 ghost use Rattle.elem_rules.specs.Clean.{is_strange};
 ghost use Rattle.elem_rules.specs.Values.{code_fault, calendar_fault, value_fault};
 
-use crate::calendar::{is_date, is_time};
 use crate::form::measured;
 use guide_tree::{CodeList, ElementType, SimpleRow};
-use hub_kinds::{ElementCode, Text};
-
-fn contains_text(texts: &[Text], text: &[u8]) -> bool
-    ensures { result ≡ contains_text texts.now text.now }
-{
-    texts.iter().any(|listed| is_same(listed.as_slice(), text))
-}
-
-/// Whether two texts are the same; most codes of a list differ from a value by their length or their first byte.
-fn is_same(listed: &[u8], text: &[u8]) -> bool
-    ensures { result ≡ bytes_eq listed.now text.now }
-{
-    listed.len() == text.len() && listed == text
-}
+use hub_kinds::{ElementCode, contains_text};
+use moment::{is_date, is_time};
 
 fn code_fault(codes: Option<&CodeList>, text: &[u8]) -> Option<ElementCode>
     ensures { result ≡ code_fault (option_map (λ listed. listed.now) codes.entry) text.now }

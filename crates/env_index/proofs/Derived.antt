@@ -4,16 +4,16 @@ use Rattle.std.proofs.Common.{arith, append_assoc}
 use Rattle.std.specs.List.{flat_map, list_all}
 use Rattle.x12_segs.specs.View.{SegValue}
 use Rattle.x12_segs.specs.Kinds.{kind_of, is_inner}
-use Rattle.env_index.specs.Envelope.{Set, InGroup, ASet, OutOfGroup, Group, InBody, ANotice, AGroup, OutOfBody, Body, option_items}
+use Rattle.env_index.specs.Envelope.{Set, InGroup, ASet, OutOfGroup, Group, InBody, ATa1, AGroup, OutOfBody, Body, option_items}
 use Rattle.env_index.specs.Envelope.{set_items, in_group_items, group_items, in_body_items, ends_set, ends_group, is_out_of_group}
 use Rattle.env_index.specs.Envelope.{is_out_of_body, MayFollow, Closed, IsSet, AreMembers, IsGroup, AreBodyMembers, Derives}
 use Rattle.x12_segs.specs.declared.kind.Kind.{Kind}
-use Rattle.x12_segs.specs.declared.kind.Kind.TheVariants.{InterchangeTrailer, GroupHeader, GroupTrailer, SetHeader, SetTrailer, Notice}
+use Rattle.x12_segs.specs.declared.kind.Kind.TheVariants.{InterchangeTrailer, GroupHeader, GroupTrailer, SetHeader, SetTrailer, Ta1}
 use Rattle.x12_segs.specs.declared.kind.Kind.TheVariants.{Other}
 use Rattle.env_index.specs.declared.entry.SetEnvelope.{SetEnvelope}
 use Rattle.env_index.specs.Extents.{behind, behind_last}
 use Rattle.env_index.specs.Summary.{Summary, set_entry, sets_in, group_entry, has_misplaced_in_group, summary_of}
-use Rattle.env_index.proofs.Tails.{GroupTail, SetTail, Tails, left_open, cut_off, no_segments, with_notice, with_misplaced, with_group}
+use Rattle.env_index.proofs.Tails.{GroupTail, SetTail, Tails, left_open, cut_off, no_segments, with_ta1, with_misplaced, with_group}
 use Rattle.env_index.proofs.Tails.{with_set, onto_body, onto_group, onto_set, tails, summed}
 
 -- where a set may be left without SE, an open set ends
@@ -27,7 +27,7 @@ closes_set (x ∷ xs) h = by_kind (kind_of x) h
     by_kind GroupTrailer h = refl
     by_kind SetHeader h = refl
     by_kind SetTrailer h = cc
-    by_kind Notice h = cc
+    by_kind Ta1 h = cc
     by_kind Other h = cc
 
 -- where a group may be left without GE, an open group ends
@@ -41,7 +41,7 @@ closes_group (x ∷ xs) h = by_kind (kind_of x) h
     by_kind GroupTrailer h = cc
     by_kind SetHeader h = cc
     by_kind SetTrailer h = cc
-    by_kind Notice h = cc
+    by_kind Ta1 h = cc
     by_kind Other h = cc
 
 -- what an open set goes on with, where it goes on with these segments
@@ -86,7 +86,7 @@ in_open_set (x ∷ xs) close rest all closed = by_kind (kind_of x) (λ others. i
     by_kind GroupTrailer more all = cc
     by_kind SetHeader more all = cc
     by_kind SetTrailer more all = cc
-    by_kind Notice more all = one_more _ (more all)
+    by_kind Ta1 more all = one_more _ (more all)
     by_kind Other more all = one_more _ (more all)
 
 -- a set in front of what an open group goes on with
@@ -138,7 +138,7 @@ members_in_front (OutOfGroup x ∷ ms) rest are = by_kind (kind_of x) are.0 (mem
     by_kind GroupTrailer out goes_on = cc
     by_kind SetHeader out goes_on = cc
     by_kind SetTrailer out goes_on = ap (λ (t : GroupTail). (let u : GroupTail = record t { misplaced = true } in u)) goes_on
-    by_kind Notice out goes_on = ap (λ (t : GroupTail). (let u : GroupTail = record t { misplaced = true } in u)) goes_on
+    by_kind Ta1 out goes_on = ap (λ (t : GroupTail). (let u : GroupTail = record t { misplaced = true } in u)) goes_on
     by_kind Other out goes_on = ap (λ (t : GroupTail). (let u : GroupTail = record t { misplaced = true } in u)) goes_on
 
 -- the end of a group
@@ -169,7 +169,7 @@ members_told (OutOfGroup x ∷ ms) close after = ap (λ (t : GroupTail). (let u 
 abbrev front_group : Group SegValue → Summary → Summary
 front_group g s = record {
   groups = group_entry g ∷ s.groups;
-  notices = s.notices;
+  ta1s = s.ta1s;
   misplaced = has_misplaced_in_group g.members || s.misplaced;
   trailer = s.trailer;
 }
@@ -198,18 +198,18 @@ group_in_front g rest is =
 -- what stands in the interchange, in front of what it goes on with
 abbrev front_body : List (InBody SegValue) → Summary → Summary
 front_body [] s = s
-front_body (ANotice x ∷ ms) s = with_notice (front_body ms s)
+front_body (ATa1 x ∷ ms) s = with_ta1 (front_body ms s)
 front_body (AGroup g ∷ ms) s = front_group g (front_body ms s)
 front_body (OutOfBody x ∷ ms) s = with_misplaced (front_body ms s)
 
 body_in_front : (ms : List (InBody SegValue)) (rest : List SegValue) → AreBodyMembers kind_of ms rest
     → (tails (flat_map in_body_items ms ++ rest)).in_body ≡ front_body ms (tails rest).in_body
 body_in_front [] rest are = refl
-body_in_front (ANotice x ∷ ms) rest are = by_kind (kind_of x) are.0 (body_in_front ms rest are.1)
+body_in_front (ATa1 x ∷ ms) rest are = by_kind (kind_of x) are.0 (body_in_front ms rest are.1)
   where
-    by_kind : (k : Kind) → k ≡ Notice → (tails (flat_map in_body_items ms ++ rest)).in_body ≡ front_body ms (tails rest).in_body
-        → onto_body k x (tails (flat_map in_body_items ms ++ rest)) ≡ with_notice (front_body ms (tails rest).in_body)
-    by_kind k is goes_on = rw is (ap with_notice goes_on)
+    by_kind : (k : Kind) → k ≡ Ta1 → (tails (flat_map in_body_items ms ++ rest)).in_body ≡ front_body ms (tails rest).in_body
+        → onto_body k x (tails (flat_map in_body_items ms ++ rest)) ≡ with_ta1 (front_body ms (tails rest).in_body)
+    by_kind k is goes_on = rw is (ap with_ta1 goes_on)
 body_in_front (AGroup g ∷ ms) rest are =
     ap (λ (segs : List SegValue). (tails segs).in_body) (append_assoc (group_items g) (flat_map in_body_items ms) rest)
     ∙ group_in_front g (flat_map in_body_items ms ++ rest) are.0
@@ -221,7 +221,7 @@ body_in_front (OutOfBody x ∷ ms) rest are = by_kind (kind_of x) are.0 (body_in
         → onto_body k x (tails (flat_map in_body_items ms ++ rest)) ≡ with_misplaced (front_body ms (tails rest).in_body)
     by_kind InterchangeTrailer out goes_on = cc
     by_kind GroupHeader out goes_on = cc
-    by_kind Notice out goes_on = cc
+    by_kind Ta1 out goes_on = cc
     by_kind GroupTrailer out goes_on = ap with_misplaced goes_on
     by_kind SetHeader out goes_on = ap with_misplaced goes_on
     by_kind SetTrailer out goes_on = ap with_misplaced goes_on
@@ -229,20 +229,20 @@ body_in_front (OutOfBody x ∷ ms) rest are = by_kind (kind_of x) are.0 (body_in
 
 -- what stands in the interchange, in front of its end
 body_told : (ms : List (InBody SegValue)) (close : Option SegValue)
-    → front_body ms (record { groups = []; notices = 0; misplaced = false; trailer = close })
+    → front_body ms (record { groups = []; ta1s = 0; misplaced = false; trailer = close })
     ≡ summary_of (record { members = ms; trailer = close })
 body_told [] close = refl
-body_told (ANotice x ∷ ms) close = ap with_notice (body_told ms close)
+body_told (ATa1 x ∷ ms) close = ap with_ta1 (body_told ms close)
 body_told (AGroup g ∷ ms) close = ap (front_group g) (body_told ms close)
 body_told (OutOfBody x ∷ ms) close = ap with_misplaced (body_told ms close)
 
 body_ends : (close : Option SegValue) → Closed kind_of InterchangeTrailer (λ k. false) close []
-    → (tails (option_items close)).in_body ≡ record { groups = []; notices = 0; misplaced = false; trailer = close }
+    → (tails (option_items close)).in_body ≡ record { groups = []; ta1s = 0; misplaced = false; trailer = close }
 body_ends None closed = refl
 body_ends (Some x) closed = by_kind (kind_of x) closed
   where
     by_kind : (k : Kind) → k ≡ InterchangeTrailer
-        → onto_body k x no_segments ≡ record { groups = []; notices = 0; misplaced = false; trailer = Some x }
+        → onto_body k x no_segments ≡ record { groups = []; ta1s = 0; misplaced = false; trailer = Some x }
     by_kind k is = rw is refl
 
 -- segments that derive a tree sum up to its summary

@@ -4,9 +4,9 @@ use Rattle.std.specs.List.{flat_map, list_all}
 use Rattle.std.proofs.lemmas.Bool.{and_parts}
 use Rattle.x12_segs.specs.Kinds.{is_inner}
 use Rattle.x12_segs.specs.declared.kind.Kind.{Kind}
-use Rattle.x12_segs.specs.declared.kind.Kind.TheVariants.{InterchangeTrailer, GroupHeader, GroupTrailer, SetHeader, SetTrailer, Notice}
+use Rattle.x12_segs.specs.declared.kind.Kind.TheVariants.{InterchangeTrailer, GroupHeader, GroupTrailer, SetHeader, SetTrailer, Ta1}
 use Rattle.x12_segs.specs.declared.kind.Kind.TheVariants.{Other}
-use Rattle.env_index.specs.Envelope.{Set, InGroup, ASet, OutOfGroup, Group, InBody, ANotice, AGroup, OutOfBody, Body, option_items}
+use Rattle.env_index.specs.Envelope.{Set, InGroup, ASet, OutOfGroup, Group, InBody, ATa1, AGroup, OutOfBody, Body, option_items}
 use Rattle.env_index.specs.Envelope.{set_items, in_group_items, group_items, in_body_items, ends_set, ends_group, is_out_of_group}
 use Rattle.env_index.specs.Envelope.{is_out_of_body, Closed, IsSet, AreMembers, IsGroup, AreBodyMembers, Derives}
 use Rattle.env_index.specs.Extents.{ends_interchange}
@@ -18,7 +18,7 @@ inner_is_no_trailer GroupHeader inner = refl
 inner_is_no_trailer GroupTrailer inner = refl
 inner_is_no_trailer SetHeader inner = refl
 inner_is_no_trailer SetTrailer inner = refl
-inner_is_no_trailer Notice inner = refl
+inner_is_no_trailer Ta1 inner = refl
 inner_is_no_trailer Other inner = refl
 
 out_of_group_is_no_trailer : (k : Kind) → is_out_of_group k ≡ true → ends_interchange k ≡ false
@@ -27,7 +27,7 @@ out_of_group_is_no_trailer GroupHeader out = refl
 out_of_group_is_no_trailer GroupTrailer out = refl
 out_of_group_is_no_trailer SetHeader out = refl
 out_of_group_is_no_trailer SetTrailer out = refl
-out_of_group_is_no_trailer Notice out = refl
+out_of_group_is_no_trailer Ta1 out = refl
 out_of_group_is_no_trailer Other out = refl
 
 out_of_body_is_no_trailer : (k : Kind) → is_out_of_body k ≡ true → ends_interchange k ≡ false
@@ -36,7 +36,7 @@ out_of_body_is_no_trailer GroupHeader out = refl
 out_of_body_is_no_trailer GroupTrailer out = refl
 out_of_body_is_no_trailer SetHeader out = refl
 out_of_body_is_no_trailer SetTrailer out = refl
-out_of_body_is_no_trailer Notice out = refl
+out_of_body_is_no_trailer Ta1 out = refl
 out_of_body_is_no_trailer Other out = refl
 
 module _ {X : Type 0} (kind : X → Kind) where
@@ -84,7 +84,7 @@ module _ {X : Type 0} (kind : X → Kind) where
 
   body_without : (ms : List (InBody X)) (rest : List X) → AreBodyMembers kind ms rest → NoTrailer (flat_map in_body_items ms)
   body_without [] rest are = tt
-  body_without (ANotice x ∷ ms) rest are = (ap ends_interchange are.0, body_without ms rest are.1)
+  body_without (ATa1 x ∷ ms) rest are = (ap ends_interchange are.0, body_without ms rest are.1)
   body_without (AGroup g ∷ ms) rest are =
       both_without (group_items g) (flat_map in_body_items ms) (group_without g (flat_map in_body_items ms ++ rest) are.0)
       (body_without ms rest are.1)

@@ -12,7 +12,7 @@ use Rattle.x12_segs.specs.Segs.{Seg, segs_from, rest_from}
 use Rattle.x12_segs.specs.View.{SegValue, view_of}
 use Rattle.x12_segs.specs.Kinds.{kind_of}
 use Rattle.x12_segs.proofs.OrderLemmas.{StandInOrder, segs_in_order}
-use Rattle.env_index.specs.Envelope.{InGroup, ASet, OutOfGroup, InBody, ANotice, AGroup, OutOfBody}
+use Rattle.env_index.specs.Envelope.{InGroup, ASet, OutOfGroup, InBody, ATa1, AGroup, OutOfBody}
 use Rattle.env_index.specs.Envelope.{option_items, set_items, in_group_items, group_items, in_body_items}
 use Rattle.env_index.specs.Extents.{Reach, behind, onto_reach, ends_interchange, reach_of, reach_at}
 use Rattle.env_index.specs.Index.{IsReadIn}
@@ -50,14 +50,14 @@ few_sets (OutOfGroup x ∷ ms) = omega (arith, few_sets ms)
 
 few_groups : (ms : List (InBody SegValue)) → length (groups_in ms) ≤ length (flat_map in_body_items ms)
 few_groups [] = omega arith
-few_groups (ANotice x ∷ ms) = omega (arith, few_groups ms)
+few_groups (ATa1 x ∷ ms) = omega (arith, few_groups ms)
 few_groups (AGroup g ∷ ms) = omega (arith, length-append (group_items g) (flat_map in_body_items ms), few_groups ms)
 few_groups (OutOfBody x ∷ ms) = omega (arith, few_groups ms)
 
 few_in_groups : (most : ℕ) (ms : List (InBody SegValue)) → length (flat_map in_body_items ms) ≤ most
     → All (λ group. length group.sets ≤ most) (groups_in ms)
 few_in_groups most [] few = λ k d lt. absurd (omega (arith, lt))
-few_in_groups most (ANotice x ∷ ms) few = few_in_groups most ms (omega (arith, few))
+few_in_groups most (ATa1 x ∷ ms) few = few_in_groups most ms (omega (arith, few))
 few_in_groups most (AGroup g ∷ ms) few =
     let all = length-append (group_items g) (flat_map in_body_items ms) in
     let own = length-append (flat_map in_group_items g.members) (option_items g.trailer) in

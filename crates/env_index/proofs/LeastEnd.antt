@@ -9,7 +9,7 @@ use Rattle.x12_segs.specs.Segs.{Seg, segs_from, rest_from}
 use Rattle.x12_segs.specs.View.{view_of}
 use Rattle.x12_segs.specs.Kinds.{kind_of}
 use Rattle.x12_segs.specs.declared.kind.Kind.{Kind}
-use Rattle.x12_segs.specs.declared.kind.Kind.TheVariants.{InterchangeTrailer, GroupHeader, GroupTrailer, SetHeader, SetTrailer, Notice}
+use Rattle.x12_segs.specs.declared.kind.Kind.TheVariants.{InterchangeTrailer, GroupHeader, GroupTrailer, SetHeader, SetTrailer, Ta1}
 use Rattle.x12_segs.specs.declared.kind.Kind.TheVariants.{Other}
 use Rattle.x12_segs.proofs.OrderLemmas.{StandInOrder, segs_in_order}
 use Rattle.env_index.specs.Ends.{MayEnd, IsLeastEnd}
@@ -28,7 +28,7 @@ trailer_ends GroupHeader is = cc
 trailer_ends GroupTrailer is = cc
 trailer_ends SetHeader is = cc
 trailer_ends SetTrailer is = cc
-trailer_ends Notice is = cc
+trailer_ends Ta1 is = cc
 trailer_ends Other is = cc
 
 module _ (text : List ℕ) (d : Delims) (rest : Seg) where

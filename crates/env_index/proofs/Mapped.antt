@@ -5,7 +5,7 @@ use Rattle.std.specs.List.{flat_map, list_all}
 use Rattle.std.proofs.lemmas.List.{map-append}
 use Rattle.x12_segs.specs.Kinds.{is_inner}
 use Rattle.x12_segs.specs.declared.kind.Kind.{Kind}
-use Rattle.env_index.specs.Envelope.{Set, InGroup, ASet, OutOfGroup, Group, InBody, ANotice, AGroup, OutOfBody, Body, option_items}
+use Rattle.env_index.specs.Envelope.{Set, InGroup, ASet, OutOfGroup, Group, InBody, ATa1, AGroup, OutOfBody, Body, option_items}
 use Rattle.env_index.specs.Envelope.{set_items, in_group_items, group_items, in_body_items, body_items, MayFollow, Closed, IsSet}
 use Rattle.env_index.specs.Envelope.{AreMembers, IsGroup, AreBodyMembers, Derives, ends_set, ends_group, is_out_of_group}
 use Rattle.env_index.specs.Envelope.{is_out_of_body}
@@ -43,7 +43,7 @@ module _ {X Y : Type 0} (kind : X → Kind) (other : Y → Kind) (f : X → Y) (
       ∙ ap (λ (ys : List Y). flat_map in_group_items (map (map_in_group f) g.members) ++ ys) (option_mapped g.trailer))
 
   body_member_mapped : (m : InBody X) → map f (in_body_items m) ≡ in_body_items (map_in_body f m)
-  body_member_mapped (ANotice x) = refl
+  body_member_mapped (ATa1 x) = refl
   body_member_mapped (AGroup g) = group_mapped g
   body_member_mapped (OutOfBody x) = refl
 
@@ -104,7 +104,7 @@ module _ {X Y : Type 0} (kind : X → Kind) (other : Y → Kind) (f : X → Y) (
   body_members_are_mapped : (ms : List (InBody X)) (rest : List X) → AreBodyMembers kind ms rest
       → AreBodyMembers other (map (map_in_body f) ms) (map f rest)
   body_members_are_mapped [] rest are = tt
-  body_members_are_mapped (ANotice x ∷ ms) rest are = (keeps x ∙ are.0, body_members_are_mapped ms rest are.1)
+  body_members_are_mapped (ATa1 x ∷ ms) rest are = (keeps x ∙ are.0, body_members_are_mapped ms rest are.1)
   body_members_are_mapped (AGroup g ∷ ms) rest are = (
     subst (IsGroup other (map_group f g)) (map-append f (flat_map in_body_items ms) rest
         ∙ ap (λ (ys : List Y). ys ++ map f rest) (body_members_mapped ms)) (group_is_mapped g (flat_map in_body_items ms ++ rest) are.0),

@@ -4,11 +4,11 @@ use Rattle.std.proofs.Common.{◌⊎◌}
 use Rattle.std.specs.List.{flat_map, list_all}
 use Rattle.std.proofs.lemmas.Bool.{and_parts, both_ways}
 use Rattle.x12_segs.specs.Kinds.{is_inner}
-use Rattle.env_index.specs.Envelope.{Set, InGroup, ASet, OutOfGroup, Group, InBody, ANotice, AGroup, OutOfBody, Body, option_items}
+use Rattle.env_index.specs.Envelope.{Set, InGroup, ASet, OutOfGroup, Group, InBody, ATa1, AGroup, OutOfBody, Body, option_items}
 use Rattle.env_index.specs.Envelope.{set_items, in_group_items, group_items, in_body_items, ends_set, ends_group, is_out_of_group}
 use Rattle.env_index.specs.Envelope.{is_out_of_body, Closed, IsSet, AreMembers, IsGroup, AreBodyMembers, Derives}
 use Rattle.x12_segs.specs.declared.kind.Kind.{Kind}
-use Rattle.x12_segs.specs.declared.kind.Kind.TheVariants.{InterchangeTrailer, GroupHeader, GroupTrailer, SetHeader, SetTrailer, Notice}
+use Rattle.x12_segs.specs.declared.kind.Kind.TheVariants.{InterchangeTrailer, GroupHeader, GroupTrailer, SetHeader, SetTrailer, Ta1}
 use Rattle.x12_segs.specs.declared.kind.Kind.TheVariants.{Other}
 
 module _ {X : Type 0} (kind : X → Kind) where
@@ -23,7 +23,7 @@ module _ {X : Type 0} (kind : X → Kind) where
   inner_goes_on GroupTrailer inner = cc
   inner_goes_on SetHeader inner = cc
   inner_goes_on SetTrailer inner = refl
-  inner_goes_on Notice inner = refl
+  inner_goes_on Ta1 inner = refl
   inner_goes_on Other inner = refl
 
   -- a trailer, or none, is one
@@ -100,7 +100,7 @@ module _ {X : Type 0} (kind : X → Kind) where
   behind_members_apart GroupTrailer (inr e) = cc
   behind_members_apart SetHeader (inr e) = cc
   behind_members_apart SetTrailer (inr e) = cc
-  behind_members_apart Notice (inr e) = cc
+  behind_members_apart Ta1 (inr e) = cc
   behind_members_apart Other (inr e) = cc
 
   no_member : (m : InGroup X) (ms : List (InGroup X)) (rest : List X) (u : Option X) (s : List X) → AreMembers kind (m ∷ ms) rest
@@ -115,7 +115,7 @@ module _ {X : Type 0} (kind : X → Kind) where
       out_of_place GroupTrailer out ends = cc
       out_of_place SetHeader out ends = cc
       out_of_place SetTrailer out ends = cc
-      out_of_place Notice out ends = cc
+      out_of_place Ta1 out ends = cc
       out_of_place Other out ends = cc
   no_member (ASet a) ms rest u s p q e =
       (behind_members_apart (kind a.header)
@@ -174,10 +174,10 @@ module _ {X : Type 0} (kind : X → Kind) where
   no_body_member : (m : InBody X) (ms : List (InBody X)) (rest : List X) (u : Option X) → AreBodyMembers kind (m ∷ ms) rest
       → Closed kind InterchangeTrailer (λ k. false) u []
       → flat_map in_body_items (m ∷ ms) ++ rest ≡ option_items u → ⊥
-  no_body_member (ANotice x) ms rest None p q e = cc
+  no_body_member (ATa1 x) ms rest None p q e = cc
   no_body_member (AGroup g) ms rest None p q e = cc
   no_body_member (OutOfBody x) ms rest None p q e = cc
-  no_body_member (ANotice x) ms rest (Some y) p q e = let same : x ≡ y = cc in let kinds : Notice ≡ InterchangeTrailer = sym p.0
+  no_body_member (ATa1 x) ms rest (Some y) p q e = let same : x ≡ y = cc in let kinds : Ta1 ≡ InterchangeTrailer = sym p.0
       ∙ ap kind same ∙ q in cc
   no_body_member (AGroup g) ms rest (Some y) p q e = let same : g.header ≡ y = cc in let kinds : GroupHeader
       ≡ InterchangeTrailer = sym p.0.header ∙ ap kind same ∙ q in cc
@@ -197,11 +197,11 @@ module _ {X : Type 0} (kind : X → Kind) where
   body_members_is_one [] [] t u a b p q e = (refl, trailers_alone t u e)
   body_members_is_one (x ∷ xs) [] t u a b p q e = absurd (no_body_member x xs (option_items t) u a q e)
   body_members_is_one [] (y ∷ ys) t u a b p q e = absurd (no_body_member y ys (option_items u) t b p (sym e))
-  body_members_is_one (ANotice x ∷ xs) (ANotice y ∷ ys) t u a b p q e =
+  body_members_is_one (ATa1 x ∷ xs) (ATa1 y ∷ ys) t u a b p q e =
       let same : x ≡ y = cc in
       let rest : flat_map in_body_items xs ++ option_items t ≡ flat_map in_body_items ys ++ option_items u = cc in
       let more = body_members_is_one xs ys t u a.1 b.1 p q rest in
-      (ap (λ z. ANotice z ∷ xs) same ∙ ap (λ zs. ANotice y ∷ zs) more.0, more.1)
+      (ap (λ z. ATa1 z ∷ xs) same ∙ ap (λ zs. ATa1 y ∷ zs) more.0, more.1)
   body_members_is_one (OutOfBody x ∷ xs) (OutOfBody y ∷ ys) t u a b p q e =
       let same : x ≡ y = cc in
       let rest : flat_map in_body_items xs ++ option_items t ≡ flat_map in_body_items ys ++ option_items u = cc in
@@ -216,13 +216,13 @@ module _ {X : Type 0} (kind : X → Kind) where
       (flat_map in_body_items ys ++ option_items u) a.0 b.0 items in
       let more = body_members_is_one xs ys t u a.1 b.1 p q one.1 in
       (ap (λ z. AGroup z ∷ xs) one.0 ∙ ap (λ zs. AGroup h ∷ zs) more.0, more.1)
-  body_members_is_one (ANotice x ∷ xs) (AGroup h ∷ ys) t u a b p q e = let same : x ≡ h.header = cc in let kinds : Notice
+  body_members_is_one (ATa1 x ∷ xs) (AGroup h ∷ ys) t u a b p q e = let same : x ≡ h.header = cc in let kinds : Ta1
       ≡ GroupHeader = sym a.0 ∙ ap kind same ∙ b.0.header in cc
-  body_members_is_one (AGroup g ∷ xs) (ANotice y ∷ ys) t u a b p q e = let same : g.header ≡ y = cc in let kinds : GroupHeader
-      ≡ Notice = sym a.0.header ∙ ap kind same ∙ b.0 in cc
-  body_members_is_one (ANotice x ∷ xs) (OutOfBody y ∷ ys) t u a b p q e = let same : y
+  body_members_is_one (AGroup g ∷ xs) (ATa1 y ∷ ys) t u a b p q e = let same : g.header ≡ y = cc in let kinds : GroupHeader
+      ≡ Ta1 = sym a.0.header ∙ ap kind same ∙ b.0 in cc
+  body_members_is_one (ATa1 x ∷ xs) (OutOfBody y ∷ ys) t u a b p q e = let same : y
       ≡ x = cc in absurd (apart is_out_of_body y x same b.0 (ap is_out_of_body a.0))
-  body_members_is_one (OutOfBody x ∷ xs) (ANotice y ∷ ys) t u a b p q e = let same : x
+  body_members_is_one (OutOfBody x ∷ xs) (ATa1 y ∷ ys) t u a b p q e = let same : x
       ≡ y = cc in absurd (apart is_out_of_body x y same a.0 (ap is_out_of_body b.0))
   body_members_is_one (AGroup g ∷ xs) (OutOfBody y ∷ ys) t u a b p q e = let same : y
       ≡ g.header = cc in absurd (apart is_out_of_body y g.header same b.0 (ap is_out_of_body a.0.header))

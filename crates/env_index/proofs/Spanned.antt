@@ -11,7 +11,7 @@ use Rattle.x12_segs.specs.View.{SegValue}
 use Rattle.x12_segs.specs.Kinds.{kind_of}
 use Rattle.x12_segs.specs.Spans.{IsSetSpan}
 use Rattle.env_index.specs.declared.entry.SetEnvelope.{SetEnvelope}
-use Rattle.env_index.specs.Envelope.{InGroup, ASet, OutOfGroup, InBody, ANotice, AGroup, OutOfBody, Body, Derives}
+use Rattle.env_index.specs.Envelope.{InGroup, ASet, OutOfGroup, InBody, ATa1, AGroup, OutOfBody, Body, Derives}
 use Rattle.env_index.specs.Extents.{reach_at}
 use Rattle.env_index.specs.Interchange.{InterchangeEntry, interchange_of}
 use Rattle.env_index.specs.Spans.{SetStandsAlone, EachSet, EachSetIn, HasSpans, span_of}
@@ -43,7 +43,7 @@ module _ (text : List ℕ) (d : Delims) where
   pub spans_in : (ms : List (InBody SegValue)) → EachSetIn (SetStandsAlone text d) ms
       → All (λ (group : GroupEntry). All HasSpan group.sets) (groups_in ms)
   spans_in [] alone = All-nil (λ (group : GroupEntry). All HasSpan group.sets)
-  spans_in (ANotice x ∷ ms) alone = spans_in ms alone
+  spans_in (ATa1 x ∷ ms) alone = spans_in ms alone
   spans_in (AGroup g ∷ ms) alone =
       All-cons (λ (group : GroupEntry). All HasSpan group.sets) (group_entry g) (groups_in ms) (spans_in_group g.members alone.0)
       (spans_in ms alone.1)

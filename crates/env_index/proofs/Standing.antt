@@ -15,7 +15,7 @@ use Rattle.x12_segs.specs.declared.kind.Kind.{Kind}
 use Rattle.x12_segs.specs.declared.kind.Kind.TheVariants.{SetHeader, SetTrailer}
 use Rattle.x12_segs.specs.declared.set_span.SetSpan.{SetSpan}
 use Rattle.x12_segs.proofs.RunLemmas.{stands_alone}
-use Rattle.env_index.specs.Envelope.{Set, InGroup, ASet, OutOfGroup, InBody, ANotice, AGroup, OutOfBody, Body, option_items, set_items}
+use Rattle.env_index.specs.Envelope.{Set, InGroup, ASet, OutOfGroup, InBody, ATa1, AGroup, OutOfBody, Body, option_items, set_items}
 use Rattle.env_index.specs.Envelope.{in_group_items, group_items, in_body_items, ends_set, Closed, IsSet, AreMembers, AreBodyMembers}
 use Rattle.env_index.specs.Envelope.{Derives}
 use Rattle.env_index.specs.Extents.{Reach, behind, behind_last, onto_reach, ends_interchange, reach_at, reach_of}
@@ -43,7 +43,7 @@ module _ (whole : List SegValue) (P : Set SegValue → Type 0) (holds : (before 
   in_body : (ms : List (InBody SegValue)) (rest before : List SegValue) → AreBodyMembers kind_of ms rest
       → whole ≡ before ++ (flat_map in_body_items ms ++ rest) → EachSetIn P ms
   in_body [] rest before are is = tt
-  in_body (ANotice x ∷ ms) rest before are is =
+  in_body (ATa1 x ∷ ms) rest before are is =
       in_body ms rest (before ++ x ∷ []) are.1 (is ∙ sym (append_assoc before (x ∷ []) (flat_map in_body_items ms ++ rest)))
   in_body (AGroup g ∷ ms) rest before are is =
       let behind : List SegValue = flat_map in_body_items ms ++ rest in

@@ -3,7 +3,7 @@ use Rattle.std.proofs.Common.{◌≡◌, ◌≢◌, ℕ, ◌+◌, List, [], ◌�
 use Rattle.std.proofs.Common.{arith, append_assoc}
 use Rattle.x12_segs.specs.View.{SegValue}
 use Rattle.x12_segs.specs.declared.kind.Kind.{Kind}
-use Rattle.x12_segs.specs.declared.kind.Kind.TheVariants.{InterchangeTrailer, GroupHeader, GroupTrailer, SetHeader, SetTrailer, Notice}
+use Rattle.x12_segs.specs.declared.kind.Kind.TheVariants.{InterchangeTrailer, GroupHeader, GroupTrailer, SetHeader, SetTrailer, Ta1}
 use Rattle.x12_segs.specs.declared.kind.Kind.TheVariants.{Other}
 use Rattle.env_index.specs.declared.entry.SetEnvelope.{SetEnvelope}
 use Rattle.env_index.specs.Summary.{GroupEntry, Summary}
@@ -15,7 +15,7 @@ use Rattle.env_index.proofs.Tails.{GroupTail, SetTail, Tails, cut_off, no_segmen
 abbrev pub put : State → Summary → Summary
 put s b = record {
   groups = s.groups ++ b.groups;
-  notices = s.notices + b.notices;
+  ta1s = s.ta1s + b.ta1s;
   misplaced = s.misplaced || b.misplaced;
   trailer = b.trailer;
 }
@@ -79,7 +79,7 @@ ended_group s group trailer t u ends =
     let F : List GroupEntry
     → Summary = λ gs. record {
       groups = gs;
-      notices = s.notices + B.notices;
+      ta1s = s.ta1s + B.ta1s;
       misplaced = s.misplaced || B.misplaced;
       trailer = B.trailer;
     } in
@@ -115,7 +115,7 @@ misplaced_in_body s set t u is =
     let B : Summary = t.in_body in
     ap (λ (m : Bool). (let r : Summary = record {
       groups = s.groups ++ B.groups;
-      notices = s.notices + B.notices;
+      ta1s = s.ta1s + B.ta1s;
       misplaced = m;
       trailer = B.trailer;
     } in r)) (sym (or_true s.misplaced))
@@ -127,7 +127,7 @@ misplaced_in_group s group t u is =
     let r : Summary = with_group group (more_sets s.sets t.in_group) in
     ap (λ (m : Bool). (let x : Summary = record {
       groups = s.groups ++ r.groups;
-      notices = s.notices + r.notices;
+      ta1s = s.ta1s + r.ta1s;
       misplaced = m;
       trailer = r.trailer;
     } in x)) (sym (or_true s.misplaced))
@@ -170,17 +170,17 @@ step_at SetTrailer x s (Some group) (Some set) t other =
     let F : List SetEnvelope → Summary = λ xs. put s (with_group group (record G { sets = xs })) in
     let n : s.count + 2 ≡ s.count + 1 + 1 = omega arith in
     ap F (append_assoc s.sets (e (s.count + 2) ∷ []) G.sets) ∙ ap (λ (k : ℕ). F (s.sets ++ (e k ∷ G.sets))) n
-step_at Notice x s None set t other =
+step_at Ta1 x s None set t other =
     let B : Summary = t.in_body in
-    let n : s.notices + 1 + B.notices ≡ s.notices + (B.notices + 1) = omega arith in
+    let n : s.ta1s + 1 + B.ta1s ≡ s.ta1s + (B.ta1s + 1) = omega arith in
     ap (λ (k : ℕ). (let r : Summary = record {
       groups = s.groups ++ B.groups;
-      notices = k;
+      ta1s = k;
       misplaced = s.misplaced || B.misplaced;
       trailer = B.trailer;
     } in r)) n
-step_at Notice x s (Some group) None t other = misplaced_in_group s group t (onto Notice x t) refl
-step_at Notice x s (Some group) (Some set) t other = longer_set s group set x t (onto Notice x t) refl
+step_at Ta1 x s (Some group) None t other = misplaced_in_group s group t (onto Ta1 x t) refl
+step_at Ta1 x s (Some group) (Some set) t other = longer_set s group set x t (onto Ta1 x t) refl
 step_at Other x s None set t other = misplaced_in_body s set t (onto Other x t) refl
 step_at Other x s (Some group) None t other = misplaced_in_group s group t (onto Other x t) refl
 step_at Other x s (Some group) (Some set) t other = longer_set s group set x t (onto Other x t) refl
@@ -213,41 +213,41 @@ finish_at trailer s group set =
     or_false false = refl
 
     to_end : (trailer : Option SegValue) (s : State) → finished trailer s ≡ put s (last_tails trailer).in_body
-    to_end None s = let n : s.notices ≡ s.notices + 0 = omega arith in
+    to_end None s = let n : s.ta1s ≡ s.ta1s + 0 = omega arith in
         ap (λ (gs : List GroupEntry). (let r : Summary = record {
           groups = gs;
-          notices = s.notices;
+          ta1s = s.ta1s;
           misplaced = s.misplaced;
           trailer = None;
         } in r)) (sym (append_nil s.groups))
         ∙ ap (λ (k : ℕ). (let r : Summary = record {
           groups = s.groups ++ [];
-          notices = k;
+          ta1s = k;
           misplaced = s.misplaced;
           trailer = None;
         } in r)) n
         ∙ ap (λ (m : Bool). (let r : Summary = record {
           groups = s.groups ++ [];
-          notices = s.notices + 0;
+          ta1s = s.ta1s + 0;
           misplaced = m;
           trailer = None;
         } in r)) (sym (or_false s.misplaced))
-    to_end (Some x) s = let n : s.notices ≡ s.notices + 0 = omega arith in
+    to_end (Some x) s = let n : s.ta1s ≡ s.ta1s + 0 = omega arith in
         ap (λ (gs : List GroupEntry). (let r : Summary = record {
           groups = gs;
-          notices = s.notices;
+          ta1s = s.ta1s;
           misplaced = s.misplaced;
           trailer = Some x;
         } in r)) (sym (append_nil s.groups))
         ∙ ap (λ (k : ℕ). (let r : Summary = record {
           groups = s.groups ++ [];
-          notices = k;
+          ta1s = k;
           misplaced = s.misplaced;
           trailer = Some x;
         } in r)) n
         ∙ ap (λ (m : Bool). (let r : Summary = record {
           groups = s.groups ++ [];
-          notices = s.notices + 0;
+          ta1s = s.ta1s + 0;
           misplaced = m;
           trailer = Some x;
         } in r)) (sym (or_false s.misplaced))
@@ -259,5 +259,5 @@ finish trailer s = finish_at trailer s s.group s.set
 -- before the first segment
 pub resume_nothing : (t : Tails) → resume nothing_read t ≡ t.in_body
 resume_nothing t =
-    let n : 0 + t.in_body.notices ≡ t.in_body.notices = omega arith in
-    ap (λ (k : ℕ). (let r : Summary = record t.in_body { notices = k } in r)) n
+    let n : 0 + t.in_body.ta1s ≡ t.in_body.ta1s = omega arith in
+    ap (λ (k : ℕ). (let r : Summary = record t.in_body { ta1s = k } in r)) n

@@ -4,7 +4,7 @@ use Rattle.std.proofs.Common.{ℕ, ◌+◌, List, [], ◌∷◌, Bool, true, fal
 use Rattle.x12_segs.specs.View.{SegValue}
 use Rattle.x12_segs.specs.Kinds.{kind_of}
 use Rattle.x12_segs.specs.declared.kind.Kind.{Kind}
-use Rattle.x12_segs.specs.declared.kind.Kind.TheVariants.{InterchangeTrailer, GroupHeader, GroupTrailer, SetHeader, SetTrailer, Notice}
+use Rattle.x12_segs.specs.declared.kind.Kind.TheVariants.{InterchangeTrailer, GroupHeader, GroupTrailer, SetHeader, SetTrailer, Ta1}
 use Rattle.x12_segs.specs.declared.kind.Kind.TheVariants.{Other}
 use Rattle.env_index.specs.declared.entry.SetEnvelope.{SetEnvelope}
 use Rattle.env_index.specs.Extents.{behind}
@@ -31,7 +31,7 @@ pub record Tails : Type 0 where
   pub in_body : Summary
 
 abbrev pub nothing : Summary
-nothing = record { groups = []; notices = 0; misplaced = false; trailer = None }
+nothing = record { groups = []; ta1s = 0; misplaced = false; trailer = None }
 
 -- a group that ends without GE
 abbrev pub left_open : Summary → GroupTail
@@ -44,8 +44,8 @@ cut_off after = record { count = 0; close = None; after = after; end = λ so_far
 abbrev pub no_segments : Tails
 no_segments = record { in_set = cut_off (left_open nothing); in_group = left_open nothing; in_body = nothing }
 
-abbrev pub with_notice : Summary → Summary
-with_notice s = record s { notices = s.notices + 1 }
+abbrev pub with_ta1 : Summary → Summary
+with_ta1 s = record s { ta1s = s.ta1s + 1 }
 
 abbrev pub with_misplaced : Summary → Summary
 with_misplaced s = record s { misplaced = true }
@@ -53,13 +53,13 @@ with_misplaced s = record s { misplaced = true }
 abbrev pub with_group : SegValue → GroupTail → Summary
 with_group header t = record {
   groups = record { header = header; sets = t.sets; trailer = t.close } ∷ t.after.groups;
-  notices = t.after.notices;
+  ta1s = t.after.ta1s;
   misplaced = t.misplaced || t.after.misplaced;
   trailer = t.after.trailer;
 }
 
 abbrev pub with_trailer : SegValue → Summary
-with_trailer seg = record { groups = []; notices = 0; misplaced = false; trailer = Some seg }
+with_trailer seg = record { groups = []; ta1s = 0; misplaced = false; trailer = Some seg }
 
 abbrev pub with_set : SegValue → SetTail → GroupTail
 with_set header t = record {
@@ -76,7 +76,7 @@ onto_body GroupHeader seg t = with_group seg t.in_group
 onto_body GroupTrailer seg t = with_misplaced t.in_body
 onto_body SetHeader seg t = with_misplaced t.in_body
 onto_body SetTrailer seg t = with_misplaced t.in_body
-onto_body Notice seg t = with_notice t.in_body
+onto_body Ta1 seg t = with_ta1 t.in_body
 onto_body Other seg t = with_misplaced t.in_body
 
 -- where a group is open, and no set
@@ -86,7 +86,7 @@ onto_group GroupHeader seg t = left_open (with_group seg t.in_group)
 onto_group GroupTrailer seg t = record { sets = []; close = Some seg; misplaced = false; after = t.in_body }
 onto_group SetHeader seg t = with_set seg t.in_set
 onto_group SetTrailer seg t = record t.in_group { misplaced = true }
-onto_group Notice seg t = record t.in_group { misplaced = true }
+onto_group Ta1 seg t = record t.in_group { misplaced = true }
 onto_group Other seg t = record t.in_group { misplaced = true }
 
 -- where a set is open
@@ -96,7 +96,7 @@ onto_set GroupHeader seg t = cut_off (left_open (with_group seg t.in_group))
 onto_set GroupTrailer seg t = cut_off (record { sets = []; close = Some seg; misplaced = false; after = t.in_body })
 onto_set SetHeader seg t = cut_off (with_set seg t.in_set)
 onto_set SetTrailer seg t = record { count = 1; close = Some seg; after = t.in_group; end = λ so_far. behind seg }
-onto_set Notice seg t = record t.in_set { count = t.in_set.count + 1; end = λ so_far. t.in_set.end (behind seg) }
+onto_set Ta1 seg t = record t.in_set { count = t.in_set.count + 1; end = λ so_far. t.in_set.end (behind seg) }
 onto_set Other seg t = record t.in_set { count = t.in_set.count + 1; end = λ so_far. t.in_set.end (behind seg) }
 
 abbrev pub onto : Kind → SegValue → Tails → Tails

@@ -4,11 +4,11 @@ use Rattle.std.specs.List.{flat_map, list_all}
 use Rattle.x12_segs.specs.Kinds.{is_inner}
 use Rattle.env_index.specs.Extents.{ends_interchange}
 use Rattle.env_index.specs.Mapped.{EndsWithTrailer}
-use Rattle.env_index.specs.Envelope.{Set, InGroup, ASet, OutOfGroup, Group, ANotice, AGroup, OutOfBody, Body, option_items, set_items}
+use Rattle.env_index.specs.Envelope.{Set, InGroup, ASet, OutOfGroup, Group, ATa1, AGroup, OutOfBody, Body, option_items, set_items}
 use Rattle.env_index.specs.Envelope.{in_group_items, group_items, in_body_items, body_items, ends_set, ends_group, is_out_of_group}
 use Rattle.env_index.specs.Envelope.{is_out_of_body, MayFollow, Closed, IsSet, AreMembers, IsGroup, IsBody, Derives}
 use Rattle.x12_segs.specs.declared.kind.Kind.{Kind}
-use Rattle.x12_segs.specs.declared.kind.Kind.TheVariants.{InterchangeTrailer, GroupHeader, GroupTrailer, SetHeader, SetTrailer, Notice}
+use Rattle.x12_segs.specs.declared.kind.Kind.TheVariants.{InterchangeTrailer, GroupHeader, GroupTrailer, SetHeader, SetTrailer, Ta1}
 use Rattle.x12_segs.specs.declared.kind.Kind.TheVariants.{Other}
 
 module _ {X : Type 0} (kind : X → Kind) where
@@ -62,9 +62,9 @@ module _ {X : Type 0} (kind : X → Kind) where
     is = record { members = tt; trailer = is };
   }
 
-  notice_first : (x : X) (xs : List X) → kind x ≡ Notice → InBodyOf xs → InBodyOf (x ∷ xs)
-  notice_first x xs is b = record {
-    body = record { members = ANotice x ∷ b.body.members; trailer = b.body.trailer };
+  ta1_first : (x : X) (xs : List X) → kind x ≡ Ta1 → InBodyOf xs → InBodyOf (x ∷ xs)
+  ta1_first x xs is b = record {
+    body = record { members = ATa1 x ∷ b.body.members; trailer = b.body.trailer };
     items = ap (λ (ys : List X). x ∷ ys) b.items;
     is = record { members = (is, b.is.members); trailer = b.is.trailer };
   }
@@ -175,10 +175,10 @@ module _ {X : Type 0} (kind : X → Kind) where
     in_group = out_of_group_first x xs (ap is_out_of_group is) t.in_group;
     in_body = out_of_body_first x xs (ap is_out_of_body is) t.in_body;
   }
-  one_more Notice x xs is last t = record {
+  one_more Ta1 x xs is last t = record {
     in_set = inner_first x xs (ap is_inner is) t.in_set;
     in_group = out_of_group_first x xs (ap is_out_of_group is) t.in_group;
-    in_body = notice_first x xs is t.in_body;
+    in_body = ta1_first x xs is t.in_body;
   }
   one_more Other x xs is last t = record {
     in_set = inner_first x xs (ap is_inner is) t.in_set;

@@ -9,7 +9,7 @@ use Rattle.x12_segs.specs.View.{SegValue}
 use Rattle.x12_segs.specs.declared.part.Part.TheVariants.{Segment, Rest}
 use Rattle.x12_segs.specs.Kinds.{kind_of}
 use Rattle.x12_segs.specs.declared.kind.Kind.{Kind}
-use Rattle.x12_segs.specs.declared.kind.Kind.TheVariants.{InterchangeTrailer, GroupHeader, GroupTrailer, SetHeader, SetTrailer, Notice}
+use Rattle.x12_segs.specs.declared.kind.Kind.TheVariants.{InterchangeTrailer, GroupHeader, GroupTrailer, SetHeader, SetTrailer, Ta1}
 use Rattle.x12_segs.specs.declared.kind.Kind.TheVariants.{Other}
 use Rattle.env_index.specs.Extents.{Reach, behind, onto_reach, ends_interchange, reach_of}
 use Rattle.env_index.specs.Source.{TakesPart, reach_over}
@@ -99,7 +99,7 @@ other_kind GroupHeader other = refl
 other_kind GroupTrailer other = refl
 other_kind SetHeader other = refl
 other_kind SetTrailer other = refl
-other_kind Notice other = refl
+other_kind Ta1 other = refl
 other_kind Other other = refl
 
 -- an interchange has no segment behind its IEA

@@ -53,7 +53,7 @@ interchange trailer groups = record {
   header = header;
   start = 0;
   end = 0;
-  content = record { groups = groups; notices = 0; misplaced = false; trailer = trailer };
+  content = record { groups = groups; ta1s = 0; misplaced = false; trailer = trailer };
 }
 
 abbrev pub first_set : SetEnvelope
@@ -254,7 +254,7 @@ sent_with isa = record {
   header = isa;
   start = 0;
   end = 0;
-  content = record { groups = []; notices = 0; misplaced = false; trailer = Some (seg (codes "IEA*0*000000007")) };
+  content = record { groups = []; ta1s = 0; misplaced = false; trailer = Some (seg (codes "IEA*0*000000007")) };
 }
 
 -- a byte of one of the five fields

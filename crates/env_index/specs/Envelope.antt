@@ -6,7 +6,7 @@ use Rattle.std.specs.List.{flat_map, list_all}
 use Rattle.x12_segs.specs.Kinds.{is_inner}
 use Rattle.x12_segs.specs.declared.kind.Kind.{Kind}
 use Rattle.x12_segs.specs.declared.kind.Kind.TheVariants.{InterchangeTrailer, GroupHeader, GroupTrailer, SetHeader, SetTrailer}
-use Rattle.x12_segs.specs.declared.kind.Kind.TheVariants.{Notice, Other}
+use Rattle.x12_segs.specs.declared.kind.Kind.TheVariants.{Ta1, Other}
 
 -- set = ST inner* SE?
 pub record Set (X : Type 0) : Type 0 where
@@ -27,7 +27,7 @@ pub record Group (X : Type 0) : Type 0 where
 
 -- what stands in an interchange: a TA1, a group, or a segment out of place
 pub data InBody (X : Type 0) : Type 0 where
-  ANotice : X → InBody X
+  ATa1 : X → InBody X
   AGroup : Group X → InBody X
   OutOfBody : X → InBody X
 
@@ -51,7 +51,7 @@ abbrev pub group_items : {X : Type 0} → Group X → List X
 group_items g = g.header ∷ (flat_map in_group_items g.members ++ option_items g.trailer)
 
 abbrev pub in_body_items : {X : Type 0} → InBody X → List X
-in_body_items (ANotice x) = x ∷ []
+in_body_items (ATa1 x) = x ∷ []
 in_body_items (AGroup g) = group_items g
 in_body_items (OutOfBody x) = x ∷ []
 
@@ -65,7 +65,7 @@ ends_set GroupTrailer = true
 ends_set GroupHeader = true
 ends_set InterchangeTrailer = true
 ends_set SetTrailer = false
-ends_set Notice = false
+ends_set Ta1 = false
 ends_set Other = false
 
 -- a group without GE closes before these
@@ -75,13 +75,13 @@ ends_group InterchangeTrailer = true
 ends_group GroupTrailer = false
 ends_group SetHeader = false
 ends_group SetTrailer = false
-ends_group Notice = false
+ends_group Ta1 = false
 ends_group Other = false
 
 -- in a group outside its sets any but ST, GE, GS and IEA is out of place
 abbrev pub is_out_of_group : Kind → Bool
 is_out_of_group SetTrailer = true
-is_out_of_group Notice = true
+is_out_of_group Ta1 = true
 is_out_of_group Other = true
 is_out_of_group SetHeader = false
 is_out_of_group GroupTrailer = false
@@ -96,7 +96,7 @@ is_out_of_body GroupTrailer = true
 is_out_of_body Other = true
 is_out_of_body GroupHeader = false
 is_out_of_body InterchangeTrailer = false
-is_out_of_body Notice = false
+is_out_of_body Ta1 = false
 
 -- what follows, if anything does, lets a trailer be left out
 abbrev pub MayFollow : {X : Type 0} → (X → Kind) → (Kind → Bool) → List X → Type 0
@@ -127,7 +127,7 @@ pub record IsGroup {X : Type 0} (kind : X → Kind) (g : Group X) (rest : List X
 -- what stands in an interchange, with what follows it
 abbrev pub AreBodyMembers : {X : Type 0} → (X → Kind) → List (InBody X) → List X → Type 0
 AreBodyMembers kind [] rest = Unit {0}
-AreBodyMembers kind (ANotice x ∷ ms) rest = (kind x ≡ Notice) × AreBodyMembers kind ms rest
+AreBodyMembers kind (ATa1 x ∷ ms) rest = (kind x ≡ Ta1) × AreBodyMembers kind ms rest
 AreBodyMembers kind (AGroup g ∷ ms) rest = IsGroup kind g (flat_map in_body_items ms ++ rest) × AreBodyMembers kind ms rest
 AreBodyMembers kind (OutOfBody x ∷ ms) rest = (is_out_of_body (kind x) ≡ true) × AreBodyMembers kind ms rest
 

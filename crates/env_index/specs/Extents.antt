@@ -10,7 +10,7 @@ use Rattle.x12_segs.specs.View.{SegValue, view_of}
 use Rattle.x12_segs.specs.Kinds.{kind_of}
 use Rattle.x12_segs.specs.declared.kind.Kind.{Kind}
 use Rattle.x12_segs.specs.declared.kind.Kind.TheVariants.{InterchangeTrailer, GroupHeader, GroupTrailer, SetHeader, SetTrailer}
-use Rattle.x12_segs.specs.declared.kind.Kind.TheVariants.{Notice, Other}
+use Rattle.x12_segs.specs.declared.kind.Kind.TheVariants.{Ta1, Other}
 
 -- the segments of an interchange behind its header, and where it ends
 pub record Reach : Type 0 where
@@ -35,7 +35,7 @@ ends_interchange GroupHeader = false
 ends_interchange GroupTrailer = false
 ends_interchange SetHeader = false
 ends_interchange SetTrailer = false
-ends_interchange Notice = false
+ends_interchange Ta1 = false
 ends_interchange Other = false
 
 -- the first segment or rest that begins at a header ends it there, before anything else;

@@ -11,6 +11,7 @@ use Rattle.hub_kinds.specs.declared.interchange.InterchangeFault.{InterchangeFau
 use Rattle.hub_kinds.specs.declared.interchange.InterchangeFault.TheVariants.{TrailerMissing, ControlNumberInvalid}
 use Rattle.hub_kinds.specs.declared.interchange.InterchangeFault.TheVariants.{ControlNumbersDiffer, GroupCountWrong}
 use Rattle.hub_kinds.specs.declared.interchange.InterchangeFault.TheVariants.{SegmentMisplaced, GroupHeaderInvalid, SetHeaderInvalid}
+use Rattle.hub_kinds.specs.declared.limits.TheConstants.{MOST_CONTROL_DIGITS}
 use Rattle.env_index.specs.Summary.{GroupEntry}
 use Rattle.env_index.specs.Interchange.{InterchangeEntry}
 
@@ -24,11 +25,11 @@ writes_number most text n = is_some_number (number_of most text) n
 
 -- ISA13 as a number, where it is nine digits
 abbrev pub control_number : List ℕ → Option ℕ
-control_number header = if length (field_of header 13) == 9 then number_of 9 (field_of header 13) else None
+control_number header = if length (field_of header 13) == 9 then number_of MOST_CONTROL_DIGITS (field_of header 13) else None
 
 -- IEA02 is ISA13 as a number
 abbrev pub has_control : SegValue → ℕ → Bool
-has_control trailer control = writes_number 9 (element_of trailer 2) control
+has_control trailer control = writes_number MOST_CONTROL_DIGITS (element_of trailer 2) control
 
 -- IEA01 is the number of groups
 abbrev pub counts_groups : SegValue → ℕ → Bool
@@ -38,7 +39,7 @@ counts_groups trailer groups = writes_number 5 (element_of trailer 1) groups
 abbrev pub is_group_header : SegValue → Bool
 is_group_header header =
     (length (element_of header 1) == 2) && list_all is_ascii_uppercase (element_of header 1)
-    && is_number 9 (element_of header 6) && is_word 1 12 (element_of header 8)
+    && is_number MOST_CONTROL_DIGITS (element_of header 6) && is_word 1 12 (element_of header 8)
 
 -- an ST: an id of three letters or digits, a number of 1 to 9 letters or digits
 abbrev pub is_set_header : SegValue → Bool

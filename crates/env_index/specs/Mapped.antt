@@ -1,7 +1,7 @@
 -- X12.5, interchange, and X12.6, functional group and transaction set: trees of envelopes over segments that are held in two ways.
 use Rattle.std.specs.Prelude.{◌≡◌, List, [], ◌∷◌, map, option_map, true}
 use Rattle.x12_segs.specs.declared.kind.Kind.{Kind}
-use Rattle.env_index.specs.Envelope.{Set, InGroup, ASet, OutOfGroup, Group, InBody, ANotice, AGroup, OutOfBody, Body, Derives}
+use Rattle.env_index.specs.Envelope.{Set, InGroup, ASet, OutOfGroup, Group, InBody, ATa1, AGroup, OutOfBody, Body, Derives}
 use Rattle.env_index.specs.Extents.{ends_interchange}
 
 -- no segment stands behind an IEA
@@ -21,7 +21,7 @@ abbrev pub map_group : {X Y : Type 0} → (X → Y) → Group X → Group Y
 map_group f g = record { header = f g.header; members = map (map_in_group f) g.members; trailer = option_map f g.trailer }
 
 abbrev pub map_in_body : {X Y : Type 0} → (X → Y) → InBody X → InBody Y
-map_in_body f (ANotice x) = ANotice (f x)
+map_in_body f (ATa1 x) = ATa1 (f x)
 map_in_body f (AGroup g) = AGroup (map_group f g)
 map_in_body f (OutOfBody x) = OutOfBody (f x)
 

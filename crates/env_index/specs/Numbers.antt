@@ -7,6 +7,7 @@ use Rattle.x12_bytes.specs.Header.{field_of}
 use Rattle.x12_segs.specs.View.{element_of}
 use Rattle.hub_kinds.specs.Numbers.{number_of}
 use Rattle.hub_kinds.specs.Place.{place_key}
+use Rattle.hub_kinds.specs.declared.limits.TheConstants.{MOST_CONTROL_DIGITS}
 use Rattle.hub_kinds.specs.declared.place.Place.{Place}
 use Rattle.env_index.specs.declared.entry.SetEnvelope.{SetEnvelope}
 use Rattle.env_index.specs.Faults.{fault_of}
@@ -41,7 +42,7 @@ sets_from isa gs st (set ∷ sets) =
 abbrev pub groups_from : (isa gs : ℕ) → List GroupEntry → List Numbered
 groups_from isa gs [] = []
 groups_from isa gs (group ∷ groups) =
-    record { place = place_at isa gs 0; number = OfGroup isa (number_of 9 (element_of group.header 6)) }
+    record { place = place_at isa gs 0; number = OfGroup isa (number_of MOST_CONTROL_DIGITS (element_of group.header 6)) }
     ∷ (sets_from isa gs 1 group.sets ++ groups_from isa (gs + 1) groups)
 
 -- an interchange has places where it has none of the faults 1 to 7 and its sender is known (fault 8)

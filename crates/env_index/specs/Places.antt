@@ -36,7 +36,7 @@ group_in text delims place = record {
 abbrev pub body_in : List ℕ → Delims → BodyPlace → Summary
 body_in text delims place = record {
   groups = map (group_in text delims) place.groups.items;
-  notices = place.notices;
+  ta1s = place.ta1s;
   misplaced = place.misplaced;
   trailer = option_map (seg_in text delims) place.trailer;
 }

@@ -5,7 +5,7 @@ use Rattle.x12_bytes.specs.declared.delims.Delims.{Delims}
 use Rattle.x12_segs.specs.View.{SegValue}
 use Rattle.x12_segs.specs.declared.kind.Kind.{Kind}
 use Rattle.x12_segs.specs.declared.kind.Kind.TheVariants.{InterchangeTrailer, GroupHeader, GroupTrailer, SetHeader, SetTrailer}
-use Rattle.x12_segs.specs.declared.kind.Kind.TheVariants.{Notice, Other}
+use Rattle.x12_segs.specs.declared.kind.Kind.TheVariants.{Ta1, Other}
 use Rattle.env_index.specs.declared.entry.SetEnvelope.{SetEnvelope}
 use Rattle.env_index.specs.declared.builder.Builder.{Builder}
 use Rattle.env_index.specs.Extents.{behind}
@@ -16,7 +16,7 @@ use Rattle.env_index.specs.Summary.{GroupEntry, Summary}
 -- whole sets; the ST of an open set, how many segments stand behind it so far, and the last of these
 pub record State : Type 0 where
   pub groups : List GroupEntry
-  pub notices : ℕ
+  pub ta1s : ℕ
   pub misplaced : Bool
   pub group : Option SegValue
   pub sets : List SetEnvelope
@@ -26,7 +26,7 @@ pub record State : Type 0 where
 
 -- nothing yet
 abbrev pub nothing_read : State
-nothing_read = record { groups = []; notices = 0; misplaced = false; group = None; sets = []; set = None; count = 0; last = None }
+nothing_read = record { groups = []; ta1s = 0; misplaced = false; group = None; sets = []; set = None; count = 0; last = None }
 
 -- where the open set with this ST would end without SE
 abbrev pub end_so_far : State → SegValue → ℕ
@@ -87,9 +87,9 @@ step_in SetHeader x s (Some group) set = record (end_set None s) { set = Some x;
 step_in SetTrailer x s None set = misplace s
 step_in SetTrailer x s (Some group) None = misplace s
 step_in SetTrailer x s (Some group) (Some set) = end_set (Some x) s
-step_in Notice x s None set = record s { notices = s.notices + 1 }
-step_in Notice x s (Some group) None = misplace s
-step_in Notice x s (Some group) (Some set) = record s { count = s.count + 1; last = Some x }
+step_in Ta1 x s None set = record s { ta1s = s.ta1s + 1 }
+step_in Ta1 x s (Some group) None = misplace s
+step_in Ta1 x s (Some group) (Some set) = record s { count = s.count + 1; last = Some x }
 step_in Other x s None set = misplace s
 step_in Other x s (Some group) None = misplace s
 step_in Other x s (Some group) (Some set) = record s { count = s.count + 1; last = Some x }
@@ -99,13 +99,13 @@ step k x s = step_in k x s s.group s.set
 
 -- the groups and what stands beside them, where nothing is open
 abbrev pub finished : Option SegValue → State → Summary
-finished trailer s = record { groups = s.groups; notices = s.notices; misplaced = s.misplaced; trailer = trailer }
+finished trailer s = record { groups = s.groups; ta1s = s.ta1s; misplaced = s.misplaced; trailer = trailer }
 
 -- what the fields of a builder stand for
 abbrev pub state_of : List ℕ → Delims → Builder → State
 state_of text delims b = record {
   groups = map (group_in text delims) b.groups.items;
-  notices = b.notices;
+  ta1s = b.ta1s;
   misplaced = b.misplaced;
   group = option_map (seg_in text delims) b.group;
   sets = map (set_in text delims) b.sets.items;

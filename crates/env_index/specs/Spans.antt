@@ -7,7 +7,7 @@ use Rattle.x12_segs.specs.declared.set_span.SetSpan.{SetSpan}
 use Rattle.x12_segs.specs.View.{SegValue}
 use Rattle.x12_segs.specs.Spans.{IsSetSpan, span_views}
 use Rattle.env_index.specs.declared.entry.SetEnvelope.{SetEnvelope}
-use Rattle.env_index.specs.Envelope.{Set, InGroup, ASet, OutOfGroup, InBody, ANotice, AGroup, OutOfBody, set_items}
+use Rattle.env_index.specs.Envelope.{Set, InGroup, ASet, OutOfGroup, InBody, ATa1, AGroup, OutOfBody, set_items}
 use Rattle.env_index.specs.Interchange.{InterchangeEntry}
 use Rattle.env_index.specs.Summary.{set_entry}
 
@@ -29,7 +29,7 @@ EachSet P (OutOfGroup x ∷ ms) = EachSet P ms
 -- each set of each group of an interchange
 abbrev pub EachSetIn : (Set SegValue → Type 0) → List (InBody SegValue) → Type 0
 EachSetIn P [] = Unit {0}
-EachSetIn P (ANotice x ∷ ms) = EachSetIn P ms
+EachSetIn P (ATa1 x ∷ ms) = EachSetIn P ms
 EachSetIn P (AGroup g ∷ ms) = EachSet P g.members × EachSetIn P ms
 EachSetIn P (OutOfBody x ∷ ms) = EachSetIn P ms
 

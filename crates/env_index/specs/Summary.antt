@@ -1,7 +1,7 @@
 -- X12.5, interchange, and X12.6, functional group and transaction set: what the index keeps of an interchange's envelopes.
 use Rattle.std.specs.Prelude.{ℕ, ◌+◌, List, [], ◌∷◌, Bool, true, false, ◌||◌, Option, length}
 use Rattle.x12_segs.specs.View.{SegValue}
-use Rattle.env_index.specs.Envelope.{Set, InGroup, ASet, OutOfGroup, Group, InBody, ANotice, AGroup, OutOfBody, Body, set_items}
+use Rattle.env_index.specs.Envelope.{Set, InGroup, ASet, OutOfGroup, Group, InBody, ATa1, AGroup, OutOfBody, Body, set_items}
 use Rattle.env_index.specs.Extents.{behind_last}
 use Rattle.env_index.specs.declared.entry.SetEnvelope.{SetEnvelope}
 
@@ -14,7 +14,7 @@ pub record GroupEntry : Type 0 where
 -- an interchange behind its header: its groups in order, how many TA1 stand directly in it, whether a segment is out of place, its IEA
 pub record Summary : Type 0 where
   pub groups : List GroupEntry
-  pub notices : ℕ
+  pub ta1s : ℕ
   pub misplaced : Bool
   pub trailer : Option SegValue
 
@@ -37,15 +37,15 @@ group_entry g = record { header = g.header; sets = sets_in g.members; trailer = 
 
 abbrev pub groups_in : List (InBody SegValue) → List GroupEntry
 groups_in [] = []
-groups_in (ANotice x ∷ ms) = groups_in ms
+groups_in (ATa1 x ∷ ms) = groups_in ms
 groups_in (AGroup g ∷ ms) = group_entry g ∷ groups_in ms
 groups_in (OutOfBody x ∷ ms) = groups_in ms
 
-abbrev pub notices_in : List (InBody SegValue) → ℕ
-notices_in [] = 0
-notices_in (ANotice x ∷ ms) = notices_in ms + 1
-notices_in (AGroup g ∷ ms) = notices_in ms
-notices_in (OutOfBody x ∷ ms) = notices_in ms
+abbrev pub ta1s_in : List (InBody SegValue) → ℕ
+ta1s_in [] = 0
+ta1s_in (ATa1 x ∷ ms) = ta1s_in ms + 1
+ta1s_in (AGroup g ∷ ms) = ta1s_in ms
+ta1s_in (OutOfBody x ∷ ms) = ta1s_in ms
 
 abbrev pub has_misplaced_in_group : List (InGroup SegValue) → Bool
 has_misplaced_in_group [] = false
@@ -54,14 +54,14 @@ has_misplaced_in_group (OutOfGroup x ∷ ms) = true
 
 abbrev pub has_misplaced : List (InBody SegValue) → Bool
 has_misplaced [] = false
-has_misplaced (ANotice x ∷ ms) = has_misplaced ms
+has_misplaced (ATa1 x ∷ ms) = has_misplaced ms
 has_misplaced (AGroup g ∷ ms) = has_misplaced_in_group g.members || has_misplaced ms
 has_misplaced (OutOfBody x ∷ ms) = true
 
 abbrev pub summary_of : Body SegValue → Summary
 summary_of b = record {
   groups = groups_in b.members;
-  notices = notices_in b.members;
+  ta1s = ta1s_in b.members;
   misplaced = has_misplaced b.members;
   trailer = b.trailer;
 }

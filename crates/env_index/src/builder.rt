@@ -12,7 +12,7 @@ pub(crate) struct Builder {
     /// The groups that are whole.
     pub(crate) groups: Vec<GroupPlace>,
     /// How many TA1 stood directly in the interchange.
-    pub(crate) notices: u32,
+    pub(crate) ta1s: u32,
     /// Whether a segment was out of place.
     pub(crate) misplaced: bool,
     /// The GS of the open group.
@@ -27,7 +27,7 @@ pub(crate) struct Builder {
     pub(crate) last: Option<Stretch>,
     /// How many segments were taken: what bounds the counts.
     pub(crate) seen: u32,
-    ghost few_notices: { notices ≤ seen },
+    ghost few_ta1s: { ta1s ≤ seen },
     ghost few_segments: { count ≤ seen },
 }
 
@@ -45,7 +45,7 @@ impl Builder {
     {
         Builder {
             groups: Vec::new(alloc),
-            notices: 0,
+            ta1s: 0,
             misplaced: false,
             group: None,
             sets: Vec::new(alloc),
@@ -143,7 +143,7 @@ impl Builder {
             Kind::GroupTrailer => self.close_group(alloc, place)?,
             Kind::SetHeader => self.open_set(place)?,
             Kind::SetTrailer => self.close_set(place)?,
-            Kind::Notice => self.take_notice(place),
+            Kind::Ta1 => self.take_ta1(place),
             Kind::Other => self.take_other(place),
         }
         Ok(())
@@ -175,13 +175,13 @@ impl Builder {
         self.end_all(alloc)?;
         let Builder {
             groups,
-            notices,
+            ta1s,
             misplaced,
             ..
         } = self;
         Ok(BodyPlace {
             groups,
-            notices,
+            ta1s,
             misplaced,
             trailer,
             end,

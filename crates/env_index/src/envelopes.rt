@@ -8,7 +8,7 @@ impl Builder {
     ghost use Rattle.x12_bytes.specs.declared.delims.Delims.{Delims};
     ghost use Rattle.env_index.specs.Places.{seg_in};
     ghost use Rattle.env_index.specs.Reading.{step, state_of};
-    ghost use Rattle.x12_segs.specs.declared.kind.Kind.TheVariants.{GroupHeader, GroupTrailer, SetHeader, SetTrailer, Notice, Other};
+    ghost use Rattle.x12_segs.specs.declared.kind.Kind.TheVariants.{GroupHeader, GroupTrailer, SetHeader, SetTrailer, Ta1, Other};
 
     /// Takes a GS: all that is open ends, and a group begins.
     pub(crate) fn open_group(&mut self, alloc: Global, header: Stretch) -> Result<(), NoMemory>
@@ -72,15 +72,15 @@ impl Builder {
     }
 
     /// Takes a TA1: directly in the interchange it is counted, in a set it is one of its segments.
-    pub(crate) fn take_notice(&mut self, place: Stretch)
-        requires notices { self.old.notices < self.old.seen }
+    pub(crate) fn take_ta1(&mut self, place: Stretch)
+        requires ta1s { self.old.ta1s < self.old.seen }
         requires segments { self.old.count < self.old.seen }
         ensures seen { self.new.seen ≡ self.old.seen }
         ensures state { (text : List ℕ) (delims : Delims) →
-            state_of text delims self.new ≡ step Notice (seg_in text delims place) (state_of text delims self.old) }
+            state_of text delims self.new ≡ step Ta1 (seg_in text delims place) (state_of text delims self.old) }
     {
         if self.group.is_none() {
-            self.notices += 1;
+            self.ta1s += 1;
         } else if self.set.is_none() {
             self.misplaced = true;
         } else {

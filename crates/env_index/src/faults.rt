@@ -5,7 +5,7 @@ ghost use Rattle.env_index.specs.Faults.{control_number, writes_number, is_group
 ghost use Rattle.env_index.specs.Faults.{fault_of, fault_of_headers};
 
 use crate::interchange::{GroupEnvelope, Interchange};
-use hub_kinds::{InterchangeFault, is_alphanumeric, read_number};
+use hub_kinds::{InterchangeFault, MOST_CONTROL_DIGITS, is_alphanumeric, read_number};
 use x12_bytes::Header;
 use x12_segs::SegView;
 
@@ -22,7 +22,7 @@ pub fn judge_interchange(interchange: &Interchange<'_>) -> Option<InterchangeFau
         return Some(InterchangeFault::ControlNumberInvalid);
     };
     let (groups, control, _) = trailer.first_elements();
-    if !writes_number(control, 9, number) {
+    if !writes_number(control, MOST_CONTROL_DIGITS, number) {
         return Some(InterchangeFault::ControlNumbersDiffer);
     }
     if !writes_number(groups, 5, interchange.group_count() as u64) {
@@ -40,7 +40,7 @@ fn control_number(header: &Header<'_>) -> Option<u64>
 {
     let control = header.field(13);
     if control.len() == 9 {
-        read_number(control, 9)
+        read_number(control, MOST_CONTROL_DIGITS)
     } else {
         None
     }
@@ -108,7 +108,7 @@ fn is_group_header(header: &SegView<'_>) -> bool
     let id = header.element(1);
     id.len() == 2
         && are_uppercase(id)
-        && read_number(header.element(6), 9).is_some()
+        && read_number(header.element(6), MOST_CONTROL_DIGITS).is_some()
         && is_alphanumeric(header.element(8), 1, 12)
 }
 

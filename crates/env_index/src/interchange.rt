@@ -75,10 +75,10 @@ impl<'a> Interchange<'a> {
     }
 
     /// How many interchange acknowledgments (TA1) stand directly in it, outside groups.
-    pub fn notices(&self) -> u32
-        ensures { result ≡ self.now.content.notices }
+    pub fn ta1s(&self) -> u32
+        ensures { result ≡ self.now.content.ta1s }
     {
-        self.body.notices
+        self.body.ta1s
     }
 
     /// Whether one of its segments is out of place: directly in it one other than GS, IEA and TA1,

@@ -27,7 +27,7 @@ pub(crate) struct GroupPlace {
 #[derive(Drop)]
 pub(crate) struct BodyPlace {
     pub(crate) groups: Vec<GroupPlace>,
-    pub(crate) notices: u32,
+    pub(crate) ta1s: u32,
     pub(crate) misplaced: bool,
     pub(crate) trailer: Option<Stretch>,
     /// Where the interchange ends.

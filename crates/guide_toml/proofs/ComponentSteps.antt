@@ -5,12 +5,13 @@ use Rattle.std.proofs.lemmas.List.{drop-drop, take_all}
 use Rattle.std.proofs.lemmas.List.Splits.{slice_split_first}
 use Rattle.std.specs.List.{position_or_len}
 use Rattle.guide_tree.specs.declared.element.Component.{Component}
-use Rattle.guide_toml.specs.declared.text_fault.TextFault.{TextFault}
-use Rattle.guide_toml.specs.Reads.{Lacks}
+use Rattle.toml_keys.specs.declared.text_fault.TextFault.{TextFault}
+use Rattle.toml_keys.specs.Reads.{Lacks}
 use Rattle.guide_toml.specs.Tokens.{is_semicolon, groups_of}
 use Rattle.guide_toml.specs.ElementTexts.{Tokens, component_of, components_of}
 use Rattle.guide_toml.proofs.Cuts.{last_part}
-use Rattle.guide_toml.proofs.Groups.{first_part, lacks_all, adds}
+use Rattle.toml_keys.proofs.ReadSteps.{lacks_all, adds}
+use Rattle.guide_toml.proofs.Groups.{first_part}
 
 -- where the reading stands: done is read, and a group is the next one of the text
 pub record Stands (done : List Component) (text : Tokens) (from end : ℕ) (rest group : Tokens) : Type 0 where

@@ -13,9 +13,9 @@ use Rattle.toml.specs.View.{view, items_view}
 use Rattle.guide_tree.specs.Tree.{Tree, Trees, no_trees, tree}
 use Rattle.guide_tree.specs.declared.node.Node.{Node}
 use Rattle.guide_tree.specs.View.{view as tree_view, nodes_view}
-use Rattle.guide_toml.specs.Meanings.{Meaning, refuses, no_memory, other, FailsAs}
-use Rattle.guide_toml.specs.Refusals.{Refusal, wrong_kind}
-use Rattle.guide_toml.specs.Tables.{◌>>=◌}
+use Rattle.toml_keys.specs.Meanings.{Meaning, refuses, no_memory, other, FailsAs}
+use Rattle.toml_keys.specs.Refusals.{Refusal, wrong_kind}
+use Rattle.toml_keys.specs.Tables.{◌>>=◌}
 use Rattle.guide_toml.specs.Guides.{nodes_in, node_in, inner_in, list_in}
 
 abbrev pub list_at : Option Data → Result Trees Refusal

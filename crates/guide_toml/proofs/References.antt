@@ -34,12 +34,14 @@ use Rattle.guide_toml.specs.ElementTexts.{simple_of, take_repeat, used_component
 use Rattle.guide_toml.specs.Entries.{condition_of, pick_of}
 use Rattle.guide_toml.specs.Guides.{dependencies_in, guide_of_table, head_of, hl_in, inner_in, known, list_in, loop_of, node_by, node_in}
 use Rattle.guide_toml.specs.Guides.{node_kind, nodes_in, segment_of}
-use Rattle.guide_toml.specs.Keys.{if_known, keys_of, least_unknown}
-use Rattle.guide_toml.specs.Reads.{◌>>=◌}
-use Rattle.guide_toml.specs.Refusals.{Refusal, unknown, wrong_kind}
+use Rattle.guide_toml.specs.Keys.{keys_of}
+use Rattle.toml_keys.specs.Keys.{if_known, least_unknown}
+use Rattle.toml_keys.specs.Reads.{◌>>=◌}
+use Rattle.toml_keys.specs.Refusals.{Refusal, unknown, wrong_kind}
 use Rattle.guide_toml.specs.References.{HasReference, HasReferences, HasReferencesIn, IsReference, WritesReferences}
-use Rattle.guide_toml.specs.Tables.{◌>>=◌ as ◌⊳◌, asked, count_in as number_in, each_item, optional, required, required_of, some_table}
-use Rattle.guide_toml.specs.Tables.{some_word_in, tables_in, text_item, texts_in}
+use Rattle.toml_keys.specs.Tables.{◌>>=◌ as ◌⊳◌, asked, count_in as number_in, each_item, optional, required, required_of, some_table}
+use Rattle.toml_keys.specs.Tables.{some_word_in, tables_in}
+use Rattle.guide_toml.specs.Values.{text_item, texts_in}
 use Rattle.guide_toml.specs.Tokens.{groups_of}
 
 abbrev ok : {A : Type 0} → A → Result A Refusal

@@ -5,8 +5,8 @@ use Rattle.guide_tree.specs.Tree.{GuideTree, with_slot_numbers}
 use Rattle.guide_tree.specs.View.{guide_of}
 use Rattle.guide_tree.specs.Faults.{IsFirstFault}
 use Rattle.guide_tree.specs.Accepted.{IsAccepted}
-use Rattle.guide_toml.specs.Refusals.{Refusal, missing, wrong_kind, unknown}
-use Rattle.guide_toml.specs.Meanings.{Meaning, refuses, no_memory, other, GivesAs}
+use Rattle.toml_keys.specs.Refusals.{Refusal, missing, wrong_kind, unknown}
+use Rattle.toml_keys.specs.Meanings.{Meaning, refuses, no_memory, other, GivesAs}
 use Rattle.guide_toml.specs.declared.fault.GuideFileFault.{GuideFileFault}
 use Rattle.guide_toml.specs.declared.fault.GuideFileFault.TheVariants as fault
 

@@ -1,7 +1,7 @@
 -- The guide file (own): numbers in texts.
 use Rattle.std.specs.Prelude.{ℕ, ◌+◌, ◌-◌, ◌*◌, List, [], ◌∷◌, Option, Some, None, ◌&&◌, nat_le, if◌then◌else◌}
 use Rattle.std.specs.Char.{is_ascii_digit}
-use Rattle.guide_toml.specs.declared.counts.TheConstants.{GREATEST_NUMBER}
+use Rattle.toml_keys.specs.declared.values.TheConstants.{GREATEST_NUMBER}
 
 -- the number that digits write behind those that wrote n; none past the greatest
 abbrev pub count_from : ℕ → List ℕ → Option ℕ

@@ -17,7 +17,7 @@ use Rattle.guide_tree.specs.declared.element.Component.TheVariants as component
 use Rattle.guide_tree.specs.declared.element.Element.{Element}
 use Rattle.guide_tree.specs.declared.element.Element.TheVariants as element
 use Rattle.guide_toml.specs.declared.element_text.Measure.{Measure}
-use Rattle.guide_toml.specs.Reads.{◌>>=◌}
+use Rattle.toml_keys.specs.Reads.{◌>>=◌}
 use Rattle.guide_toml.specs.Tokens.{tokens_of, groups_of, is_code, is_semicolon}
 use Rattle.guide_toml.specs.Counts.{count_of}
 

@@ -16,7 +16,7 @@ use Rattle.guide_tree.specs.declared.slot.Relation.TheVariants as relation
 use Rattle.guide_tree.specs.declared.rows.HlPair.{HlPair}
 use Rattle.guide_toml.specs.declared.entry.Form.{Form}
 use Rattle.guide_toml.specs.declared.entry.Form.TheVariants as form
-use Rattle.guide_toml.specs.Reads.{◌>>=◌}
+use Rattle.toml_keys.specs.Reads.{◌>>=◌}
 use Rattle.guide_toml.specs.Tokens.{tokens_of, is_code}
 use Rattle.guide_toml.specs.Counts.{count_of}
 use Rattle.guide_toml.specs.ElementTexts.{Tokens, next_token}

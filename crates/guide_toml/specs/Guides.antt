@@ -11,6 +11,9 @@ use Rattle.guide_tree.specs.declared.rows.GuideHead.{GuideHead}
 use Rattle.guide_tree.specs.declared.rows.HlRule.{HlRule}
 use Rattle.guide_tree.specs.declared.rows.Dependency.{Dependency}
 use Rattle.guide_tree.specs.Tree.{Tree, Trees, segment, loop, no_trees, tree, GuideTree}
+use Rattle.toml_keys.specs.Refusals.{Refusal, wrong_kind}
+use Rattle.toml_keys.specs.Keys.{least_unknown, if_known}
+use Rattle.toml_keys.specs.Tables.{◌>>=◌, required, optional, word_in, some_word_in, count_in, tables_in, some_table}
 use Rattle.guide_toml.specs.declared.entry.Form.TheVariants as form
 use Rattle.guide_toml.specs.declared.keys.TableKind.{TableKind}
 use Rattle.guide_toml.specs.declared.keys.TableKind.TheVariants as kind
@@ -18,10 +21,8 @@ use Rattle.guide_toml.specs.declared.nodes.NodeKind.{NodeKind}
 use Rattle.guide_toml.specs.declared.nodes.NodeKind.TheVariants as node
 use Rattle.guide_toml.specs.ElementTexts.{element_of}
 use Rattle.guide_toml.specs.Entries.{pick_of, condition_of, pair_of, formed, segment_code_of, element_code_of}
-use Rattle.guide_toml.specs.Refusals.{Refusal, wrong_kind}
-use Rattle.guide_toml.specs.Keys.{keys_of, least_unknown, if_known}
-use Rattle.guide_toml.specs.Tables.{◌>>=◌, required, optional, word_in}
-use Rattle.guide_toml.specs.Tables.{some_word_in, group_in, count_in, texts_in, tables_in, some_table, dependency_kind_in}
+use Rattle.guide_toml.specs.Keys.{keys_of}
+use Rattle.guide_toml.specs.Values.{group_in, texts_in, dependency_kind_in}
 
 abbrev pub label_in : Data → Option (List ℕ)
 label_in d = word_in 1 20 d

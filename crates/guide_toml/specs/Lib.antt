@@ -4,10 +4,8 @@ pub mod ElementTexts
 pub mod Entries
 pub mod Guides
 pub mod Keys
-pub mod Meanings
-pub mod Reads
 pub mod Refusals
-pub mod Tables
 pub mod Tokens
+pub mod Values
 pub mod Written
 pub mod References

@@ -1,13 +1,7 @@
--- The guide file (own): why a table isn't read, and the numbers by which refusals of a file are named.
-use Rattle.std.specs.Prelude.{ℕ, List}
+-- The guide file (own): the numbers by which its refusals are named.
+use Rattle.std.specs.Prelude.{ℕ}
 use Rattle.guide_toml.specs.declared.fault.GuideFileFault.{GuideFileFault}
 use Rattle.guide_toml.specs.declared.fault.GuideFileFault.TheVariants as fault
-
--- a key isn't there; what stands at a key has another type or form; a key isn't listed
-pub data Refusal : Type 0 where
-  missing : List ℕ → Refusal
-  wrong_kind : List ℕ → Refusal
-  unknown : List ℕ → Refusal
 
 abbrev pub refusal_number : GuideFileFault → ℕ
 refusal_number fault.NotToml = 1

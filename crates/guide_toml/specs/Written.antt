@@ -15,7 +15,7 @@ use Rattle.guide_tree.specs.declared.element.Component.TheVariants as component
 use Rattle.guide_tree.specs.declared.element.Element.{Element}
 use Rattle.guide_tree.specs.declared.element.Element.TheVariants as element
 use Rattle.guide_toml.specs.Tokens.{is_code}
-use Rattle.guide_toml.specs.declared.counts.TheConstants.{GREATEST_NUMBER}
+use Rattle.toml_keys.specs.declared.values.TheConstants.{GREATEST_NUMBER}
 
 -- the reference number, or `-` for none
 abbrev pub reference_text : List ℕ → List ℕ

@@ -1,8 +1,7 @@
 ghost use Rattle.std.specs.Prelude.{◌≡◌};
 ghost use Rattle.guide_toml.specs.Counts.{count_of};
 
-/// The greatest number that a file of tables may write: numbers fit 32 bits.
-pub const GREATEST_NUMBER: u64 = 4_294_967_295;
+use toml_keys::GREATEST_NUMBER;
 
 /// The number that one or more digits write, at most `GREATEST_NUMBER`; zeros in front are allowed.
 pub fn count_of(digits: &[u8]) -> Option<u32>

@@ -1,15 +1,15 @@
 ghost use Rattle.std.specs.Prelude.{◌≡◌, Some, option_map};
-ghost use Rattle.guide_toml.specs.Reads.{Reads};
+ghost use Rattle.toml_keys.specs.Reads.{Reads};
 ghost use Rattle.guide_toml.specs.Counts.{count_of};
 ghost use Rattle.guide_toml.specs.Tokens.{groups_of, tokens_of};
 ghost use Rattle.guide_toml.specs.ElementTexts as texts;
 
 use crate::counts::count_of;
-use crate::text_fault::TextFault;
 use crate::tokens::{are_codes, code_count, first_semicolon, texts_of, tokens_of};
 use guide_tree::{CodeList, Component, CompositeRow, Element, ElementType, Requirement, SimpleRow};
-use hub_kinds::{Items, Lent, Text, Texts, copy_text, read_number};
+use hub_kinds::{Items, Lent, Text, Texts, read_number};
 use std::alloc::Global;
+use toml_keys::{TextFault, copy_of};
 
 /// The type and the lengths of a value.
 #[derive(Clone, Copy)]
@@ -27,13 +27,6 @@ pub fn next_token<'a, 't>(tokens: &'t [Lent<'a>]) -> Result<(&'a [u8], &'t [Lent
         None => Err(TextFault::Malformed),
         Some((token, rest)) => Ok((token.bytes(), rest)),
     }
-}
-
-/// A copy of a text.
-pub fn copy_of(alloc: Global, bytes: &[u8]) -> Result<Text, TextFault>
-    ensures { Reads (λ x. x) result (Some bytes.now) }
-{
-    copy_text(alloc, bytes).map_err(|_| TextFault::NoMemory)
 }
 
 fn reference_of(alloc: Global, token: &[u8]) -> Result<Text, TextFault>

@@ -1,16 +1,16 @@
 ghost use Rattle.std.specs.Prelude.{◌≡◌, ◌≤◌, Option, List, ℕ, length};
 ghost use Rattle.std.specs.List.{position_or_len};
-ghost use Rattle.guide_toml.specs.Reads.{Reads};
+ghost use Rattle.toml_keys.specs.Reads.{Reads};
 ghost use Rattle.guide_toml.specs.Entries as entries;
 
 use crate::counts::count_of;
-use crate::element_text::{copies_of, copy_of, element_of, next_token, tokens_in};
+use crate::element_text::{copies_of, element_of, next_token, tokens_in};
 use crate::fault_codes::{element_code_of, segment_code_of};
-use crate::text_fault::TextFault;
 use crate::tokens::{are_codes, is_code};
 use guide_tree::{Condition, Element, HlPair, Pick, Relation};
 use hub_kinds::{ElementCode, Items, SegmentCode, Text, is_alphanumeric, is_segment_id};
 use std::alloc::Global;
+use toml_keys::{TextFault, copy_of};
 
 /// What an entry of a list of texts stands for.
 pub trait Entry: Drop {

@@ -1,5 +1,6 @@
 use guide_tree::GuideFault;
 use thiserror::Error;
+use toml_keys::FileFault;
 
 /// Why a guide file isn't read.
 #[derive(Debug, Drop, Error)]
@@ -39,6 +40,24 @@ impl GuideFileFault {
             GuideFileFault::Unknown(_) => 4,
             GuideFileFault::Guide(_) => 5,
             GuideFileFault::NoMemory => 6,
+        }
+    }
+}
+
+impl From<FileFault> for GuideFileFault {
+    ghost use Rattle.std.specs.Prelude.{◌≡◌};
+    ghost use Rattle.toml_keys.specs.Answers as file;
+    ghost use Rattle.guide_toml.specs.Answers.{meaning_of};
+
+    ghost from_gives = { λ fault made. meaning_of made ≡ file.meaning_of fault };
+
+    fn from(fault: FileFault) -> GuideFileFault {
+        match fault {
+            FileFault::NotToml => GuideFileFault::NotToml,
+            FileFault::Missing(key) => GuideFileFault::Missing(key),
+            FileFault::WrongKind(key) => GuideFileFault::WrongKind(key),
+            FileFault::Unknown(key) => GuideFileFault::Unknown(key),
+            FileFault::NoMemory => GuideFileFault::NoMemory,
         }
     }
 }

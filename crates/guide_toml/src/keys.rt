@@ -1,12 +1,5 @@
-ghost use Rattle.std.specs.Prelude.{◌≡◌, Ok, map, option_map, string_bytes};
-ghost use Rattle.toml.specs.View.{table_view};
-ghost use Rattle.guide_tree.specs.Segments.{contains_text};
-ghost use Rattle.guide_toml.specs.Meanings.{GivesAs};
-ghost use Rattle.guide_toml.specs.Keys.{keys_of, least_unknown, if_known};
-
-use crate::key_fault::KeyFault;
-use std::alloc::Global;
-use toml::Table;
+ghost use Rattle.std.specs.Prelude.{◌≡◌, map};
+ghost use Rattle.guide_toml.specs.Keys.{keys_of};
 
 /// A table of a guide file, by the keys that it may have.
 #[derive(Clone, Copy)]
@@ -63,38 +56,5 @@ impl TableKind {
                 "nodes",
             ],
         }
-    }
-}
-
-fn is_listed(listed: &[&str], key: &str) -> bool
-    ensures { result ≡ contains_text (map (λ key. key.now) listed.now) key.now }
-{
-    for own in listed {
-        if own.as_bytes() == key.as_bytes() {
-            return true;
-        }
-    }
-    false
-}
-
-/// The least key of a table that isn't listed.
-fn least_unknown<'a>(table: &'a Table, listed: &[&str]) -> Option<&'a String>
-    ensures { option_map (λ k. string_bytes k.now) result
-        ≡ least_unknown (map (λ key. key.now) listed.now) (table_view table.entry.now) }
-{
-    table.keys().find(|key| !is_listed(listed, key.as_str()))
-}
-
-/// Refuses the least key of a table that isn't listed, in the order of bytes.
-pub fn refuse_unknown<F: KeyFault>(alloc: Global, table: &Table, listed: &[&str]) -> Result<(), F>
-    ensures { GivesAs F.meaning (λ x. x) result
-        (if_known (least_unknown (map (λ key. key.now) listed.now) (table_view table.now)) (Ok tt)) }
-{
-    match least_unknown(table, listed) {
-        None => Ok(()),
-        Some(key) => match String::from_str(alloc, key.as_str()) {
-            Ok(key) => Err(F::unknown(key)),
-            Err(_) => Err(F::no_memory()),
-        },
     }
 }

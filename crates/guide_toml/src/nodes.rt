@@ -3,19 +3,18 @@ ghost use Rattle.toml.specs.Data.{table as table_data, items_depth, members_dept
 ghost use Rattle.toml.specs.View.{table_view, view, items_view};
 ghost use Rattle.guide_tree.specs.View.{view as tree_view, nodes_view};
 ghost use Rattle.guide_toml.specs.Answers.{Gives};
-ghost use Rattle.guide_toml.specs.Tables as tables;
+ghost use Rattle.toml_keys.specs.Tables as tables;
 ghost use Rattle.guide_toml.specs.Guides as guides;
 
 use crate::fault::GuideFileFault;
 use crate::keys::TableKind;
-use crate::reading::value_at;
 use crate::table::{
     count_at, entries_at, refuse_unlisted, some_entries_at, some_word_at, text_at, word_at,
 };
-use crate::tables::tables_at;
 use guide_tree::{Loop, Node, Slot};
 use std::alloc::Global;
 use toml::{Table, Value};
+use toml_keys::{tables_at, value_at};
 
 #[tactic(auto, unfolding(crate::specs::Guides::segment_of))]
 fn segment_of(alloc: Global, table: &Table) -> Result<Slot, GuideFileFault>
@@ -47,7 +46,7 @@ fn loop_of(alloc: Global, table: &Table) -> Result<Loop, GuideFileFault>
     let id = word_at(alloc, table, "loop", 1, 4)?;
     let min = count_at(alloc, table, "min")?;
     let max = count_at(alloc, table, "max")?;
-    let _nodes = tables_at::<GuideFileFault>(table, "nodes")?;
+    let _nodes = tables_at(table, "nodes")?;
     Ok(Loop {
         number: 0,
         id,

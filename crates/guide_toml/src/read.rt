@@ -4,12 +4,13 @@ ghost use Rattle.toml.specs.Data.{Members, no_items};
 ghost use Rattle.toml.specs.View.{table_view, items_view, view};
 ghost use Rattle.toml.specs.Parse.{parse_document};
 ghost use Rattle.guide_tree.specs.View.{guide_of};
+ghost use Rattle.toml_keys.specs.Meanings.{FailsAs};
+ghost use Rattle.toml_keys.specs.Tables.{◌>>=◌ as ◌⊳◌};
+ghost use Rattle.toml_keys.specs.Tables as tables;
 ghost use Rattle.guide_toml.specs.declared.entry.Form.TheVariants as form;
 ghost use Rattle.guide_toml.specs.Answers.{Gives, Answers, meaning_of};
 ghost use Rattle.guide_toml.specs.Entries.{formed, segment_code_of, element_code_of};
-ghost use Rattle.guide_toml.specs.Meanings.{FailsAs};
-ghost use Rattle.guide_toml.specs.Tables.{◌>>=◌ as ◌⊳◌};
-ghost use Rattle.guide_toml.specs.Tables as tables;
+ghost use Rattle.guide_toml.specs.Values as values;
 ghost use Rattle.guide_toml.specs.Guides as guides;
 
 use crate::entry::Form;
@@ -20,11 +21,11 @@ use crate::table::{
     count_at, dependency_kind_at, entries_at, flag_at, group_at, refuse_unlisted, some_entries_at,
     some_texts_at, some_word_at, texts_at, word_at,
 };
-use crate::tables::{some_table_at, some_tables_at, tables_at};
 use guide_tree::{Dependency, Guide, GuideHead, GuideRows, HlRule};
 use hub_kinds::{ElementCode, Items, SegmentCode, Text, Texts};
 use std::alloc::Global;
 use toml::{Table, Value};
+use toml_keys::{some_table_at, some_tables_at, tables_at};
 
 /// What a guide is called, and for which sets it is.
 struct Purpose {
@@ -89,7 +90,7 @@ impl Purpose {
 #[tactic(auto, unfolding(crate::specs::Guides::head_of))]
 fn purpose_of(alloc: Global, table: &Table) -> Result<Purpose, GuideFileFault>
     ensures name { IfOk result (λ p. tables.required (tables.word_in 1 20) (codes "name") (table_view table.now) ≡ Ok p.name) }
-    ensures group { IfOk result (λ p. tables.required tables.group_in (codes "group") (table_view table.now) ≡ Ok p.group) }
+    ensures group { IfOk result (λ p. tables.required values.group_in (codes "group") (table_view table.now) ≡ Ok p.group) }
     ensures set { IfOk result (λ p. tables.required (tables.word_in 3 3) (codes "set") (table_view table.now) ≡ Ok p.set) }
     ensures version { IfOk result (λ p. tables.required (tables.word_in 1 12) (codes "version") (table_view table.now) ≡ Ok p.version) }
     ensures fault { IfErr result (λ e. FailsAs (meaning_of e) (guides.head_of (table_view table.now))) }
@@ -110,9 +111,9 @@ fn purpose_of(alloc: Global, table: &Table) -> Result<Purpose, GuideFileFault>
 fn head_for(alloc: Global, table: &Table, purpose: Purpose) -> Result<GuideHead, GuideFileFault>
     ensures { Gives (λ x. x) result
         (tables.optional None (tables.some_word_in 1 35) (codes "convention") (table_view table.now) ⊳ λ convention.
-        tables.optional [] (tables.texts_in (formed form.SegmentId)) (codes "dictionary") (table_view table.now) ⊳ λ dictionary.
-        tables.optional [] (tables.texts_in segment_code_of) (codes "tolerate_segment") (table_view table.now) ⊳ λ segments.
-        tables.optional [] (tables.texts_in element_code_of) (codes "tolerate_element") (table_view table.now) ⊳ λ elements.
+        tables.optional [] (values.texts_in (formed form.SegmentId)) (codes "dictionary") (table_view table.now) ⊳ λ dictionary.
+        tables.optional [] (values.texts_in segment_code_of) (codes "tolerate_segment") (table_view table.now) ⊳ λ segments.
+        tables.optional [] (values.texts_in element_code_of) (codes "tolerate_element") (table_view table.now) ⊳ λ elements.
         Ok (record {
           name = purpose.name;
           group = purpose.group;
@@ -236,9 +237,9 @@ fn rows_of(alloc: Global, table: &Table) -> Result<GuideRows, GuideFileFault>
     ensures { Gives guide_of result (guides.guide_of_table (table_view table.now)) }
 {
     let head = known_head(alloc, table)?;
-    let rule = some_table_at::<GuideFileFault>(table, "hl")?;
-    let rows = some_tables_at::<GuideFileFault>(table, "depends")?;
-    let nodes = tables_at::<GuideFileFault>(table, "nodes")?;
+    let rule = some_table_at(table, "hl")?;
+    let rows = some_tables_at(table, "depends")?;
+    let nodes = tables_at(table, "nodes")?;
     let hl = hl_in(alloc, rule)?;
     let depends = dependencies_in(alloc, rows)?;
     let nodes = nodes_of(alloc, nodes)?;

@@ -1,27 +1,29 @@
 ghost use Rattle.std.specs.Prelude.{◌≡◌, None, [], Ok};
 ghost use Rattle.toml.specs.Data.{as_str, as_bool};
 ghost use Rattle.toml.specs.View.{table_view};
+ghost use Rattle.toml_keys.specs.Keys.{least_unknown, if_known};
+ghost use Rattle.toml_keys.specs.Tables as tables;
 ghost use Rattle.guide_toml.specs.Answers.{Gives};
 ghost use Rattle.guide_toml.specs.Entries.{formed};
-ghost use Rattle.guide_toml.specs.Keys.{keys_of, least_unknown, if_known};
-ghost use Rattle.guide_toml.specs.Tables as tables;
+ghost use Rattle.guide_toml.specs.Keys.{keys_of};
+ghost use Rattle.guide_toml.specs.Values as values;
 
 use crate::entry::{Entry, Form};
 use crate::fault::GuideFileFault;
-use crate::keys::{TableKind, refuse_unknown};
-use crate::lists::{EntryText, Formed, ListOf};
-use crate::reading::{Present, optional, required};
-use crate::values::{AnyText, Count, Flag, GroupCode, Kind, Word};
+use crate::keys::TableKind;
+use crate::lists::{EntryText, Formed};
+use crate::values::{Flag, GroupCode, Kind};
 use guide_tree::DependencyKind;
 use hub_kinds::{Items, Text, Texts};
 use std::alloc::Global;
 use toml::Table;
+use toml_keys::{AnyText, Count, ListOf, Present, Word, optional, refuse_unknown, required};
 
 /// Refuses the least key that a table of the kind may not have.
 pub fn refuse_unlisted(alloc: Global, table: &Table, kind: TableKind) -> Result<(), GuideFileFault>
     ensures { Gives (λ x. x) result (if_known (least_unknown (keys_of kind) (table_view table.now)) (Ok tt)) }
 {
-    refuse_unknown(alloc, table, kind.keys())
+    Ok(refuse_unknown(alloc, table, kind.keys())?)
 }
 
 /// A text of so many to so many letters or digits.
@@ -34,7 +36,7 @@ pub fn word_at(
 ) -> Result<Text, GuideFileFault>
     ensures { Gives (λ x. x) result (tables.required (tables.word_in least most) key.now (table_view table.now)) }
 {
-    required(alloc, table, key, &Word { least, most })
+    Ok(required(alloc, table, key, &Word { least, most })?)
 }
 
 /// The same where it may be absent.
@@ -47,35 +49,35 @@ pub fn some_word_at(
 ) -> Result<Option<Text>, GuideFileFault>
     ensures { Gives (λ x. x) result (tables.optional None (tables.some_word_in least most) key.now (table_view table.now)) }
 {
-    optional(alloc, table, key, &Present(Word { least, most }), None)
+    Ok(optional(alloc, table, key, &Present(Word { least, most }), None)?)
 }
 
 /// A functional identifier code, not that of acknowledgments.
 pub fn group_at(alloc: Global, table: &Table, key: &'static str) -> Result<Text, GuideFileFault>
-    ensures { Gives (λ x. x) result (tables.required tables.group_in key.now (table_view table.now)) }
+    ensures { Gives (λ x. x) result (tables.required values.group_in key.now (table_view table.now)) }
 {
-    required(alloc, table, key, &GroupCode)
+    Ok(required(alloc, table, key, &GroupCode)?)
 }
 
 /// Any text.
 pub fn text_at(alloc: Global, table: &Table, key: &'static str) -> Result<Text, GuideFileFault>
     ensures { Gives (λ x. x) result (tables.required as_str key.now (table_view table.now)) }
 {
-    required(alloc, table, key, &AnyText)
+    Ok(required(alloc, table, key, &AnyText)?)
 }
 
 /// A number of 0 to 4,294,967,295.
 pub fn count_at(alloc: Global, table: &Table, key: &'static str) -> Result<u32, GuideFileFault>
     ensures { Gives (λ x. x) result (tables.required tables.count_in key.now (table_view table.now)) }
 {
-    required(alloc, table, key, &Count)
+    Ok(required(alloc, table, key, &Count)?)
 }
 
 /// A truth value.
 pub fn flag_at(alloc: Global, table: &Table, key: &'static str) -> Result<bool, GuideFileFault>
     ensures { Gives (λ x. x) result (tables.required as_bool key.now (table_view table.now)) }
 {
-    required(alloc, table, key, &Flag)
+    Ok(required(alloc, table, key, &Flag)?)
 }
 
 /// `need` or `ban`.
@@ -84,9 +86,9 @@ pub fn dependency_kind_at(
     table: &Table,
     key: &'static str,
 ) -> Result<DependencyKind, GuideFileFault>
-    ensures { Gives (λ x. x) result (tables.required tables.dependency_kind_in key.now (table_view table.now)) }
+    ensures { Gives (λ x. x) result (tables.required values.dependency_kind_in key.now (table_view table.now)) }
 {
-    required(alloc, table, key, &Kind)
+    Ok(required(alloc, table, key, &Kind)?)
 }
 
 /// A list of texts, and what each stands for.
@@ -95,10 +97,10 @@ pub fn entries_at<T: Entry>(
     table: &Table,
     key: &'static str,
 ) -> Result<Items<T>, GuideFileFault>
-    ensures { Gives (λ x. x) result (tables.required (tables.texts_in T.reading) key.now (table_view table.now)) }
+    ensures { Gives (λ x. x) result (tables.required (values.texts_in T.reading) key.now (table_view table.now)) }
 {
     let entries: ListOf<EntryText<T>> = ListOf(EntryText::new());
-    required(alloc, table, key, &entries)
+    Ok(required(alloc, table, key, &entries)?)
 }
 
 /// The same where it may be absent: then there are none.
@@ -107,11 +109,11 @@ pub fn some_entries_at<T: Entry>(
     table: &Table,
     key: &'static str,
 ) -> Result<Items<T>, GuideFileFault>
-    ensures { Gives (λ x. x) result (tables.optional [] (tables.texts_in T.reading) key.now (table_view table.now)) }
+    ensures { Gives (λ x. x) result (tables.optional [] (values.texts_in T.reading) key.now (table_view table.now)) }
 {
     let entries: ListOf<EntryText<T>> = ListOf(EntryText::new());
     let none = Items::from_vec(Vec::new(alloc));
-    optional(alloc, table, key, &entries, none)
+    Ok(optional(alloc, table, key, &entries, none)?)
 }
 
 /// A list of texts of a form.
@@ -121,9 +123,9 @@ pub fn texts_at(
     key: &'static str,
     form: Form,
 ) -> Result<Texts, GuideFileFault>
-    ensures { Gives (λ x. x) result (tables.required (tables.texts_in (formed form)) key.now (table_view table.now)) }
+    ensures { Gives (λ x. x) result (tables.required (values.texts_in (formed form)) key.now (table_view table.now)) }
 {
-    required(alloc, table, key, &ListOf(Formed(form)))
+    Ok(required(alloc, table, key, &ListOf(Formed(form)))?)
 }
 
 /// The same where it may be absent: then there are none.
@@ -133,8 +135,8 @@ pub fn some_texts_at(
     key: &'static str,
     form: Form,
 ) -> Result<Texts, GuideFileFault>
-    ensures { Gives (λ x. x) result (tables.optional [] (tables.texts_in (formed form)) key.now (table_view table.now)) }
+    ensures { Gives (λ x. x) result (tables.optional [] (values.texts_in (formed form)) key.now (table_view table.now)) }
 {
     let none = Items::from_vec(Vec::new(alloc));
-    optional(alloc, table, key, &ListOf(Formed(form)), none)
+    Ok(optional(alloc, table, key, &ListOf(Formed(form)), none)?)
 }

@@ -8,7 +8,8 @@ use Rattle.std.specs.List.{list_all}
 use Rattle.std.specs.Str.{bytes_eq}
 use Rattle.guide_tree.specs.declared.slot.Slot.{Slot}
 use Rattle.guide_tree.specs.declared.slot.Pick.{Pick}
-use Rattle.guide_tree.specs.Segments.{Segment, element_of, id_of, contains_text, fits, share_text, agree, can_fit_both}
+use Rattle.hub_kinds.specs.TextList.{contains_text}
+use Rattle.guide_tree.specs.Segments.{Segment, element_of, id_of, fits, share_text, agree, can_fit_both}
 use Rattle.guide_tree.proofs.Among.{any_found, found_any, all_at, each_all}
 
 bytes_eq-comm : (x y : List ℕ) → bytes_eq x y ≡ true → bytes_eq y x ≡ true

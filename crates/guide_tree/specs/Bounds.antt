@@ -4,6 +4,7 @@ use Rattle.std.specs.List.{list_all}
 use Rattle.std.specs.Option.{option_map_or}
 use Rattle.hub_kinds.specs.declared.limits.TheConstants.{MOST_COMPONENTS, MOST_ELEMENTS, MOST_REPEATS}
 use Rattle.hub_kinds.specs.Words.{is_word, is_segment_id}
+use Rattle.hub_kinds.specs.TextList.{contains_text}
 use Rattle.guide_tree.specs.declared.limits.TheConstants.{LONGEST_ELEMENT, MOST_USES}
 use Rattle.guide_tree.specs.declared.element.CodeList.{CodeList}
 use Rattle.guide_tree.specs.declared.element.SimpleRow.{SimpleRow}
@@ -14,7 +15,6 @@ use Rattle.guide_tree.specs.declared.element.Element.TheVariants as element
 use Rattle.guide_tree.specs.declared.slot.Slot.{Slot}
 use Rattle.guide_tree.specs.declared.node.Loop.{Loop}
 use Rattle.guide_tree.specs.Tree.{Tree, segment, loop}
-use Rattle.guide_tree.specs.Segments.{contains_text}
 
 -- a number from lo to hi
 abbrev pub is_within : ℕ → ℕ → ℕ → Bool

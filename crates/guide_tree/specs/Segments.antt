@@ -2,6 +2,7 @@
 use Rattle.std.specs.Prelude.{ℕ, ◌==◌, List, [], slice_index_or, Bool, ◌&&◌, ◌||◌, not}
 use Rattle.std.specs.List.{list_any, list_all}
 use Rattle.std.specs.Str.{bytes_eq}
+use Rattle.hub_kinds.specs.TextList.{contains_text}
 use Rattle.guide_tree.specs.declared.slot.Slot.{Slot}
 use Rattle.guide_tree.specs.declared.slot.Pick.{Pick}
 
@@ -15,9 +16,6 @@ element_of s k = slice_index_or s k []
 
 abbrev pub id_of : Segment → List ℕ
 id_of s = element_of s 0
-
-abbrev pub contains_text : List (List ℕ) → List ℕ → Bool
-contains_text texts text = list_any (λ t. bytes_eq t text) texts
 
 -- a segment fits by its id, and by a listed code in each element that the slot picks by
 abbrev pub fits : Slot → Segment → Bool

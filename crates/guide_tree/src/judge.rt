@@ -2,7 +2,6 @@ ghost use Rattle.std.specs.Prelude.{◌≡◌, ◌&&◌};
 ghost use Rattle.std.specs.List.{list_all};
 ghost use Rattle.guide_tree.specs.Conditions.{is_condition_of, is_label_new, is_slot_conditioned, is_conditioned};
 ghost use Rattle.guide_tree.specs.Conditions.{is_dependency_of, is_hierarchy_of};
-ghost use Rattle.guide_tree.specs.Tree.{number_of};
 ghost use Rattle.guide_tree.specs.Rules.{keeps, first_failing};
 ghost use Rattle.guide_tree.specs.View.{view, nodes_view};
 
@@ -68,22 +67,13 @@ fn keeps(rule: Rule, all: &[Node], node: &Node) -> bool
     }
 }
 
-fn number_of(node: &Node) -> u32
-    ensures { result ≡ number_of (view node.now) }
-{
-    match node {
-        Node::Segment(slot) => slot.number,
-        Node::Loop(head, _) => head.number,
-    }
-}
-
 /// The number of the first of the nodes, parents first, that breaks the rule among all nodes of the guide.
 pub fn first_breaking(nodes: &[Node], rule: Rule, all: &[Node]) -> Option<u32>
     ensures { result ≡ first_failing (keeps rule (nodes_view all.now)) (nodes_view nodes.now) }
 {
     for node in nodes {
         let found = if !keeps(rule, all, node) {
-            Some(number_of(node))
+            Some(node.number())
         } else {
             match node {
                 Node::Segment(_) => None,

@@ -1,20 +1,11 @@
 ghost use Rattle.std.specs.Prelude.{◌≡◌, option_map, is_some};
 ghost use Rattle.guide_tree.specs.Tree.{find_slot, any_slot};
-ghost use Rattle.guide_tree.specs.Conditions.{has_label, labelled, is_hierarchy_slot};
+ghost use Rattle.guide_tree.specs.Conditions.{labelled, is_hierarchy_slot};
 ghost use Rattle.guide_tree.specs.Slots.{has_slot_number, slot_numbered};
 ghost use Rattle.guide_tree.specs.View.{nodes_view};
 
 use crate::node::Node;
 use crate::slot::Slot;
-
-fn has_label(slot: &Slot, label: &[u8]) -> bool
-    ensures { result ≡ has_label label.now slot.now }
-{
-    match &slot.label {
-        None => false,
-        Some(own) => own.as_slice() == label,
-    }
-}
 
 fn is_hierarchy_slot(slot: &Slot) -> bool
     ensures { result ≡ is_hierarchy_slot slot.now }
@@ -29,7 +20,7 @@ pub fn slot_labelled<'a>(nodes: &'a [Node], label: &[u8]) -> Option<&'a Slot>
     for node in nodes {
         let found = match node {
             Node::Segment(slot) => {
-                if has_label(slot, label) {
+                if slot.has_label(label) {
                     Some(slot)
                 } else {
                     None

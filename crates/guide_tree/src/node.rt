@@ -1,3 +1,7 @@
+ghost use Rattle.std.specs.Prelude.{◌≡◌};
+ghost use Rattle.guide_tree.specs.Tree.{number_of};
+ghost use Rattle.guide_tree.specs.View.{view};
+
 use crate::slot::Slot;
 use hub_kinds::Text;
 
@@ -19,4 +23,16 @@ pub struct Loop {
 pub enum Node {
     Segment(Slot),
     Loop(Loop, Vec<Node>),
+}
+
+impl Node {
+    /// The number of its slot, or of its loop.
+    pub fn number(&self) -> u32
+        ensures { result ≡ number_of (view self.now) }
+    {
+        match self {
+            Node::Segment(slot) => slot.number,
+            Node::Loop(head, _) => head.number,
+        }
+    }
 }

@@ -1,19 +1,14 @@
 ghost use Rattle.std.specs.Prelude.{◌≡◌, ◌≤◌, option_map, drop, length};
 ghost use Rattle.std.specs.List.{list_any, list_all};
-ghost use Rattle.guide_tree.specs.Segments.{contains_text, share_text, agree, can_fit_both};
+ghost use Rattle.hub_kinds.specs.TextList.{contains_text};
+ghost use Rattle.guide_tree.specs.Segments.{share_text, agree, can_fit_both};
 ghost use Rattle.guide_tree.specs.Rivals.{entry, numbers_of, is_less, keep_least, against_slot, against};
 ghost use Rattle.guide_tree.specs.Rivals.{against_each, within, within_in, least_rivals, least_in};
 ghost use Rattle.guide_tree.specs.View.{view, nodes_view};
 
 use crate::node::Node;
 use crate::slot::{Pick, Slot};
-use hub_kinds::Text;
-
-fn contains_text(texts: &[Text], text: &[u8]) -> bool
-    ensures { result ≡ contains_text texts.now text.now }
-{
-    texts.iter().any(|own| own.as_slice() == text)
-}
+use hub_kinds::{Text, contains_text};
 
 fn share_text(texts: &[Text], others: &[Text]) -> bool
     ensures { result ≡ share_text texts.now others.now }

@@ -1,3 +1,6 @@
+ghost use Rattle.std.specs.Prelude.{◌≡◌};
+ghost use Rattle.guide_tree.specs.Conditions.{has_label};
+
 use crate::element::Element;
 use hub_kinds::{Items, Text, Texts};
 
@@ -46,4 +49,16 @@ pub struct Slot {
     pub picks: Items<Pick>,
     pub elements: Items<Element>,
     pub conditions: Items<Condition>,
+}
+
+impl Slot {
+    /// Whether it has a label.
+    pub fn has_label(&self, label: &[u8]) -> bool
+        ensures { result ≡ has_label label.now self.now }
+    {
+        match &self.label {
+            None => false,
+            Some(own) => own.as_slice() == label,
+        }
+    }
 }

@@ -15,7 +15,8 @@ use Rattle.guide_tree.specs.Tree.{Trees, GuideTree}
 use Rattle.guide_tree.specs.Segments.{Segment}
 use Rattle.guide_tree.specs.Grammar.{Given}
 use Rattle.guide_tree.specs.Places.{Place, slot_given}
-use Rattle.loop_match.specs.PlacedSegments.{PlacedSegment, placed_segments, as_given, AreLed}
+use Rattle.guide_law.specs.Law.{HasSlots}
+use Rattle.loop_match.specs.PlacedSegments.{PlacedSegment, placed_segments, as_given}
 use Rattle.loop_match.proofs.Leading.{placed_given}
 use Rattle.hl_check.specs.Hierarchy.{is_hl, segments_of, hl_segments, hls_of, hl_fault}
 use Rattle.hl_check.specs.Hierarchy.{IsFaultAmong, IsHierarchyFault, IsHlWhole, IsHierarchyWhole}
@@ -23,7 +24,7 @@ use Rattle.hl_check.proofs.Viewing.{filter_view}
 
 -- the HLs that have places are the HL segments, where each segment has one
 all_segments : (ts : Trees) (xs : List Given) (body : List Segment) (given : List (Option Place)) → map (λ (x : Given). x.0) xs ≡ body
-    → AreLed ts given xs → segments_of (hls_of ts body given) ≡ hl_segments body
+    → HasSlots ts given xs → segments_of (hls_of ts body given) ≡ hl_segments body
 all_segments ts xs body given are led =
     let placed = placed_segments ts body given in
     filter_view is_hl (λ (h : PlacedSegment). h.segment) placed

@@ -3,17 +3,11 @@
 use Rattle.std.specs.Prelude.{ℕ, ◌≡◌, List, option_map}
 use Rattle.std.specs.BTreeMap.{BTreeMap, get}
 use Rattle.std.specs.BTreeSet.{BTreeSet, contains}
-use Rattle.std.specs.Cmp.Lexicographic.{slice_cmp}
-use Rattle.std.specs.Ordering.{nat_cmp}
-use Rattle.std.specs.declared.cmp.Ordering.{Ordering}
 use Rattle.x12_bytes.specs.declared.delims.Delims.{Delims}
+use Rattle.hub_kinds.specs.ByText.{by_text}
 use Rattle.guide_tree.specs.Segments.{Segment}
 use Rattle.hl_check.specs.Hierarchy.{numbered, level_of, is_named}
 use denote.Ref.{Bor}
-
--- the order of lent texts
-abbrev pub by_text : Bor (List ℕ) → Bor (List ℕ) → Ordering
-by_text a b = slice_cmp nat_cmp a.now b.now
 
 -- the map has the level of the first HL with each number
 abbrev pub KnowsLevels : BTreeMap (Bor (List ℕ)) (Bor (List ℕ)) → List Segment → Type 0

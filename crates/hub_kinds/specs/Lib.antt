@@ -1,3 +1,4 @@
+pub mod ByText
 pub mod Codes
 pub mod Fault
 pub mod Interchange
@@ -5,5 +6,6 @@ pub mod Numbers
 pub mod Place
 pub mod Rising
 pub mod SetCodes
+pub mod TextList
 pub mod Twice
 pub mod Words

@@ -11,6 +11,7 @@
 //! - `within_limit` is the test of a text's length;
 //! - `read_number` reads exactly the numbers of 1 to so many digits; `is_alphanumeric` and
 //!   `is_segment_id` are exact;
+//! - `contains_text` tells exactly whether a text is one of a list;
 //! - `Items` and `Lent` are the list and the bytes that they were made from, `copy_text` a copy of them.
 //!
 //! 999 guide (005010X231), the code lists of IK304, IK403, IK501, IK502, AK901 and AK905; X12.5,
@@ -38,6 +39,7 @@ mod numbers;
 mod place;
 mod rising;
 mod set_codes;
+mod text_list;
 mod twice;
 mod words;
 
@@ -49,12 +51,14 @@ pub use interchange::{InterchangeFault, interchange_fault_order};
 pub use items::{Items, Text, Texts, copy_text};
 pub use lent::Lent;
 pub use limits::{
-    LONGEST_TEXT, MOST_COMPONENTS, MOST_ELEMENTS, MOST_NODES, MOST_REPEATS, within_limit,
+    LONGEST_TEXT, MOST_COMPONENTS, MOST_CONTROL_DIGITS, MOST_COUNT_DIGITS, MOST_ELEMENTS,
+    MOST_NODES, MOST_REPEATS, within_limit,
 };
 pub use memory::NoMemory;
 pub use numbers::{is_alphanumeric, read_number};
 pub use place::{Place, place_order};
 pub use rising::{Keyed, in_order};
 pub use set_codes::{GroupCode, GroupVerdict, SetCode, Verdict};
+pub use text_list::contains_text;
 pub use twice::has_twice;
 pub use words::is_segment_id;

@@ -10,7 +10,7 @@ use Rattle.x12_bytes.specs.declared.delims.Delims.{Delims}
 use Rattle.x12_segs.specs.Kinds.{is_inner, kind_of}
 use Rattle.x12_segs.specs.View.{element_of}
 use Rattle.x12_write.specs.Undivided.{CanDivide, IsUndivided}
-use Rattle.elem_rules.specs.Moment.{IsMoment}
+use Rattle.moment.specs.Moment.{IsMoment}
 use Rattle.env_index.specs.declared.entry.SetEnvelope.{SetEnvelope}
 use Rattle.env_index.specs.Index.{IndexEntry}
 use Rattle.env_index.specs.Settled.{settled}
@@ -21,14 +21,14 @@ use Rattle.partner_setup.specs.SetupFaults.{may_end}
 use Rattle.partner_setup.specs.Sound.{IsSoundPartner, IsSoundSetup}
 use Rattle.partner_setup.proofs.Marks.{undivided}
 use Rattle.mailbox.specs.declared.outcome.Outcome.TheVariants.{DeliveredTo, HeldForDelimiter}
-use Rattle.mailbox.specs.declared.standing.GroupStanding.{GroupStanding}
-use Rattle.mailbox.specs.Deliveries.{is_accepted, is_blocked, is_deliverable, is_delivered_to, is_delivery_to, outcome_at}
+use Rattle.judged_text.specs.declared.standing.GroupStanding.{GroupStanding}
+use Rattle.mailbox.specs.Deliveries.{is_not_rejected, is_blocked, is_deliverable, is_delivered_to, is_delivery_to, outcome_at}
 use Rattle.mailbox.specs.Deliveries.{outcome_by, outcomes_on}
-use Rattle.mailbox.specs.Judged.{JudgedValue, PlacedValue, all_sets, delims_in, groups_from, is_fa, is_refused, sets_from, sets_of}
-use Rattle.mailbox.specs.Judged.{standing_at, verdict_on}
+use Rattle.judged_text.specs.Judged.{JudgedValue, PlacedValue, all_sets, delims_in, groups_from, is_fa, is_refused, sets_from, sets_of}
+use Rattle.judged_text.specs.Judged.{standing_at, verdict_on}
 use Rattle.mailbox.specs.Mailbox.{code_by}
 use Rattle.mailbox.specs.Numbered.{sender_in}
-use Rattle.checked_text.specs.CheckedText.{AnsweredInterchange, IsAnswered, acknowledged_to, judged}
+use Rattle.checked_text.specs.CheckedText.{CheckedInterchange, IsCheckedAs, acknowledged_to, judged}
 use Rattle.checked_text.specs.Settled.{settled_faults}
 use Rattle.hub_run.specs.declared.night.Night.{Night}
 use Rattle.hub_run.specs.Night.{IsNight, box_of, sets_to}
@@ -77,10 +77,10 @@ module _ (to : Delims) (text : List ℕ) (x : JudgedValue) (text_is : x.text ≡
       (groups_placed (n + 1) gs (All-tail there_in g gs there) (λ none. All-tail (AreElementsUndivided to) g gs (elements none)))
 
 -- an interchange that is known
-abbrev IsKnownSource : (text : List ℕ) → AnsweredInterchange → Type 0
+abbrev IsKnownSource : (text : List ℕ) → CheckedInterchange → Type 0
 IsKnownSource text x = IsSource text x.entry.interchange × IsSettledSound x.entry
 
-known_placed : (to : Delims) → CanDivide to → (text : List ℕ) (known : List AnsweredInterchange) → All (IsKnownSource text) known
+known_placed : (to : Delims) → CanDivide to → (text : List ℕ) (known : List CheckedInterchange) → All (IsKnownSource text) known
     → All (IsPlaced to text) (all_sets (map (judged text) known))
 known_placed to can text [] all = All-nil (IsPlaced to text)
 known_placed to can text (x ∷ known) all =
@@ -146,7 +146,7 @@ module _ (setup : SetupValue) (place : ℕ) (partner : Partner) (at_place : slic
 
   faultless : is_deliverable p ≡ true → p.interchange.fault ≡ None
   faultless deliverable =
-      let last = and_parts (is_accepted (verdict_on p) && p.standing.clear && not (is_fa p.group)) (not (is_refused p.interchange))
+      let last = and_parts (is_not_rejected (verdict_on p) && p.standing.clear && not (is_fa p.group)) (not (is_refused p.interchange))
       deliverable in
       let refused : is_refused p.interchange ≡ false = not-true (is_refused p.interchange) last.1 in
       none_is p.interchange.fault (was_true (is_none p.interchange.fault) refused)
@@ -196,7 +196,7 @@ boxes_read_by_night text setup at night sound moment is =
     settled_sources text index (settled_faults setup index.entries) read in
     let sounds : All IsSettledSound entries = settled_sound text setup index read in
     let known : All (IsKnownSource text) is.known =
-    pairs_all (λ n e x. IsAnswered text setup e x) (IsKnownSource text) entries is.known is.is_known.answered (λ n e x at_e answered.
+    pairs_all (λ n e x. IsCheckedAs text setup e x) (IsKnownSource text) entries is.known is.is_known.answered (λ n e x at_e answered.
     subst (λ (y : IndexEntry). IsSource text y.interchange × IsSettledSound y) (sym answered.entry) (
       at_index (λ (y : IndexEntry). IsSource text y.interchange) entries n e at_e sources,
       at_index IsSettledSound entries n e at_e sounds,

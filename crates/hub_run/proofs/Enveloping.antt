@@ -9,7 +9,7 @@ use Rattle.std.proofs.lemmas.Bool.{and_parts, false≢true}
 use Rattle.std.proofs.lemmas.List.Elements.{All-append, All-cons, All-drop, All-from_recursion, All-head, All-nil}
 use Rattle.std.proofs.lemmas.List.Elements.{All-replicate, All-take, All-weaker}
 use Rattle.x12_bytes.specs.declared.delims.Delims.{Delims}
-use Rattle.elem_rules.specs.Moment.{IsMoment, date_of, short_date_of, time_of}
+use Rattle.moment.specs.Moment.{IsMoment, date_of, short_date_of, time_of}
 use Rattle.hub_kinds.specs.Words.{is_word}
 use Rattle.x12_write.specs.declared.envelope.Envelope.{Envelope}
 use Rattle.x12_write.specs.Header.{blank, control_elements, header_elements, header_text, party_elements}

@@ -10,7 +10,7 @@ use Rattle.x12_bytes.specs.declared.delims.Delims.{Delims}
 use Rattle.x12_segs.specs.View.{SegValue}
 use Rattle.hub_kinds.specs.declared.interchange.InterchangeFault.{InterchangeFault}
 use Rattle.env_index.specs.declared.entry.SetEnvelope.{SetEnvelope}
-use Rattle.env_index.specs.Envelope.{InGroup, ASet, OutOfGroup, InBody, ANotice, AGroup, OutOfBody, Set}
+use Rattle.env_index.specs.Envelope.{InGroup, ASet, OutOfGroup, InBody, ATa1, AGroup, OutOfBody, Set}
 use Rattle.env_index.specs.Extents.{ChainFrom}
 use Rattle.env_index.specs.Index.{IndexEntry, IndexValue, IsEntryOf, IsIndex, IsReadIn, extents_of}
 use Rattle.env_index.specs.Interchange.{InterchangeEntry}
@@ -44,7 +44,7 @@ module _ (text : List ℕ) (d : Delims) where
   headers_in : (ms : List (InBody SegValue)) → EachSetIn (SetStandsAlone text d) ms
       → All (λ (group : GroupEntry). All (HasHeader text d) group.sets) (groups_in ms)
   headers_in [] alone = All-nil (λ (group : GroupEntry). All (HasHeader text d) group.sets)
-  headers_in (ANotice x ∷ ms) alone = headers_in ms alone
+  headers_in (ATa1 x ∷ ms) alone = headers_in ms alone
   headers_in (AGroup g ∷ ms) alone =
       All-cons (λ (group : GroupEntry). All (HasHeader text d) group.sets) (group_entry g) (groups_in ms)
       (headers_in_group g.members alone.0) (headers_in ms alone.1)

@@ -6,10 +6,10 @@ use Rattle.std.proofs.lemmas.Option.{get_or_from_slice_get, slice_get-map, slice
 use Rattle.partner_setup.specs.declared.partner.Partner.{Partner}
 use Rattle.partner_setup.specs.Setup.{SetupValue}
 use Rattle.mailbox.specs.Deliveries.{AreDelivered, delivered_to}
-use Rattle.mailbox.specs.Judged.{JudgedValue, PlacedValue}
+use Rattle.judged_text.specs.Judged.{JudgedValue, PlacedValue}
 use Rattle.mailbox.specs.Mailbox.{box_text}
 use Rattle.night_report.specs.Report.{report_text}
-use Rattle.checked_text.specs.CheckedText.{AnsweredInterchange, AreAcknowledgments, SentValues, acknowledged_to, acknowledgments_to}
+use Rattle.checked_text.specs.CheckedText.{CheckedInterchange, AreAcknowledgments, SentValues, acknowledged_to, acknowledgments_to}
 use Rattle.checked_text.specs.CheckedText.{nothing_sent}
 use Rattle.checked_text.specs.Pairs.{ArePairs}
 use Rattle.checked_text.proofs.Pairing.{pairs_more}
@@ -25,7 +25,7 @@ for_partners setup f g xs same are = record {
   each = λ n p x at_p at_x. are.each n p x at_p at_x ∙ same n p at_p;
 }
 
-acks_are : (setup : SetupValue) (at : List ℕ) (known : List AnsweredInterchange) (files : List SentValues)
+acks_are : (setup : SetupValue) (at : List ℕ) (known : List CheckedInterchange) (files : List SentValues)
     → AreAcknowledgments setup at known files → AreForPartners setup (acks_of setup at known) (map (λ (f : SentValues). f.text) files)
 acks_are setup at known files are = record {
   count = length-map files (λ (f : SentValues). f.text) ∙ are.count;
@@ -39,20 +39,20 @@ acks_are setup at known files are = record {
         ∙ ap (option_map (λ (f : SentValues). f.text)) (are.each n p at_p) in
         cc
 
-files_at : (setup : SetupValue) (at : List ℕ) (known : List AnsweredInterchange) (files : List SentValues) (n : ℕ) (p : Partner)
+files_at : (setup : SetupValue) (at : List ℕ) (known : List CheckedInterchange) (files : List SentValues) (n : ℕ) (p : Partner)
     → AreAcknowledgments setup at known files → slice_get setup.partners n ≡ Some p
     → slice_index_or files n nothing_sent ≡ acknowledgments_to setup at known n p
 files_at setup at known files n p are at_p =
     get_or_from_slice_get files n (acknowledgments_to setup at known n p) nothing_sent (are.each n p at_p)
 
-lists_at : (setup : SetupValue) (text : List ℕ) (known : List AnsweredInterchange) (js : List JudgedValue) (lists : List (List PlacedValue))
+lists_at : (setup : SetupValue) (text : List ℕ) (known : List CheckedInterchange) (js : List JudgedValue) (lists : List (List PlacedValue))
     (n : ℕ) (p : Partner) → js ≡ judgements text known → AreDelivered setup js lists → slice_get setup.partners n ≡ Some p
     → sets_at lists n ≡ delivered_to setup n (judgements text known)
 lists_at setup text known js lists n p is are at_p =
     get_or_from_slice_get lists n (delivered_to setup n js) [] (are.each n (slice_get_within setup.partners n p at_p))
     ∙ ap (delivered_to setup n) is
 
-pub joined : (text : List ℕ) (setup : SetupValue) (at : List ℕ) (known : List AnsweredInterchange) (js : List JudgedValue)
+pub joined : (text : List ℕ) (setup : SetupValue) (at : List ℕ) (known : List CheckedInterchange) (js : List JudgedValue)
     (files : List SentValues) (lists : List (List PlacedValue)) (outside : ℕ) (night : Night)
     → AreAcknowledgments setup at known files → js ≡ judgements text known → AreDelivered setup js lists
     → night.acks ≡ map (λ (f : SentValues). f.text) files → AreForPartners setup (box_by setup at files lists) night.boxes

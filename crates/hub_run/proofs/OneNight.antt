@@ -6,9 +6,9 @@ use Rattle.env_index.specs.Settled.{settled}
 use Rattle.env_index.proofs.OneIndex.{index_is_one}
 use Rattle.partner_setup.specs.declared.partner.Partner.{Partner}
 use Rattle.partner_setup.specs.Setup.{SetupValue}
-use Rattle.checked_text.specs.CheckedText.{AnsweredInterchange, AreAnswered}
+use Rattle.checked_text.specs.CheckedText.{CheckedInterchange, AreCheckedAs}
 use Rattle.checked_text.specs.Settled.{settled_faults}
-use Rattle.checked_text.proofs.Once.{answered_once, pairs_once}
+use Rattle.checked_text.proofs.Once.{checked_once, pairs_once}
 use Rattle.hub_run.specs.declared.night.Night.{Night}
 use Rattle.hub_run.specs.Night.{AreForPartners, IsKnown, IsNight, IsNightOf, acks_of, box_of, next_of}
 
@@ -25,7 +25,7 @@ parts_are_all a b acks boxes report next =
     ∙ ap (λ (v : List Counters). let n : Night = record { acks = b.acks; boxes = b.boxes; report = b.report; next = v } in n) next
 
 -- of what is known there is one night
-night_of_known : (text : List ℕ) (setup : SetupValue) (at : List ℕ) (known : List AnsweredInterchange) (outside : ℕ) (a b : Night)
+night_of_known : (text : List ℕ) (setup : SetupValue) (at : List ℕ) (known : List CheckedInterchange) (outside : ℕ) (a b : Night)
     → IsNightOf text setup at known outside a → IsNightOf text setup at known outside b → a ≡ b
 night_of_known text setup at known outside a b is was = parts_are_all a b
     (for_partners_once setup (acks_of setup at known) a.acks b.acks is.acks was.acks)
@@ -33,13 +33,13 @@ night_of_known text setup at known outside a b is was = parts_are_all a b
     (is.report ∙ sym was.report)
     (for_partners_once setup (next_of text setup known) a.next b.next is.next was.next)
 
-known_once : (text : List ℕ) (setup : SetupValue) (a b : List AnsweredInterchange) (m n : ℕ) → (is : IsKnown text setup a m)
+known_once : (text : List ℕ) (setup : SetupValue) (a b : List CheckedInterchange) (m n : ℕ) → (is : IsKnown text setup a m)
     → (was : IsKnown text setup b n) → (a ≡ b) × (m ≡ n)
 known_once text setup a b m n is was =
     let same : is.index ≡ was.index = index_is_one text is.index was.index is.read was.read in
-    let there = subst (λ (i : IndexValue). AreAnswered text setup (settled i (settled_faults setup i.entries)).entries b)
+    let there = subst (λ (i : IndexValue). AreCheckedAs text setup (settled i (settled_faults setup i.entries)).entries b)
     (sym same) was.answered in (
-      answered_once text setup (settled is.index (settled_faults setup is.index.entries)).entries a b is.answered there,
+      checked_once text setup (settled is.index (settled_faults setup is.index.entries)).entries a b is.answered there,
       is.counted ∙ ap (λ (i : IndexValue). i.outside) same ∙ sym was.counted,
     )
 
@@ -48,5 +48,5 @@ pub night_once : (text : List ℕ) (setup : SetupValue) (at : List ℕ) (a b : N
 night_once text setup at a b is was =
     let same = known_once text setup is.known was.known is.outside was.outside is.is_known was.is_known in
     night_of_known text setup at is.known is.outside a b is.is
-    (subst (λ (k : List AnsweredInterchange). IsNightOf text setup at k is.outside b) (sym same.0)
+    (subst (λ (k : List CheckedInterchange). IsNightOf text setup at k is.outside b) (sym same.0)
     (subst (λ (n : ℕ). IsNightOf text setup at was.known n b) (sym same.1) was.is))

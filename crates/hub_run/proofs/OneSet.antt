@@ -22,7 +22,7 @@ use Rattle.x12_write.specs.Undivided.{CanDivide, IsUndivided}
 use Rattle.x12_write.proofs.Plain.{decimal-undivided, padded_number-undivided, plain-undivided}
 use Rattle.x12_write.proofs.Trimming.{trimmed-push_full}
 use Rattle.mailbox.specs.Deliveries.{inner_in, is_blocked, is_in_the_way, is_text_in_the_way, kept_parts}
-use Rattle.mailbox.specs.Judged.{PlacedValue, delims_in}
+use Rattle.judged_text.specs.Judged.{PlacedValue, delims_in}
 use Rattle.mailbox.specs.Mailbox.{inner_text, mapped, set_header_text, set_text, set_trailer_text}
 use Rattle.hub_run.specs.SetsRead.{Said, Segments, header_said, plainly, said_by, said_in, set_said, sets_behind}
 use Rattle.hub_run.specs.SetsRead.{trailer_said}

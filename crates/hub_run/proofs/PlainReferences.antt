@@ -17,7 +17,7 @@ use Rattle.env_index.specs.Index.{IndexEntry}
 use Rattle.env_index.specs.Settled.{settled}
 use Rattle.env_index.specs.Summary.{GroupEntry}
 use Rattle.env_index.specs.declared.entry.SetEnvelope.{SetEnvelope}
-use Rattle.mailbox.specs.Judged.{answered_groups}
+use Rattle.judged_text.specs.Judged.{responded_groups}
 use Rattle.partner_setup.specs.declared.partner.Partner.{Partner}
 use Rattle.partner_setup.specs.Names.{and_some, those_at}
 use Rattle.partner_setup.specs.Setup.{SetupValue, guide_of, guides_of, is_for_set, places_of}
@@ -29,7 +29,7 @@ use Rattle.checked_text.specs.Settled.{settled_faults}
 use Rattle.hub_run.specs.Quotable.{AreQuotable, IsGroupQuotable, IsGuidePlain, IsGuideQuotable, IsNodePlain, IsNodeQuotable}
 use Rattle.hub_run.specs.Quotable.{IsPlainReference, IsRowPlain, IsRowQuotable}
 use Rattle.hub_run.specs.ReadBack.{AreReadBack, AreSetsRead, IsRead, IsReadBack}
-use Rattle.hub_run.specs.Told.{is_answered_to}
+use Rattle.hub_run.specs.Told.{is_responded_to}
 use Rattle.hub_run.proofs.Headers.{at_index}
 use Rattle.hub_run.proofs.Pairs.{pairs_weaker_at}
 
@@ -100,10 +100,10 @@ all_quoted : (text : List ℕ) (setup : SetupValue) (place : ℕ) (p : Partner) 
     → All IsGuidePlain setup.guides → AreQuotable text setup place p entries
 all_quoted text setup place p entries can plain =
     let sent : IndexEntry → SentValue = sent_by text setup place in
-    let groups : IndexEntry → List GroupEntry = λ e. answered_groups e.interchange.content.groups in
+    let groups : IndexEntry → List GroupEntry = λ e. responded_groups e.interchange.content.groups in
     everywhere (λ (e : IndexEntry). All (IsGroupQuotable p.delims (sent e)) (groups e))
     (λ e. everywhere (IsGroupQuotable p.delims (sent e)) (group_quoted p.delims can setup plain text place e) (groups e))
-    (filter (is_answered_to setup place) entries)
+    (filter (is_responded_to setup place) entries)
 
 pub plain_read : (text : List ℕ) (setup : SetupValue) (acknowledgments : List (List ℕ)) → IsSoundSetup setup
     → All IsGuidePlain setup.guides → AreReadBack text setup acknowledgments → AreSetsRead text setup acknowledgments

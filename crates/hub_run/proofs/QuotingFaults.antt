@@ -26,7 +26,7 @@ use Rattle.elem_rules.specs.ElementFaults.{IsElementFault, fault_at}
 use Rattle.loop_match.specs.LoopIds.{loop_id_of}
 use Rattle.loop_match.specs.PlacedSegments.{PlacedSegment, placed_segments}
 use Rattle.hl_check.specs.Hierarchy.{IsFaultAmong, IsHlFault, hl_fault, hls_of, is_hl}
-use Rattle.depend_check.specs.Dependencies.{IsBroken, element_fault, unused_fault, use_fault}
+use Rattle.depend_check.specs.Dependencies.{IsTargetBroken, element_fault, unused_fault, use_fault}
 use Rattle.set_check.specs.SetFaults.{IsErrorIn, IsFaultUnder, IsRuleFault, IsSetFault, told_by}
 use Rattle.set_check.specs.SetParts.{SetParts, end_position}
 use Rattle.ack_999.specs.ReadBack.{IsQuotableElement, IsQuotableFault}
@@ -119,7 +119,7 @@ module _ (d : Delims) (separator : IsUndivided d (d.component ∷ [])) where
       subst Q (sym is) own
 
   of_broken : (ts : Trees) (delims : Delims) (end : ℕ) (placed : List PlacedSegment) (label : List ℕ) (k : DependencyKind) (element : ℕ)
-      (f : Fault) → AreNodesNamed d ts → All (IsPlacedQuotable d) placed → IsBroken ts delims end placed label k element f → Q f
+      (f : Fault) → AreNodesNamed d ts → All (IsPlacedQuotable d) placed → IsTargetBroken ts delims end placed label k element f → Q f
   of_broken ts delims end placed label kind.Need zero f names all broken =
       let own : Q (unused_fault end broken.0) = record { loop_id = seat_has d ts label broken.0 broken.1 names; elem = tt } in
       subst Q (sym broken.3) own

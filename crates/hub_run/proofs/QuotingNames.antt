@@ -16,7 +16,7 @@ use Rattle.guide_tree.specs.Structure.{innermost, loop_id_at, node_at, node_in, 
 use Rattle.guide_tree.specs.Tree.{Tree, Trees, loop, no_trees, or_else, segment, tree}
 use Rattle.elem_rules.specs.Rows.{component_reference, components_of, element_reference, nth, reference_in}
 use Rattle.loop_match.specs.LoopIds.{loop_id_in, loop_id_nth, loop_id_of}
-use Rattle.loop_match.specs.PlacedSegments.{PlacedSegment, and_then, first_placed, placed_at, placed_by, placed_segments}
+use Rattle.loop_match.specs.PlacedSegments.{PlacedSegment, with_placed, placed_among_first, placed_at, placed_by, placed_segments}
 use Rattle.depend_check.specs.Dependencies.{Seat, seat_among, seat_in, seat_of}
 use Rattle.hub_run.specs.Quotable.{IsRowQuotable}
 use Rattle.hub_run.proofs.Naming.{AreNodesNamed, IsNodeNamed}
@@ -137,16 +137,16 @@ module _ (d : Delims) where
       by (Some slot) is = (loop_of ts q names, rows_at ts q slot is names)
 
   one_more : (placed : List PlacedSegment) (o : Option PlacedSegment) → All IsPlacedQuotable placed → IfSome o IsPlacedQuotable
-      → All IsPlacedQuotable (and_then placed o)
+      → All IsPlacedQuotable (with_placed placed o)
   one_more placed None all one = all
   one_more placed (Some p) all one =
       All-append IsPlacedQuotable placed (p ∷ []) all (All-cons IsPlacedQuotable p [] one (All-nil IsPlacedQuotable))
 
   first_placed_has : (ts : Trees) (body : List Segment) (given : List (Option Place)) (n : ℕ) → AreNodesNamed d ts
-      → All IsPlacedQuotable (first_placed ts body given n)
+      → All IsPlacedQuotable (placed_among_first ts body given n)
   first_placed_has ts body given zero names = All-nil IsPlacedQuotable
   first_placed_has ts body given (suc n) names =
-      one_more (first_placed ts body given n) (placed_at ts body given n) (first_placed_has ts body given n names)
+      one_more (placed_among_first ts body given n) (placed_at ts body given n) (first_placed_has ts body given n names)
       (one_placed ts n (slice_index_or body n []) (slice_index_or given n None) names)
 
   pub placed_have : (ts : Trees) (body : List Segment) (given : List (Option Place)) → AreNodesNamed d ts

@@ -10,7 +10,7 @@ use Rattle.x12_write.specs.Group.{texts_in_row}
 use Rattle.x12_write.specs.Header.{header_text}
 use Rattle.x12_write.specs.Segment.{Segment, segment_text}
 use Rattle.x12_write.specs.Undivided.{CanDivide, IsUndivided}
-use Rattle.elem_rules.specs.Moment.{IsMoment}
+use Rattle.moment.specs.Moment.{IsMoment}
 use Rattle.env_index.specs.Index.{IndexEntry}
 use Rattle.env_index.specs.Settled.{settled}
 use Rattle.env_index.specs.Summary.{GroupEntry}
@@ -20,7 +20,7 @@ use Rattle.partner_setup.specs.Envelopes.{envelope_to}
 use Rattle.partner_setup.specs.Setup.{SetupValue}
 use Rattle.partner_setup.specs.Sound.{IsSoundPartner, IsSoundSetup}
 use Rattle.partner_setup.specs.SetupFaults.{are_ids}
-use Rattle.mailbox.specs.Judged.{answered_groups}
+use Rattle.judged_text.specs.Judged.{responded_groups}
 use Rattle.ack_999.specs.Interchange.{interchange_text}
 use Rattle.ack_999.specs.ReadBack.{written_parts}
 use Rattle.ack_999.proofs.ReadBack.{IsReadable}
@@ -28,7 +28,7 @@ use Rattle.ack_999.specs.Report.{shows_sets, text_999}
 use Rattle.checked_text.specs.declared.answered.AnsweredGroup.{AnsweredGroup}
 use Rattle.checked_text.specs.Acknowledgments.{acknowledgment_text, present, reports_from}
 use Rattle.checked_text.specs.Answers.{SentValue}
-use Rattle.checked_text.specs.CheckedText.{AnsweredInterchange, AreAnswered, IsAnswered, acknowledged_to, acknowledgments_from}
+use Rattle.checked_text.specs.CheckedText.{CheckedInterchange, AreCheckedAs, IsCheckedAs, acknowledged_to, acknowledgments_from}
 use Rattle.checked_text.specs.CheckedText.{is_acknowledged_to, is_partner, recipient_by, sent_by}
 use Rattle.checked_text.specs.Pairs.{AreAllPairs}
 use Rattle.checked_text.specs.Settled.{settled_faults}
@@ -38,14 +38,14 @@ use Rattle.hub_run.specs.Quotable.{IsGroupQuotable}
 use Rattle.hub_run.specs.ReadBack.{AreReadBack, IsReadBack, IsResponseTo, SentSet}
 use Rattle.hub_run.specs.ReadBack.{sets_in, sets_in_group, sets_told_to}
 use Rattle.hub_run.specs.Responses.{Response, responses_behind}
-use Rattle.hub_run.specs.Told.{is_answered_to}
+use Rattle.hub_run.specs.Told.{is_responded_to}
 use Rattle.hub_run.proofs.Enveloping.{component, ge, gs, iea, isa, isa_text, readable_ge, readable_gs, readable_iea, readable_isa}
 use Rattle.hub_run.proofs.Headers.{HasHeader, HaveHeaders, at_index, settled_headers}
 use Rattle.hub_run.proofs.Pairs.{pairs_tail, pairs_weaker_at}
 use Rattle.hub_run.proofs.QuotedElements.{AreElementsUndivided, elements_undivided}
 use Rattle.hub_run.proofs.Reading.{shown_responses}
 use Rattle.hub_run.proofs.ReadingSets.{group_quoted, group_together}
-use Rattle.hub_run.proofs.SettledSound.{IsSettledSound, answered_sound, settled_sound}
+use Rattle.hub_run.proofs.SettledSound.{IsSettledSound, responded_sound, settled_sound}
 use Rattle.hub_run.proofs.TellingNights.{IsAnsweredGroup, acknowledged_as_told, answered_anywhere, sent_here}
 use Rattle.hub_run.proofs.Together.{Together, together_append, together_pairs}
 use Rattle.hub_run.proofs.Written.{IsWritten, nothing_written, one_behind, other_written, report_written, responses_read}
@@ -89,7 +89,7 @@ IsRead text entry = HaveHeaders text entry.interchange × IsSettledSound entry
 -- the 999s of the groups that are answered
 reports_read : (d : Delims) → CanDivide d → IsUndivided d (d.component ∷ []) → (sent : SentValue) (n : ℕ)
     (groups : List GroupEntry) (answers : List (Option AnsweredGroup))
-    → All (IsGroupRead d sent) groups → All (IsGroupQuotable d sent) (answered_groups groups)
+    → All (IsGroupRead d sent) groups → All (IsGroupQuotable d sent) (responded_groups groups)
     → AreAllPairs (λ m group answered. IsAnsweredGroup sent group answered) groups answers
     → AreResponses d (sets_in sent groups) (texts_in_row (reports_from d n (present answers)))
 reports_read d can separator sent n [] [] headers quotable are = no_responses d
@@ -98,8 +98,8 @@ reports_read d can separator sent n (g ∷ gs) [] headers quotable are = absurd 
 reports_read d can separator sent n (g ∷ gs) (None ∷ more) headers quotable are =
     let H : GroupEntry → Type 0 = IsGroupRead d sent in
     let first : IsAnsweredGroup sent g None = are.each 0 g None refl refl in
-    let same : answered_groups (g ∷ gs) ≡ answered_groups gs =
-    ap (λ (b : Bool). cond (not b) (g ∷ answered_groups gs) (answered_groups gs)) first.1 in
+    let same : responded_groups (g ∷ gs) ≡ responded_groups gs =
+    ap (λ (b : Bool). cond (not b) (g ∷ responded_groups gs) (responded_groups gs)) first.1 in
     subst (λ (xs : List GroupEntry). AreResponses d (flat_map (sets_in_group sent) xs) (texts_in_row (reports_from d n (present more))))
     (sym same)
     (reports_read d can separator sent n gs more (All-tail H g gs headers) (subst (All (IsGroupQuotable d sent)) same quotable)
@@ -108,21 +108,21 @@ reports_read d can separator sent n (g ∷ gs) (Some a ∷ more) headers quotabl
     let H : GroupEntry → Type 0 = IsGroupRead d sent in
     let Q : GroupEntry → Type 0 = IsGroupQuotable d sent in
     let first : IsAnsweredGroup sent g (Some a) = are.each 0 g (Some a) refl refl in
-    let same : answered_groups (g ∷ gs) ≡ g ∷ answered_groups gs =
-    ap (λ (b : Bool). cond (not b) (g ∷ answered_groups gs) (answered_groups gs)) first.1.other in
-    let quoted : All Q (g ∷ answered_groups gs) = subst (All Q) same quotable in
+    let same : responded_groups (g ∷ gs) ≡ g ∷ responded_groups gs =
+    ap (λ (b : Bool). cond (not b) (g ∷ responded_groups gs) (responded_groups gs)) first.1.other in
+    let quoted : All Q (g ∷ responded_groups gs) = subst (All Q) same quotable in
     let read : IsGroupRead d sent g = All-head H g gs headers in
     let one : AreResponses d (sets_in_group sent g) (text_999 d a.answer a.sets n) = record {
       responses = shown_responses (shows_sets a.answer.codes) a.sets;
       written = report_written d a.answer a.sets n can
-          (group_quoted sent first.0 g a first.1 read.0 d can separator read.1 (All-head Q g (answered_groups gs) quoted));
+          (group_quoted sent first.0 g a first.1 read.0 d can separator read.1 (All-head Q g (responded_groups gs) quoted));
       together = group_together sent first.0 g a first.1 read.0;
     } in
     subst (λ (xs : List GroupEntry). AreResponses d (flat_map (sets_in_group sent) xs)
     (texts_in_row (reports_from d n (present (Some a ∷ more))))) (sym same)
-    (both_read d (sets_in_group sent g) (flat_map (sets_in_group sent) (answered_groups gs)) (text_999 d a.answer a.sets n)
+    (both_read d (sets_in_group sent g) (flat_map (sets_in_group sent) (responded_groups gs)) (text_999 d a.answer a.sets n)
     (texts_in_row (reports_from d (n + 1) (present more))) one
-    (reports_read d can separator sent (n + 1) gs more (All-tail H g gs headers) (All-tail Q g (answered_groups gs) quoted)
+    (reports_read d can separator sent (n + 1) gs more (All-tail H g gs headers) (All-tail Q g (responded_groups gs) quoted)
     (pairs_tail (λ m group answered. IsAnsweredGroup sent group answered) g (Some a) gs more are)))
 
 module _ (text : List ℕ) (setup : SetupValue) (at : List ℕ) (moment : IsMoment at) (place : ℕ) (p : Partner) (count : ℕ)
@@ -169,17 +169,17 @@ module _ (text : List ℕ) (setup : SetupValue) (at : List ℕ) (moment : IsMome
       (append-nil (sets ++ []) ∙ append-nil sets) all
 
   abbrev Quotable : IndexEntry → Type 0
-  Quotable x = All (IsGroupQuotable d (sent_by text setup place x)) (answered_groups x.interchange.content.groups)
+  Quotable x = All (IsGroupQuotable d (sent_by text setup place x)) (responded_groups x.interchange.content.groups)
 
   abbrev sets_of_entry : IndexEntry → List SentSet
   sets_of_entry x = sets_in (sent_by text setup place x) x.interchange.content.groups
 
-  interchange_read : (number : ℕ) (entry : IndexEntry) (x : AnsweredInterchange) → IsRead text entry
-      → IsAnswered text setup entry x → is_acknowledged_to place x ≡ true → Quotable entry
+  interchange_read : (number : ℕ) (entry : IndexEntry) (x : CheckedInterchange) → IsRead text entry
+      → IsCheckedAs text setup entry x → is_acknowledged_to place x ≡ true → Quotable entry
       → AreResponses d (sets_of_entry entry) (acknowledgment_text e at number x.groups)
   interchange_read number entry x read is told quotable =
       let sent : SentValue = sent_by text setup place entry in
-      let faultless = answered_sound setup place entry (sym (acknowledged_as_told text setup place entry x is) ∙ told) read.1 in
+      let faultless = responded_sound setup place entry (sym (acknowledged_as_told text setup place entry x is) ∙ told) read.1 in
       let headers = groups_read d sent entry.interchange.content.groups read.0
       (elements_undivided d sound.divides entry.interchange faultless) in
       let here : is_partner place (recipient_by x.sender entry.fault x.groups) ≡ true =
@@ -191,55 +191,55 @@ module _ (text : List ℕ) (setup : SetupValue) (at : List ℕ) (moment : IsMome
       (answered_anywhere sent entry.interchange.content.groups x.groups groups))
 
   -- what is read of interchanges, the first acknowledgment being number k
-  abbrev AreRead : ℕ → List IndexEntry → List AnsweredInterchange → Type 0
+  abbrev AreRead : ℕ → List IndexEntry → List CheckedInterchange → Type 0
   AreRead k es xs =
-      All Quotable (filter (is_answered_to setup place) es)
+      All Quotable (filter (is_responded_to setup place) es)
       → AreResponses d (sets_told_to text setup place es) (acknowledgments_from setup p at k (acknowledged_to place xs))
 
-  one_in_front : (k : ℕ) (entry : IndexEntry) (x : AnsweredInterchange) (es : List IndexEntry) (xs : List AnsweredInterchange)
-      → IsRead text entry → IsAnswered text setup entry x → AreRead (k + 1) es xs → AreRead k es xs
+  one_in_front : (k : ℕ) (entry : IndexEntry) (x : CheckedInterchange) (es : List IndexEntry) (xs : List CheckedInterchange)
+      → IsRead text entry → IsCheckedAs text setup entry x → AreRead (k + 1) es xs → AreRead k es xs
       → (b : Bool) → is_acknowledged_to place x ≡ b → AreRead k (entry ∷ es) (x ∷ xs)
   one_in_front k entry x es xs headers is next same true known = λ quotable.
-      let rest : List IndexEntry = filter (is_answered_to setup place) es in
-      let here : List AnsweredInterchange = acknowledged_to place xs in
-      let told : filter (is_answered_to setup place) (entry ∷ es) ≡ entry ∷ rest =
+      let rest : List IndexEntry = filter (is_responded_to setup place) es in
+      let here : List CheckedInterchange = acknowledged_to place xs in
+      let told : filter (is_responded_to setup place) (entry ∷ es) ≡ entry ∷ rest =
       ap (λ (c : Bool). cond c (entry ∷ rest) rest) (sym (acknowledged_as_told text setup place entry x is) ∙ known) in
       let kept : acknowledged_to place (x ∷ xs) ≡ x ∷ here = ap (λ (c : Bool). cond c (x ∷ here) here) known in
       let quoted : All Quotable (entry ∷ rest) = subst (All Quotable) told quotable in
       let number : ℕ = num p.counters.interchange k in
       subst (λ (ys : List IndexEntry). AreResponses d (flat_map sets_of_entry ys)
       (acknowledgments_from setup p at k (acknowledged_to place (x ∷ xs)))) (sym told)
-      (subst (λ (zs : List AnsweredInterchange). AreResponses d (flat_map sets_of_entry (entry ∷ rest))
+      (subst (λ (zs : List CheckedInterchange). AreResponses d (flat_map sets_of_entry (entry ∷ rest))
       (acknowledgments_from setup p at k zs)) (sym kept)
       (both_read d (sets_of_entry entry) (flat_map sets_of_entry rest) (acknowledgment_text e at number x.groups)
       (acknowledgments_from setup p at (k + 1) here)
       (interchange_read number entry x headers is known (All-head Quotable entry rest quoted))
       (next (All-tail Quotable entry rest quoted))))
   one_in_front k entry x es xs headers is next same false known = λ quotable.
-      let rest : List IndexEntry = filter (is_answered_to setup place) es in
-      let here : List AnsweredInterchange = acknowledged_to place xs in
-      let told : filter (is_answered_to setup place) (entry ∷ es) ≡ rest =
+      let rest : List IndexEntry = filter (is_responded_to setup place) es in
+      let here : List CheckedInterchange = acknowledged_to place xs in
+      let told : filter (is_responded_to setup place) (entry ∷ es) ≡ rest =
       ap (λ (c : Bool). cond c (entry ∷ rest) rest) (sym (acknowledged_as_told text setup place entry x is) ∙ known) in
       let kept : acknowledged_to place (x ∷ xs) ≡ here = ap (λ (c : Bool). cond c (x ∷ here) here) known in
       subst (λ (ys : List IndexEntry). AreResponses d (flat_map sets_of_entry ys)
       (acknowledgments_from setup p at k (acknowledged_to place (x ∷ xs)))) (sym told)
-      (subst (λ (zs : List AnsweredInterchange). AreResponses d (flat_map sets_of_entry rest)
+      (subst (λ (zs : List CheckedInterchange). AreResponses d (flat_map sets_of_entry rest)
       (acknowledgments_from setup p at k zs)) (sym kept) (same (subst (All Quotable) told quotable)))
 
-  interchanges_read : (k : ℕ) (es : List IndexEntry) (xs : List AnsweredInterchange)
-      → All (IsRead text) es → AreAnswered text setup es xs → AreRead k es xs
+  interchanges_read : (k : ℕ) (es : List IndexEntry) (xs : List CheckedInterchange)
+      → All (IsRead text) es → AreCheckedAs text setup es xs → AreRead k es xs
   interchanges_read k [] [] headers are = λ quotable. no_responses d
   interchanges_read k [] (x ∷ xs) headers are = absurd (omega (arith, are.count))
   interchanges_read k (entry ∷ es) [] headers are = absurd (omega (arith, are.count))
   interchanges_read k (entry ∷ es) (x ∷ xs) headers are =
       let H : IndexEntry → Type 0 = IsRead text in
       let behind = All-tail H entry es headers in
-      let rest : AreAnswered text setup es xs = pairs_tail (λ n e x. IsAnswered text setup e x) entry x es xs are in
+      let rest : AreCheckedAs text setup es xs = pairs_tail (λ n e x. IsCheckedAs text setup e x) entry x es xs are in
       one_in_front k entry x es xs (All-head H entry es headers) (are.each 0 entry x refl refl)
       (interchanges_read (k + 1) es xs behind rest) (interchanges_read k es xs behind rest) (is_acknowledged_to place x) refl
 
-  partner_read : (es : List IndexEntry) (xs : List AnsweredInterchange)
-      → All (IsRead text) es → AreAnswered text setup es xs
+  partner_read : (es : List IndexEntry) (xs : List CheckedInterchange)
+      → All (IsRead text) es → AreCheckedAs text setup es xs
       → IsReadBack text setup es place p (acks_of setup at xs place p)
   partner_read es xs headers are = λ quotable.
       let all = interchanges_read 0 es xs headers are quotable in

@@ -9,12 +9,12 @@ use Rattle.env_index.specs.Faults.{fault_of}
 use Rattle.env_index.specs.Index.{IndexEntry, IndexValue, IsEntryOf, IsIndex}
 use Rattle.env_index.specs.Settled.{settled, with_faults}
 use Rattle.partner_setup.specs.Setup.{SetupValue, sender_of}
-use Rattle.mailbox.specs.Judged.{is_fa}
+use Rattle.judged_text.specs.Judged.{is_fa}
 use Rattle.checked_text.specs.CheckedText.{is_partner}
 use Rattle.checked_text.specs.Seen.{is_among}
 use Rattle.checked_text.specs.Settled.{fault_alone, fault_behind, fault_if_earlier, fault_with_sender, faults_from, kept_keys, key_of}
 use Rattle.checked_text.specs.Settled.{settled_faults}
-use Rattle.hub_run.specs.Told.{is_answered_to}
+use Rattle.hub_run.specs.Told.{is_responded_to}
 
 abbrev pub IsSettledSound : IndexEntry → Type 0
 IsSettledSound e = e.fault ≡ None → fault_of e.interchange ≡ None
@@ -49,9 +49,9 @@ none_is None none = refl
 none_is (Some a) none = absurd (false≢true none)
 
 -- one that is answered is settled so
-pub answered_sound : (setup : SetupValue) (place : ℕ) (e : IndexEntry) → is_answered_to setup place e ≡ true → IsSettledSound e
+pub responded_sound : (setup : SetupValue) (place : ℕ) (e : IndexEntry) → is_responded_to setup place e ≡ true → IsSettledSound e
     → fault_of e.interchange ≡ None
-answered_sound setup place e answered sound =
+responded_sound setup place e answered sound =
     let something : Bool = list_any (λ g. not (is_fa g)) e.interchange.content.groups in
     let from : Bool = is_partner place (sender_of setup e.interchange.header) in
     sound (none_is e.fault (and_parts (is_none e.fault) something (and_parts (is_none e.fault && something) from answered).0).0)

@@ -15,7 +15,7 @@ use Rattle.x12_segs.specs.View.{SegValue}
 use Rattle.x12_write.specs.Delimiters.{is_this}
 use Rattle.hub_kinds.specs.declared.interchange.InterchangeFault.{InterchangeFault}
 use Rattle.env_index.specs.declared.entry.SetEnvelope.{SetEnvelope}
-use Rattle.env_index.specs.Envelope.{AGroup, ANotice, ASet, AreBodyMembers, AreMembers, InBody, InGroup, OutOfBody, OutOfGroup, Set}
+use Rattle.env_index.specs.Envelope.{AGroup, ATa1, ASet, AreBodyMembers, AreMembers, InBody, InGroup, OutOfBody, OutOfGroup, Set}
 use Rattle.env_index.specs.Envelope.{option_items}
 use Rattle.env_index.specs.Extents.{ChainFrom}
 use Rattle.env_index.specs.Index.{IndexEntry, IndexValue, IsEntryOf, IsIndex, IsReadIn, extents_of}
@@ -52,7 +52,7 @@ module _ (text : List ℕ) (d : Delims) where
   there_in : (ms : List (InBody SegValue)) (rest : List SegValue) → EachSetIn (SetStandsAlone text d) ms → AreBodyMembers kind_of ms rest
       → All (λ (g : GroupEntry). All (IsThere text d) g.sets) (groups_in ms)
   there_in [] rest alone are = All-nil (λ (g : GroupEntry). All (IsThere text d) g.sets)
-  there_in (ANotice x ∷ ms) rest alone are = there_in ms rest alone are.1
+  there_in (ATa1 x ∷ ms) rest alone are = there_in ms rest alone are.1
   there_in (AGroup g ∷ ms) rest alone are =
       All-cons (λ (g : GroupEntry). All (IsThere text d) g.sets) (group_entry g) (groups_in ms)
       (there_in_group g.members _ alone.0 are.0.members) (there_in ms rest alone.1 are.1)

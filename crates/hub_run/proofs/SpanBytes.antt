@@ -18,7 +18,7 @@ use Rattle.env_index.specs.Envelope.{Set, option_items, set_items}
 use Rattle.env_index.specs.Spans.{span_of}
 use Rattle.env_index.specs.Summary.{set_entry}
 use Rattle.mailbox.specs.Deliveries.{inner_in}
-use Rattle.mailbox.specs.Judged.{PlacedValue, delims_in}
+use Rattle.judged_text.specs.Judged.{PlacedValue, delims_in}
 use Rattle.hub_run.proofs.Bodies.{Lacks}
 use Rattle.hub_run.proofs.Sources.{IsThere}
 use Rattle.hub_run.proofs.Splitting.{parts_lack}

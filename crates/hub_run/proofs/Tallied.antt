@@ -20,7 +20,7 @@ use Rattle.count_numbers.specs.declared.entry.PartnerEntry.{PartnerEntry}
 use Rattle.count_numbers.specs.declared.numbering.PartnerNumbers.{PartnerNumbers}
 use Rattle.count_numbers.proofs.Counts.{numbers_counted}
 use Rattle.count_numbers.proofs.Expanding.{sets_counted}
-use Rattle.mailbox.specs.Judged.{PlacedValue}
+use Rattle.judged_text.specs.Judged.{PlacedValue}
 use Rattle.mailbox.specs.Numbered.{key_of}
 use Rattle.checked_text.specs.CheckedText.{acknowledged_to}
 use Rattle.hub_run.specs.Night.{sets_to}

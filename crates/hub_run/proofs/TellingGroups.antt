@@ -14,6 +14,7 @@ use Rattle.x12_write.specs.Segment.{Segment, segment_text}
 use Rattle.hub_kinds.specs.Numbers.{number_of}
 use Rattle.hub_kinds.specs.declared.answers.GroupAnswer.{GroupAnswer}
 use Rattle.hub_kinds.specs.declared.answers.SetAnswer.{SetAnswer}
+use Rattle.hub_kinds.specs.declared.limits.TheConstants.{MOST_CONTROL_DIGITS, MOST_COUNT_DIGITS}
 use Rattle.hub_kinds.specs.declared.set_codes.GroupCode.TheVariants as code
 use Rattle.guide_tree.specs.declared.rows.GuideRows.{GuideRows}
 use Rattle.env_index.specs.Summary.{GroupEntry}
@@ -59,7 +60,8 @@ codes_show : (served : GroupSupport) (control : List ℕ) (trailer : Option Grou
 codes_show support.Served control None sets true = refl
 codes_show support.Served control None sets false = refl
 codes_show support.Served control (Some trailer) sets earlier =
-    by_tests (agree (number_of 9 trailer.control) (number_of 9 control)) (agree (number_of 6 trailer.listed) (Some sets)) earlier
+    by_tests (agree (number_of MOST_CONTROL_DIGITS trailer.control) (number_of MOST_CONTROL_DIGITS control))
+    (agree (number_of MOST_COUNT_DIGITS trailer.listed) (Some sets)) earlier
 codes_show support.NotServed control trailer sets earlier = refl
 codes_show support.VersionNotServed control trailer sets earlier = refl
 

@@ -15,18 +15,18 @@ use Rattle.count_numbers.specs.Num.{num}
 use Rattle.partner_setup.specs.declared.partner.Partner.{Partner}
 use Rattle.partner_setup.specs.Envelopes.{envelope_to}
 use Rattle.partner_setup.specs.Setup.{SetupValue}
-use Rattle.mailbox.specs.Judged.{is_fa}
+use Rattle.judged_text.specs.Judged.{is_fa}
 use Rattle.checked_text.specs.declared.answered.AnsweredGroup.{AnsweredGroup}
 use Rattle.checked_text.specs.Acknowledgments.{acknowledgment_text, present, reports_from}
 use Rattle.checked_text.specs.Answers.{AreGroupAnswers, IsGroupAnswered, SentValue}
-use Rattle.checked_text.specs.CheckedText.{AnsweredInterchange, AreAnswered, AreAnswersBy, IsAnswered, acknowledged_to}
+use Rattle.checked_text.specs.CheckedText.{CheckedInterchange, AreCheckedAs, AreAnswersBy, IsCheckedAs, acknowledged_to}
 use Rattle.checked_text.specs.CheckedText.{acknowledgments_from}
 use Rattle.checked_text.specs.CheckedText.{has_any, is_acknowledged_to, is_partner, recipient_by, sent_by}
 use Rattle.checked_text.specs.Pairs.{AreAllPairs}
 use Rattle.checked_text.specs.Settled.{settled_faults}
 use Rattle.hub_run.specs.declared.night.Night.{Night}
 use Rattle.hub_run.specs.Night.{IsNight, acks_of}
-use Rattle.hub_run.specs.Told.{AreSetsTold, IsGroupTold, IsInterchangeTold, IsPartnerTold, ToldGroup, is_answered_to, told_groups}
+use Rattle.hub_run.specs.Told.{AreSetsTold, IsGroupTold, IsInterchangeTold, IsPartnerTold, ToldGroup, is_responded_to, told_groups}
 use Rattle.hub_run.proofs.Headers.{HasHeader, HaveHeaders, settled_headers}
 use Rattle.hub_run.proofs.Pairs.{no_pairs, pairs_cons, pairs_tail, pairs_weaker}
 use Rattle.hub_run.proofs.TellingGroups.{group_told}
@@ -156,7 +156,7 @@ sent_here text setup place e None (Some s) answers are is =
 
 -- the acknowledgment of an interchange
 interchange_told : (text : List ℕ) (setup : SetupValue) (at : List ℕ) (place number : ℕ) (partner : Partner) (e : IndexEntry)
-    (x : AnsweredInterchange) → HaveHeaders text e.interchange → IsAnswered text setup e x → is_acknowledged_to place x ≡ true
+    (x : CheckedInterchange) → HaveHeaders text e.interchange → IsCheckedAs text setup e x → is_acknowledged_to place x ≡ true
     → IsInterchangeTold (envelope_to setup partner) at number (sent_by text setup place e) e.interchange.content.groups
     (acknowledgment_text (envelope_to setup partner) at number x.groups)
 interchange_told text setup at place number partner e x headers is told =
@@ -171,21 +171,21 @@ interchange_told text setup at place number partner e x headers is told =
       each = reports_told (envelope_to setup partner).delims sent 1 [] e.interchange.content.groups x.groups headers groups;
     }
 
-pub acknowledged_as_told : (text : List ℕ) (setup : SetupValue) (place : ℕ) (e : IndexEntry) (x : AnsweredInterchange)
-    → IsAnswered text setup e x → is_acknowledged_to place x ≡ is_answered_to setup place e
+pub acknowledged_as_told : (text : List ℕ) (setup : SetupValue) (place : ℕ) (e : IndexEntry) (x : CheckedInterchange)
+    → IsCheckedAs text setup e x → is_acknowledged_to place x ≡ is_responded_to setup place e
 acknowledged_as_told text setup place e x is =
     ap (λ (y : IndexEntry). is_partner place (recipient_by x.sender y.fault x.groups)) is.entry
     ∙ same_test text setup place e e.fault x.sender x.groups is.groups
     ∙ ap (λ (s : Option ℕ). is_none e.fault && list_any (λ g. not (is_fa g)) e.interchange.content.groups && is_partner place s) is.sender
 
 -- acknowledgments, the first of them as number k
-abbrev texts_from : SetupValue → Partner → (at : List ℕ) → (k : ℕ) → List AnsweredInterchange → List (List ℕ)
+abbrev texts_from : SetupValue → Partner → (at : List ℕ) → (k : ℕ) → List CheckedInterchange → List (List ℕ)
 texts_from setup partner at k [] = []
 texts_from setup partner at k (x ∷ xs) =
     acknowledgment_text (envelope_to setup partner) at (num partner.counters.interchange k) x.groups
     ∷ texts_from setup partner at (k + 1) xs
 
-in_a_row : (setup : SetupValue) (partner : Partner) (at : List ℕ) (k : ℕ) (xs : List AnsweredInterchange)
+in_a_row : (setup : SetupValue) (partner : Partner) (at : List ℕ) (k : ℕ) (xs : List CheckedInterchange)
     → acknowledgments_from setup partner at k xs ≡ texts_in_row (texts_from setup partner at k xs)
 in_a_row setup partner at k [] = refl
 in_a_row setup partner at k (x ∷ xs) =
@@ -198,8 +198,8 @@ module _ (text : List ℕ) (setup : SetupValue) (at : List ℕ) (place : ℕ) (p
       IsInterchangeTold (envelope_to setup partner) at (num partner.counters.interchange number) (sent_by text setup place e)
       e.interchange.content.groups told
 
-  first_told : (k : ℕ) (e : IndexEntry) (x : AnsweredInterchange) (es : List IndexEntry) (xs : List AnsweredInterchange)
-      → HaveHeaders text e.interchange → IsAnswered text setup e x → is_acknowledged_to place x ≡ true
+  first_told : (k : ℕ) (e : IndexEntry) (x : CheckedInterchange) (es : List IndexEntry) (xs : List CheckedInterchange)
+      → HaveHeaders text e.interchange → IsCheckedAs text setup e x → is_acknowledged_to place x ≡ true
       → AreAllPairs (λ m e told. IsTold ((k + 1) + m) e told) es (texts_from setup partner at (k + 1) xs)
       → AreAllPairs (λ m e told. IsTold (k + m) e told) (e ∷ es) (texts_from setup partner at k (x ∷ xs))
   first_told k e x es xs headers is told rest =
@@ -211,12 +211,12 @@ module _ (text : List ℕ) (setup : SetupValue) (at : List ℕ) (place : ℕ) (p
       (texts_from setup partner at (k + 1) xs) (λ m e told is. subst (λ (n : ℕ). IsTold n e told) (omega arith) is) rest)
 
   -- one interchange more in front, by whether it is acknowledged to the partner
-  one_in_front : (k : ℕ) (e : IndexEntry) (x : AnsweredInterchange) (es : List IndexEntry) (xs : List AnsweredInterchange)
-      → HaveHeaders text e.interchange → IsAnswered text setup e x
+  one_in_front : (k : ℕ) (e : IndexEntry) (x : CheckedInterchange) (es : List IndexEntry) (xs : List CheckedInterchange)
+      → HaveHeaders text e.interchange → IsCheckedAs text setup e x
       → AreAllPairs (λ m e told. IsTold ((k + 1) + m) e told) es (texts_from setup partner at (k + 1) xs)
       → AreAllPairs (λ m e told. IsTold (k + m) e told) es (texts_from setup partner at k xs)
       → (b : Bool) → is_acknowledged_to place x ≡ b
-      → AreAllPairs (λ m e told. IsTold (k + m) e told) (cond (is_answered_to setup place e) (e ∷ es) es)
+      → AreAllPairs (λ m e told. IsTold (k + m) e told) (cond (is_responded_to setup place e) (e ∷ es) es)
       (texts_from setup partner at k (cond (is_acknowledged_to place x) (x ∷ xs) xs))
   one_in_front k e x es xs headers first next same b is = both (by b is)
     where
@@ -224,7 +224,7 @@ module _ (text : List ℕ) (setup : SetupValue) (at : List ℕ) (place : ℕ) (p
       R m e told = IsTold (k + m) e told
 
       both : AreAllPairs R (cond b (e ∷ es) es) (texts_from setup partner at k (cond b (x ∷ xs) xs))
-          → AreAllPairs R (cond (is_answered_to setup place e) (e ∷ es) es)
+          → AreAllPairs R (cond (is_responded_to setup place e) (e ∷ es) es)
           (texts_from setup partner at k (cond (is_acknowledged_to place x) (x ∷ xs) xs))
       both all =
           let known : b ≡ is_acknowledged_to place x = sym is in
@@ -238,27 +238,27 @@ module _ (text : List ℕ) (setup : SetupValue) (at : List ℕ) (place : ℕ) (p
       by true is = first_told k e x es xs headers first is next
       by false is = same
 
-  interchanges_told : (k : ℕ) (es : List IndexEntry) (xs : List AnsweredInterchange)
-      → All (λ e. HaveHeaders text e.interchange) es → AreAnswered text setup es xs
-      → AreAllPairs (λ m e told. IsTold (k + m) e told) (filter (is_answered_to setup place) es)
+  interchanges_told : (k : ℕ) (es : List IndexEntry) (xs : List CheckedInterchange)
+      → All (λ e. HaveHeaders text e.interchange) es → AreCheckedAs text setup es xs
+      → AreAllPairs (λ m e told. IsTold (k + m) e told) (filter (is_responded_to setup place) es)
       (texts_from setup partner at k (acknowledged_to place xs))
   interchanges_told k [] [] headers are = no_pairs (λ m e told. IsTold (k + m) e told)
   interchanges_told k [] (x ∷ xs) headers are = absurd (omega (arith, are.count))
   interchanges_told k (e ∷ es) [] headers are = absurd (omega (arith, are.count))
   interchanges_told k (e ∷ es) (x ∷ xs) headers are =
-      let rest : AreAnswered text setup es xs = pairs_tail (λ n e x. IsAnswered text setup e x) e x es xs are in
+      let rest : AreCheckedAs text setup es xs = pairs_tail (λ n e x. IsCheckedAs text setup e x) e x es xs are in
       let behind = All-tail (λ (e : IndexEntry). HaveHeaders text e.interchange) e es headers in
-      one_in_front k e x (filter (is_answered_to setup place) es) (acknowledged_to place xs)
+      one_in_front k e x (filter (is_responded_to setup place) es) (acknowledged_to place xs)
       (All-head (λ (e : IndexEntry). HaveHeaders text e.interchange) e es headers) (are.each 0 e x refl refl)
       (interchanges_told (k + 1) es xs behind rest) (interchanges_told k es xs behind rest) (is_acknowledged_to place x) refl
 
-  partner_told : (es : List IndexEntry) (xs : List AnsweredInterchange) → All (λ e. HaveHeaders text e.interchange) es
-      → AreAnswered text setup es xs
+  partner_told : (es : List IndexEntry) (xs : List CheckedInterchange) → All (λ e. HaveHeaders text e.interchange) es
+      → AreCheckedAs text setup es xs
       → IsPartnerTold text setup at es place partner (acks_of setup at xs place partner)
   partner_told es xs headers are = record {
     texts = texts_from setup partner at 0 (acknowledged_to place xs);
     is = in_a_row setup partner at 0 (acknowledged_to place xs);
-    each = pairs_weaker (λ m e told. IsTold (0 + m) e told) (λ m e told. IsTold m e told) (filter (is_answered_to setup place) es)
+    each = pairs_weaker (λ m e told. IsTold (0 + m) e told) (λ m e told. IsTold m e told) (filter (is_responded_to setup place) es)
         (texts_from setup partner at 0 (acknowledged_to place xs))
         (λ m e told is. subst (λ (n : ℕ). IsTold n e told) (omega arith) is) (interchanges_told 0 es xs headers are);
   }

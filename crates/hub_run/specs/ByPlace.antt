@@ -3,7 +3,7 @@ use Rattle.std.specs.Prelude.{ℕ, List, [], length, slice_index_or}
 use Rattle.hub_kinds.specs.declared.counters.Counters.{Counters}
 use Rattle.partner_setup.specs.declared.partner.Partner.{Partner}
 use Rattle.partner_setup.specs.Setup.{SetupValue}
-use Rattle.mailbox.specs.Judged.{PlacedValue}
+use Rattle.judged_text.specs.Judged.{PlacedValue}
 use Rattle.mailbox.specs.Mailbox.{box_text}
 use Rattle.checked_text.specs.CheckedText.{SentValues, nothing_sent}
 use Rattle.hub_run.specs.Night.{counters_behind}

@@ -9,35 +9,35 @@ use Rattle.count_numbers.specs.Num.{num}
 use Rattle.partner_setup.specs.declared.partner.Partner.{Partner}
 use Rattle.partner_setup.specs.Setup.{SetupValue}
 use Rattle.mailbox.specs.Deliveries.{delivered_to}
-use Rattle.mailbox.specs.Judged.{JudgedValue, PlacedValue}
+use Rattle.judged_text.specs.Judged.{JudgedValue, PlacedValue}
 use Rattle.mailbox.specs.Mailbox.{box_text}
-use Rattle.checked_text.specs.CheckedText.{AnsweredInterchange, AreAnswered, acknowledged_to, acknowledgments_to, judged}
+use Rattle.checked_text.specs.CheckedText.{CheckedInterchange, AreCheckedAs, acknowledged_to, acknowledgments_to, judged}
 use Rattle.checked_text.specs.Pairs.{AreAllPairs}
 use Rattle.checked_text.specs.Settled.{settled_faults}
 use Rattle.night_report.specs.Report.{report_text}
 use Rattle.hub_run.specs.declared.night.Night.{Night}
 
 -- what is known of a text: its interchanges, answered, and how many bytes stand outside of them
-pub record IsKnown (text : List ℕ) (setup : SetupValue) (known : List AnsweredInterchange) (outside : ℕ) : Type 0 where
+pub record IsKnown (text : List ℕ) (setup : SetupValue) (known : List CheckedInterchange) (outside : ℕ) : Type 0 where
   pub index : IndexValue
   pub read : IsIndex text index
-  pub answered : AreAnswered text setup (settled index (settled_faults setup index.entries)).entries known
+  pub answered : AreCheckedAs text setup (settled index (settled_faults setup index.entries)).entries known
   pub counted : outside ≡ index.outside
 
 -- the same by the standings of its groups alone
-abbrev pub judgements : (text : List ℕ) → List AnsweredInterchange → List JudgedValue
+abbrev pub judgements : (text : List ℕ) → List CheckedInterchange → List JudgedValue
 judgements text known = map (judged text) known
 
 -- the sets that are delivered to a partner
-abbrev pub sets_to : (text : List ℕ) → SetupValue → List AnsweredInterchange → (place : ℕ) → List PlacedValue
+abbrev pub sets_to : (text : List ℕ) → SetupValue → List CheckedInterchange → (place : ℕ) → List PlacedValue
 sets_to text setup known place = delivered_to setup place (judgements text known)
 
 -- a partner's acknowledgments
-abbrev pub acks_of : SetupValue → (at : List ℕ) → List AnsweredInterchange → (place : ℕ) → Partner → List ℕ
+abbrev pub acks_of : SetupValue → (at : List ℕ) → List CheckedInterchange → (place : ℕ) → Partner → List ℕ
 acks_of setup at known place partner = (acknowledgments_to setup at known place partner).text
 
 -- its mailbox, whose interchanges are numbered behind its acknowledgments
-abbrev pub box_of : (text : List ℕ) → SetupValue → (at : List ℕ) → List AnsweredInterchange → (place : ℕ) → Partner → List ℕ
+abbrev pub box_of : (text : List ℕ) → SetupValue → (at : List ℕ) → List CheckedInterchange → (place : ℕ) → Partner → List ℕ
 box_of text setup at known place partner =
     box_text setup partner at (length (acknowledged_to place known)) (sets_to text setup known place)
 
@@ -49,7 +49,7 @@ counters_behind now cap acknowledgments sets = record {
 }
 
 -- its next counters
-abbrev pub next_of : (text : List ℕ) → SetupValue → List AnsweredInterchange → (place : ℕ) → Partner → Counters
+abbrev pub next_of : (text : List ℕ) → SetupValue → List CheckedInterchange → (place : ℕ) → Partner → Counters
 next_of text setup known place partner =
     counters_behind partner.counters partner.cap (length (acknowledged_to place known)) (length (sets_to text setup known place))
 
@@ -58,7 +58,7 @@ abbrev pub AreForPartners : {A : Type 0} → SetupValue → (ℕ → Partner →
 AreForPartners {A} setup f xs = AreAllPairs {A = Partner} {B = A} (λ place partner x. x ≡ f place partner) setup.partners xs
 
 -- a night, of what is known of a text
-pub record IsNightOf (text : List ℕ) (setup : SetupValue) (at : List ℕ) (known : List AnsweredInterchange) (outside : ℕ)
+pub record IsNightOf (text : List ℕ) (setup : SetupValue) (at : List ℕ) (known : List CheckedInterchange) (outside : ℕ)
     (night : Night) : Type 0 where
   pub acks : AreForPartners setup (acks_of setup at known) night.acks
   pub boxes : AreForPartners setup (box_of text setup at known) night.boxes
@@ -67,13 +67,13 @@ pub record IsNightOf (text : List ℕ) (setup : SetupValue) (at : List ℕ) (kno
 
 -- the night of a text, a setup and a moment
 pub record IsNight (text : List ℕ) (setup : SetupValue) (at : List ℕ) (night : Night) : Type 0 where
-  pub known : List AnsweredInterchange
+  pub known : List CheckedInterchange
   pub outside : ℕ
   pub is_known : IsKnown text setup known outside
   pub is : IsNightOf text setup at known outside night
 
 -- the same of the settled index of a text (for inner clauses)
 pub record IsNightIn (index : IndexValue) (setup : SetupValue) (at : List ℕ) (night : Night) : Type 0 where
-  pub known : List AnsweredInterchange
-  pub answered : AreAnswered index.text setup index.entries known
+  pub known : List CheckedInterchange
+  pub answered : AreCheckedAs index.text setup index.entries known
   pub is : IsNightOf index.text setup at known index.outside night

@@ -16,10 +16,10 @@ use Rattle.env_index.specs.Summary.{GroupEntry}
 use Rattle.partner_setup.specs.declared.partner.Partner.{Partner}
 use Rattle.partner_setup.specs.Setup.{SetupValue, guide_of}
 use Rattle.set_check.specs.Checked.{said_by}
-use Rattle.mailbox.specs.Judged.{answered_groups}
+use Rattle.judged_text.specs.Judged.{responded_groups}
 use Rattle.checked_text.specs.Answers.{SentValue}
 use Rattle.checked_text.specs.CheckedText.{sent_by}
-use Rattle.hub_run.specs.Told.{is_answered_to}
+use Rattle.hub_run.specs.Told.{is_responded_to}
 
 -- neither the element separator nor the terminator stands in the reference numbers of a row and of its components
 abbrev pub IsRowQuotable : Delims → Element → Type 0
@@ -44,8 +44,8 @@ IsGroupQuotable d sent group =
 -- of each group of each interchange that is answered to a partner
 abbrev pub AreQuotable : (text : List ℕ) → SetupValue → (place : ℕ) → Partner → List IndexEntry → Type 0
 AreQuotable text setup place partner entries =
-    All (λ e. All (IsGroupQuotable partner.delims (sent_by text setup place e)) (answered_groups e.interchange.content.groups))
-    (filter (is_answered_to setup place) entries)
+    All (λ e. All (IsGroupQuotable partner.delims (sent_by text setup place e)) (responded_groups e.interchange.content.groups))
+    (filter (is_responded_to setup place) entries)
 
 -- letters and digits alone, for which no delimiter of a partner is taken
 abbrev pub IsPlainReference : (reference : List ℕ) → Type 0

@@ -8,7 +8,7 @@ use Rattle.env_index.specs.Summary.{GroupEntry}
 use Rattle.env_index.specs.declared.entry.SetEnvelope.{SetEnvelope}
 use Rattle.partner_setup.specs.declared.partner.Partner.{Partner}
 use Rattle.partner_setup.specs.Setup.{SetupValue}
-use Rattle.mailbox.specs.Judged.{answered_groups}
+use Rattle.judged_text.specs.Judged.{responded_groups}
 use Rattle.checked_text.specs.Answers.{SentValue}
 use Rattle.checked_text.specs.CheckedText.{sent_by}
 use Rattle.checked_text.specs.Meets.{Meets}
@@ -16,7 +16,7 @@ use Rattle.checked_text.specs.Pairs.{AreAllPairs}
 use Rattle.checked_text.specs.Settled.{settled_faults}
 use Rattle.hub_run.specs.Quotable.{AreQuotable}
 use Rattle.hub_run.specs.Responses.{Response, responses_in}
-use Rattle.hub_run.specs.Told.{is_answered_to, told_sets}
+use Rattle.hub_run.specs.Told.{is_responded_to, told_sets}
 
 -- a set that was sent, with the GS of its group and the sets before it there
 pub record SentSet : Type 0 where
@@ -36,11 +36,11 @@ abbrev pub sets_in_group : SentValue → GroupEntry → List SentSet
 sets_in_group sent group = sets_behind sent group.header [] (told_sets sent group)
 
 abbrev pub sets_in : SentValue → List GroupEntry → List SentSet
-sets_in sent groups = flat_map (sets_in_group sent) (answered_groups groups)
+sets_in sent groups = flat_map (sets_in_group sent) (responded_groups groups)
 
 abbrev pub sets_told_to : (text : List ℕ) → SetupValue → (place : ℕ) → List IndexEntry → List SentSet
 sets_told_to text setup place entries =
-    flat_map (λ e. sets_in (sent_by text setup place e) e.interchange.content.groups) (filter (is_answered_to setup place) entries)
+    flat_map (λ e. sets_in (sent_by text setup place e) e.interchange.content.groups) (filter (is_responded_to setup place) entries)
 
 -- a response to a set: its ST01 and ST02, and A exactly where it meets its guide
 pub record IsResponseTo (s : SentSet) (response : Response) : Type 0 where

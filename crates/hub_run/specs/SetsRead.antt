@@ -9,9 +9,9 @@ use Rattle.count_numbers.specs.Num.{num}
 use Rattle.partner_setup.specs.declared.partner.Partner.{Partner}
 use Rattle.partner_setup.specs.Setup.{SetupValue}
 use Rattle.mailbox.specs.Deliveries.{inner_in}
-use Rattle.mailbox.specs.Judged.{PlacedValue, delims_in}
+use Rattle.judged_text.specs.Judged.{PlacedValue, delims_in}
 use Rattle.mailbox.specs.Numbered.{NumberedValue, numbered_from}
-use Rattle.checked_text.specs.CheckedText.{AnsweredInterchange}
+use Rattle.checked_text.specs.CheckedText.{CheckedInterchange}
 use Rattle.checked_text.specs.Pairs.{AreAllPairs}
 use Rattle.hub_run.specs.Night.{IsKnown, sets_to}
 
@@ -71,7 +71,7 @@ AreSetsFound partner sets box =
 
 -- each partner finds just the sets that are delivered to it
 pub record AreBoxesRead (text : List ℕ) (setup : SetupValue) (boxes : List (List ℕ)) : Type 0 where
-  pub known : List AnsweredInterchange
+  pub known : List CheckedInterchange
   pub outside : ℕ
   pub is_known : IsKnown text setup known outside
   pub each : AreAllPairs (λ place partner box. AreSetsFound partner (sets_to text setup known place) box) setup.partners boxes

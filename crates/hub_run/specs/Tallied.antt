@@ -12,38 +12,38 @@ use Rattle.count_numbers.specs.declared.numbering.PartnerNumbers.{PartnerNumbers
 use Rattle.mailbox.specs.Numbered.{key_of}
 use Rattle.partner_setup.specs.declared.partner.Partner.{Partner}
 use Rattle.partner_setup.specs.Setup.{SetupValue}
-use Rattle.checked_text.specs.CheckedText.{AnsweredInterchange, acknowledged_to}
+use Rattle.checked_text.specs.CheckedText.{CheckedInterchange, acknowledged_to}
 use Rattle.hub_run.specs.Night.{next_of, sets_to}
 
 -- what a night leaves to be numbered for a partner: its acknowledgments and its delivered sets
-abbrev pub entries_to : (text : List ℕ) → SetupValue → List AnsweredInterchange → (place : ℕ) → List Entry
+abbrev pub entries_to : (text : List ℕ) → SetupValue → List CheckedInterchange → (place : ℕ) → List Entry
 entries_to text setup known place =
     replicate (length (acknowledged_to place known)) Acknowledged ++ map (λ set. Delivered (key_of set)) (sets_to text setup known place)
 
 -- fewer than 2^64 of them have a tally whose next counters are the partner's
 abbrev pub AreCountersTallied : Type 0
 AreCountersTallied =
-    (text : List ℕ) (setup : SetupValue) (known : List AnsweredInterchange) (place : ℕ) (partner : Partner)
+    (text : List ℕ) (setup : SetupValue) (known : List CheckedInterchange) (place : ℕ) (partner : Partner)
     → length (entries_to text setup known place) < 2 ^ 64
     → (numbers_of (tally_of (entries_to text setup known place)) partner.counters partner.cap).next
     ≡ next_of text setup known place partner
 
 -- of what happens for the partners of a setup, in whatever order, the acknowledgments of one are as many as the night's, and its
 -- delivered sets have the keys of the night's, in their order
-pub record AreEntriesTo (text : List ℕ) (setup : SetupValue) (known : List AnsweredInterchange) (place : ℕ)
+pub record AreEntriesTo (text : List ℕ) (setup : SetupValue) (known : List CheckedInterchange) (place : ℕ)
     (es : List PartnerEntry) : Type 0 where
   pub acknowledgments : acknowledgments_in (entries_for place es) ≡ length (acknowledged_to place known)
   pub keys : keys_of (entries_for place es) ≡ map key_of (sets_to text setup known place)
 
 -- a partner's first numbers in a night, and its next counters
-abbrev pub night_numbers : (text : List ℕ) → SetupValue → List AnsweredInterchange → (place : ℕ) → Partner → PartnerNumbers
+abbrev pub night_numbers : (text : List ℕ) → SetupValue → List CheckedInterchange → (place : ℕ) → Partner → PartnerNumbers
 night_numbers text setup known place partner =
     numbers_behind partner.counters partner.cap (length (acknowledged_to place known)) (length (sets_to text setup known place))
 
 -- of fewer than 2^64 entries of a partner, its tally among those of n partners tells its first numbers and its next counters
 abbrev pub AreNumbersTallied : Type 0
 AreNumbersTallied =
-    (text : List ℕ) (setup : SetupValue) (known : List AnsweredInterchange) (place : ℕ) (partner : Partner)
+    (text : List ℕ) (setup : SetupValue) (known : List CheckedInterchange) (place : ℕ) (partner : Partner)
     (n : ℕ) (es : List PartnerEntry) (tally : PartnerTally)
     → AreEntriesTo text setup known place es → length (entries_for place es) < 2 ^ 64 → slice_get (tallies_of n es) place ≡ Some tally
     → (numbers_of tally partner.counters partner.cap ≡ night_numbers text setup known place partner)

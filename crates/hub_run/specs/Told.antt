@@ -27,7 +27,7 @@ use Rattle.ack_999.specs.Group.{received_sets, totals_of}
 use Rattle.ack_999.specs.Interchange.{interchange_text}
 use Rattle.ack_999.specs.Report.{accepted_sets, convention_text, listed_sets, segment_count}
 use Rattle.ack_999.specs.declared.totals.Totals.{Totals}
-use Rattle.mailbox.specs.Judged.{is_fa}
+use Rattle.judged_text.specs.Judged.{is_fa}
 use Rattle.checked_text.specs.declared.answered.AnsweredGroup.{AnsweredGroup}
 use Rattle.checked_text.specs.Answers.{IsGroupAnswer, IsSetAnswer, SentValue}
 use Rattle.checked_text.specs.CheckedText.{is_partner, sent_by}
@@ -116,8 +116,8 @@ pub record IsInterchangeTold (e : Envelope) (at : List ℕ) (number : ℕ) (sent
   pub each : AreAllPairs (λ k told report. IsGroupTold e.delims sent (1 + k) told.before told.group report) (told_groups [] groups) reports
 
 -- an interchange without a fault from this partner, with a group that acknowledges nothing itself
-abbrev pub is_answered_to : SetupValue → (place : ℕ) → IndexEntry → Bool
-is_answered_to setup place e =
+abbrev pub is_responded_to : SetupValue → (place : ℕ) → IndexEntry → Bool
+is_responded_to setup place e =
     is_none e.fault && list_any (λ g. not (is_fa g)) e.interchange.content.groups && is_partner place (sender_of setup e.interchange.header)
 
 -- a partner's acknowledgments: one behind the other, one for each of its interchanges that are answered, in their order, numbered on
@@ -128,7 +128,7 @@ pub record IsPartnerTold (text : List ℕ) (setup : SetupValue) (at : List ℕ) 
   pub is : acknowledgments ≡ texts_in_row texts
   pub each : AreAllPairs (λ k e acknowledgment. IsInterchangeTold (envelope_to setup partner) at (num partner.counters.interchange k)
       (sent_by text setup place e) e.interchange.content.groups acknowledgment)
-      (filter (is_answered_to setup place) entries) texts
+      (filter (is_responded_to setup place) entries) texts
 
 -- the acknowledgments of each partner tell of each set of the text
 pub record AreSetsTold (text : List ℕ) (setup : SetupValue) (at : List ℕ) (acknowledgments : List (List ℕ)) : Type 0 where

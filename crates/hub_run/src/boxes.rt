@@ -5,9 +5,9 @@ ghost use Rattle.hub_run.specs.ByPlace.{box_by};
 ghost use Rattle.hub_run.specs.Night.{AreForPartners};
 
 use checked_text::Acknowledgments;
-use elem_rules::At;
 use hub_kinds::{Items, NoMemory, Text, Texts};
 use mailbox::{Delivered, assemble};
+use moment::At;
 use partner_setup::Setup;
 use std::alloc::Global;
 

@@ -1,6 +1,6 @@
 ghost use Rattle.std.specs.Prelude.{◌≡◌, ℕ, List};
 ghost use Rattle.std.specs.List.{All};
-ghost use Rattle.elem_rules.specs.Moment.{IsMoment};
+ghost use Rattle.moment.specs.Moment.{IsMoment};
 ghost use Rattle.partner_setup.specs.Setup.{SetupValue};
 ghost use Rattle.partner_setup.specs.Sound.{IsSoundSetup};
 ghost use Rattle.hub_run.specs.declared.night.Night.{Night};

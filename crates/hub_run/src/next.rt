@@ -1,29 +1,15 @@
 ghost use Rattle.std.specs.Prelude.{◌≡◌, ◌<◌, ◌≤◌, Some, IfOk, length, slice_get};
-ghost use Rattle.count_numbers.specs.Layout.{interchange_count};
 ghost use Rattle.partner_setup.specs.declared.partner.Partner.{Partner};
 ghost use Rattle.partner_setup.specs.Sound.{AreCounters};
 ghost use Rattle.hub_run.specs.ByPlace.{next_by};
 ghost use Rattle.hub_run.specs.Night.{AreForPartners, counters_behind};
 
 use checked_text::Acknowledgments;
-use count_numbers::num;
+use count_numbers::{interchange_count, num};
 use hub_kinds::{Counters, Items, NoMemory};
 use mailbox::Delivered;
 use partner_setup::Setup;
 use std::alloc::Global;
-
-/// How many interchanges hold so many sets, each at most `cap`.
-fn interchange_count(cap: u32, sets: u64) -> u64
-    requires { 1 ≤ cap }
-    ensures { result ≡ interchange_count cap sets }
-{
-    let cap = u64::from(cap);
-    if sets % cap == 0 {
-        sets / cap
-    } else {
-        sets / cap + 1
-    }
-}
 
 /// The counters behind so many acknowledgments and so many delivered sets.
 fn counters_behind(now: Counters, cap: u32, acknowledgments: u64, sets: u64) -> Counters

@@ -1,5 +1,5 @@
 ghost use Rattle.std.specs.Prelude.{◌↔◌, ◌<◌, ◌≤◌, length, IfOk, IsErrOf};
-ghost use Rattle.elem_rules.specs.Moment.{IsMoment};
+ghost use Rattle.moment.specs.Moment.{IsMoment};
 ghost use Rattle.partner_setup.specs.Sound.{IsSoundSetup};
 ghost use Rattle.hub_run.specs.Night.{IsNight};
 ghost use Rattle.hub_run.specs.ReadBack.{AreReadBack};
@@ -10,9 +10,9 @@ use crate::night::Night;
 use crate::run_fault::RunFault;
 use crate::writing::write_night;
 use checked_text::settled_faults;
-use elem_rules::At;
 use env_index::index_plain;
 use hub_kinds::{LONGEST_TEXT, NoMemory, within_limit};
+use moment::At;
 use partner_setup::Setup;
 use std::alloc::Global;
 

@@ -8,7 +8,7 @@ use Rattle.guide_tree.specs.Tree.{Trees}
 use Rattle.guide_tree.specs.Places.{Place}
 use Rattle.guide_tree.specs.Nexts.{Candidate}
 use Rattle.loop_match.specs.Given.{place_in}
-use Rattle.loop_match.specs.PlacedSegments.{PlacedSegment, placed_by, and_then, first_placed}
+use Rattle.loop_match.specs.PlacedSegments.{PlacedSegment, placed_by, with_placed, placed_among_first}
 
 place_there : (given : List (Option Candidate)) (i : ℕ)
     → slice_index_or (map place_in given) i None ≡ place_in (slice_index_or given i None)
@@ -20,12 +20,12 @@ texts_there segs i seg e l = texts.get_or-map elements_of segs i seg [] l ∙ ap
 
 pub next_placed : (ts : Trees) (segs : List SegValue) (given : List (Option Candidate)) (i : ℕ) (seg : SegValue) (o : Option PlacedSegment)
     → seg ≡ get_or segs i seg → i < length segs → o ≡ placed_by ts i (elements_of seg) (place_in (slice_index_or given i None))
-    → first_placed ts (map elements_of segs) (map place_in given) (i + 1)
-    ≡ and_then (first_placed ts (map elements_of segs) (map place_in given) i) o
+    → placed_among_first ts (map elements_of segs) (map place_in given) (i + 1)
+    ≡ with_placed (placed_among_first ts (map elements_of segs) (map place_in given) i) o
 next_placed ts segs given i seg o e l is =
-    let before = first_placed ts (map elements_of segs) (map place_in given) i in
-    ap (first_placed ts (map elements_of segs) (map place_in given)) (add-one i)
-    ∙ ap (λ (s : List (List ℕ)). and_then before (placed_by ts i s (slice_index_or (map place_in given) i None)))
+    let before = placed_among_first ts (map elements_of segs) (map place_in given) i in
+    ap (placed_among_first ts (map elements_of segs) (map place_in given)) (add-one i)
+    ∙ ap (λ (s : List (List ℕ)). with_placed before (placed_by ts i s (slice_index_or (map place_in given) i None)))
     (texts_there segs i seg e l)
-    ∙ ap (λ (p : Option Place). and_then before (placed_by ts i (elements_of seg) p)) (place_there given i)
-    ∙ ap (and_then before) (sym is)
+    ∙ ap (λ (p : Option Place). with_placed before (placed_by ts i (elements_of seg) p)) (place_there given i)
+    ∙ ap (with_placed before) (sym is)

@@ -9,7 +9,7 @@ use Rattle.guide_tree.specs.Tree.{Trees}
 use Rattle.guide_tree.specs.Segments.{Segment}
 use Rattle.guide_tree.specs.Places.{Place, slot_at}
 use Rattle.loop_match.specs.LoopIds.{loop_id_of}
-use Rattle.loop_match.specs.PlacedSegments.{PlacedSegment, placed_by, placed_at, and_then, first_placed, placed_segments}
+use Rattle.loop_match.specs.PlacedSegments.{PlacedSegment, placed_by, placed_at, with_placed, placed_among_first, placed_segments}
 
 abbrev pub stood : ℕ → Segment → List ℕ → Slot → PlacedSegment
 stood index s loop_id slot = record { position = index + 2; segment = s; slot = slot; loop_id = loop_id }
@@ -28,15 +28,15 @@ position_of ts index s (Some q) p e = position_with (slot_at ts q) index s (loop
 abbrev Stands : Trees → List Segment → List (Option Place) → PlacedSegment → Type 0
 Stands ts body given p = (index : ℕ) × (placed_at ts body given index ≡ Some p)
 
-pub from_and_then : (placed : List PlacedSegment) (o : Option PlacedSegment) (p : PlacedSegment) → Contains (and_then placed o) p
+pub from_with_placed : (placed : List PlacedSegment) (o : Option PlacedSegment) (p : PlacedSegment) → Contains (with_placed placed o) p
     → Contains placed p ⊎ (o ≡ Some p)
-from_and_then placed None p c = inl c
-from_and_then placed (Some x) p c = elim (Contains-push_cases placed x p c) [ inl e ↦ inl e | inr e ↦ inr (ap Some e) ]
+from_with_placed placed None p c = inl c
+from_with_placed placed (Some x) p c = elim (Contains-push_cases placed x p c) [ inl e ↦ inl e | inr e ↦ inr (ap Some e) ]
 
 stands : (ts : Trees) (body : List Segment) (given : List (Option Place)) (n : ℕ) (p : PlacedSegment)
-    → Contains (first_placed ts body given n) p → Stands ts body given p
+    → Contains (placed_among_first ts body given n) p → Stands ts body given p
 stands ts body given zero p c = let l : c.0 < 0 = c.1 in absurd (omega arith)
-stands ts body given (suc n) p c = elim (from_and_then (first_placed ts body given n) (placed_at ts body given n) p c) [
+stands ts body given (suc n) p c = elim (from_with_placed (placed_among_first ts body given n) (placed_at ts body given n) p c) [
   | inl e ↦ stands ts body given n p e
   | inr e ↦ (n, e)
 ]

@@ -11,9 +11,9 @@ use Rattle.guide_tree.specs.Tree.{Trees}
 use Rattle.guide_tree.specs.Segments.{Segment}
 use Rattle.guide_tree.specs.Places.{Place, slot_at}
 use Rattle.loop_match.specs.LoopIds.{loop_id_of}
-use Rattle.loop_match.specs.PlacedSegments.{PlacedSegment, placed_by, placed_at, and_then, first_placed, placed_segments}
+use Rattle.loop_match.specs.PlacedSegments.{PlacedSegment, placed_by, placed_at, with_placed, placed_among_first, placed_segments}
 use Rattle.loop_match.specs.PlacedSegments.{IsPlacedAt, AreThoseWithPlaces, AreInOrder}
-use Rattle.loop_match.proofs.Standing.{stood, from_and_then, position_of}
+use Rattle.loop_match.proofs.Standing.{stood, from_with_placed, position_of}
 
 got : (given : List (Option Place)) (i : ℕ) (q : Place) → slice_index_or given i None ≡ Some q → slice_get given i ≡ Some (Some q)
 got [] i q e = cc
@@ -59,18 +59,18 @@ is_there ts body given i p at =
     ∙ ap (option_map (stood i s (loop_id_of ts at.place))) at.slot
     ∙ ap Some (same_record i s (loop_id_of ts at.place) p.slot p e at.position at.loop_id refl)
 
-kept : (before : List PlacedSegment) (o : Option PlacedSegment) (p : PlacedSegment) → Contains before p → Contains (and_then before o) p
+kept : (before : List PlacedSegment) (o : Option PlacedSegment) (p : PlacedSegment) → Contains before p → Contains (with_placed before o) p
 kept before None p c = c
 kept before (Some x) p c = Contains-append_left before (x ∷ []) p c
 
-added : (before : List PlacedSegment) (o : Option PlacedSegment) (p : PlacedSegment) → o ≡ Some p → Contains (and_then before o) p
-added before o p e = subst (λ (x : Option PlacedSegment). Contains (and_then before x) p) (sym e) (Contains-push before p)
+added : (before : List PlacedSegment) (o : Option PlacedSegment) (p : PlacedSegment) → o ≡ Some p → Contains (with_placed before o) p
+added before o p e = subst (λ (x : Option PlacedSegment). Contains (with_placed before x) p) (sym e) (Contains-push before p)
 
 has_first : (ts : Trees) (body : List Segment) (given : List (Option Place)) (n i : ℕ) (p : PlacedSegment) → i < n
-    → placed_at ts body given i ≡ Some p → Contains (first_placed ts body given n) p
+    → placed_at ts body given i ≡ Some p → Contains (placed_among_first ts body given n) p
 has_first ts body given zero i p l e = absurd (omega arith)
 has_first ts body given (suc n) i p l e =
-    let before : List PlacedSegment = first_placed ts body given n in
+    let before : List PlacedSegment = placed_among_first ts body given n in
     elim (cases_lt i n) [
       | inl b ↦ kept before (placed_at ts body given n) p (has_first ts body given n i p b e)
       | inr s ↦
@@ -79,9 +79,9 @@ has_first ts body given (suc n) i p l e =
     ]
 
 found : (ts : Trees) (body : List Segment) (given : List (Option Place)) (n : ℕ) (p : PlacedSegment) → n ≤ length body
-    → Contains (first_placed ts body given n) p → (index : ℕ) × IsPlacedAt ts body given index p
+    → Contains (placed_among_first ts body given n) p → (index : ℕ) × IsPlacedAt ts body given index p
 found ts body given zero p l c = let none : c.0 < 0 = c.1 in absurd (omega arith)
-found ts body given (suc n) p l c = elim (from_and_then (first_placed ts body given n) (placed_at ts body given n) p c) [
+found ts body given (suc n) p l c = elim (from_with_placed (placed_among_first ts body given n) (placed_at ts body given n) p c) [
   | inl e ↦ found ts body given n p (omega (arith, l)) e
   | inr e ↦ (n, is_placed ts body given n (slice_index_or given n None) p (omega (arith, l)) refl e)
 ]
@@ -139,17 +139,17 @@ one_more placed x n r at = record {
         ]
 
 one_by : (placed : List PlacedSegment) (o : Option PlacedSegment) (n : ℕ) → Rise placed (n + 2)
-    → ((p : PlacedSegment) → o ≡ Some p → p.position ≡ n + 2) → Rise (and_then placed o) (suc n + 2)
+    → ((p : PlacedSegment) → o ≡ Some p → p.position ≡ n + 2) → Rise (with_placed placed o) (suc n + 2)
 one_by placed None n r at = record {
   below = λ j p e. let l : p.position < n + 2 = r.below j p e in omega (arith, l);
   order = r.order;
 }
 one_by placed (Some x) n r at = one_more placed x n r (at x refl)
 
-rise : (ts : Trees) (body : List Segment) (given : List (Option Place)) (n : ℕ) → Rise (first_placed ts body given n) (n + 2)
+rise : (ts : Trees) (body : List Segment) (given : List (Option Place)) (n : ℕ) → Rise (placed_among_first ts body given n) (n + 2)
 rise ts body given zero = record { below = λ j p e. cc; order = λ j k p q e f l. cc }
 rise ts body given (suc n) =
-    one_by (first_placed ts body given n) (placed_at ts body given n) n (rise ts body given n)
+    one_by (placed_among_first ts body given n) (placed_at ts body given n) n (rise ts body given n)
     (λ p e. position_of ts n (slice_index_or body n []) (slice_index_or given n None) p e)
 
 pub order : (ts : Trees) (body : List Segment) (given : List (Option Place)) → AreInOrder (placed_segments ts body given)

@@ -1,13 +1,13 @@
 -- X12.6, order of segments in a transaction set: the segments of a body that have places, each with its position, its slot and the
 -- loop that it stands in (999 guide, IK3: segment position, loop identifier code).
-use Rattle.std.specs.Prelude.{ℕ, zero, suc, ◌+◌, ◌<◌, ◌≡◌, ◌↔◌, List, [], ◌∷◌, ◌++◌, length, map}
+use Rattle.std.specs.Prelude.{ℕ, zero, suc, ◌+◌, ◌<◌, ◌≡◌, ◌↔◌, List, [], ◌∷◌, ◌++◌, length}
 use Rattle.std.specs.Prelude.{Option, Some, None, option_map, slice_get, slice_index_or}
 use Rattle.std.specs.List.{Contains}
 use Rattle.guide_tree.specs.declared.slot.Slot.{Slot}
 use Rattle.guide_tree.specs.Tree.{Trees}
 use Rattle.guide_tree.specs.Segments.{Segment}
 use Rattle.guide_tree.specs.Grammar.{Given}
-use Rattle.guide_tree.specs.Places.{Place, slot_at, slot_given}
+use Rattle.guide_tree.specs.Places.{Place, slot_at}
 use Rattle.loop_match.specs.LoopIds.{loop_id_of}
 
 -- a segment that has a place: its position in the set, ST being 1, its slot, and the id of the innermost loop round it
@@ -25,17 +25,17 @@ placed_by ts index s (Some q) =
 abbrev pub placed_at : Trees → List Segment → List (Option Place) → (index : ℕ) → Option PlacedSegment
 placed_at ts body given index = placed_by ts index (slice_index_or body index []) (slice_index_or given index None)
 
-abbrev pub and_then : List PlacedSegment → Option PlacedSegment → List PlacedSegment
-and_then placed None = placed
-and_then placed (Some p) = placed ++ p ∷ []
+abbrev pub with_placed : List PlacedSegment → Option PlacedSegment → List PlacedSegment
+with_placed placed None = placed
+with_placed placed (Some p) = placed ++ p ∷ []
 
 -- those of the first n segments, in their order
-abbrev pub first_placed : Trees → List Segment → List (Option Place) → (n : ℕ) → List PlacedSegment
-first_placed ts body given zero = []
-first_placed ts body given (suc n) = and_then (first_placed ts body given n) (placed_at ts body given n)
+abbrev pub placed_among_first : Trees → List Segment → List (Option Place) → (n : ℕ) → List PlacedSegment
+placed_among_first ts body given zero = []
+placed_among_first ts body given (suc n) = with_placed (placed_among_first ts body given n) (placed_at ts body given n)
 
 abbrev pub placed_segments : Trees → List Segment → List (Option Place) → List PlacedSegment
-placed_segments ts body given = first_placed ts body given (length body)
+placed_segments ts body given = placed_among_first ts body given (length body)
 
 -- the segment with this index in the body has a place, which leads to a slot: so it stands at its position, with that slot and loop
 pub record IsPlacedAt (ts : Trees) (body : List Segment) (given : List (Option Place)) (index : ℕ) (p : PlacedSegment) : Type 0 where
@@ -59,7 +59,3 @@ AreInOrder placed = (j k : ℕ) (p q : PlacedSegment) → slice_get placed j ≡
 -- a placed segment as a derivation gives it: with its slot
 abbrev pub as_given : PlacedSegment → Given
 as_given p = (p.segment, p.slot)
-
--- each segment has a place that leads to the slot that it is given
-abbrev pub AreLed : Trees → List (Option Place) → List Given → Type 0
-AreLed ts given xs = map (slot_given ts) given ≡ map (λ (x : Given). Some x.1) xs

@@ -3,18 +3,12 @@ ghost use Rattle.std.specs.Bool.{OnTrue};
 ghost use Rattle.std.specs.Str.{bytes_eq};
 ghost use Rattle.std.specs.List.{list_all};
 ghost use Rattle.x12_segs.specs.View.{elements_of};
-ghost use Rattle.guide_tree.specs.Segments.{contains_text, element_of, fits};
+ghost use Rattle.hub_kinds.specs.TextList.{contains_text};
+ghost use Rattle.guide_tree.specs.Segments.{element_of, fits};
 
 use guide_tree::{Pick, Slot};
-use hub_kinds::Text;
+use hub_kinds::contains_text;
 use x12_segs::SegView;
-
-/// Whether the text is one of the list, byte for byte (own).
-pub fn contains_text(texts: &[Text], text: &[u8]) -> bool
-    ensures { result ≡ contains_text texts.now text.now }
-{
-    texts.iter().any(|own| own.as_slice() == text)
-}
 
 /// The element with a number, or at 0 the id (X12.6, segment); empty where it isn't there.
 pub fn text_at<'a>(seg: &SegView<'a>, k: usize) -> &'a [u8]

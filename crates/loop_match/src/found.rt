@@ -1,5 +1,5 @@
 ghost use Rattle.std.specs.Prelude.{◌≡◌, ◌++◌, [], ◌∷◌, OnOk, IfOk};
-ghost use Rattle.guide_tree.specs.Tree.{number_of, min_of, max_of};
+ghost use Rattle.guide_tree.specs.Tree.{min_of, max_of};
 ghost use Rattle.guide_tree.specs.Structure.{first_id, past_code, few_code};
 ghost use Rattle.guide_tree.specs.Pass.{loop_of, fault_of, missing, too_few, past, stray_fault};
 ghost use Rattle.guide_tree.specs.View.{view, guide_of};
@@ -48,7 +48,7 @@ impl Found {
             id: text_of(self.alloc, first_id(node))?,
             loop_id: text_of(self.alloc, loop_of(outer, node))?,
             code,
-            slot: number_of(node),
+            slot: node.number(),
             elem: None,
         };
         self.faults.push(fault)?;
@@ -134,15 +134,6 @@ fn loop_of<'a>(outer: &'a [u8], node: &'a Node) -> &'a [u8]
     match node {
         Node::Segment(_) => outer,
         Node::Loop(head, _) => head.id.as_slice(),
-    }
-}
-
-fn number_of(node: &Node) -> u32
-    ensures { result ≡ number_of (view node.now) }
-{
-    match node {
-        Node::Segment(slot) => slot.number,
-        Node::Loop(head, _) => head.number,
     }
 }
 

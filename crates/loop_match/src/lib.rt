@@ -25,7 +25,7 @@ mod steps;
 mod stray;
 mod walk;
 
-pub use fit::{contains_text, text_at};
+pub use fit::text_at;
 pub use law::placed_segments_have_places;
 pub use loop_id::loop_id_of;
 pub use next::Step;

@@ -2,7 +2,7 @@ ghost use Rattle.std.specs.Prelude.{◌≡◌, ◌+◌, ◌<◌, ◌^◌, map, o
 ghost use Rattle.x12_segs.specs.View.{elements_of};
 ghost use Rattle.guide_tree.specs.View.{nodes_view};
 ghost use Rattle.loop_match.specs.Given.{place_in};
-ghost use Rattle.loop_match.specs.PlacedSegments.{and_then, placed_by, placed_segments};
+ghost use Rattle.loop_match.specs.PlacedSegments.{with_placed, placed_by, placed_segments};
 ghost use Rattle.loop_match.specs.Steps.{place_view};
 ghost use Rattle.loop_match.specs.Viewed.{placed_view, placed_views};
 
@@ -50,7 +50,8 @@ fn add_some<'s, 'a, 'g>(
     placed: &mut Vec<PlacedSeg<'s, 'a, 'g>>,
     next: Option<PlacedSeg<'s, 'a, 'g>>,
 ) -> Result<(), NoMemory>
-    ensures { OnOk result (placed_views placed.new.items ≡ and_then (placed_views placed.old.items) (option_map placed_view next.entry)) }
+    ensures { OnOk result (placed_views placed.new.items
+        ≡ with_placed (placed_views placed.old.items) (option_map placed_view next.entry)) }
 {
     if let Some(one) = next {
         placed.push(one)?;

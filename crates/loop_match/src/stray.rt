@@ -6,9 +6,9 @@ ghost use Rattle.guide_tree.specs.Segments.{fits};
 ghost use Rattle.guide_tree.specs.Structure.{stray_code};
 ghost use Rattle.guide_tree.specs.View.{guide_of, nodes_view};
 
-use crate::fit::{contains_text, fits};
+use crate::fit::fits;
 use guide_tree::{Guide, Node, Slot};
-use hub_kinds::SegmentCode;
+use hub_kinds::{SegmentCode, contains_text};
 use x12_segs::SegView;
 
 /// The first slot with an id.

@@ -7,7 +7,7 @@ use Rattle.count_numbers.specs.Layout.{interchanges_of}
 use Rattle.count_numbers.specs.Num.{num}
 use Rattle.partner_setup.specs.Setup.{SetupValue}
 use Rattle.partner_setup.specs.declared.partner.Partner.{Partner}
-use Rattle.mailbox.specs.Judged.{PlacedValue}
+use Rattle.judged_text.specs.Judged.{PlacedValue}
 use Rattle.mailbox.specs.Mailbox.{delivered_text, delivered_texts}
 use Rattle.mailbox.specs.Numbered.{NumberedValue, numbered_from}
 use Rattle.mailbox.proofs.GroupTexts.{length_numbered}

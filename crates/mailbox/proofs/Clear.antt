@@ -5,7 +5,7 @@ use Rattle.x12_bytes.specs.declared.delims.Delims.{Delims}
 use Rattle.x12_segs.specs.View.{SegValue}
 use Rattle.mailbox.specs.Blocking.{AllShared}
 use Rattle.mailbox.specs.Deliveries.{inner_in, is_blocked, is_in_the_way, is_text_in_the_way, kept_parts}
-use Rattle.mailbox.specs.Judged.{PlacedValue, delims_in}
+use Rattle.judged_text.specs.Judged.{PlacedValue, delims_in}
 
 none_passes : {A : Type 0} (p : A → Bool) (xs : List A) → ((x : A) → p x ≡ false) → list_any p xs ≡ false
 none_passes p [] h = refl

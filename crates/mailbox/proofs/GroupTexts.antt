@@ -4,7 +4,7 @@ use Rattle.std.proofs.lemmas.List.{length-map}
 use Rattle.partner_setup.specs.Setup.{SetupValue}
 use Rattle.partner_setup.specs.declared.partner.Partner.{Partner}
 use Rattle.x12_write.specs.Group.{group_header_text, group_trailer_text, texts_in_row}
-use Rattle.mailbox.specs.Judged.{PlacedValue}
+use Rattle.judged_text.specs.Judged.{PlacedValue}
 use Rattle.mailbox.specs.Mailbox.{delivered_group_text, group_header_of, numbered_text}
 use Rattle.mailbox.specs.Numbered.{numbered_from}
 

@@ -3,7 +3,7 @@ use Rattle.std.proofs.Common.{◌≡◌, ◌<◌, ℕ, suc, ◌+◌, Bool, true,
 use Rattle.std.proofs.Common.{◌∙◌, arith, length-drop}
 use Rattle.count_numbers.specs.Runs.{same_key}
 use Rattle.mailbox.specs.Grouping.{run_len}
-use Rattle.mailbox.specs.Judged.{PlacedValue}
+use Rattle.judged_text.specs.Judged.{PlacedValue}
 use Rattle.mailbox.specs.Numbered.{NumberedValue, goes_with, groups_of, key_of, numbered_from, onto_groups}
 
 run_on : (x y : PlacedValue) (ys : List PlacedValue) → same_key (key_of x) (key_of y) ≡ true → run_len (x ∷ y ∷ ys) ≡ 1 + run_len (y ∷ ys)

@@ -11,11 +11,11 @@ use Rattle.x12_segs.specs.View.{element_of}
 use Rattle.env_index.specs.declared.entry.SetEnvelope.{SetEnvelope}
 use Rattle.env_index.specs.Summary.{GroupEntry}
 use Rattle.partner_setup.specs.Setup.{SetupValue, route_of}
-use Rattle.mailbox.specs.declared.standing.GroupStanding.{GroupStanding}
-use Rattle.mailbox.specs.Deliveries.{AreDelivered, is_accepted, is_deliverable, is_delivered_to, is_delivery_to, outcomes_on}
+use Rattle.judged_text.specs.declared.standing.GroupStanding.{GroupStanding}
+use Rattle.mailbox.specs.Deliveries.{AreDelivered, is_not_rejected, is_deliverable, is_delivered_to, is_delivery_to, outcomes_on}
 use Rattle.mailbox.specs.Delivering.{HasGrown, HasSent, HasTaken, is_sent_by, may_leave}
-use Rattle.mailbox.specs.Judged.{JudgedValue, PlacedValue, all_sets, groups_from, is_fa, is_refused, sets_from, sets_of, standing_at}
-use Rattle.mailbox.specs.Judged.{verdict_on}
+use Rattle.judged_text.specs.Judged.{JudgedValue, PlacedValue, all_sets, groups_from, is_fa, is_refused, sets_from, sets_of, standing_at}
+use Rattle.judged_text.specs.Judged.{verdict_on}
 use Rattle.mailbox.proofs.Replacing.{get_replicated, take_one_more}
 
 abbrev pub Lists : Type 0
@@ -63,15 +63,15 @@ and_assoc : (a b c d : Bool) → (a && b && c && d) ≡ (a && (b && c && d))
 and_assoc true b c d = refl
 and_assoc false b c d = refl
 
-as_group : (p : PlacedValue) → is_deliverable p ≡ (is_accepted (verdict_on p) && may_leave p.interchange p.standing p.group)
-as_group p = and_assoc (is_accepted (verdict_on p)) p.standing.clear (not (is_fa p.group)) (not (is_refused p.interchange))
+as_group : (p : PlacedValue) → is_deliverable p ≡ (is_not_rejected (verdict_on p) && may_leave p.interchange p.standing p.group)
+as_group p = and_assoc (is_not_rejected (verdict_on p)) p.standing.clear (not (is_fa p.group)) (not (is_refused p.interchange))
 
 and_false : (b : Bool) → (b && false) ≡ false
 and_false true = refl
 and_false false = refl
 
 -- a set that isn't accepted
-pub taken_rejected : (setup : SetupValue) (p : PlacedValue) (lists : Lists) → is_accepted (verdict_on p) ≡ false
+pub taken_rejected : (setup : SetupValue) (p : PlacedValue) (lists : Lists) → is_not_rejected (verdict_on p) ≡ false
     → HasTaken setup (p ∷ []) lists lists
 taken_rejected setup p lists is = grown_none _ lists (λ q.
     ap (λ (b : Bool). cond b (p ∷ []) []) (not_delivered setup q p
@@ -84,7 +84,7 @@ by_route setup q p (t ∷ ts) = refl
 
 -- a set that was sent to its route
 pub taken_sent : (setup : SetupValue) (p : PlacedValue) (route : List ℕ) (a b : Lists) → may_leave p.interchange p.standing p.group ≡ true
-    → is_accepted (verdict_on p) ≡ true → route ≡ route_of setup (element_of p.group.header 3)
+    → is_not_rejected (verdict_on p) ≡ true → route ≡ route_of setup (element_of p.group.header 3)
     → HasSent setup p route a b → HasTaken setup (p ∷ []) a b
 taken_sent setup p route a b leaves accepted is sent =
     let deliverable : is_deliverable p ≡ true = as_group p
@@ -104,8 +104,8 @@ nothing_leaves setup q x g standing n (set ∷ sets) stay =
     let p : PlacedValue = record { interchange = x; group = g; standing = standing; index = n; set = set } in
     ap (λ (b : Bool). cond b (p ∷ filter (is_delivered_to setup q) (sets_from x g standing (n + 1) sets))
     (filter (is_delivered_to setup q) (sets_from x g standing (n + 1) sets)))
-    (not_delivered setup q p (as_group p ∙ ap (λ (b : Bool). is_accepted (verdict_on p) && b) stay
-    ∙ and_false (is_accepted (verdict_on p))))
+    (not_delivered setup q p (as_group p ∙ ap (λ (b : Bool). is_not_rejected (verdict_on p) && b) stay
+    ∙ and_false (is_not_rejected (verdict_on p))))
     ∙ nothing_leaves setup q x g standing (n + 1) sets stay
 
 pub taken_stayed : (setup : SetupValue) (x : JudgedValue) (g : GroupEntry) (standing : GroupStanding) (lists : Lists)

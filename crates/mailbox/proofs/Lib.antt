@@ -3,12 +3,10 @@ pub mod Clear
 pub mod GroupTexts
 pub mod Groups
 pub mod Growing
-pub mod InSpans
 pub mod Interchanges
 pub mod Passing
 pub mod Replacing
 pub mod Sending
-pub mod Stretch
 pub mod Together
 pub mod Writing
 pub mod Tallied

@@ -9,7 +9,7 @@ use Rattle.mailbox.specs.declared.outcome.Outcome.{Outcome}
 use Rattle.mailbox.specs.declared.outcome.Outcome.TheVariants.{DeliveredTo, HeldForDelimiter}
 use Rattle.mailbox.specs.Deliveries.{is_blocked, is_delivery_to, outcome_at, outcome_by}
 use Rattle.mailbox.specs.Delivering.{HasSent, is_sent_by, one_where}
-use Rattle.mailbox.specs.Judged.{PlacedValue}
+use Rattle.judged_text.specs.Judged.{PlacedValue}
 use Rattle.mailbox.proofs.Replacing.{length_set, set_here, set_there, there_is}
 
 abbrev pub Lists : Type 0

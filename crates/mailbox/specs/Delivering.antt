@@ -4,8 +4,8 @@ use Rattle.std.specs.List.{list_any}
 use Rattle.env_index.specs.Summary.{GroupEntry}
 use Rattle.partner_setup.specs.Setup.{SetupValue}
 use Rattle.mailbox.specs.Deliveries.{is_delivered_to, is_delivery_to, outcome_at}
-use Rattle.mailbox.specs.Judged.{JudgedValue, PlacedValue, is_fa, is_refused}
-use Rattle.mailbox.specs.declared.standing.GroupStanding.{GroupStanding}
+use Rattle.judged_text.specs.Judged.{JudgedValue, PlacedValue, is_fa, is_refused}
+use Rattle.judged_text.specs.declared.standing.GroupStanding.{GroupStanding}
 
 -- behind the list of each place these were added
 pub record HasGrown (by : ℕ → List PlacedValue) (old new : List (List PlacedValue)) : Type 0 where

@@ -1,7 +1,7 @@
 -- Private. How many delivered sets go into the first group.
 use Rattle.std.specs.Prelude.{ℕ, ◌+◌, List, [], ◌∷◌, if◌then◌else◌}
 use Rattle.count_numbers.specs.Runs.{same_key}
-use Rattle.mailbox.specs.Judged.{PlacedValue}
+use Rattle.judged_text.specs.Judged.{PlacedValue}
 use Rattle.mailbox.specs.Numbered.{key_of}
 
 abbrev pub run_len : List PlacedValue → ℕ

@@ -2,10 +2,8 @@ pub mod Blocking
 pub mod Deliveries
 pub mod Delivering
 pub mod Grouping
-pub mod Judged
 pub mod Mailbox
 pub mod Numbered
 pub mod Numbers
-pub mod Placed
 pub mod Read
 pub mod Tallied

@@ -18,7 +18,7 @@ use Rattle.x12_write.specs.Number.{padded_number}
 use Rattle.x12_write.specs.Segment.{segment_text, elements_text}
 use Rattle.x12_write.specs.Trailer.{trailer_text}
 use Rattle.mailbox.specs.Deliveries.{inner_in}
-use Rattle.mailbox.specs.Judged.{PlacedValue, delims_in}
+use Rattle.judged_text.specs.Judged.{PlacedValue, delims_in}
 use Rattle.mailbox.specs.Numbered.{NumberedValue, groups_of, numbered_from, sender_in}
 
 -- a byte of a set, with the delimiters changed to the receiver's

@@ -3,7 +3,7 @@ use Rattle.std.specs.Prelude.{◌≡◌, ℕ, List, [], ◌∷◌, map, length}
 use Rattle.count_numbers.specs.declared.run.Run.{Run}
 use Rattle.count_numbers.specs.Layout.{interchanges_of, layout_of}
 use Rattle.count_numbers.specs.Runs.{runs_of, together}
-use Rattle.mailbox.specs.Judged.{PlacedValue}
+use Rattle.judged_text.specs.Judged.{PlacedValue}
 use Rattle.mailbox.specs.Numbered.{NumberedValue, groups_of, key_of, numbered_from}
 
 -- a group of these sets: what they have in common, and how many they are

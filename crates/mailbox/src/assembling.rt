@@ -10,10 +10,10 @@ ghost use Rattle.mailbox.specs.Numbers.{HasCap, HasCounters};
 
 use crate::group_text::append_group;
 use crate::grouping::first_group;
-use crate::placed::PlacedSet;
 use count_numbers::num;
-use elem_rules::At;
 use hub_kinds::NoMemory;
+use judged_text::PlacedSet;
+use moment::At;
 use partner_setup::{Partner, Setup};
 use std::alloc::Global;
 use x12_write::{append_header, append_trailer};

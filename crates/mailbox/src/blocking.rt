@@ -2,12 +2,12 @@ ghost use Rattle.std.specs.Prelude.{◌≡◌, ◌-◌, true, false, is_some, ta
 ghost use Rattle.std.specs.Bool.{OnTrue};
 ghost use Rattle.std.specs.List.{list_any, remove};
 ghost use Rattle.env_index.specs.declared.entry.SetEnvelope.{SetEnvelope};
-ghost use Rattle.mailbox.specs.Judged.{delims_in};
+ghost use Rattle.judged_text.specs.Judged.{delims_in};
 ghost use Rattle.mailbox.specs.Deliveries.{inner_in, is_blocked, is_in_the_way, is_text_in_the_way, kept_parts};
 ghost use Rattle.mailbox.specs.Blocking.{AllShared, is_foreign, is_foreign_if};
 
-use crate::placed::PlacedSet;
 use env_index::SetEnvelope;
+use judged_text::PlacedSet;
 use memchr::memchr;
 use x12_bytes::Delims;
 use x12_segs::{Parts, SegView, Segments};

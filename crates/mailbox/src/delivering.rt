@@ -6,16 +6,15 @@ ghost use Rattle.partner_setup.specs.Setup.{route_of};
 ghost use Rattle.partner_setup.specs.Sound.{AreWithin};
 ghost use Rattle.mailbox.specs.Deliveries.{AreDelivered};
 ghost use Rattle.mailbox.specs.Delivering.{HasSent, HasTaken, may_leave};
-ghost use Rattle.mailbox.specs.Judged.{PlacedValue, all_sets, sets_from, sets_of, standing_at};
+ghost use Rattle.judged_text.specs.Judged.{PlacedValue, all_sets, sets_from, sets_of, standing_at};
 
 use crate::deliveries::{Delivered, Deliveries};
-use crate::eligible::{is_accepted, is_fa, is_refused};
-use crate::judged::JudgedInterchange;
+use crate::eligible::is_not_rejected;
 use crate::outcome::Outcome;
-use crate::placed::PlacedSet;
 use crate::receiving::outcome_at;
 use env_index::GroupEnvelope;
 use hub_kinds::NoMemory;
+use judged_text::{JudgedInterchange, PlacedSet, is_fa, is_refused};
 use partner_setup::Setup;
 use std::alloc::Global;
 
@@ -94,7 +93,7 @@ fn deliver_set<'j, 'i, 'a>(
     requires targets { AreWithin (length lists.old) route.now }
     ensures { OnOk result (HasTaken setup.now (placed.now ∷ []) lists.old lists.new) }
 {
-    if !is_accepted(placed.verdict()) {
+    if !is_not_rejected(placed.verdict()) {
         return Ok(());
     }
     send(lists, setup, route, placed)

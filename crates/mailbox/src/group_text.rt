@@ -5,12 +5,11 @@ ghost use Rattle.mailbox.specs.Numbered.{NumberedValue, numbered_from};
 ghost use Rattle.mailbox.specs.Numbers.{HasCounters};
 
 use crate::grouping::sender_in;
-use crate::placed::PlacedSet;
-use crate::receiving::partner_at;
 use crate::render::render_set;
 use count_numbers::num;
-use elem_rules::At;
 use hub_kinds::{Lent, NoMemory};
+use judged_text::PlacedSet;
+use moment::At;
 use partner_setup::{Partner, Setup};
 use x12_write::{GroupHeader, append_group_header, append_group_trailer};
 
@@ -18,7 +17,7 @@ use x12_write::{GroupHeader, append_group_header, append_group_trailer};
 fn sender_code<'s>(setup: &'s Setup, placed: &PlacedSet<'_, '_, '_>) -> &'s [u8]
     ensures { result.now ≡ sender_code setup.now placed.now }
 {
-    match partner_at(setup.partners(), sender_in(placed)) {
+    match setup.partner_at(sender_in(placed)) {
         Some(partner) => partner.code.as_slice(),
         None => b"",
     }

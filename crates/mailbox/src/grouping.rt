@@ -3,7 +3,7 @@ ghost use Rattle.count_numbers.specs.Runs.{same_key};
 ghost use Rattle.mailbox.specs.Grouping.{run_len};
 ghost use Rattle.mailbox.specs.Numbered.{groups_of, key_of, numbered_from, sender_in};
 
-use crate::placed::PlacedSet;
+use judged_text::PlacedSet;
 
 /// The sender's place in the setup.
 pub(crate) fn sender_in(placed: &PlacedSet<'_, '_, '_>) -> usize

@@ -2,16 +2,16 @@ ghost use Rattle.std.specs.Prelude.{◌≡◌, ◌++◌, ◌+◌, OnOk, IfOk, On
 ghost use Rattle.std.specs.List.{flat_map};
 ghost use Rattle.x12_write.specs.Extends.{Extends};
 ghost use Rattle.mailbox.specs.Deliveries.{inner_in};
-ghost use Rattle.mailbox.specs.Judged.{delims_in};
+ghost use Rattle.judged_text.specs.Judged.{delims_in};
 ghost use Rattle.mailbox.specs.Mailbox.{set_header_text, inner_text, set_trailer_text, set_text};
 
 use crate::blocking::inner_count;
 use crate::inner::append_inners;
 use crate::mapped::{append_mapped_elements, append_next_element};
-use crate::placed::PlacedSet;
 use env_index::SetEnvelope;
 use hub_kinds::NoMemory;
 use itoa::Buffer;
+use judged_text::PlacedSet;
 use x12_bytes::Delims;
 use x12_segs::SegView;
 use x12_write::{PaddedNumber, append_segment};

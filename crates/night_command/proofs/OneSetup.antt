@@ -8,15 +8,15 @@ use Rattle.std.proofs.lemmas.Simd.{map-map}
 use Rattle.clap.proofs.WalkLemmas.{list_any-map}
 use Rattle.toml.specs.Data.{Members}
 use Rattle.hub_kinds.specs.Twice.{has_same_key, has_twice}
+use Rattle.hub_kinds.specs.TextList.{contains_text}
 use Rattle.guide_tree.specs.Faults.{HasFault, IsFirstFault}
-use Rattle.guide_tree.specs.Segments.{contains_text}
 use Rattle.guide_tree.specs.Tree.{GuideTree, with_slot_numbers}
 use Rattle.guide_tree.specs.declared.fault.GuideFault.{GuideFault}
 use Rattle.guide_tree.specs.declared.rows.GuideHead.{GuideHead}
 use Rattle.guide_tree.specs.declared.rows.GuideRows.{GuideRows}
 use Rattle.guide_toml.specs.Answers.{Answers, Refuses}
 use Rattle.guide_toml.specs.Guides.{guide_of_table}
-use Rattle.guide_toml.specs.Refusals.{Refusal}
+use Rattle.toml_keys.specs.Refusals.{Refusal}
 use Rattle.guide_toml.specs.declared.fault.GuideFileFault.{GuideFileFault}
 use Rattle.guide_toml.specs.declared.fault.GuideFileFault.TheVariants as fault
 use Rattle.partner_setup.specs.CountersFile.{counters_of_table}
@@ -24,8 +24,8 @@ use Rattle.partner_setup.specs.Names.{and_some, places_of_texts, those_at}
 use Rattle.partner_setup.specs.Setup.{SetupValue}
 use Rattle.partner_setup.specs.SetupFaults.{by_name, first_fault, guide_name, has_bad_guides, has_guides, purpose_key, told_by}
 use Rattle.partner_setup.specs.SetupFile.{setup_of_table}
-use Rattle.partner_setup.specs.declared.file_fault.FileFault.{FileFault}
-use Rattle.partner_setup.specs.declared.file_fault.FileFault.TheVariants as file
+use Rattle.toml_keys.specs.declared.file_fault.FileFault.{FileFault}
+use Rattle.toml_keys.specs.declared.file_fault.FileFault.TheVariants as file
 use Rattle.partner_setup.specs.declared.rows.CounterRow.{CounterRow}
 use Rattle.partner_setup.specs.declared.rows.PartnerRow.{PartnerRow}
 use Rattle.partner_setup.specs.declared.rows.SetupRows.{SetupRows}

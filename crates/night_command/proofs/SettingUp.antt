@@ -11,12 +11,12 @@ use Rattle.guide_tree.specs.declared.fault.GuideFault.{GuideFault}
 use Rattle.guide_tree.specs.declared.fault.GuideFault.TheVariants as own
 use Rattle.guide_toml.specs.Answers.{Answers}
 use Rattle.guide_toml.specs.Guides.{guide_of_table}
-use Rattle.guide_toml.specs.Refusals.{Refusal}
+use Rattle.toml_keys.specs.Refusals.{Refusal}
 use Rattle.guide_toml.specs.declared.fault.GuideFileFault.{GuideFileFault}
 use Rattle.guide_toml.specs.declared.fault.GuideFileFault.TheVariants as fault
-use Rattle.partner_setup.specs.Answers.{Gives}
-use Rattle.partner_setup.specs.declared.file_fault.FileFault.{FileFault}
-use Rattle.partner_setup.specs.declared.file_fault.FileFault.TheVariants as file
+use Rattle.toml_keys.specs.Answers.{Gives}
+use Rattle.toml_keys.specs.declared.file_fault.FileFault.{FileFault}
+use Rattle.toml_keys.specs.declared.file_fault.FileFault.TheVariants as file
 use Rattle.partner_setup.specs.CountersFile.{counters_of_table}
 use Rattle.partner_setup.specs.SetupFile.{setup_of_table}
 use Rattle.partner_setup.specs.declared.rows.CounterRow.{CounterRow}

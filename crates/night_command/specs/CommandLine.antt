@@ -7,7 +7,7 @@ use Rattle.clap.specs.declared.builder.action.ArgAction.TheVariants.{Append, Set
 use Rattle.clap.specs.declared.error.kind.ErrorKind.{ErrorKind}
 use Rattle.clap.specs.declared.error.kind.ErrorKind.TheVariants.{DisplayHelp, DisplayVersion}
 use Rattle.clap.specs.declared.parser.matches.Found.{Found}
-use Rattle.elem_rules.specs.Moment.{IsMoment}
+use Rattle.moment.specs.Moment.{IsMoment}
 use Rattle.night_command.specs.declared.command.Asked.{Asked}
 use Rattle.night_command.specs.declared.command.Asked.TheVariants.{Run, Show}
 use Rattle.night_command.specs.declared.command.Options.{Options}

@@ -9,9 +9,10 @@ use Rattle.guide_tree.specs.declared.fault.GuideFault.TheVariants as own
 use Rattle.guide_toml.specs.Refusals as guide_file
 use Rattle.guide_toml.specs.declared.fault.GuideFileFault.{GuideFileFault}
 use Rattle.guide_toml.specs.declared.fault.GuideFileFault.TheVariants as fault
-use Rattle.partner_setup.specs.Answers.{refusal_number, setup_number}
-use Rattle.partner_setup.specs.declared.file_fault.FileFault.{FileFault}
-use Rattle.partner_setup.specs.declared.file_fault.FileFault.TheVariants as file
+use Rattle.toml_keys.specs.Answers.{refusal_number}
+use Rattle.partner_setup.specs.Refusals.{setup_number}
+use Rattle.toml_keys.specs.declared.file_fault.FileFault.{FileFault}
+use Rattle.toml_keys.specs.declared.file_fault.FileFault.TheVariants as file
 use Rattle.partner_setup.specs.declared.setup_fault.SetupFault.{SetupFault}
 use Rattle.partner_setup.specs.declared.setup_fault.SetupFault.TheVariants as setup
 use Rattle.night_command.specs.declared.failure.Failure.{Failure}

@@ -7,17 +7,17 @@ use Rattle.toml.specs.Parse.{parse_document}
 use Rattle.guide_tree.specs.declared.rows.GuideRows.{GuideRows}
 use Rattle.guide_toml.specs.Answers.{Answers, Refuses}
 use Rattle.guide_toml.specs.Guides.{guide_of_table}
-use Rattle.guide_toml.specs.Meanings.{FailsAs}
-use Rattle.guide_toml.specs.Refusals.{Refusal}
+use Rattle.toml_keys.specs.Meanings.{FailsAs}
+use Rattle.toml_keys.specs.Refusals.{Refusal}
 use Rattle.guide_toml.specs.declared.fault.GuideFileFault.{GuideFileFault}
 use Rattle.guide_toml.specs.declared.fault.GuideFileFault.TheVariants as fault
-use Rattle.partner_setup.specs.Answers.{meaning_of}
+use Rattle.toml_keys.specs.Answers.{meaning_of}
 use Rattle.partner_setup.specs.CountersFile.{counters_of_table}
 use Rattle.partner_setup.specs.Setup.{SetupValue, setup_of}
 use Rattle.partner_setup.specs.SetupFaults.{first_fault}
 use Rattle.partner_setup.specs.SetupFile.{setup_of_table}
-use Rattle.partner_setup.specs.declared.file_fault.FileFault.{FileFault}
-use Rattle.partner_setup.specs.declared.file_fault.FileFault.TheVariants as file
+use Rattle.toml_keys.specs.declared.file_fault.FileFault.{FileFault}
+use Rattle.toml_keys.specs.declared.file_fault.FileFault.TheVariants as file
 use Rattle.partner_setup.specs.declared.rows.CounterRow.{CounterRow}
 use Rattle.partner_setup.specs.declared.rows.SetupRows.{SetupRows}
 use Rattle.night_command.specs.declared.failure.Failure.{Failure}

@@ -7,7 +7,7 @@ ghost use Rattle.night_command.specs.Failure.{IsOfWords};
 use crate::failure::Failure;
 use clap::error::ErrorKind;
 use clap::{Arg, ArgAction, ArgMatches, Command, Error};
-use elem_rules::At;
+use moment::At;
 use std::alloc::{AllocError, Global};
 use std::convert::AsStr;
 

@@ -3,7 +3,7 @@ use Rattle.std.specs.Prelude.{◌≡◌, [], codes, refl, Some, None}
 use Rattle.std.specs.Fmt.{digits}
 use Rattle.hub_kinds.specs.declared.interchange.InterchangeFault.TheVariants as fault
 use Rattle.hub_kinds.specs.declared.set_codes.GroupVerdict.TheVariants as group
-use Rattle.night_report.specs.Lines.{control_shown, interchange_line, notice_line, fa_line, answered_line, held_line, total_line}
+use Rattle.night_report.specs.Lines.{control_shown, interchange_line, ta1_line, fa_line, answered_line, held_line, total_line}
 
 accepted_interchange :
     interchange_line 2 220 (codes "ACME") (codes "000000007") None
@@ -17,12 +17,12 @@ refused_interchange :
 unfolding digits
 refused_interchange = refl
 
-no_notice : notice_line 0 ≡ []
-no_notice = refl
+no_ta1 : ta1_line 0 ≡ []
+no_ta1 = refl
 
-one_notice : notice_line 1 ≡ codes "ta1 1\n"
+one_ta1 : ta1_line 1 ≡ codes "ta1 1\n"
 unfolding digits
-one_notice = refl
+one_ta1 = refl
 
 listed_group : fa_line (codes "5") 1 ≡ codes "group FA 5 listed sets 1\n"
 unfolding digits

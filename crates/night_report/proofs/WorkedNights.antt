@@ -11,7 +11,7 @@ use Rattle.env_index.specs.declared.entry.SetEnvelope.{SetEnvelope}
 use Rattle.partner_setup.specs.declared.partner.Partner.{Partner}
 use Rattle.partner_setup.specs.declared.rows.Usage.TheVariants.{Production}
 use Rattle.partner_setup.specs.Setup.{SetupValue}
-use Rattle.mailbox.specs.Judged.{JudgedValue}
+use Rattle.judged_text.specs.Judged.{JudgedValue}
 use Rattle.night_report.specs.Report.{report_text}
 
 abbrev stars : Delims
@@ -75,7 +75,7 @@ order = record {
         sets = closed_set 148 (codes "ST*850*0001") 194 (codes "SE*4*0001") 204 ∷ [];
         trailer = Some (seg 204 (codes "GE*1*12"));
       } ∷ [];
-      notices = 0;
+      ta1s = 0;
       misplaced = false;
       trailer = Some (seg 212 (codes "IEA*1*000000007"));
     };
@@ -109,7 +109,7 @@ with_a_bar = record {
         sets = closed_set 148 (codes "ST*850*0001") 195 (codes "SE*4*0001") 205 ∷ [];
         trailer = Some (seg 205 (codes "GE*1*12"));
       } ∷ [];
-      notices = 0;
+      ta1s = 0;
       misplaced = false;
       trailer = Some (seg 213 (codes "IEA*1*000000007"));
     };
@@ -143,7 +143,7 @@ to_nobody = record {
         sets = closed_set 150 (codes "ST*850*0001") 196 (codes "SE*4*0001") 206 ∷ [];
         trailer = Some (seg 206 (codes "GE*1*12"));
       } ∷ [];
-      notices = 0;
+      ta1s = 0;
       misplaced = false;
       trailer = Some (seg 214 (codes "IEA*1*000000007"));
     };
@@ -183,7 +183,7 @@ mixed = record {
             trailer = None;
           }
           ∷ [];
-      notices = 1;
+      ta1s = 1;
       misplaced = false;
       trailer = None;
     };

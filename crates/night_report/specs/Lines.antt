@@ -6,6 +6,7 @@ use Rattle.hub_kinds.specs.Interchange.{fault_text}
 use Rattle.hub_kinds.specs.Numbers.{is_number}
 use Rattle.hub_kinds.specs.SetCodes.{group_verdict_text}
 use Rattle.hub_kinds.specs.declared.interchange.InterchangeFault.{InterchangeFault}
+use Rattle.hub_kinds.specs.declared.limits.TheConstants.{MOST_CONTROL_DIGITS}
 use Rattle.hub_kinds.specs.declared.set_codes.GroupVerdict.{GroupVerdict}
 use Rattle.night_report.specs.declared.totals.Totals.{Totals}
 
@@ -18,7 +19,7 @@ line first words = first ++ spaced words ++ 10 ∷ []
 
 -- ISA13 is nine digits
 abbrev pub has_control : (header : List ℕ) → Bool
-has_control header = (length (field_of header 13) == 9) && is_number 9 (field_of header 13)
+has_control header = (length (field_of header 13) == 9) && is_number MOST_CONTROL_DIGITS (field_of header 13)
 
 -- ISA13 where it is nine digits
 abbrev pub control_shown : (header : List ℕ) → List ℕ
@@ -34,8 +35,8 @@ interchange_line n start name control fault = line (codes "interchange")
     (decimal n ∷ codes "at" ∷ decimal start ∷ codes "from" ∷ name ∷ codes "control" ∷ control ∷ end_words fault)
 
 -- so many interchange acknowledgments (TA1); nothing where there are none
-abbrev pub notice_line : (notices : ℕ) → List ℕ
-notice_line notices = if notices == 0 then [] else line (codes "ta1") (decimal notices ∷ [])
+abbrev pub ta1_line : (ta1s : ℕ) → List ℕ
+ta1_line ta1s = if ta1s == 0 then [] else line (codes "ta1") (decimal ta1s ∷ [])
 
 -- a group that acknowledges something itself: GS06, and its sets
 abbrev pub fa_line : (control : List ℕ) → (sets : ℕ) → List ℕ

@@ -8,10 +8,10 @@ use Rattle.partner_setup.specs.declared.partner.Partner.{Partner}
 use Rattle.partner_setup.specs.Setup.{SetupValue}
 use Rattle.mailbox.specs.declared.outcome.Outcome.{Outcome}
 use Rattle.mailbox.specs.declared.outcome.Outcome.TheVariants.{DeliveredTo, HeldForDelimiter, HeldForRoute}
-use Rattle.mailbox.specs.declared.standing.GroupStanding.{GroupStanding}
+use Rattle.judged_text.specs.declared.standing.GroupStanding.{GroupStanding}
 use Rattle.mailbox.specs.Deliveries.{outcomes, is_held}
-use Rattle.mailbox.specs.Judged.{JudgedValue, PlacedValue, standing_at, is_fa, is_refused, sets_from, all_sets}
-use Rattle.night_report.specs.Lines.{control_shown, interchange_line, notice_line, fa_line, answered_line, held_line, total_line}
+use Rattle.judged_text.specs.Judged.{JudgedValue, PlacedValue, standing_at, is_fa, is_refused, sets_from, all_sets}
+use Rattle.night_report.specs.Lines.{control_shown, interchange_line, ta1_line, fa_line, answered_line, held_line, total_line}
 use Rattle.night_report.specs.declared.totals.Totals.{Totals}
 
 abbrev pub name_by : Option Partner → List ℕ
@@ -65,7 +65,7 @@ group_lines setup g = group_line g.group g.standing ++ flat_map (held_lines setu
 -- its received TA1 and its groups, where an interchange isn't refused
 abbrev pub content_lines : SetupValue → JudgedValue → List ℕ
 content_lines setup x =
-    if is_refused x then [] else notice_line x.interchange.content.notices ++ flat_map (group_lines setup) (groups_shown x)
+    if is_refused x then [] else ta1_line x.interchange.content.ta1s ++ flat_map (group_lines setup) (groups_shown x)
 
 -- interchange n of the text, counted from 1
 abbrev pub first_line : SetupValue → (n : ℕ) → JudgedValue → List ℕ

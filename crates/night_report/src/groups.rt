@@ -2,7 +2,7 @@ ghost use Rattle.std.specs.Prelude.{◌≡◌, ◌++◌, ◌+◌, ◌<◌, ◌�
 ghost use Rattle.std.specs.List.{flat_map};
 ghost use Rattle.x12_segs.specs.View.{element_of};
 ghost use Rattle.partner_setup.specs.Setup.{route_of};
-ghost use Rattle.mailbox.specs.Judged.{standing_at};
+ghost use Rattle.judged_text.specs.Judged.{standing_at};
 ghost use Rattle.night_report.specs.Adding as adding;
 ghost use Rattle.night_report.specs.Report as report;
 ghost use Rattle.night_report.specs.Room.{HasRoom, IsOfInterchanges};
@@ -12,7 +12,7 @@ use crate::lines::{append_answered_line, append_fa_line};
 use crate::totals::Totals;
 use env_index::GroupEnvelope;
 use hub_kinds::{GroupVerdict, NoMemory};
-use mailbox::{GroupStanding, JudgedInterchange, PlacedSet, is_fa};
+use judged_text::{GroupStanding, JudgedInterchange, PlacedSet, is_fa};
 use partner_setup::Setup;
 
 /// The verdict on group `n` (AK901).

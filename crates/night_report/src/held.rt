@@ -7,7 +7,8 @@ ghost use Rattle.night_report.specs.Report as report;
 
 use crate::lines::append_held_line;
 use hub_kinds::NoMemory;
-use mailbox::{Outcome, PlacedSet, is_deliverable, outcome_at};
+use judged_text::PlacedSet;
+use mailbox::{Outcome, is_deliverable, outcome_at};
 use partner_setup::Setup;
 
 /// How often a set is held by an outcome.

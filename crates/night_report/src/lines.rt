@@ -4,7 +4,9 @@ ghost use Rattle.night_report.specs.Lines as lines;
 
 use crate::spaced::{append_count, append_line, append_word, append_words};
 use crate::totals::Totals;
-use hub_kinds::{GroupVerdict, InterchangeFault, NoMemory, code_text, read_number};
+use hub_kinds::{
+    GroupVerdict, InterchangeFault, MOST_CONTROL_DIGITS, NoMemory, code_text, read_number,
+};
 use itoa::Buffer;
 use x12_bytes::Header;
 
@@ -13,7 +15,7 @@ pub(crate) fn control_shown<'a>(header: &Header<'a>) -> &'a [u8]
     ensures { result.now ≡ lines.control_shown header.now }
 {
     let control = header.field(13);
-    if control.len() == 9 && read_number(control, 9).is_some() {
+    if control.len() == 9 && read_number(control, MOST_CONTROL_DIGITS).is_some() {
         control
     } else {
         b"?"
@@ -77,14 +79,14 @@ pub(crate) fn append_interchange_line<'x>(
 }
 
 /// Writes how many TA1 an interchange has, where it has any.
-pub(crate) fn append_notice_line(out: &mut Vec<u8>, notices: u32) -> Result<(), NoMemory>
-    ensures { OnOk result (out.new.items ≡ out.old.items ++ lines.notice_line notices) }
+pub(crate) fn append_ta1_line(out: &mut Vec<u8>, ta1s: u32) -> Result<(), NoMemory>
+    ensures { OnOk result (out.new.items ≡ out.old.items ++ lines.ta1_line ta1s) }
 {
-    if notices == 0 {
+    if ta1s == 0 {
         return Ok(());
     }
     let mut count = Buffer::new();
-    append_line(out, b"ta1", &[count.format(notices).as_bytes()])
+    append_line(out, b"ta1", &[count.format(ta1s).as_bytes()])
 }
 
 /// Writes the line of a group of acknowledgments.

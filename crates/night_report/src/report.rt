@@ -1,15 +1,14 @@
 ghost use Rattle.std.specs.Prelude.{◌≡◌, ◌++◌, ◌+◌, IfOk, OnOk, length};
-ghost use Rattle.mailbox.specs.Judged.{is_refused};
 ghost use Rattle.night_report.specs.Adding as adding;
 ghost use Rattle.night_report.specs.Report as report;
 ghost use Rattle.night_report.specs.Room.{HasRoom, IsOfInterchanges};
 
 use crate::groups::append_groups;
-use crate::lines::{append_interchange_line, append_notice_line, append_total_line, control_shown};
+use crate::lines::{append_interchange_line, append_ta1_line, append_total_line, control_shown};
 use crate::named::sender_name;
 use crate::totals::Totals;
 use hub_kinds::{Items, NoMemory, Text};
-use mailbox::JudgedInterchange;
+use judged_text::{JudgedInterchange, is_refused};
 use partner_setup::Setup;
 use std::alloc::Global;
 
@@ -33,12 +32,6 @@ fn append_first_line(
     )
 }
 
-fn is_refused(interchange: &JudgedInterchange<'_, '_>) -> bool
-    ensures { result ≡ is_refused interchange.now }
-{
-    !interchange.fault().is_none()
-}
-
 /// Writes what is told of an interchange behind its line, and gives what is counted of it.
 fn append_content(
     out: &mut Vec<u8>,
@@ -53,7 +46,7 @@ fn append_content(
     if is_refused(interchange) {
         return Ok(Totals::of_refused());
     }
-    append_notice_line(out, interchange.interchange().notices())?;
+    append_ta1_line(out, interchange.interchange().ta1s())?;
     append_groups(out, setup, interchange, Totals::of_accepted())
 }
 

@@ -8,17 +8,14 @@ use Rattle.std.specs.declared.cmp.Ordering.TheVariants.{Less, Equal, Greater}
 use Rattle.std.proofs.lemmas.Bool.{cases_lt}
 use Rattle.std.proofs.lemmas.Map.Text.{is_eq-slice_cmp}
 use Rattle.std.proofs.lemmas.Slice.Eq.{bytes_eq-Decides}
+use Rattle.hub_kinds.specs.ByText.{by_text}
 use Rattle.number_register.specs.Slots.{text_of, texts_of}
 use denote.Ref.{Bor}
 
--- how lent texts compare, and lists of them
-abbrev pub lent_cmp : Bor (List ℕ) → Bor (List ℕ) → Ordering
-lent_cmp a b = slice_cmp nat_cmp a.now b.now
-
-pub lent_same : (a b : Bor (List ℕ)) → is_eq (lent_cmp a b) ≡ true → text_of a ≡ text_of b
+pub lent_same : (a b : Bor (List ℕ)) → is_eq (by_text a b) ≡ true → text_of a ≡ text_of b
 lent_same a b h = (bytes_eq-Decides a.now b.now).0 (sym (is_eq-slice_cmp a.now b.now) ∙ h)
 
-pub lent_equal : (a b : Bor (List ℕ)) → text_of a ≡ text_of b → is_eq (lent_cmp a b) ≡ true
+pub lent_equal : (a b : Bor (List ℕ)) → text_of a ≡ text_of b → is_eq (by_text a b) ≡ true
 lent_equal a b e = is_eq-slice_cmp a.now b.now ∙ (bytes_eq-Decides a.now b.now).1 e
 
 code_same_by : (a b : ℕ) (o : Ordering) → nat_cmp a b ≡ o → is_eq o ≡ true → (a < b → ⊥) × (b < a → ⊥)
@@ -48,21 +45,21 @@ equal_both Less p h g = h
 equal_both Equal p h g = g
 equal_both Greater p h g = h
 
-pub lents_same : (xs ys : List (Bor (List ℕ))) → is_eq (slice_cmp lent_cmp xs ys) ≡ true → texts_of xs ≡ texts_of ys
+pub lents_same : (xs ys : List (Bor (List ℕ))) → is_eq (slice_cmp by_text xs ys) ≡ true → texts_of xs ≡ texts_of ys
 lents_same [] [] h = refl
 lents_same [] (b ∷ ys) h = absurd (true≢false (sym h))
 lents_same (a ∷ xs) [] h = absurd (true≢false (sym h))
 lents_same (a ∷ xs) (b ∷ ys) h =
-    let both = both_equal (lent_cmp a b) (slice_cmp lent_cmp xs ys) h in
+    let both = both_equal (by_text a b) (slice_cmp by_text xs ys) h in
     let x = lent_same a b both.0 in
     let y = lents_same xs ys both.1 in
     λ i. x i ∷ y i
 
-pub lents_equal : (xs ys : List (Bor (List ℕ))) → texts_of xs ≡ texts_of ys → is_eq (slice_cmp lent_cmp xs ys) ≡ true
+pub lents_equal : (xs ys : List (Bor (List ℕ))) → texts_of xs ≡ texts_of ys → is_eq (slice_cmp by_text xs ys) ≡ true
 lents_equal [] [] e = refl
 lents_equal [] (b ∷ ys) e = cc
 lents_equal (a ∷ xs) [] e = cc
 lents_equal (a ∷ xs) (b ∷ ys) e =
     let x : text_of a ≡ text_of b = cc in
     let y : texts_of xs ≡ texts_of ys = cc in
-    equal_both (lent_cmp a b) (slice_cmp lent_cmp xs ys) (lent_equal a b x) (lents_equal xs ys y)
+    equal_both (by_text a b) (slice_cmp by_text xs ys) (lent_equal a b x) (lents_equal xs ys y)

@@ -6,6 +6,7 @@ use Rattle.std.specs.Cmp.Lexicographic.{slice_cmp}
 use Rattle.std.specs.Ordering.{nat_cmp}
 use Rattle.std.proofs.lemmas.Bool.{ltb-true}
 use Rattle.std.proofs.lemmas.Option.{none-some}
+use Rattle.hub_kinds.specs.ByText.{by_text}
 use Rattle.hub_kinds.specs.declared.place.Place.{Place}
 use Rattle.number_book.specs.Books.{book_at}
 use Rattle.number_book.specs.First.{first_of, where_before}
@@ -16,7 +17,7 @@ use Rattle.env_index.specs.Placed.{places_of}
 use Rattle.number_register.specs.Recording.{IsEarlierIn}
 use Rattle.number_register.specs.Slots.{AreHeld, fields_of, group_code, group_place, groups_of, interchange_place, same_code}
 use Rattle.number_register.specs.Slots.{set_control, set_place, sets_of, text_of, texts_of}
-use Rattle.number_register.proofs.Comparing.{code_equal, code_same, lent_cmp, lent_equal, lent_same, lents_equal, lents_same}
+use Rattle.number_register.proofs.Comparing.{code_equal, code_same, lent_equal, lent_same, lents_equal, lents_same}
 use Rattle.number_register.proofs.Families.{group_uses, interchange_uses, number_by, set_uses}
 use Rattle.number_register.proofs.Firsts.{first_before, key_there}
 use Rattle.number_register.proofs.Places.{placed}
@@ -45,14 +46,14 @@ module _ (index : IndexValue) (recorded : List Place) (inter : List (Option (Lis
     interchange_key gs =
         let at = placed index p there in
         let alone = at.alone gs in
-        key_there (slice_cmp lent_cmp) texts_of (map fields_of index.entries) interchange_place recorded inter held.interchanges
+        key_there (slice_cmp by_text) texts_of (map fields_of index.entries) interchange_place recorded inter held.interchanges
         (p.isa - 1)
         (get_or (map fields_of index.entries) (p.isa - 1) []) (item fields_of index.entries (p.isa - 1) [] alone.1)
         (ap (was_recorded recorded) (sym (at_interchange p at.isa gs alone.0)) ∙ full p there)
 
     pub interchange_earlier : p.gs ≡ 0 → (result : Option ℕ)
         → ((key : List (Bor (List ℕ))) → slice_get inter (p.isa - 1) ≡ Some (Some key)
-        → result ≡ where_before (p.isa - 1) (first_of (slice_cmp lent_cmp) inter key))
+        → result ≡ where_before (p.isa - 1) (first_of (slice_cmp by_text) inter key))
         → (found : Option Place) → found ≡ option_map interchange_place result → IsEarlierIn index p found
     interchange_earlier gs result answers found is =
         let at = placed index p there in
@@ -62,7 +63,7 @@ module _ (index : IndexValue) (recorded : List Place) (inter : List (Option (Lis
         let numbers = map fields_of index.entries in
         let v = get_or numbers (p.isa - 1) [] in
         let own = item fields_of index.entries (p.isa - 1) [] alone.1 in
-        let first = first_before (slice_cmp lent_cmp) texts_of numbers interchange_place recorded inter held.interchanges lents_same
+        let first = first_before (slice_cmp by_text) texts_of numbers interchange_place recorded inter held.interchanges lents_same
         lents_equal
         (p.isa - 1) v key.0 own key.2 result (answers key.0 key.1) in
         subst (λ (q : Place). IsEarlierIn index q found) (sym place)
@@ -105,14 +106,14 @@ module _ (index : IndexValue) (recorded : List Place) (inter : List (Option (Lis
     set_key_there gs st =
         let at = placed index p there in
         let sets = sets_of index.entries (p.isa - 1) (p.gs - 1) in
-        key_there lent_cmp text_of (map set_control sets) (set_place (p.isa - 1) (p.gs - 1)) recorded
+        key_there by_text text_of (map set_control sets) (set_place (p.isa - 1) (p.gs - 1)) recorded
         (book_at (get_or set (p.isa - 1) []) (p.gs - 1)) (held.sets (p.isa - 1) (p.gs - 1)) (p.st - 1)
         (get_or (map set_control sets) (p.st - 1) []) (item set_control sets (p.st - 1) [] (at.set gs st))
         (ap (was_recorded recorded) (sym (at_set p at.isa gs st)) ∙ full p there)
 
     pub set_earlier : 1 ≤ p.gs → 1 ≤ p.st → (result : Option ℕ)
         → ((key : Bor (List ℕ)) → slice_get (book_at (get_or set (p.isa - 1) []) (p.gs - 1)) (p.st - 1) ≡ Some (Some key)
-        → result ≡ where_before (p.st - 1) (first_of lent_cmp (book_at (get_or set (p.isa - 1) []) (p.gs - 1)) key))
+        → result ≡ where_before (p.st - 1) (first_of by_text (book_at (get_or set (p.isa - 1) []) (p.gs - 1)) key))
         → (found : Option Place) → found ≡ option_map (set_place (p.isa - 1) (p.gs - 1)) result → IsEarlierIn index p found
     set_earlier gs st result answers found is =
         let at = placed index p there in
@@ -122,7 +123,7 @@ module _ (index : IndexValue) (recorded : List Place) (inter : List (Option (Lis
         let numbers = map set_control sets in
         let v = get_or numbers (p.st - 1) [] in
         let own = item set_control sets (p.st - 1) [] (at.set gs st) in
-        let first = first_before lent_cmp text_of numbers (set_place (p.isa - 1) (p.gs - 1)) recorded
+        let first = first_before by_text text_of numbers (set_place (p.isa - 1) (p.gs - 1)) recorded
         (book_at (get_or set (p.isa - 1) []) (p.gs - 1)) (held.sets (p.isa - 1) (p.gs - 1)) lent_same lent_equal (p.st - 1) v key.0
         own key.2
         result (answers key.0 key.1) in

@@ -4,6 +4,7 @@ use Rattle.std.proofs.Common.{Option, Some, None, map, refl, sym, ap, ◌∙◌,
 use Rattle.std.specs.Prelude.{Contains, option_map, slice_get}
 use Rattle.std.proofs.lemmas.Option.{slice_get-map}
 use Rattle.hub_kinds.specs.Numbers.{number_of}
+use Rattle.hub_kinds.specs.declared.limits.TheConstants.{MOST_CONTROL_DIGITS}
 use Rattle.hub_kinds.specs.declared.place.Place.{Place}
 use Rattle.x12_segs.specs.View.{element_of}
 use Rattle.env_index.specs.Index.{IndexEntry, IndexValue}
@@ -18,7 +19,7 @@ use Rattle.number_register.proofs.Places.{groups_there_of, numbered, of_entries,
 use Rattle.number_register.proofs.Uses.{AreUses}
 
 abbrev control_of : GroupEntry → Option ℕ
-control_of g = number_of 9 (element_of g.header 6)
+control_of g = number_of MOST_CONTROL_DIGITS (element_of g.header 6)
 
 -- what an item of the list is
 record IsInterchange (es : List IndexEntry) (a : Numbered) : Type 0 where

@@ -6,6 +6,7 @@ use Rattle.std.proofs.lemmas.List.Elements.{Contains-append_cases, Contains-appe
 use Rattle.std.proofs.lemmas.List.Elements.{Contains-push_cases}
 use Rattle.std.proofs.lemmas.Option.{none-some, slice_get_within}
 use Rattle.hub_kinds.specs.Numbers.{number_of}
+use Rattle.hub_kinds.specs.declared.limits.TheConstants.{MOST_CONTROL_DIGITS}
 use Rattle.hub_kinds.specs.declared.place.Place.{Place}
 use Rattle.x12_segs.specs.View.{element_of}
 use Rattle.env_index.specs.Index.{IndexEntry, IndexValue}
@@ -41,7 +42,7 @@ pub record IsOfGroup (isa first : ℕ) (groups : List GroupEntry) (a : Numbered)
   pub k : ℕ
   pub group : GroupEntry
   pub there : slice_get groups k ≡ Some group
-  pub is : (a ≡ numbered (place_at isa (first + k) 0) (OfGroup isa (number_of 9 (element_of group.header 6))))
+  pub is : (a ≡ numbered (place_at isa (first + k) 0) (OfGroup isa (number_of MOST_CONTROL_DIGITS (element_of group.header 6))))
       ⊎ IsOfSet isa (first + k) 1 group.sets a
 
 -- of an interchange without a fault, or within it
@@ -99,7 +100,7 @@ sets_there isa gs first (s ∷ sets) (suc j) set there =
     (sets_there isa gs (first + 1) sets j set there))
 
 abbrev pub group_item : (isa gs : ℕ) → GroupEntry → Numbered
-group_item isa gs group = numbered (place_at isa gs 0) (OfGroup isa (number_of 9 (element_of group.header 6)))
+group_item isa gs group = numbered (place_at isa gs 0) (OfGroup isa (number_of MOST_CONTROL_DIGITS (element_of group.header 6)))
 
 later_set : (isa gs other : ℕ) (sets : List SetEnvelope) (a : Numbered) → gs ≡ other → IsOfSet isa gs 1 sets a → IsOfSet isa other 1
     sets a

@@ -1,6 +1,7 @@
 -- Own: what the books have at each place of an index: its number where it was recorded. Private.
 use Rattle.std.specs.Prelude.{◌≡◌, ℕ, ◌+◌, Bool, true, false, List, [], ◌∷◌, map, Option, Some, None, option_map, slice_get, get_or}
 use Rattle.hub_kinds.specs.Numbers.{number_of}
+use Rattle.hub_kinds.specs.declared.limits.TheConstants.{MOST_CONTROL_DIGITS}
 use Rattle.hub_kinds.specs.declared.place.Place.{Place}
 use Rattle.x12_bytes.specs.Header.{field_of}
 use Rattle.x12_segs.specs.View.{element_of}
@@ -46,7 +47,7 @@ code_of None = 0
 code_of (Some n) = n + 1
 
 abbrev pub group_code : GroupEntry → ℕ
-group_code group = code_of (number_of 9 (element_of group.header 6))
+group_code group = code_of (number_of MOST_CONTROL_DIGITS (element_of group.header 6))
 
 -- ST02
 abbrev pub set_control : SetEnvelope → List ℕ

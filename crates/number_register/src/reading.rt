@@ -3,7 +3,7 @@ ghost use Rattle.std.specs.Prelude.{◌≡◌, ◌<◌, IfSome, Some, length, ma
 ghost use Rattle.number_register.specs.Slots.{code_of, fields_of, group_code, groups_of, set_control, sets_of, texts_of};
 
 use env_index::{GroupEnvelope, Index};
-use hub_kinds::read_number;
+use hub_kinds::{MOST_CONTROL_DIGITS, read_number};
 
 pub(crate) fn interchange_key<'a>(index: &Index<'a>, n: usize) -> [&'a [u8]; 5]
     requires { n < length index.now.entries }
@@ -40,7 +40,10 @@ pub(crate) fn group_key(index: &Index<'_>, n: usize, k: usize) -> u64
     requires { k < length (groups_of index.now.entries n) }
     ensures { slice_get (map group_code (groups_of index.now.entries n)) k ≡ Some result }
 {
-    code(read_number(group_at(index, n, k).header().element(6), 9))
+    code(read_number(
+        group_at(index, n, k).header().element(6),
+        MOST_CONTROL_DIGITS,
+    ))
 }
 
 pub(crate) fn set_key<'a>(index: &Index<'a>, n: usize, k: usize, j: usize) -> &'a [u8]

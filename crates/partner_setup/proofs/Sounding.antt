@@ -9,9 +9,9 @@ use Rattle.std.proofs.lemmas.List.{length-map}
 use Rattle.std.proofs.lemmas.List.Elements.{All-nil, All-cons, All-head, All-tail}
 use Rattle.hub_kinds.specs.Words.{is_word}
 use Rattle.hub_kinds.specs.Twice.{has_twice}
+use Rattle.hub_kinds.specs.TextList.{contains_text}
 use Rattle.x12_bytes.specs.declared.delims.Delims.{Delims}
 use Rattle.x12_write.specs.Undivided.{CanDivide}
-use Rattle.guide_tree.specs.Segments.{contains_text}
 use Rattle.guide_tree.specs.declared.rows.GuideRows.{GuideRows}
 use Rattle.partner_setup.specs.Names.{and_some, place_from, place_of, places_of_texts}
 use Rattle.partner_setup.specs.Setup.{counters_of, delims_or_none, first_counters, has_code, no_delims}

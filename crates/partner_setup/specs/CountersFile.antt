@@ -1,8 +1,8 @@
 -- The counters file, version 1 (own): the rows that a table writes, and the first fault of one that writes none.
 use Rattle.std.specs.Prelude.{ℕ, ◌==◌, List, [], ◌∷◌, codes, Option, Some, None, Result, Ok, Err, if◌then◌else◌, option_and_then}
 use Rattle.toml.specs.Data.{Data, table, Items, no_items, Members, as_str}
-use Rattle.guide_toml.specs.Refusals.{Refusal, wrong_kind}
-use Rattle.guide_toml.specs.Tables.{◌>>=◌, required, optional, count_in, tables_in}
+use Rattle.toml_keys.specs.Refusals.{Refusal, wrong_kind}
+use Rattle.toml_keys.specs.Tables.{◌>>=◌, required, optional, count_in, tables_in}
 use Rattle.partner_setup.specs.declared.rows.CounterRow.{CounterRow}
 use Rattle.partner_setup.specs.SetupFile.{known, rows_in}
 

@@ -1,15 +1,9 @@
 -- Own: an ordered map of the first places of names. Private.
 use Rattle.std.specs.Prelude.{◌≡◌, ℕ, List}
 use Rattle.std.specs.BTreeMap.{BTreeMap, get}
-use Rattle.std.specs.Cmp.Lexicographic.{slice_cmp}
-use Rattle.std.specs.Ordering.{nat_cmp}
-use Rattle.std.specs.declared.cmp.Ordering.{Ordering}
+use Rattle.hub_kinds.specs.ByText.{by_text}
 use Rattle.partner_setup.specs.Names.{place_from}
 use denote.Ref.{Bor}
-
--- the order of lent texts
-abbrev pub by_text : Bor (List ℕ) → Bor (List ℕ) → Ordering
-by_text a b = slice_cmp nat_cmp a.now b.now
 
 -- the map has the first place of each name, the first of which has this place, and no other name
 abbrev pub KnowsPlaces : BTreeMap (Bor (List ℕ)) ℕ → (first : ℕ) → List (List ℕ) → Type 0

@@ -1,9 +1,9 @@
-pub mod Answers
 pub mod CountersFile
 pub mod CountersText
 pub mod Envelopes
 pub mod Known
 pub mod Names
+pub mod Refusals
 pub mod Setup
 pub mod SetupFaults
 pub mod SetupFile

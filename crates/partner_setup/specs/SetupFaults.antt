@@ -5,9 +5,9 @@ use Rattle.std.specs.List.{list_all, list_any}
 use Rattle.std.specs.Char.{is_ascii_alphanumeric}
 use Rattle.hub_kinds.specs.Twice.{has_twice}
 use Rattle.hub_kinds.specs.Words.{is_word}
+use Rattle.hub_kinds.specs.TextList.{contains_text}
 use Rattle.x12_bytes.specs.declared.delims.Delims.{Delims}
 use Rattle.guide_tree.specs.declared.rows.GuideRows.{GuideRows}
-use Rattle.guide_tree.specs.Segments.{contains_text}
 use Rattle.partner_setup.specs.Names.{places_of_texts, those_at}
 use Rattle.partner_setup.specs.declared.rows.CounterRow.{CounterRow}
 use Rattle.partner_setup.specs.declared.rows.PartnerRow.{PartnerRow}

@@ -2,9 +2,9 @@
 use Rattle.std.specs.Prelude.{ℕ, List, [], ◌∷◌, codes, Option, Some, None, Result, Ok, Err, if◌then◌else◌, option_and_then}
 use Rattle.std.specs.Str.{bytes_eq}
 use Rattle.toml.specs.Data.{Data, table, Items, no_items, item, Members, as_str, as_table}
-use Rattle.guide_toml.specs.Refusals.{Refusal, wrong_kind}
-use Rattle.guide_toml.specs.Keys.{least_unknown, if_known}
-use Rattle.guide_toml.specs.Tables.{◌>>=◌, required, optional, count_in, list_in, tables_in}
+use Rattle.toml_keys.specs.Refusals.{Refusal, wrong_kind}
+use Rattle.toml_keys.specs.Keys.{least_unknown, if_known}
+use Rattle.toml_keys.specs.Tables.{◌>>=◌, required, optional, count_in, list_in, tables_in}
 use Rattle.partner_setup.specs.declared.rows.HubRow.{HubRow}
 use Rattle.partner_setup.specs.declared.rows.PartnerRow.{PartnerRow}
 use Rattle.partner_setup.specs.declared.rows.RouteRow.{RouteRow}

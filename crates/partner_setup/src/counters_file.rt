@@ -3,21 +3,20 @@ ghost use Rattle.std.specs.Str.{IsUtf8};
 ghost use Rattle.toml.specs.Data.{Members};
 ghost use Rattle.toml.specs.View.{table_view, items_view, view};
 ghost use Rattle.toml.specs.Parse.{parse_document};
-ghost use Rattle.guide_toml.specs.Meanings.{GivesAs};
-ghost use Rattle.guide_toml.specs.Tables as tables;
-ghost use Rattle.partner_setup.specs.Answers.{Gives, meaning_of};
+ghost use Rattle.toml_keys.specs.Meanings.{GivesAs};
+ghost use Rattle.toml_keys.specs.Tables as tables;
+ghost use Rattle.toml_keys.specs.Answers.{Gives, meaning_of};
 ghost use Rattle.partner_setup.specs.CountersFile as file;
 ghost use Rattle.partner_setup.specs.SetupFile.{known};
 
-use crate::file_fault::FileFault;
-use crate::keyed::{count_at, refuse_others, text_at};
+use crate::keyed::{count_at, text_at};
 use crate::row::{Row, rows_in};
 use crate::rows::{CounterRow, CounterRows};
 use crate::values::Version;
-use guide_toml::{required, some_tables_at};
 use hub_kinds::Counters;
 use std::alloc::Global;
 use toml::{Table, Value};
+use toml_keys::{FileFault, refuse_unknown, required, some_tables_at};
 
 const FILE_KEYS: &[&str] = &["version", "counter"];
 
@@ -39,7 +38,7 @@ fn counter_of(alloc: Global, table: &Table) -> Result<CounterRow, FileFault>
 fn known_counter(alloc: Global, table: &Table) -> Result<CounterRow, FileFault>
     ensures { Gives result (known file.counter_keys (table_view table.now) (file.counter_of (table_view table.now))) }
 {
-    refuse_others(alloc, table, COUNTER_KEYS)?;
+    refuse_unknown(alloc, table, COUNTER_KEYS)?;
     counter_of(alloc, table)
 }
 
@@ -58,7 +57,7 @@ impl Row for CounterRow {
 fn versioned<'a>(alloc: Global, table: &'a Table) -> Result<&'a [Value], FileFault>
     ensures { GivesAs meaning_of (λ v. items_view v.now) result (file.versioned (table_view table.entry.now)) }
 {
-    required::<FileFault, Version>(alloc, table, "version", &Version)?;
+    required(alloc, table, "version", &Version)?;
     some_tables_at(table, "counter")
 }
 
@@ -66,7 +65,7 @@ fn versioned<'a>(alloc: Global, table: &'a Table) -> Result<&'a [Value], FileFau
 fn rows_of(alloc: Global, table: &Table) -> Result<CounterRows, FileFault>
     ensures { Gives result (file.counters_of_table (table_view table.now)) }
 {
-    refuse_others(alloc, table, FILE_KEYS)?;
+    refuse_unknown(alloc, table, FILE_KEYS)?;
     let rows = versioned(alloc, table)?;
     rows_in(alloc, rows)
 }

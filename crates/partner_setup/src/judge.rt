@@ -1,6 +1,6 @@
 ghost use Rattle.std.specs.Prelude.{◌≡◌, ◌++◌, [], ℕ, List, Some, None, if◌then◌else◌, map, option_map, slice_get, IfOk, OnOk};
 ghost use Rattle.std.specs.List.{list_all};
-ghost use Rattle.guide_tree.specs.Segments.{contains_text};
+ghost use Rattle.hub_kinds.specs.TextList.{contains_text};
 ghost use Rattle.partner_setup.specs.Known.{KnowsPlaces};
 ghost use Rattle.partner_setup.specs.Names.{and_some, places_of_texts, those_at};
 ghost use Rattle.partner_setup.specs.SetupFaults as faults;

@@ -24,7 +24,6 @@ mod counters_file;
 mod counters_text;
 mod delimiters;
 mod envelopes;
-mod file_fault;
 mod ids;
 mod judge;
 mod keyed;
@@ -42,9 +41,9 @@ mod twice;
 mod values;
 
 pub use counters_file::read_counters;
-pub use file_fault::FileFault;
 pub use partner::{Partner, Route};
 pub use rows::{CounterRow, CounterRows, HubRow, PartnerRow, RouteRow, SetupRows, Usage};
 pub use setup::Setup;
 pub use setup_fault::SetupFault;
 pub use setup_file::read_setup;
+pub use toml_keys::FileFault;

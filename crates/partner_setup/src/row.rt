@@ -1,14 +1,14 @@
 ghost use Rattle.std.specs.Prelude.{◌≡◌, ◌++◌, [], ◌∷◌, IfErr, OnOk, Result};
 ghost use Rattle.toml.specs.Data.{Data};
 ghost use Rattle.toml.specs.View.{items_view, view};
-ghost use Rattle.guide_toml.specs.Refusals.{Refusal};
-ghost use Rattle.partner_setup.specs.Answers.{Gives};
+ghost use Rattle.toml_keys.specs.Refusals.{Refusal};
+ghost use Rattle.toml_keys.specs.Answers.{Gives};
 ghost use Rattle.partner_setup.specs.SetupFile as file;
 
-use crate::file_fault::FileFault;
 use hub_kinds::Items;
 use std::alloc::Global;
 use toml::Value;
+use toml_keys::FileFault;
 
 /// A row of a list of tables.
 pub trait Row: Drop {

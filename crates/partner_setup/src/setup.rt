@@ -56,7 +56,7 @@ impl Model for Setup {
 }
 
 impl Setup {
-    ghost use Rattle.std.specs.Prelude.{◌≡◌, All, IsTrue, length, map};
+    ghost use Rattle.std.specs.Prelude.{◌≡◌, All, IsTrue, length, map, option_copied, slice_get};
     ghost use Rattle.partner_setup.specs.Names.{place_of};
     ghost use Rattle.partner_setup.specs.Tables.{KeepsPlaces, sender_key, route_key};
     ghost use Rattle.partner_setup.specs.Sound.{AreWithin, IsSoundPartner, IsSoundSetup};
@@ -113,6 +113,13 @@ impl Setup {
         ensures sound { All (IsSoundPartner (length self.now.guides)) self.now.partners }
     {
         self.partners.as_slice()
+    }
+
+    /// A partner by its place.
+    pub fn partner_at(&self, place: usize) -> Option<&Partner>
+        ensures { option_copied result ≡ slice_get self.entry.now.partners place }
+    {
+        self.partners.get(place)
     }
 
     /// The routes, in their order. Each leads to partners of the setup.

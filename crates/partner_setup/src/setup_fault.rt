@@ -33,7 +33,7 @@ pub enum SetupFault {
 
 impl SetupFault {
     ghost use Rattle.std.specs.Prelude.{◌≡◌};
-    ghost use Rattle.partner_setup.specs.Answers.{setup_number};
+    ghost use Rattle.partner_setup.specs.Refusals.{setup_number};
 
     /// The number of the refusal.
     pub fn number(&self) -> u32

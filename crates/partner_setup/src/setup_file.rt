@@ -3,21 +3,22 @@ ghost use Rattle.std.specs.Str.{IsUtf8};
 ghost use Rattle.toml.specs.Data.{Members, as_str};
 ghost use Rattle.toml.specs.View.{table_view, items_view, view};
 ghost use Rattle.toml.specs.Parse.{parse_document};
-ghost use Rattle.guide_toml.specs.Meanings.{GivesAs, FailsAs};
-ghost use Rattle.guide_toml.specs.Tables.{◌>>=◌ as ◌⊳◌};
-ghost use Rattle.guide_toml.specs.Tables as tables;
-ghost use Rattle.partner_setup.specs.Answers.{Gives, meaning_of};
+ghost use Rattle.toml_keys.specs.Meanings.{GivesAs, FailsAs};
+ghost use Rattle.toml_keys.specs.Tables.{◌>>=◌ as ◌⊳◌};
+ghost use Rattle.toml_keys.specs.Tables as tables;
+ghost use Rattle.toml_keys.specs.Answers.{Gives, meaning_of};
 ghost use Rattle.partner_setup.specs.SetupFile as file;
 
-use crate::file_fault::FileFault;
-use crate::keyed::{count_at, refuse_others, text_at};
+use crate::keyed::{count_at, text_at};
 use crate::row::{Row, rows_in};
 use crate::rows::{HubRow, PartnerRow, RouteRow, SetupRows};
 use crate::values::UsageText;
-use guide_toml::{AnyText, ListOf, required, some_tables_at, table_at, tables_at};
 use hub_kinds::{Text, Texts};
 use std::alloc::Global;
 use toml::{Table, Value};
+use toml_keys::{
+    AnyText, FileFault, ListOf, refuse_unknown, required, some_tables_at, table_at, tables_at,
+};
 
 const TOP_KEYS: &[&str] = &["hub", "partner", "route"];
 
@@ -57,7 +58,7 @@ fn hub_of(alloc: Global, table: &Table) -> Result<HubRow, FileFault>
 fn known_hub(alloc: Global, table: &Table) -> Result<HubRow, FileFault>
     ensures { Gives result (file.known file.hub_keys (table_view table.now) (file.hub_of (table_view table.now))) }
 {
-    refuse_others(alloc, table, HUB_KEYS)?;
+    refuse_unknown(alloc, table, HUB_KEYS)?;
     hub_of(alloc, table)
 }
 
@@ -202,7 +203,7 @@ fn partner_of(alloc: Global, table: &Table) -> Result<PartnerRow, FileFault>
 fn known_partner(alloc: Global, table: &Table) -> Result<PartnerRow, FileFault>
     ensures { Gives result (file.known file.partner_keys (table_view table.now) (file.partner_of (table_view table.now))) }
 {
-    refuse_others(alloc, table, PARTNER_KEYS)?;
+    refuse_unknown(alloc, table, PARTNER_KEYS)?;
     partner_of(alloc, table)
 }
 
@@ -218,7 +219,7 @@ fn route_of(alloc: Global, table: &Table) -> Result<RouteRow, FileFault>
 fn known_route(alloc: Global, table: &Table) -> Result<RouteRow, FileFault>
     ensures { Gives result (file.known file.route_keys (table_view table.now) (file.route_of (table_view table.now))) }
 {
-    refuse_others(alloc, table, ROUTE_KEYS)?;
+    refuse_unknown(alloc, table, ROUTE_KEYS)?;
     route_of(alloc, table)
 }
 
@@ -248,10 +249,10 @@ impl Row for RouteRow {
 fn rows_of(alloc: Global, table: &Table) -> Result<SetupRows, FileFault>
     ensures { Gives result (file.setup_of_table (table_view table.now)) }
 {
-    refuse_others(alloc, table, TOP_KEYS)?;
-    let hub = table_at::<FileFault>(table, "hub")?;
-    let partners = tables_at::<FileFault>(table, "partner")?;
-    let routes = some_tables_at::<FileFault>(table, "route")?;
+    refuse_unknown(alloc, table, TOP_KEYS)?;
+    let hub = table_at(table, "hub")?;
+    let partners = tables_at(table, "partner")?;
+    let routes = some_tables_at(table, "route")?;
     let hub = known_hub(alloc, hub)?;
     let partners = rows_in(alloc, partners)?;
     let routes = rows_in(alloc, routes)?;

@@ -4,9 +4,9 @@ ghost use Rattle.partner_setup.specs.CountersFile as counters;
 ghost use Rattle.partner_setup.specs.SetupFile as setup;
 
 use crate::rows::Usage;
-use guide_toml::{Count, Reading, TextFault};
 use std::alloc::Global;
 use toml::Value;
+use toml_keys::{Count, Reading, TextFault};
 
 /// `P` or `T`.
 #[derive(Clone, Copy)]

@@ -20,10 +20,11 @@ use Rattle.guide_tree.specs.declared.rows.HlRule.{HlRule}
 use Rattle.guide_tree.specs.declared.rows.DependencyKind.{DependencyKind}
 use Rattle.guide_tree.specs.declared.rows.DependencyKind.TheVariants as kind
 use Rattle.hub_kinds.specs.Rising.{IsKeyedBy}
+use Rattle.hub_kinds.specs.TextList.{contains_text}
 use Rattle.hl_check.specs.Hierarchy.{IsFaultAmong, IsHierarchyFault, hls_of}
-use Rattle.depend_check.specs.Dependencies.{IsBroken, IsDependencyFault}
+use Rattle.depend_check.specs.Dependencies.{IsTargetBroken, IsDependencyFault}
 use Rattle.loop_match.specs.PlacedSegments.{PlacedSegment, placed_segments}
-use Rattle.guide_tree.specs.Segments.{Segment, id_of, fits, contains_text}
+use Rattle.guide_tree.specs.Segments.{Segment, id_of, fits}
 use Rattle.guide_tree.specs.Places.{Place, slot_at}
 use Rattle.guide_tree.specs.Slots.{IsSound}
 use Rattle.guide_tree.specs.Structure.{past_code, few_code, stray_code, IsStructureFault}
@@ -134,7 +135,7 @@ among_hierarchy g d body given (Some rule) f r = elim r.wrong [
 ]
 
 breaking : (ts : Trees) (d : Delims) (end : ℕ) (placed : List PlacedSegment) (label : List ℕ) (which : DependencyKind) (element : ℕ)
-    (f : Fault) → IsBroken ts d end placed label which element f → (apart_at f ≡ true) × (of_hierarchy f ≡ false)
+    (f : Fault) → IsTargetBroken ts d end placed label which element f → (apart_at f ≡ true) × (of_hierarchy f ≡ false)
 breaking ts d end placed label kind.Need zero f b = (ap apart_at b.3, ap of_hierarchy b.3)
 breaking ts d end placed label kind.Ban zero f b = (ap apart_at b.3, ap of_hierarchy b.3)
 breaking ts d end placed label kind.Need (suc e) f b = (ap apart_at b.2, ap of_hierarchy b.2)

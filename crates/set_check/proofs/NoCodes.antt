@@ -18,14 +18,15 @@ use Rattle.set_check.specs.Codes.{envelope_codes, is_other, first_five}
 use Rattle.set_check.specs.SetParts.{SetParts, segment_count}
 use Rattle.set_check.specs.SetFaults.{codes_with}
 use Rattle.set_check.specs.Meets.{MeetsConvention}
+use Rattle.set_check.specs.declared.codes.TheConstants.{COUNT_DIGITS, LEAST_CONTROL}
 
 -- what ST and SE have to be
 pub record Enveloped (g : GuideTree) (parts : SetParts) : Type 0 where
   pub trailer : SegValue
   pub closed : parts.trailer ≡ Some trailer
-  pub counted : number_of 10 (element_of trailer 1) ≡ Some (segment_count parts)
+  pub counted : number_of COUNT_DIGITS (element_of trailer 1) ≡ Some (segment_count parts)
   pub same_control : element_of trailer 2 ≡ control_of parts.header
-  pub long_control : 4 ≤ length (control_of parts.header)
+  pub long_control : LEAST_CONTROL ≤ length (control_of parts.header)
   pub convention : MeetsConvention parts.header.delims g.head.convention (element_of parts.header 3)
 
 left_nil : (xs ys : List SetCode) → xs ++ ys ≡ [] → xs ≡ []
@@ -72,11 +73,11 @@ is_not_other d None given h = refl
 is_not_other d (Some c) given (inl e) = neither (is_empty d given) (bytes_eq given c) (inl e)
 is_not_other d (Some c) given (inr e) = neither (is_empty d given) (bytes_eq given c) (inr ((bytes_eq-Decides given c).1 e))
 
-long_enough : (n : ℕ) → nat_lt n 4 ≡ false → 4 ≤ n
-long_enough n h = grind (arith, nat_tests)
+long_enough : (least n : ℕ) → nat_lt n least ≡ false → least ≤ n
+long_enough least n h = grind (arith, nat_tests)
 
-not_short : (n : ℕ) → 4 ≤ n → nat_lt n 4 ≡ false
-not_short n h = grind (arith, nat_tests)
+not_short : (least n : ℕ) → least ≤ n → nat_lt n least ≡ false
+not_short least n h = grind (arith, nat_tests)
 
 -- by the SE, if there is one
 enveloped_by : (g : GuideTree) (parts : SetParts) (t : Option SegValue) → parts.trailer ≡ t
@@ -92,13 +93,13 @@ enveloped_by g parts (Some t) e h k =
       trailer = t;
       closed = e;
       counted =
-          same_number (segment_count parts) (number_of 10 (element_of t 1))
+          same_number (segment_count parts) (number_of COUNT_DIGITS (element_of t 1))
           (not-false _ (no_code _ code.SegmentCountWrong (right_nil a b ab)));
       same_control =
           (bytes_eq-Decides (element_of t 2) (control_of parts.header)).0
           (not-false _ (no_code _ code.ControlNumbersDiffer (left_nil a b ab)));
       long_control =
-          long_enough (length (control_of parts.header)) (no_code _ code.ControlNumberInvalid (right_nil (a ++ b) c h));
+          long_enough LEAST_CONTROL (length (control_of parts.header)) (no_code _ code.ControlNumberInvalid (right_nil (a ++ b) c h));
       convention = k;
     }
 
@@ -122,7 +123,7 @@ no_envelope_code g parts v =
     let count : has_other_count (segment_count parts) (Some v.trailer) ≡ false =
     ap (λ (o : Option ℕ). not (is_count (segment_count parts) o)) v.counted
     ∙ ap not ((Decides-eqb (segment_count parts) (segment_count parts)).1 refl) in
-    let short : has_short_control parts.header ≡ false = not_short (length (control_of parts.header)) v.long_control in
+    let short : has_short_control parts.header ≡ false = not_short LEAST_CONTROL (length (control_of parts.header)) v.long_control in
     three_not _ _ _ control count short where
       three_not : (x y z : Bool) → x ≡ false → y ≡ false → z ≡ false
           → (code_if x code.ControlNumbersDiffer ++ code_if y code.SegmentCountWrong) ++ code_if z code.ControlNumberInvalid ≡ []

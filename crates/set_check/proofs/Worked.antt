@@ -11,6 +11,7 @@ use Rattle.x12_segs.specs.View.{SegValue}
 use Rattle.guide_tree.specs.Tree.{GuideTree, no_trees}
 use Rattle.set_check.specs.Codes.{fault_codes, guide_codes, envelope_codes, convention_codes}
 use Rattle.set_check.specs.Codes.{all_codes, set_codes_of}
+use Rattle.set_check.specs.declared.codes.TheConstants.{COUNT_DIGITS, LEAST_CONTROL}
 
 abbrev fault_with : SegmentCode → Option ElemFault → Fault
 fault_with seg elem = record { position = 3; id = codes "PO1"; loop_id = []; code = seg; slot = 4; elem = elem }
@@ -89,6 +90,13 @@ guide_missing = refl
 
 guide_there : guide_codes (Some plain_guide) ≡ []
 guide_there = refl
+
+-- the limits, by their values
+least_control : LEAST_CONTROL ≡ 4
+least_control = refl
+
+count_digits : COUNT_DIGITS ≡ 10
+count_digits = refl
 
 -- 2, 3, 4 and 7
 trailer_missing : envelope_codes (segment_of (codes "ST*850*0001")) 3 None ≡ code.TrailerMissing ∷ []

@@ -30,7 +30,8 @@ use Rattle.guide_tree.proofs.Judged.{accepted}
 use Rattle.elem_rules.proofs.Members.{contains_one, one_contains}
 use Rattle.hl_check.specs.Hierarchy.{IsHierarchyWhole, IsHlWhole, hl_segments}
 use Rattle.hl_check.proofs.Whole.{hierarchy_whole}
-use Rattle.depend_check.specs.Kept.{AreDependenciesKept, IsTargetKept, triggers}
+use Rattle.depend_check.specs.Kept.{AreDependenciesKept, IsTargetKept}
+use Rattle.depend_check.specs.Standing.{triggers}
 use Rattle.depend_check.proofs.Whole.{dependencies_kept}
 use Rattle.set_check.specs.SetParts.{SetParts, parts_of, end_position}
 use Rattle.set_check.specs.SetFaults.{IsSetFault, IsErrorIn}

@@ -14,6 +14,7 @@ use Rattle.guide_tree.specs.Tree.{GuideTree}
 use Rattle.x12_bytes.specs.declared.delims.Delims.{Delims}
 use Rattle.x12_segs.specs.View.{SegValue, element_of}
 use Rattle.elem_rules.specs.Divided.{is_empty}
+use Rattle.set_check.specs.declared.codes.TheConstants.{COUNT_DIGITS, LEAST_CONTROL}
 
 -- the code, where there is cause for it
 abbrev pub code_if : Bool → SetCode → List SetCode
@@ -85,11 +86,11 @@ is_count segments (Some n) = n == segments
 -- SE01 isn't 1 to 10 digits that write the number of segments, ST and SE among them
 abbrev pub has_other_count : ℕ → Option SegValue → Bool
 has_other_count segments None = false
-has_other_count segments (Some trailer) = not (is_count segments (number_of 10 (element_of trailer 1)))
+has_other_count segments (Some trailer) = not (is_count segments (number_of COUNT_DIGITS (element_of trailer 1)))
 
 -- ST02 has fewer than 4 bytes
 abbrev pub has_short_control : SegValue → Bool
-has_short_control header = nat_lt (length (control_of header)) 4
+has_short_control header = nat_lt (length (control_of header)) LEAST_CONTROL
 
 -- 2, 3, 4 and 7: what ST, SE and the number of segments show
 abbrev pub envelope_codes : SegValue → ℕ → Option SegValue → List SetCode

@@ -43,15 +43,15 @@ tolerates None f = false
 tolerates (Some g) f = tolerates_code g f.code f.elem
 
 -- there is neither a fault nor a code
-abbrev pub is_nothing_found : List Fault → List SetCode → Bool
-is_nothing_found [] [] = true
-is_nothing_found [] (code ∷ codes) = false
-is_nothing_found (fault ∷ faults) codes = false
+abbrev pub is_without_fault : List Fault → List SetCode → Bool
+is_without_fault [] [] = true
+is_without_fault [] (code ∷ codes) = false
+is_without_fault (fault ∷ faults) codes = false
 
 -- accepted: no fault and no code; with errors noted: the codes tell of faults alone, each of which the guide tolerates
 abbrev pub verdict_on : Option GuideTree → List Fault → List SetCode → Verdict
 verdict_on guide faults codes =
-    if is_nothing_found faults codes then Accepted
+    if is_without_fault faults codes then Accepted
     else (if list_all tells_of_faults codes && list_all (tolerates guide) faults then AcceptedWithErrors
     else Rejected)
 

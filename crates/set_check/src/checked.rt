@@ -1,5 +1,5 @@
 ghost use Rattle.std.specs.Prelude.{◌≡◌, ◌↔◌, IsTrue, []};
-ghost use Rattle.set_check.specs.Verdict.{is_nothing_found};
+ghost use Rattle.set_check.specs.Verdict.{is_without_fault};
 
 use crate::envelope::Envelope;
 use guide_tree::Guide;
@@ -105,13 +105,13 @@ impl<'a> CheckedSet<'a> {
     pub fn is_clean(&self) -> bool
         ensures { IsTrue result ↔ MeetsAlone (guide_in self.now) (parts_in self.now) }
     {
-        is_nothing_found(self.faults.as_slice(), self.codes.as_slice())
+        is_without_fault(self.faults.as_slice(), self.codes.as_slice())
     }
 }
 
 /// Whether there is neither a fault nor a code.
-pub(crate) fn is_nothing_found(faults: &[Fault], codes: &[SetCode]) -> bool
-    ensures value { result ≡ is_nothing_found faults.now codes.now }
+pub(crate) fn is_without_fault(faults: &[Fault], codes: &[SetCode]) -> bool
+    ensures value { result ≡ is_without_fault faults.now codes.now }
     ensures none { IsTrue result ↔ ((faults.now ≡ []) × (codes.now ≡ [])) }
 {
     faults.is_empty() && codes.is_empty()

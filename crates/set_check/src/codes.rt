@@ -17,9 +17,9 @@ use x12_segs::SegView;
 /// How many codes an IK5 has room for.
 const MOST_CODES: usize = 5;
 /// The least length of a control number.
-const LEAST_CONTROL: usize = 4;
+pub const LEAST_CONTROL: usize = 4;
 /// How many digits SE01 has at most.
-const COUNT_DIGITS: usize = 10;
+pub const COUNT_DIGITS: usize = 10;
 
 /// The codes of a set, in their order, the first five (999 guide, IK502): by its faults, its guide
 /// if it has one, its ST, how many segments it has with ST and SE, its SE if it has one, and

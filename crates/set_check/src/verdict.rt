@@ -6,7 +6,7 @@ ghost use Rattle.hub_kinds.specs.declared.set_codes.Verdict.TheVariants.{Rejecte
 ghost use Rattle.set_check.specs.Checked.{said_by};
 ghost use Rattle.set_check.specs.Verdict.{tells_of_faults, tolerates, verdict_on};
 
-use crate::checked::{CheckedSet, is_nothing_found};
+use crate::checked::{CheckedSet, is_without_fault};
 use crate::codes::set_codes;
 use crate::tolerance::tolerates;
 use guide_tree::Guide;
@@ -69,7 +69,7 @@ fn verdict_by(guide: Option<&Guide>, faults: &[Fault], codes: &[SetCode], earlie
 {
     if earlier {
         Verdict::Rejected
-    } else if is_nothing_found(faults, codes) {
+    } else if is_without_fault(faults, codes) {
         Verdict::Accepted
     } else if tell_of_faults(codes) && are_tolerated(guide, faults) {
         Verdict::AcceptedWithErrors

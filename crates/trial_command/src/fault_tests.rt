@@ -1,8 +1,8 @@
 //! Readers, writers and folders that fail at each call in turn.
 use crate::examples::{COUNTERS, H850, H856, SETUP, TOTAL, TWO_PARTNERS};
 use crate::tests::{Answer, WRITTEN, expect, expect_files, make_folder, ran_in, same, words_in};
-use elem_rules::At;
 use hub_kinds::{Items, NoMemory, copy_text};
+use moment::At;
 use night_command::{
     Failure, Folder, GuideFile, SetupFiles, night_in, night_main, read_all, read_whole, setup_of,
 };

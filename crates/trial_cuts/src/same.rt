@@ -43,7 +43,7 @@ fn is_same_interchange(a: &Interchange<'_>, b: &Interchange<'_>) -> bool {
     }
     a.start() == b.start()
         && a.end() == b.end()
-        && a.notices() == b.notices()
+        && a.ta1s() == b.ta1s()
         && a.is_misplaced() == b.is_misplaced()
         && is_same_trailer(&a.trailer(), &b.trailer())
 }

@@ -1,5 +1,5 @@
 //! Moments of a run.
-use elem_rules::At;
+use moment::At;
 use std::alloc::Global;
 use std::test::Fail;
 

@@ -1,9 +1,9 @@
 //! A worked night, and its comparison with what `run_plain` gives.
 use super::setups::two_partners;
 use super::{accepted, held, refused, rejected};
-use elem_rules::At;
 use hub_kinds::{Counters, Text};
 use hub_run::{Night, RunFault, run_plain};
+use moment::At;
 use night_report::is_clean;
 use partner_setup::Setup;
 use std::alloc::{AllocError, Global};

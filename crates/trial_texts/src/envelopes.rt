@@ -19,7 +19,7 @@ use x12_segs::SegView;
 #[derive(Clone, Copy, Debug, PartialEq, Eq)]
 struct Seen {
     extent: (usize, usize),
-    notices: u32,
+    ta1s: u32,
     misplaced: bool,
     groups: usize,
     fault: Option<InterchangeFault>,
@@ -32,7 +32,7 @@ const INTERCHANGES: &[(&[u8], usize, Seen)] = &[
         0,
         Seen {
             extent: (0, 236),
-            notices: 0,
+            ta1s: 0,
             misplaced: false,
             groups: 1,
             fault: None,
@@ -43,7 +43,7 @@ const INTERCHANGES: &[(&[u8], usize, Seen)] = &[
         0,
         Seen {
             extent: (0, 358),
-            notices: 0,
+            ta1s: 0,
             misplaced: false,
             groups: 1,
             fault: None,
@@ -54,7 +54,7 @@ const INTERCHANGES: &[(&[u8], usize, Seen)] = &[
         0,
         Seen {
             extent: (0, 197),
-            notices: 0,
+            ta1s: 0,
             misplaced: false,
             groups: 1,
             fault: Some(InterchangeFault::TrailerMissing),
@@ -65,7 +65,7 @@ const INTERCHANGES: &[(&[u8], usize, Seen)] = &[
         197,
         Seen {
             extent: (197, 354),
-            notices: 0,
+            ta1s: 0,
             misplaced: false,
             groups: 0,
             fault: Some(InterchangeFault::TrailerMissing),
@@ -76,7 +76,7 @@ const INTERCHANGES: &[(&[u8], usize, Seen)] = &[
         0,
         Seen {
             extent: (0, 220),
-            notices: 0,
+            ta1s: 0,
             misplaced: false,
             groups: 1,
             fault: Some(InterchangeFault::TrailerMissing),
@@ -87,7 +87,7 @@ const INTERCHANGES: &[(&[u8], usize, Seen)] = &[
         220,
         Seen {
             extent: (220, 456),
-            notices: 0,
+            ta1s: 0,
             misplaced: false,
             groups: 1,
             fault: None,
@@ -98,7 +98,7 @@ const INTERCHANGES: &[(&[u8], usize, Seen)] = &[
         0,
         Seen {
             extent: (0, 191),
-            notices: 2,
+            ta1s: 2,
             misplaced: false,
             groups: 1,
             fault: Some(InterchangeFault::GroupHeaderInvalid),
@@ -109,7 +109,7 @@ const INTERCHANGES: &[(&[u8], usize, Seen)] = &[
         0,
         Seen {
             extent: (0, 190),
-            notices: 0,
+            ta1s: 0,
             misplaced: false,
             groups: 2,
             fault: Some(InterchangeFault::GroupHeaderInvalid),
@@ -120,7 +120,7 @@ const INTERCHANGES: &[(&[u8], usize, Seen)] = &[
 fn kept_of(found: &Interchange) -> Seen {
     Seen {
         extent: (found.start(), found.end()),
-        notices: found.notices(),
+        ta1s: found.ta1s(),
         misplaced: found.is_misplaced(),
         groups: found.group_count(),
         fault: judge_interchange(found),

@@ -274,7 +274,7 @@ const KINDS: &[(&[u8], Kind)] = &[
     (b"GE*1", Kind::GroupTrailer),
     (b"ST*850", Kind::SetHeader),
     (b"SE*", Kind::SetTrailer),
-    (b"TA1*1", Kind::Notice),
+    (b"TA1*1", Kind::Ta1),
     (b"ISA*00", Kind::Other),
     (b"ST>850", Kind::Other),
     (b"", Kind::Other),

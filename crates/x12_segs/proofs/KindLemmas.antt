@@ -4,12 +4,12 @@ use Rattle.std.specs.List.{slice_split, onto_first}
 use Rattle.x12_segs.specs.Kinds.{kind_by_id, kind_of}
 use Rattle.x12_segs.specs.Letters.{is_control_letter, begins_as_control}
 use Rattle.x12_segs.specs.View.{SegValue}
-use Rattle.x12_segs.specs.declared.kind.Kind.TheVariants.{InterchangeTrailer, GroupHeader, GroupTrailer, SetHeader, SetTrailer, Notice}
+use Rattle.x12_segs.specs.declared.kind.Kind.TheVariants.{InterchangeTrailer, GroupHeader, GroupTrailer, SetHeader, SetTrailer, Ta1}
 use Rattle.x12_segs.specs.declared.kind.Kind.TheVariants.{Other}
 
 no_letter : (i g s t a b c d e f : Bool) → (i || g || s || t) ≡ false
     → cond (i && a) InterchangeTrailer (cond (g && b) GroupHeader (cond (g && c) GroupTrailer (cond (s && d) SetHeader
-    (cond (s && e) SetTrailer (cond (t && f) Notice Other))))) ≡ Other
+    (cond (s && e) SetTrailer (cond (t && f) Ta1 Other))))) ≡ Other
 no_letter false false false false a b c d e f none = refl
 no_letter true g s t a b c d e f none = cc
 no_letter false true s t a b c d e f none = cc

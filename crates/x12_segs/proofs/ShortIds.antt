@@ -7,13 +7,13 @@ use Rattle.memchr.specs.Find.{IsFirstByte, Nowhere, Passes, is_byte}
 use Rattle.x12_segs.specs.Kinds.{kind_by_id}
 use Rattle.x12_segs.specs.Parts.{parts}
 use Rattle.x12_segs.specs.View.{part_or_empty}
-use Rattle.x12_segs.specs.declared.kind.Kind.TheVariants.{InterchangeTrailer, GroupHeader, GroupTrailer, SetHeader, SetTrailer, Notice}
+use Rattle.x12_segs.specs.declared.kind.Kind.TheVariants.{InterchangeTrailer, GroupHeader, GroupTrailer, SetHeader, SetTrailer, Ta1}
 use Rattle.x12_segs.specs.declared.kind.Kind.TheVariants.{Other}
 use Rattle.x12_segs.proofs.PartLemmas.{parts-found, parts-none}
 use Rattle.x12_segs.proofs.FirstLemmas.{first_byte}
 
 none_of : (a b c d e f : Bool) → a ≡ false → b ≡ false → c ≡ false → d ≡ false → e ≡ false → f ≡ false
-    → cond a InterchangeTrailer (cond b GroupHeader (cond c GroupTrailer (cond d SetHeader (cond e SetTrailer (cond f Notice Other)))))
+    → cond a InterchangeTrailer (cond b GroupHeader (cond c GroupTrailer (cond d SetHeader (cond e SetTrailer (cond f Ta1 Other)))))
     ≡ Other
 none_of a b c d e f p q r s t u = rw (p, q, r, s, t, u) refl
 

@@ -6,7 +6,7 @@ use Rattle.x12_bytes.specs.declared.delims.Delims.{Delims}
 use Rattle.x12_segs.specs.Kinds.{kind_of, is_inner}
 use Rattle.x12_segs.specs.Spans.{IsSetSpan, span_views, trailer_kinds}
 use Rattle.x12_segs.specs.declared.kind.Kind.{Kind}
-use Rattle.x12_segs.specs.declared.kind.Kind.TheVariants.{Notice, Other}
+use Rattle.x12_segs.specs.declared.kind.Kind.TheVariants.{Ta1, Other}
 use Rattle.x12_segs.specs.declared.set_span.SetSpan.{SetSpan}
 
 abbrev plain : Delims
@@ -41,7 +41,7 @@ open_is_span = record { within = lit≤ tt; start = refl; end = refl; inner = Ot
 -- line ends between its segments, and a TA1 among them
 pub lines_are_span : IsSetSpan (codes "ST*1~" ++ 10 ∷ (codes "TA1~" ++ 13 ∷ 10 ∷ codes "SE*3~")) (closed 0 17)
 unfolding kind_of
-lines_are_span = record { within = lit≤ tt; start = refl; end = refl; inner = Notice ∷ []; kinds = refl; plain = refl }
+lines_are_span = record { within = lit≤ tt; start = refl; end = refl; inner = Ta1 ∷ []; kinds = refl; plain = refl }
 
 -- its ST alone
 pub header_is_span : IsSetSpan (codes "ST*1~") (unclosed 0 5)

@@ -21,7 +21,7 @@ pub enum Kind {
     /// SE: transaction set trailer.
     SetTrailer,
     /// TA1: interchange acknowledgment.
-    Notice,
+    Ta1,
     /// Any other id.
     Other,
 }
@@ -68,7 +68,7 @@ fn kind_by_id(id: &[u8]) -> Kind
         b"GE" => Kind::GroupTrailer,
         b"ST" => Kind::SetHeader,
         b"SE" => Kind::SetTrailer,
-        b"TA1" => Kind::Notice,
+        b"TA1" => Kind::Ta1,
         _ => Kind::Other,
     }
 }

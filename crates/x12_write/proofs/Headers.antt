@@ -11,7 +11,7 @@ use Rattle.x12_bytes.specs.Bytes.{is_line_end, may_separate, may_terminate}
 use Rattle.x12_bytes.specs.Header.{IsHeader, header_at, IsFieldByte, element_of, component_of, terminator_of, repetition_of, delims_of}
 use Rattle.x12_bytes.specs.Header.{field_of}
 use Rattle.x12_bytes.specs.declared.delims.Delims.{Delims}
-use Rattle.elem_rules.specs.Moment.{IsMoment, short_date_of, time_of}
+use Rattle.moment.specs.Moment.{IsMoment, short_date_of, time_of}
 use Rattle.x12_write.specs.declared.envelope.Envelope.{Envelope}
 use Rattle.x12_write.specs.Header.{blank, header_elements, header_text}
 use Rattle.x12_write.specs.Number.{padded_number, padded_text}

@@ -2,7 +2,7 @@
 use Rattle.std.specs.Prelude.{ℕ, List, [], ◌∷◌, ◌++◌, length, codes, decimal}
 use Rattle.std.specs.List.{flat_map}
 use Rattle.x12_bytes.specs.declared.delims.Delims.{Delims}
-use Rattle.elem_rules.specs.Moment.{date_of, time_of}
+use Rattle.moment.specs.Moment.{date_of, time_of}
 use Rattle.x12_write.specs.declared.group.GroupHeader.{GroupHeader}
 use Rattle.x12_write.specs.Segment.{segment_text}
 

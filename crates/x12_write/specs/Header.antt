@@ -1,6 +1,6 @@
 -- X12.5, interchange control header (ISA) of an interchange that is sent. The values of its elements are this hub's profile (own).
 use Rattle.std.specs.Prelude.{ℕ, List, [], ◌∷◌, ◌++◌, codes, replicate}
-use Rattle.elem_rules.specs.Moment.{short_date_of, time_of}
+use Rattle.moment.specs.Moment.{short_date_of, time_of}
 use Rattle.x12_write.specs.declared.envelope.Envelope.{Envelope}
 use Rattle.x12_write.specs.Segment.{full_segment_text}
 use Rattle.x12_write.specs.Number.{padded_number, padded_text}

@@ -3,9 +3,9 @@ ghost use Rattle.x12_write.specs.Extends.{Extends};
 ghost use Rattle.x12_write.specs.Group.{group_header_text, group_text, group_trailer_text, texts_in_row};
 
 use crate::segment::append_segment;
-use elem_rules::At;
 use hub_kinds::{Lent, NoMemory, Text};
 use itoa::Buffer;
+use moment::At;
 use x12_bytes::Delims;
 
 /// What a functional group's header says, the moment left aside (X12.6, GS).

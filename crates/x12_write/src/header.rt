@@ -1,5 +1,5 @@
 ghost use Rattle.std.specs.Prelude.{◌≡◌, ◌++◌, [], ◌∷◌, length, codes, OnOk};
-ghost use Rattle.elem_rules.specs.Moment.{IsMoment};
+ghost use Rattle.moment.specs.Moment.{IsMoment};
 ghost use Rattle.x12_write.specs.Extends.{Extends};
 ghost use Rattle.x12_write.specs.Header.{blank, control_elements, header_text, party_elements};
 ghost use Rattle.x12_write.specs.Number.{padded_text};
@@ -9,8 +9,8 @@ ghost use Rattle.x12_write.specs.Sendable.{BeginsWithHeader};
 use crate::envelope::Envelope;
 use crate::number::{PaddedNumber, append_padded};
 use crate::segment::append_elements;
-use elem_rules::At;
 use hub_kinds::{Lent, NoMemory};
+use moment::At;
 
 /// Writes the header of interchange `number` behind what is there (X12.5, ISA): a header that is read again, where
 /// the envelope is fit to be sent and the number has at most nine digits.

@@ -11,10 +11,10 @@ ghost use Rattle.x12_segs.specs.View.{element_of};
 
 use super::built::example;
 use checked_text::{CheckedText, Finding, answer_found, check_text, settled_faults};
-use elem_rules::At;
 use env_index::{Index, SetEnvelope, index_plain};
 use guide_tree::Guide;
 use hub_kinds::{NoMemory, within_limit};
+use moment::At;
 use night_report::report_text;
 use partner_setup::Setup;
 use set_check::check_set;

@@ -4,10 +4,11 @@ ghost use Rattle.env_index.specs.Spans.{HasSpans};
 
 use super::built::example;
 use checked_text::{CheckedText, check_text, settled_faults};
-use elem_rules::At;
 use env_index::{Index, index_plain};
 use hub_kinds::within_limit;
-use mailbox::{JudgedInterchange, PlacedSet, assemble};
+use judged_text::{JudgedInterchange, PlacedSet};
+use mailbox::assemble;
+use moment::At;
 use night_report::{is_clean, report_text};
 use partner_setup::Setup;
 use std::alloc::Global;

@@ -3,8 +3,8 @@ use super::samples::{ACCEPTED_GROUP, ACCEPTED_SET, DELIMS, GroupRow, SetRow, ack
 use super::texts::same;
 use crate::texts::holds;
 use ack_999::{Envelope, append_closing, write_ack_interchange};
-use elem_rules::At;
 use hub_kinds::{GroupCode, GroupVerdict, Items, Lent, NoMemory, SetCode, Verdict};
+use moment::At;
 use std::alloc::Global;
 use std::test::Fail;
 use x12_bytes::{Header, read_header};

@@ -3,8 +3,8 @@ use Rattle.std.specs.Prelude.{slice_get}
 use Rattle.std.proofs.lemmas.Option.{slice_get_read}
 use Rattle.env_index.specs.Index.{IndexEntry}
 use Rattle.env_index.specs.Spans.{HasSpans}
-use Rattle.mailbox.specs.Judged.{JudgedValue}
-use Rattle.checked_text.specs.CheckedText.{AnsweredInterchange, IsAnswered, judged}
+use Rattle.judged_text.specs.Judged.{JudgedValue}
+use Rattle.checked_text.specs.CheckedText.{CheckedInterchange, IsCheckedAs, judged}
 use Rattle.checked_text.proofs.Growing.{at_index, map_snoc}
 use Rattle.checked_text.proofs.Pairing.{no_pairs, pairs_more}
 use Rattle.checked_text.proofs.Starting.{none_yet, room_left}
@@ -14,7 +14,7 @@ use Rattle.checked_text.proofs.walk.answer_each.Goals as goal
 pub loop-i-init : goal.loop-i-init
 loop-i-init g c = (
   [],
-  no_pairs (λ n e x. IsAnswered c.args.index.now.text c.args.setup.now e x) c.args.index.now.entries,
+  no_pairs (λ n e x. IsCheckedAs c.args.index.now.text c.args.setup.now e x) c.args.index.now.entries,
   refl,
   c.new-interchanges.ensures.items,
   none_yet c.args.setup.now c.args.at.now c.args.files.now c.requires.empty,
@@ -58,17 +58,17 @@ answer_interchange-requires g c =
 pub loop-i-preserved : goal.loop-i-preserved
 loop-i-preserved g c =
     let entries : List IndexEntry = c.args.index.now.entries in
-    let done : List AnsweredInterchange = c.loop-i.invariant.0 in
+    let done : List CheckedInterchange = c.loop-i.invariant.0 in
     let counted : length done ≡ c.loop-i.i = c.loop-i.invariant.2 in
     let next = c.in_ok-judged.ensures.answered in
-    let R = λ (n : ℕ) (e : IndexEntry) (x : AnsweredInterchange). IsAnswered c.args.index.now.text c.args.setup.now e x in
+    let R = λ (n : ℕ) (e : IndexEntry) (x : CheckedInterchange). IsCheckedAs c.args.index.now.text c.args.setup.now e x in
     let read : slice_get c.interchanges-entries.result.now c.loop-i.i ≡ Some c.index-entries-i.result =
     slice_get_read c.interchanges-entries.result.now _ c.loop-i.i c.index-entries-i.result refl c.loop-i-test.true c.index-entries-i.is in
     let there : slice_get entries (length done) ≡ Some c.index-entries-i.result =
     ap (λ (es : List IndexEntry). slice_get es (length done)) (sym c.interchanges-entries.ensures.value)
     ∙ ap (λ (n : ℕ). slice_get c.interchanges-entries.result.now n) counted ∙ read in
     let is : R (length done) c.index-entries-i.result next.answered =
-    subst (λ (text : List ℕ). IsAnswered text c.args.setup.now c.index-entries-i.result next.answered) c.text-text.ensures next.is in (
+    subst (λ (text : List ℕ). IsCheckedAs text c.args.setup.now c.index-entries-i.result next.answered) c.text-text.ensures next.is in (
       done ++ next.answered ∷ [],
       pairs_more R entries done c.index-entries-i.result next.answered c.loop-i.invariant.1 there is,
       length-append done (next.answered ∷ []) ∙ ap (λ (n : ℕ). n + 1) counted,

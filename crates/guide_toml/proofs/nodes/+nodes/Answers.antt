@@ -3,12 +3,12 @@ use Rattle.toml.specs.Data.{Data, Items, depth}
 use Rattle.toml.specs.View.{table_view, view, items_view}
 use Rattle.guide_tree.specs.View.{view as tree_view}
 use Rattle.guide_toml.specs.Answers.{meaning_of}
-use Rattle.guide_toml.specs.Meanings.{FailsAs}
-use Rattle.guide_toml.specs.Refusals.{wrong_kind}
+use Rattle.toml_keys.specs.Meanings.{FailsAs}
+use Rattle.toml_keys.specs.Refusals.{wrong_kind}
 use Rattle.guide_toml.specs.Guides.{node_in, nodes_in}
 use Rattle.guide_toml.proofs.Forests.{item_depth, that_table, no_table, with_front, node_fails, fault_stays, read_step}
 use Rattle.guide_toml.proofs.Forests.{read_all}
-use Rattle.guide_toml.proofs.RowSteps.{next_item}
+use Rattle.toml_keys.proofs.RowSteps.{next_item}
 use Rattle.guide_toml.proofs.nodes.+nodes.Goals as goal
 
 pub nodes_of-node_of-requires : goal.nodes_of-node_of-requires

@@ -1,6 +1,6 @@
 use Rattle.std.proofs.Common.{◌≡◌, ◌++◌, drop, Ok}
 use Rattle.toml.specs.View.{items_view}
-use Rattle.guide_toml.specs.Tables.{◌>>=◌}
+use Rattle.toml_keys.specs.Tables.{◌>>=◌}
 use Rattle.guide_toml.specs.Guides.{dependencies_in}
 use Rattle.guide_toml.proofs.read.dependencies_in.Given as goal
 

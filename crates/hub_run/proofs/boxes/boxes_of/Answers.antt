@@ -1,7 +1,7 @@
 use Rattle.std.proofs.Common.{◌≡◌, ◌<◌, ◌+◌, ℕ, List, [], ◌∷◌, length, sym, ap, subst, ◌∙◌, arith, length-append}
 use Rattle.std.specs.Prelude.{slice_index_or}
 use Rattle.partner_setup.specs.declared.partner.Partner.{Partner}
-use Rattle.mailbox.specs.Judged.{PlacedValue}
+use Rattle.judged_text.specs.Judged.{PlacedValue}
 use Rattle.mailbox.specs.Mailbox.{box_text}
 use Rattle.checked_text.specs.CheckedText.{SentValues, nothing_sent}
 use Rattle.checked_text.specs.Pairs.{ArePairs}

@@ -2,7 +2,7 @@ use Rattle.std.proofs.Common.{◌≡◌, ◌<◌, ◌+◌, ℕ, List, [], ◌∷
 use Rattle.std.specs.Prelude.{slice_index_or}
 use Rattle.hub_kinds.specs.declared.counters.Counters.{Counters}
 use Rattle.partner_setup.specs.declared.partner.Partner.{Partner}
-use Rattle.mailbox.specs.Judged.{PlacedValue}
+use Rattle.judged_text.specs.Judged.{PlacedValue}
 use Rattle.hub_run.specs.Night.{counters_behind}
 use Rattle.checked_text.specs.CheckedText.{SentValues, nothing_sent}
 use Rattle.checked_text.specs.Pairs.{ArePairs}

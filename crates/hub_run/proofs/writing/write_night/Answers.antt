@@ -1,6 +1,6 @@
 use Rattle.std.proofs.Common.{◌≡◌, ℕ, List, ap, subst, ◌∙◌}
 use Rattle.mailbox.specs.Deliveries.{AreDelivered}
-use Rattle.mailbox.specs.Judged.{JudgedValue, PlacedValue}
+use Rattle.judged_text.specs.Judged.{JudgedValue, PlacedValue}
 use Rattle.night_report.specs.Report.{report_text}
 use Rattle.checked_text.specs.CheckedText.{SentValues}
 use Rattle.hub_run.specs.ByPlace.{box_by, next_by}

@@ -3,8 +3,9 @@ use Rattle.std.specs.Str.{bytes_eq}
 use Rattle.std.proofs.lemmas.Bool.{cond-true, cond-false}
 use Rattle.x12_segs.specs.View.{elements_of}
 use Rattle.hub_kinds.specs.declared.codes.SegmentCode.TheVariants as ik304
+use Rattle.hub_kinds.specs.TextList.{contains_text}
 use Rattle.guide_tree.specs.Tree.{any_slot}
-use Rattle.guide_tree.specs.Segments.{id_of, fits, contains_text}
+use Rattle.guide_tree.specs.Segments.{id_of, fits}
 use Rattle.guide_tree.specs.View.{guide_of}
 use Rattle.loop_match.proofs.stray.stray_code.Goals as goal
 

@@ -1,6 +1,6 @@
 use Rattle.std.proofs.Common.{take}
 use Rattle.mailbox.specs.Delivering.{HasTaken}
-use Rattle.mailbox.specs.Judged.{all_sets}
+use Rattle.judged_text.specs.Judged.{all_sets}
 use Rattle.mailbox.proofs.delivering.deliver_each.Given as goal
 
 abbrev pub invariant-loop-n : goal.invariant-loop-n

@@ -5,7 +5,7 @@ use Rattle.env_index.specs.Interchange.{InterchangeEntry}
 use Rattle.env_index.specs.Summary.{GroupEntry}
 use Rattle.partner_setup.specs.Setup.{route_of}
 use Rattle.mailbox.specs.Delivering.{may_leave}
-use Rattle.mailbox.specs.Judged.{PlacedValue, standing_at}
+use Rattle.judged_text.specs.Judged.{PlacedValue, standing_at}
 use Rattle.mailbox.proofs.Growing.{set_taken, taken_stayed}
 use Rattle.mailbox.proofs.Replacing.{there_is}
 use Rattle.mailbox.proofs.delivering.deliver_group.Goals as goal

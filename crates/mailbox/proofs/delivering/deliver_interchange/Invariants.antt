@@ -1,6 +1,6 @@
 use Rattle.std.proofs.Common.{take}
 use Rattle.mailbox.specs.Delivering.{HasTaken}
-use Rattle.mailbox.specs.Judged.{groups_from}
+use Rattle.judged_text.specs.Judged.{groups_from}
 use Rattle.mailbox.proofs.delivering.deliver_interchange.Given as goal
 
 abbrev pub invariant-loop-number : goal.invariant-loop-number

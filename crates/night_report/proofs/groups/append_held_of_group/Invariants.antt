@@ -1,6 +1,6 @@
 use Rattle.std.proofs.Common.{◌≡◌, ◌≤◌, ◌++◌, ◌+◌, drop, length}
 use Rattle.std.specs.List.{flat_map, sum_by}
-use Rattle.mailbox.specs.Judged.{sets_from}
+use Rattle.judged_text.specs.Judged.{sets_from}
 use Rattle.night_report.specs.Adding.{shown_at}
 use Rattle.night_report.specs.Report.{ShownGroup, held_lines, held_count, sets_in}
 use Rattle.night_report.proofs.groups.append_held_of_group.Given as goal

@@ -1,6 +1,6 @@
 use Rattle.std.proofs.Common.{◌≡◌, ◌++◌, drop, Ok}
 use Rattle.toml.specs.View.{items_view}
-use Rattle.guide_toml.specs.Tables.{◌>>=◌}
+use Rattle.toml_keys.specs.Tables.{◌>>=◌}
 use Rattle.partner_setup.specs.SetupFile.{rows_in}
 use Rattle.partner_setup.proofs.row.rows_in.Given as goal
 

@@ -7,7 +7,7 @@ use Rattle.number_book.specs.First.{first_of, where_before}
 use Rattle.env_index.specs.Numbers.{place_at}
 use Rattle.number_register.specs.Recording.{IsEarlierIn, IsFull, Recording}
 use Rattle.number_register.specs.Slots.{set_place}
-use Rattle.number_register.proofs.Comparing.{lent_cmp}
+use Rattle.hub_kinds.specs.ByText.{by_text}
 use Rattle.number_register.proofs.Places.{placed}
 use denote.Ref.{Bor}
 use Rattle.number_register.proofs.Earlier.{set_key_there, set_earlier, where_low}
@@ -66,9 +66,9 @@ overflow_cast-result c =
     let same : c.index-books.result.now ≡ get_or s.sets.items (p.isa - 1) []
     = c.index-books.ensures ∙ get_or_any s.sets.items (p.isa - 1) c.index-books.result.now [] low in
     let answers = subst (λ bs. (key : Bor (List ℕ)) → slice_get (book_at bs (p.gs - 1)) (p.st - 1) ≡ Some (Some key)
-    → c.earlier.result ≡ where_before (p.st - 1) (first_of lent_cmp (book_at bs (p.gs - 1)) key)) same
+    → c.earlier.result ≡ where_before (p.st - 1) (first_of by_text (book_at bs (p.gs - 1)) key)) same
     (subst (λ (x : ℕ). (key : Bor (List ℕ)) → slice_get (book_at c.index-books.result.now (p.gs - 1)) (x - 1) ≡ Some (Some key)
-    → c.earlier.result ≡ where_before (x - 1) (first_of lent_cmp (book_at c.index-books.result.now (p.gs - 1)) key))
+    → c.earlier.result ≡ where_before (x - 1) (first_of by_text (book_at c.index-books.result.now (p.gs - 1)) key))
     c.requires.kind.0 c.earlier.ensures) in
     let low = where_low (p.st - 1) c.in-Some.first _ (sym (answers key.0 key.1) ∙ c.in-Some.is) in
     let e = c.requires.kind.0 in
@@ -87,9 +87,9 @@ overflow_add-result c =
     let same : c.index-books.result.now ≡ get_or s.sets.items (p.isa - 1) []
     = c.index-books.ensures ∙ get_or_any s.sets.items (p.isa - 1) c.index-books.result.now [] low in
     let answers = subst (λ bs. (key : Bor (List ℕ)) → slice_get (book_at bs (p.gs - 1)) (p.st - 1) ≡ Some (Some key)
-    → c.earlier.result ≡ where_before (p.st - 1) (first_of lent_cmp (book_at bs (p.gs - 1)) key)) same
+    → c.earlier.result ≡ where_before (p.st - 1) (first_of by_text (book_at bs (p.gs - 1)) key)) same
     (subst (λ (x : ℕ). (key : Bor (List ℕ)) → slice_get (book_at c.index-books.result.now (p.gs - 1)) (x - 1) ≡ Some (Some key)
-    → c.earlier.result ≡ where_before (x - 1) (first_of lent_cmp (book_at c.index-books.result.now (p.gs - 1)) key))
+    → c.earlier.result ≡ where_before (x - 1) (first_of by_text (book_at c.index-books.result.now (p.gs - 1)) key))
     c.requires.kind.0 c.earlier.ensures) in
     let low = where_low (p.st - 1) c.in-Some.first _ (sym (answers key.0 key.1) ∙ c.in-Some.is) in
     let e = c.requires.kind.0 in
@@ -108,9 +108,9 @@ returns-in-None c =
     let same : c.index-books.result.now ≡ get_or s.sets.items (p.isa - 1) []
     = c.index-books.ensures ∙ get_or_any s.sets.items (p.isa - 1) c.index-books.result.now [] low in
     let answers = subst (λ bs. (key : Bor (List ℕ)) → slice_get (book_at bs (p.gs - 1)) (p.st - 1) ≡ Some (Some key)
-    → c.earlier.result ≡ where_before (p.st - 1) (first_of lent_cmp (book_at bs (p.gs - 1)) key)) same
+    → c.earlier.result ≡ where_before (p.st - 1) (first_of by_text (book_at bs (p.gs - 1)) key)) same
     (subst (λ (x : ℕ). (key : Bor (List ℕ)) → slice_get (book_at c.index-books.result.now (p.gs - 1)) (x - 1) ≡ Some (Some key)
-    → c.earlier.result ≡ where_before (x - 1) (first_of lent_cmp (book_at c.index-books.result.now (p.gs - 1)) key))
+    → c.earlier.result ≡ where_before (x - 1) (first_of by_text (book_at c.index-books.result.now (p.gs - 1)) key))
     c.requires.kind.0 c.earlier.ensures) in
     subst (λ (r : Recording). IsEarlierIn r.index p None) c.self.view_is
     (set_earlier index s.recorded.items s.interchanges s.groups s.sets.items c.self.invariant.held c.self.invariant.listed full p
@@ -130,9 +130,9 @@ returns-in-Some c =
     let same : c.index-books.result.now ≡ get_or s.sets.items (p.isa - 1) []
     = c.index-books.ensures ∙ get_or_any s.sets.items (p.isa - 1) c.index-books.result.now [] low in
     let answers = subst (λ bs. (key : Bor (List ℕ)) → slice_get (book_at bs (p.gs - 1)) (p.st - 1) ≡ Some (Some key)
-    → c.earlier.result ≡ where_before (p.st - 1) (first_of lent_cmp (book_at bs (p.gs - 1)) key)) same
+    → c.earlier.result ≡ where_before (p.st - 1) (first_of by_text (book_at bs (p.gs - 1)) key)) same
     (subst (λ (x : ℕ). (key : Bor (List ℕ)) → slice_get (book_at c.index-books.result.now (p.gs - 1)) (x - 1) ≡ Some (Some key)
-    → c.earlier.result ≡ where_before (x - 1) (first_of lent_cmp (book_at c.index-books.result.now (p.gs - 1)) key))
+    → c.earlier.result ≡ where_before (x - 1) (first_of by_text (book_at c.index-books.result.now (p.gs - 1)) key))
     c.requires.kind.0 c.earlier.ensures) in
     let found : Some (record { isa = p.isa; gs = p.gs; st = c.in-Some.first + 1 }) ≡ Some
     ((set_place (p.isa - 1) (p.gs - 1)) c.in-Some.first) = (let u : p.isa ≡ p.isa - 1 + 1 =

@@ -1,8 +1,0 @@
-use Rattle.std.proofs.Common.{◌≡◌, ℕ, List, Bor, drop, map}
-use Rattle.guide_tree.specs.Segments.{contains_text}
-use Rattle.guide_toml.proofs.keys.is_listed.Given as goal
-
-abbrev pub invariant-loop-own : goal.invariant-loop-own
-invariant-loop-own l =
-    contains_text (map (λ (key : Bor (List ℕ)). key.now) (drop l.own-index l.listed)) l.key
-    ≡ contains_text (map (λ (key : Bor (List ℕ)). key.now) l.listed) l.key

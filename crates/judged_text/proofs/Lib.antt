@@ -1,0 +1,2 @@
+pub mod InSpans
+pub mod Stretch

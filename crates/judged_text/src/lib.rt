@@ -1,0 +1,22 @@
+//! What is known of a text once its sets are checked: its interchanges with senders and faults, the standing of each of their
+//! groups, and each set at its place in them. Text and index are lent; a placed set is 24 bytes.
+//!
+//! Proved:
+//! - a `JudgedInterchange` gives back what it was made of, and its sets stand in their spans of the text;
+//! - a `PlacedSet`, made by the numbers of its group and of itself, is that set of its interchange, with the group, the standing and
+//!   the delimiters that it is read by; its segments are those of its span, and a byte that doesn't stand in `stretch` stands in none
+//!   of them;
+//! - `is_fa` and `is_refused` are their definitions.
+//!
+//! Source: X12.5, interchange; X12.6, functional group and transaction set; 999 guide, AK9 and IK501. What is kept of them is own.
+#![tactic(auto)]
+
+mod asked;
+mod judged;
+mod placed;
+mod standing;
+
+pub use asked::{is_fa, is_refused};
+pub use judged::JudgedInterchange;
+pub use placed::PlacedSet;
+pub use standing::GroupStanding;

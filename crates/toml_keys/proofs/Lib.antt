@@ -1,0 +1,4 @@
+pub mod LeastKey
+pub mod ReadSteps
+pub mod RowSteps
+mod WorkedLimits

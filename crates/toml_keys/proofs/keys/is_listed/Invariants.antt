@@ -1,0 +1,8 @@
+use Rattle.std.proofs.Common.{◌≡◌, ℕ, List, Bor, drop, map}
+use Rattle.hub_kinds.specs.TextList.{contains_text}
+use Rattle.toml_keys.proofs.keys.is_listed.Given as goal
+
+abbrev pub invariant-loop-own : goal.invariant-loop-own
+invariant-loop-own l =
+    contains_text (map (λ (key : Bor (List ℕ)). key.now) (drop l.own-index l.listed)) l.key
+    ≡ contains_text (map (λ (key : Bor (List ℕ)). key.now) l.listed) l.key

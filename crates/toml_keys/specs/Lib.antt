@@ -1,0 +1,6 @@
+pub mod Answers
+pub mod Keys
+pub mod Meanings
+pub mod Reads
+pub mod Refusals
+pub mod Tables
