@@ -7,6 +7,5 @@ pub mod Telling
 pub mod Plain
 pub mod ReadableFaults
 pub mod Readable
-pub mod Enclosing
 pub mod Thirds
 pub mod Positions

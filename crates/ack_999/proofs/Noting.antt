@@ -1,7 +1,7 @@
 -- IK4, written one part behind the other.
 use Rattle.std.proofs.Common.{◌≡◌, ℕ, ◌<◌, List, [], ◌∷◌, ◌++◌, length, sym, ap, ◌∙◌, arith, append_assoc}
 use Rattle.x12_bytes.specs.declared.delims.Delims.{Delims}
-use Rattle.hub_kinds.specs.Codes.{element_text}
+use Rattle.hub_kinds.specs.Words.{element_text}
 use Rattle.hub_kinds.specs.declared.codes.ElementCode.{ElementCode}
 use Rattle.hub_kinds.specs.declared.codes.ElementCode.TheVariants as element
 use Rattle.x12_write.specs.Segment.{before_rest, trimmed, elements_text, end_text, segment_text}

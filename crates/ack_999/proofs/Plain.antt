@@ -8,18 +8,16 @@ use Rattle.hub_kinds.specs.declared.codes.SegmentCode.{SegmentCode}
 use Rattle.hub_kinds.specs.declared.codes.SegmentCode.TheVariants as segment
 use Rattle.hub_kinds.specs.declared.codes.ElementCode.{ElementCode}
 use Rattle.hub_kinds.specs.declared.codes.ElementCode.TheVariants as element
-use Rattle.hub_kinds.specs.Codes.{segment_text, element_text}
+use Rattle.hub_kinds.specs.Words.{segment_text, element_text, set_code_text, group_code_text, verdict_text, group_verdict_text, is_word}
+use Rattle.hub_kinds.specs.Words.{is_segment_id, is_upper_or_digit}
 use Rattle.hub_kinds.specs.declared.set_codes.SetCode.{SetCode}
 use Rattle.hub_kinds.specs.declared.set_codes.SetCode.TheVariants as set
 use Rattle.hub_kinds.specs.declared.set_codes.GroupCode.{GroupCode}
 use Rattle.hub_kinds.specs.declared.set_codes.GroupCode.TheVariants as group
-use Rattle.hub_kinds.specs.SetCodes.{set_code_text, group_code_text, verdict_text, group_verdict_text}
 use Rattle.hub_kinds.specs.declared.set_codes.Verdict.{Verdict}
 use Rattle.hub_kinds.specs.declared.set_codes.Verdict.TheVariants as verdict
 use Rattle.hub_kinds.specs.declared.set_codes.GroupVerdict.{GroupVerdict}
 use Rattle.hub_kinds.specs.declared.set_codes.GroupVerdict.TheVariants as group_verdict
-use Rattle.hub_kinds.specs.Words.{is_word}
-use Rattle.hub_kinds.specs.Words.{is_segment_id, is_upper_or_digit}
 use Rattle.ack_999.specs.Faults.{id_text}
 use Rattle.x12_write.proofs.Plain.{is_plain, both}
 use Rattle.ack_999.specs.Report.{convention_text}

@@ -8,14 +8,12 @@ use Rattle.std.proofs.lemmas.Bool.{ne_eqb, ltb-true, ltb-false, le-ltb, eqb-true
 use Rattle.std.proofs.lemmas.List.Elements.{recursion_from_All}
 use Rattle.std.proofs.lemmas.List.{map-append}
 use Rattle.std.proofs.lemmas.List.Kept.{IsStrictlySortedBy-filter}
-use Rattle.hub_kinds.specs.Codes.{segment_rank}
+use Rattle.hub_kinds.specs.Words.{segment_rank, AreRising, key_of, order_by}
 use Rattle.hub_kinds.specs.declared.codes.SegmentCode.TheVariants.{ElementErrors}
 use Rattle.hub_kinds.specs.declared.fault.ElemFault.{ElemFault}
 use Rattle.hub_kinds.specs.declared.fault.Fault.{Fault}
 use Rattle.x12_write.specs.Delimiters.{is_this}
 use Rattle.ack_999.specs.Faults.{Note, SegmentNote, ElementNote, notes_for, notes_on, notes_behind, notes, element_position, note_segment}
-use Rattle.hub_kinds.specs.Fault.{AreRising, key_of}
-use Rattle.hub_kinds.specs.Rising.{order_by}
 use Rattle.ack_999.specs.Rising.{is_of_element, rank_of, IsToldByElements, comes_before, comes_behind}
 use Rattle.ack_999.specs.Rising.{is_below, is_at, is_above, segment_notes, element_notes, notes_at, TellsEachPosition}
 use Rattle.ack_999.proofs.Thirds.{position-rises, rank-rises, rises-from, every, weaker, filter-passes, filter-keeps, filter-alike}

@@ -9,9 +9,7 @@ use Rattle.std.proofs.lemmas.List.Elements.{All-nil, All-cons, All-head, All-tai
 use Rattle.std.proofs.lemmas.Bool.{false_from_ne_true, eqb-true}
 use Rattle.x12_bytes.specs.Bytes.{is_line_end}
 use Rattle.x12_bytes.specs.declared.delims.Delims.{Delims}
-use Rattle.x12_segs.specs.Parts.{parts}
-use Rattle.x12_segs.specs.Segs.{Seg, Segs, segs_of, part_at}
-use Rattle.x12_segs.specs.View.{views, view_of, elements_of}
+use Rattle.x12_segs.specs.Words.{parts, Seg, Segs, segs_of, part_at, views, view_of, elements_of}
 use Rattle.x12_write.specs.Segment.{Segment, trimmed, before_rest, elements_text, segment_text, segments_text}
 use Rattle.ack_999.specs.ReadBack.{written_parts}
 use Rattle.x12_write.specs.Undivided.{IsUndivided}

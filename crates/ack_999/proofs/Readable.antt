@@ -6,7 +6,7 @@ use Rattle.std.proofs.lemmas.List.Elements.{All-from_recursion, All-nil, All-con
 use Rattle.x12_bytes.specs.declared.delims.Delims.{Delims}
 use Rattle.hub_kinds.specs.declared.answers.GroupAnswer.{GroupAnswer}
 use Rattle.hub_kinds.specs.declared.answers.SetAnswer.{SetAnswer}
-use Rattle.hub_kinds.specs.SetCodes.{set_code_text, group_code_text, verdict_text, group_verdict_text}
+use Rattle.hub_kinds.specs.Words.{set_code_text, group_code_text, verdict_text, group_verdict_text}
 use Rattle.ack_999.specs.declared.totals.Totals.{Totals}
 use Rattle.ack_999.specs.Faults.{fault_segments}
 use Rattle.ack_999.specs.Group.{totals_of, received_sets}

@@ -9,10 +9,8 @@ use Rattle.std.proofs.lemmas.Bool.{ne_eqb, cases_order}
 use Rattle.std.proofs.lemmas.List.Elements.{recursion_from_All}
 use Rattle.std.proofs.lemmas.Map.Keys.{sorted_tail}
 use Rattle.std.proofs.lemmas.Map.Views.{All-after_first}
-use Rattle.hub_kinds.specs.Fault.{elem_key}
+use Rattle.hub_kinds.specs.Words.{elem_key, AreRising, key_of, order_by}
 use Rattle.hub_kinds.specs.declared.fault.Fault.{Fault}
-use Rattle.hub_kinds.specs.Fault.{AreRising, key_of}
-use Rattle.hub_kinds.specs.Rising.{order_by}
 use Rattle.ack_999.specs.Rising.{rank_of}
 
 -- of two lists in order, the first numbers decide, or are equal

@@ -2,7 +2,7 @@
 use Rattle.std.specs.Prelude.{ℕ, ◌+◌, ◌*◌, ◌^◌, ◌<◌, ◌≤◌, ◌==◌, Bool, true, false, not, ◌&&◌, Option, Some, None, if◌then◌else◌}
 use Rattle.std.specs.Prelude.{List, [], ◌∷◌, ◌++◌, length, map, count_by}
 use Rattle.std.specs.List.{list_all, sum_by}
-use Rattle.hub_kinds.specs.Numbers.{number_of}
+use Rattle.hub_kinds.specs.Words.{number_of}
 use Rattle.hub_kinds.specs.declared.answers.SetAnswer.{SetAnswer}
 use Rattle.hub_kinds.specs.declared.limits.TheConstants.{MOST_CONTROL_DIGITS, MOST_COUNT_DIGITS}
 use Rattle.hub_kinds.specs.declared.set_codes.GroupCode.{GroupCode}

@@ -1,37 +1,43 @@
 -- X12.5, interchange control, and X12.6, functional group: the interchange that acknowledgments are sent in.
--- That it has one group, and that group the number 1, is own.
-use Rattle.std.specs.Prelude.{ℕ, ◌≡◌, List, ◌++◌, length, codes}
+-- That it has at most one group, which holds all its 999s, is own.
+use Rattle.std.specs.Prelude.{ℕ, ◌<◌, List, [], ◌∷◌, ◌++◌, Bool, true, false, ◌||◌, Option, Some, None, is_some, length, codes, IsTrue}
 use Rattle.x12_write.specs.declared.envelope.Envelope.{Envelope}
 use Rattle.x12_write.specs.declared.group.GroupHeader.{GroupHeader}
 use Rattle.x12_write.specs.Header.{header_text}
-use Rattle.x12_write.specs.Group.{group_header_text, group_text, group_trailer_text, texts_in_row}
+use Rattle.x12_write.specs.Group.{group_text}
 use Rattle.x12_write.specs.Trailer.{trailer_text}
 
--- the one group: FA, from the hub's code to the partner's
-abbrev pub acknowledging_group : Envelope → GroupHeader
-acknowledging_group e = record {
+-- the group that 999s stand in: FA, from the hub's code to the partner's
+abbrev pub acknowledging_group : Envelope → (control : ℕ) → GroupHeader
+acknowledging_group e control = record {
   functional_id = codes "FA";
   sender = e.hub_code;
   receiver = e.partner_code;
-  control = 1;
+  control = control;
   version = codes "005010X231";
 }
 
--- an interchange of one group that holds these acknowledgments
-abbrev pub interchange_text : Envelope → List ℕ → ℕ → List (List ℕ) → List ℕ
-interchange_text e at number reports =
-    header_text e at number ++ group_text e.delims at (acknowledging_group e) reports ++ trailer_text e.delims 1 number
+-- a TA1, where there is one
+abbrev pub ta1_part : Option (List ℕ) → List ℕ
+ta1_part None = []
+ta1_part (Some ta1) = ta1
 
--- what stands in front of its acknowledgments, and behind them
-abbrev pub opening_text : Envelope → List ℕ → ℕ → List ℕ
-opening_text e at number = header_text e at number ++ group_header_text e.delims at (acknowledging_group e)
+-- the group of these 999s, where there are any
+abbrev pub group_part : Envelope → (at : List ℕ) → (control : ℕ) → List (List ℕ) → List ℕ
+group_part e at control [] = []
+group_part e at control (report ∷ reports) = group_text e.delims at (acknowledging_group e control) (report ∷ reports)
 
-abbrev pub closing_text : Envelope → ℕ → ℕ → List ℕ
-closing_text e number reports = group_trailer_text e.delims reports 1 ++ trailer_text e.delims 1 number
+-- how many groups that are
+abbrev pub group_count : List (List ℕ) → ℕ
+group_count [] = 0
+group_count (report ∷ reports) = 1
 
--- behind an opening and its acknowledgments, what is appended completes the interchange
-abbrev pub Encloses : Envelope → ℕ → ℕ → List ℕ → List ℕ → Type 0
-Encloses e number reports old new =
-    (before at : List ℕ) (texts : List (List ℕ)) → length texts ≡ reports
-    → old ≡ before ++ opening_text e at number ++ texts_in_row texts
-    → new ≡ before ++ interchange_text e at number texts
+-- an interchange with a TA1, or 999s, or both
+abbrev pub interchange_text : Envelope → (at : List ℕ) → (number control : ℕ) → (ta1 : Option (List ℕ)) → List (List ℕ) → List ℕ
+interchange_text e at number control ta1 reports =
+    header_text e at number ++ ta1_part ta1 ++ group_part e at control reports ++ trailer_text e.delims (group_count reports) number
+
+-- not both are absent
+abbrev pub HasContent : (ta1 : Option (List ℕ)) → List (List ℕ) → Type 0
+HasContent ta1 [] = IsTrue (is_some ta1)
+HasContent ta1 (report ∷ reports) = IsTrue true

@@ -5,3 +5,4 @@ pub mod Report
 pub mod Interchange
 pub mod ReadBack
 pub mod Rising
+pub mod Ta1

@@ -8,9 +8,7 @@ use Rattle.hub_kinds.specs.declared.answers.SetAnswer.{SetAnswer}
 use Rattle.hub_kinds.specs.declared.limits.TheConstants.{MOST_COUNT_DIGITS}
 use Rattle.hub_kinds.specs.declared.set_codes.GroupCode.{GroupCode}
 use Rattle.hub_kinds.specs.declared.set_codes.GroupCode.TheVariants as code
-use Rattle.hub_kinds.specs.SetCodes.{set_code_text, group_code_text, verdict_text, group_verdict_text}
-use Rattle.hub_kinds.specs.Numbers.{number_of}
-use Rattle.hub_kinds.specs.Words.{is_word}
+use Rattle.hub_kinds.specs.Words.{set_code_text, group_code_text, verdict_text, group_verdict_text, number_of, is_word}
 use Rattle.ack_999.specs.declared.totals.Totals.{Totals}
 use Rattle.x12_write.specs.Segment.{Segment, segment, segments_text}
 use Rattle.x12_write.specs.Number.{padded_number}

@@ -2,8 +2,7 @@
 -- faults stand in their order (own), each once.
 use Rattle.std.specs.Prelude.{ℕ, ◌≡◌, ◌==◌, Bool, is_some, nat_lt, List, [], ◌∷◌, ◌++◌, All, map, filter, filter_map}
 use Rattle.x12_bytes.specs.declared.delims.Delims.{Delims}
-use Rattle.hub_kinds.specs.Codes.{segment_rank}
-use Rattle.hub_kinds.specs.Fault.{AreRising}
+use Rattle.hub_kinds.specs.Words.{segment_rank, AreRising}
 use Rattle.hub_kinds.specs.declared.codes.SegmentCode.TheVariants.{ElementErrors}
 use Rattle.hub_kinds.specs.declared.fault.Fault.{Fault}
 use Rattle.ack_999.specs.Faults.{Note, SegmentNote, ElementNote, note_segment, fault_segments}

@@ -1,7 +1,8 @@
-ghost use Rattle.std.specs.Prelude.{◌≡◌, ◌++◌, length, codes, IfOk, OnOk};
+ghost use Rattle.std.specs.Prelude.{◌≡◌, ◌++◌, option_map, IfOk, OnOk};
 ghost use Rattle.x12_write.specs.Extends.{Extends};
+ghost use Rattle.x12_write.specs.Group.{group_header_text, group_trailer_text};
 ghost use Rattle.x12_write.specs.Sendable.{BeginsWithHeader};
-ghost use Rattle.ack_999.specs.Interchange.{Encloses, acknowledging_group, closing_text, interchange_text, opening_text};
+ghost use Rattle.ack_999.specs.Interchange.{HasContent, acknowledging_group, group_count, group_part, interchange_text, ta1_part};
 
 use hub_kinds::{Lent, NoMemory, Text};
 use moment::At;
@@ -11,78 +12,90 @@ use x12_write::{
     append_trailer,
 };
 
-/// The number of an acknowledgment's one group.
-const GROUP_NUMBER: u32 = 1;
-
-/// An interchange from the hub to a partner, as number `number` (1 to 999,999,999), whose one
-/// functional group holds these acknowledgments (999 guide, 005010X231).
+/// An interchange from the hub to a partner, as number `number` (1 to 999,999,999), with a TA1 (X12.5) if there is one, and one
+/// functional group of number `control` that holds these acknowledgments (999 guide, 005010X231) if there are any; not both are absent.
 pub fn write_ack_interchange(
     alloc: Global,
     envelope: &Envelope,
     at: &At,
     number: u32,
+    control: u32,
+    ta1: Option<&[u8]>,
     reports: &[Text],
 ) -> Result<Vec<u8>, NoMemory>
-    ensures text { IfOk result (λ v. v.items ≡ interchange_text envelope.now at.now number reports.now) }
+    requires { HasContent (option_map (λ t. t.now) ta1) reports.now }
+    ensures text { IfOk result
+        (λ v. v.items ≡ interchange_text envelope.now at.now number control (option_map (λ t. t.now) ta1.entry) reports.now) }
     ensures header { IfOk result (λ v. BeginsWithHeader envelope.now at.now number v.items 0) }
 {
     let mut out = Vec::new(alloc);
     append_header(&mut out, envelope, at, number)?;
-    append_group(
-        &mut out,
-        &envelope.delims,
-        at,
-        &acknowledging_group(envelope),
-        reports,
-    )?;
-    append_trailer(&mut out, &envelope.delims, 1, number)?;
+    append_ta1_part(&mut out, ta1)?;
+    append_group_part(&mut out, envelope, at, control, reports)?;
+    append_trailer(&mut out, &envelope.delims, group_count(reports), number)?;
     Ok(out)
 }
 
-/// Writes the interchange's ISA and its group's GS behind what is there.
-pub fn append_opening(
+/// Writes a TA1 behind what is there, where there is one.
+fn append_ta1_part(out: &mut Vec<u8>, ta1: Option<&[u8]>) -> Result<(), NoMemory>
+    ensures text { OnOk result (out.new.items ≡ out.old.items ++ ta1_part (option_map (λ t. t.now) ta1.entry)) }
+    ensures kept { Extends out.old.items out.new.items }
+{
+    if let Some(ta1) = ta1 {
+        out.extend_from_slice(ta1)?;
+    }
+    Ok(())
+}
+
+/// Writes the group of these acknowledgments behind what is there, where there are any.
+fn append_group_part(
     out: &mut Vec<u8>,
     envelope: &Envelope,
     at: &At,
-    number: u32,
+    control: u32,
+    reports: &[Text],
 ) -> Result<(), NoMemory>
-    ensures text { OnOk result
-        (out.new.items ≡ out.old.items ++ opening_text envelope.now at.now number) }
-    ensures header { OnOk result
-        (BeginsWithHeader envelope.now at.now number out.new.items (length out.old.items)) }
+    ensures text { OnOk result (out.new.items ≡ out.old.items ++ group_part envelope.now at.now control reports.now) }
     ensures kept { Extends out.old.items out.new.items }
 {
-    append_header(out, envelope, at, number)?;
-    append_group_header(out, &envelope.delims, at, &acknowledging_group(envelope))
+    if reports.is_empty() {
+        return Ok(());
+    }
+    let header = acknowledging_group(envelope, control);
+    append_group(out, &envelope.delims, at, &header, reports)
 }
 
-/// Writes the group's GE and the interchange's IEA behind what is there; `reports` is the number
-/// of acknowledgments in the group.
-pub fn append_closing(
+/// How many groups these acknowledgments stand in.
+fn group_count(reports: &[Text]) -> u64
+    ensures { result ≡ group_count reports.now }
+{
+    if reports.is_empty() { 0 } else { 1 }
+}
+
+/// Writes GS of the group of number `control` (1 to 999,999,999) that acknowledgments stand in, behind what is there.
+pub fn append_ack_group_header(
     out: &mut Vec<u8>,
     envelope: &Envelope,
-    number: u32,
-    reports: u64,
+    at: &At,
+    control: u32,
 ) -> Result<(), NoMemory>
-    ensures text { OnOk result
-        (out.new.items ≡ out.old.items ++ closing_text envelope.now number reports) }
-    ensures whole { OnOk result
-        (Encloses envelope.now number reports out.old.items out.new.items) }
+    ensures text { OnOk result (out.new.items
+        ≡ out.old.items ++ group_header_text envelope.now.delims at.now (acknowledging_group envelope.now control)) }
     ensures kept { Extends out.old.items out.new.items }
 {
-    append_group_trailer(out, &envelope.delims, reports, GROUP_NUMBER)?;
-    append_trailer(out, &envelope.delims, 1, number)
+    let header = acknowledging_group(envelope, control);
+    append_group_header(out, &envelope.delims, at, &header)
 }
 
 /// The header of the group that acknowledgments stand in.
-fn acknowledging_group<'a>(envelope: &'a Envelope<'a>) -> GroupHeader<'a>
-    ensures { result ≡ acknowledging_group envelope.now }
+fn acknowledging_group<'a>(envelope: &'a Envelope<'a>, control: u32) -> GroupHeader<'a>
+    ensures { result ≡ acknowledging_group envelope.now control }
 {
     GroupHeader {
         functional_id: Lent::new(b"FA"),
         sender: Lent::new(envelope.hub_code.bytes()),
         receiver: Lent::new(envelope.partner_code.bytes()),
-        control: GROUP_NUMBER,
+        control,
         version: Lent::new(b"005010X231"),
     }
 }

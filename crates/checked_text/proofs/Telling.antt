@@ -8,11 +8,9 @@ use Rattle.hub_kinds.specs.declared.interchange.InterchangeFault.{InterchangeFau
 use Rattle.hub_kinds.specs.declared.interchange.InterchangeFault.TheVariants.{Duplicate, TrailerMissing, ControlNumberInvalid}
 use Rattle.hub_kinds.specs.declared.interchange.InterchangeFault.TheVariants.{ControlNumbersDiffer, GroupCountWrong, SegmentMisplaced}
 use Rattle.hub_kinds.specs.declared.interchange.InterchangeFault.TheVariants.{GroupHeaderInvalid, SetHeaderInvalid, SenderUnknown}
-use Rattle.x12_segs.specs.View.{SegValue}
-use Rattle.env_index.specs.Index.{IndexEntry, IsEntryOf}
-use Rattle.env_index.specs.Numbers.{groups_from, interchange_places, is_indexed, kept_places, place_at, places_from, sets_from}
-use Rattle.env_index.specs.Settled.{with_fault, with_faults}
-use Rattle.env_index.specs.Summary.{GroupEntry}
+use Rattle.x12_segs.specs.Words.{SegValue}
+use Rattle.env_index.specs.Words.{IndexEntry, IsEntryOf, groups_from, interchange_places, is_indexed, kept_places, place_at, places_from}
+use Rattle.env_index.specs.Words.{sets_from, with_fault, with_faults, GroupEntry}
 use Rattle.env_index.specs.declared.entry.SetEnvelope.{SetEnvelope}
 use Rattle.partner_setup.specs.Setup.{SetupValue, sender_of}
 use Rattle.set_check.specs.Codes.{control_of}

@@ -7,15 +7,11 @@ use Rattle.hub_kinds.specs.declared.interchange.InterchangeFault.TheVariants.{Du
 use Rattle.hub_kinds.specs.declared.interchange.InterchangeFault.TheVariants.{ControlNumbersDiffer, GroupCountWrong, SegmentMisplaced}
 use Rattle.hub_kinds.specs.declared.interchange.InterchangeFault.TheVariants.{GroupHeaderInvalid, SetHeaderInvalid, SenderUnknown}
 use Rattle.guide_tree.specs.declared.rows.GuideRows.{GuideRows}
-use Rattle.x12_segs.specs.View.{SegValue, element_of}
+use Rattle.x12_segs.specs.Words.{SegValue, element_of}
 use Rattle.x12_segs.specs.declared.set_span.SetSpan.{SetSpan}
 use Rattle.set_check.specs.Checked.{Checked}
 use Rattle.set_check.specs.Codes.{control_of}
-use Rattle.env_index.specs.Index.{IndexEntry}
-use Rattle.env_index.specs.Numbers.{Numbered, index_places}
-use Rattle.env_index.specs.Settled.{with_faults}
-use Rattle.env_index.specs.Spans.{span_of}
-use Rattle.env_index.specs.Summary.{GroupEntry}
+use Rattle.env_index.specs.Words.{IndexEntry, Numbered, index_places, with_faults, span_of, GroupEntry}
 use Rattle.env_index.specs.declared.entry.SetEnvelope.{SetEnvelope}
 use Rattle.partner_setup.specs.Setup.{SetupValue, guide_of, sender_of}
 use Rattle.checked_text.specs.Answers.{SentValue, controls_of, has_number_among}

@@ -1,8 +1,7 @@
 ghost use Rattle.std.specs.Prelude.{◌≡◌, List, false, IfOk};
 ghost use Rattle.std.specs.List.{All};
-ghost use Rattle.x12_segs.specs.Spans.{IsSetSpan};
-ghost use Rattle.env_index.specs.Spans.{span_of};
-ghost use Rattle.env_index.specs.Summary.{GroupEntry};
+ghost use Rattle.x12_segs.specs.Words.{IsSetSpan};
+ghost use Rattle.env_index.specs.Words.{span_of, GroupEntry};
 ghost use Rattle.judged_text.specs.Judged.{is_fa};
 ghost use Rattle.checked_text.specs.Answers.{AreGroupAnswers, AreSetAnswers, IsGroupAnswer, IsGroupAnswered, answer_by, codes_where};
 ghost use Rattle.checked_text.specs.Answers.{has_number_among};

@@ -6,7 +6,7 @@
 //!   sender, 9 where an earlier interchange without faults 1 to 8 has the same number;
 //! - `check_text` checks each set of the interchanges without a fault by its sender's guide, and answers each group and set: the
 //!   standings that it leaves, and the acknowledgments of each partner, byte for byte, are those of these answers;
-//! - `append_acknowledgment` writes the acknowledgment of an interchange, with a 999 for each group but those of acknowledgments;
+//! - the acknowledgment of an interchange has a TA1 where it is answered with one, and a 999 for each group but those of acknowledgments;
 //! - the interchanges of a text are answered in one way (`answers_are_one`), and the answer to a set tells that it is accepted
 //!   exactly where the set meets its guide and no earlier set of its group has its ST02 (`accepted_as_it_meets`);
 //! - a duplicate, a group's code 19 and a set's code 23 are told exactly where the first use of the number, by the order of places, is
@@ -19,6 +19,7 @@
 #![tactic(auto)]
 
 mod acknowledge;
+mod acknowledgment;
 mod answered;
 mod files;
 mod finding;
@@ -37,7 +38,6 @@ mod standings;
 mod support;
 mod walk;
 
-pub use acknowledge::append_acknowledgment;
 pub use answered::AnsweredGroup;
 pub use files::Acknowledgments;
 pub use finding::Finding;

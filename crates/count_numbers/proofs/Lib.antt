@@ -1,5 +1,7 @@
 pub mod Counting
 pub mod Counts
 pub mod Expanding
+pub mod Grouping
+pub mod Interchanges
 pub mod Pushing
 pub mod Worked

@@ -1,8 +1,9 @@
 -- Numbers, runs and tallies on examples.
-use Rattle.std.specs.Prelude.{◌≡◌, [], ◌∷◌, refl, codes, ℕ, List, false, true}
+use Rattle.std.specs.Prelude.{◌≡◌, [], ◌∷◌, refl, codes, ℕ, List, Bool, false, true}
+use Rattle.hub_kinds.specs.declared.counters.Counters.{Counters}
 use Rattle.count_numbers.specs.declared.entry.Entry.{Entry}
 use Rattle.count_numbers.specs.declared.entry.PartnerEntry.{PartnerEntry}
-use Rattle.count_numbers.specs.Counted.{acknowledgments_in, numbers_behind, sets_in}
+use Rattle.count_numbers.specs.Counted.{acknowledgments_in, groups_in, numbers_behind, sets_in}
 use Rattle.count_numbers.specs.Tallies.{all_joined, entries_for, tallies_between, tallies_of}
 use Rattle.count_numbers.specs.TallyPieces.{tally_between}
 use Rattle.count_numbers.specs.declared.run.RunKey.{RunKey}
@@ -12,7 +13,7 @@ use Rattle.count_numbers.specs.declared.number.TheConstants.{GREATEST_NUMBER}
 use Rattle.count_numbers.specs.Numbers.{numbers_of}
 use Rattle.count_numbers.specs.Runs.{same_key, together, runs_of, join_runs}
 use Rattle.count_numbers.specs.Tally.{Acknowledged, Delivered, PartnerTally, joined, tally_of}
-use Rattle.count_numbers.specs.Layout.{interchange_count, layout_by}
+use Rattle.count_numbers.specs.Layout.{delivered_groups, delivered_groups_by, group_count, interchange_count, interchanges_over, layout_by}
 
 greatest_number : GREATEST_NUMBER ≡ 999999999
 greatest_number = refl
@@ -86,67 +87,116 @@ four_under_two = refl
 none_under_two : interchange_count 2 0 ≡ 0
 none_under_two = refl
 
+abbrev tally : (acknowledgments groups : ℕ) → List Run → PartnerTally
+tally acknowledgments groups runs = record { acknowledgments = acknowledgments; groups = groups; runs = runs }
+
+abbrev next : (interchange group set : ℕ) → Counters
+next interchange group set = record { interchange = interchange; group = group; set = set }
+
 sums_end : together 18446744073709551615 1 ≡ 18446744073709551615
 sums_end = refl
 
-a_tally : tally_of (Acknowledged ∷ Delivered (key 0) ∷ Acknowledged ∷ Delivered (key 0) ∷ Delivered (key 1) ∷ [])
-    ≡ record { acknowledgments = 2; runs = run 2 (key 0) ∷ run 1 (key 1) ∷ [] }
+-- one of two acknowledgments has a group
+a_tally : tally_of (Acknowledged true ∷ Delivered (key 0) ∷ Acknowledged false ∷ Delivered (key 0) ∷ Delivered (key 1) ∷ [])
+    ≡ record { acknowledgments = 2; groups = 1; runs = run 2 (key 0) ∷ run 1 (key 1) ∷ [] }
 a_tally = refl
 
--- one acknowledgment and three sets under a cap of 1: interchanges 999999998, and then 999999999, 1 and 2
-numbered : numbers_of (record { acknowledgments = 1; runs = run 3 (key 0) ∷ [] }) (record { interchange = 999999998; set = 1 }) 1
+-- under a cap of 2 the second run lies in two interchanges, the first of which it shares, and the third in one
+groups_are_counted : delivered_groups 2 (key 0 ∷ key 1 ∷ key 1 ∷ key 1 ∷ key 0 ∷ []) ≡ 4
+groups_are_counted = refl
+
+groups_are_counted_by_runs : delivered_groups_by 2 (run 1 (key 0) ∷ run 3 (key 1) ∷ run 1 (key 0) ∷ []) ≡ 4
+groups_are_counted_by_runs = refl
+
+groups_are_told_by_runs : group_count 2 (run 1 (key 0) ∷ run 3 (key 1) ∷ run 1 (key 0) ∷ []) ≡ 4
+groups_are_told_by_runs = refl
+
+no_groups : group_count 2 [] ≡ 0
+no_groups = refl
+
+-- behind one set, three sets lie in the first and the second interchange of two each, behind two in the second and the third
+over_two : interchanges_over 2 1 3 ≡ 2
+over_two = refl
+
+over_two_from_a_start : interchanges_over 2 2 3 ≡ 2
+over_two_from_a_start = refl
+
+over_three : interchanges_over 2 1 4 ≡ 3
+over_three = refl
+
+-- one acknowledgment and three sets under a cap of 1: interchanges 999999998, and then 999999999, 1 and 2; groups 999999999, and
+-- then 1, 2 and 3
+numbered : numbers_of (tally 1 1 (run 3 (key 0) ∷ [])) (next 999999998 999999999 1) 1
     ≡ record {
       first_acknowledgment = 999999998;
       first_delivered = 999999999;
+      first_group = 999999999;
+      first_delivered_group = 1;
       first_set = 1;
       delivered = 3;
+      groups = 3;
       sets = 3;
-      next = record { interchange = 3; set = 4 };
+      next = next 3 4 4;
     }
 numbered = refl
 
 -- nothing leaves the counters as they are
-unnumbered : numbers_of (record { acknowledgments = 0; runs = [] }) (record { interchange = 8; set = 9 }) 2
+unnumbered : numbers_of (tally 0 0 []) (next 8 5 9) 2
     ≡ record {
       first_acknowledgment = 8;
       first_delivered = 8;
+      first_group = 5;
+      first_delivered_group = 5;
       first_set = 9;
       delivered = 0;
+      groups = 0;
       sets = 0;
-      next = record { interchange = 8; set = 9 };
+      next = next 8 5 9;
     }
 unnumbered = refl
 
-abbrev tally : ℕ → List Run → PartnerTally
-tally acknowledgments runs = record { acknowledgments = acknowledgments; runs = runs }
+-- an acknowledgment without a group takes no group's number
+without_a_group : numbers_of (tally 2 1 (run 1 (key 0) ∷ [])) (next 1 1 1) 2
+    ≡ record {
+      first_acknowledgment = 1;
+      first_delivered = 3;
+      first_group = 1;
+      first_delivered_group = 2;
+      first_set = 1;
+      delivered = 1;
+      groups = 1;
+      sets = 1;
+      next = next 4 3 2;
+    }
+without_a_group = refl
 
 abbrev some_entries : List Entry
-some_entries = Delivered (key 0) ∷ Delivered (key 0) ∷ Acknowledged ∷ Delivered (key 0) ∷ Delivered (key 1) ∷ []
+some_entries = Delivered (key 0) ∷ Delivered (key 0) ∷ Acknowledged true ∷ Delivered (key 0) ∷ Delivered (key 1) ∷ []
 
 -- a run goes on behind a cut
-tally_in_front : tally_between tt some_entries 0 2 ≡ tally 0 (run 2 (key 0) ∷ [])
+tally_in_front : tally_between tt some_entries 0 2 ≡ tally 0 0 (run 2 (key 0) ∷ [])
 tally_in_front = refl
 
-tally_behind : tally_between tt some_entries 2 5 ≡ tally 1 (run 1 (key 0) ∷ run 1 (key 1) ∷ [])
+tally_behind : tally_between tt some_entries 2 5 ≡ tally 1 1 (run 1 (key 0) ∷ run 1 (key 1) ∷ [])
 tally_behind = refl
 
 tally_of_both :
-    joined (tally_between tt some_entries 0 2) (tally_between tt some_entries 2 5) ≡ tally 1 (run 3 (key 0) ∷ run 1 (key 1) ∷ [])
+    joined (tally_between tt some_entries 0 2) (tally_between tt some_entries 2 5) ≡ tally 1 1 (run 3 (key 0) ∷ run 1 (key 1) ∷ [])
 tally_of_both = refl
 
 -- two tallies whose only runs have one key make one run of both
-one_run_of_both : joined (tally 0 (run 2 (key 0) ∷ [])) (tally 0 (run 3 (key 0) ∷ [])) ≡ tally 0 (run 5 (key 0) ∷ [])
+one_run_of_both : joined (tally 0 0 (run 2 (key 0) ∷ [])) (tally 0 0 (run 3 (key 0) ∷ [])) ≡ tally 0 0 (run 5 (key 0) ∷ [])
 one_run_of_both = refl
 
 -- which under a cap of 2 is delivered in interchanges of 2, 2 and 1 sets
 laid_out_from_both :
-    layout_by 2 (joined (tally 0 (run 2 (key 0) ∷ [])) (tally 0 (run 3 (key 0) ∷ []))).runs
+    layout_by 2 (joined (tally 0 0 (run 2 (key 0) ∷ [])) (tally 0 0 (run 3 (key 0) ∷ []))).runs
     ≡ (run 2 (key 0) ∷ []) ∷ (run 2 (key 0) ∷ []) ∷ (run 1 (key 0) ∷ []) ∷ []
 laid_out_from_both = refl
 
 -- a run ends where another key follows it
 another_key_behind_a_cut :
-    joined (tally 0 (run 2 (key 0) ∷ [])) (tally 1 (run 1 (key 1) ∷ [])) ≡ tally 1 (run 2 (key 0) ∷ run 1 (key 1) ∷ [])
+    joined (tally 0 0 (run 2 (key 0) ∷ [])) (tally 1 1 (run 1 (key 1) ∷ [])) ≡ tally 1 1 (run 2 (key 0) ∷ run 1 (key 1) ∷ [])
 another_key_behind_a_cut = refl
 
 abbrev happens : ℕ → Entry → PartnerEntry
@@ -155,10 +205,10 @@ happens partner entry = record { partner = partner; entry = entry }
 -- what happens for three partners, in the order of the text
 abbrev some_happenings : List PartnerEntry
 some_happenings =
-    happens 1 (Delivered (key 0)) ∷ happens 0 Acknowledged ∷ happens 2 Acknowledged ∷ happens 1 (Delivered (key 0))
+    happens 1 (Delivered (key 0)) ∷ happens 0 (Acknowledged true) ∷ happens 2 (Acknowledged false) ∷ happens 1 (Delivered (key 0))
     ∷ happens 0 (Delivered (key 1)) ∷ []
 
-for_the_first : entries_for 0 some_happenings ≡ Acknowledged ∷ Delivered (key 1) ∷ []
+for_the_first : entries_for 0 some_happenings ≡ Acknowledged true ∷ Delivered (key 1) ∷ []
 for_the_first = refl
 
 for_the_second : entries_for 1 some_happenings ≡ Delivered (key 0) ∷ Delivered (key 0) ∷ []
@@ -167,13 +217,13 @@ for_the_second = refl
 for_nobody : entries_for 3 some_happenings ≡ []
 for_nobody = refl
 
-of_two_partners : tallies_of 2 some_happenings ≡ tally 1 (run 1 (key 1) ∷ []) ∷ tally 0 (run 2 (key 0) ∷ []) ∷ []
+of_two_partners : tallies_of 2 some_happenings ≡ tally 1 1 (run 1 (key 1) ∷ []) ∷ tally 0 0 (run 2 (key 0) ∷ []) ∷ []
 of_two_partners = refl
 
 of_no_partner : tallies_of 0 some_happenings ≡ []
 of_no_partner = refl
 
-in_front_of_two : tallies_between 2 some_happenings 0 3 ≡ tally 1 [] ∷ tally 0 (run 1 (key 0) ∷ []) ∷ []
+in_front_of_two : tallies_between 2 some_happenings 0 3 ≡ tally 1 1 [] ∷ tally 0 0 (run 1 (key 0) ∷ []) ∷ []
 in_front_of_two = refl
 
 -- what happens for one partner between two sets of another leaves their run one
@@ -184,28 +234,39 @@ gathered_for_two = refl
 acknowledgments_counted : acknowledgments_in some_entries ≡ 1
 acknowledgments_counted = refl
 
+-- of three acknowledgments two have a group
+groups_counted : groups_in (Acknowledged true ∷ Acknowledged false ∷ Delivered (key 0) ∷ Acknowledged true ∷ []) ≡ 2
+groups_counted = refl
+
 sets_counted : sets_in some_entries ≡ 4
 sets_counted = refl
 
--- one acknowledgment and four sets, three at most in an interchange: the interchanges 7 and 8 are delivered
-four_sets_numbered : numbers_behind (record { interchange = 6; set = 9 }) 3 1 4
+-- two acknowledgments, one of them with a group, and four sets, three at most in an interchange: the interchanges 8 and 9 are
+-- delivered, with the groups 1 and 2 and the group 3
+four_sets_numbered : numbers_behind (next 6 999999999 9) 3 2 1 (key 0 ∷ key 1 ∷ key 1 ∷ key 1 ∷ [])
     ≡ record {
       first_acknowledgment = 6;
-      first_delivered = 7;
+      first_delivered = 8;
+      first_group = 999999999;
+      first_delivered_group = 1;
       first_set = 9;
       delivered = 2;
+      groups = 3;
       sets = 4;
-      next = record { interchange = 9; set = 13 };
+      next = next 10 4 13;
     }
 four_sets_numbered = refl
 
-nothing_numbered : numbers_behind (record { interchange = 6; set = 9 }) 3 0 0
+nothing_numbered : numbers_behind (next 6 2 9) 3 0 0 []
     ≡ record {
       first_acknowledgment = 6;
       first_delivered = 6;
+      first_group = 2;
+      first_delivered_group = 2;
       first_set = 9;
       delivered = 0;
+      groups = 0;
       sets = 0;
-      next = record { interchange = 6; set = 9 };
+      next = next 6 2 9;
     }
 nothing_numbered = refl

@@ -1,5 +1,5 @@
--- X12.5, interchange control number (ISA13), and X12.6, transaction set control number (ST02): which number comes so far behind a
--- first one (own).
+-- X12.5, interchange control number (ISA13), and X12.6, group control number (GS06) and transaction set control number (ST02): which
+-- number comes so far behind a first one (own).
 use Rattle.std.specs.Prelude.{ℕ, ◌+◌, ◌-◌, ◌%◌}
 
 -- the number k behind `start`; 1 follows 999,999,999

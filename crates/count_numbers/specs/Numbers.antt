@@ -1,9 +1,9 @@
--- X12.5, interchange control number, and X12.6, transaction set control number: a partner's first numbers and its next counters
--- (own).
+-- X12.5, interchange control number (ISA13), and X12.6, group control number (GS06) and transaction set control number (ST02): a
+-- partner's first numbers and its next counters (own).
 use Rattle.std.specs.Prelude.{ℕ, ◌+◌, ◌≤◌, List, [], ◌∷◌}
 use Rattle.hub_kinds.specs.declared.counters.Counters.{Counters}
 use Rattle.count_numbers.specs.declared.numbering.PartnerNumbers.{PartnerNumbers}
-use Rattle.count_numbers.specs.Layout.{interchange_count, set_count}
+use Rattle.count_numbers.specs.Layout.{group_count, interchange_count, set_count}
 use Rattle.count_numbers.specs.Num.{num}
 use Rattle.count_numbers.specs.Tally.{PartnerTally}
 
@@ -11,16 +11,21 @@ use Rattle.count_numbers.specs.Tally.{PartnerTally}
 abbrev pub delivered_in : (cap : ℕ) → PartnerTally → ℕ
 delivered_in cap t = interchange_count cap (set_count t.runs)
 
--- its acknowledgments come first, then its delivered interchanges; the counters go on behind both, and behind the delivered sets
+-- its acknowledgments come first, then its delivered interchanges, and their groups in the same order; the counters go on behind
+-- both, and behind the delivered sets
 abbrev pub numbers_of : PartnerTally → Counters → (cap : ℕ) → PartnerNumbers
 numbers_of t counters cap = record {
   first_acknowledgment = counters.interchange;
   first_delivered = num counters.interchange t.acknowledgments;
+  first_group = counters.group;
+  first_delivered_group = num counters.group t.groups;
   first_set = counters.set;
   delivered = delivered_in cap t;
+  groups = group_count cap t.runs;
   sets = set_count t.runs;
   next = record {
     interchange = num counters.interchange (t.acknowledgments + delivered_in cap t);
+    group = num counters.group (t.groups + group_count cap t.runs);
     set = num counters.set (set_count t.runs);
   };
 }
@@ -34,4 +39,5 @@ all_numbers (t ∷ ts) (c ∷ counters) (cap ∷ caps) = numbers_of t c cap ∷ 
 
 -- counters from 1 to 999,999,999
 abbrev pub AreInRange : Counters → Type 0
-AreInRange c = (1 ≤ c.interchange) × (c.interchange ≤ 999999999) × (1 ≤ c.set) × (c.set ≤ 999999999)
+AreInRange c =
+    (1 ≤ c.interchange) × (c.interchange ≤ 999999999) × (1 ≤ c.group) × (c.group ≤ 999999999) × (1 ≤ c.set) × (c.set ≤ 999999999)

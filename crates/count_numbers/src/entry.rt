@@ -4,7 +4,10 @@ use crate::run::RunKey;
 #[derive(Debug, Drop)]
 pub enum Entry<'a> {
     /// An acknowledgment.
-    Acknowledged,
+    Acknowledged {
+        /// Whether it has a group, i.e. holds a 999.
+        has_group: bool,
+    },
     /// A set that is delivered to it.
     Delivered(RunKey<'a>),
 }

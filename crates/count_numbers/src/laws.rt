@@ -1,5 +1,5 @@
 ghost use Rattle.count_numbers.specs.Counted.{NumbersAreCounted};
-ghost use Rattle.count_numbers.specs.Layout.{RunsSuffice, SetsAreCounted};
+ghost use Rattle.count_numbers.specs.Layout.{GroupsAreCounted, RunsSuffice, SetsAreCounted};
 ghost use Rattle.count_numbers.specs.Tally.{PieceLaws};
 
 /// A law, with nothing to run: tallies join like the stretches that they are of.
@@ -7,10 +7,11 @@ pub fn tally_laws()
     ensures { PieceLaws }
 {}
 
-/// A law, with nothing to run: delivered interchanges and their groups follow from the runs of a tally, and so does the number
-/// of delivered sets.
+/// A law, with nothing to run: delivered interchanges and their groups follow from the runs of a tally, and so do the number of
+/// these groups and that of delivered sets.
 pub fn runs_suffice()
     ensures layout { RunsSuffice }
+    ensures groups { GroupsAreCounted }
     ensures sets { SetsAreCounted }
 {}
 

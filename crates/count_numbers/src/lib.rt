@@ -1,20 +1,20 @@
-//! Control numbers: which numbers a partner's interchanges and transaction sets get in a night, and from which the next
-//! night goes on.
+//! Control numbers: which numbers a partner's interchanges, functional groups and transaction sets get in a night, and from which
+//! the next night goes on.
 //!
 //! Proved:
 //! - `num` is the number that comes so far behind a first one, where 1 follows 999,999,999;
-//! - a `Tally` tells of what happens for a partner, in the order of the text, how many acknowledgments there are, and
-//!   the runs of delivered sets that go into one group;
+//! - a `Tally` tells of what happens for a partner, in the order of the text, how many acknowledgments there are, how many of them
+//!   have a group, and the runs of delivered sets that go into one group;
 //! - tallies join like the stretches that they are of (`tally_laws`), so that it doesn't matter where a text is cut; a partner's
 //!   `Tally` and the `Tallies` of all partners are `Piecewise`, so what `env_marks::gather` makes of those of all pieces is that
 //!   of the whole;
 //! - a tally is enough: delivered interchanges and their groups follow from its runs as they do from the sets
-//!   themselves, and so does the number of sets, where there are fewer than 2^64 (`runs_suffice`);
+//!   themselves, and so do the number of these groups and that of sets, where there are fewer than 2^64 (`runs_suffice`);
 //! - `numbers_for` gives each partner's first numbers and its next counters; of fewer than 2^64 acknowledgments and sets these are
 //!   the numbers behind so many (`numbers_are_counted`).
 //!
-//! Source: X12.5, interchange control number (ISA13); X12.6, transaction set control number (ST02) and functional group;
-//! how they are counted is own.
+//! Source: X12.5, interchange control number (ISA13); X12.6, functional group, group control number (GS06) and transaction set
+//! control number (ST02); how they are counted is own.
 #![tactic(auto)]
 
 mod entry;

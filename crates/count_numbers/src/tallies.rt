@@ -43,13 +43,13 @@ impl<'a> Tallies<'a> {
         self.list.as_slice()
     }
 
-    /// Counts one acknowledgment more of the partner at a place.
-    pub fn acknowledge(&mut self, partner: usize)
+    /// Counts one acknowledgment more of the partner at a place, and its group, where it has one.
+    pub fn acknowledge(&mut self, partner: usize, has_group: bool)
         requires { partner < length self.old }
         ensures { (n : ℕ) (es : List PartnerEntry) → self.old ≡ tallies_of n es
-            → self.new ≡ tallies_of n (es ++ record { partner = partner; entry = Acknowledged } ∷ []) }
+            → self.new ≡ tallies_of n (es ++ record { partner = partner; entry = Acknowledged has_group } ∷ []) }
     {
-        self.list[partner].acknowledge();
+        self.list[partner].acknowledge(has_group);
     }
 
     /// Counts one set more that is delivered to the partner at a place. The only error is want of memory, and then all is as it was.

@@ -1,3 +1,6 @@
+ghost use Rattle.std.specs.Prelude.{◌≡◌};
+ghost use Rattle.count_numbers.specs.Tally.{groups_in_one};
+
 use crate::run::{Run, RunKey, join_runs, push_run, single, together};
 use hub_kinds::NoMemory;
 use std::alloc::Global;
@@ -7,6 +10,7 @@ use std::marker::Model;
 #[derive(Debug, Drop)]
 pub struct Tally<'a> {
     acknowledgments: u64,
+    groups: u64,
     runs: Vec<Run<'a>>,
 }
 
@@ -15,7 +19,7 @@ impl<'a> Model for Tally<'a> {
 
     ghost Value = { PartnerTally };
 
-    ghost view = { λ t. record { acknowledgments = t.acknowledgments; runs = t.runs.items } };
+    ghost view = { λ t. record { acknowledgments = t.acknowledgments; groups = t.groups; runs = t.runs.items } };
 }
 
 impl<'a> Tally<'a> {
@@ -33,6 +37,14 @@ impl<'a> Tally<'a> {
         *acknowledgments
     }
 
+    /// How many of them have a group (X12.6, GS to GE).
+    pub fn groups(&self) -> u64
+        ensures { result ≡ self.now.groups }
+    {
+        let Tally { groups, .. } = self;
+        *groups
+    }
+
     /// The runs of delivered sets that go into one group, in their order.
     pub fn runs(&self) -> &[Run<'a>]
         ensures { result.now ≡ self.now.runs }
@@ -47,15 +59,17 @@ impl<'a> Tally<'a> {
     {
         Tally {
             acknowledgments: 0,
+            groups: 0,
             runs: Vec::new(alloc),
         }
     }
 
-    /// Counts one acknowledgment more.
-    pub fn acknowledge(&mut self)
-        ensures { (es : List Entry) → self.old ≡ tally_of es → self.new ≡ tally_of (es ++ Acknowledged ∷ []) }
+    /// Counts one acknowledgment more, and its group, where it has one.
+    pub fn acknowledge(&mut self, has_group: bool)
+        ensures { (es : List Entry) → self.old ≡ tally_of es → self.new ≡ tally_of (es ++ Acknowledged has_group ∷ []) }
     {
         self.acknowledgments = together(self.acknowledgments, 1);
+        self.groups = together(self.groups, groups_in_one(has_group));
     }
 
     /// Counts one delivered set more.
@@ -73,17 +87,28 @@ impl<'a> Tally<'a> {
     {
         let Tally {
             acknowledgments,
+            groups,
             runs,
         } = self;
         let Tally {
             acknowledgments: more,
+            groups: more_groups,
             runs: more_runs,
         } = back;
         let acknowledgments = together(acknowledgments, more);
+        let groups = together(groups, more_groups);
         let runs = join_runs(runs, more_runs)?;
         Ok(Tally {
             acknowledgments,
+            groups,
             runs,
         })
     }
+}
+
+/// How many groups an acknowledgment has.
+fn groups_in_one(has_group: bool) -> u64
+    ensures { result ≡ groups_in_one has_group }
+{
+    if has_group { 1 } else { 0 }
 }

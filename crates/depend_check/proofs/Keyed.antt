@@ -7,15 +7,11 @@ use Rattle.x12_bytes.specs.declared.delims.Delims.{Delims}
 use Rattle.hub_kinds.specs.declared.fault.Fault.{Fault}
 use Rattle.hub_kinds.specs.declared.codes.SegmentCode.TheVariants as ik304
 use Rattle.hub_kinds.specs.declared.codes.ElementCode.TheVariants as ik403
-use Rattle.hub_kinds.specs.Codes.{element_rank}
-use Rattle.hub_kinds.specs.Fault.{key_of, AreRising}
-use Rattle.hub_kinds.specs.Rising.{IsKeyedBy}
+use Rattle.hub_kinds.specs.Words.{element_rank, key_of, AreRising, IsKeyedBy}
 use Rattle.guide_tree.specs.declared.rows.Dependency.{Dependency}
 use Rattle.guide_tree.specs.declared.rows.DependencyKind.{DependencyKind}
 use Rattle.guide_tree.specs.declared.rows.DependencyKind.TheVariants as kind
-use Rattle.guide_tree.specs.Tree.{Trees, numbered}
-use Rattle.guide_tree.specs.Segments.{Segment, element_of}
-use Rattle.guide_tree.specs.Places.{Place}
+use Rattle.guide_tree.specs.Words.{Trees, numbered, Segment, element_of, Place}
 use Rattle.loop_match.specs.PlacedSegments.{PlacedSegment, placed_segments}
 use Rattle.loop_match.proofs.Standing.{one_placed}
 use Rattle.depend_check.specs.Dependencies.{Seat, seat_of, unused_fault, use_fault, element_fault, IsTargetBroken}

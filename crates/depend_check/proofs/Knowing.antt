@@ -8,10 +8,9 @@ use Rattle.std.specs.Str.{bytes_eq}
 use Rattle.std.proofs.lemmas.Bool.{and_parts, and_from}
 use Rattle.std.proofs.lemmas.List.Folds.{list_any-append}
 use Rattle.std.proofs.lemmas.Map.Text.{is_eq-slice_cmp}
-use Rattle.hub_kinds.specs.ByText.{by_text}
+use Rattle.hub_kinds.specs.Words.{by_text, contains_text}
 use Rattle.guide_tree.specs.declared.rows.Dependency.{Dependency}
-use Rattle.hub_kinds.specs.TextList.{contains_text}
-use Rattle.guide_tree.specs.Segments.{element_of}
+use Rattle.guide_tree.specs.Words.{element_of}
 use Rattle.loop_match.specs.PlacedSegments.{PlacedSegment}
 use Rattle.depend_check.specs.Dependencies.{is_use, is_trigger, is_triggered}
 use Rattle.depend_check.specs.Uses.{has, has_text, KnowsTexts, HaveSameUses}

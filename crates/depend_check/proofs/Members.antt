@@ -3,7 +3,7 @@ use Rattle.std.proofs.Common.{◌≡◌, ◌↔◌, inl, inr, ℕ, zero, suc, Li
 use Rattle.std.proofs.lemmas.Bool.{eqb-true}
 use Rattle.std.proofs.Common.{refl, sym, ap, subst, arith, Some, None, if◌then◌else◌}
 use Rattle.hub_kinds.specs.declared.codes.ElementCode.TheVariants as ik403
-use Rattle.guide_tree.specs.Segments.{element_of}
+use Rattle.guide_tree.specs.Words.{element_of, Trees}
 use Rattle.std.specs.List.{Contains, list_any, flat_map}
 use Rattle.std.specs.Option.{option_map_or}
 use Rattle.std.specs.Cmp.Derive.{both_true}
@@ -15,7 +15,6 @@ use Rattle.hub_kinds.specs.declared.codes.SegmentCode.TheVariants as ik304
 use Rattle.guide_tree.specs.declared.rows.Dependency.{Dependency}
 use Rattle.guide_tree.specs.declared.rows.DependencyKind.{DependencyKind}
 use Rattle.guide_tree.specs.declared.rows.DependencyKind.TheVariants as kind
-use Rattle.guide_tree.specs.Tree.{Trees}
 use Rattle.elem_rules.proofs.Members.{no_member, contains_one, one_contains, from_if, in_then, from_option, in_option}
 use Rattle.elem_rules.proofs.Members.{from_flat_map, in_flat_map}
 use Rattle.loop_match.specs.PlacedSegments.{PlacedSegment}

@@ -17,12 +17,9 @@ use Rattle.guide_tree.specs.declared.rows.Dependency.{Dependency}
 use Rattle.guide_tree.specs.declared.rows.DependencyKind.{DependencyKind}
 use Rattle.guide_tree.specs.declared.rows.DependencyKind.TheVariants as kind
 use Rattle.guide_tree.specs.declared.slot.Slot.{Slot}
-use Rattle.guide_tree.specs.Tree.{Tree, Trees, segment, loop, no_trees, tree, GuideTree, or_else, find_slot_in}
-use Rattle.guide_tree.specs.Conditions.{has_label, has_row, labelled, is_dependency_of, is_hierarchy_of, are_names_known}
-use Rattle.guide_tree.specs.Faults.{IsWellFormed}
-use Rattle.guide_tree.specs.Grammar.{Given}
-use Rattle.guide_tree.specs.Places.{Place, slot_given}
-use Rattle.guide_tree.specs.Segments.{Segment, element_of}
+use Rattle.guide_tree.specs.Words.{Tree, Trees, segment, loop, no_trees, tree, GuideTree, or_else, find_slot_in, has_label, has_row}
+use Rattle.guide_tree.specs.Words.{labelled, is_dependency_of, is_hierarchy_of, are_names_known, IsWellFormed, Given, Place, slot_given}
+use Rattle.guide_tree.specs.Words.{Segment, element_of}
 use Rattle.loop_match.specs.PlacedSegments.{PlacedSegment, placed_segments, as_given}
 use Rattle.loop_match.proofs.Leading.{placed_given}
 use Rattle.depend_check.specs.Dependencies.{is_use, is_trigger, Seat, seat_in, seat_among}

@@ -2,7 +2,7 @@
 use Rattle.std.proofs.Common.{◌≡◌, ◌↔◌, ℕ, ◌+◌, List, [], ◌∷◌, codes, map, length, Some, None, false, refl, sym, subst}
 use Rattle.std.specs.List.{Contains}
 use Rattle.x12_bytes.specs.declared.delims.Delims.{Delims}
-use Rattle.x12_segs.specs.Parts.{parts}
+use Rattle.x12_segs.specs.Words.{parts}
 use Rattle.hub_kinds.specs.declared.fault.Fault.{Fault}
 use Rattle.hub_kinds.specs.declared.codes.ElementCode.{ElementCode}
 use Rattle.hub_kinds.specs.declared.codes.ElementCode.TheVariants as ik403
@@ -17,9 +17,7 @@ use Rattle.guide_tree.specs.declared.node.Loop.{Loop}
 use Rattle.guide_tree.specs.declared.rows.Dependency.{Dependency}
 use Rattle.guide_tree.specs.declared.rows.DependencyKind.{DependencyKind}
 use Rattle.guide_tree.specs.declared.rows.DependencyKind.TheVariants as kind
-use Rattle.guide_tree.specs.Tree.{Trees, segment, loop, no_trees, tree, GuideTree}
-use Rattle.guide_tree.specs.Nexts.{placing_of}
-use Rattle.guide_tree.specs.Segments.{Segment}
+use Rattle.guide_tree.specs.Words.{Trees, segment, loop, no_trees, tree, GuideTree, placing_of, Segment}
 use Rattle.loop_match.specs.PlacedSegments.{PlacedSegment, placed_segments}
 use Rattle.depend_check.specs.Dependencies.{IsDependencyFault}
 use Rattle.depend_check.specs.Found.{found_faults}

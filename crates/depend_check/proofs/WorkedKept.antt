@@ -5,10 +5,10 @@ use Rattle.std.specs.List.{Contains, list_any, list_all}
 use Rattle.std.proofs.lemmas.Bool.{not-true}
 use Rattle.std.proofs.lemmas.List.Elements.{All-contains}
 use Rattle.std.proofs.lemmas.List.Sums.{AllPass-from_list_all}
-use Rattle.x12_segs.specs.Parts.{parts}
+use Rattle.x12_segs.specs.Words.{parts}
 use Rattle.guide_tree.specs.declared.rows.Dependency.{Dependency}
 use Rattle.guide_tree.specs.declared.rows.DependencyKind.TheVariants as kind
-use Rattle.guide_tree.specs.Grammar.{Given}
+use Rattle.guide_tree.specs.Words.{Given}
 use Rattle.elem_rules.proofs.Members.{contains_one}
 use Rattle.depend_check.specs.Kept.{IsTargetKept, AreDependenciesKept}
 use Rattle.depend_check.specs.Standing.{stands_at, fills, triggers}

@@ -9,14 +9,13 @@ use Rattle.hub_kinds.specs.declared.codes.ElementCode.{ElementCode}
 use Rattle.hub_kinds.specs.declared.codes.ElementCode.TheVariants as ik403
 use Rattle.hub_kinds.specs.declared.fault.Fault.{Fault}
 use Rattle.hub_kinds.specs.declared.fault.ElemFault.{ElemFault}
+use Rattle.hub_kinds.specs.Words.{contains_text}
 use Rattle.guide_tree.specs.declared.rows.Dependency.{Dependency}
 use Rattle.guide_tree.specs.declared.rows.DependencyKind.{DependencyKind}
 use Rattle.guide_tree.specs.declared.rows.DependencyKind.TheVariants as kind
 use Rattle.guide_tree.specs.declared.slot.Slot.{Slot}
-use Rattle.guide_tree.specs.Tree.{Tree, Trees, segment, loop, no_trees, tree, GuideTree, or_else}
-use Rattle.guide_tree.specs.Segments.{Segment, element_of, id_of}
-use Rattle.guide_tree.specs.Conditions.{has_label}
-use Rattle.guide_tree.specs.Places.{Place}
+use Rattle.guide_tree.specs.Words.{Tree, Trees, segment, loop, no_trees, tree, GuideTree, or_else, Segment, element_of, id_of, has_label}
+use Rattle.guide_tree.specs.Words.{Place}
 use Rattle.elem_rules.specs.Rows.{reference_at}
 use Rattle.loop_match.specs.PlacedSegments.{PlacedSegment, placed_segments, as_given}
 use Rattle.depend_check.specs.Standing.{stands_at, fills, triggers}

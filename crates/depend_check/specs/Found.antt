@@ -9,8 +9,7 @@ use Rattle.hub_kinds.specs.declared.fault.Fault.{Fault}
 use Rattle.guide_tree.specs.declared.rows.Dependency.{Dependency}
 use Rattle.guide_tree.specs.declared.rows.DependencyKind.{DependencyKind}
 use Rattle.guide_tree.specs.declared.rows.DependencyKind.TheVariants as kind
-use Rattle.guide_tree.specs.Tree.{Trees}
-use Rattle.guide_tree.specs.Segments.{element_of}
+use Rattle.guide_tree.specs.Words.{Trees, element_of}
 use Rattle.loop_match.specs.PlacedSegments.{PlacedSegment}
 use Rattle.depend_check.specs.Dependencies.{is_use, is_triggered, has_element, seat_of}
 use Rattle.depend_check.specs.Dependencies.{unused_fault, use_fault, element_fault}

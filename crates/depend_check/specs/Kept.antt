@@ -5,7 +5,7 @@ use Rattle.x12_bytes.specs.declared.delims.Delims.{Delims}
 use Rattle.guide_tree.specs.declared.rows.Dependency.{Dependency}
 use Rattle.guide_tree.specs.declared.rows.DependencyKind.{DependencyKind}
 use Rattle.guide_tree.specs.declared.rows.DependencyKind.TheVariants as kind
-use Rattle.guide_tree.specs.Grammar.{Given}
+use Rattle.guide_tree.specs.Words.{Given}
 use Rattle.depend_check.specs.Standing.{stands_at, fills, triggers}
 
 -- What a dependency asks of segments with their slots: a needed slot is some segment's, a banned one none's; each segment of

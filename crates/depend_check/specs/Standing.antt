@@ -1,11 +1,9 @@
 -- Own: what a dependency looks at in a segment with its slot.
 use Rattle.std.specs.Prelude.{ℕ, List, Bool, ◌&&◌}
 use Rattle.x12_bytes.specs.declared.delims.Delims.{Delims}
-use Rattle.hub_kinds.specs.TextList.{contains_text}
+use Rattle.hub_kinds.specs.Words.{contains_text}
 use Rattle.guide_tree.specs.declared.rows.Dependency.{Dependency}
-use Rattle.guide_tree.specs.Conditions.{has_label}
-use Rattle.guide_tree.specs.Grammar.{Given}
-use Rattle.guide_tree.specs.Segments.{element_of}
+use Rattle.guide_tree.specs.Words.{has_label, Given, element_of}
 use Rattle.elem_rules.specs.Divided.{is_filled}
 
 -- a segment's slot has the label

@@ -11,8 +11,7 @@ use Rattle.x12_bytes.specs.declared.delims.Delims.{Delims}
 use Rattle.hub_kinds.specs.declared.fault.Fault.{Fault}
 use Rattle.guide_tree.specs.declared.rows.Dependency.{Dependency}
 use Rattle.guide_tree.specs.declared.slot.Slot.{Slot}
-use Rattle.guide_tree.specs.Segments.{element_of}
-use Rattle.guide_tree.specs.Tree.{Trees}
+use Rattle.guide_tree.specs.Words.{element_of, Trees}
 use Rattle.loop_match.specs.declared.placed.PlacedSeg.{PlacedSeg}
 use Rattle.loop_match.specs.PlacedSegments.{PlacedSegment}
 use Rattle.depend_check.specs.Dependencies.{is_use, is_triggered, IsBroken}

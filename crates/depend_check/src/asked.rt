@@ -1,7 +1,7 @@
 ghost use Rattle.std.specs.Prelude.{◌≡◌, ◌↔◌, ◌⊎◌, ◌++◌, IfOk, OnOk, IsSomeAnd, IsTrue};
 ghost use Rattle.std.specs.List.{Contains};
 ghost use Rattle.guide_tree.specs.declared.rows.Dependency.{Dependency};
-ghost use Rattle.guide_tree.specs.View.{nodes_view};
+ghost use Rattle.guide_tree.specs.Words.{nodes_view};
 ghost use Rattle.hub_kinds.specs.declared.fault.Fault.{Fault};
 ghost use Rattle.loop_match.specs.Viewed.{placed_views};
 ghost use Rattle.depend_check.specs.Dependencies.{is_triggered, IsBroken};

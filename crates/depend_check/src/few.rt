@@ -1,10 +1,9 @@
 ghost use Rattle.std.specs.Prelude.{◌≡◌, ◌↔◌, ◌⊎◌, IfOk, OnOk};
 ghost use Rattle.std.specs.List.{Contains, list_any};
-ghost use Rattle.x12_segs.specs.View.{elements_of};
-ghost use Rattle.guide_tree.specs.Segments.{element_of};
-ghost use Rattle.guide_tree.specs.View.{nodes_view};
+ghost use Rattle.x12_segs.specs.Words.{elements_of};
+ghost use Rattle.guide_tree.specs.Words.{element_of, nodes_view};
 ghost use Rattle.hub_kinds.specs.declared.fault.Fault.{Fault};
-ghost use Rattle.hub_kinds.specs.TextList.{contains_text};
+ghost use Rattle.hub_kinds.specs.Words.{contains_text};
 ghost use Rattle.loop_match.specs.Viewed.{placed_view, placed_views};
 ghost use Rattle.depend_check.specs.Dependencies.{is_trigger, is_triggered, IsBroken};
 ghost use Rattle.depend_check.specs.Uses.{IsFound, IsFoundBy};

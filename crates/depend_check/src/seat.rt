@@ -1,5 +1,5 @@
 ghost use Rattle.std.specs.Prelude.{◌≡◌, option_map};
-ghost use Rattle.guide_tree.specs.View.{nodes_view};
+ghost use Rattle.guide_tree.specs.Words.{nodes_view};
 ghost use Rattle.depend_check.specs.Dependencies.{seat_among};
 ghost use Rattle.depend_check.specs.Viewed.{seat_view};
 

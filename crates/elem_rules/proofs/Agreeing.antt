@@ -14,8 +14,7 @@ use Rattle.guide_tree.specs.declared.slot.Slot.{Slot}
 use Rattle.guide_tree.specs.declared.slot.Condition.{Condition}
 use Rattle.guide_tree.specs.declared.slot.Relation.{Relation}
 use Rattle.guide_tree.specs.declared.slot.Relation.TheVariants as relation
-use Rattle.guide_tree.specs.Conditions.{is_condition_of, is_distinct, has_row}
-use Rattle.guide_tree.specs.Segments.{Segment, element_of}
+use Rattle.guide_tree.specs.Words.{is_condition_of, is_distinct, has_row, Segment, element_of}
 use Rattle.elem_rules.specs.Divided.{is_filled}
 use Rattle.elem_rules.specs.Conditions.{is_present, absent, broken_at}
 use Rattle.elem_rules.specs.Found.{text_at, texts_of, is_present_in}

@@ -11,7 +11,7 @@ use Rattle.guide_tree.specs.declared.element.SimpleRow.{SimpleRow}
 use Rattle.guide_tree.specs.declared.element.Element.TheVariants as element
 use Rattle.guide_tree.specs.declared.slot.Slot.{Slot}
 use Rattle.guide_tree.specs.declared.slot.Relation.TheVariants as relation
-use Rattle.guide_tree.specs.Segments.{Segment}
+use Rattle.guide_tree.specs.Words.{Segment}
 use Rattle.hub_kinds.specs.declared.codes.ElementCode.TheVariants as ik403
 use Rattle.x12_bytes.specs.declared.delims.Delims.{Delims}
 use Rattle.elem_rules.specs.ElementFaults.{IsElementFault, wrong_at, copy_in, hierarchy_copy}

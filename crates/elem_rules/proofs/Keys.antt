@@ -4,8 +4,7 @@ use Rattle.std.specs.Prelude.{Some}
 use Rattle.hub_kinds.specs.declared.codes.ElementCode.{ElementCode}
 use Rattle.hub_kinds.specs.declared.codes.ElementCode.TheVariants as ik403
 use Rattle.hub_kinds.specs.declared.fault.ElemFault.{ElemFault}
-use Rattle.hub_kinds.specs.Codes.{element_rank}
-use Rattle.hub_kinds.specs.Fault.{elem_key}
+use Rattle.hub_kinds.specs.Words.{element_rank, elem_key}
 
 abbrev all_codes : List ElementCode
 all_codes =

@@ -13,7 +13,7 @@ use Rattle.memchr.specs.Find.{IsFirstByte, is_byte, is_byte2}
 use Rattle.x12_bytes.specs.declared.delims.Delims.{Delims}
 use Rattle.guide_tree.specs.declared.element.Element.{Element}
 use Rattle.guide_tree.specs.declared.slot.Condition.{Condition}
-use Rattle.guide_tree.specs.Segments.{Segment, element_of}
+use Rattle.guide_tree.specs.Words.{Segment, element_of}
 use Rattle.elem_rules.specs.Rows.{nth}
 use Rattle.elem_rules.specs.Clean.{fits, holds, marked, bits_to, has_bytes}
 use Rattle.std.proofs.Common.{◌++◌, take}

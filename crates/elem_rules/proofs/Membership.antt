@@ -10,8 +10,7 @@ use Rattle.guide_tree.specs.declared.element.Element.{Element}
 use Rattle.guide_tree.specs.declared.slot.Slot.{Slot}
 use Rattle.guide_tree.specs.declared.slot.Relation.{Relation}
 use Rattle.guide_tree.specs.declared.slot.Relation.TheVariants as relation
-use Rattle.guide_tree.specs.Conditions.{is_condition_of}
-use Rattle.guide_tree.specs.Segments.{Segment, element_of}
+use Rattle.guide_tree.specs.Words.{is_condition_of, Segment, element_of}
 use Rattle.hub_kinds.specs.declared.codes.ElementCode.{ElementCode}
 use Rattle.hub_kinds.specs.declared.codes.ElementCode.TheVariants as ik403
 use Rattle.hub_kinds.specs.declared.fault.ElemFault.{ElemFault}
@@ -20,8 +19,7 @@ use Rattle.elem_rules.specs.Rows.{nth, reference_in, reference_at}
 use Rattle.elem_rules.specs.Conditions.{is_present, broken_at, condition_code}
 use Rattle.elem_rules.specs.ElementFaults.{Wrong, copy_in, fault_at, IsExtraElement, IsRowFault, IsConditionFault, IsElementFault}
 use Rattle.elem_rules.specs.Found.{fault, text_at, texts_of, is_present_in, condition_copy, broken_found, condition_found}
-use Rattle.hub_kinds.specs.Fault.{element_key_of}
-use Rattle.hub_kinds.specs.Rising.{IsKeyedBy}
+use Rattle.hub_kinds.specs.Words.{element_key_of, IsKeyedBy}
 use Rattle.elem_rules.specs.Found.{conditions_found, element_found, rows_found, extra_found, found}
 use Rattle.elem_rules.proofs.Members.{no_member, contains_one, one_contains, from_if, in_then, from_up_to, in_up_to, from_flat_map}
 use Rattle.elem_rules.proofs.Members.{in_flat_map, from_option, in_option, nth_within, nth_past}

@@ -7,9 +7,8 @@ use Rattle.std.specs.Option.{option_map_or}
 use Rattle.std.proofs.lemmas.Bool.{false_from_ne_true}
 use Rattle.memchr.specs.Find.{IsFirstByte, is_byte, is_byte2}
 use Rattle.x12_bytes.specs.declared.delims.Delims.{Delims}
-use Rattle.x12_segs.specs.Parts.{parts, parts_by}
-use Rattle.x12_segs.specs.View.{occurrences, components}
-use Rattle.guide_tree.specs.Bounds.{is_within}
+use Rattle.x12_segs.specs.Words.{parts, parts_by, occurrences, components}
+use Rattle.guide_tree.specs.Words.{is_within}
 use Rattle.elem_rules.specs.Clean.{is_odd, is_odd_by, is_strange}
 use Rattle.elem_rules.specs.Divided.{is_inner_separator, is_empty}
 use Rattle.elem_rules.specs.Values.{is_character}

@@ -6,8 +6,8 @@ use Rattle.std.specs.Option.{option_map_or}
 use Rattle.std.specs.List.{All, Contains, list_any, list_all, filter, flat_map}
 use Rattle.std.proofs.lemmas.Bool.{leb-true}
 use Rattle.x12_bytes.specs.declared.delims.Delims.{Delims}
-use Rattle.x12_segs.specs.View.{occurrences, components}
-use Rattle.guide_tree.specs.Bounds.{is_element_bounded, is_row_bounded, is_component_bounded}
+use Rattle.x12_segs.specs.Words.{occurrences, components}
+use Rattle.guide_tree.specs.Words.{is_element_bounded, is_row_bounded, is_component_bounded, is_condition_of, Segment, element_of}
 use Rattle.guide_tree.specs.declared.element.Requirement.{Requirement}
 use Rattle.guide_tree.specs.declared.element.Requirement.TheVariants.{Mandatory, Optional}
 use Rattle.guide_tree.specs.declared.element.SimpleRow.{SimpleRow}
@@ -36,8 +36,6 @@ use mathlib.Core.Logic.{inl, inr}
 use Rattle.std.specs.Int.{w64}
 use Rattle.guide_tree.specs.declared.slot.Slot.{Slot}
 use Rattle.guide_tree.specs.declared.slot.Condition.{Condition}
-use Rattle.guide_tree.specs.Conditions.{is_condition_of}
-use Rattle.guide_tree.specs.Segments.{Segment, element_of}
 use Rattle.elem_rules.specs.ElementFaults.{IsElementFault}
 use Rattle.elem_rules.specs.Found.{text_at, texts_of, rows_found, extra_found, condition_found, conditions_found, broken_found}
 use Rattle.elem_rules.specs.Found.{is_present_in, found}

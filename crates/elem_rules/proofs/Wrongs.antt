@@ -6,7 +6,7 @@ use Rattle.std.specs.Option.{option_map_or}
 use Rattle.std.specs.List.{Contains}
 use Rattle.std.proofs.lemmas.List.Elements.{Contains-append_left, Contains-append_right, Contains-append_cases}
 use Rattle.x12_bytes.specs.declared.delims.Delims.{Delims}
-use Rattle.x12_segs.specs.View.{occurrences, components}
+use Rattle.x12_segs.specs.Words.{occurrences, components}
 use Rattle.guide_tree.specs.declared.element.Component.{Component}
 use Rattle.guide_tree.specs.declared.element.Element.{Element}
 use Rattle.guide_tree.specs.declared.element.Element.TheVariants as element

@@ -4,7 +4,7 @@ use Rattle.std.specs.Prelude.{ℕ, ◌==◌, ◌-◌, List, drop, Bool, false, n
 use Rattle.std.specs.List.{list_any, list_all}
 use Rattle.std.specs.Option.{option_map_or}
 use Rattle.x12_bytes.specs.declared.delims.Delims.{Delims}
-use Rattle.x12_segs.specs.View.{occurrences, components, part_or_empty}
+use Rattle.x12_segs.specs.Words.{occurrences, components, part_or_empty}
 
 -- a component or repetition separator
 abbrev pub is_inner_separator : Delims → ℕ → Bool

@@ -4,7 +4,7 @@ use Rattle.std.specs.Prelude.{Option, Some, None, if◌then◌else◌}
 use Rattle.std.specs.List.{Contains}
 use Rattle.std.specs.Option.{option_map_or}
 use Rattle.x12_bytes.specs.declared.delims.Delims.{Delims}
-use Rattle.x12_segs.specs.View.{occurrences, components}
+use Rattle.x12_segs.specs.Words.{occurrences, components}
 use Rattle.guide_tree.specs.declared.element.Requirement.{Requirement}
 use Rattle.guide_tree.specs.declared.element.Requirement.TheVariants.{Mandatory, Optional}
 use Rattle.guide_tree.specs.declared.element.Component.{Component}
@@ -13,7 +13,7 @@ use Rattle.guide_tree.specs.declared.element.Element.{Element}
 use Rattle.guide_tree.specs.declared.element.Element.TheVariants as element
 use Rattle.guide_tree.specs.declared.slot.Slot.{Slot}
 use Rattle.guide_tree.specs.declared.slot.Condition.{Condition}
-use Rattle.guide_tree.specs.Segments.{Segment, element_of}
+use Rattle.guide_tree.specs.Words.{Segment, element_of}
 use Rattle.hub_kinds.specs.declared.codes.ElementCode.{ElementCode}
 use Rattle.hub_kinds.specs.declared.codes.ElementCode.TheVariants as ik403
 use Rattle.hub_kinds.specs.declared.fault.ElemFault.{ElemFault}

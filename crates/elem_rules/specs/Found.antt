@@ -6,12 +6,12 @@ use denote.Ref.{Bor}
 use Rattle.std.specs.List.{flat_map}
 use Rattle.std.specs.Option.{option_map_or}
 use Rattle.x12_bytes.specs.declared.delims.Delims.{Delims}
-use Rattle.x12_segs.specs.View.{occurrences, components}
+use Rattle.x12_segs.specs.Words.{occurrences, components}
 use Rattle.guide_tree.specs.declared.element.Component.{Component}
 use Rattle.guide_tree.specs.declared.element.Element.{Element}
 use Rattle.guide_tree.specs.declared.slot.Slot.{Slot}
 use Rattle.guide_tree.specs.declared.slot.Condition.{Condition}
-use Rattle.guide_tree.specs.Segments.{Segment, element_of}
+use Rattle.guide_tree.specs.Words.{Segment, element_of}
 use Rattle.hub_kinds.specs.declared.codes.ElementCode.{ElementCode}
 use Rattle.hub_kinds.specs.declared.codes.ElementCode.TheVariants as ik403
 use Rattle.hub_kinds.specs.declared.fault.ElemFault.{ElemFault}

@@ -9,10 +9,10 @@ use Rattle.guide_tree.specs.declared.element.ElementType.{ElementType}
 use Rattle.guide_tree.specs.declared.element.ElementType.TheVariants.{Text, Identifier, Number, Decimal, Date, Time}
 use Rattle.guide_tree.specs.declared.element.CodeList.{CodeList}
 use Rattle.guide_tree.specs.declared.element.SimpleRow.{SimpleRow}
-use Rattle.guide_tree.specs.Bounds.{is_within}
+use Rattle.guide_tree.specs.Words.{is_within}
 use Rattle.hub_kinds.specs.declared.codes.ElementCode.{ElementCode}
 use Rattle.hub_kinds.specs.declared.codes.ElementCode.TheVariants as ik403
-use Rattle.hub_kinds.specs.TextList.{contains_text}
+use Rattle.hub_kinds.specs.Words.{contains_text}
 use Rattle.moment.specs.Calendar.{is_digits, is_date, is_time}
 
 -- from space to tilde, and where the row is wide from 0x80 on

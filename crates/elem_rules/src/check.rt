@@ -1,11 +1,9 @@
 ghost use Rattle.std.specs.Prelude.{◌≡◌, ◌↔◌, ◌≤◌, ◌++◌, IsTrue, All, IfOk, OnOk, Some, length, take, drop};
 ghost use Rattle.std.specs.List.{Contains, list_all};
 ghost use Rattle.hub_kinds.specs.declared.fault.ElemFault.{ElemFault};
-ghost use Rattle.x12_segs.specs.View.{elements_of};
-ghost use Rattle.guide_tree.specs.Bounds.{is_slot_bounded, is_element_bounded};
-ghost use Rattle.guide_tree.specs.Conditions.{is_condition_of};
-ghost use Rattle.hub_kinds.specs.Fault.{AreElementsRising, element_key_of};
-ghost use Rattle.hub_kinds.specs.Rising.{IsKeyedBy};
+ghost use Rattle.x12_segs.specs.Words.{elements_of};
+ghost use Rattle.guide_tree.specs.Words.{is_slot_bounded, is_element_bounded, is_condition_of};
+ghost use Rattle.hub_kinds.specs.Words.{AreElementsRising, element_key_of, IsKeyedBy};
 ghost use Rattle.elem_rules.specs.ElementFaults.{IsElementFault};
 ghost use Rattle.elem_rules.specs.Found.{read, rows_found, extra_found};
 

@@ -2,11 +2,9 @@ ghost use Rattle.std.specs.Prelude.{◌≡◌, ◌≤◌, ◌<◌, ℕ, IsTrue, 
 ghost use Rattle.std.specs.Bool.{OnTrue};
 ghost use Rattle.std.specs.List.{list_any, list_all, filter};
 ghost use Rattle.guide_tree.specs.declared.element.Element.{Element as Row};
-ghost use Rattle.guide_tree.specs.Bounds.{is_slot_bounded};
-ghost use Rattle.guide_tree.specs.Conditions.{is_condition_of};
-ghost use Rattle.guide_tree.specs.Segments.{element_of};
+ghost use Rattle.guide_tree.specs.Words.{is_slot_bounded, is_condition_of, element_of};
 ghost use Rattle.hub_kinds.specs.declared.fault.ElemFault.{ElemFault};
-ghost use Rattle.x12_segs.specs.View.{elements_of};
+ghost use Rattle.x12_segs.specs.Words.{elements_of};
 ghost use Rattle.elem_rules.specs.Divided.{is_inner_separator};
 ghost use Rattle.elem_rules.specs.Rows.{nth};
 ghost use Rattle.elem_rules.specs.ElementFaults.{IsElementFault};

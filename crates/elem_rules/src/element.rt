@@ -1,5 +1,5 @@
 ghost use Rattle.std.specs.Prelude.{◌≡◌, ◌≤◌, ◌++◌, [], IsTrue, OnOk, length, nat_lt, if◌then◌else◌};
-ghost use Rattle.guide_tree.specs.Bounds.{is_element_bounded};
+ghost use Rattle.guide_tree.specs.Words.{is_element_bounded};
 ghost use Rattle.elem_rules.specs.Rows.{simple_usage, composite_usage, element_reference};
 ghost use Rattle.elem_rules.specs.ElementFaults.{whole_fault};
 ghost use Rattle.elem_rules.specs.Found.{too_often_found, occurrences_found, element_found};

@@ -2,7 +2,7 @@ ghost use Rattle.std.specs.Prelude.{◌≡◌, ◌≤◌, ◌++◌, [], ◌∷�
 ghost use Rattle.guide_tree.specs.declared.element.Component.TheVariants as component;
 ghost use Rattle.elem_rules.specs.Rows.{component_reference};
 ghost use Rattle.elem_rules.specs.ElementFaults.{missing_fault, component_fault};
-ghost use Rattle.x12_segs.specs.View.{components as components_in};
+ghost use Rattle.x12_segs.specs.Words.{components as components_in};
 ghost use Rattle.elem_rules.specs.Divided.{component_in};
 ghost use Rattle.elem_rules.specs.Found.{component_found, components_found, occurrence_found};
 

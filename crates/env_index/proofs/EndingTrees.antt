@@ -2,7 +2,7 @@
 use Rattle.std.proofs.Common.{◌≡◌, List, [], ◌∷◌, ◌++◌, Bool, true, false, Option, Some, None, refl, ap, subst, ◌∙◌}
 use Rattle.std.specs.List.{flat_map, list_all}
 use Rattle.std.proofs.lemmas.Bool.{and_parts}
-use Rattle.x12_segs.specs.Kinds.{is_inner}
+use Rattle.x12_segs.specs.Words.{is_inner}
 use Rattle.x12_segs.specs.declared.kind.Kind.{Kind}
 use Rattle.x12_segs.specs.declared.kind.Kind.TheVariants.{InterchangeTrailer, GroupHeader, GroupTrailer, SetHeader, SetTrailer, Ta1}
 use Rattle.x12_segs.specs.declared.kind.Kind.TheVariants.{Other}

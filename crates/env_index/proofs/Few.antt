@@ -8,9 +8,7 @@ use Rattle.hub_kinds.specs.declared.limits.TheConstants.{LONGEST_TEXT}
 use Rattle.x12_bytes.specs.Header.{header_at, delims_of}
 use Rattle.x12_bytes.specs.HeaderTest.{is_head}
 use Rattle.x12_bytes.specs.declared.layout.TheConstants.{HEADER_LEN}
-use Rattle.x12_segs.specs.Segs.{Seg, segs_from, rest_from}
-use Rattle.x12_segs.specs.View.{SegValue, view_of}
-use Rattle.x12_segs.specs.Kinds.{kind_of}
+use Rattle.x12_segs.specs.Words.{Seg, segs_from, rest_from, SegValue, view_of, kind_of}
 use Rattle.x12_segs.proofs.OrderLemmas.{StandInOrder, segs_in_order}
 use Rattle.env_index.specs.Envelope.{InGroup, ASet, OutOfGroup, InBody, ATa1, AGroup, OutOfBody}
 use Rattle.env_index.specs.Envelope.{option_items, set_items, in_group_items, group_items, in_body_items}

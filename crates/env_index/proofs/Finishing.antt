@@ -3,11 +3,9 @@ use Rattle.std.proofs.Common.{◌≡◌, ◌≢◌, ℕ, ◌≤◌, List, true, 
 use Rattle.std.proofs.lemmas.Result.{IfOk-weaker}
 use Rattle.x12_bytes.specs.HeaderTest.{is_head}
 use Rattle.x12_bytes.specs.declared.delims.Delims.{Delims}
-use Rattle.x12_segs.specs.Segs.{Seg}
-use Rattle.x12_segs.specs.View.{SegValue}
+use Rattle.x12_segs.specs.Words.{Seg, SegValue, kind_of}
 use Rattle.x12_segs.specs.declared.part.Part.TheVariants.{Segment, Rest}
 use Rattle.hub_kinds.specs.declared.memory.NoMemory.{NoMemory}
-use Rattle.x12_segs.specs.Kinds.{kind_of}
 use Rattle.x12_segs.specs.declared.kind.Kind.{Kind}
 use Rattle.x12_segs.specs.declared.kind.Kind.TheVariants.{InterchangeTrailer}
 use Rattle.env_index.specs.declared.places.BodyPlace.{BodyPlace}

@@ -8,9 +8,7 @@ use Rattle.std.proofs.lemmas.Bool.{cases_lt}
 use Rattle.std.proofs.Props.{props}
 use Rattle.std.proofs.Math.Logic.{∥∥₁_elim, ∥∥₁_map}
 use Rattle.memchr.specs.Find.{IsFirstByte, is_byte}
-use Rattle.x12_segs.specs.Parts.{parts}
-use Rattle.x12_segs.specs.Segs.{Seg, seg_at, segs_of, segs_from, rest_from, segs_within}
-use Rattle.x12_segs.specs.Scan.{IsNextPart, LiesIn}
+use Rattle.x12_segs.specs.Words.{parts, Seg, seg_at, segs_of, segs_from, rest_from, segs_within, IsNextPart, LiesIn}
 use Rattle.x12_segs.specs.declared.part.Part.TheVariants.{Segment}
 use Rattle.x12_segs.proofs.CutLemmas.{segs_from-cut, rest_from-cut, span_of, span-split}
 use Rattle.x12_segs.proofs.FirstLemmas.{IsFirstSeg, first_seg, first_byte}

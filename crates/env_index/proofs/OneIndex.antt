@@ -3,7 +3,7 @@ use Rattle.std.proofs.Common.{◌≡◌, ℕ, List, [], ◌∷◌, Option, refl,
 use Rattle.std.specs.List.{All}
 use Rattle.std.proofs.lemmas.List.Elements.{All-head, All-tail}
 use Rattle.hub_kinds.specs.declared.interchange.InterchangeFault.{InterchangeFault}
-use Rattle.x12_segs.specs.Kinds.{kind_of}
+use Rattle.x12_segs.specs.Words.{kind_of}
 use Rattle.env_index.specs.Envelope.{Derives}
 use Rattle.env_index.specs.Extents.{Extent, reach_at, count_outside}
 use Rattle.env_index.specs.Faults.{fault_of}

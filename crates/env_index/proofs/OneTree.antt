@@ -3,7 +3,7 @@ use Rattle.std.proofs.Common.{◌≡◌, List, [], ◌∷◌, ◌++◌, Bool, tr
 use Rattle.std.proofs.Common.{◌⊎◌}
 use Rattle.std.specs.List.{flat_map, list_all}
 use Rattle.std.proofs.lemmas.Bool.{and_parts, both_ways}
-use Rattle.x12_segs.specs.Kinds.{is_inner}
+use Rattle.x12_segs.specs.Words.{is_inner}
 use Rattle.env_index.specs.Envelope.{Set, InGroup, ASet, OutOfGroup, Group, InBody, ATa1, AGroup, OutOfBody, Body, option_items}
 use Rattle.env_index.specs.Envelope.{set_items, in_group_items, group_items, in_body_items, ends_set, ends_group, is_out_of_group}
 use Rattle.env_index.specs.Envelope.{is_out_of_body, Closed, IsSet, AreMembers, IsGroup, AreBodyMembers, Derives}

@@ -7,9 +7,7 @@ use Rattle.std.proofs.lemmas.Option.{get_or_from_slice_get, slice_get_within}
 use Rattle.x12_bytes.specs.Header.{delims_of, header_at}
 use Rattle.x12_bytes.specs.HeaderTest.{is_head}
 use Rattle.x12_bytes.specs.declared.delims.Delims.{Delims}
-use Rattle.x12_segs.specs.View.{SegValue}
-use Rattle.x12_segs.specs.Kinds.{kind_of}
-use Rattle.x12_segs.specs.Spans.{IsSetSpan}
+use Rattle.x12_segs.specs.Words.{SegValue, kind_of, IsSetSpan}
 use Rattle.env_index.specs.declared.entry.SetEnvelope.{SetEnvelope}
 use Rattle.env_index.specs.Envelope.{InGroup, ASet, OutOfGroup, InBody, ATa1, AGroup, OutOfBody, Body, Derives}
 use Rattle.env_index.specs.Extents.{reach_at}

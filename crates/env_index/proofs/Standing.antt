@@ -6,11 +6,8 @@ use Rattle.std.proofs.lemmas.List.{map-append}
 use Rattle.x12_bytes.specs.Header.{delims_of, header_at}
 use Rattle.x12_bytes.specs.HeaderTest.{is_head}
 use Rattle.x12_bytes.specs.declared.delims.Delims.{Delims}
-use Rattle.x12_segs.specs.Segs.{Seg, rest_from, segs_from, segs_within}
-use Rattle.x12_segs.specs.View.{SegValue, view_of}
-use Rattle.x12_segs.specs.Runs.{StandsAlone, start_of, end_of}
-use Rattle.x12_segs.specs.Spans.{span_segs, span_views, trailer_kinds}
-use Rattle.x12_segs.specs.Kinds.{kind_of, is_inner}
+use Rattle.x12_segs.specs.Words.{Seg, rest_from, segs_from, segs_within, SegValue, view_of, StandsAlone, start_of, end_of, span_segs}
+use Rattle.x12_segs.specs.Words.{span_views, trailer_kinds, kind_of, is_inner}
 use Rattle.x12_segs.specs.declared.kind.Kind.{Kind}
 use Rattle.x12_segs.specs.declared.kind.Kind.TheVariants.{SetHeader, SetTrailer}
 use Rattle.x12_segs.specs.declared.set_span.SetSpan.{SetSpan}

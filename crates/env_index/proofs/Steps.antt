@@ -1,7 +1,7 @@
 -- What has been read of an interchange so far, and what the segments to come make of it.
 use Rattle.std.proofs.Common.{◌≡◌, ◌≢◌, ℕ, ◌+◌, List, [], ◌∷◌, ◌++◌, Bool, true, false, ◌||◌, Option, Some, None, refl, sym, ap, ◌∙◌}
 use Rattle.std.proofs.Common.{arith, append_assoc}
-use Rattle.x12_segs.specs.View.{SegValue}
+use Rattle.x12_segs.specs.Words.{SegValue}
 use Rattle.x12_segs.specs.declared.kind.Kind.{Kind}
 use Rattle.x12_segs.specs.declared.kind.Kind.TheVariants.{InterchangeTrailer, GroupHeader, GroupTrailer, SetHeader, SetTrailer, Ta1}
 use Rattle.x12_segs.specs.declared.kind.Kind.TheVariants.{Other}

@@ -1,7 +1,7 @@
 -- Segments among which an IEA is the last derive a tree.
 use Rattle.std.proofs.Common.{◌≡◌, List, [], ◌∷◌, ◌++◌, Bool, true, ◌&&◌, Option, Some, None, refl, sym, ap, subst, ◌∙◌, append_assoc}
 use Rattle.std.specs.List.{flat_map, list_all}
-use Rattle.x12_segs.specs.Kinds.{is_inner}
+use Rattle.x12_segs.specs.Words.{is_inner}
 use Rattle.env_index.specs.Extents.{ends_interchange}
 use Rattle.env_index.specs.Mapped.{EndsWithTrailer}
 use Rattle.env_index.specs.Envelope.{Set, InGroup, ASet, OutOfGroup, Group, ATa1, AGroup, OutOfBody, Body, option_items, set_items}

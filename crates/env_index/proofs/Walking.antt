@@ -4,10 +4,8 @@ use Rattle.std.specs.List.{slice_range}
 use Rattle.std.proofs.lemmas.List.{length-take, length-drop}
 use Rattle.x12_bytes.specs.HeaderTest.{is_head}
 use Rattle.x12_bytes.specs.declared.delims.Delims.{Delims}
-use Rattle.x12_segs.specs.Segs.{Seg, seg_at}
-use Rattle.x12_segs.specs.View.{SegValue}
+use Rattle.x12_segs.specs.Words.{Seg, seg_at, SegValue, kind_of}
 use Rattle.x12_segs.specs.declared.part.Part.TheVariants.{Segment, Rest}
-use Rattle.x12_segs.specs.Kinds.{kind_of}
 use Rattle.x12_segs.specs.declared.kind.Kind.{Kind}
 use Rattle.x12_segs.specs.declared.kind.Kind.TheVariants.{InterchangeTrailer, GroupHeader, GroupTrailer, SetHeader, SetTrailer, Ta1}
 use Rattle.x12_segs.specs.declared.kind.Kind.TheVariants.{Other}

@@ -4,9 +4,7 @@ use Rattle.x12_bytes.specs.Header.{header_at, delims_of}
 use Rattle.x12_bytes.specs.HeaderTest.{is_head}
 use Rattle.x12_bytes.specs.declared.layout.TheConstants.{HEADER_LEN}
 use Rattle.x12_bytes.specs.declared.delims.Delims.{Delims}
-use Rattle.x12_segs.specs.Segs.{Seg, segs_from, rest_from}
-use Rattle.x12_segs.specs.View.{view_of}
-use Rattle.x12_segs.specs.Kinds.{kind_of}
+use Rattle.x12_segs.specs.Words.{Seg, segs_from, rest_from, view_of, kind_of}
 use Rattle.x12_segs.specs.declared.kind.Kind.TheVariants.{InterchangeTrailer}
 
 -- the offset behind the terminator of an IEA

@@ -3,7 +3,7 @@
 -- place, are own.
 use Rattle.std.specs.Prelude.{◌≡◌, List, [], ◌∷◌, ◌++◌, Bool, true, false, Option, Some, None}
 use Rattle.std.specs.List.{flat_map, list_all}
-use Rattle.x12_segs.specs.Kinds.{is_inner}
+use Rattle.x12_segs.specs.Words.{is_inner}
 use Rattle.x12_segs.specs.declared.kind.Kind.{Kind}
 use Rattle.x12_segs.specs.declared.kind.Kind.TheVariants.{InterchangeTrailer, GroupHeader, GroupTrailer, SetHeader, SetTrailer}
 use Rattle.x12_segs.specs.declared.kind.Kind.TheVariants.{Ta1, Other}

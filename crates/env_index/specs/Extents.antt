@@ -5,9 +5,7 @@ use Rattle.x12_bytes.specs.Header.{header_at, delims_of}
 use Rattle.x12_bytes.specs.HeaderTest.{is_head}
 use Rattle.x12_bytes.specs.declared.layout.TheConstants.{HEADER_LEN}
 use Rattle.x12_bytes.specs.declared.delims.Delims.{Delims}
-use Rattle.x12_segs.specs.Segs.{Seg, segs_from, rest_from}
-use Rattle.x12_segs.specs.View.{SegValue, view_of}
-use Rattle.x12_segs.specs.Kinds.{kind_of}
+use Rattle.x12_segs.specs.Words.{Seg, segs_from, rest_from, SegValue, view_of, kind_of}
 use Rattle.x12_segs.specs.declared.kind.Kind.{Kind}
 use Rattle.x12_segs.specs.declared.kind.Kind.TheVariants.{InterchangeTrailer, GroupHeader, GroupTrailer, SetHeader, SetTrailer}
 use Rattle.x12_segs.specs.declared.kind.Kind.TheVariants.{Ta1, Other}

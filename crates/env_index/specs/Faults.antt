@@ -4,9 +4,8 @@ use Rattle.std.specs.Prelude.{ℕ, Bool, false, not, ◌&&◌, ◌==◌, List, l
 use Rattle.std.specs.List.{list_all}
 use Rattle.std.specs.Char.{is_ascii_uppercase}
 use Rattle.x12_bytes.specs.Header.{field_of}
-use Rattle.x12_segs.specs.View.{SegValue, element_of}
-use Rattle.hub_kinds.specs.Numbers.{is_number, number_of}
-use Rattle.hub_kinds.specs.Words.{is_word}
+use Rattle.x12_segs.specs.Words.{SegValue, element_of}
+use Rattle.hub_kinds.specs.Words.{is_number, number_of, is_word}
 use Rattle.hub_kinds.specs.declared.interchange.InterchangeFault.{InterchangeFault}
 use Rattle.hub_kinds.specs.declared.interchange.InterchangeFault.TheVariants.{TrailerMissing, ControlNumberInvalid}
 use Rattle.hub_kinds.specs.declared.interchange.InterchangeFault.TheVariants.{ControlNumbersDiffer, GroupCountWrong}

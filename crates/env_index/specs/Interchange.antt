@@ -1,7 +1,7 @@
 -- X12.5, interchange: its header, where it stands, and what the index keeps of its envelopes.
 use Rattle.std.specs.Prelude.{ℕ, List}
 use Rattle.x12_bytes.specs.Header.{header_at}
-use Rattle.x12_segs.specs.View.{SegValue}
+use Rattle.x12_segs.specs.Words.{SegValue}
 use Rattle.env_index.specs.Envelope.{Body}
 use Rattle.env_index.specs.Extents.{reach_at}
 use Rattle.env_index.specs.Summary.{Summary, summary_of}

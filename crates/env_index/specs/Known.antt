@@ -1,6 +1,6 @@
 -- X12.6, segment: segments that are known by their offsets (for the walk's own clauses, but for `AreMarks`).
 use Rattle.std.specs.Prelude.{ℕ, ◌≡◌, ◌+◌, ◌<◌, ◌≤◌, List, [], ◌∷◌, length, get_or}
-use Rattle.x12_segs.specs.Scan.{IsNextPart, LiesIn}
+use Rattle.x12_segs.specs.Words.{IsNextPart, LiesIn}
 use Rattle.x12_segs.specs.declared.part.Part.TheVariants.{Segment}
 use Rattle.env_marks.specs.declared.frag.Mark.{Mark}
 use Rattle.env_marks.specs.Marking.{MarksValue, marks_of}

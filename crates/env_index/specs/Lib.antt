@@ -17,3 +17,4 @@ pub mod Source
 pub mod Spans
 pub mod Summary
 pub mod Unjudged
+pub mod Words

@@ -4,9 +4,8 @@ use Rattle.std.specs.Prelude.{◌≡◌, ℕ, ◌+◌, List, [], ◌∷◌, ◌+
 use Rattle.std.specs.Ordering.{nat_cmp, is_lt}
 use Rattle.std.specs.Cmp.Lexicographic.{slice_cmp}
 use Rattle.x12_bytes.specs.Header.{field_of}
-use Rattle.x12_segs.specs.View.{element_of}
-use Rattle.hub_kinds.specs.Numbers.{number_of}
-use Rattle.hub_kinds.specs.Place.{place_key}
+use Rattle.x12_segs.specs.Words.{element_of}
+use Rattle.hub_kinds.specs.Words.{number_of, place_key}
 use Rattle.hub_kinds.specs.declared.limits.TheConstants.{MOST_CONTROL_DIGITS}
 use Rattle.hub_kinds.specs.declared.place.Place.{Place}
 use Rattle.env_index.specs.declared.entry.SetEnvelope.{SetEnvelope}

@@ -1,8 +1,7 @@
 -- X12.6, segment: what one part takes away from the segments still to come (for the walk's own clauses; no public clause cites it).
 use Rattle.std.specs.Prelude.{ℕ, ◌≡◌, ◌+◌, List, [], ◌∷◌, length, map}
 use Rattle.x12_bytes.specs.declared.delims.Delims.{Delims}
-use Rattle.x12_segs.specs.Segs.{Seg, seg_at}
-use Rattle.x12_segs.specs.View.{view_of}
+use Rattle.x12_segs.specs.Words.{Seg, seg_at, view_of}
 use Rattle.x12_segs.specs.declared.part.Part.{Part}
 use Rattle.x12_segs.specs.declared.part.Part.TheVariants.{Segment, Rest}
 use Rattle.env_index.specs.Extents.{Reach, reach_of}

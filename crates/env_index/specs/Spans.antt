@@ -4,8 +4,7 @@ use Rattle.std.specs.List.{All}
 use Rattle.x12_bytes.specs.Header.{delims_of}
 use Rattle.x12_bytes.specs.declared.delims.Delims.{Delims}
 use Rattle.x12_segs.specs.declared.set_span.SetSpan.{SetSpan}
-use Rattle.x12_segs.specs.View.{SegValue}
-use Rattle.x12_segs.specs.Spans.{IsSetSpan, span_views}
+use Rattle.x12_segs.specs.Words.{SegValue, IsSetSpan, span_views}
 use Rattle.env_index.specs.declared.entry.SetEnvelope.{SetEnvelope}
 use Rattle.env_index.specs.Envelope.{Set, InGroup, ASet, OutOfGroup, InBody, ATa1, AGroup, OutOfBody, set_items}
 use Rattle.env_index.specs.Interchange.{InterchangeEntry}

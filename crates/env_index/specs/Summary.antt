@@ -1,6 +1,6 @@
 -- X12.5, interchange, and X12.6, functional group and transaction set: what the index keeps of an interchange's envelopes.
 use Rattle.std.specs.Prelude.{ℕ, ◌+◌, List, [], ◌∷◌, Bool, true, false, ◌||◌, Option, length}
-use Rattle.x12_segs.specs.View.{SegValue}
+use Rattle.x12_segs.specs.Words.{SegValue}
 use Rattle.env_index.specs.Envelope.{Set, InGroup, ASet, OutOfGroup, Group, InBody, ATa1, AGroup, OutOfBody, Body, set_items}
 use Rattle.env_index.specs.Extents.{behind_last}
 use Rattle.env_index.specs.declared.entry.SetEnvelope.{SetEnvelope}

@@ -1,8 +1,7 @@
 ghost use Rattle.std.specs.Prelude.{◌≡◌, ℕ, Bool, List, true};
 ghost use Rattle.x12_bytes.specs.Header.{delims_of, header_at};
 ghost use Rattle.x12_bytes.specs.HeaderTest.{is_head};
-ghost use Rattle.x12_segs.specs.View.{SegValue};
-ghost use Rattle.x12_segs.specs.Kinds.{kind_of};
+ghost use Rattle.x12_segs.specs.Words.{SegValue, kind_of};
 ghost use Rattle.env_index.specs.Envelope.{Body, Derives};
 ghost use Rattle.x12_segs.specs.declared.kind.Kind.{Kind};
 ghost use Rattle.env_index.specs.Mapped.{EndsWithTrailer, KeepsKinds, MapsTrees, MapsTreesBack};

@@ -1,8 +1,7 @@
 ghost use Rattle.std.specs.Prelude.{◌≡◌, ◌≤◌, IfOk, IfSome, MatchOption, length};
 ghost use Rattle.std.specs.List.{prefix_len};
 ghost use Rattle.hub_kinds.specs.declared.limits.TheConstants.{LONGEST_TEXT};
-ghost use Rattle.x12_segs.specs.View.{SegValue};
-ghost use Rattle.x12_segs.specs.Kinds.{kind_of};
+ghost use Rattle.x12_segs.specs.Words.{SegValue, kind_of};
 ghost use Rattle.env_index.specs.Envelope.{Body, Derives};
 ghost use Rattle.env_index.specs.Extents.{Extent, is_filler, reach_at};
 ghost use Rattle.env_index.specs.Interchange.{interchange_of};

@@ -1,7 +1,6 @@
 ghost use Rattle.std.specs.Prelude.{◌≡◌, ◌-◌, ◌≤◌, ◌<◌, ℕ, List, get_or, length};
 ghost use Rattle.std.specs.List.{All};
-ghost use Rattle.x12_segs.specs.Scan.{IsNextPart, LiesIn};
-ghost use Rattle.x12_segs.specs.Segs.{segs_from, rest_from};
+ghost use Rattle.x12_segs.specs.Words.{IsNextPart, LiesIn, segs_from, rest_from};
 ghost use Rattle.env_index.specs.Known.{AreMarks, AreNext};
 ghost use Rattle.env_index.specs.Source.{GoesOnBehind};
 

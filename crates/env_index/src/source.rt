@@ -1,6 +1,5 @@
 ghost use Rattle.std.specs.Prelude.{◌≡◌, ◌+◌, ◌≤◌, ℕ, List, length};
-ghost use Rattle.x12_segs.specs.Scan.{LiesIn};
-ghost use Rattle.x12_segs.specs.Segs.{Seg, segs_from, rest_from};
+ghost use Rattle.x12_segs.specs.Words.{LiesIn, Seg, segs_from, rest_from};
 ghost use Rattle.env_index.specs.Source.{TakesPart, GoesOnBehind};
 
 use x12_segs::{Part, next_part};

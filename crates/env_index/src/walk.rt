@@ -2,9 +2,7 @@ ghost use Rattle.std.specs.Prelude.{◌≡◌, ◌≤◌, IfOk, length, if◌the
 ghost use Rattle.hub_kinds.specs.declared.limits.TheConstants.{LONGEST_TEXT};
 ghost use Rattle.x12_bytes.specs.declared.layout.TheConstants.{HEADER_LEN};
 ghost use Rattle.x12_bytes.specs.HeaderTest.{is_head};
-ghost use Rattle.x12_segs.specs.View.{SegValue};
-ghost use Rattle.x12_segs.specs.Kinds.{kind_of};
-ghost use Rattle.x12_segs.specs.Letters.{is_control_letter};
+ghost use Rattle.x12_segs.specs.Words.{SegValue, kind_of, is_control_letter};
 ghost use Rattle.env_index.specs.Envelope.{Body, Derives};
 ghost use Rattle.env_index.specs.Source.{reach_over};
 ghost use Rattle.env_index.specs.Places.{body_in};

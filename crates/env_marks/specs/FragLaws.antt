@@ -8,7 +8,7 @@ use Rattle.std.proofs.lemmas.Bool.{cases_lt}
 use Rattle.std.proofs.lemmas.List.{length-drop}
 use Rattle.x12_segs.proofs.SegLemmas.{part_at-some, part_at-none}
 use Rattle.x12_bytes.specs.Bytes.{is_line_end}
-use Rattle.x12_segs.specs.Segs.{Seg, part_at}
+use Rattle.x12_segs.specs.Words.{Seg, part_at}
 use Rattle.env_marks.specs.declared.frag.Frag.{Frag}
 use Rattle.env_marks.specs.declared.frag.Mark.{Mark}
 use Rattle.env_marks.specs.Frags.{stop_at, id_stop, is_other_than, frag_of, both_frags, id_end_of_both, mark_by, marks_in}

@@ -7,8 +7,7 @@ use Rattle.std.proofs.Common.{append_assoc, arith, ap, sym, refl, ◌∙◌, con
 use Rattle.std.proofs.lemmas.List.{map-append, length-append, length-take-le, length-drop}
 use Rattle.std.proofs.lemmas.List.Splits.{length-slice_split}
 use Rattle.x12_bytes.specs.declared.pair.Pair.{Pair}
-use Rattle.x12_segs.specs.Parts.{parts}
-use Rattle.x12_segs.specs.Segs.{Seg, part_at, segs_of}
+use Rattle.x12_segs.specs.Words.{parts, Seg, part_at, segs_of}
 use Rattle.x12_segs.proofs.CutLemmas.{span_of, span-split}
 use Rattle.x12_segs.proofs.SegLemmas.{segs_of-cons}
 use Rattle.env_marks.specs.declared.frag.Mark.{Mark}

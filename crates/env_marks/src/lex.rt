@@ -2,8 +2,7 @@ ghost use Rattle.std.specs.Prelude.{◌≡◌, ◌+◌, ◌<◌, ◌≤◌, ◌+
 ghost use Rattle.std.specs.List.{prefix_len};
 ghost use Rattle.memchr.specs.Find.{IsFirstByte, is_byte};
 ghost use Rattle.x12_bytes.specs.Bytes.{is_line_end};
-ghost use Rattle.x12_segs.specs.Parts.{parts};
-ghost use Rattle.x12_segs.specs.Segs.{part_at, segs_of};
+ghost use Rattle.x12_segs.specs.Words.{parts, part_at, segs_of};
 ghost use Rattle.env_marks.specs.Frags.{frag_of, id_stop, is_other_than, stop_at};
 ghost use Rattle.env_marks.specs.Marking.{mark_of, last_of, marks_of};
 

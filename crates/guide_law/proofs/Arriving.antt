@@ -7,12 +7,9 @@ use Rattle.hub_kinds.specs.declared.fault.Fault.{Fault}
 use Rattle.hub_kinds.specs.declared.codes.SegmentCode.{SegmentCode}
 use Rattle.hub_kinds.specs.declared.codes.SegmentCode.TheVariants as ik304
 use Rattle.guide_tree.specs.declared.slot.Slot.{Slot}
-use Rattle.guide_tree.specs.Tree.{Tree, Trees, segment, loop, no_trees, tree}
-use Rattle.guide_tree.specs.Places.{Pair, Place, IsFirst, Follows, MayCome, slot_in, slot_nth}
-use Rattle.guide_tree.specs.Ambiguity.{IsPlaceOrBeginning}
-use Rattle.guide_tree.specs.Structure.{node_nth, node_at, loop_id_at, IsBefore, past_code}
-use Rattle.guide_tree.specs.Pass.{fault_of, past, too_few, unused, entered, ended_in, stepped_in, stepped}
-use Rattle.guide_tree.specs.Pass.{step_faults, end_faults}
+use Rattle.guide_tree.specs.Words.{Tree, Trees, segment, loop, no_trees, tree, Pair, Place, IsFirst, Follows, MayCome, slot_in, slot_nth}
+use Rattle.guide_tree.specs.Words.{IsPlaceOrBeginning, node_nth, node_at, loop_id_at, IsBefore, past_code, fault_of, past, too_few}
+use Rattle.guide_tree.specs.Words.{unused, entered, ended_in, stepped_in, stepped, step_faults, end_faults}
 use Rattle.guide_tree.proofs.Among.{In}
 use Rattle.guide_law.proofs.Cases.{pick}
 use Rattle.guide_law.proofs.Among.{in_left, in_right}

@@ -8,20 +8,15 @@ use Rattle.std.specs.List.{AllByRecursion}
 use Rattle.hub_kinds.specs.declared.fault.Fault.{Fault}
 use Rattle.hub_kinds.specs.declared.codes.SegmentCode.TheVariants as ik304
 use Rattle.guide_tree.specs.declared.slot.Slot.{Slot}
-use Rattle.guide_tree.specs.Tree.{Tree, Trees, segment, loop, no_trees, tree, GuideTree, min_of, max_of}
-use Rattle.guide_tree.specs.Segments.{Segment}
-use Rattle.guide_tree.specs.Structure.{past_code, few_code}
-use Rattle.guide_tree.specs.Places.{Pair, Place, IsFirst, Follows, IsPlacing, slot_in, slot_nth}
+use Rattle.guide_tree.specs.Words.{Tree, Trees, segment, loop, no_trees, tree, GuideTree, min_of, max_of, Segment, past_code, few_code}
+use Rattle.guide_tree.specs.Words.{Pair, Place, IsFirst, Follows, IsPlacing, slot_in, slot_nth, IsDerived, IsWellFormed, placing_of}
+use Rattle.guide_tree.specs.Words.{fault_of, missing, too_few, past, unused, entered, ended_in, ended, stepped_in, stepped, pass}
+use Rattle.guide_tree.specs.Words.{structure_faults}
 use Rattle.guide_law.proofs.Residual.{Triggered, AllTriggered, MayBeEmpty, IsStart, Enters, Closes, Ends, StepsIn, Steps, IsMetFrom, IsMet}
-use Rattle.guide_tree.specs.Grammar.{IsDerived}
-use Rattle.guide_tree.specs.Faults.{IsWellFormed}
 use Rattle.guide_law.proofs.Placed.{triggers}
 use Rattle.guide_law.proofs.Meeting.{met_derived}
-use Rattle.guide_tree.specs.Nexts.{placing_of}
 use Rattle.guide_law.specs.Law.{PassIsGrammar}
 use Rattle.guide_law.proofs.Computed.{is_placing}
-use Rattle.guide_tree.specs.Pass.{fault_of, missing, too_few, past, unused, entered, ended_in, ended}
-use Rattle.guide_tree.specs.Pass.{stepped_in, stepped, pass, structure_faults}
 use Rattle.guide_law.proofs.Starting.{first_segment}
 use Rattle.guide_law.proofs.Coming.{follow_child, next_same, next_later}
 use Rattle.guide_law.proofs.Passing.{derived_clean}

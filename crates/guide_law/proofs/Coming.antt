@@ -3,11 +3,11 @@ use Rattle.std.proofs.Common.{◌≡◌, ℕ, zero, suc, ◌+◌, ◌<◌, ◌�
 use Rattle.std.proofs.Common.{Option, Some, None, refl, ap, sym, subst, ◌∙◌, arith, if◌then◌else◌}
 use Rattle.guide_tree.specs.declared.slot.Slot.{Slot}
 use Rattle.guide_tree.specs.declared.node.Loop.{Loop}
-use Rattle.guide_tree.specs.Tree.{Tree, Trees, segment, loop, no_trees, tree}
-use Rattle.guide_tree.specs.Places.{Pair, Place, use_of, IsNext, MayRepeat, Follows, MayCome, slot_in, slot_nth, slot_at}
+use Rattle.guide_tree.specs.Words.{Tree, Trees, segment, loop, no_trees, tree, Pair, Place, use_of, IsNext, MayRepeat, Follows, MayCome}
+use Rattle.guide_tree.specs.Words.{slot_in, slot_nth, slot_at, Candidate, into, start_of, starts, may_repeat, again, nexts_in, nexts_from}
+use Rattle.guide_tree.specs.Words.{nexts}
 use Rattle.std.proofs.lemmas.Bool.Decides.{nat_tests}
 use Rattle.guide_law.proofs.Residual.{Triggered, AllTriggered}
-use Rattle.guide_tree.specs.Nexts.{Candidate, into, start_of, starts, may_repeat, again, nexts_in, nexts_from, nexts}
 use Rattle.guide_law.proofs.Among.{in_left, in_right, in_cases, in_map, in_mapped}
 use Rattle.guide_law.proofs.Starting.{slot_by, start_first, candidate, start_there}
 use Rattle.guide_law.proofs.Starting.{Begun, starts_there, starts_begin}

@@ -1,11 +1,9 @@
 -- The computed placing is a placing.
 use Rattle.std.proofs.Common.{◌≡◌, inl, inr, Bool, true, false, List, [], ◌∷◌, Option, Some, None, refl, ap, sym, subst}
 use Rattle.std.proofs.Common.{◌∙◌, if◌then◌else◌, option_map}
-use Rattle.guide_tree.specs.Tree.{Trees, GuideTree, or_else}
-use Rattle.guide_tree.specs.Segments.{Segment, fits}
-use Rattle.guide_tree.specs.Places.{Place, MayCome, FitsAt, IsPlacing}
+use Rattle.guide_tree.specs.Words.{Trees, GuideTree, or_else, Segment, fits, Place, MayCome, FitsAt, IsPlacing, Candidate, nexts}
+use Rattle.guide_tree.specs.Words.{first_fit, place_of, placing_from, placing_of}
 use Rattle.guide_law.proofs.Residual.{AllTriggered}
-use Rattle.guide_tree.specs.Nexts.{Candidate, nexts, first_fit, place_of, placing_from, placing_of}
 use Rattle.guide_law.specs.Law.{NextsAreExact, IsPlacedOneWay, IsOnlyPlacing}
 use Rattle.guide_law.proofs.Among.{in_contains, contains_in}
 use Rattle.guide_law.proofs.Starting.{candidate}

@@ -4,8 +4,7 @@ use Rattle.std.proofs.Common.{◌∙◌, subst, arith}
 use Rattle.std.specs.Prelude.{◌==◌, ◌&&◌, ◌||◌, nat_lt, if◌then◌else◌, IfSome}
 use Rattle.std.specs.Cmp.Derive.{both_true}
 use Rattle.std.proofs.lemmas.Bool.{and_parts, or_left, or_right, eq-eqb, or_cases, cases_Bool, eqb-true, ltb-true, lt-ltb, false≢true}
-use Rattle.guide_tree.specs.Places.{Pair, Place}
-use Rattle.guide_tree.specs.Structure.{Begins, Has, IsFirstAt, IsNowhere, IsBefore, IsBehind, IsReportedAt}
+use Rattle.guide_tree.specs.Words.{Pair, Place, Begins, Has, IsFirstAt, IsNowhere, IsBefore, IsBehind, IsReportedAt}
 use Rattle.guide_tree.proofs.Pairs.{pair_is}
 
 abbrev pub same : Pair → Pair → Bool

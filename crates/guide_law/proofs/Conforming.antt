@@ -3,14 +3,8 @@
 use Rattle.std.proofs.Common.{◌≡◌, ℕ, inl, List, [], ◌∷◌, map, Option, Some, None, refl, sym, ◌∙◌, ap, subst}
 use Rattle.hub_kinds.specs.declared.fault.Fault.{Fault}
 use Rattle.guide_tree.specs.declared.slot.Slot.{Slot}
-use Rattle.guide_tree.specs.Tree.{Trees, GuideTree}
-use Rattle.guide_tree.specs.Segments.{Segment}
-use Rattle.guide_tree.specs.Faults.{IsWellFormed}
-use Rattle.guide_tree.specs.Places.{Place, slot_at, slot_given, IsPlacing}
-use Rattle.guide_tree.specs.Structure.{IsStructureFault}
-use Rattle.guide_tree.specs.Grammar.{Given}
-use Rattle.guide_tree.specs.Nexts.{placing_of}
-use Rattle.guide_tree.specs.Pass.{structure_faults}
+use Rattle.guide_tree.specs.Words.{Trees, GuideTree, Segment, IsWellFormed, Place, slot_at, slot_given, IsPlacing, IsStructureFault}
+use Rattle.guide_tree.specs.Words.{Given, placing_of, structure_faults}
 use Rattle.guide_tree.proofs.Among.{In}
 use Rattle.guide_law.specs.Law.{DerivedIsPlaced, PlacedIsDerived, DerivedHasPlacing}
 use Rattle.guide_law.proofs.Among.{in_contains, contains_in}

@@ -2,7 +2,7 @@
 use Rattle.std.proofs.Common.{◌≡◌, ◌≢◌, ℕ, ◌⊎◌, inl, inr, [], ◌∷◌}
 use Rattle.std.proofs.Common.{refl, ap}
 use Rattle.std.proofs.lemmas.Bool.{cases_eq}
-use Rattle.guide_tree.specs.Places.{Pair, Place, use_of}
+use Rattle.guide_tree.specs.Words.{Pair, Place, use_of}
 use Rattle.guide_law.proofs.Cases.{pick}
 use Rattle.guide_tree.proofs.Pairs.{pair_is}
 

@@ -4,10 +4,8 @@ use Rattle.std.proofs.Common.{arith, append_assoc}
 use Rattle.std.specs.List.{AllByRecursion}
 use Rattle.guide_tree.specs.declared.slot.Slot.{Slot}
 use Rattle.guide_tree.specs.declared.node.Loop.{Loop}
-use Rattle.guide_tree.specs.Segments.{fits}
-use Rattle.guide_tree.specs.Tree.{Tree, Trees, segment, loop, no_trees, tree}
-use Rattle.guide_tree.specs.Grammar.{Given, IsPart, Derives, joined}
-use Rattle.guide_tree.specs.Places.{Place, use_of, slot_in, slot_nth}
+use Rattle.guide_tree.specs.Words.{fits, Tree, Trees, segment, loop, no_trees, tree, Given, IsPart, Derives, joined, Place, use_of}
+use Rattle.guide_tree.specs.Words.{slot_in, slot_nth}
 use Rattle.guide_law.proofs.Residual.{Triggered, AllTriggered, AfterIn, After, IsStart, Enters}
 
 -- a part begins with a segment at the part's start, and the rest of the part comes after it

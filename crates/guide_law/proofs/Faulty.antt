@@ -2,14 +2,9 @@
 use Rattle.std.proofs.Common.{◌≡◌, ℕ, zero, suc, ◌+◌, ◌-◌, ◌⊎◌, inl, inr, List, [], ◌∷◌, Option, None, refl, sym, ◌∙◌}
 use Rattle.hub_kinds.specs.declared.fault.Fault.{Fault}
 use Rattle.hub_kinds.specs.declared.codes.SegmentCode.{SegmentCode}
-use Rattle.guide_tree.specs.Tree.{Tree, Trees, segment, loop, no_trees, tree, GuideTree, min_of}
-use Rattle.guide_tree.specs.Segments.{Segment}
-use Rattle.guide_tree.specs.Faults.{IsWellFormed}
-use Rattle.guide_tree.specs.Places.{Place}
-use Rattle.guide_tree.specs.Structure.{node_in, node_nth, node_at, loop_id_at, node_fault, Begins, Has, IsBehind, past_code}
-use Rattle.guide_tree.specs.Structure.{IsThere, IsPast, IsShort, IsStructureFault}
-use Rattle.guide_tree.specs.Nexts.{placing_of}
-use Rattle.guide_tree.specs.Pass.{fault_of, structure_faults}
+use Rattle.guide_tree.specs.Words.{Tree, Trees, segment, loop, no_trees, tree, GuideTree, min_of, Segment, IsWellFormed, Place, node_in}
+use Rattle.guide_tree.specs.Words.{node_nth, node_at, loop_id_at, node_fault, Begins, Has, IsBehind, past_code, IsThere, IsPast, IsShort}
+use Rattle.guide_tree.specs.Words.{IsStructureFault, placing_of, fault_of, structure_faults}
 use Rattle.guide_law.specs.Law.{MembersAreFaults}
 use Rattle.guide_law.proofs.Cases.{pick}
 use Rattle.guide_law.proofs.Among.{in_contains, contains_in}

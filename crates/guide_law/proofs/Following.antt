@@ -2,8 +2,7 @@
 use Rattle.std.proofs.Common.{◌≡◌, ℕ, zero, suc, ◌+◌, ◌≤◌, inl, inr, [], ◌∷◌, Bool, true, false, refl}
 use Rattle.std.proofs.Common.{sym, ◌∙◌, ap, subst, arith}
 use Rattle.std.specs.List.{AllByRecursion}
-use Rattle.guide_tree.specs.Tree.{Tree, Trees, segment, loop, no_trees, tree, max_of}
-use Rattle.guide_tree.specs.Places.{Place, use_of, IsFirst, IsNext, Follows}
+use Rattle.guide_tree.specs.Words.{Tree, Trees, segment, loop, no_trees, tree, max_of, Place, use_of, IsFirst, IsNext, Follows}
 use Rattle.guide_law.proofs.Residual.{HasTrigger, Triggered, AllTriggered, IsStart, Enters, StepsIn, Steps}
 
 start_first : (t : Tree) (w : Place) → IsStart t w → AllByRecursion IsFirst w

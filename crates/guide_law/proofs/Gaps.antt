@@ -3,10 +3,7 @@ use Rattle.std.proofs.Common.{◌≡◌, ℕ, zero, suc, ◌+◌, ◌≤◌, ◌
 use Rattle.std.proofs.Common.{Some, None, Bool, true, false, sym, ap, ◌∙◌, subst, arith}
 use Rattle.std.proofs.lemmas.Bool.{cases_lt}
 use Rattle.std.specs.List.{AllByRecursion}
-use Rattle.guide_tree.specs.Tree.{Trees}
-use Rattle.guide_tree.specs.Segments.{Segment}
-use Rattle.guide_tree.specs.Places.{Pair, Place, use_of, IsFirst, IsNext, Follows, IsPlacing}
-use Rattle.guide_tree.specs.Structure.{Begins, Has}
+use Rattle.guide_tree.specs.Words.{Trees, Segment, Pair, Place, use_of, IsFirst, IsNext, Follows, IsPlacing, Begins, Has}
 use Rattle.guide_law.proofs.Cases.{pick}
 use Rattle.guide_tree.proofs.Pairs.{pair_is}
 

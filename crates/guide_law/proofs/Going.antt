@@ -7,10 +7,9 @@ use Rattle.hub_kinds.specs.declared.fault.Fault.{Fault}
 use Rattle.hub_kinds.specs.declared.codes.SegmentCode.{SegmentCode}
 use Rattle.hub_kinds.specs.declared.codes.SegmentCode.TheVariants as ik304
 use Rattle.guide_tree.specs.declared.slot.Slot.{Slot}
-use Rattle.guide_tree.specs.Tree.{Tree, Trees, segment, loop, no_trees, tree, min_of, max_of}
-use Rattle.guide_tree.specs.Places.{Pair, Place, use_of, IsFirst, Follows, slot_in, slot_nth}
-use Rattle.guide_tree.specs.Structure.{node_in, node_nth, Begins, IsBehind, past_code}
-use Rattle.guide_tree.specs.Pass.{fault_of, too_few, past, entered, ended_in, stepped_in, stepped}
+use Rattle.guide_tree.specs.Words.{Tree, Trees, segment, loop, no_trees, tree, min_of, max_of, Pair, Place, use_of, IsFirst, Follows}
+use Rattle.guide_tree.specs.Words.{slot_in, slot_nth, node_in, node_nth, Begins, IsBehind, past_code, fault_of, too_few, past, entered}
+use Rattle.guide_tree.specs.Words.{ended_in, stepped_in, stepped}
 use Rattle.guide_tree.proofs.Among.{In}
 use Rattle.guide_tree.proofs.Pairs.{pair_is}
 use Rattle.guide_law.proofs.Cases.{pick}

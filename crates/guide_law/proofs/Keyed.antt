@@ -5,15 +5,10 @@ use Rattle.std.specs.Prelude.{slice_get}
 use Rattle.hub_kinds.specs.declared.fault.Fault.{Fault}
 use Rattle.hub_kinds.specs.declared.codes.SegmentCode.{SegmentCode}
 use Rattle.hub_kinds.specs.declared.codes.SegmentCode.TheVariants as ik304
-use Rattle.hub_kinds.specs.Codes.{segment_rank}
-use Rattle.hub_kinds.specs.Fault.{key_of}
-use Rattle.guide_tree.specs.Tree.{Tree, Trees, segment, loop, no_trees, tree, GuideTree, number_of, count_in, node_count}
-use Rattle.guide_tree.specs.Tree.{numbered_in, numbered, with_slot_numbers}
-use Rattle.guide_tree.specs.Segments.{Segment, id_of}
-use Rattle.guide_tree.specs.Places.{Place, use_of}
-use Rattle.guide_tree.specs.Structure.{node_in, node_nth, node_at, loop_id_at, first_id, past_code, stray_code}
-use Rattle.guide_tree.specs.Structure.{IsPast, IsShort, IsStray, IsStructureFault}
-use Rattle.guide_tree.specs.Pass.{loop_of}
+use Rattle.hub_kinds.specs.Words.{segment_rank, key_of}
+use Rattle.guide_tree.specs.Words.{Tree, Trees, segment, loop, no_trees, tree, GuideTree, number_of, count_in, node_count, numbered_in}
+use Rattle.guide_tree.specs.Words.{numbered, with_slot_numbers, Segment, id_of, Place, use_of, node_in, node_nth, node_at, loop_id_at}
+use Rattle.guide_tree.specs.Words.{first_id, past_code, stray_code, IsPast, IsShort, IsStray, IsStructureFault, loop_of}
 use Rattle.guide_law.specs.Law.{FaultsAreKeyed}
 use Rattle.guide_law.proofs.Faulty.{fault_is}
 

@@ -6,10 +6,8 @@ use Rattle.hub_kinds.specs.declared.fault.Fault.{Fault}
 use Rattle.hub_kinds.specs.declared.codes.SegmentCode.{SegmentCode}
 use Rattle.hub_kinds.specs.declared.codes.SegmentCode.TheVariants as ik304
 use Rattle.guide_tree.specs.declared.slot.Slot.{Slot}
-use Rattle.guide_tree.specs.Tree.{Tree, Trees, segment, loop, no_trees, tree, min_of, max_of}
-use Rattle.guide_tree.specs.Places.{Pair, Place, use_of, slot_in, slot_nth}
-use Rattle.guide_tree.specs.Structure.{IsBehind, past_code, few_code}
-use Rattle.guide_tree.specs.Pass.{fault_of, missing, too_few, past, unused, entered, ended_in, ended}
+use Rattle.guide_tree.specs.Words.{Tree, Trees, segment, loop, no_trees, tree, min_of, max_of, Pair, Place, use_of, slot_in, slot_nth}
+use Rattle.guide_tree.specs.Words.{IsBehind, past_code, few_code, fault_of, missing, too_few, past, unused, entered, ended_in, ended}
 use Rattle.guide_tree.proofs.Among.{In}
 use Rattle.guide_tree.proofs.Pairs.{pair_is}
 use Rattle.guide_law.proofs.Cases.{pick}

@@ -2,13 +2,9 @@
 use Rattle.std.proofs.Common.{◌≡◌, ℕ, leb, List, [], ◌∷◌, map, Option, Some, None, true, false, refl}
 use Rattle.std.proofs.Common.{◌∙◌, ap, subst, arith}
 use Rattle.guide_tree.specs.declared.slot.Slot.{Slot}
-use Rattle.guide_tree.specs.Segments.{Segment, fits}
-use Rattle.guide_tree.specs.Tree.{Trees}
-use Rattle.guide_tree.specs.Grammar.{Given, Derives}
-use Rattle.guide_tree.specs.Places.{Place, use_of, slot_at, Follows, MayCome, FitsAt, IsPlacing}
+use Rattle.guide_tree.specs.Words.{Segment, fits, Trees, Given, Derives, Place, use_of, slot_at, Follows, MayCome, FitsAt, IsPlacing}
+use Rattle.guide_tree.specs.Words.{IsPlaceOrBeginning, IsAmbiguousAt, numbers_of}
 use Rattle.guide_law.proofs.Residual.{AllTriggered, After, IsMetFrom, IsMet}
-use Rattle.guide_tree.specs.Ambiguity.{IsPlaceOrBeginning, IsAmbiguousAt}
-use Rattle.guide_tree.specs.Rivals.{numbers_of}
 use Rattle.guide_tree.proofs.Ambiguous.{ordered}
 use Rattle.guide_tree.proofs.FitBoth.{fits_both}
 use Rattle.guide_law.proofs.Deciding.{place_same}

@@ -5,12 +5,8 @@ use Rattle.std.proofs.lemmas.Bool.{cases_lt}
 use Rattle.hub_kinds.specs.declared.fault.Fault.{Fault}
 use Rattle.hub_kinds.specs.declared.codes.SegmentCode.{SegmentCode}
 use Rattle.hub_kinds.specs.declared.codes.SegmentCode.TheVariants as ik304
-use Rattle.guide_tree.specs.Tree.{Tree, Trees, GuideTree, min_of}
-use Rattle.guide_tree.specs.Segments.{Segment}
-use Rattle.guide_tree.specs.Ambiguity.{IsPlaceOrBeginning}
-use Rattle.guide_tree.specs.Places.{Place, IsPlacing}
-use Rattle.guide_tree.specs.Structure.{node_at, loop_id_at, IsBehind, few_code}
-use Rattle.guide_tree.specs.Pass.{step_faults, stray_fault, pass}
+use Rattle.guide_tree.specs.Words.{Tree, Trees, GuideTree, min_of, Segment, IsPlaceOrBeginning, Place, IsPlacing, node_at, loop_id_at}
+use Rattle.guide_tree.specs.Words.{IsBehind, few_code, step_faults, stray_fault, pass}
 use Rattle.guide_tree.proofs.Among.{In}
 use Rattle.guide_law.proofs.Cases.{pick}
 use Rattle.guide_law.proofs.Among.{in_left, in_right, in_cases}

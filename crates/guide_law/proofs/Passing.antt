@@ -6,19 +6,13 @@ use Rattle.std.proofs.lemmas.Bool.{cond-false, cond-true}
 use Rattle.std.proofs.lemmas.Bool.Decides.{nat_tests}
 use Rattle.hub_kinds.specs.declared.fault.Fault.{Fault}
 use Rattle.hub_kinds.specs.declared.codes.SegmentCode.TheVariants as ik304
-use Rattle.guide_tree.specs.Tree.{Tree, Trees, segment, loop, no_trees, tree, GuideTree, min_of, max_of}
-use Rattle.guide_tree.specs.Segments.{Segment}
-use Rattle.guide_tree.specs.Structure.{past_code, few_code}
-use Rattle.guide_tree.specs.Places.{Place, use_of, IsPlacing}
+use Rattle.guide_tree.specs.Words.{Tree, Trees, segment, loop, no_trees, tree, GuideTree, min_of, max_of, Segment, past_code, few_code}
+use Rattle.guide_tree.specs.Words.{Place, use_of, IsPlacing, Given, Derives, IsWellFormed, placing_of, fault_of, missing, too_few, past}
+use Rattle.guide_tree.specs.Words.{unused, entered, ended_in, ended, stepped_in, stepped, pass, structure_faults}
 use Rattle.guide_law.proofs.Residual.{MayBeEmpty, Enters, Closes, Ends, StepsIn, Steps, IsMetFrom, IsMet}
-use Rattle.guide_tree.specs.Grammar.{Given, Derives}
-use Rattle.guide_tree.specs.Faults.{IsWellFormed}
 use Rattle.guide_law.proofs.Placed.{triggers, no_rivals}
 use Rattle.guide_law.proofs.Meeting.{derived_placed}
-use Rattle.guide_tree.specs.Nexts.{placing_of}
 use Rattle.guide_law.proofs.Computed.{is_placing}
-use Rattle.guide_tree.specs.Pass.{fault_of, missing, too_few, past, unused, entered, ended_in, ended}
-use Rattle.guide_tree.specs.Pass.{stepped_in, stepped, pass, structure_faults}
 
 none_both : (xs ys : List Fault) → xs ≡ [] → ys ≡ [] → xs ++ ys ≡ []
 none_both xs ys e f = ap (λ (l : List Fault). l ++ ys) e ∙ f

@@ -4,12 +4,8 @@ use Rattle.std.proofs.Common.{refl, sym, ◌∙◌, ap, subst, arith}
 use Rattle.std.proofs.lemmas.Bool.Decides.{nat_tests}
 use Rattle.guide_tree.specs.declared.fault.GuideFault.TheVariants as fault
 use Rattle.guide_tree.specs.declared.slot.Slot.{Slot}
-use Rattle.guide_tree.specs.Tree.{Tree, Trees, segment, loop, no_trees, tree, GuideTree, EachIn, EachNode}
-use Rattle.guide_tree.specs.Conditions.{is_once, has_trigger, is_triggered}
-use Rattle.guide_tree.specs.Faults.{IsWellFormed}
-use Rattle.guide_tree.specs.Ambiguity.{IsPlaceOrBeginning}
-use Rattle.guide_tree.specs.Segments.{Segment}
-use Rattle.guide_tree.specs.Places.{Place, IsPlacing}
+use Rattle.guide_tree.specs.Words.{Tree, Trees, segment, loop, no_trees, tree, GuideTree, EachIn, EachNode, is_once, has_trigger}
+use Rattle.guide_tree.specs.Words.{is_triggered, IsWellFormed, IsPlaceOrBeginning, Segment, Place, IsPlacing}
 use Rattle.guide_law.specs.Law.{IsPlacedOneWay}
 use Rattle.guide_tree.proofs.Judged.{each_passes}
 use Rattle.guide_law.proofs.Residual.{HasTrigger, Triggered, AllTriggered}

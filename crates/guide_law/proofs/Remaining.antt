@@ -6,11 +6,8 @@ use Rattle.std.proofs.lemmas.Bool.{cases_lt}
 use Rattle.hub_kinds.specs.declared.fault.Fault.{Fault}
 use Rattle.hub_kinds.specs.declared.codes.SegmentCode.{SegmentCode}
 use Rattle.hub_kinds.specs.declared.codes.SegmentCode.TheVariants as ik304
-use Rattle.guide_tree.specs.Tree.{Tree, Trees, min_of, max_of}
-use Rattle.guide_tree.specs.Segments.{Segment}
-use Rattle.guide_tree.specs.Places.{Place, IsPlacing}
-use Rattle.guide_tree.specs.Structure.{node_at, loop_id_at, Begins, Has, IsFirstAt, IsNowhere, IsBehind, past_code, few_code}
-use Rattle.guide_tree.specs.Pass.{fault_of}
+use Rattle.guide_tree.specs.Words.{Tree, Trees, min_of, max_of, Segment, Place, IsPlacing, node_at, loop_id_at, Begins, Has, IsFirstAt}
+use Rattle.guide_tree.specs.Words.{IsNowhere, IsBehind, past_code, few_code, fault_of}
 use Rattle.guide_law.proofs.Cases.{pick}
 use Rattle.guide_law.proofs.Gaps.{use_in, came_from, first_begins}
 use Rattle.guide_law.proofs.Rising.{Rises, Later, last_place, may_rise, has_later, first_later, begins_between, behind_later}

@@ -1,9 +1,8 @@
 -- What may still come after a place: the other half of a derivation.
 use Rattle.std.specs.Prelude.{ℕ, zero, suc, ◌+◌, ◌≡◌, ◌≤◌, ◌⊎◌, List, [], ◌∷◌, ◌++◌, length}
 use Rattle.std.specs.List.{AllByRecursion}
-use Rattle.guide_tree.specs.Tree.{Tree, Trees, segment, loop, no_trees, tree, min_of, max_of}
-use Rattle.guide_tree.specs.Grammar.{Given, IsPart, Derives, joined}
-use Rattle.guide_tree.specs.Places.{Place, IsFirst}
+use Rattle.guide_tree.specs.Words.{Tree, Trees, segment, loop, no_trees, tree, min_of, max_of, Given, IsPart, Derives, joined, Place}
+use Rattle.guide_tree.specs.Words.{IsFirst}
 
 -- the first child of each loop is a segment that stands there exactly once
 abbrev pub HasTrigger : Trees → Type 0

@@ -4,10 +4,8 @@ use Rattle.std.proofs.Common.{subst, arith, append_assoc}
 use Rattle.std.proofs.lemmas.Option.{same_Some}
 use Rattle.guide_tree.specs.declared.slot.Slot.{Slot}
 use Rattle.guide_tree.specs.declared.node.Loop.{Loop}
-use Rattle.guide_tree.specs.Segments.{fits}
-use Rattle.guide_tree.specs.Tree.{Tree, Trees, segment, loop, no_trees, tree}
-use Rattle.guide_tree.specs.Grammar.{Given, IsPart, Derives, joined}
-use Rattle.guide_tree.specs.Places.{Place, slot_in, slot_nth}
+use Rattle.guide_tree.specs.Words.{fits, Tree, Trees, segment, loop, no_trees, tree, Given, IsPart, Derives, joined, Place, slot_in}
+use Rattle.guide_tree.specs.Words.{slot_nth}
 use Rattle.guide_law.proofs.Residual.{Triggered, AllTriggered, AfterIn, After, IsStart, Enters, MayBeEmpty, Closes}
 use Rattle.guide_law.proofs.Residual.{Ends, StepsIn, Steps}
 

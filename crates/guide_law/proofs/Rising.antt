@@ -2,10 +2,8 @@
 -- all is the beginning.
 use Rattle.std.proofs.Common.{◌≡◌, ℕ, zero, suc, ◌+◌, ◌<◌, ◌≤◌, ◌⊎◌, inl, inr, Bool, true, false, List, [], ◌∷◌, Option, Some, None}
 use Rattle.std.proofs.Common.{refl, sym, ap, ◌∙◌, subst, arith}
-use Rattle.guide_tree.specs.Tree.{Trees}
-use Rattle.guide_tree.specs.Segments.{Segment}
-use Rattle.guide_tree.specs.Places.{Pair, Place, use_of, IsNext, Follows, MayCome, IsPlacing}
-use Rattle.guide_tree.specs.Structure.{Begins, Has, IsFirstAt, IsBefore, IsBehind}
+use Rattle.guide_tree.specs.Words.{Trees, Segment, Pair, Place, use_of, IsNext, Follows, MayCome, IsPlacing, Begins, Has, IsFirstAt}
+use Rattle.guide_tree.specs.Words.{IsBefore, IsBehind}
 use Rattle.guide_tree.proofs.Pairs.{pair_is}
 use Rattle.guide_law.proofs.Cases.{pick}
 use Rattle.guide_law.proofs.Gaps.{use_in}

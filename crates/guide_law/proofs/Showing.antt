@@ -6,10 +6,8 @@ use Rattle.hub_kinds.specs.declared.fault.Fault.{Fault}
 use Rattle.hub_kinds.specs.declared.codes.SegmentCode.{SegmentCode}
 use Rattle.hub_kinds.specs.declared.codes.SegmentCode.TheVariants as ik304
 use Rattle.guide_tree.specs.declared.node.Loop.{Loop}
-use Rattle.guide_tree.specs.Tree.{Tree, Trees, segment, loop, tree, min_of, max_of}
-use Rattle.guide_tree.specs.Places.{Pair, Place}
-use Rattle.guide_tree.specs.Structure.{node_in, node_nth, Begins, IsBefore, IsBehind, past_code, few_code}
-use Rattle.guide_tree.specs.Pass.{fault_of}
+use Rattle.guide_tree.specs.Words.{Tree, Trees, segment, loop, tree, min_of, max_of, Pair, Place, node_in, node_nth, Begins, IsBefore}
+use Rattle.guide_tree.specs.Words.{IsBehind, past_code, few_code, fault_of}
 use Rattle.guide_law.proofs.Cases.{pick}
 use Rattle.guide_law.proofs.Gaps.{use_in}
 use Rattle.guide_law.proofs.Rising.{before_self}

@@ -3,10 +3,9 @@ use Rattle.std.proofs.Common.{◌≡◌, ℕ, zero, suc, ◌+◌, ◌≤◌, inl
 use Rattle.std.proofs.Common.{refl, ap, sym, subst, ◌∙◌, arith}
 use Rattle.std.specs.List.{AllByRecursion}
 use Rattle.guide_tree.specs.declared.slot.Slot.{Slot}
-use Rattle.guide_tree.specs.Tree.{Tree, Trees, segment, loop, no_trees, tree}
-use Rattle.guide_tree.specs.Places.{Pair, Place, use_of, IsFirst, slot_in, slot_nth}
+use Rattle.guide_tree.specs.Words.{Tree, Trees, segment, loop, no_trees, tree, Pair, Place, use_of, IsFirst, slot_in, slot_nth, Candidate}
+use Rattle.guide_tree.specs.Words.{into, start_of, starts}
 use Rattle.guide_law.proofs.Residual.{Triggered, AllTriggered}
-use Rattle.guide_tree.specs.Nexts.{Candidate, into, start_of, starts}
 use Rattle.guide_law.proofs.Among.{in_left, in_right, in_cases, in_map, in_mapped}
 use Rattle.guide_law.proofs.Cases.{pick}
 use Rattle.guide_tree.proofs.Pairs.{pair_is}

@@ -2,10 +2,8 @@
 use Rattle.std.proofs.Common.{◌≡◌, IsTrue, ℕ, zero, suc, ◌+◌, ◌≤◌, inl, inr, List, [], ◌∷◌, ◌++◌, length, Some, refl}
 use Rattle.std.proofs.Common.{sym, ◌∙◌, ap, subst, arith, append_assoc}
 use Rattle.std.specs.List.{AllByRecursion}
-use Rattle.guide_tree.specs.Segments.{fits}
-use Rattle.guide_tree.specs.Tree.{Tree, Trees, segment, loop, no_trees, tree, min_of, max_of}
-use Rattle.guide_tree.specs.Grammar.{Given, IsPart, Derives, joined}
-use Rattle.guide_tree.specs.Places.{Place, slot_in, slot_nth}
+use Rattle.guide_tree.specs.Words.{fits, Tree, Trees, segment, loop, no_trees, tree, min_of, max_of, Given, IsPart, Derives, joined}
+use Rattle.guide_tree.specs.Words.{Place, slot_in, slot_nth}
 use Rattle.guide_law.proofs.Residual.{Triggered, AllTriggered, AfterIn, After, MayBeEmpty, Closes, Ends, StepsIn}
 use Rattle.guide_law.proofs.Residual.{Steps}
 use Rattle.guide_law.proofs.Entering.{Starts, part_starts, Begins, derived_begins, tail_is}

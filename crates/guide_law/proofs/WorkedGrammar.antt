@@ -2,9 +2,7 @@
 use Rattle.std.proofs.Common.{◌≡◌, List, [], ◌∷◌, ◌++◌, codes, map, Bool, true, false, ◌||◌, refl, sym, ◌∙◌, ap, arith}
 use Rattle.std.specs.List.{list_any}
 use Rattle.std.proofs.lemmas.List.Folds.{list_any-append}
-use Rattle.guide_tree.specs.Tree.{no_trees, tree}
-use Rattle.guide_tree.specs.Segments.{fits}
-use Rattle.guide_tree.specs.Grammar.{Given, joined, IsPart, Derives, IsDerived}
+use Rattle.guide_tree.specs.Words.{no_trees, tree, fits, Given, joined, IsPart, Derives, IsDerived}
 use Rattle.std.proofs.lemmas.Bool.{or_left, or_right}
 use Rattle.guide_law.proofs.WorkedGuide.{order, items, beg, item, alone}
 

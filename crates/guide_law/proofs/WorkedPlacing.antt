@@ -3,10 +3,8 @@ use Rattle.std.proofs.Common.{◌≡◌, ◌≢◌, ◌<◌, ℕ, zero, suc, inl
 use Rattle.std.proofs.Common.{None, refl, sym, ◌∙◌, ap, arith}
 use Rattle.hub_kinds.specs.declared.codes.SegmentCode.TheVariants as ik304
 use Rattle.guide_tree.specs.declared.slot.Slot.{Slot}
-use Rattle.guide_tree.specs.Tree.{Tree, Trees, segment, loop, no_trees, tree, EachIn, EachNode}
-use Rattle.guide_tree.specs.Segments.{Segment, fits}
-use Rattle.guide_tree.specs.Places.{Place, use_of, slot_in, slot_nth, FitsAt, IsPlacing}
-use Rattle.guide_tree.specs.Structure.{Has, IsStructureFault}
+use Rattle.guide_tree.specs.Words.{Tree, Trees, segment, loop, no_trees, tree, EachIn, EachNode, Segment, fits, Place, use_of, slot_in}
+use Rattle.guide_tree.specs.Words.{slot_nth, FitsAt, IsPlacing, Has, IsStructureFault}
 use Rattle.guide_law.proofs.Deciding.{use_same}
 use Rattle.guide_law.proofs.WorkedGuide.{order, order_guide, parties, items, beg, ref, party, item, alone, at_child}
 use Rattle.guide_law.proofs.WorkedGuide.{at_party, at_item, fault_at}

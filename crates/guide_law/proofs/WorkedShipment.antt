@@ -4,10 +4,9 @@ use Rattle.std.proofs.Common.{◌≡◌, ℕ, zero, suc, ◌<◌, sym, ◌∙◌
 use Rattle.std.proofs.Common.{refl, arith}
 use Rattle.hub_kinds.specs.declared.codes.SegmentCode.TheVariants as ik304
 use Rattle.guide_tree.specs.declared.slot.Slot.{Slot}
-use Rattle.guide_tree.specs.Tree.{Tree, Trees, segment, loop, no_trees, tree, EachNode, GuideTree}
-use Rattle.guide_tree.specs.Segments.{Segment}
-use Rattle.guide_tree.specs.Places.{Place, use_of, MayCome, FitsAt, IsPlacing}
-use Rattle.guide_tree.specs.Structure.{first_id, innermost, past_code, few_code, stray_code, IsReportedAt, IsStructureFault}
+use Rattle.guide_tree.specs.Words.{Tree, Trees, segment, loop, no_trees, tree, EachNode, GuideTree, Segment, Place, use_of, MayCome}
+use Rattle.guide_tree.specs.Words.{FitsAt, IsPlacing, first_id, innermost, past_code, few_code, stray_code, IsReportedAt}
+use Rattle.guide_tree.specs.Words.{IsStructureFault}
 use Rattle.guide_law.proofs.Deciding.{use_same}
 use Rattle.guide_law.proofs.WorkedPlacing.{FitsNone, none_at, no_place}
 use Rattle.guide_law.proofs.WorkedGuide.{slot, repeated, alone, fault_at}

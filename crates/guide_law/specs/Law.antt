@@ -3,14 +3,9 @@
 use Rattle.std.specs.Prelude.{ℕ, ◌≡◌, ◌↔◌, ◌≤◌, List, [], ◌∷◌, ◌++◌, map, Option, Some, None}
 use Rattle.std.specs.List.{Contains}
 use Rattle.hub_kinds.specs.declared.fault.Fault.{Fault}
-use Rattle.hub_kinds.specs.Fault.{key_of}
-use Rattle.guide_tree.specs.Tree.{Trees, GuideTree}
-use Rattle.guide_tree.specs.Segments.{Segment}
-use Rattle.guide_tree.specs.Places.{Place, use_of, slot_given, slot_at, MayCome, IsPlacing}
-use Rattle.guide_tree.specs.Structure.{Has, IsStructureFault}
-use Rattle.guide_tree.specs.Grammar.{Given, Derives, IsDerived}
-use Rattle.guide_tree.specs.Nexts.{Candidate, nexts, placing_of}
-use Rattle.guide_tree.specs.Pass.{structure_faults}
+use Rattle.hub_kinds.specs.Words.{key_of}
+use Rattle.guide_tree.specs.Words.{Trees, GuideTree, Segment, Place, use_of, slot_given, slot_at, MayCome, IsPlacing, Has}
+use Rattle.guide_tree.specs.Words.{IsStructureFault, Given, Derives, IsDerived, Candidate, nexts, placing_of, structure_faults}
 
 -- no stray, no use past a maximum, and nothing missing
 abbrev pub IsFaultless : GuideTree → List Segment → List (Option Place) → (end : ℕ) → Type 0

@@ -1,5 +1,4 @@
-ghost use Rattle.guide_tree.specs.Tree.{GuideTree, Trees, with_slot_numbers};
-ghost use Rattle.guide_tree.specs.Faults.{IsWellFormed};
+ghost use Rattle.guide_tree.specs.Words.{GuideTree, Trees, with_slot_numbers, IsWellFormed};
 ghost use Rattle.guide_law.specs.Law.{DerivedIsPlaced, PlacedIsDerived, IsPlacedOneWay, DerivedHasPlacing, UsesAreCounted};
 ghost use Rattle.guide_law.specs.Law.{NextsAreExact, IsOnlyPlacing, PassIsGrammar, MembersAreFaults, FaultsAreKeyed};
 

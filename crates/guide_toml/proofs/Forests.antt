@@ -10,9 +10,8 @@ use Rattle.toml.specs.declared.value.Value.{Value}
 use Rattle.toml.specs.Data.{Data, Items, item, Members, no_members, member, get_member, string, integer, float}
 use Rattle.toml.specs.Data.{boolean, datetime, as_array, array, table, as_table, depth, items_depth, members_depth}
 use Rattle.toml.specs.View.{view, items_view}
-use Rattle.guide_tree.specs.Tree.{Tree, Trees, no_trees, tree}
+use Rattle.guide_tree.specs.Words.{Tree, Trees, no_trees, tree, view as tree_view, nodes_view}
 use Rattle.guide_tree.specs.declared.node.Node.{Node}
-use Rattle.guide_tree.specs.View.{view as tree_view, nodes_view}
 use Rattle.toml_keys.specs.Meanings.{Meaning, refuses, no_memory, other, FailsAs}
 use Rattle.toml_keys.specs.Refusals.{Refusal, wrong_kind}
 use Rattle.toml_keys.specs.Tables.{◌>>=◌}

@@ -11,7 +11,7 @@ use Rattle.std.proofs.lemmas.List.Elements.{All-cons, All-nil}
 use Rattle.std.proofs.lemmas.Option.{option_and_then_some}
 use Rattle.toml.specs.Data.{Data, string, integer, float, boolean, datetime, array, table}
 use Rattle.toml.specs.Data.{Items, no_items, item, Members, no_members, member, get_member, as_array, as_str}
-use Rattle.hub_kinds.specs.Numbers.{is_number}
+use Rattle.hub_kinds.specs.Words.{is_number}
 use Rattle.guide_tree.specs.declared.element.Component.{Component}
 use Rattle.guide_tree.specs.declared.element.Component.TheVariants as component
 use Rattle.guide_tree.specs.declared.element.Element.{Element}
@@ -20,9 +20,8 @@ use Rattle.guide_tree.specs.declared.element.Requirement.{Requirement}
 use Rattle.guide_tree.specs.declared.element.SimpleRow.{SimpleRow}
 use Rattle.guide_tree.specs.declared.slot.Slot.{Slot}
 use Rattle.guide_tree.specs.declared.rows.GuideRows.{GuideRows}
-use Rattle.guide_tree.specs.Tree.{EachIn, EachNode, GuideTree, Tree, Trees, count_in, loop, no_trees, numbered, numbered_in}
-use Rattle.guide_tree.specs.Tree.{segment, tree}
-use Rattle.guide_tree.specs.View.{guide_of}
+use Rattle.guide_tree.specs.Words.{EachIn, EachNode, GuideTree, Tree, Trees, count_in, loop, no_trees, numbered, numbered_in, segment}
+use Rattle.guide_tree.specs.Words.{tree, guide_of}
 use Rattle.guide_toml.specs.declared.element_text.Measure.{Measure}
 use Rattle.guide_toml.specs.declared.keys.TableKind.TheVariants as kind
 use Rattle.guide_toml.specs.declared.nodes.NodeKind.{NodeKind}

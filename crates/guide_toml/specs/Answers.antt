@@ -1,10 +1,7 @@
 -- The guide file (own): how an answer of the program stands to the reading of a table.
 use Rattle.std.specs.Prelude.{◌≡◌, Result, Ok, Err, string_bytes}
 use Rattle.guide_tree.specs.declared.rows.GuideRows.{GuideRows}
-use Rattle.guide_tree.specs.Tree.{GuideTree, with_slot_numbers}
-use Rattle.guide_tree.specs.View.{guide_of}
-use Rattle.guide_tree.specs.Faults.{IsFirstFault}
-use Rattle.guide_tree.specs.Accepted.{IsAccepted}
+use Rattle.guide_tree.specs.Words.{GuideTree, with_slot_numbers, guide_of, IsFirstFault, IsAccepted}
 use Rattle.toml_keys.specs.Refusals.{Refusal, missing, wrong_kind, unknown}
 use Rattle.toml_keys.specs.Meanings.{Meaning, refuses, no_memory, other, GivesAs}
 use Rattle.guide_toml.specs.declared.fault.GuideFileFault.{GuideFileFault}

@@ -5,7 +5,7 @@ use Rattle.std.specs.Prelude.{drop, if◌then◌else◌, option_map}
 use Rattle.std.specs.List.{list_all, prefix_len, position_or_len}
 use Rattle.std.specs.Str.{bytes_eq}
 use Rattle.std.specs.Char.{is_ascii_digit}
-use Rattle.hub_kinds.specs.Numbers.{is_number}
+use Rattle.hub_kinds.specs.Words.{is_number}
 use Rattle.guide_tree.specs.declared.element.ElementType.{ElementType}
 use Rattle.guide_tree.specs.declared.element.ElementType.TheVariants as types
 use Rattle.guide_tree.specs.declared.element.Requirement.{Requirement}

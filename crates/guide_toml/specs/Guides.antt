@@ -10,7 +10,7 @@ use Rattle.guide_tree.specs.declared.node.Loop.{Loop}
 use Rattle.guide_tree.specs.declared.rows.GuideHead.{GuideHead}
 use Rattle.guide_tree.specs.declared.rows.HlRule.{HlRule}
 use Rattle.guide_tree.specs.declared.rows.Dependency.{Dependency}
-use Rattle.guide_tree.specs.Tree.{Tree, Trees, segment, loop, no_trees, tree, GuideTree}
+use Rattle.guide_tree.specs.Words.{Tree, Trees, segment, loop, no_trees, tree, GuideTree}
 use Rattle.toml_keys.specs.Refusals.{Refusal, wrong_kind}
 use Rattle.toml_keys.specs.Keys.{least_unknown, if_known}
 use Rattle.toml_keys.specs.Tables.{◌>>=◌, required, optional, word_in, some_word_in, count_in, tables_in, some_table}

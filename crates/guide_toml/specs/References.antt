@@ -3,14 +3,13 @@
 use Rattle.std.specs.Prelude.{◌≡◌, ◌⊎◌, IsTrue, List, [], ℕ, Ok}
 use Rattle.std.specs.List.{All}
 use Rattle.toml.specs.Data.{Members}
-use Rattle.hub_kinds.specs.Numbers.{is_number}
+use Rattle.hub_kinds.specs.Words.{is_number}
 use Rattle.guide_tree.specs.declared.element.Component.{Component}
 use Rattle.guide_tree.specs.declared.element.Component.TheVariants as component
 use Rattle.guide_tree.specs.declared.element.Element.{Element}
 use Rattle.guide_tree.specs.declared.element.Element.TheVariants as element
 use Rattle.guide_tree.specs.declared.rows.GuideRows.{GuideRows}
-use Rattle.guide_tree.specs.Tree.{EachNode, Tree, loop, segment}
-use Rattle.guide_tree.specs.View.{guide_of}
+use Rattle.guide_tree.specs.Words.{EachNode, Tree, loop, segment, guide_of}
 use Rattle.guide_toml.specs.Answers.{Answers}
 use Rattle.guide_toml.specs.Guides.{guide_of_table}
 

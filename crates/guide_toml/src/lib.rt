@@ -35,3 +35,7 @@ mod values;
 pub use fault::GuideFileFault;
 pub use laws::{files_write_references, written_row_is_read_back};
 pub use read::read_guide;
+pub use toml_keys::{
+    AnyText, Count, ListOf, Present, Reading, TextFault, Word, optional, refuse_unknown, required,
+    some_table_at, some_tables_at, table_at, tables_at,
+};

@@ -1,7 +1,7 @@
 ghost use Rattle.std.specs.Prelude.{◌≡◌, ◌≤◌, option_map, ◌++◌, ◌∷◌, [], OnOk, IfErr};
 ghost use Rattle.toml.specs.Data.{table as table_data, items_depth, members_depth};
 ghost use Rattle.toml.specs.View.{table_view, view, items_view};
-ghost use Rattle.guide_tree.specs.View.{view as tree_view, nodes_view};
+ghost use Rattle.guide_tree.specs.Words.{view as tree_view, nodes_view};
 ghost use Rattle.guide_toml.specs.Answers.{Gives};
 ghost use Rattle.toml_keys.specs.Tables as tables;
 ghost use Rattle.guide_toml.specs.Guides as guides;

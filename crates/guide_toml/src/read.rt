@@ -3,7 +3,7 @@ ghost use Rattle.std.specs.Str.{IsUtf8};
 ghost use Rattle.toml.specs.Data.{Members, no_items};
 ghost use Rattle.toml.specs.View.{table_view, items_view, view};
 ghost use Rattle.toml.specs.Parse.{parse_document};
-ghost use Rattle.guide_tree.specs.View.{guide_of};
+ghost use Rattle.guide_tree.specs.Words.{guide_of};
 ghost use Rattle.toml_keys.specs.Meanings.{FailsAs};
 ghost use Rattle.toml_keys.specs.Tables.{◌>>=◌ as ◌⊳◌};
 ghost use Rattle.toml_keys.specs.Tables as tables;

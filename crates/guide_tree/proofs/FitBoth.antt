@@ -8,7 +8,7 @@ use Rattle.std.specs.List.{list_all}
 use Rattle.std.specs.Str.{bytes_eq}
 use Rattle.guide_tree.specs.declared.slot.Slot.{Slot}
 use Rattle.guide_tree.specs.declared.slot.Pick.{Pick}
-use Rattle.hub_kinds.specs.TextList.{contains_text}
+use Rattle.hub_kinds.specs.Words.{contains_text}
 use Rattle.guide_tree.specs.Segments.{Segment, element_of, id_of, fits, share_text, agree, can_fit_both}
 use Rattle.guide_tree.proofs.Among.{any_found, found_any, all_at, each_all}
 

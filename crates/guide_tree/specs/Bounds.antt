@@ -3,8 +3,7 @@ use Rattle.std.specs.Prelude.{ℕ, nat_le, List, [], ◌∷◌, codes, length, B
 use Rattle.std.specs.List.{list_all}
 use Rattle.std.specs.Option.{option_map_or}
 use Rattle.hub_kinds.specs.declared.limits.TheConstants.{MOST_COMPONENTS, MOST_ELEMENTS, MOST_REPEATS}
-use Rattle.hub_kinds.specs.Words.{is_word, is_segment_id}
-use Rattle.hub_kinds.specs.TextList.{contains_text}
+use Rattle.hub_kinds.specs.Words.{is_word, is_segment_id, contains_text}
 use Rattle.guide_tree.specs.declared.limits.TheConstants.{LONGEST_ELEMENT, MOST_USES}
 use Rattle.guide_tree.specs.declared.element.CodeList.{CodeList}
 use Rattle.guide_tree.specs.declared.element.SimpleRow.{SimpleRow}

@@ -1,6 +1,6 @@
 ghost use Rattle.std.specs.Prelude.{◌≡◌};
 ghost use Rattle.std.specs.List.{list_all};
-ghost use Rattle.hub_kinds.specs.TextList.{contains_text};
+ghost use Rattle.hub_kinds.specs.Words.{contains_text};
 ghost use Rattle.guide_tree.specs.Bounds.{is_within, is_use_range, is_length_range, envelope_ids};
 ghost use Rattle.guide_tree.specs.Bounds.{is_slot_id, is_loop_id, is_filled, are_codes_bounded, is_row_bounded};
 ghost use Rattle.guide_tree.specs.Bounds.{is_component_bounded, is_element_bounded, is_repeat, is_slot_bounded};

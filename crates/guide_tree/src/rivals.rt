@@ -1,6 +1,6 @@
 ghost use Rattle.std.specs.Prelude.{◌≡◌, ◌≤◌, option_map, drop, length};
 ghost use Rattle.std.specs.List.{list_any, list_all};
-ghost use Rattle.hub_kinds.specs.TextList.{contains_text};
+ghost use Rattle.hub_kinds.specs.Words.{contains_text};
 ghost use Rattle.guide_tree.specs.Segments.{share_text, agree, can_fit_both};
 ghost use Rattle.guide_tree.specs.Rivals.{entry, numbers_of, is_less, keep_least, against_slot, against};
 ghost use Rattle.guide_tree.specs.Rivals.{against_each, within, within_in, least_rivals, least_in};

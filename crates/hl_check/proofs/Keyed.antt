@@ -9,12 +9,9 @@ use Rattle.x12_bytes.specs.declared.delims.Delims.{Delims}
 use Rattle.hub_kinds.specs.declared.fault.Fault.{Fault}
 use Rattle.hub_kinds.specs.declared.codes.ElementCode.{ElementCode}
 use Rattle.hub_kinds.specs.declared.codes.ElementCode.TheVariants as ik403
-use Rattle.hub_kinds.specs.Fault.{key_of, AreRising}
-use Rattle.hub_kinds.specs.Rising.{IsKeyedBy}
+use Rattle.hub_kinds.specs.Words.{key_of, AreRising, IsKeyedBy}
 use Rattle.guide_tree.specs.declared.rows.HlRule.{HlRule}
-use Rattle.guide_tree.specs.Tree.{Trees}
-use Rattle.guide_tree.specs.Segments.{Segment}
-use Rattle.guide_tree.specs.Places.{Place}
+use Rattle.guide_tree.specs.Words.{Trees, Segment, Place}
 use Rattle.loop_match.specs.PlacedSegments.{PlacedSegment, placed_segments}
 use Rattle.loop_match.proofs.Standing.{one_placed}
 use Rattle.hl_check.specs.Hierarchy.{is_hl, hls_of, hl_fault, IsHlFault, IsFaultAmong}

@@ -11,9 +11,9 @@ use Rattle.std.specs.Cmp.Lexicographic.{bytes_decides}
 use Rattle.std.proofs.lemmas.List.Folds.{find-append}
 use Rattle.std.proofs.lemmas.Map.Text.{is_eq-slice_cmp}
 use Rattle.x12_bytes.specs.declared.delims.Delims.{Delims}
-use Rattle.hub_kinds.specs.ByText.{by_text}
+use Rattle.hub_kinds.specs.Words.{by_text}
 use Rattle.elem_rules.specs.Divided.{is_filled}
-use Rattle.guide_tree.specs.Segments.{Segment}
+use Rattle.guide_tree.specs.Words.{Segment}
 use Rattle.hl_check.specs.Hierarchy.{numbered, number_of, parent_of, level_of, is_named}
 use Rattle.hl_check.specs.Known.{KnowsLevels, KnowsNamed}
 use denote.Ref.{Bor}

@@ -11,10 +11,7 @@ use Rattle.x12_bytes.specs.declared.delims.Delims.{Delims}
 use Rattle.hub_kinds.specs.declared.fault.Fault.{Fault}
 use Rattle.hub_kinds.specs.declared.codes.ElementCode.TheVariants as ik403
 use Rattle.guide_tree.specs.declared.rows.HlRule.{HlRule}
-use Rattle.guide_tree.specs.Tree.{Trees, GuideTree}
-use Rattle.guide_tree.specs.Segments.{Segment}
-use Rattle.guide_tree.specs.Grammar.{Given}
-use Rattle.guide_tree.specs.Places.{Place, slot_given}
+use Rattle.guide_tree.specs.Words.{Trees, GuideTree, Segment, Given, Place, slot_given}
 use Rattle.guide_law.specs.Law.{HasSlots}
 use Rattle.loop_match.specs.PlacedSegments.{PlacedSegment, placed_segments, as_given}
 use Rattle.loop_match.proofs.Leading.{placed_given}

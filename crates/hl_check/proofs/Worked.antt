@@ -4,7 +4,7 @@ use Rattle.std.proofs.Common.{Option, Some, None, refl, sym, subst, arith}
 use Rattle.std.specs.Fmt.{digits}
 use Rattle.std.specs.List.{Contains}
 use Rattle.x12_bytes.specs.declared.delims.Delims.{Delims}
-use Rattle.x12_segs.specs.Parts.{parts}
+use Rattle.x12_segs.specs.Words.{parts}
 use Rattle.hub_kinds.specs.declared.fault.Fault.{Fault}
 use Rattle.hub_kinds.specs.declared.codes.ElementCode.{ElementCode}
 use Rattle.hub_kinds.specs.declared.codes.ElementCode.TheVariants as ik403
@@ -17,9 +17,7 @@ use Rattle.guide_tree.specs.declared.slot.Slot.{Slot}
 use Rattle.guide_tree.specs.declared.node.Loop.{Loop}
 use Rattle.guide_tree.specs.declared.rows.HlPair.{HlPair}
 use Rattle.guide_tree.specs.declared.rows.HlRule.{HlRule}
-use Rattle.guide_tree.specs.Tree.{Trees, segment, loop, no_trees, tree, GuideTree}
-use Rattle.guide_tree.specs.Nexts.{placing_of}
-use Rattle.guide_tree.specs.Segments.{Segment}
+use Rattle.guide_tree.specs.Words.{Trees, segment, loop, no_trees, tree, GuideTree, placing_of, Segment}
 use Rattle.elem_rules.proofs.Members.{no_member}
 use Rattle.loop_match.specs.PlacedSegments.{PlacedSegment}
 use Rattle.hl_check.specs.Hierarchy.{segments_of, hl_segments, hls_of, IsHierarchyFault, IsHierarchyWhole}

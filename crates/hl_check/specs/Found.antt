@@ -5,7 +5,7 @@ use Rattle.hub_kinds.specs.declared.codes.ElementCode.{ElementCode}
 use Rattle.hub_kinds.specs.declared.codes.ElementCode.TheVariants as ik403
 use Rattle.hub_kinds.specs.declared.fault.Fault.{Fault}
 use Rattle.guide_tree.specs.declared.rows.HlRule.{HlRule}
-use Rattle.guide_tree.specs.Segments.{Segment}
+use Rattle.guide_tree.specs.Words.{Segment}
 use Rattle.loop_match.specs.PlacedSegments.{PlacedSegment}
 use Rattle.hl_check.specs.Hierarchy.{segments_of, hl_fault, is_number_wrong, is_parent_wrong, is_level_wrong, is_child_wrong}
 

@@ -13,9 +13,7 @@ use Rattle.hub_kinds.specs.declared.codes.ElementCode.TheVariants as ik403
 use Rattle.hub_kinds.specs.declared.fault.Fault.{Fault}
 use Rattle.guide_tree.specs.declared.rows.HlRule.{HlRule}
 use Rattle.guide_tree.specs.declared.rows.HlPair.{HlPair}
-use Rattle.guide_tree.specs.Tree.{Trees, GuideTree}
-use Rattle.guide_tree.specs.Segments.{Segment, element_of, id_of}
-use Rattle.guide_tree.specs.Places.{Place}
+use Rattle.guide_tree.specs.Words.{Trees, GuideTree, Segment, element_of, id_of, Place}
 use Rattle.elem_rules.specs.Divided.{is_filled}
 use Rattle.elem_rules.specs.Rows.{reference_at}
 use Rattle.loop_match.specs.PlacedSegments.{PlacedSegment, placed_segments}

@@ -4,8 +4,8 @@ use Rattle.std.specs.Prelude.{ℕ, ◌≡◌, List, option_map}
 use Rattle.std.specs.BTreeMap.{BTreeMap, get}
 use Rattle.std.specs.BTreeSet.{BTreeSet, contains}
 use Rattle.x12_bytes.specs.declared.delims.Delims.{Delims}
-use Rattle.hub_kinds.specs.ByText.{by_text}
-use Rattle.guide_tree.specs.Segments.{Segment}
+use Rattle.hub_kinds.specs.Words.{by_text}
+use Rattle.guide_tree.specs.Words.{Segment}
 use Rattle.hl_check.specs.Hierarchy.{numbered, level_of, is_named}
 use denote.Ref.{Bor}
 

@@ -1,7 +1,7 @@
 ghost use Rattle.std.specs.Prelude.{◌≡◌, ◌++◌, ◌∷◌, List, OnOk};
 ghost use Rattle.hub_kinds.specs.declared.codes.ElementCode.TheVariants.{PatternFailure};
-ghost use Rattle.x12_segs.specs.View.{elements_of};
-ghost use Rattle.guide_tree.specs.Segments.{Segment};
+ghost use Rattle.x12_segs.specs.Words.{elements_of};
+ghost use Rattle.guide_tree.specs.Words.{Segment};
 ghost use Rattle.hl_check.specs.Hierarchy.{is_child_wrong};
 ghost use Rattle.hl_check.specs.Found.{fault_if, backward_faults};
 ghost use Rattle.loop_match.specs.Viewed.{placed_view, placed_views};

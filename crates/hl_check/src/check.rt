@@ -1,10 +1,10 @@
 ghost use Rattle.std.specs.Prelude.{◌≡◌, ◌↔◌, length, map, IfOk};
 ghost use Rattle.std.specs.List.{All, Contains};
 ghost use Rattle.x12_bytes.specs.declared.delims.Delims.{Delims};
-ghost use Rattle.x12_segs.specs.View.{elements_of};
+ghost use Rattle.x12_segs.specs.Words.{elements_of};
 ghost use Rattle.hub_kinds.specs.declared.fault.Fault.{Fault};
-ghost use Rattle.hub_kinds.specs.Fault.{AreRising};
-ghost use Rattle.guide_tree.specs.View.{guide_of, nodes_view};
+ghost use Rattle.hub_kinds.specs.Words.{AreRising};
+ghost use Rattle.guide_tree.specs.Words.{guide_of, nodes_view};
 ghost use Rattle.loop_match.specs.Given.{place_in};
 ghost use Rattle.hl_check.specs.Hierarchy.{hls_of, IsFaultAmong, IsHierarchyFault};
 ghost use Rattle.hl_check.specs.Found.{found_faults};

@@ -1,6 +1,6 @@
 ghost use Rattle.std.specs.Prelude.{◌≡◌, ◌++◌, ◌+◌, ◌<◌, ◌^◌, ◌∷◌, [], List, length, OnOk};
-ghost use Rattle.x12_segs.specs.View.{elements_of};
-ghost use Rattle.guide_tree.specs.Segments.{Segment};
+ghost use Rattle.x12_segs.specs.Words.{elements_of};
+ghost use Rattle.guide_tree.specs.Words.{Segment};
 ghost use Rattle.hl_check.specs.Found.{faults_behind, forward_faults};
 ghost use Rattle.loop_match.specs.Viewed.{placed_view, placed_views};
 ghost use Rattle.hl_check.specs.Known.{KnowsLevels};

@@ -1,7 +1,7 @@
 ghost use Rattle.std.specs.Prelude.{◌≡◌, map, IfOk};
 ghost use Rattle.std.specs.List.{filter};
-ghost use Rattle.x12_segs.specs.View.{elements_of};
-ghost use Rattle.guide_tree.specs.View.{nodes_view};
+ghost use Rattle.x12_segs.specs.Words.{elements_of};
+ghost use Rattle.guide_tree.specs.Words.{nodes_view};
 ghost use Rattle.loop_match.specs.Given.{place_in};
 ghost use Rattle.loop_match.specs.Viewed.{placed_views};
 ghost use Rattle.hl_check.specs.Hierarchy.{is_hl, hls_of};

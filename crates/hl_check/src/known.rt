@@ -1,6 +1,6 @@
 ghost use Rattle.std.specs.Prelude.{◌≡◌, ◌++◌, [], ◌∷◌, List, OnOk, option_map};
 ghost use Rattle.x12_bytes.specs.declared.delims.Delims.{Delims};
-ghost use Rattle.guide_tree.specs.Segments.{Segment};
+ghost use Rattle.guide_tree.specs.Words.{Segment};
 ghost use Rattle.hl_check.specs.Hierarchy.{numbered, number_of, parent_of, level_of, is_named};
 ghost use Rattle.hl_check.specs.Known.{KnowsLevels, KnowsNamed};
 

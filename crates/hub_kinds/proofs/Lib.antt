@@ -3,3 +3,4 @@ pub mod Once
 pub mod Reading
 pub mod Distinct
 mod WorkedLimits
+mod WorkedNotes

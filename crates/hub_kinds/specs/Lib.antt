@@ -1,4 +1,5 @@
 pub mod ByText
+pub mod Characters
 pub mod Codes
 pub mod Fault
 pub mod Interchange

@@ -1,15 +1,12 @@
--- X12.6, basic characters (own limits): letters and digits, all of ASCII; and segment identifiers.
-use Rattle.std.specs.Prelude.{ℕ, Bool, ◌&&◌, ◌||◌, nat_le, List, length}
-use Rattle.std.specs.List.{list_all}
-use Rattle.std.specs.Char.{is_ascii_alphanumeric, is_ascii_uppercase, is_ascii_digit}
-
--- so many to so many letters or digits
-abbrev pub is_word : ℕ → ℕ → List ℕ → Bool
-is_word least most text = nat_le least (length text) && nat_le (length text) most && list_all is_ascii_alphanumeric text
-
-abbrev pub is_upper_or_digit : ℕ → Bool
-is_upper_or_digit b = is_ascii_uppercase b || is_ascii_digit b
-
--- X12.6, segment identifier: 2 or 3 upper-case letters or digits
-abbrev pub is_segment_id : List ℕ → Bool
-is_segment_id id = nat_le 2 (length id) && nat_le (length id) 3 && list_all is_upper_or_digit id
+-- The words of clauses of hub_kinds: what its definitions are called, in one place.
+pub use Rattle.hub_kinds.specs.ByText.{by_text}
+pub use Rattle.hub_kinds.specs.Characters.{is_segment_id, is_upper_or_digit, is_word}
+pub use Rattle.hub_kinds.specs.Codes.{element_rank, element_text, segment_rank, segment_text}
+pub use Rattle.hub_kinds.specs.Fault.{AreElementsRising, AreRising, elem_key, element_key_of, key_of}
+pub use Rattle.hub_kinds.specs.Interchange.{acknowledgment_code, fault_rank, fault_text, note_text}
+pub use Rattle.hub_kinds.specs.Numbers.{is_number, number_of, value_of}
+pub use Rattle.hub_kinds.specs.Place.{place_key}
+pub use Rattle.hub_kinds.specs.Rising.{IsKeyedBy, IsRisingBy, order_by}
+pub use Rattle.hub_kinds.specs.SetCodes.{group_code_text, group_verdict_text, set_code_text, verdict_text}
+pub use Rattle.hub_kinds.specs.TextList.{contains_text}
+pub use Rattle.hub_kinds.specs.Twice.{has_same_key, has_twice}

@@ -1,10 +1,12 @@
-/// A partner's numbers: of the next interchange and of the next transaction set that it is sent (X12.5, interchange
-/// control number; X12.6, transaction set control number; that each partner has its own is own), from 1 to
-/// 999,999,999.
+/// A partner's numbers: of the next interchange, of the next functional group and of the next transaction set that it is sent
+/// (X12.5, interchange control number; X12.6, group control number and transaction set control number; that each partner has
+/// its own is own), from 1 to 999,999,999.
 #[derive(Clone, Copy, Debug, PartialEq, Eq)]
 pub struct Counters {
     /// Of an interchange.
     pub interchange: u32,
+    /// Of a group.
+    pub group: u32,
     /// Of a set.
     pub set: u32,
 }

@@ -1,6 +1,6 @@
-ghost use Rattle.std.specs.Prelude.{◌≡◌};
+ghost use Rattle.std.specs.Prelude.{◌≡◌, option_map};
 ghost use Rattle.std.specs.Ordering.{nat_cmp};
-ghost use Rattle.hub_kinds.specs.Interchange.{fault_rank};
+ghost use Rattle.hub_kinds.specs.Interchange.{acknowledgment_code, fault_rank, note_text};
 
 use crate::codes::Code;
 use std::cmp::Ordering;
@@ -40,6 +40,36 @@ fn rank(fault: InterchangeFault) -> u32
     ensures { result ≡ fault_rank fault }
 {
     fault as u32 + 1
+}
+
+/// The interchange note code (X12.5, TA105) that tells of a fault, or of none: `000`. None for the faults 2 and 8, since such an
+/// interchange is never answered. Takes no memory.
+pub fn note_text(fault: Option<InterchangeFault>) -> Option<&'static str>
+    ensures { option_map (λ text. text.now) result ≡ note_text fault }
+{
+    match fault {
+        None => Some("000"),
+        Some(InterchangeFault::TrailerMissing) => Some("023"),
+        Some(InterchangeFault::ControlNumberInvalid) => None,
+        Some(InterchangeFault::ControlNumbersDiffer) => Some("001"),
+        Some(InterchangeFault::GroupCountWrong) => Some("021"),
+        Some(InterchangeFault::SegmentMisplaced) => Some("022"),
+        Some(InterchangeFault::GroupHeaderInvalid) => Some("024"),
+        Some(InterchangeFault::SetHeaderInvalid) => Some("024"),
+        Some(InterchangeFault::SenderUnknown) => None,
+        Some(InterchangeFault::Duplicate) => Some("025"),
+    }
+}
+
+/// The interchange acknowledgment code (X12.5, TA104) that stands in front of a note: `A` where the note is `000`, else `R`.
+pub fn acknowledgment_code(note: &str) -> &'static str
+    ensures { result.now ≡ acknowledgment_code note.now }
+{
+    if note.as_bytes() == b"000".as_slice() {
+        "A"
+    } else {
+        "R"
+    }
 }
 
 impl Code for InterchangeFault {

@@ -6,7 +6,8 @@
 //! - `code_text` gives the text of each code, and `code_of` the code of each of these texts and of
 //!   no other;
 //! - `fault_order`, `element_fault_order` and `place_order` are the orders of the keys, by their numbers
-//!   from first to last, and `interchange_fault_order` that of the faults' numbers;
+//!   from first to last, and `interchange_fault_order` that of the faults' numbers; `note_text` gives the note of
+//!   a TA1;
 //! - `in_order` gives the same values in the order of their keys, each once;
 //! - `within_limit` is the test of a text's length;
 //! - `read_number` reads exactly the numbers of 1 to so many digits; `is_alphanumeric` and
@@ -47,7 +48,7 @@ pub use answers::{GroupAnswer, SetAnswer};
 pub use codes::{Code, ElementCode, SegmentCode, code_of, code_text};
 pub use counters::Counters;
 pub use fault::{ElemFault, Fault, NO_NUMBER, element_fault_order, fault_order};
-pub use interchange::{InterchangeFault, interchange_fault_order};
+pub use interchange::{InterchangeFault, acknowledgment_code, interchange_fault_order, note_text};
 pub use items::{Items, Text, Texts, copy_text};
 pub use lent::Lent;
 pub use limits::{

@@ -3,7 +3,7 @@ ghost use Rattle.std.specs.Bool.{OnTrue};
 ghost use Rattle.std.specs.Char.{IsAsciiDigit, is_ascii_digit, is_ascii_alphanumeric};
 ghost use Rattle.std.specs.List.{list_all};
 ghost use Rattle.hub_kinds.specs.Numbers.{number_of, value_of};
-ghost use Rattle.hub_kinds.specs.Words.{is_word};
+ghost use Rattle.hub_kinds.specs.Characters.{is_word};
 
 /// The number that 1 to `most` ASCII digits write, leading zeros allowed; none for any other text.
 /// X12.6, data element type N0 without a sign.

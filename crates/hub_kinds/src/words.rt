@@ -1,6 +1,6 @@
 ghost use Rattle.std.specs.Prelude.{◌≡◌};
 ghost use Rattle.std.specs.List.{list_all};
-ghost use Rattle.hub_kinds.specs.Words.{is_segment_id, is_upper_or_digit};
+ghost use Rattle.hub_kinds.specs.Characters.{is_segment_id, is_upper_or_digit};
 
 /// Whether a text has the form of a segment's id: 2 or 3 upper-case ASCII letters or digits (X12.6, segment
 /// identifier).

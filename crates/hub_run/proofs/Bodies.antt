@@ -9,9 +9,7 @@ use Rattle.std.proofs.lemmas.List.Elements.{All-head, All-tail}
 use Rattle.std.proofs.lemmas.Bool.{false_from_ne_true, eqb-true}
 use Rattle.x12_bytes.specs.Bytes.{is_line_end}
 use Rattle.x12_bytes.specs.declared.delims.Delims.{Delims}
-use Rattle.x12_segs.specs.Parts.{parts}
-use Rattle.x12_segs.specs.Segs.{Seg, Segs, part_at, segs_of}
-use Rattle.x12_segs.specs.View.{elements_of, view_of, views}
+use Rattle.x12_segs.specs.Words.{parts, Seg, Segs, part_at, segs_of, elements_of, view_of, views}
 use Rattle.x12_segs.proofs.SegLemmas.{segs_of-cons}
 
 -- no byte of a text is this one

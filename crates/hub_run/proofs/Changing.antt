@@ -7,8 +7,7 @@ use Rattle.std.proofs.lemmas.Bool.{or_parts}
 use Rattle.std.proofs.lemmas.List.Elements.{All-cons, All-nil, All-weaker}
 use Rattle.std.proofs.lemmas.List.Splits.{slice_split_none}
 use Rattle.x12_bytes.specs.declared.delims.Delims.{Delims}
-use Rattle.x12_segs.specs.Parts.{parts}
-use Rattle.x12_segs.specs.View.{components, occurrences}
+use Rattle.x12_segs.specs.Words.{parts, components, occurrences}
 use Rattle.x12_write.specs.Delimiters.{is_delimiter, is_this}
 use Rattle.mailbox.specs.Deliveries.{is_in_the_way}
 use Rattle.mailbox.specs.Mailbox.{mapped, mapped_byte}

@@ -1,7 +1,8 @@
 -- The segments around the acknowledgments that a partner of a setup is sent: they are written and read again as segments.
 use Rattle.std.proofs.Common.{◌≡◌, ◌≢◌, ℕ, ◌-◌, true, false, ◌&&◌, nat_le, List, [], ◌∷◌, ◌++◌, length, Option, Some, None}
 use Rattle.std.proofs.Common.{drop, rules, tests, refl, sym, ap, arith, slice_index}
-use Rattle.std.specs.Prelude.{codes, decimal, replicate}
+use Rattle.std.specs.Prelude.{codes, decimal, replicate, Bool, if◌then◌else◌}
+use Rattle.std.specs.Str.{bytes_eq}
 use Rattle.std.specs.List.{All, list_all}
 use Rattle.std.specs.Char.{IsAsciiDigit, is_ascii_alphanumeric}
 use Rattle.std.specs.Option.{option_map_or}
@@ -9,8 +10,11 @@ use Rattle.std.proofs.lemmas.Bool.{and_parts, false≢true}
 use Rattle.std.proofs.lemmas.List.Elements.{All-append, All-cons, All-drop, All-from_recursion, All-head, All-nil}
 use Rattle.std.proofs.lemmas.List.Elements.{All-replicate, All-take, All-weaker}
 use Rattle.x12_bytes.specs.declared.delims.Delims.{Delims}
+use Rattle.x12_bytes.specs.Header.{field_of}
+use Rattle.moment.specs.Calendar.{is_digits}
+use Rattle.moment.proofs.Moments.{digits_decided}
+use Rattle.hub_kinds.specs.Words.{acknowledgment_code, is_word}
 use Rattle.moment.specs.Moment.{IsMoment, date_of, short_date_of, time_of}
-use Rattle.hub_kinds.specs.Words.{is_word}
 use Rattle.x12_write.specs.declared.envelope.Envelope.{Envelope}
 use Rattle.x12_write.specs.Header.{blank, control_elements, header_elements, header_text, party_elements}
 use Rattle.x12_write.specs.Number.{padded_number, padded_text}
@@ -34,18 +38,25 @@ abbrev pub isa : Envelope → (at : List ℕ) → (number : ℕ) → Segment
 isa e at number = segment (codes "ISA") (header_elements e at number)
 
 -- the GS, the GE and the IEA
-abbrev pub gs_elements : Envelope → (at : List ℕ) → List (List ℕ)
-gs_elements e at =
-    codes "FA" ∷ e.hub_code ∷ e.partner_code ∷ date_of at ∷ time_of at ∷ decimal 1 ∷ codes "X" ∷ codes "005010X231" ∷ []
+abbrev pub gs_elements : Envelope → (at : List ℕ) → (control : ℕ) → List (List ℕ)
+gs_elements e at control =
+    codes "FA" ∷ e.hub_code ∷ e.partner_code ∷ date_of at ∷ time_of at ∷ decimal control ∷ codes "X" ∷ codes "005010X231" ∷ []
 
-abbrev pub gs : Envelope → (at : List ℕ) → Segment
-gs e at = segment (codes "GS") (gs_elements e at)
+abbrev pub gs : Envelope → (at : List ℕ) → (control : ℕ) → Segment
+gs e at control = segment (codes "GS") (gs_elements e at control)
 
-abbrev pub ge : (reports : ℕ) → Segment
-ge reports = segment (codes "GE") (decimal reports ∷ decimal 1 ∷ [])
+abbrev pub ge : (reports control : ℕ) → Segment
+ge reports control = segment (codes "GE") (decimal reports ∷ decimal control ∷ [])
 
-abbrev pub iea : (number : ℕ) → Segment
-iea number = segment (codes "IEA") (decimal 1 ∷ padded_number 9 number ∷ [])
+abbrev pub iea : (groups number : ℕ) → Segment
+iea groups number = segment (codes "IEA") (decimal groups ∷ padded_number 9 number ∷ [])
+
+-- the TA1
+abbrev pub ta1_elements : (header note : List ℕ) → List (List ℕ)
+ta1_elements header note = field_of header 13 ∷ field_of header 9 ∷ field_of header 10 ∷ acknowledgment_code note ∷ note ∷ []
+
+abbrev pub ta1 : (header note : List ℕ) → Segment
+ta1 header note = segment (codes "TA1") (ta1_elements header note)
 
 -- nothing is left off at the end of the ISA
 pub isa_text : (e : Envelope) (at : List ℕ) (number : ℕ)
@@ -143,27 +154,51 @@ module _ (setup : SetupValue) (p : Partner) (count : ℕ) (hub_ids : are_ids set
       readable d can (codes "ISA") (header_elements e at number) (omega arith) refl refl
       (All-append P (party_elements e) (control_elements e at number) party control)
 
-  pub readable_gs : IsReadable d (gs e at)
-  readable_gs =
+  pub readable_gs : (control : ℕ) → IsReadable d (gs e at control)
+  readable_gs control =
       let P : List ℕ → Type 0 = IsUndivided d in
       let fa : P (codes "FA") = plain (codes "FA") refl in
       let hub : P e.hub_code = inside e.hub_code (code_inside setup.hub.qualifier setup.hub.id setup.hub.code hub_ids) in
       let partner : P e.partner_code = inside e.partner_code (code_inside p.qualifier p.id p.code sound.ids) in
-      let one : P (decimal 1) = decimal-undivided d can 1 in
+      let one : P (decimal control) = decimal-undivided d can control in
       let agency : P (codes "X") = plain (codes "X") refl in
       let version : P (codes "005010X231") = plain (codes "005010X231") refl in
-      readable d can (codes "GS") (gs_elements e at) (omega arith) refl refl
-      (All-from_recursion P (gs_elements e at) (fa, (hub, (partner, (date, (time, (one, (agency, (version, tt)))))))))
+      readable d can (codes "GS") (gs_elements e at control) (omega arith) refl refl
+      (All-from_recursion P (gs_elements e at control) (fa, (hub, (partner, (date, (time, (one, (agency, (version, tt)))))))))
 
-  pub readable_ge : (reports : ℕ) → IsReadable d (ge reports)
-  readable_ge reports =
+  pub readable_ge : (reports control : ℕ) → IsReadable d (ge reports control)
+  readable_ge reports control =
       let P : List ℕ → Type 0 = IsUndivided d in
-      readable d can (codes "GE") (decimal reports ∷ decimal 1 ∷ []) (omega arith) refl refl
-      (All-from_recursion P (decimal reports ∷ decimal 1 ∷ []) (decimal-undivided d can reports, (decimal-undivided d can 1, tt)))
+      readable d can (codes "GE") (decimal reports ∷ decimal control ∷ []) (omega arith) refl refl
+      (All-from_recursion P (decimal reports ∷ decimal control ∷ [])
+      (decimal-undivided d can reports, (decimal-undivided d can control, tt)))
 
-  pub readable_iea : (number : ℕ) → IsReadable d (iea number)
-  readable_iea number =
+  pub readable_iea : (groups number : ℕ) → IsReadable d (iea groups number)
+  readable_iea groups number =
       let P : List ℕ → Type 0 = IsUndivided d in
-      readable d can (codes "IEA") (decimal 1 ∷ padded_number 9 number ∷ []) (omega arith) refl refl
-      (All-from_recursion P (decimal 1 ∷ padded_number 9 number ∷ [])
-      (decimal-undivided d can 1, (padded_number-undivided d can 9 number, tt)))
+      readable d can (codes "IEA") (decimal groups ∷ padded_number 9 number ∷ []) (omega arith) refl refl
+      (All-from_recursion P (decimal groups ∷ padded_number 9 number ∷ [])
+      (decimal-undivided d can groups, (padded_number-undivided d can 9 number, tt)))
+
+  digits_alone : (text : List ℕ) → is_digits text ≡ true → IsUndivided d text
+  digits_alone text is = digits_undivided d text can ((digits_decided text).0 is)
+
+  coded : (b : Bool) → IsUndivided d (if b then codes "A" else codes "R")
+  coded true = plain (codes "A") refl
+  coded false = plain (codes "R") refl
+
+  pub readable_ta1 : (header note : List ℕ) → is_digits (field_of header 13) ≡ true → is_digits (field_of header 9) ≡ true
+      → is_digits (field_of header 10) ≡ true → is_digits note ≡ true → IsReadable d (ta1 header note)
+  readable_ta1 header note control day clock noted =
+      let P : List ℕ → Type 0 = IsUndivided d in
+      readable d can (codes "TA1") (ta1_elements header note) (omega arith) refl refl
+      (All-from_recursion P (ta1_elements header note) (
+        digits_alone (field_of header 13) control,
+        (
+          digits_alone (field_of header 9) day,
+          (
+            digits_alone (field_of header 10) clock,
+            (coded (bytes_eq note (codes "000")), (digits_alone note noted, tt)),
+          ),
+        ),
+      ))

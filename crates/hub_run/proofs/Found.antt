@@ -10,7 +10,7 @@ use Rattle.std.proofs.lemmas.List.Concat.{flat_map-append}
 use Rattle.std.proofs.lemmas.List.Elements.{All-append, All-cons, All-head, All-nil, All-tail}
 use Rattle.std.proofs.lemmas.List.Elements.{All-weaker}
 use Rattle.x12_bytes.specs.declared.delims.Delims.{Delims}
-use Rattle.x12_segs.specs.Parts.{parts}
+use Rattle.x12_segs.specs.Words.{parts}
 use Rattle.x12_write.specs.Segment.{Segment, segment_text, trimmed}
 use Rattle.x12_write.specs.Undivided.{IsUndivided}
 use Rattle.ack_999.proofs.ReadBack.{IsReadable, trimmed-all}

@@ -7,16 +7,12 @@ use Rattle.std.proofs.lemmas.Option.{get_or_from_slice_get, slice_get_within}
 use Rattle.x12_bytes.specs.Header.{delims_of, header_at}
 use Rattle.x12_bytes.specs.HeaderTest.{is_head}
 use Rattle.x12_bytes.specs.declared.delims.Delims.{Delims}
-use Rattle.x12_segs.specs.View.{SegValue}
+use Rattle.x12_segs.specs.Words.{SegValue}
 use Rattle.hub_kinds.specs.declared.interchange.InterchangeFault.{InterchangeFault}
 use Rattle.env_index.specs.declared.entry.SetEnvelope.{SetEnvelope}
-use Rattle.env_index.specs.Envelope.{InGroup, ASet, OutOfGroup, InBody, ATa1, AGroup, OutOfBody, Set}
-use Rattle.env_index.specs.Extents.{ChainFrom}
-use Rattle.env_index.specs.Index.{IndexEntry, IndexValue, IsEntryOf, IsIndex, IsReadIn, extents_of}
-use Rattle.env_index.specs.Interchange.{InterchangeEntry}
-use Rattle.env_index.specs.Settled.{settled, with_faults}
-use Rattle.env_index.specs.Spans.{EachSet, EachSetIn, SetStandsAlone, span_of}
-use Rattle.env_index.specs.Summary.{GroupEntry, group_entry, groups_in, set_entry, sets_in}
+use Rattle.env_index.specs.Words.{InGroup, ASet, OutOfGroup, InBody, ATa1, AGroup, OutOfBody, Set, ChainFrom, IndexEntry, IndexValue}
+use Rattle.env_index.specs.Words.{IsEntryOf, IsIndex, IsReadIn, extents_of, InterchangeEntry, settled, with_faults, EachSet, EachSetIn}
+use Rattle.env_index.specs.Words.{SetStandsAlone, span_of, GroupEntry, group_entry, groups_in, set_entry, sets_in}
 use Rattle.env_index.proofs.Standing.{all_alone}
 use Rattle.set_check.specs.SetParts.{no_segment, set_parts}
 

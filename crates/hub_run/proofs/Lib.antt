@@ -16,6 +16,7 @@ pub mod QuotedElements
 pub mod QuotingFaults
 pub mod QuotingNames
 pub mod Reading
+pub mod Repeated
 pub mod ReadingNights
 pub mod ReadingSets
 pub mod SetTexts

@@ -8,7 +8,7 @@ use Rattle.std.proofs.lemmas.List.{length-drop, map-append, take-append-drop}
 use Rattle.std.proofs.lemmas.List.Elements.{All-cons, All-drop, All-from_recursion, All-head, All-map, All-nil, All-tail}
 use Rattle.std.proofs.lemmas.List.Elements.{All-take}
 use Rattle.x12_bytes.specs.declared.delims.Delims.{Delims}
-use Rattle.x12_segs.specs.View.{element_of}
+use Rattle.x12_segs.specs.Words.{element_of}
 use Rattle.moment.specs.Moment.{IsMoment, date_of, time_of}
 use Rattle.x12_write.specs.Group.{texts_in_row}
 use Rattle.x12_write.specs.Number.{padded_number}
@@ -28,7 +28,7 @@ use Rattle.partner_setup.specs.Sound.{IsSoundPartner}
 use Rattle.judged_text.specs.Judged.{PlacedValue}
 use Rattle.mailbox.specs.Mailbox.{box_text, delivered_group_text, delivered_text, delivered_texts, groups_text, numbered_text, sender_code}
 use Rattle.mailbox.specs.Numbered.{NumberedValue, goes_with, groups_of, numbered_from, onto_groups}
-use Rattle.mailbox.proofs.Interchanges.{first_interchange, no_interchange}
+use Rattle.count_numbers.proofs.Interchanges.{first_interchange, no_interchange}
 use Rattle.hub_run.specs.SetsRead.{AreSetsFound, Said, set_said}
 use Rattle.hub_run.proofs.Enveloping.{code_inside, date, inside, isa, isa_text, plain, readable_isa, time}
 use Rattle.hub_run.proofs.Found.{IsMade, made_behind, made_found, nothing_made, other_made}

@@ -7,7 +7,7 @@ use Rattle.std.proofs.lemmas.List.Elements.{All-weaker}
 use Rattle.std.proofs.lemmas.List.Splits.{slice_split_none}
 use Rattle.x12_bytes.specs.Bytes.{is_line_end}
 use Rattle.x12_bytes.specs.declared.delims.Delims.{Delims}
-use Rattle.x12_segs.specs.View.{components, occurrences}
+use Rattle.x12_segs.specs.Words.{components, occurrences}
 use Rattle.x12_write.specs.Delimiters.{is_this}
 use Rattle.x12_write.specs.Undivided.{CanDivide, IsUndivided}
 use Rattle.partner_setup.specs.Sound.{has_delimiters}

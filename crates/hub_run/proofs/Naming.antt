@@ -7,9 +7,8 @@ use Rattle.x12_bytes.specs.declared.delims.Delims.{Delims}
 use Rattle.x12_write.specs.Undivided.{CanDivide, IsUndivided}
 use Rattle.guide_tree.specs.declared.fault.GuideFault.TheVariants as fault
 use Rattle.guide_tree.specs.declared.node.Loop.{Loop}
-use Rattle.guide_tree.specs.Bounds.{is_bounded, is_loop_id, is_use_range}
-use Rattle.guide_tree.specs.Faults.{IsWellFormed}
-use Rattle.guide_tree.specs.Tree.{AnyIn, AnyNode, EachIn, EachNode, GuideTree, Tree, Trees, loop, no_trees, number_of, segment, tree}
+use Rattle.guide_tree.specs.Words.{is_bounded, is_loop_id, is_use_range, IsWellFormed, AnyIn, AnyNode, EachIn, EachNode, GuideTree, Tree}
+use Rattle.guide_tree.specs.Words.{Trees, loop, no_trees, number_of, segment, tree}
 use Rattle.hub_run.specs.Quotable.{IsGuideQuotable, IsNodeQuotable, IsRowQuotable}
 use Rattle.hub_run.proofs.QuotedElements.{word_undivided}
 

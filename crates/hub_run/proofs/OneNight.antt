@@ -1,8 +1,7 @@
 -- A text has one night by a setup and at a moment.
 use Rattle.std.proofs.Common.{◌≡◌, ℕ, List, sym, ap, subst, ◌∙◌}
 use Rattle.hub_kinds.specs.declared.counters.Counters.{Counters}
-use Rattle.env_index.specs.Index.{IndexValue}
-use Rattle.env_index.specs.Settled.{settled}
+use Rattle.env_index.specs.Words.{IndexValue, settled}
 use Rattle.env_index.proofs.OneIndex.{index_is_one}
 use Rattle.partner_setup.specs.declared.partner.Partner.{Partner}
 use Rattle.partner_setup.specs.Setup.{SetupValue}

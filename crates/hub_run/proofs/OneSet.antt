@@ -13,9 +13,7 @@ use Rattle.std.proofs.lemmas.List.Elements.{All-take}
 use Rattle.std.proofs.lemmas.List.Elements.{All-weaker}
 use Rattle.std.proofs.lemmas.List.Folds.{flat_map-map}
 use Rattle.x12_bytes.specs.declared.delims.Delims.{Delims}
-use Rattle.x12_segs.specs.Kinds.{is_inner, kind_of}
-use Rattle.x12_segs.specs.Parts.{parts}
-use Rattle.x12_segs.specs.View.{SegValue, elements_of, part_or_empty}
+use Rattle.x12_segs.specs.Words.{is_inner, kind_of, parts, SegValue, elements_of, part_or_empty}
 use Rattle.x12_write.specs.Number.{padded_number}
 use Rattle.x12_write.specs.Segment.{elements_text}
 use Rattle.x12_write.specs.Undivided.{CanDivide, IsUndivided}

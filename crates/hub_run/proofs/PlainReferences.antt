@@ -4,18 +4,16 @@ use Rattle.std.specs.Prelude.{IfSome, filter, find, slice_get}
 use Rattle.std.specs.List.{All}
 use Rattle.std.proofs.lemmas.List.Elements.{All-cons, All-head, All-nil, All-tail, All-weaker}
 use Rattle.x12_bytes.specs.declared.delims.Delims.{Delims}
-use Rattle.x12_segs.specs.View.{element_of}
+use Rattle.x12_segs.specs.Words.{element_of}
 use Rattle.x12_write.specs.Undivided.{CanDivide, IsUndivided}
 use Rattle.x12_write.proofs.Plain.{plain-undivided}
 use Rattle.guide_tree.specs.declared.element.Component.{Component}
 use Rattle.guide_tree.specs.declared.element.Element.{Element}
 use Rattle.guide_tree.specs.declared.rows.GuideRows.{GuideRows}
-use Rattle.guide_tree.specs.Tree.{EachIn, EachNode, Tree, Trees, loop, no_trees, segment, tree}
+use Rattle.guide_tree.specs.Words.{EachIn, EachNode, Tree, Trees, loop, no_trees, segment, tree}
 use Rattle.guide_tree.specs.View as view
 use Rattle.elem_rules.specs.Rows.{component_reference, components_of, element_reference}
-use Rattle.env_index.specs.Index.{IndexEntry}
-use Rattle.env_index.specs.Settled.{settled}
-use Rattle.env_index.specs.Summary.{GroupEntry}
+use Rattle.env_index.specs.Words.{IndexEntry, settled, GroupEntry}
 use Rattle.env_index.specs.declared.entry.SetEnvelope.{SetEnvelope}
 use Rattle.judged_text.specs.Judged.{responded_groups}
 use Rattle.partner_setup.specs.declared.partner.Partner.{Partner}
@@ -29,7 +27,7 @@ use Rattle.checked_text.specs.Settled.{settled_faults}
 use Rattle.hub_run.specs.Quotable.{AreQuotable, IsGroupQuotable, IsGuidePlain, IsGuideQuotable, IsNodePlain, IsNodeQuotable}
 use Rattle.hub_run.specs.Quotable.{IsPlainReference, IsRowPlain, IsRowQuotable}
 use Rattle.hub_run.specs.ReadBack.{AreReadBack, AreSetsRead, IsRead, IsReadBack}
-use Rattle.hub_run.specs.Told.{is_responded_to}
+use Rattle.hub_run.specs.Told.{groups_told, is_told_to}
 use Rattle.hub_run.proofs.Headers.{at_index}
 use Rattle.hub_run.proofs.Pairs.{pairs_weaker_at}
 
@@ -100,10 +98,10 @@ all_quoted : (text : List ℕ) (setup : SetupValue) (place : ℕ) (p : Partner) 
     → All IsGuidePlain setup.guides → AreQuotable text setup place p entries
 all_quoted text setup place p entries can plain =
     let sent : IndexEntry → SentValue = sent_by text setup place in
-    let groups : IndexEntry → List GroupEntry = λ e. responded_groups e.interchange.content.groups in
+    let groups : IndexEntry → List GroupEntry = λ e. responded_groups (groups_told e) in
     everywhere (λ (e : IndexEntry). All (IsGroupQuotable p.delims (sent e)) (groups e))
     (λ e. everywhere (IsGroupQuotable p.delims (sent e)) (group_quoted p.delims can setup plain text place e) (groups e))
-    (filter (is_responded_to setup place) entries)
+    (filter (is_told_to setup place) entries)
 
 pub plain_read : (text : List ℕ) (setup : SetupValue) (acknowledgments : List (List ℕ)) → IsSoundSetup setup
     → All IsGuidePlain setup.guides → AreReadBack text setup acknowledgments → AreSetsRead text setup acknowledgments

@@ -9,17 +9,14 @@ use Rattle.std.proofs.lemmas.List.Elements.{All-cons, All-nil, All-weaker}
 use Rattle.std.proofs.lemmas.List.Sums.{AllPass-from_list_all, list_all-from_AllPass}
 use Rattle.std.proofs.lemmas.Option.{none-some}
 use Rattle.x12_bytes.specs.declared.delims.Delims.{Delims}
-use Rattle.x12_segs.specs.View.{SegValue, element_of}
+use Rattle.x12_segs.specs.Words.{SegValue, element_of}
 use Rattle.x12_write.specs.Undivided.{CanDivide, IsUndivided}
 use Rattle.x12_write.proofs.Plain.{plain-undivided}
-use Rattle.hub_kinds.specs.Numbers.{is_number}
-use Rattle.hub_kinds.specs.Words.{is_word}
+use Rattle.hub_kinds.specs.Words.{is_number, is_word}
 use Rattle.hub_kinds.specs.declared.interchange.InterchangeFault.{InterchangeFault}
 use Rattle.env_index.specs.declared.entry.SetEnvelope.{SetEnvelope}
-use Rattle.env_index.specs.Faults.{control_number, counts_groups, fault_by, fault_of, fault_of_headers, fault_with, has_control}
-use Rattle.env_index.specs.Faults.{has_set_headers, is_group_header, is_set_header}
-use Rattle.env_index.specs.Interchange.{InterchangeEntry}
-use Rattle.env_index.specs.Summary.{GroupEntry}
+use Rattle.env_index.specs.Words.{control_number, counts_groups, fault_by, fault_of, fault_of_headers, fault_with, has_control}
+use Rattle.env_index.specs.Words.{has_set_headers, is_group_header, is_set_header, InterchangeEntry, GroupEntry}
 
 -- neither the element separator nor the terminator stands in GS01, GS06 and GS08 of a group, and in ST01 and ST02 of its sets
 pub record AreElementsUndivided (d : Delims) (group : GroupEntry) : Type 0 where

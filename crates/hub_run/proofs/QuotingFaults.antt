@@ -16,11 +16,8 @@ use Rattle.guide_tree.specs.declared.rows.DependencyKind.{DependencyKind}
 use Rattle.guide_tree.specs.declared.rows.DependencyKind.TheVariants as kind
 use Rattle.guide_tree.specs.declared.rows.HlRule.{HlRule}
 use Rattle.guide_tree.specs.declared.slot.Slot.{Slot}
-use Rattle.guide_tree.specs.Nexts.{placing_of}
-use Rattle.guide_tree.specs.Places.{Place, use_of}
-use Rattle.guide_tree.specs.Segments.{Segment, element_of}
-use Rattle.guide_tree.specs.Structure.{IsStructureFault, node_at, node_fault, past_code}
-use Rattle.guide_tree.specs.Tree.{GuideTree, Tree, Trees}
+use Rattle.guide_tree.specs.Words.{placing_of, Place, use_of, Segment, element_of, IsStructureFault, node_at, node_fault, past_code}
+use Rattle.guide_tree.specs.Words.{GuideTree, Tree, Trees}
 use Rattle.elem_rules.specs.Conditions.{condition_code}
 use Rattle.elem_rules.specs.ElementFaults.{IsElementFault, fault_at}
 use Rattle.loop_match.specs.LoopIds.{loop_id_of}

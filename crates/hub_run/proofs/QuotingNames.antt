@@ -9,11 +9,8 @@ use Rattle.x12_write.specs.Undivided.{IsUndivided}
 use Rattle.guide_tree.specs.declared.element.Component.{Component}
 use Rattle.guide_tree.specs.declared.element.Element.{Element}
 use Rattle.guide_tree.specs.declared.slot.Slot.{Slot}
-use Rattle.guide_tree.specs.Conditions.{has_label}
-use Rattle.guide_tree.specs.Places.{Place, slot_at, slot_in, slot_nth, use_of}
-use Rattle.guide_tree.specs.Segments.{Segment}
-use Rattle.guide_tree.specs.Structure.{innermost, loop_id_at, node_at, node_in, node_nth}
-use Rattle.guide_tree.specs.Tree.{Tree, Trees, loop, no_trees, or_else, segment, tree}
+use Rattle.guide_tree.specs.Words.{has_label, Place, slot_at, slot_in, slot_nth, use_of, Segment, innermost, loop_id_at, node_at, node_in}
+use Rattle.guide_tree.specs.Words.{node_nth, Tree, Trees, loop, no_trees, or_else, segment, tree}
 use Rattle.elem_rules.specs.Rows.{component_reference, components_of, element_reference, nth, reference_in}
 use Rattle.loop_match.specs.LoopIds.{loop_id_in, loop_id_nth, loop_id_of}
 use Rattle.loop_match.specs.PlacedSegments.{PlacedSegment, with_placed, placed_among_first, placed_at, placed_by, placed_segments}

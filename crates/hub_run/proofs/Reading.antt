@@ -6,7 +6,7 @@ use Rattle.std.specs.List.{flat_map}
 use Rattle.std.proofs.lemmas.List.{map-append}
 use Rattle.x12_bytes.specs.declared.delims.Delims.{Delims}
 use Rattle.x12_write.specs.Segment.{Segment, before_rest, segment, trimmed}
-use Rattle.hub_kinds.specs.SetCodes.{set_code_text, verdict_text}
+use Rattle.hub_kinds.specs.Words.{set_code_text, verdict_text}
 use Rattle.hub_kinds.specs.declared.answers.GroupAnswer.{GroupAnswer}
 use Rattle.hub_kinds.specs.declared.answers.SetAnswer.{SetAnswer}
 use Rattle.ack_999.specs.Faults.{ElementNote, Note, SegmentNote, fault_segments, note_segment, notes}

@@ -1,7 +1,7 @@
 -- What a partner reads in the acknowledgments of a night.
 use Rattle.std.proofs.Common.{◌≡◌, ℕ, ◌+◌, Bool, true, false, cond, not, List, [], ◌∷◌, ◌++◌, Option, Some, None, length, refl, sym}
 use Rattle.std.proofs.Common.{ap, subst, ◌∙◌, arith, append-nil}
-use Rattle.std.specs.Prelude.{filter}
+use Rattle.std.specs.Prelude.{filter, is_none, option_map, if◌then◌else◌}
 use Rattle.std.specs.List.{All, flat_map}
 use Rattle.std.proofs.lemmas.List.Elements.{All-cons, All-head, All-nil, All-tail}
 use Rattle.x12_bytes.specs.declared.delims.Delims.{Delims}
@@ -11,25 +11,26 @@ use Rattle.x12_write.specs.Header.{header_text}
 use Rattle.x12_write.specs.Segment.{Segment, segment_text}
 use Rattle.x12_write.specs.Undivided.{CanDivide, IsUndivided}
 use Rattle.moment.specs.Moment.{IsMoment}
-use Rattle.env_index.specs.Index.{IndexEntry}
-use Rattle.env_index.specs.Settled.{settled}
-use Rattle.env_index.specs.Summary.{GroupEntry}
+use Rattle.env_index.specs.Words.{IndexEntry, settled, GroupEntry, InterchangeEntry}
 use Rattle.count_numbers.specs.Num.{num}
 use Rattle.partner_setup.specs.declared.partner.Partner.{Partner}
 use Rattle.partner_setup.specs.Envelopes.{envelope_to}
 use Rattle.partner_setup.specs.Setup.{SetupValue}
 use Rattle.partner_setup.specs.Sound.{IsSoundPartner, IsSoundSetup}
 use Rattle.partner_setup.specs.SetupFaults.{are_ids}
+use Rattle.hub_kinds.specs.declared.interchange.InterchangeFault.{InterchangeFault}
+use Rattle.judged_text.specs.Answered.{ta1_note}
 use Rattle.judged_text.specs.Judged.{responded_groups}
-use Rattle.ack_999.specs.Interchange.{interchange_text}
+use Rattle.ack_999.specs.Interchange.{group_count, group_part, interchange_text, ta1_part}
+use Rattle.ack_999.specs.Ta1.{ta1_text}
 use Rattle.ack_999.specs.ReadBack.{written_parts}
 use Rattle.ack_999.proofs.ReadBack.{IsReadable}
 use Rattle.ack_999.specs.Report.{shows_sets, text_999}
 use Rattle.checked_text.specs.declared.answered.AnsweredGroup.{AnsweredGroup}
-use Rattle.checked_text.specs.Acknowledgments.{acknowledgment_text, present, reports_from}
+use Rattle.checked_text.specs.Acknowledgments.{acknowledgment_text, groups_of, present, reports_from, ta1_of}
 use Rattle.checked_text.specs.Answers.{SentValue}
 use Rattle.checked_text.specs.CheckedText.{CheckedInterchange, AreCheckedAs, IsCheckedAs, acknowledged_to, acknowledgments_from}
-use Rattle.checked_text.specs.CheckedText.{is_acknowledged_to, is_partner, recipient_by, sent_by}
+use Rattle.checked_text.specs.CheckedText.{AreAnswersBy, acknowledgment_of, is_acknowledged_to, sent_by}
 use Rattle.checked_text.specs.Pairs.{AreAllPairs}
 use Rattle.checked_text.specs.Settled.{settled_faults}
 use Rattle.hub_run.specs.declared.night.Night.{Night}
@@ -38,15 +39,17 @@ use Rattle.hub_run.specs.Quotable.{IsGroupQuotable}
 use Rattle.hub_run.specs.ReadBack.{AreReadBack, IsReadBack, IsResponseTo, SentSet}
 use Rattle.hub_run.specs.ReadBack.{sets_in, sets_in_group, sets_told_to}
 use Rattle.hub_run.specs.Responses.{Response, responses_behind}
-use Rattle.hub_run.specs.Told.{is_responded_to}
+use Rattle.hub_run.specs.Told.{groups_told, is_told_to}
 use Rattle.hub_run.proofs.Enveloping.{component, ge, gs, iea, isa, isa_text, readable_ge, readable_gs, readable_iea, readable_isa}
+use Rattle.hub_run.proofs.Enveloping.{readable_ta1, ta1}
+use Rattle.hub_run.proofs.Repeated.{repeated}
 use Rattle.hub_run.proofs.Headers.{HasHeader, HaveHeaders, at_index, settled_headers}
 use Rattle.hub_run.proofs.Pairs.{pairs_tail, pairs_weaker_at}
 use Rattle.hub_run.proofs.QuotedElements.{AreElementsUndivided, elements_undivided}
 use Rattle.hub_run.proofs.Reading.{shown_responses}
 use Rattle.hub_run.proofs.ReadingSets.{group_quoted, group_together}
-use Rattle.hub_run.proofs.SettledSound.{IsSettledSound, responded_sound, settled_sound}
-use Rattle.hub_run.proofs.TellingNights.{IsAnsweredGroup, acknowledged_as_told, answered_anywhere, sent_here}
+use Rattle.hub_run.proofs.SettledSound.{IsSettledSound, settled_sound}
+use Rattle.hub_run.proofs.TellingNights.{IsAnsweredGroup, acknowledged_as_told, answered_anywhere, answers_here}
 use Rattle.hub_run.proofs.Together.{Together, together_append, together_pairs}
 use Rattle.hub_run.proofs.Written.{IsWritten, nothing_written, one_behind, other_written, report_written, responses_read}
 
@@ -144,105 +147,140 @@ module _ (text : List ℕ) (setup : SetupValue) (at : List ℕ) (moment : IsMome
       subst (AreResponses d []) (sym (isa_text e at number))
       (silent (isa e at number) (readable_isa setup p count hub_ids sound at moment number) (λ i c ss. refl))
 
-  gs_read : AreResponses d [] (segment_text d (gs e at).id (gs e at).elements)
-  gs_read = silent (gs e at) (readable_gs setup p count hub_ids sound at moment) (λ i c ss. refl)
+  gs_read : (control : ℕ) → AreResponses d [] (segment_text d (gs e at control).id (gs e at control).elements)
+  gs_read control = silent (gs e at control) (readable_gs setup p count hub_ids sound at moment control) (λ i c ss. refl)
 
-  ge_read : (reports : ℕ) → AreResponses d [] (segment_text d (ge reports).id (ge reports).elements)
-  ge_read reports = silent (ge reports) (readable_ge setup p count hub_ids sound at moment reports) (λ i c ss. refl)
+  ge_read : (reports control : ℕ) → AreResponses d [] (segment_text d (ge reports control).id (ge reports control).elements)
+  ge_read reports control =
+      silent (ge reports control) (readable_ge setup p count hub_ids sound at moment reports control) (λ i c ss. refl)
 
-  iea_read : (number : ℕ) → AreResponses d [] (segment_text d (iea number).id (iea number).elements)
-  iea_read number = silent (iea number) (readable_iea setup p count hub_ids sound at moment number) (λ i c ss. refl)
+  iea_read : (groups number : ℕ) → AreResponses d [] (segment_text d (iea groups number).id (iea groups number).elements)
+  iea_read groups number = silent (iea groups number) (readable_iea setup p count hub_ids sound at moment groups number) (λ i c ss. refl)
+
+  -- nor has a TA1
+  ta1_read : (sender : Option ℕ) (fault : Option InterchangeFault) (x : InterchangeEntry) (note : Option (List ℕ))
+      → ta1_note sender fault x ≡ note → AreResponses d [] (ta1_part (option_map (ta1_text d x.header) note))
+  ta1_read sender fault x None is = no_responses d
+  ta1_read sender fault x (Some note) is =
+      let noted = repeated sender fault x note is in
+      silent (ta1 x.header note)
+      (readable_ta1 setup p count hub_ids sound at moment x.header note noted.control noted.day noted.time noted.note) (λ i c ss. refl)
+
+  -- the group has the responses of its reports
+  grouped : (control : ℕ) (reports : List (List ℕ)) (sets : List SentSet) → AreResponses d sets (texts_in_row reports)
+      → AreResponses d sets (group_part e at control reports)
+  grouped control [] sets inner = inner
+  grouped control (report ∷ reports) sets inner =
+      let first : List ℕ = segment_text d (gs e at control).id (gs e at control).elements in
+      let rows : List ℕ = texts_in_row (report ∷ reports) in
+      let n : ℕ = length (report ∷ reports) in
+      let last : List ℕ = segment_text d (ge n control).id (ge n control).elements in
+      subst (λ (xs : List SentSet). AreResponses d xs (group_part e at control (report ∷ reports))) (append-nil sets)
+      (both_read d sets [] (first ++ rows) last (both_read d [] sets first rows (gs_read control) inner) (ge_read n control))
 
   -- an interchange has the responses of its reports
-  around : (number : ℕ) (reports : List (List ℕ)) (sets : List SentSet) → AreResponses d sets (texts_in_row reports)
-      → AreResponses d sets (interchange_text e at number reports)
-  around number reports sets inner =
+  around : (number control : ℕ) (ta1 : Option (List ℕ)) (reports : List (List ℕ)) (sets : List SentSet)
+      → AreResponses d [] (ta1_part ta1) → AreResponses d sets (texts_in_row reports)
+      → AreResponses d sets (interchange_text e at number control ta1 reports)
+  around number control ta1 reports sets answer inner =
       let head : List ℕ = header_text e at number in
-      let first : List ℕ = segment_text d (gs e at).id (gs e at).elements in
-      let rows : List ℕ = texts_in_row reports in
-      let last : List ℕ = segment_text d (ge (length reports)).id (ge (length reports)).elements in
-      let end : List ℕ = segment_text d (iea number).id (iea number).elements in
-      let group = both_read d sets [] (first ++ rows) last (both_read d [] sets first rows gs_read inner) (ge_read (length reports)) in
-      let all = both_read d (sets ++ []) [] (head ++ ((first ++ rows) ++ last)) end
-      (both_read d [] (sets ++ []) head ((first ++ rows) ++ last) (isa_read number) group) (iea_read number) in
-      subst (λ (xs : List SentSet). AreResponses d xs (interchange_text e at number reports))
-      (append-nil (sets ++ []) ∙ append-nil sets) all
+      let group : List ℕ = group_part e at control reports in
+      let end : List ℕ = segment_text d (iea (group_count reports) number).id (iea (group_count reports) number).elements in
+      let front = both_read d [] [] head (ta1_part ta1) (isa_read number) answer in
+      let all = both_read d sets [] ((head ++ ta1_part ta1) ++ group) end
+      (both_read d [] sets (head ++ ta1_part ta1) group front (grouped control reports sets inner))
+      (iea_read (group_count reports) number) in
+      subst (λ (xs : List SentSet). AreResponses d xs (interchange_text e at number control ta1 reports)) (append-nil sets) all
 
   abbrev Quotable : IndexEntry → Type 0
-  Quotable x = All (IsGroupQuotable d (sent_by text setup place x)) (responded_groups x.interchange.content.groups)
+  Quotable x = All (IsGroupQuotable d (sent_by text setup place x)) (responded_groups (groups_told x))
 
   abbrev sets_of_entry : IndexEntry → List SentSet
-  sets_of_entry x = sets_in (sent_by text setup place x) x.interchange.content.groups
+  sets_of_entry x = sets_in (sent_by text setup place x) (groups_told x)
 
-  interchange_read : (number : ℕ) (entry : IndexEntry) (x : CheckedInterchange) → IsRead text entry
-      → IsCheckedAs text setup entry x → is_acknowledged_to place x ≡ true → Quotable entry
-      → AreResponses d (sets_of_entry entry) (acknowledgment_text e at number x.groups)
-  interchange_read number entry x read is told quotable =
+  -- the groups that are told of an interchange with this fault
+  abbrev told_by : Option InterchangeFault → IndexEntry → List GroupEntry
+  told_by fault x = if is_none fault then x.interchange.content.groups else []
+
+  reports_here : (entry : IndexEntry) (answers : List (Option AnsweredGroup)) (fault : Option InterchangeFault) → entry.fault ≡ fault
+      → IsRead text entry → AreAnswersBy text setup entry fault (Some place) answers
+      → All (IsGroupQuotable d (sent_by text setup place entry)) (responded_groups (told_by fault entry))
+      → AreResponses d (sets_in (sent_by text setup place entry) (told_by fault entry)) (texts_in_row (reports_from d 1 (present answers)))
+  reports_here entry answers (Some f) same read are quotable =
+      subst (λ (as : List (Option AnsweredGroup)). AreResponses d [] (texts_in_row (reports_from d 1 (present as)))) (sym are)
+      (no_responses d)
+  reports_here entry answers None same read are quotable =
       let sent : SentValue = sent_by text setup place entry in
-      let faultless = responded_sound setup place entry (sym (acknowledged_as_told text setup place entry x is) ∙ told) read.1 in
       let headers = groups_read d sent entry.interchange.content.groups read.0
-      (elements_undivided d sound.divides entry.interchange faultless) in
-      let here : is_partner place (recipient_by x.sender entry.fault x.groups) ≡ true =
-      sym (ap (λ (y : IndexEntry). is_partner place (recipient_by x.sender y.fault x.groups)) is.entry) ∙ told in
-      let groups = sent_here text setup place entry entry.fault x.sender x.groups is.groups here in
-      around number (reports_from d 1 (present x.groups)) (sets_of_entry entry)
-      (reports_read d sound.divides (component setup p count hub_ids sound at moment) sent 1
-      entry.interchange.content.groups x.groups headers quotable
-      (answered_anywhere sent entry.interchange.content.groups x.groups groups))
+      (elements_undivided d sound.divides entry.interchange (read.1 same)) in
+      reports_read d sound.divides (component setup p count hub_ids sound at moment) sent 1
+      entry.interchange.content.groups answers headers quotable
+      (answered_anywhere sent entry.interchange.content.groups answers are)
 
-  -- what is read of interchanges, the first acknowledgment being number k
-  abbrev AreRead : ℕ → List IndexEntry → List CheckedInterchange → Type 0
-  AreRead k es xs =
-      All Quotable (filter (is_responded_to setup place) es)
-      → AreResponses d (sets_told_to text setup place es) (acknowledgments_from setup p at k (acknowledged_to place xs))
+  interchange_read : (number control : ℕ) (entry : IndexEntry) (x : CheckedInterchange) → IsRead text entry
+      → IsCheckedAs text setup entry x → is_acknowledged_to place x ≡ true → Quotable entry
+      → AreResponses d (sets_of_entry entry) (acknowledgment_text e at number control (acknowledgment_of x))
+  interchange_read number control entry x read is told quotable =
+      around number control (ta1_of d (acknowledgment_of x)) (reports_from d 1 (present x.groups)) (sets_of_entry entry)
+      (ta1_read x.sender x.entry.fault x.entry.interchange (acknowledgment_of x).note refl)
+      (reports_here entry x.groups entry.fault refl read (answers_here text setup place entry x is told) quotable)
 
-  one_in_front : (k : ℕ) (entry : IndexEntry) (x : CheckedInterchange) (es : List IndexEntry) (xs : List CheckedInterchange)
-      → IsRead text entry → IsCheckedAs text setup entry x → AreRead (k + 1) es xs → AreRead k es xs
-      → (b : Bool) → is_acknowledged_to place x ≡ b → AreRead k (entry ∷ es) (x ∷ xs)
-  one_in_front k entry x es xs headers is next same true known = λ quotable.
-      let rest : List IndexEntry = filter (is_responded_to setup place) es in
+  -- what is read of interchanges, in front of whose acknowledgments there are k others and g groups
+  abbrev AreRead : (k g : ℕ) → List IndexEntry → List CheckedInterchange → Type 0
+  AreRead k g es xs =
+      All Quotable (filter (is_told_to setup place) es)
+      → AreResponses d (sets_told_to text setup place es) (acknowledgments_from setup p at k g (acknowledged_to place xs))
+
+  one_in_front : (k g : ℕ) (entry : IndexEntry) (x : CheckedInterchange) (es : List IndexEntry) (xs : List CheckedInterchange)
+      → IsRead text entry → IsCheckedAs text setup entry x → AreRead (k + 1) (g + groups_of (acknowledgment_of x)) es xs
+      → AreRead k g es xs → (b : Bool) → is_acknowledged_to place x ≡ b → AreRead k g (entry ∷ es) (x ∷ xs)
+  one_in_front k g entry x es xs headers is next same true known = λ quotable.
+      let rest : List IndexEntry = filter (is_told_to setup place) es in
       let here : List CheckedInterchange = acknowledged_to place xs in
-      let told : filter (is_responded_to setup place) (entry ∷ es) ≡ entry ∷ rest =
+      let told : filter (is_told_to setup place) (entry ∷ es) ≡ entry ∷ rest =
       ap (λ (c : Bool). cond c (entry ∷ rest) rest) (sym (acknowledged_as_told text setup place entry x is) ∙ known) in
       let kept : acknowledged_to place (x ∷ xs) ≡ x ∷ here = ap (λ (c : Bool). cond c (x ∷ here) here) known in
       let quoted : All Quotable (entry ∷ rest) = subst (All Quotable) told quotable in
       let number : ℕ = num p.counters.interchange k in
+      let control : ℕ = num p.counters.group g in
       subst (λ (ys : List IndexEntry). AreResponses d (flat_map sets_of_entry ys)
-      (acknowledgments_from setup p at k (acknowledged_to place (x ∷ xs)))) (sym told)
+      (acknowledgments_from setup p at k g (acknowledged_to place (x ∷ xs)))) (sym told)
       (subst (λ (zs : List CheckedInterchange). AreResponses d (flat_map sets_of_entry (entry ∷ rest))
-      (acknowledgments_from setup p at k zs)) (sym kept)
-      (both_read d (sets_of_entry entry) (flat_map sets_of_entry rest) (acknowledgment_text e at number x.groups)
-      (acknowledgments_from setup p at (k + 1) here)
-      (interchange_read number entry x headers is known (All-head Quotable entry rest quoted))
+      (acknowledgments_from setup p at k g zs)) (sym kept)
+      (both_read d (sets_of_entry entry) (flat_map sets_of_entry rest)
+      (acknowledgment_text e at number control (acknowledgment_of x))
+      (acknowledgments_from setup p at (k + 1) (g + groups_of (acknowledgment_of x)) here)
+      (interchange_read number control entry x headers is known (All-head Quotable entry rest quoted))
       (next (All-tail Quotable entry rest quoted))))
-  one_in_front k entry x es xs headers is next same false known = λ quotable.
-      let rest : List IndexEntry = filter (is_responded_to setup place) es in
+  one_in_front k g entry x es xs headers is next same false known = λ quotable.
+      let rest : List IndexEntry = filter (is_told_to setup place) es in
       let here : List CheckedInterchange = acknowledged_to place xs in
-      let told : filter (is_responded_to setup place) (entry ∷ es) ≡ rest =
+      let told : filter (is_told_to setup place) (entry ∷ es) ≡ rest =
       ap (λ (c : Bool). cond c (entry ∷ rest) rest) (sym (acknowledged_as_told text setup place entry x is) ∙ known) in
       let kept : acknowledged_to place (x ∷ xs) ≡ here = ap (λ (c : Bool). cond c (x ∷ here) here) known in
       subst (λ (ys : List IndexEntry). AreResponses d (flat_map sets_of_entry ys)
-      (acknowledgments_from setup p at k (acknowledged_to place (x ∷ xs)))) (sym told)
+      (acknowledgments_from setup p at k g (acknowledged_to place (x ∷ xs)))) (sym told)
       (subst (λ (zs : List CheckedInterchange). AreResponses d (flat_map sets_of_entry rest)
-      (acknowledgments_from setup p at k zs)) (sym kept) (same (subst (All Quotable) told quotable)))
+      (acknowledgments_from setup p at k g zs)) (sym kept) (same (subst (All Quotable) told quotable)))
 
-  interchanges_read : (k : ℕ) (es : List IndexEntry) (xs : List CheckedInterchange)
-      → All (IsRead text) es → AreCheckedAs text setup es xs → AreRead k es xs
-  interchanges_read k [] [] headers are = λ quotable. no_responses d
-  interchanges_read k [] (x ∷ xs) headers are = absurd (omega (arith, are.count))
-  interchanges_read k (entry ∷ es) [] headers are = absurd (omega (arith, are.count))
-  interchanges_read k (entry ∷ es) (x ∷ xs) headers are =
+  interchanges_read : (k g : ℕ) (es : List IndexEntry) (xs : List CheckedInterchange)
+      → All (IsRead text) es → AreCheckedAs text setup es xs → AreRead k g es xs
+  interchanges_read k g [] [] headers are = λ quotable. no_responses d
+  interchanges_read k g [] (x ∷ xs) headers are = absurd (omega (arith, are.count))
+  interchanges_read k g (entry ∷ es) [] headers are = absurd (omega (arith, are.count))
+  interchanges_read k g (entry ∷ es) (x ∷ xs) headers are =
       let H : IndexEntry → Type 0 = IsRead text in
       let behind = All-tail H entry es headers in
       let rest : AreCheckedAs text setup es xs = pairs_tail (λ n e x. IsCheckedAs text setup e x) entry x es xs are in
-      one_in_front k entry x es xs (All-head H entry es headers) (are.each 0 entry x refl refl)
-      (interchanges_read (k + 1) es xs behind rest) (interchanges_read k es xs behind rest) (is_acknowledged_to place x) refl
+      one_in_front k g entry x es xs (All-head H entry es headers) (are.each 0 entry x refl refl)
+      (interchanges_read (k + 1) (g + groups_of (acknowledgment_of x)) es xs behind rest) (interchanges_read k g es xs behind rest)
+      (is_acknowledged_to place x) refl
 
   partner_read : (es : List IndexEntry) (xs : List CheckedInterchange)
       → All (IsRead text) es → AreCheckedAs text setup es xs
       → IsReadBack text setup es place p (acks_of setup at xs place p)
   partner_read es xs headers are = λ quotable.
-      let all = interchanges_read 0 es xs headers are quotable in
+      let all = interchanges_read 0 0 es xs headers are quotable in
       let told : List SentSet = sets_told_to text setup place es in
       subst (AreAllPairs (λ n s response. IsResponseTo s response) told)
       (sym (responses_read d (acks_of setup at xs place p) all.responses sound.divides.apart all.written))

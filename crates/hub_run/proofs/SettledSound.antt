@@ -1,20 +1,15 @@
 -- An interchange that is settled without a fault has none of the faults 1 to 7.
 use Rattle.std.proofs.Common.{◌≡◌, ℕ, Bool, true, ◌&&◌, not, List, [], ◌∷◌, ◌++◌, Option, Some, None, refl, sym, ◌∙◌}
 use Rattle.std.specs.Prelude.{is_none}
-use Rattle.std.specs.List.{All, list_any}
-use Rattle.std.proofs.lemmas.Bool.{and_parts, false≢true}
+use Rattle.std.specs.List.{All}
+use Rattle.std.proofs.lemmas.Bool.{false≢true}
 use Rattle.std.proofs.lemmas.List.Elements.{All-cons, All-head, All-nil, All-tail}
 use Rattle.hub_kinds.specs.declared.interchange.InterchangeFault.{InterchangeFault}
-use Rattle.env_index.specs.Faults.{fault_of}
-use Rattle.env_index.specs.Index.{IndexEntry, IndexValue, IsEntryOf, IsIndex}
-use Rattle.env_index.specs.Settled.{settled, with_faults}
+use Rattle.env_index.specs.Words.{fault_of, IndexEntry, IndexValue, IsEntryOf, IsIndex, settled, with_faults}
 use Rattle.partner_setup.specs.Setup.{SetupValue, sender_of}
-use Rattle.judged_text.specs.Judged.{is_fa}
-use Rattle.checked_text.specs.CheckedText.{is_partner}
 use Rattle.checked_text.specs.Seen.{is_among}
 use Rattle.checked_text.specs.Settled.{fault_alone, fault_behind, fault_if_earlier, fault_with_sender, faults_from, kept_keys, key_of}
 use Rattle.checked_text.specs.Settled.{settled_faults}
-use Rattle.hub_run.specs.Told.{is_responded_to}
 
 abbrev pub IsSettledSound : IndexEntry → Type 0
 IsSettledSound e = e.fault ≡ None → fault_of e.interchange ≡ None
@@ -47,11 +42,3 @@ settled_sound text setup index is = entries_sound text setup [] index.entries is
 pub none_is : {A : Type 0} (o : Option A) → is_none o ≡ true → o ≡ None
 none_is None none = refl
 none_is (Some a) none = absurd (false≢true none)
-
--- one that is answered is settled so
-pub responded_sound : (setup : SetupValue) (place : ℕ) (e : IndexEntry) → is_responded_to setup place e ≡ true → IsSettledSound e
-    → fault_of e.interchange ≡ None
-responded_sound setup place e answered sound =
-    let something : Bool = list_any (λ g. not (is_fa g)) e.interchange.content.groups in
-    let from : Bool = is_partner place (sender_of setup e.interchange.header) in
-    sound (none_is e.fault (and_parts (is_none e.fault) something (and_parts (is_none e.fault && something) from answered).0).0)

@@ -10,19 +10,14 @@ use Rattle.x12_bytes.specs.Header.{IsHeader, component_of, delims_of, element_of
 use Rattle.x12_bytes.specs.HeaderTest.{is_head}
 use Rattle.x12_bytes.specs.declared.delims.Delims.{Delims}
 use Rattle.x12_bytes.proofs.Testing.{decides_head}
-use Rattle.x12_segs.specs.Kinds.{is_inner, kind_of}
-use Rattle.x12_segs.specs.View.{SegValue}
+use Rattle.x12_segs.specs.Words.{is_inner, kind_of, SegValue}
 use Rattle.x12_write.specs.Delimiters.{is_this}
 use Rattle.hub_kinds.specs.declared.interchange.InterchangeFault.{InterchangeFault}
 use Rattle.env_index.specs.declared.entry.SetEnvelope.{SetEnvelope}
-use Rattle.env_index.specs.Envelope.{AGroup, ATa1, ASet, AreBodyMembers, AreMembers, InBody, InGroup, OutOfBody, OutOfGroup, Set}
-use Rattle.env_index.specs.Envelope.{option_items}
-use Rattle.env_index.specs.Extents.{ChainFrom}
-use Rattle.env_index.specs.Index.{IndexEntry, IndexValue, IsEntryOf, IsIndex, IsReadIn, extents_of}
-use Rattle.env_index.specs.Interchange.{InterchangeEntry}
-use Rattle.env_index.specs.Settled.{settled, with_faults}
-use Rattle.env_index.specs.Spans.{EachSet, EachSetIn, SetStandsAlone}
-use Rattle.env_index.specs.Summary.{GroupEntry, group_entry, groups_in, set_entry, sets_in}
+use Rattle.env_index.specs.Words.{AGroup, ATa1, ASet, AreBodyMembers, AreMembers, InBody, InGroup, OutOfBody, OutOfGroup, Set}
+use Rattle.env_index.specs.Words.{option_items, ChainFrom, IndexEntry, IndexValue, IsEntryOf, IsIndex, IsReadIn, extents_of}
+use Rattle.env_index.specs.Words.{InterchangeEntry, settled, with_faults, EachSet, EachSetIn, SetStandsAlone, GroupEntry, group_entry}
+use Rattle.env_index.specs.Words.{groups_in, set_entry, sets_in}
 use Rattle.env_index.proofs.Standing.{all_alone}
 use Rattle.hub_run.proofs.Changing.{AreApart}
 

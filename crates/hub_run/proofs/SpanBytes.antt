@@ -7,16 +7,11 @@ use Rattle.std.proofs.lemmas.Bool.{and_parts, eq-eqb, eqb-true, false_from_ne_tr
 use Rattle.std.proofs.lemmas.List.Elements.{All-append, All-cons, All-head, All-map, All-nil, All-tail}
 use Rattle.x12_bytes.specs.Bytes.{is_line_end}
 use Rattle.x12_bytes.specs.declared.delims.Delims.{Delims}
-use Rattle.x12_segs.specs.Kinds.{is_inner, kind_of}
-use Rattle.x12_segs.specs.Parts.{parts}
-use Rattle.x12_segs.specs.Segs.{Seg, part_at, segs_of, without_line_ends}
-use Rattle.x12_segs.specs.Spans.{span_segs, span_views}
-use Rattle.x12_segs.specs.View.{SegValue, view_of}
+use Rattle.x12_segs.specs.Words.{is_inner, kind_of, parts, Seg, part_at, segs_of, without_line_ends, span_segs, span_views, SegValue}
+use Rattle.x12_segs.specs.Words.{view_of}
 use Rattle.x12_segs.specs.declared.set_span.SetSpan.{SetSpan}
 use Rattle.env_index.specs.declared.entry.SetEnvelope.{SetEnvelope}
-use Rattle.env_index.specs.Envelope.{Set, option_items, set_items}
-use Rattle.env_index.specs.Spans.{span_of}
-use Rattle.env_index.specs.Summary.{set_entry}
+use Rattle.env_index.specs.Words.{Set, option_items, set_items, span_of, set_entry}
 use Rattle.mailbox.specs.Deliveries.{inner_in}
 use Rattle.judged_text.specs.Judged.{PlacedValue, delims_in}
 use Rattle.hub_run.proofs.Bodies.{Lacks}

@@ -7,17 +7,17 @@ use Rattle.std.specs.Str.{bytes_eq}
 use Rattle.std.proofs.lemmas.Bool.{or_parts}
 use Rattle.std.proofs.lemmas.List.Folds.{flat_map-map}
 use Rattle.x12_bytes.specs.declared.delims.Delims.{Delims}
-use Rattle.x12_segs.specs.View.{SegValue, element_of}
+use Rattle.x12_segs.specs.Words.{SegValue, element_of}
 use Rattle.x12_write.specs.Group.{texts_in_row}
 use Rattle.x12_write.specs.Number.{padded_number}
 use Rattle.x12_write.specs.Segment.{Segment, segment_text}
-use Rattle.hub_kinds.specs.Numbers.{number_of}
+use Rattle.hub_kinds.specs.Words.{number_of}
 use Rattle.hub_kinds.specs.declared.answers.GroupAnswer.{GroupAnswer}
 use Rattle.hub_kinds.specs.declared.answers.SetAnswer.{SetAnswer}
 use Rattle.hub_kinds.specs.declared.limits.TheConstants.{MOST_CONTROL_DIGITS, MOST_COUNT_DIGITS}
 use Rattle.hub_kinds.specs.declared.set_codes.GroupCode.TheVariants as code
 use Rattle.guide_tree.specs.declared.rows.GuideRows.{GuideRows}
-use Rattle.env_index.specs.Summary.{GroupEntry}
+use Rattle.env_index.specs.Words.{GroupEntry}
 use Rattle.env_index.specs.declared.entry.SetEnvelope.{SetEnvelope}
 use Rattle.partner_setup.specs.Setup.{guide_of, guides_of, has_group, is_for_version}
 use Rattle.set_check.specs.Checked.{said_by}

@@ -7,18 +7,18 @@ use Rattle.std.specs.Str.{bytes_eq}
 use Rattle.std.proofs.lemmas.List.Concat.{flat_map-append}
 use Rattle.std.proofs.lemmas.List.Folds.{flat_map-map}
 use Rattle.x12_bytes.specs.declared.delims.Delims.{Delims}
-use Rattle.x12_segs.specs.View.{SegValue}
+use Rattle.x12_segs.specs.Words.{SegValue}
 use Rattle.x12_segs.specs.declared.set_span.SetSpan.{SetSpan}
 use Rattle.x12_write.specs.Segment.{Segment, elements_text, segment, segment_text, trimmed}
-use Rattle.hub_kinds.specs.SetCodes.{set_code_text, verdict_text}
+use Rattle.hub_kinds.specs.Words.{set_code_text, verdict_text}
 use Rattle.hub_kinds.specs.declared.answers.SetAnswer.{SetAnswer}
 use Rattle.hub_kinds.specs.declared.fault.Fault.{Fault}
 use Rattle.hub_kinds.specs.declared.set_codes.SetCode.{SetCode}
 use Rattle.hub_kinds.specs.declared.set_codes.Verdict.{Verdict}
 use Rattle.hub_kinds.specs.declared.set_codes.Verdict.TheVariants.{Accepted, AcceptedWithErrors, Rejected}
-use Rattle.env_index.specs.Spans.{span_of}
+use Rattle.env_index.specs.Words.{span_of}
 use Rattle.env_index.specs.declared.entry.SetEnvelope.{SetEnvelope}
-use Rattle.guide_tree.specs.Tree.{GuideTree}
+use Rattle.guide_tree.specs.Words.{GuideTree}
 use Rattle.set_check.specs.Checked.{Checked, guide_in, parts_in}
 use Rattle.set_check.specs.SetParts.{SetParts, set_parts}
 use Rattle.set_check.specs.Verdict.{tells_of_faults, tolerates, verdict_on}

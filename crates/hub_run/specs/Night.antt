@@ -2,16 +2,16 @@
 -- front to back. It names no piece, worker, window or order of arrival.
 use Rattle.std.specs.Prelude.{◌≡◌, ℕ, ◌+◌, List, map, length}
 use Rattle.hub_kinds.specs.declared.counters.Counters.{Counters}
-use Rattle.env_index.specs.Index.{IndexValue, IsIndex}
-use Rattle.env_index.specs.Settled.{settled}
+use Rattle.env_index.specs.Words.{IndexValue, IsIndex, settled}
 use Rattle.count_numbers.specs.Layout.{interchange_count}
 use Rattle.count_numbers.specs.Num.{num}
 use Rattle.partner_setup.specs.declared.partner.Partner.{Partner}
 use Rattle.partner_setup.specs.Setup.{SetupValue}
 use Rattle.mailbox.specs.Deliveries.{delivered_to}
 use Rattle.judged_text.specs.Judged.{JudgedValue, PlacedValue}
-use Rattle.mailbox.specs.Mailbox.{box_text}
-use Rattle.checked_text.specs.CheckedText.{CheckedInterchange, AreCheckedAs, acknowledged_to, acknowledgments_to, judged}
+use Rattle.mailbox.specs.Mailbox.{box_text, group_total}
+use Rattle.checked_text.specs.CheckedText.{CheckedInterchange, AreCheckedAs, acknowledged_to, acknowledgments_to, groups_to}
+use Rattle.checked_text.specs.CheckedText.{judged}
 use Rattle.checked_text.specs.Pairs.{AreAllPairs}
 use Rattle.checked_text.specs.Settled.{settled_faults}
 use Rattle.night_report.specs.Report.{report_text}
@@ -36,22 +36,25 @@ sets_to text setup known place = delivered_to setup place (judgements text known
 abbrev pub acks_of : SetupValue → (at : List ℕ) → List CheckedInterchange → (place : ℕ) → Partner → List ℕ
 acks_of setup at known place partner = (acknowledgments_to setup at known place partner).text
 
--- its mailbox, whose interchanges are numbered behind its acknowledgments
+-- its mailbox, whose interchanges and groups are numbered behind those of its acknowledgments
 abbrev pub box_of : (text : List ℕ) → SetupValue → (at : List ℕ) → List CheckedInterchange → (place : ℕ) → Partner → List ℕ
 box_of text setup at known place partner =
-    box_text setup partner at (length (acknowledged_to place known)) (sets_to text setup known place)
+    box_text setup partner at (length (acknowledged_to place known)) (groups_to (acknowledged_to place known))
+    (sets_to text setup known place)
 
--- the counters behind so many acknowledgments and so many delivered sets
-abbrev pub counters_behind : Counters → (cap acknowledgments sets : ℕ) → Counters
-counters_behind now cap acknowledgments sets = record {
-  interchange = num now.interchange (acknowledgments + interchange_count cap sets);
-  set = num now.set sets;
+-- the counters behind so many acknowledgments, which have so many groups, and these delivered sets
+abbrev pub counters_behind : Counters → (cap acknowledgments groups : ℕ) → List PlacedValue → Counters
+counters_behind now cap acknowledgments groups sets = record {
+  interchange = num now.interchange (acknowledgments + interchange_count cap (length sets));
+  group = num now.group (groups + group_total cap sets);
+  set = num now.set (length sets);
 }
 
 -- its next counters
 abbrev pub next_of : (text : List ℕ) → SetupValue → List CheckedInterchange → (place : ℕ) → Partner → Counters
 next_of text setup known place partner =
-    counters_behind partner.counters partner.cap (length (acknowledged_to place known)) (length (sets_to text setup known place))
+    counters_behind partner.counters partner.cap (length (acknowledged_to place known)) (groups_to (acknowledged_to place known))
+    (sets_to text setup known place)
 
 -- for each partner of a setup, by its place, what a function gives
 abbrev pub AreForPartners : {A : Type 0} → SetupValue → (ℕ → Partner → A) → List A → Type 0

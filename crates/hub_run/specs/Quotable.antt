@@ -4,22 +4,21 @@ use Rattle.std.specs.Prelude.{◌≡◌, ℕ, true, List, filter, IfSome}
 use Rattle.std.specs.Char.{is_ascii_alphanumeric}
 use Rattle.std.specs.List.{All, list_all}
 use Rattle.x12_bytes.specs.declared.delims.Delims.{Delims}
-use Rattle.x12_segs.specs.View.{element_of}
+use Rattle.x12_segs.specs.Words.{element_of}
 use Rattle.x12_write.specs.Undivided.{IsUndivided}
 use Rattle.guide_tree.specs.declared.element.Element.{Element}
 use Rattle.guide_tree.specs.declared.rows.GuideRows.{GuideRows}
-use Rattle.guide_tree.specs.Tree.{EachNode, GuideTree, Tree, loop, segment}
+use Rattle.guide_tree.specs.Words.{EachNode, GuideTree, Tree, loop, segment}
 use Rattle.guide_tree.specs.View as view
 use Rattle.elem_rules.specs.Rows.{component_reference, components_of, element_reference}
-use Rattle.env_index.specs.Index.{IndexEntry}
-use Rattle.env_index.specs.Summary.{GroupEntry}
+use Rattle.env_index.specs.Words.{IndexEntry, GroupEntry}
 use Rattle.partner_setup.specs.declared.partner.Partner.{Partner}
 use Rattle.partner_setup.specs.Setup.{SetupValue, guide_of}
 use Rattle.set_check.specs.Checked.{said_by}
 use Rattle.judged_text.specs.Judged.{responded_groups}
 use Rattle.checked_text.specs.Answers.{SentValue}
 use Rattle.checked_text.specs.CheckedText.{sent_by}
-use Rattle.hub_run.specs.Told.{is_responded_to}
+use Rattle.hub_run.specs.Told.{groups_told, is_told_to}
 
 -- neither the element separator nor the terminator stands in the reference numbers of a row and of its components
 abbrev pub IsRowQuotable : Delims → Element → Type 0
@@ -41,11 +40,11 @@ IsGroupQuotable d sent group =
     (said_by (guide_of sent.setup sent.sender (element_of group.header 1) (element_of group.header 8) (element_of set.header 1)))
     (IsGuideQuotable d)) group.sets
 
--- of each group of each interchange that is answered to a partner
+-- of each group that is responded to of each interchange that is acknowledged to a partner
 abbrev pub AreQuotable : (text : List ℕ) → SetupValue → (place : ℕ) → Partner → List IndexEntry → Type 0
 AreQuotable text setup place partner entries =
-    All (λ e. All (IsGroupQuotable partner.delims (sent_by text setup place e)) (responded_groups e.interchange.content.groups))
-    (filter (is_responded_to setup place) entries)
+    All (λ e. All (IsGroupQuotable partner.delims (sent_by text setup place e)) (responded_groups (groups_told e)))
+    (filter (is_told_to setup place) entries)
 
 -- letters and digits alone, for which no delimiter of a partner is taken
 abbrev pub IsPlainReference : (reference : List ℕ) → Type 0

@@ -1,10 +1,8 @@
 -- 999 guide (005010X231), AK2 and IK5: what a partner reads in the acknowledgments of a night is, set by set, whether it meets its guide.
 use Rattle.std.specs.Prelude.{◌≡◌, ◌↔◌, ℕ, List, [], ◌∷◌, ◌++◌, codes, filter}
 use Rattle.std.specs.List.{flat_map}
-use Rattle.x12_segs.specs.View.{SegValue, element_of}
-use Rattle.env_index.specs.Index.{IndexEntry, IndexValue, IsIndex}
-use Rattle.env_index.specs.Settled.{settled}
-use Rattle.env_index.specs.Summary.{GroupEntry}
+use Rattle.x12_segs.specs.Words.{SegValue, element_of}
+use Rattle.env_index.specs.Words.{IndexEntry, IndexValue, IsIndex, settled, GroupEntry}
 use Rattle.env_index.specs.declared.entry.SetEnvelope.{SetEnvelope}
 use Rattle.partner_setup.specs.declared.partner.Partner.{Partner}
 use Rattle.partner_setup.specs.Setup.{SetupValue}
@@ -16,7 +14,7 @@ use Rattle.checked_text.specs.Pairs.{AreAllPairs}
 use Rattle.checked_text.specs.Settled.{settled_faults}
 use Rattle.hub_run.specs.Quotable.{AreQuotable}
 use Rattle.hub_run.specs.Responses.{Response, responses_in}
-use Rattle.hub_run.specs.Told.{is_responded_to, told_sets}
+use Rattle.hub_run.specs.Told.{groups_told, is_told_to, told_sets}
 
 -- a set that was sent, with the GS of its group and the sets before it there
 pub record SentSet : Type 0 where
@@ -31,7 +29,8 @@ sets_behind sent gs before [] = []
 sets_behind sent gs before (set ∷ sets) =
     record { sent = sent; gs = gs; before = before; set = set } ∷ sets_behind sent gs (before ++ set ∷ []) sets
 
--- the sets that a partner is told of: of its answered interchanges, in their order, the sets of the groups that it has a guide for
+-- the sets that a partner is told of: of its interchanges that are acknowledged and not refused, in their order, the sets of the groups
+-- that it has a guide for
 abbrev pub sets_in_group : SentValue → GroupEntry → List SentSet
 sets_in_group sent group = sets_behind sent group.header [] (told_sets sent group)
 
@@ -40,7 +39,7 @@ sets_in sent groups = flat_map (sets_in_group sent) (responded_groups groups)
 
 abbrev pub sets_told_to : (text : List ℕ) → SetupValue → (place : ℕ) → List IndexEntry → List SentSet
 sets_told_to text setup place entries =
-    flat_map (λ e. sets_in (sent_by text setup place e) e.interchange.content.groups) (filter (is_responded_to setup place) entries)
+    flat_map (λ e. sets_in (sent_by text setup place e) (groups_told e)) (filter (is_told_to setup place) entries)
 
 -- a response to a set: its ST01 and ST02, and A exactly where it meets its guide
 pub record IsResponseTo (s : SentSet) (response : Response) : Type 0 where

@@ -2,7 +2,7 @@
 use Rattle.std.specs.Prelude.{ℕ, List, [], ◌∷◌, map, codes, if◌then◌else◌}
 use Rattle.std.specs.Str.{bytes_eq}
 use Rattle.x12_bytes.specs.declared.delims.Delims.{Delims}
-use Rattle.x12_segs.specs.View.{elements_of, part_or_empty, views}
+use Rattle.x12_segs.specs.Words.{elements_of, part_or_empty, views}
 
 -- AK201, AK202 and IK501
 pub record Response : Type 0 where

@@ -3,7 +3,7 @@ use Rattle.std.specs.Prelude.{◌≡◌, ℕ, ◌+◌, List, [], ◌∷◌, ◌+
 use Rattle.std.specs.Prelude.{Bool, if◌then◌else◌}
 use Rattle.std.specs.Str.{bytes_eq}
 use Rattle.x12_bytes.specs.declared.delims.Delims.{Delims}
-use Rattle.x12_segs.specs.View.{components, elements_of, occurrences, part_or_empty, views}
+use Rattle.x12_segs.specs.Words.{components, elements_of, occurrences, part_or_empty, views}
 use Rattle.x12_write.specs.Number.{padded_number}
 use Rattle.count_numbers.specs.Num.{num}
 use Rattle.partner_setup.specs.declared.partner.Partner.{Partner}

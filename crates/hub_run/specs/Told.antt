@@ -1,22 +1,20 @@
 -- 999 guide (005010X231), AK2 and IK5: the bytes by which a partner's acknowledgments tell of each set that it sent, and that IK5 has the
 -- code A exactly where the set meets its guide.
 use Rattle.std.specs.Prelude.{◌≡◌, ◌↔◌, ℕ, ◌+◌, Bool, not, ◌&&◌, false, List, [], ◌∷◌, ◌++◌, map, take, filter, codes, decimal, is_none}
-use Rattle.std.specs.Prelude.{if◌then◌else◌}
+use Rattle.std.specs.Prelude.{if◌then◌else◌, Option, is_some, option_map, ◌||◌}
 use Rattle.std.specs.List.{list_any}
 use Rattle.x12_bytes.specs.declared.delims.Delims.{Delims}
-use Rattle.x12_segs.specs.View.{SegValue, element_of}
+use Rattle.x12_segs.specs.Words.{SegValue, element_of}
 use Rattle.x12_write.specs.declared.envelope.Envelope.{Envelope}
 use Rattle.x12_write.specs.Group.{texts_in_row}
 use Rattle.x12_write.specs.Number.{padded_number}
 use Rattle.x12_write.specs.Segment.{segment_text}
-use Rattle.hub_kinds.specs.SetCodes.{group_code_text, group_verdict_text, set_code_text, verdict_text}
+use Rattle.hub_kinds.specs.Words.{group_code_text, group_verdict_text, set_code_text, verdict_text}
 use Rattle.hub_kinds.specs.declared.answers.GroupAnswer.{GroupAnswer}
 use Rattle.hub_kinds.specs.declared.answers.SetAnswer.{SetAnswer}
 use Rattle.hub_kinds.specs.declared.set_codes.SetCode.{SetCode}
 use Rattle.hub_kinds.specs.declared.set_codes.Verdict.{Verdict}
-use Rattle.env_index.specs.Index.{IndexEntry, IndexValue, IsIndex}
-use Rattle.env_index.specs.Settled.{settled}
-use Rattle.env_index.specs.Summary.{GroupEntry}
+use Rattle.env_index.specs.Words.{IndexEntry, IndexValue, IsIndex, settled, GroupEntry}
 use Rattle.env_index.specs.declared.entry.SetEnvelope.{SetEnvelope}
 use Rattle.count_numbers.specs.Num.{num}
 use Rattle.partner_setup.specs.declared.partner.Partner.{Partner}
@@ -25,8 +23,10 @@ use Rattle.partner_setup.specs.Setup.{SetupValue, has_version, sender_of}
 use Rattle.ack_999.specs.Faults.{notes, notes_text}
 use Rattle.ack_999.specs.Group.{received_sets, totals_of}
 use Rattle.ack_999.specs.Interchange.{interchange_text}
+use Rattle.ack_999.specs.Ta1.{ta1_text}
 use Rattle.ack_999.specs.Report.{accepted_sets, convention_text, listed_sets, segment_count}
 use Rattle.ack_999.specs.declared.totals.Totals.{Totals}
+use Rattle.judged_text.specs.Answered.{ta1_note}
 use Rattle.judged_text.specs.Judged.{is_fa}
 use Rattle.checked_text.specs.declared.answered.AnsweredGroup.{AnsweredGroup}
 use Rattle.checked_text.specs.Answers.{IsGroupAnswer, IsSetAnswer, SentValue}
@@ -107,28 +107,52 @@ told_groups before (group ∷ groups) =
     if is_fa group then told_groups (before ++ group ∷ []) groups
     else record { before = before; group = group } ∷ told_groups (before ++ group ∷ []) groups
 
--- the acknowledgment of an interchange under this envelope: one group, in which a 999 stands for each of these groups, in their order,
--- counted from 1
-pub record IsInterchangeTold (e : Envelope) (at : List ℕ) (number : ℕ) (sent : SentValue) (groups : List GroupEntry)
-    (acknowledgment : List ℕ) : Type 0 where
+-- the acknowledgment of an interchange under this envelope: the TA1, if there is one, and one group, if there are 999s, in which a 999
+-- stands for each of these groups, in their order, counted from 1
+pub record IsInterchangeTold (e : Envelope) (at : List ℕ) (number control : ℕ) (ta1 : Option (List ℕ)) (sent : SentValue)
+    (groups : List GroupEntry) (acknowledgment : List ℕ) : Type 0 where
   pub reports : List (List ℕ)
-  pub is : acknowledgment ≡ interchange_text e at number reports
+  pub is : acknowledgment ≡ interchange_text e at number control ta1 reports
   pub each : AreAllPairs (λ k told report. IsGroupTold e.delims sent (1 + k) told.before told.group report) (told_groups [] groups) reports
 
--- an interchange without a fault from this partner, with a group that acknowledges nothing itself
-abbrev pub is_responded_to : SetupValue → (place : ℕ) → IndexEntry → Bool
-is_responded_to setup place e =
-    is_none e.fault && list_any (λ g. not (is_fa g)) e.interchange.content.groups && is_partner place (sender_of setup e.interchange.header)
+-- it has a group that acknowledges nothing itself, and isn't refused: so it is responded to by 999s
+abbrev pub has_responses : IndexEntry → Bool
+has_responses e = is_none e.fault && list_any (λ g. not (is_fa g)) e.interchange.content.groups
 
--- a partner's acknowledgments: one behind the other, one for each of its interchanges that are answered, in their order, numbered on
--- from its counter
+-- the groups that it is responded to
+abbrev pub groups_told : IndexEntry → List GroupEntry
+groups_told e = if is_none e.fault then e.interchange.content.groups else []
+
+-- the note of the TA1 that it is answered with
+abbrev pub note_to : SetupValue → IndexEntry → Option (List ℕ)
+note_to setup e = ta1_note (sender_of setup e.interchange.header) e.fault e.interchange
+
+abbrev pub is_from : SetupValue → (place : ℕ) → IndexEntry → Bool
+is_from setup place e = is_partner place (sender_of setup e.interchange.header)
+
+-- an interchange of this partner that is acknowledged: by a TA1, by 999s, or by both
+abbrev pub is_told_to : SetupValue → (place : ℕ) → IndexEntry → Bool
+is_told_to setup place e = (is_some (note_to setup e) || has_responses e) && is_from setup place e
+
+-- how many groups its acknowledgment has, and those of some
+abbrev pub groups_in : IndexEntry → ℕ
+groups_in e = if has_responses e then 1 else 0
+
+abbrev pub groups_behind : List IndexEntry → ℕ
+groups_behind [] = 0
+groups_behind (e ∷ es) = groups_in e + groups_behind es
+
+-- a partner's acknowledgments: one behind the other, one for each of its interchanges that are acknowledged, in their order, numbered on
+-- from its counter, as their groups are from that of groups
 pub record IsPartnerTold (text : List ℕ) (setup : SetupValue) (at : List ℕ) (entries : List IndexEntry) (place : ℕ) (partner : Partner)
     (acknowledgments : List ℕ) : Type 0 where
   pub texts : List (List ℕ)
   pub is : acknowledgments ≡ texts_in_row texts
   pub each : AreAllPairs (λ k e acknowledgment. IsInterchangeTold (envelope_to setup partner) at (num partner.counters.interchange k)
-      (sent_by text setup place e) e.interchange.content.groups acknowledgment)
-      (filter (is_responded_to setup place) entries) texts
+      (num partner.counters.group (groups_behind (take k (filter (is_told_to setup place) entries))))
+      (option_map (ta1_text partner.delims e.interchange.header) (note_to setup e))
+      (sent_by text setup place e) (groups_told e) acknowledgment)
+      (filter (is_told_to setup place) entries) texts
 
 -- the acknowledgments of each partner tell of each set of the text
 pub record AreSetsTold (text : List ℕ) (setup : SetupValue) (at : List ℕ) (acknowledgments : List (List ℕ)) : Type 0 where

@@ -1,6 +1,6 @@
 ghost use Rattle.std.specs.Prelude.{◌≡◌, IfOk, map};
 ghost use Rattle.std.specs.List.{All};
-ghost use Rattle.env_index.specs.Spans.{HasSpans};
+ghost use Rattle.env_index.specs.Words.{HasSpans};
 ghost use Rattle.hub_run.specs.Night.{IsNightIn};
 
 use crate::boxes::boxes_of;

@@ -3,11 +3,9 @@ use Rattle.std.proofs.Common.{◌≡◌, ◌<◌, ℕ, List, length, subst, sym,
 use Rattle.std.specs.List.{All}
 use Rattle.std.proofs.lemmas.List.Elements.{All-get_or}
 use Rattle.x12_bytes.specs.Header.{delims_of}
-use Rattle.x12_segs.specs.Spans.{IsSetSpan}
+use Rattle.x12_segs.specs.Words.{IsSetSpan}
 use Rattle.env_index.specs.declared.entry.SetEnvelope.{SetEnvelope}
-use Rattle.env_index.specs.Interchange.{InterchangeEntry}
-use Rattle.env_index.specs.Spans.{HasSpans, span_of}
-use Rattle.env_index.specs.Summary.{GroupEntry}
+use Rattle.env_index.specs.Words.{InterchangeEntry, HasSpans, span_of, GroupEntry}
 use Rattle.x12_bytes.specs.declared.delims.Delims.{Delims}
 use Rattle.x12_segs.specs.declared.set_span.SetSpan.{SetSpan}
 use Rattle.judged_text.specs.Judged.{JudgedValue, PlacedValue}

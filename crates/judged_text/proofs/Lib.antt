@@ -1,2 +1,3 @@
 pub mod InSpans
 pub mod Stretch
+mod WorkedAnswers

@@ -5,10 +5,7 @@ use Rattle.std.specs.List.{list_any, slice_split, onto_first, prefix_len}
 use Rattle.std.proofs.lemmas.List.Folds.{list_any-append}
 use Rattle.x12_bytes.specs.Bytes.{is_line_end}
 use Rattle.x12_bytes.specs.declared.delims.Delims.{Delims}
-use Rattle.x12_segs.specs.Parts.{parts}
-use Rattle.x12_segs.specs.Segs.{Seg, part_at, segs_of, without_line_ends}
-use Rattle.x12_segs.specs.Spans.{span_segs, span_views}
-use Rattle.x12_segs.specs.View.{SegValue, view_of}
+use Rattle.x12_segs.specs.Words.{parts, Seg, part_at, segs_of, without_line_ends, span_segs, span_views, SegValue, view_of}
 use Rattle.x12_segs.specs.declared.set_span.SetSpan.{SetSpan}
 
 pub neither : (a b : Bool) → (a || b) ≡ false → (a ≡ false) × (b ≡ false)

@@ -1,9 +1,9 @@
 -- Private. A set of a judged interchange, read from it by the numbers of its group and of itself.
 use Rattle.std.specs.Prelude.{ℕ, ◌<◌, List, [], None, length, slice_index_or}
 use Rattle.x12_bytes.specs.declared.delims.Delims.{Delims}
-use Rattle.x12_segs.specs.View.{SegValue}
+use Rattle.x12_segs.specs.Words.{SegValue}
 use Rattle.env_index.specs.declared.entry.SetEnvelope.{SetEnvelope}
-use Rattle.env_index.specs.Summary.{GroupEntry}
+use Rattle.env_index.specs.Words.{GroupEntry}
 use Rattle.judged_text.specs.Judged.{JudgedValue, PlacedValue, standing_at}
 
 abbrev no_delims : Delims

@@ -11,11 +11,13 @@
 //! Source: X12.5, interchange; X12.6, functional group and transaction set; 999 guide, AK9 and IK501. What is kept of them is own.
 #![tactic(auto)]
 
+mod answered;
 mod asked;
 mod judged;
 mod placed;
 mod standing;
 
+pub use answered::ta1_note;
 pub use asked::{is_fa, is_refused};
 pub use judged::JudgedInterchange;
 pub use placed::PlacedSet;

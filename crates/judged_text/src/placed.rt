@@ -1,6 +1,6 @@
 ghost use Rattle.std.specs.Prelude.{◌≡◌, ℕ, Bool, false, slice_index_or, drop, take};
 ghost use Rattle.std.specs.List.{list_any};
-ghost use Rattle.x12_segs.specs.Spans.{IsSetSpan, span_views};
+ghost use Rattle.x12_segs.specs.Words.{IsSetSpan, span_views};
 ghost use Rattle.hub_kinds.specs.declared.set_codes.Verdict.TheVariants as the_verdict;
 
 use crate::judged::JudgedInterchange;

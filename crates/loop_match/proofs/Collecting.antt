@@ -3,10 +3,8 @@ use Rattle.std.proofs.Common.{◌≡◌, ℕ, ◌+◌, ◌<◌, List, [], length
 use Rattle.std.specs.Prelude.{slice_index_or}
 use Rattle.std.proofs.Math.ListN.{get_or-map}
 use Rattle.std.proofs.lemmas.List as texts
-use Rattle.x12_segs.specs.View.{SegValue, elements_of}
-use Rattle.guide_tree.specs.Tree.{Trees}
-use Rattle.guide_tree.specs.Places.{Place}
-use Rattle.guide_tree.specs.Nexts.{Candidate}
+use Rattle.x12_segs.specs.Words.{SegValue, elements_of}
+use Rattle.guide_tree.specs.Words.{Trees, Place, Candidate}
 use Rattle.loop_match.specs.Given.{place_in}
 use Rattle.loop_match.specs.PlacedSegments.{PlacedSegment, placed_by, with_placed, placed_among_first}
 

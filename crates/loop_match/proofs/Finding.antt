@@ -5,9 +5,7 @@ use Rattle.std.proofs.lemmas.Bool.{cond-true, cond-false, eq-eqb, ne_eqb, cases_
 use Rattle.std.proofs.lemmas.List.{append-nil, append_assoc}
 use Rattle.hub_kinds.specs.declared.fault.Fault.{Fault}
 use Rattle.guide_tree.specs.declared.node.Node.{Node}
-use Rattle.guide_tree.specs.View.{view, nodes_view}
-use Rattle.guide_tree.specs.Places.{Place}
-use Rattle.guide_tree.specs.Pass.{past, too_few, unused, entered, ended_in, ended, stepped_in, stepped}
+use Rattle.guide_tree.specs.Words.{view, nodes_view, Place, past, too_few, unused, entered, ended_in, ended, stepped_in, stepped}
 use Rattle.loop_match.specs.declared.next.Step.{Step}
 use Rattle.loop_match.specs.Steps.{place_view}
 use Rattle.loop_match.specs.Leaving.{ended_among, stepped_among}

@@ -1,11 +1,9 @@
 -- The walk along the last place finds the first of the computed places that the segment fits.
 use Rattle.std.proofs.Common.{◌≡◌, ℕ, zero, suc, ◌+◌, List, [], ◌∷◌, ◌++◌, map, Option, Some, None, option_map, Bool, true, false}
 use Rattle.std.proofs.Common.{if◌then◌else◌, refl, ap, ◌∙◌}
-use Rattle.guide_tree.specs.Tree.{Tree, Trees, segment, loop, no_trees, tree, or_else}
-use Rattle.guide_tree.specs.Segments.{Segment, fits}
-use Rattle.guide_tree.specs.Places.{Pair, Place, use_of}
-use Rattle.guide_tree.specs.Nexts.{Candidate, into, start_of, starts, may_repeat, again, nexts_in, nexts_from, nexts, first_fit}
-use Rattle.guide_tree.specs.Fits.{fit_start, fit_starts, fit_in, fit_from, fit_behind}
+use Rattle.guide_tree.specs.Words.{Tree, Trees, segment, loop, no_trees, tree, or_else, Segment, fits, Pair, Place, use_of, Candidate}
+use Rattle.guide_tree.specs.Words.{into, start_of, starts, may_repeat, again, nexts_in, nexts_from, nexts, first_fit, fit_start}
+use Rattle.guide_tree.specs.Words.{fit_starts, fit_in, fit_from, fit_behind}
 use Rattle.loop_match.specs.Steps.{last_of}
 
 append_if : (b : Bool) (c : Candidate) (x y z : Option Candidate) → z ≡ or_else x y

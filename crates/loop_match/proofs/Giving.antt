@@ -1,12 +1,9 @@
 -- What a walk gives is the placing, with the slot of each place.
 use Rattle.std.proofs.Common.{◌≡◌, ℕ, ◌≤◌, List, [], ◌∷◌, ◌++◌, map, drop, length, Option, Some, None, refl, sym, ap, ◌∙◌}
 use Rattle.std.proofs.lemmas.List.{append-nil, drop_all}
-use Rattle.x12_segs.specs.View.{SegValue, elements_of}
+use Rattle.x12_segs.specs.Words.{SegValue, elements_of}
 use Rattle.guide_tree.specs.declared.slot.Slot.{Slot}
-use Rattle.guide_tree.specs.Tree.{Trees, or_else}
-use Rattle.guide_tree.specs.Segments.{Segment}
-use Rattle.guide_tree.specs.Places.{Place, slot_given}
-use Rattle.guide_tree.specs.Nexts.{Candidate, nexts, first_fit, place_of, placing_from}
+use Rattle.guide_tree.specs.Words.{Trees, or_else, Segment, Place, slot_given, Candidate, nexts, first_fit, place_of, placing_from}
 use Rattle.guide_law.proofs.Computed.{Found, first_found}
 use Rattle.guide_law.proofs.Coming.{nexts_come}
 use Rattle.loop_match.specs.Given.{place_in, slot_in, given_from, given_of}

@@ -2,14 +2,10 @@
 use Rattle.std.proofs.Common.{◌≡◌, ℕ, zero, suc, ◌+◌, ◌<◌, ◌≤◌, List, [], ◌∷◌, ◌++◌, length, get_or, take, drop, Option, Some, None, IfSome}
 use Rattle.std.proofs.Common.{option_map, Bool, refl, sym, ap, ◌∙◌, arith, add-one}
 use Rattle.guide_tree.specs.declared.node.Node.{Node}
-use Rattle.guide_tree.specs.Tree.{Tree, Trees, or_else}
-use Rattle.guide_tree.specs.View.{view, nodes_view}
-use Rattle.guide_tree.specs.Segments.{Segment}
-use Rattle.guide_tree.specs.Places.{Pair, Place, use_of}
+use Rattle.guide_tree.specs.Words.{Tree, Trees, or_else, view, nodes_view, Segment, Pair, Place, use_of, Candidate, into, fit_starts}
+use Rattle.guide_tree.specs.Words.{fit_again, fit_in, fit_from, fit_next}
 use Rattle.loop_match.specs.declared.next.Turn.{Turn}
 use Rattle.loop_match.specs.declared.next.Step.{Step}
-use Rattle.guide_tree.specs.Nexts.{Candidate, into}
-use Rattle.guide_tree.specs.Fits.{fit_starts, fit_again, fit_in, fit_from, fit_next}
 use Rattle.loop_match.specs.Steps.{turned, place_view, step_view, below_start}
 
 -- what a node gives, and the nodes behind it

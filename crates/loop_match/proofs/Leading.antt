@@ -6,10 +6,7 @@ use Rattle.std.specs.List.{slice_get}
 use Rattle.std.proofs.lemmas.List.{map-append, length-map, take_all, take_more}
 use Rattle.std.proofs.lemmas.Option.{slice_get-map, slice_get_within, get_or_from_slice_get}
 use Rattle.guide_tree.specs.declared.slot.Slot.{Slot}
-use Rattle.guide_tree.specs.Tree.{Trees}
-use Rattle.guide_tree.specs.Segments.{Segment}
-use Rattle.guide_tree.specs.Grammar.{Given}
-use Rattle.guide_tree.specs.Places.{Place, slot_at, slot_given}
+use Rattle.guide_tree.specs.Words.{Trees, Segment, Given, Place, slot_at, slot_given}
 use Rattle.guide_law.specs.Law.{HasSlots}
 use Rattle.loop_match.specs.LoopIds.{loop_id_of}
 use Rattle.loop_match.specs.PlacedSegments.{PlacedSegment, placed_by, with_placed, placed_among_first, placed_segments, as_given}

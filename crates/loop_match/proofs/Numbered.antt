@@ -1,17 +1,10 @@
 -- What a pass over an accepted guide finds has one fault for each key, since the guide's slots are numbered.
 use Rattle.std.proofs.Common.{◌≡◌, ℕ, List, subst}
 use Rattle.std.specs.List.{Contains}
-use Rattle.hub_kinds.specs.Fault.{key_of}
-use Rattle.hub_kinds.specs.Rising.{IsKeyedBy}
+use Rattle.hub_kinds.specs.Words.{key_of, IsKeyedBy}
 use Rattle.hub_kinds.specs.declared.fault.Fault.{Fault}
 use Rattle.guide_tree.specs.declared.rows.GuideRows.{GuideRows}
-use Rattle.guide_tree.specs.Accepted.{IsAccepted}
-use Rattle.guide_tree.specs.Tree.{GuideTree}
-use Rattle.guide_tree.specs.Segments.{Segment}
-use Rattle.guide_tree.specs.Nexts.{placing_of}
-use Rattle.guide_tree.specs.Pass.{structure_faults}
-use Rattle.guide_tree.specs.Structure.{IsStructureFault}
-use Rattle.guide_tree.specs.View.{guide_of}
+use Rattle.guide_tree.specs.Words.{IsAccepted, GuideTree, Segment, placing_of, structure_faults, IsStructureFault, guide_of}
 use Rattle.guide_law.proofs.Faulty.{members}
 use Rattle.guide_law.proofs.Keyed.{keyed}
 

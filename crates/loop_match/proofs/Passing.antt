@@ -2,11 +2,7 @@
 use Rattle.std.proofs.Common.{◌≡◌, ℕ, ◌+◌, List, [], ◌∷◌, ◌++◌, Option, Some, None, true, false, sym, ap, ◌∙◌}
 use Rattle.std.proofs.lemmas.List.{append_assoc}
 use Rattle.hub_kinds.specs.declared.fault.Fault.{Fault}
-use Rattle.guide_tree.specs.Tree.{GuideTree, or_else}
-use Rattle.guide_tree.specs.Segments.{Segment}
-use Rattle.guide_tree.specs.Places.{Place}
-use Rattle.guide_tree.specs.Nexts.{place_of, placing_from}
-use Rattle.guide_tree.specs.Pass.{pass, step_faults, stray_fault}
+use Rattle.guide_tree.specs.Words.{GuideTree, or_else, Segment, Place, place_of, placing_from, pass, step_faults, stray_fault}
 use Rattle.loop_match.specs.declared.next.Step.{Step}
 use Rattle.loop_match.specs.Steps.{place_view, last_of, HasGone}
 

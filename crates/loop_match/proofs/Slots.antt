@@ -8,9 +8,7 @@ use Rattle.guide_tree.specs.declared.node.Node.{Node, the_lemmas}
 use Rattle.guide_tree.specs.declared.slot.Slot.{Slot}
 use Rattle.guide_tree.specs.declared.node.Node as node
 use Rattle.guide_tree.specs.declared.node.Loop.{Loop}
-use Rattle.guide_tree.specs.Tree.{Tree, segment, loop}
-use Rattle.guide_tree.specs.View.{view, nodes_view}
-use Rattle.guide_tree.specs.Places.{Place, slot_in, slot_nth, slot_at}
+use Rattle.guide_tree.specs.Words.{Tree, segment, loop, view, nodes_view, Place, slot_in, slot_nth, slot_at}
 use Rattle.guide_tree.proofs.Behind.{view_loop}
 use Rattle.loop_match.specs.declared.next.Step.{Step}
 use Rattle.loop_match.specs.Steps.{place_view}

@@ -5,9 +5,7 @@ use Rattle.std.specs.Prelude.{option_map, slice_index_or}
 use Rattle.std.specs.List.{Contains}
 use Rattle.std.proofs.lemmas.List.Elements.{Contains-push_cases}
 use Rattle.guide_tree.specs.declared.slot.Slot.{Slot}
-use Rattle.guide_tree.specs.Tree.{Trees}
-use Rattle.guide_tree.specs.Segments.{Segment}
-use Rattle.guide_tree.specs.Places.{Place, slot_at}
+use Rattle.guide_tree.specs.Words.{Trees, Segment, Place, slot_at}
 use Rattle.loop_match.specs.LoopIds.{loop_id_of}
 use Rattle.loop_match.specs.PlacedSegments.{PlacedSegment, placed_by, placed_at, with_placed, placed_among_first, placed_segments}
 

@@ -6,11 +6,7 @@ use Rattle.std.proofs.lemmas.List.{map-append, take-map, append_assoc, take_all,
 use Rattle.std.proofs.lemmas.List.{length-drop, length-append}
 use denote.Ref.{Bor}
 use Rattle.guide_tree.specs.declared.slot.Slot.{Slot}
-use Rattle.guide_tree.specs.Tree.{Trees, or_else}
-use Rattle.guide_tree.specs.Segments.{Segment}
-use Rattle.guide_tree.specs.Places.{Pair, Place, use_of}
-use Rattle.guide_tree.specs.Nexts.{Candidate, nexts, first_fit}
-use Rattle.guide_tree.specs.Fits.{fit_behind}
+use Rattle.guide_tree.specs.Words.{Trees, or_else, Segment, Pair, Place, use_of, Candidate, nexts, first_fit, fit_behind}
 use Rattle.loop_match.specs.declared.next.Step.{Step}
 use Rattle.loop_match.specs.declared.next.Turn.{Turn}
 use Rattle.loop_match.specs.declared.walk.Mark.{Mark}

@@ -7,9 +7,7 @@ use Rattle.std.proofs.lemmas.Bool.{cases_lt}
 use Rattle.std.proofs.lemmas.List.Elements.{Contains-append_left, Contains-push}
 use Rattle.std.proofs.lemmas.Option.{slice_get_within, get_or_from_slice_get, slice_get-get_or}
 use Rattle.guide_tree.specs.declared.slot.Slot.{Slot}
-use Rattle.guide_tree.specs.Tree.{Trees}
-use Rattle.guide_tree.specs.Segments.{Segment}
-use Rattle.guide_tree.specs.Places.{Place, slot_at}
+use Rattle.guide_tree.specs.Words.{Trees, Segment, Place, slot_at}
 use Rattle.loop_match.specs.LoopIds.{loop_id_of}
 use Rattle.loop_match.specs.PlacedSegments.{PlacedSegment, placed_by, placed_at, with_placed, placed_among_first, placed_segments}
 use Rattle.loop_match.specs.PlacedSegments.{IsPlacedAt, AreThoseWithPlaces, AreInOrder}

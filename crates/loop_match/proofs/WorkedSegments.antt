@@ -1,11 +1,9 @@
 -- The placed segments of a ship notice, worked.
 use Rattle.std.proofs.Common.{◌≡◌, ℕ, List, [], ◌∷◌, codes, map, None, refl}
-use Rattle.x12_segs.specs.Parts.{parts}
+use Rattle.x12_segs.specs.Words.{parts}
 use Rattle.guide_tree.specs.declared.slot.Slot.{Slot}
 use Rattle.guide_tree.specs.declared.node.Loop.{Loop}
-use Rattle.guide_tree.specs.Tree.{Trees, segment, loop, no_trees, tree}
-use Rattle.guide_tree.specs.Nexts.{placing_of}
-use Rattle.guide_tree.specs.Segments.{Segment}
+use Rattle.guide_tree.specs.Words.{Trees, segment, loop, no_trees, tree, placing_of, Segment}
 use Rattle.loop_match.specs.PlacedSegments.{PlacedSegment, placed_segments}
 
 abbrev slot : (number : ℕ) → List ℕ → Slot

@@ -1,10 +1,7 @@
 -- X12.6, order of segments: the place and the slot that each segment of a body is given; with what is wrong with their order
 -- and number, as the 999 guide, IK304, tells it.
 use Rattle.std.specs.Prelude.{List, [], ◌∷◌, Option, None, option_map}
-use Rattle.guide_tree.specs.Tree.{Trees, or_else}
-use Rattle.guide_tree.specs.Segments.{Segment}
-use Rattle.guide_tree.specs.Places.{Place}
-use Rattle.guide_tree.specs.Nexts.{Candidate, nexts, first_fit}
+use Rattle.guide_tree.specs.Words.{Trees, or_else, Segment, Place, Candidate, nexts, first_fit}
 use Rattle.guide_tree.specs.declared.slot.Slot.{Slot}
 use Rattle.hub_kinds.specs.declared.fault.Fault.{Fault}
 

@@ -1,9 +1,7 @@
 -- 999 guide, IK304: what shows where nodes end, or are stepped over, from places that may be the beginning. Private.
 use Rattle.std.specs.Prelude.{ℕ, List, [], ◌∷◌}
 use Rattle.hub_kinds.specs.declared.fault.Fault.{Fault}
-use Rattle.guide_tree.specs.Tree.{Trees}
-use Rattle.guide_tree.specs.Places.{Place}
-use Rattle.guide_tree.specs.Pass.{ended, stepped}
+use Rattle.guide_tree.specs.Words.{Trees, Place, ended, stepped}
 
 abbrev pub ended_among : ℕ → List ℕ → Trees → Place → List Fault
 ended_among at outer ts [] = []

@@ -1,7 +1,6 @@
 -- 999 guide, IK303, loop identifier code: the id of the innermost loop round a place of a guide.
 use Rattle.std.specs.Prelude.{ℕ, zero, suc, List, [], ◌∷◌}
-use Rattle.guide_tree.specs.Tree.{Tree, Trees, segment, loop, no_trees, tree}
-use Rattle.guide_tree.specs.Places.{Place}
+use Rattle.guide_tree.specs.Words.{Tree, Trees, segment, loop, no_trees, tree, Place}
 
 -- on a place's way down from a node, or among nodes to a child of theirs; outer where there is no loop
 abbrev mutual

@@ -1,10 +1,7 @@
 -- 999 guide, IK304: what a pass will have found once it went over a body. Private.
 use Rattle.std.specs.Prelude.{ℕ, List, ◌++◌}
 use Rattle.hub_kinds.specs.declared.fault.Fault.{Fault}
-use Rattle.guide_tree.specs.Tree.{GuideTree}
-use Rattle.guide_tree.specs.Segments.{Segment}
-use Rattle.guide_tree.specs.Nexts.{placing_from}
-use Rattle.guide_tree.specs.Pass.{pass}
+use Rattle.guide_tree.specs.Words.{GuideTree, Segment, placing_from, pass}
 use Rattle.loop_match.specs.Steps.{place_view, last_of}
 use Rattle.loop_match.specs.declared.pass.Pass.{Pass}
 

@@ -4,10 +4,7 @@ use Rattle.std.specs.Prelude.{ℕ, zero, suc, ◌+◌, ◌<◌, ◌≡◌, ◌�
 use Rattle.std.specs.Prelude.{Option, Some, None, option_map, slice_get, slice_index_or}
 use Rattle.std.specs.List.{Contains}
 use Rattle.guide_tree.specs.declared.slot.Slot.{Slot}
-use Rattle.guide_tree.specs.Tree.{Trees}
-use Rattle.guide_tree.specs.Segments.{Segment}
-use Rattle.guide_tree.specs.Grammar.{Given}
-use Rattle.guide_tree.specs.Places.{Place, slot_at}
+use Rattle.guide_tree.specs.Words.{Trees, Segment, Given, Place, slot_at}
 use Rattle.loop_match.specs.LoopIds.{loop_id_of}
 
 -- a segment that has a place: its position in the set, ST being 1, its slot, and the id of the innermost loop round it

@@ -2,10 +2,7 @@
 use Rattle.std.specs.Prelude.{ℕ, ◌+◌, ◌<◌, ◌≤◌, length, ◌++◌, List, [], ◌∷◌, map, take, drop, Option, Some, None, option_map}
 use Rattle.std.specs.Prelude.{Bool, true, false, if◌then◌else◌, ◌≡◌}
 use Rattle.std.specs.List.{AllByRecursion}
-use Rattle.guide_tree.specs.Tree.{Trees}
-use Rattle.guide_tree.specs.Segments.{Segment}
-use Rattle.guide_tree.specs.Places.{Pair, Place, use_of}
-use Rattle.guide_tree.specs.Nexts.{Candidate, place_of}
+use Rattle.guide_tree.specs.Words.{Trees, Segment, Pair, Place, use_of, Candidate, place_of}
 use Rattle.loop_match.specs.Given.{given_from}
 use Rattle.loop_match.specs.declared.next.Step.{Step}
 use Rattle.loop_match.specs.declared.next.Start.{Start}

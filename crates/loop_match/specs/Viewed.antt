@@ -1,6 +1,6 @@
 -- X12.6, order of segments in a transaction set (own): a placed segment as the definitions see it.
 use Rattle.std.specs.Prelude.{List, map}
-use Rattle.x12_segs.specs.View.{elements_of}
+use Rattle.x12_segs.specs.Words.{elements_of}
 use Rattle.loop_match.specs.declared.placed.PlacedSeg.{PlacedSeg}
 use Rattle.loop_match.specs.PlacedSegments.{PlacedSegment}
 

@@ -2,9 +2,9 @@ ghost use Rattle.std.specs.Prelude.{◌≡◌, false};
 ghost use Rattle.std.specs.Bool.{OnTrue};
 ghost use Rattle.std.specs.Str.{bytes_eq};
 ghost use Rattle.std.specs.List.{list_all};
-ghost use Rattle.x12_segs.specs.View.{elements_of};
-ghost use Rattle.hub_kinds.specs.TextList.{contains_text};
-ghost use Rattle.guide_tree.specs.Segments.{element_of, fits};
+ghost use Rattle.x12_segs.specs.Words.{elements_of};
+ghost use Rattle.hub_kinds.specs.Words.{contains_text};
+ghost use Rattle.guide_tree.specs.Words.{element_of, fits};
 
 use guide_tree::{Pick, Slot};
 use hub_kinds::contains_text;

@@ -1,9 +1,7 @@
 ghost use Rattle.std.specs.Prelude.{◌≡◌, ◌++◌, [], ◌∷◌, OnOk, IfOk};
-ghost use Rattle.guide_tree.specs.Tree.{min_of, max_of};
-ghost use Rattle.guide_tree.specs.Structure.{first_id, past_code, few_code};
-ghost use Rattle.guide_tree.specs.Pass.{loop_of, fault_of, missing, too_few, past, stray_fault};
-ghost use Rattle.guide_tree.specs.View.{view, guide_of};
-ghost use Rattle.x12_segs.specs.View.{elements_of};
+ghost use Rattle.guide_tree.specs.Words.{min_of, max_of, first_id, past_code, few_code, loop_of, fault_of, missing, too_few, past};
+ghost use Rattle.guide_tree.specs.Words.{stray_fault, view, guide_of};
+ghost use Rattle.x12_segs.specs.Words.{elements_of};
 
 use crate::stray::stray_code;
 use guide_tree::{Guide, Node};

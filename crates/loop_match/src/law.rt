@@ -1,7 +1,5 @@
 ghost use Rattle.std.specs.Prelude.{List, Option};
-ghost use Rattle.guide_tree.specs.Places.{Place};
-ghost use Rattle.guide_tree.specs.Segments.{Segment};
-ghost use Rattle.guide_tree.specs.Tree.{Trees};
+ghost use Rattle.guide_tree.specs.Words.{Place, Segment, Trees};
 ghost use Rattle.loop_match.specs.PlacedSegments.{AreInOrder, AreThoseWithPlaces, placed_segments};
 
 /// The placed segments of a body are exactly those that have a place which leads to a slot, in the order of the body, and no stray is

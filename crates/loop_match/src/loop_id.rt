@@ -1,7 +1,6 @@
 ghost use Rattle.std.specs.Prelude.{◌≡◌, ℕ, List};
 ghost use Rattle.std.specs.Option.{MatchOption};
-ghost use Rattle.guide_tree.specs.Places.{Place};
-ghost use Rattle.guide_tree.specs.View.{view, nodes_view};
+ghost use Rattle.guide_tree.specs.Words.{Place, view, nodes_view};
 ghost use Rattle.loop_match.specs.Steps.{place_view};
 ghost use Rattle.loop_match.specs.LoopIds.{loop_id_of, loop_id_in, loop_id_under};
 

@@ -1,9 +1,7 @@
 ghost use Rattle.std.specs.Prelude.{◌≡◌, ◌+◌, ◌<◌, ◌≤◌, ◌^◌, length, option_map, drop, [], IfSome};
 ghost use Rattle.std.specs.List.{AllByRecursion};
-ghost use Rattle.x12_segs.specs.View.{elements_of};
-ghost use Rattle.guide_tree.specs.Tree.{or_else};
-ghost use Rattle.guide_tree.specs.View.{view, nodes_view};
-ghost use Rattle.guide_tree.specs.Fits.{fit_start, fit_starts, fit_again, fit_in, fit_next, fit_behind};
+ghost use Rattle.x12_segs.specs.Words.{elements_of};
+ghost use Rattle.guide_tree.specs.Words.{or_else, view, nodes_view, fit_start, fit_starts, fit_again, fit_in, fit_next, fit_behind};
 ghost use Rattle.loop_match.specs.Steps.{place_view, step_view, started, turned};
 
 use crate::fit::fits;

@@ -1,11 +1,7 @@
 ghost use Rattle.std.specs.Prelude.{◌≡◌, ◌+◌, ◌<◌, ◌≤◌, ◌^◌, ◌∷◌, ◌++◌, ℕ, List, OnOk, IfOk, map, length};
 ghost use Rattle.std.specs.List.{AllByRecursion};
-ghost use Rattle.x12_segs.specs.View.{elements_of};
-ghost use Rattle.guide_tree.specs.Accepted.{IsAccepted};
-ghost use Rattle.guide_tree.specs.Segments.{Segment};
-ghost use Rattle.guide_tree.specs.Nexts.{placing_of};
-ghost use Rattle.guide_tree.specs.Pass.{structure_faults, end_faults};
-ghost use Rattle.guide_tree.specs.View.{guide_of, nodes_view};
+ghost use Rattle.x12_segs.specs.Words.{elements_of};
+ghost use Rattle.guide_tree.specs.Words.{IsAccepted, Segment, placing_of, structure_faults, end_faults, guide_of, nodes_view};
 ghost use Rattle.loop_match.specs.Given.{given_of};
 ghost use Rattle.loop_match.specs.Steps.{place_view, last_of, marks_view, given_behind, IsWalk};
 ghost use Rattle.loop_match.specs.Passed.{found_behind};

@@ -1,6 +1,5 @@
 ghost use Rattle.std.specs.Prelude.{◌≡◌, option_map, None};
-ghost use Rattle.guide_tree.specs.Places.{slot_at};
-ghost use Rattle.guide_tree.specs.View.{nodes_view};
+ghost use Rattle.guide_tree.specs.Words.{slot_at, nodes_view};
 ghost use Rattle.loop_match.specs.Steps.{place_view};
 
 use crate::next::Step;

@@ -1,6 +1,6 @@
 ghost use Rattle.std.specs.Prelude.{◌≡◌, ◌+◌, ◌<◌, ◌^◌, map, option_map, IfOk, OnOk};
-ghost use Rattle.x12_segs.specs.View.{elements_of};
-ghost use Rattle.guide_tree.specs.View.{nodes_view};
+ghost use Rattle.x12_segs.specs.Words.{elements_of};
+ghost use Rattle.guide_tree.specs.Words.{nodes_view};
 ghost use Rattle.loop_match.specs.Given.{place_in};
 ghost use Rattle.loop_match.specs.PlacedSegments.{with_placed, placed_by, placed_segments};
 ghost use Rattle.loop_match.specs.Steps.{place_view};

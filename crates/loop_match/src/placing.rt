@@ -1,12 +1,9 @@
 ghost use Rattle.std.specs.Prelude.{◌≡◌, ◌↔◌, ◌+◌, length, map, None, IfOk};
 ghost use Rattle.std.specs.List.{Contains};
-ghost use Rattle.hub_kinds.specs.Fault.{AreRising};
+ghost use Rattle.hub_kinds.specs.Words.{AreRising};
 ghost use Rattle.hub_kinds.specs.declared.fault.Fault.{Fault};
-ghost use Rattle.x12_segs.specs.View.{elements_of};
-ghost use Rattle.guide_tree.specs.Nexts.{placing_of};
-ghost use Rattle.guide_tree.specs.Places.{IsPlacing, slot_given};
-ghost use Rattle.guide_tree.specs.Structure.{IsStructureFault};
-ghost use Rattle.guide_tree.specs.View.{guide_of, nodes_view};
+ghost use Rattle.x12_segs.specs.Words.{elements_of};
+ghost use Rattle.guide_tree.specs.Words.{placing_of, IsPlacing, slot_given, IsStructureFault, guide_of, nodes_view};
 ghost use Rattle.loop_match.specs.Given.{place_in, slot_in};
 
 use crate::next::Step;

@@ -1,7 +1,6 @@
 ghost use Rattle.std.specs.Prelude.{◌≡◌, ◌++◌, ◌+◌, ◌<◌, ◌^◌, OnOk};
 ghost use Rattle.std.specs.List.{AllByRecursion};
-ghost use Rattle.guide_tree.specs.Pass.{stepped_in};
-ghost use Rattle.guide_tree.specs.View.{view, nodes_view};
+ghost use Rattle.guide_tree.specs.Words.{stepped_in, view, nodes_view};
 ghost use Rattle.loop_match.specs.Steps.{place_view};
 ghost use Rattle.loop_match.specs.Leaving.{stepped_among};
 

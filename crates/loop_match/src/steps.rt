@@ -1,8 +1,7 @@
 ghost use Rattle.std.specs.Prelude.{◌≡◌, ◌++◌, ◌+◌, ◌<◌, ◌^◌, ◌∷◌, [], OnOk};
 ghost use Rattle.std.specs.List.{AllByRecursion};
-ghost use Rattle.x12_segs.specs.View.{elements_of};
-ghost use Rattle.guide_tree.specs.Pass.{step_faults, end_faults};
-ghost use Rattle.guide_tree.specs.View.{nodes_view};
+ghost use Rattle.x12_segs.specs.Words.{elements_of};
+ghost use Rattle.guide_tree.specs.Words.{step_faults, end_faults, nodes_view};
 ghost use Rattle.loop_match.specs.Steps.{place_view, last_of};
 
 use crate::found::Found;

@@ -1,10 +1,7 @@
 ghost use Rattle.std.specs.Prelude.{◌≡◌, option_map};
 ghost use Rattle.std.specs.Str.{bytes_eq};
-ghost use Rattle.x12_segs.specs.View.{elements_of};
-ghost use Rattle.guide_tree.specs.Tree.{find_slot, any_slot};
-ghost use Rattle.guide_tree.specs.Segments.{fits};
-ghost use Rattle.guide_tree.specs.Structure.{stray_code};
-ghost use Rattle.guide_tree.specs.View.{guide_of, nodes_view};
+ghost use Rattle.x12_segs.specs.Words.{elements_of};
+ghost use Rattle.guide_tree.specs.Words.{find_slot, any_slot, fits, stray_code, guide_of, nodes_view};
 
 use crate::fit::fits;
 use guide_tree::{Guide, Node, Slot};

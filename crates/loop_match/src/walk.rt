@@ -1,7 +1,6 @@
 ghost use Rattle.std.specs.Prelude.{◌≡◌, ◌+◌, ◌<◌, ◌^◌, ◌++◌, ◌∷◌, List, OnOk, IfOk};
-ghost use Rattle.x12_segs.specs.View.{elements_of};
-ghost use Rattle.guide_tree.specs.Segments.{Segment};
-ghost use Rattle.guide_tree.specs.View.{nodes_view};
+ghost use Rattle.x12_segs.specs.Words.{elements_of};
+ghost use Rattle.guide_tree.specs.Words.{Segment, nodes_view};
 ghost use Rattle.loop_match.specs.Steps.{place_view, turned, given_behind, IsWalk, HasGone};
 
 use crate::next::{Step, Turn, turn_from};

@@ -1,17 +1,21 @@
 -- A mailbox grows by a delivered interchange.
 use Rattle.std.proofs.Common.{◌≡◌, ◌<◌, ◌≤◌, ◌⊎◌, inl, inr, false, ◌==◌, ℕ, zero, suc, ◌+◌, ◌-◌, List, [], ◌∷◌, ◌++◌, take, drop}
-use Rattle.std.proofs.Common.{length, min, refl, sym, ap, ◌∙◌, arith, append_assoc, length-drop}
+use Rattle.std.proofs.Common.{length, min, refl, sym, ap, ◌∙◌, arith, append_assoc, length-drop, length-take}
 use Rattle.std.proofs.lemmas.Bool.{cases_lt}
 use Rattle.std.proofs.lemmas.List.{take_all, drop_all}
 use Rattle.count_numbers.specs.Layout.{interchanges_of}
 use Rattle.count_numbers.specs.Num.{num}
+use Rattle.count_numbers.proofs.Interchanges.{first_interchange}
+use Rattle.partner_setup.specs.Envelopes.{envelope_to}
 use Rattle.partner_setup.specs.Setup.{SetupValue}
 use Rattle.partner_setup.specs.declared.partner.Partner.{Partner}
 use Rattle.judged_text.specs.Judged.{PlacedValue}
-use Rattle.mailbox.specs.Mailbox.{delivered_text, delivered_texts}
-use Rattle.mailbox.specs.Numbered.{NumberedValue, numbered_from}
+use Rattle.x12_write.specs.Header.{header_text}
+use Rattle.x12_write.specs.Trailer.{trailer_text}
+use Rattle.mailbox.specs.Mailbox.{delivered_group_text, delivered_text, delivered_texts, groups_text, groups_within}
+use Rattle.mailbox.specs.Numbered.{NumberedValue, groups_of, numbered_from}
+use Rattle.mailbox.specs.Renumbered.{groups_behind, numbered_interchange}
 use Rattle.mailbox.proofs.GroupTexts.{length_numbered}
-use Rattle.mailbox.proofs.Interchanges.{first_interchange}
 
 take_numbered : (n k : ℕ) (xs : List PlacedValue) → take n (numbered_from k xs) ≡ numbered_from k (take n xs)
 take_numbered zero k xs = refl
@@ -68,23 +72,77 @@ place_kept place end all cap xs rest e er was =
     let long : length rest ≡ length xs - end = ap length er ∙ length-drop end xs in
     omega (arith, long)
 
-pub box_step : (setup : SetupValue) (p : Partner) (at : List ℕ) (acks written place end number : ℕ) (xs rest : List PlacedValue)
-    (first : ℕ) (old new all : List ℕ)
+-- groups that are numbered from the number that comes g behind the partner's counter
+groups_renumbered : (setup : SetupValue) (p : Partner) (at : List ℕ) (g k : ℕ) (groups : List (List NumberedValue))
+    → groups_behind setup p at (num p.counters.group g) k groups ≡ groups_text setup p at (g + k) groups
+groups_renumbered setup p at g k [] = refl
+groups_renumbered setup p at g k (group ∷ groups) =
+    let next : g + (k + 1) ≡ g + k + 1 = omega arith in
+    ap (λ (n : ℕ). delivered_group_text setup p at n group ++ groups_behind setup p at (num p.counters.group g) (k + 1) groups)
+    (num_on p.counters.group g k)
+    ∙ ap (λ (t : List ℕ). delivered_group_text setup p at (num p.counters.group (g + k)) group ++ t)
+    (groups_renumbered setup p at g (k + 1) groups ∙ ap (λ (n : ℕ). groups_text setup p at n groups) next)
+
+interchange_renumbered : (setup : SetupValue) (p : Partner) (at : List ℕ) (number g : ℕ) (sets : List NumberedValue)
+    → numbered_interchange setup p at number (num p.counters.group g) sets ≡ delivered_text setup p at number g sets
+interchange_renumbered setup p at number g sets =
+    let none : g + 0 ≡ g = omega arith in
+    ap (λ (t : List ℕ). header_text (envelope_to setup p) at number ++ t ++ trailer_text p.delims (length (groups_of sets)) number)
+    (groups_renumbered setup p at g 0 (groups_of sets) ∙ ap (λ (n : ℕ). groups_text setup p at n (groups_of sets)) none)
+
+pub box_step : (setup : SetupValue) (p : Partner) (at : List ℕ) (acks groups written count place end number group more : ℕ)
+    (xs rest : List PlacedValue) (first first_group : ℕ) (old new all : List ℕ)
     → end ≡ min (length xs) p.cap → 0 < p.cap → 0 < length xs → first ≡ num p.counters.interchange acks → number ≡ num first written
-    → new ≡ old ++ delivered_text setup p at number (numbered_from place (take end xs)) → rest ≡ drop end xs
-    → old ++ delivered_texts setup p at (acks + written) (interchanges_of p.cap (numbered_from place xs)) ≡ all
-    → new ++ delivered_texts setup p at (acks + (written + 1)) (interchanges_of p.cap (numbered_from (place + end) rest)) ≡ all
-box_step setup p at acks written place end number xs rest first old new all e h some ef en is er was =
-    let behind = interchanges_of p.cap (numbered_from (place + end) (drop end xs)) in
+    → first_group ≡ num p.counters.group groups → group ≡ num first_group count
+    → new ≡ old ++ numbered_interchange setup p at number group (numbered_from place (take end xs))
+    → more ≡ length (groups_of (numbered_from place (take end xs))) → rest ≡ drop end xs
+    → old ++ delivered_texts setup p at (acks + written) (groups + count) (interchanges_of p.cap (numbered_from place xs)) ≡ all
+    → new ++ delivered_texts setup p at (acks + (written + 1)) (groups + (count + more))
+    (interchanges_of p.cap (numbered_from (place + end) rest)) ≡ all
+box_step setup p at acks groups written count place end number group more xs rest first first_group old new all
+    e h some ef en eg ec is em er was =
+    let front : List NumberedValue = numbered_from place (take end xs) in
+    let behind : List (List NumberedValue) = interchanges_of p.cap (numbered_from (place + end) (drop end xs)) in
+    let k : ℕ = acks + written in
+    let b : ℕ = groups + count in
     let next : acks + (written + 1) ≡ acks + written + 1 = omega arith in
-    ap (λ (ys : List PlacedValue). new ++ delivered_texts setup p at (acks + (written + 1)) (interchanges_of p.cap (numbered_from
-    (place + end) ys))) er
-    ∙ ap (λ (k : ℕ). new ++ delivered_texts setup p at k behind) next
-    ∙ ap (λ (t : List ℕ). t ++ delivered_texts setup p at (acks + written + 1) behind)
-    (is ∙ ap (λ (k : ℕ). old ++ delivered_text setup p at k (numbered_from place (take end xs)))
-    (en ∙ ap (λ (k : ℕ). num k written) ef ∙ num_on p.counters.interchange acks written))
-    ∙ append_assoc old (delivered_text setup p at (num p.counters.interchange (acks + written)) (numbered_from place (take end xs)))
-    (delivered_texts setup p at (acks + written + 1) behind)
-    ∙ ap (λ (groups : List (List NumberedValue)). old ++ delivered_texts setup p at (acks + written) groups)
-    (sym (first_box p.cap end place xs e h some))
+    let before : groups + (count + more) ≡ groups + count + length (groups_of front) = counted groups count more _ em in
+    let as_number : number ≡ num p.counters.interchange k =
+    en ∙ ap (λ (n : ℕ). num n written) ef ∙ num_on p.counters.interchange acks written in
+    let as_group : group ≡ num p.counters.group b = ec ∙ ap (λ (n : ℕ). num n count) eg ∙ num_on p.counters.group groups count in
+    let here : List ℕ = delivered_text setup p at (num p.counters.interchange k) b front in
+    let text : new ≡ old ++ here =
+    is ∙ ap (λ (n : ℕ). old ++ numbered_interchange setup p at n group front) as_number
+    ∙ ap (λ (n : ℕ). old ++ numbered_interchange setup p at (num p.counters.interchange k) n front) as_group
+    ∙ ap (λ (t : List ℕ). old ++ t) (interchange_renumbered setup p at (num p.counters.interchange k) b front) in
+    let left : List ℕ = delivered_texts setup p at (k + 1) (b + length (groups_of front)) behind in
+    ap (λ (ys : List PlacedValue). new ++ delivered_texts setup p at (acks + (written + 1)) (groups + (count + more))
+    (interchanges_of p.cap (numbered_from (place + end) ys))) er
+    ∙ ap (λ (n : ℕ). new ++ delivered_texts setup p at n (groups + (count + more)) behind) next
+    ∙ ap (λ (n : ℕ). new ++ delivered_texts setup p at (k + 1) n behind) before
+    ∙ ap (λ (t : List ℕ). t ++ left) text
+    ∙ append_assoc old here left
+    ∙ ap (λ (boxes : List (List NumberedValue)). old ++ delivered_texts setup p at k b boxes) (sym (first_box p.cap end place xs e h some))
     ∙ was
+  where
+    counted : (g c m n : ℕ) → m ≡ n → g + (c + m) ≡ g + c + n
+    counted g c m n e = omega arith
+
+-- the groups of one more interchange
+pub count_step : (count place end cap more all : ℕ) (xs rest : List PlacedValue) → end ≡ min (length xs) cap → 0 < cap → 0 < length xs
+    → more ≡ length (groups_of (numbered_from place (take end xs))) → rest ≡ drop end xs
+    → count + groups_within (interchanges_of cap (numbered_from place xs)) ≡ all
+    → count + more + groups_within (interchanges_of cap (numbered_from (place + end) rest)) ≡ all
+count_step count place end cap more all xs rest e h some em er was =
+    ap (λ (ys : List PlacedValue). count + more + groups_within (interchanges_of cap (numbered_from (place + end) ys))) er
+    ∙ moved_over count more (length (groups_of (numbered_from place (take end xs))))
+    (groups_within (interchanges_of cap (numbered_from (place + end) (drop end xs))))
+    (groups_within (interchanges_of cap (numbered_from place xs))) all em (ap groups_within (first_box cap end place xs e h some)) was
+  where
+    moved_over : (c m n rest whole all : ℕ) → m ≡ n → whole ≡ n + rest → c + whole ≡ all → c + m + rest ≡ all
+    moved_over c m n rest whole all e f was = omega arith
+
+-- there are no more groups than sets
+pub bound_kept : (count more place end : ℕ) (xs : List PlacedValue) → more ≤ length (take end xs) → count ≤ place
+    → count + more ≤ place + end
+bound_kept count more place end xs few was = let long = length-take end xs in omega arith

@@ -2,7 +2,7 @@
 use Rattle.std.proofs.Common.{◌≡◌, ℕ, Bool, false, ◌||◌, List, [], ◌∷◌, refl, ap, ◌∙◌}
 use Rattle.std.specs.List.{list_any}
 use Rattle.x12_bytes.specs.declared.delims.Delims.{Delims}
-use Rattle.x12_segs.specs.View.{SegValue}
+use Rattle.x12_segs.specs.Words.{SegValue}
 use Rattle.mailbox.specs.Blocking.{AllShared}
 use Rattle.mailbox.specs.Deliveries.{inner_in, is_blocked, is_in_the_way, is_text_in_the_way, kept_parts}
 use Rattle.judged_text.specs.Judged.{PlacedValue, delims_in}

@@ -7,9 +7,9 @@ use Rattle.std.proofs.lemmas.List.{length-replicate}
 use Rattle.std.proofs.lemmas.List.Concat.{flat_map-append}
 use Rattle.std.proofs.lemmas.List.Elements.{filter-append}
 use Rattle.std.proofs.lemmas.Option.{slice_get_within}
-use Rattle.x12_segs.specs.View.{element_of}
+use Rattle.x12_segs.specs.Words.{element_of}
 use Rattle.env_index.specs.declared.entry.SetEnvelope.{SetEnvelope}
-use Rattle.env_index.specs.Summary.{GroupEntry}
+use Rattle.env_index.specs.Words.{GroupEntry}
 use Rattle.partner_setup.specs.Setup.{SetupValue, route_of}
 use Rattle.judged_text.specs.declared.standing.GroupStanding.{GroupStanding}
 use Rattle.mailbox.specs.Deliveries.{AreDelivered, is_not_rejected, is_deliverable, is_delivered_to, is_delivery_to, outcomes_on}

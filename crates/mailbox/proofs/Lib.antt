@@ -3,7 +3,6 @@ pub mod Clear
 pub mod GroupTexts
 pub mod Groups
 pub mod Growing
-pub mod Interchanges
 pub mod Passing
 pub mod Replacing
 pub mod Sending

@@ -1,15 +1,17 @@
 -- The groups of a mailbox are the maximal runs of its sets' keys.
 use Rattle.std.proofs.Common.{◌≡◌, ℕ, zero, suc, ◌+◌, ◌*◌, Bool, true, false, cond, if◌then◌else◌, List, [], ◌∷◌, take, drop, length, map}
-use Rattle.std.proofs.Common.{refl, sym, ap, ◌∙◌, arith}
+use Rattle.std.proofs.Common.{refl, sym, ap, ◌∙◌, arith, sum_by}
 use Rattle.std.specs.List.{range_with_len}
 use Rattle.std.proofs.lemmas.List.{drop-map, length-map, take-map}
+use Rattle.std.proofs.lemmas.List.Sums.{sum_by-cons}
 use Rattle.count_numbers.specs.declared.run.Run.{Run}
 use Rattle.count_numbers.specs.declared.run.RunKey.{RunKey}
 use Rattle.count_numbers.specs.Layout.{in_interchange, interchange_count, interchanges_of, layout_of}
 use Rattle.count_numbers.specs.Runs.{onto_runs, runs_of, same_key, single, together}
 use Rattle.judged_text.specs.Judged.{PlacedValue}
+use Rattle.mailbox.specs.Mailbox.{groups_within}
 use Rattle.mailbox.specs.Numbered.{NumberedValue, goes_with, groups_of, key_of, numbered_from, onto_groups}
-use Rattle.mailbox.specs.Tallied.{GroupsAreLaidOut, GroupsAreRuns, run_of, runs_in}
+use Rattle.mailbox.specs.Tallied.{GroupsAreCounted, GroupsAreLaidOut, GroupsAreRuns, run_of, runs_in}
 
 abbrev key_in : NumberedValue → RunKey
 key_in x = key_of x.set
@@ -84,3 +86,34 @@ groups_are_laid_out cap sets =
     each_laid_out cap all (count (length all))
     ∙ ap (λ (n : ℕ). map runs_of (map (in_interchange cap (map key_in all)) (count n))) (sym (length-map all key_in))
     ∙ ap (layout_of cap) (keys_numbered 0 sets)
+
+-- each group is a run
+onto_counted : (x : NumberedValue) (groups : List (List NumberedValue)) → length (runs_in groups) ≡ length groups
+    → length (runs_in (onto_groups x groups)) ≡ length (onto_groups x groups)
+onto_counted x [] e = refl
+onto_counted x ([] ∷ groups) e = ap suc e
+onto_counted x ((y ∷ ys) ∷ groups) e = cases (same_key (key_in x) (key_in y))
+  where
+    cases : (b : Bool) → length (runs_in (if b then (x ∷ y ∷ ys) ∷ groups else (x ∷ []) ∷ (y ∷ ys) ∷ groups))
+        ≡ length (if b then (x ∷ y ∷ ys) ∷ groups else (x ∷ []) ∷ (y ∷ ys) ∷ groups)
+    cases true = e
+    cases false = ap suc e
+
+as_many_runs : (xs : List NumberedValue) → length (runs_in (groups_of xs)) ≡ length (groups_of xs)
+as_many_runs [] = refl
+as_many_runs (x ∷ xs) = onto_counted x (groups_of xs) (as_many_runs xs)
+
+abbrev run_lists : List (List NumberedValue) → List (List Run)
+run_lists boxes = map (λ (some : List NumberedValue). runs_in (groups_of some)) boxes
+
+all_runs : (boxes : List (List NumberedValue)) → groups_within boxes ≡ sum_by (λ (rs : List Run). length rs) (run_lists boxes)
+all_runs [] = refl
+all_runs (sets ∷ more) =
+    ap (λ (n : ℕ). n + groups_within more) (sym (as_many_runs sets))
+    ∙ ap (λ (n : ℕ). length (runs_in (groups_of sets)) + n) (all_runs more)
+    ∙ sym (sum_by-cons (λ (rs : List Run). length rs) (runs_in (groups_of sets)) (run_lists more))
+
+pub groups_are_counted : GroupsAreCounted
+groups_are_counted cap sets =
+    all_runs (interchanges_of cap (numbered_from 0 sets))
+    ∙ ap (λ (runs : List (List Run)). sum_by (λ (rs : List Run). length rs) runs) (groups_are_laid_out cap sets)

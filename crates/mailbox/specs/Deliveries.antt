@@ -3,7 +3,7 @@ use Rattle.std.specs.Prelude.{ℕ, ◌≡◌, ◌<◌, ◌-◌, slice_get, ◌==
 use Rattle.std.specs.Prelude.{map, filter, take, drop, is_some, length, if◌then◌else◌}
 use Rattle.std.specs.List.{list_any, remove}
 use Rattle.x12_bytes.specs.declared.delims.Delims.{Delims}
-use Rattle.x12_segs.specs.View.{SegValue, id_of, element_of, elements_of}
+use Rattle.x12_segs.specs.Words.{SegValue, id_of, element_of, elements_of}
 use Rattle.x12_write.specs.Delimiters.{is_delimiter}
 use Rattle.hub_kinds.specs.declared.set_codes.Verdict.{Verdict}
 use Rattle.hub_kinds.specs.declared.set_codes.Verdict.TheVariants as verdict

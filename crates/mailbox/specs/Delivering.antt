@@ -1,7 +1,7 @@
 -- Private. How the lists of delivered sets grow, a set and a receiver at a time.
 use Rattle.std.specs.Prelude.{ℕ, ◌≡◌, ◌&&◌, Bool, not, List, [], ◌∷◌, ◌++◌, Some, length, map, filter, slice_get, if◌then◌else◌}
 use Rattle.std.specs.List.{list_any}
-use Rattle.env_index.specs.Summary.{GroupEntry}
+use Rattle.env_index.specs.Words.{GroupEntry}
 use Rattle.partner_setup.specs.Setup.{SetupValue}
 use Rattle.mailbox.specs.Deliveries.{is_delivered_to, is_delivery_to, outcome_at}
 use Rattle.judged_text.specs.Judged.{JudgedValue, PlacedValue, is_fa, is_refused}

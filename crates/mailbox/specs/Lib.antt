@@ -6,4 +6,5 @@ pub mod Mailbox
 pub mod Numbered
 pub mod Numbers
 pub mod Read
+pub mod Renumbered
 pub mod Tallied

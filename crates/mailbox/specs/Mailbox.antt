@@ -4,7 +4,7 @@ use Rattle.std.specs.Prelude.{ℕ, ◌+◌, ◌==◌, List, [], ◌∷◌, ◌++
 use Rattle.std.specs.Prelude.{slice_get, if◌then◌else◌}
 use Rattle.std.specs.List.{flat_map}
 use Rattle.x12_bytes.specs.declared.delims.Delims.{Delims}
-use Rattle.x12_segs.specs.View.{SegValue, elements_of, element_of}
+use Rattle.x12_segs.specs.Words.{SegValue, elements_of, element_of}
 use Rattle.count_numbers.specs.Layout.{interchanges_of}
 use Rattle.count_numbers.specs.Num.{num}
 use Rattle.partner_setup.specs.declared.partner.Partner.{Partner}
@@ -87,26 +87,36 @@ delivered_group_text setup partner at g [] = []
 delivered_group_text setup partner at g (x ∷ xs) =
     group_text partner.delims at (group_header_of setup partner g x.set) (map (numbered_text partner) (x ∷ xs))
 
--- groups, the first of them as group g
+-- groups, the first of them as number g of those that the partner is sent: GS06 and GE02 are the number so far behind its counter
 abbrev pub groups_text : SetupValue → Partner → (at : List ℕ) → (g : ℕ) → List (List NumberedValue) → List ℕ
 groups_text setup partner at g [] = []
 groups_text setup partner at g (group ∷ groups) =
-    delivered_group_text setup partner at g group ++ groups_text setup partner at (g + 1) groups
+    delivered_group_text setup partner at (num partner.counters.group g) group ++ groups_text setup partner at (g + 1) groups
 
--- a delivered interchange
-abbrev pub delivered_text : SetupValue → Partner → (at : List ℕ) → (number : ℕ) → List NumberedValue → List ℕ
-delivered_text setup partner at number sets =
+-- a delivered interchange, before which the partner is sent so many groups
+abbrev pub delivered_text : SetupValue → Partner → (at : List ℕ) → (number before : ℕ) → List NumberedValue → List ℕ
+delivered_text setup partner at number before sets =
     header_text (envelope_to setup partner) at number
-    ++ groups_text setup partner at 1 (groups_of sets)
+    ++ groups_text setup partner at before (groups_of sets)
     ++ trailer_text partner.delims (length (groups_of sets)) number
 
--- delivered interchanges, the first of them as number k of those that the partner is sent
-abbrev pub delivered_texts : SetupValue → Partner → (at : List ℕ) → (k : ℕ) → List (List NumberedValue) → List ℕ
-delivered_texts setup partner at k [] = []
-delivered_texts setup partner at k (sets ∷ more) =
-    delivered_text setup partner at (num partner.counters.interchange k) sets ++ delivered_texts setup partner at (k + 1) more
+-- delivered interchanges, the first of them as number k of those that the partner is sent, and its groups behind so many before
+abbrev pub delivered_texts : SetupValue → Partner → (at : List ℕ) → (k before : ℕ) → List (List NumberedValue) → List ℕ
+delivered_texts setup partner at k before [] = []
+delivered_texts setup partner at k before (sets ∷ more) =
+    delivered_text setup partner at (num partner.counters.interchange k) before sets
+    ++ delivered_texts setup partner at (k + 1) (before + length (groups_of sets)) more
 
--- a partner's mailbox, behind so many acknowledgments: set k stands in interchange k / cap
-abbrev pub box_text : SetupValue → Partner → (at : List ℕ) → (acknowledgments : ℕ) → List PlacedValue → List ℕ
-box_text setup partner at acknowledgments sets =
-    delivered_texts setup partner at acknowledgments (interchanges_of partner.cap (numbered_from 0 sets))
+-- a partner's mailbox, behind so many acknowledgments, so many of them with a group: set k stands in interchange k / cap
+abbrev pub box_text : SetupValue → Partner → (at : List ℕ) → (acknowledgments groups : ℕ) → List PlacedValue → List ℕ
+box_text setup partner at acknowledgments groups sets =
+    delivered_texts setup partner at acknowledgments groups (interchanges_of partner.cap (numbered_from 0 sets))
+
+-- how many groups delivered interchanges have
+abbrev pub groups_within : List (List NumberedValue) → ℕ
+groups_within [] = 0
+groups_within (sets ∷ more) = length (groups_of sets) + groups_within more
+
+-- how many groups a mailbox has
+abbrev pub group_total : (cap : ℕ) → List PlacedValue → ℕ
+group_total cap sets = groups_within (interchanges_of cap (numbered_from 0 sets))

@@ -1,7 +1,7 @@
 -- X12.5, interchange, and X12.6, functional group: the sets that are delivered to a partner, as they are numbered and go into
 -- interchanges and groups (own).
 use Rattle.std.specs.Prelude.{ℕ, ◌+◌, Bool, false, List, [], ◌∷◌, unwrap_or, if◌then◌else◌}
-use Rattle.x12_segs.specs.View.{element_of}
+use Rattle.x12_segs.specs.Words.{element_of}
 use Rattle.count_numbers.specs.Runs.{same_key}
 use Rattle.count_numbers.specs.declared.run.RunKey.{RunKey}
 use Rattle.judged_text.specs.Judged.{PlacedValue}

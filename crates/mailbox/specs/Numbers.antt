@@ -6,6 +6,7 @@ use Rattle.partner_setup.specs.declared.partner.Partner.{Partner}
 abbrev pub HasCounters : Partner → Type 0
 HasCounters p =
     (1 ≤ p.counters.interchange) × (p.counters.interchange ≤ 999999999)
+    × (1 ≤ p.counters.group) × (p.counters.group ≤ 999999999)
     × (1 ≤ p.counters.set) × (p.counters.set ≤ 999999999)
 
 -- how many sets an interchange to it holds at most

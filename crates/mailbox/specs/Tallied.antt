@@ -1,9 +1,10 @@
 -- X12.6, functional group: the groups of a mailbox are the runs that a tally counts (own).
 use Rattle.std.specs.Prelude.{◌≡◌, ℕ, List, [], ◌∷◌, map, length}
 use Rattle.count_numbers.specs.declared.run.Run.{Run}
-use Rattle.count_numbers.specs.Layout.{interchanges_of, layout_of}
+use Rattle.count_numbers.specs.Layout.{delivered_groups, interchanges_of, layout_of}
 use Rattle.count_numbers.specs.Runs.{runs_of, together}
 use Rattle.judged_text.specs.Judged.{PlacedValue}
+use Rattle.mailbox.specs.Mailbox.{group_total}
 use Rattle.mailbox.specs.Numbered.{NumberedValue, groups_of, key_of, numbered_from}
 
 -- a group of these sets: what they have in common, and how many they are
@@ -25,3 +26,7 @@ abbrev pub GroupsAreLaidOut : Type 0
 GroupsAreLaidOut =
     (cap : ℕ) (sets : List PlacedValue)
     → map (λ some. runs_in (groups_of some)) (interchanges_of cap (numbered_from 0 sets)) ≡ layout_of cap (map key_of sets)
+
+-- a mailbox has as many groups as the keys of its sets make in delivered interchanges
+abbrev pub GroupsAreCounted : Type 0
+GroupsAreCounted = (cap : ℕ) (sets : List PlacedValue) → group_total cap sets ≡ delivered_groups cap (map key_of sets)

@@ -1,50 +1,62 @@
 ghost use Rattle.std.specs.Prelude.{◌≡◌, ◌++◌, ◌+◌, ◌≤◌, ◌<◌, ◌^◌, Some, OnOk, IfOk, drop, length, slice_get};
-ghost use Rattle.count_numbers.specs.Layout.{interchanges_of};
 ghost use Rattle.count_numbers.specs.Num.{num};
 ghost use Rattle.partner_setup.specs.Envelopes.{envelope_to};
 ghost use Rattle.partner_setup.specs.declared.partner.Partner.{Partner};
 ghost use Rattle.x12_write.specs.Header.{header_text};
-ghost use Rattle.mailbox.specs.Mailbox.{box_text, delivered_text, delivered_texts, groups_text};
+ghost use Rattle.mailbox.specs.Mailbox.{box_text, group_total};
 ghost use Rattle.mailbox.specs.Numbered.{groups_of, numbered_from};
 ghost use Rattle.mailbox.specs.Numbers.{HasCap, HasCounters};
+ghost use Rattle.mailbox.specs.Renumbered.{IsNumber, groups_behind, numbered_interchange};
 
 use crate::group_text::append_group;
 use crate::grouping::first_group;
 use count_numbers::num;
-use hub_kinds::NoMemory;
+use hub_kinds::{Items, NoMemory, Text};
 use judged_text::PlacedSet;
 use moment::At;
 use partner_setup::{Partner, Setup};
 use std::alloc::Global;
 use x12_write::{append_header, append_trailer};
 
-/// Writes the groups of an interchange, and answers how many they are.
+/// What a partner finds in its mailbox (X12.5).
+#[derive(Debug, Drop)]
+pub struct Mailbox {
+    /// Its text: interchanges, one behind the other.
+    pub text: Text,
+    /// How many groups they have (X12.6, GS to GE).
+    pub groups: u64,
+}
+
+/// Writes the groups of an interchange, the first of them as group number `first`, and answers how many they are.
 fn append_groups(
     out: &mut Vec<u8>,
     setup: &Setup,
     partner: &Partner,
     at: &At,
+    first: u32,
     before: u64,
     sets: &[PlacedSet<'_, '_, '_>],
 ) -> Result<u64, NoMemory>
     requires counters { HasCounters partner.now }
+    requires first { IsNumber first }
     requires few { before + length sets.now < 2 ^ 64 }
-    requires cap { length sets.now ≤ 99999 }
     ensures text { OnOk result (out.new.items
-        ≡ out.old.items ++ groups_text setup.now partner.now at.now 1 (groups_of (numbered_from before sets.now))) }
+        ≡ out.old.items ++ groups_behind setup.now partner.now at.now first 0 (groups_of (numbered_from before sets.now))) }
     ensures count { IfOk result (λ n. n ≡ length (groups_of (numbered_from before sets.now))) }
+    ensures bound { IfOk result (λ n. n ≤ length sets.now) }
 {
     let mut rest = sets;
     let mut place = before;
-    let mut count: u32 = 0;
+    let mut count: u64 = 0;
     while !rest.is_empty() {
         let end = first_group(rest);
+        let control = num(first, count);
+        append_group(out, setup, partner, at, control, place, &rest[..end])?;
         count += 1;
-        append_group(out, setup, partner, at, count, place, &rest[..end])?;
         place += end as u64;
         rest = &rest[end..];
     }
-    Ok(u64::from(count))
+    Ok(count)
 }
 
 /// Writes the ISA of an interchange to the partner at this place.
@@ -62,7 +74,8 @@ fn append_partner_header(
     append_header(out, &setup.envelope_to(index), at, number)
 }
 
-/// Writes a delivered interchange (X12.5), as number `number`, before whose sets `before` were delivered to the partner.
+/// Writes a delivered interchange (X12.5), as number `number`, its first group as number `first`, before whose sets `before` were
+/// delivered to the partner, and answers how many groups it has.
 fn append_delivered(
     out: &mut Vec<u8>,
     setup: &Setup,
@@ -70,19 +83,23 @@ fn append_delivered(
     partner: &Partner,
     at: &At,
     number: u32,
+    first: u32,
     before: u64,
     sets: &[PlacedSet<'_, '_, '_>],
-) -> Result<(), NoMemory>
+) -> Result<u64, NoMemory>
     requires partner { slice_get setup.now.partners index ≡ Some partner.now }
     requires counters { HasCounters partner.now }
+    requires first { IsNumber first }
     requires few { before + length sets.now < 2 ^ 64 }
-    requires cap { length sets.now ≤ 99999 }
-    ensures { OnOk result (out.new.items
-        ≡ out.old.items ++ delivered_text setup.now partner.now at.now number (numbered_from before sets.now)) }
+    ensures text { OnOk result (out.new.items
+        ≡ out.old.items ++ numbered_interchange setup.now partner.now at.now number first (numbered_from before sets.now)) }
+    ensures count { IfOk result (λ n. n ≡ length (groups_of (numbered_from before sets.now))) }
+    ensures bound { IfOk result (λ n. n ≤ length sets.now) }
 {
     append_partner_header(out, setup, index, partner, at, number)?;
-    let groups = append_groups(out, setup, partner, at, before, sets)?;
-    append_trailer(out, &partner.delims, groups, number)
+    let groups = append_groups(out, setup, partner, at, first, before, sets)?;
+    append_trailer(out, &partner.delims, groups, number)?;
+    Ok(groups)
 }
 
 /// The sets behind the first of them.
@@ -96,7 +113,8 @@ fn behind<'s, 'j, 'i, 'a>(
     &sets[end..]
 }
 
-/// Writes delivered interchanges, the first of them as the partner's interchange number `first`.
+/// Writes delivered interchanges behind so many acknowledgments, of which so many have a group, and answers how many groups they
+/// have.
 fn append_interchanges(
     out: &mut Vec<u8>,
     setup: &Setup,
@@ -104,56 +122,72 @@ fn append_interchanges(
     partner: &Partner,
     at: &At,
     acknowledgments: u64,
+    groups: u64,
     sets: &[PlacedSet<'_, '_, '_>],
-) -> Result<(), NoMemory>
+) -> Result<u64, NoMemory>
     requires partner { slice_get setup.now.partners index ≡ Some partner.now }
     requires counters { HasCounters partner.now }
     requires cap { HasCap partner.now }
-    ensures { OnOk result (out.new.items
-        ≡ out.old.items ++ box_text setup.now partner.now at.now acknowledgments sets.now) }
+    ensures text { OnOk result (out.new.items
+        ≡ out.old.items ++ box_text setup.now partner.now at.now acknowledgments groups sets.now) }
+    ensures count { IfOk result (λ n. n ≡ group_total partner.now.cap sets.now) }
 {
     let cap = partner.cap as usize;
     let first = num(partner.counters.interchange, acknowledgments);
+    let first_control = num(partner.counters.group, groups);
     let mut rest = sets;
     let mut place: u64 = 0;
     let mut written: u64 = 0;
+    let mut count: u64 = 0;
     while !rest.is_empty() {
         let end = rest.len().min(cap);
         let number = num(first, written);
+        let control = num(first_control, count);
         let front = &rest[..end];
-        append_delivered(out, setup, index, partner, at, number, place, front)?;
+        let more = append_delivered(
+            out, setup, index, partner, at, number, control, place, front,
+        )?;
+        count += more;
         place += end as u64;
         written += 1;
         rest = behind(rest, end);
     }
-    Ok(())
+    Ok(count)
 }
 
 /// What the partner at this place of the setup finds in its mailbox (X12.5, X12.6): its delivered sets in interchanges that hold
 /// as many as its cap says, numbered behind so many acknowledgments, and in each the longest groups of sets from one sender with
-/// one GS01 and GS08. The only error is want of memory.
+/// one GS01 and GS08, whose control numbers (GS06) go on behind those of the groups of acknowledgments, so many. The only error is
+/// want of memory.
 pub fn assemble(
     alloc: Global,
     setup: &Setup,
     partner: usize,
     at: &At,
     acknowledgments: u64,
+    groups: u64,
     sets: &[PlacedSet<'_, '_, '_>],
-) -> Result<Vec<u8>, NoMemory>
+) -> Result<Mailbox, NoMemory>
     requires { partner < length setup.now.partners }
-    ensures { (p : Partner) → slice_get setup.now.partners partner ≡ Some p
-        → IfOk result (λ v. v.items ≡ box_text setup.now p at.now acknowledgments sets.now) }
+    ensures text { (p : Partner) → slice_get setup.now.partners partner ≡ Some p
+        → IfOk result (λ mailbox. mailbox.text ≡ box_text setup.now p at.now acknowledgments groups sets.now) }
+    ensures groups { (p : Partner) → slice_get setup.now.partners partner ≡ Some p
+        → IfOk result (λ mailbox. mailbox.groups ≡ group_total p.cap sets.now) }
 {
     let mut out = Vec::new(alloc);
     let receiver = &setup.partners()[partner];
-    append_interchanges(
+    let count = append_interchanges(
         &mut out,
         setup,
         partner,
         receiver,
         at,
         acknowledgments,
+        groups,
         sets,
     )?;
-    Ok(out)
+    Ok(Mailbox {
+        text: Items::from_vec(out),
+        groups: count,
+    })
 }

@@ -1,7 +1,7 @@
 ghost use Rattle.std.specs.Prelude.{◌≡◌, ◌<◌, ◌==◌, ◌++◌, ◌∷◌, [], ℕ, List, Some, IfOk, OnOk, length, slice_get, slice_set, true};
 ghost use Rattle.std.specs.List.{list_any};
-ghost use Rattle.x12_segs.specs.View.{element_of};
-ghost use Rattle.env_index.specs.Summary.{GroupEntry};
+ghost use Rattle.x12_segs.specs.Words.{element_of};
+ghost use Rattle.env_index.specs.Words.{GroupEntry};
 ghost use Rattle.partner_setup.specs.Setup.{route_of};
 ghost use Rattle.partner_setup.specs.Sound.{AreWithin};
 ghost use Rattle.mailbox.specs.Deliveries.{AreDelivered};

@@ -10,9 +10,10 @@
 //! - `render_set` appends a set with ST02 and SE written anew and each delimiter changed to the receiver's; for want of memory it
 //!   leaves what was there, and a part behind it;
 //! - `assemble` writes exactly the mailbox of the definition: interchanges that hold as many sets as the partner's cap says,
-//!   numbered behind its acknowledgments, in each the longest groups of sets of one sender, GS01 and GS08, and sets that are
-//!   numbered throughout;
-//! - the groups of a mailbox are the maximal runs that a tally counts, interchange by interchange (`groups_are_runs`).
+//!   numbered behind its acknowledgments, in each the longest groups of sets of one sender, GS01 and GS08, and groups and sets
+//!   that are numbered throughout, groups behind those of its acknowledgments; and it answers how many groups these are;
+//! - the groups of a mailbox are the maximal runs that a tally counts, interchange by interchange, and as many in all
+//!   (`groups_are_runs`).
 //!
 //! Source: X12.5, interchange; X12.6, functional group and transaction set; who is sent what, and how it is numbered, is own.
 #![tactic(auto)]
@@ -31,7 +32,7 @@ mod outcome;
 mod receiving;
 mod render;
 
-pub use assembling::assemble;
+pub use assembling::{Mailbox, assemble};
 pub use deliveries::{Delivered, Deliveries};
 pub use delivering::deliver;
 pub use eligible::is_deliverable;

@@ -34,7 +34,7 @@ pair-drop n place text =
     let e : n + (place + 1) ≡ n + place + 1 = omega arith in
     cc
 
-digits_decided : (text : List ℕ) → Decides (is_digits text) (All IsAsciiDigit text)
+pub digits_decided : (text : List ℕ) → Decides (is_digits text) (All IsAsciiDigit text)
 digits_decided text = Decides-by_and is_ascii_digit IsAsciiDigit is_digits
     (λ x. (λ h. grind (arith, nat_tests), λ h. grind (arith, nat_tests))) refl (λ _ _. refl) text
 

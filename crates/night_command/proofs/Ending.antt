@@ -2,7 +2,7 @@
 use Rattle.std.proofs.Common.{ℕ, Bool, true, false, if◌then◌else◌, ◌≡◌, ◌≤◌, ◌⊎◌, inl, inr, List, [], ◌∷◌}
 use Rattle.std.proofs.Common.{length, drop, get_or, refl, ap, arith, nat_eq}
 use Rattle.std.proofs.lemmas.List.Splits.{length-slice_split}
-use Rattle.x12_segs.specs.Parts.{parts}
+use Rattle.x12_segs.specs.Words.{parts}
 use Rattle.night_report.specs.Clean.{all_but_last, is_clean, last_behind, last_of, lines_of}
 use Rattle.night_command.specs.Outcome.{status_of}
 use Rattle.night_command.specs.declared.outcome.Outcome.{Outcome}

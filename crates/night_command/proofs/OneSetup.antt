@@ -7,10 +7,8 @@ use Rattle.std.proofs.lemmas.Option.{slice_get-map}
 use Rattle.std.proofs.lemmas.Simd.{map-map}
 use Rattle.clap.proofs.WalkLemmas.{list_any-map}
 use Rattle.toml.specs.Data.{Members}
-use Rattle.hub_kinds.specs.Twice.{has_same_key, has_twice}
-use Rattle.hub_kinds.specs.TextList.{contains_text}
-use Rattle.guide_tree.specs.Faults.{HasFault, IsFirstFault}
-use Rattle.guide_tree.specs.Tree.{GuideTree, with_slot_numbers}
+use Rattle.hub_kinds.specs.Words.{has_same_key, has_twice, contains_text}
+use Rattle.guide_tree.specs.Words.{HasFault, IsFirstFault, GuideTree, with_slot_numbers}
 use Rattle.guide_tree.specs.declared.fault.GuideFault.{GuideFault}
 use Rattle.guide_tree.specs.declared.rows.GuideHead.{GuideHead}
 use Rattle.guide_tree.specs.declared.rows.GuideRows.{GuideRows}

@@ -10,8 +10,7 @@ use Rattle.guide_tree.specs.declared.element.Component.TheVariants as component
 use Rattle.guide_tree.specs.declared.element.Element.{Element}
 use Rattle.guide_tree.specs.declared.element.Element.TheVariants as element
 use Rattle.guide_tree.specs.declared.rows.GuideRows.{GuideRows}
-use Rattle.guide_tree.specs.Tree.{EachIn, EachNode, Tree, Trees, loop, no_trees, segment, tree}
-use Rattle.guide_tree.specs.View.{guide_of}
+use Rattle.guide_tree.specs.Words.{EachIn, EachNode, Tree, Trees, loop, no_trees, segment, tree, guide_of}
 use Rattle.elem_rules.specs.Rows.{component_reference}
 use Rattle.guide_toml.specs.References.{HasReference, HasReferences, HasReferencesIn, IsReference, WritesReferences}
 use Rattle.partner_setup.specs.Setup.{SetupValue}

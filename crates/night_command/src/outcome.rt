@@ -1,7 +1,7 @@
 ghost use Rattle.std.specs.Prelude.{◌≡◌, ◌≢◌, ◌≤◌, ◌⊎◌, OnOk};
 ghost use Rattle.std.specs.Io.KnownBytes.{Appends};
 ghost use Rattle.night_report.specs.Clean.{last_of, lines_of};
-ghost use Rattle.x12_segs.specs.Parts.{parts};
+ghost use Rattle.x12_segs.specs.Words.{parts};
 ghost use Rattle.night_command.specs.Outcome.{last_line, status_of, text_of};
 
 use crate::failure::Failure;

@@ -5,7 +5,7 @@ use Rattle.std.specs.List.{sum_by, count_by, filter, flat_map}
 use Rattle.std.proofs.lemmas.List.Concat.{flat_map-cons}
 use Rattle.std.proofs.lemmas.List.Elements.{filter-append}
 use Rattle.std.proofs.lemmas.List.Sums.{sum_by-append}
-use Rattle.env_index.specs.Summary.{GroupEntry}
+use Rattle.env_index.specs.Words.{GroupEntry}
 use Rattle.env_index.specs.declared.entry.SetEnvelope.{SetEnvelope}
 use Rattle.partner_setup.specs.Setup.{SetupValue}
 use Rattle.judged_text.specs.declared.standing.GroupStanding.{GroupStanding}

@@ -1,9 +1,10 @@
 -- The lines of a report, on examples.
-use Rattle.std.specs.Prelude.{◌≡◌, [], codes, refl, Some, None}
+use Rattle.std.specs.Prelude.{◌≡◌, [], ◌∷◌, codes, refl, Some, None}
 use Rattle.std.specs.Fmt.{digits}
 use Rattle.hub_kinds.specs.declared.interchange.InterchangeFault.TheVariants as fault
 use Rattle.hub_kinds.specs.declared.set_codes.GroupVerdict.TheVariants as group
-use Rattle.night_report.specs.Lines.{control_shown, interchange_line, ta1_line, fa_line, answered_line, held_line, total_line}
+use Rattle.night_report.specs.Lines.{control_shown, interchange_line, sent_line, ta1_line, fa_line, answered_line, held_line}
+use Rattle.night_report.specs.Lines.{total_line}
 
 accepted_interchange :
     interchange_line 2 220 (codes "ACME") (codes "000000007") None
@@ -23,6 +24,9 @@ no_ta1 = refl
 one_ta1 : ta1_line 1 ≡ codes "ta1 1\n"
 unfolding digits
 one_ta1 = refl
+
+sent_ta1 : sent_line (codes "R") (codes "023") ≡ codes "ta1 sent R 023\n"
+sent_ta1 = refl
 
 listed_group : fa_line (codes "5") 1 ≡ codes "group FA 5 listed sets 1\n"
 unfolding digits
@@ -44,7 +48,7 @@ rejected_group : answered_line (codes "IN") (codes "6") group.Rejected 1 0 ≡ c
 unfolding digits
 rejected_group = refl
 
-held_set : held_line 12 (codes "delimiter") ≡ codes "held set 12 delimiter\n"
+held_set : held_line 12 (codes "delimiter" ∷ codes "BOLT" ∷ []) ≡ codes "held set 12 delimiter BOLT\n"
 unfolding digits
 held_set = refl
 

@@ -2,7 +2,7 @@
 use Rattle.std.specs.Prelude.{ℕ, ◌≡◌, ◌++◌, List, [], ◌∷◌, Option, Some, None, true, false, codes, refl}
 use Rattle.std.specs.Fmt.{digits}
 use Rattle.x12_bytes.specs.declared.delims.Delims.{Delims}
-use Rattle.x12_segs.specs.View.{SegValue}
+use Rattle.x12_segs.specs.Words.{SegValue}
 use Rattle.hub_kinds.specs.declared.interchange.InterchangeFault.{InterchangeFault}
 use Rattle.hub_kinds.specs.declared.interchange.InterchangeFault.TheVariants as fault
 use Rattle.hub_kinds.specs.declared.set_codes.GroupVerdict.TheVariants as group
@@ -28,7 +28,7 @@ partner name delims = record {
   code = name;
   delims = delims;
   cap = 2;
-  counters = record { interchange = 1; set = 1 };
+  counters = record { interchange = 1; group = 1; set = 1 };
   guides = [];
 }
 
@@ -162,6 +162,21 @@ refused sender because = record {
   standings = order.standings;
 }
 
+-- the order, whose ISA14 asks for a TA1
+abbrev asking : JudgedValue
+asking = record {
+  text = order-text;
+  interchange = record {
+    header = codes "ISA*00*          *00*          *01*ACME           *ZZ*HUB            *260228*0900*^*00501*000000007*1*P*>~";
+    start = order.interchange.start;
+    end = order.interchange.end;
+    content = order.interchange.content;
+  };
+  sender = order.sender;
+  fault = order.fault;
+  standings = order.standings;
+}
+
 -- a group of acknowledgments, and one that no guide serves, behind a TA1
 abbrev mixed : JudgedValue
 mixed = record {
@@ -215,7 +230,7 @@ held_for_a_delimiter :
     report_text setup (with_a_bar ∷ []) 0
     ≡ codes "interchange 1 at 0 from ACME control 000000007 accepted\n"
     ++ codes "group PO 12 A sets 1 accepted 1\n"
-    ++ codes "held set 1 delimiter\n"
+    ++ codes "held set 1 delimiter BOLT\n"
     ++ codes "total interchanges 1 refused 0 groups 1 sets 1 accepted 1 held 1 outside 0\n"
 unfolding digits
 held_for_a_delimiter = refl
@@ -236,9 +251,20 @@ truncated_and_copied :
     ++ codes "interchange 2 at 0 from ACME control 000000007 accepted\n"
     ++ codes "group PO 12 A sets 1 accepted 1\n"
     ++ codes "interchange 3 at 0 from ACME control 000000007 refused 9\n"
+    ++ codes "ta1 sent R 025\n"
     ++ codes "total interchanges 3 refused 2 groups 1 sets 1 accepted 1 held 0 outside 0\n"
 unfolding digits
 truncated_and_copied = refl
+
+-- one that asks for it is answered
+asked :
+    report_text setup (asking ∷ []) 0
+    ≡ codes "interchange 1 at 0 from ACME control 000000007 accepted\n"
+    ++ codes "ta1 sent A 000\n"
+    ++ codes "group PO 12 A sets 1 accepted 1\n"
+    ++ codes "total interchanges 1 refused 0 groups 1 sets 1 accepted 1 held 0 outside 0\n"
+unfolding digits
+asked = refl
 
 -- groups of acknowledgments are listed, and not counted
 acknowledgments_listed :

@@ -1,6 +1,6 @@
 -- Private. Totals that are added up, group by group and interchange by interchange.
 use Rattle.std.specs.Prelude.{ℕ, ◌+◌, List, [], ◌∷◌, length, sum_by, if◌then◌else◌}
-use Rattle.env_index.specs.Summary.{GroupEntry}
+use Rattle.env_index.specs.Words.{GroupEntry}
 use Rattle.partner_setup.specs.Setup.{SetupValue}
 use Rattle.judged_text.specs.Judged.{JudgedValue, is_fa, is_refused, standing_at}
 use Rattle.judged_text.specs.Placed.{group_at, groups_in}

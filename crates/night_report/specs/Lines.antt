@@ -2,9 +2,7 @@
 use Rattle.std.specs.Prelude.{ℕ, ◌==◌, Bool, ◌&&◌, List, [], ◌∷◌, ◌++◌, Option, Some, None, length, codes, decimal, if◌then◌else◌}
 use Rattle.std.specs.List.{flat_map}
 use Rattle.x12_bytes.specs.Header.{field_of}
-use Rattle.hub_kinds.specs.Interchange.{fault_text}
-use Rattle.hub_kinds.specs.Numbers.{is_number}
-use Rattle.hub_kinds.specs.SetCodes.{group_verdict_text}
+use Rattle.hub_kinds.specs.Words.{fault_text, is_number, group_verdict_text}
 use Rattle.hub_kinds.specs.declared.interchange.InterchangeFault.{InterchangeFault}
 use Rattle.hub_kinds.specs.declared.limits.TheConstants.{MOST_CONTROL_DIGITS}
 use Rattle.hub_kinds.specs.declared.set_codes.GroupVerdict.{GroupVerdict}
@@ -34,9 +32,13 @@ abbrev pub interchange_line : (n start : ℕ) → (name control : List ℕ) → 
 interchange_line n start name control fault = line (codes "interchange")
     (decimal n ∷ codes "at" ∷ decimal start ∷ codes "from" ∷ name ∷ codes "control" ∷ control ∷ end_words fault)
 
--- so many interchange acknowledgments (TA1); nothing where there are none
+-- so many interchange acknowledgments (TA1) that were received; nothing where there are none
 abbrev pub ta1_line : (ta1s : ℕ) → List ℕ
 ta1_line ta1s = if ta1s == 0 then [] else line (codes "ta1") (decimal ta1s ∷ [])
+
+-- the interchange acknowledgment (TA1) that an interchange is answered with: its code and its note
+abbrev pub sent_line : (code note : List ℕ) → List ℕ
+sent_line code note = line (codes "ta1") (codes "sent" ∷ code ∷ note ∷ [])
 
 -- a group that acknowledges something itself: GS06, and its sets
 abbrev pub fa_line : (control : List ℕ) → (sets : ℕ) → List ℕ
@@ -51,8 +53,8 @@ abbrev pub answered_line : (id control : List ℕ) → GroupVerdict → (sets ac
 answered_line id control verdict sets accepted = verdict_line id control (group_verdict_text verdict) sets accepted
 
 -- a set that is held: its number in its group, counted from 1, and why
-abbrev pub held_line : (ordinal : ℕ) → (reason : List ℕ) → List ℕ
-held_line ordinal reason = line (codes "held") (codes "set" ∷ decimal ordinal ∷ reason ∷ [])
+abbrev pub held_line : (ordinal : ℕ) → (reason : List (List ℕ)) → List ℕ
+held_line ordinal reason = line (codes "held") (codes "set" ∷ decimal ordinal ∷ reason)
 
 -- the last line: what was counted, and how many bytes stand outside interchanges
 abbrev pub total_line : Totals → (outside : ℕ) → List ℕ

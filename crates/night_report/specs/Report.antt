@@ -2,26 +2,33 @@
 use Rattle.std.specs.Prelude.{ℕ, ◌+◌, Bool, not, List, [], ◌∷◌, ◌++◌, Option, Some, None, if◌then◌else◌}
 use Rattle.std.specs.Prelude.{filter, length, codes, sum_by, count_by, slice_get}
 use Rattle.std.specs.List.{flat_map}
-use Rattle.x12_segs.specs.View.{element_of}
-use Rattle.env_index.specs.Summary.{GroupEntry}
+use Rattle.x12_segs.specs.Words.{element_of}
+use Rattle.env_index.specs.Words.{GroupEntry}
+use Rattle.hub_kinds.specs.Words.{acknowledgment_code}
 use Rattle.partner_setup.specs.declared.partner.Partner.{Partner}
 use Rattle.partner_setup.specs.Setup.{SetupValue}
 use Rattle.mailbox.specs.declared.outcome.Outcome.{Outcome}
 use Rattle.mailbox.specs.declared.outcome.Outcome.TheVariants.{DeliveredTo, HeldForDelimiter, HeldForRoute}
 use Rattle.judged_text.specs.declared.standing.GroupStanding.{GroupStanding}
 use Rattle.mailbox.specs.Deliveries.{outcomes, is_held}
+use Rattle.judged_text.specs.Answered.{ta1_note}
 use Rattle.judged_text.specs.Judged.{JudgedValue, PlacedValue, standing_at, is_fa, is_refused, sets_from, all_sets}
-use Rattle.night_report.specs.Lines.{control_shown, interchange_line, ta1_line, fa_line, answered_line, held_line, total_line}
+use Rattle.night_report.specs.Lines.{control_shown, interchange_line, sent_line, ta1_line, fa_line, answered_line, held_line}
+use Rattle.night_report.specs.Lines.{total_line}
 use Rattle.night_report.specs.declared.totals.Totals.{Totals}
 
 abbrev pub name_by : Option Partner → List ℕ
 name_by None = codes "?"
 name_by (Some partner) = partner.name
 
--- the name of a partner by its place in the setup; of none where there is no partner
+-- the name of a partner by its place in the setup
+abbrev pub partner_name : SetupValue → (place : ℕ) → List ℕ
+partner_name setup place = name_by (slice_get setup.partners place)
+
+-- that of a sender; of none where there is no partner
 abbrev pub sender_name : SetupValue → (sender : Option ℕ) → List ℕ
 sender_name setup None = codes "?"
-sender_name setup (Some sender) = name_by (slice_get setup.partners sender)
+sender_name setup (Some sender) = partner_name setup sender
 
 -- a group with its interchange and its standing
 pub record ShownGroup : Type 0 where
@@ -49,14 +56,15 @@ group_line group standing =
     else answered_line (element_of group.header 1) (element_of group.header 6) standing.verdict (length group.sets)
     standing.accepted
 
--- what becomes of set number so and so of a group, counted from 1: nothing is told of one that is delivered
-abbrev pub outcome_line : (ordinal : ℕ) → Outcome → List ℕ
-outcome_line ordinal (DeliveredTo to) = []
-outcome_line ordinal (HeldForDelimiter to) = held_line ordinal (codes "delimiter")
-outcome_line ordinal HeldForRoute = held_line ordinal (codes "route")
+-- what becomes of set number so and so of a group, counted from 1, for a receiver: nothing is told of one that is delivered; what is
+-- held for a delimiter names the receiver
+abbrev pub outcome_line : SetupValue → (ordinal : ℕ) → Outcome → List ℕ
+outcome_line setup ordinal (DeliveredTo to) = []
+outcome_line setup ordinal (HeldForDelimiter to) = held_line ordinal (codes "delimiter" ∷ partner_name setup to ∷ [])
+outcome_line setup ordinal HeldForRoute = held_line ordinal (codes "route" ∷ [])
 
 abbrev pub held_lines : SetupValue → PlacedValue → List ℕ
-held_lines setup p = flat_map (outcome_line (p.index + 1)) (outcomes setup p)
+held_lines setup p = flat_map (outcome_line setup (p.index + 1)) (outcomes setup p)
 
 -- a group, and behind it its sets that are held
 abbrev pub group_lines : SetupValue → ShownGroup → List ℕ
@@ -72,8 +80,14 @@ abbrev pub first_line : SetupValue → (n : ℕ) → JudgedValue → List ℕ
 first_line setup n x =
     interchange_line n x.interchange.start (sender_name setup x.sender) (control_shown x.interchange.header) x.fault
 
+-- the TA1 with this note that it is answered with
+abbrev pub answer_line : (note : Option (List ℕ)) → List ℕ
+answer_line None = []
+answer_line (Some note) = sent_line (acknowledgment_code note) note
+
 abbrev pub interchange_lines : SetupValue → (n : ℕ) → JudgedValue → List ℕ
-interchange_lines setup n x = first_line setup n x ++ content_lines setup x
+interchange_lines setup n x =
+    first_line setup n x ++ answer_line (ta1_note x.sender x.fault x.interchange) ++ content_lines setup x
 
 abbrev pub all_lines : SetupValue → (n : ℕ) → List JudgedValue → List ℕ
 all_lines setup n [] = []

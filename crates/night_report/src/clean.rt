@@ -1,5 +1,5 @@
 ghost use Rattle.std.specs.Prelude.{◌≡◌, ◌-◌, ◌≤◌, [], slice_index_or};
-ghost use Rattle.x12_segs.specs.Parts.{parts};
+ghost use Rattle.x12_segs.specs.Words.{parts};
 ghost use Rattle.night_report.specs.Clean as clean;
 
 use x12_bytes::Delims;

@@ -1,6 +1,6 @@
 ghost use Rattle.std.specs.Prelude.{◌≡◌, ◌++◌, ◌+◌, ◌<◌, ◌≤◌, ℕ, IfOk, OnOk, length};
 ghost use Rattle.std.specs.List.{flat_map};
-ghost use Rattle.x12_segs.specs.View.{element_of};
+ghost use Rattle.x12_segs.specs.Words.{element_of};
 ghost use Rattle.partner_setup.specs.Setup.{route_of};
 ghost use Rattle.judged_text.specs.Judged.{standing_at};
 ghost use Rattle.night_report.specs.Adding as adding;

@@ -1,11 +1,14 @@
 ghost use Rattle.std.specs.Prelude.{◌≡◌, ◌++◌, ◌∷◌, [], OnOk, codes, decimal};
 ghost use Rattle.x12_bytes.specs.Header.{field_of};
+ghost use Rattle.hub_kinds.specs.Words.{acknowledgment_code};
+ghost use Rattle.x12_write.specs.Segment.{read};
 ghost use Rattle.night_report.specs.Lines as lines;
 
 use crate::spaced::{append_count, append_line, append_word, append_words};
 use crate::totals::Totals;
 use hub_kinds::{
-    GroupVerdict, InterchangeFault, MOST_CONTROL_DIGITS, NoMemory, code_text, read_number,
+    GroupVerdict, InterchangeFault, MOST_CONTROL_DIGITS, NoMemory, acknowledgment_code, code_text,
+    read_number,
 };
 use itoa::Buffer;
 use x12_bytes::Header;
@@ -76,6 +79,21 @@ pub(crate) fn append_interchange_line<'x>(
     append_end_words(out, fault)?;
     out.push(b'\n')?;
     Ok(())
+}
+
+/// Writes the line of the TA1 that an interchange is answered with.
+pub(crate) fn append_sent_line(out: &mut Vec<u8>, note: &str) -> Result<(), NoMemory>
+    ensures { OnOk result (out.new.items ≡ out.old.items ++ lines.sent_line (acknowledgment_code note.now) note.now) }
+{
+    append_line(
+        out,
+        b"ta1",
+        &[
+            b"sent".as_slice(),
+            acknowledgment_code(note).as_bytes(),
+            note.as_bytes(),
+        ],
+    )
 }
 
 /// Writes how many TA1 an interchange has, where it has any.
@@ -162,16 +180,15 @@ pub(crate) fn append_answered_line<'x>(
 pub(crate) fn append_held_line(
     out: &mut Vec<u8>,
     ordinal: u128,
-    reason: &[u8],
+    reason: &[&[u8]],
 ) -> Result<(), NoMemory>
-    ensures { OnOk result (out.new.items ≡ out.old.items ++ lines.held_line ordinal reason.now) }
+    ensures { OnOk result (out.new.items ≡ out.old.items ++ lines.held_line ordinal (read reason.now)) }
 {
-    let mut number = Buffer::new();
-    append_line(
-        out,
-        b"held",
-        &[b"set".as_slice(), number.format(ordinal).as_bytes(), reason],
-    )
+    out.extend_from_slice(b"held")?;
+    append_count(out, b"set", ordinal)?;
+    append_words(out, reason)?;
+    out.push(b'\n')?;
+    Ok(())
 }
 
 /// Writes what is counted of interchanges and groups.

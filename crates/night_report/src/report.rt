@@ -1,14 +1,17 @@
-ghost use Rattle.std.specs.Prelude.{◌≡◌, ◌++◌, ◌+◌, IfOk, OnOk, length};
+ghost use Rattle.std.specs.Prelude.{◌≡◌, ◌≤◌, ◌++◌, ◌+◌, IfOk, OnOk, length};
+ghost use Rattle.judged_text.specs.Answered.{ta1_note};
 ghost use Rattle.night_report.specs.Adding as adding;
 ghost use Rattle.night_report.specs.Report as report;
 ghost use Rattle.night_report.specs.Room.{HasRoom, IsOfInterchanges};
 
 use crate::groups::append_groups;
-use crate::lines::{append_interchange_line, append_ta1_line, append_total_line, control_shown};
+use crate::lines::{
+    append_interchange_line, append_sent_line, append_ta1_line, append_total_line, control_shown,
+};
 use crate::named::sender_name;
 use crate::totals::Totals;
 use hub_kinds::{Items, NoMemory, Text};
-use judged_text::{JudgedInterchange, is_refused};
+use judged_text::{JudgedInterchange, is_refused, ta1_note};
 use partner_setup::Setup;
 use std::alloc::Global;
 
@@ -30,6 +33,22 @@ fn append_first_line(
         control_shown(indexed.header()),
         interchange.fault(),
     )
+}
+
+/// Writes the line of the TA1 that an interchange is answered with, where it is.
+fn append_answer(out: &mut Vec<u8>, interchange: &JudgedInterchange<'_, '_>) -> Result<(), NoMemory>
+    ensures text { OnOk result (out.new.items ≡ out.old.items ++ report.answer_line
+        (ta1_note interchange.now.sender interchange.now.fault interchange.now.interchange)) }
+    ensures room { OnOk result (length out.old.items ≤ length out.new.items) }
+{
+    match ta1_note(
+        interchange.sender(),
+        interchange.fault(),
+        interchange.interchange(),
+    ) {
+        None => Ok(()),
+        Some(note) => append_sent_line(out, note),
+    }
 }
 
 /// Writes what is told of an interchange behind its line, and gives what is counted of it.
@@ -63,6 +82,7 @@ fn append_interchange(
     ensures of_one { IfOk result (λ totals. IsOfInterchanges totals 1) }
 {
     append_first_line(out, setup, n, interchange)?;
+    append_answer(out, interchange)?;
     append_content(out, setup, interchange)
 }
 

@@ -8,7 +8,7 @@ use Rattle.std.specs.declared.cmp.Ordering.TheVariants.{Less, Equal, Greater}
 use Rattle.std.proofs.lemmas.Bool.{cases_lt}
 use Rattle.std.proofs.lemmas.Map.Text.{is_eq-slice_cmp}
 use Rattle.std.proofs.lemmas.Slice.Eq.{bytes_eq-Decides}
-use Rattle.hub_kinds.specs.ByText.{by_text}
+use Rattle.hub_kinds.specs.Words.{by_text}
 use Rattle.number_register.specs.Slots.{text_of, texts_of}
 use denote.Ref.{Bor}
 

@@ -6,14 +6,12 @@ use Rattle.std.specs.Cmp.Lexicographic.{slice_cmp}
 use Rattle.std.specs.Ordering.{nat_cmp}
 use Rattle.std.proofs.lemmas.Bool.{ltb-true}
 use Rattle.std.proofs.lemmas.Option.{none-some}
-use Rattle.hub_kinds.specs.ByText.{by_text}
+use Rattle.hub_kinds.specs.Words.{by_text}
 use Rattle.hub_kinds.specs.declared.place.Place.{Place}
 use Rattle.number_book.specs.Books.{book_at}
 use Rattle.number_book.specs.First.{first_of, where_before}
 use Rattle.work_core.specs.Core.{was_recorded}
-use Rattle.env_index.specs.Index.{IndexValue}
-use Rattle.env_index.specs.Numbers.{OfInterchange, OfGroup, OfSet}
-use Rattle.env_index.specs.Placed.{places_of}
+use Rattle.env_index.specs.Words.{IndexValue, OfInterchange, OfGroup, OfSet, places_of}
 use Rattle.number_register.specs.Recording.{IsEarlierIn}
 use Rattle.number_register.specs.Slots.{AreHeld, fields_of, group_code, group_place, groups_of, interchange_place, same_code}
 use Rattle.number_register.specs.Slots.{set_control, set_place, sets_of, text_of, texts_of}

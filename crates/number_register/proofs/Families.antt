@@ -3,13 +3,11 @@ use Rattle.std.proofs.Common.{◌≡◌, ℕ, zero, suc, ◌+◌, inl, inr, List
 use Rattle.std.proofs.Common.{Option, Some, None, map, refl, sym, ap, ◌∙◌, arith}
 use Rattle.std.specs.Prelude.{Contains, option_map, slice_get}
 use Rattle.std.proofs.lemmas.Option.{slice_get-map}
-use Rattle.hub_kinds.specs.Numbers.{number_of}
+use Rattle.hub_kinds.specs.Words.{number_of}
 use Rattle.hub_kinds.specs.declared.limits.TheConstants.{MOST_CONTROL_DIGITS}
 use Rattle.hub_kinds.specs.declared.place.Place.{Place}
-use Rattle.x12_segs.specs.View.{element_of}
-use Rattle.env_index.specs.Index.{IndexEntry, IndexValue}
-use Rattle.env_index.specs.Numbers.{Number, OfInterchange, OfGroup, OfSet, Numbered, place_at}
-use Rattle.env_index.specs.Summary.{GroupEntry}
+use Rattle.x12_segs.specs.Words.{element_of}
+use Rattle.env_index.specs.Words.{IndexEntry, IndexValue, Number, OfInterchange, OfGroup, OfSet, Numbered, place_at, GroupEntry}
 use Rattle.env_index.specs.declared.entry.SetEnvelope.{SetEnvelope}
 use Rattle.number_register.specs.Recording.{numbered_in}
 use Rattle.number_register.specs.Slots.{code_of, fields_of, group_code, group_place}

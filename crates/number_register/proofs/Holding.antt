@@ -8,8 +8,7 @@ use Rattle.std.proofs.lemmas.Option.{none-some, slice_get-get_or}
 use Rattle.hub_kinds.specs.declared.place.Place.{Place}
 use Rattle.number_book.specs.Books.{book_at}
 use Rattle.work_core.specs.Core.{was_recorded}
-use Rattle.env_index.specs.Index.{IndexEntry}
-use Rattle.env_index.specs.Summary.{GroupEntry}
+use Rattle.env_index.specs.Words.{IndexEntry, GroupEntry}
 use Rattle.number_register.specs.Fresh.{fresh_books, fresh_groups, fresh_sets}
 use Rattle.number_register.specs.Slots.{AreHeld, AreSlots, fields_of, group_code, group_place, groups_of, interchange_place, same_code}
 use Rattle.number_register.specs.Slots.{set_control, set_place, sets_at, sets_of, text_of, texts_of}

@@ -8,7 +8,7 @@ use Rattle.std.specs.declared.cmp.Ordering.TheVariants.{Less, Equal, Greater}
 use Rattle.std.proofs.lemmas.Bool.{cases_Bool, false≢true, ltb-true, ltb-false}
 use Rattle.std.proofs.Math.Nat.{eq-or-lt_of_le}
 use Rattle.hub_kinds.specs.declared.place.Place.{Place}
-use Rattle.env_index.specs.Numbers.{place_at, is_before}
+use Rattle.env_index.specs.Words.{place_at, is_before}
 
 -- the order of places that differ in one number
 less_then : (a b : ℕ) (more : Ordering) → a < b → is_lt (ordering_then (nat_cmp a b) more) ≡ true

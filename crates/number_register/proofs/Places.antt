@@ -5,15 +5,12 @@ use Rattle.std.specs.Prelude.{Contains, is_none, slice_get}
 use Rattle.std.proofs.lemmas.List.Elements.{Contains-append_cases, Contains-append_left, Contains-append_right, Contains-push}
 use Rattle.std.proofs.lemmas.List.Elements.{Contains-push_cases}
 use Rattle.std.proofs.lemmas.Option.{none-some, slice_get_within}
-use Rattle.hub_kinds.specs.Numbers.{number_of}
+use Rattle.hub_kinds.specs.Words.{number_of}
 use Rattle.hub_kinds.specs.declared.limits.TheConstants.{MOST_CONTROL_DIGITS}
 use Rattle.hub_kinds.specs.declared.place.Place.{Place}
-use Rattle.x12_segs.specs.View.{element_of}
-use Rattle.env_index.specs.Index.{IndexEntry, IndexValue}
-use Rattle.env_index.specs.Interchange.{InterchangeEntry}
-use Rattle.env_index.specs.Numbers.{Number, OfGroup, OfSet, Numbered, groups_from, interchange_number, kept_places, place_at, sets_from}
-use Rattle.env_index.specs.Placed.{place_in, places_behind, places_of}
-use Rattle.env_index.specs.Summary.{GroupEntry}
+use Rattle.x12_segs.specs.Words.{element_of}
+use Rattle.env_index.specs.Words.{IndexEntry, IndexValue, InterchangeEntry, Number, OfGroup, OfSet, Numbered, groups_from}
+use Rattle.env_index.specs.Words.{interchange_number, kept_places, place_at, sets_from, place_in, places_behind, places_of, GroupEntry}
 use Rattle.env_index.specs.declared.entry.SetEnvelope.{SetEnvelope}
 use Rattle.number_register.specs.Placing.{IsPlaced}
 use Rattle.number_register.specs.Slots.{groups_of, sets_of, sets_at, groups_at}

@@ -4,7 +4,7 @@ use Rattle.std.specs.Prelude.{slice_get, slice_set}
 use Rattle.hub_kinds.specs.declared.place.Place.{Place}
 use Rattle.number_book.specs.Books.{book_at}
 use Rattle.work_core.specs.Core.{was_recorded}
-use Rattle.env_index.specs.Index.{IndexEntry}
+use Rattle.env_index.specs.Words.{IndexEntry}
 use Rattle.number_register.specs.Slots.{AreHeld, fields_of, group_code, groups_of, set_control, sets_of, texts_of}
 use Rattle.number_register.proofs.Holding.{group_absent, group_more, interchange_absent, interchange_more, set_absent, set_more, with_set}
 use Rattle.number_register.proofs.Standing.{at_group, at_interchange, at_set}

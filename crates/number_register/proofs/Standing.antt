@@ -7,8 +7,7 @@ use Rattle.std.proofs.lemmas.Option.{get_or_from_slice_get, slice_get-get_or}
 use Rattle.hub_kinds.specs.declared.place.Place.{Place}
 use Rattle.number_book.specs.Books.{book_at}
 use Rattle.work_core.specs.Core.{was_recorded}
-use Rattle.env_index.specs.Index.{IndexEntry}
-use Rattle.env_index.specs.Numbers.{place_at}
+use Rattle.env_index.specs.Words.{IndexEntry, place_at}
 use Rattle.number_register.specs.Placing.{IsPlaced}
 use Rattle.number_register.specs.Slots.{AreHeld, fields_of, group_code, group_place, groups_of, interchange_place, same_code}
 use Rattle.number_register.specs.Slots.{set_control, set_place, sets_of, text_of, texts_of}

@@ -6,9 +6,7 @@ use Rattle.std.proofs.lemmas.Bool.{cases_lt}
 use Rattle.std.proofs.lemmas.Option.{none-some}
 use Rattle.hub_kinds.specs.declared.place.Place.{Place}
 use Rattle.work_core.specs.Core.{was_recorded}
-use Rattle.env_index.specs.Index.{IndexValue}
-use Rattle.env_index.specs.Numbers.{is_before, IsFirstUse, Number, Numbered}
-use Rattle.env_index.specs.Placed.{place_in, places_of}
+use Rattle.env_index.specs.Words.{IndexValue, is_before, IsFirstUse, Number, Numbered, place_in, places_of}
 use Rattle.number_register.specs.Recording.{IsEarlierIn, numbered_in}
 use Rattle.number_register.proofs.Firsts.{IsFirstBefore}
 use Rattle.number_register.proofs.Ordering.{AreInOrder, before_is_less}

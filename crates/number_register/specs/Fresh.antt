@@ -1,7 +1,6 @@
 -- Own: books without a key. Private.
 use Rattle.std.specs.Prelude.{ℕ, List, Option, None, map, length, replicate}
-use Rattle.env_index.specs.Index.{IndexEntry}
-use Rattle.env_index.specs.Summary.{GroupEntry}
+use Rattle.env_index.specs.Words.{IndexEntry, GroupEntry}
 use denote.Ref.{Bor}
 
 abbrev pub fresh_groups : IndexEntry → List (Option ℕ)

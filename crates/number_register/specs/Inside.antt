@@ -1,7 +1,7 @@
 -- What the fields of the records stand for. Private.
 use Rattle.std.specs.Prelude.{◌≡◌, true, Contains}
 use Rattle.hub_kinds.specs.declared.place.Place.{Place}
-use Rattle.env_index.specs.Placed.{places_of}
+use Rattle.env_index.specs.Words.{places_of}
 use Rattle.work_core.specs.Core.{was_recorded}
 use Rattle.number_register.specs.Recording.{Recording}
 use Rattle.number_register.specs.Slots.{AreHeld}

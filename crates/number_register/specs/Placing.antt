@@ -1,7 +1,7 @@
 -- Own: what stands at a place of an index, by its numbers, and the key of its number. Private.
 use Rattle.std.specs.Prelude.{◌≡◌, ◌-◌, ◌<◌, ◌≤◌, List, Some, map, length, slice_get}
 use Rattle.hub_kinds.specs.declared.place.Place.{Place}
-use Rattle.env_index.specs.Index.{IndexEntry}
+use Rattle.env_index.specs.Words.{IndexEntry}
 use Rattle.number_register.specs.declared.key.Key.{Key}
 use Rattle.number_register.specs.declared.key.Key.TheVariants.{OfInterchange, OfGroup, OfSet}
 use Rattle.number_register.specs.Slots.{group_code, groups_of, set_control, sets_of}

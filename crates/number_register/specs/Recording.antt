@@ -5,9 +5,7 @@ use Rattle.hub_kinds.specs.declared.place.Place.{Place}
 use Rattle.work_core.specs.Core.{was_recorded}
 use Rattle.number_register.specs.declared.fault.RecordFault.{RecordFault}
 use Rattle.number_register.specs.declared.fault.RecordFault.TheVariants.{NoMemory, Already}
-use Rattle.env_index.specs.Index.{IndexValue}
-use Rattle.env_index.specs.Numbers.{Numbered, IsFirstUse}
-use Rattle.env_index.specs.Placed.{places_behind, places_of}
+use Rattle.env_index.specs.Words.{IndexValue, Numbered, IsFirstUse, places_behind, places_of}
 
 -- a settled index, and the places recorded, in the order of recording
 pub record Recording : Type 0 where

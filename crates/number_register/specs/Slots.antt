@@ -1,13 +1,11 @@
 -- Own: what the books have at each place of an index: its number where it was recorded. Private.
 use Rattle.std.specs.Prelude.{◌≡◌, ℕ, ◌+◌, Bool, true, false, List, [], ◌∷◌, map, Option, Some, None, option_map, slice_get, get_or}
-use Rattle.hub_kinds.specs.Numbers.{number_of}
+use Rattle.hub_kinds.specs.Words.{number_of}
 use Rattle.hub_kinds.specs.declared.limits.TheConstants.{MOST_CONTROL_DIGITS}
 use Rattle.hub_kinds.specs.declared.place.Place.{Place}
 use Rattle.x12_bytes.specs.Header.{field_of}
-use Rattle.x12_segs.specs.View.{element_of}
-use Rattle.env_index.specs.Index.{IndexEntry}
-use Rattle.env_index.specs.Numbers.{place_at}
-use Rattle.env_index.specs.Summary.{GroupEntry}
+use Rattle.x12_segs.specs.Words.{element_of}
+use Rattle.env_index.specs.Words.{IndexEntry, place_at, GroupEntry}
 use Rattle.env_index.specs.declared.entry.SetEnvelope.{SetEnvelope}
 use Rattle.number_book.specs.Books.{book_at}
 use Rattle.work_core.specs.Core.{was_recorded}

@@ -1,5 +1,5 @@
 ghost use Rattle.std.specs.Prelude.{◌≡◌, Contains};
-ghost use Rattle.env_index.specs.Placed.{places_of};
+ghost use Rattle.env_index.specs.Words.{places_of};
 ghost use Rattle.number_register.specs.Recording.{IsEarlierIn, IsFull};
 
 use crate::records::Records;

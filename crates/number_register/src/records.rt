@@ -1,6 +1,6 @@
 ghost use Rattle.std.specs.Prelude.{◌≡◌, ◌≤◌, ◌++◌, ◌∷◌, [], false, Contains, IfOk, IfErr, OnOk, OnErr};
 ghost use Rattle.std.specs.List.{list_all};
-ghost use Rattle.env_index.specs.Placed.{places_of};
+ghost use Rattle.env_index.specs.Words.{places_of};
 ghost use Rattle.work_core.specs.Core.{was_recorded};
 ghost use Rattle.number_register.specs.Placing.{IsKeyAt, IsPlaced};
 ghost use Rattle.number_register.specs.Recording.{IsEarlierIn, IsFull, IsRefused, IsShort};

@@ -1,5 +1,5 @@
 ghost use Rattle.std.specs.Prelude.{◌≡◌, ◌+◌, ◌<◌, Contains, IfOk, OnErr, if◌then◌else◌, length, sum, vec_len};
-ghost use Rattle.env_index.specs.Placed.{places_of};
+ghost use Rattle.env_index.specs.Words.{places_of};
 ghost use Rattle.number_register.specs.Placing.{IsKeyAt};
 ghost use Rattle.number_register.specs.Recording.{one_if};
 

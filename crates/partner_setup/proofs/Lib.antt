@@ -1,3 +1,4 @@
+pub mod Apart
 pub mod Lines
 pub mod Marks
 pub mod Naming
@@ -6,4 +7,5 @@ pub mod Sounding
 pub mod Tabling
 pub mod Telling
 mod Worked
+mod WorkedFiles
 mod WorkedSetup

@@ -8,8 +8,7 @@ use Rattle.std.specs.Ordering.{is_eq}
 use Rattle.std.specs.Str.{bytes_eq}
 use Rattle.std.proofs.lemmas.List.{append-nil, append_assoc, drop_more}
 use Rattle.std.proofs.lemmas.Map.Text.{is_eq-slice_cmp}
-use Rattle.hub_kinds.specs.TextList.{contains_text}
-use Rattle.hub_kinds.specs.ByText.{by_text}
+use Rattle.hub_kinds.specs.Words.{contains_text, by_text}
 use Rattle.partner_setup.specs.Known.{KnowsPlaces}
 use Rattle.partner_setup.specs.Names.{and_some, place_from, place_of}
 use denote.Ref.{Bor}

@@ -4,12 +4,11 @@ use Rattle.std.proofs.Common.{Option, Some, None, zero, suc, is_none, cond, slic
 use Rattle.std.specs.List.{list_all}
 use Rattle.std.specs.Option.{option_map_or}
 use Rattle.std.specs.Str.{bytes_eq}
-use Rattle.std.proofs.lemmas.Bool.{and_parts, eqb-false, false≢true, true≢false, leb-true, not-false, or_parts}
+use Rattle.std.proofs.lemmas.Bool.{and_parts, eqb-false, false≢true, true≢false, leb-true, not-false, not-true, or_parts}
 use Rattle.std.proofs.lemmas.List.{length-map}
 use Rattle.std.proofs.lemmas.List.Elements.{All-nil, All-cons, All-head, All-tail}
-use Rattle.hub_kinds.specs.Words.{is_word}
-use Rattle.hub_kinds.specs.Twice.{has_twice}
-use Rattle.hub_kinds.specs.TextList.{contains_text}
+use Rattle.hub_kinds.specs.Words.{is_word, has_twice, contains_text}
+use Rattle.hub_kinds.specs.declared.counters.Counters.{Counters}
 use Rattle.x12_bytes.specs.declared.delims.Delims.{Delims}
 use Rattle.x12_write.specs.Undivided.{CanDivide}
 use Rattle.guide_tree.specs.declared.rows.GuideRows.{GuideRows}
@@ -17,13 +16,14 @@ use Rattle.partner_setup.specs.Names.{and_some, place_from, place_of, places_of_
 use Rattle.partner_setup.specs.Setup.{counters_of, delims_or_none, first_counters, has_code, no_delims}
 use Rattle.partner_setup.specs.Setup.{partner_of, route_by, row_of, setup_of, targets_in}
 use Rattle.partner_setup.specs.SetupFaults as faults
-use Rattle.partner_setup.specs.Sound.{AreCounters, AreWithin, IsSoundPartner, IsSoundSetup, has_delimiters}
+use Rattle.partner_setup.specs.Sound.{AreApart, AreCounters, AreWithin, IsSoundPartner, IsSoundSetup, has_delimiters}
 use Rattle.partner_setup.specs.declared.partner.Route.{Route}
 use Rattle.partner_setup.specs.declared.rows.CounterRow.{CounterRow}
 use Rattle.partner_setup.specs.declared.rows.PartnerRow.{PartnerRow}
 use Rattle.partner_setup.specs.declared.rows.RouteRow.{RouteRow}
 use Rattle.partner_setup.specs.declared.rows.SetupRows.{SetupRows}
 use Rattle.partner_setup.specs.declared.setup_fault.SetupFault.{SetupFault}
+use Rattle.partner_setup.proofs.Apart.{none_apart, places_apart}
 use Rattle.partner_setup.proofs.Marks.{ends, four, no_letter}
 
 -- places, below the number of those among whom they stand
@@ -82,14 +82,18 @@ in_range : (n : ℕ) → faults.is_counter n ≡ true → (1 ≤ n) × (n ≤ 99
 in_range n h = let both = and_parts (nat_le 1 n) (nat_le n 999999999) h in
     (leb-true 1 n both.0, leb-true n 999999999 both.1)
 
+all_in_range : (c : Counters) → faults.are_counters c ≡ true → AreCounters c
+all_in_range c h =
+    let three = and_parts (faults.is_counter c.interchange && faults.is_counter c.group) (faults.is_counter c.set) h in
+    let two = and_parts (faults.is_counter c.interchange) (faults.is_counter c.group) three.0 in
+    let i = in_range c.interchange two.0 in
+    let g = in_range c.group two.1 in
+    let s = in_range c.set three.1 in
+    (i.0, i.1, g.0, g.1, s.0, s.1)
+
 counted : (ps : List PartnerRow) (c : CounterRow) → faults.counts_for ps c ≡ true → AreCounters c.counters
-counted ps c h =
-    let numbers = (and_parts (faults.is_counter c.counters.interchange && faults.is_counter c.counters.set)
-    (contains_text (map faults.partner_name ps) c.partner) h).0 in
-    let both = and_parts (faults.is_counter c.counters.interchange) (faults.is_counter c.counters.set) numbers in
-    let a = in_range c.counters.interchange both.0 in
-    let b = in_range c.counters.set both.1 in
-    (a.0, a.1, b.0, b.1)
+counted ps c h = all_in_range c.counters
+    (and_parts (faults.are_counters c.counters) (contains_text (map faults.partner_name ps) c.partner) h).0
 
 counted_at : (ps : List PartnerRow) (cs : List CounterRow) (k : ℕ) (c : CounterRow) → list_all (faults.counts_for ps) cs ≡ true
     → slice_get cs k ≡ Some c → AreCounters c.counters
@@ -106,7 +110,7 @@ counted_row ps cs (Some k) c h e = counted_at ps cs k c h e
 
 counted_or_first : (o : Option CounterRow) → ((c : CounterRow) → o ≡ Some c → AreCounters c.counters)
     → AreCounters (option_map_or (λ (c : CounterRow). c.counters) o first_counters)
-counted_or_first None h = (omega arith, omega arith, omega arith, omega arith)
+counted_or_first None h = (omega arith, omega arith, omega arith, omega arith, omega arith, omega arith)
 counted_or_first (Some c) h = h c refl
 
 counters_sound : (ps : List PartnerRow) (cs : List CounterRow) (name : List ℕ) → list_all (faults.counts_for ps) cs ≡ true
@@ -149,13 +153,28 @@ partners_sound ps cs gs (p ∷ rows) counts marks ids caps =
 -- routes
 route_sound : (count : ℕ) (ps : List PartnerRow) → count ≡ length ps → (r : RouteRow) → AreWithin count (route_by ps r).to
 route_sound count ps is r = subst (λ (n : ℕ). AreWithin n (route_by ps r).to) (sym is)
-    (places_within faults.partner_name ps (r.to ∷ []))
+    (places_within faults.partner_name ps r.to)
 
 routes_sound : (count : ℕ) (ps : List PartnerRow) → count ≡ length ps → (rows : List RouteRow)
     → All (λ (r : Route). AreWithin count r.to) (map (route_by ps) rows)
 routes_sound count ps is [] = All-nil (λ (r : Route). AreWithin count r.to)
 routes_sound count ps is (r ∷ rows) = All-cons (λ (x : Route). AreWithin count x.to) (route_by ps r) (map (route_by ps) rows)
     (route_sound count ps is r) (routes_sound count ps is rows)
+
+route_apart : (ps : List PartnerRow) (r : RouteRow) → faults.is_route ps r ≡ true → AreApart (route_by ps r).to
+route_apart ps r h =
+    let names = map faults.partner_name ps in
+    let targets = (and_parts (faults.is_id 2 15 r.code) (faults.are_targets ps r.to) h).1 in
+    let once = (and_parts (list_all (contains_text names) r.to) (not (has_twice faults.by_name r.to)) targets).1 in
+    places_apart names r.to (not-true (has_twice faults.by_name r.to) once)
+
+routes_apart : (ps : List PartnerRow) (rows : List RouteRow) → list_all (faults.is_route ps) rows ≡ true
+    → All (λ (r : Route). AreApart r.to) (map (route_by ps) rows)
+routes_apart ps [] h = All-nil (λ (r : Route). AreApart r.to)
+routes_apart ps (r ∷ rows) h =
+    let parts = and_parts (faults.is_route ps r) (list_all (faults.is_route ps) rows) h in
+    All-cons (λ (x : Route). AreApart x.to) (route_by ps r) (map (route_by ps) rows)
+    (route_apart ps r parts.0) (routes_apart ps rows parts.1)
 
 unrefused : (b : Bool) (f : SetupFault) (o : Option SetupFault) → cond b (Some f) o ≡ None → (b ≡ false) × (o ≡ None)
 unrefused true f o e = absurd cc
@@ -178,21 +197,32 @@ sound rows cs gs e =
     let id_parts = or_parts (not (faults.are_ids rows.hub.qualifier rows.hub.id rows.hub.code)) (not (list_all faults.has_ids ps)) ids.0 in
     let all_count = not-false (list_all (faults.counts_for ps) cs) (or_parts (not (list_all (faults.counts_for ps) cs))
     (has_twice (λ (c : CounterRow). faults.by_name c.partner) cs) counts.0).0 in
+    let all_routes = not-false (list_all (faults.is_route ps) rows.routes) (or_parts (not (list_all (faults.is_route ps) rows.routes))
+    (has_twice (λ (r : RouteRow). faults.by_name r.code) rows.routes) routes.0).0 in
     record {
       hub = not-false (faults.are_ids rows.hub.qualifier rows.hub.id rows.hub.code) id_parts.0;
       partners = partners_sound ps cs gs ps all_count marks.0 (not-false (list_all faults.has_ids ps) id_parts.1)
           (not-false (list_all (λ (p : PartnerRow). faults.is_cap p.cap) ps) caps);
       routes = routes_sound (length (map (partner_of cs gs) ps)) ps (length-map ps (partner_of cs gs)) rows.routes;
+      apart = routes_apart ps rows.routes all_routes;
     }
 
-chosen_targets : (count : ℕ) (b : Bool) (xs ys : List ℕ) → AreWithin count xs → AreWithin count ys → AreWithin count (cond b xs ys)
-chosen_targets count true xs ys h k = h
-chosen_targets count false xs ys h k = k
+chosen_targets : (P : List ℕ → Type 0) (b : Bool) (xs ys : List ℕ) → P xs → P ys → P (cond b xs ys)
+chosen_targets P true xs ys h k = h
+chosen_targets P false xs ys h k = k
 
--- the targets of a code are those of one of the routes
+-- the targets of a code are those of one of the routes, or none
+targets_have : (P : List ℕ → Type 0) (routes : List Route) (code : List ℕ) → P [] → All (λ (r : Route). P r.to) routes
+    → P (targets_in routes code)
+targets_have P [] code none h = none
+targets_have P (r ∷ routes) code none h = chosen_targets P (has_code code r) r.to (targets_in routes code)
+    (All-head (λ (x : Route). P x.to) r routes h)
+    (targets_have P routes code none (All-tail (λ (x : Route). P x.to) r routes h))
+
 pub targets_within : (count : ℕ) (routes : List Route) (code : List ℕ) → All (λ (r : Route). AreWithin count r.to) routes
     → AreWithin count (targets_in routes code)
-targets_within count [] code h = All-nil (λ (q : ℕ). q < count)
-targets_within count (r ∷ routes) code h = chosen_targets count (has_code code r) r.to (targets_in routes code)
-    (All-head (λ (x : Route). AreWithin count x.to) r routes h)
-    (targets_within count routes code (All-tail (λ (x : Route). AreWithin count x.to) r routes h))
+targets_within count routes code h = targets_have (AreWithin count) routes code (All-nil (λ (q : ℕ). q < count)) h
+
+pub targets_apart : (routes : List Route) (code : List ℕ) → All (λ (r : Route). AreApart r.to) routes
+    → AreApart (targets_in routes code)
+targets_apart routes code h = targets_have AreApart routes code none_apart h

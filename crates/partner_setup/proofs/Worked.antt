@@ -1,6 +1,6 @@
 -- Ids, delimiters and what is given twice, on examples.
 use Rattle.std.specs.Prelude.{ℕ, ◌≡◌, List, [], ◌∷◌, codes, refl, true, false, Some, None}
-use Rattle.hub_kinds.specs.Twice.{has_twice}
+use Rattle.hub_kinds.specs.Words.{has_twice}
 use Rattle.partner_setup.specs.declared.rows.PartnerRow.{PartnerRow}
 use Rattle.partner_setup.specs.SetupFaults.{told_by, is_id, may_delimit, may_end, byte_of, are_ids, delims_of, is_cap, is_counter}
 use Rattle.partner_setup.specs.Names.{place_of, places_of_texts, those_at}

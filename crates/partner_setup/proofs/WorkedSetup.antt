@@ -85,8 +85,11 @@ other name id code component cap = record {
 abbrev pub bolt : PartnerRow
 bolt = other (codes "BOLT") (codes "BOLT") (codes "BOLT") (codes ":") 1
 
+abbrev pub route_to : (code : List ℕ) → (to : List (List ℕ)) → RouteRow
+route_to code to = record { code = code; to = to }
+
 abbrev pub route : (code to : List ℕ) → RouteRow
-route code to = record { code = code; to = to }
+route code to = route_to code (to ∷ [])
 
 abbrev pub routes : List RouteRow
 routes = route (codes "ACME") (codes "ACME") ∷ route (codes "BOLT") (codes "BOLT") ∷ []
@@ -97,11 +100,12 @@ rows_with partners rs = record { hub = hub; partners = partners; routes = rs }
 abbrev pub rows : SetupRows
 rows = rows_with (acme ∷ bolt ∷ []) routes
 
-abbrev pub counter : (partner : List ℕ) → (interchange set : ℕ) → CounterRow
-counter partner interchange set = record { partner = partner; counters = record { interchange = interchange; set = set } }
+abbrev pub counter : (partner : List ℕ) → (interchange group set : ℕ) → CounterRow
+counter partner interchange group set =
+    record { partner = partner; counters = record { interchange = interchange; group = group; set = set } }
 
 abbrev pub counters : List CounterRow
-counters = counter (codes "BOLT") 3 7 ∷ []
+counters = counter (codes "BOLT") 3 5 7 ∷ []
 
 nothing_is_refused : (nodes : Vec Node Global) → first_fault rows counters (guides nodes) ≡ None
 nothing_is_refused nodes = refl
@@ -165,6 +169,32 @@ route_to_nobody : (nodes : Vec Node Global) → first_fault
     (rows_with (acme ∷ bolt ∷ []) (route (codes "CARL") (codes "CARL") ∷ [])) counters (guides nodes) ≡ Some fault.BadRoute
 route_to_nobody nodes = refl
 
+route_to_both : (nodes : Vec Node Global) → first_fault
+    (rows_with (acme ∷ bolt ∷ []) (route_to (codes "BOLT") (codes "BOLT" ∷ codes "ACME" ∷ []) ∷ [])) counters (guides nodes) ≡ None
+route_to_both nodes = refl
+
+second_target_is_nobody : (nodes : Vec Node Global) → first_fault
+    (rows_with (acme ∷ bolt ∷ []) (route_to (codes "BOLT") (codes "BOLT" ∷ codes "CARL" ∷ []) ∷ [])) counters (guides nodes)
+    ≡ Some fault.BadRoute
+second_target_is_nobody nodes = refl
+
+target_named_twice : (nodes : Vec Node Global) → first_fault
+    (rows_with (acme ∷ bolt ∷ []) (route_to (codes "BOLT") (codes "BOLT" ∷ codes "ACME" ∷ codes "BOLT" ∷ []) ∷ [])) counters (guides nodes)
+    ≡ Some fault.BadRoute
+target_named_twice nodes = refl
+
+-- two routes may lead to one partner
+target_of_two_routes : (nodes : Vec Node Global) → first_fault
+    (rows_with (acme ∷ bolt ∷ []) (route (codes "AC") (codes "BOLT") ∷ route (codes "BO") (codes "BOLT") ∷ [])) counters (guides nodes)
+    ≡ None
+target_of_two_routes nodes = refl
+
+-- the routes are judged before the counters
+route_and_counter : (nodes : Vec Node Global) → first_fault
+    (rows_with (acme ∷ bolt ∷ []) (route_to (codes "BOLT") (codes "BOLT" ∷ codes "BOLT" ∷ []) ∷ [])) (counter (codes "BOLT") 1 0 1 ∷ [])
+    (guides nodes) ≡ Some fault.BadRoute
+route_and_counter nodes = refl
+
 route_of_one_byte : (nodes : Vec Node Global) → first_fault
     (rows_with (acme ∷ bolt ∷ []) (route (codes "A") (codes "ACME") ∷ [])) counters (guides nodes) ≡ Some fault.BadRoute
 route_of_one_byte nodes = refl
@@ -174,13 +204,29 @@ route_given_twice : (nodes : Vec Node Global) → first_fault
     ≡ Some fault.BadRoute
 route_given_twice nodes = refl
 
-counter_of_zero : (nodes : Vec Node Global) → first_fault rows (counter (codes "BOLT") 1 0 ∷ []) (guides nodes) ≡ Some fault.BadCounter
-counter_of_zero nodes = refl
+interchange_counter_of_zero : (nodes : Vec Node Global) → first_fault rows (counter (codes "BOLT") 0 1 1 ∷ []) (guides nodes)
+    ≡ Some fault.BadCounter
+interchange_counter_of_zero nodes = refl
 
-counter_of_nobody : (nodes : Vec Node Global) → first_fault rows (counter (codes "CARL") 1 1 ∷ []) (guides nodes) ≡ Some fault.BadCounter
+group_counter_of_zero : (nodes : Vec Node Global) → first_fault rows (counter (codes "BOLT") 1 0 1 ∷ []) (guides nodes)
+    ≡ Some fault.BadCounter
+group_counter_of_zero nodes = refl
+
+set_counter_of_zero : (nodes : Vec Node Global) → first_fault rows (counter (codes "BOLT") 1 1 0 ∷ []) (guides nodes)
+    ≡ Some fault.BadCounter
+set_counter_of_zero nodes = refl
+
+greatest_group_counter : (nodes : Vec Node Global) → first_fault rows (counter (codes "BOLT") 1 999999999 1 ∷ []) (guides nodes) ≡ None
+greatest_group_counter nodes = refl
+
+group_counter_too_great : (nodes : Vec Node Global) → first_fault rows (counter (codes "BOLT") 1 1000000000 1 ∷ []) (guides nodes)
+    ≡ Some fault.BadCounter
+group_counter_too_great nodes = refl
+
+counter_of_nobody : (nodes : Vec Node Global) → first_fault rows (counter (codes "CARL") 1 1 1 ∷ []) (guides nodes) ≡ Some fault.BadCounter
 counter_of_nobody nodes = refl
 
-counter_given_twice : (nodes : Vec Node Global) → first_fault rows (counter (codes "BOLT") 1 1 ∷ counters) (guides nodes)
+counter_given_twice : (nodes : Vec Node Global) → first_fault rows (counter (codes "BOLT") 1 1 1 ∷ counters) (guides nodes)
     ≡ Some fault.BadCounter
 counter_given_twice nodes = refl
 
@@ -189,14 +235,20 @@ cap_of_zero : (nodes : Vec Node Global) → first_fault
     ≡ Some fault.BadCap
 cap_of_zero nodes = refl
 
-counters_of_a_row : counters_of counters (codes "BOLT") ≡ record { interchange = 3; set = 7 }
+counters_of_a_row : counters_of counters (codes "BOLT") ≡ record { interchange = 3; group = 5; set = 7 }
 counters_of_a_row = refl
 
-counters_without_a_row : counters_of counters (codes "ACME") ≡ record { interchange = 1; set = 1 }
+counters_without_a_row : counters_of counters (codes "ACME") ≡ record { interchange = 1; group = 1; set = 1 }
 counters_without_a_row = refl
 
 goes_to_bolt : (nodes : Vec Node Global) → route_of (setup_of rows counters (guides nodes)) (codes "BOLT") ≡ 1 ∷ []
 goes_to_bolt nodes = refl
+
+-- the places of both, in the order in which they are named
+goes_to_both : (nodes : Vec Node Global) → route_of
+    (setup_of (rows_with (acme ∷ bolt ∷ []) (route_to (codes "BOLT") (codes "BOLT" ∷ codes "ACME" ∷ []) ∷ [])) counters (guides nodes))
+    (codes "BOLT") ≡ 1 ∷ 0 ∷ []
+goes_to_both nodes = refl
 
 goes_nowhere : (nodes : Vec Node Global) → route_of (setup_of rows counters (guides nodes)) (codes "CARL") ≡ []
 goes_nowhere nodes = refl
@@ -226,7 +278,7 @@ no_guide_of_a_set nodes = refl
 
 -- the numbers of the next night, partner by partner
 counters_written : (nodes : Vec Node Global) (c d : Counters) → counters_text (setup_of rows counters (guides nodes)) (c ∷ d ∷ [])
-    ≡ codes "version = 1\n" ++ (counter_lines (codes "ACME") c ++ (counter_lines (codes "BOLT") d ++ []))
+    ≡ codes "version = 2\n" ++ (counter_lines (codes "ACME") c ++ (counter_lines (codes "BOLT") d ++ []))
 counters_written nodes c d = refl
 
 name_written : name_lines (codes "ACME") ≡ codes "\n[[counter]]\npartner = \"ACME\"\n"
@@ -235,11 +287,15 @@ name_written = refl
 number_written : number_line (codes "set") 10 ≡ codes "set = 10\n"
 number_written = ap (λ (digits : List ℕ). codes "set = " ++ (digits ++ line_end)) (decimal-digits_of 10 (omega arith) (omega arith))
 
-lines_of_a_partner : counter_lines (codes "ACME") (record { interchange = 2; set = 10 })
-    ≡ codes "\n[[counter]]\npartner = \"ACME\"\ninterchange = 2\nset = 10\n"
+lines_of_a_partner : counter_lines (codes "ACME") (record { interchange = 2; group = 3; set = 10 })
+    ≡ codes "\n[[counter]]\npartner = \"ACME\"\ninterchange = 2\ngroup = 3\nset = 10\n"
 lines_of_a_partner =
     ap (λ (digits : List ℕ).
-    name_lines (codes "ACME") ++ ((codes "interchange = " ++ (digits ++ line_end)) ++ number_line (codes "set") 10))
+    name_lines (codes "ACME") ++ ((codes "interchange = " ++ (digits ++ line_end))
+    ++ (number_line (codes "group") 3 ++ number_line (codes "set") 10)))
     (decimal-digits_of 2 (omega arith) (omega arith))
-    ∙ ap (λ (digits : List ℕ). codes "\n[[counter]]\npartner = \"ACME\"\ninterchange = 2\nset = " ++ (digits ++ line_end))
+    ∙ ap (λ (digits : List ℕ). codes "\n[[counter]]\npartner = \"ACME\"\ninterchange = 2\n"
+    ++ ((codes "group = " ++ (digits ++ line_end)) ++ number_line (codes "set") 10))
+    (decimal-digits_of 3 (omega arith) (omega arith))
+    ∙ ap (λ (digits : List ℕ). codes "\n[[counter]]\npartner = \"ACME\"\ninterchange = 2\ngroup = 3\nset = " ++ (digits ++ line_end))
     (decimal-digits_of 10 (omega arith) (omega arith))

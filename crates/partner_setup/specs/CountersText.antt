@@ -1,4 +1,4 @@
--- The counters file, version 1 (own): the text that is written of a setup's next counters.
+-- The counters file, version 2 (own): the text that is written of a setup's next counters.
 use Rattle.std.specs.Prelude.{ℕ, List, [], ◌∷◌, ◌++◌, codes, decimal}
 use Rattle.hub_kinds.specs.declared.counters.Counters.{Counters}
 use Rattle.partner_setup.specs.declared.partner.Partner.{Partner}
@@ -15,10 +15,15 @@ number_line key n = key ++ (codes " = " ++ (decimal n ++ line_end))
 abbrev pub name_lines : (name : List ℕ) → List ℕ
 name_lines name = codes "\n[[counter]]\npartner = \"" ++ (name ++ codes "\"\n")
 
--- an empty line and the four lines of a partner
+-- the three numbers of a partner
+abbrev pub number_lines : Counters → List ℕ
+number_lines c =
+    number_line (codes "interchange") c.interchange
+    ++ (number_line (codes "group") c.group ++ number_line (codes "set") c.set)
+
+-- an empty line and the five lines of a partner
 abbrev pub counter_lines : (name : List ℕ) → Counters → List ℕ
-counter_lines name c =
-    name_lines name ++ (number_line (codes "interchange") c.interchange ++ number_line (codes "set") c.set)
+counter_lines name c = name_lines name ++ number_lines c
 
 -- partner by partner
 abbrev pub all_lines : List Partner → List Counters → List ℕ
@@ -27,4 +32,4 @@ all_lines (p ∷ ps) [] = []
 all_lines (p ∷ ps) (c ∷ next) = counter_lines p.name c ++ all_lines ps next
 
 abbrev pub counters_text : SetupValue → List Counters → List ℕ
-counters_text setup next = codes "version = 1\n" ++ all_lines setup.partners next
+counters_text setup next = codes "version = 2\n" ++ all_lines setup.partners next

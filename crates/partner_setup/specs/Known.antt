@@ -1,7 +1,7 @@
 -- Own: an ordered map of the first places of names. Private.
 use Rattle.std.specs.Prelude.{◌≡◌, ℕ, List}
 use Rattle.std.specs.BTreeMap.{BTreeMap, get}
-use Rattle.hub_kinds.specs.ByText.{by_text}
+use Rattle.hub_kinds.specs.Words.{by_text}
 use Rattle.partner_setup.specs.Names.{place_from}
 use denote.Ref.{Bor}
 

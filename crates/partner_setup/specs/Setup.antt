@@ -27,7 +27,7 @@ pub record SetupValue : Type 0 where
 
 -- a partner without a row of counters starts at 1
 abbrev pub first_counters : Counters
-first_counters = record { interchange = 1; set = 1 }
+first_counters = record { interchange = 1; group = 1; set = 1 }
 
 abbrev pub row_of : List CounterRow → (name : List ℕ) → Option CounterRow
 row_of rows name = option_and_then (slice_get rows) (place_of (map (λ (c : CounterRow). c.partner) rows) name)
@@ -54,7 +54,7 @@ partner_of counters guides row = record {
 }
 
 abbrev pub route_by : List PartnerRow → RouteRow → Route
-route_by partners row = record { code = row.code; to = places_of_texts (map partner_name partners) (row.to ∷ []) }
+route_by partners row = record { code = row.code; to = places_of_texts (map partner_name partners) row.to }
 
 -- the setup that rows, counters and guides make where nothing is refused
 abbrev pub setup_of : SetupRows → List CounterRow → List GuideRows → SetupValue
@@ -75,7 +75,7 @@ sender_of setup header = position (λ p. has_id p (field_of header 5) (without_t
 abbrev pub has_code : (code : List ℕ) → Route → Bool
 has_code code route = bytes_eq route.code code
 
--- where sets for a GS03 go: the places of partners; nowhere without a route
+-- where sets for a GS03 go: the places of partners, in the route's order; nowhere without a route
 abbrev pub targets_in : List Route → (code : List ℕ) → List ℕ
 targets_in [] code = []
 targets_in (route ∷ routes) code = if has_code code route then route.to else targets_in routes code

@@ -3,9 +3,8 @@ use Rattle.std.specs.Prelude.{ℕ, ◌==◌, Bool, not, ◌&&◌, ◌||◌, nat_
 use Rattle.std.specs.Prelude.{slice_index, if◌then◌else◌, ◌-◌}
 use Rattle.std.specs.List.{list_all, list_any}
 use Rattle.std.specs.Char.{is_ascii_alphanumeric}
-use Rattle.hub_kinds.specs.Twice.{has_twice}
-use Rattle.hub_kinds.specs.Words.{is_word}
-use Rattle.hub_kinds.specs.TextList.{contains_text}
+use Rattle.hub_kinds.specs.Words.{has_twice, is_word, contains_text}
+use Rattle.hub_kinds.specs.declared.counters.Counters.{Counters}
 use Rattle.x12_bytes.specs.declared.delims.Delims.{Delims}
 use Rattle.guide_tree.specs.declared.rows.GuideRows.{GuideRows}
 use Rattle.partner_setup.specs.Names.{places_of_texts, those_at}
@@ -111,9 +110,13 @@ has_bad_guides ps guides = not (list_all (has_guides guides) ps) || has_twice (�
 abbrev pub partner_name : PartnerRow → List ℕ
 partner_name p = p.name
 
--- 5: a target that is no partner, a code that hasn't its form, or one given twice
+-- each target is a partner, and none is named twice
+abbrev pub are_targets : List PartnerRow → (names : List (List ℕ)) → Bool
+are_targets ps names = list_all (contains_text (map partner_name ps)) names && not (has_twice by_name names)
+
+-- 5: a target that is no partner or is named twice in one list, a code that hasn't its form, or one given twice
 abbrev pub is_route : List PartnerRow → RouteRow → Bool
-is_route ps r = contains_text (map partner_name ps) r.to && is_id 2 15 r.code
+is_route ps r = is_id 2 15 r.code && are_targets ps r.to
 
 abbrev pub has_bad_route : List PartnerRow → List RouteRow → Bool
 has_bad_route ps routes = not (list_all (is_route ps) routes) || has_twice (λ (r : RouteRow). by_name r.code) routes
@@ -122,8 +125,11 @@ has_bad_route ps routes = not (list_all (is_route ps) routes) || has_twice (λ (
 abbrev pub is_counter : ℕ → Bool
 is_counter n = nat_le 1 n && nat_le n 999999999
 
+abbrev pub are_counters : Counters → Bool
+are_counters c = is_counter c.interchange && is_counter c.group && is_counter c.set
+
 abbrev pub counts_for : List PartnerRow → CounterRow → Bool
-counts_for ps c = is_counter c.counters.interchange && is_counter c.counters.set && contains_text (map partner_name ps) c.partner
+counts_for ps c = are_counters c.counters && contains_text (map partner_name ps) c.partner
 
 abbrev pub has_bad_counter : List PartnerRow → List CounterRow → Bool
 has_bad_counter ps cs = not (list_all (counts_for ps) cs) || has_twice (λ (c : CounterRow). by_name c.partner) cs

@@ -1,10 +1,12 @@
 -- The setup file (own): the rows that a table writes, and the first fault of one that writes none.
-use Rattle.std.specs.Prelude.{ℕ, List, [], ◌∷◌, codes, Option, Some, None, Result, Ok, Err, if◌then◌else◌, option_and_then}
+use Rattle.std.specs.Prelude.{ℕ, Bool, nat_le, ◌&&◌, List, [], ◌∷◌, length, codes, Option, Some, None, Result, Ok, Err, if◌then◌else◌}
+use Rattle.std.specs.Prelude.{option_and_then}
 use Rattle.std.specs.Str.{bytes_eq}
 use Rattle.toml.specs.Data.{Data, table, Items, no_items, item, Members, as_str, as_table}
 use Rattle.toml_keys.specs.Refusals.{Refusal, wrong_kind}
 use Rattle.toml_keys.specs.Keys.{least_unknown, if_known}
 use Rattle.toml_keys.specs.Tables.{◌>>=◌, required, optional, count_in, list_in, tables_in}
+use Rattle.partner_setup.specs.declared.receivers.TheConstants.{MOST_RECEIVERS}
 use Rattle.partner_setup.specs.declared.rows.HubRow.{HubRow}
 use Rattle.partner_setup.specs.declared.rows.PartnerRow.{PartnerRow}
 use Rattle.partner_setup.specs.declared.rows.RouteRow.{RouteRow}
@@ -38,6 +40,21 @@ usage_of s =
 
 abbrev pub usage_in : Data → Option Usage
 usage_in d = option_and_then usage_of (as_str d)
+
+-- 1 to 16 texts
+abbrev pub are_receivers : List (List ℕ) → Bool
+are_receivers texts = nat_le 1 (length texts) && nat_le (length texts) MOST_RECEIVERS
+
+abbrev pub some_receivers : List (List ℕ) → Option (List (List ℕ))
+some_receivers texts = if are_receivers texts then Some texts else None
+
+-- the receivers of a route: a text, or else a list of 1 to 16 texts
+abbrev pub receivers_or : (text : Option (List ℕ)) → Data → Option (List (List ℕ))
+receivers_or (Some text) d = Some (text ∷ [])
+receivers_or None d = option_and_then some_receivers (list_in as_str d)
+
+abbrev pub receivers_in : Data → Option (List (List ℕ))
+receivers_in d = receivers_or (as_str d) d
 
 unfoldable pub hub_of : Members → Result HubRow Refusal
 hub_of ms = do
@@ -75,7 +92,7 @@ partner_of ms = do
 unfoldable pub route_of : Members → Result RouteRow Refusal
 route_of ms = do
   code ← required as_str (codes "code") ms
-  to ← required as_str (codes "to") ms
+  to ← required receivers_in (codes "to") ms
   Ok (record { code = code; to = to })
 
 abbrev pub partner_in : Data → Result PartnerRow Refusal

@@ -1,5 +1,6 @@
 -- The setup (own): what is known of every setup that is built, whatever its rows were.
-use Rattle.std.specs.Prelude.{ℕ, ◌<◌, ◌≤◌, Bool, false, IsTrue, List, length, All}
+use Rattle.std.specs.Prelude.{ℕ, ◌<◌, ◌≤◌, ◌≢◌, Bool, false, IsTrue, List, length, All}
+use Rattle.std.specs.List.{AllPairs}
 use Rattle.std.specs.Option.{option_map_or}
 use Rattle.hub_kinds.specs.Words.{is_word}
 use Rattle.hub_kinds.specs.declared.counters.Counters.{Counters}
@@ -12,7 +13,9 @@ use Rattle.partner_setup.specs.SetupFaults.{are_delimiters, are_ids}
 
 -- counters from 1 to 999,999,999
 abbrev pub AreCounters : Counters → Type 0
-AreCounters c = (1 ≤ c.interchange) × (c.interchange ≤ 999999999) × (1 ≤ c.set) × (c.set ≤ 999999999)
+AreCounters c =
+    (1 ≤ c.interchange) × (c.interchange ≤ 999999999) × (1 ≤ c.group) × (c.group ≤ 999999999)
+    × (1 ≤ c.set) × (c.set ≤ 999999999)
 
 -- all four are there, are allowed, and differ
 abbrev pub has_delimiters : Delims → Bool
@@ -33,7 +36,12 @@ pub record IsSoundPartner (guide_count : ℕ) (p : Partner) : Type 0 where
 abbrev pub AreWithin : (count : ℕ) → List ℕ → Type 0
 AreWithin count places = All (λ (q : ℕ). q < count) places
 
+-- no place stands twice
+abbrev pub AreApart : List ℕ → Type 0
+AreApart places = AllPairs (λ (p q : ℕ). p ≢ q) places
+
 pub record IsSoundSetup (s : SetupValue) : Type 0 where
   pub hub : IsTrue (are_ids s.hub.qualifier s.hub.id s.hub.code)
   pub partners : All (IsSoundPartner (length s.guides)) s.partners
   pub routes : All (λ (r : Route). AreWithin (length s.partners) r.to) s.routes
+  pub apart : All (λ (r : Route). AreApart r.to) s.routes

@@ -6,7 +6,7 @@ ghost use Rattle.partner_setup.specs.Setup as setup;
 ghost use Rattle.partner_setup.specs.SetupFaults as faults;
 
 use crate::delimiters::delims_of;
-use crate::judge::{first_fault, places_of, push_some};
+use crate::judge::{first_fault, places_of};
 use crate::keys::places_by_key;
 use crate::names::{place_of, places_by_name};
 use crate::partner::{Partner, Route};
@@ -37,7 +37,7 @@ fn row_of<'a>(
     row_at(rows, place)
 }
 
-/// A partner's counters; 1 and 1 where it has no row.
+/// A partner's counters; 1, 1 and 1 where it has no row.
 fn counters_of(places: &BTreeMap<&[u8], usize>, rows: &[CounterRow], name: &[u8]) -> Counters
     requires { KnowsPlaces places.now 0 (map (λ c. c.partner) rows.now) }
     ensures { result ≡ setup.counters_of rows.now name.now }
@@ -45,6 +45,7 @@ fn counters_of(places: &BTreeMap<&[u8], usize>, rows: &[CounterRow], name: &[u8]
     match row_of(places, rows, name) {
         None => Counters {
             interchange: 1,
+            group: 1,
             set: 1,
         },
         Some(row) => row.counters,
@@ -110,8 +111,7 @@ fn route_by(
     ensures { IfOk result (λ route. (ps : List PartnerRow) → KnowsPlaces partners.now 0 (map faults.partner_name ps)
         → route ≡ setup.route_by ps row) }
 {
-    let mut to = Vec::new(alloc);
-    push_some(&mut to, place_of(partners, row.to.as_slice()))?;
+    let to = places_of(alloc, partners, row.to.as_slice())?;
     Ok(Route {
         code: row.code,
         to: Items::from_vec(to),

@@ -27,13 +27,20 @@ fn append_name(out: &mut Vec<u8>, name: &[u8]) -> Result<(), NoMemory>
     Ok(())
 }
 
+fn append_numbers(out: &mut Vec<u8>, counters: &Counters) -> Result<(), NoMemory>
+    ensures { OnOk result (out.new.items ≡ out.old.items ++ written.number_lines counters.now) }
+{
+    append_number(out, b"interchange", counters.interchange)?;
+    append_number(out, b"group", counters.group)?;
+    append_number(out, b"set", counters.set)?;
+    Ok(())
+}
+
 fn append_counter(out: &mut Vec<u8>, name: &[u8], counters: &Counters) -> Result<(), NoMemory>
     ensures { OnOk result (out.new.items ≡ out.old.items ++ written.counter_lines name.now counters.now) }
 {
     append_name(out, name)?;
-    append_number(out, b"interchange", counters.interchange)?;
-    append_number(out, b"set", counters.set)?;
-    Ok(())
+    append_numbers(out, counters)
 }
 
 fn append_all(out: &mut Vec<u8>, partners: &[Partner], next: &[Counters]) -> Result<(), NoMemory>
@@ -50,14 +57,14 @@ impl Setup {
     ghost use Rattle.std.specs.Prelude.{◌≡◌, length, IfOk};
     ghost use Rattle.partner_setup.specs.CountersText as written;
 
-    /// The counters file of the next night: for each partner, in their order, the numbers from which it goes on. The only
-    /// error is want of memory.
+    /// The counters file of the next night, in version 2: for each partner, in their order, the numbers from which it goes on.
+    /// The only error is want of memory.
     pub fn counters_text(&self, alloc: Global, next: &[Counters]) -> Result<Text, NoMemory>
         requires { length next.now ≡ length self.now.partners }
         ensures { IfOk result (λ text. text ≡ written.counters_text self.now next.now) }
     {
         let mut out = Vec::new(alloc);
-        out.extend_from_slice(b"version = 1\n")?;
+        out.extend_from_slice(b"version = 2\n")?;
         append_all(&mut out, self.partners(), next)?;
         Ok(Items::from_vec(out))
     }

@@ -1,6 +1,6 @@
 ghost use Rattle.std.specs.Prelude.{◌≡◌, ◌++◌, [], ℕ, List, Some, None, if◌then◌else◌, map, option_map, slice_get, IfOk, OnOk};
 ghost use Rattle.std.specs.List.{list_all};
-ghost use Rattle.hub_kinds.specs.TextList.{contains_text};
+ghost use Rattle.hub_kinds.specs.Words.{contains_text};
 ghost use Rattle.partner_setup.specs.Known.{KnowsPlaces};
 ghost use Rattle.partner_setup.specs.Names.{and_some, places_of_texts, those_at};
 ghost use Rattle.partner_setup.specs.SetupFaults as faults;
@@ -12,9 +12,11 @@ use crate::names::{is_name, place_of, places_by_name};
 use crate::rows::{CounterRow, PartnerRow, RouteRow, SetupRows};
 use crate::setup_fault::SetupFault;
 use crate::told::Told;
-use crate::twice::{CounterPartner, GuideName, PartnerId, PartnerName, RouteCode, given_twice};
+use crate::twice::{
+    CounterPartner, GuideName, PartnerId, PartnerName, RouteCode, TargetName, given_twice,
+};
 use guide_tree::Guide;
-use hub_kinds::{NoMemory, Text, has_twice};
+use hub_kinds::{Counters, NoMemory, Text, has_twice};
 use std::alloc::Global;
 use std::collections::BTreeMap;
 
@@ -39,7 +41,7 @@ fn are_names(places: &BTreeMap<&[u8], usize>, names: &[Text]) -> bool
 }
 
 /// Adds a place, if there is one.
-pub fn push_some(places: &mut Vec<usize>, place: Option<usize>) -> Result<(), NoMemory>
+fn push_some(places: &mut Vec<usize>, place: Option<usize>) -> Result<(), NoMemory>
     ensures { OnOk result (places.new.items ≡ places.old.items ++ and_some place []) }
 {
     if let Some(place) = place {
@@ -157,22 +159,50 @@ fn has_bad_guides(
     given_twice::<GuideName>(alloc, guides)
 }
 
-fn is_route(places: &BTreeMap<&[u8], usize>, route: &RouteRow) -> bool
-    ensures { (ps : List PartnerRow) → KnowsPlaces places.now 0 (map faults.partner_name ps) → result ≡ faults.is_route ps route.now }
+/// Whether each target is a partner, and none is named twice.
+fn are_targets(
+    alloc: Global,
+    places: &BTreeMap<&[u8], usize>,
+    names: &[Text],
+) -> Result<bool, NoMemory>
+    ensures { IfOk result (λ are. (ps : List PartnerRow) → KnowsPlaces places.now 0 (map faults.partner_name ps)
+        → are ≡ faults.are_targets ps names.now) }
 {
-    is_name(places, route.to.as_slice()) && is_id(route.code.as_slice(), 2, 15)
+    if !are_names(places, names) {
+        return Ok(false);
+    }
+    let twice = given_twice::<TargetName>(alloc, names)?;
+    Ok(!twice)
 }
 
-fn are_routes(places: &BTreeMap<&[u8], usize>, routes: &[RouteRow]) -> bool
-    ensures { (ps : List PartnerRow) → KnowsPlaces places.now 0 (map faults.partner_name ps)
-        → result ≡ list_all (faults.is_route ps) routes.now }
+fn is_route(
+    alloc: Global,
+    places: &BTreeMap<&[u8], usize>,
+    route: &RouteRow,
+) -> Result<bool, NoMemory>
+    ensures { IfOk result (λ is. (ps : List PartnerRow) → KnowsPlaces places.now 0 (map faults.partner_name ps)
+        → is ≡ faults.is_route ps route.now) }
+{
+    if !is_id(route.code.as_slice(), 2, 15) {
+        return Ok(false);
+    }
+    are_targets(alloc, places, route.to.as_slice())
+}
+
+fn are_routes(
+    alloc: Global,
+    places: &BTreeMap<&[u8], usize>,
+    routes: &[RouteRow],
+) -> Result<bool, NoMemory>
+    ensures { IfOk result (λ are. (ps : List PartnerRow) → KnowsPlaces places.now 0 (map faults.partner_name ps)
+        → are ≡ list_all (faults.is_route ps) routes.now) }
 {
     for route in routes {
-        if !is_route(places, route) {
-            return false;
+        if !is_route(alloc, places, route)? {
+            return Ok(false);
         }
     }
-    true
+    Ok(true)
 }
 
 fn has_bad_route(
@@ -183,7 +213,7 @@ fn has_bad_route(
     ensures { IfOk result (λ bad. (ps : List PartnerRow) → KnowsPlaces places.now 0 (map faults.partner_name ps)
         → bad ≡ faults.has_bad_route ps routes.now) }
 {
-    if !are_routes(places, routes) {
+    if !are_routes(alloc, places, routes)? {
         return Ok(true);
     }
     given_twice::<RouteCode>(alloc, routes)
@@ -195,12 +225,16 @@ fn is_counter(number: u32) -> bool
     1 <= number && number <= 999_999_999
 }
 
+fn are_counters(counters: &Counters) -> bool
+    ensures { result ≡ faults.are_counters counters.now }
+{
+    is_counter(counters.interchange) && is_counter(counters.group) && is_counter(counters.set)
+}
+
 fn counts_for(places: &BTreeMap<&[u8], usize>, row: &CounterRow) -> bool
     ensures { (ps : List PartnerRow) → KnowsPlaces places.now 0 (map faults.partner_name ps) → result ≡ faults.counts_for ps row.now }
 {
-    is_counter(row.counters.interchange)
-        && is_counter(row.counters.set)
-        && is_name(places, row.partner.as_slice())
+    are_counters(&row.counters) && is_name(places, row.partner.as_slice())
 }
 
 fn all_count(places: &BTreeMap<&[u8], usize>, rows: &[CounterRow]) -> bool

@@ -7,10 +7,10 @@
 //! - `Setup::build` is the setup that rows, counters and guides make, exactly where nothing of them is refused, and else the
 //!   first refusal, in the order of the refusals' numbers;
 //! - every setup is sound: each partner's cap, counters, delimiters and names are what they have to be, and each route leads to
-//!   its partners;
+//!   its partners, to none of them twice;
 //! - `Setup::envelope_to` is the envelope from the hub to a partner, and its interchange header can be read again;
 //! - `Setup::sender_of`, `route_of`, `has_group`, `has_version` and `guide_of` look up the rows;
-//! - `Setup::counters_text` is the counters file of the next night.
+//! - `Setup::counters_text` is the counters file of the next night, in version 2; version 1 is still read.
 //!
 //! What is given twice is found by sorting and names by an ordered map, so that the cost of a setup follows its bytes, but
 //! for a logarithm. A partner is found by its qualifier and id and a route by its code in ordered maps; only a partner's own
@@ -31,6 +31,7 @@ mod keys;
 mod lookup;
 mod names;
 mod partner;
+mod receivers;
 mod row;
 mod rows;
 mod setup;
@@ -42,6 +43,7 @@ mod values;
 
 pub use counters_file::read_counters;
 pub use partner::{Partner, Route};
+pub use receivers::MOST_RECEIVERS;
 pub use rows::{CounterRow, CounterRows, HubRow, PartnerRow, RouteRow, SetupRows, Usage};
 pub use setup::Setup;
 pub use setup_fault::SetupFault;

@@ -136,7 +136,7 @@ impl Setup {
     ghost use Rattle.std.specs.Prelude.{◌≡◌, ◌<◌, IfSome, length, option_map, position};
     ghost use Rattle.partner_setup.specs.Names.{those_at};
     ghost use Rattle.partner_setup.specs.Setup as setup;
-    ghost use Rattle.partner_setup.specs.Sound.{AreWithin};
+    ghost use Rattle.partner_setup.specs.Sound.{AreApart, AreWithin};
 
     fn with_id(&self, qualifier: &[u8], id: &[u8]) -> Option<usize>
         ensures { result ≡ position (λ p. setup.has_id p qualifier.now id.now) self.now.partners }
@@ -161,10 +161,12 @@ impl Setup {
         self.with_id(qualifier_in(header), id_in(header))
     }
 
-    /// The places of the partners to whom sets for an application code go (GS03); none without a route.
+    /// The places of the partners to whom sets for an application code go (GS03), in the route's order, none of them twice; none
+    /// at all without a route.
     pub fn route_of(&self, code: &[u8]) -> &[usize]
         ensures targets { result.now ≡ setup.route_of self.now code.now }
         ensures within { AreWithin (length self.now.partners) result.now }
+        ensures apart { AreApart result.now }
     {
         targets_at(self.routes(), self.place_with_code(code))
     }

@@ -1,5 +1,5 @@
 ghost use Rattle.std.specs.Prelude.{◌≡◌, ℕ, List, map, is_some, drop, IfOk};
-ghost use Rattle.hub_kinds.specs.TextList.{contains_text};
+ghost use Rattle.hub_kinds.specs.Words.{contains_text};
 ghost use Rattle.partner_setup.specs.Known.{KnowsPlaces};
 ghost use Rattle.partner_setup.specs.Names.{place_of};
 ghost use Rattle.partner_setup.specs.SetupFaults as faults;

@@ -10,17 +10,20 @@ use std::alloc::Global;
 use toml::Value;
 use toml_keys::FileFault;
 
-/// A row of a list of tables.
-pub trait Row: Drop {
+/// How a row of a list of tables is read.
+pub trait RowReading {
+    /// The row.
+    type Row: Drop;
+
     /// What data is read as.
-    ghost reading: { Data → Result Self Refusal };
+    ghost reading: { Self → Data → Result Self.Row Refusal };
 
     /// Reads a value of the list.
-    fn read(alloc: Global, value: &Value) -> Result<Self, FileFault>
-        ensures { Gives result (reading (view value.now)) };
+    fn read(&self, alloc: Global, value: &Value) -> Result<Self::Row, FileFault>
+        ensures { Gives result (reading self.now (view value.now)) };
 }
 
-fn push_row<T: Row>(rows: &mut Vec<T>, row: T) -> Result<(), FileFault>
+fn push_row<T: Drop>(rows: &mut Vec<T>, row: T) -> Result<(), FileFault>
     ensures ok { OnOk result (rows.new.items ≡ rows.old.items ++ row ∷ []) }
     ensures err { IfErr result (λ e. e ≡ FileFault.NoMemory) }
 {
@@ -31,12 +34,16 @@ fn push_row<T: Row>(rows: &mut Vec<T>, row: T) -> Result<(), FileFault>
 }
 
 /// The rows of a list of tables, in their order.
-pub fn rows_in<T: Row>(alloc: Global, values: &[Value]) -> Result<Items<T>, FileFault>
-    ensures { Gives result (file.rows_in T.reading (items_view values.now)) }
+pub fn rows_in<R: RowReading>(
+    alloc: Global,
+    reading: &R,
+    values: &[Value],
+) -> Result<Items<R::Row>, FileFault>
+    ensures { Gives result (file.rows_in (R.reading reading.now) (items_view values.now)) }
 {
     let mut rows = Vec::new(alloc);
     for value in values {
-        match T::read(alloc, value) {
+        match reading.read(alloc, value) {
             Ok(row) => push_row(&mut rows, row)?,
             Err(fault) => return Err(fault),
         }

@@ -127,8 +127,8 @@ impl PartnerRow {
 pub struct RouteRow {
     /// The application code, GS03.
     pub code: Text,
-    /// The name of the partner.
-    pub to: Text,
+    /// The names of the partners who receive them, 1 to 16 where a file was read.
+    pub to: Texts,
 }
 
 /// A setup file as it is written.

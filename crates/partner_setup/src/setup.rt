@@ -59,7 +59,7 @@ impl Setup {
     ghost use Rattle.std.specs.Prelude.{◌≡◌, All, IsTrue, length, map, option_copied, slice_get};
     ghost use Rattle.partner_setup.specs.Names.{place_of};
     ghost use Rattle.partner_setup.specs.Tables.{KeepsPlaces, sender_key, route_key};
-    ghost use Rattle.partner_setup.specs.Sound.{AreWithin, IsSoundPartner, IsSoundSetup};
+    ghost use Rattle.partner_setup.specs.Sound.{AreApart, AreWithin, IsSoundPartner, IsSoundSetup};
     ghost use Rattle.partner_setup.specs.SetupFaults.{are_ids};
 
     pub(crate) fn of(
@@ -122,10 +122,11 @@ impl Setup {
         self.partners.get(place)
     }
 
-    /// The routes, in their order. Each leads to partners of the setup.
+    /// The routes, in their order. Each leads to partners of the setup, to none twice.
     pub fn routes(&self) -> &[Route]
         ensures routes { result.now ≡ self.now.routes }
         ensures within { All (λ r. AreWithin (length self.now.partners) r.to) self.now.routes }
+        ensures apart { All (λ r. AreApart r.to) self.now.routes }
     {
         self.routes.as_slice()
     }

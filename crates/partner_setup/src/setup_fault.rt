@@ -17,7 +17,7 @@ pub enum SetupFault {
     /// A name that no guide has, two guides of a partner for the same sets, or two guides with one name.
     #[error("guides that aren't there, or are there twice")]
     BadGuides,
-    /// A route to no partner, or a code without its form or given twice.
+    /// A route to no partner or to one twice, or a code without its form or given twice.
     #[error("a route that leads nowhere, or is given twice")]
     BadRoute,
     /// A counter out of 1 to 999,999,999, or one of a partner that isn't there or is given twice.

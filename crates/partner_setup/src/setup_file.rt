@@ -10,7 +10,8 @@ ghost use Rattle.toml_keys.specs.Answers.{Gives, meaning_of};
 ghost use Rattle.partner_setup.specs.SetupFile as file;
 
 use crate::keyed::{count_at, text_at};
-use crate::row::{Row, rows_in};
+use crate::receivers::Receivers;
+use crate::row::{RowReading, rows_in};
 use crate::rows::{HubRow, PartnerRow, RouteRow, SetupRows};
 use crate::values::UsageText;
 use hub_kinds::{Text, Texts};
@@ -212,7 +213,7 @@ fn route_of(alloc: Global, table: &Table) -> Result<RouteRow, FileFault>
     ensures { Gives result (file.route_of (table_view table.now)) }
 {
     let code = text_at(alloc, table, "code")?;
-    let to = text_at(alloc, table, "to")?;
+    let to = required(alloc, table, "to", &Receivers)?;
     Ok(RouteRow { code, to })
 }
 
@@ -223,10 +224,16 @@ fn known_route(alloc: Global, table: &Table) -> Result<RouteRow, FileFault>
     route_of(alloc, table)
 }
 
-impl Row for PartnerRow {
-    ghost reading = { file.partner_in };
+/// How a `partner` is read.
+#[derive(Clone, Copy)]
+struct PartnerReading;
 
-    fn read(alloc: Global, value: &Value) -> Result<PartnerRow, FileFault> {
+impl RowReading for PartnerReading {
+    type Row = PartnerRow;
+
+    ghost reading = { λ _. file.partner_in };
+
+    fn read(&self, alloc: Global, value: &Value) -> Result<PartnerRow, FileFault> {
         match value {
             Value::Table(table) => known_partner(alloc, table),
             _ => Err(FileFault::WrongKind("partner")),
@@ -234,10 +241,16 @@ impl Row for PartnerRow {
     }
 }
 
-impl Row for RouteRow {
-    ghost reading = { file.route_in };
+/// How a `route` is read.
+#[derive(Clone, Copy)]
+struct RouteReading;
 
-    fn read(alloc: Global, value: &Value) -> Result<RouteRow, FileFault> {
+impl RowReading for RouteReading {
+    type Row = RouteRow;
+
+    ghost reading = { λ _. file.route_in };
+
+    fn read(&self, alloc: Global, value: &Value) -> Result<RouteRow, FileFault> {
         match value {
             Value::Table(table) => known_route(alloc, table),
             _ => Err(FileFault::WrongKind("route")),
@@ -254,8 +267,8 @@ fn rows_of(alloc: Global, table: &Table) -> Result<SetupRows, FileFault>
     let partners = tables_at(table, "partner")?;
     let routes = some_tables_at(table, "route")?;
     let hub = known_hub(alloc, hub)?;
-    let partners = rows_in(alloc, partners)?;
-    let routes = rows_in(alloc, routes)?;
+    let partners = rows_in(alloc, &PartnerReading, partners)?;
+    let routes = rows_in(alloc, &RouteReading, routes)?;
     Ok(SetupRows {
         hub,
         partners,

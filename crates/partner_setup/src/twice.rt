@@ -1,11 +1,11 @@
 ghost use Rattle.std.specs.Prelude.{◌≡◌, ℕ, List, [], map, IfOk};
-ghost use Rattle.hub_kinds.specs.Twice.{has_twice};
+ghost use Rattle.hub_kinds.specs.Words.{has_twice};
 ghost use Rattle.partner_setup.specs.SetupFaults as faults;
 
 use crate::rows::{CounterRow, PartnerRow, RouteRow};
 use crate::told::{Told, by_name};
 use guide_tree::Guide;
-use hub_kinds::{NoMemory, has_twice};
+use hub_kinds::{NoMemory, Text, has_twice};
 use std::alloc::Global;
 
 /// What rows are told apart by.
@@ -60,6 +60,19 @@ impl Tells for RouteCode {
 
     fn tell<'a>(row: &'a RouteRow) -> Told<'a> {
         by_name(row.code.as_slice())
+    }
+}
+
+/// The targets of a route by their names.
+pub struct TargetName;
+
+impl Tells for TargetName {
+    type Row = Text;
+
+    ghost tells = { faults.by_name };
+
+    fn tell<'a>(row: &'a Text) -> Told<'a> {
+        by_name(row.as_slice())
     }
 }
 

@@ -46,20 +46,41 @@ impl Reading for UsageText {
     }
 }
 
-/// The one version of a counters file.
-#[derive(Clone, Copy)]
-pub struct Version;
+/// The versions of a counters file.
+#[derive(Clone, Copy, Debug, PartialEq, Eq)]
+pub enum Version {
+    /// 1, without group counters.
+    First,
+    /// 2, with them.
+    Second,
+}
 
-impl Reading for Version {
-    type Read = u32;
+/// The number of a version: 1 or 2.
+#[derive(Clone, Copy)]
+pub struct VersionNumber;
+
+fn version_of(number: u32) -> Option<Version>
+    ensures { result ≡ counters.version_of number }
+{
+    if number == 1 {
+        Some(Version::First)
+    } else if number == 2 {
+        Some(Version::Second)
+    } else {
+        None
+    }
+}
+
+impl Reading for VersionNumber {
+    type Read = Version;
 
     ghost reading = { λ _. counters.version_in };
 
-    fn read(&self, alloc: Global, value: &Value) -> Result<u32, TextFault> {
-        let version = Count.read(alloc, value)?;
-        if version != 1 {
-            return Err(TextFault::Malformed);
+    fn read(&self, alloc: Global, value: &Value) -> Result<Version, TextFault> {
+        let number = Count.read(alloc, value)?;
+        match version_of(number) {
+            None => Err(TextFault::Malformed),
+            Some(version) => Ok(version),
         }
-        Ok(version)
     }
 }

@@ -5,13 +5,11 @@ use Rattle.std.proofs.Common.{refl, sym, ◌∙◌, ap, subst, arith}
 use Rattle.std.specs.Prelude.{slice_index_or}
 use Rattle.std.specs.List.{Contains, slice_get}
 use Rattle.std.proofs.lemmas.List.Elements.{Contains-append_left, Contains-append_right, Contains-append_cases}
-use Rattle.x12_segs.specs.View.{SegValue, elements_of}
+use Rattle.x12_segs.specs.Words.{SegValue, elements_of}
 use Rattle.hub_kinds.specs.declared.fault.Fault.{Fault}
 use Rattle.hub_kinds.specs.declared.fault.ElemFault.{ElemFault}
 use Rattle.guide_tree.specs.declared.slot.Slot.{Slot}
-use Rattle.guide_tree.specs.Tree.{Trees}
-use Rattle.guide_tree.specs.Nexts.{Candidate}
-use Rattle.guide_tree.specs.Places.{Place, slot_at, slot_given}
+use Rattle.guide_tree.specs.Words.{Trees, Candidate, Place, slot_at, slot_given}
 use Rattle.guide_law.proofs.Among.{in_map, in_mapped, in_contains, contains_in}
 use Rattle.elem_rules.specs.ElementFaults.{IsElementFault}
 use Rattle.loop_match.specs.Given.{place_in, slot_in}

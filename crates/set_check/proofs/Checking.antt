@@ -2,9 +2,8 @@
 use Rattle.std.proofs.Common.{◌≡◌, ◌∙◌, ap, subst, ℕ, false, List, Option}
 use Rattle.hub_kinds.specs.declared.fault.Fault.{Fault}
 use Rattle.hub_kinds.specs.declared.set_codes.SetCode.{SetCode}
-use Rattle.hub_kinds.specs.Fault.{AreRising}
-use Rattle.x12_segs.specs.Spans.{span_views}
-use Rattle.x12_segs.specs.View.{SegValue}
+use Rattle.hub_kinds.specs.Words.{AreRising}
+use Rattle.x12_segs.specs.Words.{span_views, SegValue}
 use Rattle.x12_segs.specs.declared.set_span.SetSpan.{SetSpan}
 use Rattle.guide_tree.specs.declared.rows.GuideRows.{GuideRows}
 use Rattle.set_check.specs.declared.envelope.Envelope.{Envelope}

@@ -5,7 +5,7 @@ use Rattle.std.specs.List.{slice_get}
 use Rattle.std.proofs.lemmas.List.{length-map, length-take, length-drop}
 use Rattle.std.proofs.lemmas.Option.{slice_get_cases}
 use Rattle.x12_bytes.specs.declared.delims.Delims.{Delims}
-use Rattle.x12_segs.specs.View.{SegValue, elements_of}
+use Rattle.x12_segs.specs.Words.{SegValue, elements_of}
 use Rattle.set_check.specs.declared.envelope.Envelope.{Envelope}
 use Rattle.set_check.specs.Envelope.{IsEnvelopeOf}
 use Rattle.set_check.specs.SetParts.{SetParts, before_trailer, inner_of, trailer_of, parts_of, no_segment, segment_count}

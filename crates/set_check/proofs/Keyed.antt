@@ -10,24 +10,18 @@ use Rattle.hub_kinds.specs.declared.fault.Fault.{Fault}
 use Rattle.hub_kinds.specs.declared.fault.ElemFault.{ElemFault}
 use Rattle.hub_kinds.specs.declared.codes.SegmentCode.{SegmentCode}
 use Rattle.hub_kinds.specs.declared.codes.SegmentCode.TheVariants as ik304
-use Rattle.hub_kinds.specs.Codes.{segment_rank}
-use Rattle.hub_kinds.specs.Fault.{key_of, elem_key}
+use Rattle.hub_kinds.specs.Words.{segment_rank, key_of, elem_key, IsKeyedBy, contains_text}
 use Rattle.x12_bytes.specs.declared.delims.Delims.{Delims}
 use Rattle.guide_tree.specs.declared.slot.Slot.{Slot}
 use Rattle.std.specs.Str.{bytes_eq}
-use Rattle.guide_tree.specs.Tree.{Tree, Trees, segment, loop, GuideTree, any_slot}
+use Rattle.guide_tree.specs.Words.{Tree, Trees, segment, loop, GuideTree, any_slot, Segment, id_of, fits, Place, slot_at, IsSound}
+use Rattle.guide_tree.specs.Words.{past_code, few_code, stray_code, IsStructureFault}
 use Rattle.guide_tree.specs.declared.rows.HlRule.{HlRule}
 use Rattle.guide_tree.specs.declared.rows.DependencyKind.{DependencyKind}
 use Rattle.guide_tree.specs.declared.rows.DependencyKind.TheVariants as kind
-use Rattle.hub_kinds.specs.Rising.{IsKeyedBy}
-use Rattle.hub_kinds.specs.TextList.{contains_text}
 use Rattle.hl_check.specs.Hierarchy.{IsFaultAmong, IsHierarchyFault, hls_of}
 use Rattle.depend_check.specs.Dependencies.{IsTargetBroken, IsDependencyFault}
 use Rattle.loop_match.specs.PlacedSegments.{PlacedSegment, placed_segments}
-use Rattle.guide_tree.specs.Segments.{Segment, id_of, fits}
-use Rattle.guide_tree.specs.Places.{Place, slot_at}
-use Rattle.guide_tree.specs.Slots.{IsSound}
-use Rattle.guide_tree.specs.Structure.{past_code, few_code, stray_code, IsStructureFault}
 use Rattle.elem_rules.specs.ElementFaults.{IsElementFault}
 use Rattle.elem_rules.proofs.Membership.{is_found, keyed}
 use Rattle.set_check.specs.SetParts.{SetParts, end_position}

@@ -1,7 +1,6 @@
 -- No fault and no code is the same as meeting the guide.
 use Rattle.std.proofs.Common.{◌≡◌, Option, Some, None, refl, subst}
-use Rattle.guide_tree.specs.Tree.{GuideTree}
-use Rattle.guide_tree.specs.Faults.{IsWellFormed}
+use Rattle.guide_tree.specs.Words.{GuideTree, IsWellFormed}
 use Rattle.guide_law.proofs.Placed.{triggers, placed_one_way}
 use Rattle.guide_law.proofs.Computed.{only_placing}
 use Rattle.guide_law.proofs.Conforming.{derived_is_placed, placed_is_derived}

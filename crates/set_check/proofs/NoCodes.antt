@@ -6,13 +6,13 @@ use Rattle.std.specs.Str.{bytes_eq}
 use Rattle.std.proofs.lemmas.Bool.{not-false}
 use Rattle.std.proofs.lemmas.Bool.Decides.{nat_tests, Decides-eqb}
 use Rattle.std.proofs.lemmas.Slice.Eq.{bytes_eq-Decides}
-use Rattle.hub_kinds.specs.Numbers.{number_of}
+use Rattle.hub_kinds.specs.Words.{number_of}
 use Rattle.hub_kinds.specs.declared.set_codes.SetCode.{SetCode}
 use Rattle.hub_kinds.specs.declared.set_codes.SetCode.TheVariants as code
-use Rattle.guide_tree.specs.Tree.{GuideTree}
+use Rattle.guide_tree.specs.Words.{GuideTree}
 use Rattle.x12_bytes.specs.declared.delims.Delims.{Delims}
 use Rattle.elem_rules.specs.Divided.{is_empty}
-use Rattle.x12_segs.specs.View.{SegValue, element_of}
+use Rattle.x12_segs.specs.Words.{SegValue, element_of}
 use Rattle.set_check.specs.Codes.{code_if, control_of, has_other_control, is_count, has_other_count, has_short_control}
 use Rattle.set_check.specs.Codes.{envelope_codes, is_other, first_five}
 use Rattle.set_check.specs.SetParts.{SetParts, segment_count}

@@ -6,17 +6,12 @@ use Rattle.std.proofs.lemmas.Option.{slice_get_within, slice_get-get_or, get_or_
 use Rattle.hub_kinds.specs.declared.fault.Fault.{Fault}
 use Rattle.hub_kinds.specs.declared.fault.ElemFault.{ElemFault}
 use Rattle.guide_tree.specs.declared.slot.Slot.{Slot}
-use Rattle.guide_tree.specs.Tree.{Trees, GuideTree}
-use Rattle.guide_tree.specs.Segments.{Segment}
-use Rattle.guide_tree.specs.Places.{Place, slot_at, slot_given, IsPlacing}
-use Rattle.guide_tree.specs.Nexts.{placing_of}
-use Rattle.guide_tree.specs.Grammar.{Given, Derives}
-use Rattle.guide_tree.specs.Structure.{IsStructureFault}
+use Rattle.guide_tree.specs.Words.{Trees, GuideTree, Segment, Place, slot_at, slot_given, IsPlacing, placing_of, Given, Derives}
+use Rattle.guide_tree.specs.Words.{IsStructureFault, IsWellFormed}
 use Rattle.guide_law.specs.Law.{HasSlots, IsFaultless, DerivedIsPlaced, PlacedIsDerived, IsOnlyPlacing}
 use Rattle.elem_rules.specs.ElementFaults.{IsElementFault}
 use Rattle.set_check.specs.SetParts.{SetParts, end_position}
 use Rattle.loop_match.specs.LoopIds.{loop_id_of}
-use Rattle.guide_tree.specs.Faults.{IsWellFormed}
 use Rattle.hl_check.specs.Hierarchy.{IsHierarchyWhole, hl_segments}
 use Rattle.hl_check.proofs.Whole.{hierarchy_whole}
 use Rattle.depend_check.specs.Kept.{AreDependenciesKept}

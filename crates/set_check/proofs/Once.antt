@@ -8,12 +8,11 @@ use Rattle.std.specs.declared.cmp.Ordering.{Ordering}
 use Rattle.std.specs.declared.cmp.Ordering.TheVariants.{Less, Greater}
 use Rattle.std.proofs.lemmas.Map.Keys.{sorted_head, sorted_tail}
 use Rattle.hub_kinds.specs.declared.fault.Fault.{Fault}
-use Rattle.hub_kinds.specs.Fault.{AreRising, key_of}
-use Rattle.hub_kinds.specs.Rising.{order_by}
+use Rattle.hub_kinds.specs.Words.{AreRising, key_of, order_by}
 use Rattle.hub_kinds.specs.declared.set_codes.SetCode.{SetCode}
 use Rattle.x12_segs.specs.declared.set_span.SetSpan.{SetSpan}
 use Rattle.guide_tree.specs.declared.rows.GuideRows.{GuideRows}
-use Rattle.guide_tree.specs.Tree.{GuideTree}
+use Rattle.guide_tree.specs.Words.{GuideTree}
 use Rattle.set_check.specs.Checked.{Checked, IsChecked, guide_in, parts_in, said_by}
 use Rattle.set_check.specs.CheckedLaw.{IsOneCheck}
 use Rattle.set_check.specs.SetFaults.{AreSetFaults, IsSetFault, codes_with}

@@ -4,11 +4,9 @@ use Rattle.std.specs.List.{list_all}
 use Rattle.std.proofs.lemmas.Bool.{and_parts, true_from_ne_false}
 use Rattle.guide_tree.specs.declared.slot.Slot.{Slot}
 use Rattle.guide_tree.specs.declared.fault.GuideFault.TheVariants as fault
-use Rattle.guide_tree.specs.Tree.{Tree, Trees, segment, loop, no_trees, tree, GuideTree, number_of, AnyIn, AnyNode}
-use Rattle.guide_tree.specs.Bounds.{is_bounded, is_slot_bounded}
-use Rattle.guide_tree.specs.Conditions.{is_conditioned, is_slot_conditioned, is_condition_of, are_picks_of, is_label_new}
-use Rattle.guide_tree.specs.Faults.{IsWellFormed}
-use Rattle.guide_tree.specs.Places.{Place, slot_in, slot_nth, slot_at}
+use Rattle.guide_tree.specs.Words.{Tree, Trees, segment, loop, no_trees, tree, GuideTree, number_of, AnyIn, AnyNode, is_bounded}
+use Rattle.guide_tree.specs.Words.{is_slot_bounded, is_conditioned, is_slot_conditioned, is_condition_of, are_picks_of, is_label_new}
+use Rattle.guide_tree.specs.Words.{IsWellFormed, Place, slot_in, slot_nth, slot_at}
 use Rattle.set_check.specs.Adding.{AreSound}
 
 mutual

@@ -3,9 +3,7 @@ use Rattle.std.proofs.Common.{◌≡◌, ◌≤◌, ℕ, Bool, true, false, List
 use Rattle.std.specs.List.{All}
 use Rattle.std.proofs.lemmas.List.{length-map}
 use Rattle.std.proofs.lemmas.List.Elements.{All-map}
-use Rattle.x12_segs.specs.Kinds.{kind_of}
-use Rattle.x12_segs.specs.Spans.{IsSetSpan, span_segs, span_views, trailer_kinds}
-use Rattle.x12_segs.specs.View.{SegValue, view_of}
+use Rattle.x12_segs.specs.Words.{kind_of, IsSetSpan, span_segs, span_views, trailer_kinds, SegValue, view_of}
 use Rattle.x12_segs.specs.declared.kind.Kind.{Kind}
 use Rattle.x12_segs.specs.declared.kind.Kind.TheVariants.{SetHeader}
 use Rattle.x12_segs.specs.declared.set_span.SetSpan.{SetSpan}

@@ -6,13 +6,9 @@ use Rattle.hub_kinds.specs.declared.fault.Fault.{Fault}
 use Rattle.hub_kinds.specs.declared.set_codes.SetCode.{SetCode}
 use Rattle.guide_tree.specs.declared.rows.Dependency.{Dependency}
 use Rattle.guide_tree.specs.declared.rows.HlRule.{HlRule}
-use Rattle.guide_tree.specs.Structure.{IsStructureFault}
-use Rattle.guide_tree.specs.Tree.{GuideTree}
+use Rattle.guide_tree.specs.Words.{IsStructureFault, GuideTree, IsWellFormed, placing_of, structure_faults}
 use Rattle.elem_rules.proofs.Members.{no_member}
 use Rattle.hl_check.specs.Hierarchy.{IsFaultAmong, hls_of}
-use Rattle.guide_tree.specs.Faults.{IsWellFormed}
-use Rattle.guide_tree.specs.Nexts.{placing_of}
-use Rattle.guide_tree.specs.Pass.{structure_faults}
 use Rattle.guide_tree.proofs.Among.{In}
 use Rattle.guide_law.proofs.Among.{in_left, in_right, in_cases, in_contains, contains_in}
 use Rattle.guide_law.proofs.Faulty.{members}

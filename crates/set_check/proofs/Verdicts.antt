@@ -7,7 +7,7 @@ use Rattle.hub_kinds.specs.declared.set_codes.SetCode.{SetCode}
 use Rattle.hub_kinds.specs.declared.set_codes.SetCode.TheVariants as code
 use Rattle.hub_kinds.specs.declared.set_codes.Verdict.{Verdict}
 use Rattle.hub_kinds.specs.declared.set_codes.Verdict.TheVariants.{Accepted, AcceptedWithErrors, Rejected}
-use Rattle.guide_tree.specs.Tree.{GuideTree}
+use Rattle.guide_tree.specs.Words.{GuideTree}
 use Rattle.set_check.specs.Checked.{Checked, IsChecked, guide_in, parts_in}
 use Rattle.set_check.specs.Codes.{code_if, first_five, telling, has_i, has_no_i, lacks_trailer, has_other_control, has_other_count}
 use Rattle.set_check.specs.Codes.{has_short_control, convention_codes}

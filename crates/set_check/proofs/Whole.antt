@@ -9,23 +9,17 @@ use Rattle.std.proofs.lemmas.List.Elements.{Contains-append_cases}
 use Rattle.std.proofs.lemmas.Option.{slice_get-map, slice_get_within}
 use Rattle.hub_kinds.specs.declared.fault.Fault.{Fault}
 use Rattle.x12_bytes.specs.declared.delims.Delims.{Delims}
-use Rattle.x12_segs.specs.View.{SegValue, elements_of}
+use Rattle.x12_segs.specs.Words.{SegValue, elements_of}
 use Rattle.hub_kinds.specs.declared.fault.ElemFault.{ElemFault}
 use Rattle.guide_tree.specs.declared.slot.Slot.{Slot}
-use Rattle.guide_tree.specs.Tree.{Trees, GuideTree}
-use Rattle.guide_tree.specs.Segments.{Segment}
-use Rattle.guide_tree.specs.Places.{Place}
-use Rattle.guide_tree.specs.Nexts.{placing_of}
-use Rattle.guide_tree.specs.Structure.{IsStructureFault}
+use Rattle.guide_tree.specs.Words.{Trees, GuideTree, Segment, Place, placing_of, IsStructureFault, IsWellFormed}
 use Rattle.elem_rules.specs.ElementFaults.{IsElementFault}
 use Rattle.elem_rules.proofs.Members.{no_member}
-use Rattle.guide_tree.specs.Faults.{IsWellFormed}
 use Rattle.set_check.specs.SetParts.{SetParts, parts_of, inner_of, before_trailer, end_position}
 use Rattle.loop_match.specs.LoopIds.{loop_id_of}
 use Rattle.set_check.specs.SetFaults.{AreSetFaults, IsErrorIn, IsFaultUnder, IsRuleFault, HasKeyOfError, told_by}
 use Rattle.set_check.specs.Adding.{Adds, HasKeyAmong, IsBeside, IsErrorBelow}
-use Rattle.hub_kinds.specs.Fault.{AreRising, key_of}
-use Rattle.hub_kinds.specs.Rising.{IsKeyedBy}
+use Rattle.hub_kinds.specs.Words.{AreRising, key_of, IsKeyedBy}
 use Rattle.set_check.proofs.Keyed.{errors_keyed, set_keyed}
 use Rattle.set_check.proofs.Rising.{rising_keyed}
 use Rattle.set_check.proofs.SoundPlaces.{sound_places}

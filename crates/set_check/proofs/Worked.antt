@@ -7,8 +7,8 @@ use Rattle.hub_kinds.specs.declared.codes.SegmentCode.TheVariants as segment
 use Rattle.hub_kinds.specs.declared.fault.ElemFault.{ElemFault}
 use Rattle.hub_kinds.specs.declared.fault.Fault.{Fault}
 use Rattle.hub_kinds.specs.declared.set_codes.SetCode.TheVariants as code
-use Rattle.x12_segs.specs.View.{SegValue}
-use Rattle.guide_tree.specs.Tree.{GuideTree, no_trees}
+use Rattle.x12_segs.specs.Words.{SegValue}
+use Rattle.guide_tree.specs.Words.{GuideTree, no_trees}
 use Rattle.set_check.specs.Codes.{fault_codes, guide_codes, envelope_codes, convention_codes}
 use Rattle.set_check.specs.Codes.{all_codes, set_codes_of}
 use Rattle.set_check.specs.declared.codes.TheConstants.{COUNT_DIGITS, LEAST_CONTROL}

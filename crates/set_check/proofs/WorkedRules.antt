@@ -4,7 +4,7 @@ use Rattle.std.proofs.Common.{sym, subst, ap, option_map, IsTrue}
 use Rattle.std.specs.List.{list_any}
 use Rattle.std.proofs.lemmas.Bool.{false≢true}
 use Rattle.x12_bytes.specs.declared.delims.Delims.{Delims}
-use Rattle.x12_segs.specs.View.{SegValue}
+use Rattle.x12_segs.specs.Words.{SegValue}
 use Rattle.hub_kinds.specs.declared.fault.ElemFault.{ElemFault}
 use Rattle.hub_kinds.specs.declared.fault.Fault.{Fault}
 use Rattle.hub_kinds.specs.declared.codes.ElementCode.{ElementCode}
@@ -19,12 +19,7 @@ use Rattle.guide_tree.specs.declared.slot.Slot.{Slot}
 use Rattle.guide_tree.specs.declared.rows.Dependency.{Dependency}
 use Rattle.guide_tree.specs.declared.rows.DependencyKind.TheVariants as kind
 use Rattle.guide_tree.specs.declared.rows.HlRule.{HlRule}
-use Rattle.guide_tree.specs.Tree.{segment, no_trees, tree, GuideTree}
-use Rattle.guide_tree.specs.Grammar.{Given}
-use Rattle.guide_tree.specs.Nexts.{placing_of}
-use Rattle.guide_tree.specs.Places.{slot_given}
-use Rattle.guide_tree.specs.Segments.{Segment}
-use Rattle.guide_tree.specs.Faults.{IsWellFormed}
+use Rattle.guide_tree.specs.Words.{segment, no_trees, tree, GuideTree, Given, placing_of, slot_given, Segment, IsWellFormed}
 use Rattle.guide_tree.proofs.Among.{In}
 use Rattle.guide_tree.proofs.Judged.{accepted}
 use Rattle.elem_rules.proofs.Members.{contains_one, one_contains}

@@ -6,15 +6,14 @@ use Rattle.hub_kinds.specs.declared.codes.ElementCode.TheVariants as ik403
 use Rattle.hub_kinds.specs.declared.codes.SegmentCode.{SegmentCode}
 use Rattle.hub_kinds.specs.declared.codes.SegmentCode.TheVariants as ik304
 use Rattle.x12_bytes.specs.declared.delims.Delims.{Delims}
-use Rattle.x12_segs.specs.View.{SegValue}
+use Rattle.x12_segs.specs.Words.{SegValue}
 use Rattle.guide_tree.specs.declared.element.ElementType.TheVariants as type
 use Rattle.guide_tree.specs.declared.element.Requirement.TheVariants as requirement
 use Rattle.guide_tree.specs.declared.element.Element.{Element}
 use Rattle.guide_tree.specs.declared.element.Element.TheVariants as element
 use Rattle.guide_tree.specs.declared.slot.Slot.{Slot}
 use Rattle.guide_tree.specs.declared.node.Loop.{Loop}
-use Rattle.guide_tree.specs.Tree.{Trees, segment, loop, no_trees, tree, GuideTree}
-use Rattle.guide_tree.specs.Faults.{IsWellFormed}
+use Rattle.guide_tree.specs.Words.{Trees, segment, loop, no_trees, tree, GuideTree, IsWellFormed}
 use Rattle.guide_tree.proofs.Judged.{accepted}
 use Rattle.set_check.specs.SetParts.{SetParts, parts_of}
 use Rattle.set_check.specs.Meets.{MeetsAlone}

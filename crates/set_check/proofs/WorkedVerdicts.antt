@@ -9,7 +9,7 @@ use Rattle.hub_kinds.specs.declared.fault.Fault.{Fault}
 use Rattle.hub_kinds.specs.declared.set_codes.SetCode.{SetCode}
 use Rattle.hub_kinds.specs.declared.set_codes.SetCode.TheVariants as code
 use Rattle.hub_kinds.specs.declared.set_codes.Verdict.TheVariants.{Accepted, AcceptedWithErrors, Rejected}
-use Rattle.guide_tree.specs.Tree.{GuideTree, no_trees}
+use Rattle.guide_tree.specs.Words.{GuideTree, no_trees}
 use Rattle.set_check.specs.Verdict.{verdict_on}
 
 abbrev fault_with : SegmentCode → Option ElemFault → Fault

@@ -5,13 +5,10 @@ use Rattle.std.specs.Ordering.{eq_by_cmp}
 use Rattle.std.specs.List.{Contains, list_any, slice_get}
 use Rattle.hub_kinds.specs.declared.fault.Fault.{Fault}
 use Rattle.hub_kinds.specs.declared.fault.ElemFault.{ElemFault}
-use Rattle.hub_kinds.specs.Fault.{key_of}
-use Rattle.hub_kinds.specs.Rising.{order_by}
-use Rattle.x12_segs.specs.View.{SegValue, elements_of}
+use Rattle.hub_kinds.specs.Words.{key_of, order_by}
+use Rattle.x12_segs.specs.Words.{SegValue, elements_of}
 use Rattle.guide_tree.specs.declared.slot.Slot.{Slot}
-use Rattle.guide_tree.specs.Tree.{Trees}
-use Rattle.guide_tree.specs.Places.{Place, slot_at}
-use Rattle.guide_tree.specs.Slots.{IsSound}
+use Rattle.guide_tree.specs.Words.{Trees, Place, slot_at, IsSound}
 use Rattle.elem_rules.specs.ElementFaults.{IsElementFault}
 use Rattle.loop_match.specs.LoopIds.{loop_id_of}
 use Rattle.set_check.specs.SetFaults.{told_by}

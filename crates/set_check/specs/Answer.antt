@@ -1,7 +1,7 @@
 -- 999 guide, transaction set response header and trailer (AK2, IK5): what is answered to a set.
 use Rattle.std.specs.Prelude.{Bool}
 use Rattle.hub_kinds.specs.declared.answers.SetAnswer.{SetAnswer}
-use Rattle.x12_segs.specs.View.{element_of}
+use Rattle.x12_segs.specs.Words.{element_of}
 use Rattle.set_check.specs.Codes.{control_of}
 use Rattle.set_check.specs.Checked.{Checked, guide_in, parts_in}
 use Rattle.set_check.specs.SetFaults.{codes_where}

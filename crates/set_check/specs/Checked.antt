@@ -2,11 +2,10 @@
 use Rattle.std.specs.Prelude.{◌≡◌, ℕ, List, Option, option_map}
 use Rattle.hub_kinds.specs.declared.fault.Fault.{Fault}
 use Rattle.hub_kinds.specs.declared.set_codes.SetCode.{SetCode}
-use Rattle.hub_kinds.specs.Fault.{AreRising}
+use Rattle.hub_kinds.specs.Words.{AreRising}
 use Rattle.x12_segs.specs.declared.set_span.SetSpan.{SetSpan}
 use Rattle.guide_tree.specs.declared.rows.GuideRows.{GuideRows}
-use Rattle.guide_tree.specs.Tree.{GuideTree}
-use Rattle.guide_tree.specs.View.{guide_of}
+use Rattle.guide_tree.specs.Words.{GuideTree, guide_of}
 use Rattle.set_check.specs.SetParts.{SetParts, set_parts}
 use Rattle.set_check.specs.SetFaults.{AreSetFaults, codes_with}
 use Rattle.set_check.specs.MeetsLaw.{IsWellGuided}

@@ -2,16 +2,15 @@
 -- dependencies keep to, with no cursor and no list of faults.
 use Rattle.std.specs.Prelude.{◌≡◌, ◌≤◌, ℕ, IsTrue, List, [], map, length, Option, Some, None, ◌⊎◌}
 use Rattle.std.specs.List.{Contains}
-use Rattle.hub_kinds.specs.Numbers.{number_of}
+use Rattle.hub_kinds.specs.Words.{number_of}
 use Rattle.hub_kinds.specs.declared.fault.ElemFault.{ElemFault}
-use Rattle.guide_tree.specs.Tree.{GuideTree}
-use Rattle.guide_tree.specs.Grammar.{Given, Derives}
+use Rattle.guide_tree.specs.Words.{GuideTree, Given, Derives}
 use Rattle.x12_bytes.specs.declared.delims.Delims.{Delims}
 use Rattle.elem_rules.specs.Divided.{is_empty}
 use Rattle.elem_rules.specs.ElementFaults.{IsElementFault}
 use Rattle.hl_check.specs.Hierarchy.{IsHierarchyWhole, hl_segments}
 use Rattle.depend_check.specs.Kept.{AreDependenciesKept}
-use Rattle.x12_segs.specs.View.{SegValue, element_of}
+use Rattle.x12_segs.specs.Words.{SegValue, element_of}
 use Rattle.set_check.specs.Codes.{control_of}
 use Rattle.set_check.specs.SetParts.{SetParts, segment_count}
 use Rattle.set_check.specs.declared.codes.TheConstants.{COUNT_DIGITS, LEAST_CONTROL}

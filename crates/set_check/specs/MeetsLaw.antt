@@ -1,8 +1,7 @@
 -- X12.6, transaction set, and the 999 guide, IK3 to IK5: a set meets its guide exactly where nothing is wrong with it.
 use Rattle.std.specs.Prelude.{◌≡◌, ◌↔◌, [], Option, Some, None}
 use Rattle.hub_kinds.specs.declared.fault.Fault.{Fault}
-use Rattle.guide_tree.specs.Tree.{GuideTree}
-use Rattle.guide_tree.specs.Faults.{IsWellFormed}
+use Rattle.guide_tree.specs.Words.{GuideTree, IsWellFormed}
 use Rattle.set_check.specs.SetParts.{SetParts}
 use Rattle.set_check.specs.SetFaults.{IsSetFault, codes_with}
 use Rattle.set_check.specs.Meets.{MeetsAlone}

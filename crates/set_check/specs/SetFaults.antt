@@ -7,13 +7,9 @@ use Rattle.hub_kinds.specs.declared.fault.Fault.{Fault}
 use Rattle.hub_kinds.specs.declared.fault.ElemFault.{ElemFault}
 use Rattle.hub_kinds.specs.declared.codes.SegmentCode.TheVariants as ik304
 use Rattle.hub_kinds.specs.declared.set_codes.SetCode.{SetCode}
-use Rattle.hub_kinds.specs.Fault.{key_of}
+use Rattle.hub_kinds.specs.Words.{key_of}
 use Rattle.guide_tree.specs.declared.slot.Slot.{Slot}
-use Rattle.guide_tree.specs.Tree.{Trees, GuideTree}
-use Rattle.guide_tree.specs.Segments.{Segment, id_of}
-use Rattle.guide_tree.specs.Places.{Place, slot_at}
-use Rattle.guide_tree.specs.Nexts.{placing_of}
-use Rattle.guide_tree.specs.Structure.{IsStructureFault}
+use Rattle.guide_tree.specs.Words.{Trees, GuideTree, Segment, id_of, Place, slot_at, placing_of, IsStructureFault}
 use Rattle.elem_rules.specs.ElementFaults.{IsElementFault}
 use Rattle.loop_match.specs.LoopIds.{loop_id_of}
 use Rattle.hl_check.specs.Hierarchy.{IsHierarchyFault}

@@ -3,10 +3,9 @@ use Rattle.std.specs.Prelude.{ℕ, ◌+◌, ◌-◌, Bool, true, false, List, []
 use Rattle.std.specs.Prelude.{if◌then◌else◌, slice_index_or, slice_range}
 use Rattle.std.specs.List.{slice_get}
 use Rattle.x12_bytes.specs.declared.delims.Delims.{Delims}
-use Rattle.x12_segs.specs.View.{SegValue, elements_of}
-use Rattle.x12_segs.specs.Spans.{span_views}
+use Rattle.x12_segs.specs.Words.{SegValue, elements_of, span_views}
 use Rattle.x12_segs.specs.declared.set_span.SetSpan.{SetSpan}
-use Rattle.guide_tree.specs.Segments.{Segment}
+use Rattle.guide_tree.specs.Words.{Segment}
 
 pub record SetParts : Type 0 where
   pub delims : Delims

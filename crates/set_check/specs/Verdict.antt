@@ -1,7 +1,7 @@
 -- 999 guide, transaction set acknowledgment code (IK501); which faults reject a set is own, and a guide may say that some don't.
 use Rattle.std.specs.Prelude.{◌==◌, Bool, true, false, ◌&&◌, if◌then◌else◌, List, [], ◌∷◌, Option, Some, None}
 use Rattle.std.specs.List.{list_all, list_any}
-use Rattle.hub_kinds.specs.Codes.{segment_rank, element_rank}
+use Rattle.hub_kinds.specs.Words.{segment_rank, element_rank}
 use Rattle.hub_kinds.specs.declared.codes.SegmentCode.{SegmentCode}
 use Rattle.hub_kinds.specs.declared.codes.ElementCode.{ElementCode}
 use Rattle.hub_kinds.specs.declared.fault.ElemFault.{ElemFault}
@@ -10,7 +10,7 @@ use Rattle.hub_kinds.specs.declared.set_codes.SetCode.{SetCode}
 use Rattle.hub_kinds.specs.declared.set_codes.SetCode.TheVariants as code
 use Rattle.hub_kinds.specs.declared.set_codes.Verdict.{Verdict}
 use Rattle.hub_kinds.specs.declared.set_codes.Verdict.TheVariants.{Accepted, AcceptedWithErrors, Rejected}
-use Rattle.guide_tree.specs.Tree.{GuideTree}
+use Rattle.guide_tree.specs.Words.{GuideTree}
 use Rattle.set_check.specs.SetParts.{SetParts}
 use Rattle.set_check.specs.SetFaults.{codes_where}
 

@@ -1,7 +1,7 @@
 ghost use Rattle.std.specs.Prelude.{◌≡◌, ◌≤◌, Some, IfOk, length};
 ghost use Rattle.std.specs.List.{All};
-ghost use Rattle.guide_tree.specs.View.{guide_of};
-ghost use Rattle.hub_kinds.specs.Fault.{AreRising};
+ghost use Rattle.guide_tree.specs.Words.{guide_of};
+ghost use Rattle.hub_kinds.specs.Words.{AreRising};
 ghost use Rattle.set_check.specs.SetParts.{before_trailer, inner_of, parts_of};
 ghost use Rattle.set_check.specs.SetFaults.{AreSetFaults};
 

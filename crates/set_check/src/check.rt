@@ -1,12 +1,12 @@
 ghost use Rattle.std.specs.Prelude.{◌≡◌, ◌≤◌, ◌↔◌, [], length, IfOk};
 ghost use Rattle.std.specs.List.{All};
 ghost use Rattle.std.specs.Option.{option_copied};
-ghost use Rattle.hub_kinds.specs.Fault.{AreRising};
+ghost use Rattle.hub_kinds.specs.Words.{AreRising};
 ghost use Rattle.set_check.specs.Checked.{guide_in, parts_in, said_by};
 ghost use Rattle.set_check.specs.Meets.{MeetsAlone};
 ghost use Rattle.set_check.specs.SetFaults.{AreSetFaults, codes_with};
 ghost use Rattle.set_check.specs.SetParts.{before_trailer, parts_of};
-ghost use Rattle.x12_segs.specs.Spans.{IsSetSpan};
+ghost use Rattle.x12_segs.specs.Words.{IsSetSpan};
 
 use crate::body::body_faults;
 use crate::checked::CheckedSet;

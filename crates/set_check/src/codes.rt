@@ -5,7 +5,7 @@ ghost use Rattle.set_check.specs.Codes.{code_if, control_of, envelope_codes, fau
 ghost use Rattle.set_check.specs.Codes.{set_codes_of};
 ghost use Rattle.set_check.specs.Checked.{said_by};
 ghost use Rattle.set_check.specs.MeetsLaw.{IsWellGuided};
-ghost use Rattle.x12_segs.specs.View.{SegValue};
+ghost use Rattle.x12_segs.specs.Words.{SegValue};
 
 use crate::convention::has_other_convention;
 use crate::faults::{has_base_fault, has_implementation_fault};

@@ -1,13 +1,10 @@
 ghost use Rattle.std.specs.Prelude.{◌≡◌, ◌++◌, ◌+◌, ◌<◌, ◌^◌, List, [], Some, map, length, IfOk, OnOk};
 ghost use Rattle.std.specs.List.{slice_get};
 ghost use Rattle.hub_kinds.specs.declared.fault.Fault.{Fault};
-ghost use Rattle.x12_segs.specs.View.{SegValue, elements_of};
-ghost use Rattle.guide_tree.specs.Faults.{IsWellFormed};
-ghost use Rattle.guide_tree.specs.Slots.{IsSound};
-ghost use Rattle.guide_tree.specs.View.{guide_of, nodes_view};
+ghost use Rattle.x12_segs.specs.Words.{SegValue, elements_of};
+ghost use Rattle.guide_tree.specs.Words.{IsWellFormed, IsSound, guide_of, nodes_view, slot_given};
 ghost use Rattle.loop_match.specs.Given.{place_in, slot_in};
 ghost use Rattle.loop_match.specs.Steps.{place_view};
-ghost use Rattle.guide_tree.specs.Places.{slot_given};
 ghost use Rattle.loop_match.specs.LoopIds.{loop_id_of};
 ghost use Rattle.set_check.specs.SetFaults.{told_by};
 ghost use Rattle.set_check.specs.Adding.{IsTold, IsErrorBelow, Adds, AreSound};

@@ -1,5 +1,5 @@
 ghost use Rattle.std.specs.Prelude.{Bool, Option};
-ghost use Rattle.guide_tree.specs.Tree.{GuideTree};
+ghost use Rattle.guide_tree.specs.Words.{GuideTree};
 ghost use Rattle.set_check.specs.Checked.{Checked, IsChecked};
 ghost use Rattle.set_check.specs.CheckedLaw.{IsAcceptedAsItMeets, IsOneCheck};
 ghost use Rattle.set_check.specs.MeetsLaw.{IsCleanAsItMeets, IsWellGuided};

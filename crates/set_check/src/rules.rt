@@ -2,11 +2,10 @@
 ghost use Rattle.std.specs.Prelude.{◌≡◌, ◌+◌, ◌↔◌, length, map, IfOk};
 ghost use Rattle.std.specs.List.{All, Contains};
 ghost use Rattle.hub_kinds.specs.declared.fault.Fault.{Fault};
-ghost use Rattle.hub_kinds.specs.Fault.{AreRising, key_of};
-ghost use Rattle.hub_kinds.specs.Rising.{IsKeyedBy};
+ghost use Rattle.hub_kinds.specs.Words.{AreRising, key_of, IsKeyedBy};
 ghost use Rattle.x12_bytes.specs.declared.delims.Delims.{Delims};
-ghost use Rattle.x12_segs.specs.View.{elements_of};
-ghost use Rattle.guide_tree.specs.View.{guide_of};
+ghost use Rattle.x12_segs.specs.Words.{elements_of};
+ghost use Rattle.guide_tree.specs.Words.{guide_of};
 ghost use Rattle.loop_match.specs.Given.{place_in};
 ghost use Rattle.set_check.specs.Adding.{IsBeside, has_key_among};
 ghost use Rattle.set_check.specs.SetFaults.{IsRuleFault};

@@ -1,5 +1,5 @@
 ghost use Rattle.std.specs.Prelude.{◌≡◌, IfOk};
-ghost use Rattle.x12_segs.specs.Spans.{IsSetSpan, span_views};
+ghost use Rattle.x12_segs.specs.Words.{IsSetSpan, span_views};
 
 use hub_kinds::NoMemory;
 use std::alloc::Global;

@@ -1,7 +1,7 @@
 //! Which faults a guide tolerates (own), by the codes of the 999 guide, IK304 and IK403.
 ghost use Rattle.std.specs.Prelude.{◌≡◌, ◌==◌};
 ghost use Rattle.std.specs.Option.{option_copied};
-ghost use Rattle.hub_kinds.specs.Codes.{segment_rank, element_rank};
+ghost use Rattle.hub_kinds.specs.Words.{segment_rank, element_rank};
 ghost use Rattle.set_check.specs.Checked.{said_by};
 ghost use Rattle.set_check.specs.Verdict.{lists_segment_code, lists_element_code, tolerates};
 

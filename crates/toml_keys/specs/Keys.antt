@@ -3,7 +3,7 @@ use Rattle.std.specs.Prelude.{ℕ, List, [], ◌∷◌, Option, Some, None, Resu
 use Rattle.std.specs.Ordering.{nat_cmp, is_gt}
 use Rattle.std.specs.Cmp.Lexicographic.{slice_cmp}
 use Rattle.toml.specs.Data.{Members, no_members, member}
-use Rattle.hub_kinds.specs.TextList.{contains_text}
+use Rattle.hub_kinds.specs.Words.{contains_text}
 use Rattle.toml_keys.specs.Refusals.{Refusal, unknown}
 
 -- the keys of a table that aren't listed

@@ -1,6 +1,6 @@
 ghost use Rattle.std.specs.Prelude.{◌≡◌, Ok, map, option_map, string_bytes};
 ghost use Rattle.toml.specs.View.{table_view};
-ghost use Rattle.hub_kinds.specs.TextList.{contains_text};
+ghost use Rattle.hub_kinds.specs.Words.{contains_text};
 ghost use Rattle.toml_keys.specs.Answers.{Gives};
 ghost use Rattle.toml_keys.specs.Keys.{least_unknown, if_known};
 

@@ -6,7 +6,7 @@ ghost use Rattle.isa_scan.specs.Heads.{heads_in};
 ghost use Rattle.env_marks.specs.Laws.{values};
 ghost use Rattle.env_marks.specs.HeadLaws.{heads_under};
 ghost use Rattle.env_marks.specs.Marking.{marks_of};
-ghost use Rattle.env_index.specs.Known.{AreMarks};
+ghost use Rattle.env_index.specs.Words.{AreMarks};
 
 use cut_plan::Cuts;
 use env_index::{Index, index_of, judge};

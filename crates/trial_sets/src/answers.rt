@@ -1,8 +1,8 @@
 //! What is answered to a group of sets that are checked by a guide: its 999, byte for byte.
 ghost use Rattle.std.specs.Prelude.{◌≡◌, IfOk};
 ghost use Rattle.std.specs.List.{All};
-ghost use Rattle.x12_segs.specs.Spans.{IsSetSpan};
-ghost use Rattle.env_index.specs.Spans.{HasSpans, span_of};
+ghost use Rattle.x12_segs.specs.Words.{IsSetSpan};
+ghost use Rattle.env_index.specs.Words.{HasSpans, span_of};
 ghost use Rattle.ack_999.specs.Group.{totals_of};
 
 use super::guides::{ORDER, guide_of};

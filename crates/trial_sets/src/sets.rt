@@ -1,7 +1,7 @@
 //! What is found in the sets of an interchange.
 ghost use Rattle.std.specs.List.{All};
-ghost use Rattle.x12_segs.specs.Spans.{IsSetSpan};
-ghost use Rattle.env_index.specs.Spans.{HasSpans, span_of};
+ghost use Rattle.x12_segs.specs.Words.{IsSetSpan};
+ghost use Rattle.env_index.specs.Words.{HasSpans, span_of};
 
 use super::guides::guide_of;
 use env_index::{GroupEnvelope, Interchange, read_interchange};

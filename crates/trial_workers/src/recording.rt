@@ -1,6 +1,6 @@
 //! The places of an index, recorded by threads that share a register, each with a share of its ledger.
 ghost use Rattle.std.specs.Prelude.{◌≡◌, ◌<◌, ◌≤◌, Contains, IfOk, length, vec_len};
-ghost use Rattle.env_index.specs.Placed.{places_of};
+ghost use Rattle.env_index.specs.Words.{places_of};
 
 use env_index::Index;
 use hub_kinds::Place;

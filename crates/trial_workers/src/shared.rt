@@ -1,6 +1,6 @@
 //! A register that up to 64 threads share.
 ghost use Rattle.std.specs.Prelude.{◌≡◌};
-ghost use Rattle.env_index.specs.Placed.{places_of};
+ghost use Rattle.env_index.specs.Words.{places_of};
 
 use crate::recording::{place_at, recorded_of};
 use crate::records::settled;

@@ -6,3 +6,4 @@ pub mod Scan
 pub mod Segs
 pub mod Spans
 pub mod View
+pub mod Words

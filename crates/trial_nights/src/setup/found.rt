@@ -5,9 +5,8 @@ ghost use Rattle.std.specs.List.{All, AllZip};
 ghost use Rattle.std.specs.Option.{option_copied};
 ghost use Rattle.std.specs.Str.{bytes_eq};
 ghost use Rattle.checked_text.specs.Asked.{IsFound, asked_of};
-ghost use Rattle.env_index.specs.Spans.{HasSpans};
-ghost use Rattle.x12_segs.specs.Spans.{IsSetSpan};
-ghost use Rattle.x12_segs.specs.View.{element_of};
+ghost use Rattle.env_index.specs.Words.{HasSpans};
+ghost use Rattle.x12_segs.specs.Words.{IsSetSpan, element_of};
 
 use super::built::example;
 use checked_text::{CheckedText, Finding, answer_found, check_text, settled_faults};

@@ -1,6 +1,6 @@
 //! Texts that are checked by the setup of the two partners: what is acknowledged, delivered and reported.
 ghost use Rattle.std.specs.List.{All};
-ghost use Rattle.env_index.specs.Spans.{HasSpans};
+ghost use Rattle.env_index.specs.Words.{HasSpans};
 
 use super::built::example;
 use checked_text::{CheckedText, check_text, settled_faults};

@@ -1,7 +1,7 @@
 use Rattle.std.proofs.Common.{◌≡◌, ◌++◌, List, ℕ, [], ◌∷◌, sym, ap, ◌∙◌}
 use Rattle.std.specs.Prelude.{codes}
 use Rattle.std.proofs.lemmas.Result.{on_ok_weaker}
-use Rattle.hub_kinds.specs.Codes.{element_text}
+use Rattle.hub_kinds.specs.Words.{element_text}
 use Rattle.ack_999.specs.Copy.{copy_text}
 use Rattle.ack_999.specs.Faults.{position_text}
 use Rattle.x12_write.specs.Segment.{end_text}

@@ -1,5 +1,5 @@
 use Rattle.std.proofs.Common.{◌++◌, List, ℕ, ap, ◌∙◌}
-use Rattle.x12_segs.specs.View.{views, elements_of}
+use Rattle.x12_segs.specs.Words.{views, elements_of}
 use Rattle.std.specs.Prelude.{map}
 use Rattle.ack_999.specs.Report.{segments_999, text_999}
 use Rattle.ack_999.proofs.ReadBack.{segments_text-reads_back}

@@ -1,13 +1,12 @@
 use Rattle.std.proofs.Common.{◌≡◌, ℕ, ◌+◌, drop, List, [], ◌∷◌, ◌++◌, Some, length, refl, sym, ap, subst, ◌∙◌, arith, length-append}
 use Rattle.std.specs.Prelude.{slice_get}
 use Rattle.std.proofs.lemmas.Option.{slice_get_read}
-use Rattle.env_index.specs.Index.{IndexEntry}
-use Rattle.env_index.specs.Spans.{HasSpans}
+use Rattle.env_index.specs.Words.{IndexEntry, HasSpans}
 use Rattle.judged_text.specs.Judged.{JudgedValue}
 use Rattle.checked_text.specs.CheckedText.{CheckedInterchange, IsCheckedAs, judged}
 use Rattle.checked_text.proofs.Growing.{at_index, map_snoc}
 use Rattle.checked_text.proofs.Pairing.{no_pairs, pairs_more}
-use Rattle.checked_text.proofs.Starting.{none_yet, room_left}
+use Rattle.checked_text.proofs.Starting.{groups_left, none_yet, room_left}
 use Rattle.checked_text.proofs.Taking.{drop_one_more}
 use Rattle.checked_text.proofs.walk.answer_each.Goals as goal
 
@@ -46,10 +45,16 @@ answer_interchange-requires g c =
           ),
           (
             done.4.count,
-            λ n f at.
-                let count = room_left c.args.setup.now c.args.at.now done.0 c.loop-i.files n f c.loop-i.i done.4 at done.2 in
-                let entry_count = ap (λ (es : List IndexEntry). length es) c.interchanges-entries.ensures.value in
-                omega (arith, count, entry_count, c.loop-i-test.true, c.interchanges-entries.ensures.few),
+            (
+              λ n f at.
+                  let count = room_left c.args.setup.now c.args.at.now done.0 c.loop-i.files n f c.loop-i.i done.4 at done.2 in
+                  let entry_count = ap (λ (es : List IndexEntry). length es) c.interchanges-entries.ensures.value in
+                  omega (arith, count, entry_count, c.loop-i-test.true, c.interchanges-entries.ensures.few),
+              λ n f at.
+                  let count = groups_left c.args.setup.now c.args.at.now done.0 c.loop-i.files n f c.loop-i.i done.4 at done.2 in
+                  let entry_count = ap (λ (es : List IndexEntry). length es) c.interchanges-entries.ensures.value in
+                  omega (arith, count, entry_count, c.loop-i-test.true, c.interchanges-entries.ensures.few),
+            ),
           ),
         ),
       ),

@@ -5,7 +5,7 @@ use Rattle.std.specs.List.{Contains}
 use Rattle.std.proofs.lemmas.List.{take_all}
 use Rattle.std.proofs.lemmas.List.Elements.{Contains-push}
 use Rattle.guide_tree.specs.declared.rows.Dependency.{Dependency}
-use Rattle.guide_tree.specs.View.{nodes_view}
+use Rattle.guide_tree.specs.Words.{nodes_view}
 use Rattle.hub_kinds.specs.declared.fault.Fault.{Fault}
 use Rattle.loop_match.specs.Viewed.{placed_views}
 use Rattle.depend_check.specs.Uses.{HaveSameTarget, IsBrokenAmong, lent}

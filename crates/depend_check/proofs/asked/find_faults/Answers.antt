@@ -2,7 +2,7 @@ use Rattle.std.proofs.Common.{◌↔◌, List, ap, subst}
 use Rattle.std.specs.List.{Contains}
 use Rattle.std.proofs.lemmas.Result.{IfOk-weaker}
 use Rattle.guide_tree.specs.declared.rows.Dependency.{Dependency}
-use Rattle.guide_tree.specs.View.{nodes_view}
+use Rattle.guide_tree.specs.Words.{nodes_view}
 use Rattle.loop_match.specs.Viewed.{placed_views}
 use Rattle.depend_check.specs.Uses.{IsBrokenAmong, lent}
 use Rattle.depend_check.proofs.Asking.{among_found}

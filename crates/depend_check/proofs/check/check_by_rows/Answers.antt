@@ -1,9 +1,8 @@
 use Rattle.std.proofs.Common.{◌↔◌, List, map, length, subst, ap, ◌+◌}
 use Rattle.std.specs.List.{Contains}
 use Rattle.hub_kinds.specs.declared.fault.Fault.{Fault}
-use Rattle.x12_segs.specs.View.{elements_of}
-use Rattle.guide_tree.specs.Tree.{GuideTree}
-use Rattle.guide_tree.specs.View.{nodes_view}
+use Rattle.x12_segs.specs.Words.{elements_of}
+use Rattle.guide_tree.specs.Words.{GuideTree, nodes_view}
 use Rattle.guide_tree.specs.declared.node.Node.{Node}
 use Rattle.guide_tree.specs.declared.rows.Dependency.{Dependency}
 use Rattle.loop_match.specs.Given.{place_in}

@@ -2,13 +2,13 @@ use Rattle.std.proofs.Common.{◌≡◌, ◌↔◌, ◌+◌, ◌∙◌, length, 
 use Rattle.std.specs.List.{Contains}
 use Rattle.std.proofs.lemmas.Result.{IfOk-weaker}
 use Rattle.x12_bytes.specs.declared.delims.Delims.{Delims}
-use Rattle.x12_segs.specs.View.{elements_of}
+use Rattle.x12_segs.specs.Words.{elements_of}
 use Rattle.guide_tree.specs.declared.rows.GuideRows.{GuideRows}
-use Rattle.guide_tree.specs.View.{guide_of}
+use Rattle.guide_tree.specs.Words.{guide_of}
 use Rattle.loop_match.specs.Given.{place_in}
 use Rattle.depend_check.specs.Dependencies.{IsDependencyFault}
 use Rattle.std.proofs.Common.{sym, subst}
-use Rattle.hub_kinds.specs.Fault.{AreRising}
+use Rattle.hub_kinds.specs.Words.{AreRising}
 use Rattle.depend_check.proofs.Keyed.{none_rising}
 use Rattle.depend_check.proofs.check.check_dependencies.Goals as goal
 

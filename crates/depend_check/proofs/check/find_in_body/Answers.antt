@@ -1,8 +1,8 @@
 use Rattle.std.proofs.Common.{◌↔◌, length, map, ◌+◌, List, sym, subst, ap, ◌∙◌}
 use Rattle.std.specs.List.{Contains, filter}
 use Rattle.std.proofs.lemmas.Result.{IfOk-weaker}
-use Rattle.x12_segs.specs.View.{elements_of}
-use Rattle.guide_tree.specs.View.{nodes_view}
+use Rattle.x12_segs.specs.Words.{elements_of}
+use Rattle.guide_tree.specs.Words.{nodes_view}
 use Rattle.loop_match.specs.Given.{place_in}
 use Rattle.loop_match.specs.PlacedSegments.{PlacedSegment, placed_segments}
 use Rattle.loop_match.specs.Viewed.{placed_views}

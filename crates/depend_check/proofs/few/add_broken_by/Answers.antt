@@ -1,5 +1,5 @@
 use Rattle.std.proofs.lemmas.Result.{on_ok_weaker}
-use Rattle.guide_tree.specs.View.{nodes_view}
+use Rattle.guide_tree.specs.Words.{nodes_view}
 use Rattle.loop_match.specs.Viewed.{placed_views}
 use Rattle.depend_check.proofs.Asking.{broken_added, same_uses}
 use Rattle.depend_check.proofs.few.add_broken_by.Goals as goal

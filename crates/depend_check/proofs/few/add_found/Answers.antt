@@ -1,6 +1,6 @@
 use Rattle.std.proofs.Common.{sym, ◌∙◌}
 use Rattle.std.proofs.lemmas.Result.{on_ok_weaker}
-use Rattle.guide_tree.specs.View.{nodes_view}
+use Rattle.guide_tree.specs.Words.{nodes_view}
 use Rattle.loop_match.specs.Viewed.{placed_views}
 use Rattle.depend_check.proofs.Asking.{found_by_broken, not_found_by}
 use Rattle.depend_check.proofs.few.add_found.Goals as goal

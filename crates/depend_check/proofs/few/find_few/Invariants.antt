@@ -1,7 +1,7 @@
 use Rattle.std.proofs.Common.{◌↔◌, take}
 use Rattle.std.specs.List.{Contains}
 use Rattle.hub_kinds.specs.declared.fault.Fault.{Fault}
-use Rattle.guide_tree.specs.View.{nodes_view}
+use Rattle.guide_tree.specs.Words.{nodes_view}
 use Rattle.loop_match.specs.Viewed.{placed_views}
 use Rattle.depend_check.specs.Uses.{IsFound}
 use Rattle.depend_check.proofs.few.find_few.Given as goal

@@ -1,5 +1,5 @@
 use Rattle.std.proofs.Common.{◌≡◌, drop}
-use Rattle.guide_tree.specs.View.{nodes_view}
+use Rattle.guide_tree.specs.Words.{nodes_view}
 use Rattle.depend_check.specs.Dependencies.{seat_among}
 use Rattle.depend_check.proofs.seat.+seat_among.Given as goal
 

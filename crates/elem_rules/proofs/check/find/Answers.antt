@@ -1,7 +1,7 @@
 use Rattle.std.proofs.Common.{length, take, drop, ap, ◌∙◌}
 use Rattle.std.specs.List.{Contains}
 use Rattle.hub_kinds.specs.declared.fault.ElemFault.{ElemFault}
-use Rattle.x12_segs.specs.View.{elements_of}
+use Rattle.x12_segs.specs.Words.{elements_of}
 use Rattle.elem_rules.specs.Found.{read, found}
 use Rattle.elem_rules.proofs.Looks.{texts_few}
 use Rattle.elem_rules.proofs.Marks.{found_members, rows_listed}

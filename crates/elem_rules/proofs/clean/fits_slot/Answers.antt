@@ -4,8 +4,8 @@ use Rattle.guide_tree.specs.declared.element.Element.{Element}
 use Rattle.guide_tree.specs.declared.slot.Condition.{Condition}
 use Rattle.elem_rules.specs.Rows.{nth}
 use Rattle.std.specs.List.{All}
-use Rattle.guide_tree.specs.Segments.{element_of}
-use Rattle.x12_segs.specs.View.{elements_of}
+use Rattle.guide_tree.specs.Words.{element_of}
+use Rattle.x12_segs.specs.Words.{elements_of}
 use Rattle.elem_rules.specs.Clean.{fits, is_set, holds, bits_to, has_bytes}
 use Rattle.elem_rules.proofs.Bounded.{rows_few, rows_bounded}
 use Rattle.elem_rules.proofs.Plain.{plain_part}

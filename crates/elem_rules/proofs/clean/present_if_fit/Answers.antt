@@ -2,8 +2,8 @@ use Rattle.std.proofs.Common.{◌≡◌, ◌+◌, arith, sym, subst, ◌∙◌}
 use Rattle.std.specs.Prelude.{ℕ, List, false}
 use Rattle.std.specs.Bool.{OnTrue}
 use Rattle.std.specs.List.{list_any}
-use Rattle.guide_tree.specs.Segments.{element_of}
-use Rattle.x12_segs.specs.View.{elements_of}
+use Rattle.guide_tree.specs.Words.{element_of}
+use Rattle.x12_segs.specs.Words.{elements_of}
 use Rattle.elem_rules.specs.Clean.{is_strange}
 use Rattle.elem_rules.proofs.Members.{nth_within}
 use Rattle.elem_rules.proofs.Plain.{narrow_part}

@@ -1,8 +1,8 @@
 use Rattle.std.proofs.Common.{◌≡◌, ℕ, ◌≤◌, drop}
 use Rattle.std.specs.Prelude.{Some, IsTrue}
 use Rattle.guide_tree.specs.declared.element.Element.{Element}
-use Rattle.guide_tree.specs.Segments.{element_of}
-use Rattle.x12_segs.specs.View.{elements_of}
+use Rattle.guide_tree.specs.Words.{element_of}
+use Rattle.x12_segs.specs.Words.{elements_of}
 use Rattle.elem_rules.specs.Rows.{nth}
 use Rattle.elem_rules.specs.Clean.{fits, bits_to, has_bytes}
 use Rattle.elem_rules.proofs.clean.present_if_fit.Given as goal

@@ -1,5 +1,5 @@
 use Rattle.std.proofs.Common.{◌≡◌, ◌+◌, [], true, ap, ◌∙◌}
-use Rattle.x12_segs.specs.View.{occurrences}
+use Rattle.x12_segs.specs.Words.{occurrences}
 use Rattle.elem_rules.specs.Divided.{occurrence_in}
 use Rattle.elem_rules.specs.Rows.{composite_usage, shown_repetition}
 use Rattle.elem_rules.specs.Found.{occurrence_found}

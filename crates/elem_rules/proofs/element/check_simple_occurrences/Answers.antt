@@ -1,6 +1,6 @@
 use Rattle.std.proofs.Common.{◌≡◌, ◌+◌, [], ◌∷◌, false, ap, ◌∙◌}
 use Rattle.guide_tree.specs.declared.element.Component.TheVariants as component
-use Rattle.x12_segs.specs.View.{occurrences}
+use Rattle.x12_segs.specs.Words.{occurrences}
 use Rattle.elem_rules.specs.Divided.{occurrence_in}
 use Rattle.elem_rules.specs.Rows.{simple_usage, shown_repetition}
 use Rattle.elem_rules.specs.Found.{occurrence_found}

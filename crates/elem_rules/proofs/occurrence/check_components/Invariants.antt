@@ -1,6 +1,6 @@
 use Rattle.std.proofs.Common.{◌≡◌, ◌++◌, [], drop}
 use Rattle.std.specs.Option.{option_map_or}
-use Rattle.x12_segs.specs.View.{components}
+use Rattle.x12_segs.specs.Words.{components}
 use Rattle.elem_rules.specs.Divided.{component_in}
 use Rattle.elem_rules.specs.Rows.{nth}
 use Rattle.elem_rules.specs.Found.{up_to, component_found}

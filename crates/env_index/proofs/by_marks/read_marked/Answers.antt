@@ -1,7 +1,6 @@
 use Rattle.std.proofs.Common.{◌≡◌, ℕ, List, true, sym, ap, subst, rules}
 use Rattle.x12_bytes.specs.HeaderTest.{is_head}
-use Rattle.x12_segs.specs.Kinds.{kind_of}
-use Rattle.x12_segs.specs.View.{SegValue}
+use Rattle.x12_segs.specs.Words.{kind_of, SegValue}
 use Rattle.env_index.specs.Envelope.{Body, Derives}
 use Rattle.env_index.specs.Extents.{reach_at}
 use Rattle.env_index.specs.Interchange.{InterchangeEntry, interchange_of}

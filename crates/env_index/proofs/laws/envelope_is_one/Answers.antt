@@ -1,4 +1,4 @@
-use Rattle.x12_segs.specs.Kinds.{kind_of}
+use Rattle.x12_segs.specs.Words.{kind_of}
 use Rattle.env_index.proofs.OneTree.{tree_is_one}
 use Rattle.env_index.proofs.laws.envelope_is_one.Goals as goal
 

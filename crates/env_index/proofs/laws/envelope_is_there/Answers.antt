@@ -1,4 +1,4 @@
-use Rattle.x12_segs.specs.Kinds.{kind_of}
+use Rattle.x12_segs.specs.Words.{kind_of}
 use Rattle.env_index.specs.Extents.{reach_at}
 use Rattle.env_index.proofs.Trees.{a_tree}
 use Rattle.env_index.proofs.Walking.{only_last}

@@ -1,6 +1,6 @@
 use Rattle.std.proofs.Common.{◌≡◌, ◌<◌, ◌+◌, ◌-◌, ℕ, List, Option, length, false, true, inl, inr, sym, ap, subst, ◌∙◌, arith}
 use Rattle.std.specs.Prelude.{is_some}
-use Rattle.x12_segs.specs.Kinds.{kind_of}
+use Rattle.x12_segs.specs.Words.{kind_of}
 use Rattle.x12_bytes.specs.HeaderTest.{is_head}
 use Rattle.env_index.specs.Envelope.{Derives}
 use Rattle.env_index.specs.Extents.{reach_at}

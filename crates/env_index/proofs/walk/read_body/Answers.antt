@@ -1,15 +1,13 @@
 use Rattle.std.proofs.Common.{◌≤◌, ◌<◌, ◌-◌, [], ◌∷◌, get_or, drop, refl, ◌≡◌, ◌≢◌, ℕ, ◌+◌, List, length, true, false, None, Some, sym}
 use Rattle.std.proofs.Common.{ap, subst, ◌∙◌, arith}
 use Rattle.x12_bytes.specs.HeaderTest.{is_head}
-use Rattle.x12_segs.specs.Kinds.{kind_of}
+use Rattle.x12_segs.specs.Words.{kind_of, is_control_letter, begins_as_control, Seg}
 use Rattle.std.specs.Prelude.{slice_range}
 use Rattle.std.proofs.lemmas.Bool.{both_ways, false_from_ne_true}
 use Rattle.std.proofs.lemmas.List.{get_or-take, get_or-drop, length-take-le, length-drop}
 use Rattle.x12_bytes.specs.declared.delims.Delims.{Delims}
-use Rattle.x12_segs.specs.Letters.{is_control_letter, begins_as_control}
 use Rattle.x12_segs.proofs.KindLemmas.{other_segment}
 use Rattle.env_index.proofs.Surround.{head_letter}
-use Rattle.x12_segs.specs.Segs.{Seg}
 use Rattle.x12_segs.specs.declared.part.Part.TheVariants.{Segment, Rest}
 use Rattle.x12_segs.specs.declared.kind.Kind.{Kind}
 use Rattle.x12_segs.specs.declared.kind.Kind.TheVariants.{InterchangeTrailer, Other}

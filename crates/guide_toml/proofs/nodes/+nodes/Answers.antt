@@ -1,7 +1,7 @@
 use Rattle.std.proofs.Common.{◌+◌, drop, map, sym, ap, subst, ◌∙◌, arith, codes}
 use Rattle.toml.specs.Data.{Data, Items, depth}
 use Rattle.toml.specs.View.{table_view, view, items_view}
-use Rattle.guide_tree.specs.View.{view as tree_view}
+use Rattle.guide_tree.specs.Words.{view as tree_view}
 use Rattle.guide_toml.specs.Answers.{meaning_of}
 use Rattle.toml_keys.specs.Meanings.{FailsAs}
 use Rattle.toml_keys.specs.Refusals.{wrong_kind}

@@ -1,7 +1,7 @@
 use Rattle.std.proofs.Common.{◌≡◌, ◌+◌, ◌*◌, drop, map}
 use Rattle.toml.specs.Data.{items_depth, members_depth}
 use Rattle.toml.specs.View.{table_view, items_view}
-use Rattle.guide_tree.specs.View.{view as tree_view}
+use Rattle.guide_tree.specs.Words.{view as tree_view}
 use Rattle.guide_toml.specs.Guides.{nodes_in}
 use Rattle.guide_toml.proofs.Forests.{with_front}
 use Rattle.guide_toml.proofs.nodes.+nodes.Given as goal

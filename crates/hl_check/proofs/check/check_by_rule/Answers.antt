@@ -2,8 +2,8 @@ use Rattle.std.proofs.Common.{◌≡◌, List, map, length, sym, subst, ap, ◌�
 use Rattle.std.specs.List.{Contains}
 use Rattle.std.proofs.lemmas.List.{length-map}
 use Rattle.hub_kinds.specs.declared.fault.Fault.{Fault}
-use Rattle.x12_segs.specs.View.{elements_of}
-use Rattle.guide_tree.specs.View.{nodes_view}
+use Rattle.x12_segs.specs.Words.{elements_of}
+use Rattle.guide_tree.specs.Words.{nodes_view}
 use Rattle.loop_match.specs.Given.{place_in}
 use Rattle.loop_match.specs.PlacedSegments.{PlacedSegment}
 use Rattle.hl_check.specs.Hierarchy.{hls_of}

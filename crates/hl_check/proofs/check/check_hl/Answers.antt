@@ -1,5 +1,5 @@
 use Rattle.std.proofs.Common.{sym, subst}
-use Rattle.hub_kinds.specs.Fault.{AreRising}
+use Rattle.hub_kinds.specs.Words.{AreRising}
 use Rattle.hl_check.proofs.Keyed.{none_rising}
 use Rattle.hl_check.proofs.check.check_hl.Goals as goal
 

@@ -1,6 +1,6 @@
 use Rattle.std.proofs.Common.{ap, ◌∙◌, rules}
 use Rattle.std.proofs.lemmas.List.Elements.{filter_from_retain}
-use Rattle.x12_segs.specs.View.{elements_of}
+use Rattle.x12_segs.specs.Words.{elements_of}
 use Rattle.loop_match.specs.Viewed.{placed_view, placed_views}
 use Rattle.hl_check.specs.Hierarchy.{is_hl}
 use Rattle.hl_check.proofs.Viewing.{filter_view}

@@ -1,5 +1,5 @@
 use Rattle.std.specs.BTreeMap.{get}
-use Rattle.hub_kinds.specs.ByText.{by_text}
+use Rattle.hub_kinds.specs.Words.{by_text}
 use Rattle.hl_check.proofs.Knowing.{level_more, level_kept, none_known, some_known}
 use Rattle.hl_check.proofs.known.add_level.Goals as goal
 

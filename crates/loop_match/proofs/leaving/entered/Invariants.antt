@@ -1,6 +1,5 @@
 use Rattle.std.proofs.Common.{◌≡◌, ◌++◌, ◌-◌, ◌≤◌, drop}
-use Rattle.guide_tree.specs.Pass.{entered}
-use Rattle.guide_tree.specs.View.{nodes_view}
+use Rattle.guide_tree.specs.Words.{entered, nodes_view}
 use Rattle.loop_match.proofs.leaving.entered.Given as goal
 
 abbrev pub invariant-loop-k : goal.invariant-loop-k

@@ -1,6 +1,5 @@
 use Rattle.std.proofs.Common.{◌≡◌, ◌++◌, drop}
-use Rattle.guide_tree.specs.Pass.{unused}
-use Rattle.guide_tree.specs.View.{nodes_view}
+use Rattle.guide_tree.specs.Words.{unused, nodes_view}
 use Rattle.loop_match.proofs.leaving.unused.Given as goal
 
 abbrev pub invariant-loop-k : goal.invariant-loop-k

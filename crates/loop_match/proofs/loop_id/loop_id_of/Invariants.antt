@@ -1,5 +1,5 @@
 use Rattle.std.proofs.Common.{◌≡◌, drop}
-use Rattle.guide_tree.specs.View.{nodes_view}
+use Rattle.guide_tree.specs.Words.{nodes_view}
 use Rattle.loop_match.specs.Steps.{place_view}
 use Rattle.loop_match.specs.LoopIds.{loop_id_of, loop_id_under}
 use Rattle.loop_match.proofs.loop_id.loop_id_of.Given as goal

@@ -1,4 +1,4 @@
-use Rattle.x12_segs.specs.View.{elements_of}
+use Rattle.x12_segs.specs.Words.{elements_of}
 use Rattle.loop_match.proofs.Indexed.{next_outside, next_inside, next_here}
 use Rattle.loop_match.proofs.next.+turns.Goals as goal
 

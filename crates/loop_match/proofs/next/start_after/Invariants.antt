@@ -1,7 +1,6 @@
 use Rattle.std.proofs.Common.{◌≡◌, drop}
-use Rattle.x12_segs.specs.View.{elements_of}
-use Rattle.guide_tree.specs.View.{nodes_view}
-use Rattle.guide_tree.specs.Fits.{fit_starts}
+use Rattle.x12_segs.specs.Words.{elements_of}
+use Rattle.guide_tree.specs.Words.{nodes_view, fit_starts}
 use Rattle.loop_match.proofs.next.start_after.Given as goal
 
 abbrev pub invariant-loop-k : goal.invariant-loop-k

@@ -1,8 +1,6 @@
 use Rattle.std.proofs.Common.{◌≡◌, ◌+◌, length, map, drop}
-use Rattle.x12_segs.specs.View.{elements_of}
-use Rattle.guide_tree.specs.Nexts.{placing_of}
-use Rattle.guide_tree.specs.Pass.{structure_faults}
-use Rattle.guide_tree.specs.View.{guide_of, nodes_view}
+use Rattle.x12_segs.specs.Words.{elements_of}
+use Rattle.guide_tree.specs.Words.{placing_of, structure_faults, guide_of, nodes_view}
 use Rattle.loop_match.specs.Given.{given_of}
 use Rattle.loop_match.specs.Steps.{given_behind, IsWalk}
 use Rattle.loop_match.specs.Passed.{found_behind}

@@ -1,6 +1,5 @@
 use Rattle.std.proofs.Common.{◌≡◌, drop}
-use Rattle.guide_tree.specs.Places.{slot_at}
-use Rattle.guide_tree.specs.View.{nodes_view}
+use Rattle.guide_tree.specs.Words.{slot_at, nodes_view}
 use Rattle.loop_match.specs.Steps.{place_view}
 use Rattle.loop_match.proofs.place.slot_at.Given as goal
 

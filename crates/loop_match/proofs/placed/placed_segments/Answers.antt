@@ -1,6 +1,6 @@
 use Rattle.std.proofs.Common.{sym, ap, ◌∙◌, option_map, List}
-use Rattle.x12_segs.specs.View.{elements_of}
-use Rattle.guide_tree.specs.View.{nodes_view}
+use Rattle.x12_segs.specs.Words.{elements_of}
+use Rattle.guide_tree.specs.Words.{nodes_view}
 use Rattle.loop_match.specs.PlacedSegments.{PlacedSegment, with_placed, placed_by}
 use Rattle.loop_match.specs.Viewed.{placed_view}
 use Rattle.loop_match.proofs.Collecting.{next_placed}

@@ -1,6 +1,6 @@
 use Rattle.std.proofs.Common.{◌≡◌, map}
-use Rattle.x12_segs.specs.View.{elements_of}
-use Rattle.guide_tree.specs.View.{nodes_view}
+use Rattle.x12_segs.specs.Words.{elements_of}
+use Rattle.guide_tree.specs.Words.{nodes_view}
 use Rattle.loop_match.specs.Given.{place_in}
 use Rattle.loop_match.specs.PlacedSegments.{placed_among_first}
 use Rattle.loop_match.specs.Viewed.{placed_views}

@@ -1,9 +1,8 @@
 use Rattle.std.proofs.Common.{◌∙◌, ap, sym, subst, map, None, length, List, ◌+◌}
 use Rattle.std.specs.List.{Contains}
 use Rattle.hub_kinds.specs.declared.fault.Fault.{Fault}
-use Rattle.x12_segs.specs.View.{elements_of}
-use Rattle.guide_tree.specs.View.{guide_of, nodes_view}
-use Rattle.guide_tree.specs.Places.{IsPlacing}
+use Rattle.x12_segs.specs.Words.{elements_of}
+use Rattle.guide_tree.specs.Words.{guide_of, nodes_view, IsPlacing}
 use Rattle.guide_law.proofs.Computed.{is_placing}
 use Rattle.guide_law.proofs.Faulty.{members}
 use Rattle.guide_law.proofs.Placed.{triggers}

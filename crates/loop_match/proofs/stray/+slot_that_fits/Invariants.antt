@@ -1,8 +1,6 @@
 use Rattle.std.proofs.Common.{◌≡◌, drop}
-use Rattle.x12_segs.specs.View.{elements_of}
-use Rattle.guide_tree.specs.Tree.{find_slot}
-use Rattle.guide_tree.specs.Segments.{fits}
-use Rattle.guide_tree.specs.View.{nodes_view}
+use Rattle.x12_segs.specs.Words.{elements_of}
+use Rattle.guide_tree.specs.Words.{find_slot, fits, nodes_view}
 use Rattle.loop_match.proofs.stray.+slot_that_fits.Given as goal
 
 abbrev pub decreases-slot_that_fits : goal.decreases-slot_that_fits

@@ -1,7 +1,6 @@
 use Rattle.std.proofs.Common.{◌≡◌, drop}
 use Rattle.std.specs.Str.{bytes_eq}
-use Rattle.guide_tree.specs.Tree.{find_slot}
-use Rattle.guide_tree.specs.View.{nodes_view}
+use Rattle.guide_tree.specs.Words.{find_slot, nodes_view}
 use Rattle.loop_match.proofs.stray.+slot_with_id.Given as goal
 
 abbrev pub decreases-slot_with_id : goal.decreases-slot_with_id

@@ -1,12 +1,10 @@
 use Rattle.std.proofs.Common.{cond, sym, ◌∙◌, rules}
 use Rattle.std.specs.Str.{bytes_eq}
 use Rattle.std.proofs.lemmas.Bool.{cond-true, cond-false}
-use Rattle.x12_segs.specs.View.{elements_of}
+use Rattle.x12_segs.specs.Words.{elements_of}
 use Rattle.hub_kinds.specs.declared.codes.SegmentCode.TheVariants as ik304
-use Rattle.hub_kinds.specs.TextList.{contains_text}
-use Rattle.guide_tree.specs.Tree.{any_slot}
-use Rattle.guide_tree.specs.Segments.{id_of, fits}
-use Rattle.guide_tree.specs.View.{guide_of}
+use Rattle.hub_kinds.specs.Words.{contains_text}
+use Rattle.guide_tree.specs.Words.{any_slot, id_of, fits, guide_of}
 use Rattle.loop_match.proofs.stray.stray_code.Goals as goal
 
 pub returns-else-fits_somewhere : goal.returns-else-fits_somewhere

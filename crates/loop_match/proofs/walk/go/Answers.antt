@@ -1,6 +1,6 @@
 use Rattle.std.proofs.Common.{◌++◌, ◌∷◌, [], ap, sym, ◌∙◌, List, take, Bool}
 use Rattle.std.proofs.lemmas.List.{append_assoc}
-use Rattle.guide_tree.specs.Places.{use_of}
+use Rattle.guide_tree.specs.Words.{use_of}
 use Rattle.loop_match.specs.declared.next.Step.{Step}
 use Rattle.loop_match.specs.Steps.{place_view, below_start}
 use Rattle.loop_match.proofs.Walking.{went, step_of}

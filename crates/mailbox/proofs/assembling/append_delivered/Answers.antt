@@ -1,13 +1,12 @@
 use Rattle.std.proofs.Common.{ℕ, length}
-use Rattle.std.proofs.lemmas.Result.{on_ok_weaker}
 use Rattle.x12_write.specs.Trailer.{trailer_text}
 use Rattle.mailbox.specs.Numbered.{groups_of, numbered_from}
 use Rattle.mailbox.proofs.Writing.{three_parts}
 use Rattle.mailbox.proofs.assembling.append_delivered.Goals as goal
 
-pub returns : goal.returns
-returns c = on_ok_weaker c.append_trailer.result (λ is. three_parts c.args.out.now.items c.append_partner_header.new.out.items
+pub returns-clause-text : goal.returns-clause-text
+returns-clause-text c = three_parts c.args.out.now.items c.append_partner_header.new.out.items
     c.append_groups.new.out.items c.append_trailer.new.out.items _ _
     (λ (n : ℕ). trailer_text c.args.partner.now.delims n c.args.number) c.in_ok-groups.groups
-    (length (groups_of (numbered_from c.args.before c.args.sets.now))) c.in_ok-append_partner_header.ensures c.in_ok-groups.ensures.text is
-    c.in_ok-groups.ensures.count) c.append_trailer.ensures.text
+    (length (groups_of (numbered_from c.args.before c.args.sets.now))) c.in_ok-append_partner_header.ensures c.in_ok-groups.ensures.text
+    c.in_ok-append_trailer.ensures.text c.in_ok-groups.ensures.count

@@ -1,8 +1,7 @@
 use Rattle.std.proofs.Common.{◌≡◌, ◌<◌, ℕ, List, Some, length, sym, ap, ◌∙◌, arith}
 use Rattle.std.specs.Prelude.{slice_get}
-use Rattle.x12_segs.specs.View.{SegValue, element_of}
-use Rattle.env_index.specs.Interchange.{InterchangeEntry}
-use Rattle.env_index.specs.Summary.{GroupEntry}
+use Rattle.x12_segs.specs.Words.{SegValue, element_of}
+use Rattle.env_index.specs.Words.{InterchangeEntry, GroupEntry}
 use Rattle.partner_setup.specs.Setup.{route_of}
 use Rattle.mailbox.specs.Delivering.{may_leave}
 use Rattle.judged_text.specs.Judged.{PlacedValue, standing_at}

@@ -1,6 +1,6 @@
 use Rattle.std.proofs.Common.{◌≡◌, Some, take}
 use Rattle.std.specs.Prelude.{slice_get}
-use Rattle.env_index.specs.Summary.{GroupEntry}
+use Rattle.env_index.specs.Words.{GroupEntry}
 use Rattle.mailbox.specs.Delivering.{HasTaken}
 use Rattle.judged_text.specs.Judged.{sets_from, standing_at}
 use Rattle.mailbox.proofs.delivering.deliver_group.Given as goal

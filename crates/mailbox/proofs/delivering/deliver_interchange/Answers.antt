@@ -1,6 +1,5 @@
 use Rattle.std.proofs.Common.{◌≡◌, ◌<◌, List, length, ap, arith}
-use Rattle.env_index.specs.Interchange.{InterchangeEntry}
-use Rattle.env_index.specs.Summary.{GroupEntry}
+use Rattle.env_index.specs.Words.{InterchangeEntry, GroupEntry}
 use Rattle.mailbox.proofs.Growing.{group_taken}
 use Rattle.mailbox.proofs.Replacing.{there_is}
 use Rattle.mailbox.proofs.delivering.deliver_interchange.Goals as goal

@@ -8,7 +8,7 @@ abbrev pub invariant-loop-to : goal.invariant-loop-to
 invariant-loop-to l =
     record {
       text : l.out.items ≡ l.initial.out.items
-          ++ flat_map (outcome_line l.ordinal) (map (outcome_at l.setup l.placed) (take l.to-index l.route));
+          ++ flat_map (outcome_line l.setup l.ordinal) (map (outcome_at l.setup l.placed) (take l.to-index l.route));
       room : length l.initial.out.items + l.held ≤ length l.out.items;
       held : l.held ≡ count_by is_held (map (outcome_at l.setup l.placed) (take l.to-index l.route));
     }

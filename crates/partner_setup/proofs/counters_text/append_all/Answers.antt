@@ -8,7 +8,7 @@ use Rattle.partner_setup.proofs.counters_text.append_all.Goals as goal
 pub loop-i-preserved : goal.loop-i-preserved
 loop-i-preserved c =
     let p = c.index-partners-i.result in
-    let none : Counters = record { interchange = 0; set = 0 } in
+    let none : Counters = record { interchange = 0; group = 0; set = 0 } in
     let next : Counters = get_or c.args.next.now c.loop-i.i none in
     let many = c.requires in
     let few = c.loop-i-test.true in

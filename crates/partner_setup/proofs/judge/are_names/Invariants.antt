@@ -1,6 +1,6 @@
 use Rattle.std.proofs.Common.{◌≡◌, List, ℕ, drop}
 use Rattle.std.specs.List.{list_all}
-use Rattle.hub_kinds.specs.TextList.{contains_text}
+use Rattle.hub_kinds.specs.Words.{contains_text}
 use Rattle.partner_setup.specs.Known.{KnowsPlaces}
 use Rattle.partner_setup.proofs.judge.are_names.Given as goal
 

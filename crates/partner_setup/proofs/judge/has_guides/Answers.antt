@@ -1,7 +1,6 @@
 use Rattle.std.proofs.Common.{◌≡◌, Bool, true, not, ◌&&◌, List, ℕ, map, sym, ap, ◌∙◌}
 use Rattle.std.specs.List.{list_all}
-use Rattle.hub_kinds.specs.Twice.{has_twice}
-use Rattle.hub_kinds.specs.TextList.{contains_text}
+use Rattle.hub_kinds.specs.Words.{has_twice, contains_text}
 use Rattle.partner_setup.specs.Names.{places_of_texts, those_at}
 use Rattle.partner_setup.specs.SetupFaults.{guide_name, guides_of, purpose_key, told_by}
 use Rattle.partner_setup.specs.declared.told.Told.{Told}

@@ -1,12 +1,9 @@
 use Rattle.std.proofs.Common.{◌≡◌, ◌↔◌, ◌∙◌, ◌+◌, ap, sym, subst, List, map, length}
 use Rattle.std.specs.List.{All, Contains}
 use Rattle.hub_kinds.specs.declared.fault.Fault.{Fault}
-use Rattle.hub_kinds.specs.Fault.{AreRising}
-use Rattle.x12_segs.specs.View.{SegValue, elements_of}
-use Rattle.guide_tree.specs.Nexts.{placing_of}
-use Rattle.guide_tree.specs.Places.{slot_given}
-use Rattle.guide_tree.specs.Structure.{IsStructureFault}
-use Rattle.guide_tree.specs.View.{guide_of}
+use Rattle.hub_kinds.specs.Words.{AreRising}
+use Rattle.x12_segs.specs.Words.{SegValue, elements_of}
+use Rattle.guide_tree.specs.Words.{placing_of, slot_given, IsStructureFault, guide_of}
 use Rattle.loop_match.specs.Given.{place_in}
 use Rattle.set_check.proofs.Whole.{read_inside, first_keyed, set_members, set_keyed_members}
 use Rattle.set_check.proofs.body.body_faults.Goals as goal

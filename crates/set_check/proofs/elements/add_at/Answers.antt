@@ -1,5 +1,5 @@
 use Rattle.std.proofs.Common.{map}
-use Rattle.guide_tree.specs.View.{nodes_view}
+use Rattle.guide_tree.specs.Words.{nodes_view}
 use Rattle.loop_match.specs.Given.{place_in}
 use Rattle.loop_match.specs.Steps.{place_view}
 use Rattle.set_check.proofs.Adding.{slot_there, place_there, no_slot, adds_placed, adds_stray}

@@ -1,5 +1,5 @@
 use Rattle.std.proofs.Common.{map}
-use Rattle.guide_tree.specs.View.{nodes_view}
+use Rattle.guide_tree.specs.Words.{nodes_view}
 use Rattle.loop_match.specs.Given.{place_in}
 use Rattle.set_check.specs.Adding.{Adds, IsErrorBelow}
 use Rattle.set_check.proofs.elements.add_elements.Given as goal

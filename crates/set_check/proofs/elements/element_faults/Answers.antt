@@ -2,8 +2,7 @@ use Rattle.std.proofs.Common.{◌≡◌, ◌∙◌, ap, map, sym, subst, List, l
 use Rattle.hub_kinds.specs.declared.fault.Fault.{Fault}
 use Rattle.guide_tree.specs.declared.node.Node.{Node}
 use Rattle.guide_tree.specs.declared.rows.GuideRows.{GuideRows}
-use Rattle.guide_tree.specs.Places.{slot_given}
-use Rattle.guide_tree.specs.View.{guide_of, nodes_view}
+use Rattle.guide_tree.specs.Words.{slot_given, guide_of, nodes_view}
 use Rattle.loop_match.specs.Given.{place_in, slot_in}
 use Rattle.set_check.specs.Adding.{Adds, AreSound, IsErrorBelow}
 use Rattle.set_check.proofs.SoundPlaces.{sound_places}

@@ -1,5 +1,5 @@
 use Rattle.std.proofs.Common.{◌≡◌, ◌++◌, map}
-use Rattle.x12_segs.specs.View.{elements_of}
+use Rattle.x12_segs.specs.Words.{elements_of}
 use Rattle.set_check.specs.SetFaults.{told_by}
 use Rattle.set_check.proofs.elements.tell.Given as goal
 

@@ -1,7 +1,6 @@
 use Rattle.std.proofs.Common.{◌∙◌, rules}
 use Rattle.std.proofs.lemmas.Fn.{always_returns_same}
-use Rattle.hub_kinds.specs.Fault.{key_of}
-use Rattle.hub_kinds.specs.Rising.{order_by}
+use Rattle.hub_kinds.specs.Words.{key_of, order_by}
 use Rattle.set_check.proofs.Rising.{searched}
 use Rattle.set_check.proofs.rules.has_key_among.Goals as goal
 

@@ -2,8 +2,8 @@ use Rattle.std.proofs.Common.{◌+◌, ⊎_elim, inl, inr, length, map, sym, sub
 use Rattle.std.specs.List.{Contains}
 use Rattle.std.proofs.lemmas.List.Elements.{Contains-append_left, Contains-append_right, Contains-append_cases}
 use Rattle.hub_kinds.specs.declared.fault.Fault.{Fault}
-use Rattle.x12_segs.specs.View.{elements_of}
-use Rattle.guide_tree.specs.View.{guide_of}
+use Rattle.x12_segs.specs.Words.{elements_of}
+use Rattle.guide_tree.specs.Words.{guide_of}
 use Rattle.loop_match.specs.Given.{place_in}
 use Rattle.set_check.proofs.Keyed.{rules_keyed}
 use Rattle.set_check.proofs.Rising.{rising_keyed}

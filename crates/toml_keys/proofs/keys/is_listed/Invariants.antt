@@ -1,5 +1,5 @@
 use Rattle.std.proofs.Common.{◌≡◌, ℕ, List, Bor, drop, map}
-use Rattle.hub_kinds.specs.TextList.{contains_text}
+use Rattle.hub_kinds.specs.Words.{contains_text}
 use Rattle.toml_keys.proofs.keys.is_listed.Given as goal
 
 abbrev pub invariant-loop-own : goal.invariant-loop-own

@@ -3,7 +3,7 @@ use Rattle.std.specs.List.{All}
 use Rattle.std.proofs.lemmas.List.Elements.{All-nil, All-cons}
 use Rattle.x12_bytes.specs.declared.pair.Pair.{Pair}
 use Rattle.env_marks.specs.Marking.{MarksValue, marks_of}
-use Rattle.env_index.specs.Known.{AreMarks}
+use Rattle.env_index.specs.Words.{AreMarks}
 use Rattle.trial_cuts.proofs.sweep.is_same_by.Goals as goal
 
 -- the marks of a whole text are marks of it

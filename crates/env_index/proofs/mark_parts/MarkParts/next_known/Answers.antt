@@ -1,6 +1,6 @@
 use Rattle.std.proofs.Common.{◌+◌, List, get_or, length, sym, subst, arith}
 use Rattle.std.proofs.lemmas.List.{take_rest}
-use Rattle.x12_segs.specs.Scan.{LiesIn}
+use Rattle.x12_segs.specs.Words.{LiesIn}
 use Rattle.x12_segs.specs.declared.part.Part.TheVariants.{Segment}
 use Rattle.env_marks.specs.declared.frag.Mark.{Mark}
 use Rattle.env_index.specs.Known.{AreNext, no_mark}

@@ -1,5 +1,5 @@
 use Rattle.std.proofs.Common.{sym, ◌∙◌, ap}
-use Rattle.env_index.specs.Interchange.{InterchangeEntry}
+use Rattle.env_index.specs.Words.{InterchangeEntry}
 use Rattle.judged_text.proofs.InSpans.{moved_span, set_in_span, span_at}
 use Rattle.judged_text.proofs.placed.PlacedSet.behind_header.Goals as goal
 

@@ -2,10 +2,9 @@ use Rattle.std.proofs.Common.{◌≡◌, ℕ, ◌+◌, ◌-◌, None, Some, ap, 
 use Rattle.std.specs.Prelude.{Contains, option_map, slice_get}
 use Rattle.std.specs.Ordering.{nat_cmp}
 use Rattle.std.proofs.lemmas.Option.{slice_get_within}
-use Rattle.env_index.specs.Placed.{places_of}
+use Rattle.env_index.specs.Words.{places_of, place_at}
 use Rattle.number_book.specs.Books.{book_at}
 use Rattle.number_book.specs.First.{first_of, where_before}
-use Rattle.env_index.specs.Numbers.{place_at}
 use Rattle.number_register.specs.Recording.{IsEarlierIn, IsFull, Recording}
 use Rattle.number_register.specs.Slots.{group_place}
 use Rattle.number_register.proofs.Places.{placed}

@@ -2,11 +2,11 @@ use Rattle.std.proofs.Common.{◌≡◌, ℕ, ◌+◌, ◌-◌, List, None, Some
 use Rattle.std.specs.Prelude.{Contains, option_map, slice_get}
 use Rattle.std.specs.Cmp.Lexicographic.{slice_cmp}
 use Rattle.std.proofs.lemmas.Option.{slice_get_within}
-use Rattle.env_index.specs.Placed.{places_of}
+use Rattle.env_index.specs.Words.{places_of}
 use Rattle.number_book.specs.First.{first_of, where_before}
 use Rattle.number_register.specs.Recording.{IsEarlierIn, IsFull, Recording}
 use Rattle.number_register.specs.Slots.{interchange_place}
-use Rattle.hub_kinds.specs.ByText.{by_text}
+use Rattle.hub_kinds.specs.Words.{by_text}
 use Rattle.number_register.proofs.Places.{placed}
 use denote.Ref.{Bor}
 use Rattle.number_register.proofs.Earlier.{interchange_key, interchange_earlier, where_low}

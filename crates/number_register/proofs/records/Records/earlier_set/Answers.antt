@@ -1,13 +1,12 @@
 use Rattle.std.proofs.Common.{◌≡◌, ℕ, ◌+◌, ◌-◌, ◌<◌, [], get_or, length, List, None, Some, ap, sym, subst, ◌∙◌, arith}
 use Rattle.std.specs.Prelude.{Contains, option_map, slice_get, vec_len}
 use Rattle.std.proofs.lemmas.Option.{slice_get_within}
-use Rattle.env_index.specs.Placed.{places_of}
+use Rattle.env_index.specs.Words.{places_of, place_at}
 use Rattle.number_book.specs.Books.{book_at}
 use Rattle.number_book.specs.First.{first_of, where_before}
-use Rattle.env_index.specs.Numbers.{place_at}
 use Rattle.number_register.specs.Recording.{IsEarlierIn, IsFull, Recording}
 use Rattle.number_register.specs.Slots.{set_place}
-use Rattle.hub_kinds.specs.ByText.{by_text}
+use Rattle.hub_kinds.specs.Words.{by_text}
 use Rattle.number_register.proofs.Places.{placed}
 use denote.Ref.{Bor}
 use Rattle.number_register.proofs.Earlier.{set_key_there, set_earlier, where_low}

@@ -1,5 +1,5 @@
 use Rattle.std.proofs.Common.{refl, sym, ◌∙◌}
-use Rattle.env_index.specs.Placed.{places_of}
+use Rattle.env_index.specs.Words.{places_of}
 use Rattle.work_core.specs.Core.{was_recorded}
 use Rattle.number_register.proofs.Fullness.{not_all}
 use Rattle.number_register.proofs.records.Records.finish.Goals as goal

@@ -2,7 +2,7 @@ use Rattle.std.proofs.Common.{rules, ◌≡◌, ◌-◌, ◌++◌, ◌∷◌, []
 use Rattle.std.specs.Prelude.{Contains, slice_set}
 use Rattle.work_core.specs.Core.{was_recorded}
 use Rattle.hub_kinds.specs.declared.place.Place.{Place}
-use Rattle.env_index.specs.Placed.{places_of}
+use Rattle.env_index.specs.Words.{places_of}
 use Rattle.number_register.specs.Placing.{IsKeyAt}
 use Rattle.number_register.specs.Recording.{Recording}
 use Rattle.number_register.specs.Slots.{AreHeld}

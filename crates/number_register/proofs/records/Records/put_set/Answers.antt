@@ -3,7 +3,7 @@ use Rattle.std.specs.Prelude.{Contains, slice_get, slice_set, vec_len}
 use Rattle.number_book.specs.Books.{book_at}
 use Rattle.work_core.specs.Core.{was_recorded}
 use Rattle.hub_kinds.specs.declared.place.Place.{Place}
-use Rattle.env_index.specs.Placed.{places_of}
+use Rattle.env_index.specs.Words.{places_of}
 use Rattle.number_register.specs.Placing.{IsKeyAt}
 use Rattle.number_register.specs.Recording.{Recording}
 use Rattle.number_register.specs.Slots.{AreHeld}

@@ -1,6 +1,6 @@
 use Rattle.std.proofs.Common.{sym, subst}
 use Rattle.std.specs.Prelude.{Contains}
-use Rattle.env_index.specs.Placed.{places_of}
+use Rattle.env_index.specs.Words.{places_of}
 use Rattle.number_register.specs.Recording.{Recording}
 use Rattle.number_register.proofs.Places.{placed}
 use Rattle.number_register.proofs.records.Records.record.Goals as goal

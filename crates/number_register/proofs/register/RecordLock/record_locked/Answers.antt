@@ -1,7 +1,6 @@
 use Rattle.std.proofs.Common.{subst, sym}
 use Rattle.std.specs.Prelude.{Contains}
-use Rattle.env_index.specs.Index.{IndexValue}
-use Rattle.env_index.specs.Placed.{places_of}
+use Rattle.env_index.specs.Words.{IndexValue, places_of}
 use Rattle.number_register.proofs.Places.{placed}
 use Rattle.number_register.proofs.register.RecordLock.record_locked.Goals as goal
 

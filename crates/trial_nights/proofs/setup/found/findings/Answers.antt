@@ -6,13 +6,9 @@ use Rattle.std.specs.Prelude.{is_some, slice_get}
 use Rattle.std.specs.List.{All, AllZip}
 use Rattle.guide_tree.specs.declared.rows.GuideRows.{GuideRows}
 use Rattle.x12_bytes.specs.Header.{delims_of}
-use Rattle.x12_segs.specs.Spans.{IsSetSpan}
-use Rattle.x12_segs.specs.View.{SegValue, element_of}
+use Rattle.x12_segs.specs.Words.{IsSetSpan, SegValue, element_of}
 use Rattle.x12_segs.specs.declared.set_span.SetSpan.{SetSpan}
-use Rattle.env_index.specs.Index.{IndexEntry}
-use Rattle.env_index.specs.Interchange.{InterchangeEntry}
-use Rattle.env_index.specs.Spans.{HasSpans, span_of}
-use Rattle.env_index.specs.Summary.{GroupEntry}
+use Rattle.env_index.specs.Words.{IndexEntry, InterchangeEntry, HasSpans, span_of, GroupEntry}
 use Rattle.env_index.specs.declared.entry.SetEnvelope.{SetEnvelope}
 use Rattle.partner_setup.specs.Setup.{SetupValue, guide_of, sender_of}
 use Rattle.set_check.specs.Codes.{control_of}

@@ -9,7 +9,7 @@ use Rattle.std.specs.List.{range_with_len}
 use Rattle.count_numbers.specs.Layout.{in_interchange, interchange_count, interchanges_of}
 
 -- by what is left and how many are full
-abbrev by_rest : (r q : ℕ) → ℕ
+abbrev pub by_rest : (r q : ℕ) → ℕ
 by_rest r q = if r == 0 then q else q + 1
 
 full_by : (b : Bool) (q : ℕ) → (if b then q + 1 else q + 1 + 1) ≡ suc (if b then q else q + 1)
@@ -21,7 +21,7 @@ one_full cap r h =
     ap (λ (x : ℕ). by_rest x ((cap + r) / cap)) (add-mod_left cap r) ∙ ap (by_rest (r % cap)) (add-div_left r h)
     ∙ full_by (r % cap == 0) (r / cap)
 
-not_none : (n : ℕ) → (suc n == 0) ≡ false
+pub not_none : (n : ℕ) → (suc n == 0) ≡ false
 not_none n = grind (arith, nat_tests)
 
 one_started : (cap n : ℕ) → suc n < cap → interchange_count cap (suc n) ≡ 1
