@@ -1,36 +1,37 @@
 //! Nights of texts that are accepted.
 use super::night::WorkedNight;
 use super::pieces::{
-    ACKNOWLEDGMENT, ACKNOWLEDGMENT_END, ANSWERED_ORDERS, FROM_ACME, ORDER, ORDER_ACKNOWLEDGED,
-    ORDER_FOR_BOLT, ORDER_IN_ITS_INTERCHANGE, ORDERS, ORDERS_END,
+    ACKNOWLEDGMENT, ACKNOWLEDGMENT_END, ANSWERED_ORDERS, FROM_ACME, FROM_ACME_AS, ORDER,
+    ORDER_ACKNOWLEDGED, ORDER_FOR_BOLT, ORDER_IN_ITS_INTERCHANGE, ORDERS, ORDERS_END, TO_ACME_AS,
 };
+use super::setups::{FIRST, Starts};
 
 /// A text of no bytes.
 const TEXT_OF_NO_BYTES: WorkedNight = WorkedNight {
-    starts: (2, 1),
+    starts: FIRST,
     text: &[],
     acks: [&[], &[]],
     boxes: [&[], &[]],
     report: b"total interchanges 0 refused 0 groups 0 sets 0 accepted 0 held 0 outside 0\n",
-    next: [(1, 1), (1, 1)],
+    next: [(1, 1, 1), (1, 1, 1)],
     clean: true,
 };
 
 /// One order.
 const ONE_ORDER: WorkedNight = WorkedNight {
-    starts: (2, 1),
+    starts: FIRST,
     text: &[ORDER_IN_ITS_INTERCHANGE],
     acks: [&[ORDER_ACKNOWLEDGED], &[]],
     boxes: [&[], &[ORDER_FOR_BOLT]],
     report: b"interchange 1 at 0 from ACME control 000000007 accepted\ngroup PO 12 A sets 1 accepted 1\n\
         total interchanges 1 refused 0 groups 1 sets 1 accepted 1 held 0 outside 0\n",
-    next: [(2, 1), (2, 2)],
+    next: [(2, 2, 1), (2, 2, 2)],
     clean: true,
 };
 
 /// An order with CR LF behind each terminator.
 const ORDER_WITH_CR_LF_BEHIND_EACH_TERMINATOR: WorkedNight = WorkedNight {
-    starts: (2, 1),
+    starts: FIRST,
     text: &[
         FROM_ACME,
         b"\r\n",
@@ -42,13 +43,13 @@ const ORDER_WITH_CR_LF_BEHIND_EACH_TERMINATOR: WorkedNight = WorkedNight {
     boxes: [&[], &[ORDER_FOR_BOLT]],
     report: b"interchange 1 at 0 from ACME control 000000007 accepted\ngroup PO 12 A sets 1 accepted 1\n\
         total interchanges 1 refused 0 groups 1 sets 1 accepted 1 held 0 outside 0\n",
-    next: [(2, 1), (2, 2)],
+    next: [(2, 2, 1), (2, 2, 2)],
     clean: true,
 };
 
 /// An order whose terminator is LF.
 const ORDER_WHOSE_TERMINATOR_IS_LF: WorkedNight = WorkedNight {
-    starts: (2, 1),
+    starts: FIRST,
     text: &[
         b"ISA*00*          *00*          *01*ACME           *ZZ*HUB            *260228*0900*^*00501*000000007*0*P*>\n\
         GS*PO*ACME*BOLT*20260228*0900*12*X*005010\nST*850*0001\nBEG*00*SA*PO100**20260228\n\nPO1*1*5*EA*2.50\n\
@@ -58,13 +59,13 @@ const ORDER_WHOSE_TERMINATOR_IS_LF: WorkedNight = WorkedNight {
     boxes: [&[], &[ORDER_FOR_BOLT]],
     report: b"interchange 1 at 0 from ACME control 000000007 accepted\ngroup PO 12 A sets 1 accepted 1\n\
         total interchanges 1 refused 0 groups 1 sets 1 accepted 1 held 0 outside 0\n",
-    next: [(2, 1), (2, 2)],
+    next: [(2, 2, 1), (2, 2, 2)],
     clean: true,
 };
 
 /// An order from each of two partners.
 const ORDER_FROM_EACH_OF_TWO_PARTNERS: WorkedNight = WorkedNight {
-    starts: (2, 1),
+    starts: FIRST,
     text: &[
         ORDER_IN_ITS_INTERCHANGE,
         b"ISA|00|          |00|          |ZZ|BOLT           |ZZ|HUB            |260228|0915|^|00501|000000003|0|P|:!\
@@ -82,25 +83,25 @@ const ORDER_FROM_EACH_OF_TWO_PARTNERS: WorkedNight = WorkedNight {
     boxes: [
         &[
             b"ISA*00*          *00*          *ZZ*HUB            *01*ACME           *260301*1530*^*00501*000000002*0*P*>~\
-        GS*PO*BOLT*ACME*20260301*1530*1*X*005010~ST*850*0001~BEG*05*NE*B7**20260227~PO1**1*CA~SE*4*0001~GE*1*1~\
+        GS*PO*BOLT*ACME*20260301*1530*2*X*005010~ST*850*0001~BEG*05*NE*B7**20260227~PO1**1*CA~SE*4*0001~GE*1*2~\
         IEA*1*000000002~",
         ],
         &[
             b"ISA|00|          |00|          |ZZ|HUB            |ZZ|BOLT           |260301|1530|^|00501|000000002|0|P|:!\
-        GS|PO|ACME|BOLT|20260301|1530|1|X|005010!ST|850|0001!BEG|00|SA|PO100||20260228!PO1|1|5|EA|2.50!SE|4|0001!\
-        GE|1|1!IEA|1|000000002!",
+        GS|PO|ACME|BOLT|20260301|1530|2|X|005010!ST|850|0001!BEG|00|SA|PO100||20260228!PO1|1|5|EA|2.50!SE|4|0001!\
+        GE|1|2!IEA|1|000000002!",
         ],
     ],
     report: b"interchange 1 at 0 from ACME control 000000007 accepted\ngroup PO 12 A sets 1 accepted 1\n\
         interchange 2 at 236 from BOLT control 000000003 accepted\ngroup PO 3 A sets 1 accepted 1\n\
         total interchanges 2 refused 0 groups 2 sets 2 accepted 2 held 0 outside 0\n",
-    next: [(3, 2), (3, 2)],
+    next: [(3, 3, 2), (3, 3, 2)],
     clean: true,
 };
 
 /// A tolerated fault.
 const TOLERATED_FAULT: WorkedNight = WorkedNight {
-    starts: (2, 1),
+    starts: FIRST,
     text: &[
         FROM_ACME,
         ORDERS,
@@ -129,13 +130,17 @@ const TOLERATED_FAULT: WorkedNight = WorkedNight {
     ],
     report: b"interchange 1 at 0 from ACME control 000000007 accepted\ngroup PO 12 E sets 1 accepted 1\n\
         total interchanges 1 refused 0 groups 1 sets 1 accepted 1 held 0 outside 0\n",
-    next: [(2, 1), (2, 2)],
+    next: [(2, 2, 1), (2, 2, 2)],
     clean: true,
 };
 
 /// A cap of one, and counters that begin anew.
 const CAP_OF_ONE_AND_COUNTERS_THAT_BEGIN_ANEW: WorkedNight = WorkedNight {
-    starts: (1, 999_999_998),
+    starts: Starts {
+        cap: 1,
+        interchange: 999_999_998,
+        ..FIRST
+    },
     text: &[
         FROM_ACME,
         b"GS*PO*ACME*ACME*20260228*0900*12*X*005010~",
@@ -155,21 +160,126 @@ const CAP_OF_ONE_AND_COUNTERS_THAT_BEGIN_ANEW: WorkedNight = WorkedNight {
     boxes: [
         &[
             b"ISA*00*          *00*          *ZZ*HUB            *01*ACME           *260301*1530*^*00501*999999999*0*P*>~\
-        GS*PO*ACME*ACME*20260301*1530*1*X*005010~",
+        GS*PO*ACME*ACME*20260301*1530*2*X*005010~",
             ORDER,
-            b"GE*1*1~IEA*1*999999999~ISA*00*          *00*          *ZZ*HUB            *01*ACME           *260301*1530*^*005\
-        01*000000001*0*P*>~GS*PO*ACME*ACME*20260301*1530*1*X*005010~ST*850*0002~BEG*00*SA*PO100**20260228~\
-        PO1*1*5*EA*2.50~SE*4*0002~",
-            ACKNOWLEDGMENT_END,
+            b"GE*1*2~IEA*1*999999999~ISA*00*          *00*          *ZZ*HUB            *01*ACME           *260301*1530*^*005\
+        01*000000001*0*P*>~GS*PO*ACME*ACME*20260301*1530*3*X*005010~ST*850*0002~BEG*00*SA*PO100**20260228~\
+        PO1*1*5*EA*2.50~SE*4*0002~GE*1*3~IEA*1*000000001~",
             b"ISA*00*          *00*          *ZZ*HUB            *01*ACME           *260301*1530*^*00501*000000002*0*P*>~\
-        GS*PO*ACME*ACME*20260301*1530*1*X*005010~ST*850*0003~BEG*00*SA*PO100**20260228~PO1*1*5*EA*2.50~SE*4*0003~\
-        GE*1*1~IEA*1*000000002~",
+        GS*PO*ACME*ACME*20260301*1530*4*X*005010~ST*850*0003~BEG*00*SA*PO100**20260228~PO1*1*5*EA*2.50~SE*4*0003~\
+        GE*1*4~IEA*1*000000002~",
         ],
         &[],
     ],
     report: b"interchange 1 at 0 from ACME control 000000007 accepted\ngroup PO 12 A sets 3 accepted 3\n\
         total interchanges 1 refused 0 groups 1 sets 3 accepted 3 held 0 outside 0\n",
-    next: [(3, 4), (1, 1)],
+    next: [(3, 5, 4), (1, 1, 1)],
+    clean: true,
+};
+
+/// An order that asks for a TA1.
+const ORDER_THAT_ASKS_FOR_A_TA1: WorkedNight = WorkedNight {
+    starts: FIRST,
+    text: &[FROM_ACME_AS, b"000000007*1*P*>~", ORDERS, ORDER, ORDERS_END],
+    acks: [
+        &[
+            TO_ACME_AS,
+            b"000000001*0*P*>~TA1*000000007*260228*0900*A*000~GS*FA*HUB*ACME*20260301*1530*1*X*005010X231~\
+        ST*999*0001*005010X231~",
+            ANSWERED_ORDERS,
+            b"AK2*850*0001~IK5*A~AK9*A*1*1*1~SE*6*0001~",
+            ACKNOWLEDGMENT_END,
+        ],
+        &[],
+    ],
+    boxes: [&[], &[ORDER_FOR_BOLT]],
+    report: b"interchange 1 at 0 from ACME control 000000007 accepted\nta1 sent A 000\ngroup PO 12 A sets 1 accepted 1\n\
+        total interchanges 1 refused 0 groups 1 sets 1 accepted 1 held 0 outside 0\n",
+    next: [(2, 2, 1), (2, 2, 2)],
+    clean: true,
+};
+
+/// Two that ask for a TA1: one of received acknowledgments, which gets it alone, and one without a group, which gets none.
+const TWO_WITHOUT_ORDERS_THAT_ASK_FOR_A_TA1: WorkedNight = WorkedNight {
+    starts: FIRST,
+    text: &[
+        FROM_ACME_AS,
+        b"000000007*1*P*>~TA1*000000001*260228*0900*A*000~GS*FA*ACME*HUB*20260228*0900*5*X*005010X231~\
+        ST*999*0001*005010X231~SE*2*0001~GE*1*5~IEA*1*000000007~",
+        FROM_ACME_AS,
+        b"000000008*1*P*>~TA1*000000002*260228*0900*A*000~IEA*0*000000008~",
+    ],
+    acks: [
+        &[
+            TO_ACME_AS,
+            b"000000001*0*P*>~TA1*000000007*260228*0900*A*000~IEA*0*000000001~",
+        ],
+        &[],
+    ],
+    boxes: [&[], &[]],
+    report: b"interchange 1 at 0 from ACME control 000000007 accepted\nta1 sent A 000\nta1 1\n\
+        group FA 5 listed sets 1\ninterchange 2 at 238 from ACME control 000000008 accepted\nta1 1\n\
+        total interchanges 2 refused 0 groups 0 sets 0 accepted 0 held 0 outside 0\n",
+    next: [(2, 1, 1), (1, 1, 1)],
+    clean: true,
+};
+
+/// An order to two receivers, one of whom sent it.
+const ORDER_TO_TWO_RECEIVERS: WorkedNight = WorkedNight {
+    starts: Starts {
+        to: "[\"BOLT\", \"ACME\"]",
+        ..FIRST
+    },
+    text: &[ORDER_IN_ITS_INTERCHANGE],
+    acks: [&[ORDER_ACKNOWLEDGED], &[]],
+    boxes: [
+        &[
+            TO_ACME_AS,
+            b"000000002*0*P*>~GS*PO*ACME*ACME*20260301*1530*2*X*005010~",
+            ORDER,
+            b"GE*1*2~IEA*1*000000002~",
+        ],
+        &[ORDER_FOR_BOLT],
+    ],
+    report: b"interchange 1 at 0 from ACME control 000000007 accepted\ngroup PO 12 A sets 1 accepted 1\n\
+        total interchanges 1 refused 0 groups 1 sets 1 accepted 1 held 0 outside 0\n",
+    next: [(3, 3, 2), (2, 2, 2)],
+    clean: true,
+};
+
+/// A group counter that begins anew between an acknowledgment and a delivery.
+const GROUP_COUNTER_THAT_BEGINS_ANEW: WorkedNight = WorkedNight {
+    starts: Starts {
+        group: 999_999_999,
+        ..FIRST
+    },
+    text: &[
+        FROM_ACME,
+        b"GS*PO*ACME*ACME*20260228*0900*12*X*005010~",
+        ORDER,
+        ORDERS_END,
+    ],
+    acks: [
+        &[
+            TO_ACME_AS,
+            b"000000001*0*P*>~GS*FA*HUB*ACME*20260301*1530*999999999*X*005010X231~ST*999*0001*005010X231~",
+            ANSWERED_ORDERS,
+            b"AK2*850*0001~IK5*A~AK9*A*1*1*1~SE*6*0001~GE*1*999999999~IEA*1*000000001~",
+        ],
+        &[],
+    ],
+    boxes: [
+        &[
+            TO_ACME_AS,
+            b"000000002*0*P*>~GS*PO*ACME*ACME*20260301*1530*1*X*005010~",
+            ORDER,
+            b"GE*1*1~IEA*1*000000002~",
+        ],
+        &[],
+    ],
+    report: b"interchange 1 at 0 from ACME control 000000007 accepted\ngroup PO 12 A sets 1 accepted 1\n\
+        total interchanges 1 refused 0 groups 1 sets 1 accepted 1 held 0 outside 0\n",
+    next: [(3, 2, 2), (1, 1, 1)],
     clean: true,
 };
 
@@ -181,4 +291,8 @@ pub const NIGHTS: &[&WorkedNight] = &[
     &ORDER_FROM_EACH_OF_TWO_PARTNERS,
     &TOLERATED_FAULT,
     &CAP_OF_ONE_AND_COUNTERS_THAT_BEGIN_ANEW,
+    &ORDER_THAT_ASKS_FOR_A_TA1,
+    &TWO_WITHOUT_ORDERS_THAT_ASK_FOR_A_TA1,
+    &ORDER_TO_TWO_RECEIVERS,
+    &GROUP_COUNTER_THAT_BEGINS_ANEW,
 ];
