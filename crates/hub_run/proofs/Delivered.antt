@@ -25,7 +25,7 @@ use Rattle.judged_text.specs.Judged.{JudgedValue, PlacedValue, all_sets, delims_
 use Rattle.judged_text.specs.Judged.{standing_at, verdict_on}
 use Rattle.mailbox.specs.Mailbox.{code_by}
 use Rattle.mailbox.specs.Numbered.{sender_in}
-use Rattle.checked_text.specs.CheckedText.{CheckedInterchange, IsCheckedAs, acknowledged_to, judged}
+use Rattle.checked_text.specs.CheckedText.{CheckedInterchange, IsCheckedAs, acknowledged_to, groups_to, judged}
 use Rattle.checked_text.specs.Settled.{settled_faults}
 use Rattle.hub_run.specs.declared.night.Night.{Night}
 use Rattle.hub_run.specs.Night.{IsNight, box_of, sets_to}
@@ -208,7 +208,8 @@ boxes_read_by_night text setup at night sound moment is =
           let own = at_index (IsSoundPartner (length setup.guides)) setup.partners place partner at_place sound.partners in
           let sets = sets_to text setup is.known place in
           subst (AreSetsFound partner sets) (sym same)
-          (sets_are_found setup partner (length setup.guides) sound.hub own at moment (length (acknowledged_to place is.known)) sets
+          (sets_are_found setup partner (length setup.guides) sound.hub own at moment (length (acknowledged_to place is.known))
+          (groups_to (acknowledged_to place is.known)) sets
           (All-weaker (λ p. IsPlaced partner.delims text p × (is_delivered_to setup place p ≡ true)) (IsReady partner.delims setup)
           (λ p both. ready setup place partner text p at_place sound own both.0 both.1) sets
           (passing (IsPlaced partner.delims text) (is_delivered_to setup place) (all_sets (map (judged text) is.known))

@@ -7,15 +7,13 @@ use Rattle.partner_setup.specs.declared.partner.Partner.{Partner}
 use Rattle.partner_setup.specs.Setup.{SetupValue}
 use Rattle.mailbox.specs.Deliveries.{AreDelivered, delivered_to}
 use Rattle.judged_text.specs.Judged.{JudgedValue, PlacedValue}
-use Rattle.mailbox.specs.Mailbox.{box_text}
 use Rattle.night_report.specs.Report.{report_text}
-use Rattle.checked_text.specs.CheckedText.{CheckedInterchange, AreAcknowledgments, SentValues, acknowledged_to, acknowledgments_to}
-use Rattle.checked_text.specs.CheckedText.{nothing_sent}
+use Rattle.checked_text.specs.CheckedText.{CheckedInterchange, AreAcknowledgments, SentValues, acknowledgments_to, nothing_sent}
 use Rattle.checked_text.specs.Pairs.{ArePairs}
 use Rattle.checked_text.proofs.Pairing.{pairs_more}
 use Rattle.hub_run.specs.declared.night.Night.{Night}
-use Rattle.hub_run.specs.ByPlace.{box_by, next_by, sets_at}
-use Rattle.hub_run.specs.Night.{AreForPartners, IsNightOf, acks_of, box_of, counters_behind, judgements, next_of}
+use Rattle.hub_run.specs.ByPlace.{box_behind, box_by, next_behind, next_by, sent_at, sets_at}
+use Rattle.hub_run.specs.Night.{AreForPartners, IsNightOf, acks_of, box_of, judgements, next_of}
 
 for_partners : {A : Type 0} (setup : SetupValue) (f g : ℕ → Partner → A) (xs : List A)
     → ((place : ℕ) (p : Partner) → slice_get setup.partners place ≡ Some p → f place p ≡ g place p)
@@ -41,7 +39,7 @@ acks_are setup at known files are = record {
 
 files_at : (setup : SetupValue) (at : List ℕ) (known : List CheckedInterchange) (files : List SentValues) (n : ℕ) (p : Partner)
     → AreAcknowledgments setup at known files → slice_get setup.partners n ≡ Some p
-    → slice_index_or files n nothing_sent ≡ acknowledgments_to setup at known n p
+    → sent_at files n ≡ acknowledgments_to setup at known n p
 files_at setup at known files n p are at_p =
     get_or_from_slice_get files n (acknowledgments_to setup at known n p) nothing_sent (are.each n p at_p)
 
@@ -62,14 +60,13 @@ joined text setup at known js files lists outside night acknowledged judged deli
   acks = subst (λ (ts : List (List ℕ)). AreForPartners setup (acks_of setup at known) ts) (sym acks)
       (acks_are setup at known files acknowledged);
   boxes = for_partners setup (box_by setup at files lists) (box_of text setup at known) night.boxes (λ n p at_p.
-      ap (λ (s : SentValues). box_text setup p at s.count (sets_at lists n)) (files_at setup at known files n p acknowledged at_p)
-      ∙ ap (λ (ps : List PlacedValue). box_text setup p at (length (acknowledged_to n known)) ps)
+      ap (λ (s : SentValues). box_behind setup at s (sets_at lists n) p) (files_at setup at known files n p acknowledged at_p)
+      ∙ ap (λ (ps : List PlacedValue). box_behind setup at (acknowledgments_to setup at known n p) ps p)
       (lists_at setup text known js lists n p judged delivered at_p)) boxes;
   report = report ∙ ap (λ (xs : List JudgedValue). report_text setup xs outside) judged;
   next = for_partners setup (next_by files lists) (next_of text setup known) night.next (λ n p at_p.
-      ap (λ (s : SentValues). counters_behind p.counters p.cap s.count (length (sets_at lists n)))
-      (files_at setup at known files n p acknowledged at_p)
-      ∙ ap (λ (ps : List PlacedValue). counters_behind p.counters p.cap (length (acknowledged_to n known)) (length ps))
+      ap (λ (s : SentValues). next_behind s (sets_at lists n) p) (files_at setup at known files n p acknowledged at_p)
+      ∙ ap (λ (ps : List PlacedValue). next_behind (acknowledgments_to setup at known n p) ps p)
       (lists_at setup text known js lists n p judged delivered at_p)) next;
 }
 

@@ -16,11 +16,12 @@ pub mod QuotedElements
 pub mod QuotingFaults
 pub mod QuotingNames
 pub mod Reading
-pub mod Repeated
 pub mod ReadingNights
 pub mod ReadingSets
+pub mod Repeated
 pub mod SetTexts
 pub mod SettledSound
+pub mod Silent
 pub mod Sources
 pub mod SpanBytes
 pub mod Splitting
@@ -32,3 +33,4 @@ pub mod Together
 pub mod Written
 mod WorkedResponses
 mod WorkedSets
+mod WorkedTa1s

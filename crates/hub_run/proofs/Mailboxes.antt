@@ -194,37 +194,39 @@ module _ (setup : SetupValue) (p : Partner) (guides : ℕ) (hub_ids : are_ids se
       → IsMade d (groups_text setup p at g groups) (flat_map (map said) groups)
   groups_made g [] all = nothing_made d
   groups_made g (group ∷ groups) all =
-      made_behind d (delivered_group_text setup p at g group) (groups_text setup p at (g + 1) groups) (map said group)
-      (flat_map (map said) groups) (group_made g group (All-head (All Ready) group groups all))
+      made_behind d (delivered_group_text setup p at (num p.counters.group g) group) (groups_text setup p at (g + 1) groups) (map said group)
+      (flat_map (map said) groups) (group_made (num p.counters.group g) group (All-head (All Ready) group groups all))
       (groups_made (g + 1) groups (All-tail (All Ready) group groups all))
 
-  interchange_made : (number : ℕ) (sets : List NumberedValue) → All Ready sets
-      → IsMade d (delivered_text setup p at number sets) (map said sets)
-  interchange_made number sets all =
+  interchange_made : (number before : ℕ) (sets : List NumberedValue) → All Ready sets
+      → IsMade d (delivered_text setup p at number before sets) (map said sets)
+  interchange_made number before sets all =
       let groups : List (List NumberedValue) = groups_of sets in
       let head : IsMade d (segment_text d (isa e at number).id (isa e at number).elements) [] =
       other_made d (isa e at number) apart (readable_isa setup p guides hub_ids sound at moment number) refl in
-      let made = around (isa e at number) (iea_of (length groups) number) (groups_text setup p at 1 groups) (flat_map (map said) groups)
-      head
+      let made = around (isa e at number) (iea_of (length groups) number) (groups_text setup p at before groups)
+      (flat_map (map said) groups) head
       (other_made d (iea_of (length groups) number) apart (readable_iea_of (length groups) number) refl)
-      (groups_made 1 groups (groups_all Ready sets all)) in
-      subst (IsMade d (delivered_text setup p at number sets)) (groups_flat said sets)
-      (subst (λ (t : List ℕ). IsMade d (t ++ groups_text setup p at 1 groups ++ segment_text d (iea_of (length groups) number).id
+      (groups_made before groups (groups_all Ready sets all)) in
+      subst (IsMade d (delivered_text setup p at number before sets)) (groups_flat said sets)
+      (subst (λ (t : List ℕ). IsMade d (t ++ groups_text setup p at before groups ++ segment_text d (iea_of (length groups) number).id
       (iea_of (length groups) number).elements) (flat_map (map said) groups)) (sym (isa_text e at number)) made)
 
-  interchanges_made : (k : ℕ) (chunks : List (List NumberedValue)) → All (All Ready) chunks
-      → IsMade d (delivered_texts setup p at k chunks) (flat_map (map said) chunks)
-  interchanges_made k [] all = nothing_made d
-  interchanges_made k (sets ∷ more) all =
-      made_behind d (delivered_text setup p at (num p.counters.interchange k) sets) (delivered_texts setup p at (k + 1) more)
-      (map said sets) (flat_map (map said) more) (interchange_made (num p.counters.interchange k) sets (All-head (All Ready) sets more all))
-      (interchanges_made (k + 1) more (All-tail (All Ready) sets more all))
+  interchanges_made : (k before : ℕ) (chunks : List (List NumberedValue)) → All (All Ready) chunks
+      → IsMade d (delivered_texts setup p at k before chunks) (flat_map (map said) chunks)
+  interchanges_made k before [] all = nothing_made d
+  interchanges_made k before (sets ∷ more) all =
+      let behind : ℕ = before + length (groups_of sets) in
+      made_behind d (delivered_text setup p at (num p.counters.interchange k) before sets) (delivered_texts setup p at (k + 1) behind more)
+      (map said sets) (flat_map (map said) more)
+      (interchange_made (num p.counters.interchange k) before sets (All-head (All Ready) sets more all))
+      (interchanges_made (k + 1) behind more (All-tail (All Ready) sets more all))
 
-  pub sets_are_found : (acknowledgments : ℕ) (sets : List PlacedValue) → All (IsReady d setup) sets
-      → AreSetsFound p sets (box_text setup p at acknowledgments sets)
-  sets_are_found acknowledgments sets all =
+  pub sets_are_found : (acknowledgments groups : ℕ) (sets : List PlacedValue) → All (IsReady d setup) sets
+      → AreSetsFound p sets (box_text setup p at acknowledgments groups sets)
+  sets_are_found acknowledgments groups sets all =
       let numbered : List NumberedValue = numbered_from 0 sets in
       let chunks : List (List NumberedValue) = interchanges_of p.cap numbered in
-      made_found d (box_text setup p at acknowledgments sets) (flat_map (map said) chunks)
-      (interchanges_made acknowledgments chunks (chunks_all Ready p.cap numbered (numbered_all (IsReady d setup) 0 sets all)))
+      made_found d (box_text setup p at acknowledgments groups sets) (flat_map (map said) chunks)
+      (interchanges_made acknowledgments groups chunks (chunks_all Ready p.cap numbered (numbered_all (IsReady d setup) 0 sets all)))
       ∙ chunks_flat said p.cap (length numbered) numbered sound.cap_least (omega arith)

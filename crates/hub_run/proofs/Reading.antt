@@ -23,7 +23,7 @@ front_at [] [] (suc n) = refl
 front_at [] (y ∷ ys) n = refl
 front_at (b ∷ bs) rest n = refl
 
-trimmed_at : (xs : List (List ℕ)) (n : ℕ) → slice_index_or (trimmed xs) n [] ≡ slice_index_or xs n []
+pub trimmed_at : (xs : List (List ℕ)) (n : ℕ) → slice_index_or (trimmed xs) n [] ≡ slice_index_or xs n []
 trimmed_at [] n = refl
 trimmed_at (x ∷ xs) zero = front_at x (trimmed xs) zero
 trimmed_at (x ∷ xs) (suc n) = front_at x (trimmed xs) (suc n) ∙ trimmed_at xs n

@@ -116,7 +116,7 @@ answers_something sent (g ∷ gs) (Some a ∷ more) are =
 pub responses_are_there : (text : List ℕ) (setup : SetupValue) (e : IndexEntry) (fault : Option InterchangeFault) (s : ℕ)
     (answers : List (Option AnsweredGroup)) → AreAnswersBy text setup e fault (Some s) answers
     → has_any (present answers) ≡ (is_none fault && list_any (λ g. not (is_fa g)) e.interchange.content.groups)
-responses_are_there text setup e (Some f) s answers are = ap (λ (as : List (Option AnsweredGroup)). has_any (present as)) are
+responses_are_there text setup e (Some f) s answers are = ap (λ (given : List (Option AnsweredGroup)). has_any (present given)) are
 responses_are_there text setup e None s answers are =
     answers_something (sent_by text setup s e) e.interchange.content.groups answers
     (answered_anywhere (sent_by text setup s e) e.interchange.content.groups answers are)
@@ -176,7 +176,7 @@ each_told : (text : List ℕ) (setup : SetupValue) (place : ℕ) (e : IndexEntry
     → AreAllPairs (R d (sent_by text setup place e) 1)
     (told_groups [] (if is_none fault then e.interchange.content.groups else [])) (reports_from d 1 (present answers))
 each_told text setup place e d (Some f) answers headers are =
-    subst (λ (as : List (Option AnsweredGroup)). AreAllPairs (R d (sent_by text setup place e) 1) [] (reports_from d 1 (present as)))
+    subst (λ (given : List (Option AnsweredGroup)). AreAllPairs (R d (sent_by text setup place e) 1) [] (reports_from d 1 (present given)))
     (sym are) (no_pairs (R d (sent_by text setup place e) 1))
 each_told text setup place e d None answers headers are =
     reports_told d (sent_by text setup place e) 1 [] e.interchange.content.groups answers headers are

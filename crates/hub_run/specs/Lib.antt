@@ -5,5 +5,6 @@ pub mod ReadBack
 pub mod Refusals
 pub mod Responses
 pub mod SetsRead
+pub mod Ta1sRead
 pub mod Tallied
 pub mod Told

@@ -8,6 +8,7 @@ ghost use Rattle.hub_run.specs.Night.{IsNight};
 ghost use Rattle.hub_run.specs.Quotable.{IsGuidePlain};
 ghost use Rattle.hub_run.specs.ReadBack.{AreReadBack, AreSetsRead};
 ghost use Rattle.hub_run.specs.SetsRead.{AreBoxesRead};
+ghost use Rattle.hub_run.specs.Ta1sRead.{AreTa1sRead, AreTa1sReadBack};
 ghost use Rattle.hub_run.specs.Tallied.{AreCountersTallied, AreNumbersTallied};
 ghost use Rattle.hub_run.specs.Told.{AreSetsTold};
 
@@ -34,15 +35,26 @@ pub fn acknowledgments_are_read_as_sets_meet()
         → IsNight text setup at night → AreReadBack text setup night.acks }
 {}
 
-/// Where each guide of a sound setup has letters and digits alone as reference numbers, each partner reads in its acknowledgments just what
-/// becomes of its sets (X12.6, data element reference number). It does nothing: its contract is the law.
-pub fn plain_references_are_quoted()
-    ensures { (text : List ℕ) (setup : SetupValue) (acknowledgments : List (List ℕ)) → IsSoundSetup setup → All IsGuidePlain setup.guides
-        → AreReadBack text setup acknowledgments → AreSetsRead text setup acknowledgments }
+/// A partner that reads a night's acknowledgments, by its delimiters, finds in them exactly one TA1 for each of its interchanges that is
+/// answered, in their order, and no other: ISA13, ISA09 and ISA10 of the interchange, A or R, and the note (X12.5, interchange
+/// acknowledgment). That is so where its responses can be read. It does nothing: its contract is the law.
+pub fn ta1s_are_read_as_interchanges_are_answered()
+    ensures { (text : List ℕ) (setup : SetupValue) (at : List ℕ) (night : Night) → IsSoundSetup setup → IsMoment at
+        → IsNight text setup at night → AreTa1sReadBack text setup night.acks }
 {}
 
-/// The next counters of a night are, partner by partner, those of the tally of its acknowledgments and its delivered sets, where there
-/// are fewer than 2^64 of them; and in whatever order these are told of all partners, a partner's tally among those of all tells its first
+/// Where each guide of a sound setup has letters and digits alone as reference numbers, each partner reads in its acknowledgments just what
+/// becomes of its sets (X12.6, data element reference number) and just the TA1s of its interchanges (X12.5). It does nothing: its contract
+/// is the law.
+pub fn plain_references_are_quoted()
+    ensures sets { (text : List ℕ) (setup : SetupValue) (acknowledgments : List (List ℕ)) → IsSoundSetup setup → All IsGuidePlain setup.guides
+        → AreReadBack text setup acknowledgments → AreSetsRead text setup acknowledgments }
+    ensures ta1s { (text : List ℕ) (setup : SetupValue) (acknowledgments : List (List ℕ)) → IsSoundSetup setup → All IsGuidePlain setup.guides
+        → AreTa1sReadBack text setup acknowledgments → AreTa1sRead text setup acknowledgments }
+{}
+
+/// The next counters of a night are, partner by partner, those of the tally of its acknowledgments, with a group or without, and its
+/// delivered sets, where there are fewer than 2^64 of them and an interchange holds some; and in whatever order these are told of all partners, a partner's tally among those of all tells its first
 /// numbers and its next counters (own). It does nothing: its contract is the law.
 pub fn counters_are_tallied()
     ensures counters { AreCountersTallied }

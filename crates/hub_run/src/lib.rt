@@ -11,6 +11,8 @@
 //! - a partner that reads its acknowledgments by its delimiters finds in them ST01, ST02 and IK501 of each of its sets that it is told
 //!   of, in their order, and no other response (`acknowledgments_are_read_as_sets_meet`), where its element separator and terminator
 //!   stand in no reference number of its guides, so in none of letters and digits (`plain_references_are_quoted`);
+//! - it finds in them too exactly one TA1 for each of its interchanges that is answered, in their order, with ISA13, A or R and the note
+//!   (`ta1s_are_read_as_interchanges_are_answered`);
 //! - a partner that reads its mailbox by its delimiters finds in it just the sets that are delivered to it, in their order, each with what
 //!   its sender wrote, down to the components, but for ST02 and SE (`mailboxes_are_read_as_sets`);
 //! - its next counters are those of the tallies of what it sends, and a tally of that among all, in whatever order they are told,
@@ -20,9 +22,8 @@
 //! X12.5, interchange; X12.6, functional group and transaction set; 999 guide (005010X231).
 #![tactic(auto)]
 
-mod boxes;
+mod closing;
 mod laws;
-mod next;
 mod night;
 mod plain;
 mod run_fault;
@@ -32,6 +33,7 @@ pub use hub_kinds::within_limit;
 pub use laws::{
     acknowledgments_are_read_as_sets_meet, counters_are_tallied, mailboxes_are_read_as_sets,
     night_is_one, plain_references_are_quoted, sets_are_told_as_they_meet,
+    ta1s_are_read_as_interchanges_are_answered,
 };
 pub use night::Night;
 pub use night_report::is_clean;

@@ -4,6 +4,7 @@ ghost use Rattle.partner_setup.specs.Sound.{IsSoundSetup};
 ghost use Rattle.hub_run.specs.Night.{IsNight};
 ghost use Rattle.hub_run.specs.ReadBack.{AreReadBack};
 ghost use Rattle.hub_run.specs.SetsRead.{AreBoxesRead};
+ghost use Rattle.hub_run.specs.Ta1sRead.{AreTa1sReadBack};
 ghost use Rattle.hub_run.specs.Told.{AreSetsTold};
 
 use crate::night::Night;
@@ -18,14 +19,15 @@ use std::alloc::Global;
 
 /// The night of a text that is read front to back on one thread, by a setup and at a moment. A text of more than `LONGEST_TEXT`
 /// bytes is refused; the only other error is want of memory. The bytes of the acknowledgments tell of each set that it is accepted
-/// (IK501 is A) exactly where it meets its guide, and a partner that reads its own finds just that of its sets. In its mailbox it finds
-/// just the sets that are delivered to it, as their senders wrote them. X12.5, interchange; X12.6, functional group and transaction set;
+/// (IK501 is A) exactly where it meets its guide, and a partner that reads its own finds just that of its sets, and one TA1 for each of
+/// its interchanges that is answered. In its mailbox it finds just the sets that are delivered to it, as their senders wrote them. X12.5, interchange; X12.6, functional group and transaction set;
 /// 999 guide (005010X231).
 pub fn run_plain(alloc: Global, text: &[u8], setup: &Setup, at: &At) -> Result<Night, RunFault>
     ensures too_long { IsErrOf result RunFault.InputTooLong ↔ (LONGEST_TEXT < length text.now) }
     ensures night { IfOk result (IsNight text.now setup.now at.now) }
     ensures told { IfOk result (λ night. AreSetsTold text.now setup.now at.now night.acks) }
     ensures read { IfOk result (λ night. AreReadBack text.now setup.now night.acks) }
+    ensures answered { IfOk result (λ night. AreTa1sReadBack text.now setup.now night.acks) }
     ensures found { IfOk result (λ night. AreBoxesRead text.now setup.now night.boxes) }
 {
     if !within_limit(text.len() as u64) {

@@ -3,8 +3,7 @@ ghost use Rattle.std.specs.List.{All};
 ghost use Rattle.env_index.specs.Words.{HasSpans};
 ghost use Rattle.hub_run.specs.Night.{IsNightIn};
 
-use crate::boxes::boxes_of;
-use crate::next::next_of;
+use crate::closing::close_all;
 use crate::night::Night;
 use checked_text::{Acknowledgments, check_text};
 use env_index::Index;
@@ -41,13 +40,12 @@ pub(crate) fn write_night<'a>(
     let files = checked.acknowledgments;
     let report = report_text(alloc, setup, interchanges.as_slice(), index.outside())?;
     let lists = deliver(alloc, setup, interchanges.as_slice())?;
-    let boxes = boxes_of(alloc, setup, at, files.as_slice(), lists.as_slice())?;
-    let next = next_of(alloc, setup, files.as_slice(), lists.as_slice())?;
+    let closed = close_all(alloc, setup, at, files.as_slice(), lists.as_slice())?;
     let acks = texts_of(alloc, files)?;
     Ok(Night {
         acks,
-        boxes,
+        boxes: closed.boxes,
         report,
-        next,
+        next: closed.next,
     })
 }

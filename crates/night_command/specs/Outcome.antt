@@ -4,6 +4,7 @@ use Rattle.std.specs.Io.KnownBytes.{Appends}
 use Rattle.hub_kinds.specs.declared.limits.TheConstants.{LONGEST_TEXT}
 use Rattle.hub_run.specs.Night.{IsNight}
 use Rattle.hub_run.specs.ReadBack.{AreSetsRead}
+use Rattle.hub_run.specs.Ta1sRead.{AreTa1sRead}
 use Rattle.hub_run.specs.declared.night.Night.{Night}
 use Rattle.night_report.specs.Clean.{is_clean, last_of, lines_of}
 use Rattle.partner_setup.specs.Setup.{SetupValue}
@@ -32,7 +33,8 @@ status_of (Shown text) = 0
 status_of (Ran night) = if is_clean night.report then 0 else 1
 
 -- the night of some text that isn't too long, at the moment of the options and by a setup that some files make, whose guides have the
--- paths of the options; each partner reads in its acknowledgments just what becomes of its sets
+-- paths of the options; each partner reads in its acknowledgments just what becomes of its sets, and one TA1 for each of its interchanges
+-- that is answered
 pub record IsNightBy (options : Options) (night : Night) : Type 0 where
   pub setup : SetupValue
   pub made : IsSetupAt (guide_paths options) setup
@@ -40,6 +42,7 @@ pub record IsNightBy (options : Options) (night : Night) : Type 0 where
   pub within : length text ≤ LONGEST_TEXT
   pub is_night : IsNight text setup options.at night
   pub read : AreSetsRead text setup night.acks
+  pub answered : AreTa1sRead text setup night.acks
 
 -- such a night was run: what was printed is the last line of its report, and the status is its own
 pub record IsPrinted (options : Options) (status : ℕ) (was is : Option (List ℕ)) : Type 0 where
@@ -48,9 +51,10 @@ pub record IsPrinted (options : Options) (status : ℕ) (was is : Option (List �
   pub own_status : status ≡ status_of (Ran night)
   pub printed : Appends was is (text_of (Ran night))
 
--- where files make the setup, each partner reads in its acknowledgments just what becomes of its sets
+-- where files make the setup, each partner reads in its acknowledgments just what becomes of its sets, and its TA1s
 abbrev pub IsReadByFiles : (text : List ℕ) → SetupValue → Night → Type 0
-IsReadByFiles text setup night = (paths : List (List ℕ)) → IsSetupAt paths setup → AreSetsRead text setup night.acks
+IsReadByFiles text setup night =
+    (paths : List (List ℕ)) → IsSetupAt paths setup → AreSetsRead text setup night.acks × AreTa1sRead text setup night.acks
 
 -- a night is given: it is that of a text, a setup and a moment, which each partner reads so, its files are put behind what the folder had,
 -- the last line of its report is printed, and the status is its own

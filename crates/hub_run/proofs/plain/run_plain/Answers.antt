@@ -1,5 +1,5 @@
 use Rattle.hub_run.proofs.Delivered.{boxes_read_by_night}
-use Rattle.hub_run.proofs.ReadingNights.{read_by_night}
+use Rattle.hub_run.proofs.ReadingNights.{read_by_night, ta1s_read_by_night}
 use Rattle.hub_run.proofs.TellingNights.{told_by_night}
 use Rattle.hub_run.proofs.plain.run_plain.Goals as goal
 
@@ -11,6 +11,11 @@ pub returns-clause-read : goal.returns-clause-read
 returns-clause-read c =
     read_by_night c.args.text.now c.args.setup.now c.args.at.now c.in_ok-night.night c.are_sound.ensures.setup c.are_sound.ensures.moment
     c.in_ok-night.ensures
+
+pub returns-clause-answered : goal.returns-clause-answered
+returns-clause-answered c =
+    ta1s_read_by_night c.args.text.now c.args.setup.now c.args.at.now c.in_ok-night.night c.are_sound.ensures.setup
+    c.are_sound.ensures.moment c.in_ok-night.ensures
 
 pub returns-clause-found : goal.returns-clause-found
 returns-clause-found c =

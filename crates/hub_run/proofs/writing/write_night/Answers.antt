@@ -1,4 +1,6 @@
 use Rattle.std.proofs.Common.{◌≡◌, ℕ, List, ap, subst, ◌∙◌}
+use Rattle.hub_kinds.specs.declared.counters.Counters.{Counters}
+use Rattle.partner_setup.specs.declared.partner.Partner.{Partner}
 use Rattle.mailbox.specs.Deliveries.{AreDelivered}
 use Rattle.judged_text.specs.Judged.{JudgedValue, PlacedValue}
 use Rattle.night_report.specs.Report.{report_text}
@@ -18,14 +20,12 @@ returns c =
     let lists : List (List PlacedValue) = c.in_ok-lists.lists.items in
     let delivered : AreDelivered setup xs lists =
     subst (λ (ys : List JudgedValue). AreDelivered setup ys lists) c.as_slice-2.ensures.value c.in_ok-lists.ensures in
-    let boxes : AreForPartners setup (box_by setup at files lists) c.in_ok-boxes.boxes =
-    subst (λ (fs : List SentValues). AreForPartners setup (box_by setup at fs lists) c.in_ok-boxes.boxes) c.as_slice-3.ensures.value
-    (subst (λ (ls : List (List PlacedValue)). AreForPartners setup (box_by setup at c.as_slice-3.result.now ls) c.in_ok-boxes.boxes)
-    c.as_slice-4.ensures.value c.in_ok-boxes.ensures) in
-    let next : AreForPartners setup (next_by files lists) c.in_ok-next.next =
-    subst (λ (fs : List SentValues). AreForPartners setup (next_by fs lists) c.in_ok-next.next) c.as_slice-5.ensures.value
-    (subst (λ (ls : List (List PlacedValue)). AreForPartners setup (next_by c.as_slice-5.result.now ls) c.in_ok-next.next)
-    c.as_slice-6.ensures.value c.in_ok-next.ensures) in
+    let kept : (f : ℕ → Partner → List ℕ) → (g : ℕ → Partner → Counters) → Type 0 =
+    λ f g. AreForPartners setup f c.in_ok-closed.closed.boxes × AreForPartners setup g c.in_ok-closed.closed.next in
+    let closed : kept (box_by setup at files lists) (next_by files lists) =
+    subst (λ (fs : List SentValues). kept (box_by setup at fs lists) (next_by fs lists)) c.as_slice-3.ensures.value
+    (subst (λ (ls : List (List PlacedValue)). kept (box_by setup at c.as_slice-3.result.now ls) (next_by c.as_slice-3.result.now ls))
+    c.as_slice-4.ensures.value (c.in_ok-closed.ensures.boxes, c.in_ok-closed.ensures.next)) in
     let report : c.in_ok-report.report ≡ report_text setup xs c.args.index.now.outside = c.in_ok-report.ensures
     ∙ ap (λ (ys : List JudgedValue). report_text setup ys c.outside.result) c.as_slice.ensures.value
     ∙ ap (λ (n : ℕ). report_text setup xs n) c.outside.ensures in
@@ -34,5 +34,5 @@ returns c =
       answered = checked.are;
       is = joined c.args.index.now.text setup at checked.answered xs files lists c.args.index.now.outside _ checked.acknowledged
           checked.judged
-          delivered c.in_ok-acks.ensures boxes report next;
+          delivered c.in_ok-acks.ensures closed.0 report closed.1;
     }

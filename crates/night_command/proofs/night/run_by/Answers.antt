@@ -14,7 +14,8 @@ returns-in-Ok-clause-printed g c clean =
         text = c.as_slice.result.now;
         within = within;
         is_night = given.is_night;
-        read = given.read _ c.requires.made;
+        read = (given.read _ c.requires.made).0;
+        answered = (given.read _ c.requires.made).1;
       };
       own_status = given.own_status;
       printed = given.printed;

@@ -1,9 +1,11 @@
 use Rattle.std.proofs.Common.{◌≡◌, length}
 use Rattle.checked_text.specs.Pairs.{ArePairs}
-use Rattle.hub_run.specs.ByPlace.{box_by}
-use Rattle.hub_run.proofs.boxes.boxes_of.Given as goal
+use Rattle.hub_run.specs.ByPlace.{box_by, next_by}
+use Rattle.hub_run.proofs.closing.close_all.Given as goal
 
 abbrev pub invariant-loop-place : goal.invariant-loop-place
 invariant-loop-place l =
     ArePairs (λ place p text. text ≡ box_by l.setup l.at l.files l.lists place p) l.setup.partners l.boxes.items
     × (length l.boxes.items ≡ l.place)
+    × ArePairs (λ place p counters. counters ≡ next_by l.files l.lists place p) l.setup.partners l.next.items
+    × (length l.next.items ≡ l.place)
