@@ -1,8 +1,8 @@
 //! Nights of texts that are accepted.
 use super::night::WorkedNight;
 use super::pieces::{
-    ACKNOWLEDGMENT, ACKNOWLEDGMENT_END, ANSWERED_ORDERS, FROM_ACME, FROM_ACME_AS, ORDER,
-    ORDER_ACKNOWLEDGED, ORDER_FOR_BOLT, ORDER_IN_ITS_INTERCHANGE, ORDERS, ORDERS_END, TO_ACME_AS,
+    ACKNOWLEDGMENT, ACKNOWLEDGMENT_END, ANSWERED_ORDERS, FROM_ACME, ORDER, ORDER_ACKNOWLEDGED,
+    ORDER_FOR_BOLT, ORDER_IN_ITS_INTERCHANGE, ORDERS, ORDERS_END,
 };
 use super::setups::{FIRST, Starts};
 
@@ -177,112 +177,6 @@ const CAP_OF_ONE_AND_COUNTERS_THAT_BEGIN_ANEW: WorkedNight = WorkedNight {
     clean: true,
 };
 
-/// An order that asks for a TA1.
-const ORDER_THAT_ASKS_FOR_A_TA1: WorkedNight = WorkedNight {
-    starts: FIRST,
-    text: &[FROM_ACME_AS, b"000000007*1*P*>~", ORDERS, ORDER, ORDERS_END],
-    acks: [
-        &[
-            TO_ACME_AS,
-            b"000000001*0*P*>~TA1*000000007*260228*0900*A*000~GS*FA*HUB*ACME*20260301*1530*1*X*005010X231~\
-        ST*999*0001*005010X231~",
-            ANSWERED_ORDERS,
-            b"AK2*850*0001~IK5*A~AK9*A*1*1*1~SE*6*0001~",
-            ACKNOWLEDGMENT_END,
-        ],
-        &[],
-    ],
-    boxes: [&[], &[ORDER_FOR_BOLT]],
-    report: b"interchange 1 at 0 from ACME control 000000007 accepted\nta1 sent A 000\ngroup PO 12 A sets 1 accepted 1\n\
-        total interchanges 1 refused 0 groups 1 sets 1 accepted 1 held 0 outside 0\n",
-    next: [(2, 2, 1), (2, 2, 2)],
-    clean: true,
-};
-
-/// Two that ask for a TA1: one of received acknowledgments, which gets it alone, and one without a group, which gets none.
-const TWO_WITHOUT_ORDERS_THAT_ASK_FOR_A_TA1: WorkedNight = WorkedNight {
-    starts: FIRST,
-    text: &[
-        FROM_ACME_AS,
-        b"000000007*1*P*>~TA1*000000001*260228*0900*A*000~GS*FA*ACME*HUB*20260228*0900*5*X*005010X231~\
-        ST*999*0001*005010X231~SE*2*0001~GE*1*5~IEA*1*000000007~",
-        FROM_ACME_AS,
-        b"000000008*1*P*>~TA1*000000002*260228*0900*A*000~IEA*0*000000008~",
-    ],
-    acks: [
-        &[
-            TO_ACME_AS,
-            b"000000001*0*P*>~TA1*000000007*260228*0900*A*000~IEA*0*000000001~",
-        ],
-        &[],
-    ],
-    boxes: [&[], &[]],
-    report: b"interchange 1 at 0 from ACME control 000000007 accepted\nta1 sent A 000\nta1 1\n\
-        group FA 5 listed sets 1\ninterchange 2 at 238 from ACME control 000000008 accepted\nta1 1\n\
-        total interchanges 2 refused 0 groups 0 sets 0 accepted 0 held 0 outside 0\n",
-    next: [(2, 1, 1), (1, 1, 1)],
-    clean: true,
-};
-
-/// An order to two receivers, one of whom sent it.
-const ORDER_TO_TWO_RECEIVERS: WorkedNight = WorkedNight {
-    starts: Starts {
-        to: "[\"BOLT\", \"ACME\"]",
-        ..FIRST
-    },
-    text: &[ORDER_IN_ITS_INTERCHANGE],
-    acks: [&[ORDER_ACKNOWLEDGED], &[]],
-    boxes: [
-        &[
-            TO_ACME_AS,
-            b"000000002*0*P*>~GS*PO*ACME*ACME*20260301*1530*2*X*005010~",
-            ORDER,
-            b"GE*1*2~IEA*1*000000002~",
-        ],
-        &[ORDER_FOR_BOLT],
-    ],
-    report: b"interchange 1 at 0 from ACME control 000000007 accepted\ngroup PO 12 A sets 1 accepted 1\n\
-        total interchanges 1 refused 0 groups 1 sets 1 accepted 1 held 0 outside 0\n",
-    next: [(3, 3, 2), (2, 2, 2)],
-    clean: true,
-};
-
-/// A group counter that begins anew between an acknowledgment and a delivery.
-const GROUP_COUNTER_THAT_BEGINS_ANEW: WorkedNight = WorkedNight {
-    starts: Starts {
-        group: 999_999_999,
-        ..FIRST
-    },
-    text: &[
-        FROM_ACME,
-        b"GS*PO*ACME*ACME*20260228*0900*12*X*005010~",
-        ORDER,
-        ORDERS_END,
-    ],
-    acks: [
-        &[
-            TO_ACME_AS,
-            b"000000001*0*P*>~GS*FA*HUB*ACME*20260301*1530*999999999*X*005010X231~ST*999*0001*005010X231~",
-            ANSWERED_ORDERS,
-            b"AK2*850*0001~IK5*A~AK9*A*1*1*1~SE*6*0001~GE*1*999999999~IEA*1*000000001~",
-        ],
-        &[],
-    ],
-    boxes: [
-        &[
-            TO_ACME_AS,
-            b"000000002*0*P*>~GS*PO*ACME*ACME*20260301*1530*1*X*005010~",
-            ORDER,
-            b"GE*1*1~IEA*1*000000002~",
-        ],
-        &[],
-    ],
-    report: b"interchange 1 at 0 from ACME control 000000007 accepted\ngroup PO 12 A sets 1 accepted 1\n\
-        total interchanges 1 refused 0 groups 1 sets 1 accepted 1 held 0 outside 0\n",
-    next: [(3, 2, 2), (1, 1, 1)],
-    clean: true,
-};
-
 pub const NIGHTS: &[&WorkedNight] = &[
     &TEXT_OF_NO_BYTES,
     &ONE_ORDER,
@@ -291,8 +185,4 @@ pub const NIGHTS: &[&WorkedNight] = &[
     &ORDER_FROM_EACH_OF_TWO_PARTNERS,
     &TOLERATED_FAULT,
     &CAP_OF_ONE_AND_COUNTERS_THAT_BEGIN_ANEW,
-    &ORDER_THAT_ASKS_FOR_A_TA1,
-    &TWO_WITHOUT_ORDERS_THAT_ASK_FOR_A_TA1,
-    &ORDER_TO_TWO_RECEIVERS,
-    &GROUP_COUNTER_THAT_BEGINS_ANEW,
 ];

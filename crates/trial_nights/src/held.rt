@@ -2,9 +2,9 @@
 use super::night::WorkedNight;
 use super::pieces::{
     FROM_ACME, ORDER, ORDER_ACKNOWLEDGED, ORDER_FOR_BOLT, ORDER_IN_ITS_INTERCHANGE, ORDERS,
-    ORDERS_END, TO_ACME_AS,
+    ORDERS_END,
 };
-use super::setups::{FIRST, Starts};
+use super::setups::FIRST;
 
 /// A header within an element.
 const HEADER_WITHIN_AN_ELEMENT: WorkedNight = WorkedNight {
@@ -42,33 +42,6 @@ const ELEMENT_SEPARATOR_OF_ITS_RECEIVER: WorkedNight = WorkedNight {
     clean: false,
 };
 
-/// The element separator of one of its two receivers.
-const ELEMENT_SEPARATOR_OF_ONE_OF_TWO_RECEIVERS: WorkedNight = WorkedNight {
-    starts: Starts {
-        to: "[\"BOLT\", \"ACME\"]",
-        ..FIRST
-    },
-    text: &[
-        FROM_ACME,
-        ORDERS,
-        b"ST*850*0001~BEG*00*SA*PO|7**20260228~PO1*1*5*EA*2.50~SE*4*0001~",
-        ORDERS_END,
-    ],
-    acks: [&[ORDER_ACKNOWLEDGED], &[]],
-    boxes: [
-        &[
-            TO_ACME_AS,
-            b"000000002*0*P*>~GS*PO*ACME*ACME*20260301*1530*2*X*005010~ST*850*0001~BEG*00*SA*PO|7**20260228~\
-        PO1*1*5*EA*2.50~SE*4*0001~GE*1*2~IEA*1*000000002~",
-        ],
-        &[],
-    ],
-    report: b"interchange 1 at 0 from ACME control 000000007 accepted\ngroup PO 12 A sets 1 accepted 1\n\
-        held set 1 delimiter BOLT\ntotal interchanges 1 refused 0 groups 1 sets 1 accepted 1 held 1 outside 0\n",
-    next: [(3, 3, 2), (1, 1, 1)],
-    clean: false,
-};
-
 /// A receiver without a route.
 const RECEIVER_WITHOUT_A_ROUTE: WorkedNight = WorkedNight {
     starts: FIRST,
@@ -101,7 +74,6 @@ const BYTES_OUTSIDE_OF_INTERCHANGES: WorkedNight = WorkedNight {
 pub const NIGHTS: &[&WorkedNight] = &[
     &HEADER_WITHIN_AN_ELEMENT,
     &ELEMENT_SEPARATOR_OF_ITS_RECEIVER,
-    &ELEMENT_SEPARATOR_OF_ONE_OF_TWO_RECEIVERS,
     &RECEIVER_WITHOUT_A_ROUTE,
     &BYTES_OUTSIDE_OF_INTERCHANGES,
 ];

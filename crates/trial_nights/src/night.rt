@@ -1,6 +1,6 @@
 //! A worked night, and its comparison with what `run_plain` gives.
 use super::setups::{Starts, two_partners};
-use super::{accepted, held, refused, rejected};
+use super::{accepted, answered, held, receivers, refused, rejected};
 use hub_kinds::{Counters, Text};
 use hub_run::{Night, RunFault, run_plain};
 use moment::At;
@@ -126,6 +126,16 @@ fn nights_of_what_nobody_can_check(rt: HostRuntime) -> Result<(), Fail> {
 #[test]
 fn nights_of_rejected_sets(rt: HostRuntime) -> Result<(), Fail> {
     expect_nights(rt.alloc(), rejected::NIGHTS)
+}
+
+#[test]
+fn nights_of_interchanges_that_are_answered(rt: HostRuntime) -> Result<(), Fail> {
+    expect_nights(rt.alloc(), answered::NIGHTS)
+}
+
+#[test]
+fn nights_of_two_receivers(rt: HostRuntime) -> Result<(), Fail> {
+    expect_nights(rt.alloc(), receivers::NIGHTS)
 }
 
 /// Why a run gives nothing, by numbers.

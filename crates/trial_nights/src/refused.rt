@@ -1,8 +1,8 @@
 //! Nights of interchanges, groups and sets that nobody can check.
 use super::night::WorkedNight;
 use super::pieces::{
-    ACKNOWLEDGMENT, ACKNOWLEDGMENT_END, ANSWERED_ORDERS, FROM_ACME, FROM_ACME_AS, ORDER,
-    ORDER_FOR_BOLT, ORDER_IN_ITS_INTERCHANGE, ORDERS, ORDERS_END, TO_ACME_AS,
+    ACKNOWLEDGMENT, ACKNOWLEDGMENT_END, ANSWERED_ORDERS, FROM_ACME, ORDER, ORDER_FOR_BOLT,
+    ORDER_IN_ITS_INTERCHANGE, ORDERS, ORDERS_END, TO_ACME_AS,
 };
 use super::setups::FIRST;
 
@@ -65,72 +65,6 @@ const INTERCHANGE_THAT_IS_CUT_OFF_THEN_SENT_WHOLE_TWICE: WorkedNight = WorkedNig
         interchange 3 at 456 from ACME control 000000007 refused 9\nta1 sent R 025\n\
         total interchanges 3 refused 2 groups 1 sets 1 accepted 1 held 0 outside 0\n",
     next: [(4, 2, 1), (2, 2, 2)],
-    clean: false,
-};
-
-/// An interchange with each fault that is found without another, those whose headers a TA1 can't repeat among them.
-const INTERCHANGES_WITH_EACH_FAULT: WorkedNight = WorkedNight {
-    starts: FIRST,
-    text: &[
-        // IEA02 is another number
-        FROM_ACME_AS,
-        b"000000011*0*P*>~IEA*0*000000012~",
-        // IEA01 is another count
-        FROM_ACME_AS,
-        b"000000012*0*P*>~IEA*1*000000012~",
-        // a segment out of place
-        FROM_ACME_AS,
-        b"000000013*0*P*>~REF*DP*7~IEA*0*000000013~",
-        // GS01 of one letter
-        FROM_ACME_AS,
-        b"000000014*0*P*>~GS*P*ACME*BOLT*20260228*0900*12*X*005010~GE*0*12~IEA*1*000000014~",
-        // ST02 of no byte
-        FROM_ACME_AS,
-        b"000000015*0*P*>~",
-        ORDERS,
-        b"ST*850*~SE*2*~GE*1*12~IEA*1*000000015~",
-        // ISA13 of a letter
-        FROM_ACME_AS,
-        b"00000001A*0*P*>~IEA*0*00000001A~",
-        // ISA06 of no partner
-        b"ISA*00*          *00*          *01*CARL           *ZZ*HUB            *260228*0900*^*00501*000000017*0*P*>~IEA*0*000000017~",
-        // ISA09 of a letter
-        b"ISA*00*          *00*          *01*ACME           *ZZ*HUB            *26022A*0900*^*00501*000000018*0*P*>~IEA*0*000000019~",
-        // ISA10 of a letter
-        b"ISA*00*          *00*          *01*ACME           *ZZ*HUB            *260228*09A0*^*00501*000000019*0*P*>~IEA*0*000000018~",
-        // no IEA
-        FROM_ACME_AS,
-        b"000000020*1*P*>~",
-    ],
-    acks: [
-        &[
-            TO_ACME_AS,
-            b"000000001*0*P*>~TA1*000000011*260228*0900*R*001~IEA*0*000000001~",
-            TO_ACME_AS,
-            b"000000002*0*P*>~TA1*000000012*260228*0900*R*021~IEA*0*000000002~",
-            TO_ACME_AS,
-            b"000000003*0*P*>~TA1*000000013*260228*0900*R*022~IEA*0*000000003~",
-            TO_ACME_AS,
-            b"000000004*0*P*>~TA1*000000014*260228*0900*R*024~IEA*0*000000004~",
-            TO_ACME_AS,
-            b"000000005*0*P*>~TA1*000000015*260228*0900*R*024~IEA*0*000000005~",
-            TO_ACME_AS,
-            b"000000006*0*P*>~TA1*000000020*260228*0900*R*023~IEA*0*000000006~",
-        ],
-        &[],
-    ],
-    boxes: [&[], &[]],
-    report: b"interchange 1 at 0 from ACME control 000000011 refused 3\nta1 sent R 001\n\
-        interchange 2 at 122 from ACME control 000000012 refused 4\nta1 sent R 021\n\
-        interchange 3 at 244 from ACME control 000000013 refused 5\nta1 sent R 022\n\
-        interchange 4 at 375 from ACME control 000000014 refused 6\nta1 sent R 024\n\
-        interchange 5 at 546 from ACME control 000000015 refused 7\nta1 sent R 024\n\
-        interchange 6 at 732 from ACME control ? refused 2\ninterchange 7 at 854 from ? control 000000017 refused 8\n\
-        interchange 8 at 976 from ACME control 000000018 refused 3\n\
-        interchange 9 at 1098 from ACME control 000000019 refused 3\n\
-        interchange 10 at 1220 from ACME control 000000020 refused 1\nta1 sent R 023\n\
-        total interchanges 10 refused 10 groups 0 sets 0 accepted 0 held 0 outside 0\n",
-    next: [(7, 1, 1), (1, 1, 1)],
     clean: false,
 };
 
@@ -209,7 +143,6 @@ const SET_THAT_NO_GUIDE_SERVES: WorkedNight = WorkedNight {
 pub const NIGHTS: &[&WorkedNight] = &[
     &HEADER_WITHIN_A_SET,
     &INTERCHANGE_THAT_IS_CUT_OFF_THEN_SENT_WHOLE_TWICE,
-    &INTERCHANGES_WITH_EACH_FAULT,
     &ACKNOWLEDGMENTS_AND_A_GROUP_THAT_NO_GUIDE_SERVES,
     &VERSION_THAT_NO_GUIDE_SERVES,
     &SET_THAT_NO_GUIDE_SERVES,
