@@ -157,6 +157,12 @@ const FILES: &[Refused] = &[
         b"nighthub: setup file 4\n",
     ),
     (
+        "setup_file_3_receivers",
+        &[("setup.toml", Says("to = 'BOLT'", "to = []"))],
+        3,
+        b"nighthub: setup file 3\n",
+    ),
+    (
         "counters_file_0",
         &[("counters.toml", Gone)],
         3,
@@ -185,6 +191,18 @@ const FILES: &[Refused] = &[
         &[("counters.toml", Says("set", "sets"))],
         3,
         b"nighthub: counters file 4\n",
+    ),
+    (
+        "counters_file_4_group",
+        &[("counters.toml", Says("version = 2", "version = 1"))],
+        3,
+        b"nighthub: counters file 4\n",
+    ),
+    (
+        "counters_file_2_group",
+        &[("counters.toml", Says("group = 1\n", ""))],
+        3,
+        b"nighthub: counters file 2\n",
     ),
 ];
 
@@ -218,6 +236,18 @@ const SETUPS: &[Refused] = &[
         &[("setup.toml", Says("to = 'BOLT'", "to = 'CARL'"))],
         3,
         b"nighthub: setup 5\n",
+    ),
+    (
+        "setup_5_twice",
+        &[("setup.toml", Says("to = 'BOLT'", "to = ['BOLT', 'BOLT']"))],
+        3,
+        b"nighthub: setup 5\n",
+    ),
+    (
+        "setup_6_group",
+        &[("counters.toml", Says("group = 1", "group = 0"))],
+        3,
+        b"nighthub: setup 6\n",
     ),
     (
         "setup_6",
