@@ -13,12 +13,14 @@ use partner_setup::Setup;
 use std::alloc::Global;
 
 /// What a night closes with for one partner.
+#[derive(Drop)]
 struct Closed {
     text: Text,
     next: Counters,
 }
 
 /// What a night closes with: for each partner its mailbox, and the counters from which its next night goes on.
+#[derive(Drop)]
 pub(crate) struct AllClosed {
     /// The mailboxes.
     pub(crate) boxes: Texts,

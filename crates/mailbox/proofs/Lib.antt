@@ -1,3 +1,4 @@
+pub mod Accounting
 pub mod BoxTexts
 pub mod Clear
 pub mod GroupTexts

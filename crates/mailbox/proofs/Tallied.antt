@@ -1,5 +1,5 @@
 -- The groups of a mailbox are the maximal runs of its sets' keys.
-use Rattle.std.proofs.Common.{◌≡◌, ℕ, zero, suc, ◌+◌, ◌*◌, Bool, true, false, cond, if◌then◌else◌, List, [], ◌∷◌, take, drop, length, map}
+use Rattle.std.proofs.Common.{◌≡◌, ℕ, suc, ◌+◌, ◌*◌, Bool, true, false, if◌then◌else◌, List, [], ◌∷◌, take, drop, length, map}
 use Rattle.std.proofs.Common.{refl, sym, ap, ◌∙◌, arith, sum_by}
 use Rattle.std.specs.List.{range_with_len}
 use Rattle.std.proofs.lemmas.List.{drop-map, length-map, take-map}

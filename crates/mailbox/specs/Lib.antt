@@ -1,3 +1,4 @@
+pub mod Accounted
 pub mod Blocking
 pub mod Deliveries
 pub mod Delivering

@@ -1,3 +1,4 @@
+ghost use Rattle.mailbox.specs.Accounted.{SetsAreAccounted};
 ghost use Rattle.mailbox.specs.Tallied.{GroupsAreCounted, GroupsAreLaidOut, GroupsAreRuns};
 
 /// The groups of a mailbox are the maximal runs of its sets' keys, as a tally counts them, and those of each delivered interchange
@@ -6,4 +7,11 @@ pub fn groups_are_runs()
     ensures runs { GroupsAreRuns }
     ensures layout { GroupsAreLaidOut }
     ensures count { GroupsAreCounted }
+{}
+
+/// A set that may be delivered is told of exactly once for each receiver of its route: it is in that receiver's mailbox, or in a
+/// held line that names it. Without a route it is in one held line. No other partner is sent it or named, and of a set that may
+/// not be delivered nothing is told (X12.6, transaction set). It does nothing: its contract is the law.
+pub fn sets_are_accounted()
+    ensures { SetsAreAccounted }
 {}

@@ -13,7 +13,9 @@
 //!   numbered behind its acknowledgments, in each the longest groups of sets of one sender, GS01 and GS08, and groups and sets
 //!   that are numbered throughout, groups behind those of its acknowledgments; and it answers how many groups these are;
 //! - the groups of a mailbox are the maximal runs that a tally counts, interchange by interchange, and as many in all
-//!   (`groups_are_runs`).
+//!   (`groups_are_runs`);
+//! - a set that may be delivered is, for each receiver of its route exactly once, in that receiver's mailbox or in a held line that
+//!   names it; without a route it is in one held line (`sets_are_accounted`).
 //!
 //! Source: X12.5, interchange; X12.6, functional group and transaction set; who is sent what, and how it is numbered, is own.
 #![tactic(auto)]
@@ -36,7 +38,7 @@ pub use assembling::{Mailbox, assemble};
 pub use deliveries::{Delivered, Deliveries};
 pub use delivering::deliver;
 pub use eligible::is_deliverable;
-pub use laws::groups_are_runs;
+pub use laws::{groups_are_runs, sets_are_accounted};
 pub use outcome::Outcome;
 pub use receiving::outcome_at;
 pub use render::render_set;
