@@ -74,63 +74,58 @@ fn tells_of_an_interchange(rt: HostRuntime) -> Result<(), Fail> {
     writes_each_note(rt.alloc(), NOTES)
 }
 
-/// What is sent as interchange `number`: a TA1 if there is one, and the 999 of an accepted order, in a group of number `control`.
-struct Sending {
-    number: u32,
-    control: u32,
-    ta1: Option<&'static [u8]>,
-    text: &'static [u8],
-}
+const SENT: &[u8] =
+    b"ISA*00*          *00*          *ZZ*HUB            *01*ACME           *260301*1530*^*00501*000000001*0*P*>~\
+      GS*FA*HUB*ACME*20260301*1530*1*X*005010X231~ST*999*0001*005010X231~AK1*PO*12*005010~AK2*850*0001~IK5*A~\
+      AK9*A*1*1*1~SE*6*0001~GE*1*1~IEA*1*000000001~";
 
-const WITH_A_REPORT: &[Sending] = &[
-    Sending {
-        number: 1,
-        control: 1,
-        ta1: None,
-        text: b"ISA*00*          *00*          *ZZ*HUB            *01*ACME           *260301*1530*^*00501*000000001*0*P*>~\
-          GS*FA*HUB*ACME*20260301*1530*1*X*005010X231~ST*999*0001*005010X231~AK1*PO*12*005010~AK2*850*0001~IK5*A~\
-          AK9*A*1*1*1~SE*6*0001~GE*1*1~IEA*1*000000001~",
-    },
-    // the TA1 stands in front of the group, and the group has a number of its own
-    Sending {
-        number: 7,
-        control: 999_999_999,
-        ta1: Some(b"TA1*000000007*260228*0900*A*000~"),
-        text: b"ISA*00*          *00*          *ZZ*HUB            *01*ACME           *260301*1530*^*00501*000000007*0*P*>~\
-          TA1*000000007*260228*0900*A*000~GS*FA*HUB*ACME*20260301*1530*999999999*X*005010X231~ST*999*0001*005010X231~\
-          AK1*PO*12*005010~AK2*850*0001~IK5*A~AK9*A*1*1*1~SE*6*0001~GE*1*999999999~IEA*1*000000007~",
-    },
-];
-
-/// What is sent of an accepted order, made at a moment.
-fn sent(
-    alloc: Global,
-    at: &At,
-    number: u32,
-    control: u32,
-    ta1: Option<&[u8]>,
-) -> Result<Vec<u8>, NoMemory> {
+/// What is sent of an accepted set, made at a moment.
+fn sent(alloc: Global, at: &At) -> Result<Vec<u8>, NoMemory> {
     let report = acknowledgment(alloc, &ACCEPTED_GROUP, &[ACCEPTED_SET], 1)?;
-    let reports = [Items::from_vec(report)];
-    write_ack_interchange(alloc, &envelope(), at, number, control, ta1, &reports)
-}
-
-fn sends(alloc: Global, at: &At, case: &Sending) -> Result<(), Fail> {
-    let bytes = sent(alloc, at, case.number, case.control, case.ta1)?;
-    same(alloc, "an interchange", bytes.as_slice(), case.text)
-}
-
-fn sends_each(alloc: Global, at: &At, cases: &[Sending]) -> Result<(), Fail> {
-    for case in cases {
-        sends(alloc, at, case)?;
-    }
-    Ok(())
+    write_ack_interchange(
+        alloc,
+        &envelope(),
+        at,
+        1,
+        1,
+        None,
+        &[Items::from_vec(report)],
+    )
 }
 
 #[test]
 fn sends_an_acknowledgment_to_the_partner(rt: HostRuntime) -> Result<(), Fail> {
     let at = moment()?;
-    sends_each(rt.alloc(), &at, WITH_A_REPORT)
+    let bytes = sent(rt.alloc(), &at)?;
+    same(rt.alloc(), "an interchange", bytes.as_slice(), SENT)
+}
+
+/// The TA1 stands in front of the group, and the group has a number of its own.
+const WITH_A_TA1: &[u8] =
+    b"ISA*00*          *00*          *ZZ*HUB            *01*ACME           *260301*1530*^*00501*000000007*0*P*>~\
+      TA1*000000007*260228*0900*A*000~GS*FA*HUB*ACME*20260301*1530*999999999*X*005010X231~ST*999*0001*005010X231~\
+      AK1*PO*12*005010~AK2*850*0001~IK5*A~AK9*A*1*1*1~SE*6*0001~GE*1*999999999~IEA*1*000000007~";
+
+/// What is sent of an accepted set of an interchange that asks for a TA1, made at a moment.
+fn sent_with_a_ta1(alloc: Global, at: &At, header: &Header) -> Result<Vec<u8>, NoMemory> {
+    let report = acknowledgment(alloc, &ACCEPTED_GROUP, &[ACCEPTED_SET], 1)?;
+    let ta1 = write_ta1(alloc, header, "000", &DELIMS)?;
+    write_ack_interchange(
+        alloc,
+        &envelope(),
+        at,
+        7,
+        999_999_999,
+        Some(ta1.as_slice()),
+        &[Items::from_vec(report)],
+    )
+}
+
+#[test]
+fn sends_a_ta1_in_front_of_the_group(rt: HostRuntime) -> Result<(), Fail> {
+    let at = moment()?;
+    let bytes = sent_with_a_ta1(rt.alloc(), &at, &received()?)?;
+    same(rt.alloc(), "an interchange", bytes.as_slice(), WITH_A_TA1)
 }
 
 /// An interchange without a group.
