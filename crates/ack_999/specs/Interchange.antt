@@ -1,6 +1,6 @@
 -- X12.5, interchange control, and X12.6, functional group: the interchange that acknowledgments are sent in.
 -- That it has at most one group, which holds all its 999s, is own.
-use Rattle.std.specs.Prelude.{ℕ, ◌<◌, List, [], ◌∷◌, ◌++◌, Bool, true, false, ◌||◌, Option, Some, None, is_some, length, codes, IsTrue}
+use Rattle.std.specs.Prelude.{ℕ, List, [], ◌∷◌, ◌++◌, true, Option, Some, None, is_some, codes, IsTrue}
 use Rattle.x12_write.specs.declared.envelope.Envelope.{Envelope}
 use Rattle.x12_write.specs.declared.group.GroupHeader.{GroupHeader}
 use Rattle.x12_write.specs.Header.{header_text}

@@ -1,6 +1,6 @@
 ghost use Rattle.std.specs.Prelude.{◌≡◌, ◌++◌, option_map, IfOk, OnOk};
 ghost use Rattle.x12_write.specs.Extends.{Extends};
-ghost use Rattle.x12_write.specs.Group.{group_header_text, group_trailer_text};
+ghost use Rattle.x12_write.specs.Group.{group_header_text};
 ghost use Rattle.x12_write.specs.Sendable.{BeginsWithHeader};
 ghost use Rattle.ack_999.specs.Interchange.{HasContent, acknowledging_group, group_count, group_part, interchange_text, ta1_part};
 
@@ -8,8 +8,7 @@ use hub_kinds::{Lent, NoMemory, Text};
 use moment::At;
 use std::alloc::Global;
 use x12_write::{
-    Envelope, GroupHeader, append_group, append_group_header, append_group_trailer, append_header,
-    append_trailer,
+    Envelope, GroupHeader, append_group, append_group_header, append_header, append_trailer,
 };
 
 /// An interchange from the hub to a partner, as number `number` (1 to 999,999,999), with a TA1 (X12.5) if there is one, and one

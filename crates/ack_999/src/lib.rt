@@ -1,15 +1,17 @@
-//! The text of acknowledgments: for each functional group an implementation acknowledgment (999),
-//! and around them an interchange from the hub to a partner. A group's codes and its verdict are
-//! found here too. All is written with the partner's delimiters, with no byte between segments and
-//! without the empty elements at a segment's end.
+//! The text of acknowledgments: for an interchange an interchange acknowledgment (TA1), for each functional group an
+//! implementation acknowledgment (999), and around them an interchange from the hub to a partner. A group's codes and its verdict
+//! are found here too. All is written with the partner's delimiters, with no byte between segments and without the empty elements at
+//! a segment's end.
 //!
 //! Proved:
 //! - `write_999` writes exactly the 999's segments, among them what is told of each set's faults,
 //!   and SE01 is their number; read again by the same delimiters, the text has these segments;
 //!   `append_999` writes it behind what is there; `append_head`, `append_set` and `append_tail` write the same, one part after another;
-//! - `write_ack_interchange` writes exactly the interchange: its header in its fixed width, one
-//!   group, the acknowledgments, the trailers; `append_opening` and `append_closing` are its ends, and what they write,
-//!   with acknowledgments between, is the interchange; its header is read again where the envelope is fit to be sent;
+//! - `write_ta1` writes exactly the TA1: ISA13, ISA09 and ISA10 of the interchange that is answered, A where the note is `000` and
+//!   else R, and the note; `append_ta1` writes it behind what is there;
+//! - `write_ack_interchange` writes exactly the interchange: its header in its fixed width, the TA1 if there is one, the group of the
+//!   999s if there are any, and the trailer with the number of groups; `append_ack_group_header` writes the header of that group; the
+//!   interchange's header is read again where the envelope is fit to be sent;
 //! - of faults that stand in their order, each once, each position is told by an IK3 for each structural fault and one IK3
 //!   with code 8 for all element faults together, with an IK4 for each behind it (`each_position_is_told`);
 //! - a call that appends keeps what was there before, also where memory is refused;
@@ -18,13 +20,13 @@
 //!   are no sets' it judges by their numbers.
 //!
 //! Source: the 999 guide (005010X231), ST, AK1, AK2, IK3, IK4, IK5, AK9 and SE; X12.5, interchange control
-//! header and trailer; X12.6, functional group header and trailer, segment.
+//! header and trailer, interchange acknowledgment (TA1); X12.6, functional group header and trailer, segment.
 //!
 //! As its trial, the crate `trial_texts`, calls it:
 //!
 //! ```rust
 //! let report = acknowledgment(alloc, &ACCEPTED_GROUP, &[ACCEPTED_SET], 1)?;
-//! write_ack_interchange(alloc, &envelope(), at, 1, &[Items::from_vec(report)])
+//! write_ack_interchange(alloc, &envelope(), at, 1, 1, None, &[Items::from_vec(report)])
 //! ```
 #![tactic(auto)]
 

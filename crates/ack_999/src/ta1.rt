@@ -1,5 +1,6 @@
-ghost use Rattle.std.specs.Prelude.{◌≡◌, ◌++◌, IfOk, OnOk};
+ghost use Rattle.std.specs.Prelude.{◌≡◌, ◌++◌, [], ◌∷◌, codes, IfOk, OnOk};
 ghost use Rattle.x12_write.specs.Extends.{Extends};
+ghost use Rattle.x12_write.specs.Segment.{segment_text};
 ghost use Rattle.ack_999.specs.Ta1.{ta1_text};
 
 use hub_kinds::{NoMemory, acknowledgment_code};
@@ -31,16 +32,32 @@ pub fn append_ta1(
     ensures text { OnOk result (out.new.items ≡ out.old.items ++ ta1_text delims.now header.now note.now) }
     ensures kept { Extends out.old.items out.new.items }
 {
-    append_segment(
+    append_five(
         out,
         delims,
-        b"TA1",
-        &[
-            header.field(13),
-            header.field(9),
-            header.field(10),
-            acknowledgment_code(note).as_bytes(),
-            note.as_bytes(),
-        ],
+        header.field(13),
+        header.field(9),
+        header.field(10),
+        acknowledgment_code(note).as_bytes(),
+        note.as_bytes(),
     )
+}
+
+/// Writes the segment with these five elements behind what is there.
+fn append_five<'a>(
+    out: &mut Vec<u8>,
+    delims: &Delims,
+    first: &'a [u8],
+    second: &'a [u8],
+    third: &'a [u8],
+    fourth: &'a [u8],
+    fifth: &'a [u8],
+) -> Result<(), NoMemory>
+    ensures text { OnOk result
+        (out.new.items
+        ≡ out.old.items
+        ++ segment_text delims.now (codes "TA1") (first.now ∷ second.now ∷ third.now ∷ fourth.now ∷ fifth.now ∷ [])) }
+    ensures kept { Extends out.old.items out.new.items }
+{
+    append_segment(out, delims, b"TA1", &[first, second, third, fourth, fifth])
 }

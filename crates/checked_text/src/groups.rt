@@ -11,7 +11,7 @@ use crate::numbers::{add_number, group_number};
 use crate::sent::Sent;
 use crate::sets::answer_sets;
 use crate::support::{group_trailer, listed, support_of};
-use ack_999::{Totals, group_codes, group_verdict, totals_of};
+use ack_999::{group_codes, group_verdict, totals_of};
 use env_index::{GroupEnvelope, Interchange};
 use hub_kinds::{GroupAnswer, GroupCode, Items, Lent, NoMemory, SetAnswer};
 use judged_text::is_fa;

@@ -9,7 +9,10 @@ returns-clause-header c =
     let at = c.args.at.now in
     let n = c.args.number in
     let front : List ℕ = c.append_header.new.out.items in
+    let noted : List ℕ = c.append_ta1_part.new.out.items in
+    let grouped : List ℕ = c.append_group_part.new.out.items in
     let first = subst (λ (place : ℕ). BeginsWithHeader e at n front place) (ap length c.new-out.ensures.items)
     c.in_ok-append_header.ensures.header in
-    let second = begins-longer e at n front _ c.append_group.new.out.items 0 c.in_ok-append_group.ensures.text first in
-    begins-longer e at n c.append_group.new.out.items _ c.append_trailer.new.out.items 0 c.in_ok-append_trailer.ensures.text second
+    let second = begins-longer e at n front _ noted 0 c.in_ok-append_ta1_part.ensures.text first in
+    let third = begins-longer e at n noted _ grouped 0 c.in_ok-append_group_part.ensures.text second in
+    begins-longer e at n grouped _ c.append_trailer.new.out.items 0 c.in_ok-append_trailer.ensures.text third
