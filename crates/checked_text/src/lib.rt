@@ -7,6 +7,7 @@
 //! - `check_text` checks each set of the interchanges without a fault by its sender's guide, and answers each group and set: the
 //!   standings that it leaves, and the acknowledgments of each partner, byte for byte, are those of these answers;
 //! - the acknowledgment of an interchange has a TA1 where it is answered with one, and a 999 for each group but those of acknowledgments;
+//!   it takes its partner's next interchange number, and its group, where it has 999s, the next group number;
 //! - the interchanges of a text are answered in one way (`answers_are_one`), and the answer to a set tells that it is accepted
 //!   exactly where the set meets its guide and no earlier set of its group has its ST02 (`accepted_as_it_meets`);
 //! - a duplicate, a group's code 19 and a set's code 23 are told exactly where the first use of the number, by the order of places, is
@@ -15,7 +16,8 @@
 //! Numbers are looked up in ordered sets, so that the cost follows the bytes but for a logarithm, whatever numbers somebody
 //! chooses. The answers to one interchange are held at a time.
 //!
-//! Source: X12.5, interchange sender and control number; X12.6, functional group and transaction set; 999 guide (005010X231).
+//! Source: X12.5, interchange sender and control number, interchange acknowledgment (TA1); X12.6, functional group and transaction
+//! set; 999 guide (005010X231).
 #![tactic(auto)]
 
 mod acknowledge;

@@ -81,19 +81,18 @@ pub(crate) fn append_interchange_line<'x>(
     Ok(())
 }
 
+/// Writes the line of a TA1 with this code and this note.
+fn append_sent_words<'x>(out: &mut Vec<u8>, code: &'x [u8], note: &'x [u8]) -> Result<(), NoMemory>
+    ensures { OnOk result (out.new.items ≡ out.old.items ++ lines.sent_line code.now note.now) }
+{
+    append_line(out, b"ta1", &[b"sent".as_slice(), code, note])
+}
+
 /// Writes the line of the TA1 that an interchange is answered with.
 pub(crate) fn append_sent_line(out: &mut Vec<u8>, note: &str) -> Result<(), NoMemory>
     ensures { OnOk result (out.new.items ≡ out.old.items ++ lines.sent_line (acknowledgment_code note.now) note.now) }
 {
-    append_line(
-        out,
-        b"ta1",
-        &[
-            b"sent".as_slice(),
-            acknowledgment_code(note).as_bytes(),
-            note.as_bytes(),
-        ],
-    )
+    append_sent_words(out, acknowledgment_code(note).as_bytes(), note.as_bytes())
 }
 
 /// Writes how many TA1 an interchange has, where it has any.
