@@ -12,11 +12,13 @@ const FIRST: Counters = Counters {
     set: 1,
 };
 
+/// BOLT's counters alone, in version 1, in which there is no counter of groups.
+const VERSION_1: &str = "version=1\n[[counter]]\npartner=\"BOLT\"\ninterchange=41\nset=7\n";
+
 /// Files with BOLT's counters alone, and these.
 const OF_BOLT: &[(&str, Counters)] = &[
-    // in version 1 there is no counter of groups
     (
-        "version=1\n[[counter]]\npartner=\"BOLT\"\ninterchange=41\nset=7\n",
+        VERSION_1,
         Counters {
             interchange: 41,
             group: 1,
@@ -87,6 +89,6 @@ const WRITTEN: &str =
 
 #[test]
 fn version_2_is_written_whatever_was_read(rt: HostRuntime) -> Result<(), Fail> {
-    let setup = built_of(rt.alloc(), ACME, BOLT, ROUTES, OF_BOLT[0].0)?;
+    let setup = built_of(rt.alloc(), ACME, BOLT, ROUTES, VERSION_1)?;
     expect_text(rt.alloc(), &setup, &[LATER, FIRST], WRITTEN)
 }

@@ -59,13 +59,13 @@ fn receivers(rt: HostRuntime) -> Result<(), Fail> {
 const TO_BOTH: &str =
     "[[route]]\ncode=\"BOLT\"\nto=[\"BOLT\",\"ACME\"]\n[[route]]\ncode=\"ACME\"\nto=\"BOLT\"\n";
 
+/// Codes, and the places of their receivers, in the order of the route.
+const IN_ORDER: &[(&[u8], &[usize])] = &[(b"BOLT", &[1, 0]), (b"ACME", &[1]), (b"CARL", &[])];
+
 #[test]
 fn receivers_in_their_order(rt: HostRuntime) -> Result<(), Fail> {
     let setup = built_of(rt.alloc(), ACME, BOLT, TO_BOTH, COUNTERS)?;
-    expect_receivers(
-        &setup,
-        &[(b"BOLT", &[1, 0]), (b"ACME", &[1]), (b"CARL", &[])],
-    )
+    expect_receivers(&setup, IN_ORDER)
 }
 
 /// A partner, GS01 and GS08, and whether it has a guide for the one and for both.
