@@ -198,8 +198,8 @@ def write_setup(folder, count):
         out.writelines(f'[[route]]\ncode = "{code}"\nto = "{partner(k).decode()}"\n'
                        for k, code in [(0, 'BOLT'), *((k, partner(k).decode()) for k in range(count))])
     with open(paths[1], 'w') as out:
-        out.write('version = 1\n')
-        out.writelines(f'[[counter]]\npartner = "{partner(k).decode()}"\ninterchange = 1\nset = 1\n' for k in range(count))
+        out.write('version = 2\n')
+        out.writelines(f'[[counter]]\npartner = "{partner(k).decode()}"\ninterchange = 1\ngroup = 1\nset = 1\n' for k in range(count))
     return paths
 
 

@@ -118,7 +118,31 @@ ELEMENTS = [
     ("I6", order("BEG*01*SA*P1**20260228~", LINE), "IK4*1*353*I6*01~"),
     ("I10", order(BEG, LINE, "PID*F**X**DESC~"), "IK4*3*559*I10*X~"),
 ]
-WHOLE = [("one_order", 0), ("rejected", 1), ("partly_accepted", 1)]
+WHOLE = [("one_order", 0), ("rejected", 1), ("partly_accepted", 1), ("ta1_asked_for", 0), ("cut_off", 1)]
+
+ASKING = ISA.replace("*0*P*>~", "*1*P*>~")
+REPORTS = "GS*FA*ACME*HUB*20260228*0900*5*X*005010X231~ST*999*0001*005010X231~SE*2*0001~GE*1*5~"
+WHOLE_ORDER = interchange(ORDER)
+ALONE = "TA1*000000007*260228*0900*{}~IEA*0*00000000{}~"
+TA1S = [
+    ("A 000", WHOLE_ORDER.replace(ISA, ASKING), "*P*>~TA1*000000007*260228*0900*A*000~GS*FA*HUB*ACME*20260301*1530*1*X*005010X231~"),
+    ("A 000, groups FA alone", f"{ASKING}{REPORTS}IEA*1*000000007~", ALONE.format("A*000", 1)),
+    ("R 001", WHOLE_ORDER.replace("IEA*1*000000007", "IEA*1*000000008"), ALONE.format("R*001", 1)),
+    ("R 021", WHOLE_ORDER.replace("IEA*1", "IEA*2"), ALONE.format("R*021", 1)),
+    ("R 022", f"{ISA}REF*DP*7~IEA*0*000000007~", ALONE.format("R*022", 1)),
+    ("R 023", WHOLE_ORDER[:-16], ALONE.format("R*023", 1)),
+    ("R 024, a group", WHOLE_ORDER.replace("GS*PO", "GS*P"), ALONE.format("R*024", 1)),
+    ("R 024, a set", WHOLE_ORDER.replace("ST*850*0001", "ST*850"), ALONE.format("R*024", 1)),
+    ("R 025", WHOLE_ORDER * 2, ALONE.format("R*025", 2)),
+]
+UNANSWERED = {
+    "ISA13 that isn't digits": WHOLE_ORDER.replace("000000007", "00000000A"),
+    "ISA09 that isn't digits": WHOLE_ORDER[:-16].replace("*260228*", "*26022A*"),
+    "ISA10 that isn't digits": WHOLE_ORDER[:-16].replace("*0900*^", "*09A0*^"),
+    "a sender who is no partner": WHOLE_ORDER.replace("*01*ACME ", "*01*CARL "),
+    "no group": f"{ASKING}IEA*0*000000007~",
+    "groups FA that don't ask": f"{ISA}{REPORTS}IEA*1*000000007~",
+}
 
 
 def examples():
@@ -142,6 +166,11 @@ def examples():
         shows(f"IK403 {code}", interchange(text), wanted)
     for code, wanted in (("I6", "IK4*3*735*I6*I~"), ("I12", "IK4*2*734*I12*3~")):
         shows(f"hierarchy {code}", interchange(LEVELS, group=SHIPMENTS), wanted)
+    for name, text, wanted in TA1S:
+        shows(f"TA1 {name}", text, wanted)
+    for name, text in UNANSWERED.items():
+        found = night(text=text)[3]
+        page.want(f"no answer: {name}", (found.get("ACME.ack"), found.get("BOLT.ack")), (b"", b""))
     for name, status in WHOLE:
         found = night(text=example(f"night/{name}.x12"))
         page.want(name, (found[0], found[3].get("ACME.ack")), (status, example(f"night/{name}.ack").encode()))

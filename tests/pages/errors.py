@@ -86,6 +86,10 @@ SETUP_FILES = {
     "a hub that is a number": ("hub=1", 3),
     "another usage": (replaced(SETUP, 'usage = "P"', 'usage = "X"'), 3),
     "a key of no setup": ("zeta=1", 4),
+    "no receiver": (replaced(SETUP, 'to = "BOLT"', "to = []"), 3),
+    "seventeen receivers": (replaced(SETUP, 'to = "BOLT"', f"to = {[f'P{k}' for k in range(17)]}"), 3),
+    "a receiver that is a number": (replaced(SETUP, 'to = "BOLT"', "to = 7"), 3),
+    "a list in a list of receivers": (replaced(SETUP, 'to = "BOLT"', 'to = [["BOLT"]]'), 3),
 }
 COUNTERS_FILES = {
     "not there": (NOWHERE, 0),
@@ -94,6 +98,8 @@ COUNTERS_FILES = {
     "empty": ("\n", 2),
     "another version": ("version=3", 3),
     "a key of no counters": ("zeta=1", 4),
+    "a counter of groups in version 1": (replaced(COUNTERS, "version = 2", "version = 1"), 4),
+    "none in version 2": (replaced(COUNTERS, "group = 1\n", ""), 2),
 }
 SETUPS = {
     "two partners of one name": (replaced(SETUP, 'name = "BOLT"', 'name = "ACME"'), 1),
@@ -107,13 +113,17 @@ SETUPS = {
     "an id with a space behind": (replaced(SETUP, 'id = "BOLT"', 'id = "BOLT "'), 3),
     "a guide that wasn't given": (replaced(SETUP, 'guides = ["H850"]', 'guides = ["H999"]'), 4),
     "a route to nobody": (replaced(SETUP, 'to = "BOLT"', 'to = "CARL"'), 5),
+    "one of two receivers is nobody": (replaced(SETUP, 'to = "BOLT"', 'to = ["BOLT", "CARL"]'), 5),
+    "a receiver twice": (replaced(SETUP, 'to = "BOLT"', 'to = ["BOLT", "ACME", "BOLT"]'), 5),
     "a code with two routes": (SETUP + '\n[[route]]\ncode = "BOLT"\nto = "ACME"\n', 5),
     "a cap over the greatest": (replaced(SETUP, "cap = 2", "cap = 100000"), 7),
     "no cap": (replaced(SETUP, "cap = 2", "cap = 0"), 7),
 }
-ROW = '\n[[counter]]\npartner = "{}"\ninterchange = 1\nset = 1\n'
+ROW = '\n[[counter]]\npartner = "{}"\ninterchange = 1\ngroup = 1\nset = 1\n'
 COUNTERS_OF_SETUPS = {
     "a counter of 0": replaced(COUNTERS, "set = 1", "set = 0"),
+    "a counter of groups of 0": replaced(COUNTERS, "group = 1", "group = 0"),
+    "a counter of groups that is too great": replaced(COUNTERS, "group = 1", "group = 1000000000"),
     "counters of nobody": COUNTERS + ROW.format("CARL"),
     "counters twice": COUNTERS + ROW.format("BOLT"),
 }
@@ -128,6 +138,7 @@ def setups(page):
         page.want(f"setup: {name}", night(setup=setup)[:3], (3, "", f"nighthub: setup {number}\n"))
     for name, counters in COUNTERS_OF_SETUPS.items():
         page.want(f"setup: {name}", night(counters=counters)[:3], (3, "", "nighthub: setup 6\n"))
+    page.want("counters of version 1", night(counters=replaced(COUNTERS.replace("group = 1\n", ""), "version = 2", "version = 1"))[:3], (0, TOTAL, ""))
     page.want("two guides of one name", night(guides=[H850, H850])[:3], (3, "", "nighthub: setup 4\n"))
     both, again = replaced(SETUP, 'guides = ["H850"]', 'guides = ["H850", "X850"]'), H850.replace('name = "H850"', 'name = "X850"')
     page.want("two guides for one set", night(setup=both, guides=[H850, H856, again])[:3], (3, "", "nighthub: setup 4\n"))

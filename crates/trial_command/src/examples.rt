@@ -50,16 +50,18 @@ to = 'BOLT'
 ";
 
 /// The counters of the first night.
-pub const COUNTERS: &[u8] = b"version = 1
+pub const COUNTERS: &[u8] = b"version = 2
 
 [[counter]]
 partner = 'ACME'
 interchange = 1
+group = 1
 set = 1
 
 [[counter]]
 partner = 'BOLT'
 interchange = 1
+group = 1
 set = 1
 ";
 
@@ -126,7 +128,7 @@ pub const ACME_ACK: &[u8] =
 /// What is delivered to ACME.
 pub const ACME_BOX: &[u8] =
     b"ISA*00*          *00*          *ZZ*HUB            *01*ACME           *260301*1530*^*00501*000000002*0*P*>~\
-      GS*PO*BOLT*ACME*20260301*1530*1*X*005010~ST*850*0001~BEG*05*NE*B7**20260227~PO1**1*CA~SE*4*0001~GE*1*1~\
+      GS*PO*BOLT*ACME*20260301*1530*2*X*005010~ST*850*0001~BEG*05*NE*B7**20260227~PO1**1*CA~SE*4*0001~GE*1*2~\
       IEA*1*000000002~";
 
 /// What BOLT is answered.
@@ -138,7 +140,7 @@ pub const BOLT_ACK: &[u8] =
 /// What is delivered to BOLT.
 pub const BOLT_BOX: &[u8] =
     b"ISA|00|          |00|          |ZZ|HUB            |ZZ|BOLT           |260301|1530|^|00501|000000002|0|P|:!\
-      GS|PO|ACME|BOLT|20260301|1530|1|X|005010!ST|850|0001!BEG|00|SA|PO100||20260228!PO1|1|5|EA|2.50!SE|4|0001!GE|1|1!\
+      GS|PO|ACME|BOLT|20260301|1530|2|X|005010!ST|850|0001!BEG|00|SA|PO100||20260228!PO1|1|5|EA|2.50!SE|4|0001!GE|1|2!\
       IEA|1|000000002!";
 
 /// The report.
@@ -153,14 +155,16 @@ pub const TOTAL: &[u8] =
     b"total interchanges 2 refused 0 groups 2 sets 2 accepted 2 held 0 outside 0\n";
 
 /// The counters of the next night.
-pub const NEXT: &[u8] = b"version = 1\n\
+pub const NEXT: &[u8] = b"version = 2\n\
       \n\
       [[counter]]\n\
       partner = \"ACME\"\n\
       interchange = 3\n\
+      group = 3\n\
       set = 2\n\
       \n\
       [[counter]]\n\
       partner = \"BOLT\"\n\
       interchange = 3\n\
+      group = 3\n\
       set = 2\n";

@@ -11,6 +11,8 @@ mod fault_tests;
 #[cfg(test)]
 mod refusal_tests;
 #[cfg(test)]
+mod refused_files;
+#[cfg(test)]
 mod tests;
 #[cfg(test)]
 mod word_tests;

@@ -1,11 +1,12 @@
 //! Nights that fail: what is refused first, the line that says so, and that nothing is written.
+use crate::refused_files::{FILES, SETUPS};
 use crate::tests::{expect, expect_files, make_folder, ran_in};
 use std::alloc::{AllocError, Global};
 use std::fs;
 use std::test::Fail;
 
 /// What becomes of a file before the night.
-enum Change {
+pub enum Change {
     /// It isn't there.
     Gone,
     /// A folder is there in its place.
@@ -23,7 +24,7 @@ enum Change {
 use Change::{Folder, Gone, Holds, Node, Nodes, Says};
 
 /// A folder, the file that is changed there, and how; the status, and what is printed on standard error.
-type Refused = (
+pub type Refused = (
     &'static str,
     &'static [(&'static str, Change)],
     u8,
@@ -124,114 +125,6 @@ const NINE_DEEP: &str =
     "{loop='A',min=0,max=1,nodes=[{loop='B',min=0,max=1,nodes=[{loop='C',min=0,max=1,nodes=[\
     {loop='D',min=0,max=1,nodes=[{loop='E',min=0,max=1,nodes=[{loop='F',min=0,max=1,nodes=[{loop='G',min=0,max=1,nodes=[\
     {loop='H',min=0,max=1,nodes=[{loop='I',min=0,max=1,nodes=[{seg='N1',min=1,max=1,elements=[]}]}]}]}]}]}]}]}]}]}";
-
-const FILES: &[Refused] = &[
-    (
-        "setup_file_0",
-        &[("setup.toml", Gone)],
-        3,
-        b"nighthub: setup file 0\n",
-    ),
-    (
-        "setup_file_1",
-        &[("setup.toml", Holds(b"hub="))],
-        3,
-        b"nighthub: setup file 1\n",
-    ),
-    (
-        "setup_file_2",
-        &[("setup.toml", Holds(b""))],
-        3,
-        b"nighthub: setup file 2\n",
-    ),
-    (
-        "setup_file_3",
-        &[("setup.toml", Holds(b"hub=1"))],
-        3,
-        b"nighthub: setup file 3\n",
-    ),
-    (
-        "setup_file_4",
-        &[("setup.toml", Holds(b"zeta=1\nalpha=1"))],
-        3,
-        b"nighthub: setup file 4\n",
-    ),
-    (
-        "counters_file_0",
-        &[("counters.toml", Gone)],
-        3,
-        b"nighthub: counters file 0\n",
-    ),
-    (
-        "counters_file_1",
-        &[("counters.toml", Holds(b"\xFF"))],
-        3,
-        b"nighthub: counters file 1\n",
-    ),
-    (
-        "counters_file_2",
-        &[("counters.toml", Holds(b""))],
-        3,
-        b"nighthub: counters file 2\n",
-    ),
-    (
-        "counters_file_3",
-        &[("counters.toml", Holds(b"version = 3"))],
-        3,
-        b"nighthub: counters file 3\n",
-    ),
-    (
-        "counters_file_4",
-        &[("counters.toml", Says("set", "sets"))],
-        3,
-        b"nighthub: counters file 4\n",
-    ),
-];
-
-const SETUPS: &[Refused] = &[
-    (
-        "setup_1",
-        &[("setup.toml", Says("name = 'BOLT'", "name = 'ACME'"))],
-        3,
-        b"nighthub: setup 1\n",
-    ),
-    (
-        "setup_2",
-        &[("setup.toml", Says("':'", "'|'"))],
-        3,
-        b"nighthub: setup 2\n",
-    ),
-    (
-        "setup_3",
-        &[("setup.toml", Says("code = 'BOLT'", "code = 'A'"))],
-        3,
-        b"nighthub: setup 3\n",
-    ),
-    (
-        "setup_4",
-        &[("setup.toml", Says("'H856'", "'H999'"))],
-        3,
-        b"nighthub: setup 4\n",
-    ),
-    (
-        "setup_5",
-        &[("setup.toml", Says("to = 'BOLT'", "to = 'CARL'"))],
-        3,
-        b"nighthub: setup 5\n",
-    ),
-    (
-        "setup_6",
-        &[("counters.toml", Says("set = 1", "set = 0"))],
-        3,
-        b"nighthub: setup 6\n",
-    ),
-    (
-        "setup_7",
-        &[("setup.toml", Says("cap = 1", "cap = 100000"))],
-        3,
-        b"nighthub: setup 7\n",
-    ),
-];
 
 /// More than one is wrong, and the first is told.
 const ORDER: &[Refused] = &[

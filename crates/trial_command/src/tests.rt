@@ -142,11 +142,12 @@ const REJECTED_TOTAL: &[u8] =
     b"total interchanges 1 refused 0 groups 1 sets 1 accepted 0 held 0 outside 0\n";
 
 const REJECTED_NEXT: &[u8] =
-    b"version = 1\n\n[[counter]]\npartner = \"ACME\"\ninterchange = 2\nset = 1\n\n\
-    [[counter]]\npartner = \"BOLT\"\ninterchange = 1\nset = 1\n";
+    b"version = 2\n\n[[counter]]\npartner = \"ACME\"\ninterchange = 2\ngroup = 2\nset = 1\n\n\
+    [[counter]]\npartner = \"BOLT\"\ninterchange = 1\ngroup = 1\nset = 1\n";
 
-const FIRST: &[u8] = b"version = 1\n\n[[counter]]\npartner = \"ACME\"\ninterchange = 1\nset = 1\n\n\
-    [[counter]]\npartner = \"BOLT\"\ninterchange = 1\nset = 1\n";
+const FIRST: &[u8] =
+    b"version = 2\n\n[[counter]]\npartner = \"ACME\"\ninterchange = 1\ngroup = 1\nset = 1\n\n\
+    [[counter]]\npartner = \"BOLT\"\ninterchange = 1\ngroup = 1\nset = 1\n";
 
 const NOTHING: &[u8] =
     b"total interchanges 0 refused 0 groups 0 sets 0 accepted 0 held 0 outside 0\n";

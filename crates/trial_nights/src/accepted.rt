@@ -4,33 +4,34 @@ use super::pieces::{
     ACKNOWLEDGMENT, ACKNOWLEDGMENT_END, ANSWERED_ORDERS, FROM_ACME, ORDER, ORDER_ACKNOWLEDGED,
     ORDER_FOR_BOLT, ORDER_IN_ITS_INTERCHANGE, ORDERS, ORDERS_END,
 };
+use super::setups::{FIRST, Starts};
 
 /// A text of no bytes.
 const TEXT_OF_NO_BYTES: WorkedNight = WorkedNight {
-    starts: (2, 1),
+    starts: FIRST,
     text: &[],
     acks: [&[], &[]],
     boxes: [&[], &[]],
     report: b"total interchanges 0 refused 0 groups 0 sets 0 accepted 0 held 0 outside 0\n",
-    next: [(1, 1), (1, 1)],
+    next: [(1, 1, 1), (1, 1, 1)],
     clean: true,
 };
 
 /// One order.
 const ONE_ORDER: WorkedNight = WorkedNight {
-    starts: (2, 1),
+    starts: FIRST,
     text: &[ORDER_IN_ITS_INTERCHANGE],
     acks: [&[ORDER_ACKNOWLEDGED], &[]],
     boxes: [&[], &[ORDER_FOR_BOLT]],
     report: b"interchange 1 at 0 from ACME control 000000007 accepted\ngroup PO 12 A sets 1 accepted 1\n\
         total interchanges 1 refused 0 groups 1 sets 1 accepted 1 held 0 outside 0\n",
-    next: [(2, 1), (2, 2)],
+    next: [(2, 2, 1), (2, 2, 2)],
     clean: true,
 };
 
 /// An order with CR LF behind each terminator.
 const ORDER_WITH_CR_LF_BEHIND_EACH_TERMINATOR: WorkedNight = WorkedNight {
-    starts: (2, 1),
+    starts: FIRST,
     text: &[
         FROM_ACME,
         b"\r\n",
@@ -42,13 +43,13 @@ const ORDER_WITH_CR_LF_BEHIND_EACH_TERMINATOR: WorkedNight = WorkedNight {
     boxes: [&[], &[ORDER_FOR_BOLT]],
     report: b"interchange 1 at 0 from ACME control 000000007 accepted\ngroup PO 12 A sets 1 accepted 1\n\
         total interchanges 1 refused 0 groups 1 sets 1 accepted 1 held 0 outside 0\n",
-    next: [(2, 1), (2, 2)],
+    next: [(2, 2, 1), (2, 2, 2)],
     clean: true,
 };
 
 /// An order whose terminator is LF.
 const ORDER_WHOSE_TERMINATOR_IS_LF: WorkedNight = WorkedNight {
-    starts: (2, 1),
+    starts: FIRST,
     text: &[
         b"ISA*00*          *00*          *01*ACME           *ZZ*HUB            *260228*0900*^*00501*000000007*0*P*>\n\
         GS*PO*ACME*BOLT*20260228*0900*12*X*005010\nST*850*0001\nBEG*00*SA*PO100**20260228\n\nPO1*1*5*EA*2.50\n\
@@ -58,13 +59,13 @@ const ORDER_WHOSE_TERMINATOR_IS_LF: WorkedNight = WorkedNight {
     boxes: [&[], &[ORDER_FOR_BOLT]],
     report: b"interchange 1 at 0 from ACME control 000000007 accepted\ngroup PO 12 A sets 1 accepted 1\n\
         total interchanges 1 refused 0 groups 1 sets 1 accepted 1 held 0 outside 0\n",
-    next: [(2, 1), (2, 2)],
+    next: [(2, 2, 1), (2, 2, 2)],
     clean: true,
 };
 
 /// An order from each of two partners.
 const ORDER_FROM_EACH_OF_TWO_PARTNERS: WorkedNight = WorkedNight {
-    starts: (2, 1),
+    starts: FIRST,
     text: &[
         ORDER_IN_ITS_INTERCHANGE,
         b"ISA|00|          |00|          |ZZ|BOLT           |ZZ|HUB            |260228|0915|^|00501|000000003|0|P|:!\
@@ -82,25 +83,25 @@ const ORDER_FROM_EACH_OF_TWO_PARTNERS: WorkedNight = WorkedNight {
     boxes: [
         &[
             b"ISA*00*          *00*          *ZZ*HUB            *01*ACME           *260301*1530*^*00501*000000002*0*P*>~\
-        GS*PO*BOLT*ACME*20260301*1530*1*X*005010~ST*850*0001~BEG*05*NE*B7**20260227~PO1**1*CA~SE*4*0001~GE*1*1~\
+        GS*PO*BOLT*ACME*20260301*1530*2*X*005010~ST*850*0001~BEG*05*NE*B7**20260227~PO1**1*CA~SE*4*0001~GE*1*2~\
         IEA*1*000000002~",
         ],
         &[
             b"ISA|00|          |00|          |ZZ|HUB            |ZZ|BOLT           |260301|1530|^|00501|000000002|0|P|:!\
-        GS|PO|ACME|BOLT|20260301|1530|1|X|005010!ST|850|0001!BEG|00|SA|PO100||20260228!PO1|1|5|EA|2.50!SE|4|0001!\
-        GE|1|1!IEA|1|000000002!",
+        GS|PO|ACME|BOLT|20260301|1530|2|X|005010!ST|850|0001!BEG|00|SA|PO100||20260228!PO1|1|5|EA|2.50!SE|4|0001!\
+        GE|1|2!IEA|1|000000002!",
         ],
     ],
     report: b"interchange 1 at 0 from ACME control 000000007 accepted\ngroup PO 12 A sets 1 accepted 1\n\
         interchange 2 at 236 from BOLT control 000000003 accepted\ngroup PO 3 A sets 1 accepted 1\n\
         total interchanges 2 refused 0 groups 2 sets 2 accepted 2 held 0 outside 0\n",
-    next: [(3, 2), (3, 2)],
+    next: [(3, 3, 2), (3, 3, 2)],
     clean: true,
 };
 
 /// A tolerated fault.
 const TOLERATED_FAULT: WorkedNight = WorkedNight {
-    starts: (2, 1),
+    starts: FIRST,
     text: &[
         FROM_ACME,
         ORDERS,
@@ -129,13 +130,17 @@ const TOLERATED_FAULT: WorkedNight = WorkedNight {
     ],
     report: b"interchange 1 at 0 from ACME control 000000007 accepted\ngroup PO 12 E sets 1 accepted 1\n\
         total interchanges 1 refused 0 groups 1 sets 1 accepted 1 held 0 outside 0\n",
-    next: [(2, 1), (2, 2)],
+    next: [(2, 2, 1), (2, 2, 2)],
     clean: true,
 };
 
 /// A cap of one, and counters that begin anew.
 const CAP_OF_ONE_AND_COUNTERS_THAT_BEGIN_ANEW: WorkedNight = WorkedNight {
-    starts: (1, 999_999_998),
+    starts: Starts {
+        cap: 1,
+        interchange: 999_999_998,
+        ..FIRST
+    },
     text: &[
         FROM_ACME,
         b"GS*PO*ACME*ACME*20260228*0900*12*X*005010~",
@@ -155,21 +160,20 @@ const CAP_OF_ONE_AND_COUNTERS_THAT_BEGIN_ANEW: WorkedNight = WorkedNight {
     boxes: [
         &[
             b"ISA*00*          *00*          *ZZ*HUB            *01*ACME           *260301*1530*^*00501*999999999*0*P*>~\
-        GS*PO*ACME*ACME*20260301*1530*1*X*005010~",
+        GS*PO*ACME*ACME*20260301*1530*2*X*005010~",
             ORDER,
-            b"GE*1*1~IEA*1*999999999~ISA*00*          *00*          *ZZ*HUB            *01*ACME           *260301*1530*^*005\
-        01*000000001*0*P*>~GS*PO*ACME*ACME*20260301*1530*1*X*005010~ST*850*0002~BEG*00*SA*PO100**20260228~\
-        PO1*1*5*EA*2.50~SE*4*0002~",
-            ACKNOWLEDGMENT_END,
+            b"GE*1*2~IEA*1*999999999~ISA*00*          *00*          *ZZ*HUB            *01*ACME           *260301*1530*^*005\
+        01*000000001*0*P*>~GS*PO*ACME*ACME*20260301*1530*3*X*005010~ST*850*0002~BEG*00*SA*PO100**20260228~\
+        PO1*1*5*EA*2.50~SE*4*0002~GE*1*3~IEA*1*000000001~",
             b"ISA*00*          *00*          *ZZ*HUB            *01*ACME           *260301*1530*^*00501*000000002*0*P*>~\
-        GS*PO*ACME*ACME*20260301*1530*1*X*005010~ST*850*0003~BEG*00*SA*PO100**20260228~PO1*1*5*EA*2.50~SE*4*0003~\
-        GE*1*1~IEA*1*000000002~",
+        GS*PO*ACME*ACME*20260301*1530*4*X*005010~ST*850*0003~BEG*00*SA*PO100**20260228~PO1*1*5*EA*2.50~SE*4*0003~\
+        GE*1*4~IEA*1*000000002~",
         ],
         &[],
     ],
     report: b"interchange 1 at 0 from ACME control 000000007 accepted\ngroup PO 12 A sets 3 accepted 3\n\
         total interchanges 1 refused 0 groups 1 sets 3 accepted 3 held 0 outside 0\n",
-    next: [(3, 4), (1, 1)],
+    next: [(3, 5, 4), (1, 1, 1)],
     clean: true,
 };
 

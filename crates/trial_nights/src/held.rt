@@ -4,10 +4,11 @@ use super::pieces::{
     FROM_ACME, ORDER, ORDER_ACKNOWLEDGED, ORDER_FOR_BOLT, ORDER_IN_ITS_INTERCHANGE, ORDERS,
     ORDERS_END,
 };
+use super::setups::FIRST;
 
 /// A header within an element.
 const HEADER_WITHIN_AN_ELEMENT: WorkedNight = WorkedNight {
-    starts: (2, 1),
+    starts: FIRST,
     text: &[
         FROM_ACME,
         ORDERS,
@@ -19,14 +20,14 @@ const HEADER_WITHIN_AN_ELEMENT: WorkedNight = WorkedNight {
     acks: [&[ORDER_ACKNOWLEDGED], &[]],
     boxes: [&[], &[]],
     report: b"interchange 1 at 0 from ACME control 000000007 accepted\ngroup PO 12 A sets 1 accepted 1\n\
-        held set 1 delimiter\ntotal interchanges 1 refused 0 groups 1 sets 1 accepted 1 held 1 outside 0\n",
-    next: [(2, 1), (1, 1)],
+        held set 1 delimiter BOLT\ntotal interchanges 1 refused 0 groups 1 sets 1 accepted 1 held 1 outside 0\n",
+    next: [(2, 2, 1), (1, 1, 1)],
     clean: false,
 };
 
 /// The element separator of its receiver.
 const ELEMENT_SEPARATOR_OF_ITS_RECEIVER: WorkedNight = WorkedNight {
-    starts: (2, 1),
+    starts: FIRST,
     text: &[
         FROM_ACME,
         ORDERS,
@@ -36,14 +37,14 @@ const ELEMENT_SEPARATOR_OF_ITS_RECEIVER: WorkedNight = WorkedNight {
     acks: [&[ORDER_ACKNOWLEDGED], &[]],
     boxes: [&[], &[]],
     report: b"interchange 1 at 0 from ACME control 000000007 accepted\ngroup PO 12 A sets 1 accepted 1\n\
-        held set 1 delimiter\ntotal interchanges 1 refused 0 groups 1 sets 1 accepted 1 held 1 outside 0\n",
-    next: [(2, 1), (1, 1)],
+        held set 1 delimiter BOLT\ntotal interchanges 1 refused 0 groups 1 sets 1 accepted 1 held 1 outside 0\n",
+    next: [(2, 2, 1), (1, 1, 1)],
     clean: false,
 };
 
 /// A receiver without a route.
 const RECEIVER_WITHOUT_A_ROUTE: WorkedNight = WorkedNight {
-    starts: (2, 1),
+    starts: FIRST,
     text: &[
         FROM_ACME,
         b"GS*PO*ACME*NOBODY*20260228*0900*12*X*005010~",
@@ -54,19 +55,19 @@ const RECEIVER_WITHOUT_A_ROUTE: WorkedNight = WorkedNight {
     boxes: [&[], &[]],
     report: b"interchange 1 at 0 from ACME control 000000007 accepted\ngroup PO 12 A sets 1 accepted 1\nheld set 1 route\n\
         total interchanges 1 refused 0 groups 1 sets 1 accepted 1 held 1 outside 0\n",
-    next: [(2, 1), (1, 1)],
+    next: [(2, 2, 1), (1, 1, 1)],
     clean: false,
 };
 
 /// Bytes outside of interchanges.
 const BYTES_OUTSIDE_OF_INTERCHANGES: WorkedNight = WorkedNight {
-    starts: (2, 1),
+    starts: FIRST,
     text: &[b"HELLO", ORDER_IN_ITS_INTERCHANGE],
     acks: [&[ORDER_ACKNOWLEDGED], &[]],
     boxes: [&[], &[ORDER_FOR_BOLT]],
     report: b"interchange 1 at 5 from ACME control 000000007 accepted\ngroup PO 12 A sets 1 accepted 1\n\
         total interchanges 1 refused 0 groups 1 sets 1 accepted 1 held 0 outside 5\n",
-    next: [(2, 1), (2, 2)],
+    next: [(2, 2, 1), (2, 2, 2)],
     clean: false,
 };
 

@@ -9,11 +9,15 @@
 #[cfg(test)]
 mod accepted;
 #[cfg(test)]
+mod answered;
+#[cfg(test)]
 mod held;
 #[cfg(test)]
 mod night;
 #[cfg(test)]
 mod pieces;
+#[cfg(test)]
+mod receivers;
 #[cfg(test)]
 mod refused;
 #[cfg(test)]

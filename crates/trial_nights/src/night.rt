@@ -1,6 +1,6 @@
 //! A worked night, and its comparison with what `run_plain` gives.
-use super::setups::two_partners;
-use super::{accepted, held, refused, rejected};
+use super::setups::{Starts, two_partners};
+use super::{accepted, answered, held, receivers, refused, rejected};
 use hub_kinds::{Counters, Text};
 use hub_run::{Night, RunFault, run_plain};
 use moment::At;
@@ -11,14 +11,13 @@ use std::test::Fail;
 
 /// A night of ACME and BOLT. Texts are written as their pieces; what goes to a partner stands in the order of the partners.
 pub struct WorkedNight {
-    /// ACME's cap and its next interchange number.
-    pub starts: (u32, u32),
+    pub starts: Starts,
     pub text: &'static [&'static [u8]],
     pub acks: [&'static [&'static [u8]]; 2],
     pub boxes: [&'static [&'static [u8]]; 2],
     pub report: &'static [u8],
-    /// The next interchange number and the next set number.
-    pub next: [(u32, u32); 2],
+    /// The next interchange number, group number and set number.
+    pub next: [(u32, u32, u32); 2],
     pub clean: bool,
 }
 
@@ -51,13 +50,15 @@ fn expect_texts(alloc: Global, found: &[Text], wanted: &[&[&[u8]]; 2]) -> Result
     expect_text(alloc, found.get(1), wanted[1])
 }
 
-fn expect_next(found: &[Counters], wanted: &[(u32, u32); 2]) -> Result<(), Fail> {
+fn numbers_of(counters: &Counters) -> (u32, u32, u32) {
+    (counters.interchange, counters.group, counters.set)
+}
+
+fn expect_next(found: &[Counters], wanted: &[(u32, u32, u32); 2]) -> Result<(), Fail> {
     let ([acme, bolt], [wanted_acme, wanted_bolt]) = (found, wanted) else {
         return Err("other partners")?;
     };
-    if (acme.interchange, acme.set) != *wanted_acme
-        || (bolt.interchange, bolt.set) != *wanted_bolt
-    {
+    if numbers_of(acme) != *wanted_acme || numbers_of(bolt) != *wanted_bolt {
         return Err("other counters")?;
     }
     Ok(())
@@ -96,8 +97,7 @@ fn expect_night_by(alloc: Global, setup: &Setup, worked: &WorkedNight) -> Result
 }
 
 fn expect_night(alloc: Global, worked: &WorkedNight) -> Result<(), Fail> {
-    let (cap, next) = worked.starts;
-    let setup = two_partners(alloc, cap, next)?;
+    let setup = two_partners(alloc, &worked.starts)?;
     expect_night_by(alloc, &setup, worked)
 }
 
@@ -126,6 +126,16 @@ fn nights_of_what_nobody_can_check(rt: HostRuntime) -> Result<(), Fail> {
 #[test]
 fn nights_of_rejected_sets(rt: HostRuntime) -> Result<(), Fail> {
     expect_nights(rt.alloc(), rejected::NIGHTS)
+}
+
+#[test]
+fn nights_of_interchanges_that_are_answered(rt: HostRuntime) -> Result<(), Fail> {
+    expect_nights(rt.alloc(), answered::NIGHTS)
+}
+
+#[test]
+fn nights_of_two_receivers(rt: HostRuntime) -> Result<(), Fail> {
+    expect_nights(rt.alloc(), receivers::NIGHTS)
 }
 
 /// Why a run gives nothing, by numbers.

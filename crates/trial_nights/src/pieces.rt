@@ -22,6 +22,14 @@ pub const ORDER_ACKNOWLEDGED: &[u8] =
 pub const FROM_ACME: &[u8] =
     b"ISA*00*          *00*          *01*ACME           *ZZ*HUB            *260228*0900*^*00501*000000007*0*P*>~";
 
+/// The header of an interchange from ACME, up to its number.
+pub const FROM_ACME_AS: &[u8] =
+    b"ISA*00*          *00*          *01*ACME           *ZZ*HUB            *260228*0900*^*00501*";
+
+/// The header of an interchange to ACME, up to its number.
+pub const TO_ACME_AS: &[u8] =
+    b"ISA*00*          *00*          *ZZ*HUB            *01*ACME           *260301*1530*^*00501*";
+
 /// The header of a group of orders.
 pub const ORDERS: &[u8] = b"GS*PO*ACME*BOLT*20260228*0900*12*X*005010~";
 

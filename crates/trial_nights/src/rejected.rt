@@ -4,10 +4,11 @@ use super::pieces::{
     ACKNOWLEDGMENT, ACKNOWLEDGMENT_END, ANSWERED_ORDERS, FROM_ACME, ORDER, ORDER_FOR_BOLT, ORDERS,
     ORDERS_END,
 };
+use super::setups::FIRST;
 
 /// Numbers and a count that differ.
 const NUMBERS_AND_A_COUNT_THAT_DIFFER: WorkedNight = WorkedNight {
-    starts: (2, 1),
+    starts: FIRST,
     text: &[
         FROM_ACME,
         ORDERS,
@@ -26,13 +27,13 @@ const NUMBERS_AND_A_COUNT_THAT_DIFFER: WorkedNight = WorkedNight {
     boxes: [&[], &[]],
     report: b"interchange 1 at 0 from ACME control 000000007 accepted\ngroup PO 12 R sets 1 accepted 0\n\
         total interchanges 1 refused 0 groups 1 sets 1 accepted 0 held 0 outside 0\n",
-    next: [(2, 1), (1, 1)],
+    next: [(2, 2, 1), (1, 1, 1)],
     clean: false,
 };
 
 /// A set sent twice.
 const SET_SENT_TWICE: WorkedNight = WorkedNight {
-    starts: (2, 1),
+    starts: FIRST,
     text: &[FROM_ACME, ORDERS, ORDER, ORDER, b"GE*2*12~IEA*1*000000007~"],
     acks: [
         &[
@@ -46,13 +47,13 @@ const SET_SENT_TWICE: WorkedNight = WorkedNight {
     boxes: [&[], &[ORDER_FOR_BOLT]],
     report: b"interchange 1 at 0 from ACME control 000000007 accepted\ngroup PO 12 P sets 2 accepted 1\n\
         total interchanges 1 refused 0 groups 1 sets 2 accepted 1 held 0 outside 0\n",
-    next: [(2, 1), (2, 2)],
+    next: [(2, 2, 1), (2, 2, 2)],
     clean: false,
 };
 
 /// Segments that are absent, too many or unknown.
 const SEGMENTS_THAT_ARE_ABSENT_TOO_MANY_OR_UNKNOWN: WorkedNight = WorkedNight {
-    starts: (2, 1),
+    starts: FIRST,
     text: &[
         FROM_ACME,
         ORDERS,
@@ -71,13 +72,13 @@ const SEGMENTS_THAT_ARE_ABSENT_TOO_MANY_OR_UNKNOWN: WorkedNight = WorkedNight {
     boxes: [&[], &[]],
     report: b"interchange 1 at 0 from ACME control 000000007 accepted\ngroup PO 12 R sets 1 accepted 0\n\
         total interchanges 1 refused 0 groups 1 sets 1 accepted 0 held 0 outside 0\n",
-    next: [(2, 1), (1, 1)],
+    next: [(2, 2, 1), (1, 1, 1)],
     clean: false,
 };
 
 /// A loop that is absent.
 const LOOP_THAT_IS_ABSENT: WorkedNight = WorkedNight {
-    starts: (2, 1),
+    starts: FIRST,
     text: &[
         FROM_ACME,
         ORDERS,
@@ -96,13 +97,13 @@ const LOOP_THAT_IS_ABSENT: WorkedNight = WorkedNight {
     boxes: [&[], &[]],
     report: b"interchange 1 at 0 from ACME control 000000007 accepted\ngroup PO 12 R sets 1 accepted 0\n\
         total interchanges 1 refused 0 groups 1 sets 1 accepted 0 held 0 outside 0\n",
-    next: [(2, 1), (1, 1)],
+    next: [(2, 2, 1), (1, 1, 1)],
     clean: false,
 };
 
 /// Faults of elements.
 const FAULTS_OF_ELEMENTS: WorkedNight = WorkedNight {
-    starts: (2, 1),
+    starts: FIRST,
     text: &[
         FROM_ACME,
         ORDERS,
@@ -124,13 +125,13 @@ const FAULTS_OF_ELEMENTS: WorkedNight = WorkedNight {
     boxes: [&[], &[]],
     report: b"interchange 1 at 0 from ACME control 000000007 accepted\ngroup PO 12 R sets 1 accepted 0\n\
         total interchanges 1 refused 0 groups 1 sets 1 accepted 0 held 0 outside 0\n",
-    next: [(2, 1), (1, 1)],
+    next: [(2, 2, 1), (1, 1, 1)],
     clean: false,
 };
 
 /// A hierarchy with faults.
 const HIERARCHY_WITH_FAULTS: WorkedNight = WorkedNight {
-    starts: (2, 1),
+    starts: FIRST,
     text: &[
         FROM_ACME,
         b"GS*SH*ACME*BOLT*20260228*0900*12*X*005010~ST*856*0001~BSN*00*SH1*20260228*0900~HL*1**S*0~HL*2*3*O~HL*3*1*I~\
@@ -149,13 +150,13 @@ const HIERARCHY_WITH_FAULTS: WorkedNight = WorkedNight {
     boxes: [&[], &[]],
     report: b"interchange 1 at 0 from ACME control 000000007 accepted\ngroup SH 12 R sets 1 accepted 0\n\
         total interchanges 1 refused 0 groups 1 sets 1 accepted 0 held 0 outside 0\n",
-    next: [(2, 1), (1, 1)],
+    next: [(2, 2, 1), (1, 1, 1)],
     clean: false,
 };
 
 /// A mark that is needed.
 const MARK_THAT_IS_NEEDED: WorkedNight = WorkedNight {
-    starts: (2, 1),
+    starts: FIRST,
     text: &[
         FROM_ACME,
         b"GS*SH*ACME*BOLT*20260228*0900*12*X*005010~ST*856*0001~BSN*00*SH1*20260228*0900~HL*1**S~HL*2*1*O~HL*3*2*P~\
@@ -173,7 +174,7 @@ const MARK_THAT_IS_NEEDED: WorkedNight = WorkedNight {
     boxes: [&[], &[]],
     report: b"interchange 1 at 0 from ACME control 000000007 accepted\ngroup SH 12 R sets 1 accepted 0\n\
         total interchanges 1 refused 0 groups 1 sets 1 accepted 0 held 0 outside 0\n",
-    next: [(2, 1), (1, 1)],
+    next: [(2, 2, 1), (1, 1, 1)],
     clean: false,
 };
 

@@ -1,7 +1,7 @@
 //! The setup of two partners, by the house guides.
 use super::setup::built::{NoSetup, built};
 use partner_setup::Setup;
-use std::alloc::Global;
+use std::alloc::{AllocError, Global};
 use trial_guides::house::{H850, H856};
 
 /// The setup file up to ACME's cap.
@@ -44,15 +44,44 @@ to = "ACME"
 
 [[route]]
 code = "BOLT"
-to = "BOLT"
-"#;
+to = "#;
 
-/// The setup of the two partners, by ACME's cap and its next interchange number.
-pub fn two_partners(alloc: Global, cap: u32, next: u32) -> Result<Setup, NoSetup> {
-    let setup = format!(in alloc; "{TO_CAP}{cap}{BEHIND_CAP}")?;
-    let counters = format!(in alloc;
-        "version = 1\n[[counter]]\npartner = \"ACME\"\ninterchange = {next}\nset = 1\n\
-        [[counter]]\npartner = \"BOLT\"\ninterchange = 1\nset = 1\n"
-    )?;
+/// What a night starts from.
+#[derive(Clone, Copy)]
+pub struct Starts {
+    /// ACME's cap.
+    pub cap: u32,
+    /// ACME's next interchange number.
+    pub interchange: u32,
+    /// ACME's next group number.
+    pub group: u32,
+    /// The receivers of what is sent to BOLT, as a setup file names them.
+    pub to: &'static str,
+}
+
+/// The first night.
+pub const FIRST: Starts = Starts {
+    cap: 2,
+    interchange: 1,
+    group: 1,
+    to: "\"BOLT\"",
+};
+
+fn setup_file(alloc: Global, starts: &Starts) -> Result<String, AllocError> {
+    format!(in alloc; "{TO_CAP}{}{BEHIND_CAP}{}\n", starts.cap, starts.to)
+}
+
+/// A counters file that has a row for ACME alone.
+fn counters_file(alloc: Global, starts: &Starts) -> Result<String, AllocError> {
+    format!(in alloc;
+        "version = 2\n[[counter]]\npartner = \"ACME\"\ninterchange = {}\ngroup = {}\nset = 1\n",
+        starts.interchange, starts.group
+    )
+}
+
+/// The setup of the two partners.
+pub fn two_partners(alloc: Global, starts: &Starts) -> Result<Setup, NoSetup> {
+    let setup = setup_file(alloc, starts)?;
+    let counters = counters_file(alloc, starts)?;
     built(alloc, setup.as_bytes(), counters.as_bytes(), [H850, H856])
 }

@@ -3,10 +3,11 @@
 //! from the program.
 //!
 //! 999 guide (005010X231), ST, AK1, AK2, IK3, IK4, IK5, AK9 and SE; X12.5, interchange control
-//! header and trailer; X12.6, functional group header and trailer.
+//! header and trailer, interchange acknowledgment (TA1); X12.6, functional group header and trailer.
 mod copies;
 mod faults;
 mod groups;
+mod interchanges;
 mod reports;
 mod samples;
 mod texts;

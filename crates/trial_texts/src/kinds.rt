@@ -2,7 +2,8 @@
 use crate::texts::{holds, same};
 use hub_kinds::{
     Code, ElementCode, GroupCode, GroupVerdict, InterchangeFault, Items, Lent, SegmentCode,
-    SetCode, Verdict, code_of, code_text, is_alphanumeric, read_number,
+    SetCode, Verdict, acknowledgment_code, code_of, code_text, is_alphanumeric, note_text,
+    read_number,
 };
 use std::test::Fail;
 
@@ -78,6 +79,49 @@ fn writes_codes_and_reads_them_back() -> Result<(), Fail> {
         && is_text_of("19", GroupCode::ControlNumberNotUnique)
         && is_text_of("8", InterchangeFault::SenderUnknown);
     holds(are_written && are_texts_of_verdicts(), "another text")
+}
+
+/// A fault of an interchange or none, and what a TA1 tells of it: TA104 and TA105; nothing of those that are never answered.
+const NOTES: &[(Option<InterchangeFault>, Option<(&str, &str)>)] = &[
+    (None, Some(("A", "000"))),
+    (Some(InterchangeFault::TrailerMissing), Some(("R", "023"))),
+    (Some(InterchangeFault::ControlNumberInvalid), None),
+    (
+        Some(InterchangeFault::ControlNumbersDiffer),
+        Some(("R", "001")),
+    ),
+    (Some(InterchangeFault::GroupCountWrong), Some(("R", "021"))),
+    (Some(InterchangeFault::SegmentMisplaced), Some(("R", "022"))),
+    (
+        Some(InterchangeFault::GroupHeaderInvalid),
+        Some(("R", "024")),
+    ),
+    (Some(InterchangeFault::SetHeaderInvalid), Some(("R", "024"))),
+    (Some(InterchangeFault::SenderUnknown), None),
+    (Some(InterchangeFault::Duplicate), Some(("R", "025"))),
+];
+
+/// Whether this is told of a fault, or of none.
+fn is_told(fault: Option<InterchangeFault>, wanted: Option<(&str, &str)>) -> bool {
+    match (note_text(fault), wanted) {
+        (None, None) => true,
+        (Some(note), Some((code, text))) => note == text && acknowledgment_code(note) == code,
+        _ => false,
+    }
+}
+
+fn are_told(cases: &[(Option<InterchangeFault>, Option<(&str, &str)>)]) -> bool {
+    for (fault, wanted) in cases {
+        if !is_told(*fault, *wanted) {
+            return false;
+        }
+    }
+    true
+}
+
+#[test]
+fn gives_the_note_of_each_fault() -> Result<(), Fail> {
+    holds(are_told(NOTES), "another note")
 }
 
 /// Texts that no segment code has.

@@ -1,7 +1,7 @@
 //! The trial of count_numbers: what a night leaves of a partner, and of two partners, in one stretch and cut anywhere, and the
 //! numbers that follow from it.
 //!
-//! X12.5, interchange control number; X12.6, functional group and transaction set control number.
+//! X12.5, interchange control number; X12.6, functional group, group control number and transaction set control number.
 ghost use Rattle.std.specs.Prelude.{◌≡◌, length};
 
 use count_numbers::{Numbers, PartnerNumbers, Run, RunKey, Tallies, Tally, numbers_for};
@@ -10,9 +10,9 @@ use hub_kinds::{Counters, Lent, NoMemory};
 use std::alloc::Global;
 use std::test::Fail;
 
-/// What happens for a partner: an acknowledgment, or a delivered set of a sender with a GS01.
+/// What happens for a partner: an acknowledgment, with a group or without one, or a delivered set of a sender with a GS01.
 enum Event {
-    Acknowledgment,
+    Acknowledgment(bool),
     Delivery(u32, &'static [u8]),
 }
 
@@ -30,6 +30,7 @@ const CASES: &[Case] = &[
         events: &[],
         counters: Counters {
             interchange: 1,
+            group: 1,
             set: 1,
         },
         cap: 2,
@@ -37,11 +38,15 @@ const CASES: &[Case] = &[
         numbers: PartnerNumbers {
             first_acknowledgment: 1,
             first_delivered: 1,
+            first_group: 1,
+            first_delivered_group: 1,
             first_set: 1,
             delivered: 0,
+            groups: 0,
             sets: 0,
             next: Counters {
                 interchange: 1,
+                group: 1,
                 set: 1,
             },
         },
@@ -50,11 +55,12 @@ const CASES: &[Case] = &[
         events: &[
             Event::Delivery(0, b"PO"),
             Event::Delivery(0, b"PO"),
-            Event::Acknowledgment,
+            Event::Acknowledgment(true),
             Event::Delivery(0, b"PO"),
         ],
         counters: Counters {
             interchange: 999_999_998,
+            group: 1,
             set: 1,
         },
         cap: 1,
@@ -62,27 +68,33 @@ const CASES: &[Case] = &[
         numbers: PartnerNumbers {
             first_acknowledgment: 999_999_998,
             first_delivered: 999_999_999,
+            first_group: 1,
+            first_delivered_group: 2,
             first_set: 1,
             delivered: 3,
+            groups: 3,
             sets: 3,
             next: Counters {
                 interchange: 3,
+                group: 5,
                 set: 4,
             },
         },
     },
+    // of two acknowledgments one has no group
     Case {
         events: &[
-            Event::Acknowledgment,
+            Event::Acknowledgment(false),
             Event::Delivery(0, b"PO"),
             Event::Delivery(0, b"SH"),
             Event::Delivery(1, b"SH"),
-            Event::Acknowledgment,
+            Event::Acknowledgment(true),
             Event::Delivery(1, b"SH"),
             Event::Delivery(0, b"PO"),
         ],
         counters: Counters {
             interchange: 7,
+            group: 999_999_998,
             set: 999_999_997,
         },
         cap: 2,
@@ -90,12 +102,48 @@ const CASES: &[Case] = &[
         numbers: PartnerNumbers {
             first_acknowledgment: 7,
             first_delivered: 9,
+            first_group: 999_999_998,
+            first_delivered_group: 999_999_999,
             first_set: 999_999_997,
             delivered: 3,
+            groups: 4,
             sets: 5,
             next: Counters {
                 interchange: 12,
+                group: 4,
                 set: 3,
+            },
+        },
+    },
+    // a run of three sets is a group in each of the two interchanges that it lies in
+    Case {
+        events: &[
+            Event::Delivery(0, b"SH"),
+            Event::Delivery(0, b"PO"),
+            Event::Delivery(0, b"PO"),
+            Event::Delivery(0, b"PO"),
+            Event::Acknowledgment(false),
+        ],
+        counters: Counters {
+            interchange: 1,
+            group: 5,
+            set: 1,
+        },
+        cap: 2,
+        runs: &[1, 3],
+        numbers: PartnerNumbers {
+            first_acknowledgment: 1,
+            first_delivered: 2,
+            first_group: 5,
+            first_delivered_group: 5,
+            first_set: 1,
+            delivered: 2,
+            groups: 3,
+            sets: 4,
+            next: Counters {
+                interchange: 4,
+                group: 8,
+                set: 5,
             },
         },
     },
@@ -113,7 +161,7 @@ fn tally_of(alloc: Global, events: &[Event]) -> Result<Tally<'static>, NoMemory>
     let mut tally = Tally::new(alloc);
     for event in events {
         match event {
-            Event::Acknowledgment => tally.acknowledge(),
+            Event::Acknowledgment(has_group) => tally.acknowledge(*has_group),
             Event::Delivery(sender, kind) => tally.deliver(key_of(*sender, kind))?,
         }
     }
@@ -147,6 +195,8 @@ fn gives_numbers(alloc: Global, tallies: &[Tally<'_>], case: &Case) -> Result<bo
     let (counters, cap) = (case.counters, case.cap);
     if counters.interchange < 1
         || counters.interchange > GREATEST
+        || counters.group < 1
+        || counters.group > GREATEST
         || counters.set < 1
         || counters.set > GREATEST
         || cap < 1
@@ -181,13 +231,13 @@ fn numbers_follow_wherever_events_are_cut(rt: HostRuntime) -> Result<(), Fail> {
 /// What happens for two partners, in the order of the text.
 const HAPPENINGS: &[(usize, Event)] = &[
     (1, Event::Delivery(0, b"PO")),
-    (0, Event::Acknowledgment),
+    (0, Event::Acknowledgment(true)),
     (1, Event::Delivery(0, b"PO")),
     (0, Event::Delivery(1, b"SH")),
-    (1, Event::Acknowledgment),
+    (1, Event::Acknowledgment(true)),
     (1, Event::Delivery(0, b"PO")),
     (0, Event::Delivery(1, b"SH")),
-    (0, Event::Acknowledgment),
+    (0, Event::Acknowledgment(false)),
     (1, Event::Delivery(0, b"SH")),
     (0, Event::Delivery(1, b"SH")),
 ];
@@ -197,22 +247,30 @@ const OF_TWO: &[PartnerNumbers] = &[
     PartnerNumbers {
         first_acknowledgment: 5,
         first_delivered: 7,
+        first_group: 40,
+        first_delivered_group: 41,
         first_set: 20,
         delivered: 2,
+        groups: 2,
         sets: 3,
         next: Counters {
             interchange: 9,
+            group: 43,
             set: 23,
         },
     },
     PartnerNumbers {
         first_acknowledgment: 999_999_998,
         first_delivered: 999_999_999,
+        first_group: 999_999_999,
+        first_delivered_group: 1,
         first_set: 999_999_999,
         delivered: 2,
+        groups: 2,
         sets: 4,
         next: Counters {
             interchange: 2,
+            group: 3,
             set: 4,
         },
     },
@@ -225,7 +283,7 @@ fn tallies_of(alloc: Global, events: &[(usize, Event)]) -> Result<Tallies<'stati
             continue;
         }
         match event {
-            Event::Acknowledgment => tallies.acknowledge(*partner),
+            Event::Acknowledgment(has_group) => tallies.acknowledge(*partner, *has_group),
             Event::Delivery(sender, kind) => tallies.deliver(*partner, key_of(*sender, kind))?,
         }
     }
@@ -252,10 +310,12 @@ fn numbers_of_two(alloc: Global, tallies: &[Tally<'_>]) -> Result<Numbers, NoMem
 {
     let first = Counters {
         interchange: 5,
+        group: 40,
         set: 20,
     };
     let second = Counters {
         interchange: 999_999_998,
+        group: 999_999_999,
         set: 999_999_999,
     };
     numbers_for(alloc, tallies, &[first, second], &[2, 3])

@@ -12,8 +12,8 @@ pub const ROUTES: &str =
     "[[route]]\ncode=\"ACME\"\nto=\"ACME\"\n[[route]]\ncode=\"BOLT\"\nto=\"BOLT\"\n";
 
 pub const COUNTERS: &str =
-    "version = 1\n\n[[counter]]\npartner = \"ACME\"\ninterchange = 1\nset = 1\n\n\
-    [[counter]]\npartner = \"BOLT\"\ninterchange = 1\nset = 1\n";
+    "version = 2\n\n[[counter]]\npartner = \"ACME\"\ninterchange = 1\ngroup = 1\nset = 1\n\n\
+    [[counter]]\npartner = \"BOLT\"\ninterchange = 1\ngroup = 1\nset = 1\n";
 
 pub const H850: &str = "name=\"H850\"\ngroup=\"PO\"\nset=\"850\"\nversion=\"005010\"\n\
     nodes=[{seg=\"BEG\",min=1,max=1,elements=[\"353 M ID 2 2\"]}]\n";

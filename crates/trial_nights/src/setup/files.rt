@@ -93,11 +93,54 @@ fn rows_of_setup_files(rt: HostRuntime) -> Result<(), Fail> {
     expect_all_behind(rt.alloc(), BEHIND)
 }
 
+/// The receivers of a route, and the fault of each file.
+const RECEIVERS: &[[&str; 2]] = &[
+    ["", "2 Missing(\"to\")"],
+    ["to=\"BOLT\"", "0 None"],
+    ["to=[\"BOLT\"]", "0 None"],
+    ["to=[\"BOLT\",\"ACME\"]", "0 None"],
+    ["to=[]", "3 WrongKind(\"to\")"],
+    ["to=7", "3 WrongKind(\"to\")"],
+    ["to=[\"BOLT\",7]", "3 WrongKind(\"to\")"],
+    ["to=[[\"BOLT\"]]", "3 WrongKind(\"to\")"],
+    ["to={BOLT=1}", "3 WrongKind(\"to\")"],
+    // sixteen
+    [
+        "to=[\"A\",\"B\",\"C\",\"D\",\"E\",\"F\",\"G\",\"H\",\"I\",\"J\",\"K\",\"L\",\"M\",\"N\",\"O\",\"P\"]",
+        "0 None",
+    ],
+    // seventeen
+    [
+        "to=[\"A\",\"B\",\"C\",\"D\",\"E\",\"F\",\"G\",\"H\",\"I\",\"J\",\"K\",\"L\",\"M\",\"N\",\"O\",\"P\",\"Q\"]",
+        "3 WrongKind(\"to\")",
+    ],
+];
+
+fn expect_receivers(alloc: Global, to: &str, wanted: &str) -> Result<(), Fail> {
+    let file = format!(in alloc; "partner=[]\n{HUB}[[route]]\ncode=\"BOLT\"\n{to}\n")?;
+    expect(alloc, &setup_fault(alloc, file.as_bytes()), wanted)
+}
+
+fn expect_all_receivers(alloc: Global, cases: &[[&str; 2]]) -> Result<(), Fail> {
+    for [to, wanted] in cases {
+        expect_receivers(alloc, to, wanted)?;
+    }
+    Ok(())
+}
+
+#[test]
+fn receivers_of_a_route(rt: HostRuntime) -> Result<(), Fail> {
+    expect_all_receivers(rt.alloc(), RECEIVERS)
+}
+
 /// Counters files, and the fault of each.
 const COUNTERS: &[(&[u8], &str)] = &[
     (&[], "2 Missing(\"version\")"),
     (b"version=1\n", "0 None"),
+    (b"version=2\n", "0 None"),
+    (b"version=0\n", "3 WrongKind(\"version\")"),
     (b"version=3\n", "3 WrongKind(\"version\")"),
+    (b"version=\"2\"\n", "3 WrongKind(\"version\")"),
     (b"version=1\npartner=1\n", "4 Unknown(\"partner\")"),
     (
         b"version=1\n[[counter]]\npartner=\"ACME\"\nset=1\n",
@@ -106,6 +149,31 @@ const COUNTERS: &[(&[u8], &str)] = &[
     (
         b"version=1\n[[counter]]\npartner=\"ACME\"\ninterchange=4294967296\nset=1\n",
         "3 WrongKind(\"interchange\")",
+    ),
+    // a counter of groups is of version 2 alone, and isn't left out there
+    (
+        b"version=1\n[[counter]]\npartner=\"ACME\"\ninterchange=1\ngroup=1\nset=1\n",
+        "4 Unknown(\"group\")",
+    ),
+    (
+        b"version=2\n[[counter]]\npartner=\"ACME\"\ninterchange=1\nset=1\n",
+        "2 Missing(\"group\")",
+    ),
+    (
+        b"version=2\n[[counter]]\npartner=\"ACME\"\n",
+        "2 Missing(\"interchange\")",
+    ),
+    (
+        b"version=2\n[[counter]]\npartner=\"ACME\"\ninterchange=1\ngroup=-1\nset=\"1\"\n",
+        "3 WrongKind(\"group\")",
+    ),
+    (
+        b"version=2\n[[counter]]\npartner=\"ACME\"\ninterchange=1\ngroup=1\n",
+        "2 Missing(\"set\")",
+    ),
+    (
+        b"version=2\n[[counter]]\npartner=\"ACME\"\ninterchange=1\ngroup=0\nset=1\n",
+        "0 None",
     ),
 ];
 

@@ -21,7 +21,8 @@ use std::alloc::Global;
 use std::test::Fail;
 use x12_segs::SetSpan;
 
-/// Groups of two orders from ACME: each of its own number; the second with the number of the first; the first without its BEG.
+/// Groups of two orders from ACME: each of its own number; the second with the number of the first; the first without its BEG; and the
+/// first group once more, in an interchange that asks for a TA1.
 const TEXTS: &[&[u8]] = &[
     b"ISA*00*          *00*          *01*ACME           *ZZ*HUB            *260228*0900*^*00501*000000007*0*P*>~\
     GS*PO*ACME*BOLT*20260228*0900*12*X*005010~ST*850*0001~BEG*00~SE*3*0001~ST*850*0002~BEG*00~SE*3*0002~\
@@ -31,6 +32,9 @@ const TEXTS: &[&[u8]] = &[
     GE*2*12~IEA*1*000000007~",
     b"ISA*00*          *00*          *01*ACME           *ZZ*HUB            *260228*0900*^*00501*000000007*0*P*>~\
     GS*PO*ACME*BOLT*20260228*0900*12*X*005010~ST*850*0001~SE*2*0001~ST*850*0002~BEG*00~SE*3*0002~\
+    GE*2*12~IEA*1*000000007~",
+    b"ISA*00*          *00*          *01*ACME           *ZZ*HUB            *260228*0900*^*00501*000000007*1*P*>~\
+    GS*PO*ACME*BOLT*20260228*0900*12*X*005010~ST*850*0001~BEG*00~SE*3*0001~ST*850*0002~BEG*00~SE*3*0002~\
     GE*2*12~IEA*1*000000007~",
 ];
 
@@ -152,6 +156,9 @@ fn expect_acknowledgments(
     };
     if wanted_acme.count() != 1 || acme.count() != 1 || bolt.count() != wanted_bolt.count() {
         return Err("other acknowledgments")?;
+    }
+    if wanted_acme.groups() != 1 || acme.groups() != 1 || bolt.groups() != wanted_bolt.groups() {
+        return Err("other groups of acknowledgments")?;
     }
     expect_bytes(acme.text(), wanted_acme.text())?;
     expect_bytes(bolt.text(), wanted_bolt.text())

@@ -1,6 +1,6 @@
 //! What is looked up in the setup of the two partners.
-use super::built::example;
-use super::examples::{FROM_ACME, FROM_BOLT, FROM_NOBODY};
+use super::built::{built_of, example};
+use super::examples::{ACME, BOLT, COUNTERS, FROM_ACME, FROM_BOLT, FROM_NOBODY};
 use guide_tree::Guide;
 use partner_setup::Setup;
 use std::test::Fail;
@@ -53,6 +53,19 @@ fn expect_receivers(setup: &Setup, cases: &[(&[u8], &[usize])]) -> Result<(), Fa
 #[test]
 fn receivers(rt: HostRuntime) -> Result<(), Fail> {
     expect_receivers(&example(rt.alloc())?, RECEIVERS)
+}
+
+/// Both partners as receivers of what is sent to BOLT, the second first.
+const TO_BOTH: &str =
+    "[[route]]\ncode=\"BOLT\"\nto=[\"BOLT\",\"ACME\"]\n[[route]]\ncode=\"ACME\"\nto=\"BOLT\"\n";
+
+/// Codes, and the places of their receivers, in the order of the route.
+const IN_ORDER: &[(&[u8], &[usize])] = &[(b"BOLT", &[1, 0]), (b"ACME", &[1]), (b"CARL", &[])];
+
+#[test]
+fn receivers_in_their_order(rt: HostRuntime) -> Result<(), Fail> {
+    let setup = built_of(rt.alloc(), ACME, BOLT, TO_BOTH, COUNTERS)?;
+    expect_receivers(&setup, IN_ORDER)
 }
 
 /// A partner, GS01 and GS08, and whether it has a guide for the one and for both.

@@ -7,7 +7,7 @@ use checked_text::{CheckedText, check_text, settled_faults};
 use env_index::{Index, index_plain};
 use hub_kinds::within_limit;
 use judged_text::{JudgedInterchange, PlacedSet};
-use mailbox::assemble;
+use mailbox::{Mailbox, assemble};
 use moment::At;
 use night_report::{is_clean, report_text};
 use partner_setup::Setup;
@@ -24,15 +24,18 @@ const TWICE: &[u8] =
 const ACKNOWLEDGED: &[u8] =
     b"ISA*00*          *00*          *ZZ*HUB            *01*ACME           *260301*1530*^*00501*000000001*0*P*>~\
     GS*FA*HUB*ACME*20260301*1530*1*X*005010X231~ST*999*0001*005010X231~AK1*PO*12*005010~AK2*850*0001~IK5*A~AK9*A*1*1*1~\
-    SE*6*0001~GE*1*1~IEA*1*000000001~";
+    SE*6*0001~GE*1*1~IEA*1*000000001~\
+    ISA*00*          *00*          *ZZ*HUB            *01*ACME           *260301*1530*^*00501*000000002*0*P*>~\
+    TA1*000000007*260228*0900*R*025~IEA*0*000000002~";
 
 const DELIVERED: &[u8] =
     b"ISA|00|          |00|          |ZZ|HUB            |ZZ|BOLT           |260301|1530|^|00501|000000001|0|P|:!\
-    GS|PO|ACME|BOLT|20260301|1530|1|X|005010!ST|850|0001!BEG|00!SE|3|0001!GE|1|1!IEA|1|000000001!";
+    GS|PO|ACME|BOLT|20260301|1530|3|X|005010!ST|850|0001!BEG|00!SE|3|0001!GE|1|3!IEA|1|000000001!";
 
 const REPORTED: &[u8] = b"interchange 1 at 0 from ACME control 000000007 accepted\n\
     group PO 12 A sets 1 accepted 1\n\
     interchange 2 at 201 from ACME control 000000007 refused 9\n\
+    ta1 sent R 025\n\
     total interchanges 2 refused 1 groups 1 sets 1 accepted 1 held 0 outside 0\n";
 
 fn expect_bytes(found: &[u8], wanted: &[u8]) -> Result<(), Fail> {
@@ -42,13 +45,13 @@ fn expect_bytes(found: &[u8], wanted: &[u8]) -> Result<(), Fail> {
     Ok(())
 }
 
-/// The mailbox of the second partner, with the first set of an interchange.
+/// The mailbox of the second partner, with the first set of an interchange, behind no acknowledgment and two groups.
 fn delivered(
     alloc: Global,
     setup: &Setup,
     at: &At,
     interchange: &JudgedInterchange<'_, '_>,
-) -> Result<Vec<u8>, Fail> {
+) -> Result<Mailbox, Fail> {
     let groups = interchange.interchange();
     if setup.partners().len() < 2 || groups.group_count() == 0 {
         return Err("no group or no partner")?;
@@ -57,7 +60,7 @@ fn delivered(
         return Err("no set")?;
     }
     let set = PlacedSet::new(interchange, 0, 0);
-    Ok(assemble(alloc, setup, 1, at, 0, &[set])?)
+    Ok(assemble(alloc, setup, 1, at, 0, 2, &[set])?)
 }
 
 fn expect_delivered(
@@ -67,7 +70,10 @@ fn expect_delivered(
     interchange: &JudgedInterchange<'_, '_>,
 ) -> Result<(), Fail> {
     let found = delivered(alloc, setup, at, interchange)?;
-    expect_bytes(found.as_slice(), DELIVERED)
+    if found.groups != 1 {
+        return Err("another number of groups")?;
+    }
+    expect_bytes(found.text.as_slice(), DELIVERED)
 }
 
 fn expect_report(

@@ -5,7 +5,7 @@ use partner_setup::{Setup, SetupFault};
 use std::alloc::{AllocError, Global};
 use std::test::Fail;
 
-/// What files say beside ACME: of the partner BOLT, of its route and of its counters.
+/// What files say beside ACME: of the partner BOLT and of its route; and of ACME's counters.
 #[derive(Clone, Copy)]
 struct Case {
     name: &'static str,
@@ -14,6 +14,8 @@ struct Case {
     cap: &'static str,
     guide: &'static str,
     to: &'static str,
+    interchange: &'static str,
+    group: &'static str,
     set: &'static str,
     wanted: SetupFault,
 }
@@ -24,7 +26,9 @@ const PLAIN: Case = Case {
     component: ":",
     cap: "1",
     guide: "H850",
-    to: "BOLT",
+    to: "\"BOLT\"",
+    interchange: "1",
+    group: "1",
     set: "1",
     wanted: SetupFault::NoMemory,
 };
@@ -56,8 +60,33 @@ const CASES: &[Case] = &[
         ..PLAIN
     },
     Case {
-        to: "CARL",
+        to: "\"CARL\"",
         wanted: SetupFault::BadRoute,
+        ..PLAIN
+    },
+    Case {
+        to: "[\"BOLT\", \"CARL\"]",
+        wanted: SetupFault::BadRoute,
+        ..PLAIN
+    },
+    Case {
+        to: "[\"BOLT\", \"ACME\", \"BOLT\"]",
+        wanted: SetupFault::BadRoute,
+        ..PLAIN
+    },
+    Case {
+        interchange: "1000000000",
+        wanted: SetupFault::BadCounter,
+        ..PLAIN
+    },
+    Case {
+        group: "0",
+        wanted: SetupFault::BadCounter,
+        ..PLAIN
+    },
+    Case {
+        group: "1000000000",
+        wanted: SetupFault::BadCounter,
         ..PLAIN
     },
     Case {
@@ -101,13 +130,13 @@ fn partner(alloc: Global, case: &Case) -> Result<String, AllocError> {
 }
 
 fn route(alloc: Global, case: &Case) -> Result<String, AllocError> {
-    format!(in alloc; "[[route]]\ncode=\"BOLT\"\nto=\"{}\"\n", case.to)
+    format!(in alloc; "[[route]]\ncode=\"BOLT\"\nto={}\n", case.to)
 }
 
 fn counters(alloc: Global, case: &Case) -> Result<String, AllocError> {
     format!(in alloc;
-        "version=1\n[[counter]]\npartner=\"ACME\"\ninterchange=1\nset={}\n",
-        case.set
+        "version=2\n[[counter]]\npartner=\"ACME\"\ninterchange={}\ngroup={}\nset={}\n",
+        case.interchange, case.group, case.set
     )
 }
 

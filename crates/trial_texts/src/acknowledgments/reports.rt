@@ -1,8 +1,8 @@
-//! Whole acknowledgments of groups whose sets have no faults, and the interchange around one.
+//! Whole acknowledgments of groups whose sets have no faults, the header in front of one, and a delivered group.
+use super::interchanges::{envelope, moment};
 use super::samples::{ACCEPTED_GROUP, ACCEPTED_SET, DELIMS, GroupRow, SetRow, acknowledgment};
 use super::texts::same;
 use crate::texts::holds;
-use ack_999::{Envelope, append_closing, write_ack_interchange};
 use hub_kinds::{GroupCode, GroupVerdict, Items, Lent, NoMemory, SetCode, Verdict};
 use moment::At;
 use std::alloc::Global;
@@ -123,58 +123,6 @@ fn writes_each(alloc: Global, cases: &[Case]) -> Result<(), Fail> {
 #[test]
 fn writes_acknowledgments(rt: HostRuntime) -> Result<(), Fail> {
     writes_each(rt.alloc(), CASES)
-}
-
-fn envelope() -> Envelope<'static> {
-    Envelope {
-        hub_qualifier: Lent::new(b"ZZ"),
-        hub_id: Lent::new(b"HUB"),
-        hub_code: Lent::new(b"HUB"),
-        partner_qualifier: Lent::new(b"01"),
-        partner_id: Lent::new(b"ACME"),
-        partner_code: Lent::new(b"ACME"),
-        usage: b'P',
-        repetition: b'^',
-        delims: DELIMS,
-    }
-}
-
-const SENT: &[u8] =
-    b"ISA*00*          *00*          *ZZ*HUB            *01*ACME           *260301*1530*^*00501*000000001*0*P*>~\
-      GS*FA*HUB*ACME*20260301*1530*1*X*005010X231~ST*999*0001*005010X231~AK1*PO*12*005010~AK2*850*0001~IK5*A~\
-      AK9*A*1*1*1~SE*6*0001~GE*1*1~IEA*1*000000001~";
-
-/// The moment at which these are made.
-fn moment() -> Result<At, Fail> {
-    match At::read(b"202603011530") {
-        None => Err("no moment".into()),
-        Some(at) => Ok(at),
-    }
-}
-
-/// What is sent of an accepted set, made at a moment.
-fn sent(alloc: Global, at: &At) -> Result<Vec<u8>, NoMemory> {
-    let report = acknowledgment(alloc, &ACCEPTED_GROUP, &[ACCEPTED_SET], 1)?;
-    write_ack_interchange(alloc, &envelope(), at, 1, &[Items::from_vec(report)])
-}
-
-#[test]
-fn sends_an_acknowledgment_to_the_partner(rt: HostRuntime) -> Result<(), Fail> {
-    let at = moment()?;
-    let bytes = sent(rt.alloc(), &at)?;
-    same(rt.alloc(), "an interchange", bytes.as_slice(), SENT)
-}
-
-#[test]
-fn appends_behind_what_is_there(rt: HostRuntime) -> Result<(), Fail> {
-    let mut out = Vec::from_slice(rt.alloc(), b"SE*6*0001~")?;
-    append_closing(&mut out, &envelope(), 1, 1)?;
-    same(
-        rt.alloc(),
-        "a closing",
-        out.as_slice(),
-        b"SE*6*0001~GE*1*1~IEA*1*000000001~",
-    )
 }
 
 /// A header behind a terminator.
