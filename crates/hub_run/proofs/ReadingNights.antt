@@ -196,7 +196,7 @@ module _ (text : List ℕ) (setup : SetupValue) (at : List ℕ) (moment : IsMome
   ta1_read sender fault x (Some note) is =
       let noted = repeated sender fault x note is in
       silent (ta1 x.header note) (ta1s_by x.header (Some note))
-      (readable_ta1 setup p count hub_ids sound at moment x.header note noted.control noted.day noted.time noted.note)
+      (readable_ta1 setup p count hub_ids sound at moment x.header note noted.control noted.day noted.time noted.said)
       (λ i c ss. refl) (ta1_said x.header note)
 
   -- the group has the responses of its reports

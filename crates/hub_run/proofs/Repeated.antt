@@ -1,6 +1,6 @@
 -- What a TA1 repeats of an interchange is digits, and so is its note.
-use Rattle.std.proofs.Common.{◌≡◌, ℕ, Bool, true, false, ◌&&◌, List, Option, Some, None, refl, subst, sym, ◌∙◌}
-use Rattle.std.specs.Prelude.{codes, if◌then◌else◌, is_some, IfSome}
+use Rattle.std.proofs.Common.{◌≡◌, ℕ, Bool, true, false, ◌&&◌, ◌||◌, List, Option, Some, None, refl, subst}
+use Rattle.std.specs.Prelude.{if◌then◌else◌, is_some, IfSome}
 use Rattle.std.proofs.lemmas.Bool.{and_parts}
 use Rattle.x12_bytes.specs.Header.{field_of}
 use Rattle.moment.specs.Calendar.{is_digits}
@@ -14,7 +14,7 @@ pub record IsRepeated (x : InterchangeEntry) (note : List ℕ) : Type 0 where
   pub control : is_digits (field_of x.header 13) ≡ true
   pub day : is_digits (field_of x.header 9) ≡ true
   pub time : is_digits (field_of x.header 10) ≡ true
-  pub note : is_digits note ≡ true
+  pub said : is_digits note ≡ true
 
 note_digits : (f : Option InterchangeFault) → IfSome (note_text f) (λ n. is_digits n ≡ true)
 note_digits None = refl
@@ -44,5 +44,5 @@ repeated sender f x note is =
       control = two.0;
       day = two.1;
       time = three.1;
-      note = subst (λ (o : Option (List ℕ)). IfSome o (λ n. is_digits n ≡ true)) both.1 (note_digits f);
+      said = subst (λ (o : Option (List ℕ)). IfSome o (λ n. is_digits n ≡ true)) both.1 (note_digits f);
     }

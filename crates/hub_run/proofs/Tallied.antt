@@ -1,5 +1,5 @@
 -- The next counters of a night are those of its tallies, and so are a partner's first numbers.
-use Rattle.std.proofs.Common.{◌≡◌, ◌<◌, ◌≤◌, ◌^◌, ℕ, Bool, true, false, suc, ◌+◌, List, [], ◌∷◌, ◌++◌, length, map, refl, ap, sym, ◌∙◌}
+use Rattle.std.proofs.Common.{◌≡◌, ◌<◌, ◌≤◌, ◌^◌, ℕ, Bool, true, false, ◌+◌, List, [], ◌∷◌, ◌++◌, length, map, refl, ap, sym, ◌∙◌}
 use Rattle.std.proofs.Common.{arith}
 use Rattle.std.specs.Prelude.{slice_get, Some, if◌then◌else◌}
 use Rattle.std.proofs.lemmas.List.{length-map}
@@ -14,20 +14,18 @@ use Rattle.count_numbers.specs.Numbers.{numbers_of}
 use Rattle.count_numbers.specs.Tallies.{entries_for, tallies_of}
 use Rattle.count_numbers.specs.Tally.{PartnerTally, groups_in_one, keys_of, tally_of}
 use Rattle.count_numbers.specs.declared.entry.Entry.{Entry}
-use Rattle.count_numbers.specs.declared.entry.Entry.TheVariants.{Acknowledged, Delivered}
+use Rattle.count_numbers.specs.declared.entry.Entry.TheVariants.{Delivered}
 use Rattle.count_numbers.specs.declared.entry.PartnerEntry.{PartnerEntry}
 use Rattle.count_numbers.specs.declared.numbering.PartnerNumbers.{PartnerNumbers}
 use Rattle.count_numbers.proofs.Counts.{numbers_counted}
 use Rattle.judged_text.specs.Judged.{PlacedValue}
-use Rattle.mailbox.specs.Mailbox.{group_total}
 use Rattle.mailbox.specs.Numbered.{key_of}
 use Rattle.mailbox.proofs.Tallied.{groups_are_counted}
 use Rattle.partner_setup.specs.declared.partner.Partner.{Partner}
-use Rattle.partner_setup.specs.Setup.{SetupValue}
 use Rattle.checked_text.specs.Acknowledgments.{has_reports}
 use Rattle.checked_text.specs.CheckedText.{CheckedInterchange, acknowledged_to, acknowledgment_of, groups_to}
-use Rattle.hub_run.specs.Night.{counters_behind, next_of, sets_to}
-use Rattle.hub_run.specs.Tallied.{AreCountersTallied, AreNumbersTallied, entries_to, entry_of, night_numbers}
+use Rattle.hub_run.specs.Night.{counters_behind, sets_to}
+use Rattle.hub_run.specs.Tallied.{AreCountersTallied, AreNumbersTallied, entry_of, night_numbers}
 
 abbrev deliveries : List PlacedValue → List Entry
 deliveries sets = map (λ (set : PlacedValue). Delivered (key_of set)) sets
@@ -41,7 +39,7 @@ none_acknowledged (set ∷ sets) = none_acknowledged sets
 
 acknowledgments_counted : (xs : List CheckedInterchange) (sets : List PlacedValue) → acknowledgments_in (entries xs sets) ≡ length xs
 acknowledgments_counted [] sets = none_acknowledged sets
-acknowledgments_counted (x ∷ xs) sets = ap suc (acknowledgments_counted xs sets)
+acknowledgments_counted (x ∷ xs) sets = ap (λ (n : ℕ). 1 + n) (acknowledgments_counted xs sets) ∙ omega arith
 
 none_grouped : (sets : List PlacedValue) → groups_in (deliveries sets) ≡ 0
 none_grouped [] = refl

@@ -1,12 +1,12 @@
 -- Private. A partner's mailbox and next counters, by what is kept at its place: the acknowledgments and the delivered sets.
-use Rattle.std.specs.Prelude.{ℕ, ◌+◌, List, [], length, slice_index_or}
+use Rattle.std.specs.Prelude.{ℕ, ◌+◌, List, [], slice_index_or}
 use Rattle.hub_kinds.specs.declared.counters.Counters.{Counters}
 use Rattle.count_numbers.specs.Layout.{interchange_count}
 use Rattle.count_numbers.specs.Num.{num}
 use Rattle.partner_setup.specs.declared.partner.Partner.{Partner}
 use Rattle.partner_setup.specs.Setup.{SetupValue}
 use Rattle.judged_text.specs.Judged.{PlacedValue}
-use Rattle.mailbox.specs.Mailbox.{box_text, group_total}
+use Rattle.mailbox.specs.Mailbox.{box_text}
 use Rattle.checked_text.specs.CheckedText.{SentValues, nothing_sent}
 use Rattle.hub_run.specs.Night.{counters_behind}
 
