@@ -10,7 +10,8 @@ use Rattle.std.proofs.lemmas.List.Splits.{slice_split_at, slice_split_none}
 use Rattle.std.proofs.lemmas.Slice.Eq.{bytes_eq-Decides}
 use Rattle.x12_bytes.specs.Bytes.{is_line_end}
 use Rattle.x12_bytes.specs.declared.delims.Delims.{Delims}
-use Rattle.x12_segs.specs.Words.{is_inner, kind_by_id, kind_of, parts, SegValue, elements_of, id_of, part_or_empty}
+use Rattle.x12_segs.specs.Kinds.{kind_of}
+use Rattle.x12_segs.specs.Words.{is_inner, kind_by_id, parts, SegValue, elements_of, id_of, part_or_empty}
 use Rattle.x12_write.specs.Segment.{elements_text}
 use Rattle.x12_write.specs.Undivided.{CanDivide}
 use Rattle.mailbox.specs.Mailbox.{mapped, mapped_byte}
