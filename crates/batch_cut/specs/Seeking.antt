@@ -1,0 +1,16 @@
+-- X12.5, interchange: the next header in what is read of a text. Private.
+use Rattle.std.specs.Prelude.{◌≡◌, ℕ, ◌<◌, ◌≤◌, List, [], length, false}
+use Rattle.x12_bytes.specs.HeaderTest.{is_head}
+use Rattle.env_index.specs.Words.{IsNextHead}
+use Rattle.batch_law.specs.Batches.{WholeUpTo}
+use Rattle.batch_cut.specs.declared.seeking.Sought.{Sought}
+use Rattle.batch_cut.specs.declared.seeking.Sought.TheVariants.{Header, Wait}
+
+-- none before it, whatever follows, and none is read from it on
+pub record NoneRead (read : List ℕ) (from at : ℕ) : Type 0 where
+  pub gap : WholeUpTo read from at []
+  pub none : (q : ℕ) → at ≤ q → is_head read q ≡ false
+
+abbrev pub Seeks : List ℕ → ℕ → Sought → Type 0
+Seeks read from (Header start) = IsNextHead read from start
+Seeks read from (Wait at) = NoneRead read from at

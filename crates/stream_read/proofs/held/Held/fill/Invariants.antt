@@ -1,0 +1,14 @@
+use Rattle.std.proofs.Common.{◌≡◌, ◌≤◌, ◌-◌}
+use Rattle.stream_read.specs.Held.{HasRead}
+use Rattle.stream_read.proofs.held.Held.fill.Given as goal
+
+abbrev pub decreases-loop-left : goal.decreases-loop-left
+decreases-loop-left g l = l.left
+
+abbrev pub invariant-loop-left : goal.invariant-loop-left
+invariant-loop-left g l = record {
+  read : HasRead (g.S.Source.remaining l.initial.source) (g.S.Source.remaining l.source) l.initial.self l.self (l.window - l.left);
+  few : l.self.total ≤ 4294967295;
+  bound : l.left ≤ l.window;
+  faults : g.S.Source.faults l.source ≡ g.S.Source.faults l.initial.source;
+}

@@ -1,0 +1,20 @@
+//! The reader of a stream: reads that are interrupted are tried again, and what is read is held until it is given up. Nothing here knows
+//! what the bytes mean.
+//!
+//! Proved:
+//! - `read_again` gives what a read gives, tries one that was interrupted again, at most `MOST_RETRIES` times in a row, and fails exactly
+//!   where the source failed or was interrupted once more;
+//! - `Held::fill` holds so many more bytes of what the source tells, or all that were left of it; it says that the stream is too long
+//!   only where more than 4,294,967,295 bytes came, and that it can't be read only where the source failed;
+//! - `Held::give_up` gives up the first so many bytes, and keeps the others.
+//!
+//! Source: own.
+#![tactic(auto)]
+
+mod held;
+mod retry;
+mod source;
+
+pub use held::{Held, StreamFault};
+pub use retry::{MOST_RETRIES, ReadFault, read_again};
+pub use source::{Source, SourceFault};
