@@ -7,19 +7,19 @@ use Rattle.night_report.specs.Adding.{added, together}
 use Rattle.night_report.specs.Report.{interchange_lines, all_lines}
 use Rattle.night_report.specs.declared.totals.Totals.{Totals}
 
-lines_at : (setup : SetupValue) (n : ℕ) (xs : List JudgedValue) (i : ℕ) (x : JudgedValue) → i < length xs → x ≡ get_or xs i x
-    → all_lines setup n (drop i xs) ≡ interchange_lines setup n x ++ all_lines setup (n + 1) (drop (i + 1) xs)
-lines_at setup n xs i x l is =
-    ap (all_lines setup n) (drop_more xs i x l)
-    ∙ ap (λ (y : JudgedValue). interchange_lines setup n y ++ all_lines setup (n + 1) (drop (i + 1) xs)) (sym is)
+lines_at : (setup : SetupValue) (base n : ℕ) (xs : List JudgedValue) (i : ℕ) (x : JudgedValue) → i < length xs → x ≡ get_or xs i x
+    → all_lines setup base n (drop i xs) ≡ interchange_lines setup base n x ++ all_lines setup base (n + 1) (drop (i + 1) xs)
+lines_at setup base n xs i x l is =
+    ap (all_lines setup base n) (drop_more xs i x l)
+    ∙ ap (λ (y : JudgedValue). interchange_lines setup base n y ++ all_lines setup base (n + 1) (drop (i + 1) xs)) (sym is)
 
-pub lines_on : (setup : SetupValue) (n : ℕ) (xs : List JudgedValue) (i : ℕ) (x : JudgedValue) (out new all : List ℕ) → i < length xs
-    → x ≡ get_or xs i x → new ≡ out ++ interchange_lines setup n x → out ++ all_lines setup n (drop i xs) ≡ all
-    → new ++ all_lines setup (n + 1) (drop (i + 1) xs) ≡ all
-lines_on setup n xs i x out new all l is written before =
-    ap (λ (text : List ℕ). text ++ all_lines setup (n + 1) (drop (i + 1) xs)) written
-    ∙ append_assoc out (interchange_lines setup n x) (all_lines setup (n + 1) (drop (i + 1) xs))
-    ∙ ap (λ (text : List ℕ). out ++ text) (sym (lines_at setup n xs i x l is)) ∙ before
+pub lines_on : (setup : SetupValue) (base n : ℕ) (xs : List JudgedValue) (i : ℕ) (x : JudgedValue) (out new all : List ℕ) → i < length xs
+    → x ≡ get_or xs i x → new ≡ out ++ interchange_lines setup base n x → out ++ all_lines setup base n (drop i xs) ≡ all
+    → new ++ all_lines setup base (n + 1) (drop (i + 1) xs) ≡ all
+lines_on setup base n xs i x out new all l is written before =
+    ap (λ (text : List ℕ). text ++ all_lines setup base (n + 1) (drop (i + 1) xs)) written
+    ∙ append_assoc out (interchange_lines setup base n x) (all_lines setup base (n + 1) (drop (i + 1) xs))
+    ∙ ap (λ (text : List ℕ). out ++ text) (sym (lines_at setup base n xs i x l is)) ∙ before
 
 pub added_on : (count : JudgedValue → Totals) (xs : List JudgedValue) (i : ℕ) (x : JudgedValue) (before one now all : Totals)
     → i < length xs → x ≡ get_or xs i x → one ≡ count x → now ≡ together before one → added count before (drop i xs) ≡ all

@@ -1,4 +1,4 @@
--- Private. Totals that are added up, group by group and interchange by interchange.
+-- Totals that are added up (own), group by group and interchange by interchange.
 use Rattle.std.specs.Prelude.{ℕ, ◌+◌, List, [], ◌∷◌, length, sum_by, if◌then◌else◌}
 use Rattle.env_index.specs.Words.{GroupEntry}
 use Rattle.partner_setup.specs.Setup.{SetupValue}

@@ -4,3 +4,4 @@ pub mod Clean
 pub mod Lines
 pub mod Report
 pub mod Room
+pub mod Told

@@ -75,23 +75,23 @@ abbrev pub content_lines : SetupValue → JudgedValue → List ℕ
 content_lines setup x =
     if is_refused x then [] else ta1_line x.interchange.content.ta1s ++ flat_map (group_lines setup) (groups_shown x)
 
--- interchange n of the text, counted from 1
-abbrev pub first_line : SetupValue → (n : ℕ) → JudgedValue → List ℕ
-first_line setup n x =
-    interchange_line n x.interchange.start (sender_name setup x.sender) (control_shown x.interchange.header) x.fault
+-- interchange n of the text, counted from 1, where the text that it is read in begins at this offset
+abbrev pub first_line : SetupValue → (base n : ℕ) → JudgedValue → List ℕ
+first_line setup base n x =
+    interchange_line n (base + x.interchange.start) (sender_name setup x.sender) (control_shown x.interchange.header) x.fault
 
 -- the TA1 with this note that it is answered with
 abbrev pub answer_line : (note : Option (List ℕ)) → List ℕ
 answer_line None = []
 answer_line (Some note) = sent_line (acknowledgment_code note) note
 
-abbrev pub interchange_lines : SetupValue → (n : ℕ) → JudgedValue → List ℕ
-interchange_lines setup n x =
-    first_line setup n x ++ answer_line (ta1_note x.sender x.fault x.interchange) ++ content_lines setup x
+abbrev pub interchange_lines : SetupValue → (base n : ℕ) → JudgedValue → List ℕ
+interchange_lines setup base n x =
+    first_line setup base n x ++ answer_line (ta1_note x.sender x.fault x.interchange) ++ content_lines setup x
 
-abbrev pub all_lines : SetupValue → (n : ℕ) → List JudgedValue → List ℕ
-all_lines setup n [] = []
-all_lines setup n (x ∷ xs) = interchange_lines setup n x ++ all_lines setup (n + 1) xs
+abbrev pub all_lines : SetupValue → (base n : ℕ) → List JudgedValue → List ℕ
+all_lines setup base n [] = []
+all_lines setup base n (x ∷ xs) = interchange_lines setup base n x ++ all_lines setup base (n + 1) xs
 
 abbrev pub is_counted : ShownGroup → Bool
 is_counted g = not (is_fa g.group)
@@ -122,4 +122,4 @@ totals_of setup xs = record {
 
 -- the report: what is known of the interchanges of a text, front to back, and how many bytes stand outside of them
 abbrev pub report_text : SetupValue → List JudgedValue → (outside : ℕ) → List ℕ
-report_text setup xs outside = all_lines setup 1 xs ++ total_line (totals_of setup xs) outside
+report_text setup xs outside = all_lines setup 0 1 xs ++ total_line (totals_of setup xs) outside

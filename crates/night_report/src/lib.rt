@@ -3,6 +3,8 @@
 //!
 //! Proved:
 //! - `report_text` is the report of what is known of a text, byte for byte;
+//! - `ReportLines` goes on from text to text: `append` tells of more interchanges, numbered on, at the offsets of the whole, and `close`
+//!   ends with all that was counted;
 //! - `is_clean` is false exactly where a line of the report tells of something refused or held, or its last line doesn't
 //!   say that nothing stands outside interchanges.
 //!
@@ -16,7 +18,9 @@ mod lines;
 mod named;
 mod report;
 mod spaced;
+mod told;
 mod totals;
 
 pub use clean::is_clean;
 pub use report::report_text;
+pub use told::ReportLines;

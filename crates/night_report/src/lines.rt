@@ -38,8 +38,8 @@ fn append_end_words(out: &mut Vec<u8>, fault: Option<InterchangeFault>) -> Resul
 /// Writes the words behind the first of an interchange's line, up to the last ones.
 fn append_interchange_words<'x>(
     out: &mut Vec<u8>,
-    n: usize,
-    start: usize,
+    n: u64,
+    start: u128,
     name: &'x [u8],
     control: &'x [u8],
 ) -> Result<(), NoMemory>
@@ -65,8 +65,8 @@ fn append_interchange_words<'x>(
 /// Writes the line of interchange `n`, counted from 1, at an offset.
 pub(crate) fn append_interchange_line<'x>(
     out: &mut Vec<u8>,
-    n: usize,
-    start: usize,
+    n: u64,
+    start: u128,
     name: &'x [u8],
     control: &'x [u8],
     fault: Option<InterchangeFault>,

@@ -1,34 +1,34 @@
-ghost use Rattle.std.specs.Prelude.{◌≡◌, ◌≤◌, ◌++◌, ◌+◌, IfOk, OnOk, length};
+ghost use Rattle.std.specs.Prelude.{◌≡◌, ◌≤◌, ◌<◌, ◌++◌, ◌+◌, ◌^◌, IfOk, OnOk, length};
 ghost use Rattle.judged_text.specs.Answered.{ta1_note};
 ghost use Rattle.night_report.specs.Adding as adding;
 ghost use Rattle.night_report.specs.Report as report;
 ghost use Rattle.night_report.specs.Room.{HasRoom, IsOfInterchanges};
 
 use crate::groups::append_groups;
-use crate::lines::{
-    append_interchange_line, append_sent_line, append_ta1_line, append_total_line, control_shown,
-};
+use crate::lines::{append_interchange_line, append_sent_line, append_ta1_line, control_shown};
 use crate::named::sender_name;
+use crate::told::ReportLines;
 use crate::totals::Totals;
-use hub_kinds::{Items, NoMemory, Text};
+use hub_kinds::{NoMemory, Text};
 use judged_text::{JudgedInterchange, is_refused, ta1_note};
 use partner_setup::Setup;
 use std::alloc::Global;
 
-/// Writes the line of interchange `n`, counted from 1.
+/// Writes the line of interchange `n`, counted from 1, whose text begins at the offset `base`.
 fn append_first_line(
     out: &mut Vec<u8>,
     setup: &Setup,
-    n: usize,
+    base: u64,
+    n: u64,
     interchange: &JudgedInterchange<'_, '_>,
 ) -> Result<(), NoMemory>
-    ensures { OnOk result (out.new.items ≡ out.old.items ++ report.first_line setup.now n interchange.now) }
+    ensures { OnOk result (out.new.items ≡ out.old.items ++ report.first_line setup.now base n interchange.now) }
 {
     let indexed = interchange.interchange();
     append_interchange_line(
         out,
         n,
-        indexed.start(),
+        u128::from(base) + indexed.start() as u128,
         sender_name(setup, interchange.sender()),
         control_shown(indexed.header()),
         interchange.fault(),
@@ -69,35 +69,42 @@ fn append_content(
     append_groups(out, setup, interchange, Totals::of_accepted())
 }
 
-/// Writes the lines of interchange `n`, counted from 1, and gives what is counted of it.
+/// Writes the lines of interchange `n`, counted from 1, whose text begins at the offset `base`, and gives what is counted of it.
 fn append_interchange(
     out: &mut Vec<u8>,
     setup: &Setup,
-    n: usize,
+    base: u64,
+    n: u64,
     interchange: &JudgedInterchange<'_, '_>,
 ) -> Result<Totals, NoMemory>
-    ensures text { OnOk result (out.new.items ≡ out.old.items ++ report.interchange_lines setup.now n interchange.now) }
+    ensures text { OnOk result (out.new.items ≡ out.old.items ++ report.interchange_lines setup.now base n interchange.now) }
     ensures totals { IfOk result (λ totals. totals ≡ adding.interchange_totals setup.now interchange.now) }
     ensures room { IfOk result (λ totals. HasRoom totals (length out.old.items) (length out.new.items)) }
     ensures of_one { IfOk result (λ totals. IsOfInterchanges totals 1) }
 {
-    append_first_line(out, setup, n, interchange)?;
+    append_first_line(out, setup, base, n, interchange)?;
     append_answer(out, interchange)?;
     append_content(out, setup, interchange)
 }
 
-/// Writes the lines of all interchanges, and gives what is counted of them.
-fn append_all(
+/// Writes the lines of interchanges behind so many others, and gives what is counted of them.
+pub(crate) fn append_all(
     out: &mut Vec<u8>,
     setup: &Setup,
+    base: u64,
+    before: u64,
     interchanges: &[JudgedInterchange<'_, '_>],
 ) -> Result<Totals, NoMemory>
-    ensures text { OnOk result (out.new.items ≡ out.old.items ++ report.all_lines setup.now 1 interchanges.now) }
+    requires { before + length interchanges.now < 2 ^ 64 }
+    ensures text { OnOk result (out.new.items ≡ out.old.items ++ report.all_lines setup.now base (before + 1) interchanges.now) }
     ensures totals { IfOk result (λ totals. totals ≡ report.totals_of setup.now interchanges.now) }
+    ensures room { IfOk result (λ totals. HasRoom totals (length out.old.items) (length out.new.items)) }
+    ensures of_those { IfOk result (λ totals. IsOfInterchanges totals (length interchanges.now)) }
 {
     let mut totals = Totals::none();
     for i in 0..interchanges.len() {
-        let of_this = append_interchange(out, setup, i + 1, &interchanges[i])?;
+        let n = before + (i as u64) + 1;
+        let of_this = append_interchange(out, setup, base, n, &interchanges[i])?;
         totals = totals.with(&of_this);
     }
     Ok(totals)
@@ -113,8 +120,6 @@ pub fn report_text(
 ) -> Result<Text, NoMemory>
     ensures { IfOk result (λ text. text ≡ report.report_text setup.now interchanges.now outside) }
 {
-    let mut out = Vec::new(alloc);
-    let totals = append_all(&mut out, setup, interchanges)?;
-    append_total_line(&mut out, &totals, outside)?;
-    Ok(Items::from_vec(out))
+    let lines = ReportLines::new(alloc).append(setup, 0, interchanges)?;
+    lines.close(outside)
 }

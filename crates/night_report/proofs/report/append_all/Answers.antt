@@ -1,6 +1,7 @@
-use Rattle.std.proofs.Common.{◌+◌, ◌≤◌, length, ap, sym, subst, ◌∙◌, arith}
+use Rattle.std.proofs.Common.{◌≡◌, ◌+◌, ◌≤◌, ◌++◌, ℕ, drop, length, ap, sym, subst, ◌∙◌, arith}
 use Rattle.std.proofs.lemmas.List.{drop_all}
 use Rattle.night_report.specs.Adding.{added, interchange_totals}
+use Rattle.night_report.specs.Report.{all_lines}
 use Rattle.night_report.specs.Room.{HasRoom}
 use Rattle.night_report.specs.declared.totals.Totals.{Totals}
 use Rattle.night_report.proofs.Counting.{totals_are_added}
@@ -12,9 +13,12 @@ pub loop-i-preserved : goal.loop-i-preserved
 loop-i-preserved c =
     let xs = c.args.interchanges.now in
     let x = c.index-interchanges-i.result in
+    let n : ℕ = c.args.before + c.loop-i.i + 1 in
+    let next : c.args.before + (c.loop-i.i + 1) + 1 ≡ n + 1 = omega arith in
     record {
       text =
-          lines_on c.args.setup.now (c.loop-i.i + 1) xs c.loop-i.i x c.loop-i.out.items c.append_interchange.new.out.items _
+          ap (λ (m : ℕ). c.append_interchange.new.out.items ++ all_lines c.args.setup.now c.args.base m (drop (c.loop-i.i + 1) xs)) next
+          ∙ lines_on c.args.setup.now c.args.base n xs c.loop-i.i x c.loop-i.out.items c.append_interchange.new.out.items _
           c.loop-i-test.true
           c.index-interchanges-i.is c.in_ok-of_this.ensures.text c.loop-i.invariant.text;
       totals =

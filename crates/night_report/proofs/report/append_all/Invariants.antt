@@ -7,8 +7,8 @@ use Rattle.night_report.proofs.report.append_all.Given as goal
 abbrev pub invariant-loop-i : goal.invariant-loop-i
 invariant-loop-i l =
     record {
-      text : l.out.items ++ all_lines l.setup (l.i + 1) (drop l.i l.interchanges)
-          ≡ l.initial.out.items ++ all_lines l.setup 1 l.interchanges;
+      text : l.out.items ++ all_lines l.setup l.base (l.before + l.i + 1) (drop l.i l.interchanges)
+          ≡ l.initial.out.items ++ all_lines l.setup l.base (l.before + 1) l.interchanges;
       room : HasRoom l.totals (length l.initial.out.items) (length l.out.items);
       of_those : IsOfInterchanges l.totals l.i;
       totals : added (interchange_totals l.setup) l.totals (drop l.i l.interchanges)

@@ -1,0 +1,81 @@
+use crate::lines::append_total_line;
+use crate::report::append_all;
+use crate::totals::Totals;
+use hub_kinds::{Items, NoMemory, Text};
+use judged_text::JudgedInterchange;
+use partner_setup::Setup;
+use std::alloc::Global;
+use std::marker::Model;
+
+/// A report that goes on: the lines of the interchanges that were told so far, and what is counted of them. The texts of a night may
+/// come one behind the other; offsets and numbers are those of the whole.
+#[derive(Debug, Drop)]
+pub struct ReportLines {
+    text: Vec<u8>,
+    totals: Totals,
+    told: u64,
+}
+
+impl Model for ReportLines {
+    ghost use Rattle.std.specs.Prelude.{length};
+    ghost use Rattle.night_report.specs.Room.{HasRoom, IsOfInterchanges};
+    ghost use Rattle.night_report.specs.Told.{ToldValue};
+
+    ghost Value = { ToldValue };
+
+    ghost view = { λ r. record { lines = r.text.items; totals = r.totals; count = r.told } };
+
+    ghost invariant = { λ r. HasRoom r.totals 0 (length r.text.items) × IsOfInterchanges r.totals r.told };
+}
+
+impl ReportLines {
+    ghost use Rattle.std.specs.Prelude.{◌≡◌, ◌+◌, ◌<◌, ◌^◌, IfOk, length};
+    ghost use Rattle.night_report.specs.Told.{nothing_told, told_behind, told_text};
+
+    /// Of nothing.
+    pub fn new(alloc: Global) -> ReportLines
+        ensures { result ≡ nothing_told }
+    {
+        ReportLines {
+            text: Vec::new(alloc),
+            totals: Totals::none(),
+            told: 0,
+        }
+    }
+
+    /// How many interchanges were told.
+    pub fn count(&self) -> u64
+        ensures { result ≡ self.now.count }
+    {
+        let ReportLines { told, .. } = self;
+        *told
+    }
+
+    /// Tells of more interchanges, those of a text that begins at the offset `base`. The only error is want of memory.
+    pub fn append(
+        self,
+        setup: &Setup,
+        base: u64,
+        interchanges: &[JudgedInterchange<'_, '_>],
+    ) -> Result<ReportLines, NoMemory>
+        requires { self.count + length interchanges.now < 2 ^ 64 }
+        ensures { IfOk result (λ lines. lines ≡ told_behind setup.now base self interchanges.now) }
+    {
+        let ReportLines { text, totals, told } = self;
+        let mut text = text;
+        let more = append_all(&mut text, setup, base, told, interchanges)?;
+        let totals = totals.with(&more);
+        let told = told + interchanges.len() as u64;
+        Ok(ReportLines { text, totals, told })
+    }
+
+    /// The whole report, which ends with what was counted and how many bytes stand outside interchanges.
+    pub fn close(self, outside: u64) -> Result<Text, NoMemory>
+        ensures { IfOk result (λ text. text ≡ told_text self outside) }
+    {
+        let ReportLines { text, totals, .. } = self;
+        let mut text = text;
+        append_total_line(&mut text, &totals, outside)?;
+        Ok(Items::from_vec(text))
+    }
+}
