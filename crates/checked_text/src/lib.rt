@@ -3,9 +3,11 @@
 //!
 //! Proved:
 //! - `settled_faults` gives each interchange of an index its least fault of 1 to 9: 8 where no partner of the setup is its
-//!   sender, 9 where an earlier interchange without faults 1 to 8 has the same number;
+//!   sender, 9 where an earlier interchange without faults 1 to 8 has the same number; `faults_behind` does so where interchanges
+//!   come before the index, by their numbers alone, and gives the numbers that those behind it go on from;
 //! - `check_text` checks each set of the interchanges without a fault by its sender's guide, and answers each group and set: the
-//!   standings that it leaves, and the acknowledgments of each partner, byte for byte, are those of these answers;
+//!   standings that it leaves, and the acknowledgments of each partner, byte for byte, are those of these answers, behind the
+//!   acknowledgments that stood before;
 //! - the acknowledgment of an interchange has a TA1 where it is answered with one, and a 999 for each group but those of acknowledgments;
 //!   it takes its partner's next interchange number, and its group, where it has 999s, the next group number;
 //! - the interchanges of a text are answered in one way (`answers_are_one`), and the answer to a set tells that it is accepted
@@ -27,9 +29,11 @@ mod files;
 mod finding;
 mod found;
 mod groups;
+mod key;
 mod laws;
 mod numbers;
 mod seen;
+mod seen_numbers;
 mod sending;
 mod sent;
 mod sets;
@@ -46,5 +50,6 @@ pub use finding::Finding;
 pub use laws::{
     accepted_as_it_meets, answers_are_one, asked_by_first_use, numbers_told_by_first_use,
 };
-pub use settled::settled_faults;
-pub use walk::{CheckedText, answer_found, check_text};
+pub use seen_numbers::SeenNumbers;
+pub use settled::{SettledFaults, faults_behind, settled_faults};
+pub use walk::{CheckedText, answer_found, check_text, no_acknowledgments};

@@ -1,12 +1,13 @@
-use Rattle.std.proofs.Common.{◌≡◌, ℕ, ◌+◌, drop, List, [], ◌∷◌, ◌++◌, Some, length, refl, sym, ap, subst, ◌∙◌, arith, length-append}
+use Rattle.std.proofs.Common.{◌≡◌, ℕ, ◌+◌, drop, List, [], ◌∷◌, ◌++◌, Some, length, refl, sym, ap, subst, ◌∙◌, arith, append_assoc}
+use Rattle.std.proofs.Common.{append-nil, length-append}
 use Rattle.std.specs.Prelude.{slice_get}
 use Rattle.std.proofs.lemmas.Option.{slice_get_read}
 use Rattle.env_index.specs.Words.{IndexEntry, HasSpans}
 use Rattle.judged_text.specs.Judged.{JudgedValue}
-use Rattle.checked_text.specs.CheckedText.{CheckedInterchange, IsCheckedAs, judged}
+use Rattle.checked_text.specs.CheckedText.{AreAcknowledgments, CheckedInterchange, IsCheckedAs, judged}
 use Rattle.checked_text.proofs.Growing.{at_index, map_snoc}
 use Rattle.checked_text.proofs.Pairing.{no_pairs, pairs_more}
-use Rattle.checked_text.proofs.Starting.{groups_left, none_yet, room_left}
+use Rattle.checked_text.proofs.Starting.{groups_left, room_left}
 use Rattle.checked_text.proofs.Taking.{drop_one_more}
 use Rattle.checked_text.proofs.walk.answer_each.Goals as goal
 
@@ -16,7 +17,8 @@ loop-i-init g c = (
   no_pairs (λ n e x. IsCheckedAs c.args.index.now.text c.args.setup.now e x) c.args.index.now.entries,
   refl,
   c.new-interchanges.ensures.items,
-  none_yet c.args.setup.now c.args.at.now c.args.files.now c.requires.empty,
+  λ before are. subst (λ (xs : List CheckedInterchange). AreAcknowledgments c.args.setup.now c.args.at.now xs c.args.files.now)
+      (sym (append-nil before)) are,
   c.requires.serves,
 )
 
@@ -28,6 +30,12 @@ answer_interchange-requires g c =
     slice_get_read c.interchanges-entries.result.now _ c.loop-i.i c.index-entries-i.result refl c.loop-i-test.true c.index-entries-i.is in
     let there : slice_get entries c.loop-i.i ≡ Some c.index-entries-i.result =
     ap (λ (es : List IndexEntry). slice_get es c.loop-i.i) (sym c.interchanges-entries.ensures.value) ∙ read in
+    let room = c.requires.room in
+    let all : List CheckedInterchange = room.0 ++ done.0 in
+    let sent : AreAcknowledgments c.args.setup.now c.args.at.now all c.loop-i.files = done.4 room.0 room.1 in
+    let so_many : length all ≡ length room.0 + c.loop-i.i =
+    length-append room.0 done.0 ∙ ap (λ (n : ℕ). length room.0 + n) done.2 in
+    let entry_count = ap (λ (es : List IndexEntry). length es) c.interchanges-entries.ensures.value in
     λ k. (
       (refl, (refl, tt)),
       (
@@ -44,16 +52,14 @@ answer_interchange-requires g c =
                 (drop_one_more entries c.loop-i.i c.index-entries-i.result there) done.5),
           ),
           (
-            done.4.count,
+            sent.count,
             (
               λ n f at.
-                  let count = room_left c.args.setup.now c.args.at.now done.0 c.loop-i.files n f c.loop-i.i done.4 at done.2 in
-                  let entry_count = ap (λ (es : List IndexEntry). length es) c.interchanges-entries.ensures.value in
-                  omega (arith, count, entry_count, c.loop-i-test.true, c.interchanges-entries.ensures.few),
+                  let count = room_left c.args.setup.now c.args.at.now all c.loop-i.files n f (length all) sent at refl in
+                  omega (arith, count, so_many, entry_count, c.loop-i-test.true, room.2),
               λ n f at.
-                  let count = groups_left c.args.setup.now c.args.at.now done.0 c.loop-i.files n f c.loop-i.i done.4 at done.2 in
-                  let entry_count = ap (λ (es : List IndexEntry). length es) c.interchanges-entries.ensures.value in
-                  omega (arith, count, entry_count, c.loop-i-test.true, c.interchanges-entries.ensures.few),
+                  let count = groups_left c.args.setup.now c.args.at.now all c.loop-i.files n f (length all) sent at refl in
+                  omega (arith, count, so_many, entry_count, c.loop-i-test.true, room.2),
             ),
           ),
         ),
@@ -82,7 +88,10 @@ loop-i-preserved g c =
           (next.judged ∙ ap (λ (text : List ℕ). judged text next.answered) c.text-text.ensures)
           ∙ ap (λ (js : List JudgedValue). js ++ judged c.args.index.now.text next.answered ∷ []) c.loop-i.invariant.3
           ∙ sym (map_snoc (judged c.args.index.now.text) done next.answered),
-      next.acknowledged done c.loop-i.invariant.4,
+      λ before are. subst (λ (xs : List CheckedInterchange).
+          AreAcknowledgments c.args.setup.now c.args.at.now xs c.answer_interchange.new.files)
+          (append_assoc before done (next.answered ∷ []))
+          (next.acknowledged (before ++ done) (c.loop-i.invariant.4 before are)),
       subst (λ (text : List ℕ). g.S.AnswerSource.serves c.answer_interchange.new.source text c.args.setup.now
           (drop (c.loop-i.i + 1) entries))
           c.text-text.ensures
