@@ -5,7 +5,7 @@ ghost use Rattle.hub_run.specs.Night.{IsNightIn};
 
 use crate::closing::close_all;
 use crate::night::Night;
-use checked_text::{Acknowledgments, check_text};
+use checked_text::{Acknowledgments, check_text, no_acknowledgments};
 use env_index::Index;
 use hub_kinds::{Items, NoMemory, Texts};
 use mailbox::deliver;
@@ -35,7 +35,10 @@ pub(crate) fn write_night<'a>(
     requires { All (λ e. HasSpans index.now.text e.interchange) index.now.entries }
     ensures { IfOk result (IsNightIn index.now setup.now at.now) }
 {
-    let checked = check_text(alloc, setup, at, index)?;
+    // as many as can be counted: there is room for their acknowledgments
+    let _ = index.interchanges();
+    let sent = no_acknowledgments(alloc, setup)?;
+    let checked = check_text(alloc, setup, at, index, sent)?;
     let interchanges = checked.interchanges;
     let files = checked.acknowledgments;
     let report = report_text(alloc, setup, interchanges.as_slice(), index.outside())?;

@@ -9,7 +9,9 @@ ghost use Rattle.env_index.specs.Words.{HasSpans};
 ghost use Rattle.x12_segs.specs.Words.{IsSetSpan, element_of};
 
 use super::built::example;
-use checked_text::{CheckedText, Finding, answer_found, check_text, settled_faults};
+use checked_text::{
+    CheckedText, Finding, answer_found, check_text, no_acknowledgments, settled_faults,
+};
 use env_index::{Index, SetEnvelope, index_plain};
 use guide_tree::Guide;
 use hub_kinds::{NoMemory, within_limit};
@@ -174,8 +176,10 @@ fn expect_one_answer<'i, 'a>(
 {
     let at = At::read(b"202603011530").ok_or("no moment")?;
     let places = findings(alloc, setup, index)?;
-    let found = answer_found(alloc, setup, &at, index, places)?;
-    let wanted = check_text(alloc, setup, &at, index)?;
+    let none = no_acknowledgments(alloc, setup)?;
+    let found = answer_found(alloc, setup, &at, index, places, none)?;
+    let none = no_acknowledgments(alloc, setup)?;
+    let wanted = check_text(alloc, setup, &at, index, none)?;
     expect_report(alloc, setup, &found, &wanted)?;
     expect_acknowledgments(&found, &wanted)
 }

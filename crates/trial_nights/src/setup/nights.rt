@@ -3,7 +3,7 @@ ghost use Rattle.std.specs.List.{All};
 ghost use Rattle.env_index.specs.Words.{HasSpans};
 
 use super::built::example;
-use checked_text::{CheckedText, check_text, settled_faults};
+use checked_text::{CheckedText, check_text, no_acknowledgments, settled_faults};
 use env_index::{Index, index_plain};
 use hub_kinds::within_limit;
 use judged_text::{JudgedInterchange, PlacedSet};
@@ -116,7 +116,8 @@ fn expect_settled<'i, 'a>(
 ) -> Result<(), Fail>
     requires { All (λ e. HasSpans index.now.text e.interchange) index.now.entries }
 {
-    let checked = check_text(alloc, setup, at, index)?;
+    let none = no_acknowledgments(alloc, setup)?;
+    let checked = check_text(alloc, setup, at, index, none)?;
     expect_checked(alloc, setup, at, &checked)
 }
 

@@ -1,10 +1,10 @@
-use Rattle.std.proofs.Common.{◌≡◌, ℕ, List, ap, subst, ◌∙◌}
+use Rattle.std.proofs.Common.{◌≡◌, ℕ, List, [], length, ap, subst, ◌∙◌}
 use Rattle.hub_kinds.specs.declared.counters.Counters.{Counters}
 use Rattle.partner_setup.specs.declared.partner.Partner.{Partner}
 use Rattle.mailbox.specs.Deliveries.{AreDelivered}
 use Rattle.judged_text.specs.Judged.{JudgedValue, PlacedValue}
 use Rattle.night_report.specs.Report.{report_text}
-use Rattle.checked_text.specs.CheckedText.{SentValues}
+use Rattle.checked_text.specs.CheckedText.{AreAcknowledgments, SentValues}
 use Rattle.hub_run.specs.ByPlace.{box_by, next_by}
 use Rattle.hub_run.specs.Night.{AreForPartners}
 use Rattle.hub_run.proofs.Joining.{joined}
@@ -17,6 +17,7 @@ returns c =
     let at = c.args.at.now in
     let xs : List JudgedValue = c.in_ok-checked.checked.interchanges.items in
     let files : List SentValues = c.in_ok-checked.checked.acknowledgments.items in
+    let acknowledged : AreAcknowledgments setup at checked.answered files = checked.acknowledged [] (c.in_ok-sent.ensures.starts at) in
     let lists : List (List PlacedValue) = c.in_ok-lists.lists.items in
     let delivered : AreDelivered setup xs lists =
     subst (λ (ys : List JudgedValue). AreDelivered setup ys lists) c.as_slice-2.ensures.value c.in_ok-lists.ensures in
@@ -32,7 +33,12 @@ returns c =
     record {
       known = checked.answered;
       answered = checked.are;
-      is = joined c.args.index.now.text setup at checked.answered xs files lists c.args.index.now.outside _ checked.acknowledged
+      is = joined c.args.index.now.text setup at checked.answered xs files lists c.args.index.now.outside _ acknowledged
           checked.judged
           delivered c.in_ok-acks.ensures closed.0 report closed.1;
     }
+
+pub close_all-requires-clause-files : goal.close_all-requires-clause-files
+close_all-requires-clause-files c =
+    ap (λ (fs : List SentValues). length fs) c.as_slice-3.ensures.value
+    ∙ (c.in_ok-checked.ensures.acknowledged [] (c.in_ok-sent.ensures.starts c.args.at.now)).count
