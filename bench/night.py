@@ -122,6 +122,12 @@ def truncated_groups(out, count):
     out.writelines(ISA % (b'01', b'ACME', k) + GS % (b'ACME', 12) + b'ST*850*0001~' for k in range(1, count + 1))
 
 
+def refused(out, count):
+    # IEA01 counts a group that isn't there: each is answered by a TA1
+    for k in range(count):
+        out.write(ISA % (b'01', b'ACME', k * 7919 % count) + b'IEA*1*%09d~' % (k * 7919 % count))
+
+
 def many_groups(out, count):
     # IEA01 counts 99,999 groups at most
     for number in range(1, count // 50_000 + 1):
@@ -204,6 +210,7 @@ def write_setup(folder, count):
 
 
 HOSTILE = (('truncated interchanges', truncated, 100_000), ('truncated interchanges, each with an open set', truncated_groups, 50_000),
+           ('refused interchanges, mixed numbers, each answered', refused, 100_000),
            ('groups, falling numbers', many_groups, 100_000), ('groups with an order, one number', one_number, 50_000),
            ('groups of one interchange, too many to be counted', uncounted_groups, 100_000), ('lines of one order', long_order, 9_000),
            ('segments of one order, all but twelve too many', long_head, 100_000),
