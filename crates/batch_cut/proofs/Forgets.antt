@@ -1,5 +1,6 @@
 -- What is known of an open interchange where the bytes before it are given up.
-use Rattle.std.proofs.Common.{◌≡◌, ℕ, ◌+◌, ◌-◌, ◌<◌, ◌≤◌, List, [], ◌∷◌, ◌++◌, Bool, true, false, Option, Some, None, cond, option_map, length, map, take, drop, get_or, refl, sym, ap, subst, ◌∙◌, arith}
+use Rattle.std.proofs.Common.{◌≡◌, ℕ, ◌+◌, ◌-◌, ◌<◌, ◌≤◌, List, [], ◌∷◌, ◌++◌, Bool, true, false, Option, Some, None, cond, option_map}
+use Rattle.std.proofs.Common.{length, map, take, drop, get_or, refl, sym, ap, subst, ◌∙◌, arith}
 use Rattle.std.proofs.lemmas.List.{append_assoc, drop-drop, length-drop, length-take-le, take-append-drop}
 use Rattle.x12_bytes.specs.Bytes.{is_line_end}
 use Rattle.x12_bytes.specs.Header.{delims_of, header_at}
@@ -24,9 +25,11 @@ may_past : (before text : List ℕ) (q : ℕ) → may_begin (before ++ text) (le
 may_past before text q = ap is_begun (drop_past before text q)
 
 end_by_past : (before text : List ℕ) (xs : List SegValue) (rest : Seg)
-    → end_by (before ++ text) (map (moved_view (length before)) xs) (moved_by (length before) rest) ≡ further (length before) (end_by text xs rest)
+    → end_by (before ++ text) (map (moved_view (length before)) xs) (moved_by (length before) rest)
+    ≡ further (length before) (end_by text xs rest)
 end_by_past before text [] rest =
-    ap (λ (b : Bool). cond b (Some (length before + rest.start)) None) (head_past before text rest.start) ∙ by_test (is_head text rest.start)
+    ap (λ (b : Bool). cond b (Some (length before + rest.start)) None) (head_past before text rest.start)
+    ∙ by_test (is_head text rest.start)
   where
     by_test : (b : Bool) → cond b (Some (length before + rest.start)) None ≡ further (length before) (cond b (Some rest.start) None)
     by_test true = refl
@@ -36,7 +39,8 @@ end_by_past before text (x ∷ xs) rest =
     let sum : by + x.start + length x.bytes + 1 ≡ by + (x.start + length x.bytes + 1) = omega arith in
     let tests : Bool → Bool → Bool → ℕ → Option ℕ → Option ℕ = λ h m e n more.
     cond h (Some (by + x.start)) (cond m None (cond e (Some n) more)) in
-    ap (λ (b : Bool). tests b (may_begin (before ++ text) (by + x.start)) (ends_interchange (kind_of (moved_view by x))) (behind (moved_view by x))
+    ap (λ (b : Bool). tests b (may_begin (before ++ text) (by + x.start)) (ends_interchange (kind_of (moved_view by x))) (behind
+    (moved_view by x))
     (end_by (before ++ text) (map (moved_view by) xs) (moved_by by rest))) (head_past before text x.start)
     ∙ ap (λ (b : Bool). tests (is_head text x.start) b (ends_interchange (kind_of (moved_view by x))) (behind (moved_view by x))
     (end_by (before ++ text) (map (moved_view by) xs) (moved_by by rest))) (may_past before text x.start)
@@ -44,7 +48,8 @@ end_by_past before text (x ∷ xs) rest =
     (end_by (before ++ text) (map (moved_view by) xs) (moved_by by rest))) (kind_moved by x)
     ∙ ap (λ (n : ℕ). tests (is_head text x.start) (may_begin text x.start) (ends_interchange (kind_of x)) n
     (end_by (before ++ text) (map (moved_view by) xs) (moved_by by rest))) sum
-    ∙ ap (tests (is_head text x.start) (may_begin text x.start) (ends_interchange (kind_of x)) (by + behind x)) (end_by_past before text xs rest)
+    ∙ ap (tests (is_head text x.start) (may_begin text x.start) (ends_interchange (kind_of x)) (by + behind x))
+    (end_by_past before text xs rest)
     ∙ by_tests (is_head text x.start) (may_begin text x.start) (ends_interchange (kind_of x))
   where
     by_tests : (h m e : Bool) → cond h (Some (length before + x.start)) (cond m None (cond e (Some (length before + behind x))
@@ -94,7 +99,8 @@ forgets read at i j delims at_is lead_is seen_is inside =
     sym (header_past before left 0) ∙ ap (λ (r : List ℕ). header_at r (length before + 0)) whole ∙ ap (header_at read) zero_at in
     let dropped : drop j.part.at left ≡ drop i.part.at read =
     drop-drop j.part.at at read ∙ ap (λ (k : ℕ). drop k read) (let sum : at + j.part.at ≡ i.part.at = omega arith in sum) in
-    let same_end : (more : List ℕ) (a b : ℕ) → a ≡ at + b → end_from (read ++ more) i.delims a ≡ further at (end_from (left ++ more) i.delims b) =
+    let same_end : (more : List ℕ) (a b : ℕ) → a ≡ at + b → end_from (read ++ more) i.delims a
+    ≡ further at (end_from (left ++ more) i.delims b) =
     λ more a b is.
     ap (λ (r : List ℕ). end_from (r ++ more) i.delims a) (sym whole)
     ∙ ap (λ (r : List ℕ). end_from r i.delims a) (append_assoc before left more)
@@ -102,13 +108,15 @@ forgets read at i j delims at_is lead_is seen_is inside =
     ∙ end_past before (left ++ more) i.delims b
     ∙ ap (λ (k : ℕ). further k (end_from (left ++ more) i.delims b)) size in
     record {
-      head = sym (head_past before left 0) ∙ ap (λ (r : List ℕ). is_head r (length before + 0)) whole ∙ ap (is_head read) zero_at ∙ inside.head;
+      head = sym (head_past before left 0) ∙ ap (λ (r : List ℕ). is_head r (length before + 0)) whole ∙ ap (is_head read) zero_at
+          ∙ inside.head;
       delims = delims ∙ inside.delims ∙ ap delims_of (sym header);
       behind = omega arith;
       goes_on = λ more.
           (let both : end_from (left ++ more) i.delims (0 + 106) ≡ end_from (left ++ more) i.delims j.part.at =
           further_is_one at (end_from (left ++ more) i.delims (0 + 106)) (end_from (left ++ more) i.delims j.part.at)
-          (sym (same_end more (at + 106) (0 + 106) (omega arith)) ∙ inside.goes_on more ∙ same_end more i.part.at j.part.at (omega arith)) in
+          (sym (same_end more (at + 106) (0 + 106) (omega arith)) ∙ inside.goes_on more
+          ∙ same_end more i.part.at j.part.at (omega arith)) in
           subst (λ (d : Delims). end_from (left ++ more) d (0 + 106) ≡ end_from (left ++ more) d j.part.at) (sym delims) both);
       open_part = record {
         order = omega arith;

@@ -1,5 +1,6 @@
 -- What a part that is looked at makes of its interchange.
-use Rattle.std.proofs.Common.{◌≡◌, ℕ, ◌+◌, ◌-◌, ◌<◌, ◌≤◌, max, List, [], ◌∷◌, ◌++◌, Bool, true, false, ◌&&◌, not, nat_eq, Option, Some, None}
+use Rattle.std.proofs.Common.{◌≡◌, ℕ, ◌+◌, ◌-◌, ◌<◌, ◌≤◌, max, List, [], ◌∷◌, ◌++◌, Bool, true, false, ◌&&◌, not, nat_eq, Option, Some}
+use Rattle.std.proofs.Common.{None}
 use Rattle.std.proofs.Common.{length, take, drop, get_or, cond, slice_range, refl, sym, ap, subst, ◌∙◌, arith, inl, inr}
 use Rattle.std.specs.List.{prefix_len}
 use Rattle.std.proofs.lemmas.Bool.{and_cases, and_parts, both_ways, cases_eq, cases_lt, false_from_ne_true, not-false, not-true}
@@ -21,7 +22,8 @@ use Rattle.batch_cut.specs.Steps.{Steps, Waits}
 use Rattle.batch_cut.specs.declared.following.OpenPart.{OpenPart}
 use Rattle.batch_cut.specs.declared.following.Step.{Step}
 use Rattle.batch_cut.specs.declared.following.Step.TheVariants as step
-use Rattle.batch_cut.proofs.Parts.{IsPart, closed_stays, end_at_segment, ends_at_head, part_stays, passes_empty, waits_for_head, waits_for_terminator}
+use Rattle.batch_cut.proofs.Parts.{IsPart, closed_stays, end_at_segment, ends_at_head, part_stays, passes_empty, waits_for_head}
+use Rattle.batch_cut.proofs.Parts.{waits_for_terminator}
 
 abbrev part_at : (at lead seen : ℕ) → OpenPart
 part_at at lead seen = record { at = at; lead = lead; seen = seen }

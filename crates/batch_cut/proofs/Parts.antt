@@ -3,14 +3,16 @@ use Rattle.std.proofs.Common.{◌≡◌, ℕ, ◌+◌, ◌-◌, ◌<◌, ◌≤�
 use Rattle.std.proofs.Common.{length, take, drop, get_or, map, cond, slice_range, refl, sym, ap, subst, ◌∙◌, arith, inl, inr}
 use Rattle.std.specs.List.{prefix_len}
 use Rattle.std.proofs.lemmas.Bool.{both_ways, cases_lt, false_from_ne_true}
-use Rattle.std.proofs.lemmas.List.{append-nil, drop-append-le, get_or_append_left, get_or-drop, get_or-take, length-append, length-drop, length-take-le, take_rest}
+use Rattle.std.proofs.lemmas.List.{append-nil, drop-append-le, get_or_append_left, get_or-drop, get_or-take, length-append, length-drop}
+use Rattle.std.proofs.lemmas.List.{length-take-le, take_rest}
 use Rattle.std.proofs.lemmas.List.Sums.{prefix_len-le-length, prefix_len_is}
 use Rattle.memchr.specs.Find.{IsFirstByte, is_byte}
 use Rattle.x12_bytes.specs.Bytes.{is_line_end}
 use Rattle.x12_bytes.specs.HeaderTest.{is_head}
 use Rattle.x12_bytes.specs.declared.delims.Delims.{Delims}
 use Rattle.x12_segs.specs.Words.{Seg, part_at, rest_from, seg_at, segs_from, without_line_ends, SegValue, view_of, kind_of}
-use Rattle.x12_segs.proofs.SegLemmas.{IsCut, cut_found, part_at-none, part_at-some, rest_from-found, rest_from-none, segs_from-found, segs_from-none, without_line_ends-slice}
+use Rattle.x12_segs.proofs.SegLemmas.{IsCut, cut_found, part_at-none, part_at-some, rest_from-found, rest_from-none, segs_from-found}
+use Rattle.x12_segs.proofs.SegLemmas.{segs_from-none, without_line_ends-slice}
 use Rattle.env_index.specs.Words.{behind, ends_interchange}
 use Rattle.env_index.proofs.Surround.{no_head_past}
 use Rattle.batch_law.specs.Begun.{is_begun, may_begin}
@@ -115,7 +117,8 @@ module _ (text : List ℕ) (t at lead end : ℕ) (p : IsPart text t at lead end)
 pub passes_empty : (text : List ℕ) (d : Delims) (at end : ℕ) → IsPart text d.terminator at end end
     → end_from text d at ≡ end_from text d (end + 1)
 passes_empty text d at end p =
-    ap (λ (xs : List Seg). end_by text (map (view_of d) xs) (rest_from text d.terminator at)) (empty_part text d.terminator at end end p refl)
+    ap (λ (xs : List Seg). end_by text (map (view_of d) xs) (rest_from text d.terminator at))
+    (empty_part text d.terminator at end end p refl)
     ∙ ap (end_by text (map (view_of d) (segs_from text d.terminator (end + 1)))) (rest_on text d.terminator at end end p)
 
 -- the tests of a segment
@@ -125,7 +128,8 @@ end_tested : (text : List ℕ) (x : SegValue) (xs : List SegValue) (rest : Seg) 
 end_tested text x xs rest h m e is_h is_m is_e =
     ap (λ (b : Bool). cond b (Some x.start) (cond (may_begin text x.start) None
     (cond (ends_interchange (kind_of x)) (Some (behind x)) (end_by text xs rest)))) is_h
-    ∙ ap (λ (b : Bool). cond h (Some x.start) (cond b None (cond (ends_interchange (kind_of x)) (Some (behind x)) (end_by text xs rest)))) is_m
+    ∙ ap (λ (b : Bool). cond h (Some x.start) (cond b None (cond (ends_interchange (kind_of x)) (Some (behind x))
+    (end_by text xs rest)))) is_m
     ∙ ap (λ (b : Bool). cond h (Some x.start) (cond m None (cond b (Some (behind x)) (end_by text xs rest)))) is_e
 
 pub end_at_segment : (text : List ℕ) (d : Delims) (at lead end : ℕ) (e : Bool) → IsPart text d.terminator at lead end → lead < end

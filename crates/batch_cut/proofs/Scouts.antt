@@ -1,5 +1,6 @@
 -- How far the interchanges are whole.
-use Rattle.std.proofs.Common.{◌≡◌, ℕ, ◌+◌, ◌-◌, ◌<◌, ◌≤◌, List, [], ◌∷◌, ◌++◌, Bool, true, false, Option, Some, None, length, take, drop, refl, sym, ap, subst, ◌∙◌, arith, inl, inr}
+use Rattle.std.proofs.Common.{◌≡◌, ℕ, ◌+◌, ◌-◌, ◌<◌, ◌≤◌, List, [], ◌∷◌, ◌++◌, Bool, true, false, Option, Some, None, length, take, drop}
+use Rattle.std.proofs.Common.{refl, sym, ap, subst, ◌∙◌, arith, inl, inr}
 use Rattle.std.proofs.lemmas.Bool.{cases_lt}
 use Rattle.std.proofs.lemmas.List.{append-nil, append_assoc, length-append}
 use Rattle.x12_bytes.specs.Header.{delims_of, header_at}
@@ -58,7 +59,8 @@ end_read read at i end inside is =
     ap (λ d. end_from read d (at + 106)) (sym inside.delims) ∙ goes_now read i.delims (at + 106) i.part.at inside.goes_on ∙ is
 
 pub one_whole : (read : List ℕ) (at end : ℕ) → is_head read at ≡ true → whole_end read at ≡ Some end
-    → (at < end) × (end ≤ length read) × ((more : List ℕ) → ChainUpTo (read ++ more) at end ((let x : Extent = record { start = at; end = end } in x) ∷ []))
+    → (at < end) × (end ≤ length read) × ((more : List ℕ)
+    → ChainUpTo (read ++ more) at end ((let x : Extent = record { start = at; end = end } in x) ∷ []))
 one_whole read at end head is =
     let next : IsNextHead read at at = record { behind = omega arith; head = head; least = λ q low lt. absurd (omega (arith, low, lt)) } in
     let ends : end ≡ (reach_at read at).end = Rattle.batch_law.proofs.Chains.end_now read at end head is in
@@ -84,7 +86,8 @@ comes_on read from at start end inside found i so_far enters is =
       stands = one.1;
     }
 
-pub comes_further : (read : List ℕ) (from at start end : ℕ) (i : Inside) → EntersAt read at start i → end_from read i.delims i.part.at ≡ Some end
+pub comes_further : (read : List ℕ) (from at start end : ℕ) (i : Inside) → EntersAt read at start i
+    → end_from read i.delims i.part.at ≡ Some end
     → IsGap read at start → at < end
 comes_further read from at start end i enters is gap =
     omega (arith, (enters.gap []).0, (one_whole read start end enters.inside.head (end_read read start i end enters.inside is)).0)

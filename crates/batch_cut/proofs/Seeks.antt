@@ -1,5 +1,6 @@
 -- The next header in what is read of a text.
-use Rattle.std.proofs.Common.{◌≡◌, ℕ, ◌+◌, ◌-◌, ◌<◌, ◌≤◌, List, [], ◌∷◌, Bool, true, false, ◌&&◌, ◌||◌, nat_eq, leb, ltb, length, take, drop, get_or, refl, sym, ap, subst, ◌∙◌, arith, inl, inr, Option, Some, None}
+use Rattle.std.proofs.Common.{◌≡◌, ℕ, ◌+◌, ◌-◌, ◌<◌, ◌≤◌, List, [], ◌∷◌, Bool, true, false, ◌&&◌, ◌||◌, nat_eq, leb, ltb, length, take}
+use Rattle.std.proofs.Common.{drop, get_or, refl, sym, ap, subst, ◌∙◌, arith, inl, inr, Option, Some, None}
 use Rattle.std.specs.Prelude.{codes, slice_range}
 use Rattle.std.specs.Str.{bytes_eq}
 use Rattle.std.specs.Cmp.Lexicographic.{bytes_decides}
@@ -80,7 +81,8 @@ gap_to_begun read from at gap may =
     let room : length (drop at read) ≡ length read - at = length-drop at read in
     record {
       gap = gap;
-      none = λ q low. false_from_ne_true (is_head read q) (λ is. absurd (omega (arith, head_within read q is, begun_short (drop at read) may, room, low, gap.1)));
+      none = λ q low. false_from_ne_true (is_head read q)
+          (λ is. absurd (omega (arith, head_within read q is, begun_short (drop at read) may, room, low, gap.1)));
     }
 
 -- all that is read

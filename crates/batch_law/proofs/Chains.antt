@@ -185,7 +185,8 @@ not_before read more start q fits lt none =
     sym (head_kept (read ++ more) (length read) within q (omega arith)) ∙ ap (λ (r : List ℕ). is_head r q) front ∙ none
 
 -- the end that is known is the end in what is read
-pub end_now : (read : List ℕ) (start end : ℕ) → is_head read start ≡ true → whole_end read start ≡ Some end → end ≡ (reach_at read start).end
+pub end_now : (read : List ℕ) (start end : ℕ) → is_head read start ≡ true → whole_end read start ≡ Some end → end
+    ≡ (reach_at read start).end
 end_now read start end head is =
     let all : take (length read) read ≡ read = Rattle.std.proofs.lemmas.List.take_all (length read) read (omega arith) in
     let d : Delims = delims_of (header_at read start) in

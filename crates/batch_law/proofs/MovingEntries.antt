@@ -21,11 +21,14 @@ use Rattle.env_index.specs.Words.{counts_groups, has_control, fault_of, fault_of
 use Rattle.env_index.specs.Words.{is_group_header, is_set_header, IndexEntry, IsEntryOf, IsReadIn, extent_of, extents_of}
 use Rattle.env_index.specs.Words.{InterchangeEntry, map_body, map_group, map_in_body, map_in_group, map_set, HasSpans}
 use Rattle.env_index.specs.Words.{span_of}
-use Rattle.hub_kinds.specs.declared.interchange.InterchangeFault.TheVariants.{ControlNumbersDiffer, GroupCountWrong, SegmentMisplaced, GroupHeaderInvalid, SetHeaderInvalid}
-use Rattle.env_index.specs.Summary.{GroupEntry, Summary, group_entry, groups_in, has_misplaced, has_misplaced_in_group, ta1s_in, set_entry, sets_in, summary_of}
+use Rattle.hub_kinds.specs.declared.interchange.InterchangeFault.TheVariants.{ControlNumbersDiffer, GroupCountWrong, SegmentMisplaced}
+use Rattle.hub_kinds.specs.declared.interchange.InterchangeFault.TheVariants.{GroupHeaderInvalid, SetHeaderInvalid}
+use Rattle.env_index.specs.Summary.{GroupEntry, Summary, group_entry, groups_in, has_misplaced, has_misplaced_in_group, ta1s_in}
+use Rattle.env_index.specs.Summary.{set_entry, sets_in, summary_of}
 use Rattle.env_index.proofs.Mapped.{derives_mapped}
 use Rattle.batch_law.specs.Batches.{ChainUpTo}
-use Rattle.batch_law.specs.Moved.{moved_entry, moved_extent, moved_group, moved_interchange, moved_set, moved_span, moved_summary, moved_view}
+use Rattle.batch_law.specs.Moved.{moved_entry, moved_extent, moved_group, moved_interchange, moved_set, moved_span, moved_summary}
+use Rattle.batch_law.specs.Moved.{moved_view}
 use Rattle.batch_law.proofs.Moving.{head_past, header_past, kind_moved, moved_reach, reach_at_past, segs_past, views_moved}
 
 -- the tree, further on
@@ -123,7 +126,8 @@ module _ (by : ℕ) where
       ∙ ap (λ (b : Bool). p g.header && b) (trailers_moved p gs same)
 
   set_headers_moved : (sets : List SetEnvelope)
-      → list_all (λ (s : SetEnvelope). is_set_header s.header) (map (moved_set by) sets) ≡ list_all (λ (s : SetEnvelope). is_set_header s.header) sets
+      → list_all (λ (s : SetEnvelope). is_set_header s.header) (map (moved_set by) sets)
+      ≡ list_all (λ (s : SetEnvelope). is_set_header s.header) sets
   set_headers_moved [] = refl
   set_headers_moved (s ∷ sets) = ap (λ (b : Bool). is_set_header s.header && b) (set_headers_moved sets)
 
@@ -254,7 +258,8 @@ pub spans_past : (before text : List ℕ) (x : InterchangeEntry) → HasSpans te
 spans_past before text x all = groups_past before text (delims_of x.header) x.content.groups all
 
 -- an interchange, further on
-pub read_past : (before text : List ℕ) (x : InterchangeEntry) → IsReadIn text x → IsReadIn (before ++ text) (moved_interchange (length before) x)
+pub read_past : (before text : List ℕ) (x : InterchangeEntry) → IsReadIn text x
+    → IsReadIn (before ++ text) (moved_interchange (length before) x)
 read_past before text x is =
     let by : ℕ = length before in
     let tree : Body SegValue = map_body (moved_view by) is.tree in

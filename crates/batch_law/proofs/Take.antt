@@ -82,7 +82,8 @@ module _ (text : List ℕ) (c : ℕ) (below : c < length text) (d : Delims) wher
             let at : f ≡ p + n = is ∙ first_is text d.terminator p (p + n)
             (leads_to_head text c d.terminator p (p + n) within le none refl lt) found.0 found.1 in
             let whole : f + 106 ≤ c = elim (clears head) [ inl same ↦ absurd (omega (arith, same, at)) | inr fits ↦ fits ] in
-            let here : is_head (take c text) (p + n) ≡ true = ap (is_head (take c text)) (sym at) ∙ head_kept text c within f whole ∙ head in
+            let here : is_head (take c text) (p + n) ≡ true = ap (is_head (take c text)) (sym at) ∙ head_kept text c within f whole
+            ∙ head in
             ap end_by here ∙ ap (λ (k : ℕ). let r : Reach = record { segs = []; end = k } in r) (sym at)
         | inr ge ↦
             let end : p + n ≡ c = omega (arith, size) in
@@ -92,7 +93,8 @@ module _ (text : List ℕ) (c : ℕ) (below : c < length text) (d : Delims) wher
               | inr fits ↦
                   let place : p + (f - p) ≡ f = omega arith in
                   let letter : get_or read (f - p) 0 ≡ 73 = get_or-drop p (take c text) (f - p) 0
-                  ∙ ap (λ (k : ℕ). get_or (take c text) k 0) place ∙ get_or-take c text f 0 (omega (arith, fits)) ∙ head_letter text f head in
+                  ∙ ap (λ (k : ℕ). get_or (take c text) k 0) place ∙ get_or-take c text f 0 (omega (arith, fits))
+                  ∙ head_letter text f head in
                   let blank : is_line_end (get_or read (f - p) 0) ≡ true =
                   prefix_len_passes is_line_end read (f - p) 0 (omega (arith, fits)) in
                   absurd (both_ways (is_line_end (get_or read (f - p) 0)) (ap is_line_end letter) blank)

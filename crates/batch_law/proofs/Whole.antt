@@ -64,7 +64,8 @@ module _ (text : List ℕ) (c : ℕ) (within : c ≤ length text) (d : Delims) w
     where
       by_test : (h m t : Bool) → is_head (take c text) seg.start ≡ h → may_begin (take c text) seg.start ≡ m
           → ends_interchange (kind_of (view_of d seg)) ≡ t
-          → cond h (Some seg.start) (cond m None (cond t (Some (behind (view_of d seg))) (end_by (take c text) (map (view_of d) segs) left)))
+          → cond h (Some seg.start) (cond m None (cond t (Some (behind (view_of d seg))) (end_by (take c text) (map
+          (view_of d) segs) left)))
           ≡ Some e
           → (end_by (take c text) (map (view_of d) segs) left ≡ Some e → (reach_of text (map (view_of d) (segs ++ later)) rest).end ≡ e)
           → (reach_of text (map (view_of d) (seg ∷ (segs ++ later))) rest).end ≡ e

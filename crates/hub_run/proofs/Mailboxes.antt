@@ -194,8 +194,8 @@ module _ (setup : SetupValue) (p : Partner) (guides : ℕ) (hub_ids : are_ids se
       → IsMade d (groups_text setup p at g groups) (flat_map (map said) groups)
   groups_made g [] all = nothing_made d
   groups_made g (group ∷ groups) all =
-      made_behind d (delivered_group_text setup p at (num p.counters.group g) group) (groups_text setup p at (g + 1) groups) (map said group)
-      (flat_map (map said) groups) (group_made (num p.counters.group g) group (All-head (All Ready) group groups all))
+      made_behind d (delivered_group_text setup p at (num p.counters.group g) group) (groups_text setup p at (g + 1) groups)
+      (map said group) (flat_map (map said) groups) (group_made (num p.counters.group g) group (All-head (All Ready) group groups all))
       (groups_made (g + 1) groups (All-tail (All Ready) group groups all))
 
   interchange_made : (number before : ℕ) (sets : List NumberedValue) → All Ready sets

@@ -361,7 +361,8 @@ module _ (text : List ℕ) (setup : SetupValue) (at : List ℕ) (night : Night) 
 
   partner_sound : (place : ℕ) (partner : Partner) → slice_get setup.partners place ≡ Some partner
       → IsSoundPartner (length setup.guides) partner
-  partner_sound place partner at_place = at_index (IsSoundPartner (length setup.guides)) setup.partners place partner at_place sound.partners
+  partner_sound place partner at_place =
+      at_index (IsSoundPartner (length setup.guides)) setup.partners place partner at_place sound.partners
 
   -- what is known of each partner's acknowledgments
   each_partner : (P : ℕ → Partner → List ℕ → Type 0)

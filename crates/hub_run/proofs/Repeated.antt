@@ -38,7 +38,8 @@ repeated sender f x note is =
     let both = taken (is_answered sender f x) (note_text f) note is in
     let front = and_parts (is_some sender && is_repeatable x.header) (is_some f || asks_for_ta1 x) both.0 in
     let header = and_parts (is_some sender) (is_repeatable x.header) front.0 in
-    let three = and_parts (is_digits (field_of x.header 13) && is_digits (field_of x.header 9)) (is_digits (field_of x.header 10)) header.1 in
+    let three = and_parts (is_digits (field_of x.header 13) && is_digits (field_of x.header 9)) (is_digits (field_of x.header 10))
+    header.1 in
     let two = and_parts (is_digits (field_of x.header 13)) (is_digits (field_of x.header 9)) three.0 in
     record {
       control = two.0;

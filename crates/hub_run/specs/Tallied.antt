@@ -52,6 +52,7 @@ abbrev pub AreNumbersTallied : Type 0
 AreNumbersTallied =
     (text : List ℕ) (setup : SetupValue) (known : List CheckedInterchange) (place : ℕ) (partner : Partner)
     (n : ℕ) (es : List PartnerEntry) (tally : PartnerTally)
-    → 1 ≤ partner.cap → AreEntriesTo text setup known place es → length (entries_for place es) < 2 ^ 64 → slice_get (tallies_of n es) place ≡ Some tally
+    → 1 ≤ partner.cap → AreEntriesTo text setup known place es → length (entries_for place es) < 2 ^ 64
+    → slice_get (tallies_of n es) place ≡ Some tally
     → (numbers_of tally partner.counters partner.cap ≡ night_numbers text setup known place partner)
     × ((numbers_of tally partner.counters partner.cap).next ≡ next_of text setup known place partner)

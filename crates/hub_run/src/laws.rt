@@ -47,15 +47,16 @@ pub fn ta1s_are_read_as_interchanges_are_answered()
 /// becomes of its sets (X12.6, data element reference number) and just the TA1s of its interchanges (X12.5). It does nothing: its contract
 /// is the law.
 pub fn plain_references_are_quoted()
-    ensures sets { (text : List ℕ) (setup : SetupValue) (acknowledgments : List (List ℕ)) → IsSoundSetup setup → All IsGuidePlain setup.guides
-        → AreReadBack text setup acknowledgments → AreSetsRead text setup acknowledgments }
-    ensures ta1s { (text : List ℕ) (setup : SetupValue) (acknowledgments : List (List ℕ)) → IsSoundSetup setup → All IsGuidePlain setup.guides
-        → AreTa1sReadBack text setup acknowledgments → AreTa1sRead text setup acknowledgments }
+    ensures sets { (text : List ℕ) (setup : SetupValue) (acknowledgments : List (List ℕ)) → IsSoundSetup setup
+        → All IsGuidePlain setup.guides → AreReadBack text setup acknowledgments → AreSetsRead text setup acknowledgments }
+    ensures ta1s { (text : List ℕ) (setup : SetupValue) (acknowledgments : List (List ℕ)) → IsSoundSetup setup
+        → All IsGuidePlain setup.guides → AreTa1sReadBack text setup acknowledgments → AreTa1sRead text setup acknowledgments }
 {}
 
 /// The next counters of a night are, partner by partner, those of the tally of its acknowledgments, with a group or without, and its
-/// delivered sets, where there are fewer than 2^64 of them and an interchange holds some; and in whatever order these are told of all partners, a partner's tally among those of all tells its first
-/// numbers and its next counters (own). It does nothing: its contract is the law.
+/// delivered sets, where there are fewer than 2^64 of them and an interchange holds some; and in whatever order these are told of all
+/// partners, a partner's tally among those of all tells its first numbers and its next counters (own). It does nothing: its contract is
+/// the law.
 pub fn counters_are_tallied()
     ensures counters { AreCountersTallied }
     ensures numbers { AreNumbersTallied }

@@ -1,0 +1,3 @@
+pub mod MovedSets
+pub mod Rendered
+pub mod Within
