@@ -85,8 +85,8 @@ module _ (before behind : List ℕ) (sent : SentValue) where
           (option_map trailer_of (option_map (moved_view by) t)) (length (map (moved_set by) group.sets)) earlier
           ≡ group_codes_of (support_of sent.setup sent.sender group.header) (element_of group.header 6) (option_map trailer_of t)
           (length group.sets) earlier
-      by_trailer None = ap (λ (n : ℕ). group_codes_of (support_of sent.setup sent.sender group.header) (element_of group.header 6) None n earlier)
-          (length-map group.sets (moved_set by))
+      by_trailer None = ap (λ (n : ℕ). group_codes_of (support_of sent.setup sent.sender group.header) (element_of group.header 6)
+          None n earlier) (length-map group.sets (moved_set by))
       by_trailer (Some x) = ap (λ (n : ℕ). group_codes_of (support_of sent.setup sent.sender group.header) (element_of group.header 6)
           (Some (trailer_of x)) n earlier) (length-map group.sets (moved_set by))
 
@@ -122,7 +122,8 @@ module _ (before behind : List ℕ) (sent : SentValue) where
         ∙ ap (λ (cs : List GroupCode). answer_by cs group answered.sets)
         (ap (λ (b : Bool). codes_where sent b group) (sym (numbers_moved earlier group))
         ∙ sym (codes_moved (has_number_among (map (moved_group by) earlier) (moved_group by group)) group))
-        ∙ sym (answer_by_moved (codes_where whole (has_number_among (map (moved_group by) earlier) (moved_group by group)) (moved_group by group))
+        ∙ sym (answer_by_moved
+        (codes_where whole (has_number_among (map (moved_group by) earlier) (moved_group by group)) (moved_group by group))
         group answered.sets);
   }
 
@@ -164,7 +165,8 @@ module _ (before text behind : List ℕ) (setup : SetupValue) where
       (λ n e x there is. answered_moved e x (at_index (λ (e : IndexEntry). HasSpans text e.interchange) es n e there spans) is) are
 
 pub judged_moved : (before text behind : List ℕ) (xs : List CheckedInterchange)
-    → map (judged (before ++ (text ++ behind))) (map (moved_answered (length before)) xs) ≡ map (moved_judged before behind) (map (judged text) xs)
+    → map (judged (before ++ (text ++ behind))) (map (moved_answered (length before)) xs)
+    ≡ map (moved_judged before behind) (map (judged text) xs)
 judged_moved before text behind [] = refl
 judged_moved before text behind (x ∷ xs) =
     ap (λ l. moved_judged before behind (judged text x) ∷ l) (judged_moved before text behind xs)

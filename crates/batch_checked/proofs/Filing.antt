@@ -63,7 +63,8 @@ module _ (by : ℕ) where
     sent_behind (d ∷ done) xs = by_test (is_acknowledged_to place d) (sent_behind done xs)
       where
         by_test : (b : Bool) → sent (done ++ map moved xs) ≡ sent (done ++ xs)
-            → map acknowledgment_of (cond b (d ∷ acknowledged_to place (done ++ map moved xs)) (acknowledged_to place (done ++ map moved xs)))
+            → map acknowledgment_of
+            (cond b (d ∷ acknowledged_to place (done ++ map moved xs)) (acknowledged_to place (done ++ map moved xs)))
             ≡ map acknowledgment_of (cond b (d ∷ acknowledged_to place (done ++ xs)) (acknowledged_to place (done ++ xs)))
         by_test true same = ap (λ (more : List Acknowledgment). acknowledgment_of d ∷ more) same
         by_test false same = same
