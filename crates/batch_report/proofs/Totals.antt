@@ -4,7 +4,8 @@ use Rattle.std.proofs.Common.{◌∙◌}
 use Rattle.std.specs.Prelude.{count_by, filter, sum_by}
 use Rattle.std.specs.List.{All, flat_map}
 use Rattle.std.proofs.lemmas.List.{append_assoc, length-append, length-map, map-append}
-use Rattle.std.proofs.lemmas.List.Elements.{All-cons, All-head, All-nil, All-tail}
+use Rattle.std.proofs.lemmas.Grind.{flat_map-append}
+use Rattle.std.proofs.lemmas.List.Elements.{filter-append, All-cons, All-head, All-nil, All-tail}
 use Rattle.std.proofs.lemmas.List.Sums.{sum_by-append, sum_by-cons}
 use Rattle.partner_setup.specs.Setup.{SetupValue}
 use Rattle.env_index.specs.Words.{GroupEntry}
@@ -25,24 +26,10 @@ refusal x = cond (is_refused x) 1 0
 abbrev made : ℕ → ℕ → ℕ → ℕ → ℕ → ℕ → Totals
 made a b c d e f = record { interchanges = a; refused = b; groups = c; sets = d; accepted = e; held = f }
 
-flat-append : {X A : Type 0} (f : X → List A) (xs ys : List X) → flat_map f (xs ++ ys) ≡ flat_map f xs ++ flat_map f ys
-flat-append f [] ys = refl
-flat-append f (x ∷ xs) ys =
-    ap (λ l. f x ++ l) (flat-append f xs ys) ∙ sym (append_assoc (f x) (flat_map f xs) (flat_map f ys))
-
-filter-append : {X : Type 0} (p : X → Bool) (xs ys : List X) → filter p (xs ++ ys) ≡ filter p xs ++ filter p ys
-filter-append p [] ys = refl
-filter-append p (x ∷ xs) ys =
-    ap (λ l. cond (p x) (x ∷ l) l) (filter-append p xs ys) ∙ by_test (p x)
-  where
-    by_test : (b : Bool) → cond b (x ∷ (filter p xs ++ filter p ys)) (filter p xs ++ filter p ys)
-        ≡ cond b (x ∷ filter p xs) (filter p xs) ++ filter p ys
-    by_test true = refl
-    by_test false = refl
-
 counted_joined : (xs ys : List JudgedValue) → counted_groups (xs ++ ys) ≡ counted_groups xs ++ counted_groups ys
 counted_joined xs ys =
-    ap (filter is_counted) (flat-append groups_shown xs ys) ∙ filter-append is_counted (flat_map groups_shown xs) (flat_map groups_shown ys)
+    ap (filter is_counted) (flat_map-append groups_shown xs ys)
+    ∙ filter-append is_counted (flat_map groups_shown xs) (flat_map groups_shown ys)
 
 pub totals_joined : (setup : SetupValue) (xs ys : List JudgedValue)
     → totals_of setup (xs ++ ys) ≡ together (totals_of setup xs) (totals_of setup ys)
@@ -64,7 +51,7 @@ totals_joined setup xs ys =
     (sum_by set_count gs + sum_by set_count hs) n (sum_by (held_count setup) (all_sets (xs ++ ys)))) (sum_by-append accepted_count gs hs)
     ∙ ap (λ (n : ℕ). made (length xs + length ys) (count_by is_refused xs + count_by is_refused ys) (length gs + length hs)
     (sum_by set_count gs + sum_by set_count hs) (sum_by accepted_count gs + sum_by accepted_count hs) n)
-    (ap (sum_by (held_count setup)) (flat-append sets_of xs ys) ∙ sum_by-append (held_count setup) (all_sets xs) (all_sets ys))
+    (ap (sum_by (held_count setup)) (flat_map-append sets_of xs ys) ∙ sum_by-append (held_count setup) (all_sets xs) (all_sets ys))
 
 module _ (setup : SetupValue) (before behind : List ℕ) where
   abbrev by : ℕ
