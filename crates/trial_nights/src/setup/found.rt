@@ -176,6 +176,7 @@ fn expect_one_answer<'i, 'a>(
 {
     let at = At::read(b"202603011530").ok_or("no moment")?;
     let places = findings(alloc, setup, index)?;
+    let _ = index.interchanges();
     let none = no_acknowledgments(alloc, setup)?;
     let found = answer_found(alloc, setup, &at, index, places, none)?;
     let none = no_acknowledgments(alloc, setup)?;

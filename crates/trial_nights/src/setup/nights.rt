@@ -116,6 +116,7 @@ fn expect_settled<'i, 'a>(
 ) -> Result<(), Fail>
     requires { All (λ e. HasSpans index.now.text e.interchange) index.now.entries }
 {
+    let _ = index.interchanges();
     let none = no_acknowledgments(alloc, setup)?;
     let checked = check_text(alloc, setup, at, index, none)?;
     expect_checked(alloc, setup, at, &checked)
