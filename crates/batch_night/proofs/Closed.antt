@@ -74,8 +74,8 @@ closed text setup at n night is by =
           count = length-map n.files (λ (f : SentValues). f.text) ∙ whole.files.count;
           each = λ place partner x there its.
               (let f = get_mapped (λ (f : SentValues). f.text) n.files place x its in
-                sym f.2 ∙ ap (λ (s : SentValues). s.text)
-                (same_some f.0 (acknowledgments_to setup at n.known place partner) (sym f.1 ∙ whole.files.each place partner there)));
+              sym f.2 ∙ ap (λ (s : SentValues). s.text)
+              (same_some f.0 (acknowledgments_to setup at n.known place partner) (sym f.1 ∙ whole.files.each place partner there)));
         });
         boxes = record {
           count = by.boxes.count;

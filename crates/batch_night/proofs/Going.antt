@@ -76,7 +76,7 @@ night_starts text setup at = record {
   files = record {
     count = length-replicate (length setup.partners) nothing_sent;
     each = λ place partner there. replicate_at (length setup.partners) nothing_sent place
-    (slice_get_within setup.partners place partner there);
+        (slice_get_within setup.partners place partner there);
   };
   told = record { lines = refl; totals = refl; count = refl };
   boxes = record {
@@ -99,14 +99,14 @@ night_ends text setup at n is = record {
       ∙ ap (λ (t : Totals). all_lines setup 0 1 (judgements text n.known) ++ total_line t n.outside) is.told.totals;
   boxes = λ place partner sets there its.
       (let same : sets ≡ rendered_from partner 0 (delivered_to setup place (judgements text n.known)) =
-        (let both = sym its ∙ is.boxes.each place partner there in (cc)) in
-        record {
-          text = λ acknowledgments groups.
-              ap (box_of_rendered setup partner at acknowledgments groups) same
-              ∙ sym (boxes_rendered setup partner at acknowledgments groups (delivered_to setup place (judgements text n.known))).0;
-          groups = ap (groups_of_rendered partner.cap) same
-              ∙ sym (boxes_rendered setup partner at 0 0 (delivered_to setup place (judgements text n.known))).1;
-        });
+      (let both = sym its ∙ is.boxes.each place partner there in (cc)) in
+      record {
+        text = λ acknowledgments groups.
+            ap (box_of_rendered setup partner at acknowledgments groups) same
+            ∙ sym (boxes_rendered setup partner at acknowledgments groups (delivered_to setup place (judgements text n.known))).0;
+        groups = ap (groups_of_rendered partner.cap) same
+            ∙ sym (boxes_rendered setup partner at 0 0 (delivered_to setup place (judgements text n.known))).1;
+      });
 }
 
 module _ (before batch behind : List ℕ) (setup : SetupValue) (at : List ℕ) (old new : NightSoFar) (xs : List Extent)
@@ -209,22 +209,22 @@ module _ (before batch behind : List ℕ) (setup : SetupValue) (at : List ℕ) (
     count = done.boxes.count ∙ so_far.boxes.count;
     each = λ place partner there.
         (let js : List JudgedValue = judgements the_whole old.known in
-          let ks : List JudgedValue = judgements batch done.known in
-          let first : List PlacedValue = delivered_to setup place js in
-          let second : List PlacedValue = delivered_to setup place ks in
-          let inside : All IsWithinText second = all_filtered IsWithinText
-          (Rattle.mailbox.specs.Deliveries.is_delivered_to setup place) (all_sets ks) within in
-          done.boxes.each place partner (rendered_from partner 0 first) there (so_far.boxes.each place partner there)
-          ∙ ap (λ (n : ℕ). Some (rendered_from partner 0 first ++ rendered_from partner n second)) (rendered_length partner 0 first)
-          ∙ ap (λ (l : List RenderedValue). Some (rendered_from partner 0 first ++ l))
-          (sym (rendered_moved before behind partner (length first) second inside)
-          ∙ ap (λ (n : ℕ). rendered_from partner n (map (moved_placed before behind) second)) (let z : length first
-          ≡ 0 + length first = omega arith in z))
-          ∙ ap (λ (l : List RenderedValue). Some l) (sym (rendered_joined partner 0 first (map (moved_placed before behind) second)))
-          ∙ ap (λ (ps : List PlacedValue). Some (rendered_from partner 0 (first ++ ps))) (sym
-          (delivered_moved before behind setup place ks within))
-          ∙ ap (λ (ps : List PlacedValue). Some (rendered_from partner 0 ps))
-          (sym (delivered_joined setup place js (map (moved_judged before behind) ks)) ∙ ap (delivered_to setup place) (sym judged_on)));
+        let ks : List JudgedValue = judgements batch done.known in
+        let first : List PlacedValue = delivered_to setup place js in
+        let second : List PlacedValue = delivered_to setup place ks in
+        let inside : All IsWithinText second = all_filtered IsWithinText
+        (Rattle.mailbox.specs.Deliveries.is_delivered_to setup place) (all_sets ks) within in
+        done.boxes.each place partner (rendered_from partner 0 first) there (so_far.boxes.each place partner there)
+        ∙ ap (λ (n : ℕ). Some (rendered_from partner 0 first ++ rendered_from partner n second)) (rendered_length partner 0 first)
+        ∙ ap (λ (l : List RenderedValue). Some (rendered_from partner 0 first ++ l))
+        (sym (rendered_moved before behind partner (length first) second inside)
+        ∙ ap (λ (n : ℕ). rendered_from partner n (map (moved_placed before behind) second)) (let z : length first
+        ≡ 0 + length first = omega arith in z))
+        ∙ ap (λ (l : List RenderedValue). Some l) (sym (rendered_joined partner 0 first (map (moved_placed before behind) second)))
+        ∙ ap (λ (ps : List PlacedValue). Some (rendered_from partner 0 (first ++ ps))) (sym
+        (delivered_moved before behind setup place ks within))
+        ∙ ap (λ (ps : List PlacedValue). Some (rendered_from partner 0 ps))
+        (sym (delivered_joined setup place js (map (moved_judged before behind) ks)) ∙ ap (delivered_to setup place) (sym judged_on)));
   }
 
   pub night_steps : IsNightUpTo the_whole setup at (by + length batch) new
