@@ -166,6 +166,36 @@ fn expect_acknowledgments(
     expect_bytes(bolt.text(), wanted_bolt.text())
 }
 
+/// Answers the text of a settled index by checking its sets, behind no acknowledgments.
+fn checked<'i, 'a>(
+    alloc: Global,
+    setup: &'a Setup,
+    at: &At,
+    index: &'i Index<'a>,
+) -> Result<CheckedText<'i, 'a>, NoMemory>
+    requires { All (λ e. HasSpans index.now.text e.interchange) index.now.entries }
+{
+    let _ = index.interchanges();
+    let none = no_acknowledgments(alloc, setup)?;
+    check_text(alloc, setup, at, index, none)
+}
+
+/// Answers it by what was found out about its places, behind no acknowledgments.
+fn answered<'i, 'a>(
+    alloc: Global,
+    setup: &'a Setup,
+    at: &At,
+    index: &'i Index<'a>,
+    places: Vec<Finding<'a>>,
+) -> Result<CheckedText<'i, 'a>, NoMemory>
+    requires spans { All (λ e. HasSpans index.now.text e.interchange) index.now.entries }
+    requires found { AllZip IsFound (asked_of index.now.text setup.now index.now.entries) places.items }
+{
+    let _ = index.interchanges();
+    let none = no_acknowledgments(alloc, setup)?;
+    answer_found(alloc, setup, at, index, places, none)
+}
+
 /// Answers the text of a settled index both ways.
 fn expect_one_answer<'i, 'a>(
     alloc: Global,
@@ -176,11 +206,8 @@ fn expect_one_answer<'i, 'a>(
 {
     let at = At::read(b"202603011530").ok_or("no moment")?;
     let places = findings(alloc, setup, index)?;
-    let _ = index.interchanges();
-    let none = no_acknowledgments(alloc, setup)?;
-    let found = answer_found(alloc, setup, &at, index, places, none)?;
-    let none = no_acknowledgments(alloc, setup)?;
-    let wanted = check_text(alloc, setup, &at, index, none)?;
+    let found = answered(alloc, setup, &at, index, places)?;
+    let wanted = checked(alloc, setup, &at, index)?;
     expect_report(alloc, setup, &found, &wanted)?;
     expect_acknowledgments(&found, &wanted)
 }
