@@ -1,3 +1,4 @@
 pub mod Closed
 pub mod Going
+pub mod Shown
 pub mod Written

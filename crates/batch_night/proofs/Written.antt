@@ -17,7 +17,7 @@ use Rattle.judged_text.specs.Judged.{JudgedValue, PlacedValue, all_sets, groups_
 use Rattle.mailbox.specs.Numbered.{key_of}
 use Rattle.checked_text.specs.CheckedText.{CheckedInterchange, judged}
 use Rattle.batch_sets.specs.MovedSets.{moved_placed}
-use Rattle.batch_sets.specs.Rendered.{RenderedValue, rendered, rendered_from}
+use Rattle.mailbox.specs.Rendered.{RenderedValue, rendered, rendered_from}
 use Rattle.batch_sets.proofs.Placed.{text_moved}
 use Rattle.batch_sets.specs.Within.{IsWithinText}
 
@@ -28,10 +28,6 @@ rendered_joined partner k (x ∷ xs) ys =
     let further : k + 1 + length xs ≡ k + suc (length xs) = omega arith in
     ap (λ (l : List RenderedValue). rendered partner k x ∷ l) (rendered_joined partner (k + 1) xs ys
     ∙ ap (λ (n : ℕ). rendered_from partner (k + 1) xs ++ rendered_from partner n ys) further)
-
-pub rendered_length : (partner : Partner) (k : ℕ) (xs : List PlacedValue) → length (rendered_from partner k xs) ≡ length xs
-rendered_length partner k [] = refl
-rendered_length partner k (x ∷ xs) = ap suc (rendered_length partner (k + 1) xs)
 
 pub rendered_moved : (before behind : List ℕ) (partner : Partner) (k : ℕ) (xs : List PlacedValue) → All IsWithinText xs
     → rendered_from partner k (map (moved_placed before behind) xs) ≡ rendered_from partner k xs

@@ -1,13 +1,14 @@
 ghost use Rattle.std.specs.Prelude.{◌+◌, ◌++◌, ℕ, List, length};
-ghost use Rattle.env_index.specs.Words.{Extent};
+ghost use Rattle.env_index.specs.Words.{Extent, IndexValue, IsIndex};
 ghost use Rattle.partner_setup.specs.Setup.{SetupValue};
-ghost use Rattle.hub_run.specs.declared.night.Night.{Night};
-ghost use Rattle.hub_run.specs.Night.{IsNight};
+ghost use Rattle.night_writing.specs.declared.night.Night.{Night};
+ghost use Rattle.night_writing.specs.Night.{IsNight};
 ghost use Rattle.batch_law.specs.Batches.{ChainUpTo};
-ghost use Rattle.batch_night.specs.UpTo.{IsBatchDone, IsNightUpTo, IsWhole, NightSoFar, none_yet};
-ghost use Rattle.batch_night.specs.Closing.{IsClosedBy};
+ghost use Rattle.batch_night.specs.UpTo.{IsBatchDone, IsBatchOf, IsNightUpTo, IsWhole, NightSoFar, behind_batch, none_yet};
+ghost use Rattle.night_writing.specs.Writing.{IsClosedBy, WritingValue};
 
-/// A law, with nothing to run: a night goes on batch by batch, and behind the last batch it is what is known of the whole text.
+/// A law, with nothing to run: a night goes on batch by batch, and behind the last batch it is what is known of the whole text; a batch
+/// whose index is written, settled by the numbers seen so far, shows all that it has to show.
 pub fn nights_go_on()
     ensures starts { (text : List ℕ) (setup : SetupValue) (at : List ℕ) → IsNightUpTo text setup at 0 (none_yet setup) }
     ensures steps { (before batch behind : List ℕ) (setup : SetupValue) (at : List ℕ) (old new : NightSoFar) (xs : List Extent)
@@ -15,6 +16,9 @@ pub fn nights_go_on()
         → IsNightUpTo (before ++ (batch ++ behind)) setup at (length before) old
         → IsBatchDone batch setup at (length before) old new
         → IsNightUpTo (before ++ (batch ++ behind)) setup at (length before + length batch) new }
+    ensures shown { (batch : List ℕ) (setup : SetupValue) (at : List ℕ) (base : ℕ) (old : NightSoFar) (index : IndexValue) (w : WritingValue)
+        (written : IsBatchOf batch setup at base old index w) → IsIndex batch index
+        → IsBatchDone batch setup at base old (behind_batch base old index written.known w) }
     ensures ends { (text : List ℕ) (setup : SetupValue) (at : List ℕ) (night : NightSoFar)
         → IsNightUpTo text setup at (length text) night → IsWhole text setup at night }
 {}
@@ -23,5 +27,5 @@ pub fn nights_go_on()
 /// mailboxes, the total and the next counters.
 pub fn batches_give_the_night()
     ensures { (text : List ℕ) (setup : SetupValue) (at : List ℕ) (n : NightSoFar) (night : Night)
-        → IsNightUpTo text setup at (length text) n → IsClosedBy setup at n night → IsNight text setup at night }
+        → IsNightUpTo text setup at (length text) n → IsClosedBy setup at n.writing night → IsNight text setup at night }
 {}

@@ -27,8 +27,8 @@ use Rattle.mailbox.specs.Mailbox.{code_by}
 use Rattle.mailbox.specs.Numbered.{sender_in}
 use Rattle.checked_text.specs.CheckedText.{CheckedInterchange, IsCheckedAs, acknowledged_to, groups_to, judged}
 use Rattle.checked_text.specs.Settled.{settled_faults}
-use Rattle.hub_run.specs.declared.night.Night.{Night}
-use Rattle.hub_run.specs.Night.{IsNight, box_of, sets_to}
+use Rattle.night_writing.specs.declared.night.Night.{Night}
+use Rattle.night_writing.specs.Night.{IsNight, box_of, sets_to}
 use Rattle.hub_run.specs.SetsRead.{AreBoxesRead, AreSetsFound}
 use Rattle.hub_run.proofs.Mailboxes.{IsReady, sets_are_found}
 use Rattle.hub_run.proofs.Changing.{AreApart}

@@ -4,7 +4,6 @@ pub mod Delivered
 pub mod Enveloping
 pub mod Found
 pub mod Headers
-pub mod Joining
 pub mod Mailboxes
 pub mod Marked
 pub mod Naming

@@ -33,8 +33,8 @@ use Rattle.checked_text.specs.CheckedText.{CheckedInterchange, AreCheckedAs, IsC
 use Rattle.checked_text.specs.CheckedText.{AreAnswersBy, acknowledgment_of, is_acknowledged_to, sent_by}
 use Rattle.checked_text.specs.Pairs.{AreAllPairs}
 use Rattle.checked_text.specs.Settled.{settled_faults}
-use Rattle.hub_run.specs.declared.night.Night.{Night}
-use Rattle.hub_run.specs.Night.{IsNight, acks_of}
+use Rattle.night_writing.specs.declared.night.Night.{Night}
+use Rattle.night_writing.specs.Night.{IsNight, acks_of}
 use Rattle.hub_run.specs.Quotable.{IsGroupQuotable}
 use Rattle.hub_run.specs.ReadBack.{AreReadBack, IsReadBack, IsResponseTo, SentSet}
 use Rattle.hub_run.specs.ReadBack.{sets_in, sets_in_group, sets_told_to}

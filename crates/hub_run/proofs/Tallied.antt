@@ -24,7 +24,7 @@ use Rattle.mailbox.proofs.Tallied.{groups_are_counted}
 use Rattle.partner_setup.specs.declared.partner.Partner.{Partner}
 use Rattle.checked_text.specs.Acknowledgments.{has_reports}
 use Rattle.checked_text.specs.CheckedText.{CheckedInterchange, acknowledged_to, acknowledgment_of, groups_to}
-use Rattle.hub_run.specs.Night.{counters_behind, sets_to}
+use Rattle.night_writing.specs.Night.{counters_behind, sets_to}
 use Rattle.hub_run.specs.Tallied.{AreCountersTallied, AreNumbersTallied, entry_of, night_numbers}
 
 abbrev deliveries : List PlacedValue → List Entry

@@ -24,8 +24,8 @@ use Rattle.checked_text.specs.CheckedText.{CheckedInterchange, AreCheckedAs, Are
 use Rattle.checked_text.specs.CheckedText.{acknowledgment_of, acknowledgments_from, is_acknowledged_to, is_partner, sent_by}
 use Rattle.checked_text.specs.Pairs.{AreAllPairs}
 use Rattle.checked_text.specs.Settled.{settled_faults}
-use Rattle.hub_run.specs.declared.night.Night.{Night}
-use Rattle.hub_run.specs.Night.{IsNight, acks_of}
+use Rattle.night_writing.specs.declared.night.Night.{Night}
+use Rattle.night_writing.specs.Night.{IsNight, acks_of}
 use Rattle.hub_run.specs.Told.{AreSetsTold, IsGroupTold, IsInterchangeTold, IsPartnerTold, ToldGroup, groups_behind, groups_in}
 use Rattle.hub_run.specs.Told.{groups_told, has_responses, is_told_to, note_to, told_groups}
 use Rattle.hub_run.proofs.Headers.{HasHeader, HaveHeaders, settled_headers}

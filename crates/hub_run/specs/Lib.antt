@@ -1,5 +1,3 @@
-pub mod ByPlace
-pub mod Night
 pub mod Quotable
 pub mod ReadBack
 pub mod Refusals

@@ -13,7 +13,7 @@ use Rattle.judged_text.specs.Judged.{PlacedValue, delims_in}
 use Rattle.mailbox.specs.Numbered.{NumberedValue, numbered_from}
 use Rattle.checked_text.specs.CheckedText.{CheckedInterchange}
 use Rattle.checked_text.specs.Pairs.{AreAllPairs}
-use Rattle.hub_run.specs.Night.{IsKnown, sets_to}
+use Rattle.night_writing.specs.Night.{IsKnown, sets_to}
 
 -- segments, each by its id and its elements
 abbrev pub Segments : Type 0

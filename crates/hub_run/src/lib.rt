@@ -22,9 +22,7 @@
 //! X12.5, interchange; X12.6, functional group and transaction set; 999 guide (005010X231).
 #![tactic(auto)]
 
-mod closing;
 mod laws;
-mod night;
 mod plain;
 mod run_fault;
 mod writing;
@@ -35,7 +33,7 @@ pub use laws::{
     night_is_one, plain_references_are_quoted, sets_are_told_as_they_meet,
     ta1s_are_read_as_interchanges_are_answered,
 };
-pub use night::Night;
 pub use night_report::is_clean;
+pub use night_writing::Night;
 pub use plain::run_plain;
 pub use run_fault::RunFault;

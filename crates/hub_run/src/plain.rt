@@ -1,19 +1,19 @@
 ghost use Rattle.std.specs.Prelude.{◌↔◌, ◌<◌, ◌≤◌, length, IfOk, IsErrOf};
 ghost use Rattle.moment.specs.Moment.{IsMoment};
 ghost use Rattle.partner_setup.specs.Sound.{IsSoundSetup};
-ghost use Rattle.hub_run.specs.Night.{IsNight};
+ghost use Rattle.night_writing.specs.Night.{IsNight};
 ghost use Rattle.hub_run.specs.ReadBack.{AreReadBack};
 ghost use Rattle.hub_run.specs.SetsRead.{AreBoxesRead};
 ghost use Rattle.hub_run.specs.Ta1sRead.{AreTa1sReadBack};
 ghost use Rattle.hub_run.specs.Told.{AreSetsTold};
 
-use crate::night::Night;
 use crate::run_fault::RunFault;
 use crate::writing::write_night;
 use checked_text::settled_faults;
 use env_index::index_plain;
 use hub_kinds::{LONGEST_TEXT, NoMemory, within_limit};
 use moment::At;
+use night_writing::Night;
 use partner_setup::Setup;
 use std::alloc::Global;
 

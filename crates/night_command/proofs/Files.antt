@@ -4,8 +4,8 @@ use Rattle.std.proofs.Common.{get_or, map, sym, ap, append-nil, append_assoc}
 use Rattle.std.proofs.lemmas.List.{drop_more, map-append}
 use Rattle.partner_setup.specs.declared.partner.Partner.{Partner}
 use Rattle.night_command.specs.Folder.{AddsFiles, AddsSome, File, IsAtFile, KeepsFiles, file_of}
-use Rattle.hub_run.specs.Night.{IsNight}
-use Rattle.hub_run.specs.declared.night.Night.{Night}
+use Rattle.night_writing.specs.Night.{IsNight}
+use Rattle.night_writing.specs.declared.night.Night.{Night}
 use Rattle.partner_setup.specs.Setup.{SetupValue}
 use Rattle.night_command.specs.NightFiles.{files_of, night_files, partner_files}
 use Rattle.night_command.specs.Outcome.{LeavesFolder, LeavesFront, PutsFront}

@@ -2,10 +2,10 @@
 use Rattle.std.specs.Prelude.{◌≡◌, ◌≤◌, ◌⊎◌, ℕ, if◌then◌else◌, List, ◌++◌, Option, codes, length, string_bytes}
 use Rattle.std.specs.Io.KnownBytes.{Appends}
 use Rattle.hub_kinds.specs.declared.limits.TheConstants.{LONGEST_TEXT}
-use Rattle.hub_run.specs.Night.{IsNight}
+use Rattle.night_writing.specs.Night.{IsNight}
 use Rattle.hub_run.specs.ReadBack.{AreSetsRead}
 use Rattle.hub_run.specs.Ta1sRead.{AreTa1sRead}
-use Rattle.hub_run.specs.declared.night.Night.{Night}
+use Rattle.night_writing.specs.declared.night.Night.{Night}
 use Rattle.night_report.specs.Clean.{is_clean, last_of, lines_of}
 use Rattle.partner_setup.specs.Setup.{SetupValue}
 use Rattle.clap.specs.Words.{Text}

@@ -1,6 +1,6 @@
 ghost use Rattle.std.specs.Prelude.{◌≡◌, ◌≢◌, ◌<◌, ◌≤◌, ◌↔◌, ◌⊎◌, IfOk, IfErr, IsErrOf, length, map};
 ghost use Rattle.std.specs.Io.KnownBytes.{Appends};
-ghost use Rattle.hub_run.specs.Night.{IsNight};
+ghost use Rattle.night_writing.specs.Night.{IsNight};
 ghost use Rattle.partner_setup.specs.Sound.{IsSoundSetup};
 ghost use Rattle.night_command.specs.CommandLine.{AsksForText, IsCommandLine, NamesNight, guide_paths};
 ghost use Rattle.night_command.specs.Failure.{IsOfNight};

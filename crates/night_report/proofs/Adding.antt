@@ -27,7 +27,7 @@ same a b i r g s t h =
 with_none : (a : Totals) → a ≡ together a none
 with_none a = same a (together a none) (omega arith) (omega arith) (omega arith) (omega arith) (omega arith) (omega arith)
 
-none_with : (a : Totals) → together none a ≡ a
+pub none_with : (a : Totals) → together none a ≡ a
 none_with a = same (together none a) a (omega arith) (omega arith) (omega arith) (omega arith) (omega arith) (omega arith)
 
 together_assoc : (a b c : Totals) → together (together a b) c ≡ together a (together b c)

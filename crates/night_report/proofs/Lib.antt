@@ -1,4 +1,4 @@
-mod Adding
+pub mod Adding
 mod Counting
 mod Ending
 mod Spacing

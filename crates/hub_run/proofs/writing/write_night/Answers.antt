@@ -1,44 +1,59 @@
-use Rattle.std.proofs.Common.{◌≡◌, ℕ, List, [], length, ap, subst, ◌∙◌}
-use Rattle.hub_kinds.specs.declared.counters.Counters.{Counters}
-use Rattle.partner_setup.specs.declared.partner.Partner.{Partner}
-use Rattle.mailbox.specs.Deliveries.{AreDelivered}
-use Rattle.judged_text.specs.Judged.{JudgedValue, PlacedValue}
-use Rattle.night_report.specs.Report.{report_text}
-use Rattle.checked_text.specs.CheckedText.{AreAcknowledgments, SentValues}
-use Rattle.hub_run.specs.ByPlace.{box_by, next_by}
-use Rattle.hub_run.specs.Night.{AreForPartners}
-use Rattle.hub_run.proofs.Joining.{joined}
+use Rattle.std.proofs.Common.{◌≡◌, ℕ, ◌+◌, ◌<◌, ◌^◌, List, [], length, sym, ap, subst, refl, arith}
+use Rattle.std.proofs.lemmas.List.{length-replicate}
+use Rattle.partner_setup.specs.Setup.{SetupValue}
+use Rattle.env_index.specs.Words.{IndexEntry}
+use Rattle.night_writing.proofs.Joining.{night_of_written}
+use Rattle.night_writing.proofs.Starting.{first_written, nothing_acknowledged}
+use Rattle.night_writing.specs.Night.{IsNightOf}
+use Rattle.night_writing.specs.Writing.{HasRoomFor, IsBatchWritten, IsWrittenOf, WritingValue, nothing_written}
 use Rattle.hub_run.proofs.writing.write_night.Goals as goal
+
+-- what one batch has written
+written_in : (text : List ℕ) (setup : SetupValue) (at : List ℕ) (entries : List IndexEntry) (others : ℕ) (first w : WritingValue)
+    → first ≡ nothing_written setup → (batch : IsBatchWritten text setup at 0 entries others first w)
+    → IsWrittenOf text setup at batch.known w × (w.outside ≡ others)
+written_in text setup at entries others first w nothing batch =
+    let sum : w.outside ≡ first.outside + others = batch.outside in
+    let none : first.outside ≡ 0 = ap (λ (o : WritingValue). o.outside) nothing in
+    (first_written text setup at entries others first w nothing batch, omega (arith, sum, none))
 
 pub returns : goal.returns
 returns c =
-    let checked = c.in_ok-checked.ensures in
-    let setup = c.args.setup.now in
-    let at = c.args.at.now in
-    let xs : List JudgedValue = c.in_ok-checked.checked.interchanges.items in
-    let files : List SentValues = c.in_ok-checked.checked.acknowledgments.items in
-    let acknowledged : AreAcknowledgments setup at checked.answered files = checked.acknowledged [] (c.in_ok-sent.ensures.starts at) in
-    let lists : List (List PlacedValue) = c.in_ok-lists.lists.items in
-    let delivered : AreDelivered setup xs lists =
-    subst (λ (ys : List JudgedValue). AreDelivered setup ys lists) c.as_slice-2.ensures.value c.in_ok-lists.ensures in
-    let kept : (f : ℕ → Partner → List ℕ) → (g : ℕ → Partner → Counters) → Type 0 =
-    λ f g. AreForPartners setup f c.in_ok-closed.closed.boxes × AreForPartners setup g c.in_ok-closed.closed.next in
-    let closed : kept (box_by setup at files lists) (next_by files lists) =
-    subst (λ (fs : List SentValues). kept (box_by setup at fs lists) (next_by fs lists)) c.as_slice-3.ensures.value
-    (subst (λ (ls : List (List PlacedValue)). kept (box_by setup at c.as_slice-3.result.now ls) (next_by c.as_slice-3.result.now ls))
-    c.as_slice-4.ensures.value (c.in_ok-closed.ensures.boxes, c.in_ok-closed.ensures.next)) in
-    let report : c.in_ok-report.report ≡ report_text setup xs c.args.index.now.outside = c.in_ok-report.ensures
-    ∙ ap (λ (ys : List JudgedValue). report_text setup ys c.outside.result) c.as_slice.ensures.value
-    ∙ ap (λ (n : ℕ). report_text setup xs n) c.outside.ensures in
+    let setup : SetupValue = c.args.setup.now in
+    let at : List ℕ = c.args.at.now in
+    let text : List ℕ = c.args.index.now.text in
+    let w : WritingValue = c.in_ok-written.written in
+    let batch = c.in_ok-written.ensures in
+    let written = written_in text setup at c.args.index.now.entries c.args.index.now.outside c.in_ok-nothing.nothing w
+    c.in_ok-nothing.ensures batch in
     record {
-      known = checked.answered;
-      answered = checked.are;
-      is = joined c.args.index.now.text setup at checked.answered xs files lists c.args.index.now.outside _ acknowledged
-          checked.judged
-          delivered c.in_ok-acks.ensures closed.0 report closed.1;
+      known = batch.known;
+      answered = batch.answered;
+      is = subst (λ (n : ℕ). IsNightOf text setup at batch.known n c.in_ok-night.night) written.1
+          (night_of_written text setup at batch.known w written.0 c.in_ok-night.night c.in_ok-night.ensures);
     }
 
-pub close_all-requires-clause-files : goal.close_all-requires-clause-files
-close_all-requires-clause-files c =
-    ap (λ (fs : List SentValues). length fs) c.as_slice-3.ensures.value
-    ∙ (c.in_ok-checked.ensures.acknowledged [] (c.in_ok-sent.ensures.starts c.args.at.now)).count
+pub close-requires-clause-files : goal.close-requires-clause-files
+close-requires-clause-files c =
+    (written_in c.args.index.now.text c.args.setup.now c.args.at.now c.args.index.now.entries c.args.index.now.outside
+    c.in_ok-nothing.nothing c.in_ok-written.written c.in_ok-nothing.ensures c.in_ok-written.ensures).0.files.count
+
+pub close-requires-clause-boxes : goal.close-requires-clause-boxes
+close-requires-clause-boxes c =
+    (written_in c.args.index.now.text c.args.setup.now c.args.at.now c.args.index.now.entries c.args.index.now.outside
+    c.in_ok-nothing.nothing c.in_ok-written.written c.in_ok-nothing.ensures c.in_ok-written.ensures).0.boxes.count
+
+pub add_batch-requires-clause-room : goal.add_batch-requires-clause-room
+add_batch-requires-clause-room c =
+    let setup : SetupValue = c.args.setup.now in
+    let few : 0 + length c.args.index.now.entries < 2 ^ 64 = omega (arith, c.interchanges-interchanges.ensures.few) in
+    subst (λ (w : WritingValue). HasRoomFor setup c.args.at.now (length c.args.index.now.entries) c.args.index.now.outside w)
+    (sym c.in_ok-nothing.ensures)
+    (record {
+      before = [];
+      files = nothing_acknowledged setup c.args.at.now;
+      count = refl;
+      boxes = length-replicate (length setup.partners) [];
+      few = few;
+      outside = omega (arith, c.outside-outside.ensures);
+    })

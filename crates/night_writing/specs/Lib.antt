@@ -1,0 +1,3 @@
+pub mod ByPlace
+pub mod Night
+pub mod Writing

@@ -1,0 +1,123 @@
+ghost use Rattle.std.specs.Prelude.{◌≡◌, ◌<◌, ◌≤◌, Some, IfOk, length, slice_get};
+ghost use Rattle.partner_setup.specs.declared.partner.Partner.{Partner};
+ghost use Rattle.partner_setup.specs.Sound.{AreCounters};
+ghost use Rattle.night_writing.specs.ByPlace.{box_behind, box_by, counters_by, next_behind, next_by};
+ghost use Rattle.night_writing.specs.Night.{AreForPartners};
+
+use checked_text::Acknowledgments;
+use count_numbers::{interchange_count, num};
+use hub_kinds::{Counters, Items, NoMemory, Text, Texts};
+use mailbox::{RenderedSets, close};
+use moment::At;
+use partner_setup::Setup;
+use std::alloc::Global;
+
+/// What a night closes with for one partner.
+#[derive(Drop)]
+struct Closed {
+    text: Text,
+    next: Counters,
+}
+
+/// What a night closes with: for each partner its mailbox, and the counters from which its next night goes on.
+#[derive(Drop)]
+pub(crate) struct AllClosed {
+    /// The mailboxes.
+    pub(crate) boxes: Texts,
+    /// The next counters.
+    pub(crate) next: Items<Counters>,
+}
+
+/// The counters behind so many acknowledgments, which have so many groups, and behind so many delivered sets, which have so many.
+fn counters_by(
+    now: Counters,
+    cap: u32,
+    acknowledgments: u64,
+    groups: u64,
+    sets: u64,
+    delivered_groups: u64,
+) -> Counters
+    requires counters { AreCounters now }
+    requires cap { 1 ≤ cap }
+    ensures { result ≡ counters_by now cap acknowledgments groups sets delivered_groups }
+{
+    let first = num(now.interchange, acknowledgments);
+    let first_group = num(now.group, groups);
+    Counters {
+        interchange: num(first, interchange_count(cap, sets)),
+        group: num(first_group, delivered_groups),
+        set: num(now.set, sets),
+    }
+}
+
+/// The next counters of the partner at a place, to whom so many sets are delivered in so many groups.
+fn next_at(
+    setup: &Setup,
+    place: usize,
+    file: &Acknowledgments,
+    sets: u64,
+    delivered_groups: u64,
+) -> Counters
+    requires { place < length setup.now.partners }
+    ensures { (p : Partner) → slice_get setup.now.partners place ≡ Some p
+        → result ≡ counters_by p.counters p.cap file.now.count file.now.groups sets delivered_groups }
+{
+    let partner = &setup.partners()[place];
+    counters_by(
+        partner.counters,
+        partner.cap,
+        file.count(),
+        file.groups(),
+        sets,
+        delivered_groups,
+    )
+}
+
+/// What a night closes with for the partner at a place, by its acknowledgments and the sets that were written for it.
+fn close_at(
+    alloc: Global,
+    setup: &Setup,
+    place: usize,
+    at: &At,
+    file: &Acknowledgments,
+    sets: &RenderedSets,
+) -> Result<Closed, NoMemory>
+    requires { place < length setup.now.partners }
+    ensures text { (p : Partner) → slice_get setup.now.partners place ≡ Some p
+        → IfOk result (λ closed. closed.text ≡ box_behind setup.now at.now file.now sets.now p) }
+    ensures next { (p : Partner) → slice_get setup.now.partners place ≡ Some p
+        → IfOk result (λ closed. closed.next ≡ next_behind file.now sets.now p) }
+{
+    let mailbox = close(alloc, setup, place, at, file.count(), file.groups(), sets)?;
+    let next = next_at(setup, place, file, sets.count(), mailbox.groups);
+    Ok(Closed {
+        text: mailbox.text,
+        next,
+    })
+}
+
+/// The mailbox and the next counters of each partner, by its acknowledgments and the sets that were written for it.
+pub(crate) fn close_all(
+    alloc: Global,
+    setup: &Setup,
+    at: &At,
+    files: &[Acknowledgments],
+    boxes: &[RenderedSets],
+) -> Result<AllClosed, NoMemory>
+    requires files { length files.now ≡ length setup.now.partners }
+    requires boxes { length boxes.now ≡ length setup.now.partners }
+    ensures boxes { IfOk result (λ closed. AreForPartners setup.now (box_by setup.now at.now files.now boxes.now) closed.boxes) }
+    ensures next { IfOk result (λ closed. AreForPartners setup.now (next_by files.now boxes.now) closed.next) }
+{
+    let mut texts = Vec::new(alloc);
+    let mut next = Vec::new(alloc);
+    for place in 0..setup.partners().len() {
+        let closed = close_at(alloc, setup, place, at, &files[place], &boxes[place])?;
+        texts.push(closed.text)?;
+        next.push(closed.next)?;
+    }
+    Ok(AllClosed {
+        boxes: Items::from_vec(texts),
+        next: Items::from_vec(next),
+    })
+}

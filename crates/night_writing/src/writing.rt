@@ -1,0 +1,137 @@
+ghost use Rattle.std.specs.Prelude.{◌≡◌, IfOk, length, map};
+ghost use Rattle.mailbox.specs.Rendered.{HaveRendered};
+
+use crate::closing::close_all;
+use crate::night::Night;
+use checked_text::{Acknowledgments, check_text, no_acknowledgments};
+use env_index::Index;
+use hub_kinds::{Items, NoMemory, Texts};
+use judged_text::JudgedInterchange;
+use mailbox::{RenderedSets, nothing_rendered, render_deliveries};
+use moment::At;
+use night_report::ReportLines;
+use partner_setup::Setup;
+use std::alloc::Global;
+use std::marker::Model;
+
+/// The bytes of each partner's acknowledgments.
+fn texts_of(alloc: Global, files: Vec<Acknowledgments>) -> Result<Texts, NoMemory>
+    ensures { IfOk result (λ texts. texts ≡ map (λ f. f.text) files.items) }
+{
+    let mut texts = Vec::new(alloc);
+    for file in files {
+        texts.push(file.into_text())?;
+    }
+    Ok(Items::from_vec(texts))
+}
+
+/// The sets that were written for each partner, and behind them those that are delivered of these interchanges.
+fn rendered_behind(
+    alloc: Global,
+    setup: &Setup,
+    interchanges: &[JudgedInterchange<'_, '_>],
+    boxes: Vec<RenderedSets>,
+) -> Result<Vec<RenderedSets>, NoMemory>
+    requires { length boxes.items ≡ length setup.now.partners }
+    ensures { IfOk result (λ new. HaveRendered setup.now interchanges.now boxes.items new.items) }
+{
+    let mut boxes = boxes;
+    render_deliveries(alloc, setup, interchanges, boxes.as_mut_slice())?;
+    Ok(boxes)
+}
+
+/// What a night has written so far, batch by batch: the acknowledgments of each partner (X12.5, TA1; 999 guide), the sets that are
+/// delivered to it (X12.6, transaction set), the lines of the report, and how many bytes stood outside interchanges. It lends from no
+/// text.
+#[derive(Drop)]
+pub struct Writing {
+    outside: u64,
+    files: Vec<Acknowledgments>,
+    lines: ReportLines,
+    boxes: Vec<RenderedSets>,
+}
+
+impl Model for Writing {
+    ghost use Rattle.night_writing.specs.Writing.{WritingValue};
+
+    ghost Value = { WritingValue };
+
+    ghost view = { λ w. record { outside = w.outside; files = w.files.items; told = w.lines; boxes = w.boxes.items } };
+}
+
+impl Writing {
+    ghost use Rattle.std.specs.Prelude.{◌≡◌, IfOk, length};
+    ghost use Rattle.std.specs.List.{All};
+    ghost use Rattle.env_index.specs.Words.{HasSpans};
+    ghost use Rattle.night_writing.specs.Writing.{HasRoomFor, IsBatchWritten, IsClosedBy, nothing_written};
+
+    /// Of nothing. The only error is want of memory.
+    pub fn new(alloc: Global, setup: &Setup) -> Result<Writing, NoMemory>
+        ensures { IfOk result (λ w. w ≡ nothing_written setup.now) }
+    {
+        let files = no_acknowledgments(alloc, setup)?;
+        let boxes = nothing_rendered(alloc, setup)?;
+        Ok(Writing {
+            outside: 0,
+            files,
+            lines: ReportLines::new(alloc),
+            boxes,
+        })
+    }
+
+    /// Adds a batch of interchanges, behind those before: each set is checked and answered, and written where it is delivered. They
+    /// stand in a text of their own, which begins at the offset `base` of the whole one, and are settled. The only error is want of
+    /// memory; then what was written before is given up.
+    pub fn add_batch<'a>(
+        self,
+        alloc: Global,
+        setup: &'a Setup,
+        at: &At,
+        base: u64,
+        index: &Index<'a>,
+    ) -> Result<Writing, NoMemory>
+        requires spans { All (λ e. HasSpans index.now.text e.interchange) index.now.entries }
+        requires room { HasRoomFor setup.now at.now (length index.now.entries) index.now.outside self }
+        ensures { IfOk result (IsBatchWritten index.now.text setup.now at.now base index.now.entries index.now.outside self) }
+    {
+        let Writing {
+            outside,
+            files,
+            lines,
+            boxes,
+        } = self;
+        let checked = check_text(alloc, setup, at, index, files)?;
+        let interchanges = checked.interchanges.as_slice();
+        let lines = lines.append(setup, base, interchanges)?;
+        let boxes = rendered_behind(alloc, setup, interchanges, boxes)?;
+        Ok(Writing {
+            outside: outside + index.outside(),
+            files: checked.acknowledgments,
+            lines,
+            boxes,
+        })
+    }
+
+    /// The night, behind the last batch: each mailbox gets its envelopes, the report its total. The only error is want of memory.
+    pub fn close(self, alloc: Global, setup: &Setup, at: &At) -> Result<Night, NoMemory>
+        requires files { length self.files ≡ length setup.now.partners }
+        requires boxes { length self.boxes ≡ length setup.now.partners }
+        ensures { IfOk result (IsClosedBy setup.now at.now self) }
+    {
+        let Writing {
+            outside,
+            files,
+            lines,
+            boxes,
+        } = self;
+        let report = lines.close(outside)?;
+        let closed = close_all(alloc, setup, at, files.as_slice(), boxes.as_slice())?;
+        let acks = texts_of(alloc, files)?;
+        Ok(Night {
+            acks,
+            boxes: closed.boxes,
+            report,
+            next: closed.next,
+        })
+    }
+}
