@@ -109,11 +109,13 @@ module _ (before batch behind : List ℕ) (setup : SetupValue) (at : List ℕ) (
       let front : take (length batch) (batch ++ behind) ≡ batch = take_at batch behind (length batch) refl in
       let read : IsIndex (take (length batch) (batch ++ behind)) done.index = subst
       (λ (t : List ℕ). IsIndex t done.index) (sym front) done.read in
-      let next : IsIndexUpTo the_whole (by + length batch) (old.entries ++ map (moved_entry by) es) (old.writing.outside + done.index.outside) =
+      let next : IsIndexUpTo the_whole (by + length batch) (old.entries ++ map (moved_entry by) es)
+      (old.writing.outside + done.index.outside) =
       steps before (batch ++ behind) old.entries old.writing.outside (length batch) xs done.index so_far.index
       (omega (arith, length-append batch behind)) chain read in
       subst (λ (l : List IndexEntry). IsIndexUpTo the_whole (by + length batch) l new.writing.outside) (sym done.entries)
-      (subst (λ (n : ℕ). IsIndexUpTo the_whole (by + length batch) (old.entries ++ map (moved_entry by) es) n) (sym done.written.outside) next)
+      (subst (λ (n : ℕ). IsIndexUpTo the_whole (by + length batch) (old.entries ++ map (moved_entry by) es) n)
+      (sym done.written.outside) next)
 
   answered_on : AreCheckedAs the_whole setup (with_faults new.entries (settled_faults setup new.entries)) new.known
   answered_on =
@@ -153,7 +155,8 @@ module _ (before batch behind : List ℕ) (setup : SetupValue) (at : List ℕ) (
 
   lines_on : new.writing.told.lines ≡ all_lines setup 0 1 (judgements the_whole new.known)
   lines_on =
-      let count : old.writing.told.count + 1 ≡ 1 + length first = (let c : old.writing.told.count ≡ length first = so_far.written.told.count in omega (arith, c)) in
+      let count : old.writing.told.count + 1 ≡ 1 + length first =
+      (let c : old.writing.told.count ≡ length first = so_far.written.told.count in omega (arith, c)) in
       ap (λ (t : ToldValue). t.lines) done.written.told
       ∙ ap (λ (n : ℕ). old.writing.told.lines ++ all_lines setup by n second) count
       ∙ ap (λ (l : List ℕ). l ++ all_lines setup by (1 + length first) second) so_far.written.told.lines

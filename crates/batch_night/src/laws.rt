@@ -16,8 +16,8 @@ pub fn nights_go_on()
         → IsNightUpTo (before ++ (batch ++ behind)) setup at (length before) old
         → IsBatchDone batch setup at (length before) old new
         → IsNightUpTo (before ++ (batch ++ behind)) setup at (length before + length batch) new }
-    ensures shown { (batch : List ℕ) (setup : SetupValue) (at : List ℕ) (base : ℕ) (old : NightSoFar) (index : IndexValue) (w : WritingValue)
-        (written : IsBatchOf batch setup at base old index w) → IsIndex batch index
+    ensures shown { (batch : List ℕ) (setup : SetupValue) (at : List ℕ) (base : ℕ) (old : NightSoFar) (index : IndexValue)
+        (w : WritingValue) (written : IsBatchOf batch setup at base old index w) → IsIndex batch index
         → IsBatchDone batch setup at base old (behind_batch base old index written.known w) }
     ensures ends { (text : List ℕ) (setup : SetupValue) (at : List ℕ) (night : NightSoFar)
         → IsNightUpTo text setup at (length text) night → IsWhole text setup at night }
