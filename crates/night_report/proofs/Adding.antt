@@ -24,7 +24,7 @@ same a b i r g s t h =
     ∙ ap (λ (n : ℕ). of b.interchanges b.refused b.groups b.sets n a.held) t
     ∙ ap (λ (n : ℕ). of b.interchanges b.refused b.groups b.sets b.accepted n) h
 
-with_none : (a : Totals) → a ≡ together a none
+pub with_none : (a : Totals) → a ≡ together a none
 with_none a = same a (together a none) (omega arith) (omega arith) (omega arith) (omega arith) (omega arith) (omega arith)
 
 pub none_with : (a : Totals) → together none a ≡ a

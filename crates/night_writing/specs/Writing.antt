@@ -28,6 +28,10 @@ nothing_written setup = record {
   boxes = replicate (length setup.partners) [];
 }
 
+-- the same with so many more bytes outside
+abbrev pub with_outside : WritingValue → (more : ℕ) → WritingValue
+with_outside w more = record { outside = w.outside + more; files = w.files; told = w.told; boxes = w.boxes }
+
 -- for each partner what was written of its sets
 pub record AreRendered (setup : SetupValue) (xs : List JudgedValue) (boxes : List (List RenderedValue)) : Type 0 where
   pub count : length boxes ≡ length setup.partners

@@ -60,10 +60,10 @@ impl Model for Writing {
 }
 
 impl Writing {
-    ghost use Rattle.std.specs.Prelude.{◌≡◌, IfOk, length};
+    ghost use Rattle.std.specs.Prelude.{◌≡◌, ◌+◌, ◌<◌, ◌^◌, IfOk, length};
     ghost use Rattle.std.specs.List.{All};
     ghost use Rattle.env_index.specs.Words.{HasSpans};
-    ghost use Rattle.night_writing.specs.Writing.{HasRoomFor, IsBatchWritten, IsClosedBy, nothing_written};
+    ghost use Rattle.night_writing.specs.Writing.{HasRoomFor, IsBatchWritten, IsClosedBy, nothing_written, with_outside};
 
     /// Of nothing. The only error is want of memory.
     pub fn new(alloc: Global, setup: &Setup) -> Result<Writing, NoMemory>
@@ -79,10 +79,21 @@ impl Writing {
         })
     }
 
-    /// Adds a batch of interchanges, behind those before: each set is checked and answered, and written where it is delivered. They
-    /// stand in a text of their own, which begins at the offset `base` of the whole one, and are settled. The only error is want of
-    /// memory; then what was written before is given up.
-    pub fn add_batch<'a>(
+    /// The same with more bytes that stand outside interchanges.
+    fn with_outside(self, more: u64) -> Writing
+        requires { self.outside + more < 2 ^ 64 }
+        ensures { result ≡ with_outside self more }
+    {
+        Writing {
+            outside: self.outside + more,
+            files: self.files,
+            lines: self.lines,
+            boxes: self.boxes,
+        }
+    }
+
+    /// Adds interchanges behind those before, of which there may be none.
+    fn add_interchanges<'a>(
         self,
         alloc: Global,
         setup: &'a Setup,
@@ -110,6 +121,28 @@ impl Writing {
             lines,
             boxes,
         })
+    }
+
+    /// Adds a batch of interchanges, behind those before: each set is checked and answered, and written where it is delivered. They
+    /// stand in a text of their own, which begins at the offset `base` of the whole one, and are settled. A batch without
+    /// interchanges adds its bytes outside alone, whatever the number of partners. The only error is want of memory; then what was
+    /// written before is given up.
+    pub fn add_batch<'a>(
+        self,
+        alloc: Global,
+        setup: &'a Setup,
+        at: &At,
+        base: u64,
+        index: &Index<'a>,
+    ) -> Result<Writing, NoMemory>
+        requires spans { All (λ e. HasSpans index.now.text e.interchange) index.now.entries }
+        requires room { HasRoomFor setup.now at.now (length index.now.entries) index.now.outside self }
+        ensures { IfOk result (IsBatchWritten index.now.text setup.now at.now base index.now.entries index.now.outside self) }
+    {
+        if index.interchanges().is_empty() {
+            return Ok(self.with_outside(index.outside()));
+        }
+        self.add_interchanges(alloc, setup, at, base, index)
     }
 
     /// The night, behind the last batch: each mailbox gets its envelopes, the report its total. The only error is want of memory.
