@@ -1,0 +1,24 @@
+-- Private. How far a stream is worked on.
+use Rattle.std.specs.Prelude.{◌≡◌, ℕ, ◌≤◌, List, ◌++◌, length, drop, Option}
+use Rattle.std.specs.Io.KnownBytes.{Consumes}
+use Rattle.partner_setup.specs.Setup.{SetupValue}
+use Rattle.checked_text.specs.SeenNumbers.{HaveSeen}
+use Rattle.checked_text.specs.Settled.{kept_keys}
+use Rattle.batch_cut.specs.Scouting.{Stands}
+use Rattle.batch_night.specs.UpTo.{IsNightUpTo, NightSoFar}
+use Rattle.stream_read.specs.Held.{HeldValue}
+use Rattle.night_stream.specs.declared.stream.Reading.{Reading}
+
+-- what was read, up to where it is worked on, and what stands there: whatever follows, it is the night up to there
+pub record IsReadUpTo (setup : SetupValue) (at : List ℕ) (first now : Option (List ℕ)) (held : HeldValue) (r : Reading) : Type 0 where
+  pub text : List ℕ
+  pub consumed : Consumes first now text
+  pub within : r.base ≤ length text
+  pub bytes : held.bytes ≡ drop r.base text
+  pub total : held.total ≡ length text
+  pub night : NightSoFar
+  pub writing : r.carried.writing ≡ night.writing
+  pub numbers : HaveSeen r.carried.numbers (kept_keys setup night.entries)
+  pub up_to : (more : List ℕ) → IsNightUpTo (text ++ more) setup at r.base night
+  pub stands : Stands held.bytes r.scout.at r.scout.inside
+  pub start : r.scout.at ≡ 0

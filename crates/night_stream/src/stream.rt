@@ -1,0 +1,120 @@
+ghost use Rattle.std.specs.Prelude.{◌≡◌, ◌≤◌, ◌<◌, ℕ, List, [], Option, IfOk, IfSome, OnOk, IsErrOf, length};
+ghost use Rattle.std.specs.Io.KnownBytes.{IsAtEnd};
+ghost use Rattle.hub_kinds.specs.declared.limits.TheConstants.{LONGEST_TEXT};
+ghost use Rattle.stream_read.specs.Source.{HasFailed};
+ghost use Rattle.stream_read.specs.declared.held.StreamFault.TheVariants.{InputTooLong, Read};
+ghost use Rattle.night_writing.specs.Night.{IsNight};
+ghost use Rattle.night_stream.specs.Reading.{IsReadUpTo};
+
+use crate::carried::{Carried, add_batch, nothing_carried};
+use batch_cut::{Advanced, Scout, advance, forget};
+use hub_kinds::NoMemory;
+use moment::At;
+use night_writing::Night;
+use partner_setup::Setup;
+use std::alloc::Global;
+use stream_read::{Held, Source, StreamFault};
+
+/// How far a stream is worked on.
+#[derive(Drop)]
+pub(crate) struct Reading {
+    /// Up to where the interchanges are whole in what is held, and the one that is open there.
+    scout: Scout,
+    /// Where what is held begins in the stream.
+    base: u64,
+    /// What is carried.
+    carried: Carried,
+}
+
+/// At the begin of a stream.
+fn at_begin(alloc: Global, setup: &Setup) -> Result<Reading, NoMemory>
+    ensures { IfOk result (λ reading. (at : List ℕ) (first : Option (List ℕ))
+        → IsReadUpTo setup.now at first first (record { bytes = []; total = 0 }) reading) }
+{
+    let carried = nothing_carried(alloc, setup)?;
+    Ok(Reading {
+        scout: Scout {
+            at: 0,
+            inside: None,
+        },
+        base: 0,
+        carried,
+    })
+}
+
+/// Works on the interchanges that are whole in what is held, and gives their bytes up.
+fn go_on(
+    alloc: Global,
+    setup: &Setup,
+    at: &At,
+    held: &mut Held,
+    reading: Reading,
+) -> Result<Reading, NoMemory>
+    requires few { held.old.total ≤ LONGEST_TEXT }
+    requires read { (first : Option (List ℕ)) × (now : Option (List ℕ)) × IsReadUpTo setup.now at.now first now held.old reading }
+    ensures read { IfOk result (λ new. (first now : Option (List ℕ)) → IsReadUpTo setup.now at.now first now held.old reading
+        → IsReadUpTo setup.now at.now first now held.new new) }
+    ensures total { OnOk result (held.new.total ≡ held.old.total) }
+{
+    let Reading {
+        scout,
+        base,
+        carried,
+    } = reading;
+    let Advanced { scout: ahead, .. } = advance(held.bytes(), scout);
+    let carried = add_batch(alloc, setup, at, base, carried, &held.bytes()[..ahead.at])?;
+    held.give_up(ahead.at);
+    Ok(Reading {
+        scout: forget(ahead),
+        base: base + ahead.at as u64,
+        carried,
+    })
+}
+
+/// Works on all that is held, behind which nothing comes, and closes the night.
+fn finish(
+    alloc: Global,
+    setup: &Setup,
+    at: &At,
+    held: &Held,
+    reading: Reading,
+) -> Result<Night, NoMemory>
+    requires few { held.now.total ≤ LONGEST_TEXT }
+    requires read { (first : Option (List ℕ)) × (now : Option (List ℕ)) × IsReadUpTo setup.now at.now first now held.now reading }
+    ensures { IfOk result (λ night. (first now : Option (List ℕ)) → IsReadUpTo setup.now at.now first now held.now reading → IsAtEnd now
+        → IfSome first (λ text. IsNight text setup.now at.now night)) }
+{
+    let Reading { base, carried, .. } = reading;
+    let all = add_batch(alloc, setup, at, base, carried, held.bytes())?;
+    let Carried { writing, .. } = all;
+    let night = writing.close(alloc, setup, at)?;
+    Ok(night)
+}
+
+/// The night of a stream that is read in windows of so many bytes, by a setup and at a moment: after each full window, and at the end,
+/// the interchanges that are whole by then are worked on, before more is read. The end of a header or a trailer may stand in the next
+/// window. Errors: more bytes than `LONGEST_TEXT`, a reader that fails or is interrupted more than 1,000 times in a row, want of memory.
+/// X12.5, interchange.
+pub fn stream_night<S: Source>(
+    alloc: Global,
+    source: &mut S,
+    window: usize,
+    setup: &Setup,
+    at: &At,
+) -> Result<Night, StreamFault>
+    requires { 0 < window }
+    ensures night { IfOk result (λ night. IfSome (S.remaining source.old) (λ text. IsNight text setup.now at.now night)) }
+    ensures long { IsErrOf result InputTooLong → IfSome (S.remaining source.old) (λ xs. LONGEST_TEXT < length xs) }
+    ensures short { OnOk result (IfSome (S.remaining source.old) (λ xs. length xs ≤ LONGEST_TEXT)) }
+    ensures end { OnOk result (IsAtEnd (S.remaining source.new)) }
+    ensures fault { IsErrOf result Read → HasFailed (S.faults source.old) (S.faults source.new) (S.interruptions source.new) }
+    ensures none { (IsErrOf result Read → ⊥) → S.faults source.new ≡ S.faults source.old }
+{
+    let mut held = Held::new(alloc);
+    let mut reading = at_begin(alloc, setup)?;
+    while held.fill(source, window)? {
+        reading = go_on(alloc, setup, at, &mut held, reading)?;
+    }
+    let night = finish(alloc, setup, at, &held, reading)?;
+    Ok(night)
+}
