@@ -1,3 +1,2 @@
 pub mod MovedSets
-pub mod Rendered
 pub mod Within

@@ -8,7 +8,6 @@ ghost use Rattle.judged_text.specs.Judged.{PlacedValue};
 ghost use Rattle.mailbox.specs.Deliveries.{outcomes};
 ghost use Rattle.mailbox.specs.Mailbox.{set_text};
 ghost use Rattle.batch_sets.specs.MovedSets.{moved_checked, moved_placed};
-ghost use Rattle.batch_sets.specs.Rendered.{BoxesAreRendered};
 ghost use Rattle.batch_sets.specs.Within.{IsWithinText};
 
 /// A law, with nothing to run: a set that is checked in a batch is checked in the whole text, with the same answer; and what becomes of
@@ -22,10 +21,4 @@ pub fn sets_are_placed_alike()
         → outcomes setup (moved_placed before behind p) ≡ outcomes setup p }
     ensures written { (before behind : List ℕ) (to : Delims) (p : PlacedValue) (n : ℕ) → IsWithinText p
         → set_text to (moved_placed before behind p) n ≡ set_text to p n }
-{}
-
-/// A law, with nothing to run: a mailbox by the sets that were written for it, each kept as its text and what it has in common with the
-/// sets of its group, is the mailbox of these sets, with as many groups.
-pub fn boxes_by_rendered()
-    ensures { BoxesAreRendered }
 {}

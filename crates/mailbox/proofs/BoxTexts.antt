@@ -9,25 +9,10 @@ use Rattle.count_numbers.proofs.Interchanges.{first_interchange}
 use Rattle.partner_setup.specs.Envelopes.{envelope_to}
 use Rattle.partner_setup.specs.Setup.{SetupValue}
 use Rattle.partner_setup.specs.declared.partner.Partner.{Partner}
-use Rattle.judged_text.specs.Judged.{PlacedValue}
 use Rattle.x12_write.specs.Header.{header_text}
 use Rattle.x12_write.specs.Trailer.{trailer_text}
-use Rattle.mailbox.specs.Mailbox.{delivered_group_text, delivered_text, delivered_texts, groups_text, groups_within}
-use Rattle.mailbox.specs.Numbered.{NumberedValue, groups_of, numbered_from}
+use Rattle.mailbox.specs.Rendered.{RenderedValue, group_of, groups_in, groups_of, groups_text, interchange_of, interchanges_text}
 use Rattle.mailbox.specs.Renumbered.{groups_behind, numbered_interchange}
-use Rattle.mailbox.proofs.GroupTexts.{length_numbered}
-
-take_numbered : (n k : ℕ) (xs : List PlacedValue) → take n (numbered_from k xs) ≡ numbered_from k (take n xs)
-take_numbered zero k xs = refl
-take_numbered (suc n) k [] = refl
-take_numbered (suc n) k (x ∷ xs) = ap (λ (ys : List NumberedValue). record { place = k; set = x } ∷ ys) (take_numbered n (k + 1) xs)
-
-drop_numbered : (n k : ℕ) (xs : List PlacedValue) → drop n (numbered_from k xs) ≡ numbered_from (k + n) (drop n xs)
-drop_numbered zero k xs = let same : k ≡ k + 0 = omega arith in ap (λ (j : ℕ). numbered_from j xs) same
-drop_numbered (suc n) k [] = refl
-drop_numbered (suc n) k (x ∷ xs) =
-    let same : k + 1 + n ≡ k + suc n = omega arith in
-    drop_numbered n (k + 1) xs ∙ ap (λ (j : ℕ). numbered_from j (drop n xs)) same
 
 -- as many as there are, or as many as the cap
 module _ {A : Type 0} (cap end : ℕ) (xs : List A) (e : end ≡ min (length xs) cap) where
@@ -45,17 +30,12 @@ module _ {A : Type 0} (cap end : ℕ) (xs : List A) (e : end ≡ min (length xs)
       cases (inl few) = drop_all cap xs (omega arith) ∙ sym (drop_all end xs (omega arith))
       cases (inr many) = let same : cap ≡ end = omega arith in ap (λ (n : ℕ). drop n xs) same
 
-first_box : (cap end place : ℕ) (xs : List PlacedValue) → end ≡ min (length xs) cap → 0 < cap → 0 < length xs
-    → interchanges_of cap (numbered_from place xs)
-    ≡ numbered_from place (take end xs) ∷ interchanges_of cap (numbered_from (place + end) (drop end xs))
-first_box cap end place xs e h some =
-    let long = length_numbered place xs in
-    let left : end ≡ min (length (numbered_from place xs)) cap = e ∙ ap (λ (n : ℕ). min n cap) (sym long) in
-    first_interchange cap (numbered_from place xs) h (omega arith)
-    ∙ ap (λ (ys : List NumberedValue). ys ∷ interchanges_of cap (drop cap (numbered_from place xs)))
-    (same_front cap end (numbered_from place xs) left ∙ take_numbered end place xs)
-    ∙ ap (λ (ys : List NumberedValue). numbered_from place (take end xs) ∷ interchanges_of cap ys)
-    (same_behind cap end (numbered_from place xs) left ∙ drop_numbered end place xs)
+first_box : (cap end : ℕ) (xs : List RenderedValue) → end ≡ min (length xs) cap → 0 < cap → 0 < length xs
+    → interchanges_of cap xs ≡ take end xs ∷ interchanges_of cap (drop end xs)
+first_box cap end xs e h some =
+    first_interchange cap xs h some
+    ∙ ap (λ (ys : List RenderedValue). ys ∷ interchanges_of cap (drop cap xs)) (same_front cap end xs e)
+    ∙ ap (λ (ys : List RenderedValue). take end xs ∷ interchanges_of cap ys) (same_behind cap end xs e)
 
 -- the number that comes behind a number
 num_on : (start a k : ℕ) → num (num start a) k ≡ num start (a + k)
@@ -66,43 +46,36 @@ pub some_left : (n : ℕ) → false ≡ (n == 0) → 0 < n
 some_left zero e = absurd (cc)
 some_left (suc n) e = omega arith
 
-pub place_kept : (place end all : ℕ) (cap : ℕ) (xs rest : List PlacedValue) → end ≡ min (length xs) cap → rest ≡ drop end xs
-    → place + length xs ≡ all → place + end + length rest ≡ all
-place_kept place end all cap xs rest e er was =
-    let long : length rest ≡ length xs - end = ap length er ∙ length-drop end xs in
-    omega (arith, long)
-
 -- groups that are numbered from the number that comes g behind the partner's counter
-groups_renumbered : (setup : SetupValue) (p : Partner) (at : List ℕ) (g k : ℕ) (groups : List (List NumberedValue))
+groups_renumbered : (setup : SetupValue) (p : Partner) (at : List ℕ) (g k : ℕ) (groups : List (List RenderedValue))
     → groups_behind setup p at (num p.counters.group g) k groups ≡ groups_text setup p at (g + k) groups
 groups_renumbered setup p at g k [] = refl
 groups_renumbered setup p at g k (group ∷ groups) =
     let next : g + (k + 1) ≡ g + k + 1 = omega arith in
-    ap (λ (n : ℕ). delivered_group_text setup p at n group ++ groups_behind setup p at (num p.counters.group g) (k + 1) groups)
+    ap (λ (n : ℕ). group_of setup p at n group ++ groups_behind setup p at (num p.counters.group g) (k + 1) groups)
     (num_on p.counters.group g k)
-    ∙ ap (λ (t : List ℕ). delivered_group_text setup p at (num p.counters.group (g + k)) group ++ t)
+    ∙ ap (λ (t : List ℕ). group_of setup p at (num p.counters.group (g + k)) group ++ t)
     (groups_renumbered setup p at g (k + 1) groups ∙ ap (λ (n : ℕ). groups_text setup p at n groups) next)
 
-interchange_renumbered : (setup : SetupValue) (p : Partner) (at : List ℕ) (number g : ℕ) (sets : List NumberedValue)
-    → numbered_interchange setup p at number (num p.counters.group g) sets ≡ delivered_text setup p at number g sets
+interchange_renumbered : (setup : SetupValue) (p : Partner) (at : List ℕ) (number g : ℕ) (sets : List RenderedValue)
+    → numbered_interchange setup p at number (num p.counters.group g) sets ≡ interchange_of setup p at number g sets
 interchange_renumbered setup p at number g sets =
     let none : g + 0 ≡ g = omega arith in
     ap (λ (t : List ℕ). header_text (envelope_to setup p) at number ++ t ++ trailer_text p.delims (length (groups_of sets)) number)
     (groups_renumbered setup p at g 0 (groups_of sets) ∙ ap (λ (n : ℕ). groups_text setup p at n (groups_of sets)) none)
 
-pub box_step : (setup : SetupValue) (p : Partner) (at : List ℕ) (acks groups written count place end number group more : ℕ)
-    (xs rest : List PlacedValue) (first first_group : ℕ) (old new all : List ℕ)
+pub box_step : (setup : SetupValue) (p : Partner) (at : List ℕ) (acks groups written count end number group more : ℕ)
+    (xs rest : List RenderedValue) (first first_group : ℕ) (old new all : List ℕ)
     → end ≡ min (length xs) p.cap → 0 < p.cap → 0 < length xs → first ≡ num p.counters.interchange acks → number ≡ num first written
     → first_group ≡ num p.counters.group groups → group ≡ num first_group count
-    → new ≡ old ++ numbered_interchange setup p at number group (numbered_from place (take end xs))
-    → more ≡ length (groups_of (numbered_from place (take end xs))) → rest ≡ drop end xs
-    → old ++ delivered_texts setup p at (acks + written) (groups + count) (interchanges_of p.cap (numbered_from place xs)) ≡ all
-    → new ++ delivered_texts setup p at (acks + (written + 1)) (groups + (count + more))
-    (interchanges_of p.cap (numbered_from (place + end) rest)) ≡ all
-box_step setup p at acks groups written count place end number group more xs rest first first_group old new all
+    → new ≡ old ++ numbered_interchange setup p at number group (take end xs)
+    → more ≡ length (groups_of (take end xs)) → rest ≡ drop end xs
+    → old ++ interchanges_text setup p at (acks + written) (groups + count) (interchanges_of p.cap xs) ≡ all
+    → new ++ interchanges_text setup p at (acks + (written + 1)) (groups + (count + more)) (interchanges_of p.cap rest) ≡ all
+box_step setup p at acks groups written count end number group more xs rest first first_group old new all
     e h some ef en eg ec is em er was =
-    let front : List NumberedValue = numbered_from place (take end xs) in
-    let behind : List (List NumberedValue) = interchanges_of p.cap (numbered_from (place + end) (drop end xs)) in
+    let front : List RenderedValue = take end xs in
+    let behind : List (List RenderedValue) = interchanges_of p.cap (drop end xs) in
     let k : ℕ = acks + written in
     let b : ℕ = groups + count in
     let next : acks + (written + 1) ≡ acks + written + 1 = omega arith in
@@ -110,39 +83,48 @@ box_step setup p at acks groups written count place end number group more xs res
     let as_number : number ≡ num p.counters.interchange k =
     en ∙ ap (λ (n : ℕ). num n written) ef ∙ num_on p.counters.interchange acks written in
     let as_group : group ≡ num p.counters.group b = ec ∙ ap (λ (n : ℕ). num n count) eg ∙ num_on p.counters.group groups count in
-    let here : List ℕ = delivered_text setup p at (num p.counters.interchange k) b front in
+    let here : List ℕ = interchange_of setup p at (num p.counters.interchange k) b front in
     let text : new ≡ old ++ here =
     is ∙ ap (λ (n : ℕ). old ++ numbered_interchange setup p at n group front) as_number
     ∙ ap (λ (n : ℕ). old ++ numbered_interchange setup p at (num p.counters.interchange k) n front) as_group
     ∙ ap (λ (t : List ℕ). old ++ t) (interchange_renumbered setup p at (num p.counters.interchange k) b front) in
-    let left : List ℕ = delivered_texts setup p at (k + 1) (b + length (groups_of front)) behind in
-    ap (λ (ys : List PlacedValue). new ++ delivered_texts setup p at (acks + (written + 1)) (groups + (count + more))
-    (interchanges_of p.cap (numbered_from (place + end) ys))) er
-    ∙ ap (λ (n : ℕ). new ++ delivered_texts setup p at n (groups + (count + more)) behind) next
-    ∙ ap (λ (n : ℕ). new ++ delivered_texts setup p at (k + 1) n behind) before
+    let left : List ℕ = interchanges_text setup p at (k + 1) (b + length (groups_of front)) behind in
+    ap (λ (ys : List RenderedValue). new ++ interchanges_text setup p at (acks + (written + 1)) (groups + (count + more))
+    (interchanges_of p.cap ys)) er
+    ∙ ap (λ (n : ℕ). new ++ interchanges_text setup p at n (groups + (count + more)) behind) next
+    ∙ ap (λ (n : ℕ). new ++ interchanges_text setup p at (k + 1) n behind) before
     ∙ ap (λ (t : List ℕ). t ++ left) text
     ∙ append_assoc old here left
-    ∙ ap (λ (boxes : List (List NumberedValue)). old ++ delivered_texts setup p at k b boxes) (sym (first_box p.cap end place xs e h some))
+    ∙ ap (λ (boxes : List (List RenderedValue)). old ++ interchanges_text setup p at k b boxes) (sym (first_box p.cap end xs e h some))
     ∙ was
   where
     counted : (g c m n : ℕ) → m ≡ n → g + (c + m) ≡ g + c + n
     counted g c m n e = omega arith
 
 -- the groups of one more interchange
-pub count_step : (count place end cap more all : ℕ) (xs rest : List PlacedValue) → end ≡ min (length xs) cap → 0 < cap → 0 < length xs
-    → more ≡ length (groups_of (numbered_from place (take end xs))) → rest ≡ drop end xs
-    → count + groups_within (interchanges_of cap (numbered_from place xs)) ≡ all
-    → count + more + groups_within (interchanges_of cap (numbered_from (place + end) rest)) ≡ all
-count_step count place end cap more all xs rest e h some em er was =
-    ap (λ (ys : List PlacedValue). count + more + groups_within (interchanges_of cap (numbered_from (place + end) ys))) er
-    ∙ moved_over count more (length (groups_of (numbered_from place (take end xs))))
-    (groups_within (interchanges_of cap (numbered_from (place + end) (drop end xs))))
-    (groups_within (interchanges_of cap (numbered_from place xs))) all em (ap groups_within (first_box cap end place xs e h some)) was
+pub count_step : (count end cap more all : ℕ) (xs rest : List RenderedValue) → end ≡ min (length xs) cap → 0 < cap → 0 < length xs
+    → more ≡ length (groups_of (take end xs)) → rest ≡ drop end xs
+    → count + groups_in (interchanges_of cap xs) ≡ all
+    → count + more + groups_in (interchanges_of cap rest) ≡ all
+count_step count end cap more all xs rest e h some em er was =
+    ap (λ (ys : List RenderedValue). count + more + groups_in (interchanges_of cap ys)) er
+    ∙ moved_over count more (length (groups_of (take end xs))) (groups_in (interchanges_of cap (drop end xs)))
+    (groups_in (interchanges_of cap xs)) all em (ap groups_in (first_box cap end xs e h some)) was
   where
     moved_over : (c m n rest whole all : ℕ) → m ≡ n → whole ≡ n + rest → c + whole ≡ all → c + m + rest ≡ all
     moved_over c m n rest whole all e f was = omega arith
 
 -- there are no more groups than sets
-pub bound_kept : (count more place end : ℕ) (xs : List PlacedValue) → more ≤ length (take end xs) → count ≤ place
-    → count + more ≤ place + end
-bound_kept count more place end xs few was = let long = length-take end xs in omega arith
+pub bound_kept : (count more end cap all : ℕ) (xs rest : List RenderedValue) → end ≡ min (length xs) cap → rest ≡ drop end xs
+    → more ≤ length (take end xs) → count + length xs ≤ all → count + more + length rest ≤ all
+bound_kept count more end cap all xs rest e er few was =
+    let long : length rest ≡ length xs - end = ap length er ∙ length-drop end xs in
+    let front = length-take end xs in
+    omega (arith, long, front)
+
+-- nor more interchanges
+pub written_kept : (written end cap all : ℕ) (xs rest : List RenderedValue) → end ≡ min (length xs) cap → 0 < cap → 0 < length xs
+    → rest ≡ drop end xs → written + length xs ≤ all → written + 1 + length rest ≤ all
+written_kept written end cap all xs rest e h some er was =
+    let long : length rest ≡ length xs - end = ap length er ∙ length-drop end xs in
+    omega (arith, long)

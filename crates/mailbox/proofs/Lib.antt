@@ -4,9 +4,12 @@ pub mod Clear
 pub mod GroupTexts
 pub mod Groups
 pub mod Growing
+pub mod Keeping
 pub mod Passing
+pub mod Rendering
 pub mod Replacing
 pub mod Sending
 pub mod Together
 pub mod Writing
+pub mod WrittenSets
 pub mod Tallied

@@ -1,10 +1,9 @@
--- Private. How many delivered sets go into the first group.
+-- Private. How many written sets go into the first group.
 use Rattle.std.specs.Prelude.{ℕ, ◌+◌, List, [], ◌∷◌, if◌then◌else◌}
 use Rattle.count_numbers.specs.Runs.{same_key}
-use Rattle.judged_text.specs.Judged.{PlacedValue}
-use Rattle.mailbox.specs.Numbered.{key_of}
+use Rattle.mailbox.specs.Rendered.{RenderedValue}
 
-abbrev pub run_len : List PlacedValue → ℕ
+abbrev pub run_len : List RenderedValue → ℕ
 run_len [] = 0
-run_len (p ∷ []) = 1
-run_len (p ∷ q ∷ ps) = if same_key (key_of p) (key_of q) then 1 + run_len (q ∷ ps) else 1
+run_len (x ∷ []) = 1
+run_len (x ∷ y ∷ ys) = if same_key x.key y.key then 1 + run_len (y ∷ ys) else 1

@@ -3,9 +3,12 @@ pub mod Blocking
 pub mod Deliveries
 pub mod Delivering
 pub mod Grouping
+pub mod Kept
 pub mod Mailbox
 pub mod Numbered
 pub mod Numbers
 pub mod Read
+pub mod Rendered
+pub mod Rendering
 pub mod Renumbered
 pub mod Tallied

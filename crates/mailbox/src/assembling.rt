@@ -1,15 +1,17 @@
 ghost use Rattle.std.specs.Prelude.{◌≡◌, ◌++◌, ◌+◌, ◌≤◌, ◌<◌, ◌^◌, Some, OnOk, IfOk, drop, length, slice_get};
-ghost use Rattle.count_numbers.specs.Num.{num};
 ghost use Rattle.partner_setup.specs.Envelopes.{envelope_to};
 ghost use Rattle.partner_setup.specs.declared.partner.Partner.{Partner};
 ghost use Rattle.x12_write.specs.Header.{header_text};
 ghost use Rattle.mailbox.specs.Mailbox.{box_text, group_total};
-ghost use Rattle.mailbox.specs.Numbered.{groups_of, numbered_from};
 ghost use Rattle.mailbox.specs.Numbers.{HasCap, HasCounters};
+ghost use Rattle.mailbox.specs.Rendered.{box_of_rendered, groups_of, groups_of_rendered};
 ghost use Rattle.mailbox.specs.Renumbered.{IsNumber, groups_behind, numbered_interchange};
 
 use crate::group_text::append_group;
 use crate::grouping::first_group;
+use crate::rendered::Rendered;
+use crate::rendered_sets::RenderedSets;
+use crate::room::room_for;
 use count_numbers::num;
 use hub_kinds::{Items, NoMemory, Text};
 use judged_text::PlacedSet;
@@ -34,26 +36,21 @@ fn append_groups(
     partner: &Partner,
     at: &At,
     first: u32,
-    before: u64,
-    sets: &[PlacedSet<'_, '_, '_>],
+    sets: &[Rendered],
 ) -> Result<u64, NoMemory>
-    requires counters { HasCounters partner.now }
     requires first { IsNumber first }
-    requires few { before + length sets.now < 2 ^ 64 }
     ensures text { OnOk result (out.new.items
-        ≡ out.old.items ++ groups_behind setup.now partner.now at.now first 0 (groups_of (numbered_from before sets.now))) }
-    ensures count { IfOk result (λ n. n ≡ length (groups_of (numbered_from before sets.now))) }
+        ≡ out.old.items ++ groups_behind setup.now partner.now at.now first 0 (groups_of sets.now)) }
+    ensures count { IfOk result (λ n. n ≡ length (groups_of sets.now)) }
     ensures bound { IfOk result (λ n. n ≤ length sets.now) }
 {
     let mut rest = sets;
-    let mut place = before;
     let mut count: u64 = 0;
     while !rest.is_empty() {
         let end = first_group(rest);
         let control = num(first, count);
-        append_group(out, setup, partner, at, control, place, &rest[..end])?;
+        append_group(out, setup, partner, at, control, &rest[..end])?;
         count += 1;
-        place += end as u64;
         rest = &rest[end..];
     }
     Ok(count)
@@ -74,8 +71,7 @@ fn append_partner_header(
     append_header(out, &setup.envelope_to(index), at, number)
 }
 
-/// Writes a delivered interchange (X12.5), as number `number`, its first group as number `first`, before whose sets `before` were
-/// delivered to the partner, and answers how many groups it has.
+/// Writes a delivered interchange (X12.5), as number `number`, its first group as number `first`, and answers how many groups it has.
 fn append_delivered(
     out: &mut Vec<u8>,
     setup: &Setup,
@@ -84,29 +80,23 @@ fn append_delivered(
     at: &At,
     number: u32,
     first: u32,
-    before: u64,
-    sets: &[PlacedSet<'_, '_, '_>],
+    sets: &[Rendered],
 ) -> Result<u64, NoMemory>
     requires partner { slice_get setup.now.partners index ≡ Some partner.now }
-    requires counters { HasCounters partner.now }
     requires first { IsNumber first }
-    requires few { before + length sets.now < 2 ^ 64 }
     ensures text { OnOk result (out.new.items
-        ≡ out.old.items ++ numbered_interchange setup.now partner.now at.now number first (numbered_from before sets.now)) }
-    ensures count { IfOk result (λ n. n ≡ length (groups_of (numbered_from before sets.now))) }
+        ≡ out.old.items ++ numbered_interchange setup.now partner.now at.now number first sets.now) }
+    ensures count { IfOk result (λ n. n ≡ length (groups_of sets.now)) }
     ensures bound { IfOk result (λ n. n ≤ length sets.now) }
 {
     append_partner_header(out, setup, index, partner, at, number)?;
-    let groups = append_groups(out, setup, partner, at, first, before, sets)?;
+    let groups = append_groups(out, setup, partner, at, first, sets)?;
     append_trailer(out, &partner.delims, groups, number)?;
     Ok(groups)
 }
 
 /// The sets behind the first of them.
-fn behind<'s, 'j, 'i, 'a>(
-    sets: &'s [PlacedSet<'j, 'i, 'a>],
-    end: usize,
-) -> &'s [PlacedSet<'j, 'i, 'a>]
+fn behind(sets: &[Rendered], end: usize) -> &[Rendered]
     requires { end ≤ length sets.now }
     ensures { result.now ≡ drop end sets.entry.now }
 {
@@ -123,20 +113,19 @@ fn append_interchanges(
     at: &At,
     acknowledgments: u64,
     groups: u64,
-    sets: &[PlacedSet<'_, '_, '_>],
+    sets: &[Rendered],
 ) -> Result<u64, NoMemory>
     requires partner { slice_get setup.now.partners index ≡ Some partner.now }
     requires counters { HasCounters partner.now }
     requires cap { HasCap partner.now }
     ensures text { OnOk result (out.new.items
-        ≡ out.old.items ++ box_text setup.now partner.now at.now acknowledgments groups sets.now) }
-    ensures count { IfOk result (λ n. n ≡ group_total partner.now.cap sets.now) }
+        ≡ out.old.items ++ box_of_rendered setup.now partner.now at.now acknowledgments groups sets.now) }
+    ensures count { IfOk result (λ n. n ≡ groups_of_rendered partner.now.cap sets.now) }
 {
     let cap = partner.cap as usize;
     let first = num(partner.counters.interchange, acknowledgments);
     let first_control = num(partner.counters.group, groups);
     let mut rest = sets;
-    let mut place: u64 = 0;
     let mut written: u64 = 0;
     let mut count: u64 = 0;
     while !rest.is_empty() {
@@ -144,15 +133,49 @@ fn append_interchanges(
         let number = num(first, written);
         let control = num(first_control, count);
         let front = &rest[..end];
-        let more = append_delivered(
-            out, setup, index, partner, at, number, control, place, front,
-        )?;
+        let more = append_delivered(out, setup, index, partner, at, number, control, front)?;
         count += more;
-        place += end as u64;
         written += 1;
         rest = behind(rest, end);
     }
     Ok(count)
+}
+
+/// What the partner at this place of the setup finds in its mailbox (X12.5, X12.6), by the sets that were written for it: in
+/// interchanges that hold as many as its cap says, numbered behind so many acknowledgments, and in each the longest groups of sets
+/// from one sender with one GS01 and GS08, whose control numbers (GS06) go on behind those of the groups of acknowledgments, so many.
+/// The only error is want of memory.
+pub fn close(
+    alloc: Global,
+    setup: &Setup,
+    partner: usize,
+    at: &At,
+    acknowledgments: u64,
+    groups: u64,
+    sets: &RenderedSets,
+) -> Result<Mailbox, NoMemory>
+    requires { partner < length setup.now.partners }
+    ensures text { (p : Partner) → slice_get setup.now.partners partner ≡ Some p
+        → IfOk result (λ mailbox. mailbox.text ≡ box_of_rendered setup.now p at.now acknowledgments groups sets.now) }
+    ensures groups { (p : Partner) → slice_get setup.now.partners partner ≡ Some p
+        → IfOk result (λ mailbox. mailbox.groups ≡ groups_of_rendered p.cap sets.now) }
+{
+    let receiver = &setup.partners()[partner];
+    let mut out = Vec::with_capacity(alloc, room_for(sets.sets(), receiver.cap))?;
+    let count = append_interchanges(
+        &mut out,
+        setup,
+        partner,
+        receiver,
+        at,
+        acknowledgments,
+        groups,
+        sets.sets(),
+    )?;
+    Ok(Mailbox {
+        text: Items::from_vec(out),
+        groups: count,
+    })
 }
 
 /// What the partner at this place of the setup finds in its mailbox (X12.5, X12.6): its delivered sets in interchanges that hold
@@ -174,20 +197,7 @@ pub fn assemble(
     ensures groups { (p : Partner) → slice_get setup.now.partners partner ≡ Some p
         → IfOk result (λ mailbox. mailbox.groups ≡ group_total p.cap sets.now) }
 {
-    let mut out = Vec::new(alloc);
-    let receiver = &setup.partners()[partner];
-    let count = append_interchanges(
-        &mut out,
-        setup,
-        partner,
-        receiver,
-        at,
-        acknowledgments,
-        groups,
-        sets,
-    )?;
-    Ok(Mailbox {
-        text: Items::from_vec(out),
-        groups: count,
-    })
+    let mut written = RenderedSets::none(alloc);
+    written.add_all(alloc, &setup.partners()[partner], sets)?;
+    close(alloc, setup, partner, at, acknowledgments, groups, &written)
 }

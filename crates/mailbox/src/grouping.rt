@@ -1,30 +1,21 @@
-ghost use Rattle.std.specs.Prelude.{◌≡◌, ◌+◌, ◌∷◌, ◌<◌, ◌≤◌, ℕ, drop, length, take};
+ghost use Rattle.std.specs.Prelude.{◌≡◌, ◌∷◌, ◌<◌, ◌≤◌, drop, length, take};
 ghost use Rattle.count_numbers.specs.Runs.{same_key};
 ghost use Rattle.mailbox.specs.Grouping.{run_len};
-ghost use Rattle.mailbox.specs.Numbered.{groups_of, key_of, numbered_from, sender_in};
+ghost use Rattle.mailbox.specs.Rendered.{groups_of};
 
-use judged_text::PlacedSet;
-
-/// The sender's place in the setup.
-pub(crate) fn sender_in(placed: &PlacedSet<'_, '_, '_>) -> usize
-    ensures { result ≡ sender_in placed.now }
-{
-    placed.interchange().sender().unwrap_or(0)
-}
+use crate::rendered::Rendered;
 
 /// Whether two sets go into one group.
-fn goes_with(a: &PlacedSet<'_, '_, '_>, b: &PlacedSet<'_, '_, '_>) -> bool
-    ensures { result ≡ same_key (key_of a.now) (key_of b.now) }
+pub(crate) fn goes_with(a: &Rendered, b: &Rendered) -> bool
+    ensures { result ≡ same_key a.now.key b.now.key }
 {
-    let first = a.group().header();
-    let second = b.group().header();
-    sender_in(a) == sender_in(b)
-        && first.element(1) == second.element(1)
-        && first.element(8) == second.element(8)
+    a.sender() == b.sender()
+        && a.functional_id() == b.functional_id()
+        && a.version() == b.version()
 }
 
 /// How many sets follow each other in the first group.
-fn run_len(sets: &[PlacedSet<'_, '_, '_>]) -> usize
+fn run_len(sets: &[Rendered]) -> usize
     requires { 0 < length sets.now }
     ensures value { result ≡ run_len sets.now }
     ensures some { 0 < result }
@@ -39,12 +30,11 @@ fn run_len(sets: &[PlacedSet<'_, '_, '_>]) -> usize
 }
 
 /// How many sets go into the first group.
-pub(crate) fn first_group(sets: &[PlacedSet<'_, '_, '_>]) -> usize
+pub(crate) fn first_group(sets: &[Rendered]) -> usize
     requires { 0 < length sets.now }
     ensures some { 0 < result }
     ensures bound { result ≤ length sets.now }
-    ensures first { (place : ℕ) → groups_of (numbered_from place sets.now)
-        ≡ numbered_from place (take result sets.now) ∷ groups_of (numbered_from (place + result) (drop result sets.now)) }
+    ensures first { groups_of sets.now ≡ take result sets.now ∷ groups_of (drop result sets.now) }
 {
     run_len(sets)
 }

@@ -1,4 +1,5 @@
 ghost use Rattle.mailbox.specs.Accounted.{SetsAreAccounted};
+ghost use Rattle.mailbox.specs.Rendered.{BoxesAreRendered};
 ghost use Rattle.mailbox.specs.Tallied.{GroupsAreCounted, GroupsAreLaidOut, GroupsAreRuns};
 
 /// The groups of a mailbox are the maximal runs of its sets' keys, as a tally counts them, and those of each delivered interchange
@@ -14,4 +15,10 @@ pub fn groups_are_runs()
 /// not be delivered nothing is told (X12.6, transaction set). It does nothing: its contract is the law.
 pub fn sets_are_accounted()
     ensures { SetsAreAccounted }
+{}
+
+/// A mailbox by the sets that were written for it, each kept as its text and what it has in common with the sets of its group, is the
+/// mailbox of these sets, with as many groups (X12.5, interchange; X12.6, functional group). It does nothing: its contract is the law.
+pub fn boxes_by_rendered()
+    ensures { BoxesAreRendered }
 {}

@@ -1,6 +1,7 @@
 //! Which transaction sets may be delivered, what becomes of one for a receiver of its route, and what a partner finds in its
-//! mailbox: its delivered sets, numbered anew, in interchanges and groups of its own, in its delimiters. Nothing of the text is
-//! copied but into the mailbox; a delivered set is a place in its interchange.
+//! mailbox: its delivered sets, numbered anew, in interchanges and groups of its own, in its delimiters. A delivered set is a place in
+//! its interchange; once it is written it is kept as its text, and the mailbox is closed from these texts, so that sets may come in
+//! batches, each of which is let go when its sets are written.
 //!
 //! Proved:
 //! - `is_deliverable` and `outcome_at` are their definitions: which verdicts, groups and interchanges a set may be delivered from,
@@ -9,9 +10,12 @@
 //!   sets: those of its routes that may be delivered and aren't held;
 //! - `render_set` appends a set with ST02 and SE written anew and each delimiter changed to the receiver's; for want of memory it
 //!   leaves what was there, and a part behind it;
-//! - `assemble` writes exactly the mailbox of the definition: interchanges that hold as many sets as the partner's cap says,
-//!   numbered behind its acknowledgments, in each the longest groups of sets of one sender, GS01 and GS08, and groups and sets
-//!   that are numbered throughout, groups behind those of its acknowledgments; and it answers how many groups these are;
+//! - `render_deliveries` writes for each partner the sets that are delivered to it behind those that were written before, numbered on
+//!   throughout, from `nothing_rendered` on;
+//! - `close` writes exactly the mailbox of the definition by written sets: interchanges that hold as many sets as the partner's cap
+//!   says, numbered behind its acknowledgments, in each the longest groups of sets of one sender, GS01 and GS08, and groups that are
+//!   numbered throughout, behind those of its acknowledgments; and it answers how many groups these are;
+//! - the mailbox by the sets that were written is the mailbox of the sets themselves (`boxes_by_rendered`), and `assemble` writes it;
 //! - the groups of a mailbox are the maximal runs that a tally counts, interchange by interchange, and as many in all
 //!   (`groups_are_runs`);
 //! - a set that may be delivered is, for each receiver of its route exactly once, in that receiver's mailbox or in a held line that
@@ -33,12 +37,18 @@ mod mapped;
 mod outcome;
 mod receiving;
 mod render;
+mod render_batch;
+mod rendered;
+mod rendered_sets;
+mod room;
 
-pub use assembling::{Mailbox, assemble};
+pub use assembling::{Mailbox, assemble, close};
 pub use deliveries::{Delivered, Deliveries};
 pub use delivering::deliver;
 pub use eligible::is_deliverable;
-pub use laws::{groups_are_runs, sets_are_accounted};
+pub use laws::{boxes_by_rendered, groups_are_runs, sets_are_accounted};
 pub use outcome::Outcome;
 pub use receiving::outcome_at;
 pub use render::render_set;
+pub use render_batch::{nothing_rendered, render_deliveries};
+pub use rendered_sets::RenderedSets;

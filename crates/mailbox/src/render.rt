@@ -91,6 +91,23 @@ fn append_inner_of<'a>(
     append_inners(out, &from, to, placed.behind_header(set), inner_count(set))
 }
 
+/// Writes a placed set as it is delivered, as set number `number`.
+pub(crate) fn append_set_of<'a>(
+    out: &mut Vec<u8>,
+    to: &Delims,
+    placed: &PlacedSet<'_, '_, 'a>,
+    set: &SetEnvelope<'a>,
+    number: u32,
+) -> Result<(), NoMemory>
+    requires { set.now ≡ placed.now.set }
+    ensures text { OnOk result (out.new.items ≡ out.old.items ++ set_text to.now placed.now number) }
+    ensures kept { Extends out.old.items out.new.items }
+{
+    append_header_of(out, to, placed, set, number)?;
+    let inner = append_inner_of(out, to, placed, set)?;
+    append_set_trailer(out, to, u128::from(inner) + 2, number)
+}
+
 /// Writes a set as it is delivered, as set number `number`, behind what is there: with the receiver's delimiters, ST02 and SE
 /// written anew (X12.6, transaction set header and trailer). For want of memory a part of it may stand there.
 pub fn render_set(
@@ -102,8 +119,5 @@ pub fn render_set(
     ensures text { OnOk result (out.new.items ≡ out.old.items ++ set_text to.now placed.now number) }
     ensures kept { Extends out.old.items out.new.items }
 {
-    let set = placed.set();
-    append_header_of(out, to, placed, &set, number)?;
-    let inner = append_inner_of(out, to, placed, &set)?;
-    append_set_trailer(out, to, u128::from(inner) + 2, number)
+    append_set_of(out, to, placed, &placed.set(), number)
 }

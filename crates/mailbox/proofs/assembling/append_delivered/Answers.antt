@@ -1,6 +1,6 @@
 use Rattle.std.proofs.Common.{ℕ, length}
 use Rattle.x12_write.specs.Trailer.{trailer_text}
-use Rattle.mailbox.specs.Numbered.{groups_of, numbered_from}
+use Rattle.mailbox.specs.Rendered.{groups_of}
 use Rattle.mailbox.proofs.Writing.{three_parts}
 use Rattle.mailbox.proofs.assembling.append_delivered.Goals as goal
 
@@ -8,5 +8,5 @@ pub returns-clause-text : goal.returns-clause-text
 returns-clause-text c = three_parts c.args.out.now.items c.append_partner_header.new.out.items
     c.append_groups.new.out.items c.append_trailer.new.out.items _ _
     (λ (n : ℕ). trailer_text c.args.partner.now.delims n c.args.number) c.in_ok-groups.groups
-    (length (groups_of (numbered_from c.args.before c.args.sets.now))) c.in_ok-append_partner_header.ensures c.in_ok-groups.ensures.text
+    (length (groups_of c.args.sets.now)) c.in_ok-append_partner_header.ensures c.in_ok-groups.ensures.text
     c.in_ok-append_trailer.ensures.text c.in_ok-groups.ensures.count

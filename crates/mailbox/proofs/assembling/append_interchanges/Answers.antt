@@ -1,5 +1,5 @@
 use Rattle.std.proofs.Common.{◌<◌, length, arith}
-use Rattle.mailbox.proofs.BoxTexts.{bound_kept, box_step, count_step, place_kept, some_left}
+use Rattle.mailbox.proofs.BoxTexts.{bound_kept, box_step, count_step, some_left, written_kept}
 use Rattle.mailbox.proofs.assembling.append_interchanges.Goals as goal
 
 pub loop-rest-preserved : goal.loop-rest-preserved
@@ -7,17 +7,16 @@ loop-rest-preserved c =
     let some : 0 < length c.loop-rest.rest.now = some_left _ c.loop-rest-test.ensures in
     record {
       text = box_step c.args.setup.now c.args.partner.now c.args.at.now c.args.acknowledgments c.args.groups c.loop-rest.written
-          c.loop-rest.count c.loop-rest.place c.min-end.result c.num-number.result c.num-control.result c.in_ok-more.more
+          c.loop-rest.count c.min-end.result c.num-number.result c.num-control.result c.in_ok-more.more
           c.loop-rest.rest.now c.behind-rest.result.now c.num-first.result c.num-first_control.result c.loop-rest.out.items
           c.append_delivered.new.out.items _ c.min-end.ensures c.requires.cap.0 some c.num-first.ensures.value c.num-number.ensures.value
           c.num-first_control.ensures.value c.num-control.ensures.value c.in_ok-more.ensures.text c.in_ok-more.ensures.count
           c.behind-rest.ensures c.loop-rest.invariant.text;
-      count = count_step c.loop-rest.count c.loop-rest.place c.min-end.result c.args.partner.now.cap c.in_ok-more.more _
+      count = count_step c.loop-rest.count c.min-end.result c.args.partner.now.cap c.in_ok-more.more _
           c.loop-rest.rest.now c.behind-rest.result.now c.min-end.ensures c.requires.cap.0 some c.in_ok-more.ensures.count
           c.behind-rest.ensures c.loop-rest.invariant.count;
-      bound = bound_kept c.loop-rest.count c.in_ok-more.more c.loop-rest.place c.min-end.result c.loop-rest.rest.now
-          c.in_ok-more.ensures.bound c.loop-rest.invariant.bound;
-      place = place_kept c.loop-rest.place c.min-end.result _ c.args.partner.now.cap c.loop-rest.rest.now c.behind-rest.result.now
-          c.min-end.ensures c.behind-rest.ensures c.loop-rest.invariant.place;
-      written = omega arith;
+      bound = bound_kept c.loop-rest.count c.in_ok-more.more c.min-end.result c.args.partner.now.cap _ c.loop-rest.rest.now
+          c.behind-rest.result.now c.min-end.ensures c.behind-rest.ensures c.in_ok-more.ensures.bound c.loop-rest.invariant.bound;
+      written = written_kept c.loop-rest.written c.min-end.result c.args.partner.now.cap _ c.loop-rest.rest.now
+          c.behind-rest.result.now c.min-end.ensures c.requires.cap.0 some c.behind-rest.ensures c.loop-rest.invariant.written;
     }

@@ -1,6 +1,6 @@
 -- X12.5, interchange control, and X12.6, functional group: a partner's mailbox by the sets that were written for it, each kept as its
 -- text and its key (own).
-use Rattle.std.specs.Prelude.{◌≡◌, ℕ, ◌+◌, Bool, false, List, [], ◌∷◌, ◌++◌, length, map, slice_get, if◌then◌else◌}
+use Rattle.std.specs.Prelude.{◌≡◌, ℕ, ◌+◌, Bool, false, List, [], ◌∷◌, ◌++◌, Some, length, map, slice_get, if◌then◌else◌}
 use Rattle.count_numbers.specs.Layout.{interchanges_of}
 use Rattle.count_numbers.specs.Num.{num}
 use Rattle.count_numbers.specs.Runs.{same_key}
@@ -12,7 +12,8 @@ use Rattle.x12_write.specs.declared.group.GroupHeader.{GroupHeader}
 use Rattle.x12_write.specs.Group.{group_text}
 use Rattle.x12_write.specs.Header.{header_text}
 use Rattle.x12_write.specs.Trailer.{trailer_text}
-use Rattle.judged_text.specs.Judged.{PlacedValue}
+use Rattle.judged_text.specs.Judged.{JudgedValue, PlacedValue}
+use Rattle.mailbox.specs.Deliveries.{delivered_to}
 use Rattle.mailbox.specs.Mailbox.{box_text, code_by, group_total, set_text}
 use Rattle.mailbox.specs.Numbered.{key_of}
 
@@ -100,3 +101,10 @@ BoxesAreRendered =
     → (box_text setup partner at acknowledgments groups sets
     ≡ box_of_rendered setup partner at acknowledgments groups (rendered_from partner 0 sets))
     × (group_total partner.cap sets ≡ groups_of_rendered partner.cap (rendered_from partner 0 sets))
+
+-- for each partner the sets that are delivered to it were written behind the others, and numbered on
+pub record HaveRendered (setup : SetupValue) (xs : List JudgedValue) (old new : List (List RenderedValue)) : Type 0 where
+  pub count : length new ≡ length old
+  pub each : (place : ℕ) (partner : Partner) (sets : List RenderedValue) → slice_get setup.partners place ≡ Some partner
+      → slice_get old place ≡ Some sets
+      → slice_get new place ≡ Some (sets ++ rendered_from partner (length sets) (delivered_to setup place xs))

@@ -15,9 +15,9 @@ use Rattle.judged_text.specs.Judged.{PlacedValue}
 use Rattle.mailbox.specs.Mailbox as box
 use Rattle.mailbox.specs.Numbered as plain
 use Rattle.mailbox.specs.Numbered.{NumberedValue, numbered_from, key_of}
-use Rattle.batch_sets.specs.Rendered.{RenderedValue, box_of_rendered, goes_with, group_of, groups_in, groups_of, groups_of_rendered}
-use Rattle.batch_sets.specs.Rendered.{groups_text, header_of, interchange_of, interchanges_text, onto_groups, rendered, rendered_from}
-use Rattle.batch_sets.specs.Rendered.{text_in, BoxesAreRendered}
+use Rattle.mailbox.specs.Rendered.{RenderedValue, box_of_rendered, goes_with, group_of, groups_in, groups_of, groups_of_rendered}
+use Rattle.mailbox.specs.Rendered.{groups_text, header_of, interchange_of, interchanges_text, onto_groups, rendered, rendered_from}
+use Rattle.mailbox.specs.Rendered.{text_in, BoxesAreRendered}
 
 module _ (setup : SetupValue) (partner : Partner) where
   abbrev write : NumberedValue → RenderedValue

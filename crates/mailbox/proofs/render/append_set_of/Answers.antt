@@ -3,7 +3,7 @@ use Rattle.std.proofs.lemmas.Result.{on_ok_weaker}
 use Rattle.mailbox.specs.Deliveries.{inner_in}
 use Rattle.mailbox.specs.Mailbox.{set_trailer_text}
 use Rattle.mailbox.proofs.Writing.{three_parts}
-use Rattle.mailbox.proofs.render.render_set.Goals as goal
+use Rattle.mailbox.proofs.render.append_set_of.Goals as goal
 
 pub returns-clause-text : goal.returns-clause-text
 returns-clause-text c = on_ok_weaker c.append_set_trailer.result (λ is. three_parts c.args.out.now.items c.append_header_of.new.out.items

@@ -1,0 +1,94 @@
+-- The written sets, with a set, and with the sets of a partner more.
+use Rattle.std.proofs.Common.{◌≡◌, ◌≢◌, ◌<◌, ◌≤◌, ◌⊎◌, inl, inr, ℕ, zero, ◌+◌, List, [], ◌∷◌, ◌++◌, Some, length, drop, refl, sym, ap}
+use Rattle.std.proofs.Common.{subst, ◌∙◌, arith, append_assoc}
+use Rattle.std.specs.Prelude.{slice_get, slice_set}
+use Rattle.std.proofs.lemmas.Bool.{cases_lt}
+use Rattle.std.proofs.lemmas.List.{length-append}
+use Rattle.std.proofs.lemmas.Option.{slice_get_within}
+use Rattle.partner_setup.specs.declared.partner.Partner.{Partner}
+use Rattle.partner_setup.specs.Setup.{SetupValue}
+use Rattle.judged_text.specs.Judged.{JudgedValue, PlacedValue}
+use Rattle.mailbox.specs.Deliveries.{AreDelivered, delivered_to}
+use Rattle.mailbox.specs.Rendered.{HaveRendered, RenderedValue, rendered, rendered_from}
+use Rattle.mailbox.specs.Rendering.{AreWritten}
+use Rattle.mailbox.proofs.Replacing.{length_set, set_here, set_there}
+
+abbrev Boxes : Type 0
+Boxes = List (List RenderedValue)
+
+-- one set more
+pub one_added : (partner : Partner) (p : PlacedValue) (left rest : List PlacedValue) (old new all : List RenderedValue)
+    → new ≡ old ++ rendered partner (length old) p ∷ [] → left ≡ p ∷ rest
+    → old ++ rendered_from partner (length old) left ≡ all → new ++ rendered_from partner (length new) rest ≡ all
+one_added partner p left rest old new all is split was =
+    let one : RenderedValue = rendered partner (length old) p in
+    ap (λ (ns : List RenderedValue). ns ++ rendered_from partner (length ns) rest) is
+    ∙ ap (λ (n : ℕ). (old ++ one ∷ []) ++ rendered_from partner n rest) (length-append old (one ∷ []))
+    ∙ append_assoc old (one ∷ []) (rendered_from partner (length old + 1) rest)
+    ∙ sym (ap (λ (ps : List PlacedValue). old ++ rendered_from partner (length old) ps) split)
+    ∙ was
+
+some_same : {A : Type 0} (a b : A) → Some a ≡ Some b → a ≡ b
+some_same a b e = cc
+
+pub none_written : (setup : SetupValue) (lists : List (List PlacedValue)) (boxes : Boxes) → AreWritten setup lists 0 boxes boxes
+none_written setup lists boxes = record {
+  count = refl;
+  written = λ place partner ps sets within at_partner at_list at_old. absurd (omega (arith, within));
+  left = λ place within. refl;
+}
+
+-- the sets of one partner more
+module _ (setup : SetupValue) (lists : List (List PlacedValue)) (i : ℕ) (first a b : Boxes) (partner : Partner) (ps : List PlacedValue)
+    (sets : List RenderedValue) (at_partner : slice_get setup.partners i ≡ Some partner) (at_list : slice_get lists i ≡ Some ps)
+    (at_old : slice_get a i ≡ Some sets) (is : b ≡ slice_set a i (sets ++ rendered_from partner (length sets) ps))
+    (was : AreWritten setup lists i first a) where
+  abbrev box : List RenderedValue
+  box = sets ++ rendered_from partner (length sets) ps
+
+  here : slice_get b i ≡ Some box
+  here = ap (λ (bs : Boxes). slice_get bs i) is ∙ set_here a i sets box at_old
+
+  there : (place : ℕ) → i ≢ place → slice_get b place ≡ slice_get a place
+  there place other = ap (λ (bs : Boxes). slice_get bs place) is ∙ set_there a i place box other
+
+  written_here : (q : Partner) (qs : List PlacedValue) (ss : List RenderedValue) → slice_get setup.partners i ≡ Some q
+      → slice_get lists i ≡ Some qs → slice_get first i ≡ Some ss → slice_get b i ≡ Some (ss ++ rendered_from q (length ss) qs)
+  written_here q qs ss with_partner with_list with_old =
+      let same_partner : partner ≡ q = some_same partner q (sym at_partner ∙ with_partner) in
+      let same_list : ps ≡ qs = some_same ps qs (sym at_list ∙ with_list) in
+      let same_sets : sets ≡ ss = some_same sets ss (sym at_old ∙ was.left i (omega arith) ∙ with_old) in
+      here
+      ∙ ap (λ (s : List RenderedValue). Some (s ++ rendered_from partner (length s) ps)) same_sets
+      ∙ ap (λ (p : Partner). Some (ss ++ rendered_from p (length ss) ps)) same_partner
+      ∙ ap (λ (l : List PlacedValue). Some (ss ++ rendered_from q (length ss) l)) same_list
+
+  pub written_more : AreWritten setup lists (i + 1) first b
+  written_more = record {
+    count = ap (λ (bs : Boxes). length bs) is ∙ length_set a i box ∙ was.count;
+    written = λ place q qs ss within with_partner with_list with_old.
+        by place q qs ss within with_partner with_list with_old (cases_lt place i);
+    left = λ place behind. there place (λ e. absurd (omega (arith, e, behind))) ∙ was.left place (omega (arith, behind));
+  }
+    where
+      by : (place : ℕ) (q : Partner) (qs : List PlacedValue) (ss : List RenderedValue) → place < i + 1
+          → slice_get setup.partners place ≡ Some q → slice_get lists place ≡ Some qs → slice_get first place ≡ Some ss
+          → (place < i) ⊎ (i ≤ place) → slice_get b place ≡ Some (ss ++ rendered_from q (length ss) qs)
+      by place q qs ss within with_partner with_list with_old (inl before) =
+          there place (λ e. absurd (omega (arith, e, before)))
+          ∙ was.written place q qs ss before with_partner with_list with_old
+      by place q qs ss within with_partner with_list with_old (inr behind) =
+          let e : place ≡ i = omega (arith, within, behind) in
+          ap (λ (n : ℕ). slice_get b n) e
+          ∙ written_here q qs ss (sym (ap (λ (n : ℕ). slice_get setup.partners n) e) ∙ with_partner)
+          (sym (ap (λ (n : ℕ). slice_get lists n) e) ∙ with_list) (sym (ap (λ (n : ℕ). slice_get first n) e) ∙ with_old)
+
+pub all_written : (setup : SetupValue) (xs : List JudgedValue) (lists : List (List PlacedValue)) (old new : Boxes)
+    → AreDelivered setup xs lists → AreWritten setup lists (length lists) old new → HaveRendered setup xs old new
+all_written setup xs lists old new delivered written = record {
+  count = written.count;
+  each = λ place partner sets at_partner at_old.
+      let within : place < length setup.partners = slice_get_within setup.partners place partner at_partner in
+      written.written place partner (delivered_to setup place xs) sets (omega (arith, within, delivered.count)) at_partner
+      (delivered.each place within) at_old;
+}
