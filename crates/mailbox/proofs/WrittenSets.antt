@@ -1,6 +1,6 @@
 -- The written sets, with a set, and with the sets of a partner more.
-use Rattle.std.proofs.Common.{◌≡◌, ◌≢◌, ◌<◌, ◌≤◌, ◌⊎◌, inl, inr, ℕ, zero, ◌+◌, List, [], ◌∷◌, ◌++◌, Some, length, drop, refl, sym, ap}
-use Rattle.std.proofs.Common.{subst, ◌∙◌, arith, append_assoc}
+use Rattle.std.proofs.Common.{◌≡◌, ◌≢◌, ◌<◌, ◌≤◌, ◌⊎◌, inl, inr, ℕ, ◌+◌, List, [], ◌∷◌, ◌++◌, Some, length, refl, sym, ap}
+use Rattle.std.proofs.Common.{◌∙◌, arith, append_assoc}
 use Rattle.std.specs.Prelude.{slice_get, slice_set}
 use Rattle.std.proofs.lemmas.Bool.{cases_lt}
 use Rattle.std.proofs.lemmas.List.{length-append}
@@ -9,8 +9,10 @@ use Rattle.partner_setup.specs.declared.partner.Partner.{Partner}
 use Rattle.partner_setup.specs.Setup.{SetupValue}
 use Rattle.judged_text.specs.Judged.{JudgedValue, PlacedValue}
 use Rattle.mailbox.specs.Deliveries.{AreDelivered, delivered_to}
-use Rattle.mailbox.specs.Rendered.{HaveRendered, RenderedValue, rendered, rendered_from}
+use Rattle.mailbox.specs.Mailbox.{box_text, group_total}
+use Rattle.mailbox.specs.Rendered.{HaveRendered, RenderedValue, box_of_rendered, groups_of_rendered, rendered, rendered_from}
 use Rattle.mailbox.specs.Rendering.{AreWritten}
+use Rattle.mailbox.proofs.Rendering.{boxes_rendered}
 use Rattle.mailbox.proofs.Replacing.{length_set, set_here, set_there}
 
 abbrev Boxes : Type 0
@@ -28,7 +30,7 @@ one_added partner p left rest old new all is split was =
     ∙ sym (ap (λ (ps : List PlacedValue). old ++ rendered_from partner (length old) ps) split)
     ∙ was
 
-some_same : {A : Type 0} (a b : A) → Some a ≡ Some b → a ≡ b
+pub some_same : {A : Type 0} (a b : A) → Some a ≡ Some b → a ≡ b
 some_same a b e = cc
 
 pub none_written : (setup : SetupValue) (lists : List (List PlacedValue)) (boxes : Boxes) → AreWritten setup lists 0 boxes boxes
@@ -92,3 +94,23 @@ all_written setup xs lists old new delivered written = record {
       written.written place partner (delivered_to setup place xs) sets (omega (arith, within, delivered.count)) at_partner
       (delivered.each place within) at_old;
 }
+
+-- a mailbox of sets that were all written at once
+made_of : (p q : Partner) (sets : List PlacedValue) (none written : List RenderedValue) → none ≡ []
+    → written ≡ none ++ rendered_from q (length none) sets → q ≡ p → written ≡ rendered_from p 0 sets
+made_of p q sets none written nothing is same =
+    is ∙ ap (λ (ns : List RenderedValue). ns ++ rendered_from q (length ns) sets) nothing
+    ∙ ap (λ (r : Partner). rendered_from r 0 sets) same
+
+pub box_made : (setup : SetupValue) (p q : Partner) (at : List ℕ) (acknowledgments groups : ℕ) (sets : List PlacedValue)
+    (none written : List RenderedValue) → none ≡ [] → written ≡ none ++ rendered_from q (length none) sets → q ≡ p
+    → box_of_rendered setup p at acknowledgments groups written ≡ box_text setup p at acknowledgments groups sets
+box_made setup p q at acknowledgments groups sets none written nothing is same =
+    ap (box_of_rendered setup p at acknowledgments groups) (made_of p q sets none written nothing is same)
+    ∙ sym (boxes_rendered setup p at acknowledgments groups sets).0
+
+pub total_made : (setup : SetupValue) (p q : Partner) (at : List ℕ) (sets : List PlacedValue) (none written : List RenderedValue)
+    → none ≡ [] → written ≡ none ++ rendered_from q (length none) sets → q ≡ p
+    → groups_of_rendered p.cap written ≡ group_total p.cap sets
+total_made setup p q at sets none written nothing is same =
+    ap (groups_of_rendered p.cap) (made_of p q sets none written nothing is same) ∙ sym (boxes_rendered setup p at 0 0 sets).1

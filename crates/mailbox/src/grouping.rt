@@ -9,9 +9,7 @@ use crate::rendered::Rendered;
 pub(crate) fn goes_with(a: &Rendered, b: &Rendered) -> bool
     ensures { result ≡ same_key a.now.key b.now.key }
 {
-    a.sender() == b.sender()
-        && a.functional_id() == b.functional_id()
-        && a.version() == b.version()
+    a.sender() == b.sender() && a.functional_id() == b.functional_id() && a.version() == b.version()
 }
 
 /// How many sets follow each other in the first group.

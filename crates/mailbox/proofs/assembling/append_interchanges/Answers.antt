@@ -1,4 +1,4 @@
-use Rattle.std.proofs.Common.{◌<◌, length, arith}
+use Rattle.std.proofs.Common.{◌<◌, length}
 use Rattle.mailbox.proofs.BoxTexts.{bound_kept, box_step, count_step, some_left, written_kept}
 use Rattle.mailbox.proofs.assembling.append_interchanges.Goals as goal
 

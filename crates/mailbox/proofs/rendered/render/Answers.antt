@@ -1,4 +1,4 @@
-use Rattle.std.proofs.Common.{◌≡◌, List, ℕ, refl, ap, ◌∙◌}
+use Rattle.std.proofs.Common.{◌≡◌, refl, ap, ◌∙◌}
 use Rattle.x12_segs.specs.Words.{SegValue, element_of}
 use Rattle.env_index.specs.Words.{GroupEntry}
 use Rattle.mailbox.proofs.Keeping.{kept_rendered}
