@@ -30,6 +30,6 @@ returns-clause-groups c p there =
     let partner = same_partner _ _ c.args.partner p c.index-partners-partner.result c.partners.ensures.partners
     (slice_get_read c.partners.result.now _ c.args.partner c.index-partners-partner.result refl within c.index-partners-partner.is) there in
     IfOk-weaker c.close.result _ _ (λ mailbox is. is
-    ∙ total_made c.args.setup.now p c.index-partners-partner.result c.args.at.now c.args.sets.now c.none-written.result c.add_all.new.self c.none-written.ensures
-    c.in_ok-add_all.ensures partner)
+    ∙ total_made c.args.setup.now p c.index-partners-partner.result c.args.at.now c.args.sets.now
+    c.none-written.result c.add_all.new.self c.none-written.ensures c.in_ok-add_all.ensures partner)
     (c.close.ensures.groups p there)

@@ -10,7 +10,8 @@ loop-place-preserved c =
     let place = c.loop-place.place in
     let within : place < length c.args.lists.now = c.loop-place-test.true in
     let partner = there_is setup.partners place (omega (arith, within, c.requires.lists)) in
-    let sets = there_is c.loop-place.boxes place (omega (arith, within, c.requires.lists, c.requires.boxes, c.loop-place.invariant.count)) in
+    let sets = there_is c.loop-place.boxes place
+    (omega (arith, within, c.requires.lists, c.requires.boxes, c.loop-place.invariant.count)) in
     written_more setup c.args.lists.now place c.args.boxes.now c.loop-place.boxes c.render_to.new.boxes partner.0
     c.index-lists-place.result sets.0 partner.1
     (slice_get_read c.args.lists.now _ place c.index-lists-place.result refl within c.index-lists-place.is) sets.1
