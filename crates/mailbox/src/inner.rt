@@ -4,7 +4,7 @@ ghost use Rattle.x12_write.specs.Extends.{Extends};
 ghost use Rattle.mailbox.specs.Mailbox.{inner_text, mapped, mapped_byte};
 ghost use Rattle.mailbox.specs.Read.{text_as_read};
 
-use crate::mapped::{append_inner, change, mapped_byte};
+use crate::mapped::{append_inner, are_same, change, mapped_byte};
 use hub_kinds::NoMemory;
 use x12_bytes::Delims;
 use x12_segs::{SegView, Segments};
@@ -96,6 +96,20 @@ fn append_together(
     Ok(written)
 }
 
+/// Writes them where the receiver has the same delimiters: as they are read.
+fn append_unchanged(
+    out: &mut Vec<u8>,
+    delims: &Delims,
+    left: Segments<'_>,
+    most: u64,
+) -> Result<u64, NoMemory>
+    ensures text { OnOk result (out.new.items ≡ out.old.items ++ flat_map (inner_text delims.now delims.now) (take most left.entry)) }
+    ensures kept { Extends out.old.items out.new.items }
+    ensures count { IfOk result (λ n. n ≡ length (take most left.entry)) }
+{
+    append_as_read(out, delims, left, most)
+}
+
 /// Whether the terminator becomes the receiver's as any byte does: where no other delimiter is the same byte.
 fn changes_terminator(from: &Delims, to: &Delims) -> bool
     ensures { result ≡ (mapped_byte from.now to.now from.now.terminator == to.now.terminator) }
@@ -115,7 +129,9 @@ pub(crate) fn append_inners(
     ensures kept { Extends out.old.items out.new.items }
     ensures count { IfOk result (λ n. n ≡ length (take most left.entry)) }
 {
-    if changes_terminator(from, to) {
+    if are_same(from, to) {
+        append_unchanged(out, to, left, most)
+    } else if changes_terminator(from, to) {
         append_together(out, from, to, left, most)
     } else {
         append_one_by_one(out, from, to, left, most)

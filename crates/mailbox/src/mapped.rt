@@ -65,7 +65,7 @@ fn append_changed(
 }
 
 /// Whether no byte changes between these delimiters.
-fn are_same(from: &Delims, to: &Delims) -> bool
+pub(crate) fn are_same(from: &Delims, to: &Delims) -> bool
     ensures { result ≡ true → from.now ≡ to.now }
 {
     *from == *to
