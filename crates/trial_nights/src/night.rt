@@ -1,13 +1,17 @@
-//! A worked night, and its comparison with what `run_plain` gives.
+//! A worked night, and its comparison with what `run_plain` gives, and with what `stream_night` gives whatever the window.
+ghost use Rattle.std.specs.Prelude.{◌<◌};
+
 use super::setups::{Starts, two_partners};
 use super::{accepted, answered, held, receivers, refused, rejected};
 use hub_kinds::{Counters, Text};
 use hub_run::{Night, RunFault, run_plain};
 use moment::At;
 use night_report::is_clean;
+use night_stream::stream_night;
 use partner_setup::Setup;
 use std::alloc::{AllocError, Global};
 use std::test::Fail;
+use trial_streams::sources::Memory;
 
 /// A night of ACME and BOLT. Texts are written as their pieces; what goes to a partner stands in the order of the partners.
 pub struct WorkedNight {
@@ -80,6 +84,33 @@ fn night_of(alloc: Global, setup: &Setup, text: &[u8]) -> Result<Night, Fail> {
     Ok(run_plain(alloc, text, setup, &at)?)
 }
 
+/// The windows that a text is read in as a stream.
+const WINDOWS: &[usize] = &[1, 53, 236, 4_096];
+
+fn night_of_stream(alloc: Global, setup: &Setup, text: &[u8], window: usize) -> Result<Night, Fail>
+    requires { 0 < window }
+{
+    let at = At::read(b"202603011530").ok_or("no moment")?;
+    let mut source = Memory::new(text);
+    Ok(stream_night(alloc, &mut source, window, setup, &at)?)
+}
+
+/// Whether a text that is read as a stream gives what is wanted.
+fn expect_streams_of(
+    alloc: Global,
+    setup: &Setup,
+    text: &[u8],
+    worked: &WorkedNight,
+) -> Result<(), Fail> {
+    for window in WINDOWS {
+        if *window > 0 {
+            let night = night_of_stream(alloc, setup, text, *window)?;
+            expect_given(alloc, &night, worked)?;
+        }
+    }
+    Ok(())
+}
+
 /// Whether the night of a text gives what is wanted.
 fn expect_night_of(
     alloc: Global,
@@ -93,7 +124,8 @@ fn expect_night_of(
 
 fn expect_night_by(alloc: Global, setup: &Setup, worked: &WorkedNight) -> Result<(), Fail> {
     let text = joined(alloc, worked.text)?;
-    expect_night_of(alloc, setup, text.as_slice(), worked)
+    expect_night_of(alloc, setup, text.as_slice(), worked)?;
+    expect_streams_of(alloc, setup, text.as_slice(), worked)
 }
 
 fn expect_night(alloc: Global, worked: &WorkedNight) -> Result<(), Fail> {
