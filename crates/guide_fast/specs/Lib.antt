@@ -1,0 +1,6 @@
+pub mod Listed
+pub mod Turns
+pub mod Children
+pub mod Tables
+pub mod Slots
+pub mod Needed

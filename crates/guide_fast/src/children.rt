@@ -1,0 +1,140 @@
+ghost use Rattle.std.specs.Prelude.{◌≡◌, option_map, IfSome};
+ghost use Rattle.x12_segs.specs.Words.{elements_of};
+ghost use Rattle.guide_fast.specs.Children.{fit_child, fit_listed};
+ghost use Rattle.guide_fast.specs.Turns.{turned_here};
+
+use crate::counts::{count_between, needed_counts};
+use crate::index::{TextIndex, places_from};
+use crate::start::{first_id, start_of};
+use crate::turn::Turn;
+use guide_tree::Node;
+use hub_kinds::NoMemory;
+use std::alloc::Global;
+use std::marker::Model;
+use x12_segs::SegView;
+
+/// The nodes of one parent, with the places of each id that they begin with. Contracts see the nodes.
+#[derive(Drop)]
+pub struct Children<'g> {
+    nodes: &'g [Node],
+    index: TextIndex<'g>,
+    /// How many of the first nodes are needed: of none of them, of one, and so on up to all.
+    needed: Vec<usize>,
+}
+
+impl<'g> Model for Children<'g> {
+    ghost use Rattle.std.specs.Prelude.{◌≡◌, List};
+    ghost use Rattle.guide_tree.specs.declared.node.Node.{Node};
+    ghost use Rattle.guide_fast.specs.Listed.{Knows};
+    ghost use Rattle.guide_fast.specs.Children.{begin_ids};
+    ghost use Rattle.guide_fast.specs.Needed.{counts_from};
+    ghost use Rattle.guide_tree.specs.contracts.node.Node as node;
+    ghost use Rattle.std.specs.Coded.{codes};
+
+    ghost Value = { List Node };
+
+    ghost coded = { Prim.hlevel (codes, node.the_row.coded) };
+
+    ghost view = { λ c. c.nodes.now };
+
+    ghost invariant = { λ c. Knows c.index.places (begin_ids c.nodes.now) × (c.needed.items ≡ counts_from 0 c.nodes.now) };
+}
+
+impl<'g> Children<'g> {
+    ghost use Rattle.std.specs.Prelude.{◌≡◌, ◌+◌, ◌-◌, ◌<◌, ◌≤◌, ℕ, List, length, take, drop, option_map, IfOk, IfSome};
+    ghost use Rattle.x12_segs.specs.Words.{elements_of};
+    ghost use Rattle.guide_tree.specs.Words.{nodes_view, fit_starts, unused};
+    ghost use Rattle.guide_fast.specs.Turns.{turned_here};
+
+    /// Of these nodes.
+    pub fn of(alloc: Global, nodes: &'g [Node]) -> Result<Children<'g>, NoMemory>
+        ensures { IfOk result (λ c. c ≡ nodes.now) }
+    {
+        let mut index = TextIndex::new(alloc);
+        for k in 0..nodes.len() {
+            index.add(first_id(&nodes[k]), k)?;
+        }
+        let needed = needed_counts(alloc, nodes)?;
+        Ok(Children {
+            nodes,
+            index,
+            needed,
+        })
+    }
+
+    /// The nodes.
+    pub fn nodes(&self) -> &'g [Node]
+        ensures { result.now ≡ self.now }
+    {
+        self.nodes
+    }
+
+    /// How many of the nodes from `from` on up to `to` are needed: as many as are told of where none of them comes.
+    pub fn needed_between(&self, from: usize, to: usize) -> usize
+        requires order { from ≤ to }
+        requires bound { to ≤ length self.now }
+        ensures { (at : ℕ) (outer : List ℕ)
+            → result ≡ length (unused at outer (nodes_view (take (to - from) (drop from self.now)))) }
+    {
+        count_between(self.needed.as_slice(), from, to)
+    }
+
+    /// The first child from `from` on whose start the segment fits, as a turn.
+    pub fn start_from(&self, from: usize, seg: &SegView) -> Option<Turn<'g>>
+        requires { from ≤ length self.now }
+        ensures turn { option_map turned_here result ≡ fit_starts (elements_of seg.now) from (nodes_view (drop from self.now)) }
+        ensures depth { IfSome result (λ t. t.depth ≡ 0) }
+        ensures uses { IfSome result (λ t. t.use_no ≡ 0) }
+    {
+        let children = places_from(self.index.places(seg.id()), from);
+        first_fitting(self.nodes, children, seg)
+    }
+
+    /// The first child behind one on whose start the segment fits, as a turn.
+    pub fn start_behind(&self, child: usize, seg: &SegView) -> Option<Turn<'g>>
+        requires { child < length self.now }
+        ensures turn { option_map turned_here result
+            ≡ fit_starts (elements_of seg.now) (child + 1) (nodes_view (drop (child + 1) self.now)) }
+        ensures depth { IfSome result (λ t. t.depth ≡ 0) }
+        ensures uses { IfSome result (λ t. t.use_no ≡ 0) }
+    {
+        if child < self.nodes.len() {
+            self.start_from(child + 1, seg)
+        } else {
+            None
+        }
+    }
+}
+
+/// The turn to a child, if the segment fits its start.
+fn turn_to<'g>(nodes: &'g [Node], child: usize, seg: &SegView) -> Option<Turn<'g>>
+    ensures turn { option_map turned_here result ≡ fit_child (elements_of seg.now) nodes.entry.now child }
+    ensures depth { IfSome result (λ t. t.depth ≡ 0) }
+    ensures uses { IfSome result (λ t. t.use_no ≡ 0) }
+{
+    let node = nodes.get(child)?;
+    match start_of(node, seg) {
+        None => None,
+        Some(start) => Some(Turn {
+            depth: 0,
+            child,
+            use_no: 0,
+            into_loop: start.into_loop,
+            slot: start.slot,
+        }),
+    }
+}
+
+/// The first of some children whose start the segment fits.
+fn first_fitting<'g>(nodes: &'g [Node], children: &[usize], seg: &SegView) -> Option<Turn<'g>>
+    ensures turn { option_map turned_here result ≡ fit_listed (elements_of seg.now) nodes.entry.now children.now }
+    ensures depth { IfSome result (λ t. t.depth ≡ 0) }
+    ensures uses { IfSome result (λ t. t.use_no ≡ 0) }
+{
+    for i in 0..children.len() {
+        if let Some(turn) = turn_to(nodes, children[i], seg) {
+            return Some(turn);
+        }
+    }
+    None
+}

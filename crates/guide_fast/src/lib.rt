@@ -1,0 +1,30 @@
+//! Compiled guides: tables of a guide by which the place that comes next is found by searches, and no longer by looking at one
+//! node after another.
+//!
+//! Proved: `FastGuide::turn_from` gives the place that `fit_behind` defines, which is the one that `loop_match` gives, whatever stands
+//! there: the innermost loop's candidate first, and of equal ids the first that the segment fits. `FastGuide::stray_code` gives the code
+//! of a segment without a place, as `stray_code` defines it. `FastGuide::table` gives the nodes of a loop by its number;
+//! `Children::start_from` the first of them from one on whose start a segment fits, and `Children::needed_between` how many of some are
+//! needed, which is how many are told of where none of them comes.
+//!
+//! The cost of a next place is, for each loop round the last one, a search in an ordered map of the ids that its nodes begin with,
+//! a search in the list of the nodes with that id, and a look at each of these that comes behind and doesn't fit by its picks.
+//! Memory and the building follow the nodes and the dictionary, but for the logarithm of an ordered map. These costs aren't proved.
+//!
+//! Source: X12.6, order of segments in a transaction set; the 999 guide (005010X231), IK304. The tables are own.
+#![tactic(auto)]
+
+mod children;
+mod counts;
+mod fast;
+mod fit;
+mod index;
+mod next;
+mod start;
+mod strays;
+mod tables;
+mod turn;
+
+pub use children::Children;
+pub use fast::FastGuide;
+pub use turn::Turn;
