@@ -1,0 +1,5 @@
+mod Absent
+mod Complete
+mod Header
+mod Mixed
+mod Sample
