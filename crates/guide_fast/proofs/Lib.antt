@@ -6,3 +6,5 @@ mod Indexed
 mod Tabled
 mod Straying
 mod Counting
+mod Silencing
+mod Stepping

@@ -9,7 +9,8 @@ use Rattle.guide_tree.specs.declared.node.Node.{Node, the_lemmas}
 use Rattle.guide_tree.specs.declared.node.Node as node
 use Rattle.guide_tree.specs.declared.node.Loop.{Loop}
 use Rattle.guide_tree.specs.declared.rows.GuideRows.{GuideRows}
-use Rattle.guide_tree.specs.Words.{Tree, Trees, loop, view, nodes_view, Segment, Place, fit_in, fit_next, guide_of}
+use Rattle.guide_tree.specs.declared.slot.Slot.{Slot}
+use Rattle.guide_tree.specs.Words.{Tree, Trees, segment, loop, view, nodes_view, Segment, Place, fit_in, fit_next, guide_of}
 use Rattle.guide_tree.specs.Words.{numbered_guide, numbered, GuideTree}
 use Rattle.guide_tree.proofs.Behind.{view_loop}
 use Rattle.guide_fast.specs.Tables.{trees_in, tables_of, HasTables, HasTablesIn}
@@ -41,9 +42,13 @@ inside_loop : (s : Segment) (l : Loop) (ts : Trees) (q : Place) → fit_in s (lo
 inside_loop s l ts [] = refl
 inside_loop s l ts (a ∷ q) = refl
 
+abbrev HasShape : Tree → Option (Bor (List Node)) → Type 0
+HasShape t r = MatchOption r ((x : Slot) × (t ≡ segment x)) (λ c. (l : Loop) × (t ≡ loop l (nodes_view c.now)))
+
 abbrev IsTableOf : List (List Node) → Tree → Option (Bor (List Node)) → Type 0
 IsTableOf tables t r = IfSome r (λ c. HasTables (trees_in tables) (nodes_view c.now))
     × ((s : Segment) (q : Place) → MatchOption r (fit_in s t q ≡ None) (λ c. fit_in s t q ≡ fit_next s true (nodes_view c.now) q))
+    × HasShape t r
 
 -- what a look at an index gives
 abbrev pub IsLook : List (List Node) → ℕ → Option (Bor (List Node)) → Type 0
@@ -58,6 +63,7 @@ at_number tables l ts (Some c) e has =
     let same : nodes_view c.now ≡ ts = table_there tables l.number c.now ts there has.0 in (
       subst (HasTables (trees_in tables)) (sym same) has.1,
       λ s q. inside_loop s l ts q ∙ ap (λ (us : Trees). fit_next s true us q) (sym same),
+      (l, ap (loop l) (sym same)),
     )
 
 pub table_of_loop : (tables : List (List Node)) (n : Node) (l : Loop) (inner : Vec Node Global) (r : Option (Bor (List Node)))

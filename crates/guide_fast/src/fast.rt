@@ -1,5 +1,6 @@
 use crate::children::Children;
 use crate::next::turn_behind;
+use crate::silent::is_silent;
 use crate::strays::Strays;
 use crate::tables::tables_of;
 use crate::turn::Turn;
@@ -36,11 +37,12 @@ impl<'g> Model for FastGuide<'g> {
 }
 
 impl<'g> FastGuide<'g> {
-    ghost use Rattle.std.specs.Prelude.{◌≡◌, ◌+◌, ◌<◌, ◌≤◌, ◌^◌, length, option_map, slice_get, IfOk, IfSome};
+    ghost use Rattle.std.specs.Prelude.{◌≡◌, ◌+◌, ◌<◌, ◌≤◌, ◌^◌, ℕ, length, option_map, slice_get, IfOk, IfSome};
     ghost use Rattle.std.specs.List.{AllByRecursion};
     ghost use Rattle.x12_segs.specs.Words.{elements_of};
-    ghost use Rattle.guide_tree.specs.Words.{nodes_view, fit_behind, guide_of, stray_code};
-    ghost use Rattle.loop_match.specs.Steps.{place_view};
+    ghost use Rattle.guide_tree.specs.Words.{nodes_view, fit_behind, guide_of, step_faults, stray_code};
+    ghost use Rattle.loop_match.specs.Steps.{last_of, place_view};
+    ghost use Rattle.guide_fast.specs.Silent.{are_none};
     ghost use Rattle.guide_fast.specs.Tables.{HasTables, tables_of};
     ghost use Rattle.guide_fast.specs.Turns.{turned};
 
@@ -94,5 +96,16 @@ impl<'g> FastGuide<'g> {
     {
         let _accepted = self.guide.rows();
         self.tables.as_slice().get(number)
+    }
+
+    /// Whether nothing is told at a segment that is placed: nothing needed is passed over or left with too few uses, and no use is
+    /// past the greatest. The last place has no step at the beginning.
+    pub fn is_silent(&self, last: &[Step], next: &[Step]) -> bool
+        requires { AllByRecursion (λ s. s.use_no + 1 < 2 ^ 64) last.now }
+        ensures { (at : ℕ) → result
+            ≡ are_none (step_faults at (nodes_view self.now.nodes.items) (last_of (place_view last.now)) (place_view next.now)) }
+    {
+        let _accepted = self.guide.rows();
+        is_silent(self.tables.as_slice(), &self.tables[0], last, next)
     }
 }

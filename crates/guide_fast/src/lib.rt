@@ -6,10 +6,13 @@
 //! of a segment without a place, as `stray_code` defines it. `FastGuide::table` gives the nodes of a loop by its number;
 //! `Children::start_from` the first of them from one on whose start a segment fits, and `Children::needed_between` how many of some are
 //! needed, which is how many are told of where none of them comes.
+//! `FastGuide::is_silent` says whether nothing is told between the last place and the next: it is so exactly where `step_faults` has
+//! no fault.
 //!
 //! The cost of a next place is, for each loop round the last one, a search in an ordered map of the ids that its nodes begin with,
 //! a search in the list of the nodes with that id, and a look at each of these that comes behind and doesn't fit by its picks.
-//! Memory and the building follow the nodes and the dictionary, but for the logarithm of an ordered map. These costs aren't proved.
+//! Whether a step is silent takes some differences of counts for each loop. Memory and the building follow the nodes and the
+//! dictionary, but for the logarithm of an ordered map. These costs aren't proved.
 //!
 //! Source: X12.6, order of segments in a transaction set; the 999 guide (005010X231), IK304. The tables are own.
 #![tactic(auto)]
@@ -20,6 +23,7 @@ mod fast;
 mod fit;
 mod index;
 mod next;
+mod silent;
 mod start;
 mod strays;
 mod tables;

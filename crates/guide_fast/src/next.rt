@@ -1,7 +1,10 @@
 ghost use Rattle.std.specs.Prelude.{◌≡◌, ◌+◌, ◌<◌, ◌≤◌, ◌^◌, length, option_map, drop, slice_index_or, true, IfNone, IfSome, MatchOption};
 ghost use Rattle.std.specs.List.{AllByRecursion};
 ghost use Rattle.x12_segs.specs.Words.{elements_of};
-ghost use Rattle.guide_tree.specs.Words.{Place, Segment, or_else, view, nodes_view, fit_starts, fit_again, fit_in, fit_next, fit_behind};
+ghost use Rattle.guide_tree.specs.declared.node.Loop.{Loop};
+ghost use Rattle.guide_tree.specs.declared.slot.Slot.{Slot};
+ghost use Rattle.guide_tree.specs.Words.{Place, Segment, segment, loop, or_else, view, nodes_view, fit_starts};
+ghost use Rattle.guide_tree.specs.Words.{fit_again, fit_in, fit_next, fit_behind};
 ghost use Rattle.loop_match.specs.Steps.{place_view, step_view};
 ghost use Rattle.guide_fast.specs.Tables.{trees_in, HasTables, HasTablesIn};
 ghost use Rattle.guide_fast.specs.Turns.{turned, turned_here};
@@ -58,7 +61,7 @@ fn turn_here<'g>(
 }
 
 /// The child with a place among a parent's nodes.
-fn node_at<'g>(tables: &[Children<'g>], here: &Children<'g>, child: usize) -> Option<&'g Node>
+pub fn node_at<'g>(tables: &[Children<'g>], here: &Children<'g>, child: usize) -> Option<&'g Node>
     requires { HasTables (trees_in tables.now) (nodes_view here.now) }
     ensures tables { IfSome result (λ n. HasTablesIn (trees_in tables.now) (view n.now)) }
     ensures outside { IfNone result (length here.now ≤ child) }
@@ -73,9 +76,11 @@ fn node_at<'g>(tables: &[Children<'g>], here: &Children<'g>, child: usize) -> Op
 }
 
 /// The table of a loop's nodes; none of a segment.
-fn table_of<'t, 'g>(tables: &'t [Children<'g>], node: &Node) -> Option<&'t Children<'g>>
+pub fn table_of<'t, 'g>(tables: &'t [Children<'g>], node: &Node) -> Option<&'t Children<'g>>
     requires { HasTablesIn (trees_in tables.now) (view node.now) }
     ensures tables { IfSome result (λ c. HasTables (trees_in tables.entry.now) (nodes_view c.now)) }
+    ensures shape { MatchOption result ((x : Slot) × (view node.now ≡ segment x))
+        (λ c. (l : Loop) × (view node.now ≡ loop l (nodes_view c.now))) }
     ensures fit { (s : Segment) (q : Place) → MatchOption result (fit_in s (view node.now) q ≡ None)
         (λ c. fit_in s (view node.now) q ≡ fit_next s true (nodes_view c.now) q) }
 {

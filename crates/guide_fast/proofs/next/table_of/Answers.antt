@@ -10,3 +10,8 @@ pub returns-in-Loop-clause-fit : goal.returns-in-Loop-clause-fit
 returns-in-Loop-clause-fit c =
     (table_of_loop c.args.tables.now c.args.node.now c.in-Loop.head c.in-Loop.field-1 c.get.result c.in-Loop.is
     (c.get.ensures.lookup.1, c.get.ensures.lookup.3) c.requires).1
+
+pub returns-in-Loop-clause-shape : goal.returns-in-Loop-clause-shape
+returns-in-Loop-clause-shape c =
+    (table_of_loop c.args.tables.now c.args.node.now c.in-Loop.head c.in-Loop.field-1 c.get.result c.in-Loop.is
+    (c.get.ensures.lookup.1, c.get.ensures.lookup.3) c.requires).2
