@@ -1,6 +1,6 @@
 -- X12.5, delimiters of an interchange; X12.6, control characters and character set: the bytes of a text at which a walk over it stops.
 -- That such a walk passes over every other byte is own.
-use Rattle.std.specs.Prelude.{ℕ, Bool, false, ◌||◌, ◌==◌, nat_le, List, Option, None, Some}
+use Rattle.std.specs.Prelude.{ℕ, Bool, false, ◌||◌, ◌==◌, nat_le, nat_lt, List, Option, None, Some}
 use Rattle.x12_bytes.specs.declared.delims.Delims.{Delims}
 use Rattle.memchr.specs.Find.{places}
 
@@ -11,7 +11,7 @@ is_repetition (Some separator) byte = byte == separator
 
 -- a control byte, or a byte that is in neither of the character sets as a byte of its own: from DEL on
 abbrev pub is_beyond : ℕ → Bool
-is_beyond byte = nat_le byte 31 || nat_le 127 byte
+is_beyond byte = nat_lt byte 32 || nat_le 127 byte
 
 -- a byte that may divide an element, or that no element may hold in every character set
 abbrev pub is_odd : Delims → ℕ → Bool

@@ -1,5 +1,4 @@
-ghost use Rattle.std.specs.Prelude.{◌≡◌, ◌≤◌, length};
-ghost use Rattle.memchr.specs.Find.{IsFirst, Passes};
+ghost use Rattle.std.specs.Prelude.{◌≡◌};
 ghost use Rattle.segment_marks.specs.Marks.{is_mark as is_a_mark, is_beyond as lies_beyond};
 
 use x12_bytes::Delims;
@@ -22,17 +21,4 @@ fn is_beyond(byte: u8) -> bool
     ensures { result ≡ lies_beyond byte }
 {
     byte < 0x20 || byte >= 0x7F
-}
-
-/// The first place from an offset on at which such a byte stands.
-pub(crate) fn first_mark(text: &[u8], from: usize, delims: Delims) -> Option<usize>
-    requires { from ≤ length text.now }
-    ensures { IsFirst (Passes (is_a_mark delims) text.now) from (length text.now) result }
-{
-    for at in from..text.len() {
-        if is_mark(delims, text[at]) {
-            return Some(at);
-        }
-    }
-    None
 }

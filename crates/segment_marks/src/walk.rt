@@ -1,9 +1,10 @@
 ghost use Rattle.std.specs.Prelude.{◌≡◌, ◌≤◌, ℕ, List, length};
 ghost use Rattle.std.specs.Iterator.{item_count};
 ghost use Rattle.memchr.specs.Find.{TakesFirst, places_between};
+ghost use Rattle.segment_marks.specs.Blocks.{IsBlock};
 ghost use Rattle.segment_marks.specs.Marks.{is_mark, marks};
 
-use crate::mark::first_mark;
+use crate::block::{Block, first_marked, split_first};
 use std::marker::Model;
 use x12_bytes::Delims;
 
@@ -11,16 +12,16 @@ use x12_bytes::Delims;
 #[derive(Drop)]
 pub struct SegmentMarks<'a> {
     text: &'a [u8],
-    at: usize,
+    block: Block,
     delims: Delims,
 }
 
 impl<'a> Model for SegmentMarks<'a> {
     ghost Value = { List ℕ };
 
-    ghost view = { λ s. places_between (is_mark s.delims) s.text.now s.at (length s.text.now) };
+    ghost view = { λ s. places_between (is_mark s.delims) s.text.now s.block.at (length s.text.now) };
 
-    ghost invariant = { λ s. s.at ≤ length s.text.now };
+    ghost invariant = { λ s. IsBlock s.delims s.text.now s.block };
 }
 
 impl<'a> SegmentMarks<'a> {
@@ -31,7 +32,11 @@ impl<'a> SegmentMarks<'a> {
     {
         SegmentMarks {
             text,
-            at: 0,
+            block: Block {
+                at: 0,
+                width: 0,
+                marked: 0,
+            },
             delims,
         }
     }
@@ -44,16 +49,15 @@ impl<'a> Iterator for SegmentMarks<'a> {
 
     ghost remaining = { item_count (λ rest. rest) };
 
+    #[inline]
     fn next(&mut self) -> Option<usize> {
-        match first_mark(self.text, self.at, self.delims) {
-            Some(at) => {
-                self.at = at + 1;
-                Some(at)
-            }
-            None => {
-                self.at = self.text.len();
-                None
-            }
+        let block = first_marked(self.text, self.block, self.delims);
+        if block.marked == 0 {
+            self.block = block;
+            return None;
         }
+        let (at, rest) = split_first(self.text, block, self.delims);
+        self.block = rest;
+        Some(at)
     }
 }
