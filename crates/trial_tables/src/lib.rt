@@ -1,0 +1,10 @@
+//! Trials of `guide_fast` and `segment_marks`: where segments begin by the compiled house guide of orders, what is told of those without a
+//! place, how many nodes are needed, and the marks of texts of all lengths.
+//!
+//! Nothing is proved here but that the trials are safe and end.
+#![tactic(auto)]
+
+#[cfg(test)]
+mod guides;
+#[cfg(test)]
+mod marks;
