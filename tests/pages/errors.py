@@ -153,7 +153,9 @@ def input_and_output(page, out):
         done = subprocess.run([PROGRAM, "--version"], stdout=full, stderr=subprocess.PIPE)
     page.want("no room on standard output", (done.returncode, done.stderr), (5, b"nighthub: output stdout\n"))
     long = os.path.join(out, "long.x12")
+    # an interchange that goes on and on stands in memory as a whole
     with open(long, "wb") as it:
+        it.write(INPUT[:106].encode())
         it.truncate(268435456)
     limit = ["bash", "-c", 'ulimit -v 131072; exec "$@"', "bash"]
     little = subprocess.run([*limit, PROGRAM, *words_of(out, text=long)], capture_output=True)

@@ -2,9 +2,9 @@ mod Listing
 mod Parting
 mod Starting
 mod Numbering
-mod Indexed
 mod Tabled
 mod Straying
 mod Counting
-mod Silencing
+pub mod Silencing
 mod Stepping
+pub mod Crossing

@@ -1,6 +1,7 @@
 -- Where nothing is told: by counts of needed nodes and uses.
 use Rattle.std.proofs.Common.{◌≡◌, ℕ, zero, suc, ◌+◌, ◌-◌, ◌==◌, ◌<◌, ◌≤◌, List, [], ◌∷◌, ◌++◌, Bool, true, false, ◌&&◌, not}
-use Rattle.std.proofs.Common.{length, get_or, take, drop, refl, sym, ap, ◌∙◌, arith, if◌then◌else◌}
+use Rattle.std.proofs.Common.{length, get_or, take, drop, refl, sym, ap, ◌∙◌, arith, if◌then◌else◌, true≢false}
+use Rattle.std.specs.Bool.{OnTrue}
 use Rattle.std.proofs.lemmas.Bool.{ne_eqb}
 use Rattle.std.proofs.lemmas.List.{get_or-drop, length-drop, take_all}
 use Rattle.hub_kinds.specs.declared.fault.Fault.{Fault}
@@ -8,10 +9,11 @@ use Rattle.guide_tree.specs.declared.node.Node.{Node}
 use Rattle.guide_tree.specs.declared.node.Loop.{Loop}
 use Rattle.guide_tree.specs.declared.slot.Slot.{Slot}
 use Rattle.guide_tree.specs.Words.{Tree, Trees, segment, loop, view, nodes_view, Place, past, too_few, unused, missing, entered}
-use Rattle.guide_tree.specs.Words.{ended_in, ended}
+use Rattle.guide_tree.specs.Words.{ended_in, end_faults}
 use Rattle.loop_match.specs.declared.next.Step.{Step}
 use Rattle.loop_match.specs.Leaving.{ended_among}
-use Rattle.loop_match.specs.Steps.{place_view}
+use Rattle.loop_match.specs.Steps.{place_view, last_of}
+use Rattle.loop_match.proofs.Finding.{ended_past, ended_at}
 use Rattle.guide_fast.specs.Silent.{are_none}
 
 and_assoc : (a b c : Bool) → ((a && b) && c) ≡ (a && (b && c))
@@ -85,18 +87,6 @@ entered_inside at o ns from to u n node b h l at_node e f =
     ∙ ap are_none (sym (entered_at at o (drop from ns) (to - from) u node (omega (arith, k, h, l))))
 
 -- the end of a place
-ended_past : (at : ℕ) (o : List ℕ) (ns : List Node) (n u : ℕ) (p : Place) → length ns ≤ n → ended at o (nodes_view ns) n u p ≡ []
-ended_past at o [] n u p h = refl
-ended_past at o (x ∷ ns) zero u p h = absurd (omega (arith, h))
-ended_past at o (x ∷ ns) (suc n) u p h = ended_past at o ns n u p (omega (arith, h))
-
-ended_at : (at : ℕ) (o : List ℕ) (ns : List Node) (n u : ℕ) (p : Place) (d : Node) → n < length ns
-    → ended at o (nodes_view ns) n u p
-    ≡ ended_in at (view (get_or ns n d)) p ++ (too_few at o (u + 1) (view (get_or ns n d)) ++ unused at o (nodes_view (drop (suc n) ns)))
-ended_at at o [] n u p d h = absurd (omega (arith, h))
-ended_at at o (x ∷ ns) zero u p d h = refl
-ended_at at o (x ∷ ns) (suc n) u p d h = ended_at at o ns n u p d (omega (arith, h))
-
 pub ended_outside : (at : ℕ) (o : List ℕ) (ns : List Node) (place : List Step) (a : Step) (rest : List Step) → place ≡ a ∷ rest
     → length ns ≤ a.child → true ≡ are_none (ended_among at o (nodes_view ns) (place_view place))
 ended_outside at o ns place a rest e h =
@@ -136,3 +126,16 @@ end_inside at t c p b is h =
 
 pub alone : (b c : Bool) → true ≡ c → (b && c) ≡ b
 alone b c e = and_comm b c ∙ ap (λ (d : Bool). d && b) (sym e)
+
+empty : (xs : List Fault) → true ≡ are_none xs → xs ≡ []
+empty [] e = refl
+empty (x ∷ xs) e = absurd (true≢false e)
+
+pub none_told : (b : Bool) (told : ℕ → List Fault) → ((at : ℕ) → b ≡ are_none (told at)) → OnTrue b ((at : ℕ) → told at ≡ [])
+none_told true told e = λ at. empty (told at) (e at)
+none_told false told e = tt
+
+pub by_ends : (at : ℕ) (ts : Trees) (last : List Step) → (length last == 0) ≡ false
+    → ended_among at [] ts (place_view last) ≡ end_faults at ts (last_of (place_view last))
+by_ends at ts [] h = absurd (true≢false h)
+by_ends at ts (a ∷ last) h = refl

@@ -1,6 +1,6 @@
 -- Where nothing is told from a place to the next.
-use Rattle.std.proofs.Common.{◌≡◌, ◌≢◌, ℕ, zero, suc, ◌+◌, ◌-◌, ◌==◌, ◌<◌, ◌≤◌, List, [], ◌∷◌, ◌++◌, Bool, true, false, ◌&&◌}
-use Rattle.std.proofs.Common.{length, get_or, drop, refl, sym, ap, ◌∙◌, arith, if◌then◌else◌, true≢false}
+use Rattle.std.proofs.Common.{◌≡◌, ◌≢◌, ℕ, suc, ◌+◌, ◌-◌, ◌==◌, ◌<◌, ◌≤◌, List, [], ◌∷◌, ◌++◌, Bool, true, false, ◌&&◌}
+use Rattle.std.proofs.Common.{length, get_or, drop, refl, sym, ap, ◌∙◌, arith, true≢false}
 use Rattle.std.proofs.lemmas.Bool.{cond-true, cond-false, eq-eqb, ne_eqb}
 use Rattle.hub_kinds.specs.declared.fault.Fault.{Fault}
 use Rattle.guide_tree.specs.declared.node.Node.{Node}
@@ -11,44 +11,9 @@ use Rattle.guide_tree.specs.Words.{stepped, stepped_in, step_faults}
 use Rattle.loop_match.specs.declared.next.Step.{Step}
 use Rattle.loop_match.specs.Leaving.{stepped_among}
 use Rattle.loop_match.specs.Steps.{place_view, last_of}
+use Rattle.loop_match.proofs.Finding.{stepped_past, stepped_back, stepped_same, stepped_on}
 use Rattle.guide_fast.specs.Silent.{are_none}
 use Rattle.guide_fast.proofs.Silencing.{both}
-
-stepped_past : (at : ℕ) (o : List ℕ) (ns : List Node) (n m u v : ℕ) (p q : Place) → length ns ≤ n
-    → stepped at o (nodes_view ns) n m u v p q ≡ []
-stepped_past at o [] n m u v p q h = refl
-stepped_past at o (x ∷ ns) zero m u v p q h = absurd (omega arith)
-stepped_past at o (x ∷ ns) (suc n) zero u v p q h = refl
-stepped_past at o (x ∷ ns) (suc n) (suc m) u v p q h = stepped_past at o ns n m u v p q (omega arith)
-
-stepped_back : (at : ℕ) (o : List ℕ) (ns : List Node) (n m u v : ℕ) (p q : Place) → m < n
-    → stepped at o (nodes_view ns) n m u v p q ≡ []
-stepped_back at o [] n m u v p q h = refl
-stepped_back at o (x ∷ ns) zero m u v p q h = absurd (omega arith)
-stepped_back at o (x ∷ ns) (suc n) zero u v p q h = refl
-stepped_back at o (x ∷ ns) (suc n) (suc m) u v p q h = stepped_back at o ns n m u v p q (omega arith)
-
-stepped_same : (at : ℕ) (o : List ℕ) (ns : List Node) (n m u v : ℕ) (p q : Place) (d : Node) → n < length ns → m ≡ n
-    → stepped at o (nodes_view ns) n m u v p q
-    ≡ (if u == v then stepped_in at (view (get_or ns n d)) p q
-    else ended_in at (view (get_or ns n d)) p ++ past at o v (view (get_or ns n d)))
-stepped_same at o [] n m u v p q d h e = absurd (omega arith)
-stepped_same at o (x ∷ ns) zero zero u v p q d h e = refl
-stepped_same at o (x ∷ ns) zero (suc m) u v p q d h e = absurd (omega arith)
-stepped_same at o (x ∷ ns) (suc n) zero u v p q d h e = absurd (omega arith)
-stepped_same at o (x ∷ ns) (suc n) (suc m) u v p q d h e = stepped_same at o ns n m u v p q d (omega arith) (omega arith)
-
-stepped_on : (at : ℕ) (o : List ℕ) (ns : List Node) (n m k u v : ℕ) (p q : Place) (d : Node) → n < length ns → m ≡ suc n + k
-    → stepped at o (nodes_view ns) n m u v p q
-    ≡ ended_in at (view (get_or ns n d)) p ++ (too_few at o (u + 1) (view (get_or ns n d))
-    ++ entered at o (nodes_view (drop (suc n) ns)) k v)
-stepped_on at o [] n m k u v p q d h e = absurd (omega arith)
-stepped_on at o (x ∷ ns) zero zero k u v p q d h e = absurd (omega arith)
-stepped_on at o (x ∷ ns) zero (suc m) k u v p q d h e =
-    let f : m ≡ k = omega arith in
-    ap (λ (i : ℕ). ended_in at (view x) p ++ (too_few at o (u + 1) (view x) ++ entered at o (nodes_view ns) i v)) f
-stepped_on at o (x ∷ ns) (suc n) zero k u v p q d h e = absurd (omega arith)
-stepped_on at o (x ∷ ns) (suc n) (suc m) k u v p q d h e = stepped_on at o ns n m k u v p q d (omega arith) (omega arith)
 
 -- the two places, by their first steps
 among : (at : ℕ) (o : List ℕ) (ns : List Node) (last next : List Step) (a : Step) (rest : List Step) (b : Step) (more : List Step)

@@ -104,3 +104,10 @@ looked tables k None e = sym (slice_get-map nodes_view tables k ∙ ap (option_m
 looked tables k (Some c) e =
     sym (slice_get-map nodes_view tables k
     ∙ ap (option_map nodes_view) (slice_get-get_or tables k c.now e.1.0 ∙ sym (ap Some e.0)))
+
+-- each node of a parent has its tables
+pub tables_at : (tables : List Trees) (ns : List Node) (k : ℕ) (d : Node) → HasTables tables (nodes_view ns) → k < length ns
+    → HasTablesIn tables (view (get_or ns k d))
+tables_at tables [] k d has l = absurd (omega (arith, l))
+tables_at tables (n ∷ ns) zero d has l = has.0
+tables_at tables (n ∷ ns) (suc k) d has l = tables_at tables ns k d has.1 (omega (arith, l))

@@ -1,5 +1,4 @@
 pub mod Listed
-pub mod Turns
 pub mod Children
 pub mod Tables
 pub mod Slots

@@ -1,14 +1,13 @@
-ghost use Rattle.std.specs.Prelude.{◌≡◌, option_map, IfSome};
+ghost use Rattle.std.specs.Prelude.{◌≡◌, [], option_map, IfSome};
 ghost use Rattle.x12_segs.specs.Words.{elements_of};
 ghost use Rattle.guide_fast.specs.Children.{fit_child, fit_listed};
-ghost use Rattle.guide_fast.specs.Turns.{turned_here};
+ghost use Rattle.loop_match.specs.Steps.{turned};
 
 use crate::counts::{count_between, needed_counts};
 use crate::index::{TextIndex, places_from};
-use crate::start::{first_id, start_of};
-use crate::turn::Turn;
 use guide_tree::Node;
 use hub_kinds::NoMemory;
+use loop_match::{Turn, first_id, start_of};
 use std::alloc::Global;
 use std::marker::Model;
 use x12_segs::SegView;
@@ -41,10 +40,10 @@ impl<'g> Model for Children<'g> {
 }
 
 impl<'g> Children<'g> {
-    ghost use Rattle.std.specs.Prelude.{◌≡◌, ◌+◌, ◌-◌, ◌<◌, ◌≤◌, ℕ, List, length, take, drop, option_map, IfOk, IfSome};
+    ghost use Rattle.std.specs.Prelude.{◌≡◌, ◌+◌, ◌-◌, ◌<◌, ◌≤◌, ℕ, [], List, length, take, drop, option_map, IfOk, IfSome};
     ghost use Rattle.x12_segs.specs.Words.{elements_of};
     ghost use Rattle.guide_tree.specs.Words.{nodes_view, fit_starts, unused};
-    ghost use Rattle.guide_fast.specs.Turns.{turned_here};
+    ghost use Rattle.loop_match.specs.Steps.{turned};
 
     /// Of these nodes.
     pub fn of(alloc: Global, nodes: &'g [Node]) -> Result<Children<'g>, NoMemory>
@@ -82,7 +81,7 @@ impl<'g> Children<'g> {
     /// The first child from `from` on whose start the segment fits, as a turn.
     pub fn start_from(&self, from: usize, seg: &SegView) -> Option<Turn<'g>>
         requires { from ≤ length self.now }
-        ensures turn { option_map turned_here result ≡ fit_starts (elements_of seg.now) from (nodes_view (drop from self.now)) }
+        ensures turn { option_map (turned []) result ≡ fit_starts (elements_of seg.now) from (nodes_view (drop from self.now)) }
         ensures depth { IfSome result (λ t. t.depth ≡ 0) }
         ensures uses { IfSome result (λ t. t.use_no ≡ 0) }
     {
@@ -93,7 +92,7 @@ impl<'g> Children<'g> {
     /// The first child behind one on whose start the segment fits, as a turn.
     pub fn start_behind(&self, child: usize, seg: &SegView) -> Option<Turn<'g>>
         requires { child < length self.now }
-        ensures turn { option_map turned_here result
+        ensures turn { option_map (turned []) result
             ≡ fit_starts (elements_of seg.now) (child + 1) (nodes_view (drop (child + 1) self.now)) }
         ensures depth { IfSome result (λ t. t.depth ≡ 0) }
         ensures uses { IfSome result (λ t. t.use_no ≡ 0) }
@@ -108,7 +107,7 @@ impl<'g> Children<'g> {
 
 /// The turn to a child, if the segment fits its start.
 fn turn_to<'g>(nodes: &'g [Node], child: usize, seg: &SegView) -> Option<Turn<'g>>
-    ensures turn { option_map turned_here result ≡ fit_child (elements_of seg.now) nodes.entry.now child }
+    ensures turn { option_map (turned []) result ≡ fit_child (elements_of seg.now) nodes.entry.now child }
     ensures depth { IfSome result (λ t. t.depth ≡ 0) }
     ensures uses { IfSome result (λ t. t.use_no ≡ 0) }
 {
@@ -127,7 +126,7 @@ fn turn_to<'g>(nodes: &'g [Node], child: usize, seg: &SegView) -> Option<Turn<'g
 
 /// The first of some children whose start the segment fits.
 fn first_fitting<'g>(nodes: &'g [Node], children: &[usize], seg: &SegView) -> Option<Turn<'g>>
-    ensures turn { option_map turned_here result ≡ fit_listed (elements_of seg.now) nodes.entry.now children.now }
+    ensures turn { option_map (turned []) result ≡ fit_listed (elements_of seg.now) nodes.entry.now children.now }
     ensures depth { IfSome result (λ t. t.depth ≡ 0) }
     ensures uses { IfSome result (λ t. t.use_no ≡ 0) }
 {

@@ -1,30 +1,11 @@
 ghost use Rattle.std.specs.Prelude.{◌≡◌, ◌-◌, ◌<◌, ◌≤◌, length, slice_index_or, IfOk};
-ghost use Rattle.guide_tree.specs.Words.{max_of, min_of, view};
+ghost use Rattle.guide_tree.specs.Words.{view};
 ghost use Rattle.guide_fast.specs.Needed.{is_needed, counts_from};
 
 use guide_tree::Node;
 use hub_kinds::NoMemory;
+use loop_match::min_of;
 use std::alloc::Global;
-
-/// The least use of a node.
-pub fn min_of(node: &Node) -> u32
-    ensures { result ≡ min_of (view node.now) }
-{
-    match node {
-        Node::Segment(slot) => slot.min,
-        Node::Loop(head, _) => head.min,
-    }
-}
-
-/// The greatest use of a node.
-pub fn max_of(node: &Node) -> u32
-    ensures { result ≡ max_of (view node.now) }
-{
-    match node {
-        Node::Segment(slot) => slot.max,
-        Node::Loop(head, _) => head.max,
-    }
-}
 
 fn is_needed(node: &Node) -> bool
     ensures { result ≡ is_needed (view node.now) }

@@ -1,12 +1,11 @@
 use crate::children::Children;
 use crate::next::turn_behind;
-use crate::silent::is_silent;
+use crate::silent::{is_end_silent, is_silent};
 use crate::strays::Strays;
 use crate::tables::tables_of;
-use crate::turn::Turn;
 use guide_tree::Guide;
 use hub_kinds::{NoMemory, SegmentCode};
-use loop_match::Step;
+use loop_match::{Step, Turn};
 use std::alloc::Global;
 use std::marker::Model;
 use x12_segs::SegView;
@@ -40,11 +39,10 @@ impl<'g> FastGuide<'g> {
     ghost use Rattle.std.specs.Prelude.{◌≡◌, ◌+◌, ◌<◌, ◌≤◌, ◌^◌, ℕ, length, option_map, slice_get, IfOk, IfSome};
     ghost use Rattle.std.specs.List.{AllByRecursion};
     ghost use Rattle.x12_segs.specs.Words.{elements_of};
-    ghost use Rattle.guide_tree.specs.Words.{nodes_view, fit_behind, guide_of, step_faults, stray_code};
-    ghost use Rattle.loop_match.specs.Steps.{last_of, place_view};
+    ghost use Rattle.guide_tree.specs.Words.{nodes_view, fit_behind, guide_of, step_faults, end_faults, stray_code};
+    ghost use Rattle.loop_match.specs.Steps.{last_of, place_view, turned};
     ghost use Rattle.guide_fast.specs.Silent.{are_none};
     ghost use Rattle.guide_fast.specs.Tables.{HasTables, tables_of};
-    ghost use Rattle.guide_fast.specs.Turns.{turned};
 
     /// Of a guide. The only error is want of memory.
     pub fn of(alloc: Global, guide: &'g Guide) -> Result<FastGuide<'g>, NoMemory>
@@ -107,5 +105,16 @@ impl<'g> FastGuide<'g> {
     {
         let _accepted = self.guide.rows();
         is_silent(self.tables.as_slice(), &self.tables[0], last, next)
+    }
+
+    /// Whether nothing is told behind the body: nothing needed is left out or has too few uses. The last place has no step where no
+    /// segment has one.
+    pub fn is_end_silent(&self, last: &[Step]) -> bool
+        requires { AllByRecursion (λ s. s.use_no + 1 < 2 ^ 64) last.now }
+        ensures { (at : ℕ) → result
+            ≡ are_none (end_faults at (nodes_view self.now.nodes.items) (last_of (place_view last.now))) }
+    {
+        let _accepted = self.guide.rows();
+        is_end_silent(self.tables.as_slice(), &self.tables[0], last)
     }
 }

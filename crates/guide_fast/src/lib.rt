@@ -6,6 +6,7 @@
 //! of a segment without a place, as `stray_code` defines it. `FastGuide::table` gives the nodes of a loop by its number;
 //! `Children::start_from` the first of them from one on whose start a segment fits, and `Children::needed_between` how many of some are
 //! needed, which is how many are told of where none of them comes.
+//! `place_all_fast` gives what `place_all` of `loop_match` gives, by these.
 //! `FastGuide::is_silent` says whether nothing is told between the last place and the next: it is so exactly where `step_faults` has
 //! no fault.
 //!
@@ -17,18 +18,17 @@
 //! Source: X12.6, order of segments in a transaction set; the 999 guide (005010X231), IK304. The tables are own.
 #![tactic(auto)]
 
+mod by_table;
 mod children;
 mod counts;
 mod fast;
-mod fit;
 mod index;
 mod next;
 mod silent;
-mod start;
 mod strays;
 mod tables;
-mod turn;
 
+pub use by_table::place_all_fast;
 pub use children::Children;
 pub use fast::FastGuide;
-pub use turn::Turn;
+pub use loop_match::Turn;

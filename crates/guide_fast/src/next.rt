@@ -1,42 +1,18 @@
-ghost use Rattle.std.specs.Prelude.{◌≡◌, ◌+◌, ◌<◌, ◌≤◌, ◌^◌, length, option_map, drop, slice_index_or, true, IfNone, IfSome, MatchOption};
+ghost use Rattle.std.specs.Prelude.{◌≡◌, ◌+◌, ◌<◌, ◌≤◌, ◌^◌, [], length, option_map, drop, slice_index_or, true, IfNone, IfSome};
+ghost use Rattle.std.specs.Prelude.{MatchOption};
 ghost use Rattle.std.specs.List.{AllByRecursion};
 ghost use Rattle.x12_segs.specs.Words.{elements_of};
 ghost use Rattle.guide_tree.specs.declared.node.Loop.{Loop};
 ghost use Rattle.guide_tree.specs.declared.slot.Slot.{Slot};
 ghost use Rattle.guide_tree.specs.Words.{Place, Segment, segment, loop, or_else, view, nodes_view, fit_starts};
 ghost use Rattle.guide_tree.specs.Words.{fit_again, fit_in, fit_next, fit_behind};
-ghost use Rattle.loop_match.specs.Steps.{place_view, step_view};
+ghost use Rattle.loop_match.specs.Steps.{place_view, step_view, turned};
 ghost use Rattle.guide_fast.specs.Tables.{trees_in, HasTables, HasTablesIn};
-ghost use Rattle.guide_fast.specs.Turns.{turned, turned_here};
 
 use crate::children::Children;
-use crate::start::start_of;
-use crate::turn::Turn;
 use guide_tree::Node;
-use loop_match::Step;
+use loop_match::{Step, Turn, again};
 use x12_segs::SegView;
-
-/// The same child once more, but for a loop's first.
-fn again<'g>(node: &'g Node, in_loop: bool, step: Step, seg: &SegView) -> Option<Turn<'g>>
-    requires { step.use_no + 1 < 2 ^ 64 }
-    ensures turn { option_map turned_here result ≡ fit_again (elements_of seg.now) in_loop (step_view step) (view node.entry.now) }
-    ensures depth { IfSome result (λ t. t.depth ≡ 0) }
-    ensures uses { IfSome result (λ t. t.use_no ≡ step.use_no + 1) }
-{
-    if in_loop && step.child == 0 {
-        return None;
-    }
-    match start_of(node, seg) {
-        None => None,
-        Some(start) => Some(Turn {
-            depth: 0,
-            child: step.child,
-            use_no: step.use_no + 1,
-            into_loop: start.into_loop,
-            slot: start.slot,
-        }),
-    }
-}
 
 /// The turn from a child to itself or to a later one.
 fn turn_here<'g>(
@@ -48,7 +24,7 @@ fn turn_here<'g>(
 ) -> Option<Turn<'g>>
     requires room { step.use_no + 1 < 2 ^ 64 }
     requires in_range { step.child < length here.now }
-    ensures turn { option_map turned_here result ≡ or_else
+    ensures turn { option_map (turned []) result ≡ or_else
         (fit_again (elements_of seg.now) in_loop (step_view step) (view node.entry.now))
         (fit_starts (elements_of seg.now) (step.child + 1) (nodes_view (drop (step.child + 1) here.now))) }
     ensures depth { IfSome result (λ t. t.depth ≡ 0) }

@@ -1,16 +1,15 @@
 ghost use Rattle.std.specs.Prelude.{◌≡◌, ◌+◌, ◌-◌, ◌<◌, ◌≤◌, ◌^◌, ◌&&◌, ℕ, List, length, drop};
 ghost use Rattle.std.specs.List.{AllByRecursion};
-ghost use Rattle.guide_tree.specs.Words.{view, nodes_view, past, too_few, unused, entered, ended_in, step_faults};
+ghost use Rattle.guide_tree.specs.Words.{view, nodes_view, past, too_few, unused, entered, ended_in, step_faults, end_faults};
 ghost use Rattle.loop_match.specs.Leaving.{ended_among, stepped_among};
 ghost use Rattle.loop_match.specs.Steps.{last_of, place_view};
 ghost use Rattle.guide_fast.specs.Silent.{are_none};
 ghost use Rattle.guide_fast.specs.Tables.{trees_in, HasTables, HasTablesIn};
 
 use crate::children::Children;
-use crate::counts::{max_of, min_of};
 use crate::next::{node_at, table_of};
 use guide_tree::Node;
-use loop_match::Step;
+use loop_match::{Step, max_of, min_of};
 
 fn is_enough(uses: u64, node: &Node) -> bool
     ensures { (at : ℕ) (outer : List ℕ) → result ≡ are_none (too_few at outer uses (view node.now)) }
@@ -209,4 +208,20 @@ pub fn is_silent<'t, 'g>(
         return is_entered_silent(top, 0, *to);
     }
     is_stepped_silent(tables, top, last, next)
+}
+
+/// Whether nothing is told behind the body.
+pub fn is_end_silent<'t, 'g>(
+    tables: &'t [Children<'g>],
+    top: &'t Children<'g>,
+    last: &[Step],
+) -> bool
+    requires room { AllByRecursion (λ s. s.use_no + 1 < 2 ^ 64) last.now }
+    requires tables { HasTables (trees_in tables.now) (nodes_view top.now) }
+    ensures { (at : ℕ) → result ≡ are_none (end_faults at (nodes_view top.now) (last_of (place_view last.now))) }
+{
+    if last.is_empty() {
+        return is_unused_silent(top, 0);
+    }
+    is_ended_silent(tables, top, last)
 }

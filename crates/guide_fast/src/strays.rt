@@ -4,10 +4,10 @@ ghost use Rattle.guide_tree.specs.Words.{nodes_view};
 ghost use Rattle.guide_fast.specs.Listed.{Knows};
 ghost use Rattle.guide_fast.specs.Slots.{any_listed, fits_at, slots_of, slot_ids, lent_slots};
 
-use crate::fit::fits;
 use crate::index::TextIndex;
 use guide_tree::{Guide, Node, Slot};
 use hub_kinds::{NoMemory, SegmentCode, Text};
+use loop_match::fits;
 use std::alloc::Global;
 use std::marker::Model;
 use x12_segs::SegView;

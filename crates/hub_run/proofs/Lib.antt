@@ -7,6 +7,7 @@ pub mod Headers
 pub mod Mailboxes
 pub mod Marked
 pub mod Naming
+pub mod OneBatch
 pub mod OneNight
 pub mod OneSet
 pub mod Pairs
@@ -29,6 +30,7 @@ pub mod TellingGroups
 pub mod TellingNights
 pub mod TellingSets
 pub mod Together
+pub mod Workers
 pub mod Written
 mod WorkedResponses
 mod WorkedSets

@@ -3,6 +3,7 @@ pub mod ReadBack
 pub mod Refusals
 pub mod Responses
 pub mod SetsRead
+pub mod StreamNight
 pub mod Ta1sRead
 pub mod Tallied
 pub mod Told

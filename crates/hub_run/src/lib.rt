@@ -25,6 +25,8 @@
 mod laws;
 mod plain;
 mod run_fault;
+mod shared;
+mod stream;
 mod writing;
 
 pub use hub_kinds::within_limit;
@@ -37,3 +39,7 @@ pub use night_report::is_clean;
 pub use night_writing::Night;
 pub use plain::run_plain;
 pub use run_fault::RunFault;
+pub use shared::run_night;
+pub use stream::run_stream;
+pub use stream_read::{Source, SourceFault};
+pub use worker_pool::{Gate, OpenGate};

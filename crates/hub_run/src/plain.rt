@@ -39,7 +39,7 @@ pub fn run_plain(alloc: Global, text: &[u8], setup: &Setup, at: &At) -> Result<N
 }
 
 /// Every setup is sound, and every moment is one. It does nothing: its contract says so.
-fn are_sound(setup: &Setup, at: &At)
+pub(crate) fn are_sound(setup: &Setup, at: &At)
     ensures setup { IsSoundSetup setup.now }
     ensures moment { IsMoment at.now }
 {

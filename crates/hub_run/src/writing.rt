@@ -1,14 +1,48 @@
-ghost use Rattle.std.specs.Prelude.{IfOk};
-ghost use Rattle.std.specs.List.{All};
+ghost use Rattle.std.specs.Prelude.{◌≡◌, IfOk, length};
+ghost use Rattle.std.specs.List.{All, AllZip};
 ghost use Rattle.env_index.specs.Words.{HasSpans};
+ghost use Rattle.checked_text.specs.Asked.{IsFound, asked_of};
 ghost use Rattle.night_writing.specs.Night.{IsNightIn};
+ghost use Rattle.night_writing.specs.Writing.{HasRoomFor, IsBatchWritten, nothing_written};
 
+use checked_text::Finding;
 use env_index::Index;
 use hub_kinds::NoMemory;
 use moment::At;
 use night_writing::{Night, Writing};
 use partner_setup::Setup;
 use std::alloc::Global;
+
+/// Nothing yet, with room for the one batch of this index.
+fn nothing_before<'a>(
+    alloc: Global,
+    setup: &'a Setup,
+    _at: &At,
+    index: &Index<'a>,
+) -> Result<Writing, NoMemory>
+    ensures nothing { IfOk result (λ w. w ≡ nothing_written setup.now) }
+    ensures room { IfOk result (HasRoomFor setup.now _at.now (length index.now.entries) index.now.outside) }
+{
+    // as many as can be counted: there is room for them
+    let _interchanges = index.interchanges();
+    let _outside = index.outside();
+    Writing::new(alloc, setup)
+}
+
+/// The night of the one batch that is written.
+fn close_one(
+    alloc: Global,
+    setup: &Setup,
+    at: &At,
+    _index: &Index<'_>,
+    written: Writing,
+) -> Result<Night, NoMemory>
+    requires { IsBatchWritten _index.now.text setup.now at.now 0 _index.now.entries _index.now.outside (nothing_written setup.now) written }
+    ensures { IfOk result (IsNightIn _index.now setup.now at.now) }
+{
+    let night = written.close(alloc, setup, at)?;
+    Ok(night)
+}
 
 /// The night of a text by its settled index: one batch, and a close.
 pub(crate) fn write_night<'a>(
@@ -20,11 +54,24 @@ pub(crate) fn write_night<'a>(
     requires { All (λ e. HasSpans index.now.text e.interchange) index.now.entries }
     ensures { IfOk result (IsNightIn index.now setup.now at.now) }
 {
-    // as many as can be counted: there is room for them
-    let _interchanges = index.interchanges();
-    let _outside = index.outside();
-    let nothing = Writing::new(alloc, setup)?;
+    let nothing = nothing_before(alloc, setup, at, index)?;
     let written = nothing.add_batch(alloc, setup, at, 0, index)?;
-    let night = written.close(alloc, setup, at)?;
-    Ok(night)
+    close_one(alloc, setup, at, index, written)
+}
+
+/// The same by what was found out about the places of the index.
+pub(crate) fn write_found<'a>(
+    alloc: Global,
+    setup: &'a Setup,
+    at: &At,
+    index: &Index<'a>,
+    found: Vec<Finding<'a>>,
+) -> Result<Night, NoMemory>
+    requires spans { All (λ e. HasSpans index.now.text e.interchange) index.now.entries }
+    requires found { AllZip IsFound (asked_of index.now.text setup.now index.now.entries) found.items }
+    ensures { IfOk result (IsNightIn index.now setup.now at.now) }
+{
+    let nothing = nothing_before(alloc, setup, at, index)?;
+    let written = nothing.add_found(alloc, setup, at, 0, index, found)?;
+    close_one(alloc, setup, at, index, written)
 }

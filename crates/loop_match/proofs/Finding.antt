@@ -10,12 +10,12 @@ use Rattle.loop_match.specs.declared.next.Step.{Step}
 use Rattle.loop_match.specs.Steps.{place_view}
 use Rattle.loop_match.specs.Leaving.{ended_among, stepped_among}
 
-ended_past : (at : ℕ) (o : List ℕ) (ns : List Node) (n u : ℕ) (p : Place) → length ns ≤ n → ended at o (nodes_view ns) n u p ≡ []
+pub ended_past : (at : ℕ) (o : List ℕ) (ns : List Node) (n u : ℕ) (p : Place) → length ns ≤ n → ended at o (nodes_view ns) n u p ≡ []
 ended_past at o [] n u p h = refl
 ended_past at o (x ∷ ns) zero u p h = absurd (omega arith)
 ended_past at o (x ∷ ns) (suc n) u p h = ended_past at o ns n u p (omega arith)
 
-ended_at : (at : ℕ) (o : List ℕ) (ns : List Node) (n u : ℕ) (p : Place) (d : Node) → n < length ns
+pub ended_at : (at : ℕ) (o : List ℕ) (ns : List Node) (n u : ℕ) (p : Place) (d : Node) → n < length ns
     → ended at o (nodes_view ns) n u p
     ≡ ended_in at (view (get_or ns n d)) p ++ (too_few at o (u + 1) (view (get_or ns n d)) ++ unused at o (nodes_view (drop (suc n) ns)))
 ended_at at o [] n u p d h = absurd (omega arith)
@@ -50,21 +50,21 @@ ended_next at o ns place a rest node f g h i e l n x y z =
     ∙ ap (λ (q : List Fault). f ++ q) (ended_at at o ns a.child a.use_no (place_view rest) node l))
 
 -- from a place to the next
-stepped_past : (at : ℕ) (o : List ℕ) (ns : List Node) (n m u v : ℕ) (p q : Place) → length ns ≤ n
+pub stepped_past : (at : ℕ) (o : List ℕ) (ns : List Node) (n m u v : ℕ) (p q : Place) → length ns ≤ n
     → stepped at o (nodes_view ns) n m u v p q ≡ []
 stepped_past at o [] n m u v p q h = refl
 stepped_past at o (x ∷ ns) zero m u v p q h = absurd (omega arith)
 stepped_past at o (x ∷ ns) (suc n) zero u v p q h = refl
 stepped_past at o (x ∷ ns) (suc n) (suc m) u v p q h = stepped_past at o ns n m u v p q (omega arith)
 
-stepped_back : (at : ℕ) (o : List ℕ) (ns : List Node) (n m u v : ℕ) (p q : Place) → m < n
+pub stepped_back : (at : ℕ) (o : List ℕ) (ns : List Node) (n m u v : ℕ) (p q : Place) → m < n
     → stepped at o (nodes_view ns) n m u v p q ≡ []
 stepped_back at o [] n m u v p q h = refl
 stepped_back at o (x ∷ ns) zero m u v p q h = absurd (omega arith)
 stepped_back at o (x ∷ ns) (suc n) zero u v p q h = refl
 stepped_back at o (x ∷ ns) (suc n) (suc m) u v p q h = stepped_back at o ns n m u v p q (omega arith)
 
-stepped_same : (at : ℕ) (o : List ℕ) (ns : List Node) (n m u v : ℕ) (p q : Place) (d : Node) → n < length ns → m ≡ n
+pub stepped_same : (at : ℕ) (o : List ℕ) (ns : List Node) (n m u v : ℕ) (p q : Place) (d : Node) → n < length ns → m ≡ n
     → stepped at o (nodes_view ns) n m u v p q
     ≡ (if u == v then stepped_in at (view (get_or ns n d)) p q
     else ended_in at (view (get_or ns n d)) p ++ past at o v (view (get_or ns n d)))
@@ -74,7 +74,7 @@ stepped_same at o (x ∷ ns) zero (suc m) u v p q d h e = absurd (omega arith)
 stepped_same at o (x ∷ ns) (suc n) zero u v p q d h e = absurd (omega arith)
 stepped_same at o (x ∷ ns) (suc n) (suc m) u v p q d h e = stepped_same at o ns n m u v p q d (omega arith) (omega arith)
 
-stepped_on : (at : ℕ) (o : List ℕ) (ns : List Node) (n m k u v : ℕ) (p q : Place) (d : Node) → n < length ns → m ≡ suc n + k
+pub stepped_on : (at : ℕ) (o : List ℕ) (ns : List Node) (n m k u v : ℕ) (p q : Place) (d : Node) → n < length ns → m ≡ suc n + k
     → stepped at o (nodes_view ns) n m u v p q
     ≡ ended_in at (view (get_or ns n d)) p ++ (too_few at o (u + 1) (view (get_or ns n d))
     ++ entered at o (nodes_view (drop (suc n) ns)) k v)

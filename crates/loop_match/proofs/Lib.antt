@@ -1,8 +1,8 @@
-mod Indexed
-mod Fitting
-mod Walking
-mod Giving
-mod Finding
+pub mod Indexed
+pub mod Fitting
+pub mod Walking
+pub mod Giving
+pub mod Finding
 mod Passing
 mod Numbered
 mod Rounds

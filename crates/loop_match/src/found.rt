@@ -3,8 +3,8 @@ ghost use Rattle.guide_tree.specs.Words.{min_of, max_of, first_id, past_code, fe
 ghost use Rattle.guide_tree.specs.Words.{stray_fault, view, guide_of};
 ghost use Rattle.x12_segs.specs.Words.{elements_of};
 
-use crate::stray::stray_code;
-use guide_tree::{Guide, Node};
+use crate::next_place::NextPlace;
+use guide_tree::Node;
 use hub_kinds::{Fault, Items, NO_NUMBER, NoMemory, SegmentCode, Text};
 use std::alloc::Global;
 use std::marker::Model;
@@ -84,14 +84,20 @@ impl Found {
     }
 
     /// A segment has no place.
-    pub fn stray(&mut self, at: u64, guide: &Guide, seg: &SegView) -> Result<(), NoMemory>
-        ensures { OnOk result (self.new ≡ self.old ++ stray_fault (guide_of guide.now) at (elements_of seg.now) ∷ []) }
+    pub fn stray<'g, N: NextPlace<'g>>(
+        &mut self,
+        at: u64,
+        next: &N,
+        seg: &SegView,
+    ) -> Result<(), NoMemory>
+        ensures { OnOk result (self.new
+            ≡ self.old ++ stray_fault (guide_of (N.guide next.now)) at (elements_of seg.now) ∷ []) }
     {
         let fault = Fault {
             position: at,
             id: text_of(self.alloc, seg.id())?,
             loop_id: text_of(self.alloc, b"")?,
-            code: stray_code(guide, seg),
+            code: next.stray_code(seg),
             slot: NO_NUMBER,
             elem: None,
         };
@@ -114,7 +120,7 @@ fn text_of(alloc: Global, bytes: &[u8]) -> Result<Text, NoMemory>
 }
 
 /// The id that a node begins with: its own, or that of a loop's first segment.
-fn first_id(node: &Node) -> &[u8]
+pub fn first_id(node: &Node) -> &[u8]
     ensures { result.now ≡ first_id (view node.entry.now) }
 {
     match node {
@@ -135,7 +141,8 @@ fn loop_of<'a>(outer: &'a [u8], node: &'a Node) -> &'a [u8]
     }
 }
 
-fn min_of(node: &Node) -> u32
+/// The least use of a node.
+pub fn min_of(node: &Node) -> u32
     ensures { result ≡ min_of (view node.now) }
 {
     match node {
@@ -144,7 +151,8 @@ fn min_of(node: &Node) -> u32
     }
 }
 
-fn max_of(node: &Node) -> u32
+/// The greatest use of a node.
+pub fn max_of(node: &Node) -> u32
     ensures { result ≡ max_of (view node.now) }
 {
     match node {

@@ -33,7 +33,7 @@ pub struct Turn<'a> {
 }
 
 /// The start of a node, if the segment fits it.
-fn start_of<'a>(node: &'a Node, seg: &SegView) -> Option<Start<'a>>
+pub fn start_of<'a>(node: &'a Node, seg: &SegView) -> Option<Start<'a>>
     ensures { option_map started result ≡ fit_start (elements_of seg.now) (view node.entry.now) }
 {
     let (into_loop, slot) = match node {
@@ -71,8 +71,8 @@ fn start_after<'a>(nodes: &'a [Node], from: usize, seg: &SegView) -> Option<Turn
     None
 }
 
-/// The same child once more, but for a loop's first.
-fn again<'a>(node: &'a Node, in_loop: bool, step: Step, seg: &SegView) -> Option<Turn<'a>>
+/// The turn to a node's next use, if the segment fits its start; none of a loop's first node.
+pub fn again<'a>(node: &'a Node, in_loop: bool, step: Step, seg: &SegView) -> Option<Turn<'a>>
     requires { step.use_no + 1 < 2 ^ 64 }
     ensures turn { option_map (turned []) result ≡ fit_again (elements_of seg.now) in_loop (step_view step) (view node.entry.now) }
     ensures depth { IfSome result (λ t. t.depth ≡ 0) }

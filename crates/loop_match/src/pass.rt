@@ -8,7 +8,8 @@ ghost use Rattle.loop_match.specs.Passed.{found_behind};
 
 use crate::found::Found;
 use crate::next::Step;
-use crate::steps::{end, step};
+use crate::next_place::NextPlace;
+use crate::steps::{end, step_by};
 use crate::walk::{Walk, place_one};
 use guide_tree::Guide;
 use hub_kinds::NoMemory;
@@ -33,33 +34,32 @@ fn keep(before: &mut Vec<Step>, last: &[Step]) -> Result<(), NoMemory>
 }
 
 /// Gives the segment its place, and finds what shows at it.
-fn pass_one<'g>(
+fn pass_one<'g, N: NextPlace<'g>>(
     pass: &mut Pass<'g>,
-    guide: &'g Guide,
+    next: &N,
     index: u64,
     seg: &SegView,
 ) -> Result<(), NoMemory>
     requires walk { IsWalk pass.old.walk index }
     requires few { index + 2 < 2 ^ 64 }
     ensures walk { OnOk result (IsWalk pass.new.walk (index + 1)) }
-    ensures given { OnOk result ((body : List Segment) → given_behind (nodes_view guide.entry.now.nodes.items) pass.new.walk body
-        ≡ given_behind (nodes_view guide.entry.now.nodes.items) pass.old.walk (elements_of seg.now ∷ body)) }
+    ensures given { OnOk result ((body : List Segment) → given_behind (nodes_view (N.guide next.entry.now).nodes.items) pass.new.walk body
+        ≡ given_behind (nodes_view (N.guide next.entry.now).nodes.items) pass.old.walk (elements_of seg.now ∷ body)) }
     ensures found { OnOk result ((end : ℕ) (body : List Segment)
-        → found_behind (guide_of guide.entry.now) end (index + 2 + 1) pass.new body
-        ≡ found_behind (guide_of guide.entry.now) end (index + 2) pass.old (elements_of seg.now ∷ body)) }
+        → found_behind (guide_of (N.guide next.entry.now)) end (index + 2 + 1) pass.new body
+        ≡ found_behind (guide_of (N.guide next.entry.now)) end (index + 2) pass.old (elements_of seg.now ∷ body)) }
 {
     keep(&mut pass.before, pass.walk.last.as_slice())?;
-    let nodes = guide.rows().nodes.as_slice();
-    if place_one(&mut pass.walk, nodes, index, seg)? {
-        step(
+    if place_one(&mut pass.walk, next, index, seg)? {
+        step_by(
             &mut pass.found,
             index + 2,
-            nodes,
+            next,
             pass.before.as_slice(),
             pass.walk.last.as_slice(),
         )
     } else {
-        pass.found.stray(index + 2, guide, seg)
+        pass.found.stray(index + 2, next, seg)
     }
 }
 
@@ -76,13 +76,17 @@ fn pass_end(pass: &mut Pass, guide: &Guide, at: u64) -> Result<(), NoMemory>
 }
 
 /// Goes over a body.
-pub fn pass_all<'g>(alloc: Global, segs: &[SegView], guide: &'g Guide) -> Result<Pass<'g>, NoMemory>
-    ensures accepted { OnOk result (IsAccepted guide.now) }
+pub fn pass_all<'g, N: NextPlace<'g>>(
+    alloc: Global,
+    segs: &[SegView],
+    next: &N,
+) -> Result<Pass<'g>, NoMemory>
+    ensures accepted { OnOk result (IsAccepted (N.guide next.now)) }
     ensures within { IfOk result (λ p. AllByRecursion (λ m. m.start + m.depth ≤ length p.walk.steps.items) p.walk.marks.items) }
     ensures given { IfOk result (λ p. marks_view p.walk.steps.items p.walk.marks.items
-        ≡ given_of (nodes_view guide.now.nodes.items) (map elements_of segs.now)) }
-    ensures found { IfOk result (λ p. p.found ≡ structure_faults (guide_of guide.now) (length segs.now + 2) (map elements_of segs.now)
-        (placing_of (nodes_view guide.now.nodes.items) (map elements_of segs.now))) }
+        ≡ given_of (nodes_view (N.guide next.now).nodes.items) (map elements_of segs.now)) }
+    ensures found { IfOk result (λ p. p.found ≡ structure_faults (guide_of (N.guide next.now)) (length segs.now + 2)
+        (map elements_of segs.now) (placing_of (nodes_view (N.guide next.now).nodes.items) (map elements_of segs.now))) }
 {
     let walk = Walk {
         steps: Vec::with_capacity(alloc, segs.len())?,
@@ -95,8 +99,8 @@ pub fn pass_all<'g>(alloc: Global, segs: &[SegView], guide: &'g Guide) -> Result
         found: Found::new(alloc),
     };
     for i in 0..segs.len() {
-        pass_one(&mut pass, guide, i as u64, &segs[i])?;
+        pass_one(&mut pass, next, i as u64, &segs[i])?;
     }
-    pass_end(&mut pass, guide, segs.len() as u64 + 2)?;
+    pass_end(&mut pass, next.guide(), segs.len() as u64 + 2)?;
     Ok(pass)
 }

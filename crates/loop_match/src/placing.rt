@@ -7,6 +7,7 @@ ghost use Rattle.guide_tree.specs.Words.{placing_of, IsPlacing, slot_given, IsSt
 ghost use Rattle.loop_match.specs.Given.{place_in, slot_in};
 
 use crate::next::Step;
+use crate::next_place::{ByNodes, NextPlace};
 use crate::pass::pass_all;
 use crate::walk::Walk;
 use guide_tree::{Guide, Slot};
@@ -85,6 +86,31 @@ impl<'g> Placing<'g> {
     }
 }
 
+/// What `place_all` gives, by what finds the next place. The only error is want of memory.
+pub fn place_by<'g, N: NextPlace<'g>>(
+    alloc: Global,
+    segs: &[SegView],
+    next: &N,
+) -> Result<Placing<'g>, NoMemory>
+    ensures places { IfOk result (λ p. map place_in p.given
+        ≡ placing_of (nodes_view (N.guide next.now).nodes.items) (map elements_of segs.now)) }
+    ensures placing { IfOk result (λ p.
+        IsPlacing (nodes_view (N.guide next.now).nodes.items) None (map elements_of segs.now) (map place_in p.given)) }
+    ensures slots { IfOk result (λ p. map slot_in p.given
+        ≡ map (slot_given (nodes_view (N.guide next.now).nodes.items))
+        (placing_of (nodes_view (N.guide next.now).nodes.items) (map elements_of segs.now))) }
+    ensures faults { IfOk result (λ p. (f : Fault) → Contains p.faults f
+        ↔ IsStructureFault (guide_of (N.guide next.now)) (map elements_of segs.now)
+        (placing_of (nodes_view (N.guide next.now).nodes.items) (map elements_of segs.now)) (length segs.now + 2) f) }
+    ensures rising { IfOk result (λ p. AreRising p.faults) }
+{
+    let pass = pass_all(alloc, segs, next)?;
+    Ok(Placing {
+        walk: pass.walk,
+        faults: in_order(pass.found.into_faults()),
+    })
+}
+
 /// The place and the slot of each segment of a body, and exactly its structural faults, each once and in their order;
 /// the body's end is behind its last segment. The only error is want of memory.
 pub fn place_all<'g>(
@@ -103,9 +129,5 @@ pub fn place_all<'g>(
         (placing_of (nodes_view guide.now.nodes.items) (map elements_of segs.now)) (length segs.now + 2) f) }
     ensures rising { IfOk result (λ p. AreRising p.faults) }
 {
-    let pass = pass_all(alloc, segs, guide)?;
-    Ok(Placing {
-        walk: pass.walk,
-        faults: in_order(pass.found.into_faults()),
-    })
+    place_by(alloc, segs, &ByNodes { guide })
 }

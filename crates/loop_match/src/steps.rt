@@ -7,6 +7,7 @@ ghost use Rattle.loop_match.specs.Steps.{place_view, last_of};
 use crate::found::Found;
 use crate::leaving::{ended, entered, unused};
 use crate::next::Step;
+use crate::next_place::NextPlace;
 use crate::stepping::stepped;
 use guide_tree::Node;
 use hub_kinds::NoMemory;
@@ -30,6 +31,24 @@ pub fn step(
         return entered(found, at, b"", nodes, 0, *to);
     }
     stepped(found, at, b"", nodes, last, next)
+}
+
+/// The same, where what finds the places may know that nothing shows.
+pub fn step_by<'g, N: NextPlace<'g>>(
+    found: &mut Found,
+    at: u64,
+    by: &N,
+    last: &[Step],
+    next: &[Step],
+) -> Result<(), NoMemory>
+    requires { AllByRecursion (λ s. s.use_no + 1 < 2 ^ 64) last.now }
+    ensures { OnOk result (found.new
+        ≡ found.old ++ step_faults at (nodes_view (N.guide by.now).nodes.items) (last_of (place_view last.now)) (place_view next.now)) }
+{
+    if by.is_silent(last, next) {
+        return Ok(());
+    }
+    step(found, at, by.guide().rows().nodes.as_slice(), last, next)
 }
 
 /// What shows behind the body.

@@ -3,8 +3,9 @@ ghost use Rattle.x12_segs.specs.Words.{elements_of};
 ghost use Rattle.guide_tree.specs.Words.{Segment, nodes_view};
 ghost use Rattle.loop_match.specs.Steps.{place_view, turned, given_behind, IsWalk, HasGone};
 
-use crate::next::{Step, Turn, turn_from};
-use guide_tree::{Node, Slot};
+use crate::next::{Step, Turn};
+use crate::next_place::NextPlace;
+use guide_tree::Slot;
 use hub_kinds::NoMemory;
 use x12_segs::SegView;
 
@@ -44,21 +45,21 @@ fn go(last: &mut Vec<Step>, turn: &Turn) -> Result<(), NoMemory>
 }
 
 /// Gives the segment its place and its slot, and tells whether there is one.
-pub fn place_one<'g>(
+pub fn place_one<'g, N: NextPlace<'g>>(
     walk: &mut Walk<'g>,
-    nodes: &'g [Node],
+    next: &N,
     uses: u64,
     seg: &SegView,
 ) -> Result<bool, NoMemory>
     requires walk { IsWalk walk.old uses }
     requires few { uses + 1 < 2 ^ 64 }
-    ensures gone { IfOk result (λ placed. HasGone (nodes_view nodes.entry.now) walk.old.last.items walk.new.last.items
+    ensures gone { IfOk result (λ placed. HasGone (nodes_view (N.guide next.entry.now).nodes.items) walk.old.last.items walk.new.last.items
         (elements_of seg.now) placed) }
     ensures walk { OnOk result (IsWalk walk.new (uses + 1)) }
-    ensures given { OnOk result ((body : List Segment) → given_behind (nodes_view nodes.entry.now) walk.new body
-        ≡ given_behind (nodes_view nodes.entry.now) walk.old (elements_of seg.now ∷ body)) }
+    ensures given { OnOk result ((body : List Segment) → given_behind (nodes_view (N.guide next.entry.now).nodes.items) walk.new body
+        ≡ given_behind (nodes_view (N.guide next.entry.now).nodes.items) walk.old (elements_of seg.now ∷ body)) }
 {
-    match turn_from(nodes, walk.last.as_slice(), uses, seg) {
+    match next.turn_from(walk.last.as_slice(), uses, seg) {
         None => {
             walk.marks.push(Mark {
                 start: 0,

@@ -9,6 +9,7 @@ use Rattle.clap.specs.declared.parser.matches.ArgMatches.{ArgMatches}
 use Rattle.clap.proofs.OnLiterals.{clap_on_literals}
 use Rattle.clap.proofs.WalkLemmas.{first_value-rows, raw_values-rows}
 use Rattle.night_command.specs.CommandLine.{AreGiven, AreOptions, IsAsked, IsGiven, IsShown, hub_app, value_of, values_found, values_of}
+use Rattle.night_command.specs.CommandLine.{piece_given, workers_given}
 use Rattle.night_command.specs.declared.command.Asked.{Asked}
 use Rattle.night_command.specs.declared.command.Asked.TheVariants.{Run, Show}
 use Rattle.night_command.specs.declared.command.Options.{Options}
@@ -40,6 +41,8 @@ options words m o has given = record {
   at = sym (found words m (codes "at") has) ∙ given.at;
   input = sym (found words m (codes "in") has) ∙ given.input;
   output = sym (found words m (codes "out") has) ∙ given.output;
+  workers = sym (ap workers_given (found words m (codes "workers") has)) ∙ given.workers;
+  piece = sym (ap piece_given (found words m (codes "piece") has)) ∙ given.piece;
 }
 
 pub asked : (words : List Text) (m : ArgMatches) (asked : Asked) → HasMatchesOf hub_app words m → IsGiven (found_of m) asked
@@ -64,6 +67,10 @@ all_given words m has given = record {
   at_named = found words m (codes "at") has ∙ given.at_named;
   input_named = found words m (codes "in") has ∙ given.input_named;
   output_named = found words m (codes "out") has ∙ given.output_named;
+  workers = given.workers;
+  piece = given.piece;
+  workers_named = ap workers_given (found words m (codes "workers") has) ∙ given.workers_named;
+  piece_named = ap piece_given (found words m (codes "piece") has) ∙ given.piece_named;
 }
 
 asked_by : (words : List Text) (e : Error) → HasKind (fault_of hub_app words) e → (kind_of e ≡ DisplayHelp) ⊎ (kind_of e ≡ DisplayVersion)

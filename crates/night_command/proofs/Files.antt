@@ -1,17 +1,20 @@
 -- The files of a night, one partner on, and files that are put one after another.
-use Rattle.std.proofs.Common.{◌≡◌, ◌⊎◌, inl, inr, ◌<◌, ◌+◌, ◌++◌, [], ◌∷◌, ◌∙◌, ℕ, List, Option, None, Some, drop, length}
-use Rattle.std.proofs.Common.{get_or, map, sym, ap, append-nil, append_assoc}
+use Rattle.std.proofs.Common.{◌≡◌, inl, inr, ◌<◌, ◌+◌, ◌++◌, [], ◌∷◌, ◌∙◌, ℕ, List, Option, None, Some, drop, length}
+use Rattle.std.proofs.Common.{Result, Ok, Err, IfErr, subst}
+use Rattle.std.specs.Result.{IsErrAnd}
+use Rattle.std.proofs.Common.{get_or, map, refl, sym, ap, append-nil, append_assoc}
 use Rattle.std.proofs.lemmas.List.{drop_more, map-append}
 use Rattle.partner_setup.specs.declared.partner.Partner.{Partner}
-use Rattle.night_command.specs.Folder.{AddsFiles, AddsSome, File, IsAtFile, KeepsFiles, file_of}
-use Rattle.night_writing.specs.Night.{IsNight}
+use Rattle.night_command.specs.Outbox.{AddsFiles, AddsSome, File, KeepsFiles, file_of}
 use Rattle.night_writing.specs.declared.night.Night.{Night}
 use Rattle.partner_setup.specs.Setup.{SetupValue}
 use Rattle.night_command.specs.NightFiles.{files_of, night_files, partner_files}
-use Rattle.night_command.specs.Outcome.{LeavesFolder, LeavesFront, PutsFront}
+use Rattle.night_command.specs.Outcome.{IsNightOfSource, LeavesFront, LeavesOutbox, PutsFront}
+use Rattle.night_command.specs.Failure.{put_failure}
 use Rattle.night_command.specs.declared.failure.Failure.{Failure}
-use Rattle.night_command.specs.declared.failure.Failure.TheVariants.{Memory, Output}
-use Rattle.night_command.specs.declared.folder.NamedText.{NamedText}
+use Rattle.night_command.specs.declared.outbox.NamedText.{NamedText}
+use Rattle.night_command.specs.declared.put_fault.PutFault.{PutFault}
+use Rattle.night_command.specs.declared.put_fault.PutFault.TheVariants.{NoMemory, Output}
 
 files_at : (ps : List Partner) (acks boxes : List (List ℕ)) (i : ℕ) (p : Partner) (a b : List ℕ) → i < length ps → i < length acks
     → i < length boxes → p ≡ get_or ps i p → a ≡ get_or acks i a → b ≡ get_or boxes i b
@@ -54,29 +57,35 @@ ending none first second third files f g empty one two three =
     three ∙ ap (λ (l : List File). l ++ g ∷ []) two ∙ append_assoc first (f ∷ []) (g ∷ [])
     ∙ ap (λ (l : List File). l ++ f ∷ g ∷ []) (one ∙ ap (λ (l : List File). l ++ files) empty)
 
-at_file : (left rest : List NamedText) (file : NamedText) (failed : Failure) → left ≡ file ∷ rest
-    → (failed ≡ Memory) ⊎ (failed ≡ Output file.name) → IsAtFile (map file_of left) failed
-at_file left rest file failed is (inl memory) = inl memory
-at_file left rest file failed is (inr output) = inr (file_of file, map file_of rest, ap (map file_of) is, output)
-
--- these were put, and the next one couldn't be
-pub stopped : (old now new : Option (List File)) (files done left rest : List NamedText) (file : NamedText) (failed : Failure)
-    → AddsFiles old now (map file_of done) → KeepsFiles now new → files ≡ done ++ left → left ≡ file ∷ rest
-    → (failed ≡ Memory) ⊎ (failed ≡ Output file.name) → AddsSome old new (map file_of files) failed
-stopped old now new files done left rest file failed added kept whole is at = record {
+-- these were put, and memory was wanting for the next one
+pub out_of_memory : (old now new : Option (List File)) (files done left : List NamedText) → AddsFiles old now (map file_of done)
+    → KeepsFiles now new → files ≡ done ++ left → AddsSome old new (map file_of files) NoMemory
+out_of_memory old now new files done left added kept whole = record {
   done = map file_of done;
   left = map file_of left;
   whole = ap (map file_of) whole ∙ map-append file_of done left;
   added = add_none old now (map file_of done) added new kept;
-  at = at_file left rest file failed is at;
+  at = tt;
+}
+
+-- these were put, and the next one couldn't be
+pub stopped : (old now new : Option (List File)) (files done left rest : List NamedText) (file : NamedText)
+    → AddsFiles old now (map file_of done) → KeepsFiles now new → files ≡ done ++ left → left ≡ file ∷ rest
+    → AddsSome old new (map file_of files) (Output file.name)
+stopped old now new files done left rest file added kept whole is = record {
+  done = map file_of done;
+  left = map file_of left;
+  whole = ap (map file_of) whole ∙ map-append file_of done left;
+  added = add_none old now (map file_of done) added new kept;
+  at = (file_of file, map file_of rest, ap (map file_of) is, refl);
 }
 
 -- all files of a night were put
-pub all_put : (text : List ℕ) (setup : SetupValue) (at : List ℕ) (had has : Option (List File)) (night : Night)
-    → IsNight text setup at night → AddsFiles had has (night_files setup night) → PutsFront text setup at had has
-all_put text setup at had has night is added = record {
+pub all_put : (told : Option (List ℕ)) (setup : SetupValue) (at : List ℕ) (had has : Option (List File)) (night : Night)
+    → IsNightOfSource told setup at night → AddsFiles had has (night_files setup night) → PutsFront told setup at had has
+all_put told setup at had has night is added = record {
   night = night;
-  is_night = is;
+  by = is;
   done = night_files setup night;
   left = [];
   whole = sym (append-nil (night_files setup night));
@@ -84,14 +93,27 @@ all_put text setup at had has night is added = record {
 }
 
 -- what failed is of no matter for what is left
-pub front_of : (text : List ℕ) (setup : SetupValue) (at : List ℕ) (had has : Option (List File)) (failed : Failure)
-    → LeavesFolder text setup at had has failed → LeavesFront text setup at had has
-front_of text setup at had has failed (inl kept) = inl kept
-front_of text setup at had has failed (inr front) = inr (record {
+pub front_of : (told : Option (List ℕ)) (setup : SetupValue) (at : List ℕ) (had has : Option (List File)) (failed : Failure)
+    → LeavesOutbox told setup at had has failed → LeavesFront told setup at had has
+front_of told setup at had has failed (inl kept) = inl kept
+front_of told setup at had has failed (inr front) = inr (record {
   night = front.night;
-  is_night = front.is_night;
+  by = front.by;
   done = front.some.done;
   left = front.some.left;
   whole = front.some.whole;
   added = front.some.added;
 })
+
+-- some files of a night were put, and then a fault came
+pub some_put : (told : Option (List ℕ)) (setup : SetupValue) (at : List ℕ) (had has : Option (List File)) (night : Night)
+    (fault : PutFault) → IsNightOfSource told setup at night → AddsSome had has (night_files setup night) fault
+    → LeavesOutbox told setup at had has (put_failure fault)
+some_put told setup at had has night fault is some =
+    inr (record { night = night; by = is; fault = fault; some = some; told_as = refl })
+
+-- what holds of the failure that a fault is told as
+pub told_fault : {A : Type 0} (r : Result A Failure) (fault : PutFault) (P : Failure → Type 0)
+    → IsErrAnd r (λ (failed : Failure). failed ≡ put_failure fault) → P (put_failure fault) → IfErr r P
+told_fault (Ok night) fault P told holds = tt
+told_fault (Err failed) fault P told holds = subst P (sym told) holds

@@ -4,8 +4,8 @@ pub mod Failing
 pub mod Files
 pub mod OneSetup
 pub mod PlainGuides
-pub mod Reading
 pub mod Refusing
 pub mod SettingUp
+pub mod Shared
 pub mod Writing
 mod WorkedWords

@@ -1,9 +1,9 @@
 -- The command line's definitions on words that are written out.
-use Rattle.std.proofs.Common.{◌≡◌, List, [], ◌∷◌, Some, true, false, codes, refl}
+use Rattle.std.proofs.Common.{◌≡◌, List, [], ◌∷◌, Some, None, true, false, codes, refl}
 use Rattle.clap.specs.Words.{Text, fault_of, takes}
 use Rattle.clap.specs.declared.error.kind.ErrorKind.TheVariants.{DisplayHelp, DisplayVersion}
 use Rattle.clap.proofs.OnLiterals.{clap_on_literals}
-use Rattle.night_command.specs.CommandLine.{hub_app, value_of, values_of}
+use Rattle.night_command.specs.CommandLine.{hub_app, piece_given, value_of, values_of, workers_given}
 
 -- all words but those that name guides
 abbrev others : List Text
@@ -41,9 +41,58 @@ one_more : takes hub_app (codes "b" ∷ words) ≡ false
 unfolding clap_on_literals
 one_more = refl
 
-unknown : takes hub_app (codes "--workers" ∷ codes "4" ∷ words) ≡ false
+unknown : takes hub_app (codes "--thread" ∷ codes "4" ∷ words) ≡ false
 unfolding clap_on_literals
 unknown = refl
+
+shared : takes hub_app (codes "--workers" ∷ codes "7" ∷ codes "--piece" ∷ codes "53" ∷ words) ≡ true
+unfolding clap_on_literals
+shared = refl
+
+workers_twice : takes hub_app (codes "--workers" ∷ codes "7" ∷ codes "--workers" ∷ codes "7" ∷ words) ≡ false
+unfolding clap_on_literals
+workers_twice = refl
+
+seven : value_of (codes "--workers" ∷ codes "7" ∷ words) (codes "workers") ≡ Some (codes "7")
+unfolding clap_on_literals
+seven = refl
+
+no_workers : value_of words (codes "workers") ≡ None
+unfolding clap_on_literals
+no_workers = refl
+
+none_given : workers_given None ≡ Some 4
+none_given = refl
+
+least_workers : workers_given (Some (codes "1")) ≡ Some 1
+least_workers = refl
+
+most_workers : workers_given (Some (codes "64")) ≡ Some 64
+most_workers = refl
+
+no_worker : workers_given (Some (codes "0")) ≡ None
+no_worker = refl
+
+too_many_workers : workers_given (Some (codes "65")) ≡ None
+too_many_workers = refl
+
+workers_in_words : workers_given (Some (codes "four")) ≡ None
+workers_in_words = refl
+
+no_piece_given : piece_given None ≡ Some 1048576
+no_piece_given = refl
+
+least_piece : piece_given (Some (codes "1")) ≡ Some 1
+least_piece = refl
+
+most_piece : piece_given (Some (codes "4294967295")) ≡ Some 4294967295
+most_piece = refl
+
+piece_past_the_limit : piece_given (Some (codes "4294967296")) ≡ None
+piece_past_the_limit = refl
+
+no_piece : piece_given (Some (codes "0")) ≡ None
+no_piece = refl
 
 help : fault_of hub_app (codes "--help" ∷ []) ≡ DisplayHelp ∷ []
 unfolding clap_on_literals

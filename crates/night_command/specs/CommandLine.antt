@@ -1,6 +1,8 @@
--- The command line (own), read as clap's definitions say: options that are all wanted, with one value each; one of them, for the guides,
--- is given once for each guide.
-use Rattle.std.specs.Prelude.{◌≡◌, ◌⊎◌, Option, Some, true, List, codes, map, option_map}
+-- The command line (own), read as clap's definitions say: options with one value each, of which those that name files and the moment are
+-- wanted; one of them, for the guides, is given once for each guide.
+use Rattle.std.specs.Prelude.{◌≡◌, ◌⊎◌, ◌≤◌, ℕ, Option, Some, None, true, false, List, codes, map, option_map, nat_le, ◌&&◌}
+use Rattle.std.specs.Prelude.{if◌then◌else◌}
+use Rattle.hub_kinds.specs.Words.{number_of}
 use Rattle.clap.specs.Words.{App, Rule, Text, IsAmong, all_of, fault_of, first_of, first_value, matched_of, matches_of, new_app, new_rule}
 use Rattle.clap.specs.Words.{raw_values, takes, with_rule}
 use Rattle.clap.specs.declared.builder.action.ArgAction.TheVariants.{Append, Set}
@@ -11,6 +13,7 @@ use Rattle.moment.specs.Moment.{IsMoment}
 use Rattle.night_command.specs.declared.command.Asked.{Asked}
 use Rattle.night_command.specs.declared.command.Asked.TheVariants.{Run, Show}
 use Rattle.night_command.specs.declared.command.Options.{Options}
+use Rattle.night_command.specs.declared.command.Sharing.{Sharing}
 
 -- an option of this name, given once
 abbrev pub option_named : Text → Rule
@@ -19,6 +22,10 @@ option_named name = record (new_rule name) { long = Some name; value_names = 1; 
 -- an option of this name, given once or more
 abbrev pub option_repeated : Text → Rule
 option_repeated name = record (option_named name) { action = Some Append }
+
+-- an option of this name, given once or not at all
+abbrev pub option_free : Text → Rule
+option_free name = record (option_named name) { required = false }
 
 -- the program without its options: its words have no program's name in front, and it has a version
 abbrev pub program : App
@@ -33,8 +40,30 @@ setup_app =
     (option_named (codes "counters"))
 
 -- the night
+abbrev pub night_app : App
+night_app = with_rule (with_rule (with_rule setup_app (option_named (codes "at"))) (option_named (codes "in"))) (option_named (codes "out"))
+
+-- and how it is shared among workers
 abbrev pub hub_app : App
-hub_app = with_rule (with_rule (with_rule setup_app (option_named (codes "at"))) (option_named (codes "in"))) (option_named (codes "out"))
+hub_app = with_rule (with_rule night_app (option_free (codes "workers"))) (option_free (codes "piece"))
+
+-- a number from 1 up to the most
+abbrev pub up_to_most : (most : ℕ) → Option ℕ → Option ℕ
+up_to_most most None = None
+up_to_most most (Some n) = if nat_le 1 n && nat_le n most then Some n else None
+
+-- what an option says that may be left out: a number of 1 to 10 digits, from 1 up to the most; another number where it is left out
+abbrev pub number_given : (otherwise most : ℕ) → Option Text → Option ℕ
+number_given otherwise most None = Some otherwise
+number_given otherwise most (Some text) = up_to_most most (number_of 10 text)
+
+-- how many workers share a night: 1 to 64, or 4
+abbrev pub workers_given : Option Text → Option ℕ
+workers_given text = number_given 4 64 text
+
+-- how many bytes a piece has that a worker takes: 1 to 4,294,967,295, or 1,048,576
+abbrev pub piece_given : Option Text → Option ℕ
+piece_given text = number_given 1048576 4294967295 text
 
 -- the value that the words give an option
 abbrev pub value_of : List Text → Text → Option Text
@@ -61,8 +90,10 @@ pub record AreOptions (value : Text → Option Text) (values : Text → Option (
   pub at : value (codes "at") ≡ Some options.at
   pub input : value (codes "in") ≡ Some options.input.now
   pub output : value (codes "out") ≡ Some options.output.now
+  pub workers : workers_given (value (codes "workers")) ≡ Some options.sharing.workers
+  pub piece : piece_given (value (codes "piece")) ≡ Some options.sharing.piece
 
--- each option has its value, and the moment exists
+-- each option that is wanted has its value, the moment exists, and the numbers that are given can be taken
 pub record AreGiven (value : Text → Option Text) (values : Text → Option (List Text)) : Type 0 where
   pub setup : Text
   pub setup_named : value (codes "setup") ≡ Some setup
@@ -77,8 +108,12 @@ pub record AreGiven (value : Text → Option Text) (values : Text → Option (Li
   pub input_named : value (codes "in") ≡ Some input
   pub output : Text
   pub output_named : value (codes "out") ≡ Some output
+  pub workers : ℕ
+  pub workers_named : workers_given (value (codes "workers")) ≡ Some workers
+  pub piece : ℕ
+  pub piece_named : piece_given (value (codes "piece")) ≡ Some piece
 
--- the words give each option, and nothing is wrong with them
+-- the words give each option that is wanted, and nothing is wrong with them
 pub record IsCommandLine (words : List Text) : Type 0 where
   pub taken : takes hub_app words ≡ true
   pub given : AreGiven (value_of words) (values_of words)
@@ -104,3 +139,16 @@ IsGiven found (Show text) = ⊥
 abbrev pub IsShown : ErrorKind → Asked → Type 0
 IsShown kind (Run options) = ⊥
 IsShown kind (Show text) = (kind ≡ DisplayHelp) ⊎ (kind ≡ DisplayVersion)
+
+-- how a night is shared by the values of its options; not at all where one of them can't be taken
+abbrev pub IsShared : (value : Text → Option Text) → Option Sharing → Type 0
+IsShared value None = (workers_given (value (codes "workers")) ≡ None) ⊎ (piece_given (value (codes "piece")) ≡ None)
+IsShared value (Some sharing) =
+    (workers_given (value (codes "workers")) ≡ Some sharing.workers) × (piece_given (value (codes "piece")) ≡ Some sharing.piece)
+
+-- a night can be shared so
+pub record CanShare (sharing : Sharing) : Type 0 where
+  pub some : 1 ≤ sharing.workers
+  pub few : sharing.workers ≤ 64
+  pub piece : 1 ≤ sharing.piece
+  pub short : sharing.piece ≤ 4294967295

@@ -17,6 +17,10 @@ use Rattle.partner_setup.specs.declared.setup_fault.SetupFault.{SetupFault}
 use Rattle.partner_setup.specs.declared.setup_fault.SetupFault.TheVariants as setup
 use Rattle.night_command.specs.declared.failure.Failure.{Failure}
 use Rattle.night_command.specs.declared.failure.Failure.TheVariants as failure
+use Rattle.night_command.specs.declared.put_fault.PutFault.{PutFault}
+use Rattle.night_command.specs.declared.put_fault.PutFault.TheVariants as put
+use Rattle.hub_run.specs.declared.run_fault.RunFault.{RunFault}
+use Rattle.hub_run.specs.declared.run_fault.RunFault.TheVariants as run
 
 -- what failed
 abbrev pub subject_of : Failure → List ℕ
@@ -30,6 +34,7 @@ subject_of failure.InputTooLong = codes "input too long"
 subject_of (failure.Output name) = codes "output "
 subject_of failure.Stdout = codes "output stdout"
 subject_of failure.Memory = codes "memory"
+subject_of failure.Thread = codes "thread"
 
 -- the path of a guide, as it was given, or the name of a file that is written
 abbrev pub name_of : Failure → List ℕ
@@ -78,6 +83,7 @@ status_of failure.InputTooLong = 4
 status_of (failure.Output name) = 5
 status_of failure.Stdout = 5
 status_of failure.Memory = 6
+status_of failure.Thread = 6
 
 -- what reading the words may fail by
 abbrev pub IsOfWords : Failure → Type 0
@@ -132,25 +138,33 @@ setup_failure setup.BadRoute = failure.Setup setup.BadRoute
 setup_failure setup.BadCounter = failure.Setup setup.BadCounter
 setup_failure setup.BadCap = failure.Setup setup.BadCap
 
--- what the night of a text may fail by
+-- what putting a night's files fails by
+abbrev pub put_failure : PutFault → Failure
+put_failure (put.Output name) = failure.Output name
+put_failure put.NoMemory = failure.Memory
+
+-- what a run fails by
+abbrev pub run_failure : RunFault → Failure
+run_failure run.InputTooLong = failure.InputTooLong
+run_failure run.NoMemory = failure.Memory
+run_failure run.NoThread = failure.Thread
+run_failure run.Read = failure.Input
+
+-- what the night of a stream may fail by
 abbrev pub IsOfNight : Failure → Type 0
+IsOfNight failure.Input = Unit {0}
 IsOfNight failure.InputTooLong = Unit {0}
 IsOfNight (failure.Output name) = Unit {0}
 IsOfNight failure.Memory = Unit {0}
+IsOfNight failure.Thread = Unit {0}
 IsOfNight _ = ⊥
 
--- what reading the input may fail by
+-- what opening the input may fail by
 abbrev pub IsOfInput : Failure → Type 0
 IsOfInput failure.Input = Unit {0}
 IsOfInput failure.InputTooLong = Unit {0}
 IsOfInput failure.Memory = Unit {0}
 IsOfInput _ = ⊥
-
--- what a reader may fail by
-abbrev pub IsOfReading : Failure → Type 0
-IsOfReading failure.Input = Unit {0}
-IsOfReading failure.Memory = Unit {0}
-IsOfReading _ = ⊥
 
 -- a fault of the system is want of memory, or stands for another failure
 pub record IsMemoryOr (kind : ErrorKind) (other failed : Failure) : Type 0 where

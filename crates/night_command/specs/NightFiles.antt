@@ -4,7 +4,7 @@ use Rattle.night_writing.specs.declared.night.Night.{Night}
 use Rattle.partner_setup.specs.CountersText.{counters_text}
 use Rattle.partner_setup.specs.Setup.{SetupValue}
 use Rattle.partner_setup.specs.declared.partner.Partner.{Partner}
-use Rattle.night_command.specs.Folder.{File}
+use Rattle.night_command.specs.Outbox.{File}
 
 -- a partner's files
 abbrev pub files_of : Partner → (ack box : List ℕ) → List File

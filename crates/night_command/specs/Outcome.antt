@@ -1,5 +1,5 @@
 -- The program's results (own): what is printed, and the status.
-use Rattle.std.specs.Prelude.{◌≡◌, ◌≤◌, ◌⊎◌, ℕ, if◌then◌else◌, List, ◌++◌, Option, codes, length, string_bytes}
+use Rattle.std.specs.Prelude.{◌≡◌, ◌≤◌, ◌⊎◌, ℕ, if◌then◌else◌, List, ◌++◌, Option, IfSome, codes, length, string_bytes}
 use Rattle.std.specs.Io.KnownBytes.{Appends}
 use Rattle.hub_kinds.specs.declared.limits.TheConstants.{LONGEST_TEXT}
 use Rattle.night_writing.specs.Night.{IsNight}
@@ -10,11 +10,13 @@ use Rattle.night_report.specs.Clean.{is_clean, last_of, lines_of}
 use Rattle.partner_setup.specs.Setup.{SetupValue}
 use Rattle.clap.specs.Words.{Text}
 use Rattle.night_command.specs.CommandLine.{AreOptions, AsksForText, guide_paths, value_of, values_of}
-use Rattle.night_command.specs.Folder.{AddsFiles, AddsSome, File, KeepsFiles}
+use Rattle.night_command.specs.Outbox.{AddsFiles, AddsSome, File, KeepsFiles}
+use Rattle.night_command.specs.Failure.{put_failure}
 use Rattle.night_command.specs.NightFiles.{night_files}
 use Rattle.night_command.specs.SetupFiles.{IsSetupAt}
 use Rattle.night_command.specs.declared.command.Options.{Options}
 use Rattle.night_command.specs.declared.failure.Failure.{Failure}
+use Rattle.night_command.specs.declared.put_fault.PutFault.{PutFault}
 use Rattle.night_command.specs.declared.outcome.Outcome.{Outcome}
 use Rattle.night_command.specs.declared.outcome.Outcome.TheVariants.{Shown, Ran}
 
@@ -56,13 +58,21 @@ abbrev pub IsReadByFiles : (text : List ℕ) → SetupValue → Night → Type 0
 IsReadByFiles text setup night =
     (paths : List (List ℕ)) → IsSetupAt paths setup → AreSetsRead text setup night.acks × AreTa1sRead text setup night.acks
 
--- a night is given: it is that of a text, a setup and a moment, which each partner reads so, its files are put behind what the folder had,
--- the last line of its report is printed, and the status is its own
-pub record IsGiven (text : List ℕ) (setup : SetupValue) (at : List ℕ) (status : ℕ) (had has : Option (List File))
-    (was is : Option (List ℕ)) : Type 0 where
-  pub night : Night
+-- the night of the bytes that a source gave, no more than the limit, which are all that it told, where it told them; each partner reads
+-- it so
+pub record IsNightOfSource (told : Option (List ℕ)) (setup : SetupValue) (at : List ℕ) (night : Night) : Type 0 where
+  pub text : List ℕ
+  pub told_all : IfSome told (λ xs. xs ≡ text)
+  pub within : length text ≤ LONGEST_TEXT
   pub is_night : IsNight text setup at night
   pub read : IsReadByFiles text setup night
+
+-- a night is given: it is that of a source, a setup and a moment, its files are put behind what the outbox had, the last line of its report
+-- is printed, and the status is its own
+pub record IsGiven (told : Option (List ℕ)) (setup : SetupValue) (at : List ℕ) (status : ℕ) (had has : Option (List File))
+    (was is : Option (List ℕ)) : Type 0 where
+  pub night : Night
+  pub by : IsNightOfSource told setup at night
   pub files : AddsFiles had has (night_files setup night)
   pub own_status : status ≡ status_of (Ran night)
   pub printed : Appends was is (text_of (Ran night))
@@ -72,24 +82,27 @@ abbrev pub IsOutcome : List Text → Outcome → Type 0
 IsOutcome words (Shown text) = AsksForText words
 IsOutcome words (Ran night) = (options : Options) × AreOptions (value_of words) (values_of words) options × IsNightBy options night
 
--- the first of the files of a night were put into a folder, and then something failed
-pub record PutsSome (text : List ℕ) (setup : SetupValue) (at : List ℕ) (had has : Option (List File)) (failed : Failure) : Type 0 where
+-- the first of the files of a night were put into an outbox, and then something failed
+pub record PutsSome (told : Option (List ℕ)) (setup : SetupValue) (at : List ℕ) (had has : Option (List File)) (failed : Failure)
+    : Type 0 where
   pub night : Night
-  pub is_night : IsNight text setup at night
-  pub some : AddsSome had has (night_files setup night) failed
+  pub by : IsNightOfSource told setup at night
+  pub fault : PutFault
+  pub some : AddsSome had has (night_files setup night) fault
+  pub told_as : failed ≡ put_failure fault
 
--- a night that isn't given leaves the folder as it was, or with the first of its files
-abbrev pub LeavesFolder : (text : List ℕ) → SetupValue → (at : List ℕ) → (had has : Option (List File)) → Failure → Type 0
-LeavesFolder text setup at had has failed = KeepsFiles had has ⊎ PutsSome text setup at had has failed
+-- a night that isn't given leaves the outbox as it was, or with the first of its files
+abbrev pub LeavesOutbox : (told : Option (List ℕ)) → SetupValue → (at : List ℕ) → (had has : Option (List File)) → Failure → Type 0
+LeavesOutbox told setup at had has failed = KeepsFiles had has ⊎ PutsSome told setup at had has failed
 
--- a night that isn't given, or isn't printed, leaves the folder as it was, or with the first of its files
-pub record PutsFront (text : List ℕ) (setup : SetupValue) (at : List ℕ) (had has : Option (List File)) : Type 0 where
+-- a night that isn't given, or isn't printed, leaves the outbox as it was, or with the first of its files
+pub record PutsFront (told : Option (List ℕ)) (setup : SetupValue) (at : List ℕ) (had has : Option (List File)) : Type 0 where
   pub night : Night
-  pub is_night : IsNight text setup at night
+  pub by : IsNightOfSource told setup at night
   pub done : List File
   pub left : List File
   pub whole : night_files setup night ≡ done ++ left
   pub added : AddsFiles had has done
 
-abbrev pub LeavesFront : (text : List ℕ) → SetupValue → (at : List ℕ) → (had has : Option (List File)) → Type 0
-LeavesFront text setup at had has = KeepsFiles had has ⊎ PutsFront text setup at had has
+abbrev pub LeavesFront : (told : Option (List ℕ)) → SetupValue → (at : List ℕ) → (had has : Option (List File)) → Type 0
+LeavesFront told setup at had has = KeepsFiles had has ⊎ PutsFront told setup at had has

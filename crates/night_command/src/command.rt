@@ -1,12 +1,15 @@
-ghost use Rattle.std.specs.Prelude.{◌≡◌, ◌≢◌, false, map, IfOk, IfErr, IsErrOf};
+ghost use Rattle.std.specs.Prelude.{◌≡◌, ◌≢◌, ℕ, List, Some, false, codes, map, option_map, IfOk, IfErr, IfNone, IfSome, IsErrOf};
+ghost use Rattle.moment.specs.Moment.{IsMoment};
 ghost use Rattle.clap.specs.Words.{app_of, first_value, found_of, kind_of, rule_of, with_rule};
-ghost use Rattle.night_command.specs.CommandLine.{AreGiven, IsAsked, IsCommandLine, IsGiven, IsShown, hub_app, option_named};
-ghost use Rattle.night_command.specs.CommandLine.{option_repeated, setup_app, values_found};
+ghost use Rattle.night_command.specs.CommandLine.{AreGiven, IsAsked, IsCommandLine, IsGiven, IsShared, IsShown, hub_app};
+ghost use Rattle.night_command.specs.CommandLine.{night_app, number_given};
+ghost use Rattle.night_command.specs.CommandLine.{option_free, option_named, option_repeated, setup_app, up_to_most, values_found};
 ghost use Rattle.night_command.specs.Failure.{IsOfWords};
 
 use crate::failure::Failure;
 use clap::error::ErrorKind;
 use clap::{Arg, ArgAction, ArgMatches, Command, Error};
+use hub_kinds::{LONGEST_TEXT, read_number};
 use moment::At;
 use std::alloc::{AllocError, Global};
 use std::convert::AsStr;
@@ -22,9 +25,27 @@ Status:
   3  a guide, the setup or the counters
   4  the input
   5  an output
-  6  no memory";
+  6  no memory, or no thread";
 
-/// The files and the moment of a night. Each file is named by its path.
+/// How many workers share a night where the words don't say it.
+const WORKERS: u64 = 4;
+/// How many may.
+const MOST_WORKERS: u64 = 64;
+/// How many bytes a piece has where the words don't say it.
+const PIECE: u64 = 1_048_576;
+/// How many digits a number of the words has at most.
+const MOST_DIGITS: usize = 10;
+
+/// How a night is shared.
+#[derive(Clone, Copy, Debug)]
+pub struct Sharing {
+    /// Among how many workers, 1 to 64.
+    pub workers: u64,
+    /// How many bytes of the input a worker takes at a time, 1 or more.
+    pub piece: u64,
+}
+
+/// The files and the moment of a night, and how it is shared. Each file is named by its path.
 #[derive(Debug, Drop)]
 pub struct Options<'a> {
     /// The setup.
@@ -39,6 +60,8 @@ pub struct Options<'a> {
     pub input: &'a str,
     /// The folder for what goes out.
     pub output: &'a str,
+    /// How it is shared.
+    pub sharing: Sharing,
 }
 
 /// What the words ask for.
@@ -65,6 +88,27 @@ pub fn read_words<'a, S: AsStr>(alloc: Global, words: &'a [S]) -> Result<Asked<'
 
 fn command<'a>(alloc: Global) -> Result<Command<'a>, AllocError>
     ensures { IfOk result (λ command. app_of command ≡ hub_app) }
+{
+    let command = night_command(alloc)?;
+    let workers = free(
+        alloc,
+        "workers",
+        "N",
+        "How many workers share the night, 1 to 64 [default: 4]",
+    );
+    let command = with_option(command, workers)?;
+    let piece = free(
+        alloc,
+        "piece",
+        "BYTES",
+        "How many bytes of the input a worker takes at a time [default: 1048576]",
+    );
+    with_option(command, piece)
+}
+
+/// The command with the options that name a night.
+fn night_command<'a>(alloc: Global) -> Result<Command<'a>, AllocError>
+    ensures { IfOk result (λ command. app_of command ≡ night_app) }
 {
     let command = setup_command(alloc)?;
     let at = option(
@@ -122,6 +166,14 @@ fn option<'a>(alloc: Global, name: &'a str, value: &'a str, help: &'a str) -> Ar
         .action(ArgAction::Set)
 }
 
+/// An option of this name that takes one value, and may be left out.
+fn free<'a>(alloc: Global, name: &'a str, value: &'a str, help: &'a str) -> Arg<'a>
+    ensures rule { rule_of result ≡ option_free name.now }
+    ensures local { result.global ≡ false }
+{
+    option(alloc, name, value, help).required(false)
+}
+
 /// An option of this name that takes one value each time, and is wanted once or more.
 fn repeated<'a>(alloc: Global, name: &'a str, value: &'a str, help: &'a str) -> Arg<'a>
     ensures rule { rule_of result ≡ option_repeated name.now }
@@ -145,16 +197,16 @@ fn run_asked<'a>(alloc: Global, matches: &ArgMatches<'a>) -> Result<Asked<'a>, F
     let Some(counters) = matches.get_str("counters") else {
         return Err(Failure::Usage);
     };
-    let Some(at) = matches.get_str("at") else {
-        return Err(Failure::Usage);
-    };
-    let Some(at) = At::read(at.as_bytes()) else {
+    let Some(at) = moment_given(matches) else {
         return Err(Failure::Usage);
     };
     let Some(input) = matches.get_str("in") else {
         return Err(Failure::Usage);
     };
     let Some(output) = matches.get_str("out") else {
+        return Err(Failure::Usage);
+    };
+    let Some(sharing) = sharing_given(matches) else {
         return Err(Failure::Usage);
     };
     let guides = copied(alloc, guides)?;
@@ -165,7 +217,51 @@ fn run_asked<'a>(alloc: Global, matches: &ArgMatches<'a>) -> Result<Asked<'a>, F
         at,
         input,
         output,
+        sharing,
     }))
+}
+
+/// The moment that the words name, if there is such a one.
+fn moment_given(matches: &ArgMatches<'_>) -> Option<At>
+    ensures some { IfSome result (λ at. first_value (found_of matches.now) (codes "at") ≡ Some at) }
+    ensures none { IfNone result ((text : List ℕ) → first_value (found_of matches.now) (codes "at") ≡ Some text → IsMoment text → ⊥) }
+{
+    let text = matches.get_str("at")?;
+    At::read(text.as_bytes())
+}
+
+/// How the night is shared, if it can be so.
+fn sharing_given(matches: &ArgMatches<'_>) -> Option<Sharing>
+    ensures { IsShared (first_value (found_of matches.now)) result }
+{
+    let workers = number_given(matches.get_str("workers"), WORKERS, MOST_WORKERS)?;
+    let piece = number_given(matches.get_str("piece"), PIECE, LONGEST_TEXT as u64)?;
+    Some(Sharing { workers, piece })
+}
+
+/// The number that an option gives which may be left out, from 1 up to the most.
+fn number_given(text: Option<&str>, otherwise: u64, most: u64) -> Option<u64>
+    ensures { result ≡ number_given otherwise most (option_map (λ t. t.now) text.entry) }
+{
+    match text {
+        None => Some(otherwise),
+        Some(text) => up_to_most(most, read_number(text.as_bytes(), MOST_DIGITS)),
+    }
+}
+
+fn up_to_most(most: u64, number: Option<u64>) -> Option<u64>
+    ensures { result ≡ up_to_most most number }
+{
+    match number {
+        None => None,
+        Some(number) => {
+            if 1 <= number && number <= most {
+                Some(number)
+            } else {
+                None
+            }
+        }
+    }
 }
 
 fn copied<'a>(alloc: Global, texts: &[&'a str]) -> Result<Vec<&'a str>, AllocError>

@@ -4,8 +4,10 @@ ghost use Rattle.std.specs.IoError.{error_kind};
 ghost use Rattle.night_command.specs.Failure.{IsMemoryOr, file_number, guide_file_number, line_of, name_of, number_of, number_text};
 ghost use Rattle.night_command.specs.Failure.{own_number, status_of, subject_of};
 
+use crate::put_fault::PutFault;
 use guide_toml::GuideFileFault;
 use hub_kinds::{NoMemory, Text};
+use hub_run::RunFault;
 use itoa::Buffer;
 use partner_setup::{FileFault, SetupFault};
 use std::alloc::{AllocError, AllocFailed};
@@ -35,6 +37,8 @@ pub enum Failure<'a> {
     Stdout,
     /// Memory was refused.
     Memory,
+    /// A thread was refused.
+    Thread,
 }
 
 impl<'a> Failure<'a> {
@@ -84,6 +88,7 @@ impl<'a> Failure<'a> {
             Failure::Output(_) => "output ",
             Failure::Stdout => "output stdout",
             Failure::Memory => "memory",
+            Failure::Thread => "thread",
         }
     }
 
@@ -120,7 +125,7 @@ impl<'a> Failure<'a> {
             | Failure::Setup(_) => 3,
             Failure::Input | Failure::InputTooLong => 4,
             Failure::Output(_) | Failure::Stdout => 5,
-            Failure::Memory => 6,
+            Failure::Memory | Failure::Thread => 6,
         }
     }
 }
@@ -205,5 +210,35 @@ impl<'a, T: Drop> From<AllocFailed<T>> for Failure<'a> {
 
     fn from(_error: AllocFailed<T>) -> Failure<'a> {
         Failure::Memory
+    }
+}
+
+impl<'a> From<PutFault> for Failure<'a> {
+    ghost use Rattle.std.specs.Prelude.{◌≡◌};
+    ghost use Rattle.night_command.specs.Failure.{put_failure};
+
+    ghost from_gives = { λ error failure. failure ≡ put_failure error };
+
+    fn from(error: PutFault) -> Failure<'a> {
+        match error {
+            PutFault::Output(name) => Failure::Output(name),
+            PutFault::NoMemory => Failure::Memory,
+        }
+    }
+}
+
+impl<'a> From<RunFault> for Failure<'a> {
+    ghost use Rattle.std.specs.Prelude.{◌≡◌};
+    ghost use Rattle.night_command.specs.Failure.{run_failure};
+
+    ghost from_gives = { λ error failure. failure ≡ run_failure error };
+
+    fn from(error: RunFault) -> Failure<'a> {
+        match error {
+            RunFault::InputTooLong => Failure::InputTooLong,
+            RunFault::NoMemory => Failure::Memory,
+            RunFault::NoThread => Failure::Thread,
+            RunFault::Read => Failure::Input,
+        }
     }
 }

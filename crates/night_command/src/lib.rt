@@ -1,32 +1,35 @@
 //! The night of a hub, as its words name it: the words are read, then the files that they name; the night of what came in is
-//! run, its files are put into a folder, and the last line of its report is printed. A run that fails prints one line. The
-//! program `nighthub` is `night_main`, called on its arguments, standard output and standard error.
+//! run, read as a stream and shared among workers, its files are put into a folder, and the last line of its report is printed. A run that
+//! fails prints one line. The program `nighthub` is `night_main`, called on its arguments, standard output and standard error.
 //!
-//! Proved:
-//! - `night_main` is safe and ends on every input, and its status is 0 to 6;
+//! Proved, where a call returns (it waits for its workers):
+//! - `night_main` is safe on every input, and its status is 0 to 6;
 //! - a run that doesn't fail has printed what its words ask for, and nothing else, where the writer tells what it has: help or
 //!   the version where they ask for that; otherwise the last line of the report of the night of some text, no longer than the
 //!   limit, at the moment that the words name, by a setup that the bytes of some files make, one guide file for each guide that
 //!   the words name; each partner then reads in its acknowledgments what became of its sets, and the status is 0 exactly where
 //!   that report is clean (`night_main`, `printed`);
+//! - how many workers share a night, and how long the pieces are that they take, is what the words say, from 1 to 64 and from 1 to
+//!   4,294,967,295, or 4 and 1,048,576 (`AreOptions`); whatever these are, the night is the same;
 //! - the setup of files is what their bytes make, all of it, or their first refusal: of the guides in their order, of the
 //!   setup file, of the counters file, of what they make together, a file that can't be read being refused at its place;
 //!   files that make a setup have no refusal, and only want of memory comes before the first one (`setup_of`);
-//! - a night that is given is that of its text, its setup and its moment; its files were put into the folder, behind what that
-//!   had, where the folder tells what it has; the last line of its report was printed, where the writer tells what it has; and the
-//!   status is 0 exactly where it is clean (`give_night`, `given`); each partner then reads in its acknowledgments what became of its
-//!   sets, by whatever guide files (`night_in`, `read`);
-//! - a run that fails has put none of the files of a night, or a front part of them; a text that is too long leaves the folder
-//!   as it was (`give_night`, `left`, `none`, `too_long`; `night_in`, `none`, `some`);
-//! - the files of a night are put into the folder when all of it is known, those of each partner in the order of the setup,
-//!   then the report and the counters; where one can't be put it is named, and those before it are there (`night_in`,
-//!   `put_night`, `put_all`);
+//! - a night that is given is that of the bytes that its source told, its setup and its moment; its files were put into the outbox, behind
+//!   what that had, where the outbox tells what it has; the last line of its report was printed, where the writer tells what it has; and
+//!   the status is 0 exactly where it is clean (`give_night`, `given`); each partner then reads in its acknowledgments what became of
+//!   its sets, by whatever guide files (`night_in`, `night`);
+//! - an input is told too long only where the source told more than the limit, and unreadable only where the source failed, or was
+//!   interrupted too often in a row (`night_in`, `long`, `unread`);
+//! - a run that fails has put none of the files of a night, or a front part of them; one whose input is too long or can't be read leaves
+//!   the outbox as it was (`give_night`, `left`, `none`; `night_in`, `too_long`, `none`, `some`);
+//! - the files of a night are put into the outbox when all of it is known, those of each partner in the order of the setup,
+//!   then the report and the counters; where one can't be put it is named, exactly where a put failed in this call, and those before it
+//!   are there (`put_night`);
 //! - a failed run leaves standard output as it was, unless standard output itself failed, and a run
 //!   that doesn't fail leaves standard error as it was; the line of a failure is what the definitions say (`Failure`);
 //! - a run says usage only where its words are no command line, and blames setup or input only where they name the files
 //!   and the moment of a night; which words do is said by clap's definitions;
-//! - what is read of a reader is all of its bytes, and too long is said of it only over the limit (`read_all`,
-//!   `read_whole`).
+//! - what is read whole of a reader is all of its bytes (`read_whole`).
 //!
 //! Only tested: that the bytes of a setup's files and of the input are those of the files at the paths that the words
 //! name, since no contract says what a file of the system holds; and that a folder of the system holds what is put there, and
@@ -47,17 +50,23 @@
 
 mod command;
 mod failure;
-mod folder;
 mod input;
 mod night;
 mod night_files;
+mod outbox;
 mod outcome;
+mod put_fault;
+mod reader;
 mod setup;
 mod setup_files;
 
+pub use command::Sharing;
 pub use failure::Failure;
-pub use folder::Folder;
-pub use input::{read_all, read_whole};
+pub use input::{open_input, read_whole};
 pub use night::{give_night, night_in, night_main};
+pub use night_files::put_night;
+pub use outbox::{Directory, OutFault, Outbox};
+pub use put_fault::PutFault;
+pub use reader::Reader;
 pub use setup::setup_of;
 pub use setup_files::{GuideFile, SetupFiles};

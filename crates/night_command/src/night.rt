@@ -1,39 +1,45 @@
-ghost use Rattle.std.specs.Prelude.{◌≡◌, ◌≢◌, ◌<◌, ◌≤◌, ◌↔◌, ◌⊎◌, IfOk, IfErr, IsErrOf, length, map};
+ghost use Rattle.std.specs.Prelude.{◌≡◌, ◌≢◌, ◌<◌, ◌≤◌, ◌⊎◌, IfOk, IfErr, IfSome, IsErrOf, OnOk, length, map};
 ghost use Rattle.std.specs.Io.KnownBytes.{Appends};
-ghost use Rattle.night_writing.specs.Night.{IsNight};
+ghost use Rattle.stream_read.specs.Source.{HasFailed};
 ghost use Rattle.partner_setup.specs.Sound.{IsSoundSetup};
-ghost use Rattle.night_command.specs.CommandLine.{AsksForText, IsCommandLine, NamesNight, guide_paths};
+ghost use Rattle.night_command.specs.CommandLine.{AsksForText, CanShare, IsCommandLine, NamesNight, guide_paths};
 ghost use Rattle.night_command.specs.Failure.{IsOfNight};
-ghost use Rattle.night_command.specs.Folder.{AddsFiles, KeepsFiles};
 ghost use Rattle.night_command.specs.NightFiles.{night_files};
-ghost use Rattle.night_command.specs.Outcome.{IsGiven, IsOutcome, IsPrinted, IsReadByFiles};
-ghost use Rattle.night_command.specs.Outcome.{LeavesFolder, LeavesFront, status_of, text_of};
+ghost use Rattle.night_command.specs.Outbox.{AddsFiles, KeepsFiles};
+ghost use Rattle.night_command.specs.Outcome.{IsGiven, IsNightOfSource, IsOutcome, IsPrinted};
+ghost use Rattle.night_command.specs.Outcome.{LeavesFront, LeavesOutbox, status_of, text_of};
 ghost use Rattle.night_command.specs.SetupFiles.{IsSetupAt};
 ghost use Rattle.night_command.specs.declared.outcome.Outcome.{Outcome};
 
-use crate::command::{Asked, Options, read_words};
+use crate::command::{Asked, Options, Sharing, read_words};
 use crate::failure::Failure;
-use crate::folder::{Directory, Folder};
-use crate::input::read_input;
+use crate::input::open_input;
 use crate::night_files::put_night;
+use crate::outbox::{Directory, Outbox};
 use crate::outcome::{Outcome, finish};
 use crate::setup::setup_at;
 use guide_toml::files_write_references;
 use hub_kinds::LONGEST_TEXT;
-use hub_run::{Night, RunFault, plain_references_are_quoted, run_plain};
+use hub_run::{Night, OpenGate, Source, plain_references_are_quoted, run_stream};
 use moment::At;
 use partner_setup::Setup;
 use std::alloc::Global;
 use std::convert::AsStr;
 use std::io::Write;
 use std::rt::Files;
+use std::sync::Wait;
+use std::thread::Threads;
+use std::time::Clock;
+
+/// How many bytes of the input are read at a time.
+const WINDOW: usize = 16_777_216;
 
 /// Runs the program on these words, its arguments without its name, and gives its exit status:
 /// 0 or 1 where it has run a night or printed a text that was asked for, otherwise the status
 /// of the failure whose line it has printed on `err`.
 pub fn night_main<R, S, O, E>(rt: &R, words: &[S], out: &mut O, err: &mut E) -> u8
 where
-    R: Files + AllocGlobal,
+    R: Files + AllocGlobal + Threads + Wait + Clock + Sync,
     S: AsStr,
     O: Write,
     E: Write,
@@ -57,9 +63,10 @@ where
 /// Runs the night that these options name.
 fn run<R, O, E>(rt: &R, options: &Options<'_>, out: &mut O, err: &mut E) -> u8
 where
-    R: Files + AllocGlobal,
+    R: Files + AllocGlobal + Threads + Wait + Clock + Sync,
     O: Write,
     E: Write,
+    requires sharing { CanShare options.now.sharing }
     ensures status { result ≤ 6 }
     ensures words { result ≢ 2 }
     ensures silent { 2 ≤ result → result ≢ 5 → out.new ≡ out.old }
@@ -75,10 +82,11 @@ where
 /// The same by the setup of these options.
 fn run_by<R, O, E>(rt: &R, options: &Options<'_>, setup: &Setup, out: &mut O, err: &mut E) -> u8
 where
-    R: Files + AllocGlobal,
+    R: Files + AllocGlobal + Threads + Wait + Clock + Sync,
     O: Write,
     E: Write,
     requires made { IsSetupAt (guide_paths options.now) setup.now }
+    requires sharing { CanShare options.now.sharing }
     ensures status { result ≤ 6 }
     ensures words { result ≢ 2 }
     ensures taken { result ≢ 3 }
@@ -86,18 +94,18 @@ where
     ensures quiet { result ≤ 1 → err.new ≡ err.old }
     ensures printed { result ≤ 1 → IsPrinted options.now result (O.contents out.old) (O.contents out.new) }
 {
-    match read_input(rt, options.input) {
-        Ok(text) => {
-            let mut folder = Directory {
-                rt,
-                path: options.output,
-            };
+    match open_input(rt, options.input) {
+        Ok(source) => {
+            let mut source = source;
+            let mut folder = Directory::at(rt, options.output);
             give_night(
+                rt,
                 rt.alloc(),
+                &mut source,
                 &mut folder,
-                text.as_slice(),
                 setup,
                 &options.at,
+                options.sharing,
                 out,
                 err,
             )
@@ -106,61 +114,84 @@ where
     }
 }
 
-/// Gives the night of a text: its files into the folder, then the last line of its report on standard output, and its status.
+/// Gives the night of a source: its files into the outbox, then the last line of its report on standard output, and its status.
 /// Where that fails, the status of the failure, whose line is on `err`.
-pub fn give_night<F: Folder, O: Write, E: Write>(
+pub fn give_night<R, S, B, O, E>(
+    rt: &R,
     alloc: Global,
-    folder: &mut F,
-    text: &[u8],
+    source: &mut S,
+    outbox: &mut B,
     setup: &Setup,
     at: &At,
+    sharing: Sharing,
     out: &mut O,
     err: &mut E,
 ) -> u8
+where
+    R: Threads + Wait + Clock + Sync,
+    S: Source,
+    B: Outbox,
+    O: Write,
+    E: Write,
+    requires sharing { CanShare sharing }
+    requires count { B.faults outbox.old < 18446744073709551615 }
     ensures status { result ≤ 6 }
     ensures words { result ≢ 2 }
     ensures taken { result ≢ 3 }
     ensures silent { 2 ≤ result → result ≢ 5 → out.new ≡ out.old }
     ensures quiet { result ≤ 1 → err.new ≡ err.old }
-    ensures given { result ≤ 1 → IsGiven text.now setup.now at.now result
-        (F.contents folder.old) (F.contents folder.new) (O.contents out.old) (O.contents out.new) }
-    ensures too_long { result ≡ 4 ↔ (LONGEST_TEXT < length text.now) }
-    ensures none { result ≡ 4 → KeepsFiles (F.contents folder.old) (F.contents folder.new) }
-    ensures left { 2 ≤ result → LeavesFront text.now setup.now at.now (F.contents folder.old) (F.contents folder.new) }
+    ensures given { result ≤ 1 → IsGiven (S.remaining source.old) setup.now at.now result
+        (B.contents outbox.old) (B.contents outbox.new) (O.contents out.old) (O.contents out.new) }
+    ensures none { result ≡ 4 → KeepsFiles (B.contents outbox.old) (B.contents outbox.new) }
+    ensures left { 2 ≤ result → LeavesFront (S.remaining source.old) setup.now at.now (B.contents outbox.old) (B.contents outbox.new) }
 {
-    match night_in(alloc, folder, text, setup, at) {
+    match night_in(rt, alloc, source, outbox, setup, at, sharing) {
         Ok(night) => finish(&Outcome::Ran(night), out, err),
         Err(failure) => failure.report(err),
     }
 }
 
-/// The night of a text, whose files are put into the folder when all of it is known.
-pub fn night_in<F: Folder>(
+/// The night of a source, whose files are put into the outbox when all of it is known.
+pub fn night_in<R, S, B>(
+    rt: &R,
     alloc: Global,
-    folder: &mut F,
-    text: &[u8],
+    source: &mut S,
+    outbox: &mut B,
     setup: &Setup,
     at: &At,
+    sharing: Sharing,
 ) -> Result<Night, Failure<'static>>
-    ensures too_long { IsErrOf result Failure.InputTooLong ↔ (LONGEST_TEXT < length text.now) }
-    ensures night { IfOk result (IsNight text.now setup.now at.now) }
-    ensures read { IfOk result (IsReadByFiles text.now setup.now) }
-    ensures files { IfOk result (λ night. AddsFiles (F.contents folder.old) (F.contents folder.new) (night_files setup.now night)) }
-    ensures none { IsErrOf result Failure.InputTooLong → KeepsFiles (F.contents folder.old) (F.contents folder.new) }
-    ensures some { IfErr result (LeavesFolder text.now setup.now at.now (F.contents folder.old) (F.contents folder.new)) }
+where
+    R: Threads + Wait + Clock + Sync,
+    S: Source,
+    B: Outbox,
+    requires sharing { CanShare sharing }
+    requires count { B.faults outbox.old < 18446744073709551615 }
+    ensures night { IfOk result (IsNightOfSource (S.remaining source.old) setup.now at.now) }
+    ensures files { IfOk result (λ night. AddsFiles (B.contents outbox.old) (B.contents outbox.new) (night_files setup.now night)) }
+    ensures long { IsErrOf result Failure.InputTooLong → IfSome (S.remaining source.old) (λ xs. LONGEST_TEXT < length xs) }
+    ensures unread { IsErrOf result Failure.Input → HasFailed (S.faults source.old) (S.faults source.new) (S.interruptions source.new) }
+    ensures too_long { IsErrOf result Failure.InputTooLong → KeepsFiles (B.contents outbox.old) (B.contents outbox.new) }
+    ensures none { IsErrOf result Failure.Input → KeepsFiles (B.contents outbox.old) (B.contents outbox.new) }
+    ensures some { IfErr result (LeavesOutbox (S.remaining source.old) setup.now at.now (B.contents outbox.old) (B.contents outbox.new)) }
     ensures err { IfErr result IsOfNight }
 {
     is_sound(setup);
     files_write_references();
     plain_references_are_quoted();
-    match run_plain(alloc, text, setup, at) {
-        Ok(night) => {
-            put_night(alloc, folder, setup, &night)?;
-            Ok(night)
-        }
-        Err(RunFault::InputTooLong) => Err(Failure::InputTooLong),
-        Err(RunFault::NoMemory) => Err(Failure::Memory),
-    }
+    let night = run_stream(
+        rt,
+        alloc,
+        source,
+        WINDOW,
+        sharing.piece as usize,
+        setup,
+        at,
+        sharing.workers,
+        &OpenGate,
+    )?;
+    put_night(alloc, &night, setup, outbox)?;
+    Ok(night)
 }
 
 /// Every setup is sound. It does nothing: its contract says so.

@@ -1,30 +1,34 @@
-ghost use Rattle.std.specs.Prelude.{◌≡◌, ◌++◌, ◌∷◌, [], List, IfOk, IfErr, OnOk, map, length};
+ghost use Rattle.std.specs.Prelude.{◌≡◌, ◌<◌, ◌++◌, ◌∷◌, [], List, IfOk, IfErr, OnOk, map, length};
 ghost use Rattle.partner_setup.specs.declared.partner.Partner.{Partner};
-ghost use Rattle.night_command.specs.Folder.{AddsFiles, AddsSome, file_of};
+ghost use Rattle.night_command.specs.Outbox.{AddsFiles, AddsSome, IsPutFault, file_of};
 ghost use Rattle.night_command.specs.NightFiles.{IsForPartners, files_of, last_files, night_files, partner_files};
 
-use crate::failure::Failure;
-use crate::folder::{Folder, NamedText, put_all};
+use crate::outbox::{NamedText, Outbox, put_all};
+use crate::put_fault::PutFault;
 use hub_kinds::{Items, NoMemory, Text};
 use hub_run::Night;
 use partner_setup::{Partner, Setup};
 use std::alloc::Global;
 
-/// Puts the files of a night into a folder: each partner's acknowledgments and mailbox in the order of the setup, then
-/// the report and the next counters; none is left out where it is empty.
-pub fn put_night<F: Folder>(
+/// Puts the files of a night into an outbox: each partner's acknowledgments and mailbox in the order of the setup, then
+/// the report and the next counters; none is left out where it is empty. It stops at the first fault; the files before it are there.
+/// Errors: a file can't be put, exactly where that failed in this call; want of memory.
+pub fn put_night<B: Outbox>(
     alloc: Global,
-    folder: &mut F,
-    setup: &Setup,
     night: &Night,
-) -> Result<(), Failure<'static>>
-    requires { IsForPartners setup.now night.now }
-    ensures all { OnOk result (AddsFiles (F.contents folder.old) (F.contents folder.new) (night_files setup.now night.now)) }
-    ensures some { IfErr result (AddsSome (F.contents folder.old) (F.contents folder.new) (night_files setup.now night.now)) }
+    setup: &Setup,
+    outbox: &mut B,
+) -> Result<(), PutFault>
+    requires partners { IsForPartners setup.now night.now }
+    requires count { B.faults outbox.old < 18446744073709551615 }
+    ensures all { OnOk result (AddsFiles (B.contents outbox.old) (B.contents outbox.new) (night_files setup.now night.now)) }
+    ensures some { IfErr result (AddsSome (B.contents outbox.old) (B.contents outbox.new) (night_files setup.now night.now)) }
+    ensures none_failed { OnOk result (B.faults outbox.new ≡ B.faults outbox.old) }
+    ensures failed { IfErr result (IsPutFault (B.faults outbox.old) (B.faults outbox.new)) }
 {
     let counters = setup.counters_text(alloc, night.next.as_slice())?;
     let files = night_files(alloc, setup, night, counters.as_slice())?;
-    put_all(folder, files)
+    put_all(outbox, files)
 }
 
 fn night_files<'a>(

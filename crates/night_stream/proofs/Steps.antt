@@ -4,6 +4,7 @@ use Rattle.std.proofs.Common.{subst, ◌∙◌, arith}
 use Rattle.std.proofs.lemmas.List.{append-nil, append_assoc, drop-append-le, drop-drop, length-append, length-drop, length-map}
 use Rattle.std.proofs.lemmas.List.{length-take-le, take-append-drop, take_all}
 use Rattle.std.specs.Io.KnownBytes.{Consumes, IsAtEnd}
+use Rattle.hub_kinds.specs.declared.limits.TheConstants.{LONGEST_TEXT}
 use Rattle.env_index.specs.Words.{Extent, IndexValue, IsIndex, with_faults}
 use Rattle.env_index.specs.Index.{extents_of}
 use Rattle.env_index.proofs.Surround.{head_within}
@@ -22,14 +23,13 @@ use Rattle.batch_night.proofs.Closed.{closed}
 use Rattle.batch_night.proofs.Going.{night_starts, night_steps}
 use Rattle.batch_night.proofs.Shown.{batch_shown}
 use Rattle.batch_night.specs.UpTo.{IsBatchOf, IsNightUpTo, NightSoFar, behind_batch, none_yet}
-use Rattle.night_writing.specs.Night.{IsNight}
 use Rattle.night_writing.specs.Writing.{IsBatchWritten, IsClosedBy, WritingValue, nothing_written}
 use Rattle.night_writing.specs.declared.night.Night.{Night}
 use Rattle.stream_read.specs.Held.{HasRead, HeldValue}
 use Rattle.stream_read.proofs.Known.{consumes_on}
 use Rattle.night_stream.proofs.Bounds.{faulty_length, few_up_to}
 use Rattle.night_stream.specs.Carried.{CanGoOn, HasWorked}
-use Rattle.night_stream.specs.Reading.{IsReadUpTo}
+use Rattle.night_stream.specs.Reading.{IsNightOfStream, IsReadUpTo}
 use Rattle.night_stream.specs.declared.carried.Carried.{Carried}
 use Rattle.night_stream.specs.declared.stream.Reading.{Reading}
 
@@ -200,9 +200,10 @@ all_told (Some xs) (Some ys) text P consumed end holds =
 
 -- all of it
 pub read_all : (setup : SetupValue) (at : List ℕ) (first now : Option (List ℕ)) (held : HeldValue) (r : Reading) (last : Carried)
-    (night : Night) → IsReadUpTo setup at first now held r → IsAtEnd now → HasWorked held.bytes setup at r.base r.carried last
-    → IsClosedBy setup at last.writing night → IfSome first (λ text. IsNight text setup at night)
-read_all setup at first now held r last night is end worked by =
+    (night : Night) → held.total ≤ LONGEST_TEXT → IsReadUpTo setup at first now held r → IsAtEnd now
+    → HasWorked held.bytes setup at r.base r.carried last → IsClosedBy setup at last.writing night
+    → IsNightOfStream first setup at night
+read_all setup at first now held r last night most is end worked by =
     let n : ℕ = length held.bytes in
     let all : take n held.bytes ≡ held.bytes = take_all n held.bytes (omega arith) in
     let sum : r.base + n ≡ held.total = held_length setup at first now held r is in
@@ -222,8 +223,13 @@ read_all setup at first now held r last night is end worked by =
     subst (λ (k : ℕ). IsNightUpTo is.text setup at k (behind_batch r.base is.night worked.index written.known last.writing)) to
     (subst (λ (t : List ℕ). IsNightUpTo t setup at (r.base + n) (behind_batch r.base is.night worked.index written.known last.writing))
     (append-nil is.text) (behind written)) in
-    all_told first now is.text (λ text. IsNight text setup at night) is.consumed end
-    (closed is.text setup at (behind_batch r.base is.night worked.index written.known last.writing) night whole by)
+    let longest : held.total ≤ 4294967295 = most in
+    record {
+      text = is.text;
+      told_all = all_told first now is.text (λ xs. xs ≡ is.text) is.consumed end refl;
+      few = omega (arith, is.total, longest);
+      is = closed is.text setup at (behind_batch r.base is.night worked.index written.known last.writing) night whole by;
+    }
 
 -- what was told is what was read
 pub not_too_long : (setup : SetupValue) (at : List ℕ) (first now : Option (List ℕ)) (held : HeldValue) (r : Reading) (most : ℕ)

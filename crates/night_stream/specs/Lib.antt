@@ -1,2 +1,4 @@
 pub mod Carried
+pub mod Crew
 pub mod Reading
+pub mod Stopped

@@ -1,7 +1,10 @@
--- Private. How far a stream is worked on.
-use Rattle.std.specs.Prelude.{◌≡◌, ℕ, ◌≤◌, List, ◌++◌, length, drop, Option}
+-- Own: how far a stream is worked on, and its night.
+use Rattle.std.specs.Prelude.{◌≡◌, ℕ, ◌≤◌, List, ◌++◌, length, drop, Option, IfSome}
 use Rattle.std.specs.Io.KnownBytes.{Consumes}
+use Rattle.hub_kinds.specs.declared.limits.TheConstants.{LONGEST_TEXT}
 use Rattle.partner_setup.specs.Setup.{SetupValue}
+use Rattle.night_writing.specs.Night.{IsNight}
+use Rattle.night_writing.specs.declared.night.Night.{Night}
 use Rattle.checked_text.specs.SeenNumbers.{HaveSeen}
 use Rattle.checked_text.specs.Settled.{kept_keys}
 use Rattle.batch_cut.specs.Scouting.{Stands}
@@ -22,3 +25,10 @@ pub record IsReadUpTo (setup : SetupValue) (at : List ℕ) (first now : Option (
   pub up_to : (more : List ℕ) → IsNightUpTo (text ++ more) setup at r.base night
   pub stands : Stands held.bytes r.scout.at r.scout.inside
   pub start : r.scout.at ≡ 0
+
+-- the night of the bytes that were read, which are those that the reader told, where it told them; they are no more than the limit
+pub record IsNightOfStream (told : Option (List ℕ)) (setup : SetupValue) (at : List ℕ) (night : Night) : Type 0 where
+  pub text : List ℕ
+  pub told_all : IfSome told (λ xs. xs ≡ text)
+  pub few : length text ≤ LONGEST_TEXT
+  pub is : IsNight text setup at night

@@ -1,16 +1,28 @@
-ghost use Rattle.std.specs.Prelude.{◌≡◌, ◌+◌, ◌≤◌, ℕ, List, [], IfOk, length};
+ghost use Rattle.std.specs.Prelude.{◌≡◌, ◌+◌, ◌≤◌, ℕ, List, [], IfErr, IfOk, length};
 ghost use Rattle.hub_kinds.specs.declared.limits.TheConstants.{LONGEST_TEXT};
 ghost use Rattle.checked_text.specs.SeenNumbers.{HaveSeen};
 ghost use Rattle.night_writing.specs.Writing.{nothing_written};
 ghost use Rattle.night_stream.specs.Carried.{CanGoOn, HasWorked};
+ghost use Rattle.night_stream.specs.Crew.{IsReady};
+ghost use Rattle.night_stream.specs.Stopped.{IsOfPool};
 
+use crate::crew::Crew;
+use crate::stopped::Stopped;
 use checked_text::{SeenNumbers, SettledFaults, faults_behind};
+use cut_plan::Cuts;
 use env_index::index_plain;
+use fast_guides::FastGuides;
 use hub_kinds::NoMemory;
 use moment::At;
+use night_work::{FoundBehind, find_out_behind};
 use night_writing::Writing;
 use partner_setup::Setup;
 use std::alloc::Global;
+use std::sync::Wait;
+use std::thread::Threads;
+use std::time::Clock;
+use worker_pool::Gate;
+use x12_bytes::HEADER_LEN;
 
 /// What is carried of a night from batch to batch: the numbers of its interchanges, and what is written.
 #[derive(Drop)]
@@ -33,8 +45,8 @@ pub(crate) fn nothing_carried(alloc: Global, setup: &Setup) -> Result<Carried, N
     })
 }
 
-/// Works on a batch, read as a text of its own that begins at this offset of the stream.
-pub(crate) fn add_batch<'a>(
+/// Works on fewer bytes than a header has, or none, as a window often leaves: no worker is asked for.
+fn add_little<'a>(
     alloc: Global,
     setup: &'a Setup,
     at: &At,
@@ -54,4 +66,69 @@ pub(crate) fn add_batch<'a>(
     index.settle(faults.as_slice());
     let writing = writing.add_batch(alloc, setup, at, base, &index)?;
     Ok(Carried { numbers, writing })
+}
+
+/// Works on a batch with as many bytes as an interchange needs: the guides are compiled, all of it is found out by the workers, and
+/// written behind them.
+fn add_shared<'a, G: Gate + Sync, R: Threads + Wait + Clock + Sync>(
+    crew: &Crew<'_, R, G>,
+    alloc: Global,
+    setup: &'a Setup,
+    at: &At,
+    base: u64,
+    carried: Carried,
+    batch: &'a [u8],
+) -> Result<Carried, Stopped>
+    requires crew { IsReady crew.now }
+    requires few { base + length batch.now ≤ LONGEST_TEXT }
+    requires numbers { (numbers : List (List ℕ)) × HaveSeen carried.numbers numbers }
+    requires room { CanGoOn setup.now at.now base carried.writing }
+    ensures worked { IfOk result (HasWorked batch.now setup.now at.now base carried) }
+    ensures pool { IfErr result IsOfPool }
+{
+    let Carried { numbers, writing } = carried;
+    let guides = FastGuides::of(alloc, setup)?;
+    let cuts = Cuts::every(alloc, batch.len(), crew.piece)?;
+    let found = find_out_behind(
+        crew.rt,
+        alloc,
+        setup,
+        &guides,
+        batch,
+        numbers,
+        &cuts,
+        crew.workers,
+        crew.gate,
+    )?;
+    let FoundBehind {
+        index,
+        findings,
+        numbers,
+    } = found;
+    let writing = writing.add_found(alloc, setup, at, base, &index, findings)?;
+    Ok(Carried { numbers, writing })
+}
+
+/// Works on a batch, read as a text of its own that begins at this offset of the stream.
+pub(crate) fn add_batch<'a, G: Gate + Sync, R: Threads + Wait + Clock + Sync>(
+    crew: &Crew<'_, R, G>,
+    alloc: Global,
+    setup: &'a Setup,
+    at: &At,
+    base: u64,
+    carried: Carried,
+    batch: &'a [u8],
+) -> Result<Carried, Stopped>
+    requires crew { IsReady crew.now }
+    requires few { base + length batch.now ≤ LONGEST_TEXT }
+    requires numbers { (numbers : List (List ℕ)) × HaveSeen carried.numbers numbers }
+    requires room { CanGoOn setup.now at.now base carried.writing }
+    ensures worked { IfOk result (HasWorked batch.now setup.now at.now base carried) }
+    ensures pool { IfErr result IsOfPool }
+{
+    if batch.len() < HEADER_LEN {
+        let carried = add_little(alloc, setup, at, base, carried, batch)?;
+        return Ok(carried);
+    }
+    add_shared(crew, alloc, setup, at, base, carried, batch)
 }

@@ -11,6 +11,10 @@
 #![tactic(auto)]
 
 mod carried;
+mod crew;
+mod stopped;
 mod stream;
 
+pub use crew::Crew;
+pub use stopped::Stopped;
 pub use stream::stream_night;

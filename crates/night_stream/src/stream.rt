@@ -1,19 +1,28 @@
-ghost use Rattle.std.specs.Prelude.{◌≡◌, ◌≤◌, ◌<◌, ℕ, List, [], Option, IfOk, IfSome, OnOk, IsErrOf, length};
+ghost use Rattle.std.specs.Prelude.{◌≡◌, ◌≤◌, ◌<◌, ◌+◌, ℕ, List, [], Option, true, false, IfErr, IfOk, IfSome, OnOk, IsErrOf, length};
 ghost use Rattle.std.specs.Io.KnownBytes.{IsAtEnd};
 ghost use Rattle.hub_kinds.specs.declared.limits.TheConstants.{LONGEST_TEXT};
+ghost use Rattle.stream_read.specs.Held.{HasRead};
 ghost use Rattle.stream_read.specs.Source.{HasFailed};
 ghost use Rattle.stream_read.specs.declared.held.StreamFault.TheVariants.{InputTooLong, Read};
-ghost use Rattle.night_writing.specs.Night.{IsNight};
-ghost use Rattle.night_stream.specs.Reading.{IsReadUpTo};
+ghost use Rattle.night_stream.specs.Crew.{IsReady};
+ghost use Rattle.night_stream.specs.Reading.{IsNightOfStream, IsReadUpTo};
+ghost use Rattle.night_stream.specs.Stopped.{IsOfPool};
+ghost use Rattle.night_stream.specs.declared.stopped.Stopped.TheVariants.{Stream};
 
 use crate::carried::{Carried, add_batch, nothing_carried};
+use crate::crew::Crew;
+use crate::stopped::Stopped;
 use batch_cut::{Advanced, Scout, advance, forget};
 use hub_kinds::NoMemory;
 use moment::At;
 use night_writing::Night;
 use partner_setup::Setup;
 use std::alloc::Global;
-use stream_read::{Held, Source, StreamFault};
+use std::sync::Wait;
+use std::thread::Threads;
+use std::time::Clock;
+use stream_read::{Held, Source};
+use worker_pool::Gate;
 
 /// How far a stream is worked on.
 #[derive(Drop)]
@@ -42,19 +51,37 @@ fn at_begin(alloc: Global, setup: &Setup) -> Result<Reading, NoMemory>
     })
 }
 
+/// Reads a window more, or what is left. Answers whether it was a whole one.
+fn read_on<S: Source>(held: &mut Held, source: &mut S, window: usize) -> Result<bool, Stopped>
+    requires { 0 < window }
+    ensures read { IfOk result (λ full. (n : ℕ) × HasRead (S.remaining source.old) (S.remaining source.new) held.old held.new n
+        × (full ≡ true → n ≡ window) × (full ≡ false → IsAtEnd (S.remaining source.new))) }
+    ensures long { IsErrOf result (Stream InputTooLong)
+        → IfSome (S.remaining source.old) (λ xs. LONGEST_TEXT < held.old.total + length xs) }
+    ensures fault { IsErrOf result (Stream Read) → HasFailed (S.faults source.old) (S.faults source.new) (S.interruptions source.new) }
+    ensures none { (IsErrOf result (Stream Read) → ⊥) → S.faults source.new ≡ S.faults source.old }
+    ensures few { OnOk result (held.new.total ≤ LONGEST_TEXT) }
+{
+    let full = held.fill(source, window)?;
+    Ok(full)
+}
+
 /// Works on the interchanges that are whole in what is held, and gives their bytes up.
-fn go_on(
+fn go_on<G: Gate + Sync, R: Threads + Wait + Clock + Sync>(
+    crew: &Crew<'_, R, G>,
     alloc: Global,
     setup: &Setup,
     at: &At,
     held: &mut Held,
     reading: Reading,
-) -> Result<Reading, NoMemory>
+) -> Result<Reading, Stopped>
+    requires crew { IsReady crew.now }
     requires few { held.old.total ≤ LONGEST_TEXT }
     requires read { (first : Option (List ℕ)) × (now : Option (List ℕ)) × IsReadUpTo setup.now at.now first now held.old reading }
     ensures read { IfOk result (λ new. (first now : Option (List ℕ)) → IsReadUpTo setup.now at.now first now held.old reading
         → IsReadUpTo setup.now at.now first now held.new new) }
     ensures total { OnOk result (held.new.total ≡ held.old.total) }
+    ensures pool { IfErr result IsOfPool }
 {
     let Reading {
         scout,
@@ -62,7 +89,15 @@ fn go_on(
         carried,
     } = reading;
     let Advanced { scout: ahead, .. } = advance(held.bytes(), scout);
-    let carried = add_batch(alloc, setup, at, base, carried, &held.bytes()[..ahead.at])?;
+    let carried = add_batch(
+        crew,
+        alloc,
+        setup,
+        at,
+        base,
+        carried,
+        &held.bytes()[..ahead.at],
+    )?;
     held.give_up(ahead.at);
     Ok(Reading {
         scout: forget(ahead),
@@ -72,49 +107,54 @@ fn go_on(
 }
 
 /// Works on all that is held, behind which nothing comes, and closes the night.
-fn finish(
+fn finish<G: Gate + Sync, R: Threads + Wait + Clock + Sync>(
+    crew: &Crew<'_, R, G>,
     alloc: Global,
     setup: &Setup,
     at: &At,
     held: &Held,
     reading: Reading,
-) -> Result<Night, NoMemory>
+) -> Result<Night, Stopped>
+    requires crew { IsReady crew.now }
     requires few { held.now.total ≤ LONGEST_TEXT }
     requires read { (first : Option (List ℕ)) × (now : Option (List ℕ)) × IsReadUpTo setup.now at.now first now held.now reading }
-    ensures { IfOk result (λ night. (first now : Option (List ℕ)) → IsReadUpTo setup.now at.now first now held.now reading → IsAtEnd now
-        → IfSome first (λ text. IsNight text setup.now at.now night)) }
+    ensures night { IfOk result (λ night. (first now : Option (List ℕ)) → IsReadUpTo setup.now at.now first now held.now reading
+        → IsAtEnd now → IsNightOfStream first setup.now at.now night) }
+    ensures pool { IfErr result IsOfPool }
 {
     let Reading { base, carried, .. } = reading;
-    let all = add_batch(alloc, setup, at, base, carried, held.bytes())?;
+    let all = add_batch(crew, alloc, setup, at, base, carried, held.bytes())?;
     let Carried { writing, .. } = all;
     let night = writing.close(alloc, setup, at)?;
     Ok(night)
 }
 
-/// The night of a stream that is read in windows of so many bytes, by a setup and at a moment: after each full window, and at the end,
-/// the interchanges that are whole by then are worked on, before more is read. The end of a header or a trailer may stand in the next
-/// window. Errors: more bytes than `LONGEST_TEXT`, a reader that fails or is interrupted more than 1,000 times in a row, want of memory.
-/// X12.5, interchange.
-pub fn stream_night<S: Source>(
+/// The night of a stream that is read in windows of so many bytes, by a setup and at a moment, and shared among workers: after each full
+/// window, and at the end, the interchanges that are whole by then are worked on, before more is read. The end of a header or a trailer
+/// may stand in the next window. Errors: more bytes than `LONGEST_TEXT`, a reader that fails or is interrupted more than 1,000 times in a
+/// row, a thread that the system doesn't start, want of memory. X12.5, interchange.
+pub fn stream_night<S: Source, G: Gate + Sync, R: Threads + Wait + Clock + Sync>(
+    crew: &Crew<'_, R, G>,
     alloc: Global,
     source: &mut S,
     window: usize,
     setup: &Setup,
     at: &At,
-) -> Result<Night, StreamFault>
-    requires { 0 < window }
-    ensures night { IfOk result (λ night. IfSome (S.remaining source.old) (λ text. IsNight text setup.now at.now night)) }
-    ensures long { IsErrOf result InputTooLong → IfSome (S.remaining source.old) (λ xs. LONGEST_TEXT < length xs) }
+) -> Result<Night, Stopped>
+    requires crew { IsReady crew.now }
+    requires window { 0 < window }
+    ensures night { IfOk result (IsNightOfStream (S.remaining source.old) setup.now at.now) }
+    ensures long { IsErrOf result (Stream InputTooLong) → IfSome (S.remaining source.old) (λ xs. LONGEST_TEXT < length xs) }
     ensures short { OnOk result (IfSome (S.remaining source.old) (λ xs. length xs ≤ LONGEST_TEXT)) }
     ensures end { OnOk result (IsAtEnd (S.remaining source.new)) }
-    ensures fault { IsErrOf result Read → HasFailed (S.faults source.old) (S.faults source.new) (S.interruptions source.new) }
-    ensures none { (IsErrOf result Read → ⊥) → S.faults source.new ≡ S.faults source.old }
+    ensures fault { IsErrOf result (Stream Read) → HasFailed (S.faults source.old) (S.faults source.new) (S.interruptions source.new) }
+    ensures none { (IsErrOf result (Stream Read) → ⊥) → S.faults source.new ≡ S.faults source.old }
 {
     let mut held = Held::new(alloc);
     let mut reading = at_begin(alloc, setup)?;
-    while held.fill(source, window)? {
-        reading = go_on(alloc, setup, at, &mut held, reading)?;
+    while read_on(&mut held, source, window)? {
+        reading = go_on(crew, alloc, setup, at, &mut held, reading)?;
     }
-    let night = finish(alloc, setup, at, &held, reading)?;
+    let night = finish(crew, alloc, setup, at, &held, reading)?;
     Ok(night)
 }

@@ -1,9 +1,15 @@
-ghost use Rattle.std.specs.Prelude.{◌≡◌, IfOk, length, map};
+ghost use Rattle.std.specs.Prelude.{◌≡◌, IfOk, IfSome, length, map};
+ghost use Rattle.std.specs.List.{All, AllZip};
+ghost use Rattle.env_index.specs.Words.{HasSpans};
 ghost use Rattle.mailbox.specs.Rendered.{HaveRendered};
+ghost use Rattle.checked_text.specs.Asked.{IsFound, asked_of};
+ghost use Rattle.checked_text.specs.CheckedText.{HaveRoom, IsCheckedBehind};
 
 use crate::closing::close_all;
 use crate::night::Night;
-use checked_text::{Acknowledgments, check_text, no_acknowledgments};
+use checked_text::{
+    Acknowledgments, CheckedText, Finding, answer_found, check_text, no_acknowledgments,
+};
 use env_index::Index;
 use hub_kinds::{Items, NoMemory, Texts};
 use judged_text::JudgedInterchange;
@@ -40,6 +46,27 @@ fn rendered_behind(
     Ok(boxes)
 }
 
+/// The answers to a batch, behind what was sent before: by what was found out about its places, or else checked here.
+fn answered<'i, 'a>(
+    alloc: Global,
+    setup: &'a Setup,
+    at: &At,
+    index: &'i Index<'a>,
+    found: Option<Vec<Finding<'a>>>,
+    sent: Vec<Acknowledgments>,
+) -> Result<CheckedText<'i, 'a>, NoMemory>
+    requires spans { All (λ e. HasSpans index.now.text e.interchange) index.now.entries }
+    requires found { IfSome found (λ v. AllZip IsFound (asked_of index.now.text setup.now index.now.entries) v.items) }
+    requires sent { HaveRoom setup.now at.now (length index.now.entries) sent.items }
+    ensures { IfOk result (λ c. IsCheckedBehind index.entry.now.text setup.entry.now at.now index.entry.now.entries
+        c.interchanges.items sent.items c.acknowledgments.items) }
+{
+    match found {
+        None => check_text(alloc, setup, at, index, sent),
+        Some(found) => answer_found(alloc, setup, at, index, found, sent),
+    }
+}
+
 /// What a night has written so far, batch by batch: the acknowledgments of each partner (X12.5, TA1; 999 guide), the sets that are
 /// delivered to it (X12.6, transaction set), the lines of the report, and how many bytes stood outside interchanges. It lends from no
 /// text.
@@ -60,9 +87,10 @@ impl Model for Writing {
 }
 
 impl Writing {
-    ghost use Rattle.std.specs.Prelude.{◌≡◌, ◌+◌, ◌<◌, ◌^◌, IfOk, length};
-    ghost use Rattle.std.specs.List.{All};
+    ghost use Rattle.std.specs.Prelude.{◌≡◌, ◌+◌, ◌<◌, ◌^◌, IfOk, IfSome, length};
+    ghost use Rattle.std.specs.List.{All, AllZip};
     ghost use Rattle.env_index.specs.Words.{HasSpans};
+    ghost use Rattle.checked_text.specs.Asked.{IsFound, asked_of};
     ghost use Rattle.night_writing.specs.Writing.{HasRoomFor, IsBatchWritten, IsClosedBy, nothing_written, with_outside};
 
     /// Of nothing. The only error is want of memory.
@@ -100,8 +128,10 @@ impl Writing {
         at: &At,
         base: u64,
         index: &Index<'a>,
+        found: Option<Vec<Finding<'a>>>,
     ) -> Result<Writing, NoMemory>
         requires spans { All (λ e. HasSpans index.now.text e.interchange) index.now.entries }
+        requires found { IfSome found (λ v. AllZip IsFound (asked_of index.now.text setup.now index.now.entries) v.items) }
         requires room { HasRoomFor setup.now at.now (length index.now.entries) index.now.outside self }
         ensures { IfOk result (IsBatchWritten index.now.text setup.now at.now base index.now.entries index.now.outside self) }
     {
@@ -111,7 +141,7 @@ impl Writing {
             lines,
             boxes,
         } = self;
-        let checked = check_text(alloc, setup, at, index, files)?;
+        let checked = answered(alloc, setup, at, index, found, files)?;
         let interchanges = checked.interchanges.as_slice();
         let lines = lines.append(setup, base, interchanges)?;
         let boxes = rendered_behind(alloc, setup, interchanges, boxes)?;
@@ -121,6 +151,28 @@ impl Writing {
             lines,
             boxes,
         })
+    }
+
+    /// Adds a batch, by what was found out about its places, or else checked here. One without interchanges adds its bytes outside
+    /// alone.
+    fn add_answered<'a>(
+        self,
+        alloc: Global,
+        setup: &'a Setup,
+        at: &At,
+        base: u64,
+        index: &Index<'a>,
+        found: Option<Vec<Finding<'a>>>,
+    ) -> Result<Writing, NoMemory>
+        requires spans { All (λ e. HasSpans index.now.text e.interchange) index.now.entries }
+        requires found { IfSome found (λ v. AllZip IsFound (asked_of index.now.text setup.now index.now.entries) v.items) }
+        requires room { HasRoomFor setup.now at.now (length index.now.entries) index.now.outside self }
+        ensures { IfOk result (IsBatchWritten index.now.text setup.now at.now base index.now.entries index.now.outside self) }
+    {
+        if index.interchanges().is_empty() {
+            return Ok(self.with_outside(index.outside()));
+        }
+        self.add_interchanges(alloc, setup, at, base, index, found)
     }
 
     /// Adds a batch of interchanges, behind those before: each set is checked and answered, and written where it is delivered. They
@@ -139,10 +191,26 @@ impl Writing {
         requires room { HasRoomFor setup.now at.now (length index.now.entries) index.now.outside self }
         ensures { IfOk result (IsBatchWritten index.now.text setup.now at.now base index.now.entries index.now.outside self) }
     {
-        if index.interchanges().is_empty() {
-            return Ok(self.with_outside(index.outside()));
-        }
-        self.add_interchanges(alloc, setup, at, base, index)
+        self.add_answered(alloc, setup, at, base, index, None)
+    }
+
+    /// The same of a batch of which all was found out before: of each place of its index whether its number is used earlier, and of each
+    /// set how it was checked. The only error is want of memory; then what was written before is given up.
+    pub fn add_found<'a>(
+        self,
+        alloc: Global,
+        setup: &'a Setup,
+        at: &At,
+        base: u64,
+        index: &Index<'a>,
+        found: Vec<Finding<'a>>,
+    ) -> Result<Writing, NoMemory>
+        requires spans { All (λ e. HasSpans index.now.text e.interchange) index.now.entries }
+        requires found { AllZip IsFound (asked_of index.now.text setup.now index.now.entries) found.items }
+        requires room { HasRoomFor setup.now at.now (length index.now.entries) index.now.outside self }
+        ensures { IfOk result (IsBatchWritten index.now.text setup.now at.now base index.now.entries index.now.outside self) }
+    {
+        self.add_answered(alloc, setup, at, base, index, Some(found))
     }
 
     /// The night, behind the last batch: each mailbox gets its envelopes, the report its total. The only error is want of memory.

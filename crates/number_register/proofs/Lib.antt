@@ -5,6 +5,7 @@ mod Fill
 mod Firsts
 mod Fullness
 mod Holding
+mod Once
 mod Ordering
 mod Places
 mod Putting

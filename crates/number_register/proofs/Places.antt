@@ -15,7 +15,7 @@ use Rattle.env_index.specs.declared.entry.SetEnvelope.{SetEnvelope}
 use Rattle.number_register.specs.Placing.{IsPlaced}
 use Rattle.number_register.specs.Slots.{groups_of, sets_of, sets_at, groups_at}
 
-no_member : {A : Type 0} (a : A) → Contains [] a → ⊥
+pub no_member : {A : Type 0} (a : A) → Contains [] a → ⊥
 no_member a h = let l : h.0 < 0 = h.1 in omega arith
 
 contains_one : {A : Type 0} (x a : A) → Contains (x ∷ []) a → a ≡ x
@@ -51,7 +51,7 @@ pub record IsOfEntry (first : ℕ) (es : List IndexEntry) (a : Numbered) : Type 
   pub is : (a ≡ numbered (place_at (first + n) 0 0) (interchange_number e.interchange.header))
       ⊎ IsOfGroup (first + n) 1 e.interchange.content.groups a
 
-in_cons : {A : Type 0} (x : A) (xs : List A) (a : A) → Contains (x ∷ xs) a → (a ≡ x) ⊎ Contains xs a
+pub in_cons : {A : Type 0} (x : A) (xs : List A) (a : A) → Contains (x ∷ xs) a → (a ≡ x) ⊎ Contains xs a
 in_cons x xs a h = elim (Contains-append_cases (x ∷ []) xs a h) [ inl e ↦ inl (contains_one x a e) | inr e ↦ inr e ]
 
 pub of_sets : (isa gs first : ℕ) (sets : List SetEnvelope) (a : Numbered) → Contains (sets_from isa gs first sets) a

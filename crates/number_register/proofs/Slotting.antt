@@ -21,10 +21,11 @@ or_true false c e = ap (λ (d : Bool). d || false) e
 more : (recorded : List Place) (p q : Place) → was_recorded (recorded ++ p ∷ []) q ≡ (was_recorded recorded q || (same_place q p || false))
 more recorded p q = list_any-append (same_place q) recorded (p ∷ [])
 
-other_stays : (recorded : List Place) (p q : Place) → same_place q p ≡ false → was_recorded (recorded ++ p ∷ []) q ≡ was_recorded recorded q
+pub other_stays : (recorded : List Place) (p q : Place) → same_place q p ≡ false
+    → was_recorded (recorded ++ p ∷ []) q ≡ was_recorded recorded q
 other_stays recorded p q e = more recorded p q ∙ or_false (was_recorded recorded q) (same_place q p) e
 
-own_is : (recorded : List Place) (p q : Place) → same_place q p ≡ true → was_recorded (recorded ++ p ∷ []) q ≡ true
+pub own_is : (recorded : List Place) (p q : Place) → same_place q p ≡ true → was_recorded (recorded ++ p ∷ []) q ≡ true
 own_is recorded p q e = more recorded p q ∙ or_true (was_recorded recorded q) (same_place q p) e
 
 and_false : (a b c : Bool) → (a ≡ false) ⊎ ((b ≡ false) ⊎ (c ≡ false)) → (a && (b && c)) ≡ false
@@ -134,7 +135,7 @@ and_each false b c e = absurd (true≢false (sym e))
 and_each true false c e = absurd (true≢false (sym e))
 and_each true true false e = absurd (true≢false (sym e))
 
-same_by : (p q : Place) → same_place p q ≡ true → p ≡ q
+pub same_by : (p q : Place) → same_place p q ≡ true → p ≡ q
 same_by p q h =
     let all = and_each (p.isa == q.isa) (p.gs == q.gs) (p.st == q.st) h in
     let x = eqb-true p.isa q.isa all.0 in

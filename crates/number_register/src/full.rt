@@ -1,5 +1,6 @@
 ghost use Rattle.std.specs.Prelude.{◌≡◌, Contains};
 ghost use Rattle.env_index.specs.Words.{places_of};
+ghost use Rattle.work_core.specs.Complete.{AreOnce};
 ghost use Rattle.number_register.specs.Recording.{IsEarlierIn, IsFull};
 
 use crate::records::Records;
@@ -34,6 +35,14 @@ impl<'i, 'a> FullRegister<'i, 'a> {
         ensures { result ≡ records.entry }
     {
         FullRegister { records }
+    }
+
+    /// The places that were recorded, in the order of recording: those of the index, each once.
+    pub fn recorded(&self) -> &[Place]
+        ensures value { result.now ≡ self.now.recorded }
+        ensures once { AreOnce (places_of self.now.index) self.now.recorded }
+    {
+        self.records.recorded_once()
     }
 
     /// The first use of a place's number, where that is an earlier place of the index; none where the place is the first with it.

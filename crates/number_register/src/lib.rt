@@ -9,6 +9,8 @@
 //!   before, and leaves the records as they were where it refuses;
 //! - `Records::finish` answers Ok exactly where each place of the index is recorded, and hands the records back where
 //!   one is missing;
+//! - `finish_all` makes records whole: it records what is missing, and gives those of the same index;
+//! - `FullRegister::recorded` are the places of the index, each once, in the order of recording;
 //! - `FullRegister::earlier_of` answers the first use of a place's number where that is an earlier place (`IsFirstUse`),
 //!   and none where there is no such place, whatever was recorded first;
 //! - for every interleaving of the threads, whenever the lock is free the records are of the index that the register's
@@ -35,8 +37,10 @@ mod making;
 mod reading;
 mod records;
 mod register;
+mod whole;
 
 pub use fault::RecordFault;
 pub use full::{FullRegister, Short};
 pub use records::Records;
 pub use register::{Named, RecordLock, Recorded, Register, Share};
+pub use whole::finish_all;

@@ -1,6 +1,7 @@
 ghost use Rattle.std.specs.Prelude.{◌≡◌, ◌≤◌, ◌++◌, ◌∷◌, [], false, Contains, IfOk, IfErr, OnOk, OnErr};
 ghost use Rattle.std.specs.List.{list_all};
 ghost use Rattle.env_index.specs.Words.{places_of};
+ghost use Rattle.work_core.specs.Complete.{AreOnce};
 ghost use Rattle.work_core.specs.Core.{was_recorded};
 ghost use Rattle.number_register.specs.Placing.{IsKeyAt, IsPlaced};
 ghost use Rattle.number_register.specs.Recording.{IsEarlierIn, IsFull, IsRefused, IsShort};
@@ -65,6 +66,23 @@ impl<'i, 'a> Records<'i, 'a> {
         ensures { result.now ≡ self.now.recorded }
     {
         self.recorded.as_slice()
+    }
+
+    // The places of the index.
+    pub(crate) fn places(&self, alloc: Global) -> Result<Items<Place>, NoMemory>
+        ensures { IfOk result (λ places. places ≡ places_of self.now.index) }
+    {
+        Ok(self.index.places(alloc)?)
+    }
+
+    // The places that were recorded, once each place of the index is.
+    pub(crate) fn recorded_once(&self) -> &[Place]
+        requires { IsFull self.now }
+        ensures value { result.now ≡ self.now.recorded }
+        ensures once { AreOnce (places_of self.now.index) self.now.recorded }
+    {
+        let recorded = &self.recorded;
+        recorded.as_slice()
     }
 
     /// Records a place of the index, at the end. Errors: it was recorded before; else memory is wanting. Both leave the records as

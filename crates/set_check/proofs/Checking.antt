@@ -1,9 +1,9 @@
 -- What was found of a set's segments, put together: it is what is wrong with the set of the span.
-use Rattle.std.proofs.Common.{◌≡◌, ◌∙◌, ap, subst, ℕ, false, List, Option}
+use Rattle.std.proofs.Common.{◌≡◌, ◌∙◌, ap, ℕ, false, List, Option}
 use Rattle.hub_kinds.specs.declared.fault.Fault.{Fault}
 use Rattle.hub_kinds.specs.declared.set_codes.SetCode.{SetCode}
 use Rattle.hub_kinds.specs.Words.{AreRising}
-use Rattle.x12_segs.specs.Words.{span_views, SegValue}
+use Rattle.x12_segs.specs.Words.{SegValue}
 use Rattle.x12_segs.specs.declared.set_span.SetSpan.{SetSpan}
 use Rattle.guide_tree.specs.declared.rows.GuideRows.{GuideRows}
 use Rattle.set_check.specs.declared.envelope.Envelope.{Envelope}
@@ -12,7 +12,7 @@ use Rattle.set_check.specs.Codes.{set_codes_of}
 use Rattle.set_check.specs.Envelope.{IsEnvelopeOf}
 use Rattle.set_check.specs.MeetsLaw.{IsWellGuided}
 use Rattle.set_check.specs.SetFaults.{AreSetFaults, codes_with}
-use Rattle.set_check.specs.SetParts.{SetParts, parts_of, set_parts, segment_count}
+use Rattle.set_check.specs.SetParts.{SetParts, set_parts, segment_count}
 
 codes_by : (guide : Option GuideRows) (parts : SetParts) (faults told : List Fault) (e : Envelope) (trailer : Option SegValue)
     (codes : List SetCode) → IsEnvelopeOf parts e → told ≡ faults → trailer ≡ e.trailer
@@ -24,20 +24,18 @@ codes_by guide parts faults told e trailer codes of t l is =
     ∙ ap (λ (x : ℕ). set_codes_of faults (said_by guide) parts.header x trailer false) of.segments
     ∙ ap (λ (x : Option SegValue). set_codes_of faults (said_by guide) parts.header (segment_count parts) x false) (l ∙ of.trailer)
 
-pub put_down : (text : List ℕ) (span : SetSpan) (guide : Option GuideRows) (segs : List SegValue) (faults told : List Fault)
-    (e : Envelope) (trailer : Option SegValue) (codes : List SetCode) → segs ≡ span_views text span
-    → IsWellGuided (said_by guide) → AreSetFaults (said_by guide) (parts_of span.delims span.closed segs) faults → AreRising faults
-    → IsEnvelopeOf (parts_of span.delims span.closed segs) e → told ≡ faults
+pub put_down : (text : List ℕ) (span : SetSpan) (guide : Option GuideRows) (faults told : List Fault)
+    (e : Envelope) (trailer : Option SegValue) (codes : List SetCode)
+    → IsWellGuided (said_by guide) → AreSetFaults (said_by guide) (set_parts text span) faults → AreRising faults
+    → IsEnvelopeOf (set_parts text span) e → told ≡ faults
     → trailer ≡ e.trailer → codes ≡ set_codes_of told (said_by guide) e.header e.segments trailer false
     → IsChecked (record { text = text; span = span; guide = guide; faults = faults; codes = codes }) × IsEnvelopeOf (set_parts text span) e
-put_down text span guide segs faults told e trailer codes s w f r of t l is =
-    let here : IsEnvelopeOf (set_parts text span) e =
-    subst (λ (x : List SegValue). IsEnvelopeOf (parts_of span.delims span.closed x) e) s of in (
-      record {
-        well_guided = w;
-        faults = subst (λ (x : List SegValue). AreSetFaults (said_by guide) (parts_of span.delims span.closed x) faults) s f;
-        rising = r;
-        codes = codes_by guide (set_parts text span) faults told e trailer codes here t l is;
-      },
-      here,
-    )
+put_down text span guide faults told e trailer codes w f r of t l is = (
+  record {
+    well_guided = w;
+    faults = f;
+    rising = r;
+    codes = codes_by guide (set_parts text span) faults told e trailer codes of t l is;
+  },
+  of,
+)

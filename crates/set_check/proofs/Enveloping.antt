@@ -24,7 +24,7 @@ last_of : (segs : List SegValue) → 1 ≤ length segs → (x : SegValue) × (sl
 last_of segs some = ⊎_elim (λ a. (a.0, a.2)) (λ b. let past : length segs ≤ length segs - 1 = b.0 in absurd (omega arith))
     (slice_get_cases segs (length segs - 1)).1
 
-count_of : (d : Delims) (closed : Bool) (segs : List SegValue) → 1 ≤ length segs → 1 ≤ before_trailer closed (length segs)
+pub count_of : (d : Delims) (closed : Bool) (segs : List SegValue) → 1 ≤ length segs → 1 ≤ before_trailer closed (length segs)
     → length segs ≡ segment_count (parts_of d closed segs)
 count_of d true segs some room =
     let inner = inner_of true segs in

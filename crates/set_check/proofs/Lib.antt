@@ -1,6 +1,8 @@
 mod Adding
 mod Checking
 mod Clean
+mod CleanSets
+pub mod Crossing
 mod Enveloping
 mod Errors
 mod Keyed
@@ -9,7 +11,6 @@ mod NoCodes
 mod NoFaults
 pub mod Once
 mod Rising
-mod SoundPlaces
 mod Spans
 mod Told
 pub mod Verdicts

@@ -22,7 +22,7 @@ use Rattle.set_check.specs.Adding.{Adds, HasKeyAmong, IsBeside, IsErrorBelow}
 use Rattle.hub_kinds.specs.Words.{AreRising, key_of, IsKeyedBy}
 use Rattle.set_check.proofs.Keyed.{errors_keyed, set_keyed}
 use Rattle.set_check.proofs.Rising.{rising_keyed}
-use Rattle.set_check.proofs.SoundPlaces.{sound_places}
+use Rattle.clean_set.proofs.SoundPlaces.{sound_places}
 use Rattle.set_check.proofs.NoFaults.{member_at}
 
 -- the segments of the body are read by the set's delimiters

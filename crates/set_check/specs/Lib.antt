@@ -6,6 +6,7 @@ pub mod Codes
 pub mod Envelope
 pub mod Meets
 pub mod MeetsLaw
+pub mod Placed
 pub mod SetFaults
 pub mod SetParts
 pub mod Verdict

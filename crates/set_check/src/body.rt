@@ -2,14 +2,16 @@ ghost use Rattle.std.specs.Prelude.{◌≡◌, ◌≤◌, Some, IfOk, length};
 ghost use Rattle.std.specs.List.{All};
 ghost use Rattle.guide_tree.specs.Words.{guide_of};
 ghost use Rattle.hub_kinds.specs.Words.{AreRising};
+ghost use Rattle.set_check.specs.Placed.{IsPlacedBy};
 ghost use Rattle.set_check.specs.SetParts.{before_trailer, inner_of, parts_of};
 ghost use Rattle.set_check.specs.SetFaults.{AreSetFaults};
 
 use crate::elements::element_faults;
 use crate::rules::{rule_faults, with_others};
+use guide_fast::{FastGuide, place_all_fast};
 use guide_tree::Guide;
 use hub_kinds::{Fault, NoMemory, in_order};
-use loop_match::place_all;
+use loop_match::{Placing, place_all};
 use std::alloc::Global;
 use x12_segs::{SegView, SetSpan};
 
@@ -44,8 +46,45 @@ pub fn body_faults(
         AreSetFaults (Some (guide_of guide.now)) (parts_of set.now.delims set.now.closed segs.now) v.items) }
     ensures rising { IfOk result (λ v. AreRising v.items) }
 {
+    let placing = place_all(alloc, inner_of(set.closed, segs), guide)?;
+    placed_faults(alloc, set, segs, placing, guide)
+}
+
+/// The same by its compiled guide.
+pub fn body_faults_fast(
+    alloc: Global,
+    set: &SetSpan,
+    segs: &[SegView],
+    fast: &FastGuide,
+) -> Result<Vec<Fault>, NoMemory>
+    requires some { 1 ≤ length segs.now }
+    requires room { 1 ≤ before_trailer set.now.closed (length segs.now) }
+    requires read { All (λ s. s.delims ≡ set.now.delims) segs.now }
+    ensures exact { IfOk result (λ v.
+        AreSetFaults (Some (guide_of fast.now)) (parts_of set.now.delims set.now.closed segs.now) v.items) }
+    ensures rising { IfOk result (λ v. AreRising v.items) }
+{
+    let placing = place_all_fast(alloc, inner_of(set.closed, segs), fast)?;
+    placed_faults(alloc, set, segs, placing, fast.guide())
+}
+
+/// The same of segments that have their places.
+fn placed_faults(
+    alloc: Global,
+    set: &SetSpan,
+    segs: &[SegView],
+    placing: Placing,
+    guide: &Guide,
+) -> Result<Vec<Fault>, NoMemory>
+    requires some { 1 ≤ length segs.now }
+    requires room { 1 ≤ before_trailer set.now.closed (length segs.now) }
+    requires read { All (λ s. s.delims ≡ set.now.delims) segs.now }
+    requires placed { IsPlacedBy guide.now (inner_of set.now.closed segs.now) placing }
+    ensures exact { IfOk result (λ v.
+        AreSetFaults (Some (guide_of guide.now)) (parts_of set.now.delims set.now.closed segs.now) v.items) }
+    ensures rising { IfOk result (λ v. AreRising v.items) }
+{
     let body = inner_of(set.closed, segs);
-    let placing = place_all(alloc, body, guide)?;
     let errors = element_faults(alloc, body, &placing, guide)?;
     let others = rule_faults(alloc, body, &placing, guide)?;
     let mut faults = with_others(errors, others)?;

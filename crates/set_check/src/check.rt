@@ -5,13 +5,14 @@ ghost use Rattle.hub_kinds.specs.Words.{AreRising};
 ghost use Rattle.set_check.specs.Checked.{guide_in, parts_in, said_by};
 ghost use Rattle.set_check.specs.Meets.{MeetsAlone};
 ghost use Rattle.set_check.specs.SetFaults.{AreSetFaults, codes_with};
-ghost use Rattle.set_check.specs.SetParts.{before_trailer, parts_of};
+ghost use Rattle.set_check.specs.Envelope.{IsEnvelopeOf};
+ghost use Rattle.set_check.specs.SetParts.{before_trailer, parts_of, set_parts};
 ghost use Rattle.x12_segs.specs.Words.{IsSetSpan};
 
 use crate::body::body_faults;
 use crate::checked::CheckedSet;
 use crate::codes::set_codes;
-use crate::envelope::envelope_of;
+use crate::envelope::{Envelope, envelope_of};
 use crate::segments::segments_of;
 use guide_tree::Guide;
 use hub_kinds::{Fault, NoMemory};
@@ -38,7 +39,36 @@ pub fn check_set<'a>(
 {
     let segs = segments_of(alloc, text, &set)?;
     let faults = set_faults(alloc, &set, segs.as_slice(), guide)?;
-    let envelope = envelope_of(set.closed, segs);
+    checked_by(
+        alloc,
+        text,
+        set,
+        guide,
+        envelope_of(set.closed, segs),
+        faults,
+    )
+}
+
+/// Puts together what was found of a set, and finds its codes.
+pub(crate) fn checked_by<'a>(
+    alloc: Global,
+    text: &'a [u8],
+    set: SetSpan,
+    guide: Option<&'a Guide>,
+    envelope: Envelope<'a>,
+    faults: Vec<Fault>,
+) -> Result<CheckedSet<'a>, NoMemory>
+    requires envelope { IsEnvelopeOf (set_parts text.now set) envelope }
+    requires faults { AreSetFaults (said_by (option_copied guide)) (set_parts text.now set) faults.items }
+    requires rising { AreRising faults.items }
+    ensures text { IfOk result (λ c. c.text ≡ text.entry.now) }
+    ensures span { IfOk result (λ c. c.span ≡ set) }
+    ensures guide { IfOk result (λ c. c.guide ≡ option_copied guide.entry) }
+    ensures faults { IfOk result (λ c. AreSetFaults (guide_in c) (parts_in c) c.faults) }
+    ensures rising { IfOk result (λ c. AreRising c.faults) }
+    ensures codes { IfOk result (λ c. c.codes ≡ codes_with (guide_in c) (parts_in c) c.faults) }
+    ensures meets { IfOk result (λ c. ((c.faults ≡ []) × (c.codes ≡ [])) ↔ MeetsAlone (guide_in c) (parts_in c)) }
+{
     let codes = set_codes(
         alloc,
         faults.as_slice(),

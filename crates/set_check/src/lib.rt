@@ -5,6 +5,7 @@
 //! - `check_set` finds exactly the faults of a set, each once and in their order, and its codes; there is neither a fault nor
 //!   a code exactly where the set meets its guide, looked at alone: by the grammar, its elements, its hierarchy and its
 //!   dependencies. Where an element fault and one of a hierarchy or dependency have one key, the element fault stands;
+//! - `check_set_fast` finds the same by a compiled guide, and begins with a quick look (`clean_set`);
 //! - a `CheckedSet` keeps that its faults and codes are those of its own span of its text by its own guide, and `is_clean`
 //!   answers whether it meets that guide;
 //! - `verdict` is accepted exactly where the set meets its guide and no earlier set of its group has its ST02, and accepted with
@@ -25,6 +26,7 @@ mod codes;
 mod convention;
 mod elements;
 mod envelope;
+mod fast;
 mod faults;
 mod law;
 mod rules;
@@ -34,4 +36,5 @@ mod verdict;
 
 pub use check::check_set;
 pub use checked::CheckedSet;
+pub use fast::check_set_fast;
 pub use law::{accepted_sets_meet_their_guides, checks_are_one, clean_sets_meet_their_guides};

@@ -1,26 +1,33 @@
-//! Readers, writers and folders that fail at each call in turn.
+//! Readers, writers and outboxes that fail at each call in turn.
+ghost use Rattle.std.specs.Prelude.{◌≡◌};
+
 use crate::examples::{COUNTERS, H850, H856, SETUP, TOTAL, TWO_PARTNERS};
 use crate::tests::{Answer, WRITTEN, expect, expect_files, make_folder, ran_in, same, words_in};
-use hub_kinds::{Items, NoMemory, copy_text};
+use hub_kinds::{Items, copy_text};
 use moment::At;
 use night_command::{
-    Failure, Folder, GuideFile, SetupFiles, night_in, night_main, read_all, read_whole, setup_of,
+    Failure, GuideFile, OutFault, Outbox, Reader, SetupFiles, Sharing, night_in, night_main,
+    read_whole, setup_of,
 };
 use partner_setup::Setup;
 use std::alloc::{AllocError, Global};
 use std::io::{ErrorKind, Read, Write};
+use std::rt::Files;
+use std::sync::Wait;
 use std::test::Fail;
+use std::thread::Threads;
+use std::time::Clock;
 use std::{fs, io};
 
 /// A reader of bytes, at most seven at once, that fails behind so many reads.
 #[derive(Drop)]
-struct Reader {
+struct Slow {
     left: &'static [u8],
     reads: usize,
     fault: ErrorKind,
 }
 
-impl Read for Reader {
+impl Read for Slow {
     fn read(&mut self, bytes: &mut [u8]) -> io::Result<usize> {
         if self.reads == 0 {
             return Err(io::Error::from(self.fault));
@@ -36,60 +43,35 @@ impl Read for Reader {
 
 const TWENTY: &[u8] = b"ISA*00*          *00";
 
-fn failing_reader(reads: usize, fault: ErrorKind) -> Reader {
-    Reader {
+fn failing_reader(reads: usize, fault: ErrorKind) -> Slow {
+    Slow {
         left: TWENTY,
         reads,
         fault,
     }
 }
 
-/// How long a reader may be said to be: nothing, too little, right, too much.
-const SAID: &[u64] = &[0, 7, 20, 4096];
-
-fn is_input(read: Result<Vec<u8>, Failure>) -> bool {
-    matches!(read, Err(Failure::Input))
+/// A reader that is interrupted so often before each of its reads.
+#[derive(Drop)]
+struct Interrupted {
+    left: &'static [u8],
+    often: u32,
+    row: u32,
 }
 
-fn is_memory(read: Result<Vec<u8>, Failure>) -> bool {
-    matches!(read, Err(Failure::Memory))
-}
-
-#[test]
-fn input_that_fails_at_some_read_is_none(rt: HostRuntime) -> Result<(), Fail> {
-    for said in SAID {
-        for reads in 0..4 {
-            let read = read_all(
-                rt.alloc(),
-                failing_reader(reads, ErrorKind::BrokenPipe),
-                *said,
-            );
-            assert!(rt; is_input(read), "at read {reads}");
-            let read = read_all(
-                rt.alloc(),
-                failing_reader(reads, ErrorKind::OutOfMemory),
-                *said,
-            );
-            assert!(rt; is_memory(read), "at read {reads}");
+impl Read for Interrupted {
+    fn read(&mut self, bytes: &mut [u8]) -> io::Result<usize> {
+        if self.row < self.often {
+            self.row += 1;
+            return Err(io::Error::from(ErrorKind::Interrupted));
         }
+        self.row = 0;
+        let count = bytes.len().min(self.left.len());
+        let (first, left) = self.left.split_at(count);
+        bytes[..count].copy_from_slice(first);
+        self.left = left;
+        Ok(count)
     }
-    Ok(())
-}
-
-fn all_of<'a>(read: Result<Vec<u8>, Failure<'a>>) -> Result<Vec<u8>, Fail> {
-    match read {
-        Ok(text) => Ok(text),
-        Err(_) => Err("refused")?,
-    }
-}
-
-#[test]
-fn input_is_read_whole_whatever_its_length_is_said_to_be(rt: HostRuntime) -> Result<(), Fail> {
-    for said in SAID {
-        let read = read_all(rt.alloc(), failing_reader(64, ErrorKind::BrokenPipe), *said);
-        same(rt.alloc(), all_of(read)?.as_slice(), TWENTY)?;
-    }
-    Ok(())
 }
 
 #[test]
@@ -130,7 +112,11 @@ impl Write for Writer {
 }
 
 /// A run in this folder, whose standard output fails behind so many calls.
-fn ran_until(rt: &HostRuntime, folder: &str, calls: usize) -> Result<Answer, Fail> {
+fn ran_until<R: Files + AllocGlobal + Threads + Wait + Clock + Sync>(
+    rt: &R,
+    folder: &str,
+    calls: usize,
+) -> Result<Answer, Fail> {
     let words = words_in(rt.alloc(), folder)?;
     let mut out = Writer {
         taken: Vec::new(rt.alloc()),
@@ -157,7 +143,11 @@ fn expect_until(alloc: Global, answer: &Answer, calls: usize) -> Result<(), Fail
     Ok(())
 }
 
-fn prints_until(rt: &HostRuntime, folder: &str, calls: usize) -> Result<(), Fail> {
+fn prints_until<R: Files + AllocGlobal + Threads + Wait + Clock + Sync>(
+    rt: &R,
+    folder: &str,
+    calls: usize,
+) -> Result<(), Fail> {
     let answer = ran_until(rt, folder, calls)?;
     expect_until(rt.alloc(), &answer, calls)
 }
@@ -184,7 +174,10 @@ const LINES: &[&[u8]] = &[
 ];
 
 /// A usage, whose standard error fails behind so many calls.
-fn usage_until(rt: &HostRuntime, calls: usize) -> Answer {
+fn usage_until<R: Files + AllocGlobal + Threads + Wait + Clock + Sync>(
+    rt: &R,
+    calls: usize,
+) -> Answer {
     let mut out = Vec::new(rt.alloc());
     let mut err = Writer {
         taken: Vec::new(rt.alloc()),
@@ -203,23 +196,43 @@ fn passes_over_a_fault_of_standard_error(rt: HostRuntime) -> Result<(), Fail> {
     Ok(())
 }
 
-/// A folder that keeps the names of its files, a line each, and fails behind so many.
+/// An outbox that keeps the names of its files, a line each, and fails behind so many.
 #[derive(Drop)]
 struct Names {
     names: Vec<u8>,
     puts: usize,
-    fault: ErrorKind,
+    fault: OutFault,
+    faults: u64,
 }
 
-impl Folder for Names {
-    fn put(&mut self, name: &[u8], _bytes: &[u8]) -> io::Result<()> {
-        if self.puts == 0 {
-            return Err(io::Error::from(self.fault));
-        }
-        self.puts -= 1;
+impl Names {
+    fn keep(&mut self, name: &[u8]) -> Result<(), AllocError>
+        ensures { self.new.faults ≡ self.old.faults }
+    {
         self.names.extend_from_slice(name)?;
         self.names.push(b'\n')?;
         Ok(())
+    }
+}
+
+impl Outbox for Names {
+    ghost faults = { λ n. n.faults };
+
+    fn put(&mut self, name: &[u8], _bytes: &[u8]) -> Result<(), OutFault> {
+        if self.puts == 0 {
+            return match self.fault {
+                OutFault::NoMemory => Err(OutFault::NoMemory),
+                OutFault::Failed => {
+                    self.faults += 1;
+                    Err(OutFault::Failed)
+                }
+            };
+        }
+        self.puts -= 1;
+        match self.keep(name) {
+            Ok(()) => Ok(()),
+            Err(_) => Err(OutFault::NoMemory),
+        }
     }
 }
 
@@ -264,29 +277,39 @@ const PUT: &[(&[u8], &[u8])] = &[
     ),
 ];
 
-/// What a night in a folder that fails so gives, and the names of the files that were put.
-fn night_until(
-    alloc: Global,
+/// How the nights of these tests are shared.
+const SHARING: Sharing = Sharing {
+    workers: 2,
+    piece: 53,
+};
+
+/// What the night of a reader gives in an outbox that fails so, and the names of the files that were put.
+fn night_of<R: Threads + Wait + Clock + Sync + AllocGlobal, I: Read + Drop>(
+    rt: &R,
+    input: I,
     puts: usize,
-    fault: ErrorKind,
+    fault: OutFault,
 ) -> Result<(Option<Failure<'static>>, Vec<u8>), Fail> {
+    let alloc = rt.alloc();
     let setup = example(alloc)?;
     let Some(at) = At::read(b"202603011530") else {
         return Err("no moment")?;
     };
-    let mut folder = Names {
+    let mut source = Reader::new(input);
+    let mut outbox = Names {
         names: Vec::new(alloc),
         puts,
         fault,
+        faults: 0,
     };
-    let night = night_in(alloc, &mut folder, TWO_PARTNERS, &setup, &at);
-    Ok((night.err(), folder.names))
+    let night = night_in(rt, alloc, &mut source, &mut outbox, &setup, &at, SHARING);
+    Ok((night.err(), outbox.names))
 }
 
 #[test]
 fn names_the_file_that_failed(rt: HostRuntime) -> Result<(), Fail> {
     for (puts, (name, put)) in PUT.iter().enumerate() {
-        let (failure, names) = night_until(rt.alloc(), puts, ErrorKind::StorageFull)?;
+        let (failure, names) = night_of(&rt, TWO_PARTNERS, puts, OutFault::Failed)?;
         same(rt.alloc(), names.as_slice(), put)?;
         match failure {
             Some(Failure::Output(failed)) => same(rt.alloc(), failed.as_slice(), name)?,
@@ -298,12 +321,46 @@ fn names_the_file_that_failed(rt: HostRuntime) -> Result<(), Fail> {
 
 #[test]
 fn puts_all_files(rt: HostRuntime) -> Result<(), Fail> {
-    let (failure, names) = night_until(rt.alloc(), 6, ErrorKind::StorageFull)?;
+    let (failure, names) = night_of(&rt, TWO_PARTNERS, 6, OutFault::Failed)?;
     assert!(rt; failure.is_none());
     let all = b"ACME.ack\nACME.box\nBOLT.ack\nBOLT.box\nreport.txt\ncounters.toml\n";
     same(rt.alloc(), names.as_slice(), all)?;
-    let (failure, _) = night_until(rt.alloc(), 2, ErrorKind::OutOfMemory)?;
+    let (failure, _) = night_of(&rt, TWO_PARTNERS, 2, OutFault::NoMemory)?;
     assert!(rt; matches!(failure, Some(Failure::Memory)));
+    Ok(())
+}
+
+#[test]
+fn input_that_fails_at_some_read_is_none(rt: HostRuntime) -> Result<(), Fail> {
+    for reads in 0..4 {
+        let input = failing_reader(reads, ErrorKind::BrokenPipe);
+        let (failure, names) = night_of(&rt, input, 6, OutFault::Failed)?;
+        assert!(rt; matches!(failure, Some(Failure::Input)), "at read {reads}");
+        assert!(rt; names.is_empty(), "at read {reads}");
+    }
+    let input = failing_reader(64, ErrorKind::BrokenPipe);
+    let (failure, _) = night_of(&rt, input, 6, OutFault::Failed)?;
+    assert!(rt; failure.is_none());
+    Ok(())
+}
+
+/// The text of the two partners by a reader that is interrupted so often before each read.
+fn often_interrupted(often: u32) -> Interrupted {
+    Interrupted {
+        left: TWO_PARTNERS,
+        often,
+        row: 0,
+    }
+}
+
+#[test]
+fn tries_again_what_was_interrupted(rt: HostRuntime) -> Result<(), Fail> {
+    let (failure, names) = night_of(&rt, often_interrupted(1_000), 6, OutFault::Failed)?;
+    assert!(rt; failure.is_none());
+    assert!(rt; !names.is_empty());
+    let (failure, names) = night_of(&rt, often_interrupted(1_001), 6, OutFault::Failed)?;
+    assert!(rt; matches!(failure, Some(Failure::Input)));
+    assert!(rt; names.is_empty());
     Ok(())
 }
 

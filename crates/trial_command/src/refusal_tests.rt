@@ -3,7 +3,11 @@ use crate::refused_files::{FILES, SETUPS};
 use crate::tests::{expect, expect_files, make_folder, ran_in};
 use std::alloc::{AllocError, Global};
 use std::fs;
+use std::rt::Files;
+use std::sync::Wait;
 use std::test::Fail;
+use std::thread::Threads;
+use std::time::Clock;
 
 /// What becomes of a file before the night.
 pub enum Change {
@@ -198,12 +202,21 @@ fn guide_of_nodes(alloc: Global, count: usize) -> Result<String, AllocError> {
     guide_with(alloc, nodes.as_str())
 }
 
-fn replaced(rt: &HostRuntime, path: &str, old: &str, new: &str) -> Result<String, Fail> {
+fn replaced<R: Files + AllocGlobal + Threads + Wait + Clock + Sync>(
+    rt: &R,
+    path: &str,
+    old: &str,
+    new: &str,
+) -> Result<String, Fail> {
     let text = fs::read_to_string(rt, path)?;
     Ok(text.as_str().replace(rt.alloc(), old, new)?)
 }
 
-fn make_change(rt: &HostRuntime, path: &str, change: &Change) -> Result<(), Fail> {
+fn make_change<R: Files + AllocGlobal + Threads + Wait + Clock + Sync>(
+    rt: &R,
+    path: &str,
+    change: &Change,
+) -> Result<(), Fail> {
     match change {
         Gone => fs::remove_file(rt, path)?,
         Folder => {
@@ -218,7 +231,11 @@ fn make_change(rt: &HostRuntime, path: &str, change: &Change) -> Result<(), Fail
     Ok(())
 }
 
-fn make_changes(rt: &HostRuntime, folder: &str, changes: &[(&str, Change)]) -> Result<(), Fail> {
+fn make_changes<R: Files + AllocGlobal + Threads + Wait + Clock + Sync>(
+    rt: &R,
+    folder: &str,
+    changes: &[(&str, Change)],
+) -> Result<(), Fail> {
     for (file, how) in changes {
         let path = format!(in rt.alloc(); "{folder}/{file}")?;
         make_change(rt, path.as_str(), how)?;
@@ -226,7 +243,10 @@ fn make_changes(rt: &HostRuntime, folder: &str, changes: &[(&str, Change)]) -> R
     Ok(())
 }
 
-fn refuses(rt: &HostRuntime, refused: &Refused) -> Result<(), Fail> {
+fn refuses<R: Files + AllocGlobal + Threads + Wait + Clock + Sync>(
+    rt: &R,
+    refused: &Refused,
+) -> Result<(), Fail> {
     let (folder, changes, status, line) = refused;
     make_folder(rt, folder)?;
     make_changes(rt, folder, changes)?;
@@ -237,7 +257,10 @@ fn refuses(rt: &HostRuntime, refused: &Refused) -> Result<(), Fail> {
     Ok(())
 }
 
-fn refuses_each(rt: &HostRuntime, nights: &[Refused]) -> Result<(), Fail> {
+fn refuses_each<R: Files + AllocGlobal + Threads + Wait + Clock + Sync>(
+    rt: &R,
+    nights: &[Refused],
+) -> Result<(), Fail> {
     for refused in nights {
         refuses(rt, refused)?;
     }

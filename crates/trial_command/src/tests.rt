@@ -7,7 +7,11 @@ use night_command::night_main;
 use std::alloc::{AllocError, Global};
 use std::fs;
 use std::fs::OpenFile;
+use std::rt::Files;
+use std::sync::Wait;
 use std::test::Fail;
+use std::thread::Threads;
+use std::time::Clock;
 
 /// What a run gave: its status, and what it printed on standard output and standard error.
 pub type Answer = (u8, Vec<u8>, Vec<u8>);
@@ -47,7 +51,11 @@ pub(crate) fn words_in(alloc: Global, folder: &str) -> Result<Vec<String>, Alloc
 }
 
 /// Writes files into a folder.
-fn write_files(rt: &HostRuntime, folder: &str, files: &[NamedBytes]) -> Result<(), Fail> {
+fn write_files<R: Files + AllocGlobal + Threads + Wait + Clock + Sync>(
+    rt: &R,
+    folder: &str,
+    files: &[NamedBytes],
+) -> Result<(), Fail> {
     for (name, bytes) in files {
         let path = format!(in rt.alloc(); "{folder}/{name}")?;
         fs::write(rt, path.as_str(), *bytes)?;
@@ -56,7 +64,10 @@ fn write_files(rt: &HostRuntime, folder: &str, files: &[NamedBytes]) -> Result<(
 }
 
 /// Makes a folder of this name with the files of the night, and one in it for what is written.
-pub(crate) fn make_folder(rt: &HostRuntime, folder: &str) -> Result<(), Fail> {
+pub(crate) fn make_folder<R: Files + AllocGlobal + Threads + Wait + Clock + Sync>(
+    rt: &R,
+    folder: &str,
+) -> Result<(), Fail> {
     fs::create_dir(rt, folder)?;
     let out = format!(in rt.alloc(); "{folder}/out")?;
     fs::create_dir(rt, out.as_str())?;
@@ -64,7 +75,10 @@ pub(crate) fn make_folder(rt: &HostRuntime, folder: &str) -> Result<(), Fail> {
 }
 
 /// A run by the words of this folder.
-pub(crate) fn ran_in(rt: &HostRuntime, folder: &str) -> Result<Answer, Fail> {
+pub(crate) fn ran_in<R: Files + AllocGlobal + Threads + Wait + Clock + Sync>(
+    rt: &R,
+    folder: &str,
+) -> Result<Answer, Fail> {
     let words = words_in(rt.alloc(), folder)?;
     let mut out = Vec::new(rt.alloc());
     let mut err = Vec::new(rt.alloc());
@@ -97,8 +111,8 @@ pub(crate) fn expect(
 }
 
 /// Whether these files, and no others, stand in the folder's own for what is written.
-pub(crate) fn expect_files(
-    rt: &HostRuntime,
+pub(crate) fn expect_files<R: Files + AllocGlobal + Threads + Wait + Clock + Sync>(
+    rt: &R,
     folder: &str,
     files: &[NamedBytes],
 ) -> Result<(), Fail> {
@@ -214,7 +228,10 @@ const NIGHTS: &[NightCase] = &[
     ),
 ];
 
-fn runs_night(rt: &HostRuntime, night: &NightCase) -> Result<(), Fail> {
+fn runs_night<R: Files + AllocGlobal + Threads + Wait + Clock + Sync>(
+    rt: &R,
+    night: &NightCase,
+) -> Result<(), Fail> {
     let (folder, bytes, status, out, files) = *night;
     make_folder(rt, folder)?;
     write_files(rt, folder, &[("in.x12", bytes)])?;
@@ -225,7 +242,10 @@ fn runs_night(rt: &HostRuntime, night: &NightCase) -> Result<(), Fail> {
     Ok(())
 }
 
-fn runs_each_night(rt: &HostRuntime, nights: &[NightCase]) -> Result<(), Fail> {
+fn runs_each_night<R: Files + AllocGlobal + Threads + Wait + Clock + Sync>(
+    rt: &R,
+    nights: &[NightCase],
+) -> Result<(), Fail> {
     for night in nights {
         runs_night(rt, night)?;
     }
@@ -237,7 +257,10 @@ fn writes_nights(rt: HostRuntime) -> Result<(), Fail> {
     runs_each_night(&rt, NIGHTS)
 }
 
-fn ran_on_a_long_file(rt: &HostRuntime, folder: &str) -> Result<Answer, Fail> {
+fn ran_on_a_long_file<R: Files + AllocGlobal + Threads + Wait + Clock + Sync>(
+    rt: &R,
+    folder: &str,
+) -> Result<Answer, Fail> {
     make_folder(rt, folder)?;
     let path = format!(in rt.alloc(); "{folder}/in.x12")?;
     fs::create(rt, path.as_str())?.set_len(4_294_967_296)?;

@@ -2,7 +2,11 @@
 use crate::tests::{Answer, expect, same};
 use night_command::night_main;
 use std::alloc::{AllocError, Global};
+use std::rt::Files;
+use std::sync::Wait;
 use std::test::Fail;
+use std::thread::Threads;
+use std::time::Clock;
 
 const USAGE: &[u8] = b"nighthub: usage\n";
 
@@ -23,7 +27,7 @@ const WORDS: &[&str] = &[
 ];
 
 /// A run by these words.
-fn ran(rt: &HostRuntime, words: &[&str]) -> Answer {
+fn ran<R: Files + AllocGlobal + Threads + Wait + Clock + Sync>(rt: &R, words: &[&str]) -> Answer {
     let mut out = Vec::new(rt.alloc());
     let mut err = Vec::new(rt.alloc());
     let status = night_main(rt, words, &mut out, &mut err);
@@ -87,8 +91,14 @@ const MORE: &[&[&str]] = &[
     &["--in", "no_folder/i"],
     &["--out", "no_folder"],
     &["--guide"],
-    &["--workers", "4"],
-    &["--piece", "1048576"],
+    &["--workers", "0"],
+    &["--workers", "65"],
+    &["--workers", "four"],
+    &["--workers", "4", "--workers", "4"],
+    &["--piece", "0"],
+    &["--piece", "4294967296"],
+    &["--piece", "1048576", "--piece", "1048576"],
+    &["--threads", "4"],
     &["--inp", "no_folder/i"],
     &["-i", "no_folder/i"],
     &["no_folder/i"],
@@ -104,6 +114,19 @@ fn takes_no_further_words(rt: HostRuntime) -> Result<(), Fail> {
         expect(rt.alloc(), &answer, 2, b"", USAGE)?;
     }
     Ok(())
+}
+
+#[test]
+fn takes_how_a_night_is_shared(rt: HostRuntime) -> Result<(), Fail> {
+    let words = with(rt.alloc(), WORDS, &["--workers", "64", "--piece", "1"])?;
+    let answer = ran(&rt, words.as_slice());
+    expect(
+        rt.alloc(),
+        &answer,
+        3,
+        b"",
+        b"nighthub: guide no_folder/g 0\n",
+    )
 }
 
 #[test]

@@ -11,6 +11,8 @@ mod accepted;
 #[cfg(test)]
 mod answered;
 #[cfg(test)]
+mod gates;
+#[cfg(test)]
 mod held;
 #[cfg(test)]
 mod night;
@@ -22,6 +24,8 @@ mod receivers;
 mod refused;
 #[cfg(test)]
 mod rejected;
+#[cfg(test)]
+mod runs;
 #[cfg(test)]
 mod setup;
 #[cfg(test)]

@@ -1,17 +1,16 @@
-//! A worked night, and its comparison with what `run_plain` gives, and with what `stream_night` gives whatever the window.
-ghost use Rattle.std.specs.Prelude.{◌<◌};
-
+//! A worked night, and its comparison with what each of the runs gives.
+use super::runs::{SHARED, STREAMS, plain_night, shared_night, stream_night};
 use super::setups::{Starts, two_partners};
 use super::{accepted, answered, held, receivers, refused, rejected};
 use hub_kinds::{Counters, Text};
-use hub_run::{Night, RunFault, run_plain};
-use moment::At;
+use hub_run::{Night, RunFault};
 use night_report::is_clean;
-use night_stream::stream_night;
 use partner_setup::Setup;
 use std::alloc::{AllocError, Global};
+use std::sync::Wait;
 use std::test::Fail;
-use trial_streams::sources::Memory;
+use std::thread::Threads;
+use std::time::Clock;
 
 /// A night of ACME and BOLT. Texts are written as their pieces; what goes to a partner stands in the order of the partners.
 pub struct WorkedNight {
@@ -79,38 +78,6 @@ fn expect_given(alloc: Global, night: &Night, worked: &WorkedNight) -> Result<()
     Ok(())
 }
 
-fn night_of(alloc: Global, setup: &Setup, text: &[u8]) -> Result<Night, Fail> {
-    let at = At::read(b"202603011530").ok_or("no moment")?;
-    Ok(run_plain(alloc, text, setup, &at)?)
-}
-
-/// The windows that a text is read in as a stream.
-const WINDOWS: &[usize] = &[1, 53, 236, 4_096];
-
-fn night_of_stream(alloc: Global, setup: &Setup, text: &[u8], window: usize) -> Result<Night, Fail>
-    requires { 0 < window }
-{
-    let at = At::read(b"202603011530").ok_or("no moment")?;
-    let mut source = Memory::new(text);
-    Ok(stream_night(alloc, &mut source, window, setup, &at)?)
-}
-
-/// Whether a text that is read as a stream gives what is wanted.
-fn expect_streams_of(
-    alloc: Global,
-    setup: &Setup,
-    text: &[u8],
-    worked: &WorkedNight,
-) -> Result<(), Fail> {
-    for window in WINDOWS {
-        if *window > 0 {
-            let night = night_of_stream(alloc, setup, text, *window)?;
-            expect_given(alloc, &night, worked)?;
-        }
-    }
-    Ok(())
-}
-
 /// Whether the night of a text gives what is wanted.
 fn expect_night_of(
     alloc: Global,
@@ -118,60 +85,97 @@ fn expect_night_of(
     text: &[u8],
     worked: &WorkedNight,
 ) -> Result<(), Fail> {
-    let night = night_of(alloc, setup, text)?;
+    let night = plain_night(alloc, setup, text)?;
     expect_given(alloc, &night, worked)
 }
 
-fn expect_night_by(alloc: Global, setup: &Setup, worked: &WorkedNight) -> Result<(), Fail> {
-    let text = joined(alloc, worked.text)?;
-    expect_night_of(alloc, setup, text.as_slice(), worked)?;
-    expect_streams_of(alloc, setup, text.as_slice(), worked)
+/// Whether the night of a text that is shared among workers gives what is wanted, whatever their number and the pieces.
+fn expect_shared<R: AllocGlobal + Threads + Wait + Clock + Sync>(
+    rt: &R,
+    setup: &Setup,
+    text: &[u8],
+    worked: &WorkedNight,
+) -> Result<(), Fail> {
+    for (workers, piece) in SHARED {
+        let night = shared_night(rt, setup, text, *workers, *piece)?;
+        expect_given(rt.alloc(), &night, worked)?;
+    }
+    Ok(())
 }
 
-fn expect_night(alloc: Global, worked: &WorkedNight) -> Result<(), Fail> {
+/// Whether a text that is read as a stream gives what is wanted, whatever the window.
+fn expect_streams<R: AllocGlobal + Threads + Wait + Clock + Sync>(
+    rt: &R,
+    setup: &Setup,
+    text: &[u8],
+    worked: &WorkedNight,
+) -> Result<(), Fail> {
+    for (window, workers, piece) in STREAMS {
+        let night = stream_night(rt, setup, text, *window, *workers, *piece)?;
+        expect_given(rt.alloc(), &night, worked)?;
+    }
+    Ok(())
+}
+
+fn expect_night<R: AllocGlobal + Threads + Wait + Clock + Sync>(
+    rt: &R,
+    worked: &WorkedNight,
+) -> Result<(), Fail> {
+    let alloc = rt.alloc();
     let setup = two_partners(alloc, &worked.starts)?;
-    expect_night_by(alloc, &setup, worked)
+    let text = joined(alloc, worked.text)?;
+    expect_night_of(alloc, &setup, text.as_slice(), worked)?;
+    expect_shared(rt, &setup, text.as_slice(), worked)?;
+    expect_streams(rt, &setup, text.as_slice(), worked)
 }
 
-fn expect_nights(alloc: Global, nights: &[&WorkedNight]) -> Result<(), Fail> {
+fn expect_nights<R: AllocGlobal + Threads + Wait + Clock + Sync>(
+    rt: &R,
+    nights: &[&WorkedNight],
+) -> Result<(), Fail> {
     for worked in nights {
-        expect_night(alloc, worked)?;
+        expect_night(rt, worked)?;
     }
     Ok(())
 }
 
 #[test]
 fn nights_of_accepted_texts(rt: HostRuntime) -> Result<(), Fail> {
-    expect_nights(rt.alloc(), accepted::NIGHTS)
+    expect_nights(&rt, accepted::NIGHTS)
 }
 
 #[test]
 fn nights_with_sets_that_are_held(rt: HostRuntime) -> Result<(), Fail> {
-    expect_nights(rt.alloc(), held::NIGHTS)
+    expect_nights(&rt, held::NIGHTS)
 }
 
 #[test]
 fn nights_of_what_nobody_can_check(rt: HostRuntime) -> Result<(), Fail> {
-    expect_nights(rt.alloc(), refused::NIGHTS)
+    expect_nights(&rt, refused::NIGHTS)
 }
 
 #[test]
 fn nights_of_rejected_sets(rt: HostRuntime) -> Result<(), Fail> {
-    expect_nights(rt.alloc(), rejected::NIGHTS)
+    expect_nights(&rt, rejected::NIGHTS)
 }
 
 #[test]
 fn nights_of_interchanges_that_are_answered(rt: HostRuntime) -> Result<(), Fail> {
-    expect_nights(rt.alloc(), answered::NIGHTS)
+    expect_nights(&rt, answered::NIGHTS)
 }
 
 #[test]
 fn nights_of_two_receivers(rt: HostRuntime) -> Result<(), Fail> {
-    expect_nights(rt.alloc(), receivers::NIGHTS)
+    expect_nights(&rt, receivers::NIGHTS)
 }
 
 /// Why a run gives nothing, by numbers.
-const NUMBERS: &[(RunFault, u32)] = &[(RunFault::InputTooLong, 1), (RunFault::NoMemory, 2)];
+const NUMBERS: &[(RunFault, u32)] = &[
+    (RunFault::InputTooLong, 1),
+    (RunFault::NoMemory, 2),
+    (RunFault::NoThread, 3),
+    (RunFault::Read, 4),
+];
 
 #[test]
 fn numbers_of_runs_that_give_nothing(rt: HostRuntime) {

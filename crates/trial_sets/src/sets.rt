@@ -5,9 +5,10 @@ ghost use Rattle.env_index.specs.Words.{HasSpans, span_of};
 
 use super::guides::guide_of;
 use env_index::{GroupEnvelope, Interchange, read_interchange};
+use guide_fast::FastGuide;
 use guide_tree::Guide;
 use hub_kinds::{ElemFault, Fault, SetCode, code_text, within_limit};
-use set_check::check_set;
+use set_check::{CheckedSet, check_set, check_set_fast};
 use std::alloc::Global;
 use std::test::Fail;
 use x12_bytes::Delims;
@@ -71,6 +72,44 @@ fn add_codes(out: &mut Vec<u8>, codes: &[SetCode]) -> Result<(), Fail> {
     Ok(())
 }
 
+/// Adds what was found in a set.
+fn add_found(out: &mut Vec<u8>, alloc: Global, set: &CheckedSet) -> Result<(), Fail> {
+    if set.is_clean() {
+        out.extend_from_slice(b" clean")?;
+    }
+    add_faults(out, alloc, set.faults())?;
+    add_codes(out, set.codes())
+}
+
+/// Whether just this is found in a set by its guide once that is compiled.
+fn expect_found(
+    alloc: Global,
+    text: &[u8],
+    span: SetSpan,
+    guide: Option<&Guide>,
+    wanted: &[u8],
+) -> Result<(), Fail>
+    requires { IsSetSpan text.now span }
+{
+    let mut found = Vec::new(alloc);
+    match guide {
+        None => {
+            let set = check_set_fast(alloc, text, span, None)?;
+            add_found(&mut found, alloc, &set)?;
+        }
+        Some(guide) => {
+            let fast = FastGuide::of(alloc, guide)?;
+            let set = check_set_fast(alloc, text, span, Some(&fast))?;
+            add_found(&mut found, alloc, &set)?;
+        }
+    }
+    if found.as_slice() != wanted {
+        return Err("something else is found by a compiled guide".into());
+    }
+    Ok(())
+}
+
+/// Adds what is found in a set, which is the same by its guide and by that compiled.
 fn add_set(
     out: &mut Vec<u8>,
     alloc: Global,
@@ -80,12 +119,12 @@ fn add_set(
 ) -> Result<(), Fail>
     requires { IsSetSpan text.now span }
 {
+    let mut found = Vec::new(alloc);
     let set = check_set(alloc, text, span, guide)?;
-    if set.is_clean() {
-        out.extend_from_slice(b" clean")?;
-    }
-    add_faults(out, alloc, set.faults())?;
-    add_codes(out, set.codes())
+    add_found(&mut found, alloc, &set)?;
+    expect_found(alloc, text, span, guide, found.as_slice())?;
+    out.extend_from_slice(found.as_slice())?;
+    Ok(())
 }
 
 fn add_group(

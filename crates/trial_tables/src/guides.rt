@@ -9,7 +9,7 @@ use trial_guides::house::H850;
 use x12_bytes::Delims;
 use x12_segs::SegView;
 
-const DELIMS: Delims = Delims {
+pub const DELIMS: Delims = Delims {
     element: b'*',
     component: b'>',
     repetition: Some(b'^'),
@@ -51,7 +51,7 @@ const NEEDED: &[(usize, usize, usize)] = &[
 ];
 
 /// The guide of a file. It has no contract, so that a test's proof doesn't read a whole file.
-fn guide_of(alloc: Global, file: &str) -> Result<Guide, Fail> {
+pub fn guide_of(alloc: Global, file: &str) -> Result<Guide, Fail> {
     Ok(read_guide(alloc, file.as_bytes())?)
 }
 

@@ -1,5 +1,5 @@
 //! Trials of `guide_fast` and `segment_marks`: where segments begin by the compiled house guide of orders, what is told of those without a
-//! place, how many nodes are needed, and the marks of texts of all lengths.
+//! place, how many nodes are needed, the places of an order's segments, and the marks of texts of all lengths.
 //!
 //! Nothing is proved here but that the trials are safe and end.
 #![tactic(auto)]
@@ -8,3 +8,5 @@
 mod guides;
 #[cfg(test)]
 mod marks;
+#[cfg(test)]
+mod places;

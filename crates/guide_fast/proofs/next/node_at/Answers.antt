@@ -2,7 +2,7 @@ use Rattle.std.proofs.Common.{List, get_or, subst, sym, ap, ◌∙◌, rules}
 use Rattle.guide_tree.specs.declared.node.Node.{Node}
 use Rattle.guide_tree.specs.Words.{view}
 use Rattle.guide_fast.specs.Tables.{trees_in, HasTablesIn}
-use Rattle.guide_fast.proofs.Indexed.{tables_at}
+use Rattle.guide_fast.proofs.Tabled.{tables_at}
 use Rattle.guide_fast.proofs.next.node_at.Goals as goal
 
 pub returns-clause-tables : goal.returns-clause-tables

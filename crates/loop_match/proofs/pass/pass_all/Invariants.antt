@@ -8,9 +8,9 @@ use Rattle.loop_match.proofs.pass.pass_all.Given as goal
 
 -- what is given and found so far, with what the segments left will add, is what all give
 abbrev pub invariant-loop-i : goal.invariant-loop-i
-invariant-loop-i l = IsWalk l.pass.walk l.i
-    × (given_behind (nodes_view l.guide.nodes.items) l.pass.walk (map elements_of (drop l.i l.segs))
-    ≡ given_of (nodes_view l.guide.nodes.items) (map elements_of l.segs))
-    × (found_behind (guide_of l.guide) (length l.segs + 2) (l.i + 2) l.pass (map elements_of (drop l.i l.segs))
-    ≡ structure_faults (guide_of l.guide) (length l.segs + 2) (map elements_of l.segs)
-    (placing_of (nodes_view l.guide.nodes.items) (map elements_of l.segs)))
+invariant-loop-i g l = IsWalk l.pass.walk l.i
+    × (given_behind (nodes_view (g.N.NextPlace.guide l.next).nodes.items) l.pass.walk (map elements_of (drop l.i l.segs))
+    ≡ given_of (nodes_view (g.N.NextPlace.guide l.next).nodes.items) (map elements_of l.segs))
+    × (found_behind (guide_of (g.N.NextPlace.guide l.next)) (length l.segs + 2) (l.i + 2) l.pass (map elements_of (drop l.i l.segs))
+    ≡ structure_faults (guide_of (g.N.NextPlace.guide l.next)) (length l.segs + 2) (map elements_of l.segs)
+    (placing_of (nodes_view (g.N.NextPlace.guide l.next).nodes.items) (map elements_of l.segs)))

@@ -11,9 +11,9 @@ use Rattle.loop_match.proofs.Walking.{gone_stray, gone_turn}
 use Rattle.loop_match.proofs.walk.place_one.Goals as goal
 
 pub returns-in_ok-push-in-None-clause-given : goal.returns-in_ok-push-in-None-clause-given
-returns-in_ok-push-in-None-clause-given c body =
+returns-in_ok-push-in-None-clause-given g c body =
     let w = c.args.walk.now in
-    let ts = nodes_view c.args.nodes.now in
+    let ts = nodes_view (g.N.NextPlace.guide c.args.next.now).nodes.items in
     let s = elements_of c.args.seg.now in
     let m : Mark = record { start = 0; depth = 0; slot = None } in
     ap (λ (ms : List Mark). marks_view w.steps.items ms ++ given_from ts (last_of (place_view w.last.items)) body)
@@ -22,7 +22,7 @@ returns-in_ok-push-in-None-clause-given c body =
     (c.in-None.ensures.turn ∙ ap (λ (l : List Step). fit_behind s ts (place_view l)) c.as_slice.ensures.value)
 
 pub returns-in_ok-push-in-Some-clause-walk : goal.returns-in_ok-push-in-Some-clause-walk
-returns-in_ok-push-in-Some-clause-walk c =
+returns-in_ok-push-in-Some-clause-walk g c =
     let w = c.args.walk.now in
     let steps = w.steps.items in
     let more = c.go.new.last.items in
@@ -42,9 +42,9 @@ returns-in_ok-push-in-Some-clause-walk c =
     }
 
 pub returns-in_ok-push-in-Some-clause-given : goal.returns-in_ok-push-in-Some-clause-given
-returns-in_ok-push-in-Some-clause-given c body =
+returns-in_ok-push-in-Some-clause-given g c body =
     let w = c.args.walk.now in
-    let ts = nodes_view c.args.nodes.now in
+    let ts = nodes_view (g.N.NextPlace.guide c.args.next.now).nodes.items in
     let s = elements_of c.args.seg.now in
     let steps = w.steps.items in
     let more = c.go.new.last.items in
@@ -62,14 +62,14 @@ returns-in_ok-push-in-Some-clause-given c body =
     c.in_ok-go-in-Some.ensures
 
 pub returns-in_ok-push-in-None-clause-gone : goal.returns-in_ok-push-in-None-clause-gone
-returns-in_ok-push-in-None-clause-gone c =
+returns-in_ok-push-in-None-clause-gone g c =
     let s = elements_of c.args.seg.now in
-    let ts = nodes_view c.args.nodes.now in
+    let ts = nodes_view (g.N.NextPlace.guide c.args.next.now).nodes.items in
     gone_stray ts c.args.walk.now.last.items s
     (c.in-None.ensures.turn ∙ ap (λ (l : List Step). fit_behind s ts (place_view l)) c.as_slice.ensures.value)
 
 pub returns-in_ok-push-in-None-clause-walk : goal.returns-in_ok-push-in-None-clause-walk
-returns-in_ok-push-in-None-clause-walk c =
+returns-in_ok-push-in-None-clause-walk g c =
     let w = c.args.walk.now in
     let m : Mark = record { start = 0; depth = 0; slot = None } in
     record {
@@ -79,9 +79,9 @@ returns-in_ok-push-in-None-clause-walk c =
     }
 
 pub returns-in_ok-push-in-Some-clause-gone : goal.returns-in_ok-push-in-Some-clause-gone
-returns-in_ok-push-in-Some-clause-gone c =
+returns-in_ok-push-in-Some-clause-gone g c =
     let s = elements_of c.args.seg.now in
-    let ts = nodes_view c.args.nodes.now in
+    let ts = nodes_view (g.N.NextPlace.guide c.args.next.now).nodes.items in
     let t = c.in-Some.turn in
     gone_turn ts c.args.walk.now.last.items c.go.new.last.items t s
     (subst (λ (l : List Step). Some (turned (place_view l) t) ≡ fit_behind s ts (place_view l)) c.as_slice.ensures.value

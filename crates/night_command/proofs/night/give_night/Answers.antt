@@ -4,8 +4,9 @@ use Rattle.night_command.proofs.night.give_night.Goals as goal
 
 pub returns-in-Ok-clause-left : goal.returns-in-Ok-clause-left
 returns-in-Ok-clause-left g c failed =
-    inr (all_put c.args.text.now c.args.setup.now c.args.at.now _ _ c.in-Ok.night c.in-Ok.ensures.night c.in-Ok.ensures.files)
+    inr (all_put (g.S.Source.remaining c.args.source.now) c.args.setup.now c.args.at.now _ _ c.in-Ok.night c.in-Ok.ensures.night
+    c.in-Ok.ensures.files)
 
 pub returns-in-Err-clause-left : goal.returns-in-Err-clause-left
 returns-in-Err-clause-left g c failed =
-    front_of c.args.text.now c.args.setup.now c.args.at.now _ _ c.in-Err.failure c.in-Err.ensures.some
+    front_of (g.S.Source.remaining c.args.source.now) c.args.setup.now c.args.at.now _ _ c.in-Err.failure c.in-Err.ensures.some

@@ -1,9 +1,41 @@
+use Rattle.night_command.proofs.Files.{some_put, told_fault}
 use Rattle.night_command.proofs.PlainGuides.{setup_plain}
+use Rattle.night_command.specs.Outcome.{IsNightOfSource, LeavesOutbox}
+use Rattle.night_command.specs.declared.failure.Failure.{Failure}
 use Rattle.night_command.proofs.night.night_in.Goals as goal
 
-pub returns-in_ok-put_night-in-Ok-clause-read : goal.returns-in_ok-put_night-in-Ok-clause-read
-returns-in_ok-put_night-in-Ok-clause-read g c paths at =
-    let plain = setup_plain c.files_write_references.ensures paths c.args.setup.now at in (
-      c.plain_references_are_quoted.ensures.sets c.args.text.now c.args.setup.now _ c.is_sound.ensures plain c.in-Ok.ensures.read,
-      c.plain_references_are_quoted.ensures.ta1s c.args.text.now c.args.setup.now _ c.is_sound.ensures plain c.in-Ok.ensures.answered,
-    )
+pub returns-clause-night : goal.returns-clause-night
+returns-clause-night g c =
+    let given = c.in_ok-night.ensures.night in
+    record {
+      text = given.text;
+      told_all = given.told_all;
+      within = given.few;
+      is_night = given.is;
+      read = λ paths at.
+          let plain = setup_plain c.files_write_references.ensures paths c.args.setup.now at in (
+            c.plain_references_are_quoted.ensures.sets given.text c.args.setup.now _ c.is_sound.ensures plain given.read,
+            c.plain_references_are_quoted.ensures.ta1s given.text c.args.setup.now _ c.is_sound.ensures plain given.answered,
+          );
+    }
+
+pub returns-in_err-put_night-clause-some : goal.returns-in_err-put_night-clause-some
+returns-in_err-put_night-clause-some g c =
+    let told = g.S.Source.remaining c.args.source.now in
+    let setup = c.args.setup.now in
+    let given = c.in_ok-night.ensures.night in
+    let by : IsNightOfSource told setup c.args.at.now c.in_ok-night.night = record {
+      text = given.text;
+      told_all = given.told_all;
+      within = given.few;
+      is_night = given.is;
+      read = λ paths at.
+          let plain = setup_plain c.files_write_references.ensures paths setup at in (
+            c.plain_references_are_quoted.ensures.sets given.text setup _ c.is_sound.ensures plain given.read,
+            c.plain_references_are_quoted.ensures.ta1s given.text setup _ c.is_sound.ensures plain given.answered,
+          );
+    } in
+    told_fault c.from_residual-in_err-put_night.result c.in_err-put_night.field-0.0
+    (λ (failed : Failure). LeavesOutbox told setup c.args.at.now (g.B.Outbox.contents c.args.outbox.now)
+    (g.B.Outbox.contents c.put_night.new.outbox) failed) c.from_residual-in_err-put_night.ensures.1
+    (some_put told setup c.args.at.now _ _ c.in_ok-night.night c.in_err-put_night.field-0.0 by c.in_err-put_night.ensures.some)

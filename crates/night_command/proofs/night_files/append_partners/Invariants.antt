@@ -1,5 +1,5 @@
 use Rattle.std.proofs.Common.{◌≡◌, ◌++◌, drop, map}
-use Rattle.night_command.specs.Folder.{file_of}
+use Rattle.night_command.specs.Outbox.{file_of}
 use Rattle.night_command.specs.NightFiles.{partner_files}
 use Rattle.night_command.proofs.night_files.append_partners.Given as goal
 

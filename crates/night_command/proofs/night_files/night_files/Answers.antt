@@ -1,6 +1,6 @@
 use Rattle.std.proofs.Common.{ℕ, List, ◌++◌, ◌∙◌, map, ap}
 use Rattle.partner_setup.specs.declared.partner.Partner.{Partner}
-use Rattle.night_command.specs.Folder.{File, file_of}
+use Rattle.night_command.specs.Outbox.{File, file_of}
 use Rattle.night_command.specs.NightFiles.{last_files, partner_files}
 use Rattle.night_command.proofs.Files.{ending}
 use Rattle.night_command.proofs.night_files.night_files.Goals as goal

@@ -1,8 +1,10 @@
 use Rattle.std.proofs.Common.{rules, ◌≡◌, [], map, length, replicate, None, subst, sym, true, true≢false}
+use Rattle.work_core.specs.Complete.{AreOnce}
 use Rattle.work_core.specs.Core.{was_recorded}
 use Rattle.number_register.specs.Fresh.{fresh_books, fresh_groups}
 use Rattle.number_register.specs.Slots.{AreHeld}
 use Rattle.number_register.proofs.Holding.{fresh_held}
+use Rattle.number_register.proofs.Once.{none_once}
 use Rattle.number_register.proofs.records.Records.new.Goals as goal
 
 pub invariant_of-result : goal.invariant_of-result
@@ -14,6 +16,7 @@ invariant_of-result c =
     let none : c.in_ok-recorded.recorded.items ≡ [] = search rules in record {
       places = search rules;
       listed = λ q h. absurd (true≢false (sym (subst (λ r. was_recorded r q ≡ true) none h)));
+      once = subst (λ r. AreOnce r r) (sym none) none_once;
       held =
           subst (λ r. AreHeld es r c.in_ok-interchanges.interchanges c.in_ok-groups.groups c.in_ok-sets.sets.items) (sym none)
           (subst (λ i. AreHeld es [] i c.in_ok-groups.groups c.in_ok-sets.sets.items) (sym inter)

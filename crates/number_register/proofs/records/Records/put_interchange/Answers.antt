@@ -1,5 +1,6 @@
 use Rattle.std.proofs.Common.{rules, ◌≡◌, ◌-◌, ◌++◌, ◌∷◌, [], true, false, Some, sym, subst}
 use Rattle.std.specs.Prelude.{Contains, slice_set}
+use Rattle.work_core.specs.Complete.{AreOnce}
 use Rattle.work_core.specs.Core.{was_recorded}
 use Rattle.hub_kinds.specs.declared.place.Place.{Place}
 use Rattle.env_index.specs.Words.{places_of}
@@ -7,6 +8,7 @@ use Rattle.number_register.specs.Placing.{IsKeyAt}
 use Rattle.number_register.specs.Recording.{Recording}
 use Rattle.number_register.specs.Slots.{AreHeld}
 use Rattle.number_register.specs.declared.key.Key.TheVariants.{OfInterchange}
+use Rattle.number_register.proofs.Once.{once_more}
 use Rattle.number_register.proofs.Slotting.{listed_more}
 use Rattle.number_register.proofs.Putting.{interchange_absent_at, interchange_more_at}
 use Rattle.number_register.proofs.records.Records.put_interchange.Goals as goal
@@ -34,6 +36,7 @@ invariant_of-self-2 c =
       listed = subst (λ r. (q : Place) → was_recorded r q ≡ true → Contains (places_of s.index.now) q) (sym listed)
           (listed_more (λ q. Contains (places_of s.index.now) q) s.recorded.items p c.self.invariant.listed
           (subst (λ (r : Recording). Contains (places_of r.index) c.args.place) (sym c.self.view_is) c.requires.place));
+      once = subst (λ r. AreOnce r r) (sym listed) (once_more s.recorded.items p fresh c.self.invariant.once);
       held = subst (λ r. AreHeld es r c.add.new.self s.groups s.sets.items) (sym listed)
           (subst (λ b. AreHeld es (s.recorded.items ++ p ∷ []) b s.groups s.sets.items) (sym added) more);
     }

@@ -1,6 +1,7 @@
 use Rattle.std.proofs.Common.{rules, ◌≡◌, ◌-◌, ◌<◌, ◌++◌, ◌∷◌, [], true, false, None, Some, get_or, length, ap, sym, subst, ◌∙◌, arith}
 use Rattle.std.specs.Prelude.{Contains, slice_get, slice_set, vec_len}
 use Rattle.number_book.specs.Books.{book_at}
+use Rattle.work_core.specs.Complete.{AreOnce}
 use Rattle.work_core.specs.Core.{was_recorded}
 use Rattle.hub_kinds.specs.declared.place.Place.{Place}
 use Rattle.env_index.specs.Words.{places_of}
@@ -9,6 +10,7 @@ use Rattle.number_register.specs.Recording.{Recording}
 use Rattle.number_register.specs.Slots.{AreHeld}
 use Rattle.number_register.specs.declared.key.Key.TheVariants.{OfSet}
 use Rattle.number_register.proofs.Holding.{with_set, within_books}
+use Rattle.number_register.proofs.Once.{once_more}
 use Rattle.number_register.proofs.Slotting.{listed_more}
 use Rattle.number_register.proofs.Putting.{set_absent_at, set_more_at}
 use Rattle.number_register.proofs.Standing.{get_or_any}
@@ -64,6 +66,7 @@ invariant_of-self-2 c =
       listed = subst (λ r. (q : Place) → was_recorded r q ≡ true → Contains (places_of s.index.now) q) (sym listed)
           (listed_more (λ q. Contains (places_of s.index.now) q) s.recorded.items p c.self.invariant.listed
           (subst (λ (r : Recording). Contains (places_of r.index) c.args.place) (sym c.self.view_is) c.requires.place));
+      once = subst (λ r. AreOnce r r) (sym listed) (once_more s.recorded.items p fresh c.self.invariant.once);
       held = subst (λ r. AreHeld es r s.interchanges s.groups (slice_set s.sets.items (p.isa - 1) c.add.new.self)) (sym listed)
           (subst (λ b. AreHeld es (s.recorded.items ++ p ∷ []) s.interchanges s.groups (slice_set s.sets.items (p.isa - 1) b)) (sym added)
           more);

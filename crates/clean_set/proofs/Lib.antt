@@ -1,0 +1,3 @@
+pub mod SoundPlaces
+mod Clean
+mod Taking

@@ -1,0 +1,3 @@
+pub mod CleanBody
+pub mod CleanSet
+pub mod Walked

@@ -1,0 +1,79 @@
+ghost use Rattle.std.specs.Prelude.{◌≡◌, ◌↔◌, ◌<◌, ◌≤◌, length, IfOk, IsErrOf};
+ghost use Rattle.moment.specs.Moment.{IsMoment};
+ghost use Rattle.night_writing.specs.Night.{IsNight};
+ghost use Rattle.hub_run.specs.ReadBack.{AreReadBack};
+ghost use Rattle.hub_run.specs.SetsRead.{AreBoxesRead};
+ghost use Rattle.hub_run.specs.Ta1sRead.{AreTa1sReadBack};
+ghost use Rattle.hub_run.specs.Told.{AreSetsTold};
+
+use crate::plain::are_sound;
+use crate::run_fault::RunFault;
+use crate::writing::write_found;
+use cut_plan::Cuts;
+use fast_guides::FastGuides;
+use hub_kinds::{LONGEST_TEXT, within_limit};
+use moment::At;
+use night_work::{FoundText, find_out};
+use night_writing::Night;
+use partner_setup::Setup;
+use std::alloc::Global;
+use std::sync::Wait;
+use std::thread::Threads;
+use std::time::Clock;
+use worker_pool::Gate;
+
+/// The night of a text that is cut into pieces, anywhere, and shared among 1 to 64 workers, behind a gate: for every number of workers
+/// and every way of cutting, what the definitions give for the text read front to back, byte for byte. Each guide of the setup is
+/// compiled once, before the workers start. It waits for them. Errors: a text of more than `LONGEST_TEXT` bytes, exactly; a thread that
+/// the system doesn't start; want of memory. Then nothing is given.
+/// X12.5, interchange and interchange acknowledgment; X12.6, functional group and transaction set; 999 guide (005010X231).
+pub fn run_night<G: Gate + Sync, R: Threads + Wait + Clock + Sync>(
+    rt: &R,
+    alloc: Global,
+    text: &[u8],
+    setup: &Setup,
+    at: &At,
+    workers: u64,
+    cuts: &Cuts,
+    gate: &G,
+) -> Result<Night, RunFault>
+    requires workers { (1 ≤ workers) × (workers ≤ 64) }
+    requires cuts { cuts.now.text_len ≡ length text.now }
+    ensures too_long { IsErrOf result RunFault.InputTooLong ↔ (LONGEST_TEXT < length text.now) }
+    ensures night { IfOk result (IsNight text.now setup.now at.now) }
+    ensures told { IfOk result (λ night. AreSetsTold text.now setup.now at.now night.acks) }
+    ensures read { IfOk result (λ night. AreReadBack text.now setup.now night.acks) }
+    ensures answered { IfOk result (λ night. AreTa1sReadBack text.now setup.now night.acks) }
+    ensures found { IfOk result (λ night. AreBoxesRead text.now setup.now night.boxes) }
+{
+    if !within_limit(text.len() as u64) {
+        return Err(RunFault::InputTooLong);
+    }
+    are_sound(setup, at);
+    let night = share_night(rt, alloc, text, setup, at, workers, cuts, gate)?;
+    Ok(night)
+}
+
+/// The night of a text that isn't too long: all of it is found out by the workers, and written behind them.
+fn share_night<'a, G: Gate + Sync, R: Threads + Wait + Clock + Sync>(
+    rt: &R,
+    alloc: Global,
+    text: &'a [u8],
+    setup: &'a Setup,
+    at: &At,
+    workers: u64,
+    cuts: &Cuts,
+    gate: &G,
+) -> Result<Night, RunFault>
+    requires few { length text.now ≤ LONGEST_TEXT }
+    requires workers { (1 ≤ workers) × (workers ≤ 64) }
+    requires cuts { cuts.now.text_len ≡ length text.now }
+    ensures night { IfOk result (IsNight text.now setup.now at.now) }
+    ensures long { IsErrOf result RunFault.InputTooLong → ⊥ }
+{
+    let guides = FastGuides::of(alloc, setup)?;
+    let found = find_out(rt, alloc, setup, &guides, text, cuts, workers, gate)?;
+    let FoundText { index, findings } = found;
+    let night = write_found(alloc, setup, at, &index, findings)?;
+    Ok(night)
+}

@@ -1,0 +1,44 @@
+-- A night that the words ask for can be shared as they say.
+use Rattle.std.proofs.Common.{◌≡◌, ◌≤◌, ◌&&◌, ℕ, Bool, true, false, Option, Some, None, List, codes, if◌then◌else◌, refl, subst, arith}
+use Rattle.std.proofs.Common.{rules, tests}
+use Rattle.std.specs.Prelude.{nat_le}
+use Rattle.hub_kinds.specs.Words.{number_of}
+use Rattle.clap.specs.Words.{Text}
+use Rattle.night_command.specs.CommandLine.{AreOptions, CanShare, IsAsked, number_given, up_to_most, value_of, values_of}
+use Rattle.night_command.specs.declared.command.Asked.{Asked}
+use Rattle.night_command.specs.declared.command.Asked.TheVariants.{Run}
+use Rattle.night_command.specs.declared.command.Options.{Options}
+
+within_by : (most k n : ℕ) (a b : Bool) → nat_le 1 k ≡ a → nat_le k most ≡ b
+    → (if a && b then Some k else None) ≡ Some n → (1 ≤ n) × (n ≤ most)
+within_by most k n true true least fits is =
+    let same : k ≡ n = cc in
+    let one : 1 ≤ k = search (rules, tests) in
+    let last : k ≤ most = search (rules, tests) in
+    (omega (arith, one, same), omega (arith, last, same))
+within_by most k n true false least fits is = cc
+within_by most k n false b least fits is = cc
+
+within_most : (most n : ℕ) (number : Option ℕ) → up_to_most most number ≡ Some n → (1 ≤ n) × (n ≤ most)
+within_most most n None is = cc
+within_most most n (Some k) is = within_by most k n (nat_le 1 k) (nat_le k most) refl refl is
+
+given_within : (otherwise most n : ℕ) (text : Option Text) → 1 ≤ otherwise → otherwise ≤ most → number_given otherwise most text ≡ Some n
+    → (1 ≤ n) × (n ≤ most)
+given_within otherwise most n None least fits is =
+    let same : otherwise ≡ n = cc in
+    (omega (arith, least, same), omega (arith, fits, same))
+given_within otherwise most n (Some text) least fits is = within_most most n (number_of 10 text) is
+
+options_share : (value : Text → Option Text) (values : Text → Option (List Text)) (options : Options) → AreOptions value values options
+    → CanShare options.sharing
+options_share value values options are =
+    let workers = given_within 4 64 options.sharing.workers (value (codes "workers")) (omega arith) (omega arith) are.workers in
+    let piece = given_within 1048576 4294967295 options.sharing.piece (value (codes "piece")) (omega arith) (omega arith) are.piece in
+    record { some = workers.0; few = workers.1; piece = piece.0; short = piece.1 }
+
+-- the options that the words ask for
+pub can_share : (words : List Text) (asked : Asked) (options : Options) → asked ≡ Run options → IsAsked words asked
+    → CanShare options.sharing
+can_share words asked options is by =
+    options_share (value_of words) (values_of words) options (subst (λ (a : Asked). IsAsked words a) is by)

@@ -1,0 +1,2 @@
+pub mod FoundOut
+pub mod Pieces

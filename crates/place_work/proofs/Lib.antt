@@ -1,0 +1,5 @@
+pub mod Adding
+pub mod Asking
+pub mod Placing
+pub mod Same
+pub mod Telling

@@ -1,0 +1,4 @@
+pub mod Alone
+pub mod Findings
+pub mod Flags
+pub mod Jobs

@@ -1,0 +1,4 @@
+pub mod Naming
+pub mod Completing
+pub mod Placing
+pub mod Crossing

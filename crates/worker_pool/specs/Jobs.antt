@@ -1,0 +1,49 @@
+-- X12.6, transaction set: jobs at the places of an index, and what their answers were asked (own).
+use Rattle.std.specs.Prelude.{ℕ, List, Option, Some, option_map}
+use Rattle.std.specs.Option.{option_copied}
+use Rattle.hub_kinds.specs.declared.place.Place.{Place}
+use Rattle.x12_segs.specs.declared.set_span.SetSpan.{SetSpan}
+use Rattle.guide_tree.specs.declared.rows.GuideRows.{GuideRows}
+use Rattle.set_check.specs.Checked.{Checked}
+use Rattle.worker_pool.specs.declared.job.CheckJob.{CheckJob}
+use Rattle.worker_pool.specs.declared.job.SetJob.{SetJob}
+
+-- how a set is checked: the text, where it stands there, and the rows of its guide, if it has one
+pub record SetAsked : Type 0 where
+  pub text : List ℕ
+  pub span : SetSpan
+  pub guide : Option GuideRows
+
+-- a place, and how its set is checked, where it is a set's
+pub record JobValue : Type 0 where
+  pub place : Place
+  pub set : Option SetAsked
+
+abbrev pub set_asked : SetJob → SetAsked
+set_asked s = record { text = s.text.now; span = s.span; guide = option_copied s.guide }
+
+abbrev pub job_value : CheckJob → JobValue
+job_value j = record { place = j.place; set = option_map set_asked j.set }
+
+-- an answer: its job's number, its place, and the set that was checked
+pub record DoneValue : Type 0 where
+  pub number : ℕ
+  pub place : Place
+  pub checked : Option Checked
+
+abbrev pub asked_by : Checked → SetAsked
+asked_by c = record { text = c.text; span = c.span; guide = c.guide }
+
+-- the job that an answer is to
+abbrev pub job_of : DoneValue → JobValue
+job_of d = record { place = d.place; set = option_map asked_by d.checked }
+
+abbrev pub number_of : DoneValue → ℕ
+number_of d = d.number
+
+-- the place of a job, as a job of any pool may have one
+abbrev pub slot_of : CheckJob → Option Place
+slot_of j = Some j.place
+
+abbrev pub place_of : CheckJob → Place
+place_of j = j.place
