@@ -16,6 +16,7 @@ use moment::At;
 use night_work::{FoundText, find_out};
 use night_writing::Night;
 use partner_setup::Setup;
+use render_crew::ManyThreads;
 use std::alloc::Global;
 use std::sync::Wait;
 use std::thread::Threads;
@@ -74,6 +75,7 @@ fn share_night<'a, G: Gate + Sync, R: Threads + Wait + Clock + Sync>(
     let guides = FastGuides::of(alloc, setup)?;
     let found = find_out(rt, alloc, setup, &guides, text, cuts, workers, gate)?;
     let FoundText { index, findings } = found;
-    let night = write_found(alloc, setup, at, &index, findings)?;
+    let writers = ManyThreads { rt, workers };
+    let night = write_found(alloc, &writers, setup, at, &index, findings)?;
     Ok(night)
 }

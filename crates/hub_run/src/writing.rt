@@ -8,6 +8,7 @@ ghost use Rattle.night_writing.specs.Writing.{HasRoomFor, IsBatchWritten, nothin
 use checked_text::Finding;
 use env_index::Index;
 use hub_kinds::NoMemory;
+use mailbox::Writers;
 use moment::At;
 use night_writing::{Night, Writing};
 use partner_setup::Setup;
@@ -60,18 +61,20 @@ pub(crate) fn write_night<'a>(
 }
 
 /// The same by what was found out about the places of the index.
-pub(crate) fn write_found<'a>(
+pub(crate) fn write_found<'a, W: Writers>(
     alloc: Global,
+    writers: &W,
     setup: &'a Setup,
     at: &At,
     index: &Index<'a>,
     found: Vec<Finding<'a>>,
 ) -> Result<Night, NoMemory>
+    requires ready { W.is_ready writers.now }
     requires spans { All (λ e. HasSpans index.now.text e.interchange) index.now.entries }
     requires found { AllZip IsFound (asked_of index.now.text setup.now index.now.entries) found.items }
     ensures { IfOk result (IsNightIn index.now setup.now at.now) }
 {
     let nothing = nothing_before(alloc, setup, at, index)?;
-    let written = nothing.add_found(alloc, setup, at, 0, index, found)?;
+    let written = nothing.add_found(alloc, writers, setup, at, 0, index, found)?;
     close_one(alloc, setup, at, index, written)
 }

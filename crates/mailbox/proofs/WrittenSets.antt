@@ -1,9 +1,10 @@
 -- The written sets, with a set, and with the sets of a partner more.
 use Rattle.std.proofs.Common.{◌≡◌, ◌≢◌, ◌<◌, ◌≤◌, ◌⊎◌, inl, inr, ℕ, ◌+◌, List, [], ◌∷◌, ◌++◌, Some, length, refl, sym, ap}
-use Rattle.std.proofs.Common.{◌∙◌, arith, append_assoc}
+use Rattle.std.proofs.Common.{◌∙◌, arith, append_assoc, map, map-id, Ok, Err, Result, IfOk, MatchResult}
+use Rattle.std.specs.List.{AllZip, range_with_len}
+use Rattle.render_crew.proofs.Gathered.{gathered, numbered}
 use Rattle.std.specs.Prelude.{slice_get, slice_set}
 use Rattle.std.proofs.lemmas.Bool.{cases_lt}
-use Rattle.std.proofs.lemmas.List.{length-append}
 use Rattle.std.proofs.lemmas.Option.{slice_get_within}
 use Rattle.partner_setup.specs.declared.partner.Partner.{Partner}
 use Rattle.partner_setup.specs.Setup.{SetupValue}
@@ -18,17 +19,43 @@ use Rattle.mailbox.proofs.Replacing.{length_set, set_here, set_there}
 abbrev Boxes : Type 0
 Boxes = List (List RenderedValue)
 
--- one set more
-pub one_added : (partner : Partner) (p : PlacedValue) (left rest : List PlacedValue) (old new all : List RenderedValue)
-    → new ≡ old ++ rendered partner (length old) p ∷ [] → left ≡ p ∷ rest
-    → old ++ rendered_from partner (length old) left ≡ all → new ++ rendered_from partner (length new) rest ≡ all
-one_added partner p left rest old new all is split was =
-    let one : RenderedValue = rendered partner (length old) p in
-    ap (λ (ns : List RenderedValue). ns ++ rendered_from partner (length ns) rest) is
-    ∙ ap (λ (n : ℕ). (old ++ one ∷ []) ++ rendered_from partner n rest) (length-append old (one ∷ []))
-    ∙ append_assoc old (one ∷ []) (rendered_from partner (length old + 1) rest)
-    ∙ sym (ap (λ (ps : List PlacedValue). old ++ rendered_from partner (length old) ps) split)
+-- one set more, which is number k of those that are delivered to the partner
+pub one_added : (partner : Partner) (k : ℕ) (p : PlacedValue) (left rest : List PlacedValue) (old new all : List RenderedValue)
+    → new ≡ old ++ rendered partner k p ∷ [] → left ≡ p ∷ rest
+    → old ++ rendered_from partner k left ≡ all → new ++ rendered_from partner (k + 1) rest ≡ all
+one_added partner k p left rest old new all is split was =
+    let one : RenderedValue = rendered partner k p in
+    ap (λ (ns : List RenderedValue). ns ++ rendered_from partner (k + 1) rest) is
+    ∙ append_assoc old (one ∷ []) (rendered_from partner (k + 1) rest)
+    ∙ sym (ap (λ (ps : List PlacedValue). old ++ rendered_from partner k ps) split)
     ∙ was
+
+-- what was gathered of each place of a list, in order, is what is written of the list
+numbered_rendered : (partner : Partner) (k a : ℕ) (ps : List PlacedValue)
+    → numbered (λ (i : ℕ) (p : PlacedValue). rendered partner (k + i) p) a ps ≡ rendered_from partner (k + a) ps
+numbered_rendered partner k a [] = refl
+numbered_rendered partner k a (p ∷ ps) =
+    ap (λ (l : List RenderedValue). rendered partner (k + a) p ∷ l) (numbered_rendered partner k (a + 1) ps
+    ∙ ap (λ (n : ℕ). rendered_from partner n ps) (omega arith))
+
+pub all_gathered : (E : Type 0) (partner : Partner) (k : ℕ) (ps : List PlacedValue) (rs : List (Result RenderedValue E))
+    (written : List RenderedValue) → rs ≡ map Ok written
+    → AllZip {B = Result RenderedValue E}
+    (λ i r. IfOk r (λ v. (p : PlacedValue) → slice_get ps i ≡ Some p → v ≡ rendered partner (k + i) p)) (range_with_len 0 (length ps)) rs
+    → written ≡ rendered_from partner k ps
+all_gathered E partner k ps rs written is made =
+    sym (map-id written) ∙ gathered E (λ (i : ℕ) (p : PlacedValue). rendered partner (k + i) p) (λ (v : RenderedValue). v) ps rs written is made
+    ∙ numbered_rendered partner k 0 ps ∙ ap (λ (n : ℕ). rendered_from partner n ps) (omega arith)
+
+-- what a gathering answers
+pub gathering_gives : {V E F : Type 0} (items : V → List RenderedValue) (partner : Partner) (k : ℕ) (ps : List PlacedValue)
+    (rs : List (Result RenderedValue E)) (r : Result V F) (Q : F → Type 0)
+    → MatchResult r (λ v. (ys : List RenderedValue) × (rs ≡ map Ok ys) × (items v ≡ ys)) Q
+    → AllZip {B = Result RenderedValue E}
+      (λ i r. IfOk r (λ v. (p : PlacedValue) → slice_get ps i ≡ Some p → v ≡ rendered partner (k + i) p)) (range_with_len 0 (length ps)) rs
+    → IfOk r (λ v. items v ≡ rendered_from partner k ps)
+gathering_gives {V} {E} {F} items partner k ps rs (Ok v) Q given made = given.2 ∙ all_gathered E partner k ps rs given.0 given.1 made
+gathering_gives {V} {E} {F} items partner k ps rs (Err e) Q given made = tt
 
 pub some_same : {A : Type 0} (a b : A) → Some a ≡ Some b → a ≡ b
 some_same a b e = cc

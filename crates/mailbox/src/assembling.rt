@@ -17,6 +17,7 @@ use hub_kinds::{Items, NoMemory, Text};
 use judged_text::PlacedSet;
 use moment::At;
 use partner_setup::{Partner, Setup};
+use render_crew::OneThread;
 use std::alloc::Global;
 use x12_write::{append_header, append_trailer};
 
@@ -198,6 +199,6 @@ pub fn assemble(
         → IfOk result (λ mailbox. mailbox.groups ≡ group_total p.cap sets.now) }
 {
     let mut written = RenderedSets::none(alloc);
-    written.add_all(alloc, &setup.partners()[partner], sets)?;
+    written.add_all(alloc, &OneThread, &setup.partners()[partner], sets)?;
     close(alloc, setup, partner, at, acknowledgments, groups, &written)
 }

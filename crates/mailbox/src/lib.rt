@@ -41,6 +41,7 @@ mod render_batch;
 mod rendered;
 mod rendered_sets;
 mod room;
+mod writers;
 
 pub use assembling::{Mailbox, assemble, close};
 pub use deliveries::{Delivered, Deliveries};
@@ -52,3 +53,4 @@ pub use receiving::outcome_at;
 pub use render::render_set;
 pub use render_batch::{nothing_rendered, render_deliveries};
 pub use rendered_sets::RenderedSets;
+pub use writers::Writers;

@@ -6,6 +6,7 @@ ghost use Rattle.mailbox.specs.Rendering.{AreWritten};
 use crate::deliveries::Delivered;
 use crate::delivering::deliver;
 use crate::rendered_sets::RenderedSets;
+use crate::writers::Writers;
 use hub_kinds::NoMemory;
 use judged_text::JudgedInterchange;
 use partner_setup::Setup;
@@ -23,13 +24,15 @@ pub fn nothing_rendered(alloc: Global, setup: &Setup) -> Result<Vec<RenderedSets
 }
 
 /// Writes the sets that are delivered to the partner at this place behind those that were written before.
-fn render_to(
+fn render_to<W: Writers>(
     alloc: Global,
+    writers: &W,
     setup: &Setup,
     place: usize,
     list: &Delivered<'_, '_, '_>,
     boxes: &mut [RenderedSets],
 ) -> Result<(), NoMemory>
+    requires ready { W.is_ready writers.now }
     requires partner { place < length setup.now.partners }
     requires there { place < length boxes.old }
     ensures { OnOk result ((partner : Partner) (sets : List RenderedValue) → slice_get setup.now.partners place ≡ Some partner
@@ -37,37 +40,41 @@ fn render_to(
         → boxes.new ≡ slice_set boxes.old place (sets ++ rendered_from partner (length sets) list.now)) }
 {
     let partner = &setup.partners()[place];
-    boxes[place].add_all(alloc, partner, list.sets())
+    boxes[place].add_all(alloc, writers, partner, list.sets())
 }
 
 /// Writes the sets that are delivered to each partner behind those that were written before.
-fn render_each(
+fn render_each<W: Writers>(
     alloc: Global,
+    writers: &W,
     setup: &Setup,
     lists: &[Delivered<'_, '_, '_>],
     boxes: &mut [RenderedSets],
 ) -> Result<(), NoMemory>
+    requires ready { W.is_ready writers.now }
     requires lists { length lists.now ≡ length setup.now.partners }
     requires boxes { length boxes.old ≡ length setup.now.partners }
     ensures { OnOk result (AreWritten setup.now lists.now (length lists.now) boxes.old boxes.new) }
 {
     for place in 0..lists.len() {
-        render_to(alloc, setup, place, &lists[place], boxes)?;
+        render_to(alloc, writers, setup, place, &lists[place], boxes)?;
     }
     Ok(())
 }
 
-/// Writes the sets that are delivered of these interchanges behind those that were written before for each partner, and numbers
+/// Has the sets that are delivered of these interchanges written behind those that were written before for each partner, and numbers
 /// them on (X12.6, transaction set). The only error is want of memory.
-pub fn render_deliveries(
+pub fn render_deliveries<W: Writers>(
     alloc: Global,
+    writers: &W,
     setup: &Setup,
     interchanges: &[JudgedInterchange<'_, '_>],
     boxes: &mut [RenderedSets],
 ) -> Result<(), NoMemory>
-    requires { length boxes.old ≡ length setup.now.partners }
+    requires ready { W.is_ready writers.now }
+    requires boxes { length boxes.old ≡ length setup.now.partners }
     ensures { OnOk result (HaveRendered setup.now interchanges.now boxes.old boxes.new) }
 {
     let lists = deliver(alloc, setup, interchanges)?;
-    render_each(alloc, setup, lists.as_slice(), boxes)
+    render_each(alloc, writers, setup, lists.as_slice(), boxes)
 }

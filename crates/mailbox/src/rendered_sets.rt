@@ -1,4 +1,5 @@
-use crate::rendered::{Rendered, render};
+use crate::rendered::Rendered;
+use crate::writers::Writers;
 use hub_kinds::NoMemory;
 use judged_text::PlacedSet;
 use partner_setup::Partner;
@@ -23,7 +24,7 @@ impl Model for RenderedSets {
 impl RenderedSets {
     ghost use Rattle.std.specs.Prelude.{◌≡◌, ◌++◌, ◌∷◌, [], OnOk, length};
     ghost use Rattle.mailbox.specs.Numbers.{HasCounters};
-    ghost use Rattle.mailbox.specs.Rendered.{rendered, rendered_from};
+    ghost use Rattle.mailbox.specs.Rendered.{rendered_from};
 
     /// None yet.
     pub(crate) fn none(alloc: Global) -> RenderedSets
@@ -48,34 +49,35 @@ impl RenderedSets {
         self.sets.as_slice()
     }
 
-    /// Writes a set behind the others, and numbers it on.
-    fn add(
-        &mut self,
-        alloc: Global,
-        partner: &Partner,
-        placed: &PlacedSet<'_, '_, '_>,
-    ) -> Result<(), NoMemory>
-        requires { HasCounters partner.now }
-        ensures { OnOk result (self.new ≡ self.old ++ rendered partner.now (length self.old) placed.now ∷ []) }
+    /// These sets.
+    pub(crate) fn from_vec(sets: Vec<Rendered>) -> RenderedSets
+        ensures { result ≡ sets.items }
     {
-        let set = render(alloc, partner, self.count(), placed)?;
+        RenderedSets { sets }
+    }
+
+    /// Adds a set behind the others.
+    pub(crate) fn push(&mut self, set: Rendered) -> Result<(), NoMemory>
+        ensures { OnOk result (self.new ≡ self.old ++ set ∷ []) }
+    {
         self.sets.push(set)?;
         Ok(())
     }
 
     /// Writes sets behind the others, and numbers them on.
-    pub(crate) fn add_all(
+    pub(crate) fn add_all<W: Writers>(
         &mut self,
         alloc: Global,
+        writers: &W,
         partner: &Partner,
         sets: &[PlacedSet<'_, '_, '_>],
     ) -> Result<(), NoMemory>
-        requires { HasCounters partner.now }
+        requires ready { W.is_ready writers.now }
+        requires counters { HasCounters partner.now }
         ensures { OnOk result (self.new ≡ self.old ++ rendered_from partner.now (length self.old) sets.now) }
     {
-        for placed in sets {
-            self.add(alloc, partner, placed)?;
-        }
+        let mut written = writers.write_sets(alloc, partner, self.count(), sets)?;
+        self.sets.append(&mut written.sets)?;
         Ok(())
     }
 }

@@ -17,6 +17,7 @@ use moment::At;
 use night_work::{FoundBehind, find_out_behind};
 use night_writing::Writing;
 use partner_setup::Setup;
+use render_crew::ManyThreads;
 use std::alloc::Global;
 use std::sync::Wait;
 use std::thread::Threads;
@@ -68,18 +69,19 @@ fn add_little<'a>(
     Ok(Carried { numbers, writing })
 }
 
-/// Works on a batch with as many bytes as an interchange needs: the guides are compiled, all of it is found out by the workers, and
-/// written behind them.
-fn add_shared<'a, G: Gate + Sync, R: Threads + Wait + Clock + Sync>(
+/// Works on a batch with as many bytes as an interchange needs: all of it is found out by the workers, and written behind them.
+fn add_shared<'g: 'a, 'a, G: Gate + Sync, R: Threads + Wait + Clock + Sync>(
     crew: &Crew<'_, R, G>,
     alloc: Global,
     setup: &'a Setup,
+    guides: &FastGuides<'g>,
     at: &At,
     base: u64,
     carried: Carried,
     batch: &'a [u8],
 ) -> Result<Carried, Stopped>
     requires crew { IsReady crew.now }
+    requires guides { guides.now ≡ setup.now }
     requires few { base + length batch.now ≤ LONGEST_TEXT }
     requires numbers { (numbers : List (List ℕ)) × HaveSeen carried.numbers numbers }
     requires room { CanGoOn setup.now at.now base carried.writing }
@@ -87,13 +89,12 @@ fn add_shared<'a, G: Gate + Sync, R: Threads + Wait + Clock + Sync>(
     ensures pool { IfErr result IsOfPool }
 {
     let Carried { numbers, writing } = carried;
-    let guides = FastGuides::of(alloc, setup)?;
     let cuts = Cuts::every(alloc, batch.len(), crew.piece)?;
     let found = find_out_behind(
         crew.rt,
         alloc,
         setup,
-        &guides,
+        guides,
         batch,
         numbers,
         &cuts,
@@ -105,21 +106,27 @@ fn add_shared<'a, G: Gate + Sync, R: Threads + Wait + Clock + Sync>(
         findings,
         numbers,
     } = found;
-    let writing = writing.add_found(alloc, setup, at, base, &index, findings)?;
+    let writers = ManyThreads {
+        rt: crew.rt,
+        workers: crew.workers,
+    };
+    let writing = writing.add_found(alloc, &writers, setup, at, base, &index, findings)?;
     Ok(Carried { numbers, writing })
 }
 
 /// Works on a batch, read as a text of its own that begins at this offset of the stream.
-pub(crate) fn add_batch<'a, G: Gate + Sync, R: Threads + Wait + Clock + Sync>(
+pub(crate) fn add_batch<'g: 'a, 'a, G: Gate + Sync, R: Threads + Wait + Clock + Sync>(
     crew: &Crew<'_, R, G>,
     alloc: Global,
     setup: &'a Setup,
+    guides: &FastGuides<'g>,
     at: &At,
     base: u64,
     carried: Carried,
     batch: &'a [u8],
 ) -> Result<Carried, Stopped>
     requires crew { IsReady crew.now }
+    requires guides { guides.now ≡ setup.now }
     requires few { base + length batch.now ≤ LONGEST_TEXT }
     requires numbers { (numbers : List (List ℕ)) × HaveSeen carried.numbers numbers }
     requires room { CanGoOn setup.now at.now base carried.writing }
@@ -130,5 +137,5 @@ pub(crate) fn add_batch<'a, G: Gate + Sync, R: Threads + Wait + Clock + Sync>(
         let carried = add_little(alloc, setup, at, base, carried, batch)?;
         return Ok(carried);
     }
-    add_shared(crew, alloc, setup, at, base, carried, batch)
+    add_shared(crew, alloc, setup, guides, at, base, carried, batch)
 }

@@ -13,6 +13,7 @@ use crate::carried::{Carried, add_batch, nothing_carried};
 use crate::crew::Crew;
 use crate::stopped::Stopped;
 use batch_cut::{Advanced, Scout, advance, forget};
+use fast_guides::FastGuides;
 use hub_kinds::NoMemory;
 use moment::At;
 use night_writing::Night;
@@ -71,11 +72,13 @@ fn go_on<G: Gate + Sync, R: Threads + Wait + Clock + Sync>(
     crew: &Crew<'_, R, G>,
     alloc: Global,
     setup: &Setup,
+    guides: &FastGuides<'_>,
     at: &At,
     held: &mut Held,
     reading: Reading,
 ) -> Result<Reading, Stopped>
     requires crew { IsReady crew.now }
+    requires guides { guides.now ≡ setup.now }
     requires few { held.old.total ≤ LONGEST_TEXT }
     requires read { (first : Option (List ℕ)) × (now : Option (List ℕ)) × IsReadUpTo setup.now at.now first now held.old reading }
     ensures read { IfOk result (λ new. (first now : Option (List ℕ)) → IsReadUpTo setup.now at.now first now held.old reading
@@ -93,6 +96,7 @@ fn go_on<G: Gate + Sync, R: Threads + Wait + Clock + Sync>(
         crew,
         alloc,
         setup,
+        guides,
         at,
         base,
         carried,
@@ -111,11 +115,13 @@ fn finish<G: Gate + Sync, R: Threads + Wait + Clock + Sync>(
     crew: &Crew<'_, R, G>,
     alloc: Global,
     setup: &Setup,
+    guides: &FastGuides<'_>,
     at: &At,
     held: &Held,
     reading: Reading,
 ) -> Result<Night, Stopped>
     requires crew { IsReady crew.now }
+    requires guides { guides.now ≡ setup.now }
     requires few { held.now.total ≤ LONGEST_TEXT }
     requires read { (first : Option (List ℕ)) × (now : Option (List ℕ)) × IsReadUpTo setup.now at.now first now held.now reading }
     ensures night { IfOk result (λ night. (first now : Option (List ℕ)) → IsReadUpTo setup.now at.now first now held.now reading
@@ -123,7 +129,7 @@ fn finish<G: Gate + Sync, R: Threads + Wait + Clock + Sync>(
     ensures pool { IfErr result IsOfPool }
 {
     let Reading { base, carried, .. } = reading;
-    let all = add_batch(crew, alloc, setup, at, base, carried, held.bytes())?;
+    let all = add_batch(crew, alloc, setup, guides, at, base, carried, held.bytes())?;
     let Carried { writing, .. } = all;
     let night = writing.close(alloc, setup, at)?;
     Ok(night)
@@ -131,7 +137,7 @@ fn finish<G: Gate + Sync, R: Threads + Wait + Clock + Sync>(
 
 /// The night of a stream that is read in windows of so many bytes, by a setup and at a moment, and shared among workers: after each full
 /// window, and at the end, the interchanges that are whole by then are worked on, before more is read. The end of a header or a trailer
-/// may stand in the next window. Errors: more bytes than `LONGEST_TEXT`, a reader that fails or is interrupted more than 1,000 times in a
+/// may stand in the next window. Each guide of the setup is compiled once, before the first window. Errors: more bytes than `LONGEST_TEXT`, a reader that fails or is interrupted more than 1,000 times in a
 /// row, a thread that the system doesn't start, want of memory. X12.5, interchange.
 pub fn stream_night<S: Source, G: Gate + Sync, R: Threads + Wait + Clock + Sync>(
     crew: &Crew<'_, R, G>,
@@ -150,11 +156,12 @@ pub fn stream_night<S: Source, G: Gate + Sync, R: Threads + Wait + Clock + Sync>
     ensures fault { IsErrOf result (Stream Read) → HasFailed (S.faults source.old) (S.faults source.new) (S.interruptions source.new) }
     ensures none { (IsErrOf result (Stream Read) → ⊥) → S.faults source.new ≡ S.faults source.old }
 {
+    let guides = FastGuides::of(alloc, setup)?;
     let mut held = Held::new(alloc);
     let mut reading = at_begin(alloc, setup)?;
     while read_on(&mut held, source, window)? {
-        reading = go_on(crew, alloc, setup, at, &mut held, reading)?;
+        reading = go_on(crew, alloc, setup, &guides, at, &mut held, reading)?;
     }
-    let night = finish(crew, alloc, setup, at, &held, reading)?;
+    let night = finish(crew, alloc, setup, &guides, at, &held, reading)?;
     Ok(night)
 }

@@ -25,6 +25,7 @@ pub(crate) struct Done<'i, 'a> {
 /// By a register of the index that J names.
 fn checks_named<
     'f,
+    'g: 'a,
     'i,
     'a,
     J: Named + Send + Sync,
@@ -34,7 +35,7 @@ fn checks_named<
     rt: &R,
     alloc: Global,
     index: &'i Index<'a>,
-    jobs: &[CheckJob<'f, 'a>],
+    jobs: &[CheckJob<'f, 'g, 'a>],
     blank: Blank,
     workers: u64,
     gate: &G,
@@ -61,11 +62,11 @@ fn checks_named<
 }
 
 /// Each place of an index is recorded and its set checked, by workers; what is still missing behind them is recorded then.
-pub(crate) fn checks_by<'f, 'i, 'a, G: Gate + Sync, R: Threads + Wait + Clock + Sync>(
+pub(crate) fn checks_by<'f, 'g: 'a, 'i, 'a, G: Gate + Sync, R: Threads + Wait + Clock + Sync>(
     rt: &R,
     alloc: Global,
     index: &'i Index<'a>,
-    jobs: &[CheckJob<'f, 'a>],
+    jobs: &[CheckJob<'f, 'g, 'a>],
     workers: u64,
     gate: &G,
 ) -> Result<Done<'i, 'a>, PoolFault>

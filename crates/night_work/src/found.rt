@@ -54,11 +54,11 @@ fn without_numbers<'a>(found: FoundBehind<'a>) -> FoundText<'a>
 /// checked by its sender's compiled guide, and whether an earlier place has the number of a place. The text is cut into pieces as the cuts
 /// say; there are 1 to 64 workers; the gate is entered before each job and told of its answer behind it. Errors: memory or a thread is
 /// wanting. X12.5, interchange; X12.6, functional group and transaction set.
-pub fn find_out<'a, G: Gate + Sync, R: Threads + Wait + Clock + Sync>(
+pub fn find_out<'g: 'a, 'a, G: Gate + Sync, R: Threads + Wait + Clock + Sync>(
     rt: &R,
     alloc: Global,
     setup: &'a Setup,
-    guides: &FastGuides<'a>,
+    guides: &FastGuides<'g>,
     text: &'a [u8],
     cuts: &Cuts,
     workers: u64,
@@ -77,11 +77,11 @@ pub fn find_out<'a, G: Gate + Sync, R: Threads + Wait + Clock + Sync>(
 
 /// The same of a text that interchanges come before, by the numbers of those of them that have none of the faults 1 to 8; and the numbers
 /// behind the text. An error leaves no numbers.
-pub fn find_out_behind<'a, G: Gate + Sync, R: Threads + Wait + Clock + Sync>(
+pub fn find_out_behind<'g: 'a, 'a, G: Gate + Sync, R: Threads + Wait + Clock + Sync>(
     rt: &R,
     alloc: Global,
     setup: &'a Setup,
-    guides: &FastGuides<'a>,
+    guides: &FastGuides<'g>,
     text: &'a [u8],
     seen: SeenNumbers,
     cuts: &Cuts,

@@ -42,11 +42,11 @@ fn put_together<'a>(
 }
 
 /// All that is asked of the places of an index, which is settled with the faults 1 to 8, where it has these faults of 1 to 9.
-pub(crate) fn worked_out<'a, G: Gate + Sync, R: Threads + Wait + Clock + Sync>(
+pub(crate) fn worked_out<'g: 'a, 'a, G: Gate + Sync, R: Threads + Wait + Clock + Sync>(
     rt: &R,
     alloc: Global,
     setup: &'a Setup,
-    guides: &FastGuides<'a>,
+    guides: &FastGuides<'g>,
     index: &Index<'a>,
     faults: &[Option<InterchangeFault>],
     workers: u64,

@@ -13,10 +13,11 @@ use checked_text::{
 use env_index::Index;
 use hub_kinds::{Items, NoMemory, Texts};
 use judged_text::JudgedInterchange;
-use mailbox::{RenderedSets, nothing_rendered, render_deliveries};
+use mailbox::{RenderedSets, Writers, nothing_rendered, render_deliveries};
 use moment::At;
 use night_report::ReportLines;
 use partner_setup::Setup;
+use render_crew::OneThread;
 use std::alloc::Global;
 use std::marker::Model;
 
@@ -32,17 +33,19 @@ fn texts_of(alloc: Global, files: Vec<Acknowledgments>) -> Result<Texts, NoMemor
 }
 
 /// The sets that were written for each partner, and behind them those that are delivered of these interchanges.
-fn rendered_behind(
+fn rendered_behind<W: Writers>(
     alloc: Global,
+    writers: &W,
     setup: &Setup,
     interchanges: &[JudgedInterchange<'_, '_>],
     boxes: Vec<RenderedSets>,
 ) -> Result<Vec<RenderedSets>, NoMemory>
-    requires { length boxes.items ≡ length setup.now.partners }
+    requires ready { W.is_ready writers.now }
+    requires boxes { length boxes.items ≡ length setup.now.partners }
     ensures { IfOk result (λ new. HaveRendered setup.now interchanges.now boxes.items new.items) }
 {
     let mut boxes = boxes;
-    render_deliveries(alloc, setup, interchanges, boxes.as_mut_slice())?;
+    render_deliveries(alloc, writers, setup, interchanges, boxes.as_mut_slice())?;
     Ok(boxes)
 }
 
@@ -121,15 +124,17 @@ impl Writing {
     }
 
     /// Adds interchanges behind those before, of which there may be none.
-    fn add_interchanges<'a>(
+    fn add_interchanges<'a, W: Writers>(
         self,
         alloc: Global,
+        writers: &W,
         setup: &'a Setup,
         at: &At,
         base: u64,
         index: &Index<'a>,
         found: Option<Vec<Finding<'a>>>,
     ) -> Result<Writing, NoMemory>
+        requires ready { W.is_ready writers.now }
         requires spans { All (λ e. HasSpans index.now.text e.interchange) index.now.entries }
         requires found { IfSome found (λ v. AllZip IsFound (asked_of index.now.text setup.now index.now.entries) v.items) }
         requires room { HasRoomFor setup.now at.now (length index.now.entries) index.now.outside self }
@@ -144,7 +149,7 @@ impl Writing {
         let checked = answered(alloc, setup, at, index, found, files)?;
         let interchanges = checked.interchanges.as_slice();
         let lines = lines.append(setup, base, interchanges)?;
-        let boxes = rendered_behind(alloc, setup, interchanges, boxes)?;
+        let boxes = rendered_behind(alloc, writers, setup, interchanges, boxes)?;
         Ok(Writing {
             outside: outside + index.outside(),
             files: checked.acknowledgments,
@@ -155,15 +160,17 @@ impl Writing {
 
     /// Adds a batch, by what was found out about its places, or else checked here. One without interchanges adds its bytes outside
     /// alone.
-    fn add_answered<'a>(
+    fn add_answered<'a, W: Writers>(
         self,
         alloc: Global,
+        writers: &W,
         setup: &'a Setup,
         at: &At,
         base: u64,
         index: &Index<'a>,
         found: Option<Vec<Finding<'a>>>,
     ) -> Result<Writing, NoMemory>
+        requires ready { W.is_ready writers.now }
         requires spans { All (λ e. HasSpans index.now.text e.interchange) index.now.entries }
         requires found { IfSome found (λ v. AllZip IsFound (asked_of index.now.text setup.now index.now.entries) v.items) }
         requires room { HasRoomFor setup.now at.now (length index.now.entries) index.now.outside self }
@@ -172,7 +179,7 @@ impl Writing {
         if index.interchanges().is_empty() {
             return Ok(self.with_outside(index.outside()));
         }
-        self.add_interchanges(alloc, setup, at, base, index, found)
+        self.add_interchanges(alloc, writers, setup, at, base, index, found)
     }
 
     /// Adds a batch of interchanges, behind those before: each set is checked and answered, and written where it is delivered. They
@@ -191,26 +198,29 @@ impl Writing {
         requires room { HasRoomFor setup.now at.now (length index.now.entries) index.now.outside self }
         ensures { IfOk result (IsBatchWritten index.now.text setup.now at.now base index.now.entries index.now.outside self) }
     {
-        self.add_answered(alloc, setup, at, base, index, None)
+        self.add_answered(alloc, &OneThread, setup, at, base, index, None)
     }
 
     /// The same of a batch of which all was found out before: of each place of its index whether its number is used earlier, and of each
-    /// set how it was checked. The only error is want of memory; then what was written before is given up.
-    pub fn add_found<'a>(
+    /// set how it was checked; delivered sets are written by these writers. The only error is want of memory; then what was written before
+    /// is given up.
+    pub fn add_found<'a, W: Writers>(
         self,
         alloc: Global,
+        writers: &W,
         setup: &'a Setup,
         at: &At,
         base: u64,
         index: &Index<'a>,
         found: Vec<Finding<'a>>,
     ) -> Result<Writing, NoMemory>
+        requires ready { W.is_ready writers.now }
         requires spans { All (λ e. HasSpans index.now.text e.interchange) index.now.entries }
         requires found { AllZip IsFound (asked_of index.now.text setup.now index.now.entries) found.items }
         requires room { HasRoomFor setup.now at.now (length index.now.entries) index.now.outside self }
         ensures { IfOk result (IsBatchWritten index.now.text setup.now at.now base index.now.entries index.now.outside self) }
     {
-        self.add_answered(alloc, setup, at, base, index, Some(found))
+        self.add_answered(alloc, writers, setup, at, base, index, Some(found))
     }
 
     /// The night, behind the last batch: each mailbox gets its envelopes, the report its total. The only error is want of memory.

@@ -16,9 +16,9 @@ use std::alloc::Global;
 use worker_pool::CheckJob;
 
 /// The jobs of a group's sets.
-fn add_sets<'f, 'a>(
-    jobs: &mut Vec<CheckJob<'f, 'a>>,
-    sent: &Sent<'f, 'a>,
+fn add_sets<'f, 'g, 'a>(
+    jobs: &mut Vec<CheckJob<'f, 'g, 'a>>,
+    sent: &Sent<'f, 'g, 'a>,
     isa: u32,
     gs: u32,
     group: &GroupEnvelope<'_, 'a>,
@@ -39,9 +39,9 @@ fn add_sets<'f, 'a>(
 }
 
 /// The job of a group, and those of its sets.
-fn add_group<'f, 'a>(
-    jobs: &mut Vec<CheckJob<'f, 'a>>,
-    sent: &Sent<'f, 'a>,
+fn add_group<'f, 'g, 'a>(
+    jobs: &mut Vec<CheckJob<'f, 'g, 'a>>,
+    sent: &Sent<'f, 'g, 'a>,
     isa: u32,
     gs: u32,
     group: &GroupEnvelope<'_, 'a>,
@@ -57,9 +57,9 @@ fn add_group<'f, 'a>(
 }
 
 /// The jobs of an interchange's groups, each before those of its sets.
-fn add_groups<'f, 'a>(
-    jobs: &mut Vec<CheckJob<'f, 'a>>,
-    sent: &Sent<'f, 'a>,
+fn add_groups<'f, 'g, 'a>(
+    jobs: &mut Vec<CheckJob<'f, 'g, 'a>>,
+    sent: &Sent<'f, 'g, 'a>,
     isa: u32,
     interchange: &Interchange<'a>,
 ) -> Result<(), NoMemory>
@@ -76,9 +76,9 @@ fn add_groups<'f, 'a>(
 }
 
 /// The job of an interchange, and those of its groups.
-fn add_sent<'f, 'a>(
-    jobs: &mut Vec<CheckJob<'f, 'a>>,
-    sent: &Sent<'f, 'a>,
+fn add_sent<'f, 'g, 'a>(
+    jobs: &mut Vec<CheckJob<'f, 'g, 'a>>,
+    sent: &Sent<'f, 'g, 'a>,
     isa: u32,
     interchange: &Interchange<'a>,
 ) -> Result<(), NoMemory>
@@ -95,10 +95,10 @@ fn add_sent<'f, 'a>(
 }
 
 /// The jobs of an interchange, where it has no fault.
-fn add_interchange<'f, 'a>(
-    jobs: &mut Vec<CheckJob<'f, 'a>>,
+fn add_interchange<'f, 'g, 'a>(
+    jobs: &mut Vec<CheckJob<'f, 'g, 'a>>,
     setup: &'a Setup,
-    guides: &'f FastGuides<'a>,
+    guides: &'f FastGuides<'g>,
     text: &'a [u8],
     isa: u32,
     entry: &IndexedInterchange<'a>,
@@ -121,12 +121,12 @@ fn add_interchange<'f, 'a>(
 /// The jobs of the places of an index that is settled with the faults 1 to 8, one for each, in their order: at the place of a set
 /// where it stands, and its sender's guide for its GS01, GS08 and ST01; nothing at that of an interchange or a group. An interchange with a
 /// fault has no place. X12.5, interchange; X12.6, functional group and transaction set. The only error is want of memory.
-pub fn check_jobs<'f, 'a>(
+pub fn check_jobs<'f, 'g, 'a>(
     alloc: Global,
     setup: &'a Setup,
-    guides: &'f FastGuides<'a>,
+    guides: &'f FastGuides<'g>,
     index: &Index<'a>,
-) -> Result<Vec<CheckJob<'f, 'a>>, NoMemory>
+) -> Result<Vec<CheckJob<'f, 'g, 'a>>, NoMemory>
     requires guides { guides.now ≡ setup.now }
     requires sets { All (λ e. All (λ group. length group.sets ≤ LONGEST_TEXT) e.interchange.content.groups) index.now.entries }
     ensures jobs { IfOk result (λ v. map job_value v.items ≡ jobs_of index.entry.now.text setup.entry.now index.entry.now.entries) }

@@ -12,14 +12,14 @@ use x12_bytes::Delims;
 /// What the sets of an interchange are checked under: the text, the setup's guides, the sender's place in the setup, and the
 /// interchange's delimiters.
 #[derive(Drop)]
-pub(crate) struct Sent<'f, 'a> {
+pub(crate) struct Sent<'f, 'g, 'a> {
     text: &'a [u8],
-    guides: &'f FastGuides<'a>,
+    guides: &'f FastGuides<'g>,
     sender: usize,
     delims: Delims,
 }
 
-impl<'f, 'a> Model for Sent<'f, 'a> {
+impl<'f, 'g, 'a> Model for Sent<'f, 'g, 'a> {
     ghost use Rattle.checked_text.specs.Answers.{SentValue};
     ghost use Rattle.guide_tree.specs.contracts.node.Node as node;
     ghost use Rattle.std.specs.Coded.{codes};
@@ -31,13 +31,13 @@ impl<'f, 'a> Model for Sent<'f, 'a> {
     ghost view = { λ s. record { text = s.text.now; setup = s.guides.now; sender = s.sender; delims = s.delims } };
 }
 
-impl<'f, 'a> Sent<'f, 'a> {
+impl<'f, 'g, 'a> Sent<'f, 'g, 'a> {
     pub(crate) fn new(
         text: &'a [u8],
-        guides: &'f FastGuides<'a>,
+        guides: &'f FastGuides<'g>,
         sender: usize,
         delims: Delims,
-    ) -> Sent<'f, 'a>
+    ) -> Sent<'f, 'g, 'a>
         ensures { result ≡ record { text = text.entry.now; setup = guides.entry.now; sender = sender; delims = delims } }
     {
         Sent {
@@ -55,7 +55,7 @@ impl<'f, 'a> Sent<'f, 'a> {
         group: &[u8],
         version: &[u8],
         set: &SetEnvelope<'a>,
-    ) -> CheckJob<'f, 'a>
+    ) -> CheckJob<'f, 'g, 'a>
         ensures { job_value result ≡ set_job self.now place group.now version.now set.now }
     {
         let guide = self

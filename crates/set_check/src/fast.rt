@@ -24,11 +24,11 @@ use x12_segs::{SegView, SetSpan};
 /// Checks a transaction set (X12.6) of a text by its compiled guide, if it has one, as `check_set` does by a guide: its faults
 /// (999 guide, IK3 and IK4), in their order, each once, and its codes (IK5) but for the one that an earlier set of its group
 /// gives. Without a guide its segments aren't checked. The only error is want of memory.
-pub fn check_set_fast<'a>(
+pub fn check_set_fast<'a, 'g: 'a>(
     alloc: Global,
     text: &'a [u8],
     set: SetSpan,
-    fast: Option<&FastGuide<'a>>,
+    fast: Option<&FastGuide<'g>>,
 ) -> Result<CheckedSet<'a>, NoMemory>
     requires span { IsSetSpan text.now set }
     ensures text { IfOk result (λ c. c.text ≡ text.entry.now) }
@@ -74,7 +74,7 @@ fn clean_envelope<'a>(
 }
 
 /// The guide of a compiled one.
-fn guide_by<'a>(fast: Option<&FastGuide<'a>>) -> Option<&'a Guide>
+fn guide_by<'a, 'g: 'a>(fast: Option<&FastGuide<'g>>) -> Option<&'a Guide>
     ensures { option_copied result ≡ option_copied fast.entry }
 {
     match fast {

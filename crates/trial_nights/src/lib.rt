@@ -15,6 +15,8 @@ mod gates;
 #[cfg(test)]
 mod held;
 #[cfg(test)]
+mod hostile;
+#[cfg(test)]
 mod night;
 #[cfg(test)]
 mod pieces;

@@ -28,7 +28,7 @@ fn job_at<'f, 'a>(
     delims: Delims,
     group: &GroupEnvelope<'_, 'a>,
     guide: &'f FastGuide<'a>,
-) -> CheckJob<'f, 'a>
+) -> CheckJob<'f, 'a, 'a>
     requires { All (λ set. IsSetSpan text.now (span_of delims set)) group.now.sets }
     ensures { (result.place ≡ place) × IsJobSpan result }
 {
@@ -51,7 +51,7 @@ fn jobs_of<'f, 'a>(
     group: &GroupEnvelope<'_, 'a>,
     places: &[Place],
     guide: &'f FastGuide<'a>,
-) -> Result<Vec<CheckJob<'f, 'a>>, Fail>
+) -> Result<Vec<CheckJob<'f, 'a, 'a>>, Fail>
     requires { All (λ set. IsSetSpan text.now (span_of delims set)) group.now.sets }
     ensures spans { IfOk result (λ v. AreSpans v.items) }
     ensures places { IfOk result (λ v. map place_of v.items ≡ places.now) }
@@ -69,7 +69,7 @@ fn jobs_in<'f, 'a>(
     interchange: &Interchange<'a>,
     places: &[Place],
     guide: &'f FastGuide<'a>,
-) -> Result<Vec<CheckJob<'f, 'a>>, Fail>
+) -> Result<Vec<CheckJob<'f, 'a, 'a>>, Fail>
     requires { HasSpans text.now interchange.now }
     ensures spans { IfOk result (λ v. AreSpans v.items) }
     ensures places { IfOk result (λ v. map place_of v.items ≡ places.now) }
@@ -87,7 +87,7 @@ pub fn check_jobs<'f, 'a>(
     alloc: Global,
     index: &Index<'a>,
     guide: &'f FastGuide<'a>,
-) -> Result<Vec<CheckJob<'f, 'a>>, Fail>
+) -> Result<Vec<CheckJob<'f, 'a, 'a>>, Fail>
     ensures spans { IfOk result (λ v. AreSpans v.items) }
     ensures places { IfOk result (λ v. map place_of v.items ≡ places_of index.now) }
 {
@@ -113,7 +113,7 @@ fn checks_named<
     rt: &R,
     alloc: Global,
     index: &'i Index<'a>,
-    jobs: &[CheckJob<'f, 'a>],
+    jobs: &[CheckJob<'f, 'a, 'a>],
     blank: Blank,
     workers: u64,
     gate: &G,
@@ -137,7 +137,7 @@ pub fn checks_of<'f, 'i, 'a, G: Gate + Sync, R: Threads + Wait + Clock + Sync>(
     rt: &R,
     alloc: Global,
     index: &'i Index<'a>,
-    jobs: &[CheckJob<'f, 'a>],
+    jobs: &[CheckJob<'f, 'a, 'a>],
     workers: u64,
     gate: &G,
 ) -> Result<Checked<'i, 'a>, PoolFault>

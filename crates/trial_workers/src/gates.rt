@@ -125,7 +125,7 @@ fn recorded_behind<'f, 'a, G: Gate + Sync, R: Threads + Wait + Clock + Sync>(
     rt: &R,
     alloc: Global,
     index: &Index<'a>,
-    jobs: &[CheckJob<'f, 'a>],
+    jobs: &[CheckJob<'f, 'a, 'a>],
     workers: u64,
     gate: &G,
 ) -> Result<Vec<Place>, Fail>

@@ -51,15 +51,15 @@ impl<'a, N: Checks> Model for NamedCheck<'a, N> {
 
 // The jobs that N names, at places of the index that J names. Contracts see how many they are.
 #[derive(Drop)]
-struct Checking<'t, 'f, 'i, 'a, J: Named, G, N: Checks> {
+struct Checking<'t, 'f, 'g, 'i, 'a, J: Named, G, N: Checks> {
     alloc: Global,
-    jobs: &'t [CheckJob<'f, 'a>],
+    jobs: &'t [CheckJob<'f, 'g, 'a>],
     lock: &'t RecordLock<'i, 'a, J>,
     gate: &'t G,
     of: PhantomData<N>,
 }
 
-impl<'t, 'f, 'i, 'a, J: Named, G, N: Checks> Model for Checking<'t, 'f, 'i, 'a, J, G, N> {
+impl<'t, 'f, 'g, 'i, 'a, J: Named, G, N: Checks> Model for Checking<'t, 'f, 'g, 'i, 'a, J, G, N> {
     ghost use Rattle.std.specs.Prelude.{◌≡◌, ℕ, length, map};
     ghost use Rattle.env_index.specs.Words.{places_of};
     ghost use Rattle.worker_pool.specs.Jobs.{job_value};
@@ -73,10 +73,10 @@ impl<'t, 'f, 'i, 'a, J: Named, G, N: Checks> Model for Checking<'t, 'f, 'i, 'a, 
 }
 
 // Records the place of a job, and checks its set.
-fn check_one<'a, J: Named, R: Wait + Clock>(
+fn check_one<'g: 'a, 'a, J: Named, R: Wait + Clock>(
     rt: &R,
     alloc: Global,
-    job: &CheckJob<'_, 'a>,
+    job: &CheckJob<'_, 'g, 'a>,
     lock: &RecordLock<'_, '_, J>,
     share: &mut Share<J>,
     number: u64,
@@ -95,8 +95,8 @@ fn check_one<'a, J: Named, R: Wait + Clock>(
     Ok(done)
 }
 
-impl<'t, 'f, 'i, 'a, J: Named + Send + Sync, G: Gate + Sync, N: Checks + Send + Sync> Task
-    for Checking<'t, 'f, 'i, 'a, J, G, N> {
+impl<'t, 'f, 'g: 'a, 'i, 'a, J: Named + Send + Sync, G: Gate + Sync, N: Checks + Send + Sync> Task
+    for Checking<'t, 'f, 'g, 'i, 'a, J, G, N> {
     type Own = Share<J>;
 
     type Done = NamedCheck<'a, N>;
@@ -172,6 +172,7 @@ pub struct Checked<'i, 'a> {
 
 fn checks_named<
     'f,
+    'g: 'a,
     'i,
     'a,
     J: Named + Send + Sync,
@@ -181,7 +182,7 @@ fn checks_named<
 >(
     rt: &R,
     alloc: Global,
-    jobs: &[CheckJob<'f, 'a>],
+    jobs: &[CheckJob<'f, 'g, 'a>],
     register: Register<'i, 'a, J>,
     shares: Vec<Share<J>>,
     workers: u64,
@@ -199,14 +200,14 @@ fn checks_named<
     ensures numbers { IfOk result (λ c. map number_of c.done.items ≡ numbers_from 0 (length jobs.now)) }
     ensures records { IfOk result (λ c. c.records.index ≡ J.index) }
 {
-    let task = Checking::<'_, 'f, 'i, 'a, J, G, N> {
+    let task = Checking::<'_, 'f, 'g, 'i, 'a, J, G, N> {
         alloc,
         jobs,
         lock: register.side(),
         gate,
         of: PhantomData,
     };
-    let Ran { seat, owns, done } = run_tasks::<Checking<'_, 'f, 'i, 'a, J, G, N>, R>(
+    let Ran { seat, owns, done } = run_tasks::<Checking<'_, 'f, 'g, 'i, 'a, J, G, N>, R>(
         rt,
         alloc,
         &task,
@@ -227,6 +228,7 @@ fn checks_named<
 /// worker. Where one of them has no memory, or no thread can be started, nothing is given.
 pub fn run_checks<
     'f,
+    'g: 'a,
     'i,
     'a,
     J: Named + Send + Sync,
@@ -235,7 +237,7 @@ pub fn run_checks<
 >(
     rt: &R,
     alloc: Global,
-    jobs: &[CheckJob<'f, 'a>],
+    jobs: &[CheckJob<'f, 'g, 'a>],
     register: Register<'i, 'a, J>,
     workers: u64,
     gate: &G,

@@ -14,7 +14,7 @@ use number_register::FullRegister;
 /// once and finished once, and each place recorded once, and no other. A law of what `run_checks` and `FullRegister::recorded` give.
 pub fn checks_are_complete(
     full: &FullRegister<'_, '_>,
-    jobs: &[CheckJob<'_, '_>],
+    jobs: &[CheckJob<'_, '_, '_>],
     seat: &Seat,
     done: &[CheckDone<'_>],
 )

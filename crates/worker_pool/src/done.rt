@@ -55,14 +55,20 @@ impl<'a> CheckDone<'a> {
     }
 }
 
-fn checked_set<'a>(alloc: Global, set: &SetJob<'_, 'a>) -> Result<CheckedSet<'a>, NoMemory>
+fn checked_set<'g: 'a, 'a>(
+    alloc: Global,
+    set: &SetJob<'_, 'g, 'a>,
+) -> Result<CheckedSet<'a>, NoMemory>
     requires { IsSetSpan set.now.text.now set.now.span }
     ensures { IfOk result (λ c. asked_by c ≡ set_asked set.now) }
 {
     check_set_fast(alloc, set.text, set.span, set.guide)
 }
 
-fn checked_at<'a>(alloc: Global, job: &CheckJob<'_, 'a>) -> Result<Option<CheckedSet<'a>>, NoMemory>
+fn checked_at<'g: 'a, 'a>(
+    alloc: Global,
+    job: &CheckJob<'_, 'g, 'a>,
+) -> Result<Option<CheckedSet<'a>>, NoMemory>
     requires { IsJobSpan job.now }
     ensures { IfOk result (λ c. option_map asked_by c ≡ (job_value job.now).set) }
 {
@@ -76,9 +82,9 @@ fn checked_at<'a>(alloc: Global, job: &CheckJob<'_, 'a>) -> Result<Option<Checke
 }
 
 /// Checks the set of a job whose place was recorded. The only error is want of memory.
-pub fn run_check<'a>(
+pub fn run_check<'g: 'a, 'a>(
     alloc: Global,
-    job: &CheckJob<'_, 'a>,
+    job: &CheckJob<'_, 'g, 'a>,
     number: u64,
     recorded: Recorded,
 ) -> Result<CheckDone<'a>, NoMemory>

@@ -5,7 +5,7 @@ use Rattle.mailbox.proofs.WrittenSets.{written_more}
 use Rattle.mailbox.proofs.render_batch.render_each.Goals as goal
 
 pub loop-place-preserved : goal.loop-place-preserved
-loop-place-preserved c =
+loop-place-preserved g c =
     let setup = c.args.setup.now in
     let place = c.loop-place.place in
     let within : place < length c.args.lists.now = c.loop-place-test.true in
