@@ -1,4 +1,5 @@
 pub mod Apart
+pub mod FirstRow
 pub mod Lines
 pub mod Marks
 pub mod Naming
@@ -6,6 +7,7 @@ pub mod Sending
 pub mod Sounding
 pub mod Tabling
 pub mod Telling
+pub mod Twins
 mod Worked
 mod WorkedFiles
 mod WorkedSetup

@@ -1,8 +1,9 @@
 -- A setup that nothing is refused of is sound.
-use Rattle.std.proofs.Common.{◌≡◌, ℕ, ◌+◌, ◌<◌, ◌≤◌, Bool, true, false, not, ◌&&◌, nat_le, List, [], ◌∷◌, All, length, map}
-use Rattle.std.proofs.Common.{Option, Some, None, zero, suc, is_none, cond, slice_get, option_and_then, refl, sym, ap, subst, ◌∙◌, arith}
-use Rattle.std.specs.List.{list_all}
-use Rattle.std.specs.Option.{option_map_or}
+use Rattle.std.proofs.Common.{◌≡◌, ℕ, ◌+◌, ◌<◌, ◌≤◌, Bool, true, false, not, ◌&&◌, ◌||◌, nat_le, List, [], ◌∷◌, All, length, map}
+use Rattle.std.proofs.Common.{Option, Some, None, zero, suc, is_none, cond, slice_get, option_and_then, refl, sym, ap}
+use Rattle.std.proofs.Common.{option_map, subst, ◌∙◌, arith}
+use Rattle.std.specs.List.{list_all, list_any, position_from}
+use Rattle.std.specs.Option.{option_map_or, option_or}
 use Rattle.std.specs.Str.{bytes_eq}
 use Rattle.std.proofs.lemmas.Bool.{and_parts, eqb-false, false≢true, true≢false, leb-true, not-false, not-true, or_parts}
 use Rattle.std.proofs.lemmas.List.{length-map}
@@ -22,7 +23,9 @@ use Rattle.partner_setup.specs.declared.rows.CounterRow.{CounterRow}
 use Rattle.partner_setup.specs.declared.rows.PartnerRow.{PartnerRow}
 use Rattle.partner_setup.specs.declared.rows.RouteRow.{RouteRow}
 use Rattle.partner_setup.specs.declared.rows.SetupRows.{SetupRows}
+use Rattle.partner_setup.specs.declared.setup_fault.IdOwner.TheVariants as owner
 use Rattle.partner_setup.specs.declared.setup_fault.SetupFault.{SetupFault}
+use Rattle.partner_setup.specs.declared.setup_fault.SetupFault.TheVariants as refusal
 use Rattle.partner_setup.proofs.Apart.{none_apart, places_apart}
 use Rattle.partner_setup.proofs.Marks.{ends, four, no_letter}
 
@@ -139,12 +142,12 @@ partner_sound ps cs gs p counts marks ids cap =
     }
 
 partners_sound : (ps : List PartnerRow) (cs : List CounterRow) (gs : List GuideRows) (rows : List PartnerRow)
-    → list_all (faults.counts_for ps) cs ≡ true → faults.has_bad_delimiters rows ≡ false → list_all faults.has_ids rows ≡ true
-    → list_all (λ (p : PartnerRow). faults.is_cap p.cap) rows ≡ true
+    → list_all (faults.counts_for ps) cs ≡ true → list_any (λ (p : PartnerRow). is_none (faults.delims_of p)) rows ≡ false
+    → list_all faults.has_ids rows ≡ true → list_all (λ (p : PartnerRow). faults.is_cap p.cap) rows ≡ true
     → All (IsSoundPartner (length gs)) (map (partner_of cs gs) rows)
 partners_sound ps cs gs [] counts marks ids caps = All-nil (IsSoundPartner (length gs))
 partners_sound ps cs gs (p ∷ rows) counts marks ids caps =
-    let m = or_parts (is_none (faults.delims_of p)) (faults.has_bad_delimiters rows) marks in
+    let m = or_parts (is_none (faults.delims_of p)) (list_any (λ (q : PartnerRow). is_none (faults.delims_of q)) rows) marks in
     let i = and_parts (faults.has_ids p) (list_all faults.has_ids rows) ids in
     let c = and_parts (faults.is_cap p.cap) (list_all (λ (q : PartnerRow). faults.is_cap q.cap) rows) caps in
     All-cons (IsSoundPartner (length gs)) (partner_of cs gs p) (map (partner_of cs gs) rows)
@@ -176,33 +179,66 @@ routes_apart ps (r ∷ rows) h =
     All-cons (λ (x : Route). AreApart x.to) (route_by ps r) (map (route_by ps) rows)
     (route_apart ps r parts.0) (routes_apart ps rows parts.1)
 
-unrefused : (b : Bool) (f : SetupFault) (o : Option SetupFault) → cond b (Some f) o ≡ None → (b ≡ false) × (o ≡ None)
-unrefused true f o e = absurd cc
-unrefused false f o e = (refl, e)
+unrefused : {A : Type 0} (f : A → SetupFault) (place : Option A) (o : Option SetupFault)
+    → option_or (option_map f place) o ≡ None → (place ≡ None) × (o ≡ None)
+unrefused f None o e = (refl, e)
+unrefused f (Some x) o e = absurd cc
 
-last_unrefused : (b : Bool) (f : SetupFault) → cond b (Some f) None ≡ None → b ≡ false
-last_unrefused b f e = (unrefused b f None e).0
+last_unrefused : {A : Type 0} (f : A → SetupFault) (place : Option A) → option_map f place ≡ None → place ≡ None
+last_unrefused f None e = refl
+last_unrefused f (Some x) e = absurd cc
+
+neither : (a b : Option ℕ) → faults.lesser a b ≡ None → (a ≡ None) × (b ≡ None)
+neither None b e = (refl, e)
+neither (Some m) None e = absurd cc
+neither (Some m) (Some n) e = absurd cc
+
+no_row : (b : Bool) (n : ℕ) (o : Option ℕ) → cond b (Some n) o ≡ None → (b ≡ false) × (o ≡ None)
+no_row true n o e = absurd cc
+no_row false n o e = (refl, e)
+
+-- no row is so
+none_so : {A : Type 0} (test : A → Bool) (n : ℕ) (rows : List A) → position_from test n rows ≡ None → list_any test rows ≡ false
+none_so test n [] e = refl
+none_so test n (x ∷ rows) e =
+    let parts = no_row (test x) n (position_from test (n + 1) rows) e in
+    ap (λ (b : Bool). b || list_any test rows) parts.0 ∙ none_so test (n + 1) rows parts.1
+
+-- each row is so
+all_so : {A : Type 0} (test : A → Bool) (n : ℕ) (rows : List A) → position_from (λ (x : A). not (test x)) n rows ≡ None
+    → list_all test rows ≡ true
+all_so test n [] e = refl
+all_so test n (x ∷ rows) e =
+    let parts = no_row (not (test x)) n (position_from (λ y. not (test y)) (n + 1) rows) e in
+    ap (λ (b : Bool). b && list_all test rows) (not-false (test x) parts.0) ∙ all_so test (n + 1) rows parts.1
+
+owned : (b : Bool) (place : Option ℕ) → cond b (option_map owner.Partner place) (Some owner.Hub) ≡ None → (b ≡ true) × (place ≡ None)
+owned true None e = (refl, refl)
+owned true (Some p) e = absurd cc
+owned false place e = absurd cc
 
 pub sound : (rows : SetupRows) (cs : List CounterRow) (gs : List GuideRows) → faults.first_fault rows cs gs ≡ None
     → IsSoundSetup (setup_of rows cs gs)
 sound rows cs gs e =
     let ps = rows.partners in
-    let same = unrefused (faults.has_same_partner ps) _ _ e in
-    let marks = unrefused (faults.has_bad_delimiters ps) _ _ same.1 in
-    let ids = unrefused (faults.has_bad_id rows) _ _ marks.1 in
-    let guides = unrefused (faults.has_bad_guides ps gs) _ _ ids.1 in
-    let routes = unrefused (faults.has_bad_route ps rows.routes) _ _ guides.1 in
-    let counts = unrefused (faults.has_bad_counter ps cs) _ _ routes.1 in
-    let caps = last_unrefused (faults.has_bad_cap ps) _ counts.1 in
-    let id_parts = or_parts (not (faults.are_ids rows.hub.qualifier rows.hub.id rows.hub.code)) (not (list_all faults.has_ids ps)) ids.0 in
-    let all_count = not-false (list_all (faults.counts_for ps) cs) (or_parts (not (list_all (faults.counts_for ps) cs))
-    (has_twice (λ (c : CounterRow). faults.by_name c.partner) cs) counts.0).0 in
-    let all_routes = not-false (list_all (faults.is_route ps) rows.routes) (or_parts (not (list_all (faults.is_route ps) rows.routes))
-    (has_twice (λ (r : RouteRow). faults.by_name r.code) rows.routes) routes.0).0 in
+    let same = unrefused refusal.SamePartner (faults.same_partner ps) _ e in
+    let marks = unrefused refusal.BadDelimiters (faults.bad_delimiters ps) _ same.1 in
+    let ids = unrefused refusal.BadId (faults.bad_id rows) _ marks.1 in
+    let guides = unrefused refusal.BadGuides (faults.bad_guides ps gs) _ ids.1 in
+    let routes = unrefused refusal.BadRoute (faults.bad_route ps rows.routes) _ guides.1 in
+    let counts = unrefused refusal.BadCounter (faults.bad_counter ps cs) _ routes.1 in
+    let caps = last_unrefused refusal.BadCap (faults.bad_cap ps) counts.1 in
+    let id_parts = owned (faults.are_ids rows.hub.qualifier rows.hub.id rows.hub.code)
+    (faults.first_row (λ (p : PartnerRow). not (faults.has_ids p)) ps) ids.0 in
+    let all_count = all_so (faults.counts_for ps) 0 cs (neither (faults.first_row (λ (c : CounterRow). not (faults.counts_for ps c)) cs)
+    (faults.first_twin (λ (c : CounterRow). faults.by_name c.partner) cs) counts.0).0 in
+    let all_routes = all_so (faults.is_route ps) 0 rows.routes
+    (neither (faults.first_row (λ (r : RouteRow). not (faults.is_route ps r)) rows.routes)
+    (faults.first_twin (λ (r : RouteRow). faults.by_name r.code) rows.routes) routes.0).0 in
     record {
-      hub = not-false (faults.are_ids rows.hub.qualifier rows.hub.id rows.hub.code) id_parts.0;
-      partners = partners_sound ps cs gs ps all_count marks.0 (not-false (list_all faults.has_ids ps) id_parts.1)
-          (not-false (list_all (λ (p : PartnerRow). faults.is_cap p.cap) ps) caps);
+      hub = id_parts.0;
+      partners = partners_sound ps cs gs ps all_count (none_so (λ (p : PartnerRow). is_none (faults.delims_of p)) 0 ps marks.0)
+          (all_so faults.has_ids 0 ps id_parts.1) (all_so (λ (p : PartnerRow). faults.is_cap p.cap) 0 ps caps);
       routes = routes_sound (length (map (partner_of cs gs) ps)) ps (length-map ps (partner_of cs gs)) rows.routes;
       apart = routes_apart ps rows.routes all_routes;
     }

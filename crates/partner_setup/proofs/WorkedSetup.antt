@@ -12,6 +12,8 @@ use Rattle.partner_setup.specs.declared.rows.PartnerRow.{PartnerRow}
 use Rattle.partner_setup.specs.declared.rows.RouteRow.{RouteRow}
 use Rattle.partner_setup.specs.declared.rows.SetupRows.{SetupRows}
 use Rattle.partner_setup.specs.declared.rows.Usage.TheVariants as usage
+use Rattle.partner_setup.specs.declared.setup_fault.GuidesOwner.TheVariants as guided
+use Rattle.partner_setup.specs.declared.setup_fault.IdOwner.TheVariants as owner
 use Rattle.partner_setup.specs.declared.setup_fault.SetupFault.TheVariants as fault
 use Rattle.partner_setup.specs.SetupFaults.{first_fault}
 use Rattle.partner_setup.specs.Setup.{counters_of, setup_of, route_of, has_group, has_version, guide_of}
@@ -114,11 +116,13 @@ without_partners : (nodes : Vec Node Global) → first_fault (rows_with [] []) [
 without_partners nodes = refl
 
 same_name : (nodes : Vec Node Global) → first_fault
-    (rows_with (acme ∷ other (codes "ACME") (codes "BOLT") (codes "BOLT") (codes ":") 1 ∷ []) []) [] (guides nodes) ≡ Some fault.SamePartner
+    (rows_with (acme ∷ other (codes "ACME") (codes "BOLT") (codes "BOLT") (codes ":") 1 ∷ []) []) [] (guides nodes)
+    ≡ Some (fault.SamePartner 0)
 same_name nodes = refl
 
 same_id : (nodes : Vec Node Global) → first_fault
-    (rows_with (acme ∷ other (codes "BOLT") (codes "ACME") (codes "BOLT") (codes ":") 1 ∷ []) []) [] (guides nodes) ≡ Some fault.SamePartner
+    (rows_with (acme ∷ other (codes "BOLT") (codes "ACME") (codes "BOLT") (codes ":") 1 ∷ []) []) [] (guides nodes)
+    ≡ Some (fault.SamePartner 0)
 same_id nodes = refl
 
 -- two partners may share a code
@@ -128,33 +132,37 @@ same_code nodes = refl
 
 bad_delimiters : (nodes : Vec Node Global) → first_fault
     (rows_with (acme ∷ other (codes "BOLT") (codes "BOLT") (codes "BOLT") (codes "|") 1 ∷ []) routes) [] (guides nodes)
-    ≡ Some fault.BadDelimiters
+    ≡ Some (fault.BadDelimiters 1)
 bad_delimiters nodes = refl
 
 -- the delimiters are judged before the ids
 bad_delimiters_and_id : (nodes : Vec Node Global) → first_fault
     (rows_with (acme ∷ other (codes "BOLT") (codes "BOLT") (codes "B") (codes "|") 1 ∷ []) routes) [] (guides nodes)
-    ≡ Some fault.BadDelimiters
+    ≡ Some (fault.BadDelimiters 1)
 bad_delimiters_and_id nodes = refl
 
 bad_code : (nodes : Vec Node Global) → first_fault
-    (rows_with (acme ∷ other (codes "BOLT") (codes "BOLT") (codes "B") (codes ":") 1 ∷ []) routes) [] (guides nodes) ≡ Some fault.BadId
+    (rows_with (acme ∷ other (codes "BOLT") (codes "BOLT") (codes "B") (codes ":") 1 ∷ []) routes) [] (guides nodes)
+    ≡ Some (fault.BadId (owner.Partner 1))
 bad_code nodes = refl
 
 bad_name : (nodes : Vec Node Global) → first_fault
-    (rows_with (acme ∷ other (codes "BOLT-1") (codes "BOLT") (codes "BOLT") (codes ":") 1 ∷ []) []) [] (guides nodes) ≡ Some fault.BadId
+    (rows_with (acme ∷ other (codes "BOLT-1") (codes "BOLT") (codes "BOLT") (codes ":") 1 ∷ []) []) [] (guides nodes)
+    ≡ Some (fault.BadId (owner.Partner 1))
 bad_name nodes = refl
 
 no_such_guide : (nodes : Vec Node Global) → first_fault
-    (rows_with (acme_keeps (codes "H999" ∷ []) ∷ bolt ∷ []) routes) counters (guides nodes) ≡ Some fault.BadGuides
+    (rows_with (acme_keeps (codes "H999" ∷ []) ∷ bolt ∷ []) routes) counters (guides nodes) ≡ Some (fault.BadGuides (guided.Partner 0))
 no_such_guide nodes = refl
 
 two_guides_for_the_same : (nodes : Vec Node Global) → first_fault
-    (rows_with (acme_keeps (codes "H850" ∷ codes "H850B" ∷ []) ∷ bolt ∷ []) routes) counters (guides nodes) ≡ Some fault.BadGuides
+    (rows_with (acme_keeps (codes "H850" ∷ codes "H850B" ∷ []) ∷ bolt ∷ []) routes) counters (guides nodes)
+    ≡ Some (fault.BadGuides (guided.Partner 0))
 two_guides_for_the_same nodes = refl
 
 a_guide_named_twice : (nodes : Vec Node Global) → first_fault
-    (rows_with (acme_keeps (codes "H850" ∷ codes "H850" ∷ []) ∷ bolt ∷ []) routes) counters (guides nodes) ≡ Some fault.BadGuides
+    (rows_with (acme_keeps (codes "H850" ∷ codes "H850" ∷ []) ∷ bolt ∷ []) routes) counters (guides nodes)
+    ≡ Some (fault.BadGuides (guided.Partner 0))
 a_guide_named_twice nodes = refl
 
 -- two partners may keep to one guide each for the same sets
@@ -162,11 +170,12 @@ others_guide_for_the_same : (nodes : Vec Node Global) → first_fault
     (rows_with (acme_keeps (codes "H850B" ∷ []) ∷ bolt ∷ []) routes) counters (guides nodes) ≡ None
 others_guide_for_the_same nodes = refl
 
-two_guides_with_one_name : (nodes : Vec Node Global) → first_fault rows counters (orders nodes ∷ guides nodes) ≡ Some fault.BadGuides
+two_guides_with_one_name : (nodes : Vec Node Global) → first_fault rows counters (orders nodes ∷ guides nodes)
+    ≡ Some (fault.BadGuides (guided.Guide 0))
 two_guides_with_one_name nodes = refl
 
 route_to_nobody : (nodes : Vec Node Global) → first_fault
-    (rows_with (acme ∷ bolt ∷ []) (route (codes "CARL") (codes "CARL") ∷ [])) counters (guides nodes) ≡ Some fault.BadRoute
+    (rows_with (acme ∷ bolt ∷ []) (route (codes "CARL") (codes "CARL") ∷ [])) counters (guides nodes) ≡ Some (fault.BadRoute 0)
 route_to_nobody nodes = refl
 
 route_to_both : (nodes : Vec Node Global) → first_fault
@@ -175,12 +184,12 @@ route_to_both nodes = refl
 
 second_target_is_nobody : (nodes : Vec Node Global) → first_fault
     (rows_with (acme ∷ bolt ∷ []) (route_to (codes "BOLT") (codes "BOLT" ∷ codes "CARL" ∷ []) ∷ [])) counters (guides nodes)
-    ≡ Some fault.BadRoute
+    ≡ Some (fault.BadRoute 0)
 second_target_is_nobody nodes = refl
 
 target_named_twice : (nodes : Vec Node Global) → first_fault
     (rows_with (acme ∷ bolt ∷ []) (route_to (codes "BOLT") (codes "BOLT" ∷ codes "ACME" ∷ codes "BOLT" ∷ []) ∷ [])) counters (guides nodes)
-    ≡ Some fault.BadRoute
+    ≡ Some (fault.BadRoute 0)
 target_named_twice nodes = refl
 
 -- two routes may lead to one partner
@@ -192,47 +201,48 @@ target_of_two_routes nodes = refl
 -- the routes are judged before the counters
 route_and_counter : (nodes : Vec Node Global) → first_fault
     (rows_with (acme ∷ bolt ∷ []) (route_to (codes "BOLT") (codes "BOLT" ∷ codes "BOLT" ∷ []) ∷ [])) (counter (codes "BOLT") 1 0 1 ∷ [])
-    (guides nodes) ≡ Some fault.BadRoute
+    (guides nodes) ≡ Some (fault.BadRoute 0)
 route_and_counter nodes = refl
 
 route_of_one_byte : (nodes : Vec Node Global) → first_fault
-    (rows_with (acme ∷ bolt ∷ []) (route (codes "A") (codes "ACME") ∷ [])) counters (guides nodes) ≡ Some fault.BadRoute
+    (rows_with (acme ∷ bolt ∷ []) (route (codes "A") (codes "ACME") ∷ [])) counters (guides nodes) ≡ Some (fault.BadRoute 0)
 route_of_one_byte nodes = refl
 
 route_given_twice : (nodes : Vec Node Global) → first_fault
     (rows_with (acme ∷ bolt ∷ []) (route (codes "AC") (codes "ACME") ∷ route (codes "AC") (codes "BOLT") ∷ [])) counters (guides nodes)
-    ≡ Some fault.BadRoute
+    ≡ Some (fault.BadRoute 0)
 route_given_twice nodes = refl
 
 interchange_counter_of_zero : (nodes : Vec Node Global) → first_fault rows (counter (codes "BOLT") 0 1 1 ∷ []) (guides nodes)
-    ≡ Some fault.BadCounter
+    ≡ Some (fault.BadCounter 0)
 interchange_counter_of_zero nodes = refl
 
 group_counter_of_zero : (nodes : Vec Node Global) → first_fault rows (counter (codes "BOLT") 1 0 1 ∷ []) (guides nodes)
-    ≡ Some fault.BadCounter
+    ≡ Some (fault.BadCounter 0)
 group_counter_of_zero nodes = refl
 
 set_counter_of_zero : (nodes : Vec Node Global) → first_fault rows (counter (codes "BOLT") 1 1 0 ∷ []) (guides nodes)
-    ≡ Some fault.BadCounter
+    ≡ Some (fault.BadCounter 0)
 set_counter_of_zero nodes = refl
 
 greatest_group_counter : (nodes : Vec Node Global) → first_fault rows (counter (codes "BOLT") 1 999999999 1 ∷ []) (guides nodes) ≡ None
 greatest_group_counter nodes = refl
 
 group_counter_too_great : (nodes : Vec Node Global) → first_fault rows (counter (codes "BOLT") 1 1000000000 1 ∷ []) (guides nodes)
-    ≡ Some fault.BadCounter
+    ≡ Some (fault.BadCounter 0)
 group_counter_too_great nodes = refl
 
-counter_of_nobody : (nodes : Vec Node Global) → first_fault rows (counter (codes "CARL") 1 1 1 ∷ []) (guides nodes) ≡ Some fault.BadCounter
+counter_of_nobody : (nodes : Vec Node Global) → first_fault rows (counter (codes "CARL") 1 1 1 ∷ []) (guides nodes)
+    ≡ Some (fault.BadCounter 0)
 counter_of_nobody nodes = refl
 
 counter_given_twice : (nodes : Vec Node Global) → first_fault rows (counter (codes "BOLT") 1 1 1 ∷ counters) (guides nodes)
-    ≡ Some fault.BadCounter
+    ≡ Some (fault.BadCounter 0)
 counter_given_twice nodes = refl
 
 cap_of_zero : (nodes : Vec Node Global) → first_fault
     (rows_with (acme ∷ other (codes "BOLT") (codes "BOLT") (codes "BOLT") (codes ":") 0 ∷ []) routes) counters (guides nodes)
-    ≡ Some fault.BadCap
+    ≡ Some (fault.BadCap 1)
 cap_of_zero nodes = refl
 
 counters_of_a_row : counters_of counters (codes "BOLT") ≡ record { interchange = 3; group = 5; set = 7 }
@@ -267,6 +277,39 @@ this_version nodes = refl
 
 another_version : (nodes : Vec Node Global) → has_version (setup_of rows counters (guides nodes)) 1 (codes "PO") (codes "004010") ≡ false
 another_version nodes = refl
+
+-- of rows that are given twice, the first one that stands again behind it
+second_route_given_twice : (nodes : Vec Node Global) → first_fault
+    (rows_with (acme ∷ bolt ∷ [])
+    (route (codes "AB") (codes "ACME") ∷ route (codes "AC") (codes "ACME") ∷ route (codes "AC") (codes "BOLT") ∷ [])) counters
+    (guides nodes) ≡ Some (fault.BadRoute 1)
+second_route_given_twice nodes = refl
+
+-- a wrong row before one that is given twice, and behind it
+wrong_route_first : (nodes : Vec Node Global) → first_fault
+    (rows_with (acme ∷ bolt ∷ [])
+    (route (codes "A") (codes "ACME") ∷ route (codes "AC") (codes "ACME") ∷ route (codes "AC") (codes "BOLT") ∷ [])) counters
+    (guides nodes) ≡ Some (fault.BadRoute 0)
+wrong_route_first nodes = refl
+
+twin_route_first : (nodes : Vec Node Global) → first_fault
+    (rows_with (acme ∷ bolt ∷ [])
+    (route (codes "AC") (codes "ACME") ∷ route (codes "A") (codes "ACME") ∷ route (codes "AC") (codes "BOLT") ∷ [])) counters
+    (guides nodes) ≡ Some (fault.BadRoute 0)
+twin_route_first nodes = refl
+
+bad_hub : (nodes : Vec Node Global) → first_fault
+    (record {
+      hub = record { qualifier = codes "Z"; id = codes "HUB"; code = codes "HUB"; usage = usage.Production };
+      partners = acme ∷ other (codes "BOLT") (codes "BOLT") (codes "B") (codes ":") 1 ∷ [];
+      routes = routes;
+    }) [] (guides nodes)
+    ≡ Some (fault.BadId owner.Hub)
+bad_hub nodes = refl
+
+counter_of_the_second_row : (nodes : Vec Node Global) → first_fault rows (counter (codes "ACME") 1 1 1 ∷ counter (codes "BOLT") 0 1 1 ∷ [])
+    (guides nodes) ≡ Some (fault.BadCounter 1)
+counter_of_the_second_row nodes = refl
 
 guide_of_orders : (nodes : Vec Node Global) →
     guide_of (setup_of rows counters (guides nodes)) 1 (codes "PO") (codes "005010") (codes "850") ≡ Some (orders nodes)

@@ -1,9 +1,10 @@
 -- The setup (own): what is refused of the rows, the counters and the guides that are to make one, and in which order.
-use Rattle.std.specs.Prelude.{ℕ, ◌==◌, Bool, not, ◌&&◌, ◌||◌, nat_le, List, [], ◌∷◌, ◌++◌, length, map, Option, Some, None, is_none}
-use Rattle.std.specs.Prelude.{slice_index, if◌then◌else◌, ◌-◌}
-use Rattle.std.specs.List.{list_all, list_any}
+use Rattle.std.specs.Prelude.{ℕ, ◌+◌, ◌-◌, ◌==◌, Bool, not, ◌&&◌, ◌||◌, nat_le, min, List, [], ◌∷◌, ◌++◌, length, map, Option, Some, None}
+use Rattle.std.specs.Prelude.{is_none, slice_index, if◌then◌else◌, option_map}
+use Rattle.std.specs.List.{list_all, list_any, position_from}
+use Rattle.std.specs.Option.{option_or}
 use Rattle.std.specs.Char.{is_ascii_alphanumeric}
-use Rattle.hub_kinds.specs.Words.{has_twice, is_word, contains_text}
+use Rattle.hub_kinds.specs.Words.{has_same_key, has_twice, is_word, contains_text}
 use Rattle.hub_kinds.specs.declared.counters.Counters.{Counters}
 use Rattle.x12_bytes.specs.declared.delims.Delims.{Delims}
 use Rattle.guide_tree.specs.declared.rows.GuideRows.{GuideRows}
@@ -12,6 +13,10 @@ use Rattle.partner_setup.specs.declared.rows.CounterRow.{CounterRow}
 use Rattle.partner_setup.specs.declared.rows.PartnerRow.{PartnerRow}
 use Rattle.partner_setup.specs.declared.rows.RouteRow.{RouteRow}
 use Rattle.partner_setup.specs.declared.rows.SetupRows.{SetupRows}
+use Rattle.partner_setup.specs.declared.setup_fault.IdOwner.{IdOwner}
+use Rattle.partner_setup.specs.declared.setup_fault.IdOwner.TheVariants as owner
+use Rattle.partner_setup.specs.declared.setup_fault.GuidesOwner.{GuidesOwner}
+use Rattle.partner_setup.specs.declared.setup_fault.GuidesOwner.TheVariants as guided
 use Rattle.partner_setup.specs.declared.setup_fault.SetupFault.{SetupFault}
 use Rattle.partner_setup.specs.declared.setup_fault.SetupFault.TheVariants as fault
 
@@ -26,9 +31,28 @@ told_by first second third = told first (told second (told third []))
 abbrev pub by_name : (name : List ℕ) → List ℕ
 by_name name = told_by name [] []
 
+-- the first row of which something is so, by its place
+abbrev pub first_row : {A : Type 0} → (A → Bool) → List A → Option ℕ
+first_row test rows = position_from test 0 rows
+
+-- the first row whose key is that of one behind it, by its place; the first has this place
+abbrev pub twin_from : {A : Type 0} → (A → List ℕ) → ℕ → List A → Option ℕ
+twin_from key n [] = None
+twin_from key n (x ∷ xs) = if list_any (λ y. has_same_key key y x) xs then Some n else twin_from key (n + 1) xs
+
+abbrev pub first_twin : {A : Type 0} → (A → List ℕ) → List A → Option ℕ
+first_twin key rows = twin_from key 0 rows
+
+-- the lesser of two places
+abbrev pub lesser : Option ℕ → Option ℕ → Option ℕ
+lesser None b = b
+lesser (Some m) None = Some m
+lesser (Some m) (Some n) = Some (min m n)
+
 -- 1: a name given twice, or a qualifier and id given twice
-abbrev pub has_same_partner : List PartnerRow → Bool
-has_same_partner ps = has_twice (λ (p : PartnerRow). by_name p.name) ps || has_twice (λ (p : PartnerRow). told_by p.qualifier p.id []) ps
+abbrev pub same_partner : List PartnerRow → Option ℕ
+same_partner ps = lesser (first_twin (λ (p : PartnerRow). by_name p.name) ps)
+    (first_twin (λ (p : PartnerRow). told_by p.qualifier p.id []) ps)
 
 -- the bytes that may delimit: 0x1C to 0x1F, and 0x21 to 0x7E but letters, digits, `-`, `.` and `_`; a terminator may be CR or LF too
 abbrev pub is_name_byte : ℕ → Bool
@@ -64,8 +88,8 @@ abbrev pub delims_of : PartnerRow → Option Delims
 delims_of p = delims_by (byte_of p.element) (byte_of p.component) (byte_of p.repetition) (byte_of p.terminator)
 
 -- 2: one of the four isn't one byte, two are equal, or one isn't allowed
-abbrev pub has_bad_delimiters : List PartnerRow → Bool
-has_bad_delimiters ps = list_any (λ p. is_none (delims_of p)) ps
+abbrev pub bad_delimiters : List PartnerRow → Option ℕ
+bad_delimiters ps = first_row (λ p. is_none (delims_of p)) ps
 
 -- letters, digits, `-`, `.`, `_` and, inside, spaces
 abbrev pub is_outer : ℕ → Bool
@@ -86,8 +110,10 @@ are_ids qualifier id code = is_word 2 2 qualifier && is_id 1 15 id && is_id 2 15
 abbrev pub has_ids : PartnerRow → Bool
 has_ids p = is_word 1 20 p.name && are_ids p.qualifier p.id p.code
 
-abbrev pub has_bad_id : SetupRows → Bool
-has_bad_id rows = not (are_ids rows.hub.qualifier rows.hub.id rows.hub.code) || not (list_all has_ids rows.partners)
+abbrev pub bad_id : SetupRows → Option IdOwner
+bad_id rows = if are_ids rows.hub.qualifier rows.hub.id rows.hub.code
+    then option_map owner.Partner (first_row (λ p. not (has_ids p)) rows.partners)
+    else Some owner.Hub
 
 abbrev pub guide_name : GuideRows → List ℕ
 guide_name g = g.head.name
@@ -103,9 +129,10 @@ guides_of guides p = those_at guides (places_of_texts (map guide_name guides) p.
 abbrev pub has_guides : List GuideRows → PartnerRow → Bool
 has_guides guides p = list_all (contains_text (map guide_name guides)) p.guides && not (has_twice purpose_key (guides_of guides p))
 
--- 4: a name that no guide has, two of a partner's guides for the same, or two guides with one name
-abbrev pub has_bad_guides : List PartnerRow → List GuideRows → Bool
-has_bad_guides ps guides = not (list_all (has_guides guides) ps) || has_twice (λ g. by_name (guide_name g)) guides
+-- 4: a name that no guide has, two of a partner's guides for the same, or else two guides with one name
+abbrev pub bad_guides : List PartnerRow → List GuideRows → Option GuidesOwner
+bad_guides ps guides = option_or (option_map guided.Partner (first_row (λ p. not (has_guides guides p)) ps))
+    (option_map guided.Guide (first_twin (λ g. by_name (guide_name g)) guides))
 
 abbrev pub partner_name : PartnerRow → List ℕ
 partner_name p = p.name
@@ -118,8 +145,8 @@ are_targets ps names = list_all (contains_text (map partner_name ps)) names && n
 abbrev pub is_route : List PartnerRow → RouteRow → Bool
 is_route ps r = is_id 2 15 r.code && are_targets ps r.to
 
-abbrev pub has_bad_route : List PartnerRow → List RouteRow → Bool
-has_bad_route ps routes = not (list_all (is_route ps) routes) || has_twice (λ (r : RouteRow). by_name r.code) routes
+abbrev pub bad_route : List PartnerRow → List RouteRow → Option ℕ
+bad_route ps routes = lesser (first_row (λ r. not (is_route ps r)) routes) (first_twin (λ (r : RouteRow). by_name r.code) routes)
 
 -- 6: a number out of 1 to 999,999,999, a partner that isn't there, or one given twice
 abbrev pub is_counter : ℕ → Bool
@@ -131,23 +158,28 @@ are_counters c = is_counter c.interchange && is_counter c.group && is_counter c.
 abbrev pub counts_for : List PartnerRow → CounterRow → Bool
 counts_for ps c = are_counters c.counters && contains_text (map partner_name ps) c.partner
 
-abbrev pub has_bad_counter : List PartnerRow → List CounterRow → Bool
-has_bad_counter ps cs = not (list_all (counts_for ps) cs) || has_twice (λ (c : CounterRow). by_name c.partner) cs
+abbrev pub bad_counter : List PartnerRow → List CounterRow → Option ℕ
+bad_counter ps cs = lesser (first_row (λ c. not (counts_for ps c)) cs) (first_twin (λ (c : CounterRow). by_name c.partner) cs)
 
 -- 7: a cap out of 1 to 99,999
 abbrev pub is_cap : ℕ → Bool
 is_cap n = nat_le 1 n && nat_le n 99999
 
-abbrev pub has_bad_cap : List PartnerRow → Bool
-has_bad_cap ps = not (list_all (λ p. is_cap p.cap) ps)
+abbrev pub bad_cap : List PartnerRow → Option ℕ
+bad_cap ps = first_row (λ p. not (is_cap p.cap)) ps
+
+-- of what speaks of partners by their names, or of a cap
+abbrev pub fault_of_names : SetupRows → List CounterRow → Option SetupFault
+fault_of_names rows counters =
+    option_or (option_map fault.BadRoute (bad_route rows.partners rows.routes))
+    (option_or (option_map fault.BadCounter (bad_counter rows.partners counters))
+    (option_map fault.BadCap (bad_cap rows.partners)))
 
 -- the first of these, in the order of their numbers
 abbrev pub first_fault : SetupRows → List CounterRow → List GuideRows → Option SetupFault
 first_fault rows counters guides =
-    if has_same_partner rows.partners then Some fault.SamePartner
-    else (if has_bad_delimiters rows.partners then Some fault.BadDelimiters
-    else (if has_bad_id rows then Some fault.BadId
-    else (if has_bad_guides rows.partners guides then Some fault.BadGuides
-    else (if has_bad_route rows.partners rows.routes then Some fault.BadRoute
-    else (if has_bad_counter rows.partners counters then Some fault.BadCounter
-    else (if has_bad_cap rows.partners then Some fault.BadCap else None))))))
+    option_or (option_map fault.SamePartner (same_partner rows.partners))
+    (option_or (option_map fault.BadDelimiters (bad_delimiters rows.partners))
+    (option_or (option_map fault.BadId (bad_id rows))
+    (option_or (option_map fault.BadGuides (bad_guides rows.partners guides))
+    (fault_of_names rows counters))))

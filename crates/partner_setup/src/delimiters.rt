@@ -1,5 +1,4 @@
 ghost use Rattle.std.specs.Prelude.{◌≡◌, is_none};
-ghost use Rattle.std.specs.List.{list_any};
 ghost use Rattle.partner_setup.specs.SetupFaults as faults;
 
 use crate::ids::is_name_byte;
@@ -69,9 +68,14 @@ fn lacks_delimiters(partner: &PartnerRow) -> bool
     delims_of(partner).is_none()
 }
 
-/// Whether a partner's four delimiters aren't single bytes that are allowed and differ.
-pub fn has_bad_delimiters(partners: &[PartnerRow]) -> bool
-    ensures { result ≡ faults.has_bad_delimiters partners.now }
+/// The first partner whose four delimiters aren't single bytes that are allowed and differ.
+pub fn bad_delimiters(partners: &[PartnerRow]) -> Option<usize>
+    ensures { result ≡ faults.bad_delimiters partners.now }
 {
-    partners.iter().any(|partner| lacks_delimiters(partner))
+    for i in 0..partners.len() {
+        if lacks_delimiters(&partners[i]) {
+            return Some(i);
+        }
+    }
+    None
 }

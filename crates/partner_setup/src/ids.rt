@@ -1,8 +1,9 @@
-ghost use Rattle.std.specs.Prelude.{◌≡◌};
+ghost use Rattle.std.specs.Prelude.{◌≡◌, not};
 ghost use Rattle.std.specs.List.{list_all};
 ghost use Rattle.partner_setup.specs.SetupFaults as faults;
 
 use crate::rows::{PartnerRow, SetupRows};
+use crate::setup_fault::IdOwner;
 use hub_kinds::is_alphanumeric;
 
 /// Letters, digits, `-`, `.` and `_`.
@@ -57,20 +58,29 @@ fn has_ids(partner: &PartnerRow) -> bool
         )
 }
 
-fn have_ids(partners: &[PartnerRow]) -> bool
-    ensures { result ≡ list_all faults.has_ids partners.now }
+fn lacks_ids(partners: &[PartnerRow]) -> Option<usize>
+    ensures { result ≡ faults.first_row (λ p. not (faults.has_ids p)) partners.now }
 {
-    partners.iter().all(|partner| has_ids(partner))
+    for i in 0..partners.len() {
+        if !has_ids(&partners[i]) {
+            return Some(i);
+        }
+    }
+    None
 }
 
-/// Whether a qualifier, id or code, of the hub or a partner, or a partner's name, hasn't its form.
-pub fn has_bad_id(rows: &SetupRows) -> bool
-    ensures { result ≡ faults.has_bad_id rows.now }
+/// Whose qualifier, id or code, or whose name as a partner, hasn't its form.
+pub fn bad_id(rows: &SetupRows) -> Option<IdOwner>
+    ensures { result ≡ faults.bad_id rows.now }
 {
     let hub = &rows.hub;
-    !are_ids(
+    if !are_ids(
         hub.qualifier.as_slice(),
         hub.id.as_slice(),
         hub.code.as_slice(),
-    ) || !have_ids(rows.partners.as_slice())
+    ) {
+        return Some(IdOwner::Hub);
+    }
+    let partner = lacks_ids(rows.partners.as_slice())?;
+    Some(IdOwner::Partner(partner))
 }

@@ -1,4 +1,4 @@
-ghost use Rattle.std.specs.Prelude.{◌≡◌, ◌++◌, [], ℕ, List, Some, None, if◌then◌else◌, map, option_map, slice_get, IfOk, OnOk};
+ghost use Rattle.std.specs.Prelude.{◌≡◌, ◌++◌, [], ℕ, List, Some, None, map, not, option_map, slice_get, IfOk, OnOk};
 ghost use Rattle.std.specs.List.{list_all};
 ghost use Rattle.hub_kinds.specs.Words.{contains_text};
 ghost use Rattle.partner_setup.specs.Known.{KnowsPlaces};
@@ -6,27 +6,38 @@ ghost use Rattle.partner_setup.specs.Names.{and_some, places_of_texts, those_at}
 ghost use Rattle.partner_setup.specs.SetupFaults as faults;
 ghost use Rattle.partner_setup.specs.declared.setup_fault.SetupFault.TheVariants as refusal;
 
-use crate::delimiters::has_bad_delimiters;
-use crate::ids::{has_bad_id, is_id};
+use crate::delimiters::bad_delimiters;
+use crate::ids::{bad_id, is_id};
 use crate::names::{is_name, place_of, places_by_name};
 use crate::rows::{CounterRow, PartnerRow, RouteRow, SetupRows};
-use crate::setup_fault::SetupFault;
+use crate::setup_fault::{GuidesOwner, SetupFault};
 use crate::told::Told;
 use crate::twice::{
-    CounterPartner, GuideName, PartnerId, PartnerName, RouteCode, TargetName, given_twice,
+    CounterPartner, GuideName, PartnerId, PartnerName, RouteCode, TargetName, first_twin,
+    given_twice,
 };
 use guide_tree::Guide;
 use hub_kinds::{Counters, NoMemory, Text, has_twice};
 use std::alloc::Global;
 use std::collections::BTreeMap;
 
-fn has_same_partner(alloc: Global, partners: &[PartnerRow]) -> Result<bool, NoMemory>
-    ensures { IfOk result (λ same. same ≡ faults.has_same_partner partners.now) }
+/// The lesser of two places.
+fn lesser(a: Option<usize>, b: Option<usize>) -> Option<usize>
+    ensures { result ≡ faults.lesser a b }
 {
-    if given_twice::<PartnerName>(alloc, partners)? {
-        return Ok(true);
+    match (a, b) {
+        (None, b) => b,
+        (Some(m), None) => Some(m),
+        (Some(m), Some(n)) => Some(m.min(n)),
     }
-    given_twice::<PartnerId>(alloc, partners)
+}
+
+fn same_partner(alloc: Global, partners: &[PartnerRow]) -> Result<Option<usize>, NoMemory>
+    ensures { IfOk result (λ place. place ≡ faults.same_partner partners.now) }
+{
+    let name = first_twin::<PartnerName>(alloc, partners)?;
+    let id = first_twin::<PartnerId>(alloc, partners)?;
+    Ok(lesser(name, id))
 }
 
 fn are_names(places: &BTreeMap<&[u8], usize>, names: &[Text]) -> bool
@@ -128,35 +139,38 @@ fn has_guides(
     Ok(!has_twice(purposes_at(alloc, guides, found.as_slice())?))
 }
 
-fn all_have_guides(
+fn lacks_guides(
     alloc: Global,
     places: &BTreeMap<&[u8], usize>,
     guides: &[Guide],
     partners: &[PartnerRow],
-) -> Result<bool, NoMemory>
+) -> Result<Option<usize>, NoMemory>
     requires { KnowsPlaces places.now 0 (map faults.guide_name guides.now) }
-    ensures { IfOk result (λ all. all ≡ list_all (faults.has_guides guides.now) partners.now) }
+    ensures { IfOk result (λ place. place ≡ faults.first_row (λ p. not (faults.has_guides guides.now p)) partners.now) }
 {
-    for partner in partners {
-        if !has_guides(alloc, places, guides, partner)? {
-            return Ok(false);
+    for i in 0..partners.len() {
+        if !has_guides(alloc, places, guides, &partners[i])? {
+            return Ok(Some(i));
         }
     }
-    Ok(true)
+    Ok(None)
 }
 
-fn has_bad_guides(
+fn bad_guides(
     alloc: Global,
     partners: &[PartnerRow],
     guides: &[Guide],
-) -> Result<bool, NoMemory>
-    ensures { IfOk result (λ bad. bad ≡ faults.has_bad_guides partners.now guides.now) }
+) -> Result<Option<GuidesOwner>, NoMemory>
+    ensures { IfOk result (λ owner. owner ≡ faults.bad_guides partners.now guides.now) }
 {
     let places = places_by_name(alloc, guides)?;
-    if !all_have_guides(alloc, &places, guides, partners)? {
-        return Ok(true);
+    if let Some(partner) = lacks_guides(alloc, &places, guides, partners)? {
+        return Ok(Some(GuidesOwner::Partner(partner)));
     }
-    given_twice::<GuideName>(alloc, guides)
+    match first_twin::<GuideName>(alloc, guides)? {
+        None => Ok(None),
+        Some(guide) => Ok(Some(GuidesOwner::Guide(guide))),
+    }
 }
 
 /// Whether each target is a partner, and none is named twice.
@@ -189,34 +203,33 @@ fn is_route(
     are_targets(alloc, places, route.to.as_slice())
 }
 
-fn are_routes(
+fn wrong_route(
     alloc: Global,
     places: &BTreeMap<&[u8], usize>,
     routes: &[RouteRow],
-) -> Result<bool, NoMemory>
-    ensures { IfOk result (λ are. (ps : List PartnerRow) → KnowsPlaces places.now 0 (map faults.partner_name ps)
-        → are ≡ list_all (faults.is_route ps) routes.now) }
+) -> Result<Option<usize>, NoMemory>
+    ensures { IfOk result (λ place. (ps : List PartnerRow) → KnowsPlaces places.now 0 (map faults.partner_name ps)
+        → place ≡ faults.first_row (λ r. not (faults.is_route ps r)) routes.now) }
 {
-    for route in routes {
-        if !is_route(alloc, places, route)? {
-            return Ok(false);
+    for i in 0..routes.len() {
+        if !is_route(alloc, places, &routes[i])? {
+            return Ok(Some(i));
         }
     }
-    Ok(true)
+    Ok(None)
 }
 
-fn has_bad_route(
+fn bad_route(
     alloc: Global,
     places: &BTreeMap<&[u8], usize>,
     routes: &[RouteRow],
-) -> Result<bool, NoMemory>
-    ensures { IfOk result (λ bad. (ps : List PartnerRow) → KnowsPlaces places.now 0 (map faults.partner_name ps)
-        → bad ≡ faults.has_bad_route ps routes.now) }
+) -> Result<Option<usize>, NoMemory>
+    ensures { IfOk result (λ place. (ps : List PartnerRow) → KnowsPlaces places.now 0 (map faults.partner_name ps)
+        → place ≡ faults.bad_route ps routes.now) }
 {
-    if !are_routes(alloc, places, routes)? {
-        return Ok(true);
-    }
-    given_twice::<RouteCode>(alloc, routes)
+    let wrong = wrong_route(alloc, places, routes)?;
+    let twin = first_twin::<RouteCode>(alloc, routes)?;
+    Ok(lesser(wrong, twin))
 }
 
 fn is_counter(number: u32) -> bool
@@ -237,30 +250,29 @@ fn counts_for(places: &BTreeMap<&[u8], usize>, row: &CounterRow) -> bool
     are_counters(&row.counters) && is_name(places, row.partner.as_slice())
 }
 
-fn all_count(places: &BTreeMap<&[u8], usize>, rows: &[CounterRow]) -> bool
+fn wrong_counter(places: &BTreeMap<&[u8], usize>, rows: &[CounterRow]) -> Option<usize>
     ensures { (ps : List PartnerRow) → KnowsPlaces places.now 0 (map faults.partner_name ps)
-        → result ≡ list_all (faults.counts_for ps) rows.now }
+        → result ≡ faults.first_row (λ c. not (faults.counts_for ps c)) rows.now }
 {
-    for row in rows {
-        if !counts_for(places, row) {
-            return false;
+    for i in 0..rows.len() {
+        if !counts_for(places, &rows[i]) {
+            return Some(i);
         }
     }
-    true
+    None
 }
 
-fn has_bad_counter(
+fn bad_counter(
     alloc: Global,
     places: &BTreeMap<&[u8], usize>,
     rows: &[CounterRow],
-) -> Result<bool, NoMemory>
-    ensures { IfOk result (λ bad. (ps : List PartnerRow) → KnowsPlaces places.now 0 (map faults.partner_name ps)
-        → bad ≡ faults.has_bad_counter ps rows.now) }
+) -> Result<Option<usize>, NoMemory>
+    ensures { IfOk result (λ place. (ps : List PartnerRow) → KnowsPlaces places.now 0 (map faults.partner_name ps)
+        → place ≡ faults.bad_counter ps rows.now) }
 {
-    if !all_count(places, rows) {
-        return Ok(true);
-    }
-    given_twice::<CounterPartner>(alloc, rows)
+    let wrong = wrong_counter(places, rows);
+    let twin = first_twin::<CounterPartner>(alloc, rows)?;
+    Ok(lesser(wrong, twin))
 }
 
 fn is_capped(partner: &PartnerRow) -> bool
@@ -269,16 +281,15 @@ fn is_capped(partner: &PartnerRow) -> bool
     1 <= partner.cap && partner.cap <= 99_999
 }
 
-fn are_capped(partners: &[PartnerRow]) -> bool
-    ensures { result ≡ list_all (λ p. faults.is_cap p.cap) partners.now }
+fn bad_cap(partners: &[PartnerRow]) -> Option<usize>
+    ensures { result ≡ faults.bad_cap partners.now }
 {
-    partners.iter().all(|partner| is_capped(partner))
-}
-
-fn has_bad_cap(partners: &[PartnerRow]) -> bool
-    ensures { result ≡ faults.has_bad_cap partners.now }
-{
-    !are_capped(partners)
+    for i in 0..partners.len() {
+        if !is_capped(&partners[i]) {
+            return Some(i);
+        }
+    }
+    None
 }
 
 /// The first refusal of what speaks of partners by their names, or of a cap.
@@ -287,20 +298,18 @@ fn fault_of_names(
     rows: &SetupRows,
     counters: &[CounterRow],
 ) -> Result<Option<SetupFault>, NoMemory>
-    ensures { IfOk result (λ fault. fault ≡ (if faults.has_bad_route rows.now.partners rows.now.routes then Some refusal.BadRoute
-        else (if faults.has_bad_counter rows.now.partners counters.now then Some refusal.BadCounter
-        else (if faults.has_bad_cap rows.now.partners then Some refusal.BadCap else None)))) }
+    ensures { IfOk result (λ fault. fault ≡ faults.fault_of_names rows.now counters.now) }
 {
     let partners = rows.partners.as_slice();
     let places = places_by_name(alloc, partners)?;
-    if has_bad_route(alloc, &places, rows.routes.as_slice())? {
-        return Ok(Some(SetupFault::BadRoute));
+    if let Some(route) = bad_route(alloc, &places, rows.routes.as_slice())? {
+        return Ok(Some(SetupFault::BadRoute(route)));
     }
-    if has_bad_counter(alloc, &places, counters)? {
-        return Ok(Some(SetupFault::BadCounter));
+    if let Some(row) = bad_counter(alloc, &places, counters)? {
+        return Ok(Some(SetupFault::BadCounter(row)));
     }
-    if has_bad_cap(partners) {
-        return Ok(Some(SetupFault::BadCap));
+    if let Some(partner) = bad_cap(partners) {
+        return Ok(Some(SetupFault::BadCap(partner)));
     }
     Ok(None)
 }
@@ -315,17 +324,17 @@ pub fn first_fault(
     ensures { IfOk result (λ fault. fault ≡ faults.first_fault rows.now counters.now guides.now) }
 {
     let partners = rows.partners.as_slice();
-    if has_same_partner(alloc, partners)? {
-        return Ok(Some(SetupFault::SamePartner));
+    if let Some(partner) = same_partner(alloc, partners)? {
+        return Ok(Some(SetupFault::SamePartner(partner)));
     }
-    if has_bad_delimiters(partners) {
-        return Ok(Some(SetupFault::BadDelimiters));
+    if let Some(partner) = bad_delimiters(partners) {
+        return Ok(Some(SetupFault::BadDelimiters(partner)));
     }
-    if has_bad_id(rows) {
-        return Ok(Some(SetupFault::BadId));
+    if let Some(owner) = bad_id(rows) {
+        return Ok(Some(SetupFault::BadId(owner)));
     }
-    if has_bad_guides(alloc, partners, guides)? {
-        return Ok(Some(SetupFault::BadGuides));
+    if let Some(owner) = bad_guides(alloc, partners, guides)? {
+        return Ok(Some(SetupFault::BadGuides(owner)));
     }
     fault_of_names(alloc, rows, counters)
 }

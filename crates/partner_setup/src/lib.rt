@@ -5,7 +5,7 @@
 //! - `read_setup` and `read_counters` refuse bytes as no TOML exactly where `toml` reads no table from them, want of memory
 //!   aside; else the answer is a function of the table: its first fault, or the rows that it writes;
 //! - `Setup::build` is the setup that rows, counters and guides make, exactly where nothing of them is refused, and else the
-//!   first refusal, in the order of the refusals' numbers;
+//!   first refusal, in the order of the refusals' numbers, at the least row that is at fault;
 //! - every setup is sound: each partner's cap, counters, delimiters and names are what they have to be, and each route leads to
 //!   its partners, to none of them twice;
 //! - `Setup::envelope_to` is the envelope from the hub to a partner, and its interchange header can be read again;
@@ -46,6 +46,6 @@ pub use partner::{Partner, Route};
 pub use receivers::MOST_RECEIVERS;
 pub use rows::{CounterRow, CounterRows, HubRow, PartnerRow, RouteRow, SetupRows, Usage};
 pub use setup::Setup;
-pub use setup_fault::SetupFault;
+pub use setup_fault::{GuidesOwner, IdOwner, SetupFault};
 pub use setup_file::read_setup;
 pub use toml_keys::FileFault;

@@ -7,6 +7,7 @@ use crate::told::{Told, by_name};
 use guide_tree::Guide;
 use hub_kinds::{NoMemory, Text, has_twice};
 use std::alloc::Global;
+use std::collections::BTreeSet;
 
 /// What rows are told apart by.
 pub trait Tells {
@@ -117,4 +118,22 @@ pub fn given_twice<K: Tells>(alloc: Global, rows: &[K::Row]) -> Result<bool, NoM
     ensures { IfOk result (λ twice. twice ≡ has_twice K.tells rows.now) }
 {
     Ok(has_twice(told_apart::<K>(alloc, rows)?))
+}
+
+/// The place of the first row that can't be told from one behind it.
+pub fn first_twin<'a, K: Tells>(
+    alloc: Global,
+    rows: &'a [K::Row],
+) -> Result<Option<usize>, NoMemory>
+    ensures { IfOk result (λ place. place ≡ faults.first_twin K.tells rows.entry.now) }
+{
+    let mut behind = BTreeSet::new(alloc);
+    let mut twin = None;
+    for count in 0..rows.len() {
+        let i = rows.len() - 1 - count;
+        if !behind.insert(K::tell(&rows[i]))? {
+            twin = Some(i);
+        }
+    }
+    Ok(twin)
 }
