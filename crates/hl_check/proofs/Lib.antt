@@ -4,4 +4,5 @@ mod Walking
 mod Faulty
 mod Keyed
 pub mod Whole
+mod NoneFound
 mod Worked

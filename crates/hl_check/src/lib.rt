@@ -6,7 +6,8 @@
 //! (HL04). Where the guide has no rule there is none.
 //!
 //! `IsHierarchyWhole` of `specs/Hierarchy.antt` says of HL segments alone that nothing is wrong with them; where each segment
-//! of a body has a place that leads to a slot, there is no fault exactly then (`proofs/Whole.antt`).
+//! of a body has a place that leads to a slot, there is no fault exactly then (`proofs/Whole.antt`). `is_hierarchy_whole` answers
+//! so of HL segments that were found before.
 //!
 //! Numbers are looked up in an ordered map and an ordered set, so that the cost follows the bytes, but for a logarithm,
 //! whatever numbers somebody chooses; nothing goes as deep as the hierarchy.
@@ -23,4 +24,4 @@ mod hls;
 mod known;
 mod rules;
 
-pub use check::check_hl;
+pub use check::{check_hl, is_hierarchy_whole};
