@@ -6,3 +6,4 @@ mod Keyed
 pub mod Whole
 mod NoneFound
 mod Worked
+mod Levelled

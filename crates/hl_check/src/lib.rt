@@ -9,7 +9,8 @@
 //! of a body has a place that leads to a slot, there is no fault exactly then (`proofs/Whole.antt`). `is_hierarchy_whole` answers
 //! so of HL segments that were found before.
 //!
-//! Numbers are looked up in an ordered map and an ordered set, so that the cost follows the bytes, but for a logarithm,
+//! HLs that are numbered by their count, name earlier ones, and have the children that they tell of at once, are seen to be whole in
+//! one walk (`look_whole`), which takes no memory. Else numbers are looked up in an ordered map and an ordered set, so that the cost follows the bytes, but for a logarithm,
 //! whatever numbers somebody chooses; nothing goes as deep as the hierarchy.
 //!
 //! Source: X12.6, hierarchical level segment (HL); the 999 guide (005010X231), IK4. Which code stands for which fault is
@@ -22,6 +23,7 @@ mod fault;
 mod forward;
 mod hls;
 mod known;
+mod levels;
 mod rules;
 
 pub use check::{check_hl, is_hierarchy_whole};
