@@ -1,3 +1,4 @@
 pub mod SoundPlaces
 mod Clean
+mod Keeping
 mod Taking

@@ -24,9 +24,9 @@ AreFaultless ts body given = (index : ℕ) (seg : SegValue) (place : Place) (slo
 abbrev pub places_by : GuideTree → List SegValue → List (Option Place)
 places_by g body = placing_of g.nodes (map elements_of body)
 
--- whatever the delimiters of its hierarchy and dependencies and wherever its end is told
-pub record IsCleanBody (g : GuideTree) (body : List SegValue) : Type 0 where
+-- by the delimiters of its hierarchy and dependencies, wherever its end is told
+pub record IsCleanBody (g : GuideTree) (d : Delims) (body : List SegValue) : Type 0 where
   pub structure : (end : ℕ) (f : Fault) → IsStructureFault g (map elements_of body) (places_by g body) end f → ⊥
   pub elements : AreFaultless g.nodes body (places_by g body)
-  pub hierarchy : (d : Delims) (f : Fault) → IsHierarchyFault g d (map elements_of body) (places_by g body) f → ⊥
-  pub dependencies : (d : Delims) (end : ℕ) (f : Fault) → IsDependencyFault g d (map elements_of body) (places_by g body) end f → ⊥
+  pub hierarchy : (f : Fault) → IsHierarchyFault g d (map elements_of body) (places_by g body) f → ⊥
+  pub dependencies : (end : ℕ) (f : Fault) → IsDependencyFault g d (map elements_of body) (places_by g body) end f → ⊥

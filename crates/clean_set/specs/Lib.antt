@@ -1,3 +1,5 @@
 pub mod CleanBody
 pub mod CleanSet
+pub mod Kept
+pub mod Depends
 pub mod Walked

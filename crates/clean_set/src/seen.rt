@@ -5,21 +5,23 @@ ghost use Rattle.x12_segs.specs.Words.{SegValue};
 ghost use Rattle.guide_tree.specs.Words.{GuideTree, guide_of};
 ghost use Rattle.clean_set.specs.Walked.{IsSeen};
 
+use crate::kept::{Kept, keep};
 use crate::walk::{Walk, take};
 use guide_fast::FastGuide;
 use hub_kinds::NoMemory;
 use std::alloc::Global;
 use x12_segs::{Kind, SegView, kind_of};
 
-/// What was seen behind a set's ST: the walk over the body, and the SE.
+/// What was seen behind a set's ST: the walk over the body, what it kept, and the SE.
 #[derive(Drop)]
-pub struct Seen<'a> {
+pub struct Seen<'a, 'g> {
     pub walk: Walk,
+    pub kept: Kept<'a, 'g>,
     pub trailer: Option<SegView<'a>>,
 }
 
 /// Nothing.
-pub fn nothing_seen<'a>(alloc: Global) -> Seen<'a>
+pub fn nothing_seen<'a, 'g>(alloc: Global) -> Seen<'a, 'g>
     ensures { (g : GuideTree) → IsSeen g result [] }
 {
     Seen {
@@ -28,15 +30,19 @@ pub fn nothing_seen<'a>(alloc: Global) -> Seen<'a>
             next: Vec::new(alloc),
             count: 0,
         },
+        kept: Kept {
+            hls: Vec::new(alloc),
+            labelled: Vec::new(alloc),
+        },
         trailer: None,
     }
 }
 
 /// Sees the next segment, and says whether surely nothing is wrong at it. Behind the SE there is none.
-pub fn see<'a>(
+pub fn see<'a, 'g>(
     alloc: Global,
-    seen: &mut Seen<'a>,
-    fast: &FastGuide,
+    seen: &mut Seen<'a, 'g>,
+    fast: &FastGuide<'g>,
     seg: SegView<'a>,
 ) -> Result<bool, NoMemory>
     requires { AllByRecursion (λ s. s.use_no < seen.old.walk.count) seen.old.walk.last.items }
@@ -50,8 +56,9 @@ pub fn see<'a>(
         seen.trailer = Some(seg);
         return Ok(true);
     }
-    if !take(alloc, &mut seen.walk, fast, &seg)? {
+    let Some(slot) = take(alloc, &mut seen.walk, fast, &seg)? else {
         return Ok(false);
-    }
+    };
+    keep(&mut seen.kept, &seg, slot)?;
     Ok(true)
 }

@@ -1,4 +1,4 @@
-ghost use Rattle.std.specs.Prelude.{◌≡◌, ◌+◌, ◌<◌, ◌≤◌, ◌^◌, length, IfOk, OnOk};
+ghost use Rattle.std.specs.Prelude.{◌≡◌, ◌+◌, ◌<◌, ◌≤◌, ◌^◌, length, IfOk, IfSome, OnOk};
 ghost use Rattle.std.specs.Bool.{OnTrue};
 ghost use Rattle.std.specs.List.{AllByRecursion};
 ghost use Rattle.guide_tree.specs.Words.{guide_of, IsSound};
@@ -56,31 +56,31 @@ fn is_faultless(alloc: Global, seg: &SegView, slot: &Slot) -> Result<bool, NoMem
     Ok(faults.as_slice().is_empty())
 }
 
-/// Gives the next segment its place, and says whether surely nothing is wrong there.
-pub fn take(
+/// Gives the next segment its place, and where surely nothing is wrong there its slot.
+pub fn take<'g>(
     alloc: Global,
     walk: &mut Walk,
-    fast: &FastGuide,
+    fast: &FastGuide<'g>,
     seg: &SegView,
-) -> Result<bool, NoMemory>
+) -> Result<Option<&'g Slot>, NoMemory>
     requires { AllByRecursion (λ s. s.use_no < walk.old.count) walk.old.last.items }
-    ensures { IfOk result (λ clean. OnTrue clean (HasTaken (guide_of fast.now) walk.old walk.new seg.now)) }
+    ensures { IfOk result (λ found. IfSome found (λ slot. HasTaken (guide_of fast.now) walk.old walk.new seg.now slot.now)) }
 {
     if walk.count >= MOST_SEGMENTS {
-        return Ok(false);
+        return Ok(None);
     }
     let _accepted = fast.guide().rows();
     let Some(turn) = fast.turn_from(walk.last.as_slice(), walk.count, seg) else {
-        return Ok(false);
+        return Ok(None);
     };
     if !is_faultless(alloc, seg, turn.slot)? {
-        return Ok(false);
+        return Ok(None);
     }
     write_place(&mut walk.next, walk.last.as_slice(), &turn)?;
     if !fast.is_silent(walk.last.as_slice(), walk.next.as_slice()) {
-        return Ok(false);
+        return Ok(None);
     }
     swap(&mut walk.last, &mut walk.next);
     walk.count += 1;
-    Ok(true)
+    Ok(Some(turn.slot))
 }

@@ -4,4 +4,6 @@ mod Walking
 mod Faulty
 mod Keyed
 pub mod Whole
+mod NoneFound
 mod Worked
+mod Levelled

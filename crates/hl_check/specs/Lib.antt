@@ -1,3 +1,4 @@
 pub mod Hierarchy
 pub mod Found
 pub mod Known
+pub mod Levels

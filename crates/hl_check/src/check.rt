@@ -1,4 +1,5 @@
-ghost use Rattle.std.specs.Prelude.{◌≡◌, ◌↔◌, length, map, IfOk};
+ghost use Rattle.std.specs.Prelude.{◌≡◌, ◌↔◌, length, map, IfOk, Some};
+ghost use Rattle.std.specs.Bool.{OnTrue};
 ghost use Rattle.std.specs.List.{All, Contains};
 ghost use Rattle.x12_bytes.specs.declared.delims.Delims.{Delims};
 ghost use Rattle.x12_segs.specs.Words.{elements_of};
@@ -6,13 +7,14 @@ ghost use Rattle.hub_kinds.specs.declared.fault.Fault.{Fault};
 ghost use Rattle.hub_kinds.specs.Words.{AreRising};
 ghost use Rattle.guide_tree.specs.Words.{guide_of, nodes_view};
 ghost use Rattle.loop_match.specs.Given.{place_in};
-ghost use Rattle.hl_check.specs.Hierarchy.{hls_of, IsFaultAmong, IsHierarchyFault};
+ghost use Rattle.hl_check.specs.Hierarchy.{hls_of, segments_of, IsFaultAmong, IsHierarchyFault, IsHierarchyWhole};
 ghost use Rattle.hl_check.specs.Found.{found_faults};
 ghost use Rattle.loop_match.specs.Viewed.{placed_views};
 
 use crate::backward::add_backward;
 use crate::forward::add_forward;
 use crate::hls::hls_of;
+use crate::levels::look_whole;
 use guide_tree::{Guide, HlRule, Node};
 use hub_kinds::{Fault, NoMemory, in_order};
 use loop_match::{PlacedSeg, Placing};
@@ -33,6 +35,24 @@ fn find_faults(
     add_forward(alloc, &mut faults, rule, delims, hls)?;
     add_backward(alloc, &mut faults, delims, hls)?;
     Ok(faults)
+}
+
+/// Whether nothing is wrong with these HLs by a rule, where a set has no other, and all are read by the delimiters; in a body
+/// whose segments all have places there is then no fault of the hierarchy. Positions and loops aren't looked at. The only error is
+/// want of memory. X12.6, hierarchical level segment.
+pub fn is_hierarchy_whole(
+    alloc: Global,
+    rule: &HlRule,
+    delims: Delims,
+    hls: &[PlacedSeg],
+) -> Result<bool, NoMemory>
+    ensures { IfOk result (λ whole. OnTrue whole (IsHierarchyWhole (Some rule.now) delims (segments_of (placed_views hls.now)))) }
+{
+    if look_whole(rule, delims, hls) {
+        return Ok(true);
+    }
+    let faults = find_faults(alloc, rule, delims, hls)?;
+    Ok(faults.as_slice().is_empty())
 }
 
 /// The faults of the HLs of a body, in their order.

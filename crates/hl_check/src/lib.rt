@@ -6,10 +6,13 @@
 //! (HL04). Where the guide has no rule there is none.
 //!
 //! `IsHierarchyWhole` of `specs/Hierarchy.antt` says of HL segments alone that nothing is wrong with them; where each segment
-//! of a body has a place that leads to a slot, there is no fault exactly then (`proofs/Whole.antt`).
+//! of a body has a place that leads to a slot, there is no fault exactly then (`proofs/Whole.antt`). Where `is_hierarchy_whole`
+//! says yes of HL segments that were found before, they are whole.
 //!
-//! Numbers are looked up in an ordered map and an ordered set, so that the cost follows the bytes, but for a logarithm,
-//! whatever numbers somebody chooses; nothing goes as deep as the hierarchy.
+//! HLs that are numbered by their count, name earlier ones, and have the children that they tell of at once, it sees to be whole
+//! in one walk (`look_whole`), which takes no memory. Else, and by `check_hl`, numbers are looked up in an ordered map and an
+//! ordered set, so that the cost follows the bytes, but for a logarithm, whatever numbers somebody chooses; nothing goes as deep
+//! as the hierarchy.
 //!
 //! Source: X12.6, hierarchical level segment (HL); the 999 guide (005010X231), IK4. Which code stands for which fault is
 //! own.
@@ -21,6 +24,7 @@ mod fault;
 mod forward;
 mod hls;
 mod known;
+mod levels;
 mod rules;
 
-pub use check::check_hl;
+pub use check::{check_hl, is_hierarchy_whole};

@@ -18,7 +18,7 @@ pub fn is_filled(delims: Delims, text: &[u8]) -> bool
 }
 
 /// Whether a text is the number in decimal, without leading zeros.
-fn is_count(text: &[u8], count: usize) -> bool
+pub fn is_count(text: &[u8], count: usize) -> bool
     ensures { result ≡ bytes_eq text.now (decimal count) }
 {
     let mut buffer = Buffer::new();
@@ -51,7 +51,7 @@ fn is_pair(parent: Option<&[u8]>, child: &[u8], pair: &HlPair) -> bool
 }
 
 /// Whether a level is listed below that of a parent, or as a root's.
-fn is_listed(rule: &HlRule, parent: Option<&[u8]>, child: &[u8]) -> bool
+pub fn is_listed(rule: &HlRule, parent: Option<&[u8]>, child: &[u8]) -> bool
     ensures { result ≡ is_listed rule.now (option_map (λ p. p.now) parent.entry) child.now }
 {
     rule.pairs

@@ -56,7 +56,7 @@ room_is false h body None e = omega arith
 room_is true h body (Some x) e =
     let n : length (body ++ x ∷ []) ≡ length body + length (x ∷ []) = length-append body (x ∷ []) in omega (arith, n)
 
-no_errors : (g : GuideTree) (d : Delims) (closed : Bool) (segs : List SegValue) → IsCleanBody g (inner_of closed segs)
+no_errors : (g : GuideTree) (d : Delims) (closed : Bool) (segs : List SegValue) → IsCleanBody g d (inner_of closed segs)
     → Adds [] [] (IsErrorBelow g.nodes (inner_of closed segs) (places_by g (inner_of closed segs)) (length (inner_of closed segs)))
 no_errors g d closed segs clean f = (λ h. inl h, none)
   where
@@ -66,13 +66,13 @@ no_errors g d closed segs clean f = (λ h. inl h, none)
     none (inr b) = absurd (clean.elements b.index b.seg b.place b.slot b.there b.placed b.leads b.told.elem b.told.wrong)
 
 pub no_faults : (g : GuideTree) (d : Delims) (closed : Bool) (segs : List SegValue) → All (λ s. s.delims ≡ d) segs
-    → IsCleanBody g (inner_of closed segs) → AreSetFaults (Some g) (parts_of d closed segs) []
+    → IsCleanBody g d (inner_of closed segs) → AreSetFaults (Some g) (parts_of d closed segs) []
 no_faults g d closed segs read clean f = (λ h. absurd (no_member f h), λ x. absurd (none x))
   where
     rule : IsRuleFault g d (map elements_of (inner_of closed segs)) (places_by g (inner_of closed segs))
         (end_position (parts_of d closed segs)) f → ⊥
-    rule (inl h) = clean.hierarchy d f h
-    rule (inr k) = clean.dependencies d (end_position (parts_of d closed segs)) f k
+    rule (inl h) = clean.hierarchy f h
+    rule (inr k) = clean.dependencies (end_position (parts_of d closed segs)) f k
 
     none : IsFaultUnder g (parts_of d closed segs) (places_by g (inner_of closed segs)) f → ⊥
     none (inl s) = clean.structure (end_position (parts_of d closed segs)) f s
@@ -80,13 +80,13 @@ no_faults g d closed segs read clean f = (λ h. absurd (no_member f h), λ x. ab
     none (inr (inr o)) = rule o.0
 
 pub clean_faults : (g : GuideTree) (d : Delims) (closed : Bool) (segs : List SegValue) (e : Ends) → All (λ s. s.delims ≡ d) segs
-    → IsCleanSet g closed segs e → AreSetFaults (Some g) (parts_of d closed segs) []
+    → IsCleanSet g d closed segs e → AreSetFaults (Some g) (parts_of d closed segs) []
 clean_faults g d closed segs e read is =
     let inner : inner_of closed segs ≡ is.body =
     ap (inner_of closed) is.segments ∙ inner_is closed e.header is.body e.trailer is.closed_is in
-    no_faults g d closed segs read (subst (IsCleanBody g) (sym inner) is.clean)
+    no_faults g d closed segs read (subst (IsCleanBody g d) (sym inner) is.clean)
 
-pub clean_ends : (g : GuideTree) (d : Delims) (closed : Bool) (segs : List SegValue) (e : Ends) (v : Envelope) → IsCleanSet g closed segs e
+pub clean_ends : (g : GuideTree) (d : Delims) (closed : Bool) (segs : List SegValue) (e : Ends) (v : Envelope) → IsCleanSet g d closed segs e
     → v.header ≡ e.header → v.segments ≡ e.segments → v.trailer ≡ e.trailer → IsEnvelopeOf (parts_of d closed segs) v
 clean_ends g d closed segs e v is h n t =
     let some : 1 ≤ length segs = subst (λ (l : List SegValue). 1 ≤ length l) (sym is.segments) (omega arith) in

@@ -49,6 +49,63 @@ const SHIPMENTS: &[[&str; 3]] = &[
         "6",
         "3 HL(HL) 8 3 4.0.0 I13 736 0; I5\n",
     ],
+    // numbers that aren't the count, one that an earlier HL has, and one that names itself or a later one
+    ["HL*01**S~", "4", "3 HL(HL) 8 3 1.0.0 I12 628 01; I5\n"],
+    [
+        "HL*1**S~HL*1*1*O~",
+        "5",
+        "4 HL(HL) 8 3 1.0.0 I12 628 1; I5\n",
+    ],
+    ["HL*1*1*S~", "4", "3 HL(HL) 8 3 2.0.0 I12 734 1; I5\n"],
+    [
+        "HL*1*2*S~HL*2**S~",
+        "5",
+        "3 HL(HL) 8 3 2.0.0 I12 734 2; I5\n",
+    ],
+    [
+        "HL*1**S~HL*2*01*O~",
+        "5",
+        "4 HL(HL) 8 3 2.0.0 I12 734 01; I5\n",
+    ],
+    // a level that isn't listed below its parent's, and one that isn't a root's
+    [
+        "HL*1**S~HL*2*1*S~",
+        "5",
+        "4 HL(HL) 8 3 3.0.0 I6 735 S; I5\n",
+    ],
+    ["HL*1**O~", "4", "3 HL(HL) 8 3 3.0.0 I6 735 O; I5\n"],
+    // children that come untold, at once and behind another level; and those that come as they are told of
+    [
+        "HL*1**S*0~HL*2*1*O~",
+        "5",
+        "3 HL(HL) 8 3 4.0.0 I12 736 0; I5\n",
+    ],
+    [
+        "HL*1**S*1~HL*2*1*O*0~HL*3*1*O*0~HL*4*2*I*0~",
+        "7",
+        "4 HL(HL) 8 3 4.0.0 I12 736 0; I5\n",
+    ],
+    [
+        "HL*1**S*1~HL*2*1*O*1~HL*3*2*I*0~HL*4*1*O*0~",
+        "7",
+        " clean\n",
+    ],
+    // numbers of two digits
+    [
+        "HL*1**S*1~HL*2*1*O*1~HL*3*2*I*0~HL*4*2*I*0~HL*5*2*I*0~HL*6*2*I*0~HL*7*2*I*0~HL*8*2*I*0~HL*9*2*I*0~HL*10*1*O*1~HL*11*10*I*0~",
+        "14",
+        " clean\n",
+    ],
+    [
+        "HL*1**S*1~HL*2*1*O*1~HL*3*2*I*0~HL*4*2*I*0~HL*5*2*I*0~HL*6*2*I*0~HL*7*2*I*0~HL*8*2*I*0~HL*9*2*I*0~HL*10*1*O*1~HL*11*1*I*0~",
+        "14",
+        "12 HL(HL) 8 3 4.0.0 I12 736 1;13 HL(HL) 8 3 3.0.0 I6 735 I; I5\n",
+    ],
+    // dependencies that are triggered and kept
+    ["HL*1**S~HL*2*1*O~HL*3*2*P~MAN*XX*1~", "7", " clean\n"],
+    ["HL*1**S*1~MAN*GM*1~HL*2*1*O*0~", "6", " clean\n"],
+    ["HL*1**S~MAN*UC*1~", "5", " clean\n"],
+    ["HL*1**S~MAN*AA*1~", "5", " clean\n"],
     // one that is banned and tells of children that don't come
     [
         "HL*1**S*1~MAN*UC*1~",

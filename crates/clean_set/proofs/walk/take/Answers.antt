@@ -11,7 +11,7 @@ use Rattle.loop_match.specs.Steps.{place_view, last_of, turned}
 use Rattle.loop_match.proofs.Walking.{room_more}
 use Rattle.guide_fast.proofs.Silencing.{none_told}
 use Rattle.clean_set.specs.Walked.{IsCleanFrom}
-use Rattle.clean_set.proofs.Taking.{sound_turn, took, roomy}
+use Rattle.clean_set.proofs.Taking.{sound_turn, own_id, took, roomy}
 use Rattle.clean_set.proofs.walk.take.Goals as goal
 
 pub is_faultless-requires : goal.is_faultless-requires
@@ -47,6 +47,7 @@ returns c =
     (λ (at : ℕ). step_faults at g.nodes (last_of (place_view c.as_slice-3.result.now)) (place_view c.as_slice-4.result.now))
     c.is_silent.ensures) at)) in
     record {
+      id = own_id g last t c.args.seg.now turn;
       count = refl;
       few = omega (arith, few);
       room = subst (AllByRecursion (λ (s : Step). s.use_no < c.args.walk.now.count + 1)) (sym moved)

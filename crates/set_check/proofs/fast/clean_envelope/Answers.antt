@@ -19,8 +19,8 @@ returns-clause-envelope c =
     let set = c.args.set.now in
     let segs = span_views c.args.text.now set in
     let ends = c.in-Some-2.ends in
-    let clean : IsCleanSet g set.closed segs ends =
-    subst (λ (o : Option Ends). IfSome o (IsCleanSet g set.closed segs)) c.in-Some-2.is c.in_ok-ends.ensures in
+    let clean : IsCleanSet g set.delims set.closed segs ends =
+    subst (λ (o : Option Ends). IfSome o (IsCleanSet g set.delims set.closed segs)) c.in-Some-2.is c.in_ok-ends.ensures in
     clean_ends g set.delims set.closed segs ends (record { header = ends.header; segments = ends.segments; trailer = ends.trailer }) clean
     refl refl refl
 
@@ -30,7 +30,7 @@ returns-clause-clean c =
     let set = c.args.set.now in
     let segs = span_views c.args.text.now set in
     let ends = c.in-Some-2.ends in
-    let clean : IsCleanSet g set.closed segs ends =
-    subst (λ (o : Option Ends). IfSome o (IsCleanSet g set.closed segs)) c.in-Some-2.is c.in_ok-ends.ensures in
+    let clean : IsCleanSet g set.delims set.closed segs ends =
+    subst (λ (o : Option Ends). IfSome o (IsCleanSet g set.delims set.closed segs)) c.in-Some-2.is c.in_ok-ends.ensures in
     subst (λ (o : Option (Bor GuideRows)). AreSetFaults (said_by (option_copied o)) (set_parts c.args.text.now set) []) (sym c.in-Some.is)
     (clean_faults g set.delims set.closed segs ends (read_of c.args.text.now set segs c.requires refl) clean)
