@@ -32,9 +32,7 @@ pub fn read_acknowledgments<'a>(alloc: Global, text: &'a [u8]) -> Result<Vec<Tol
 
 /// What a text tells, read by these delimiters.
 fn told_in<'a>(alloc: Global, delims: Delims, text: &'a [u8]) -> Result<Vec<Told<'a>>, NoMemory>
-    ensures told { IfOk result (λ found. found.items ≡ told_in delims text.now) }
-    ensures sets { IfOk result (λ found. responses_told found.items ≡ responses_in delims text.now) }
-    ensures ta1s { IfOk result (λ found. ta1s_told found.items ≡ ta1s_in delims text.now) }
+    ensures { IfOk result (λ found. found.items ≡ told_in delims text.now) }
 {
     let mut found = Vec::new(alloc);
     let mut standing = Standing::at_begin(alloc);

@@ -1,8 +1,7 @@
-ghost use Rattle.std.specs.Prelude.{◌≡◌, ◌<◌, ◌++◌, OnOk, IfOk, []};
-ghost use Rattle.x12_segs.specs.Words.{elements_of};
-ghost use Rattle.x12_bytes.specs.declared.delims.Delims.{Delims};
+ghost use Rattle.std.specs.Prelude.{◌≡◌, ◌<◌, ◌++◌, OnOk, IfOk, [], ◌∷◌};
+ghost use Rattle.x12_segs.specs.Words.{elements_of, part_or_empty};
 ghost use Rattle.ack_read.specs.Told as told;
-ghost use Rattle.ack_read.specs.declared.kind.AckKind.TheVariants as kind;
+ghost use Rattle.ack_read.specs.declared.told.NoteTold.TheVariants.{OfElement, OfSegment};
 
 use crate::kind::{AckKind, ack_kind};
 use crate::parts::{again, element_told, lent_texts, next_lent, segment_told};
@@ -88,7 +87,10 @@ impl<'a> Standing<'a> {
     }
 
     fn begin_group(&mut self, segment: &SegView<'a>)
-        ensures { (d : Delims) → self.new ≡ told.behind_kind d self.old (elements_of segment.now) kind.GroupHeader }
+        ensures { self.new ≡ record self.old {
+          functional_id = part_or_empty (elements_of segment.now) 1;
+          group_control = part_or_empty (elements_of segment.now) 2;
+        } }
     {
         let mut elements = segment.elements();
         self.functional_id = elements.next_or_empty();
@@ -96,7 +98,11 @@ impl<'a> Standing<'a> {
     }
 
     fn begin_set(&mut self, segment: &SegView<'a>)
-        ensures { (d : Delims) → self.new ≡ told.behind_kind d self.old (elements_of segment.now) kind.SetHeader }
+        ensures { self.new ≡ record self.old {
+          identifier = part_or_empty (elements_of segment.now) 1;
+          control = part_or_empty (elements_of segment.now) 2;
+          notes = [];
+        } }
     {
         let mut elements = segment.elements();
         self.identifier = elements.next_or_empty();
@@ -105,7 +111,10 @@ impl<'a> Standing<'a> {
     }
 
     fn note_segment(&mut self, segment: &SegView<'a>) -> Result<(), NoMemory>
-        ensures { OnOk result ((d : Delims) → self.new ≡ told.behind_kind d self.old (elements_of segment.now) kind.SegmentNote) }
+        ensures { OnOk result (self.new ≡ record self.old {
+          segment = told.segment_told (elements_of segment.now);
+          notes = self.old.notes ++ OfSegment (told.segment_told (elements_of segment.now)) ∷ [];
+        }) }
     {
         self.segment = segment_told(segment);
         self.notes.push(NoteTold::OfSegment(again(&self.segment)))?;
@@ -113,7 +122,9 @@ impl<'a> Standing<'a> {
     }
 
     fn note_element(&mut self, delims: Delims, segment: &SegView<'a>) -> Result<(), NoMemory>
-        ensures { OnOk result (self.new ≡ told.behind_kind delims self.old (elements_of segment.now) kind.ElementNote) }
+        ensures { OnOk result (self.new ≡ record self.old {
+          notes = self.old.notes ++ OfElement self.old.segment (told.element_told delims (elements_of segment.now)) ∷ [];
+        }) }
     {
         let element = element_told(delims, segment);
         self.notes
