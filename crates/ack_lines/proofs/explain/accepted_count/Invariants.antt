@@ -1,0 +1,7 @@
+use Rattle.std.proofs.Common.{◌≡◌, take}
+use Rattle.std.specs.List.{count_by}
+use Rattle.ack_lines.specs.Lines.{is_accepted_set}
+use Rattle.ack_lines.proofs.explain.accepted_count.Given as goal
+
+abbrev pub invariant-loop-told : goal.invariant-loop-told
+invariant-loop-told l = l.count ≡ count_by is_accepted_set (take l.told-index l.found)

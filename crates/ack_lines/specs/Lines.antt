@@ -1,0 +1,181 @@
+-- Own: the lines that say in words what an acknowledgment tells (X12.5, TA1; 999 guide, AK1 to AK9): one for each TA1, for each group and
+-- set that isn't accepted one a fault, and a last one of totals.
+use Rattle.std.specs.Prelude.{ℕ, ◌+◌, ◌==◌, Bool, true, false, not, ◌&&◌, List, [], ◌∷◌, ◌++◌, codes, decimal, if◌then◌else◌}
+use Rattle.std.specs.List.{count_by, flat_map}
+use Rattle.std.specs.Str.{bytes_eq}
+use Rattle.hub_kinds.specs.Words as texts
+use Rattle.code_words.specs.Words.{element_codes, element_words, group_codes, group_verdict_words, group_verdicts, group_words}
+use Rattle.code_words.specs.Words.{interchange_verdict_text, interchange_verdicts, interchange_words, note_code_text, note_codes, note_words}
+use Rattle.code_words.specs.Words.{segment_codes, segment_words, set_codes, set_verdict_words, set_verdicts, set_words, words_by}
+use Rattle.ack_read.specs.declared.told.ElementTold.{ElementTold}
+use Rattle.ack_read.specs.declared.told.GroupTold.{GroupTold}
+use Rattle.ack_read.specs.declared.told.NoteTold.{NoteTold}
+use Rattle.ack_read.specs.declared.told.NoteTold.TheVariants as note
+use Rattle.ack_read.specs.declared.told.SegmentTold.{SegmentTold}
+use Rattle.ack_read.specs.declared.told.SetTold.{SetTold}
+use Rattle.ack_read.specs.declared.told.Ta1Told.{Ta1Told}
+use Rattle.ack_read.specs.declared.told.Told.{Told}
+use Rattle.ack_read.specs.declared.told.Told.TheVariants as told
+use Rattle.ack_lines.specs.Shown.{shown, shown_if}
+
+-- the words of each code, by its text
+abbrev pub segment_said : (code : List ℕ) → List ℕ
+segment_said code = words_by segment_codes texts.segment_text segment_words code
+
+abbrev pub element_said : (code : List ℕ) → List ℕ
+element_said code = words_by element_codes texts.element_text element_words code
+
+abbrev pub set_said : (code : List ℕ) → List ℕ
+set_said code = words_by set_codes texts.set_code_text set_words code
+
+abbrev pub set_verdict_said : (code : List ℕ) → List ℕ
+set_verdict_said code = words_by set_verdicts texts.verdict_text set_verdict_words code
+
+abbrev pub group_said : (code : List ℕ) → List ℕ
+group_said code = words_by group_codes texts.group_code_text group_words code
+
+abbrev pub group_verdict_said : (code : List ℕ) → List ℕ
+group_verdict_said code = words_by group_verdicts texts.group_verdict_text group_verdict_words code
+
+abbrev pub note_said : (code : List ℕ) → List ℕ
+note_said code = words_by note_codes note_code_text note_words code
+
+abbrev pub interchange_said : (code : List ℕ) → List ℕ
+interchange_said code = words_by interchange_verdicts interchange_verdict_text interchange_words code
+
+-- words, and behind them the element that has the code, and the code
+unfoldable pub coded : (words element code : List ℕ) → List ℕ
+coded words element code = words ++ (codes " (" ++ (element ++ (codes " " ++ (shown code ++ codes ")"))))
+
+-- in which interchange
+unfoldable pub interchange_head : ℕ → List ℕ
+interchange_head n = codes "interchange " ++ decimal n
+
+-- a TA1: the number of the interchange that it tells of, TA104 and TA105
+unfoldable pub ta1_name : (control : List ℕ) → List ℕ
+ta1_name control = codes ", TA1 " ++ (shown control ++ codes ": ")
+
+unfoldable pub ta1_words : (code note : List ℕ) → List ℕ
+ta1_words code note =
+    coded (interchange_said code) (codes "TA104") code
+    ++ (codes ": " ++ (coded (note_said note) (codes "TA105") note ++ codes "\n"))
+
+abbrev pub ta1_line : Ta1Told → List ℕ
+ta1_line t = interchange_head t.interchange ++ (ta1_name t.control ++ ta1_words t.code t.note)
+
+-- which group: AK101 and AK102
+unfoldable pub group_head : ℕ → (functional_id control : List ℕ) → List ℕ
+group_head n functional_id control =
+    interchange_head n ++ (codes ", group " ++ (shown functional_id ++ (codes " " ++ shown control)))
+
+-- and which set: AK201 and AK202
+unfoldable pub set_name : (identifier control : List ℕ) → List ℕ
+set_name identifier control = codes ", " ++ (shown identifier ++ (codes " " ++ (shown control ++ codes ": ")))
+
+abbrev pub set_head : SetTold → List ℕ
+set_head s = group_head s.interchange s.functional_id s.group_control ++ set_name s.identifier s.control
+
+-- a line for a code of a list: the words of its verdict stand in front
+abbrev pub code_line : (head verdict : List ℕ) → (said : List ℕ → List ℕ) → (element code : List ℕ) → List ℕ
+code_line head verdict said element code = head ++ (verdict ++ (codes ": " ++ (coded (said code) element code ++ codes "\n")))
+
+-- a line for each code; where there is none, one that says the verdict alone
+abbrev pub code_lines : (head verdict own_element own_code : List ℕ) → (said : List ℕ → List ℕ) → (element : List ℕ) → List (List ℕ)
+    → List ℕ
+code_lines head verdict own_element own_code said element [] = head ++ (coded verdict own_element own_code ++ codes "\n")
+code_lines head verdict own_element own_code said element (c ∷ cs) = flat_map (code_line head verdict said element) (c ∷ cs)
+
+-- a segment in error, and its innermost loop
+unfoldable pub segment_place : SegmentTold → List ℕ
+segment_place s = codes "segment " ++ (shown s.position ++ (codes " " ++ (shown s.id ++ shown_if (codes " in loop ") s.loop_id [])))
+
+-- an element in error
+unfoldable pub element_place : ElementTold → List ℕ
+element_place e =
+    codes ", element "
+    ++ (shown e.element
+    ++ (shown_if (codes ", component ") e.component []
+    ++ (shown_if (codes ", repetition ") e.repetition [] ++ shown_if (codes " (") e.reference (codes ")"))))
+
+abbrev pub note_words_of : NoteTold → List ℕ
+note_words_of (note.OfSegment s) = segment_place s ++ (codes ": " ++ coded (segment_said s.code) (codes "IK304") s.code)
+note_words_of (note.OfElement s e) =
+    segment_place s
+    ++ (element_place e ++ (codes ": " ++ (coded (element_said e.code) (codes "IK403") e.code ++ shown_if (codes ": ") e.copy [])))
+
+abbrev pub note_line : (head : List ℕ) → NoteTold → List ℕ
+note_line head n = head ++ (note_words_of n ++ codes "\n")
+
+-- an IK3 with an IK4 behind it is told by that
+abbrev pub is_of_element : List NoteTold → Bool
+is_of_element [] = false
+is_of_element (note.OfSegment s ∷ notes) = false
+is_of_element (note.OfElement s e ∷ notes) = true
+
+abbrev pub is_of_segment : NoteTold → Bool
+is_of_segment (note.OfSegment s) = true
+is_of_segment (note.OfElement s e) = false
+
+abbrev pub is_told_by_next : NoteTold → (behind : List NoteTold) → Bool
+is_told_by_next n behind = is_of_segment n && is_of_element behind
+
+abbrev pub note_lines : (head : List ℕ) → List NoteTold → List ℕ
+note_lines head [] = []
+note_lines head (n ∷ notes) = (if is_told_by_next n notes then [] else note_line head n) ++ note_lines head notes
+
+-- a verdict of a set or a group: accepted without errors
+abbrev pub is_accepted : (code : List ℕ) → Bool
+is_accepted code = bytes_eq code (codes "A")
+
+-- a set that isn't accepted: its notes, then its codes
+abbrev pub faulty_set_lines : SetTold → List ℕ
+faulty_set_lines s =
+    note_lines (set_head s ++ (set_verdict_said s.code ++ codes ": ")) s.notes
+    ++ code_lines (set_head s) (set_verdict_said s.code) (codes "IK501") s.code set_said (codes "IK502") s.codes
+
+abbrev pub faulty_group_lines : GroupTold → List ℕ
+faulty_group_lines g =
+    code_lines (group_head g.interchange g.functional_id g.control ++ codes ": ") (group_verdict_said g.code) (codes "AK901") g.code
+    group_said (codes "AK905") g.codes
+
+abbrev pub told_lines : Told → List ℕ
+told_lines (told.OfInterchange t) = ta1_line t
+told_lines (told.OfSet s) = if is_accepted s.code then [] else faulty_set_lines s
+told_lines (told.OfGroup g) = if is_accepted g.code then [] else faulty_group_lines g
+
+-- the totals: TA1s, groups, sets, and sets that are accepted, with or without errors (AK904)
+abbrev pub is_ta1 : Told → Bool
+is_ta1 (told.OfInterchange t) = true
+is_ta1 (told.OfSet s) = false
+is_ta1 (told.OfGroup g) = false
+
+abbrev pub is_group : Told → Bool
+is_group (told.OfInterchange t) = false
+is_group (told.OfSet s) = false
+is_group (told.OfGroup g) = true
+
+abbrev pub is_set : Told → Bool
+is_set (told.OfInterchange t) = false
+is_set (told.OfSet s) = true
+is_set (told.OfGroup g) = false
+
+abbrev pub is_accepted_set : Told → Bool
+is_accepted_set (told.OfInterchange t) = false
+is_accepted_set (told.OfSet s) = if is_accepted s.code then true else bytes_eq s.code (codes "E")
+is_accepted_set (told.OfGroup g) = false
+
+abbrev pub counted : (word : List ℕ) → ℕ → List ℕ
+counted word n = codes " " ++ (word ++ (codes " " ++ decimal n))
+
+abbrev pub total_line : (ta1s groups sets accepted : ℕ) → List ℕ
+total_line ta1s groups sets accepted =
+    codes "total"
+    ++ (counted (codes "ta1s") ta1s
+    ++ (counted (codes "groups") groups
+    ++ (counted (codes "sets") sets ++ (counted (codes "accepted") accepted ++ codes "\n"))))
+
+-- all of it
+abbrev pub explanation : List Told → List ℕ
+explanation found =
+    flat_map told_lines found
+    ++ total_line (count_by is_ta1 found) (count_by is_group found) (count_by is_set found) (count_by is_accepted_set found)

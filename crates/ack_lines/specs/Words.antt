@@ -1,0 +1,3 @@
+-- The words of clauses of ack_lines: what its definitions are called, in one place.
+pub use Rattle.ack_lines.specs.Lines.{explanation, told_lines, total_line}
+pub use Rattle.ack_lines.specs.Shown.{shown, shown_if}

@@ -1,0 +1,119 @@
+ghost use Rattle.std.specs.Prelude.{◌≡◌, ◌++◌, OnOk, codes};
+ghost use Rattle.ack_lines.specs.Lines as lines;
+
+use crate::shown::{append_coded, append_if, append_number, append_shown, append_text};
+use ack_read::{ElementTold, SegmentTold, SetTold, Ta1Told};
+use code_words::{InterchangeVerdict, NoteCode, words_of};
+use hub_kinds::NoMemory;
+
+/// Writes in which interchange something is told.
+#[tactic(auto, unfolding(crate::specs::Lines::interchange_head))]
+fn append_interchange(out: &mut Vec<u8>, interchange: u64) -> Result<(), NoMemory>
+    ensures { OnOk result (out.new.items ≡ out.old.items ++ lines.interchange_head interchange) }
+{
+    append_text(out, "interchange ")?;
+    append_number(out, interchange)
+}
+
+/// Writes of which group something is told.
+#[tactic(auto, unfolding(crate::specs::Lines::group_head))]
+pub(crate) fn append_group_head(
+    out: &mut Vec<u8>,
+    interchange: u64,
+    functional_id: &[u8],
+    control: &[u8],
+) -> Result<(), NoMemory>
+    ensures { OnOk result (out.new.items ≡ out.old.items ++ lines.group_head interchange functional_id.now control.now) }
+{
+    append_interchange(out, interchange)?;
+    append_text(out, ", group ")?;
+    append_shown(out, functional_id)?;
+    append_text(out, " ")?;
+    append_shown(out, control)
+}
+
+#[tactic(auto, unfolding(crate::specs::Lines::set_name))]
+fn append_set_name(out: &mut Vec<u8>, identifier: &[u8], control: &[u8]) -> Result<(), NoMemory>
+    ensures { OnOk result (out.new.items ≡ out.old.items ++ lines.set_name identifier.now control.now) }
+{
+    append_text(out, ", ")?;
+    append_shown(out, identifier)?;
+    append_text(out, " ")?;
+    append_shown(out, control)?;
+    append_text(out, ": ")
+}
+
+/// Writes of which set something is told.
+pub(crate) fn append_set_head(out: &mut Vec<u8>, set: &SetTold<'_>) -> Result<(), NoMemory>
+    ensures { OnOk result (out.new.items ≡ out.old.items ++ lines.set_head set.now) }
+{
+    append_group_head(
+        out,
+        set.interchange,
+        set.functional_id.bytes(),
+        set.group_control.bytes(),
+    )?;
+    append_set_name(out, set.identifier.bytes(), set.control.bytes())
+}
+
+#[tactic(auto, unfolding(crate::specs::Lines::ta1_name))]
+fn append_ta1_name(out: &mut Vec<u8>, control: &[u8]) -> Result<(), NoMemory>
+    ensures { OnOk result (out.new.items ≡ out.old.items ++ lines.ta1_name control.now) }
+{
+    append_text(out, ", TA1 ")?;
+    append_shown(out, control)?;
+    append_text(out, ": ")
+}
+
+#[tactic(auto, unfolding(crate::specs::Lines::ta1_words))]
+fn append_ta1_words(out: &mut Vec<u8>, code: &[u8], note: &[u8]) -> Result<(), NoMemory>
+    ensures { OnOk result (out.new.items ≡ out.old.items ++ lines.ta1_words code.now note.now) }
+{
+    append_coded(out, words_of::<InterchangeVerdict>(code), "TA104", code)?;
+    append_text(out, ": ")?;
+    append_coded(out, words_of::<NoteCode>(note), "TA105", note)?;
+    append_text(
+        out,
+        "
+",
+    )
+}
+
+/// Writes the line of a TA1.
+pub(crate) fn append_ta1_line(out: &mut Vec<u8>, ta1: &Ta1Told<'_>) -> Result<(), NoMemory>
+    ensures { OnOk result (out.new.items ≡ out.old.items ++ lines.ta1_line ta1.now) }
+{
+    append_interchange(out, ta1.interchange)?;
+    append_ta1_name(out, ta1.control.bytes())?;
+    append_ta1_words(out, ta1.code.bytes(), ta1.note.bytes())
+}
+
+/// Writes which segment is in error.
+#[tactic(auto, unfolding(crate::specs::Lines::segment_place))]
+pub(crate) fn append_segment_place(
+    out: &mut Vec<u8>,
+    segment: &SegmentTold<'_>,
+) -> Result<(), NoMemory>
+    ensures { OnOk result (out.new.items ≡ out.old.items ++ lines.segment_place segment.now) }
+{
+    append_text(out, "segment ")?;
+    append_shown(out, segment.position.bytes())?;
+    append_text(out, " ")?;
+    append_shown(out, segment.id.bytes())?;
+    append_if(out, " in loop ", segment.loop_id.bytes(), "")
+}
+
+/// Writes which element is.
+#[tactic(auto, unfolding(crate::specs::Lines::element_place))]
+pub(crate) fn append_element_place(
+    out: &mut Vec<u8>,
+    element: &ElementTold<'_>,
+) -> Result<(), NoMemory>
+    ensures { OnOk result (out.new.items ≡ out.old.items ++ lines.element_place element.now) }
+{
+    append_text(out, ", element ")?;
+    append_shown(out, element.element.bytes())?;
+    append_if(out, ", component ", element.component.bytes(), "")?;
+    append_if(out, ", repetition ", element.repetition.bytes(), "")?;
+    append_if(out, " (", element.reference.bytes(), ")")
+}

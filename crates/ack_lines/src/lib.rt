@@ -1,0 +1,17 @@
+//! The lines that say in words what acknowledgments tell: of each interchange that is answered, of each group and set that isn't accepted,
+//! with each fault by its segment, its element and its code; and a last line of totals.
+//!
+//! Proved:
+//! - `explanation` is just these lines, of what is told in its order, byte for byte; texts of the acknowledgment are shown without
+//!   bytes that don't print, and cut to 99 bytes.
+//!
+//! Source: own; X12.5, TA1; 999 guide (005010X231), AK1, AK2, IK3, IK4, IK5 and AK9.
+#![tactic(auto)]
+
+mod explain;
+mod heads;
+mod lines;
+mod notes;
+mod shown;
+
+pub use explain::explanation;

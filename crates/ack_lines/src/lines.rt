@@ -1,0 +1,144 @@
+ghost use Rattle.std.specs.Prelude.{◌≡◌, ◌++◌, OnOk, IfOk, codes, List, ℕ};
+ghost use Rattle.std.specs.List.{flat_map};
+ghost use Rattle.code_words.specs.Words.{words_by};
+ghost use Rattle.ack_lines.specs.Lines as lines;
+
+use crate::heads::{append_group_head, append_set_head, append_ta1_line};
+use crate::notes::append_note_lines;
+use crate::shown::{append_coded, append_text};
+use ack_read::{GroupTold, SetTold, Told};
+use code_words::{Worded, words_of};
+use hub_kinds::{GroupCode, GroupVerdict, Lent, NoMemory, SetCode, Verdict};
+use std::alloc::Global;
+
+/// Writes the line of a code, with the words of its verdict in front.
+fn append_code_line<C: Worded>(
+    out: &mut Vec<u8>,
+    head: &[u8],
+    verdict: &str,
+    element: &str,
+    code: &[u8],
+) -> Result<(), NoMemory>
+    ensures { OnOk result (out.new.items ≡ out.old.items
+        ++ lines.code_line head.now verdict.now (words_by C.listed C.text C.words) element.now code.now) }
+{
+    out.extend_from_slice(head)?;
+    append_text(out, verdict)?;
+    append_text(out, ": ")?;
+    append_coded(out, words_of::<C>(code), element, code)?;
+    append_text(out, "\n")
+}
+
+/// Writes a line for each code.
+fn append_each_code<C: Worded>(
+    out: &mut Vec<u8>,
+    head: &[u8],
+    verdict: &str,
+    element: &str,
+    codes: &[Lent<'_>],
+) -> Result<(), NoMemory>
+    ensures { OnOk result (out.new.items ≡ out.old.items
+        ++ flat_map (lines.code_line head.now verdict.now (words_by C.listed C.text C.words) element.now) codes.now) }
+{
+    for code in codes {
+        append_code_line::<C>(out, head, verdict, element, code.bytes())?;
+    }
+    Ok(())
+}
+
+/// Writes one line that says a verdict alone.
+fn append_verdict_line(
+    out: &mut Vec<u8>,
+    head: &[u8],
+    verdict: &str,
+    element: &str,
+    code: &[u8],
+) -> Result<(), NoMemory>
+    ensures { OnOk result (out.new.items ≡ out.old.items ++ (head.now ++ (lines.coded verdict.now element.now code.now ++ codes "\n"))) }
+{
+    out.extend_from_slice(head)?;
+    append_coded(out, verdict, element, code)?;
+    append_text(out, "\n")
+}
+
+fn append_set_codes(out: &mut Vec<u8>, head: &[u8], set: &SetTold<'_>) -> Result<(), NoMemory>
+    ensures { OnOk result (out.new.items ≡ out.old.items ++ lines.code_lines head.now (lines.set_verdict_said set.now.code)
+        (codes "IK501") set.now.code lines.set_said (codes "IK502") set.now.codes) }
+{
+    let code = set.code.bytes();
+    let verdict = words_of::<Verdict>(code);
+    if set.codes.as_slice().is_empty() {
+        return append_verdict_line(out, head, verdict, "IK501", code);
+    }
+    append_each_code::<SetCode>(out, head, verdict, "IK502", set.codes.as_slice())
+}
+
+fn append_group_codes(out: &mut Vec<u8>, head: &[u8], group: &GroupTold<'_>) -> Result<(), NoMemory>
+    ensures { OnOk result (out.new.items ≡ out.old.items ++ lines.code_lines head.now (lines.group_verdict_said group.now.code)
+        (codes "AK901") group.now.code lines.group_said (codes "AK905") group.now.codes) }
+{
+    let code = group.code.bytes();
+    let verdict = words_of::<GroupVerdict>(code);
+    if group.codes.as_slice().is_empty() {
+        return append_verdict_line(out, head, verdict, "AK901", code);
+    }
+    append_each_code::<GroupCode>(out, head, verdict, "AK905", group.codes.as_slice())
+}
+
+/// Writes the lines of a set that isn't accepted.
+fn append_set_lines(alloc: Global, out: &mut Vec<u8>, set: &SetTold<'_>) -> Result<(), NoMemory>
+    ensures { OnOk result (out.new.items ≡ out.old.items ++ lines.faulty_set_lines set.now) }
+{
+    let mut head = Vec::new(alloc);
+    append_set_head(&mut head, set)?;
+    let mut noted = Vec::new(alloc);
+    append_set_head(&mut noted, set)?;
+    append_text(&mut noted, words_of::<Verdict>(set.code.bytes()))?;
+    append_text(&mut noted, ": ")?;
+    append_note_lines(out, noted.as_slice(), set.notes.as_slice())?;
+    append_set_codes(out, head.as_slice(), set)
+}
+
+/// Writes the lines of a group that isn't accepted.
+fn append_group_lines(
+    alloc: Global,
+    out: &mut Vec<u8>,
+    group: &GroupTold<'_>,
+) -> Result<(), NoMemory>
+    ensures { OnOk result (out.new.items ≡ out.old.items ++ lines.faulty_group_lines group.now) }
+{
+    let mut head = Vec::new(alloc);
+    append_group_head(
+        &mut head,
+        group.interchange,
+        group.functional_id.bytes(),
+        group.control.bytes(),
+    )?;
+    append_text(&mut head, ": ")?;
+    append_group_codes(out, head.as_slice(), group)
+}
+
+/// Whether a verdict is A.
+pub(crate) fn is_accepted(code: &[u8]) -> bool
+    ensures { result ≡ lines.is_accepted code.now }
+{
+    code == b"A".as_slice()
+}
+
+/// Writes the lines of what is told.
+pub(crate) fn append_told_lines(
+    alloc: Global,
+    out: &mut Vec<u8>,
+    told: &Told<'_>,
+) -> Result<(), NoMemory>
+    ensures { OnOk result (out.new.items ≡ out.old.items ++ lines.told_lines told.now) }
+{
+    match told {
+        Told::OfInterchange(ta1) => append_ta1_line(out, ta1),
+        Told::OfSet(set) if !is_accepted(set.code.bytes()) => append_set_lines(alloc, out, set),
+        Told::OfGroup(group) if !is_accepted(group.code.bytes()) => append_group_lines(
+            alloc, out, group,
+        ),
+        _ => Ok(()),
+    }
+}

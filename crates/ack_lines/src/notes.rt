@@ -1,0 +1,72 @@
+ghost use Rattle.std.specs.Prelude.{◌≡◌, ◌++◌, OnOk, codes};
+ghost use Rattle.ack_read.specs.declared.told.NoteTold.TheVariants.{OfElement, OfSegment};
+ghost use Rattle.ack_lines.specs.Lines as lines;
+
+use crate::heads::{append_element_place, append_segment_place};
+use crate::shown::{append_coded, append_if, append_text};
+use ack_read::{ElementTold, NoteTold, SegmentTold};
+use code_words::words_of;
+use hub_kinds::{ElementCode, NoMemory, SegmentCode};
+
+/// Writes what an IK3 says.
+fn append_segment_words(out: &mut Vec<u8>, segment: &SegmentTold<'_>) -> Result<(), NoMemory>
+    ensures { OnOk result (out.new.items ≡ out.old.items ++ lines.note_words_of (OfSegment segment.now)) }
+{
+    append_segment_place(out, segment)?;
+    append_text(out, ": ")?;
+    let code = segment.code.bytes();
+    append_coded(out, words_of::<SegmentCode>(code), "IK304", code)
+}
+
+/// Writes what an IK4 says, behind this IK3.
+fn append_element_words(
+    out: &mut Vec<u8>,
+    segment: &SegmentTold<'_>,
+    element: &ElementTold<'_>,
+) -> Result<(), NoMemory>
+    ensures { OnOk result (out.new.items ≡ out.old.items ++ lines.note_words_of (OfElement segment.now element.now)) }
+{
+    append_segment_place(out, segment)?;
+    append_element_place(out, element)?;
+    append_text(out, ": ")?;
+    let code = element.code.bytes();
+    append_coded(out, words_of::<ElementCode>(code), "IK403", code)?;
+    append_if(out, ": ", element.copy.bytes(), "")
+}
+
+/// Writes the line of a note.
+fn append_note_line(out: &mut Vec<u8>, head: &[u8], note: &NoteTold<'_>) -> Result<(), NoMemory>
+    ensures { OnOk result (out.new.items ≡ out.old.items ++ lines.note_line head.now note.now) }
+{
+    out.extend_from_slice(head)?;
+    match note {
+        NoteTold::OfSegment(segment) => append_segment_words(out, segment)?,
+        NoteTold::OfElement(segment, element) => append_element_words(out, segment, element)?,
+    }
+    append_text(out, "\n")
+}
+
+/// Whether an IK3 is told by the IK4 behind it.
+fn is_told_by_next(note: &NoteTold<'_>, behind: &[NoteTold<'_>]) -> bool
+    ensures { result ≡ lines.is_told_by_next note.now behind.now }
+{
+    matches!(note, NoteTold::OfSegment(_)) && matches!(behind, [NoteTold::OfElement(_, _), ..])
+}
+
+/// Writes the lines of notes.
+pub(crate) fn append_note_lines(
+    out: &mut Vec<u8>,
+    head: &[u8],
+    notes: &[NoteTold<'_>],
+) -> Result<(), NoMemory>
+    ensures { OnOk result (out.new.items ≡ out.old.items ++ lines.note_lines head.now notes.now) }
+{
+    let mut left = notes;
+    while let [note, behind @ ..] = left {
+        if !is_told_by_next(note, behind) {
+            append_note_line(out, head, note)?;
+        }
+        left = behind;
+    }
+    Ok(())
+}

@@ -1,0 +1,48 @@
+use crate::worded::Worded;
+use hub_kinds::SegmentCode;
+
+impl Worded for SegmentCode {
+    ghost use Rattle.code_words.specs.Segments.{segment_codes, segment_words};
+
+    ghost words = { segment_words };
+
+    ghost listed = { segment_codes };
+
+    fn words(self) -> &'static str {
+        match self {
+            SegmentCode::UnrecognizedSegment =>
+                "the segment's id is in no slot of the guide and not in its dictionary",
+            SegmentCode::UnexpectedSegment =>
+                "some slot has the id, but none picks this segment by its codes",
+            SegmentCode::RequiredSegmentMissing => "a needed segment or loop isn't there",
+            SegmentCode::LoopTooOften => "a loop comes more often than its maximum",
+            SegmentCode::SegmentTooOften => "a segment comes more often than its maximum",
+            SegmentCode::NotInSet => "the id is in the guide's dictionary alone",
+            SegmentCode::OutOfSequence => "the segment fits a slot, but none that may come here",
+            SegmentCode::ElementErrors => "something is wrong with its elements",
+            SegmentCode::NotUsedPresent => "a slot or loop with maximum 0 is used",
+            SegmentCode::DependentMissing => "a dependency's segment is missing",
+            SegmentCode::LoopTooSeldom => "a loop comes, but less often than its minimum",
+            SegmentCode::SegmentTooSeldom => "a segment comes, but less often than its minimum",
+            SegmentCode::DependentNotUsedPresent => "a dependency forbids the segment",
+        }
+    }
+
+    fn listed() -> &'static [SegmentCode] {
+        &[
+            SegmentCode::UnrecognizedSegment,
+            SegmentCode::UnexpectedSegment,
+            SegmentCode::RequiredSegmentMissing,
+            SegmentCode::LoopTooOften,
+            SegmentCode::SegmentTooOften,
+            SegmentCode::NotInSet,
+            SegmentCode::OutOfSequence,
+            SegmentCode::ElementErrors,
+            SegmentCode::NotUsedPresent,
+            SegmentCode::DependentMissing,
+            SegmentCode::LoopTooSeldom,
+            SegmentCode::SegmentTooSeldom,
+            SegmentCode::DependentNotUsedPresent,
+        ]
+    }
+}
