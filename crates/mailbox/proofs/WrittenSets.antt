@@ -52,7 +52,7 @@ pub gathering_gives : {V E F : Type 0} (items : V → List RenderedValue) (partn
     (rs : List (Result RenderedValue E)) (r : Result V F) (Q : F → Type 0)
     → MatchResult r (λ v. (ys : List RenderedValue) × (rs ≡ map Ok ys) × (items v ≡ ys)) Q
     → AllZip {B = Result RenderedValue E}
-      (λ i r. IfOk r (λ v. (p : PlacedValue) → slice_get ps i ≡ Some p → v ≡ rendered partner (k + i) p)) (range_with_len 0 (length ps)) rs
+    (λ i r. IfOk r (λ v. (p : PlacedValue) → slice_get ps i ≡ Some p → v ≡ rendered partner (k + i) p)) (range_with_len 0 (length ps)) rs
     → IfOk r (λ v. items v ≡ rendered_from partner k ps)
 gathering_gives {V} {E} {F} items partner k ps rs (Ok v) Q given made = given.2 ∙ all_gathered E partner k ps rs given.0 given.1 made
 gathering_gives {V} {E} {F} items partner k ps rs (Err e) Q given made = tt
