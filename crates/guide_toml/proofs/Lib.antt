@@ -1,6 +1,7 @@
 pub mod Cuts
 pub mod Groups
 pub mod ComponentSteps
+pub mod Placing
 pub mod PositionSteps
 pub mod Forests
 pub mod WrittenNumbers

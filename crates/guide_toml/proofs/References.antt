@@ -31,15 +31,15 @@ use Rattle.guide_toml.specs.ElementTexts.{Tokens, alone, component_of, component
 use Rattle.guide_toml.specs.ElementTexts.{element_of, measure_of, next_token, no_more, reference_of, requirement_of, row_of}
 use Rattle.guide_toml.specs.ElementTexts.{simple_of, take_repeat, used_component, used_element}
 use Rattle.guide_toml.specs.Entries.{condition_of, pick_of}
-use Rattle.guide_toml.specs.Guides.{dependencies_in, guide_of_table, head_of, hl_in, inner_in, known, list_in, loop_of, node_by, node_in}
-use Rattle.guide_toml.specs.Guides.{node_kind, nodes_in, segment_of}
+use Rattle.guide_toml.specs.Guides.{guide_of_table, inner_in, known, list_in, loop_of, node_by, node_in, node_kind, nodes_in}
+use Rattle.guide_toml.specs.Guides.{segment_of, top_of}
 use Rattle.guide_toml.specs.Keys.{keys_of}
+use Rattle.guide_toml.specs.Refused.{Refused, ◌⊳◌ as ◌▷◌, at_slot, behind}
 use Rattle.toml_keys.specs.Keys.{if_known, least_unknown}
 use Rattle.toml_keys.specs.Reads.{◌>>=◌}
 use Rattle.toml_keys.specs.Refusals.{Refusal, unknown, wrong_kind}
 use Rattle.guide_toml.specs.References.{HasReference, HasReferences, HasReferencesIn, IsReference, WritesReferences}
-use Rattle.toml_keys.specs.Tables.{◌>>=◌ as ◌⊳◌, asked, count_in as number_in, each_item, optional, required, required_of, some_table}
-use Rattle.toml_keys.specs.Tables.{some_word_in, tables_in}
+use Rattle.toml_keys.specs.Tables.{◌>>=◌ as ◌⊳◌, asked, count_in as number_in, each_item, optional, required, required_of, some_word_in}
 use Rattle.guide_toml.specs.Values.{text_item, texts_in}
 use Rattle.guide_toml.specs.Tokens.{groups_of}
 
@@ -48,6 +48,12 @@ ok x = Ok x
 
 of_result : {A : Type 0} (x y : A) → ok x ≡ ok y → x ≡ y
 of_result x y e = cc
+
+abbrev placed_ok : {A : Type 0} → A → Result A Refused
+placed_ok x = Ok x
+
+of_placed_result : {A : Type 0} (x y : A) → placed_ok x ≡ placed_ok y → x ≡ y
+of_placed_result x y e = cc
 
 -- what each step of a reading gave
 of_step : {A B P : Type 0} (f : A → Option B) (o : Option A) (y : B) → (o >>= f) ≡ Some y
@@ -216,59 +222,81 @@ known_is (Some key) r x e = let no : Err (unknown key) ≡ Ok x = e in cc
 tree_is : (t u : Tree) → ok t ≡ ok u → EachIn HasReferencesIn t → EachIn HasReferencesIn u
 tree_is t u e has = let same : t ≡ u = cc in subst (EachIn HasReferencesIn) same has
 
-trees_are : (ts us : Trees) → ok ts ≡ ok us → EachNode HasReferencesIn ts → EachNode HasReferencesIn us
-trees_are ts us e has = let same : ts ≡ us = cc in subst (EachNode HasReferencesIn) same has
-
 segment_node_has : (ms : Members) (t : Tree) → (segment_of ms ⊳ (λ s. Ok (segment s))) ≡ Ok t → EachIn HasReferencesIn t
 segment_node_has ms t e = of_ok _ (segment_of ms) t e (λ s is_s e1. tree_is (segment s) t e1 (segment_has ms s is_s))
 
--- a node by what it is, where the nodes in it have such references
-by_kind : (k : NodeKind) (ms : Members) (inner : Result Trees Refusal) (t : Tree)
-    → ((ts : Trees) → inner ≡ Ok ts → EachNode HasReferencesIn ts) → node_by k ms inner ≡ Ok t → EachIn HasReferencesIn t
-by_kind node.Segment ms inner t within e = segment_node_has ms t (known_is (least_unknown (keys_of kind.Segment) ms) _ t e)
-by_kind node.Loop ms inner t within e =
-    of_ok _ (known kind.Loop ms (loop_of ms)) t e (λ l is_l e1.
-    of_ok _ inner t e1 (λ ts is_ts e2. tree_is (loop l ts) t e2 (tt, within ts is_ts)))
-by_kind node.Unclear ms inner t within e =
-    let no : Err (wrong_kind (codes "seg")) ≡ Ok t = known_is (least_unknown (keys_of kind.Unclear) ms) _ t e in cc
+-- the same of readings with places
+of_placed : {A B P : Type 0} (f : A → Result B Refused) (r : Result A Refused) (y : B) → (r ▷ f) ≡ Ok y
+    → ((x : A) → r ≡ Ok x → f x ≡ Ok y → P) → P
+of_placed f (Ok x) y e k = k x refl e
+of_placed f (Err r) y e k = let no : Err r ≡ Ok y = e in cc
 
-by_order : (o : Ordering) (a b : Result Trees Refusal) (ts : Trees) → match_ordering o a b a ≡ Ok ts
+no_value : {A : Type 0} (r : Refused) (x : A) → Err r ≡ placed_ok x → ⊥
+no_value r x e = cc
+
+own_table : {A : Type 0} (slot : ℕ) (r : Result A Refusal) (x : A) → at_slot slot r ≡ Ok x → r ≡ Ok x
+own_table slot (Ok y) x e = let same : y ≡ x = cc in ap Ok same
+own_table slot (Err r) x e = absurd (no_value (slot, r) x e)
+
+placed_tree : (t u : Tree) → placed_ok t ≡ placed_ok u → EachIn HasReferencesIn t → EachIn HasReferencesIn u
+placed_tree t u e has = let same : t ≡ u = cc in subst (EachIn HasReferencesIn) same has
+
+placed_trees : (ts us : Trees) → placed_ok ts ≡ placed_ok us → EachNode HasReferencesIn ts → EachNode HasReferencesIn us
+placed_trees ts us e has = let same : ts ≡ us = cc in subst (EachNode HasReferencesIn) same has
+
+-- a node by what it is, where the nodes in it have such references
+by_kind : (k : NodeKind) (slot : ℕ) (ms : Members) (inner : Result Trees Refused) (t : Tree)
+    → ((ts : Trees) → inner ≡ Ok ts → EachNode HasReferencesIn ts) → node_by k slot ms inner ≡ Ok t → EachIn HasReferencesIn t
+by_kind node.Segment slot ms inner t within e =
+    segment_node_has ms t (known_is (least_unknown (keys_of kind.Segment) ms) _ t (own_table slot _ t e))
+by_kind node.Loop slot ms inner t within e =
+    of_placed _ (at_slot slot (known kind.Loop ms (loop_of ms))) t e (λ l is_l e1.
+    of_placed _ inner t e1 (λ ts is_ts e2. placed_tree (loop l ts) t e2 (tt, within ts is_ts)))
+by_kind node.Unclear slot ms inner t within e =
+    let no : Err (wrong_kind (codes "seg")) ≡ Ok t = known_is (least_unknown (keys_of kind.Unclear) ms) _ t (own_table slot _ t e) in cc
+
+by_order : (o : Ordering) (a b : Result Trees Refused) (ts : Trees) → match_ordering o a b a ≡ Ok ts
     → (a ≡ Ok ts) ⊎ (b ≡ Ok ts)
 by_order ordering.Less a b ts e = inl e
 by_order ordering.Equal a b ts e = inr e
 by_order ordering.Greater a b ts e = inl e
 
+no_node : (n : ℕ) (t : Tree) → Err (n, wrong_kind (codes "nodes")) ≡ placed_ok t → EachIn HasReferencesIn t
+no_node n t e = cc
+
 mutual
-  nodes_have : (ds : Items) (ts : Trees) → nodes_in ds ≡ Ok ts → EachNode HasReferencesIn ts
-  nodes_have no_items ts e = trees_are no_trees ts e tt
-  nodes_have (item d ds) ts e =
-      of_ok _ (node_in d) ts e (λ t is_t e1. of_ok _ (nodes_in ds) ts e1 (λ more is_more e2.
-      trees_are (tree t more) ts e2 (node_has d t is_t, nodes_have ds more is_more)))
+  nodes_have : (n : ℕ) (ds : Items) (ts : Trees) → nodes_in n ds ≡ Ok ts → EachNode HasReferencesIn ts
+  nodes_have n no_items ts e = placed_trees no_trees ts e tt
+  nodes_have n (item d ds) ts e =
+      of_placed _ (node_in n d) ts e (λ t is_t e1. of_placed _ (nodes_in (behind n (count_in t)) ds) ts e1 (λ more is_more e2.
+      placed_trees (tree t more) ts e2 (node_has n d t is_t, nodes_have (behind n (count_in t)) ds more is_more)))
 
-  node_has : (d : Data) (t : Tree) → node_in d ≡ Ok t → EachIn HasReferencesIn t
-  node_has (table ms) t e = by_kind (node_kind ms) ms (inner_in ms) t (λ ts h. inner_has ms ts h) e
-  node_has (string s) t e = let no : Err (wrong_kind (codes "nodes")) ≡ Ok t = e in cc
-  node_has (integer n) t e = let no : Err (wrong_kind (codes "nodes")) ≡ Ok t = e in cc
-  node_has (float x) t e = let no : Err (wrong_kind (codes "nodes")) ≡ Ok t = e in cc
-  node_has (boolean b) t e = let no : Err (wrong_kind (codes "nodes")) ≡ Ok t = e in cc
-  node_has (datetime x) t e = let no : Err (wrong_kind (codes "nodes")) ≡ Ok t = e in cc
-  node_has (array ds) t e = let no : Err (wrong_kind (codes "nodes")) ≡ Ok t = e in cc
+  node_has : (n : ℕ) (d : Data) (t : Tree) → node_in n d ≡ Ok t → EachIn HasReferencesIn t
+  node_has n (table ms) t e =
+      by_kind (node_kind ms) n ms (inner_in (behind n 1) ms) t (λ ts h. inner_has (behind n 1) ms ts h) e
+  node_has n (string s) t e = no_node n t e
+  node_has n (integer z) t e = no_node n t e
+  node_has n (float x) t e = no_node n t e
+  node_has n (boolean b) t e = no_node n t e
+  node_has n (datetime x) t e = no_node n t e
+  node_has n (array ds) t e = no_node n t e
 
-  inner_has : (ms : Members) (ts : Trees) → inner_in ms ≡ Ok ts → EachNode HasReferencesIn ts
-  inner_has no_members ts e = trees_are no_trees ts e tt
-  inner_has (member key d ms) ts e = elim (by_order (slice_cmp nat_cmp (codes "nodes") key) (inner_in ms) (list_in d) ts e) [
-    | inl h ↦ inner_has ms ts h
-    | inr h ↦ list_in_has d ts h
-  ]
+  inner_has : (n : ℕ) (ms : Members) (ts : Trees) → inner_in n ms ≡ Ok ts → EachNode HasReferencesIn ts
+  inner_has n no_members ts e = placed_trees no_trees ts e tt
+  inner_has n (member key d ms) ts e =
+      elim (by_order (slice_cmp nat_cmp (codes "nodes") key) (inner_in n ms) (list_in n d) ts e) [
+        | inl h ↦ inner_has n ms ts h
+        | inr h ↦ list_in_has n d ts h
+      ]
 
-  list_in_has : (d : Data) (ts : Trees) → list_in d ≡ Ok ts → EachNode HasReferencesIn ts
-  list_in_has (array ds) ts e = nodes_have ds ts e
-  list_in_has (table ms) ts e = trees_are no_trees ts e tt
-  list_in_has (string s) ts e = trees_are no_trees ts e tt
-  list_in_has (integer n) ts e = trees_are no_trees ts e tt
-  list_in_has (float x) ts e = trees_are no_trees ts e tt
-  list_in_has (boolean b) ts e = trees_are no_trees ts e tt
-  list_in_has (datetime x) ts e = trees_are no_trees ts e tt
+  list_in_has : (n : ℕ) (d : Data) (ts : Trees) → list_in n d ≡ Ok ts → EachNode HasReferencesIn ts
+  list_in_has n (array ds) ts e = nodes_have n ds ts e
+  list_in_has n (table ms) ts e = placed_trees no_trees ts e tt
+  list_in_has n (string s) ts e = placed_trees no_trees ts e tt
+  list_in_has n (integer z) ts e = placed_trees no_trees ts e tt
+  list_in_has n (float x) ts e = placed_trees no_trees ts e tt
+  list_in_has n (boolean b) ts e = placed_trees no_trees ts e tt
+  list_in_has n (datetime x) ts e = placed_trees no_trees ts e tt
 
 -- numbers of slots change nothing in them
 mutual
@@ -281,17 +309,12 @@ mutual
   numbered_has n (tree t ts) has = (numbered_in_has n t has.0, numbered_has (n + count_in t) ts has.1)
 
 guide_has : (ms : Members) (g : GuideTree) → guide_of_table ms ≡ Ok g → EachNode HasReferencesIn g.nodes
-unfolding guide_of_table
 guide_has ms g e =
-    of_ok _ (known kind.Guide ms (head_of ms)) g e (λ head is_head e1.
-    of_ok _ (optional None some_table (codes "hl") ms) g e1 (λ rule is_rule e2.
-    of_ok _ (optional no_items tables_in (codes "depends") ms) g e2 (λ rows is_rows e3.
-    of_ok _ (required tables_in (codes "nodes") ms) g e3 (λ ds is_ds e4. of_ok _ (hl_in rule) g e4 (λ hl is_hl e5.
-    of_ok _ (dependencies_in rows) g e5 (λ depends is_depends e6. of_ok _ (nodes_in ds) g e6 (λ trees is_trees e7.
-    let same : trees ≡ g.nodes = ap (λ (x : GuideTree). x.nodes) (of_result _ g e7) in
-    subst (EachNode HasReferencesIn) same (nodes_have ds trees is_trees))))))))
+    of_placed _ (at_slot 0 (top_of ms)) g e (λ top is_top e1. of_placed _ (nodes_in 1 top.3) g e1 (λ trees is_trees e2.
+    let same : trees ≡ g.nodes = ap (λ (x : GuideTree). x.nodes) (of_placed_result _ g e2) in
+    subst (EachNode HasReferencesIn) same (nodes_have 1 top.3 trees is_trees)))
 
-answers_have : (read : Result GuideTree Refusal) (rows : GuideRows) → Answers (Ok rows) read
+answers_have : (read : Result GuideTree Refused) (rows : GuideRows) → Answers (Ok rows) read
     → ((g : GuideTree) → read ≡ Ok g → EachNode HasReferencesIn g.nodes) → EachNode HasReferencesIn (guide_of rows).nodes
 answers_have (Ok g) rows a has =
     subst (EachNode HasReferencesIn) (sym (ap (λ (x : GuideTree). x.nodes) a.0)) (numbered_has 1 g.nodes (has g refl))

@@ -10,7 +10,7 @@ use Rattle.guide_tree.specs.declared.node.Loop.{Loop}
 use Rattle.guide_tree.specs.declared.rows.GuideHead.{GuideHead}
 use Rattle.guide_tree.specs.declared.rows.HlRule.{HlRule}
 use Rattle.guide_tree.specs.declared.rows.Dependency.{Dependency}
-use Rattle.guide_tree.specs.Words.{Tree, Trees, segment, loop, no_trees, tree, GuideTree}
+use Rattle.guide_tree.specs.Words.{Tree, Trees, segment, loop, no_trees, tree, GuideTree, count_in as size_of}
 use Rattle.toml_keys.specs.Refusals.{Refusal, wrong_kind}
 use Rattle.toml_keys.specs.Keys.{least_unknown, if_known}
 use Rattle.toml_keys.specs.Tables.{◌>>=◌, required, optional, word_in, some_word_in, count_in, tables_in, some_table}
@@ -22,6 +22,7 @@ use Rattle.guide_toml.specs.declared.nodes.NodeKind.TheVariants as node
 use Rattle.guide_toml.specs.ElementTexts.{element_of}
 use Rattle.guide_toml.specs.Entries.{pick_of, condition_of, pair_of, formed, segment_code_of, element_code_of}
 use Rattle.guide_toml.specs.Keys.{keys_of}
+use Rattle.guide_toml.specs.Refused.{Refused, ◌⊳◌, at_slot, behind}
 use Rattle.guide_toml.specs.Values.{group_in, texts_in, dependency_kind_in}
 
 abbrev pub label_in : Data → Option (List ℕ)
@@ -63,35 +64,36 @@ abbrev pub segment_node : Members → Result Tree Refusal
 segment_node ms = known kind.Segment ms (segment_of ms >>= λ s. Ok (segment s))
 
 -- a loop's own keys are judged before its nodes
-abbrev pub loop_node : Members → Result Trees Refusal → Result Tree Refusal
-loop_node ms inner = known kind.Loop ms (loop_of ms) >>= λ l. inner >>= λ ts. Ok (loop l ts)
+abbrev pub loop_node : (slot : ℕ) → Members → Result Trees Refused → Result Tree Refused
+loop_node slot ms inner = at_slot slot (known kind.Loop ms (loop_of ms)) ⊳ λ l. inner ⊳ λ ts. Ok (loop l ts)
 
 abbrev pub unclear_node : Members → Result Tree Refusal
 unclear_node ms = known kind.Unclear ms (Err (wrong_kind (codes "seg")))
 
-abbrev pub node_by : NodeKind → Members → Result Trees Refusal → Result Tree Refusal
-node_by node.Segment ms inner = segment_node ms
-node_by node.Loop ms inner = loop_node ms inner
-node_by node.Unclear ms inner = unclear_node ms
+abbrev pub node_by : NodeKind → (slot : ℕ) → Members → Result Trees Refused → Result Tree Refused
+node_by node.Segment slot ms inner = at_slot slot (segment_node ms)
+node_by node.Loop slot ms inner = loop_node slot ms inner
+node_by node.Unclear slot ms inner = at_slot slot (unclear_node ms)
 
 abbrev mutual
-  -- the nodes of a list of tables
-  pub nodes_in : Items → Result Trees Refusal
-  nodes_in no_items = Ok no_trees
-  nodes_in (item d ds) = node_in d >>= λ t. nodes_in ds >>= λ ts. Ok (tree t ts)
+  -- the nodes of a list of tables, numbered from the first on, each before what is in it
+  pub nodes_in : (first : ℕ) → Items → Result Trees Refused
+  nodes_in first no_items = Ok no_trees
+  nodes_in first (item d ds) = node_in first d ⊳ λ t. nodes_in (behind first (size_of t)) ds ⊳ λ ts. Ok (tree t ts)
 
-  pub node_in : Data → Result Tree Refusal
-  node_in (table ms) = node_by (node_kind ms) ms (inner_in ms)
-  node_in _ = Err (wrong_kind (codes "nodes"))
+  pub node_in : (slot : ℕ) → Data → Result Tree Refused
+  node_in slot (table ms) = node_by (node_kind ms) slot ms (inner_in (behind slot 1) ms)
+  node_in slot _ = Err (slot, wrong_kind (codes "nodes"))
 
   -- the nodes at the key `nodes`, once it is seen that they are tables
-  pub inner_in : Members → Result Trees Refusal
-  inner_in no_members = Ok no_trees
-  inner_in (member key d ms) = match_ordering (slice_cmp nat_cmp (codes "nodes") key) (inner_in ms) (list_in d) (inner_in ms)
+  pub inner_in : (first : ℕ) → Members → Result Trees Refused
+  inner_in first no_members = Ok no_trees
+  inner_in first (member key d ms) =
+      match_ordering (slice_cmp nat_cmp (codes "nodes") key) (inner_in first ms) (list_in first d) (inner_in first ms)
 
-  pub list_in : Data → Result Trees Refusal
-  list_in (array ds) = nodes_in ds
-  list_in _ = Ok no_trees
+  pub list_in : (first : ℕ) → Data → Result Trees Refused
+  list_in first (array ds) = nodes_in first ds
+  list_in first _ = Ok no_trees
 
 unfoldable pub hl_of : Members → Result HlRule Refusal
 hl_of ms = do
@@ -143,14 +145,19 @@ abbrev pub hl_in : Option Members → Result (Option HlRule) Refusal
 hl_in None = Ok None
 hl_in (Some ms) = known kind.Hierarchy ms (hl_of ms) >>= λ rule. Ok (Some rule)
 
--- the guide: the top table's own keys, and then `hl`, `depends` and `nodes`
-unfoldable pub guide_of_table : Members → Result GuideTree Refusal
-guide_of_table ms = do
+-- the top table's own keys, and then `hl` and `depends`; and the tables of the nodes
+unfoldable pub top_of : Members → Result (GuideHead × Option HlRule × List Dependency × Items) Refusal
+top_of ms = do
   head ← known kind.Guide ms (head_of ms)
   rule ← optional None some_table (codes "hl") ms
   rows ← optional no_items tables_in (codes "depends") ms
   nodes ← required tables_in (codes "nodes") ms
   hl ← hl_in rule
   depends ← dependencies_in rows
-  trees ← nodes_in nodes
-  Ok (record { head = head; hl = hl; depends = depends; nodes = trees })
+  Ok (head, hl, depends, nodes)
+
+-- the guide: the top table, `hl` and `depends`, and then the nodes, numbered from 1 on
+abbrev pub guide_of_table : Members → Result GuideTree Refused
+guide_of_table ms =
+    at_slot 0 (top_of ms) ⊳ λ top. nodes_in 1 top.3 ⊳ λ trees.
+    Ok (record { head = top.0; hl = top.1; depends = top.2; nodes = trees })

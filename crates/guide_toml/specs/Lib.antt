@@ -5,6 +5,7 @@ pub mod Entries
 pub mod Guides
 pub mod Keys
 pub mod Refusals
+pub mod Refused
 pub mod Tokens
 pub mod Values
 pub mod Written

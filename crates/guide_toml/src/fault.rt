@@ -2,21 +2,22 @@ use guide_tree::GuideFault;
 use thiserror::Error;
 use toml_keys::FileFault;
 
-/// Why a guide file isn't read.
+/// Why a guide file isn't read. A key stands in a node, which is told by the slot number that it would have in the guide: from 1, a
+/// loop before what is in it, up to 4,294,967,295; 0 stands for the top table, `hl` and `depends`.
 #[derive(Debug, Drop, Error)]
 pub enum GuideFileFault {
     /// The bytes are no TOML table.
     #[error("no TOML table")]
     NotToml,
-    /// A key that has to be there isn't.
+    /// A key that has to be there isn't, in the node of a number.
     #[error("{0} is missing")]
-    Missing(&'static str),
-    /// What stands at a key has another type or form.
+    Missing(&'static str, u32),
+    /// What stands at a key has another type or form, in the node of a number.
     #[error("{0} has another type or form")]
-    WrongKind(&'static str),
-    /// A key isn't listed.
+    WrongKind(&'static str, u32),
+    /// A key isn't listed, in the node of a number.
     #[error("{0} is no key of its table")]
-    Unknown(String),
+    Unknown(String, u32),
     /// The guide is refused.
     #[error("{0:?}")]
     Guide(GuideFault),
@@ -27,7 +28,7 @@ pub enum GuideFileFault {
 
 impl GuideFileFault {
     ghost use Rattle.std.specs.Prelude.{◌≡◌};
-    ghost use Rattle.guide_toml.specs.Refusals.{refusal_number};
+    ghost use Rattle.guide_toml.specs.Refusals.{placed_at, refusal_number};
 
     /// The number of the refusal; that of a guide's own fault is `GuideFault::number`.
     pub fn number(&self) -> u32
@@ -35,11 +36,23 @@ impl GuideFileFault {
     {
         match self {
             GuideFileFault::NotToml => 1,
-            GuideFileFault::Missing(_) => 2,
-            GuideFileFault::WrongKind(_) => 3,
-            GuideFileFault::Unknown(_) => 4,
+            GuideFileFault::Missing(_, _) => 2,
+            GuideFileFault::WrongKind(_, _) => 3,
+            GuideFileFault::Unknown(_, _) => 4,
             GuideFileFault::Guide(_) => 5,
             GuideFileFault::NoMemory => 6,
+        }
+    }
+
+    /// The same in the node of a number.
+    pub(crate) fn at(self, slot: u32) -> GuideFileFault
+        ensures { result ≡ placed_at slot self }
+    {
+        match self {
+            GuideFileFault::Missing(key, _) => GuideFileFault::Missing(key, slot),
+            GuideFileFault::WrongKind(key, _) => GuideFileFault::WrongKind(key, slot),
+            GuideFileFault::Unknown(key, _) => GuideFileFault::Unknown(key, slot),
+            other => other,
         }
     }
 }
@@ -54,9 +67,9 @@ impl From<FileFault> for GuideFileFault {
     fn from(fault: FileFault) -> GuideFileFault {
         match fault {
             FileFault::NotToml => GuideFileFault::NotToml,
-            FileFault::Missing(key) => GuideFileFault::Missing(key),
-            FileFault::WrongKind(key) => GuideFileFault::WrongKind(key),
-            FileFault::Unknown(key) => GuideFileFault::Unknown(key),
+            FileFault::Missing(key) => GuideFileFault::Missing(key, 0),
+            FileFault::WrongKind(key) => GuideFileFault::WrongKind(key, 0),
+            FileFault::Unknown(key) => GuideFileFault::Unknown(key, 0),
             FileFault::NoMemory => GuideFileFault::NoMemory,
         }
     }

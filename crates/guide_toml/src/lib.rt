@@ -3,7 +3,8 @@
 //! Proved: `read_guide` refuses bytes as no TOML exactly where `toml` reads no table from them, want of memory
 //! aside; else its answer is a function of the table, which the definitions give: the least key that a table may
 //! not have, then the first key that is missing or has another type or form, in the order of the tables and of
-//! their keys; then what the check of the guide refuses; else the guide that the file writes, all of it.
+//! their keys, with the number of the node in which it stands; then what the check of the guide refuses; else the guide
+//! that the file writes, all of it. `read_rows` gives the rows of that guide without their check.
 //!
 //! Source: the format is own; its words for rows and conditions are those of X12.6 (requirement designator, data
 //! element types, relational conditions).
@@ -34,7 +35,7 @@ mod values;
 
 pub use fault::GuideFileFault;
 pub use laws::{files_write_references, written_row_is_read_back};
-pub use read::read_guide;
+pub use read::{read_guide, read_rows};
 pub use toml_keys::{
     AnyText, Count, ListOf, Present, Reading, TextFault, Word, optional, refuse_unknown, required,
     some_table_at, some_tables_at, table_at, tables_at,

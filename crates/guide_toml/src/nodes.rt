@@ -1,8 +1,10 @@
-ghost use Rattle.std.specs.Prelude.{◌≡◌, ◌≤◌, option_map, ◌++◌, ◌∷◌, [], OnOk, IfErr};
+ghost use Rattle.std.specs.Prelude.{◌≡◌, ◌≤◌, ℕ, option_map, ◌++◌, ◌∷◌, [], IfOk, OnOk, IfErr};
 ghost use Rattle.toml.specs.Data.{table as table_data, items_depth, members_depth};
 ghost use Rattle.toml.specs.View.{table_view, view, items_view};
-ghost use Rattle.guide_tree.specs.Words.{view as tree_view, nodes_view};
-ghost use Rattle.guide_toml.specs.Answers.{Gives};
+ghost use Rattle.guide_tree.specs.Words.{view as tree_view, nodes_view, count_in, node_count};
+ghost use Rattle.guide_toml.specs.Answers.{Gives, GivesAt, meaning_of};
+ghost use Rattle.guide_toml.specs.Refused.{at_slot, behind};
+ghost use Rattle.toml_keys.specs.Meanings.{FailsAs};
 ghost use Rattle.toml_keys.specs.Tables as tables;
 ghost use Rattle.guide_toml.specs.Guides as guides;
 
@@ -87,7 +89,7 @@ fn node_kind(table: &Table) -> NodeKind
 
 /// The list at `nodes`; an empty one where there is none.
 fn inner_of(table: &Table) -> &[Value]
-    ensures same { guides.nodes_in (items_view result.now) ≡ guides.inner_in (table_view table.entry.now) }
+    ensures same { (first : ℕ) → guides.nodes_in first (items_view result.now) ≡ guides.inner_in first (table_view table.entry.now) }
     ensures smaller { items_depth (items_view result.now) ≤ members_depth (table_view table.entry.now) }
 {
     match value_at(table, "nodes") {
@@ -100,10 +102,23 @@ fn inner_of(table: &Table) -> &[Value]
 }
 
 fn segment_node(alloc: Global, table: &Table) -> Result<Node, GuideFileFault>
-    ensures { Gives tree_view result (guides.segment_node (table_view table.now)) }
+    ensures read { Gives tree_view result (guides.segment_node (table_view table.now)) }
+    ensures one { IfOk result (λ node. count_in (tree_view node) ≡ 1) }
 {
     refuse_unlisted(alloc, table, TableKind::Segment)?;
     Ok(Node::Segment(segment_of(alloc, table)?))
+}
+
+/// A segment, or what is wrong with it in the node of a number.
+#[tactic(auto, using(crate::proofs::Placing::fails_at))]
+fn segment_at(alloc: Global, table: &Table, slot: u32) -> Result<Node, GuideFileFault>
+    ensures read { GivesAt tree_view result (at_slot slot (guides.segment_node (table_view table.now))) }
+    ensures one { IfOk result (λ node. count_in (tree_view node) ≡ 1) }
+{
+    match segment_node(alloc, table) {
+        Ok(node) => Ok(node),
+        Err(fault) => Err(fault.at(slot)),
+    }
 }
 
 fn known_loop(alloc: Global, table: &Table) -> Result<Loop, GuideFileFault>
@@ -113,31 +128,50 @@ fn known_loop(alloc: Global, table: &Table) -> Result<Loop, GuideFileFault>
     loop_of(alloc, table)
 }
 
-fn unclear_node(alloc: Global, table: &Table) -> Result<Node, GuideFileFault>
-    ensures { Gives tree_view result (guides.unclear_node (table_view table.now)) }
+/// What is wrong with a node of which it isn't clear what it is.
+fn unclear_fault(alloc: Global, table: &Table) -> GuideFileFault
+    ensures { FailsAs (meaning_of result) (guides.unclear_node (table_view table.now)) }
 {
-    refuse_unlisted(alloc, table, TableKind::Unclear)?;
-    Err(GuideFileFault::WrongKind("seg"))
+    match refuse_unlisted(alloc, table, TableKind::Unclear) {
+        Ok(()) => GuideFileFault::WrongKind("seg", 0),
+        Err(fault) => fault,
+    }
 }
 
-/// A loop. Its own keys are judged before its nodes.
+/// A loop. Its own keys are judged before its nodes, whose numbers begin with `next`.
 #[cycle(nodes)]
-fn loop_node(alloc: Global, table: &Table) -> Result<Node, GuideFileFault>
-    ensures { Gives tree_view result (guides.loop_node (table_view table.now) (guides.inner_in (table_view table.now))) }
+fn loop_node(
+    alloc: Global,
+    table: &Table,
+    slot: u32,
+    next: &mut u32,
+) -> Result<Node, GuideFileFault>
+    requires { next.old ≡ behind slot 1 }
+    ensures read { GivesAt tree_view result
+        (guides.loop_node slot (table_view table.now) (guides.inner_in (behind slot 1) (table_view table.now))) }
+    ensures next { IfOk result (λ node. next.new ≡ behind slot (count_in (tree_view node))) }
 {
-    let head = known_loop(alloc, table)?;
-    let nodes = nodes_of(alloc, inner_of(table))?;
+    let head = match known_loop(alloc, table) {
+        Ok(head) => head,
+        Err(fault) => return Err(fault.at(slot)),
+    };
+    let nodes = nodes_of(alloc, inner_of(table), next)?;
     Ok(Node::Loop(head, nodes))
 }
 
+/// A node; `next` is its number, and then the number behind what is in it.
 #[cycle(nodes)]
-fn node_of(alloc: Global, table: &Table) -> Result<Node, GuideFileFault>
-    ensures { Gives tree_view result (guides.node_in (table_data (table_view table.now))) }
+#[tactic(auto, using(crate::proofs::Placing::fails_at))]
+fn node_of(alloc: Global, table: &Table, next: &mut u32) -> Result<Node, GuideFileFault>
+    ensures read { GivesAt tree_view result (guides.node_in next.old (table_data (table_view table.now))) }
+    ensures next { IfOk result (λ node. next.new ≡ behind next.old (count_in (tree_view node))) }
 {
+    let slot = *next;
+    *next = slot.saturating_add(1);
     match node_kind(table) {
-        NodeKind::Segment => segment_node(alloc, table),
-        NodeKind::Loop => loop_node(alloc, table),
-        NodeKind::Unclear => unclear_node(alloc, table),
+        NodeKind::Segment => segment_at(alloc, table, slot),
+        NodeKind::Loop => loop_node(alloc, table, slot, next),
+        NodeKind::Unclear => Err(unclear_fault(alloc, table).at(slot)),
     }
 }
 
@@ -151,16 +185,23 @@ fn push_node(nodes: &mut Vec<Node>, node: Node) -> Result<(), GuideFileFault>
     }
 }
 
-/// The nodes of a list of tables.
+/// The nodes of a list of tables; `next` is the number of the first, and then the number behind what is in the last.
 #[cycle(nodes)]
-pub fn nodes_of(alloc: Global, values: &[Value]) -> Result<Vec<Node>, GuideFileFault>
-    ensures { Gives (λ v. nodes_view v.items) result (guides.nodes_in (items_view values.now)) }
+pub fn nodes_of(
+    alloc: Global,
+    values: &[Value],
+    next: &mut u32,
+) -> Result<Vec<Node>, GuideFileFault>
+    ensures read { GivesAt (λ v. nodes_view v.items) result (guides.nodes_in next.old (items_view values.now)) }
+    ensures next { IfOk result (λ v. next.new ≡ behind next.old (node_count (nodes_view v.items))) }
 {
+    // read, its range is known
+    let _first = *next;
     let mut nodes = Vec::new(alloc);
     for value in values {
         match value.as_table() {
-            None => return Err(GuideFileFault::WrongKind("nodes")),
-            Some(table) => match node_of(alloc, table) {
+            None => return Err(GuideFileFault::WrongKind("nodes", *next)),
+            Some(table) => match node_of(alloc, table, next) {
                 Ok(node) => push_node(&mut nodes, node)?,
                 Err(fault) => return Err(fault),
             },

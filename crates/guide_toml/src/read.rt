@@ -8,7 +8,7 @@ ghost use Rattle.toml_keys.specs.Meanings.{FailsAs};
 ghost use Rattle.toml_keys.specs.Tables.{◌>>=◌ as ◌⊳◌};
 ghost use Rattle.toml_keys.specs.Tables as tables;
 ghost use Rattle.guide_toml.specs.declared.entry.Form.TheVariants as form;
-ghost use Rattle.guide_toml.specs.Answers.{Gives, Answers, meaning_of};
+ghost use Rattle.guide_toml.specs.Answers.{Gives, GivesAt, Answers, meaning_of};
 ghost use Rattle.guide_toml.specs.Entries.{formed, segment_code_of, element_code_of};
 ghost use Rattle.guide_toml.specs.Values as values;
 ghost use Rattle.guide_toml.specs.Guides as guides;
@@ -205,7 +205,7 @@ fn dependency_in(alloc: Global, value: &Value) -> Result<Dependency, GuideFileFa
 {
     match value {
         Value::Table(table) => known_dependency(alloc, table),
-        _ => Err(GuideFileFault::WrongKind("depends")),
+        _ => Err(GuideFileFault::WrongKind("depends", 0)),
     }
 }
 
@@ -232,9 +232,18 @@ fn dependencies_in(alloc: Global, values: &[Value]) -> Result<Items<Dependency>,
     Ok(Items::from_vec(rows))
 }
 
-#[tactic(auto, unfolding(crate::specs::Guides::guide_of_table))]
-fn rows_of(alloc: Global, table: &Table) -> Result<GuideRows, GuideFileFault>
-    ensures { Gives guide_of result (guides.guide_of_table (table_view table.now)) }
+/// What the top table writes, and the tables of its nodes.
+#[derive(Drop)]
+struct Top<'a> {
+    head: GuideHead,
+    hl: Option<HlRule>,
+    depends: Items<Dependency>,
+    nodes: &'a [Value],
+}
+
+#[tactic(auto, unfolding(crate::specs::Guides::top_of))]
+fn top_of<'a>(alloc: Global, table: &'a Table) -> Result<Top<'a>, GuideFileFault>
+    ensures { Gives (λ t. (t.head, t.hl, t.depends, items_view t.nodes.now)) result (guides.top_of (table_view table.entry.now)) }
 {
     let head = known_head(alloc, table)?;
     let rule = some_table_at(table, "hl")?;
@@ -242,7 +251,29 @@ fn rows_of(alloc: Global, table: &Table) -> Result<GuideRows, GuideFileFault>
     let nodes = tables_at(table, "nodes")?;
     let hl = hl_in(alloc, rule)?;
     let depends = dependencies_in(alloc, rows)?;
-    let nodes = nodes_of(alloc, nodes)?;
+    Ok(Top {
+        head,
+        hl,
+        depends,
+        nodes,
+    })
+}
+
+#[tactic(auto, using(crate::proofs::Placing::fails_at))]
+fn rows_of(alloc: Global, table: &Table) -> Result<GuideRows, GuideFileFault>
+    ensures { GivesAt guide_of result (guides.guide_of_table (table_view table.now)) }
+{
+    let Top {
+        head,
+        hl,
+        depends,
+        nodes,
+    } = match top_of(alloc, table) {
+        Ok(top) => top,
+        Err(fault) => return Err(fault.at(0)),
+    };
+    let mut next = 1;
+    let nodes = nodes_of(alloc, nodes, &mut next)?;
     Ok(GuideRows {
         head,
         hl,
@@ -251,13 +282,20 @@ fn rows_of(alloc: Global, table: &Table) -> Result<GuideRows, GuideFileFault>
     })
 }
 
-fn guide_in(alloc: Global, table: &Table) -> Result<Guide, GuideFileFault>
-    ensures { Answers result (guides.guide_of_table (table_view table.now)) }
+/// Reads the rows that a guide file writes, without their check: the same but for what `Guide::check` refuses.
+pub fn read_rows(alloc: Global, bytes: &[u8]) -> Result<GuideRows, GuideFileFault>
+    ensures table { (t : Members) → IsUtf8 bytes.now → parse_document bytes.now ≡ Some t
+        → GivesAt guide_of result (guides.guide_of_table t) }
+    ensures not_toml { (result ≡ Err GuideFileFault.NotToml)
+        ↔ ((result ≢ Err GuideFileFault.NoMemory) × (IsUtf8 bytes.now → parse_document bytes.now ≡ None)) }
 {
-    let rows = rows_of(alloc, table)?;
-    match Guide::check(rows) {
-        Ok(guide) => Ok(guide),
-        Err(fault) => Err(GuideFileFault::Guide(fault)),
+    let Ok(text) = std::str::from_utf8(bytes) else {
+        return Err(GuideFileFault::NotToml);
+    };
+    match toml::table_from_str(alloc, text) {
+        Ok(table) => rows_of(alloc, &table),
+        Err(e) if e.is_memory() => Err(GuideFileFault::NoMemory),
+        Err(_) => Err(GuideFileFault::NotToml),
     }
 }
 
@@ -269,12 +307,12 @@ pub fn read_guide(alloc: Global, bytes: &[u8]) -> Result<Guide, GuideFileFault>
     ensures not_toml { (result ≡ Err GuideFileFault.NotToml)
         ↔ ((result ≢ Err GuideFileFault.NoMemory) × (IsUtf8 bytes.now → parse_document bytes.now ≡ None)) }
 {
-    let Ok(text) = std::str::from_utf8(bytes) else {
-        return Err(GuideFileFault::NotToml);
+    let rows = match read_rows(alloc, bytes) {
+        Ok(rows) => rows,
+        Err(fault) => return Err(fault),
     };
-    match toml::table_from_str(alloc, text) {
-        Ok(table) => guide_in(alloc, &table),
-        Err(e) if e.is_memory() => Err(GuideFileFault::NoMemory),
-        Err(_) => Err(GuideFileFault::NotToml),
+    match Guide::check(rows) {
+        Ok(guide) => Ok(guide),
+        Err(fault) => Err(GuideFileFault::Guide(fault)),
     }
 }

@@ -1,8 +1,9 @@
 -- Files that make a setup aren't refused.
-use Rattle.std.proofs.Common.{◌≡◌, ◌∷◌, ◌∙◌, [], inl, inr, ℕ, Bool, not, ◌&&◌, ◌||◌, List, Option, None, Some}
-use Rattle.std.proofs.Common.{Result, Ok, Err, map, ap, ap₂, refl, subst, sym}
+use Rattle.std.proofs.Common.{◌≡◌, ◌∷◌, ◌∙◌, [], inl, inr, ℕ, ◌+◌, Bool, not, ◌&&◌, ◌||◌, List, Option, None, Some}
+use Rattle.std.proofs.Common.{Result, Ok, Err, cond, map, ap, ap₂, refl, subst, sym}
 use Rattle.std.specs.Prelude.{option_map, slice_get}
-use Rattle.std.specs.List.{list_all}
+use Rattle.std.specs.List.{list_all, position_from}
+use Rattle.std.specs.Option.{option_or}
 use Rattle.std.proofs.lemmas.Option.{slice_get-map}
 use Rattle.std.proofs.lemmas.Simd.{map-map}
 use Rattle.clap.proofs.WalkLemmas.{list_any-map}
@@ -14,19 +15,23 @@ use Rattle.guide_tree.specs.declared.rows.GuideHead.{GuideHead}
 use Rattle.guide_tree.specs.declared.rows.GuideRows.{GuideRows}
 use Rattle.guide_toml.specs.Answers.{Answers, Refuses}
 use Rattle.guide_toml.specs.Guides.{guide_of_table}
+use Rattle.guide_toml.specs.Refused.{Refused}
 use Rattle.toml_keys.specs.Refusals.{Refusal}
 use Rattle.guide_toml.specs.declared.fault.GuideFileFault.{GuideFileFault}
 use Rattle.guide_toml.specs.declared.fault.GuideFileFault.TheVariants as fault
 use Rattle.partner_setup.specs.CountersFile.{counters_of_table}
 use Rattle.partner_setup.specs.Names.{and_some, places_of_texts, those_at}
 use Rattle.partner_setup.specs.Setup.{SetupValue}
-use Rattle.partner_setup.specs.SetupFaults.{by_name, first_fault, guide_name, has_bad_guides, has_guides, purpose_key, told_by}
+use Rattle.partner_setup.specs.SetupFaults.{bad_guides, by_name, first_fault, first_row, first_twin, guide_name, has_guides}
+use Rattle.partner_setup.specs.SetupFaults.{purpose_key, told_by, twin_from}
 use Rattle.partner_setup.specs.SetupFile.{setup_of_table}
 use Rattle.toml_keys.specs.declared.file_fault.FileFault.{FileFault}
 use Rattle.toml_keys.specs.declared.file_fault.FileFault.TheVariants as file
 use Rattle.partner_setup.specs.declared.rows.CounterRow.{CounterRow}
 use Rattle.partner_setup.specs.declared.rows.PartnerRow.{PartnerRow}
 use Rattle.partner_setup.specs.declared.rows.SetupRows.{SetupRows}
+use Rattle.partner_setup.specs.declared.setup_fault.GuidesOwner.{GuidesOwner}
+use Rattle.partner_setup.specs.declared.setup_fault.GuidesOwner.TheVariants as guided
 use Rattle.partner_setup.specs.declared.setup_fault.SetupFault.{SetupFault}
 use Rattle.night_command.specs.SetupFiles.{AreGuidesOf, HasTable, IsFileOf, IsFileRefused, IsFirstGuideRefused, IsFirstRefusal, IsGuideOf}
 use Rattle.night_command.specs.SetupFiles.{IsGuideRefused, IsSetupOf}
@@ -46,11 +51,11 @@ same_table bytes P Q both first second =
 not_faulty : (g : GuideRows) (tree : GuideTree) (f : GuideFault) → Answers (Ok g) (Ok tree) → IsFirstFault (with_slot_numbers tree) f → ⊥
 not_faulty g tree f is first = is.1.well_formed f (subst (λ (x : GuideTree). HasFault x f) (sym is.0) first.holds)
 
-guide_not_both : (g : GuideRows) (read : Result GuideTree Refusal) (r : Refusal) → Answers (Ok g) read → read ≡ Err r → ⊥
+guide_not_both : (g : GuideRows) (read : Result GuideTree Refused) (r : Refused) → Answers (Ok g) read → read ≡ Err r → ⊥
 guide_not_both g (Ok tree) r is refused = cc
 guide_not_both g (Err s) r is refused = is
 
-guide_not_faulty : (g : GuideRows) (f : GuideFault) (read : Result GuideTree Refusal) → Answers (Ok g) read
+guide_not_faulty : (g : GuideRows) (f : GuideFault) (read : Result GuideTree Refused) → Answers (Ok g) read
     → Refuses (fault.Guide f) read → ⊥
 guide_not_faulty g f (Ok tree) is refused = not_faulty g tree f is refused
 guide_not_faulty g f (Err r) is refused = refused
@@ -61,11 +66,11 @@ guide_or_refused None g refusal is refused = is
 guide_or_refused (Some bytes) g None is refused = refused
 guide_or_refused (Some bytes) g (Some fault.NotToml) is refused = let e = is.1 in cc
 guide_or_refused (Some bytes) g (Some fault.NoMemory) is refused = refused
-guide_or_refused (Some bytes) g (Some (fault.Missing k)) is refused =
+guide_or_refused (Some bytes) g (Some (fault.Missing k slot)) is refused =
     same_table bytes _ _ (λ t a b. guide_not_both g (guide_of_table t) _ a b) is refused
-guide_or_refused (Some bytes) g (Some (fault.WrongKind k)) is refused =
+guide_or_refused (Some bytes) g (Some (fault.WrongKind k slot)) is refused =
     same_table bytes _ _ (λ t a b. guide_not_both g (guide_of_table t) _ a b) is refused
-guide_or_refused (Some bytes) g (Some (fault.Unknown k)) is refused =
+guide_or_refused (Some bytes) g (Some (fault.Unknown k slot)) is refused =
     same_table bytes _ _ (λ t a b. guide_not_both g (guide_of_table t) _ a b) is refused
 guide_or_refused (Some bytes) g (Some (fault.Guide f)) is refused =
     same_table bytes _ _ (λ t a b. guide_not_faulty g f (guide_of_table t) a b) is refused
@@ -107,7 +112,7 @@ rows_are_one read (Some bytes) a b first second = same_table bytes _ _ (λ t x y
 abbrev head_of : GuideRows → GuideHead
 head_of g = g.head
 
-head_is_one : (g h : GuideRows) (read : Result GuideTree Refusal) → Answers (Ok g) read → Answers (Ok h) read → head_of g ≡ head_of h
+head_is_one : (g h : GuideRows) (read : Result GuideTree Refused) → Answers (Ok g) read → Answers (Ok h) read → head_of g ≡ head_of h
 head_is_one g h (Ok tree) first second = ap (λ (t : GuideTree). t.head) (first.0 ∙ sym second.0)
 head_is_one g h (Err r) first second = absurd first
 
@@ -138,8 +143,9 @@ has_guides_by hs p =
     list_all (contains_text (map name_in hs)) p.guides
     && not (has_twice purpose_in (those_at hs (places_of_texts (map name_in hs) p.guides)))
 
-abbrev has_bad_guides_by : List PartnerRow → List GuideHead → Bool
-has_bad_guides_by ps hs = not (list_all (has_guides_by hs) ps) || has_twice (λ h. by_name (name_in h)) hs
+abbrev bad_guides_by : List PartnerRow → List GuideHead → Option GuidesOwner
+bad_guides_by ps hs = option_or (option_map guided.Partner (first_row (λ p. not (has_guides_by hs p)) ps))
+    (option_map guided.Guide (first_twin (λ h. by_name (name_in h)) hs))
 
 and_some_by : (o : Option GuideRows) (xs : List GuideRows) → map head_of (and_some o xs) ≡ and_some (option_map head_of o) (map head_of xs)
 and_some_by None xs = refl
@@ -156,6 +162,13 @@ twice_by key [] = refl
 twice_by key (g ∷ gs) =
     ap₂ (λ (a b : Bool). a || b) (list_any-map (has_same_key key (head_of g)) head_of gs) (twice_by key gs)
 
+twins_by : (key : GuideHead → List ℕ) (n : ℕ) (gs : List GuideRows)
+    → twin_from (λ g. key (head_of g)) n gs ≡ twin_from key n (map head_of gs)
+twins_by key n [] = refl
+twins_by key n (g ∷ gs) =
+    ap₂ (λ (b : Bool) (o : Option ℕ). cond b (Some n) o) (list_any-map (λ h. has_same_key key h (head_of g)) head_of gs)
+    (twins_by key (n + 1) gs)
+
 names_by : (gs : List GuideRows) → map guide_name gs ≡ map name_in (map head_of gs)
 names_by gs = sym (map-map name_in head_of gs)
 
@@ -170,19 +183,24 @@ guides_by gs p =
     ∙ ap (λ (b : Bool). list_all (contains_text (map name_in (map head_of gs))) p.guides && not b)
     (purposes (places_of_texts (map name_in (map head_of gs)) p.guides))
 
-all_by : (gs : List GuideRows) (ps : List PartnerRow) → list_all (has_guides gs) ps ≡ list_all (has_guides_by (map head_of gs)) ps
-all_by gs [] = refl
-all_by gs (p ∷ ps) = ap₂ (λ (a b : Bool). a && b) (guides_by gs p) (all_by gs ps)
+first_by : (test same : PartnerRow → Bool) → ((p : PartnerRow) → test p ≡ same p) → (n : ℕ) (ps : List PartnerRow)
+    → position_from test n ps ≡ position_from same n ps
+first_by test same are n [] = refl
+first_by test same are n (p ∷ ps) =
+    ap₂ (λ (b : Bool) (o : Option ℕ). cond b (Some n) o) (are p) (first_by test same are (n + 1) ps)
 
-bad_by : (ps : List PartnerRow) (gs : List GuideRows) → has_bad_guides ps gs ≡ has_bad_guides_by ps (map head_of gs)
-bad_by ps gs = ap₂ (λ (a b : Bool). not a || b) (all_by gs ps) (twice_by (λ h. by_name (name_in h)) gs)
+bad_by : (ps : List PartnerRow) (gs : List GuideRows) → bad_guides ps gs ≡ bad_guides_by ps (map head_of gs)
+bad_by ps gs =
+    ap₂ (λ (a b : Option ℕ). option_or (option_map guided.Partner a) (option_map guided.Guide b))
+    (first_by (λ p. not (has_guides gs p)) (λ p. not (has_guides_by (map head_of gs) p)) (λ p. ap not (guides_by gs p)) 0 ps)
+    (twins_by (λ h. by_name (name_in h)) 0 gs)
 
 -- the first fault, where this says whether the guides are bad
 fault_is_one : (rows : SetupRows) (counters : List CounterRow) (gs hs : List GuideRows) → map head_of gs ≡ map head_of hs
     → first_fault rows counters gs ≡ first_fault rows counters hs
 fault_is_one rows counters gs hs same =
-    let bad : has_bad_guides rows.partners gs ≡ has_bad_guides rows.partners hs =
-    bad_by rows.partners gs ∙ ap (has_bad_guides_by rows.partners) same ∙ sym (bad_by rows.partners hs) in
+    let bad : bad_guides rows.partners gs ≡ bad_guides rows.partners hs =
+    bad_by rows.partners gs ∙ ap (bad_guides_by rows.partners) same ∙ sym (bad_by rows.partners hs) in
     rw (bad) refl
 
 setup_or_refused : (files : SetupFiles) (setup : SetupValue) (refusal : SetupFault) → IsSetupOf files setup

@@ -89,12 +89,12 @@ guide_fault_is : (bytes : List ℕ) (f : GuideFileFault) → SaysOf bytes (λ t.
     → SaysNone GuideRows GuideFileFault bytes fault.NotToml fault.NoMemory (Err f) → f ≢ fault.NoMemory → IsGuideFaultOf bytes f
 guide_fault_is bytes fault.NotToml table toml memory = no_table bytes _ (one_or_none bytes) (λ t never. never) table
 guide_fault_is bytes fault.NoMemory table toml memory = memory refl
-guide_fault_is bytes (fault.Missing k) table toml memory =
-    has_table bytes _ fault.NotToml fault.NoMemory (Err (fault.Missing k)) (one_or_none bytes) (λ e. cc) (λ e. cc) table toml
-guide_fault_is bytes (fault.WrongKind k) table toml memory =
-    has_table bytes _ fault.NotToml fault.NoMemory (Err (fault.WrongKind k)) (one_or_none bytes) (λ e. cc) (λ e. cc) table toml
-guide_fault_is bytes (fault.Unknown k) table toml memory =
-    has_table bytes _ fault.NotToml fault.NoMemory (Err (fault.Unknown k)) (one_or_none bytes) (λ e. cc) (λ e. cc) table toml
+guide_fault_is bytes (fault.Missing k slot) table toml memory =
+    has_table bytes _ fault.NotToml fault.NoMemory (Err (fault.Missing k slot)) (one_or_none bytes) (λ e. cc) (λ e. cc) table toml
+guide_fault_is bytes (fault.WrongKind k slot) table toml memory =
+    has_table bytes _ fault.NotToml fault.NoMemory (Err (fault.WrongKind k slot)) (one_or_none bytes) (λ e. cc) (λ e. cc) table toml
+guide_fault_is bytes (fault.Unknown k slot) table toml memory =
+    has_table bytes _ fault.NotToml fault.NoMemory (Err (fault.Unknown k slot)) (one_or_none bytes) (λ e. cc) (λ e. cc) table toml
 guide_fault_is bytes (fault.Guide f) table toml memory =
     has_table bytes _ fault.NotToml fault.NoMemory (Err (fault.Guide f)) (one_or_none bytes) (λ e. cc) (λ e. cc) table toml
 
@@ -112,9 +112,9 @@ refused_guide : (file : GuideFile) (path : Bor (List ℕ)) (f : GuideFileFault) 
     → (f ≢ fault.NoMemory → IsGuideRefused file.bytes (Some f)) → IsMemoryOrIs (IsOfGuide file) (guide_failure path f)
 refused_guide file path fault.NoMemory at is = inl refl
 refused_guide file path fault.NotToml at is = inr (at, is (λ e. cc))
-refused_guide file path (fault.Missing k) at is = inr (at, is (λ e. cc))
-refused_guide file path (fault.WrongKind k) at is = inr (at, is (λ e. cc))
-refused_guide file path (fault.Unknown k) at is = inr (at, is (λ e. cc))
+refused_guide file path (fault.Missing k slot) at is = inr (at, is (λ e. cc))
+refused_guide file path (fault.WrongKind k slot) at is = inr (at, is (λ e. cc))
+refused_guide file path (fault.Unknown k slot) at is = inr (at, is (λ e. cc))
 refused_guide file path (fault.Guide f) at is = own_fails file path f at (is (λ e. cc))
 
 pub guide_fails : (file : GuideFile) (path : Bor (List ℕ)) (bytes : List ℕ) (f : GuideFileFault) → Some bytes ≡ file.bytes

@@ -108,9 +108,9 @@ own_failure path (own.BadCondition slot) = failure.Guide path (Some (fault.Guide
 
 abbrev pub guide_failure : Bor (List ℕ) → GuideFileFault → Failure
 guide_failure path fault.NotToml = failure.Guide path (Some fault.NotToml)
-guide_failure path (fault.Missing key) = failure.Guide path (Some (fault.Missing key))
-guide_failure path (fault.WrongKind key) = failure.Guide path (Some (fault.WrongKind key))
-guide_failure path (fault.Unknown key) = failure.Guide path (Some (fault.Unknown key))
+guide_failure path (fault.Missing key slot) = failure.Guide path (Some (fault.Missing key slot))
+guide_failure path (fault.WrongKind key slot) = failure.Guide path (Some (fault.WrongKind key slot))
+guide_failure path (fault.Unknown key slot) = failure.Guide path (Some (fault.Unknown key slot))
 guide_failure path (fault.Guide refused) = own_failure path refused
 guide_failure path fault.NoMemory = failure.Memory
 
@@ -130,13 +130,13 @@ counters_failure (file.Unknown key) = failure.CountersFile (Some (file.Unknown k
 
 abbrev pub setup_failure : SetupFault → Failure
 setup_failure setup.NoMemory = failure.Memory
-setup_failure setup.SamePartner = failure.Setup setup.SamePartner
-setup_failure setup.BadDelimiters = failure.Setup setup.BadDelimiters
-setup_failure setup.BadId = failure.Setup setup.BadId
-setup_failure setup.BadGuides = failure.Setup setup.BadGuides
-setup_failure setup.BadRoute = failure.Setup setup.BadRoute
-setup_failure setup.BadCounter = failure.Setup setup.BadCounter
-setup_failure setup.BadCap = failure.Setup setup.BadCap
+setup_failure (setup.SamePartner place) = failure.Setup (setup.SamePartner place)
+setup_failure (setup.BadDelimiters place) = failure.Setup (setup.BadDelimiters place)
+setup_failure (setup.BadId owner) = failure.Setup (setup.BadId owner)
+setup_failure (setup.BadGuides owner) = failure.Setup (setup.BadGuides owner)
+setup_failure (setup.BadRoute place) = failure.Setup (setup.BadRoute place)
+setup_failure (setup.BadCounter place) = failure.Setup (setup.BadCounter place)
+setup_failure (setup.BadCap place) = failure.Setup (setup.BadCap place)
 
 -- what putting a night's files fails by
 abbrev pub put_failure : PutFault → Failure

@@ -55,10 +55,10 @@ fn number_of(fault: &Option<GuideFileFault>) -> u32 {
 
 /// Files, the fault of each and its number.
 const FILES: &[(&[u8], &str, u32)] = &[
-    (b"zeta=1\nalpha=1\n", "Unknown(\"alpha\")", 4),
-    (b"name=7\n", "WrongKind(\"name\")", 3),
+    (b"zeta=1\nalpha=1\n", "Unknown(\"alpha\", 0)", 4),
+    (b"name=7\n", "WrongKind(\"name\", 0)", 3),
     (b"name=\n", "NotToml", 1),
-    (&[], "Missing(\"name\")", 2),
+    (&[], "Missing(\"name\", 0)", 2),
     (&[0xff], "NotToml", 1),
 ];
 
@@ -86,11 +86,32 @@ fn first_faults(rt: HostRuntime) -> Result<(), Fail> {
 /// Nodes of a file, and the fault of each.
 const NODES: &[[&str; 2]] = &[
     ["", "None"],
-    ["1", "WrongKind(\"nodes\")"],
-    ["{}", "WrongKind(\"seg\")"],
-    ["{seg=\"REF\",loop=\"REF\",z=1}", "Unknown(\"z\")"],
-    ["{seg=\"REF\",min=0}", "Missing(\"max\")"],
-    ["{loop=\"L\",min=0,nodes=[{}]}", "Missing(\"max\")"],
+    ["1", "WrongKind(\"nodes\", 0)"],
+    ["{}", "WrongKind(\"seg\", 1)"],
+    ["{seg=\"REF\",loop=\"REF\",z=1}", "Unknown(\"z\", 1)"],
+    ["{seg=\"REF\",min=0}", "Missing(\"max\", 1)"],
+    ["{loop=\"L\",min=0,nodes=[{}]}", "Missing(\"max\", 1)"],
+    // the node's number counts loops, and what is in them behind each
+    [
+        "{seg=\"BEG\",min=1,max=1,elements=[]},{seg=\"REF\",min=0,elements=[]}",
+        "Missing(\"max\", 2)",
+    ],
+    [
+        "{loop=\"L\",min=0,max=9,nodes=[{seg=\"N1\",min=1,max=1}]}",
+        "Missing(\"elements\", 2)",
+    ],
+    [
+        "{loop=\"L\",min=0,max=9,nodes=[{seg=\"N1\",min=1,max=1,elements=[]}]},{seg=\"REF\",min=0,max=1,elements=1}",
+        "WrongKind(\"elements\", 3)",
+    ],
+    [
+        "{loop=\"L\",min=0,max=9,nodes=[{loop=\"K\",min=0,max=9,nodes=[]},{seg=\"N1\",min=1,max=1,elements=[],zeta=1}]}",
+        "Unknown(\"zeta\", 3)",
+    ],
+    [
+        "{loop=\"L\",min=0,max=9,nodes=[{seg=\"N1\",min=1,max=1,elements=[]},7]}",
+        "WrongKind(\"nodes\", 1)",
+    ],
     [
         "{seg=\"REF\",min=2,max=1,elements=[]}",
         "Guide(BadBounds(1))",
@@ -126,7 +147,7 @@ fn first_faults_of_nodes(rt: HostRuntime) -> Result<(), Fail> {
     expect_nodes(rt.alloc(), NODES)
 }
 
-const MALFORMED: &str = "WrongKind(\"elements\")";
+const MALFORMED: &str = "WrongKind(\"elements\", 1)";
 
 const OUT_OF_BOUNDS: &str = "Guide(BadBounds(1))";
 

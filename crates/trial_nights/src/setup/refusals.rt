@@ -1,7 +1,7 @@
 //! Rows and counters that make no setup, and why.
 use super::built::{NoSetup, built_of};
 use super::examples::ACME;
-use partner_setup::{Setup, SetupFault};
+use partner_setup::{GuidesOwner, IdOwner, Setup, SetupFault};
 use std::alloc::{AllocError, Global};
 use std::test::Fail;
 
@@ -36,74 +36,74 @@ const PLAIN: Case = Case {
 const CASES: &[Case] = &[
     Case {
         name: "ACME",
-        wanted: SetupFault::SamePartner,
+        wanted: SetupFault::SamePartner(0),
         ..PLAIN
     },
     Case {
         component: "|",
-        wanted: SetupFault::BadDelimiters,
+        wanted: SetupFault::BadDelimiters(1),
         ..PLAIN
     },
     Case {
         component: "-",
-        wanted: SetupFault::BadDelimiters,
+        wanted: SetupFault::BadDelimiters(1),
         ..PLAIN
     },
     Case {
         code: "A",
-        wanted: SetupFault::BadId,
+        wanted: SetupFault::BadId(IdOwner::Partner(1)),
         ..PLAIN
     },
     Case {
         guide: "H999",
-        wanted: SetupFault::BadGuides,
+        wanted: SetupFault::BadGuides(GuidesOwner::Partner(1)),
         ..PLAIN
     },
     Case {
         to: "\"CARL\"",
-        wanted: SetupFault::BadRoute,
+        wanted: SetupFault::BadRoute(0),
         ..PLAIN
     },
     Case {
         to: "[\"BOLT\", \"CARL\"]",
-        wanted: SetupFault::BadRoute,
+        wanted: SetupFault::BadRoute(0),
         ..PLAIN
     },
     Case {
         to: "[\"BOLT\", \"ACME\", \"BOLT\"]",
-        wanted: SetupFault::BadRoute,
+        wanted: SetupFault::BadRoute(0),
         ..PLAIN
     },
     Case {
         interchange: "1000000000",
-        wanted: SetupFault::BadCounter,
+        wanted: SetupFault::BadCounter(0),
         ..PLAIN
     },
     Case {
         group: "0",
-        wanted: SetupFault::BadCounter,
+        wanted: SetupFault::BadCounter(0),
         ..PLAIN
     },
     Case {
         group: "1000000000",
-        wanted: SetupFault::BadCounter,
+        wanted: SetupFault::BadCounter(0),
         ..PLAIN
     },
     Case {
         set: "0",
-        wanted: SetupFault::BadCounter,
+        wanted: SetupFault::BadCounter(0),
         ..PLAIN
     },
     Case {
         cap: "100000",
-        wanted: SetupFault::BadCap,
+        wanted: SetupFault::BadCap(1),
         ..PLAIN
     },
     // the first of two refusals
     Case {
         component: "|",
         set: "0",
-        wanted: SetupFault::BadDelimiters,
+        wanted: SetupFault::BadDelimiters(1),
         ..PLAIN
     },
 ];
@@ -187,13 +187,13 @@ fn first_refusals(rt: HostRuntime) -> Result<(), Fail> {
 }
 
 const NUMBERS: &[(SetupFault, u32)] = &[
-    (SetupFault::SamePartner, 1),
-    (SetupFault::BadDelimiters, 2),
-    (SetupFault::BadId, 3),
-    (SetupFault::BadGuides, 4),
-    (SetupFault::BadRoute, 5),
-    (SetupFault::BadCounter, 6),
-    (SetupFault::BadCap, 7),
+    (SetupFault::SamePartner(0), 1),
+    (SetupFault::BadDelimiters(1), 2),
+    (SetupFault::BadId(IdOwner::Partner(1)), 3),
+    (SetupFault::BadGuides(GuidesOwner::Partner(1)), 4),
+    (SetupFault::BadRoute(0), 5),
+    (SetupFault::BadCounter(0), 6),
+    (SetupFault::BadCap(1), 7),
     (SetupFault::NoMemory, 8),
 ];
 

@@ -1,14 +1,11 @@
-use Rattle.std.proofs.Common.{◌+◌, drop, map, sym, ap, subst, ◌∙◌, arith, codes}
-use Rattle.toml.specs.Data.{Data, Items, depth}
+use Rattle.std.proofs.Common.{◌+◌, ℕ, List, drop, map, sym, ap, ◌∙◌, arith}
+use Rattle.toml.specs.Data.{depth}
 use Rattle.toml.specs.View.{table_view, view, items_view}
-use Rattle.guide_tree.specs.Words.{view as tree_view}
-use Rattle.guide_toml.specs.Answers.{meaning_of}
-use Rattle.toml_keys.specs.Meanings.{FailsAs}
-use Rattle.toml_keys.specs.Refusals.{wrong_kind}
+use Rattle.guide_tree.specs.Words.{view as tree_view, nodes_view, node_count, count_in}
+use Rattle.guide_tree.specs.declared.node.Node.{Node}
 use Rattle.guide_toml.specs.Guides.{node_in, nodes_in}
-use Rattle.guide_toml.proofs.Forests.{item_depth, that_table, no_table, with_front, node_fails, fault_stays, read_step}
-use Rattle.guide_toml.proofs.Forests.{read_all}
-use Rattle.toml_keys.proofs.RowSteps.{next_item}
+use Rattle.guide_toml.specs.Refused.{behind}
+use Rattle.guide_toml.proofs.Forests.{behind_more, count_push, item_depth, none_read, read_all, read_step, that_table, with_front}
 use Rattle.guide_toml.proofs.nodes.+nodes.Goals as goal
 
 pub nodes_of-node_of-requires : goal.nodes_of-node_of-requires
@@ -19,38 +16,43 @@ nodes_of-node_of-requires t c =
     let members = ap depth (that_table (view v) (table_view c.in-Some.table.now) c.in-Some.ensures) in
     (omega arith, tt)
 
+pub nodes_of-loop-value-init : goal.nodes_of-loop-value-init
+nodes_of-loop-value-init t c =
+    let all = nodes_in c.args.next.now (items_view c.args.values.now) in
+    let none = ap (λ (ns : List Node). node_count (nodes_view ns)) c.new-nodes.ensures.items in
+    record {
+      read = ap (λ (ns : List Node). with_front (map tree_view ns) all) c.new-nodes.ensures.items ∙ none_read all;
+      next = omega (arith, none);
+    }
+
 pub nodes_of-loop-value-preserved : goal.nodes_of-loop-value-preserved
 nodes_of-loop-value-preserved t c =
     let v = c.value-item.result in
-    read_step c.loop-value.nodes.items c.args.values.now c.loop-value.value-index v c.in-Ok.node
-    c.push_node.new.nodes.items (omega arith) c.value-item.is
-    (ap node_in (that_table (view v) (table_view c.in-Some.table.now) c.in-Some.ensures) ∙ c.in-Ok.ensures)
-    c.in_ok-push_node-in-Ok.ensures.ok c.loop-value.invariant
-
-pub nodes_of-returns : goal.nodes_of-returns
-nodes_of-returns t c =
-    read_all c.loop-value.nodes.items c.args.values.now c.loop-value.value-index (omega arith) c.loop-value.invariant
-
-pub nodes_of-returns-in-None : goal.nodes_of-returns-in-None
-nodes_of-returns-in-None t c =
-    let v = c.value-item.result in
     let vs = c.args.values.now in
-    let i = c.loop-value.value-index in
-    let done = map tree_view c.loop-value.nodes.items in
-    node_fails done (wrong_kind (codes "nodes")) (view v) (items_view (drop (i + 1) vs)) (nodes_in (items_view vs))
-    (no_table (view v) c.in-None.ensures)
-    (ap (λ (ds : Items). with_front done (nodes_in ds)) (sym (next_item vs i v (omega arith) c.value-item.is))
-    ∙ c.loop-value.invariant)
+    let i : ℕ = c.loop-value.value-index in
+    let old = c.loop-value.nodes.items in
+    let new = c.push_node.new.nodes.items in
+    let first : ℕ = c.loop-value.next in
+    let start : ℕ = c.args.next.now in
+    let size : ℕ = count_in (tree_view c.in-Ok.node) in
+    let read : ℕ = node_count (nodes_view old) in
+    let counted = ap (λ (ns : List Node). node_count (nodes_view ns)) c.in_ok-push_node-in-Ok.ensures.ok
+    ∙ count_push old c.in-Ok.node in
+    record {
+      read =
+          ap (λ (n : ℕ). with_front (map tree_view new) (nodes_in n (items_view (drop (i + 1) vs)))) c.in-Ok.ensures.next
+          ∙ read_step old vs i first v c.in-Ok.node new _ (omega arith) c.value-item.is
+          (ap (node_in first) (that_table (view v) (table_view c.in-Some.table.now) c.in-Some.ensures) ∙ c.in-Ok.ensures.read)
+          c.in_ok-push_node-in-Ok.ensures.ok c.loop-value.invariant.read;
+      next =
+          c.in-Ok.ensures.next
+          ∙ ap (λ (n : ℕ). behind n size) c.loop-value.invariant.next
+          ∙ behind_more start read size
+          ∙ ap (behind start) (sym counted);
+    }
 
-pub nodes_of-returns-in-Err : goal.nodes_of-returns-in-Err
-nodes_of-returns-in-Err t c =
-    let v = c.value-item.result in
-    let vs = c.args.values.now in
-    let i = c.loop-value.value-index in
-    let done = map tree_view c.loop-value.nodes.items in
-    let refused = meaning_of c.in-Err.fault in
-    fault_stays done refused (view v) (items_view (drop (i + 1) vs)) (nodes_in (items_view vs))
-    (subst (λ (d : Data). FailsAs refused (node_in d))
-    (sym (that_table (view v) (table_view c.in-Some.table.now) c.in-Some.ensures)) c.in-Err.ensures)
-    (ap (λ (ds : Items). with_front done (nodes_in ds)) (sym (next_item vs i v (omega arith) c.value-item.is))
-    ∙ c.loop-value.invariant)
+pub nodes_of-returns-clause-read : goal.nodes_of-returns-clause-read
+nodes_of-returns-clause-read t c =
+    let done = c.loop-value-test.false in
+    read_all c.loop-value.nodes.items c.args.values.now c.loop-value.value-index c.loop-value.next _ (omega (arith, done))
+    c.loop-value.invariant.read

@@ -6,18 +6,19 @@ use Rattle.guide_toml.proofs.Forests.{list_at, inner_is, depth_at, member_depth,
 use Rattle.guide_toml.proofs.nodes.inner_of.Goals as goal
 
 pub returns-in-None-clause-same : goal.returns-in-None-clause-same
-returns-in-None-clause-same c = sym (inner_is (table_view c.args.table.now) ∙ ap list_at (sym c.in-None.ensures))
+returns-in-None-clause-same c first =
+    sym (inner_is first (table_view c.args.table.now) ∙ ap (list_at first) (sym c.in-None.ensures))
 
 pub returns-in-None-as_array-clause-same : goal.returns-in-None-as_array-clause-same
-returns-in-None-as_array-clause-same c =
-    sym (inner_is (table_view c.args.table.now) ∙ ap list_at (sym c.in-Some.ensures)
-    ∙ no_list (view c.in-Some.value.now) c.in-None-as_array.ensures)
+returns-in-None-as_array-clause-same c first =
+    sym (inner_is first (table_view c.args.table.now) ∙ ap (list_at first) (sym c.in-Some.ensures)
+    ∙ no_list first (view c.in-Some.value.now) c.in-None-as_array.ensures)
 
 pub returns-in-Some-as_array-clause-same : goal.returns-in-Some-as_array-clause-same
-returns-in-Some-as_array-clause-same c =
-    ap (λ vs. nodes_in (items_view vs)) c.as_slice.ensures.value
-    ∙ that_list (view c.in-Some.value.now) _ c.in-Some-as_array.ensures
-    ∙ sym (inner_is (table_view c.args.table.now) ∙ ap list_at (sym c.in-Some.ensures))
+returns-in-Some-as_array-clause-same c first =
+    ap (λ vs. nodes_in first (items_view vs)) c.as_slice.ensures.value
+    ∙ that_list first (view c.in-Some.value.now) _ c.in-Some-as_array.ensures
+    ∙ sym (inner_is first (table_view c.args.table.now) ∙ ap (list_at first) (sym c.in-Some.ensures))
 
 pub returns-in-Some-as_array-clause-smaller : goal.returns-in-Some-as_array-clause-smaller
 returns-in-Some-as_array-clause-smaller c =
