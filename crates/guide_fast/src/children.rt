@@ -1,5 +1,6 @@
-ghost use Rattle.std.specs.Prelude.{◌≡◌, [], option_map, IfSome};
+ghost use Rattle.std.specs.Prelude.{◌≡◌, ◌≤◌, [], length, drop, option_map, IfSome};
 ghost use Rattle.x12_segs.specs.Words.{elements_of};
+ghost use Rattle.guide_tree.specs.Words.{nodes_view, fit_starts};
 ghost use Rattle.guide_fast.specs.Children.{fit_child, fit_listed};
 ghost use Rattle.loop_match.specs.Steps.{turned};
 
@@ -11,6 +12,9 @@ use loop_match::{Turn, first_id, start_of};
 use std::alloc::Global;
 use std::marker::Model;
 use x12_segs::SegView;
+
+/// How many nodes are looked at one by one: a search would cost more.
+const FEW: usize = 8;
 
 /// The nodes of one parent, with the places of each id that they begin with. Contracts see the nodes.
 #[derive(Drop)]
@@ -85,6 +89,10 @@ impl<'g> Children<'g> {
         ensures depth { IfSome result (λ t. t.depth ≡ 0) }
         ensures uses { IfSome result (λ t. t.use_no ≡ 0) }
     {
+        let nodes = self.nodes();
+        if nodes.len() - from <= FEW {
+            return start_among(nodes, from, seg);
+        }
         let children = places_from(self.index.places(seg.id()), from);
         first_fitting(self.nodes, children, seg)
     }
@@ -103,6 +111,27 @@ impl<'g> Children<'g> {
             None
         }
     }
+}
+
+/// The first child from `from` on whose start the segment fits, as a turn, child by child.
+fn start_among<'g>(nodes: &'g [Node], from: usize, seg: &SegView) -> Option<Turn<'g>>
+    requires { from ≤ length nodes.now }
+    ensures turn { option_map (turned []) result ≡ fit_starts (elements_of seg.now) from (nodes_view (drop from nodes.entry.now)) }
+    ensures depth { IfSome result (λ t. t.depth ≡ 0) }
+    ensures uses { IfSome result (λ t. t.use_no ≡ 0) }
+{
+    for k in from..nodes.len() {
+        if let Some(start) = start_of(&nodes[k], seg) {
+            return Some(Turn {
+                depth: 0,
+                child: k,
+                use_no: 0,
+                into_loop: start.into_loop,
+                slot: start.slot,
+            });
+        }
+    }
+    None
 }
 
 /// The turn to a child, if the segment fits its start.

@@ -10,8 +10,9 @@
 //! `FastGuide::is_silent` says whether nothing is told between the last place and the next: it is so exactly where `step_faults` has
 //! no fault.
 //!
-//! The cost of a next place is, for each loop round the last one, a search in an ordered map of the ids that its nodes begin with,
-//! a search in the list of the nodes with that id, and a look at each of these that comes behind and doesn't fit by its picks.
+//! The cost of a next place is, for each loop round the last one, a look at each of the nodes that come behind where these are at
+//! most eight, and else a search in an ordered map of the ids that its nodes begin with, a search in the list of the nodes with that
+//! id, and a look at each of these that comes behind and doesn't fit by its picks.
 //! Whether a step is silent takes some differences of counts for each loop. Memory and the building follow the nodes and the
 //! dictionary, but for the logarithm of an ordered map. These costs aren't proved.
 //!
