@@ -1,5 +1,5 @@
 -- What clap found in the words is what the definitions say of them.
-use Rattle.std.proofs.Common.{◌≡◌, ◌⊎◌, ◌∙◌, ℕ, List, Some, true, codes, inl, inr, refl, sym, ap, subst}
+use Rattle.std.proofs.Common.{◌≡◌, ◌⊎◌, ◌∙◌, ℕ, List, Some, true, codes, inl, inr, refl, String, sym, ap, subst}
 use Rattle.clap.specs.Words.{HasKind, HasMatchesOf, IsAmong, Text, fault_of, first_of, first_value, found_of}
 use Rattle.clap.specs.Words.{is_simple, is_simple_and_free, kind_of, takes}
 use Rattle.clap.specs.declared.error.Error.{Error}
@@ -8,7 +8,9 @@ use Rattle.clap.specs.declared.error.kind.ErrorKind.TheVariants.{DisplayHelp, Di
 use Rattle.clap.specs.declared.parser.matches.ArgMatches.{ArgMatches}
 use Rattle.clap.proofs.OnLiterals.{clap_on_literals}
 use Rattle.clap.proofs.WalkLemmas.{first_value-rows}
-use Rattle.explain_command.specs.CommandLine.{IsAsked, IsGiven, IsShown, explain_app, value_of}
+use Rattle.std.specs.declared.alloc.Global.{Global}
+use Rattle.std.specs.Borrow.{Bor}
+use Rattle.explain_command.specs.CommandLine.{AsksForText, IsAsked, IsGiven, IsShown, NamesFile, explain_app, value_of}
 use Rattle.explain_command.specs.declared.command.Asked.{Asked}
 use Rattle.explain_command.specs.declared.command.Asked.TheVariants.{Explain, Show}
 
@@ -47,3 +49,12 @@ pub shown : (words : List Text) (e : Error) (asked : Asked) → HasKind (fault_o
 shown words e (Explain path) kind passes is = absurd is
 shown words e (Show text) kind passes is =
     record { asked = asked_by words e kind is; no_run = λ taken. no_memory (kind_of e) is (passes taken) }
+
+-- the file that is asked for is the one that the words name
+pub file_named : (words : List Text) (asked : Asked) (path : Bor (List ℕ)) → asked ≡ Explain path → IsAsked words asked
+    → NamesFile words path.now
+file_named words asked path is by = subst (λ (a : Asked). IsAsked words a) is by
+
+-- the text that is asked for isn't shown in place of a file
+pub text_asked : (words : List Text) (asked : Asked) (text : String Global) → asked ≡ Show text → IsAsked words asked → AsksForText words
+text_asked words asked text is by = subst (λ (a : Asked). IsAsked words a) is by

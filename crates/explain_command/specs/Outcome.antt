@@ -10,7 +10,7 @@ use Rattle.explain_command.specs.CommandLine.{AsksForText, NamesFile}
 -- these lines say in words what the acknowledgments of some text tell, which is all that a reader told, where it told it
 pub record IsExplanationOf (told : Option (List ℕ)) (lines : List ℕ) : Type 0 where
   pub text : List ℕ
-  pub told_all : IfSome told (λ xs. xs ≡ text)
+  pub told_all : IfSome told (λ xs. text ≡ xs)
   pub found : List Told
   pub read : AreToldBy text found
   pub said : lines ≡ explanation found

@@ -1,4 +1,4 @@
-ghost use Rattle.std.specs.Prelude.{◌≡◌, OnOk};
+ghost use Rattle.std.specs.Prelude.{◌≡◌, ◌++◌, OnOk, codes};
 ghost use Rattle.std.specs.Io.KnownBytes.{Appends};
 ghost use Rattle.std.specs.IoError.{error_kind};
 ghost use Rattle.explain_command.specs.Failure.{IsMemoryOr, line_of, status_of, subject_of};
@@ -52,6 +52,12 @@ impl Failure {
         ensures { OnOk result (Appends (E.contents err.old) (E.contents err.new) (line_of self)) }
     {
         err.write_all(b"nighthub_explain: ")?;
+        self.print_subject(err)
+    }
+
+    fn print_subject<E: Write>(self, err: &mut E) -> io::Result<()>
+        ensures { OnOk result (Appends (E.contents err.old) (E.contents err.new) (subject_of self ++ codes "\n")) }
+    {
         err.write_all(self.subject().as_bytes())?;
         err.write_all(b"\n")
     }
