@@ -1,5 +1,5 @@
 -- What clap found in the words is what the definitions say of them.
-use Rattle.std.proofs.Common.{◌≡◌, ◌⊎◌, ◌∙◌, ℕ, List, Some, true, codes, inl, inr, refl, String, sym, ap, subst}
+use Rattle.std.proofs.Common.{◌≡◌, ◌⊎◌, ◌∙◌, ℕ, List, true, codes, inl, inr, refl, String, sym, ap, subst}
 use Rattle.clap.specs.Words.{HasKind, HasMatchesOf, IsAmong, Text, fault_of, first_of, first_value, found_of}
 use Rattle.clap.specs.Words.{is_simple, is_simple_and_free, kind_of, takes}
 use Rattle.clap.specs.declared.error.Error.{Error}

@@ -1,5 +1,5 @@
 -- The program's results (own): what is printed.
-use Rattle.std.specs.Prelude.{◌≡◌, ℕ, List, Option, None, IfSome, string_bytes}
+use Rattle.std.specs.Prelude.{◌≡◌, ℕ, List, Option, None, IfSome}
 use Rattle.std.specs.Io.KnownBytes.{Appends}
 use Rattle.ack_read.specs.Words.{AreToldBy}
 use Rattle.ack_read.specs.declared.told.Told.{Told}
