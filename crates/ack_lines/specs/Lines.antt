@@ -1,6 +1,6 @@
 -- Own: the lines that say in words what an acknowledgment tells (X12.5, TA1; 999 guide, AK1 to AK9): one for each TA1, for each group and
 -- set that isn't accepted one a fault, and a last one of totals.
-use Rattle.std.specs.Prelude.{ℕ, ◌+◌, ◌==◌, Bool, true, false, not, ◌&&◌, List, [], ◌∷◌, ◌++◌, codes, decimal, if◌then◌else◌}
+use Rattle.std.specs.Prelude.{ℕ, Bool, true, false, ◌&&◌, List, [], ◌∷◌, ◌++◌, codes, decimal, if◌then◌else◌}
 use Rattle.std.specs.List.{count_by, flat_map}
 use Rattle.std.specs.Str.{bytes_eq}
 use Rattle.hub_kinds.specs.Words as texts

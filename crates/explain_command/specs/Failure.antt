@@ -1,0 +1,55 @@
+-- The program's failures (own): the line that each prints, and the status that it ends with.
+use Rattle.std.specs.Prelude.{ℕ, ◌≡◌, ◌≢◌, List, ◌++◌, Option, IfSome, codes}
+use Rattle.std.specs.declared.io.ErrorKind.{ErrorKind}
+use Rattle.std.specs.declared.io.ErrorKind.TheVariants.{OutOfMemory}
+use Rattle.ack_read.specs.Words.{IsRefused}
+use Rattle.ack_read.specs.declared.fault.ReadFault.{ReadFault}
+use Rattle.ack_read.specs.declared.fault.ReadFault.TheVariants as fault
+use Rattle.explain_command.specs.declared.failure.Failure.{Failure}
+use Rattle.explain_command.specs.declared.failure.Failure.TheVariants as failure
+
+-- what failed
+abbrev pub subject_of : Failure → List ℕ
+subject_of failure.Usage = codes "usage"
+subject_of failure.Input = codes "input"
+subject_of failure.NoHeader = codes "input 1"
+subject_of failure.TellsNothing = codes "input 2"
+subject_of failure.Stdout = codes "output stdout"
+subject_of failure.Memory = codes "memory"
+
+-- the line on standard error
+abbrev pub line_of : Failure → List ℕ
+line_of f = codes "nighthub_explain: " ++ (subject_of f ++ codes "\n")
+
+abbrev pub status_of : Failure → ℕ
+status_of failure.Usage = 2
+status_of failure.Input = 4
+status_of failure.NoHeader = 4
+status_of failure.TellsNothing = 4
+status_of failure.Stdout = 5
+status_of failure.Memory = 6
+
+-- what a text fails by that isn't read as acknowledgments
+abbrev pub read_failure : ReadFault → Failure
+read_failure fault.NoHeader = failure.NoHeader
+read_failure fault.TellsNothing = failure.TellsNothing
+read_failure fault.NoMemory = failure.Memory
+
+-- what reading the words may fail by
+abbrev pub IsOfWords : Failure → Type 0
+IsOfWords failure.Usage = Unit {0}
+IsOfWords failure.Memory = Unit {0}
+IsOfWords _ = ⊥
+
+-- what the bytes of a reader may fail by: those that it told of itself, where it told them, are no acknowledgments
+abbrev pub IsOfInput : (told : Option (List ℕ)) → Failure → Type 0
+IsOfInput told failure.Input = Unit {0}
+IsOfInput told failure.NoHeader = IfSome told (λ text. IsRefused text fault.NoHeader)
+IsOfInput told failure.TellsNothing = IfSome told (λ text. IsRefused text fault.TellsNothing)
+IsOfInput told failure.Memory = Unit {0}
+IsOfInput told _ = ⊥
+
+-- a fault of the system is want of memory, or stands for another failure
+pub record IsMemoryOr (kind : ErrorKind) (other failed : Failure) : Type 0 where
+  pub memory : kind ≡ OutOfMemory → failed ≡ failure.Memory
+  pub other_fault : kind ≢ OutOfMemory → failed ≡ other

@@ -1,0 +1,97 @@
+ghost use Rattle.std.specs.Prelude.{◌≡◌, ◌≢◌, Some, false, codes, map, IfOk, IfErr, IsErrOf, List, ℕ};
+ghost use Rattle.clap.specs.Words.{app_of, first_value, found_of, kind_of, rule_of, with_rule};
+ghost use Rattle.explain_command.specs.CommandLine.{IsAsked, IsCommandLine, IsGiven, IsShown, explain_app, file_rule};
+ghost use Rattle.explain_command.specs.Failure.{IsOfWords};
+
+use crate::failure::Failure;
+use clap::error::ErrorKind;
+use clap::{Arg, ArgAction, ArgMatches, Command, Error};
+use std::alloc::{AllocError, Global};
+use std::convert::AsStr;
+
+/// What stands behind the options in the text of `--help`.
+const STATUSES: &str = "Status:
+  0  the acknowledgments are explained
+  2  usage
+  4  the file can't be read, or holds no acknowledgments
+  5  standard output
+  6  no memory";
+
+/// What the words ask for.
+#[derive(Debug, Drop)]
+pub enum Asked<'a> {
+    /// To explain the acknowledgments in the file at this path.
+    Explain(&'a str),
+    /// To show a text: help, or the version.
+    Show(String),
+}
+
+/// Reads the words, which are the program's arguments without its name.
+pub fn read_words<'a, S: AsStr>(alloc: Global, words: &'a [S]) -> Result<Asked<'a>, Failure>
+    ensures asked { IfOk result (IsAsked (map S.text words.now)) }
+    ensures usage { IsErrOf result Failure.Usage → IsCommandLine (map S.text words.now) → ⊥ }
+    ensures err { IfErr result IsOfWords }
+{
+    let command = command(alloc)?;
+    match command.try_get_matches_from(words) {
+        Ok(matches) => explain_asked(&matches),
+        Err(error) => shown(alloc, &error),
+    }
+}
+
+fn command<'a>(alloc: Global) -> Result<Command<'a>, AllocError>
+    ensures { IfOk result (λ command. app_of command ≡ explain_app) }
+{
+    let command = Command::new(alloc, "nighthub_explain")
+        .about("Says in words what a partner's acknowledgments tell")
+        .version("0.1.0")
+        .after_help(STATUSES)
+        .no_binary_name(true);
+    with_file(command, file(alloc))
+}
+
+fn with_file<'a>(command: Command<'a>, file: Arg<'a>) -> Result<Command<'a>, AllocError>
+    requires { file.global ≡ false }
+    ensures { IfOk result (λ more. app_of more ≡ with_rule (app_of command.entry) (rule_of file.entry)) }
+{
+    command.arg(file)
+}
+
+/// The file of acknowledgments, which is wanted.
+fn file<'a>(alloc: Global) -> Arg<'a>
+    ensures rule { rule_of result ≡ file_rule }
+    ensures local { result.global ≡ false }
+{
+    Arg::new(alloc, "file")
+        .value_name("NAME.ack")
+        .help("A partner's acknowledgments, as nighthub writes them")
+        .required(true)
+        .action(ArgAction::Set)
+}
+
+fn explain_asked<'a>(matches: &ArgMatches<'a>) -> Result<Asked<'a>, Failure>
+    ensures given { IfOk result (IsGiven (found_of matches.now)) }
+    ensures usage { IsErrOf result Failure.Usage → (path : List ℕ) → first_value (found_of matches.now) (codes "file") ≡ Some path → ⊥ }
+    ensures err { IfErr result IsOfWords }
+{
+    match matches.get_str("file") {
+        Some(path) => Ok(Asked::Explain(path)),
+        None => Err(Failure::Usage),
+    }
+}
+
+/// The text that is asked for, where the words have no mistake.
+fn shown<'a>(alloc: Global, error: &Error) -> Result<Asked<'a>, Failure>
+    ensures shown { IfOk result (IsShown (kind_of error.now)) }
+    ensures usage { IsErrOf result Failure.Usage → kind_of error.now ≢ ErrorKind.OutOfMemory }
+    ensures err { IfErr result IsOfWords }
+{
+    match error.kind() {
+        ErrorKind::DisplayHelp | ErrorKind::DisplayVersion => {
+            let text = format!(in alloc; "{error}")?;
+            Ok(Asked::Show(text))
+        }
+        ErrorKind::OutOfMemory => Err(Failure::Memory),
+        _ => Err(Failure::Usage),
+    }
+}

@@ -1,0 +1,119 @@
+ghost use Rattle.std.specs.Prelude.{◌≡◌, ◌≢◌, ◌≤◌, ◌⊎◌, ℕ, List, None, IfOk, IfErr, IfSome, OnOk, map};
+ghost use Rattle.std.specs.Io.KnownBytes.{Appends};
+ghost use Rattle.explain_command.specs.CommandLine.{AsksForText, IsCommandLine, NamesFile};
+ghost use Rattle.explain_command.specs.Failure.{IsOfInput};
+ghost use Rattle.explain_command.specs.Outcome.{IsExplanationOf, IsOutcome, IsPrinted};
+
+use crate::command::{Asked, read_words};
+use crate::failure::Failure;
+use ack_lines::explanation;
+use ack_read::read_acknowledgments;
+use std::alloc::Global;
+use std::convert::AsStr;
+use std::io::{Read, Write};
+use std::rt::Files;
+use std::{fs, io};
+
+/// Runs the program on these words, its arguments without its name, and gives its exit status: 0 where it has printed the lines on a
+/// file of acknowledgments, or a text that was asked for; otherwise the status of the failure whose line it has printed on `err`.
+pub fn explain_main<R, S, O, E>(rt: &R, words: &[S], out: &mut O, err: &mut E) -> u8
+where
+    R: Files + AllocGlobal,
+    S: AsStr,
+    O: Write,
+    E: Write,
+    ensures status { result ≤ 6 }
+    ensures silent { 2 ≤ result → result ≢ 5 → out.new ≡ out.old }
+    ensures quiet { result ≡ 0 → err.new ≡ err.old }
+    ensures usage { result ≡ 2 → IsCommandLine (map S.text words.now) → ⊥ }
+    ensures input { result ≡ 4 → (path : List ℕ) × NamesFile (map S.text words.now) path }
+    ensures printed { result ≤ 1 → IsOutcome (map S.text words.now) (O.contents out.old) (O.contents out.new) }
+{
+    match read_words(rt.alloc(), words) {
+        Ok(Asked::Explain(path)) => explain_file(rt, path, out, err),
+        Ok(Asked::Show(text)) => finish(text.as_bytes(), out, err),
+        Err(mistake) => mistake.report(err),
+    }
+}
+
+/// Explains the acknowledgments in the file at a path.
+fn explain_file<R, O, E>(rt: &R, path: &str, out: &mut O, err: &mut E) -> u8
+where
+    R: Files + AllocGlobal,
+    O: Write,
+    E: Write,
+    ensures status { result ≤ 6 }
+    ensures words { result ≢ 2 }
+    ensures silent { 2 ≤ result → result ≢ 5 → out.new ≡ out.old }
+    ensures quiet { result ≡ 0 → err.new ≡ err.old }
+    ensures printed { result ≤ 1 → IsPrinted None (O.contents out.old) (O.contents out.new) }
+{
+    match fs::open(rt, path) {
+        Ok(file) => give_explanation(rt.alloc(), file, out, err),
+        Err(error) => Failure::of_fault(error, Failure::Input).report(err),
+    }
+}
+
+/// Explains the acknowledgments that a reader gives: prints the lines on them on `out` and gives 0. Where that fails, the status of the
+/// failure, whose line is on `err`.
+pub fn give_explanation<I, O, E>(alloc: Global, input: I, out: &mut O, err: &mut E) -> u8
+where
+    I: Read + Drop,
+    O: Write,
+    E: Write,
+    ensures status { result ≤ 6 }
+    ensures words { result ≢ 2 }
+    ensures silent { 2 ≤ result → result ≢ 5 → out.new ≡ out.old }
+    ensures quiet { result ≡ 0 → err.new ≡ err.old }
+    ensures printed { result ≤ 1 → IsPrinted (I.remaining input) (O.contents out.old) (O.contents out.new) }
+{
+    match explained(alloc, input) {
+        Ok(lines) => finish(lines.as_slice(), out, err),
+        Err(failure) => failure.report(err),
+    }
+}
+
+/// The lines on the acknowledgments that a reader gives.
+pub fn explained<I: Read + Drop>(alloc: Global, input: I) -> Result<Vec<u8>, Failure>
+    ensures lines { IfOk result (λ lines. IsExplanationOf (I.remaining input) lines.items) }
+    ensures refused { IfErr result (IsOfInput (I.remaining input)) }
+{
+    match read_whole(alloc, input) {
+        Ok(text) => {
+            let found = read_acknowledgments(alloc, text.as_slice())?;
+            Ok(explanation(alloc, found.as_slice())?)
+        }
+        Err(error) => Err(Failure::of_fault(error, Failure::Input)),
+    }
+}
+
+/// All bytes of a reader.
+fn read_whole<I: Read + Drop>(alloc: Global, input: I) -> io::Result<Vec<u8>>
+    ensures { IfOk result (λ text. IfSome (I.remaining input) (λ bytes. text.items ≡ bytes)) }
+{
+    let mut input = input;
+    let mut text = Vec::new(alloc);
+    input.read_to_end(&mut text)?;
+    Ok(text)
+}
+
+/// Prints a text on standard output, and nothing else, where the writer tells what it has. Gives 0, or the status of a failure of
+/// standard output.
+fn finish<O: Write, E: Write>(text: &[u8], out: &mut O, err: &mut E) -> u8
+    ensures status { (result ≡ 0) ⊎ (result ≡ 5) }
+    ensures printed { result ≢ 5 → Appends (O.contents out.old) (O.contents out.new) text.now }
+    ensures quiet { result ≢ 5 → err.new ≡ err.old }
+{
+    if print(text, out).is_err() {
+        return Failure::Stdout.report(err);
+    }
+    0
+}
+
+/// Writes a text, and sees that it is out.
+fn print<O: Write>(text: &[u8], out: &mut O) -> io::Result<()>
+    ensures { OnOk result (Appends (O.contents out.old) (O.contents out.new) text.now) }
+{
+    out.write_all(text)?;
+    out.flush()
+}
