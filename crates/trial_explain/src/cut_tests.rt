@@ -26,11 +26,11 @@ fn before_last_line(lines: &[u8]) -> usize {
 
 /// What is told of a front part is told of the whole, but for the totals; a front part that tells nothing is refused.
 fn expect_front(alloc: Global, cut: usize) -> Result<(), Fail> {
-    let answer = lines_on(alloc, &TOLD[..cut]);
+    let answer = lines_on(alloc, TOLD.get(..cut).unwrap_or(TOLD));
     let holds = match &answer {
         Ok(lines) => {
             let end = before_last_line(lines.as_slice());
-            cut >= 138 && LINES.starts_with(&lines[..end])
+            cut >= 138 && LINES.starts_with(lines.as_slice().get(..end).unwrap_or(b""))
         }
         Err(Failure::NoHeader) => cut < 106,
         Err(Failure::TellsNothing) => 106 <= cut && cut < 138,
