@@ -1,0 +1,136 @@
+//! Acknowledgments as they are written, cut at each byte, and texts that are none.
+use crate::examples::{LINES, TOLD};
+use crate::readers::{lines_on, same};
+use explain_command::Failure;
+use std::alloc::Global;
+use std::test::Fail;
+
+#[test]
+fn says_what_is_told(rt: HostRuntime) -> Result<(), Fail> {
+    match lines_on(rt.alloc(), TOLD) {
+        Ok(lines) => same(rt.alloc(), lines.as_slice(), LINES),
+        Err(_) => Err("refused".into()),
+    }
+}
+
+/// Up to where the last line of a text begins.
+fn before_last_line(lines: &[u8]) -> usize {
+    let mut begin = 0;
+    for at in 1..lines.len() {
+        if lines[at - 1] == b'\n' {
+            begin = at;
+        }
+    }
+    begin
+}
+
+/// What is told of a front part is told of the whole, but for the totals; a front part that tells nothing is refused.
+fn expect_front(alloc: Global, cut: usize) -> Result<(), Fail> {
+    let answer = lines_on(alloc, TOLD.get(..cut).unwrap_or(TOLD));
+    let holds = match &answer {
+        Ok(lines) => {
+            let end = before_last_line(lines.as_slice());
+            cut >= 138 && LINES.starts_with(lines.as_slice().get(..end).unwrap_or(b""))
+        }
+        Err(Failure::NoHeader) => cut < 106,
+        Err(Failure::TellsNothing) => 106 <= cut && cut < 138,
+        Err(_) => false,
+    };
+    if holds {
+        return Ok(());
+    }
+    Err(Fail::new(format!(in alloc; "cut at {cut}")?))
+}
+
+#[test]
+fn takes_acknowledgments_cut_at_each_byte(rt: HostRuntime) -> Result<(), Fail> {
+    for cut in 0..TOLD.len() {
+        expect_front(rt.alloc(), cut)?;
+    }
+    Ok(())
+}
+
+/// Texts that begin with no header.
+const HEADLESS: &[&[u8]] = &[
+    b"",
+    b"ISA",
+    b"TA1*000000007*260228*0900*A*000~",
+    b" ISA*00*          *00*          *ZZ*HUB            *01*ACME           *260301*1530*^*00501*000000001*0*P*>~TA1*1~",
+    b"ISA*00*          *00*          *ZZ*HUB            *01*ACME           *260301*1530*^*00501*000000001*0*P**~TA1*1~",
+];
+
+/// Segments behind a header that tell nothing.
+const SILENT: &[&[u8]] = &[
+    b"",
+    b"IEA*0*000000001~",
+    b"GS*PO*ACME*BOLT*20260228*0900*12*X*005010~ST*850*0001~SE*2*0001~GE*1*12~IEA*1*000000001~",
+    b"AK1*PO*12~AK2*850*0001~IK3*BEG*2**8~IK4*1*353*7~",
+    b"IK5*R",
+    b"TA1X*1~ta1*1~ IK5*R~IK50*R~AK99*R~",
+];
+
+const HEADER: &[u8] =
+    b"ISA*00*          *00*          *ZZ*HUB            *01*ACME           *260301*1530*^*00501*000000001*0*P*>~";
+
+#[test]
+fn refuses_texts_that_are_no_acknowledgments(rt: HostRuntime) -> Result<(), Fail> {
+    for text in HEADLESS {
+        let answer = lines_on(rt.alloc(), text);
+        assert!(rt; matches!(&answer, Err(Failure::NoHeader)), "a header");
+    }
+    for segments in SILENT {
+        let mut text = Vec::from_slice(rt.alloc(), HEADER)?;
+        text.extend_from_slice(segments)?;
+        let answer = lines_on(rt.alloc(), text.as_slice());
+        assert!(rt;
+            matches!(&answer, Err(Failure::TellsNothing)),
+            "something told"
+        );
+    }
+    Ok(())
+}
+
+/// Segments of other hands, and the lines on them: what is out of its place, codes that no list has, bytes that don't print, and texts
+/// that are cut to 99 bytes.
+const FOREIGN: &[(&[u8], &[u8])] = &[
+    (
+        b"IK5*R~",
+        b"interchange 1, group  ,  : rejected (IK501 R)\ntotal ta1s 0 groups 0 sets 1 accepted 0\n",
+    ),
+    (
+        b"AK1*PO*12~AK2*850*0001~IK5*M**~AK9*X*1~",
+        b"interchange 1, group PO 12, 850 0001: a code that this hub doesn't write (IK501 M)
+interchange 1, group PO 12: a code that this hub doesn't write (AK901 X)
+total ta1s 0 groups 1 sets 1 accepted 0
+",
+    ),
+    (
+        b"AK2*850*0001~IK3*BEG*2**8~IK5*R**5~",
+        b"interchange 1, group  , 850 0001: rejected: segment 2 BEG: something is wrong with its elements (IK304 8)
+interchange 1, group  , 850 0001: rejected: a segment or element fault whose code has no I (IK502 5)
+total ta1s 0 groups 0 sets 1 accepted 0
+",
+    ),
+    (
+        b"TA1*\x1b\xff*260228*0900*A*999~AK2*850*0001~IK4*2>3*98*7*12345678901234567890123456789012345678901234567890123456789012345678901234567890123456789012345678901~IK5*E*I5~",
+        b"interchange 1, TA1 ??: accepted (TA104 A): a code that this hub doesn't write (TA105 999)
+interchange 1, group  , 850 0001: accepted with errors: segment  , element 2, component 3 (98): a code that the row doesn't list (IK403 7): \
+123456789012345678901234567890123456789012345678901234567890123456789012345678901234567890123456789
+interchange 1, group  , 850 0001: accepted with errors: a segment or element fault whose code has an I (IK502 I5)
+total ta1s 1 groups 0 sets 1 accepted 1
+",
+    ),
+];
+
+#[test]
+fn takes_segments_of_other_hands(rt: HostRuntime) -> Result<(), Fail> {
+    for (segments, lines) in FOREIGN {
+        let mut text = Vec::from_slice(rt.alloc(), HEADER)?;
+        text.extend_from_slice(segments)?;
+        match lines_on(rt.alloc(), text.as_slice()) {
+            Ok(found) => same(rt.alloc(), found.as_slice(), lines)?,
+            Err(_) => return Err("refused".into()),
+        }
+    }
+    Ok(())
+}

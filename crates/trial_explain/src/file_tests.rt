@@ -1,0 +1,82 @@
+//! Files and words.
+use crate::examples::{LINES, TOLD};
+use crate::readers::same;
+use explain_command::explain_main;
+use std::fs;
+use std::rt::Files;
+use std::test::Fail;
+
+/// What a run gave: its status, and what it printed on standard output and standard error.
+type Answer = (u8, Vec<u8>, Vec<u8>);
+
+fn ran<R: Files + AllocGlobal>(rt: &R, words: &[&str]) -> Answer {
+    let mut out = Vec::new(rt.alloc());
+    let mut err = Vec::new(rt.alloc());
+    let status = explain_main(rt, words, &mut out, &mut err);
+    (status, out, err)
+}
+
+/// Whether a run gave this status, and printed this on standard output and on standard error.
+fn expect<R: Files + AllocGlobal>(
+    rt: &R,
+    words: &[&str],
+    status: u8,
+    out: &[u8],
+    err: &[u8],
+) -> Result<(), Fail> {
+    let answer = ran(rt, words);
+    same(rt.alloc(), answer.1.as_slice(), out)?;
+    same(rt.alloc(), answer.2.as_slice(), err)?;
+    if answer.0 != status {
+        return Err(Fail::new(format!(in rt.alloc(); "status {}", answer.0)?));
+    }
+    Ok(())
+}
+
+/// Files that aren't explained, and the line on each.
+const REFUSED: &[(&[u8], &[u8])] = &[
+    (b"", b"nighthub_explain: input 1\n"),
+    (
+        b"TA1*000000007*260228*0900*A*000~",
+        b"nighthub_explain: input 1\n",
+    ),
+    (
+        b"ISA*00*          *00*          *ZZ*HUB            *01*ACME           *260301*1530*^*00501*000000001*0*P*>~",
+        b"nighthub_explain: input 2\n",
+    ),
+];
+
+#[test]
+fn explains_a_file(rt: HostRuntime) -> Result<(), Fail> {
+    fs::write(&rt, "explained.ack", TOLD)?;
+    expect(&rt, &["explained.ack"], 0, LINES, b"")?;
+    for (text, line) in REFUSED {
+        fs::write(&rt, "explained.ack", *text)?;
+        expect(&rt, &["explained.ack"], 4, b"", line)?;
+    }
+    fs::remove_file(&rt, "explained.ack")?;
+    expect(
+        &rt,
+        &["explained.ack"],
+        4,
+        b"",
+        b"nighthub_explain: input\n",
+    )
+}
+
+/// Words that are no command line.
+const NO_COMMAND_LINES: &[&[&str]] = &[&[], &["a.ack", "b.ack"], &["--in", "a.ack"], &["-x"]];
+
+#[test]
+fn says_what_the_words_must_be(rt: HostRuntime) -> Result<(), Fail> {
+    for words in NO_COMMAND_LINES {
+        expect(&rt, words, 2, b"", b"nighthub_explain: usage\n")?;
+    }
+    let help = ran(&rt, &["--help"]);
+    assert!(rt; help.0 == 0 && help.2.is_empty(), "help failed");
+    assert!(rt;
+        help.1.as_slice().starts_with(b"Says in words what"),
+        "another help"
+    );
+    expect(&rt, &["--version"], 0, b"nighthub_explain 0.1.0\n", b"")
+}

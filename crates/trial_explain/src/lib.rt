@@ -1,0 +1,18 @@
+//! Trials of `explain_command`: each code in its words; texts that are no acknowledgments, and acknowledgments cut at each byte; files and
+//! words; and readers and writers, failing at each call in turn.
+//!
+//! Nothing is proved here but that the trials are safe and end.
+#![tactic(auto)]
+
+#[cfg(test)]
+mod code_tests;
+#[cfg(test)]
+mod cut_tests;
+#[cfg(test)]
+mod examples;
+#[cfg(test)]
+mod fault_tests;
+#[cfg(test)]
+mod file_tests;
+#[cfg(test)]
+mod readers;
