@@ -18,27 +18,28 @@ use Rattle.worker_pool.specs.contracts.job.SetJob as set_job
 use Rattle.worker_pool.specs.declared.checks.Checks as checks
 use Rattle.x12_segs.proofs.set_span.SetSpan.TheSendSync as span
 
-set_job_sync : (κ κ' : NamedLft) → IsSync (set_job.the_field κ κ').row
-set_job_sync κ κ' = search (fast_sync, span.the_field_sync, crosses, sendable) depth 60 fits 20000
+set_job_sync : (κ κ' κ'' : NamedLft) → IsSync (set_job.the_field κ κ' κ'').row
+set_job_sync κ κ' κ'' = search (fast_sync, span.the_field_sync, crosses, sendable) depth 60 fits 20000
 
-job_sync : (κ κ' : NamedLft) → IsSync (job.the_field κ κ').row
-job_sync κ κ' = search (set_job_sync, crosses, sendable) depth 60 fits 20000
+job_sync : (κ κ' κ'' : NamedLft) → IsSync (job.the_field κ κ' κ'').row
+job_sync κ κ' κ'' = search (set_job_sync, crosses, sendable) depth 60 fits 20000
 
-job_row_sync : (κ κ' : NamedLft) → IsSync (job.the_row κ κ')
-job_row_sync κ κ' = recorded_sync (job.the_field κ κ').row _ _ (job.the_type κ κ').to_one (job_sync κ κ')
+job_row_sync : (κ κ' κ'' : NamedLft) → IsSync (job.the_row κ κ' κ'')
+job_row_sync κ κ' κ'' =
+    recorded_sync (job.the_field κ κ' κ'').row _ _ (job.the_type κ κ' κ'').to_one (job_sync κ κ' κ'')
 
-pub checking_sync : (a a' a'' a'3 : NamedLft) (T T' T'' : RattleType) (g : named.Ghosts T.Denot) (g' : ledger.Ghosts T.Denot)
-    (g'' : checks.Ghosts T''.Denot) → IsSync T' → IsSync (checking.the_row a a' a'' a'3 T T' T'' g g' g'')
-checking_sync a a' a'' a'3 T T' T'' g g' g'' s =
-    view_sync (checking_inside.the_row a a' a'' a'3 T T' T'' g g' g'') _ _ _ _
-    (recorded_sync (checking_inside.the_field a a' a'' a'3 T T' T'' g g' g'').row _ _
-    (checking_inside.the_type a a' a'' a'3 T T' T'' g g' g'').to_one
-    (struct_sync (Declared.shape (checking_inside.the_type a a' a'' a'3 T T' T'' g g' g'')) (
+pub checking_sync : (a a' a'' a'3 a'4 : NamedLft) (T T' T'' : RattleType) (g : named.Ghosts T.Denot) (g' : ledger.Ghosts T.Denot)
+    (g'' : checks.Ghosts T''.Denot) → IsSync T' → IsSync (checking.the_row a a' a'' a'3 a'4 T T' T'' g g' g'')
+checking_sync a a' a'' a'3 a'4 T T' T'' g g' g'' s =
+    view_sync (checking_inside.the_row a a' a'' a'3 a'4 T T' T'' g g' g'') _ _ _ _
+    (recorded_sync (checking_inside.the_field a a' a'' a'3 a'4 T T' T'' g g' g'').row _ _
+    (checking_inside.the_type a a' a'' a'3 a'4 T T' T'' g g' g'').to_one
+    (struct_sync (Declared.shape (checking_inside.the_type a a' a'' a'3 a'4 T T' T'' g g' g'')) (
       global.the_field_sync,
       (
-        shr_slice_sync _ _ (job.the_row a' a'3) (job_row_sync a' a'3),
+        shr_slice_sync _ _ (job.the_row a' a'' a'4) (job_row_sync a' a'' a'4),
         (
-          shr_sync _ _ (record_lock.the_row a'' a'3 T g g') (lock.the_sync a'' a'3 T g g'),
+          shr_sync _ _ (record_lock.the_row a'3 a'4 T g g') (lock.the_sync a'3 a'4 T g g'),
           (shr_sync _ _ T' s, (phantom.the_field_sync T'', tt)),
         ),
       ),

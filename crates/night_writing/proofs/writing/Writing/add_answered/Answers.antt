@@ -6,7 +6,7 @@ use Rattle.night_writing.specs.Writing.{IsBatchWritten, WritingValue, with_outsi
 use Rattle.night_writing.proofs.writing.Writing.add_answered.Goals as goal
 
 pub returns-then-is_empty : goal.returns-then-is_empty
-returns-then-is_empty c =
+returns-then-is_empty g c =
     let none : length c.args.index.now.entries ≡ 0 =
     ap (λ (es : List IndexEntry). length es) (sym c.interchanges.ensures.value)
     ∙ eqb-true (length c.interchanges.result.now) 0 (sym c.is_empty.ensures ∙ c.if-is_empty.true) in

@@ -9,7 +9,7 @@ use Rattle.night_writing.specs.Writing.{IsBatchWritten, WritingValue}
 use Rattle.night_writing.proofs.writing.Writing.add_interchanges.Goals as goal
 
 pub returns : goal.returns
-returns c =
+returns g c =
     let text : List ℕ = c.args.index.now.text in
     let setup : SetupValue = c.args.setup.now in
     let at : List ℕ = c.args.at.now in
