@@ -1,5 +1,5 @@
 -- The program's failures (own): the line that each prints, and the status that it ends with.
-use Rattle.std.specs.Prelude.{ℕ, ◌≡◌, ◌≢◌, List, ◌++◌, Option, IfSome, codes}
+use Rattle.std.specs.Prelude.{ℕ, ◌≡◌, ◌≢◌, ◌==◌, ◌||◌, IsTrue, List, ◌++◌, Option, IfSome, codes}
 use Rattle.std.specs.declared.io.ErrorKind.{ErrorKind}
 use Rattle.std.specs.declared.io.ErrorKind.TheVariants.{OutOfMemory}
 use Rattle.ack_read.specs.Words.{IsRefused}
@@ -28,6 +28,10 @@ status_of failure.NoHeader = 4
 status_of failure.TellsNothing = 4
 status_of failure.Stdout = 5
 status_of failure.Memory = 6
+
+-- a status: 0, or that of a failure
+abbrev pub IsStatus : ℕ → Type 0
+IsStatus n = IsTrue (n == 0 || (n == 2 || (n == 4 || (n == 5 || n == 6))))
 
 -- what a text fails by that isn't read as acknowledgments
 abbrev pub read_failure : ReadFault → Failure

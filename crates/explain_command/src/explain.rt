@@ -1,7 +1,7 @@
 ghost use Rattle.std.specs.Prelude.{◌≡◌, ◌≢◌, ◌≤◌, ◌⊎◌, ℕ, List, None, IfOk, IfErr, IfSome, OnOk, map};
 ghost use Rattle.std.specs.Io.KnownBytes.{Appends};
 ghost use Rattle.explain_command.specs.CommandLine.{AsksForText, IsCommandLine, NamesFile};
-ghost use Rattle.explain_command.specs.Failure.{IsOfInput};
+ghost use Rattle.explain_command.specs.Failure.{IsOfInput, IsStatus};
 ghost use Rattle.explain_command.specs.Outcome.{IsExplanationOf, IsOutcome, IsPrinted};
 
 use crate::command::{Asked, read_words};
@@ -22,12 +22,12 @@ where
     S: AsStr,
     O: Write,
     E: Write,
-    ensures status { result ≤ 6 }
+    ensures status { IsStatus result }
     ensures silent { 2 ≤ result → result ≢ 5 → out.new ≡ out.old }
     ensures quiet { result ≡ 0 → err.new ≡ err.old }
     ensures usage { result ≡ 2 → IsCommandLine (map S.text words.now) → ⊥ }
     ensures input { result ≡ 4 → (path : List ℕ) × NamesFile (map S.text words.now) path }
-    ensures printed { result ≤ 1 → IsOutcome (map S.text words.now) (O.contents out.old) (O.contents out.new) }
+    ensures printed { result ≡ 0 → IsOutcome (map S.text words.now) (O.contents out.old) (O.contents out.new) }
 {
     match read_words(rt.alloc(), words) {
         Ok(Asked::Explain(path)) => explain_file(rt, path, out, err),
@@ -42,11 +42,11 @@ where
     R: Files + AllocGlobal,
     O: Write,
     E: Write,
-    ensures status { result ≤ 6 }
+    ensures status { IsStatus result }
     ensures words { result ≢ 2 }
     ensures silent { 2 ≤ result → result ≢ 5 → out.new ≡ out.old }
     ensures quiet { result ≡ 0 → err.new ≡ err.old }
-    ensures printed { result ≤ 1 → IsPrinted None (O.contents out.old) (O.contents out.new) }
+    ensures printed { result ≡ 0 → IsPrinted None (O.contents out.old) (O.contents out.new) }
 {
     match fs::open(rt, path) {
         Ok(file) => give_explanation(rt.alloc(), file, out, err),
@@ -61,11 +61,11 @@ where
     I: Read + Drop,
     O: Write,
     E: Write,
-    ensures status { result ≤ 6 }
+    ensures status { IsStatus result }
     ensures words { result ≢ 2 }
     ensures silent { 2 ≤ result → result ≢ 5 → out.new ≡ out.old }
     ensures quiet { result ≡ 0 → err.new ≡ err.old }
-    ensures printed { result ≤ 1 → IsPrinted (I.remaining input) (O.contents out.old) (O.contents out.new) }
+    ensures printed { result ≡ 0 → IsPrinted (I.remaining input) (O.contents out.old) (O.contents out.new) }
 {
     match explained(alloc, input) {
         Ok(lines) => finish(lines.as_slice(), out, err),
