@@ -44,7 +44,8 @@ pub all_gathered : (E : Type 0) (partner : Partner) (k : ℕ) (ps : List PlacedV
     (λ i r. IfOk r (λ v. (p : PlacedValue) → slice_get ps i ≡ Some p → v ≡ rendered partner (k + i) p)) (range_with_len 0 (length ps)) rs
     → written ≡ rendered_from partner k ps
 all_gathered E partner k ps rs written is made =
-    sym (map-id written) ∙ gathered E (λ (i : ℕ) (p : PlacedValue). rendered partner (k + i) p) (λ (v : RenderedValue). v) ps rs written is made
+    sym (map-id written)
+    ∙ gathered E (λ (i : ℕ) (p : PlacedValue). rendered partner (k + i) p) (λ (v : RenderedValue). v) ps rs written is made
     ∙ numbered_rendered partner k 0 ps ∙ ap (λ (n : ℕ). rendered_from partner n ps) (omega arith)
 
 -- what a gathering answers

@@ -86,7 +86,8 @@ clean_faults g d closed segs e read is =
     ap (inner_of closed) is.segments ∙ inner_is closed e.header is.body e.trailer is.closed_is in
     no_faults g d closed segs read (subst (IsCleanBody g d) (sym inner) is.clean)
 
-pub clean_ends : (g : GuideTree) (d : Delims) (closed : Bool) (segs : List SegValue) (e : Ends) (v : Envelope) → IsCleanSet g d closed segs e
+pub clean_ends : (g : GuideTree) (d : Delims) (closed : Bool) (segs : List SegValue) (e : Ends) (v : Envelope)
+    → IsCleanSet g d closed segs e
     → v.header ≡ e.header → v.segments ≡ e.segments → v.trailer ≡ e.trailer → IsEnvelopeOf (parts_of d closed segs) v
 clean_ends g d closed segs e v is h n t =
     let some : 1 ≤ length segs = subst (λ (l : List SegValue). 1 ≤ length l) (sym is.segments) (omega arith) in

@@ -10,7 +10,8 @@ pub returns : goal.returns
 returns c done seen =
     let none : c.args.seen.now.trailer ≡ None = none_by c.args.seen.now.trailer (search rules) in
     let taken : HasTaken (guide_of c.args.fast.now) c.args.seen.now.walk c.take.new.walk c.args.seg c.in-Some.slot.now =
-    subst (λ (o : Option (Bor Slot)). IfSome o (λ s. HasTaken (guide_of c.args.fast.now) c.args.seen.now.walk c.take.new.walk c.args.seg s.now))
+    subst (λ (o : Option (Bor Slot)). IfSome o
+    (λ s. HasTaken (guide_of c.args.fast.now) c.args.seen.now.walk c.take.new.walk c.args.seg s.now))
     c.in-Some.is c.in_ok-slot.ensures in
     seen_more (guide_of c.args.fast.now) c.args.seen.now
     (record { walk = c.take.new.walk; kept = c.keep.new.kept; trailer = c.args.seen.now.trailer }) c.args.seg c.in-Some.slot.now done seen

@@ -11,6 +11,7 @@ returns-then-eq c =
     OnTrue_from c.is_filled.result _ (λ h. inr (record {
       next = elements_of c.index-hls-count.result.seg.now;
       there = seg_there c.args.hls.now (c.args.count + 1) c.index-hls-count.result c.index-hls-count.is (omega (arith, few));
-      named = sym c.element-parent.ensures.value ∙ same_text c.element-parent.result.now c.args.number.now (sym c.eq.ensures ∙ c.if-eq.true);
+      named = sym c.element-parent.ensures.value
+          ∙ same_text c.element-parent.result.now c.args.number.now (sym c.eq.ensures ∙ c.if-eq.true);
       filled = ap (is_filled c.args.delims) (sym c.element-parent.ensures.value) ∙ sym c.is_filled.ensures ∙ h;
     }))

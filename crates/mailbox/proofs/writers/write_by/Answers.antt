@@ -27,10 +27,13 @@ returns g c =
     let k : c.map.result.f.2.now ≡ c.args.k = λ i. (f i).2.now in
     let sets : c.map.result.f.3.now ≡ c.args.sets.now = λ i. (f i).3.now in
     let base = (λ i. (c.map.ensures.base i).base) ∙ c.with_min_len.ensures.base in
-    let whole : length c.args.sets.now - 0 ≡ length c.map.result.f.3.now = (omega arith) ∙ ap (λ (ps : List PlacedValue). length ps) (sym sets) in
-    let places = e.1.1 ∙ (λ i. nat_range (base i).start (base i).end) ∙ (λ i. nat_range (ends.0 i) (ends.1 i)) ∙ ap (range_with_len 0) whole in
+    let whole : length c.args.sets.now - 0 ≡ length c.map.result.f.3.now =
+    (omega arith) ∙ ap (λ (ps : List PlacedValue). length ps) (sym sets) in
+    let places = e.1.1 ∙ (λ i. nat_range (base i).start (base i).end) ∙ (λ i. nat_range (ends.0 i) (ends.1 i))
+    ∙ ap (range_with_len 0) whole in
     let made = subst (λ (l : List ℕ). AllZip {A = ℕ} (λ i r. IfOk r (λ (v : RenderedValue). (p : PlacedValue)
     → slice_get c.map.result.f.3.now i ≡ Some p → v ≡ rendered c.map.result.f.1.now (c.map.result.f.2.now + i) p)) l e.0) places e.1.2 in
-    let given = gathering_gives (λ v. v.items) c.map.result.f.1.now c.map.result.f.2.now c.map.result.f.3.now e.0 c.in_ok-written.written _ e.2
+    let given = gathering_gives (λ v. v.items) c.map.result.f.1.now c.map.result.f.2.now c.map.result.f.3.now e.0
+    c.in_ok-written.written _ e.2
     made in
     IfOk-weaker c.in_ok-written.written _ _ (λ v is. is ∙ (λ i. rendered_from (partner i) (k i) (sets i))) given
