@@ -1,0 +1,4 @@
+pub mod FileWords
+pub mod GuideWords
+pub mod Places
+pub mod SetupWords

@@ -1,0 +1,14 @@
+-- Own: how a row, a slot or a key is named.
+use Rattle.std.specs.Prelude.{ℕ, List, ◌++◌, codes, decimal}
+
+-- `KIND NUMBER (NAME)`
+abbrev pub place_text : (kind : List ℕ) → ℕ → (name : List ℕ) → List ℕ
+place_text kind number name = kind ++ (codes " " ++ (decimal number ++ (codes " (" ++ (name ++ codes ")"))))
+
+-- what is said of it follows
+abbrev pub in_place : (kind : List ℕ) → ℕ → (name : List ℕ) → List ℕ
+in_place kind number name = place_text kind number name ++ codes ": "
+
+-- a key, as it is written
+abbrev pub key_text : List ℕ → List ℕ
+key_text key = codes "`" ++ (key ++ codes "`")
