@@ -1,45 +1,29 @@
 -- Own: what is said of a setup that is refused.
 use Rattle.std.specs.Prelude.{ℕ, ◌+◌, List, [], ◌++◌, codes, slice_get}
 use Rattle.std.specs.Option.{option_map_or}
-use Rattle.guide_tree.specs.declared.rows.GuideRows.{GuideRows}
-use Rattle.partner_setup.specs.declared.rows.CounterRow.{CounterRow}
-use Rattle.partner_setup.specs.declared.rows.PartnerRow.{PartnerRow}
-use Rattle.partner_setup.specs.declared.rows.RouteRow.{RouteRow}
-use Rattle.partner_setup.specs.declared.rows.SetupRows.{SetupRows}
 use Rattle.partner_setup.specs.declared.setup_fault.IdOwner.TheVariants as owner
 use Rattle.partner_setup.specs.declared.setup_fault.GuidesOwner.TheVariants as guided
 use Rattle.partner_setup.specs.declared.setup_fault.SetupFault.{SetupFault}
 use Rattle.partner_setup.specs.declared.setup_fault.SetupFault.TheVariants as fault
 use Rattle.refusal_words.specs.Places.{in_place}
+use Rattle.refusal_words.specs.declared.names.SetupNames.{SetupNames}
 
 -- a row by its number, from 1 on, and its name; nothing where no row has the place
-abbrev pub row_of : {A : Type 0} → (kind : List ℕ) → (A → List ℕ) → List A → (place : ℕ) → List ℕ
-row_of kind name rows place = option_map_or (λ r. in_place kind (place + 1) (name r)) (slice_get rows place) []
-
-abbrev pub partner_words : List PartnerRow → ℕ → List ℕ
-partner_words rows place = row_of (codes "partner") (λ (p : PartnerRow). p.name) rows place
-
-abbrev pub route_words : List RouteRow → ℕ → List ℕ
-route_words rows place = row_of (codes "route") (λ (r : RouteRow). r.code) rows place
-
-abbrev pub counter_words : List CounterRow → ℕ → List ℕ
-counter_words rows place = row_of (codes "counter") (λ (c : CounterRow). c.partner) rows place
-
-abbrev pub guide_words : List GuideRows → ℕ → List ℕ
-guide_words rows place = row_of (codes "guide") (λ (g : GuideRows). g.head.name) rows place
+abbrev pub row_words : (kind : List ℕ) → (names : List (List ℕ)) → (place : ℕ) → List ℕ
+row_words kind names place = option_map_or (λ name. in_place kind (place + 1) name) (slice_get names place) []
 
 -- where the refusal stands
-abbrev pub row_words : SetupRows → List CounterRow → List GuideRows → SetupFault → List ℕ
-row_words rows counters guides (fault.SamePartner place) = partner_words rows.partners place
-row_words rows counters guides (fault.BadDelimiters place) = partner_words rows.partners place
-row_words rows counters guides (fault.BadId (owner.Partner place)) = partner_words rows.partners place
-row_words rows counters guides (fault.BadId owner.Hub) = codes "the hub: "
-row_words rows counters guides (fault.BadGuides (guided.Partner place)) = partner_words rows.partners place
-row_words rows counters guides (fault.BadGuides (guided.Guide place)) = guide_words guides place
-row_words rows counters guides (fault.BadRoute place) = route_words rows.routes place
-row_words rows counters guides (fault.BadCounter place) = counter_words counters place
-row_words rows counters guides (fault.BadCap place) = partner_words rows.partners place
-row_words rows counters guides fault.NoMemory = []
+abbrev pub where_words : SetupNames → SetupFault → List ℕ
+where_words names (fault.SamePartner place) = row_words (codes "partner") names.partners place
+where_words names (fault.BadDelimiters place) = row_words (codes "partner") names.partners place
+where_words names (fault.BadId owner.Hub) = codes "the hub: "
+where_words names (fault.BadId (owner.Partner place)) = row_words (codes "partner") names.partners place
+where_words names (fault.BadGuides (guided.Partner place)) = row_words (codes "partner") names.partners place
+where_words names (fault.BadGuides (guided.Guide place)) = row_words (codes "guide") names.guides place
+where_words names (fault.BadRoute place) = row_words (codes "route") names.routes place
+where_words names (fault.BadCounter place) = row_words (codes "counter") names.counters place
+where_words names (fault.BadCap place) = row_words (codes "partner") names.partners place
+where_words names fault.NoMemory = []
 
 -- what is wrong there
 abbrev pub said_of : SetupFault → List ℕ
@@ -55,5 +39,5 @@ said_of (fault.BadCounter place) =
 said_of (fault.BadCap place) = codes "a cap out of 1 to 99999"
 said_of fault.NoMemory = codes "no memory"
 
-abbrev pub setup_words : SetupRows → List CounterRow → List GuideRows → SetupFault → List ℕ
-setup_words rows counters guides why = row_words rows counters guides why ++ said_of why
+abbrev pub setup_words : SetupNames → SetupFault → List ℕ
+setup_words names why = where_words names why ++ said_of why

@@ -1,5 +1,5 @@
 ghost use Rattle.std.specs.Prelude.{◌≡◌, ◌++◌, OnOk, decimal};
-ghost use Rattle.refusal_words.specs.Places.{in_place, place_text};
+ghost use Rattle.refusal_words.specs.Places.{in_place, name_text, place_text};
 
 use hub_kinds::NoMemory;
 use itoa::Buffer;
@@ -20,6 +20,17 @@ pub fn append_number(out: &mut Vec<u8>, number: u64) -> Result<(), NoMemory>
     append(out, digits.format(number).as_bytes())
 }
 
+fn append_name(out: &mut Vec<u8>, name: &[u8]) -> Result<(), NoMemory>
+    ensures { OnOk result (out.new.items ≡ out.old.items ++ name_text name.now) }
+{
+    if name.is_empty() {
+        return Ok(());
+    }
+    append(out, b" (")?;
+    append(out, name)?;
+    append(out, b")")
+}
+
 /// Adds `KIND NUMBER (NAME)`.
 pub fn append_place(
     out: &mut Vec<u8>,
@@ -32,9 +43,7 @@ pub fn append_place(
     append(out, kind)?;
     append(out, b" ")?;
     append_number(out, number)?;
-    append(out, b" (")?;
-    append(out, name)?;
-    append(out, b")")
+    append_name(out, name)
 }
 
 /// The same behind which something is said of it.

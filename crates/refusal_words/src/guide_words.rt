@@ -1,4 +1,4 @@
-ghost use Rattle.std.specs.Prelude.{◌≡◌, ◌++◌, ℕ, List, OnOk};
+ghost use Rattle.std.specs.Prelude.{◌≡◌, ◌++◌, ℕ, List, IfOk, OnOk};
 ghost use Rattle.refusal_words.specs.GuideWords as words;
 
 use crate::appended::{append, append_in_place, append_number, append_place};
@@ -7,7 +7,7 @@ use crate::file_words::{KeyFault, append_key};
 use crate::nodes::{id_of, node_at};
 use guide_toml::GuideFileFault;
 use guide_tree::{GuideFault, Node};
-use hub_kinds::{NoMemory, Text};
+use hub_kinds::{NoMemory, Text, Texts};
 use std::alloc::Global;
 
 /// Adds the node in which a key stands, where it is one.
@@ -92,21 +92,32 @@ fn append_segment(out: &mut Vec<u8>, segment: &[Text]) -> Result<(), NoMemory>
     }
 }
 
-/// Adds the segment that two nodes' slots both take.
-fn append_common(
+/// The segment that the slots of two nodes both take, in words.
+fn common_words(
     alloc: Global,
-    out: &mut Vec<u8>,
     first: Option<&Node>,
     second: Option<&Node>,
-) -> Result<(), NoMemory> {
+) -> Result<Vec<u8>, NoMemory>
+    ensures { IfOk result (λ text. (segment : List (List ℕ)) × (text.items ≡ words.segment_words segment)) }
+{
+    let mut text = Vec::new(alloc);
+    match common_of(alloc, first, second)? {
+        None => append_segment(&mut text, &[])?,
+        Some(segment) => append_segment(&mut text, segment.as_slice())?,
+    }
+    Ok(text)
+}
+
+fn common_of(
+    alloc: Global,
+    first: Option<&Node>,
+    second: Option<&Node>,
+) -> Result<Option<Texts>, NoMemory> {
     match (first, second) {
         (Some(Node::Segment(slot)), Some(Node::Segment(other))) => {
-            match common_segment(alloc, slot, other)? {
-                None => append_segment(out, &[]),
-                Some(segment) => append_segment(out, segment.as_slice()),
-            }
+            common_segment(alloc, slot, other)
         }
-        _ => append_segment(out, &[]),
+        _ => Ok(None),
     }
 }
 
@@ -116,34 +127,59 @@ pub fn append_guide_words(
     out: &mut Vec<u8>,
     fault: &GuideFault,
     nodes: &[Node],
-) -> Result<(), NoMemory> {
+) -> Result<(), NoMemory>
+    ensures { OnOk result ((first second : List ℕ) × (segment : List (List ℕ))
+        × (out.new.items ≡ out.old.items ++ words.own_words fault.now first second (words.segment_words segment))) }
+{
+    let (first, second) = slots_of(fault);
+    let one = node_at(nodes, first);
+    let other = node_at(nodes, second);
+    let common = common_words(alloc, one, other)?;
+    append_own(out, fault, id_of(one), id_of(other), common.as_slice())
+}
+
+/// The slots that a fault names; the first node, where it names none.
+fn slots_of(fault: &GuideFault) -> (u32, u32) {
+    match fault {
+        GuideFault::BadBounds(slot)
+        | GuideFault::BadTrigger(slot)
+        | GuideFault::BadCondition(slot) => (*slot, *slot),
+        GuideFault::Ambiguous(first, second) => (*first, *second),
+        _ => (1, 1),
+    }
+}
+
+/// Adds the same, where the slots have these ids, and what fits both of two is this.
+fn append_own(
+    out: &mut Vec<u8>,
+    fault: &GuideFault,
+    first: &[u8],
+    second: &[u8],
+    common: &[u8],
+) -> Result<(), NoMemory>
+    ensures { OnOk result (out.new.items ≡ out.old.items ++ words.own_words fault.now first.now second.now common.now) }
+{
     match fault {
         GuideFault::TooDeep => append(out, b"loops are nested over 8 deep"),
-        GuideFault::TooMany => append(out, b"over 2,000 nodes"),
+        GuideFault::TooMany => append(out, b"over 2000 nodes"),
         GuideFault::BadBounds(slot) => append_slot(
             out,
             b"slot",
             *slot,
-            nodes,
+            first,
             b"bounds that can't be met or are too large, or an id that is none",
         ),
         GuideFault::BadTrigger(slot) => append_slot(
             out,
             b"loop",
             *slot,
-            nodes,
+            first,
             b"its first node isn't a segment with min 1 and max 1",
         ),
-        GuideFault::BadCondition(0) => append(out, b"a dependency, or `hl`, that can't be"),
-        GuideFault::BadCondition(slot) => append_slot(
-            out,
-            b"slot",
-            *slot,
-            nodes,
-            b"a condition, a pick or a label that can't be",
-        ),
-        GuideFault::Ambiguous(first, second) => {
-            append_rivals(alloc, out, nodes, *first, *second)
+        GuideFault::BadCondition(slot) => append_condition(out, *slot, first),
+        GuideFault::Ambiguous(one, other) => {
+            append_rivals(out, *one, first, *other, second)?;
+            append(out, common)
         }
         GuideFault::NoMemory => append(out, b"no memory"),
     }
@@ -154,26 +190,43 @@ fn append_slot(
     out: &mut Vec<u8>,
     kind: &[u8],
     slot: u32,
-    nodes: &[Node],
+    name: &[u8],
     text: &[u8],
-) -> Result<(), NoMemory> {
-    append_in_place(out, kind, u64::from(slot), id_of(node_at(nodes, slot)))?;
+) -> Result<(), NoMemory>
+    ensures { OnOk result (out.new.items ≡ out.old.items ++ words.slot_words kind.now slot name.now text.now) }
+{
+    append_in_place(out, kind, u64::from(slot), name)?;
     append(out, text)
 }
 
-/// Adds the two slots that are rivals, and a segment that fits both.
+fn append_condition(out: &mut Vec<u8>, slot: u32, name: &[u8]) -> Result<(), NoMemory>
+    ensures { OnOk result (out.new.items ≡ out.old.items ++ words.condition_words slot name.now) }
+{
+    if slot == 0 {
+        return append(out, b"a dependency, or `hl`, that can't be");
+    }
+    append_slot(
+        out,
+        b"slot",
+        slot,
+        name,
+        b"a condition, a pick or a label that can't be",
+    )
+}
+
+/// Adds the two slots that are rivals.
 fn append_rivals(
-    alloc: Global,
     out: &mut Vec<u8>,
-    nodes: &[Node],
     first: u32,
+    first_name: &[u8],
     second: u32,
-) -> Result<(), NoMemory> {
-    let one = node_at(nodes, first);
-    let other = node_at(nodes, second);
-    append_place(out, b"slot", u64::from(first), id_of(one))?;
+    second_name: &[u8],
+) -> Result<(), NoMemory>
+    ensures { OnOk result (out.new.items
+        ≡ out.old.items ++ words.rivals_words first first_name.now second second_name.now) }
+{
+    append_place(out, b"slot", u64::from(first), first_name)?;
     append(out, b" and ")?;
-    append_place(out, b"slot", u64::from(second), id_of(other))?;
-    append(out, b" may come at one place, and both fit ")?;
-    append_common(alloc, out, one, other)
+    append_place(out, b"slot", u64::from(second), second_name)?;
+    append(out, b" may come at one place, and both fit ")
 }

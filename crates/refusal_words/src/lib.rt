@@ -12,11 +12,13 @@ mod appended;
 mod common;
 mod file_words;
 mod guide_words;
+mod names;
 mod nodes;
 mod setup_words;
 
 pub use common::common_segment;
 pub use file_words::append_file_words;
 pub use guide_words::{append_guide_file_words, append_guide_words};
+pub use names::SetupNames;
 pub use nodes::node_at;
 pub use setup_words::append_setup_words;

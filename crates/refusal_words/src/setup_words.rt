@@ -2,80 +2,41 @@ ghost use Rattle.std.specs.Prelude.{◌≡◌, ◌++◌, OnOk};
 ghost use Rattle.refusal_words.specs.SetupWords as words;
 
 use crate::appended::{append, append_in_place};
-use guide_tree::Guide;
-use hub_kinds::NoMemory;
-use partner_setup::{
-    CounterRow, GuidesOwner, IdOwner, PartnerRow, RouteRow, SetupFault, SetupRows,
-};
+use crate::names::SetupNames;
+use hub_kinds::{NoMemory, Text};
+use partner_setup::{GuidesOwner, IdOwner, SetupFault};
 
-/// Adds the partner at a place.
-fn append_partner(out: &mut Vec<u8>, rows: &[PartnerRow], place: usize) -> Result<(), NoMemory>
-    ensures { OnOk result (out.new.items ≡ out.old.items ++ words.partner_words rows.now place) }
+/// Adds the row at a place, by its number and its name.
+fn append_row(out: &mut Vec<u8>, kind: &[u8], names: &[Text], place: usize) -> Result<(), NoMemory>
+    ensures { OnOk result (out.new.items ≡ out.old.items ++ words.row_words kind.now names.now place) }
 {
-    match rows.get(place) {
+    match names.get(place) {
         None => Ok(()),
-        Some(row) => append_in_place(out, b"partner", place as u64 + 1, row.name.as_slice()),
-    }
-}
-
-/// Adds the route at a place, by its code.
-fn append_route(out: &mut Vec<u8>, rows: &[RouteRow], place: usize) -> Result<(), NoMemory>
-    ensures { OnOk result (out.new.items ≡ out.old.items ++ words.route_words rows.now place) }
-{
-    match rows.get(place) {
-        None => Ok(()),
-        Some(row) => append_in_place(out, b"route", place as u64 + 1, row.code.as_slice()),
-    }
-}
-
-/// Adds the counters at a place, by their partner.
-fn append_counters(out: &mut Vec<u8>, rows: &[CounterRow], place: usize) -> Result<(), NoMemory>
-    ensures { OnOk result (out.new.items ≡ out.old.items ++ words.counter_words rows.now place) }
-{
-    match rows.get(place) {
-        None => Ok(()),
-        Some(row) => append_in_place(out, b"counter", place as u64 + 1, row.partner.as_slice()),
-    }
-}
-
-/// Adds the guide at a place, by its name.
-fn append_guide(out: &mut Vec<u8>, guides: &[Guide], place: usize) -> Result<(), NoMemory>
-    ensures { OnOk result (out.new.items ≡ out.old.items ++ words.guide_words guides.now place) }
-{
-    match guides.get(place) {
-        None => Ok(()),
-        Some(guide) => {
-            append_in_place(
-                out,
-                b"guide",
-                place as u64 + 1,
-                guide.rows().head.name.as_slice(),
-            )
-        }
+        Some(name) => append_in_place(out, kind, place as u64 + 1, name.as_slice()),
     }
 }
 
 /// Adds where the refusal of a setup stands.
-fn append_row(
-    out: &mut Vec<u8>,
-    rows: &SetupRows,
-    counters: &[CounterRow],
-    guides: &[Guide],
-    fault: &SetupFault,
-) -> Result<(), NoMemory>
-    ensures { OnOk result (out.new.items ≡ out.old.items ++ words.row_words rows.now counters.now guides.now fault.now) }
+fn append_where(out: &mut Vec<u8>, names: &SetupNames, fault: &SetupFault) -> Result<(), NoMemory>
+    ensures { OnOk result (out.new.items ≡ out.old.items ++ words.where_words names.now fault.now) }
 {
-    let partners = rows.partners.as_slice();
+    let partners = names.partners.as_slice();
     match fault {
-        SetupFault::SamePartner(place)
-        | SetupFault::BadDelimiters(place)
-        | SetupFault::BadId(IdOwner::Partner(place))
-        | SetupFault::BadGuides(GuidesOwner::Partner(place))
-        | SetupFault::BadCap(place) => append_partner(out, partners, *place),
+        SetupFault::SamePartner(place) => append_row(out, b"partner", partners, *place),
+        SetupFault::BadDelimiters(place) => append_row(out, b"partner", partners, *place),
         SetupFault::BadId(IdOwner::Hub) => append(out, b"the hub: "),
-        SetupFault::BadGuides(GuidesOwner::Guide(place)) => append_guide(out, guides, *place),
-        SetupFault::BadRoute(place) => append_route(out, rows.routes.as_slice(), *place),
-        SetupFault::BadCounter(place) => append_counters(out, counters, *place),
+        SetupFault::BadId(IdOwner::Partner(place)) => append_row(out, b"partner", partners, *place),
+        SetupFault::BadGuides(GuidesOwner::Partner(place)) => {
+            append_row(out, b"partner", partners, *place)
+        }
+        SetupFault::BadGuides(GuidesOwner::Guide(place)) => {
+            append_row(out, b"guide", names.guides.as_slice(), *place)
+        }
+        SetupFault::BadRoute(place) => append_row(out, b"route", names.routes.as_slice(), *place),
+        SetupFault::BadCounter(place) => {
+            append_row(out, b"counter", names.counters.as_slice(), *place)
+        }
+        SetupFault::BadCap(place) => append_row(out, b"partner", partners, *place),
         SetupFault::NoMemory => Ok(()),
     }
 }
@@ -104,16 +65,14 @@ fn said_of(fault: &SetupFault) -> &'static [u8]
     }
 }
 
-/// Adds what is wrong with a setup of these rows, counters and guides.
+/// Adds what is wrong with a setup whose rows have these names.
 pub fn append_setup_words(
     out: &mut Vec<u8>,
-    rows: &SetupRows,
-    counters: &[CounterRow],
-    guides: &[Guide],
+    names: &SetupNames,
     fault: &SetupFault,
 ) -> Result<(), NoMemory>
-    ensures { OnOk result (out.new.items ≡ out.old.items ++ words.setup_words rows.now counters.now guides.now fault.now) }
+    ensures { OnOk result (out.new.items ≡ out.old.items ++ words.setup_words names.now fault.now) }
 {
-    append_row(out, rows, counters, guides, fault)?;
+    append_where(out, names, fault)?;
     append(out, said_of(fault))
 }
