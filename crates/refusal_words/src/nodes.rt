@@ -1,36 +1,43 @@
 use guide_tree::Node;
-use hub_kinds::Text;
 
 /// What a search among nodes came to.
-enum Walk<'a> {
+enum Search<'a> {
     /// The node with the number.
     At(&'a Node),
     /// It is so far behind these nodes, from 1 on.
     Behind(u32),
 }
 
-fn search<'a>(nodes: &'a [Node], number: u32) -> Walk<'a> {
+fn look<'a>(nodes: &'a [Node], number: u32) -> Search<'a> {
     let mut left = number;
     for node in nodes {
         if left <= 1 {
-            return Walk::At(node);
+            return Search::At(node);
         }
         left -= 1;
         if let Node::Loop(_, inner) = node {
-            match search(inner, left) {
-                Walk::At(node) => return Walk::At(node),
-                Walk::Behind(behind) => left = behind,
+            match look(inner, left) {
+                Search::At(node) => return Search::At(node),
+                Search::Behind(behind) => left = behind,
             }
         }
     }
-    Walk::Behind(left)
+    Search::Behind(left)
 }
 
 /// The node with a number, as a guide counts its nodes: from 1 on, a loop before what is in it.
 pub fn node_at<'a>(nodes: &'a [Node], number: u32) -> Option<&'a Node> {
-    match search(nodes, number) {
-        Walk::At(node) => Some(node),
-        Walk::Behind(_) => None,
+    match look(nodes, number) {
+        Search::At(node) => Some(node),
+        Search::Behind(_) => None,
+    }
+}
+
+/// How many nodes there are, loops and what is in them.
+pub fn node_count(nodes: &[Node]) -> u32 {
+    match look(nodes, u32::MAX) {
+        Search::At(_) => u32::MAX,
+        Search::Behind(left) => u32::MAX - left,
     }
 }
 
