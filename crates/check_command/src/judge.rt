@@ -5,14 +5,13 @@ ghost use Rattle.check_command.specs.Judged as judged;
 use crate::files::{Given, GivenFiles};
 use crate::told::{FileTold, Listed, Told};
 use guide_toml::{GuideFileFault, read_guide, read_rows};
-use guide_tree::{Guide, GuideFault};
+use guide_tree::{Guide, GuideFault, Node};
 use hub_kinds::{Items, NoMemory, Text};
 use partner_setup::{
     CounterRows, FileFault, Setup, SetupFault, SetupRows, read_counters, read_setup,
 };
 use refusal_words::{
     SetupNames, append_file_words, append_guide_file_words, append_guide_words, append_setup_words,
-    node_count,
 };
 use std::alloc::Global;
 
@@ -103,6 +102,18 @@ pub fn judge_setup(
     }
 }
 
+/// How many nodes there are, loops and what is in them.
+fn node_count(nodes: &[Node]) -> u64 {
+    let mut count = 0u64;
+    for node in nodes {
+        count = count.saturating_add(1);
+        if let Node::Loop(_, inner) = node {
+            count = count.saturating_add(node_count(inner));
+        }
+    }
+    count
+}
+
 /// Adds what is told of a file.
 fn push_told<'a>(told: &mut Vec<FileTold<'a>>, path: &'a str, of: Told) -> Result<(), NoMemory>
     ensures { OnOk result (files.paths_told told.new.items ≡ files.paths_told told.old.items ++ path.now ∷ []) }
@@ -122,7 +133,7 @@ fn tell_guide<'a>(
 {
     match judge_guide(alloc, &given.bytes)? {
         Judged::Taken(guide) => {
-            let count = u64::from(node_count(&guide.rows().nodes));
+            let count = node_count(&guide.rows().nodes);
             push_told(told, given.path, Told::Taken(count, Listed::Slots))?;
             guides.push(guide)?;
             Ok(true)

@@ -20,5 +20,4 @@ pub use common::common_segment;
 pub use file_words::append_file_words;
 pub use guide_words::{append_guide_file_words, append_guide_words};
 pub use names::SetupNames;
-pub use nodes::{node_at, node_count};
 pub use setup_words::append_setup_words;

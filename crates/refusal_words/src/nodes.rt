@@ -33,14 +33,6 @@ pub fn node_at<'a>(nodes: &'a [Node], number: u32) -> Option<&'a Node> {
     }
 }
 
-/// How many nodes there are, loops and what is in them.
-pub fn node_count(nodes: &[Node]) -> u32 {
-    match look(nodes, u32::MAX) {
-        Search::At(_) => u32::MAX,
-        Search::Behind(left) => u32::MAX - left,
-    }
-}
-
 /// The id of a node's segment or loop; empty where there is no node.
 pub fn id_of<'a>(node: Option<&'a Node>) -> &'a [u8] {
     match node {
