@@ -4,7 +4,7 @@ use Rattle.clap.specs.Words.{HasKind, HasMatchesOf, IsAmong, Text, all_of, fault
 use Rattle.clap.specs.Words.{is_simple, is_simple_and_free, kind_of}
 use Rattle.clap.specs.declared.error.Error.{Error}
 use Rattle.clap.specs.declared.error.kind.ErrorKind.{ErrorKind}
-use Rattle.clap.specs.declared.error.kind.ErrorKind.TheVariants.{DisplayHelp, DisplayVersion, OutOfMemory}
+use Rattle.clap.specs.declared.error.kind.ErrorKind.TheVariants.{DisplayHelp, DisplayVersion}
 use Rattle.clap.specs.declared.parser.matches.ArgMatches.{ArgMatches}
 use Rattle.clap.proofs.OnLiterals.{clap_on_literals}
 use Rattle.clap.proofs.WalkLemmas.{first_value-rows, raw_values-rows}
@@ -13,6 +13,8 @@ use Rattle.check_command.specs.CommandLine.{values_found, values_of}
 use Rattle.check_command.specs.declared.command.Asked.{Asked}
 use Rattle.check_command.specs.declared.command.Asked.TheVariants.{Check, Show}
 use Rattle.check_command.specs.declared.command.Options.{Options}
+use Rattle.std.specs.declared.alloc.Global.{Global}
+use Rattle.std.specs.declared.string.String.{String}
 
 simple : is_simple check_app ≡ true
 unfolding clap_on_literals
@@ -52,3 +54,13 @@ pub shown : (words : List Text) (e : Error) (asked : Asked) → HasKind (fault_o
     → IsAsked words asked
 shown words e (Check o) kind is = absurd is
 shown words e (Show text) kind is = asked_by words e kind is
+
+no_text : (text : String Global) (o : Options) → Show text ≡ Check o → ⊥
+no_text text o e = cc
+
+-- words by which files are checked name them
+pub named : (words : List Text) (asked : Asked) (o : Options) → asked ≡ Check o → IsAsked words asked
+    → AreOptions (value_of words) (values_of words) o
+named words (Check p) o e is =
+    let same : p ≡ o = cc in subst (λ (x : Options). AreOptions (value_of words) (values_of words) x) same is
+named words (Show text) o e is = absurd (no_text text o e)

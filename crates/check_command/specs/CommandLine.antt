@@ -1,5 +1,5 @@
 -- The command line of the check (own), read as clap's definitions say: options that name files, one of which may be given again.
-use Rattle.std.specs.Prelude.{ℕ, ◌≡◌, ◌⊎◌, List, [], map, Option, Some, None, true, codes, option_map}
+use Rattle.std.specs.Prelude.{◌≡◌, ◌⊎◌, List, [], map, Option, Some, None, true, codes, option_map}
 use Rattle.clap.specs.Words.{App, Rule, Text, IsAmong, all_of, fault_of, first_of, matched_of, matches_of, new_app, new_rule}
 use Rattle.clap.specs.Words.{raw_values, with_rule}
 use Rattle.clap.specs.declared.builder.action.ArgAction.TheVariants.{Append, Set}

@@ -1,5 +1,5 @@
 -- The check (own): what a run prints, and its status.
-use Rattle.std.specs.Prelude.{ℕ, ◌≡◌, ◌≤◌, ◌⊎◌, List, Option}
+use Rattle.std.specs.Prelude.{ℕ, ◌≡◌, ◌⊎◌, List, Option}
 use Rattle.std.specs.Io.KnownBytes.{Appends}
 use Rattle.clap.specs.Words.{Text}
 use Rattle.check_command.specs.CommandLine.{AreOptions, AsksForText, value_of, values_of}
