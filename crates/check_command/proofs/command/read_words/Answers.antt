@@ -1,0 +1,21 @@
+use Rattle.std.proofs.Common.{◌≡◌, ◌∙◌, ap, subst, map}
+use Rattle.std.proofs.lemmas.Result.{IfOk-weaker}
+use Rattle.clap.specs.Words.{App, HasKind, HasMatchesOf, app_of, fault_of, is_simple_and_free}
+use Rattle.check_command.specs.CommandLine.{check_app}
+use Rattle.check_command.proofs.CommandLine.{asked, free, shown}
+use Rattle.check_command.proofs.command.read_words.Goals as goal
+
+pub returns-in-Ok-clause-asked : goal.returns-in-Ok-clause-asked
+returns-in-Ok-clause-asked g c =
+    let app : app_of c.in_ok-command.command ≡ check_app = c.in_ok-command.ensures in
+    let words = map g.S.AsStr.text c.args.words.now in
+    let has = subst (λ (a : App). HasMatchesOf a words c.in-Ok.matches) app c.in-Ok.ensures.matches in
+    IfOk-weaker c.options_given.result _ _ (λ a given. asked words c.in-Ok.matches a has given) c.options_given.ensures.given
+
+pub returns-in-Err-clause-asked : goal.returns-in-Err-clause-asked
+returns-in-Err-clause-asked g c =
+    let app : app_of c.in_ok-command.command ≡ check_app = c.in_ok-command.ensures in
+    let words = map g.S.AsStr.text c.args.words.now in
+    let kind = subst (λ (a : App). HasKind (fault_of a words) c.in-Err.error) app
+    (c.in-Err.ensures.kinds (ap is_simple_and_free app ∙ free)) in
+    IfOk-weaker c.shown.result _ _ (λ a is. shown words c.in-Err.error a kind is) c.shown.ensures.shown

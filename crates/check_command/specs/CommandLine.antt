@@ -1,0 +1,69 @@
+-- The command line of the check (own), read as clap's definitions say: options that name files, one of which may be given again.
+use Rattle.std.specs.Prelude.{◌≡◌, ◌⊎◌, List, [], map, Option, Some, None, true, codes, option_map}
+use Rattle.clap.specs.Words.{App, Rule, Text, IsAmong, all_of, fault_of, first_of, matched_of, matches_of, new_app, new_rule}
+use Rattle.clap.specs.Words.{raw_values, with_rule}
+use Rattle.clap.specs.declared.builder.action.ArgAction.TheVariants.{Append, Set}
+use Rattle.clap.specs.declared.error.kind.ErrorKind.{ErrorKind}
+use Rattle.clap.specs.declared.error.kind.ErrorKind.TheVariants.{DisplayHelp, DisplayVersion}
+use Rattle.clap.specs.declared.parser.matches.Found.{Found}
+use Rattle.check_command.specs.declared.command.Asked.{Asked}
+use Rattle.check_command.specs.declared.command.Asked.TheVariants.{Check, Show}
+use Rattle.check_command.specs.declared.command.Options.{Options}
+
+-- an option of this name, given once or not at all
+abbrev pub option_free : Text → Rule
+option_free name = record (new_rule name) { long = Some name; value_names = 1; action = Some Set }
+
+-- an option of this name, given any number of times
+abbrev pub option_repeated : Text → Rule
+option_repeated name = record (option_free name) { action = Some Append }
+
+-- the program without its options: its words have no program's name in front, and it has a version
+abbrev pub program : App
+program =
+    let bare = new_app (codes "nighthub_check") in
+    record bare { top = record bare.top { has_version = true; no_binary_name = true } }
+
+abbrev pub check_app : App
+check_app =
+    with_rule (with_rule (with_rule program (option_free (codes "setup"))) (option_repeated (codes "guide")))
+    (option_free (codes "counters"))
+
+-- the value that the words give an option
+abbrev pub value_of : List Text → Text → Option Text
+value_of words name = first_of name (matches_of check_app words)
+
+-- the values that they give an option, in their order
+abbrev pub values_of : List Text → Text → Option (List Text)
+values_of words name = all_of name (matches_of check_app words)
+
+abbrev pub or_none : Option (List Text) → List Text
+or_none None = []
+or_none (Some texts) = texts
+
+-- these are the files, where an option has one value and a list of values
+pub record AreOptions (value : Text → Option Text) (values : Text → Option (List Text)) (options : Options) : Type 0 where
+  pub setup : value (codes "setup") ≡ option_map (λ s. s.now) options.setup
+  pub guides : or_none (values (codes "guide")) ≡ map (λ g. g.now) options.guides.items
+  pub counters : value (codes "counters") ≡ option_map (λ c. c.now) options.counters
+
+-- the words ask for help or for the version
+abbrev pub AsksForText : List Text → Type 0
+AsksForText words = IsAmong DisplayHelp (fault_of check_app words) ⊎ IsAmong DisplayVersion (fault_of check_app words)
+
+-- what the words ask for
+abbrev pub IsAsked : List Text → Asked → Type 0
+IsAsked words (Check options) = AreOptions (value_of words) (values_of words) options
+IsAsked words (Show text) = AsksForText words
+
+-- the same of what clap found, and of the kind of what it reports (no public clause cites these)
+abbrev pub values_found : Found → Text → Option (List Text)
+values_found found name = option_map raw_values (matched_of found name)
+
+abbrev pub IsGiven : (value : Text → Option Text) → (values : Text → Option (List Text)) → Asked → Type 0
+IsGiven value values (Check options) = AreOptions value values options
+IsGiven value values (Show text) = ⊥
+
+abbrev pub IsShown : ErrorKind → Asked → Type 0
+IsShown kind (Check options) = ⊥
+IsShown kind (Show text) = (kind ≡ DisplayHelp) ⊎ (kind ≡ DisplayVersion)

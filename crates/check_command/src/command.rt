@@ -1,0 +1,137 @@
+ghost use Rattle.std.specs.Prelude.{◌≡◌, ◌≢◌, false, map, IfOk, IfErr, IsErrOf};
+ghost use Rattle.clap.specs.Words.{app_of, first_value, found_of, kind_of, rule_of, with_rule};
+ghost use Rattle.check_command.specs.CommandLine.{IsAsked, IsGiven, IsShown, check_app, option_free, option_repeated, values_found};
+ghost use Rattle.check_command.specs.Failure.{IsOfWords};
+
+use crate::failure::Failure;
+use clap::error::ErrorKind;
+use clap::{Arg, ArgAction, ArgMatches, Command, Error};
+use std::alloc::{AllocError, Global};
+use std::convert::AsStr;
+
+/// What stands behind the options in the text of `--help`.
+const STATUSES: &str = "Status:
+  0  each file is taken
+  2  usage
+  3  a file is refused, or can't be read
+  5  standard output
+  6  no memory";
+
+/// The files that are checked, each named by its path.
+#[derive(Debug, Drop)]
+pub struct Options<'a> {
+    /// The setup, where it is given.
+    pub setup: Option<&'a str>,
+    /// The guides, in the order in which they are given.
+    pub guides: Vec<&'a str>,
+    /// The counters, where they are given.
+    pub counters: Option<&'a str>,
+}
+
+/// What the words ask for.
+#[derive(Debug, Drop)]
+pub enum Asked<'a> {
+    /// To check files.
+    Check(Options<'a>),
+    /// To show a text: help, or the version.
+    Show(String),
+}
+
+/// Reads the words, which are the program's arguments without its name. Words that name no file are none.
+pub fn read_words<'a, S: AsStr>(alloc: Global, words: &'a [S]) -> Result<Asked<'a>, Failure>
+    ensures asked { IfOk result (IsAsked (map S.text words.now)) }
+    ensures err { IfErr result IsOfWords }
+{
+    let command = command(alloc)?;
+    match command.try_get_matches_from(words) {
+        Ok(matches) => options_given(alloc, &matches),
+        Err(error) => shown(alloc, &error),
+    }
+}
+
+fn command<'a>(alloc: Global) -> Result<Command<'a>, AllocError>
+    ensures { IfOk result (λ command. app_of command ≡ check_app) }
+{
+    let command = Command::new(alloc, "nighthub_check")
+        .about("Says what is wrong with the files of a setup")
+        .version("0.1.0")
+        .after_help(STATUSES)
+        .no_binary_name(true);
+    let setup = option(alloc, "setup", "The partners and routes");
+    let command = with_option(command, setup)?;
+    let guide = repeated(alloc, "guide", "A guide, given once for each");
+    let command = with_option(command, guide)?;
+    let counters = option(alloc, "counters", "The numbers to go on from");
+    with_option(command, counters)
+}
+
+fn with_option<'a>(command: Command<'a>, option: Arg<'a>) -> Result<Command<'a>, AllocError>
+    requires { option.global ≡ false }
+    ensures { IfOk result (λ more. app_of more ≡ with_rule (app_of command.entry) (rule_of option.entry)) }
+{
+    command.arg(option)
+}
+
+/// An option of this name that takes one file, and may be left out.
+fn option<'a>(alloc: Global, name: &'a str, help: &'a str) -> Arg<'a>
+    ensures rule { rule_of result ≡ option_free name.now }
+    ensures local { result.global ≡ false }
+{
+    Arg::new(alloc, name)
+        .long(name)
+        .value_name("FILE")
+        .help(help)
+        .required(false)
+        .action(ArgAction::Set)
+}
+
+/// The same, which may be given again.
+fn repeated<'a>(alloc: Global, name: &'a str, help: &'a str) -> Arg<'a>
+    ensures rule { rule_of result ≡ option_repeated name.now }
+    ensures local { result.global ≡ false }
+{
+    option(alloc, name, help).action(ArgAction::Append)
+}
+
+fn options_given<'a>(alloc: Global, matches: &ArgMatches<'a>) -> Result<Asked<'a>, Failure>
+    ensures given { IfOk result (IsGiven (first_value (found_of matches.now)) (values_found (found_of matches.now))) }
+    ensures err { IfErr result IsOfWords }
+{
+    let guides = match matches.get_strs("guide") {
+        None => Vec::new(alloc),
+        Some(guides) => copied(alloc, guides)?,
+    };
+    let setup = matches.get_str("setup");
+    let counters = matches.get_str("counters");
+    if setup.is_none() && counters.is_none() && guides.is_empty() {
+        return Err(Failure::Usage);
+    }
+    Ok(Asked::Check(Options {
+        setup,
+        guides,
+        counters,
+    }))
+}
+
+fn copied<'a>(alloc: Global, texts: &[&'a str]) -> Result<Vec<&'a str>, AllocError>
+    ensures { IfOk result (λ copy. copy.items ≡ texts.now) }
+{
+    let mut copy = Vec::new(alloc);
+    copy.extend_from_slice(texts)?;
+    Ok(copy)
+}
+
+/// The text that is asked for, where the words have no mistake.
+fn shown<'a>(alloc: Global, error: &Error) -> Result<Asked<'a>, Failure>
+    ensures shown { IfOk result (IsShown (kind_of error.now)) }
+    ensures err { IfErr result IsOfWords }
+{
+    match error.kind() {
+        ErrorKind::DisplayHelp | ErrorKind::DisplayVersion => {
+            let text = format!(in alloc; "{error}")?;
+            Ok(Asked::Show(text))
+        }
+        ErrorKind::OutOfMemory => Err(Failure::Memory),
+        _ => Err(Failure::Usage),
+    }
+}

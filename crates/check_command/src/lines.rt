@@ -1,0 +1,78 @@
+ghost use Rattle.std.specs.Prelude.{◌≡◌, ◌++◌, IfOk, OnOk};
+ghost use Rattle.std.specs.List.{list_all};
+ghost use Rattle.check_command.specs.Lines as lines;
+ghost use Rattle.check_command.specs.declared.told.Told.TheVariants as told;
+
+use crate::told::{FileTold, Listed, Told};
+use hub_kinds::NoMemory;
+use itoa::Buffer;
+use std::alloc::Global;
+
+fn append(out: &mut Vec<u8>, text: &[u8]) -> Result<(), NoMemory>
+    ensures { OnOk result (out.new.items ≡ out.old.items ++ text.now) }
+{
+    out.extend_from_slice(text)?;
+    Ok(())
+}
+
+fn noun_of(what: Listed) -> &'static [u8]
+    ensures { result.now ≡ lines.noun_of what }
+{
+    match what {
+        Listed::Slots => b" slots",
+        Listed::Partners => b" partners",
+        Listed::Counters => b" counters",
+    }
+}
+
+fn append_count(out: &mut Vec<u8>, count: u64, what: Listed) -> Result<(), NoMemory>
+    ensures { OnOk result (out.new.items ≡ out.old.items ++ lines.told_text (told.Taken count what)) }
+{
+    let mut digits = Buffer::new();
+    append(out, b"ok, ")?;
+    append(out, digits.format(count).as_bytes())?;
+    append(out, noun_of(what))
+}
+
+fn append_told(out: &mut Vec<u8>, told: &Told) -> Result<(), NoMemory>
+    ensures { OnOk result (out.new.items ≡ out.old.items ++ lines.told_text told.now) }
+{
+    match told {
+        Told::Taken(count, what) => append_count(out, *count, *what),
+        Told::Open => append(out, b"read, and not judged, since another file is refused"),
+        Told::Refused(text) => append(out, text.as_slice()),
+    }
+}
+
+fn append_line(out: &mut Vec<u8>, file: &FileTold<'_>) -> Result<(), NoMemory>
+    ensures { OnOk result (out.new.items ≡ out.old.items ++ lines.line_of file.now) }
+{
+    append(out, file.path.as_bytes())?;
+    append(out, b": ")?;
+    append_told(out, &file.told)?;
+    append(out, b"\n")
+}
+
+/// The lines of these files.
+pub fn lines_of(alloc: Global, files: &[FileTold<'_>]) -> Result<Vec<u8>, NoMemory>
+    ensures { IfOk result (λ text. text.items ≡ lines.lines_of files.now) }
+{
+    let mut text = Vec::new(alloc);
+    for file in files {
+        append_line(&mut text, file)?;
+    }
+    Ok(text)
+}
+
+fn are_taken(files: &[FileTold<'_>]) -> bool
+    ensures { result ≡ list_all (λ f. lines.is_taken f.told) files.now }
+{
+    files.iter().all(|file| file.told.is_taken())
+}
+
+/// The status: 0 where each file is taken, else 3.
+pub fn status_of(files: &[FileTold<'_>]) -> u8
+    ensures { result ≡ lines.status_of files.now }
+{
+    if are_taken(files) { 0 } else { 3 }
+}

@@ -1,0 +1,86 @@
+ghost use Rattle.std.specs.Prelude.{◌≡◌, ◌≢◌, ◌≤◌, IfOk, OnOk, map};
+ghost use Rattle.std.specs.Io.KnownBytes.{Appends};
+ghost use Rattle.check_command.specs.Files.{paths_in};
+ghost use Rattle.check_command.specs.Runs.{IsChecked, IsPrinted, IsReport};
+
+use crate::command::{Asked, Options, read_words};
+use crate::failure::Failure;
+use crate::files::read_files;
+use crate::judge::tell_files;
+use crate::lines::{lines_of, status_of};
+use hub_kinds::NoMemory;
+use std::convert::AsStr;
+use std::io;
+use std::io::Write;
+use std::rt::Files;
+
+/// What is printed, and the status.
+#[derive(Drop)]
+struct Report {
+    text: Vec<u8>,
+    status: u8,
+}
+
+/// Runs the check on these words, its arguments without its name, and gives its exit status: 0 or 3 where it has told of each file,
+/// 0 where it has printed a text that was asked for, otherwise that of the failure whose line it has printed on `err`.
+pub fn check_main<R, S, O, E>(rt: &R, words: &[S], out: &mut O, err: &mut E) -> u8
+where
+    R: Files + AllocGlobal,
+    S: AsStr,
+    O: Write,
+    E: Write,
+    ensures status { result ≤ 6 }
+    ensures printed { result ≢ 2 → result ≢ 5 → result ≢ 6
+        → IsPrinted (map S.text words.now) result (O.contents out.old) (O.contents out.new) }
+{
+    match read_words(rt.alloc(), words) {
+        Ok(Asked::Check(options)) => check(rt, &options, out, err),
+        Ok(Asked::Show(text)) => finish(text.as_bytes(), 0, out, err),
+        Err(mistake) => mistake.report(err),
+    }
+}
+
+/// Tells of the files that these options name.
+fn check<R, O, E>(rt: &R, options: &Options<'_>, out: &mut O, err: &mut E) -> u8
+where
+    R: Files + AllocGlobal,
+    O: Write,
+    E: Write,
+    ensures status { result ≤ 6 }
+    ensures printed { result ≢ 2 → result ≢ 5 → result ≢ 6
+        → IsChecked (paths_in options.now) result (O.contents out.old) (O.contents out.new) }
+{
+    match report_of(rt, options) {
+        Ok(report) => finish(report.text.as_slice(), report.status, out, err),
+        Err(_) => Failure::Memory.report(err),
+    }
+}
+
+fn report_of<R: Files + AllocGlobal>(rt: &R, options: &Options<'_>) -> Result<Report, NoMemory>
+    ensures { IfOk result (λ report. IsReport (paths_in options.now) report.text.items report.status) }
+{
+    let files = read_files(rt, options)?;
+    let told = tell_files(rt.alloc(), &files)?;
+    Ok(Report {
+        text: lines_of(rt.alloc(), told.as_slice())?,
+        status: status_of(told.as_slice()),
+    })
+}
+
+/// Prints a text, and gives this status, or that of a failure of standard output.
+fn finish<O: Write, E: Write>(text: &[u8], status: u8, out: &mut O, err: &mut E) -> u8
+    ensures printed { result ≢ 5 → Appends (O.contents out.old) (O.contents out.new) text.now }
+    ensures status { result ≢ 5 → result ≡ status }
+{
+    if print(text, out).is_err() {
+        return Failure::Stdout.report(err);
+    }
+    status
+}
+
+fn print<O: Write>(text: &[u8], out: &mut O) -> io::Result<()>
+    ensures { OnOk result (Appends (O.contents out.old) (O.contents out.new) text.now) }
+{
+    out.write_all(text)?;
+    out.flush()
+}

@@ -1,0 +1,42 @@
+ghost use Rattle.std.specs.Prelude.{◌≡◌};
+ghost use Rattle.check_command.specs.Lines as lines;
+
+use hub_kinds::Text;
+
+/// What a file lists.
+#[derive(Clone, Copy, Debug, PartialEq, Eq)]
+pub enum Listed {
+    Slots,
+    Partners,
+    Counters,
+}
+
+/// What is told of a file.
+#[derive(Debug, Drop)]
+pub enum Told {
+    /// It is taken, and has so many of what it lists.
+    Taken(u64, Listed),
+    /// It is read, and isn't judged, since another file is refused.
+    Open,
+    /// It is refused: why, in words.
+    Refused(Text),
+}
+
+impl Told {
+    /// Whether it is taken.
+    pub fn is_taken(&self) -> bool
+        ensures { result ≡ lines.is_taken self.now }
+    {
+        match self {
+            Told::Taken(_, _) => true,
+            _ => false,
+        }
+    }
+}
+
+/// A file, by its path, and what is told of it.
+#[derive(Debug, Drop)]
+pub struct FileTold<'a> {
+    pub path: &'a str,
+    pub told: Told,
+}

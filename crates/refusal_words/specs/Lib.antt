@@ -1,0 +1,5 @@
+pub mod FileWords
+pub mod GuideWords
+pub mod Places
+pub mod SetupNames
+pub mod SetupWords

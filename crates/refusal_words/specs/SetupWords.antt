@@ -1,0 +1,43 @@
+-- Own: what is said of a setup that is refused.
+use Rattle.std.specs.Prelude.{ℕ, ◌+◌, List, [], ◌++◌, codes, slice_get}
+use Rattle.std.specs.Option.{option_map_or}
+use Rattle.partner_setup.specs.declared.setup_fault.IdOwner.TheVariants as owner
+use Rattle.partner_setup.specs.declared.setup_fault.GuidesOwner.TheVariants as guided
+use Rattle.partner_setup.specs.declared.setup_fault.SetupFault.{SetupFault}
+use Rattle.partner_setup.specs.declared.setup_fault.SetupFault.TheVariants as fault
+use Rattle.refusal_words.specs.Places.{in_place}
+use Rattle.refusal_words.specs.declared.names.SetupNames.{SetupNames}
+
+-- a row by its number, from 1 on, and its name; nothing where no row has the place
+abbrev pub row_words : (kind : List ℕ) → (names : List (List ℕ)) → (place : ℕ) → List ℕ
+row_words kind names place = option_map_or (λ name. in_place kind (place + 1) name) (slice_get names place) []
+
+-- where the refusal stands
+abbrev pub where_words : SetupNames → SetupFault → List ℕ
+where_words names (fault.SamePartner place) = row_words (codes "partner") names.partners place
+where_words names (fault.BadDelimiters place) = row_words (codes "partner") names.partners place
+where_words names (fault.BadId owner.Hub) = codes "the hub: "
+where_words names (fault.BadId (owner.Partner place)) = row_words (codes "partner") names.partners place
+where_words names (fault.BadGuides (guided.Partner place)) = row_words (codes "partner") names.partners place
+where_words names (fault.BadGuides (guided.Guide place)) = row_words (codes "guide") names.guides place
+where_words names (fault.BadRoute place) = row_words (codes "route") names.routes place
+where_words names (fault.BadCounter place) = row_words (codes "counter") names.counters place
+where_words names (fault.BadCap place) = row_words (codes "partner") names.partners place
+where_words names fault.NoMemory = []
+
+-- what is wrong there
+abbrev pub said_of : SetupFault → List ℕ
+said_of (fault.SamePartner place) = codes "a partner behind it has its name, or its qualifier and id"
+said_of (fault.BadDelimiters place) = codes "a delimiter isn't one byte, isn't allowed, or stands for two of the four"
+said_of (fault.BadId at) = codes "a name, a qualifier, an id or a code hasn't its form"
+said_of (fault.BadGuides (guided.Partner place)) = codes "a guide that isn't given, or two guides for the same sets"
+said_of (fault.BadGuides (guided.Guide place)) = codes "a guide behind it has its name"
+said_of (fault.BadRoute place) =
+    codes "it leads to no partner, or to one twice, or its code has no form or is that of a route behind it"
+said_of (fault.BadCounter place) =
+    codes "a number out of 1 to 999999999, a partner that isn't there, or one that has counters behind it too"
+said_of (fault.BadCap place) = codes "a cap out of 1 to 99999"
+said_of fault.NoMemory = codes "no memory"
+
+abbrev pub setup_words : SetupNames → SetupFault → List ℕ
+setup_words names why = where_words names why ++ said_of why

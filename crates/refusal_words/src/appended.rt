@@ -1,0 +1,60 @@
+ghost use Rattle.std.specs.Prelude.{◌≡◌, ◌++◌, OnOk, decimal};
+ghost use Rattle.refusal_words.specs.Places.{in_place, name_text, place_text};
+
+use hub_kinds::NoMemory;
+use itoa::Buffer;
+
+/// Adds a text.
+pub fn append(out: &mut Vec<u8>, text: &[u8]) -> Result<(), NoMemory>
+    ensures { OnOk result (out.new.items ≡ out.old.items ++ text.now) }
+{
+    out.extend_from_slice(text)?;
+    Ok(())
+}
+
+/// Adds a number.
+pub fn append_number(out: &mut Vec<u8>, number: u64) -> Result<(), NoMemory>
+    ensures { OnOk result (out.new.items ≡ out.old.items ++ decimal number) }
+{
+    let mut digits = Buffer::new();
+    append(out, digits.format(number).as_bytes())
+}
+
+fn append_name(out: &mut Vec<u8>, name: &[u8]) -> Result<(), NoMemory>
+    ensures { OnOk result (out.new.items ≡ out.old.items ++ name_text name.now) }
+{
+    if name.is_empty() {
+        return Ok(());
+    }
+    append(out, b" (")?;
+    append(out, name)?;
+    append(out, b")")
+}
+
+/// Adds `KIND NUMBER (NAME)`.
+pub fn append_place(
+    out: &mut Vec<u8>,
+    kind: &[u8],
+    number: u64,
+    name: &[u8],
+) -> Result<(), NoMemory>
+    ensures { OnOk result (out.new.items ≡ out.old.items ++ place_text kind.now number name.now) }
+{
+    append(out, kind)?;
+    append(out, b" ")?;
+    append_number(out, number)?;
+    append_name(out, name)
+}
+
+/// The same behind which something is said of it.
+pub fn append_in_place(
+    out: &mut Vec<u8>,
+    kind: &[u8],
+    number: u64,
+    name: &[u8],
+) -> Result<(), NoMemory>
+    ensures { OnOk result (out.new.items ≡ out.old.items ++ in_place kind.now number name.now) }
+{
+    append_place(out, kind, number, name)?;
+    append(out, b": ")
+}

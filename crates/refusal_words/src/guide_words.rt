@@ -1,0 +1,232 @@
+ghost use Rattle.std.specs.Prelude.{◌≡◌, ◌++◌, ℕ, List, IfOk, OnOk};
+ghost use Rattle.refusal_words.specs.GuideWords as words;
+
+use crate::appended::{append, append_in_place, append_number, append_place};
+use crate::common::common_segment;
+use crate::file_words::{KeyFault, append_key};
+use crate::nodes::{id_of, node_at};
+use guide_toml::GuideFileFault;
+use guide_tree::{GuideFault, Node};
+use hub_kinds::{NoMemory, Text, Texts};
+use std::alloc::Global;
+
+/// Adds the node in which a key stands, where it is one.
+fn append_node(out: &mut Vec<u8>, slot: u32, name: &[u8]) -> Result<(), NoMemory>
+    ensures { OnOk result (out.new.items ≡ out.old.items ++ words.node_words slot name.now) }
+{
+    if slot == 0 {
+        return Ok(());
+    }
+    append_in_place(out, b"node", u64::from(slot), name)
+}
+
+fn append_node_key(
+    out: &mut Vec<u8>,
+    slot: u32,
+    name: &[u8],
+    key: &[u8],
+    fault: &KeyFault,
+) -> Result<(), NoMemory>
+    ensures { OnOk result (out.new.items ≡ out.old.items ++ words.node_key_words slot name.now key.now fault.now) }
+{
+    append_node(out, slot, name)?;
+    append_key(out, key, fault)
+}
+
+/// Adds what is wrong with a guide file, where it isn't the guide's own fault; `name` is the id of the node's segment or loop.
+pub fn append_guide_file_words(
+    out: &mut Vec<u8>,
+    fault: &GuideFileFault,
+    name: &[u8],
+) -> Result<(), NoMemory>
+    ensures { OnOk result (out.new.items ≡ out.old.items ++ words.guide_file_words fault.now name.now) }
+{
+    match fault {
+        GuideFileFault::NotToml => append(out, b"no TOML table"),
+        GuideFileFault::Missing(key, slot) => {
+            append_node_key(out, *slot, name, key.as_bytes(), &KeyFault::Missing)
+        }
+        GuideFileFault::WrongKind(key, slot) => {
+            append_node_key(out, *slot, name, key.as_bytes(), &KeyFault::WrongKind)
+        }
+        GuideFileFault::Unknown(key, slot) => {
+            append_node_key(out, *slot, name, key.as_bytes(), &KeyFault::Unknown)
+        }
+        GuideFileFault::Guide(_) => append(out, b"a guide that is refused"),
+        GuideFileFault::NoMemory => append(out, b"no memory"),
+    }
+}
+
+fn append_element(out: &mut Vec<u8>, number: u64, text: &[u8]) -> Result<(), NoMemory>
+    ensures { OnOk result (out.new.items ≡ out.old.items ++ words.element_words number text.now) }
+{
+    if text.is_empty() {
+        return Ok(());
+    }
+    append(out, b" (element ")?;
+    append_number(out, number)?;
+    append(out, b" = ")?;
+    append(out, text)?;
+    append(out, b")")
+}
+
+fn append_elements(out: &mut Vec<u8>, elements: &[Text]) -> Result<(), NoMemory>
+    ensures { OnOk result (out.new.items ≡ out.old.items ++ words.elements_words 1 elements.now) }
+{
+    for i in 0..elements.len() {
+        append_element(out, i as u64 + 1, elements[i].as_slice())?;
+    }
+    Ok(())
+}
+
+/// Adds a segment, by its id and its elements that aren't empty.
+fn append_segment(out: &mut Vec<u8>, segment: &[Text]) -> Result<(), NoMemory>
+    ensures { OnOk result (out.new.items ≡ out.old.items ++ words.segment_words segment.now) }
+{
+    match segment {
+        [] => append(out, b"one segment"),
+        [id, elements @ ..] => {
+            append(out, id.as_slice())?;
+            append_elements(out, elements)
+        }
+    }
+}
+
+/// The segment that the slots of two nodes both take, in words.
+fn common_words(
+    alloc: Global,
+    first: Option<&Node>,
+    second: Option<&Node>,
+) -> Result<Vec<u8>, NoMemory>
+    ensures { IfOk result (λ text. (segment : List (List ℕ)) × (text.items ≡ words.segment_words segment)) }
+{
+    let mut text = Vec::new(alloc);
+    match common_of(alloc, first, second)? {
+        None => append_segment(&mut text, &[])?,
+        Some(segment) => append_segment(&mut text, segment.as_slice())?,
+    }
+    Ok(text)
+}
+
+fn common_of(
+    alloc: Global,
+    first: Option<&Node>,
+    second: Option<&Node>,
+) -> Result<Option<Texts>, NoMemory> {
+    match (first, second) {
+        (Some(Node::Segment(slot)), Some(Node::Segment(other))) => {
+            common_segment(alloc, slot, other)
+        }
+        _ => Ok(None),
+    }
+}
+
+/// Adds what is wrong with a guide whose file is read, by its nodes.
+pub fn append_guide_words(
+    alloc: Global,
+    out: &mut Vec<u8>,
+    fault: &GuideFault,
+    nodes: &[Node],
+) -> Result<(), NoMemory>
+    ensures { OnOk result ((first second : List ℕ) × (segment : List (List ℕ))
+        × (out.new.items ≡ out.old.items ++ words.own_words fault.now first second (words.segment_words segment))) }
+{
+    let (first, second) = slots_of(fault);
+    let one = node_at(nodes, first);
+    let other = node_at(nodes, second);
+    let common = common_words(alloc, one, other)?;
+    append_own(out, fault, id_of(one), id_of(other), common.as_slice())
+}
+
+/// The slots that a fault names; the first node, where it names none.
+fn slots_of(fault: &GuideFault) -> (u32, u32) {
+    match fault {
+        GuideFault::BadBounds(slot)
+        | GuideFault::BadTrigger(slot)
+        | GuideFault::BadCondition(slot) => (*slot, *slot),
+        GuideFault::Ambiguous(first, second) => (*first, *second),
+        _ => (1, 1),
+    }
+}
+
+/// Adds the same, where the slots have these ids, and what fits both of two is this.
+fn append_own(
+    out: &mut Vec<u8>,
+    fault: &GuideFault,
+    first: &[u8],
+    second: &[u8],
+    common: &[u8],
+) -> Result<(), NoMemory>
+    ensures { OnOk result (out.new.items ≡ out.old.items ++ words.own_words fault.now first.now second.now common.now) }
+{
+    match fault {
+        GuideFault::TooDeep => append(out, b"loops are nested over 8 deep"),
+        GuideFault::TooMany => append(out, b"over 2000 nodes"),
+        GuideFault::BadBounds(slot) => append_slot(
+            out,
+            b"slot",
+            *slot,
+            first,
+            b"bounds that can't be met or are too large, or an id that is none",
+        ),
+        GuideFault::BadTrigger(slot) => append_slot(
+            out,
+            b"loop",
+            *slot,
+            first,
+            b"its first node isn't a segment with min 1 and max 1",
+        ),
+        GuideFault::BadCondition(slot) => append_condition(out, *slot, first),
+        GuideFault::Ambiguous(one, other) => {
+            append_rivals(out, *one, first, *other, second)?;
+            append(out, common)
+        }
+        GuideFault::NoMemory => append(out, b"no memory"),
+    }
+}
+
+/// Adds what is said of a slot, or of a loop.
+fn append_slot(
+    out: &mut Vec<u8>,
+    kind: &[u8],
+    slot: u32,
+    name: &[u8],
+    text: &[u8],
+) -> Result<(), NoMemory>
+    ensures { OnOk result (out.new.items ≡ out.old.items ++ words.slot_words kind.now slot name.now text.now) }
+{
+    append_in_place(out, kind, u64::from(slot), name)?;
+    append(out, text)
+}
+
+fn append_condition(out: &mut Vec<u8>, slot: u32, name: &[u8]) -> Result<(), NoMemory>
+    ensures { OnOk result (out.new.items ≡ out.old.items ++ words.condition_words slot name.now) }
+{
+    if slot == 0 {
+        return append(out, b"a dependency, or `hl`, that can't be");
+    }
+    append_slot(
+        out,
+        b"slot",
+        slot,
+        name,
+        b"a condition, a pick or a label that can't be",
+    )
+}
+
+/// Adds the two slots that are rivals.
+fn append_rivals(
+    out: &mut Vec<u8>,
+    first: u32,
+    first_name: &[u8],
+    second: u32,
+    second_name: &[u8],
+) -> Result<(), NoMemory>
+    ensures { OnOk result (out.new.items
+        ≡ out.old.items ++ words.rivals_words first first_name.now second second_name.now) }
+{
+    append_place(out, b"slot", u64::from(first), first_name)?;
+    append(out, b" and ")?;
+    append_place(out, b"slot", u64::from(second), second_name)?;
+    append(out, b" may come at one place, and both fit ")
+}

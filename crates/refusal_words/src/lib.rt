@@ -1,0 +1,23 @@
+//! Words for the refusals of guide files, setup files, counters files and setups: one sentence for each, which names the key, the node,
+//! the two slots and a segment that fits both, the partner, the route or the row of counters.
+//!
+//! Proved:
+//! - each sentence is the one that the definitions give, byte for byte, of the refusal and of the rows that it speaks of;
+//! - a segment that is shown for two slots fits both (`common_segment`).
+//!
+//! Source: own; X12.6, segment, for the segment that is shown.
+#![tactic(auto)]
+
+mod appended;
+mod common;
+mod file_words;
+mod guide_words;
+mod names;
+mod nodes;
+mod setup_words;
+
+pub use common::common_segment;
+pub use file_words::append_file_words;
+pub use guide_words::{append_guide_file_words, append_guide_words};
+pub use names::SetupNames;
+pub use setup_words::append_setup_words;

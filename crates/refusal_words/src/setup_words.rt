@@ -1,0 +1,78 @@
+ghost use Rattle.std.specs.Prelude.{◌≡◌, ◌++◌, OnOk};
+ghost use Rattle.refusal_words.specs.SetupWords as words;
+
+use crate::appended::{append, append_in_place};
+use crate::names::SetupNames;
+use hub_kinds::{NoMemory, Text};
+use partner_setup::{GuidesOwner, IdOwner, SetupFault};
+
+/// Adds the row at a place, by its number and its name.
+fn append_row(out: &mut Vec<u8>, kind: &[u8], names: &[Text], place: usize) -> Result<(), NoMemory>
+    ensures { OnOk result (out.new.items ≡ out.old.items ++ words.row_words kind.now names.now place) }
+{
+    match names.get(place) {
+        None => Ok(()),
+        Some(name) => append_in_place(out, kind, place as u64 + 1, name.as_slice()),
+    }
+}
+
+/// Adds where the refusal of a setup stands.
+fn append_where(out: &mut Vec<u8>, names: &SetupNames, fault: &SetupFault) -> Result<(), NoMemory>
+    ensures { OnOk result (out.new.items ≡ out.old.items ++ words.where_words names.now fault.now) }
+{
+    let partners = names.partners.as_slice();
+    match fault {
+        SetupFault::SamePartner(place) => append_row(out, b"partner", partners, *place),
+        SetupFault::BadDelimiters(place) => append_row(out, b"partner", partners, *place),
+        SetupFault::BadId(IdOwner::Hub) => append(out, b"the hub: "),
+        SetupFault::BadId(IdOwner::Partner(place)) => append_row(out, b"partner", partners, *place),
+        SetupFault::BadGuides(GuidesOwner::Partner(place)) => {
+            append_row(out, b"partner", partners, *place)
+        }
+        SetupFault::BadGuides(GuidesOwner::Guide(place)) => {
+            append_row(out, b"guide", names.guides.as_slice(), *place)
+        }
+        SetupFault::BadRoute(place) => append_row(out, b"route", names.routes.as_slice(), *place),
+        SetupFault::BadCounter(place) => {
+            append_row(out, b"counter", names.counters.as_slice(), *place)
+        }
+        SetupFault::BadCap(place) => append_row(out, b"partner", partners, *place),
+        SetupFault::NoMemory => Ok(()),
+    }
+}
+
+fn said_of(fault: &SetupFault) -> &'static [u8]
+    ensures { result.now ≡ words.said_of fault.now }
+{
+    match fault {
+        SetupFault::SamePartner(_) => b"a partner behind it has its name, or its qualifier and id",
+        SetupFault::BadDelimiters(_) => {
+            b"a delimiter isn't one byte, isn't allowed, or stands for two of the four"
+        }
+        SetupFault::BadId(_) => b"a name, a qualifier, an id or a code hasn't its form",
+        SetupFault::BadGuides(GuidesOwner::Partner(_)) => {
+            b"a guide that isn't given, or two guides for the same sets"
+        }
+        SetupFault::BadGuides(GuidesOwner::Guide(_)) => b"a guide behind it has its name",
+        SetupFault::BadRoute(_) => {
+            b"it leads to no partner, or to one twice, or its code has no form or is that of a route behind it"
+        }
+        SetupFault::BadCounter(_) => {
+            b"a number out of 1 to 999999999, a partner that isn't there, or one that has counters behind it too"
+        }
+        SetupFault::BadCap(_) => b"a cap out of 1 to 99999",
+        SetupFault::NoMemory => b"no memory",
+    }
+}
+
+/// Adds what is wrong with a setup whose rows have these names.
+pub fn append_setup_words(
+    out: &mut Vec<u8>,
+    names: &SetupNames,
+    fault: &SetupFault,
+) -> Result<(), NoMemory>
+    ensures { OnOk result (out.new.items ≡ out.old.items ++ words.setup_words names.now fault.now) }
+{
+    append_where(out, names, fault)?;
+    append(out, said_of(fault))
+}

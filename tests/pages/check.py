@@ -1,0 +1,140 @@
+"""The examples of what nighthub_check says: each refusal of a guide, a setup file, a counters file and a setup, in words."""
+import os
+import subprocess
+import tempfile
+
+from errors import loops, many, replaced
+from guides import DEPENDS, HEAD, SMALL, TWO, elements, loop, nodes, segment
+from trial import COUNTERS, H850, H856, PROGRAM, SETUP, Page
+
+CHECK = os.path.abspath(os.environ.get("NIGHTHUB_CHECK", os.path.join(os.path.dirname(PROGRAM), "..", "..", "nighthub_check", "out",
+                                                                      "nighthub_check")))
+OK = {"guide_0": "ok, 14 slots", "guide_1": "ok, 12 slots", "setup": "ok, 2 partners", "counters": "ok, 2 counters"}
+ORDER = ("guide_0", "guide_1", "setup", "counters")
+
+
+def run(words):
+    done = subprocess.run([CHECK, *words], stdin=subprocess.DEVNULL, capture_output=True, timeout=120)
+    return done.returncode, done.stdout.decode(errors="replace"), done.stderr.decode(errors="replace")
+
+
+def check(**files):
+    """Status, standard output and standard error of a check of files by their kinds; a text that begins with / is a file's name."""
+    with tempfile.TemporaryDirectory(prefix="nighthub-page-") as here:
+        words = []
+        for kind, given in files.items():
+            path = given if isinstance(given, str) and given.startswith("/") else os.path.join(here, f"{kind}.toml")
+            if path != given:
+                with open(path, "wb") as it:
+                    it.write(given if isinstance(given, bytes) else given.encode())
+            words += ["--" + kind.split("_")[0], path]
+        status, said, failed = run(words)
+        return status, said.replace(here + "/", ""), failed
+
+
+def lines(**said):
+    return "".join(f"{kind}.toml: {text}\n" for kind, text in said.items())
+
+
+BOUNDS = "slot 1 (REF): bounds that can't be met or are too large, or an id that is none"
+TRIGGER = "loop 1 (N9): its first node isn't a segment with min 1 and max 1"
+CONDITION = "slot 1 (REF): a condition, a pick or a label that can't be"
+NO_DEPENDENCY = "a dependency, or `hl`, that can't be"
+BOTH = "slot 1 (REF) and slot 2 (REF) may come at one place, and both fit REF"
+
+GUIDES = {
+    "not TOML": ('name = "A', "no TOML table"),
+    "no set": (SMALL.replace('set = "850"\n', ""), "`set` is missing"),
+    "a set that is a number": (SMALL.replace('set = "850"', "set = 850"), "`set` has another type or form"),
+    "a guide for FA": (SMALL.replace('"PO"', '"FA"'), "`group` has another type or form"),
+    "a key of no guide": ('colour = "red"\n' + SMALL, "`colour` is no key of its table"),
+    "segment and loop at once": (nodes('{seg="REF", loop="N9", min=0, max=1}'), "node 1: `seg` has another type or form"),
+    "a label on a loop": (nodes(loop("", 'label="X", ')), "node 1: `label` is no key of its table"),
+    "no elements": (nodes('{seg="REF", min=0, max=1}'), "node 1: `elements` is missing"),
+    "a second segment without elements": (nodes(segment(), '{seg="DTM", min=0, max=1}'), "node 2: `elements` is missing"),
+    "no elements in a loop": (nodes(loop('{seg="N9", min=1, max=1}')), "node 2: `elements` is missing"),
+    "a type that isn't there": (elements("128 M XX 2 3"), "node 1: `elements` has another type or form"),
+    "8 tolerated": ('tolerate_segment = ["8"]\n' + SMALL, "`tolerate_segment` has another type or form"),
+    "loops nested nine deep": (loops(9), "loops are nested over 8 deep"),
+    "2,001 nodes": (many(2001), "over 2000 nodes"),
+    "least over most": (nodes(segment(least=2)), BOUNDS),
+    "no codes behind =": (elements("128 M ID 2 3 ="), BOUNDS),
+    "first child twice": (nodes(loop(segment("N9", 1, 2))), TRIGGER),
+    "an empty loop": (nodes(loop("")), TRIGGER),
+    "positions over the rows": (elements(*TWO, more=', conditions=["R0203"]'), CONDITION),
+    "a label twice": (nodes(segment(more='label="R", '), segment("DTM", more='label="R", ')),
+                      "slot 2 (DTM): a condition, a pick or a label that can't be"),
+    "a hierarchy without HL": ('hl = {pairs=["/S"], sequential=true}\n' + SMALL, NO_DEPENDENCY),
+    "a dependency on no slot": (DEPENDS + SMALL, NO_DEPENDENCY),
+    "two that fit one segment": (nodes(segment(), segment()), BOTH),
+    "two with a code in common": (nodes(segment(more='pick=["1 AB DP"], '), segment(more='pick=["1 DP IA"], ')),
+                                  BOTH + " (element 1 = DP)"),
+    "one that picks": (nodes(segment(more='pick=["1 AB DP"], '), segment()), BOTH + " (element 1 = AB)"),
+}
+
+FILES = {
+    "no TOML": (b"hub=", "no TOML table"),
+    "no UTF-8": (b"\xff", "no TOML table"),
+    "nothing": (b"", "`hub` is missing"),
+    "a hub that is a number": (b"hub=1", "`hub` has another type or form"),
+    "two keys of no setup": (b"zeta=1\nalpha=1", "`alpha` is no key of its table"),
+}
+
+COUNTER_FILES = {
+    "no UTF-8": (b"\xff", "no TOML table"),
+    "nothing": (b"", "`version` is missing"),
+    "version 3": (b"version = 3", "`version` has another type or form"),
+    "a group in version 1": (COUNTERS.replace("version = 2", "version = 1"), "`group` is no key of its table"),
+}
+
+FORM = "a name, a qualifier, an id or a code hasn't its form"
+DELIMITERS = "partner 2 (BOLT): a delimiter isn't one byte, isn't allowed, or stands for two of the four"
+ROUTE = "route 2 (BOLT): it leads to no partner, or to one twice, or its code has no form or is that of a route behind it"
+COUNTER = "counter 2 (BOLT): a number out of 1 to 999999999, a partner that isn't there, or one that has counters behind it too"
+
+SETUPS = {
+    "two with one name": (replaced(SETUP, 'name = "BOLT"', 'name = "ACME"'),
+                          "partner 1 (ACME): a partner behind it has its name, or its qualifier and id"),
+    "one delimiter for two": (replaced(SETUP, 'component = ":"', 'component = "|"'), DELIMITERS),
+    "a code of one byte": (replaced(SETUP, 'code = "BOLT"', 'code = "B"'), f"partner 2 (BOLT): {FORM}"),
+    "a hub without an id": (replaced(SETUP, 'id = "HUB"', 'id = ""'), f"the hub: {FORM}"),
+    "a guide that isn't given": (replaced(SETUP, 'guides = ["H850"]', 'guides = ["H999"]'),
+                                 "partner 2 (BOLT): a guide that isn't given, or two guides for the same sets"),
+    "a route to nobody": (replaced(SETUP, 'to = "BOLT"', 'to = "CARL"'), ROUTE),
+    "a cap of 0": (replaced(SETUP, "cap = 1", "cap = 0"), "partner 2 (BOLT): a cap out of 1 to 99999"),
+}
+
+
+def examples():
+    page = Page("ERRORS.md")
+    whole = {"guide_0": H850, "guide_1": H856, "setup": SETUP, "counters": COUNTERS}
+    page.want("all files", check(**whole), (0, lines(**OK), ""))
+    page.want("a guide alone", check(guide_0=H850), (0, lines(guide_0="ok, 14 slots"), ""))
+    page.want("a setup without counters", check(guide_0=H850, guide_1=H856, setup=SETUP),
+              (0, lines(**{kind: OK[kind] for kind in ORDER[:3]}), ""))
+    page.want("no word", run([]), (2, "", "nighthub_check: usage\n"))
+    page.want("a word of no option", run(["--zeta"]), (2, "", "nighthub_check: usage\n"))
+    page.want("two setups", run(["--setup", "a", "--setup", "b"]), (2, "", "nighthub_check: usage\n"))
+    for word in ("--help", "--version"):
+        status, said, failed = run([word])
+        page.want(word, (status, bool(said), failed), (0, True, ""))
+    page.want("a guide that isn't there", check(guide_0="/nowhere/file"), (3, "/nowhere/file: it can't be read\n", ""))
+    for name, (guide, said) in GUIDES.items():
+        page.want(name, check(guide_0=guide), (3, lines(guide_0=said), ""))
+    for name, (setup, said) in FILES.items():
+        page.want(f"a setup file: {name}", check(setup=setup), (3, lines(setup=said), ""))
+    for name, (counters, said) in COUNTER_FILES.items():
+        page.want(f"a counters file: {name}", check(counters=counters), (3, lines(counters=said), ""))
+    for name, (setup, said) in SETUPS.items():
+        page.want(f"a setup: {name}", check(**{**whole, "setup": setup}), (3, lines(**{**OK, "setup": said}), ""))
+    page.want("a counter of 0", check(**{**whole, "counters": "set = 0".join(COUNTERS.rsplit("set = 1", 1))}),
+              (3, lines(**{**OK, "setup": COUNTER}), ""))
+    page.want("two guides with one name", check(guide_0=H850, guide_1=H850, setup=SETUP),
+              (3, lines(guide_0="ok, 14 slots", guide_1="ok, 14 slots",
+                        setup="partner 1 (ACME): a guide that isn't given, or two guides for the same sets"), ""))
+    page.want("a setup beside a guide that is refused", check(guide_0=HEAD, setup=SETUP),
+              (3, lines(guide_0="`nodes` is missing", setup="read, and not judged, since another file is refused"), ""))
+    page.want("each guide's own refusal", check(guide_0="name = 7", guide_1=H856, setup=b"", counters=b""),
+              (3, lines(guide_0="`name` has another type or form", guide_1="ok, 12 slots", setup="`hub` is missing",
+                        counters="`version` is missing"), ""))
+    return page
