@@ -3,6 +3,7 @@ ghost use Rattle.check_command.specs.Files as files;
 ghost use Rattle.check_command.specs.Judged as judged;
 
 use crate::files::{Given, GivenFiles};
+use crate::node_id::node_id;
 use crate::told::{FileTold, Listed, Told};
 use guide_toml::{GuideFileFault, read_guide, read_rows};
 use guide_tree::{Guide, GuideFault, Node};
@@ -28,6 +29,16 @@ fn unread<T>(alloc: Global) -> Result<Judged<T>, NoMemory> {
     Ok(Judged::Refused(Items::from_vec(Vec::from_slice(alloc, b"it can't be read")?)))
 }
 
+/// The number of the node in which a key stands; 0 where the refusal is of no key.
+fn number_of(fault: &GuideFileFault) -> u32 {
+    match fault {
+        GuideFileFault::Missing(_, slot) => *slot,
+        GuideFileFault::WrongKind(_, slot) => *slot,
+        GuideFileFault::Unknown(_, slot) => *slot,
+        GuideFileFault::NotToml | GuideFileFault::Guide(_) | GuideFileFault::NoMemory => 0,
+    }
+}
+
 fn guide_words(alloc: Global, bytes: &[u8], fault: &GuideFileFault) -> Result<Text, NoMemory> {
     let mut text = Vec::new(alloc);
     match fault {
@@ -35,7 +46,10 @@ fn guide_words(alloc: Global, bytes: &[u8], fault: &GuideFileFault) -> Result<Te
             Ok(rows) => append_guide_words(alloc, &mut text, own, rows.nodes.as_slice())?,
             Err(_) => append_guide_words(alloc, &mut text, own, &[])?,
         },
-        _ => append_guide_file_words(&mut text, fault, b"")?,
+        _ => {
+            let id = node_id(alloc, bytes, number_of(fault))?;
+            append_guide_file_words(&mut text, fault, id.as_slice())?;
+        }
     }
     Ok(Items::from_vec(text))
 }

@@ -20,6 +20,7 @@ mod failure;
 mod files;
 mod judge;
 mod lines;
+mod node_id;
 mod run;
 mod told;
 
