@@ -1,7 +1,7 @@
 //! Guides that are made row by row, and what their check answers.
 use guide_tree::{
-    Codes, Condition, Element, ElementType, Guide, GuideFault, GuideHead, GuideRows, Loop, Node, Pick,
-    Relation, Requirement, SimpleRow, Slot,
+    Codes, Condition, Element, ElementType, Guide, GuideFault, GuideHead, GuideRows, Loop, Node,
+    Pick, Relation, Requirement, SimpleRow, Slot,
 };
 use hub_kinds::{Items, Text, Texts};
 use std::alloc::{AllocError, Global};
