@@ -8,6 +8,7 @@ pub mod Marks
 pub mod Measures
 pub mod Members
 pub mod Membership
+pub mod Places
 pub mod Plain
 pub mod Quick
 pub mod Shown

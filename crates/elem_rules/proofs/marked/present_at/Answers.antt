@@ -1,0 +1,34 @@
+use Rattle.std.proofs.Common.{◌≡◌, ◌+◌, arith, sym, subst, ◌∙◌}
+use Rattle.std.specs.Prelude.{ℕ, List, true, false}
+use Rattle.std.specs.List.{list_any}
+use Rattle.guide_tree.specs.Words.{element_of}
+use Rattle.x12_segs.specs.Words.{elements_of}
+use Rattle.elem_rules.specs.Clean.{is_strange}
+use Rattle.elem_rules.proofs.Members.{nth_within}
+use Rattle.elem_rules.proofs.Plain.{narrow_part}
+use Rattle.elem_rules.proofs.Looks.{fit_more, bits_more}
+use Rattle.elem_rules.proofs.marked.present_at.Goals as goal
+
+pub fits-requires : goal.fits-requires
+fits-requires c =
+    let seg = c.args.seg.now in
+    subst (λ (t : List ℕ). list_any is_strange t ≡ false) (sym c.element_behind-text.ensures)
+    (narrow_part true seg.delims.element seg.bytes (c.loop-k.k + 1) c.requires.narrow)
+
+pub loop-k-preserved : goal.loop-k-preserved
+loop-k-preserved c =
+    let s = elements_of c.args.seg.now in
+    let k = c.loop-k.k in
+    let text = c.element_behind-text.result.now in
+    let at : text ≡ element_of s (k + 1) = c.element_behind-text.ensures in
+    record {
+      fit = fit_more c.args.rows.now s k c.index-rows-k.result text (omega arith) c.index-rows-k.is at (sym c.fits.ensures
+          ∙ c.if-not-fits.false) c.loop-k.invariant.fit;
+      bits = bits_more s k c.loop-k.present text c.is_empty.result c.marked-present.result at c.loop-k.invariant.bits c.is_empty.ensures
+          c.marked-present.ensures;
+    }
+
+pub returns-clause-fit : goal.returns-clause-fit
+returns-clause-fit c k row there =
+    let within = nth_within c.args.rows.now k row there in
+    c.loop-k.invariant.fit k row (omega (arith, within.1)) there
