@@ -1,4 +1,5 @@
 pub mod Agreeing
+pub mod Behind
 pub mod Bounded
 pub mod Examples
 pub mod Free

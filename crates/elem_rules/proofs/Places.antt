@@ -160,8 +160,8 @@ parts_up_to t text ps n are le =
     drop_all n (drop 1 (parts t text)) (omega (arith, length-drop 1 (parts t text), length_parts t text ps are))
 
 -- behind the last place there is no part
-pub part_past : (t : ℕ) (text ps : List ℕ) (k : ℕ) → ps ≡ places (is_byte t) text → length ps ≤ k → get_or (parts t text) (k + 1) [] ≡ []
-part_past t text ps k are le = get_or_past (parts t text) (k + 1) [] (omega (arith, length_parts t text ps are))
+pub part_past : (t : ℕ) (text ps : List ℕ) (k : ℕ) → ps ≡ places (is_byte t) text → length ps < k → get_or (parts t text) k [] ≡ []
+part_past t text ps k are past = get_or_past (parts t text) k [] (omega (arith, length_parts t text ps are))
 
 -- a place, and the next one or the end
 module _ (t : ℕ) (text ps : List ℕ) (are : ps ≡ places (is_byte t) text) (k : ℕ) (within : k < length ps) where

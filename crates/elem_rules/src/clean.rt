@@ -33,7 +33,7 @@ fn is_optional(requirement: Requirement) -> bool
     }
 }
 
-fn fits_empty(row: &Element) -> bool
+pub(crate) fn fits_empty(row: &Element) -> bool
     ensures { result ≡ fits_empty row.now }
 {
     match row {
