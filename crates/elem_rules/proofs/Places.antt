@@ -1,6 +1,6 @@
 -- The parts of a text round a separator, by the places at which the separator stands.
-use Rattle.std.proofs.Common.{◌≡◌, ℕ, zero, suc, ◌+◌, ◌-◌, ◌<◌, ◌≤◌, ◌∙◌, List, [], ◌∷◌, Bool, true, false, cond, length, get_or, take, drop}
-use Rattle.std.proofs.Common.{slice_range, refl, ap, sym, subst, arith, add-one}
+use Rattle.std.proofs.Common.{◌≡◌, ℕ, zero, suc, ◌+◌, ◌-◌, ◌<◌, ◌≤◌, ◌∙◌, List, [], ◌∷◌, Bool, true, false, cond, length, get_or, take}
+use Rattle.std.proofs.Common.{drop, slice_range, refl, ap, sym, subst, arith, add-one}
 use Rattle.std.specs.List.{slice_split, onto_first}
 use Rattle.std.proofs.Math.Seq.{take-nil}
 use Rattle.std.proofs.lemmas.List.{get_or-drop, drop-drop, drop_all, get_or_past, length-drop}
@@ -177,7 +177,8 @@ module _ (t : ℕ) (text ps : List ℕ) (are : ps ≡ places (is_byte t) text) (
 
   pub place_within : get_or ps (k + 1) (length text) ≤ length text
   place_within =
-      subst (λ (ps : List ℕ). get_or ps (k + 1) (length text) ≤ length text) (sym at) (high (is_byte t) text 0 (length text) (omega arith) (k + 1))
+      subst (λ (ps : List ℕ). get_or ps (k + 1) (length text) ≤ length text) (sym at)
+      (high (is_byte t) text 0 (length text) (omega arith) (k + 1))
 
   pub part_between : get_or (parts t text) (k + 1) [] ≡ slice_range text (get_or ps k 0 + 1) (get_or ps (k + 1) (length text))
   part_between =

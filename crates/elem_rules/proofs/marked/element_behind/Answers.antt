@@ -15,7 +15,7 @@ pub slice_bounds-result-count : goal.slice_bounds-result-count
 slice_bounds-result-count c =
     let seg = c.args.seg.now in
     let below = place_below seg.delims.element seg.bytes c.args.separators.now c.requires.places c.args.k c.requires.within in
-    let to = c.offset_or-to.ensures ∙ ap (λ (bytes : List ℕ). get_or c.args.separators.now (c.args.k + 1) (length bytes)) c.bytes-bytes.ensures in
+    let to = c.offset_or-to.ensures ∙ ap (λ (b : List ℕ). get_or c.args.separators.now (c.args.k + 1) (length b)) c.bytes-bytes.ensures in
     omega (arith, below, to)
 
 pub slice_bounds-result-start : goal.slice_bounds-result-start
@@ -23,7 +23,7 @@ slice_bounds-result-start c =
     let seg = c.args.seg.now in
     let below = place_below seg.delims.element seg.bytes c.args.separators.now c.requires.places c.args.k c.requires.within in
     let within = place_within seg.delims.element seg.bytes c.args.separators.now c.requires.places c.args.k c.requires.within in
-    let to = c.offset_or-to.ensures ∙ ap (λ (bytes : List ℕ). get_or c.args.separators.now (c.args.k + 1) (length bytes)) c.bytes-bytes.ensures in
+    let to = c.offset_or-to.ensures ∙ ap (λ (b : List ℕ). get_or c.args.separators.now (c.args.k + 1) (length b)) c.bytes-bytes.ensures in
     omega (arith, below, within, to, ap length c.bytes-bytes.ensures)
 
 pub slice_bounds-result-end : goal.slice_bounds-result-end
@@ -31,7 +31,7 @@ slice_bounds-result-end c =
     let seg = c.args.seg.now in
     let below = place_below seg.delims.element seg.bytes c.args.separators.now c.requires.places c.args.k c.requires.within in
     let within = place_within seg.delims.element seg.bytes c.args.separators.now c.requires.places c.args.k c.requires.within in
-    let to = c.offset_or-to.ensures ∙ ap (λ (bytes : List ℕ). get_or c.args.separators.now (c.args.k + 1) (length bytes)) c.bytes-bytes.ensures in
+    let to = c.offset_or-to.ensures ∙ ap (λ (b : List ℕ). get_or c.args.separators.now (c.args.k + 1) (length b)) c.bytes-bytes.ensures in
     omega (arith, below, within, to, ap length c.bytes-bytes.ensures)
 
 pub returns : goal.returns
@@ -40,5 +40,5 @@ returns c =
     let from = get_or c.args.separators.now c.args.k 0 + 1 in
     ap (λ (bytes : List ℕ). slice_range bytes from c.offset_or-to.result) c.bytes-bytes.ensures
     ∙ ap (slice_range seg.bytes from)
-    (c.offset_or-to.ensures ∙ ap (λ (bytes : List ℕ). get_or c.args.separators.now (c.args.k + 1) (length bytes)) c.bytes-bytes.ensures)
+    (c.offset_or-to.ensures ∙ ap (λ (b : List ℕ). get_or c.args.separators.now (c.args.k + 1) (length b)) c.bytes-bytes.ensures)
     ∙ sym (part_between seg.delims.element seg.bytes c.args.separators.now c.requires.places c.args.k c.requires.within)
