@@ -1,10 +1,9 @@
 -- A value without codes that has the plain form of its type, and is neither too short nor too long, has no fault.
 use Rattle.std.proofs.Common.{◌≡◌, ℕ, List, Bool, true, false, length, refl, ap, ◌∙◌}
-use Rattle.std.specs.Prelude.{Option, Some, None, is_none, ◌&&◌, ◌||◌, ◌==◌, nat_le, nat_lt, if◌then◌else◌}
+use Rattle.std.specs.Prelude.{Some, None, is_none, ◌&&◌, ◌||◌, ◌==◌, nat_le, nat_lt, if◌then◌else◌}
 use Rattle.std.specs.List.{list_any, list_all}
 use Rattle.std.specs.Option.{option_or}
 use Rattle.std.proofs.lemmas.Bool.{le-ltb, leb-true}
-use Rattle.guide_tree.specs.declared.element.CodeList.{CodeList}
 use Rattle.guide_tree.specs.declared.element.ElementType.{ElementType}
 use Rattle.guide_tree.specs.declared.element.ElementType.TheVariants.{Text, Identifier, Number, Decimal, Date, Time}
 use Rattle.guide_tree.specs.declared.element.SimpleRow.{SimpleRow}

@@ -1,6 +1,4 @@
-use Rattle.std.proofs.Common.{◌≡◌, ◌+◌, ◌≤◌, ℕ, List, length, get_or, [], slice_range, arith, sym, ap, ◌∙◌}
-use Rattle.memchr.specs.Find.{is_byte, places}
-use Rattle.x12_segs.specs.Words.{parts}
+use Rattle.std.proofs.Common.{◌+◌, ℕ, List, length, get_or, slice_range, arith, sym, ap, ◌∙◌}
 use Rattle.elem_rules.proofs.Places.{part_between, place_below, place_within}
 use Rattle.elem_rules.proofs.marked.element_behind.Goals as goal
 

@@ -1,5 +1,5 @@
-use Rattle.std.proofs.Common.{◌≡◌, ◌≤◌, ◌<◌, ℕ, Bool, List, [], length, drop, ap, arith, sym, subst, ◌∙◌}
-use Rattle.std.specs.Prelude.{Some, IsTrue, true}
+use Rattle.std.proofs.Common.{◌≡◌, ◌≤◌, ◌<◌, ℕ, Bool, List, [], length, ap, arith, sym, subst, ◌∙◌}
+use Rattle.std.specs.Prelude.{Some, IsTrue}
 use Rattle.std.specs.List.{All, list_all}
 use Rattle.std.proofs.lemmas.List.{take_rest}
 use Rattle.guide_tree.specs.declared.element.Element.{Element}
