@@ -1,14 +1,16 @@
 pub mod Agreeing
+pub mod Behind
 pub mod Bounded
 pub mod Examples
-pub mod Free
 pub mod Keys
 pub mod Looks
 pub mod Marks
 pub mod Measures
 pub mod Members
 pub mod Membership
+pub mod Places
 pub mod Plain
+pub mod PlainValues
 pub mod Quick
 pub mod Shown
 pub mod Steps

@@ -3,7 +3,8 @@ use Rattle.std.proofs.Common.{◌≡◌, ℕ, suc, ◌+◌, ◌-◌, ◌<◌, �
 use Rattle.std.specs.Prelude.{Option, Some, None, ◌==◌, ◌&&◌, ◌||◌, nat_le, if◌then◌else◌}
 use Rattle.std.specs.List.{list_all, list_any, filter, count_by}
 use Rattle.std.specs.Char.{is_ascii_digit}
-use Rattle.std.proofs.lemmas.Bool.{eqb-true, le-leb, lt-leb, false≢true}
+use mathlib.Core.Logic.{inl, inr}
+use Rattle.std.proofs.lemmas.Bool.{cases_Bool, eqb-true, le-leb, leb-true, lt-leb, false≢true}
 use Rattle.std.proofs.lemmas.List.Sums.{length-filter}
 use Rattle.guide_tree.specs.declared.element.ElementType.{ElementType}
 use Rattle.guide_tree.specs.declared.element.ElementType.TheVariants.{Number}
@@ -129,3 +130,46 @@ decimal_none text points h is none =
     (list_all (λ byte. is_ascii_digit byte || is_point byte) text && nat_le (count_by is_point text) 1)
     (list_any is_ascii_digit text) no in
     ap (λ b. if b then Some (count_by is_ascii_digit text) else None) (sym bad)
+
+-- digits alone begin with no sign and have no point
+digit_no_sign : (x : ℕ) → is_ascii_digit x ≡ true → (x == 45) ≡ false
+digit_no_sign x h = elim (cases_Bool (x == 45)) [
+  | inl e ↦
+      let is : x ≡ 45 = eqb-true x 45 e in
+      let no : is_ascii_digit 45 ≡ true = sym (ap is_ascii_digit is) ∙ h in
+      absurd (false≢true no)
+  | inr e ↦ e
+]
+
+unsigned_digits : (text : List ℕ) → is_digits text ≡ true → without_sign text ≡ text
+unsigned_digits [] h = refl
+unsigned_digits (x ∷ xs) h =
+    ap (λ b. if b then xs else x ∷ xs) (digit_no_sign x (both (is_ascii_digit x) (is_digits xs) h).0)
+
+digits_or_points : (text : List ℕ) → is_digits text ≡ true → list_all (λ byte. is_ascii_digit byte || is_point byte) text ≡ true
+digits_or_points [] h = refl
+digits_or_points (x ∷ xs) h =
+    let e = both (is_ascii_digit x) (is_digits xs) h in
+    ap (λ b. (b || is_point x) && list_all (λ byte. is_ascii_digit byte || is_point byte) xs) e.0 ∙ digits_or_points xs e.1
+
+whole_decimal : (text : List ℕ) → is_whole text ≡ true → is_decimal text ≡ true
+whole_decimal text h =
+    let e = both (nat_le 1 (length text)) (is_digits text) h in
+    let all = digits_or_points text e.1 in
+    let d = all_digits text e.1 in
+    let none = digits_and_points text all in
+    let p = length-filter is_point text in
+    let some = leb-true 1 (length text) e.0 in
+    decimal_of text true true true all (le-leb (count_by is_point text) 1 (omega (arith, d, none, p)))
+    (sym (has_some is_ascii_digit text) ∙ le-leb 1 (length (filter is_ascii_digit text)) (omega (arith, d, some)))
+
+-- a whole number without sign
+pub whole_unsigned : (text : List ℕ) → is_whole text ≡ true → is_whole (without_sign text) ≡ true
+whole_unsigned text h = ap is_whole (unsigned_digits text (both (nat_le 1 (length text)) (is_digits text) h).1) ∙ h
+
+pub decimal_unsigned : (text : List ℕ) → is_whole text ≡ true → is_decimal (without_sign text) ≡ true
+decimal_unsigned text h =
+    ap is_decimal (unsigned_digits text (both (nat_le 1 (length text)) (is_digits text) h).1) ∙ whole_decimal text h
+
+pub whole_length : (text : List ℕ) → is_whole text ≡ true → count_by is_ascii_digit text ≡ length text
+whole_length text h = all_counted text (both (nat_le 1 (length text)) (is_digits text) h).1

@@ -1,13 +1,12 @@
 -- Own: what a quick look at a segment without component and repetition separators asks for.
 use Rattle.std.specs.Prelude.{ℕ, zero, suc, ◌*◌, ◌%◌, ◌^◌, ◌==◌, ◌&&◌, nat_lt, bit_or, if◌then◌else◌, List, [], ◌∷◌, take, drop, Bool, true}
-use Rattle.std.specs.Prelude.{false, not, ◌||◌, nat_le, length, is_none, Option, None}
+use Rattle.std.specs.Prelude.{false, not, ◌||◌, nat_le, length, is_none}
 use Rattle.std.specs.List.{list_any, list_all, filter}
 use Rattle.std.specs.Int.{bit_at}
 use Rattle.guide_tree.specs.declared.element.Requirement.{Requirement}
 use Rattle.guide_tree.specs.declared.element.Requirement.TheVariants.{Mandatory, Optional}
-use Rattle.guide_tree.specs.declared.element.CodeList.{CodeList}
 use Rattle.guide_tree.specs.declared.element.ElementType.{ElementType}
-use Rattle.guide_tree.specs.declared.element.ElementType.TheVariants.{Text, Identifier}
+use Rattle.guide_tree.specs.declared.element.ElementType.TheVariants.{Text, Identifier, Number, Decimal, Date, Time}
 use Rattle.guide_tree.specs.declared.element.SimpleRow.{SimpleRow}
 use Rattle.guide_tree.specs.declared.element.Element.{Element}
 use Rattle.guide_tree.specs.declared.element.Element.TheVariants as element
@@ -15,7 +14,8 @@ use Rattle.guide_tree.specs.declared.slot.Relation.{Relation}
 use Rattle.guide_tree.specs.declared.slot.Relation.TheVariants.{Paired, Required, Exclusion, Conditional, ListConditional}
 use Rattle.x12_bytes.specs.declared.delims.Delims.{Delims}
 use Rattle.elem_rules.specs.Divided.{is_inner_separator}
-use Rattle.elem_rules.specs.Values.{is_character, value_fault}
+use Rattle.elem_rules.specs.Values.{is_character, is_whole, value_fault}
+use Rattle.moment.specs.Calendar.{is_date, is_time}
 
 -- no character from space to tilde
 abbrev pub is_strange : ℕ → Bool
@@ -33,15 +33,19 @@ abbrev pub is_optional : Requirement → Bool
 is_optional Mandatory = false
 is_optional Optional = true
 
--- a value whose bytes its type doesn't restrict, and no codes
-abbrev pub is_free : ElementType → Option CodeList → Bool
-is_free Text None = true
-is_free Identifier None = true
-is_free other codes = false
+-- a value of characters from space to tilde has the form of its type; of numbers with a sign or a point this isn't said
+abbrev pub has_plain_form : ElementType → List ℕ → Bool
+has_plain_form Text text = true
+has_plain_form Identifier text = true
+has_plain_form (Number places) text = is_whole text
+has_plain_form Decimal text = is_whole text
+has_plain_form Date text = is_date text
+has_plain_form Time text = is_time text
 
--- such a value, of a length that its row allows
-abbrev pub is_free_text : SimpleRow → List ℕ → Bool
-is_free_text row text = is_free row.data_type row.codes && nat_le row.min (length text) && nat_le (length text) row.max
+-- such a value without codes, of a length that its row allows
+abbrev pub is_plain_value : SimpleRow → List ℕ → Bool
+is_plain_value row text =
+    is_none row.codes && nat_le row.min (length text) && nat_le (length text) row.max && has_plain_form row.data_type text
 
 -- an element may be empty
 abbrev pub fits_empty : Element → Bool

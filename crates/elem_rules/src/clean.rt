@@ -9,21 +9,20 @@ ghost use Rattle.elem_rules.specs.Divided.{is_inner_separator};
 ghost use Rattle.elem_rules.specs.Rows.{nth};
 ghost use Rattle.elem_rules.specs.ElementFaults.{IsElementFault};
 ghost use Rattle.elem_rules.specs.Values.{value_fault};
-ghost use Rattle.std.specs.Option.{option_map};
-ghost use Rattle.elem_rules.specs.Clean.{is_optional, fits_empty, fits_value, fits, holds, is_free, is_free_text};
+ghost use Rattle.elem_rules.specs.Clean.{is_optional, fits_empty, fits_value, fits, holds, has_plain_form, is_plain_value};
 ghost use Rattle.elem_rules.specs.Clean.{is_set, is_odd, is_odd_by, is_strange, marked, bits_to, has_bytes};
 
 use crate::divided::next_part;
-use crate::form::is_character;
+use crate::form::{is_character, is_whole};
 use crate::presence::{has_present, have_all, marked, present_in};
 use crate::value::value_fault_by;
-use guide_tree::{
-    CodeList, Condition, Element, ElementType, Relation, Requirement, SimpleRow, Slot,
-};
+use guide_tree::{Condition, Element, ElementType, Relation, Requirement, SimpleRow, Slot};
 use memchr::{memchr, memchr2};
+use moment::{is_date, is_time};
 use x12_bytes::Delims;
 use x12_segs::SegView;
 
+#[inline]
 fn is_optional(requirement: Requirement) -> bool
     ensures { result ≡ is_optional requirement }
 {
@@ -33,7 +32,8 @@ fn is_optional(requirement: Requirement) -> bool
     }
 }
 
-fn fits_empty(row: &Element) -> bool
+#[inline]
+pub(crate) fn fits_empty(row: &Element) -> bool
     ensures { result ≡ fits_empty row.now }
 {
     match row {
@@ -43,24 +43,32 @@ fn fits_empty(row: &Element) -> bool
     }
 }
 
-/// Whether a value without codes, whose bytes its type doesn't restrict, has a length that its row allows.
-fn is_free_text(row: &SimpleRow, text: &[u8]) -> bool
-    ensures { result ≡ is_free_text row.now text.now }
-{
-    is_free(row.data_type, row.codes.as_ref())
-        && row.min as usize <= text.len()
-        && text.len() <= row.max as usize
-}
-
-fn is_free(data_type: ElementType, codes: Option<&CodeList>) -> bool
-    ensures { result ≡ is_free data_type (option_map (λ listed. listed.now) codes.entry) }
+/// Whether a value of characters from space to tilde surely has the form of its type. A number with a sign or a point may be
+/// answered with `false`.
+#[inline]
+fn has_plain_form(data_type: ElementType, text: &[u8]) -> bool
+    ensures { result ≡ has_plain_form data_type text.now }
 {
     match data_type {
-        ElementType::Text | ElementType::Identifier => codes.is_none(),
-        _ => false,
+        ElementType::Text | ElementType::Identifier => true,
+        ElementType::Number(_) | ElementType::Decimal => is_whole(text),
+        ElementType::Date => is_date(text),
+        ElementType::Time => is_time(text),
     }
 }
 
+/// The same of a value without codes, of a length that its row allows.
+#[inline]
+fn is_plain_value(row: &SimpleRow, text: &[u8]) -> bool
+    ensures { result ≡ is_plain_value row.now text.now }
+{
+    row.codes.is_none()
+        && row.min as usize <= text.len()
+        && text.len() <= row.max as usize
+        && has_plain_form(row.data_type, text)
+}
+
+#[inline]
 fn is_good(row: &SimpleRow, text: &[u8], narrow: bool) -> bool
     requires { OnTrue narrow (list_any is_strange text.now ≡ false) }
     ensures { result ≡ is_none (value_fault row.now text.now) }
@@ -68,12 +76,13 @@ fn is_good(row: &SimpleRow, text: &[u8], narrow: bool) -> bool
     if !narrow {
         return value_fault_by(row, text, false).is_none();
     }
-    if is_free_text(row, text) {
+    if is_plain_value(row, text) {
         return true;
     }
     value_fault_by(row, text, narrow).is_none()
 }
 
+#[inline]
 fn fits_value(row: &Element, text: &[u8], narrow: bool) -> bool
     requires { OnTrue narrow (list_any is_strange text.now ≡ false) }
     ensures { result ≡ fits_value row.now text.now }
@@ -85,7 +94,8 @@ fn fits_value(row: &Element, text: &[u8], narrow: bool) -> bool
 }
 
 /// Whether an element without inner separators fits its row.
-fn fits(row: &Element, text: &[u8], narrow: bool) -> bool
+#[inline]
+pub(crate) fn fits(row: &Element, text: &[u8], narrow: bool) -> bool
     requires { OnTrue narrow (list_any is_strange text.now ≡ false) }
     ensures { result ≡ fits row.now text.now }
 {
@@ -188,7 +198,7 @@ fn holds(bits: u64, condition: &Condition) -> bool
     }
 }
 
-fn hold_all(bits: u64, conditions: &[Condition]) -> bool
+pub(crate) fn hold_all(bits: u64, conditions: &[Condition]) -> bool
     ensures { result ≡ list_all (λ c. holds (is_set bits) c.relation c.positions) conditions.now }
 {
     conditions.iter().all(|condition| holds(bits, condition))

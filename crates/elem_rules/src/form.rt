@@ -41,7 +41,7 @@ fn without_sign(text: &[u8]) -> &[u8]
     }
 }
 
-fn is_whole(text: &[u8]) -> bool
+pub fn is_whole(text: &[u8]) -> bool
     ensures { result ≡ is_whole text.now }
 {
     !text.is_empty() && is_digits(text)
