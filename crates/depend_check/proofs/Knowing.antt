@@ -68,6 +68,21 @@ triggered_by texts d ps knows =
     any_same (has texts) (λ code. list_any (has_text d.slot d.at code) ps) d.codes knows
     ∙ same_truth (any_code d ps) (is_triggered d ps) (from_codes d ps) (to_codes d ps)
 
+swapped : {A B : Type 0} (p : A → B → Bool) (xs : List A) (ys : List B) → list_any (λ a. list_any (p a) ys) xs ≡ true
+    → list_any (λ b. list_any (λ a. p a b) xs) ys ≡ true
+swapped p xs ys h =
+    let a = with_any (λ a. list_any (p a) ys) xs h in
+    let b = with_any (p a.0) ys a.2 in
+    any_with (λ b. list_any (λ a. p a b) xs) ys b.0 b.1 (any_with (λ x. p x b.0) xs a.0 a.1 b.2)
+
+-- a text of the set is a code exactly where a code is in the set
+pub listed_either_way : (texts : BTreeSet (Bor (List ℕ))) (codes : List (List ℕ))
+    → list_any (λ text. contains_text codes text.now) texts.keys ≡ list_any (has texts) codes
+listed_either_way texts codes =
+    same_truth _ _ (swapped (λ (t : Bor (List ℕ)) c. bytes_eq c t.now) texts.keys codes)
+    (swapped (λ c (t : Bor (List ℕ)). bytes_eq c t.now) codes texts.keys)
+    ∙ any_same _ (has texts) codes (λ c. any_same _ _ texts.keys (λ own. sym (is_eq-slice_cmp c own.now)))
+
 -- the texts of a slot's uses are those of a list with the same uses
 same_texts : (label : List ℕ) (at : ℕ) (text : List ℕ) (xs ys : List PlacedSegment) → HaveSameUses label xs ys
     → list_any (has_text label at text) xs ≡ true → list_any (has_text label at text) ys ≡ true

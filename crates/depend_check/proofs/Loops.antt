@@ -1,9 +1,8 @@
 -- 999 guide, IK303: the innermost loop is one, however it is said: of a node by its parent's place (Structure), of a node by the loop
 -- round it (Pass), of a place (LoopIds), and of the slot that a label names (Dependencies).
-use Rattle.std.proofs.Common.{◌≡◌, ℕ, zero, suc, ◌⊎◌, inl, inr, List, [], ◌∷◌, ◌++◌, Bool, if◌then◌else◌}
+use Rattle.std.proofs.Common.{◌≡◌, ℕ, zero, suc, inl, inr, List, [], ◌∷◌, ◌++◌}
 use Rattle.std.proofs.Common.{refl, sym, ap, subst, ◌∙◌, Option, Some, None}
-use Rattle.guide_tree.specs.declared.slot.Slot.{Slot}
-use Rattle.guide_tree.specs.Words.{Tree, Trees, segment, loop, no_trees, tree, or_else, has_label, Pair, Place, use_of, slot_in, slot_nth}
+use Rattle.guide_tree.specs.Words.{Tree, Trees, segment, loop, no_trees, tree, has_label, Place, use_of, slot_in, slot_nth}
 use Rattle.guide_tree.specs.Words.{slot_at, node_in, node_nth, node_at, innermost, loop_id_at, loop_of}
 use Rattle.loop_match.specs.LoopIds.{loop_id_in, loop_id_nth, loop_id_of}
 use Rattle.depend_check.specs.Dependencies.{Seat, seat_in, seat_among, seat_of}

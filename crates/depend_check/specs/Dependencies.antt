@@ -9,7 +9,6 @@ use Rattle.hub_kinds.specs.declared.codes.ElementCode.{ElementCode}
 use Rattle.hub_kinds.specs.declared.codes.ElementCode.TheVariants as ik403
 use Rattle.hub_kinds.specs.declared.fault.Fault.{Fault}
 use Rattle.hub_kinds.specs.declared.fault.ElemFault.{ElemFault}
-use Rattle.hub_kinds.specs.Words.{contains_text}
 use Rattle.guide_tree.specs.declared.rows.Dependency.{Dependency}
 use Rattle.guide_tree.specs.declared.rows.DependencyKind.{DependencyKind}
 use Rattle.guide_tree.specs.declared.rows.DependencyKind.TheVariants as kind

@@ -1,5 +1,6 @@
 ghost use Rattle.std.specs.Prelude.{◌≡◌, ◌++◌, ◌∷◌, [], List, IfOk, OnOk};
 ghost use Rattle.std.specs.List.{list_any};
+ghost use Rattle.hub_kinds.specs.Words.{contains_text};
 ghost use Rattle.loop_match.specs.PlacedSegments.{PlacedSegment};
 ghost use Rattle.loop_match.specs.Viewed.{placed_view, placed_views};
 ghost use Rattle.depend_check.specs.Dependencies.{is_triggered};
@@ -7,7 +8,7 @@ ghost use Rattle.depend_check.specs.Uses.{AreByLabel, KnowsTexts, has};
 
 use crate::groups::uses_of;
 use crate::uses::is_use;
-use guide_tree::Dependency;
+use guide_tree::{Codes, Dependency};
 use hub_kinds::{NoMemory, Text};
 use loop_match::{PlacedSeg, text_at};
 use std::alloc::Global;
@@ -70,10 +71,28 @@ fn has_any(texts: &BTreeSet<&[u8]>, codes: &[Text]) -> bool
     codes.iter().any(|code| has(texts, code.as_slice()))
 }
 
+/// Whether one of the texts is listed.
+fn are_any_listed(texts: &BTreeSet<&[u8]>, codes: &Codes) -> bool
+    ensures { result ≡ list_any (λ text. contains_text codes.now text.now) texts.now.keys }
+{
+    texts.iter().any(|text| codes.contains(*text))
+}
+
+/// Whether one of the codes is among the texts: the fewer are searched among the more.
+fn share(texts: &BTreeSet<&[u8]>, codes: &Codes) -> bool
+    ensures { result ≡ list_any (has texts.now) codes.now }
+{
+    if texts.len() < codes.as_slice().len() {
+        are_any_listed(texts, codes)
+    } else {
+        has_any(texts, codes.as_slice())
+    }
+}
+
 /// Whether one of a dependency's codes is among the texts that trigger it.
 pub fn has_code(dependency: &Dependency, texts: &BTreeSet<&[u8]>) -> bool
     ensures { (ps : List PlacedSegment) → KnowsTexts texts.now dependency.now.slot dependency.now.at ps
         → result ≡ is_triggered dependency.now ps }
 {
-    has_any(texts, dependency.codes.as_slice())
+    share(texts, &dependency.codes)
 }
