@@ -49,11 +49,11 @@ def counted(path):
     return time.perf_counter() - begun
 
 
-def words_of(program, folder, path, setup=SETUP, counters=COUNTERS):
+def words_of(program, folder, path, setup=SETUP, counters=COUNTERS, paths=GUIDES):
     out = os.path.join(folder, 'out')
     shutil.rmtree(out, ignore_errors=True)
     os.mkdir(out)
-    guides = [word for guide in GUIDES for word in ('--guide', guide)]
+    guides = [word for guide in paths for word in ('--guide', guide)]
     return [program, '--setup', setup, *guides, '--counters', counters, '--at', '202603011530', '--in', path, '--out', out]
 
 
