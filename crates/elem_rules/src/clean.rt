@@ -22,7 +22,7 @@ use moment::{is_date, is_time};
 use x12_bytes::Delims;
 use x12_segs::SegView;
 
-#[inline]
+#[inline(always)]
 fn is_optional(requirement: Requirement) -> bool
     ensures { result ≡ is_optional requirement }
 {
@@ -32,7 +32,7 @@ fn is_optional(requirement: Requirement) -> bool
     }
 }
 
-#[inline]
+#[inline(always)]
 pub(crate) fn fits_empty(row: &Element) -> bool
     ensures { result ≡ fits_empty row.now }
 {
@@ -45,7 +45,7 @@ pub(crate) fn fits_empty(row: &Element) -> bool
 
 /// Whether a value of characters from space to tilde surely has the form of its type. A number with a sign or a point may be
 /// answered with `false`.
-#[inline]
+#[inline(always)]
 fn has_plain_form(data_type: ElementType, text: &[u8]) -> bool
     ensures { result ≡ has_plain_form data_type text.now }
 {
@@ -58,7 +58,7 @@ fn has_plain_form(data_type: ElementType, text: &[u8]) -> bool
 }
 
 /// The same of a value without codes, of a length that its row allows.
-#[inline]
+#[inline(always)]
 fn is_plain_value(row: &SimpleRow, text: &[u8]) -> bool
     ensures { result ≡ is_plain_value row.now text.now }
 {
@@ -68,7 +68,7 @@ fn is_plain_value(row: &SimpleRow, text: &[u8]) -> bool
         && has_plain_form(row.data_type, text)
 }
 
-#[inline]
+#[inline(always)]
 fn is_good(row: &SimpleRow, text: &[u8], narrow: bool) -> bool
     requires { OnTrue narrow (list_any is_strange text.now ≡ false) }
     ensures { result ≡ is_none (value_fault row.now text.now) }
@@ -82,7 +82,7 @@ fn is_good(row: &SimpleRow, text: &[u8], narrow: bool) -> bool
     value_fault_by(row, text, narrow).is_none()
 }
 
-#[inline]
+#[inline(always)]
 fn fits_value(row: &Element, text: &[u8], narrow: bool) -> bool
     requires { OnTrue narrow (list_any is_strange text.now ≡ false) }
     ensures { result ≡ fits_value row.now text.now }
@@ -94,7 +94,7 @@ fn fits_value(row: &Element, text: &[u8], narrow: bool) -> bool
 }
 
 /// Whether an element without inner separators fits its row.
-#[inline]
+#[inline(always)]
 pub(crate) fn fits(row: &Element, text: &[u8], narrow: bool) -> bool
     requires { OnTrue narrow (list_any is_strange text.now ≡ false) }
     ensures { result ≡ fits row.now text.now }
