@@ -4,18 +4,18 @@
 usage: bench/sets.py [SETS]
 
 A small program over set_check (bench/set_check.txt and bench/set_check_proof.txt, kept out of the gate by their names) is proved
-and built in a fresh folder (some minutes; what stands proved in `crates/*/out` isn't proved again). Faults, their elements, codes,
-whether a set is clean and its verdicts are compared with those that follow from the rules as they are worded (set_rules.py), on
-random guides and sets (set_draws.py):
+and built in a fresh folder (some minutes; what stands proved in `crates/*/out` isn't proved again). It checks each set twice, by the
+guide and by the compiled guide. Faults, their elements, codes, whether a set is clean and its verdicts are compared with those that
+follow from the rules as they are worded (set_rules.py), on random guides and sets (set_draws.py):
 - all bodies of up to five segments of three small guides;
 - SETS random sets or more (20,000 if absent), forty under each random guide: nested loops, bounds from 0 to 0 on, picks, a
   dictionary, random rows and conditions, tolerated codes; and sets without a guide;
 - as many, twenty under each guide with a hierarchy, with dependencies or with both: HL slots with strict rows, others and none,
   numbers that are repeated, unknown, later or empty, needs and bans of slots and elements, several on one slot.
-A guide that the check refuses as ambiguous is left out, and is to be ambiguous by the script too. Then sets of 100,000 and of
-1,000,000 segments are timed, and the growth of the processor time printed; then trees of 10,000 and 100,000 HL segments, and orders
-with forty dependencies and without. Last, where there is valgrind, the same in instructions, and those of each segment of clean
-orders of the house guide.
+A guide that the check refuses as ambiguous is left out, and is to be ambiguous by the script too. Then, both ways, sets of 100,000
+and of 1,000,000 segments are timed, and the growth of the processor time printed, and, where there is valgrind, the instructions of
+each segment of clean orders of the house guide; then by compiled guides trees of 10,000 and 100,000 HL segments, orders with forty
+dependencies and without, and segments by a row of 10,000 codes and of 10.
 """
 import itertools
 import os
@@ -35,9 +35,9 @@ from set_rules import IK304, codes_of, element, faults_of, is_ambiguous, verdict
 
 HERE = os.path.dirname(os.path.abspath(__file__))
 HOUSE = os.path.join(HERE, '..', 'examples', 'guides', 'h850.toml')
-CRATES = ('x12_bytes', 'x12_segs', 'hub_kinds', 'guide_tree', 'guide_law', 'toml_keys', 'guide_toml', 'elem_rules', 'loop_match', 'hl_check',
-          'depend_check', 'env_index', 'set_check')
-PROGRAM = 'set_checker: set_check env_index guide_toml guide_tree hub_kinds x12_segs x12_bytes\n'
+USES = ('set_check', 'guide_fast', 'env_index', 'guide_toml', 'guide_tree', 'hub_kinds', 'x12_segs', 'x12_bytes')
+# by the guide as it is (`check_set`), and by its compiled one (`check_set_fast`)
+WAYS = ('exact', 'compiled')
 FRONT = (b'ISA*00*          *00*          *01*ACME           *ZZ*HUB            '
          b'*260228*0900*^*00501*000000007*0*P*>~GS*PO*ACME*BOLT*20260228*0900*12*X*005010~')
 BACK = b'GE*1*12~IEA*1*000000007~'
@@ -68,9 +68,24 @@ def set_text(made):
 
 # the program
 
+def crates_below(names, lines):
+    """These crates and all that they stand on, as crates.txt lists them."""
+    below = {line.split(':')[0]: line.split(':')[1].split() for line in lines if ':' in line}
+    needed, left = set(), list(names)
+    while left:
+        name = left.pop()
+        if name in below and name not in needed:
+            needed.add(name)
+            left += below[name]
+    return needed
+
+
 def build(folder):
     crates = os.path.join(folder, 'crates')
-    for crate in CRATES:
+    with open(os.path.join(HERE, '..', 'crates.txt')) as listed:
+        lines = [line.split('#')[0] for line in listed]
+    needed = crates_below(USES, lines)
+    for crate in sorted(needed):
         shutil.copytree(os.path.join(HERE, '..', 'crates', crate), os.path.join(crates, crate))
     program = os.path.join(crates, 'set_checker')
     os.makedirs(os.path.join(program, 'src'))
@@ -78,10 +93,9 @@ def build(folder):
     proof = os.path.join(program, 'proofs', 'check_interchange')
     os.makedirs(proof)
     shutil.copy(os.path.join(HERE, 'set_check_proof.txt'), os.path.join(proof, 'Answers.antt'))
-    with open(os.path.join(HERE, '..', 'crates.txt')) as listed:
-        kept = [line for line in listed if line.split(':')[0] in CRATES]
+    kept = [line.strip() for line in lines if line.split(':')[0] in needed]
     with open(os.path.join(folder, 'crates.txt'), 'w') as out:
-        out.writelines(kept + [PROGRAM])
+        out.write('\n'.join(kept + [f'set_checker: {" ".join(USES)}', '']))
     open(os.path.join(folder, 'MODULE.bazel'), 'w').close()
     said = subprocess.run(['rt', 'run'], cwd=program, capture_output=True, text=True)
     built = os.path.join(program, 'out', 'set_checker')
@@ -101,11 +115,14 @@ def write_case(folder, number, guide, sets):
 
 
 def run(built, folder, cases):
-    """What is printed, case by case and set by set; nothing of a guide that is refused."""
+    """What is printed, case by case and set by set; nothing of a guide that is refused. It is the same both ways."""
     listed = os.path.join(folder, 'cases')
     with open(listed, 'w') as out:
         out.writelines(write_case(folder, number, guide, sets) for number, (guide, sets) in enumerate(cases))
-    said = subprocess.run([built, listed], capture_output=True, text=True, check=True).stdout
+    said, compiled = (subprocess.run([built, way, listed], capture_output=True, text=True, check=True).stdout for way in WAYS)
+    for one, other in zip(said.split('case\n'), compiled.split('case\n')):
+        assert one == other, f'by the guide:\n{one}by the compiled guide:\n{other}'
+    assert said == compiled
     parts = said.split('case\n')[1:]
     assert len(parts) == len(cases), (len(parts), len(cases))
     return [part.replace('\nset ', '\n\nset ').split('\n\n') for part in parts]
@@ -129,7 +146,7 @@ def compare(title, built, folder, cases):
             verdicts[verdict] += 1
             clean += not faults
     print(f'{title}: {len(cases) - refused} guides, {refused} refused as ambiguous; {verdicts.total()} sets, {seen.total()} faults, '
-          f'{clean} sets without one, verdicts ' + ', '.join(f'{name} {verdicts[name]}' for name in 'AER') + '; all equal')
+          f'{clean} sets without one, verdicts ' + ', '.join(f'{name} {verdicts[name]}' for name in 'AER') + '; all equal, both ways')
     for name, order in (('IK304', IK304), ('IK403', IK403)):
         print(f'  {name}: ' + ', '.join(f'{code} {seen[f"{name} {code}"]}' for code in order if (name, code) != ('IK304', '8')),
               flush=True)
@@ -159,14 +176,14 @@ def written(folder, text, name='timed'):
     return path
 
 
-def counting(folder, guide, *sets):
+def counting(folder, guide, *sets, way='compiled'):
     """The words that have the program count the faults of sets by a guide file."""
     path, listed = os.path.join(folder, 'long.x12'), os.path.join(folder, 'cases')
     with open(path, 'wb') as out:
         out.write(FRONT + b''.join(set_text(made) for made in sets) + BACK)
     with open(listed, 'w') as out:
         out.write(f'{guide} {path}\n')
-    return [listed, 'count']
+    return [way, listed, 'count']
 
 
 def processor():
@@ -175,7 +192,7 @@ def processor():
     return used.ru_utime + used.ru_stime
 
 
-def grow(built, folder):
+def grow(built, folder, way):
     # the house guide, but for the greatest number of lines
     with open(HOUSE) as house:
         wide = written(folder, house.read().replace('max=99999,', 'max=999999,'))
@@ -183,13 +200,13 @@ def grow(built, folder):
                        ('strays', [b'QQ*1']), ('one segment too often', ORDER_HEAD[:1]), ('one loop too often', ORDER_HEAD[3:5])):
         took, spent = [], []
         for count in (100_000, 1_000_000):
-            words, before = counting(folder, wide, long_set(part, count)), processor()
+            words, before = counting(folder, wide, long_set(part, count), way=way), processor()
             said = [subprocess.run([built, *words], capture_output=True, text=True, check=True).stdout for _ in range(RUNS)]
             told = re.findall(r'(\d+) faults in (\d+) nanoseconds', ''.join(said))
             took.append(min(int(nanoseconds) for _, nanoseconds in told) / 1e6)
             spent.append((processor() - before) / RUNS)
-        print(f'{name}: {took[1]:.0f} ms for 1,000,000 segments with {told[0][0]} faults, {took[0]:.1f} ms for 100,000, the least of '
-              f'{RUNS} runs; the whole program {spent[1]:.2f} and {spent[0]:.3f} processor seconds: growth {spent[1] / spent[0]:.1f}',
+        print(f'{way}, {name}: {took[1]:.0f} ms for 1,000,000 segments with {told[0][0]} faults, {took[0]:.1f} ms for 100,000, the least '
+              f'of {RUNS} runs; the whole program {spent[1]:.2f} and {spent[0]:.3f} processor seconds: growth {spent[1] / spent[0]:.1f}',
               flush=True)
 
 
@@ -292,24 +309,47 @@ def dear_dependencies(built, folder):
                 print(f'  {one} and {other} instructions: {one / other:.2f} times', flush=True)
 
 
-def instructions(built, words):
-    """How many instructions the program spends in the check."""
+def instructions(built, words, clean=True):
+    """How many instructions the program spends in the check, of a set that is clean or not."""
     said = subprocess.run(['valgrind', '--tool=callgrind', '--callgrind-out-file=/dev/null', '--toggle-collect=*checked_set*',
                            built, *words], capture_output=True, text=True, check=True)
-    assert '\n0 faults' in said.stdout, said.stdout
+    assert ('\n0 faults' in said.stdout) == clean, said.stdout
     return int(re.search(r'Collected : (\d+)', said.stderr)[1])
 
 
-def clean(built, folder):
+def clean(built, folder, way):
     if not shutil.which('valgrind'):
         return
     ordinary = sealed(ORDER_HEAD + SECOND_PARTNER + ORDER_LINE * 10 + [b'CTT*10'])
-    used = instructions(built, counting(folder, HOUSE, ordinary)) / (len(ordinary[1]) + 2)
-    print(f'a clean order of ten lines with a description, of two partners: {used:.0f} instructions a segment', flush=True)
+    used = instructions(built, counting(folder, HOUSE, ordinary, way=way)) / (len(ordinary[1]) + 2)
+    print(f'{way}, a clean order of ten lines with a description, of two partners: {used:.0f} instructions a segment', flush=True)
     for name, part in (('lines with a description', ORDER_LINE), ('short lines', [b'PO1*1*5*EA*2.50'])):
-        few, many = (instructions(built, counting(folder, HOUSE, long_set(part, count))) for count in (10_000, 100_000))
-        print(f'a clean order, {name}: {many / 100_000:.0f} instructions a segment of 100,000, growth from 10,000 {many / few:.2f}',
+        few, many = (instructions(built, counting(folder, HOUSE, long_set(part, count), way=way)) for count in (10_000, 100_000))
+        print(f'{way}, a clean order, {name}: {many / 100_000:.0f} instructions a segment of 100,000, growth from 10,000 {many / few:.2f}',
               flush=True)
+
+
+# a guide with many codes on a row, by which each segment of a set is judged
+
+CODED = """name = "BENCH"
+group = "PO"
+set = "850"
+version = "005010"
+nodes = [{seg="REF", min=0, max=999999, elements=["127 M ID 1 9 = %s"]}]
+"""
+
+
+def many_codes(built, folder):
+    if not shutil.which('valgrind'):
+        return
+    for what, last in (('the last of them', 0), ('none of them', 1)):
+        used = []
+        for count in (10, 10_000):
+            guide = written(folder, CODED % ' '.join(f'C{n}' for n in range(count)))
+            made = sealed([b'REF*C%d' % (count - 1 + last)] * 2_000)
+            used.append(instructions(built, counting(folder, guide, made), clean=not last) / 2_000)
+        print(f'{what} on a row of 10,000 codes: {used[1]:.0f} instructions a segment, of 10 codes {used[0]:.0f}: '
+              f'{used[1] / used[0]:.2f} times', flush=True)
 
 
 def main():
@@ -320,10 +360,12 @@ def main():
         # more than half of the random guides are ambiguous, so three times as many are made
         compare('random sets under random guides', built, folder, list(random_cases(3 * count)))
         compare('random sets under random guides with a hierarchy or dependencies', built, folder, list(ruled_cases(3 * count)))
-        grow(built, folder)
+        for way in WAYS:
+            grow(built, folder, way)
+            clean(built, folder, way)
         grow_hierarchies(built, folder)
         dear_dependencies(built, folder)
-        clean(built, folder)
+        many_codes(built, folder)
 
 
 if __name__ == '__main__':

@@ -11,7 +11,6 @@ ghost use Rattle.clean_set.specs.Depends.{lacks, has, some_in, target_by, kept_b
 use crate::kept::SlottedSeg;
 use elem_rules::is_empty;
 use guide_tree::{Dependency, DependencyKind};
-use hub_kinds::contains_text;
 use loop_match::text_at;
 use x12_bytes::Delims;
 
@@ -33,10 +32,9 @@ fn is_used(label: &[u8], labelled: &[SlottedSeg]) -> bool
 fn has_code(dependency: &Dependency, one: &SlottedSeg) -> bool
     ensures { result ≡ contains_text dependency.now.codes (element_of (elements_of one.now.seg) dependency.now.at) }
 {
-    contains_text(
-        dependency.codes.as_slice(),
-        text_at(&one.seg, dependency.at as usize),
-    )
+    dependency
+        .codes
+        .contains(text_at(&one.seg, dependency.at as usize))
 }
 
 fn triggers(dependency: &Dependency, one: &SlottedSeg) -> bool

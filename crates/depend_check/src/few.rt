@@ -11,7 +11,7 @@ ghost use Rattle.depend_check.specs.Uses.{IsFound, IsFoundBy};
 use crate::asked::add_left_out;
 use crate::uses::{add_uses, is_use};
 use guide_tree::{Dependency, Node};
-use hub_kinds::{Fault, NoMemory, contains_text};
+use hub_kinds::{Fault, NoMemory};
 use loop_match::{PlacedSeg, text_at};
 use std::alloc::Global;
 use x12_bytes::Delims;
@@ -25,10 +25,9 @@ fn is_trigger(dependency: &Dependency, placed: &PlacedSeg) -> bool
 fn has_code(dependency: &Dependency, placed: &PlacedSeg) -> bool
     ensures { result ≡ contains_text dependency.now.codes (element_of (elements_of placed.now.seg.now) dependency.now.at) }
 {
-    contains_text(
-        dependency.codes.as_slice(),
-        text_at(placed.seg, dependency.at as usize),
-    )
+    dependency
+        .codes
+        .contains(text_at(placed.seg, dependency.at as usize))
 }
 
 fn has_trigger(dependency: &Dependency, placed: &[PlacedSeg]) -> bool

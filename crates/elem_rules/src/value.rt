@@ -7,18 +7,18 @@ ghost use Rattle.elem_rules.specs.Values.{code_fault, calendar_fault, value_faul
 
 use crate::form::measured;
 use guide_tree::{CodeList, ElementType, SimpleRow};
-use hub_kinds::{ElementCode, contains_text};
+use hub_kinds::ElementCode;
 use moment::{is_date, is_time};
 
 fn code_fault(codes: Option<&CodeList>, text: &[u8]) -> Option<ElementCode>
     ensures { result ≡ code_fault (option_map (λ listed. listed.now) codes.entry) text.now }
 {
     let listed = codes?;
-    if contains_text(listed.used.as_slice(), text) {
+    if listed.used.contains(text) {
         return None;
     }
     match &listed.unused {
-        Some(unused) if contains_text(unused.as_slice(), text) => Some(ElementCode::CodeNotUsed),
+        Some(unused) if unused.contains(text) => Some(ElementCode::CodeNotUsed),
         _ => Some(ElementCode::InvalidCode),
     }
 }

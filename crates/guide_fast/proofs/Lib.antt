@@ -1,6 +1,7 @@
 mod Listing
 mod Parting
 mod Starting
+mod IdNumbers
 mod Numbering
 mod Tabled
 mod Straying

@@ -4,3 +4,4 @@ pub mod Tables
 pub mod Slots
 pub mod Needed
 pub mod Silent
+pub mod IdNumber

@@ -2,10 +2,13 @@ ghost use Rattle.std.specs.Prelude.{◌≡◌, ◌≤◌, [], length, drop, opti
 ghost use Rattle.x12_segs.specs.Words.{elements_of};
 ghost use Rattle.guide_tree.specs.Words.{nodes_view, fit_starts};
 ghost use Rattle.guide_fast.specs.Children.{fit_child, fit_listed};
+ghost use Rattle.guide_fast.specs.IdNumber.{HasNumber, begin_numbers};
 ghost use Rattle.loop_match.specs.Steps.{turned};
 
 use crate::counts::{count_between, needed_counts};
+use crate::id_number::{begin_numbers, number_of};
 use crate::index::{TextIndex, places_from};
+use crate::start::start_here;
 use guide_tree::Node;
 use hub_kinds::NoMemory;
 use loop_match::{Turn, first_id, start_of};
@@ -13,13 +16,15 @@ use std::alloc::Global;
 use std::marker::Model;
 use x12_segs::SegView;
 
-/// How many nodes are looked at one by one: a search would cost more.
-const FEW: usize = 8;
+/// How many nodes are looked at one by one, by the numbers of their ids: a search would cost more.
+const FEW: usize = 32;
 
 /// The nodes of one parent, with the places of each id that they begin with. Contracts see the nodes.
 #[derive(Drop)]
 pub struct Children<'g> {
     nodes: &'g [Node],
+    /// The numbers of the ids that the nodes begin with.
+    numbers: Vec<u32>,
     index: TextIndex<'g>,
     /// How many of the first nodes are needed: of none of them, of one, and so on up to all.
     needed: Vec<usize>,
@@ -31,6 +36,7 @@ impl<'g> Model for Children<'g> {
     ghost use Rattle.guide_fast.specs.Listed.{Knows};
     ghost use Rattle.guide_fast.specs.Children.{begin_ids};
     ghost use Rattle.guide_fast.specs.Needed.{counts_from};
+    ghost use Rattle.guide_fast.specs.IdNumber.{begin_numbers};
     ghost use Rattle.guide_tree.specs.contracts.node.Node as node;
     ghost use Rattle.std.specs.Coded.{codes};
 
@@ -40,13 +46,17 @@ impl<'g> Model for Children<'g> {
 
     ghost view = { λ c. c.nodes.now };
 
-    ghost invariant = { λ c. Knows c.index.places (begin_ids c.nodes.now) × (c.needed.items ≡ counts_from 0 c.nodes.now) };
+    ghost invariant = { λ c. Knows c.index.places (begin_ids c.nodes.now) × (c.needed.items ≡ counts_from 0 c.nodes.now)
+        × (c.numbers.items ≡ begin_numbers c.nodes.now) };
 }
 
 impl<'g> Children<'g> {
     ghost use Rattle.std.specs.Prelude.{◌≡◌, ◌+◌, ◌-◌, ◌<◌, ◌≤◌, ℕ, [], List, length, take, drop, option_map, IfOk, IfSome};
     ghost use Rattle.x12_segs.specs.Words.{elements_of};
     ghost use Rattle.guide_tree.specs.Words.{nodes_view, fit_starts, unused};
+    ghost use Rattle.guide_tree.specs.declared.node.Node.{Node};
+    ghost use Rattle.guide_fast.specs.IdNumber.{HasNumber, begin_number};
+    ghost use Rattle.std.specs.Prelude.{slice_index_or};
     ghost use Rattle.loop_match.specs.Steps.{turned};
 
     /// Of these nodes.
@@ -58,8 +68,10 @@ impl<'g> Children<'g> {
             index.add(first_id(&nodes[k]), k)?;
         }
         let needed = needed_counts(alloc, nodes)?;
+        let numbers = begin_numbers(alloc, nodes)?;
         Ok(Children {
             nodes,
+            numbers,
             index,
             needed,
         })
@@ -70,6 +82,15 @@ impl<'g> Children<'g> {
         ensures { result.now ≡ self.now }
     {
         self.nodes
+    }
+
+    /// The number of the id that a child begins with.
+    #[inline]
+    pub(crate) fn number_at(&self, child: usize) -> u32
+        requires { child < length self.now }
+        ensures { (n : Node) → n ≡ slice_index_or self.now child n → result ≡ begin_number n }
+    {
+        self.numbers[child]
     }
 
     /// How many of the nodes from `from` on up to `to` are needed: as many as are told of where none of them comes.
@@ -89,9 +110,21 @@ impl<'g> Children<'g> {
         ensures depth { IfSome result (λ t. t.depth ≡ 0) }
         ensures uses { IfSome result (λ t. t.use_no ≡ 0) }
     {
-        let nodes = self.nodes();
+        self.start_numbered(from, number_of(seg), seg)
+    }
+
+    /// The same, where the number of the segment's id is known.
+    #[inline]
+    pub(crate) fn start_numbered(&self, from: usize, number: u32, seg: &SegView) -> Option<Turn<'g>>
+        requires number { HasNumber (elements_of seg.now) number }
+        requires from { from ≤ length self.now }
+        ensures turn { option_map (turned []) result ≡ fit_starts (elements_of seg.now) from (nodes_view (drop from self.now)) }
+        ensures depth { IfSome result (λ t. t.depth ≡ 0) }
+        ensures uses { IfSome result (λ t. t.use_no ≡ 0) }
+    {
+        let nodes = self.nodes;
         if nodes.len() - from <= FEW {
-            return start_among(nodes, from, seg);
+            return start_among(nodes, self.numbers.as_slice(), from, number, seg);
         }
         let children = places_from(self.index.places(seg.id()), from);
         first_fitting(self.nodes, children, seg)
@@ -105,8 +138,26 @@ impl<'g> Children<'g> {
         ensures depth { IfSome result (λ t. t.depth ≡ 0) }
         ensures uses { IfSome result (λ t. t.use_no ≡ 0) }
     {
+        self.start_numbered_behind(child, number_of(seg), seg)
+    }
+
+    /// The same, where the number of the segment's id is known.
+    #[inline]
+    pub(crate) fn start_numbered_behind(
+        &self,
+        child: usize,
+        number: u32,
+        seg: &SegView,
+    ) -> Option<Turn<'g>>
+        requires number { HasNumber (elements_of seg.now) number }
+        requires child { child < length self.now }
+        ensures turn { option_map (turned []) result
+            ≡ fit_starts (elements_of seg.now) (child + 1) (nodes_view (drop (child + 1) self.now)) }
+        ensures depth { IfSome result (λ t. t.depth ≡ 0) }
+        ensures uses { IfSome result (λ t. t.use_no ≡ 0) }
+    {
         if child < self.nodes.len() {
-            self.start_from(child + 1, seg)
+            self.start_numbered(child + 1, number, seg)
         } else {
             None
         }
@@ -114,14 +165,22 @@ impl<'g> Children<'g> {
 }
 
 /// The first child from `from` on whose start the segment fits, as a turn, child by child.
-fn start_among<'g>(nodes: &'g [Node], from: usize, seg: &SegView) -> Option<Turn<'g>>
-    requires { from ≤ length nodes.now }
+fn start_among<'g>(
+    nodes: &'g [Node],
+    numbers: &[u32],
+    from: usize,
+    number: u32,
+    seg: &SegView,
+) -> Option<Turn<'g>>
+    requires numbers { numbers.now ≡ begin_numbers nodes.now }
+    requires number { HasNumber (elements_of seg.now) number }
+    requires from { from ≤ length nodes.now }
     ensures turn { option_map (turned []) result ≡ fit_starts (elements_of seg.now) from (nodes_view (drop from nodes.entry.now)) }
     ensures depth { IfSome result (λ t. t.depth ≡ 0) }
     ensures uses { IfSome result (λ t. t.use_no ≡ 0) }
 {
     for k in from..nodes.len() {
-        if let Some(start) = start_of(&nodes[k], seg) {
+        if let Some(start) = start_here(&nodes[k], numbers[k], number, seg) {
             return Some(Turn {
                 depth: 0,
                 child: k,

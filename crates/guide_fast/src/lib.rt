@@ -23,9 +23,11 @@ mod by_table;
 mod children;
 mod counts;
 mod fast;
+mod id_number;
 mod index;
 mod next;
 mod silent;
+mod start;
 mod strays;
 mod tables;
 

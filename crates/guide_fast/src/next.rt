@@ -7,32 +7,39 @@ ghost use Rattle.guide_tree.specs.declared.slot.Slot.{Slot};
 ghost use Rattle.guide_tree.specs.Words.{Place, Segment, segment, loop, or_else, view, nodes_view, fit_starts};
 ghost use Rattle.guide_tree.specs.Words.{fit_again, fit_in, fit_next, fit_behind};
 ghost use Rattle.loop_match.specs.Steps.{place_view, step_view, turned};
+ghost use Rattle.guide_fast.specs.IdNumber.{HasNumber};
 ghost use Rattle.guide_fast.specs.Tables.{trees_in, HasTables, HasTablesIn};
 
 use crate::children::Children;
+use crate::id_number::number_of;
+use crate::start::again_here;
 use guide_tree::Node;
-use loop_match::{Step, Turn, again};
+use loop_match::{Step, Turn};
 use x12_segs::SegView;
 
 /// The turn from a child to itself or to a later one.
+#[inline]
 fn turn_here<'g>(
     here: &Children<'g>,
     node: &'g Node,
     in_loop: bool,
     step: Step,
+    number: u32,
     seg: &SegView,
 ) -> Option<Turn<'g>>
+    requires number { HasNumber (elements_of seg.now) number }
     requires room { step.use_no + 1 < 2 ^ 64 }
     requires in_range { step.child < length here.now }
+    requires node { node.now ≡ slice_index_or here.now step.child node.now }
     ensures turn { option_map (turned []) result ≡ or_else
         (fit_again (elements_of seg.now) in_loop (step_view step) (view node.entry.now))
         (fit_starts (elements_of seg.now) (step.child + 1) (nodes_view (drop (step.child + 1) here.now))) }
     ensures depth { IfSome result (λ t. t.depth ≡ 0) }
     ensures uses { IfSome result (λ t. t.use_no ≤ step.use_no + 1) }
 {
-    match again(node, in_loop, step, seg) {
+    match again_here(node, here.number_at(step.child), in_loop, step, number, seg) {
         Some(turn) => Some(turn),
-        None => here.start_behind(step.child, seg),
+        None => here.start_numbered_behind(step.child, number, seg),
     }
 }
 
@@ -73,8 +80,10 @@ fn turn_among<'g>(
     in_loop: bool,
     place: &[Step],
     uses: u64,
+    number: u32,
     seg: &SegView,
 ) -> Option<Turn<'g>>
+    requires number { HasNumber (elements_of seg.now) number }
     requires room { AllByRecursion (λ s. s.use_no < uses) place.now }
     requires few { uses + 1 < 2 ^ 64 }
     requires tables { HasTables (trees_in tables.now) (nodes_view here.now) }
@@ -86,9 +95,9 @@ fn turn_among<'g>(
     let (step, rest) = place.split_first()?;
     let node = node_at(tables, here, step.child)?;
     match table_of(tables, node) {
-        None => turn_here(here, node, in_loop, *step, seg),
-        Some(inner) => match turn_among(tables, inner, true, rest, uses, seg) {
-            None => turn_here(here, node, in_loop, *step, seg),
+        None => turn_here(here, node, in_loop, *step, number, seg),
+        Some(inner) => match turn_among(tables, inner, true, rest, uses, number, seg) {
+            None => turn_here(here, node, in_loop, *step, number, seg),
             Some(turn) => Some(Turn {
                 depth: turn.depth + 1,
                 ..turn
@@ -113,9 +122,10 @@ pub fn turn_behind<'g>(
     ensures depth { IfSome result (λ t. t.depth ≤ length last.now) }
     ensures uses { IfSome result (λ t. t.use_no ≤ uses) }
 {
+    let number = number_of(seg);
     if last.is_empty() {
-        top.start_from(0, seg)
+        top.start_numbered(0, number, seg)
     } else {
-        turn_among(tables, top, false, last, uses, seg)
+        turn_among(tables, top, false, last, uses, number, seg)
     }
 }

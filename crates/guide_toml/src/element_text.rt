@@ -6,8 +6,10 @@ ghost use Rattle.guide_toml.specs.ElementTexts as texts;
 
 use crate::counts::count_of;
 use crate::tokens::{are_codes, code_count, first_semicolon, texts_of, tokens_of};
-use guide_tree::{CodeList, Component, CompositeRow, Element, ElementType, Requirement, SimpleRow};
-use hub_kinds::{Items, Lent, Text, Texts, read_number};
+use guide_tree::{
+    CodeList, Codes, Component, CompositeRow, Element, ElementType, Requirement, SimpleRow,
+};
+use hub_kinds::{Items, Lent, Text, read_number};
 use std::alloc::Global;
 use toml_keys::{TextFault, copy_of};
 
@@ -115,11 +117,12 @@ fn take_wide<'a, 't>(tokens: &'t [Lent<'a>]) -> (bool, &'t [Lent<'a>])
     }
 }
 
-/// Copies of tokens.
-pub fn copies_of(alloc: Global, tokens: &[Lent]) -> Result<Texts, TextFault>
+/// The codes of these tokens.
+pub fn codes_in(alloc: Global, tokens: &[Lent]) -> Result<Codes, TextFault>
     ensures { Reads (λ x. x) result (Some tokens.now) }
 {
-    texts_of(alloc, tokens).map_err(|_| TextFault::NoMemory)
+    let texts = texts_of(alloc, tokens).map_err(|_| TextFault::NoMemory)?;
+    Codes::new(alloc, texts).map_err(|_| TextFault::NoMemory)
 }
 
 /// The codes that are used, and behind them those that aren't.
@@ -129,7 +132,7 @@ fn code_list(alloc: Global, tokens: &[Lent]) -> Result<CodeList, TextFault>
     let (used, rest) = tokens.split_at(code_count(tokens));
     match rest.split_first() {
         None => Ok(CodeList {
-            used: copies_of(alloc, used)?,
+            used: codes_in(alloc, used)?,
             unused: None,
         }),
         Some((mark, unused)) => {
@@ -137,8 +140,8 @@ fn code_list(alloc: Global, tokens: &[Lent]) -> Result<CodeList, TextFault>
                 return Err(TextFault::Malformed);
             }
             Ok(CodeList {
-                used: copies_of(alloc, used)?,
-                unused: Some(copies_of(alloc, unused)?),
+                used: codes_in(alloc, used)?,
+                unused: Some(codes_in(alloc, unused)?),
             })
         }
     }

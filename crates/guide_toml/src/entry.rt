@@ -4,7 +4,7 @@ ghost use Rattle.toml_keys.specs.Reads.{Reads};
 ghost use Rattle.guide_toml.specs.Entries as entries;
 
 use crate::counts::count_of;
-use crate::element_text::{copies_of, element_of, next_token, tokens_in};
+use crate::element_text::{codes_in, element_of, next_token, tokens_in};
 use crate::fault_codes::{element_code_of, segment_code_of};
 use crate::tokens::{are_codes, is_code};
 use guide_tree::{Condition, Element, HlPair, Pick, Relation};
@@ -43,7 +43,7 @@ fn pick_of(alloc: Global, text: &[u8]) -> Result<Pick, TextFault>
     }
     Ok(Pick {
         position,
-        codes: copies_of(alloc, rest)?,
+        codes: codes_in(alloc, rest)?,
     })
 }
 

@@ -18,8 +18,8 @@ use crate::fault::GuideFileFault;
 use crate::keys::TableKind;
 use crate::nodes::nodes_of;
 use crate::table::{
-    count_at, dependency_kind_at, entries_at, flag_at, group_at, refuse_unlisted, some_entries_at,
-    some_texts_at, some_word_at, texts_at, word_at,
+    codes_at, count_at, dependency_kind_at, entries_at, flag_at, group_at, refuse_unlisted,
+    some_entries_at, some_texts_at, some_word_at, word_at,
 };
 use guide_tree::{Dependency, Guide, GuideHead, GuideRows, HlRule};
 use hub_kinds::{ElementCode, Items, SegmentCode, Text, Texts};
@@ -179,7 +179,7 @@ fn dependency_of(alloc: Global, table: &Table) -> Result<Dependency, GuideFileFa
     let kind = dependency_kind_at(alloc, table, "kind")?;
     let slot = word_at(alloc, table, "slot", 1, 20)?;
     let at = count_at(alloc, table, "at")?;
-    let codes = texts_at(alloc, table, "codes", Form::Code)?;
+    let codes = codes_at(alloc, table, "codes")?;
     let target = word_at(alloc, table, "target", 1, 20)?;
     let element = count_at(alloc, table, "element")?;
     Ok(Dependency {

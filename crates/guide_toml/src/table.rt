@@ -4,6 +4,7 @@ ghost use Rattle.toml.specs.View.{table_view};
 ghost use Rattle.toml_keys.specs.Keys.{least_unknown, if_known};
 ghost use Rattle.toml_keys.specs.Tables as tables;
 ghost use Rattle.guide_toml.specs.Answers.{Gives};
+ghost use Rattle.guide_toml.specs.declared.entry.Form.TheVariants as form;
 ghost use Rattle.guide_toml.specs.Entries.{formed};
 ghost use Rattle.guide_toml.specs.Keys.{keys_of};
 ghost use Rattle.guide_toml.specs.Values as values;
@@ -13,7 +14,7 @@ use crate::fault::GuideFileFault;
 use crate::keys::TableKind;
 use crate::lists::{EntryText, Formed};
 use crate::values::{Flag, GroupCode, Kind};
-use guide_tree::DependencyKind;
+use guide_tree::{Codes, DependencyKind};
 use hub_kinds::{Items, Text, Texts};
 use std::alloc::Global;
 use toml::Table;
@@ -116,19 +117,15 @@ pub fn some_entries_at<T: Entry>(
     Ok(optional(alloc, table, key, &entries, none)?)
 }
 
-/// A list of texts of a form.
-pub fn texts_at(
-    alloc: Global,
-    table: &Table,
-    key: &'static str,
-    form: Form,
-) -> Result<Texts, GuideFileFault>
-    ensures { Gives (λ x. x) result (tables.required (values.texts_in (formed form)) key.now (table_view table.now)) }
+/// A list of codes.
+pub fn codes_at(alloc: Global, table: &Table, key: &'static str) -> Result<Codes, GuideFileFault>
+    ensures { Gives (λ x. x) result (tables.required (values.texts_in (formed form.Code)) key.now (table_view table.now)) }
 {
-    Ok(required(alloc, table, key, &ListOf(Formed(form)))?)
+    let texts = required(alloc, table, key, &ListOf(Formed(Form::Code)))?;
+    Codes::new(alloc, texts).map_err(|_| GuideFileFault::NoMemory)
 }
 
-/// The same where it may be absent: then there are none.
+/// A list of texts of a form; none where it is absent.
 pub fn some_texts_at(
     alloc: Global,
     table: &Table,

@@ -15,3 +15,4 @@ pub mod Checked
 mod Sound
 mod Few
 mod WorkedLimits
+mod Coding

@@ -1,3 +1,4 @@
+pub mod Codes
 pub mod Accepted
 pub mod Ambiguity
 pub mod Bounds

@@ -1,4 +1,5 @@
-use hub_kinds::{Items, Text, Texts};
+use crate::codes::Codes;
+use hub_kinds::{Items, Text};
 
 /// The type of a data element (X12.6, data element types).
 #[derive(Clone, Copy, Debug, PartialEq, Eq)]
@@ -29,8 +30,8 @@ pub enum Requirement {
 /// The code values that a data element may have: those that are used, and those that are known and not used.
 #[derive(Debug, Drop)]
 pub struct CodeList {
-    pub used: Texts,
-    pub unused: Option<Texts>,
+    pub used: Codes,
+    pub unused: Option<Codes>,
 }
 
 /// The row of a simple data element or of a component.

@@ -22,6 +22,7 @@
 #![tactic(auto)]
 
 mod bounds;
+mod codes;
 mod conditions;
 mod element;
 mod fault;
@@ -35,6 +36,7 @@ mod rivals;
 mod rows;
 mod slot;
 
+pub use codes::Codes;
 pub use element::{
     CodeList, Component, CompositeRow, Element, ElementType, Requirement, SimpleRow,
 };

@@ -6,22 +6,21 @@ ghost use Rattle.guide_tree.specs.Rivals.{entry, numbers_of, is_less, keep_least
 ghost use Rattle.guide_tree.specs.Rivals.{against_each, within, within_in, least_rivals, least_in};
 ghost use Rattle.guide_tree.specs.View.{view, nodes_view};
 
+use crate::codes::Codes;
 use crate::node::Node;
 use crate::slot::{Pick, Slot};
-use hub_kinds::{Text, contains_text};
+use hub_kinds::Text;
 
-fn share_text(texts: &[Text], others: &[Text]) -> bool
-    ensures { result ≡ share_text texts.now others.now }
+fn share_text(codes: &Codes, others: &[Text]) -> bool
+    ensures { result ≡ share_text codes.now others.now }
 {
-    others
-        .iter()
-        .any(|other| contains_text(texts, other.as_slice()))
+    others.iter().any(|other| codes.contains(other.as_slice()))
 }
 
 fn agree(pick: &Pick, other: &Pick) -> bool
     ensures { result ≡ agree pick.now other.now }
 {
-    pick.position != other.position || share_text(pick.codes.as_slice(), other.codes.as_slice())
+    pick.position != other.position || share_text(&pick.codes, other.codes.as_slice())
 }
 
 fn agrees_with_each(pick: &Pick, others: &[Pick]) -> bool

@@ -1,3 +1,4 @@
+use crate::codes::Codes;
 use crate::node::Node;
 use hub_kinds::{ElementCode, Items, SegmentCode, Text, Texts};
 
@@ -65,7 +66,7 @@ pub struct Dependency {
     pub kind: DependencyKind,
     pub slot: Text,
     pub at: u32,
-    pub codes: Texts,
+    pub codes: Codes,
     pub target: Text,
     /// The target's element; 0 for the whole slot.
     pub element: u32,

@@ -1,8 +1,9 @@
 ghost use Rattle.std.specs.Prelude.{◌≡◌};
 ghost use Rattle.guide_tree.specs.Conditions.{has_label};
 
+use crate::codes::Codes;
 use crate::element::Element;
-use hub_kinds::{Items, Text, Texts};
+use hub_kinds::{Items, Text};
 
 /// How the presence of data elements depends on one another (X12.6, relational conditions).
 #[derive(Clone, Copy, Debug, PartialEq, Eq)]
@@ -30,7 +31,7 @@ pub struct Condition {
 #[derive(Debug, Drop)]
 pub struct Pick {
     pub position: u32,
-    pub codes: Texts,
+    pub codes: Codes,
 }
 
 /// A segment in the order of a transaction set (X12.6).

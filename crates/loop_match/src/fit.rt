@@ -7,7 +7,6 @@ ghost use Rattle.hub_kinds.specs.Words.{contains_text};
 ghost use Rattle.guide_tree.specs.Words.{element_of, fits};
 
 use guide_tree::{Pick, Slot};
-use hub_kinds::contains_text;
 use x12_segs::SegView;
 
 /// The element with a number, or at 0 the id (X12.6, segment); empty where it isn't there.
@@ -20,7 +19,7 @@ pub fn text_at<'a>(seg: &SegView<'a>, k: usize) -> &'a [u8]
 fn is_picked(pick: &Pick, seg: &SegView) -> bool
     ensures { result ≡ contains_text pick.now.codes (element_of (elements_of seg.now) pick.now.position) }
 {
-    contains_text(pick.codes.as_slice(), text_at(seg, pick.position as usize))
+    pick.codes.contains(text_at(seg, pick.position as usize))
 }
 
 fn are_picked(picks: &[Pick], seg: &SegView) -> bool

@@ -4,7 +4,7 @@ ghost use Rattle.hub_kinds.specs.Words.{contains_text};
 ghost use Rattle.guide_tree.specs.Words.{element_of, fits};
 
 use guide_tree::{Pick, Slot};
-use hub_kinds::{Items, NoMemory, Text, Texts, contains_text, copy_text};
+use hub_kinds::{Items, NoMemory, Text, Texts, copy_text};
 use std::alloc::Global;
 
 /// An element of a segment, or at 0 its id; one that isn't there is empty.
@@ -20,7 +20,7 @@ fn element(segment: &[Text], number: u32) -> &[u8]
 fn is_picked(pick: &Pick, segment: &[Text]) -> bool
     ensures { result ≡ contains_text pick.now.codes (element_of segment.now pick.now.position) }
 {
-    contains_text(pick.codes.as_slice(), element(segment, pick.position))
+    pick.codes.contains(element(segment, pick.position))
 }
 
 fn are_picked(picks: &[Pick], segment: &[Text]) -> bool
@@ -52,7 +52,7 @@ fn first_code(pick: &Pick) -> &[u8] {
 /// The first code that both picks list.
 fn common_code<'a>(pick: &'a Pick, other: &Pick) -> &'a [u8] {
     for code in pick.codes.as_slice() {
-        if contains_text(other.codes.as_slice(), code.as_slice()) {
+        if other.codes.contains(code.as_slice()) {
             return code.as_slice();
         }
     }

@@ -1,7 +1,7 @@
 //! Guides that are made row by row, and what their check answers.
 use guide_tree::{
-    Condition, Element, ElementType, Guide, GuideFault, GuideHead, GuideRows, Loop, Node, Pick,
-    Relation, Requirement, SimpleRow, Slot,
+    Codes, Condition, Element, ElementType, Guide, GuideFault, GuideHead, GuideRows, Loop, Node,
+    Pick, Relation, Requirement, SimpleRow, Slot,
 };
 use hub_kinds::{Items, Text, Texts};
 use std::alloc::{AllocError, Global};
@@ -81,7 +81,7 @@ fn code_row(alloc: Global) -> Result<Items<Element>, AllocError> {
 }
 
 fn pick(alloc: Global, code: &[u8]) -> Result<Items<Pick>, AllocError> {
-    let codes = one_text(alloc, code)?;
+    let codes = Codes::new(alloc, one_text(alloc, code)?).map_err(|_| AllocError)?;
     let mut picks = Vec::new(alloc);
     picks.push(Pick { position: 1, codes })?;
     Ok(Items::from_vec(picks))

@@ -3,7 +3,7 @@ use super::rows::{guide_of_nodes, none, segment, text};
 use super::texts::{add_number, add_text, same};
 use elem_rules::check_segment;
 use guide_tree::{
-    CodeList, Component, CompositeRow, Condition, Element, ElementType, Guide, Relation,
+    CodeList, Codes, Component, CompositeRow, Condition, Element, ElementType, Guide, Relation,
     Requirement, SimpleRow,
 };
 use hub_kinds::{ElemFault, Items, Texts, code_text};
@@ -54,12 +54,16 @@ fn texts(alloc: Global, listed: &str) -> Result<Texts, AllocError> {
     Ok(Items::from_vec(texts))
 }
 
+fn codes_of(alloc: Global, listed: &str) -> Result<Codes, AllocError> {
+    Codes::new(alloc, texts(alloc, listed)?).map_err(|_| AllocError)
+}
+
 fn codes(alloc: Global, line: &Line) -> Result<Option<CodeList>, AllocError> {
     if line.used.is_empty() {
         return Ok(None);
     }
-    let used = texts(alloc, line.used)?;
-    let unused = Some(texts(alloc, line.unused)?);
+    let used = codes_of(alloc, line.used)?;
+    let unused = Some(codes_of(alloc, line.unused)?);
     Ok(Some(CodeList { used, unused }))
 }
 

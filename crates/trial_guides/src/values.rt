@@ -148,6 +148,29 @@ const TABLES: &[Cases] = &[
     TIMES_OF_DAY,
 ];
 
+/// Codes in no order, so many that a value is searched among them.
+const ROWS_OF_MANY_CODES: &[Line] = &[Line {
+    reference: "1",
+    data_type: ElementType::Identifier,
+    max: 3,
+    used: "Z Y X W V U T S R AA B A",
+    unused: "K J I H G F E D C BB L M",
+    ..OPTIONAL
+}];
+
+const AMONG_MANY_CODES: Cases = &[
+    ["TYP*Z", ""],
+    ["TYP*A", ""],
+    ["TYP*AA", ""],
+    ["TYP*U", ""],
+    ["TYP*K", "1 0 0 I6 1 K;"],
+    ["TYP*BB", "1 0 0 I6 1 BB;"],
+    ["TYP*M", "1 0 0 I6 1 M;"],
+    ["TYP*N", "1 0 0 7 1 N;"],
+    ["TYP*AAA", "1 0 0 7 1 AAA;"],
+    ["TYP*a", "1 0 0 7 1 a;"],
+];
+
 #[test]
 fn values_of_each_type(rt: HostRuntime) -> Result<(), Fail> {
     expect_by_rows(rt.alloc(), EACH_TYPE_ROWS, &[], TABLES)
@@ -156,4 +179,9 @@ fn values_of_each_type(rt: HostRuntime) -> Result<(), Fail> {
 #[test]
 fn bytes_that_are_no_characters(rt: HostRuntime) -> Result<(), Fail> {
     expect_bytes(rt.alloc(), EACH_TYPE_ROWS, BYTES_THAT_ARE_NO_CHARACTERS)
+}
+
+#[test]
+fn values_of_many_codes(rt: HostRuntime) -> Result<(), Fail> {
+    expect_by_rows(rt.alloc(), ROWS_OF_MANY_CODES, &[], &[AMONG_MANY_CODES])
 }
