@@ -29,11 +29,7 @@ pub fn marked(bits: u64, position: u32, present: bool) -> u64
     requires { position < 64 }
     ensures { result ≡ marked bits position present }
 {
-    if present {
-        bits | (1 << position)
-    } else {
-        bits
-    }
+    bits | (u64::from(present) << position)
 }
 
 pub fn has_present(bits: u64, positions: &[u32]) -> bool
