@@ -29,7 +29,11 @@ pub fn marked(bits: u64, position: u32, present: bool) -> u64
     requires { position < 64 }
     ensures { result ≡ marked bits position present }
 {
-    bits | (u64::from(present) << position)
+    if present {
+        bits | (1 << position)
+    } else {
+        bits
+    }
 }
 
 pub fn has_present(bits: u64, positions: &[u32]) -> bool
