@@ -1,10 +1,11 @@
 -- Own: what a quick look at a segment without component and repetition separators asks for.
 use Rattle.std.specs.Prelude.{ℕ, zero, suc, ◌*◌, ◌%◌, ◌^◌, ◌==◌, ◌&&◌, nat_lt, bit_or, if◌then◌else◌, List, [], ◌∷◌, take, drop, Bool, true}
-use Rattle.std.specs.Prelude.{false, not, ◌||◌, nat_le, length, is_none}
+use Rattle.std.specs.Prelude.{false, not, ◌||◌, nat_le, length, is_none, Option, Some, None}
 use Rattle.std.specs.List.{list_any, list_all, filter}
 use Rattle.std.specs.Int.{bit_at}
 use Rattle.guide_tree.specs.declared.element.Requirement.{Requirement}
 use Rattle.guide_tree.specs.declared.element.Requirement.TheVariants.{Mandatory, Optional}
+use Rattle.guide_tree.specs.declared.element.CodeList.{CodeList}
 use Rattle.guide_tree.specs.declared.element.ElementType.{ElementType}
 use Rattle.guide_tree.specs.declared.element.ElementType.TheVariants.{Text, Identifier, Number, Decimal, Date, Time}
 use Rattle.guide_tree.specs.declared.element.SimpleRow.{SimpleRow}
@@ -12,6 +13,7 @@ use Rattle.guide_tree.specs.declared.element.Element.{Element}
 use Rattle.guide_tree.specs.declared.element.Element.TheVariants as element
 use Rattle.guide_tree.specs.declared.slot.Relation.{Relation}
 use Rattle.guide_tree.specs.declared.slot.Relation.TheVariants.{Paired, Required, Exclusion, Conditional, ListConditional}
+use Rattle.hub_kinds.specs.Words.{contains_text}
 use Rattle.x12_bytes.specs.declared.delims.Delims.{Delims}
 use Rattle.elem_rules.specs.Divided.{is_inner_separator}
 use Rattle.elem_rules.specs.Values.{is_character, is_whole, value_fault}
@@ -42,10 +44,15 @@ has_plain_form Decimal text = is_whole text
 has_plain_form Date text = is_date text
 has_plain_form Time text = is_time text
 
--- such a value without codes, of a length that its row allows
+-- a value is one of the used codes of its row, where it has codes
+abbrev pub has_used_code : Option CodeList → List ℕ → Bool
+has_used_code None text = true
+has_used_code (Some listed) text = contains_text listed.used text
+
+-- such a value of a length that its row allows, and of its codes
 abbrev pub is_plain_value : SimpleRow → List ℕ → Bool
 is_plain_value row text =
-    is_none row.codes && nat_le row.min (length text) && nat_le (length text) row.max && has_plain_form row.data_type text
+    nat_le row.min (length text) && nat_le (length text) row.max && has_used_code row.codes text && has_plain_form row.data_type text
 
 -- an element may be empty
 abbrev pub fits_empty : Element → Bool

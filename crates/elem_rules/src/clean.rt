@@ -9,20 +9,22 @@ ghost use Rattle.elem_rules.specs.Divided.{is_inner_separator};
 ghost use Rattle.elem_rules.specs.Rows.{nth};
 ghost use Rattle.elem_rules.specs.ElementFaults.{IsElementFault};
 ghost use Rattle.elem_rules.specs.Values.{value_fault};
-ghost use Rattle.elem_rules.specs.Clean.{is_optional, fits_empty, fits_value, fits, holds, has_plain_form, is_plain_value};
-ghost use Rattle.elem_rules.specs.Clean.{is_set, is_odd, is_odd_by, is_strange, marked, bits_to, has_bytes};
+ghost use Rattle.elem_rules.specs.Clean.{is_optional, fits_empty, fits_value, fits, holds, has_plain_form, has_used_code};
+ghost use Rattle.elem_rules.specs.Clean.{is_plain_value, is_set, is_odd, is_odd_by, is_strange, marked, bits_to, has_bytes};
 
 use crate::divided::next_part;
 use crate::form::{is_character, is_whole};
 use crate::presence::{has_present, have_all, marked, present_in};
 use crate::value::value_fault_by;
-use guide_tree::{Condition, Element, ElementType, Relation, Requirement, SimpleRow, Slot};
+use guide_tree::{
+    CodeList, Condition, Element, ElementType, Relation, Requirement, SimpleRow, Slot,
+};
 use memchr::{memchr, memchr2};
 use moment::{is_date, is_time};
 use x12_bytes::Delims;
 use x12_segs::SegView;
 
-#[inline]
+#[inline(always)]
 fn is_optional(requirement: Requirement) -> bool
     ensures { result ≡ is_optional requirement }
 {
@@ -32,7 +34,7 @@ fn is_optional(requirement: Requirement) -> bool
     }
 }
 
-#[inline]
+#[inline(always)]
 pub(crate) fn fits_empty(row: &Element) -> bool
     ensures { result ≡ fits_empty row.now }
 {
@@ -45,7 +47,7 @@ pub(crate) fn fits_empty(row: &Element) -> bool
 
 /// Whether a value of characters from space to tilde surely has the form of its type. A number with a sign or a point may be
 /// answered with `false`.
-#[inline]
+#[inline(always)]
 fn has_plain_form(data_type: ElementType, text: &[u8]) -> bool
     ensures { result ≡ has_plain_form data_type text.now }
 {
@@ -57,18 +59,29 @@ fn has_plain_form(data_type: ElementType, text: &[u8]) -> bool
     }
 }
 
-/// The same of a value without codes, of a length that its row allows.
-#[inline]
+/// Whether a value is one of the used codes of its row, where it has codes.
+#[inline(always)]
+fn has_used_code(codes: &Option<CodeList>, text: &[u8]) -> bool
+    ensures { result ≡ has_used_code codes.now text.now }
+{
+    match codes {
+        None => true,
+        Some(listed) => listed.used.contains(text),
+    }
+}
+
+/// Whether a value of such a form has a length that its row allows, and is one of its codes.
+#[inline(always)]
 fn is_plain_value(row: &SimpleRow, text: &[u8]) -> bool
     ensures { result ≡ is_plain_value row.now text.now }
 {
-    row.codes.is_none()
-        && row.min as usize <= text.len()
+    row.min as usize <= text.len()
         && text.len() <= row.max as usize
+        && has_used_code(&row.codes, text)
         && has_plain_form(row.data_type, text)
 }
 
-#[inline]
+#[inline(always)]
 fn is_good(row: &SimpleRow, text: &[u8], narrow: bool) -> bool
     requires { OnTrue narrow (list_any is_strange text.now ≡ false) }
     ensures { result ≡ is_none (value_fault row.now text.now) }
@@ -82,7 +95,7 @@ fn is_good(row: &SimpleRow, text: &[u8], narrow: bool) -> bool
     value_fault_by(row, text, narrow).is_none()
 }
 
-#[inline]
+#[inline(always)]
 fn fits_value(row: &Element, text: &[u8], narrow: bool) -> bool
     requires { OnTrue narrow (list_any is_strange text.now ≡ false) }
     ensures { result ≡ fits_value row.now text.now }
@@ -94,7 +107,7 @@ fn fits_value(row: &Element, text: &[u8], narrow: bool) -> bool
 }
 
 /// Whether an element without inner separators fits its row.
-#[inline]
+#[inline(always)]
 pub(crate) fn fits(row: &Element, text: &[u8], narrow: bool) -> bool
     requires { OnTrue narrow (list_any is_strange text.now ≡ false) }
     ensures { result ≡ fits row.now text.now }

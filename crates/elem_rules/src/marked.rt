@@ -16,7 +16,7 @@ use guide_tree::{Condition, Element, Slot};
 use x12_segs::SegView;
 
 /// The offset at an index, or `end` behind the last one.
-#[inline]
+#[inline(always)]
 fn offset_or(offsets: &[usize], index: usize, end: usize) -> usize
     ensures { result ≡ slice_index_or offsets.now index end }
 {
@@ -27,7 +27,7 @@ fn offset_or(offsets: &[usize], index: usize, end: usize) -> usize
 }
 
 /// The element behind separator `k`, counted from 0.
-#[inline]
+#[inline(always)]
 fn element_behind<'a>(seg: &SegView<'a>, separators: &[usize], k: usize) -> &'a [u8]
     requires places { separators.now ≡ places (is_byte seg.now.delims.element) seg.now.bytes }
     requires within { k < length separators.now }
@@ -77,7 +77,7 @@ fn present_behind(seg: &SegView, separators: &[usize]) -> u64
 }
 
 /// Whether these conditions hold.
-#[inline]
+#[inline(always)]
 fn hold_there(seg: &SegView, conditions: &[Condition], separators: &[usize]) -> bool
     requires few { length separators.now ≤ 40 }
     requires places { separators.now ≡ places (is_byte seg.now.delims.element) seg.now.bytes }
