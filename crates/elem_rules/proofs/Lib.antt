@@ -1,4 +1,5 @@
 pub mod Agreeing
+pub mod Behind
 pub mod Bounded
 pub mod Examples
 pub mod Free
@@ -8,6 +9,7 @@ pub mod Marks
 pub mod Measures
 pub mod Members
 pub mod Membership
+pub mod Places
 pub mod Plain
 pub mod Quick
 pub mod Shown

@@ -33,7 +33,7 @@ fn is_optional(requirement: Requirement) -> bool
     }
 }
 
-fn fits_empty(row: &Element) -> bool
+pub(crate) fn fits_empty(row: &Element) -> bool
     ensures { result ≡ fits_empty row.now }
 {
     match row {
@@ -85,7 +85,7 @@ fn fits_value(row: &Element, text: &[u8], narrow: bool) -> bool
 }
 
 /// Whether an element without inner separators fits its row.
-fn fits(row: &Element, text: &[u8], narrow: bool) -> bool
+pub(crate) fn fits(row: &Element, text: &[u8], narrow: bool) -> bool
     requires { OnTrue narrow (list_any is_strange text.now ≡ false) }
     ensures { result ≡ fits row.now text.now }
 {
@@ -188,7 +188,7 @@ fn holds(bits: u64, condition: &Condition) -> bool
     }
 }
 
-fn hold_all(bits: u64, conditions: &[Condition]) -> bool
+pub(crate) fn hold_all(bits: u64, conditions: &[Condition]) -> bool
     ensures { result ≡ list_all (λ c. holds (is_set bits) c.relation c.positions) conditions.now }
 {
     conditions.iter().all(|condition| holds(bits, condition))

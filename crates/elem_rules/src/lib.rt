@@ -5,6 +5,7 @@
 //! - `check_segment` gives exactly the faults of a segment's elements: each fault of the definition and no other, each
 //!   once, rising by element, component, repetition and code, for any bytes, delimiters and number of elements. A fault
 //!   shows the reference number of the row at its place and, whole, the text that its code speaks of;
+//! - `is_clean_at` says of a segment whose element separators were found before that it is clean only where it has no fault;
 //! - `is_empty` and `reference_at`, by which crates above tell of elements: whether a text counts as empty, and the reference
 //!   number of the row at a position.
 //!
@@ -36,6 +37,7 @@ mod divided;
 mod element;
 mod findings;
 mod form;
+mod marked;
 mod occurrence;
 mod presence;
 mod value;
@@ -43,4 +45,5 @@ mod value;
 pub use check::check_segment;
 pub use conditions::reference_at;
 pub use divided::is_empty;
+pub use marked::is_clean_at;
 pub use moment::At;
