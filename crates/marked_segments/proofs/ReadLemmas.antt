@@ -1,6 +1,8 @@
 -- What a walk by marks knows at the next mark.
 use Rattle.std.proofs.Common.{◌≡◌, ℕ, ◌+◌, ◌-◌, ◌<◌, ◌≤◌, ◌||◌, ◌==◌, Bool, true, false, List, [], ◌∷◌, ◌++◌, length, drop, get_or}
-use Rattle.std.proofs.Common.{slice_range}
+use Rattle.std.proofs.Math.ListN.{set}
+use Rattle.std.proofs.Math.Seq.{take-suc-set}
+use Rattle.std.proofs.Common.{take, add-one, slice_range}
 use Rattle.std.proofs.Common.{sym, ap, subst, ◌∙◌, arith, refl}
 use Rattle.std.specs.Prelude.{IsTrue}
 use Rattle.std.specs.List.{list_any}
@@ -49,19 +51,20 @@ module _ (d : Delims) (text : List ℕ) where
 
   -- behind a mark
   pub stands_behind : (from mark : ℕ) (rest : List ℕ) (walk : MarkWalk) → IsLed (is_mark d) text from (length text) mark rest
-      → walk.at ≡ mark + 1 → walk.marks ≡ rest → StandsAt d text walk
-  stands_behind from mark rest walk l at is =
+      → walk.at ≡ mark + 1 → walk.marks ≡ rest → walk.count ≤ length walk.separators.items → StandsAt d text walk
+  stands_behind from mark rest walk l at is room =
       let high : mark < length text = l.first.high in
       record {
         within = omega arith;
         marks = is ∙ l.rest_is ∙ ap (λ n. places_between (is_mark d) text n (length text)) (sym at);
+        room = room;
       }
 
   -- what was read from an offset up to another, in which no terminator stands
   pub record IsReadTo (from at : ℕ) (separators : List ℕ) (is_plain : Bool) : Type 0 where
     pub behind : from ≤ at
     pub unended : Nowhere (Passes (is_byte d.terminator) text) from at
-    pub separators_are : separators ≡ places_from (is_byte d.element) (drop from text) 0 (at - from)
+    pub separators_are : IsTrue is_plain → separators ≡ places_from (is_byte d.element) (drop from text) 0 (at - from)
     pub none_odd : IsTrue is_plain → Nowhere (Passes (is_odd d) text) from at
 
   -- up to the next mark
@@ -73,7 +76,7 @@ module _ (d : Delims) (text : List ℕ) where
         behind = omega arith;
         unended = Nowhere-then r.unended (no_terminator at mark none);
         separators_are =
-            r.separators_are
+            λ plain. r.separators_are plain
             ∙ sym (places_from-further (is_byte d.element) (drop from text) (at - from) (mark - from) (omega arith)
             (Nowhere-behind (is_byte d.element) text from at mark behind (no_element at mark none)));
         none_odd = λ plain. Nowhere-then (r.none_odd plain) (no_odd at mark none);
@@ -95,7 +98,7 @@ module _ (d : Delims) (text : List ℕ) where
         behind = omega arith;
         unended = Nowhere-more near.unended (λ p. goes_on (eqb-true (get_or text mark 0) d.terminator p));
         separators_are =
-            ap (λ (l : List ℕ). l ++ (mark - from) ∷ []) near.separators_are
+            λ plain. ap (λ (l : List ℕ). l ++ (mark - from) ∷ []) (near.separators_are plain)
             ∙ sym (ap (places_from (is_byte d.element) (drop from text) 0) count
             ∙ places_from-one (is_byte d.element) (drop from text) (mark - from)
             (behind-Passes (is_byte d.element) text from (mark - from)
@@ -104,31 +107,37 @@ module _ (d : Delims) (text : List ℕ) where
             λ plain. Nowhere-more (near.none_odd plain) (λ p. false≢true (sym (even plain) ∙ sym (ap (is_odd d) here) ∙ p));
       }
 
-  -- over an odd byte
-  pub read_odd : (from at mark : ℕ) (separators : List ℕ) (is_plain : Bool) → IsReadTo from at separators is_plain
+  -- over a byte behind which the part isn't told to be plain
+  pub read_other : (from at mark : ℕ) (separators : List ℕ) (is_plain : Bool) → IsReadTo from at separators is_plain
       → NoneBefore (Passes (is_mark d) text) at (length text) mark → (get_or text mark 0 ≡ d.terminator → ⊥)
-      → (get_or text mark 0 ≡ d.element → ⊥) → IsReadTo from (mark + 1) separators false
-  read_odd from at mark separators is_plain r first goes_on other =
+      → IsReadTo from (mark + 1) separators false
+  read_other from at mark separators is_plain r first goes_on =
       let low : at ≤ mark = first.low in
       let near : IsReadTo from mark separators is_plain = read_further from at mark separators is_plain r low first.before in
       let behind : from ≤ mark = near.behind in
-      let not_element : Passes (is_byte d.element) text mark → ⊥ = λ p. other (eqb-true (get_or text mark 0) d.element p) in
       record {
         behind = omega arith;
         unended = Nowhere-more near.unended (λ p. goes_on (eqb-true (get_or text mark 0) d.terminator p));
-        separators_are =
-            near.separators_are
-            ∙ sym (places_from-further (is_byte d.element) (drop from text) (mark - from) (mark + 1 - from) (omega arith)
-            (Nowhere-behind (is_byte d.element) text from mark (mark + 1) behind (λ k low high p.
-            let here : k ≡ mark = omega arith in not_element (subst (λ n. Passes (is_byte d.element) text n) here p))));
+        separators_are = λ plain. absurd (false≢true plain);
         none_odd = λ plain. absurd (false≢true plain);
       }
+
+  -- an element separator is written behind the others
+  pub read_kept : (from at mark : ℕ) (walk : MarkWalk) → IsReadTo from at (take walk.count walk.separators.items) walk.is_plain
+      → NoneBefore (Passes (is_mark d) text) at (length text) mark → (get_or text mark 0 ≡ d.terminator → ⊥)
+      → get_or text mark 0 ≡ d.element → (IsTrue walk.is_plain → is_odd d d.element ≡ false) → walk.count < length walk.separators.items
+      → IsReadTo from (mark + 1) (take (walk.count + 1) (set walk.separators.items walk.count (mark - from))) walk.is_plain
+  read_kept from at mark walk r first goes_on here even room =
+      subst (λ (l : List ℕ). IsReadTo from (mark + 1) l walk.is_plain)
+      (sym (ap (λ n. take n (set walk.separators.items walk.count (mark - from))) (add-one walk.count)
+      ∙ take-suc-set walk.separators.items walk.count (mark - from) room))
+      (read_separator from at mark (take walk.count walk.separators.items) walk.is_plain r first goes_on here even)
 
   -- up to the terminator
   pub record IsEnded (from end : ℕ) (separators : List ℕ) (is_plain : Bool) : Type 0 where
     pub first : NoneBefore (Passes (is_byte d.terminator) text) from (length text) end
     pub passes : Passes (is_byte d.terminator) text end
-    pub separators_are : separators ≡ places (is_byte d.element) (slice_range text from end)
+    pub separators_are : IsTrue is_plain → separators ≡ places (is_byte d.element) (slice_range text from end)
     pub none_odd : IsTrue is_plain → list_any (is_odd d) (slice_range text from end) ≡ false
 
   pub read_end : (from at mark : ℕ) (separators : List ℕ) (is_plain : Bool) → IsReadTo from at separators is_plain
@@ -142,7 +151,7 @@ module _ (d : Delims) (text : List ℕ) where
       record {
         first = record { low = behind; high = high; before = near.unended };
         passes = eq-eqb (get_or text mark 0) d.terminator here;
-        separators_are = near.separators_are ∙ places-part (is_byte d.element) text from mark behind (omega arith);
+        separators_are = λ plain. near.separators_are plain ∙ places-part (is_byte d.element) text from mark behind (omega arith);
         none_odd = λ plain. list_any-part (is_odd d) text from mark behind (omega arith) (near.none_odd plain);
       }
 
@@ -156,7 +165,9 @@ module _ (d : Delims) (text : List ℕ) where
   read_nothing from is_plain = record {
     behind = omega arith;
     unended = λ k low high p. absurd (omega arith);
-    separators_are = let none : from - from ≡ 0 = omega arith in sym (ap (places_from (is_byte d.element) (drop from text) 0) none
+    separators_are =
+        let none : from - from ≡ 0 = omega arith in
+        λ plain. sym (ap (places_from (is_byte d.element) (drop from text) 0) none
         ∙ places_from-zero (is_byte d.element) (drop from text) 0);
     none_odd = λ plain k low high p. absurd (omega arith);
   }

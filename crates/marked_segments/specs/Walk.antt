@@ -1,5 +1,5 @@
 -- Private. Where a walk by marks stands in a stretch of a text, and what it has read (X12.6, segment terminator, data element separator).
-use Rattle.std.specs.Prelude.{ℕ, ◌≡◌, ◌<◌, ◌≤◌, false, IsTrue, List, [], ◌∷◌, length, map, Option, Some, None}
+use Rattle.std.specs.Prelude.{ℕ, ◌≡◌, ◌<◌, ◌≤◌, false, IsTrue, List, [], ◌∷◌, length, map, take, Option, Some, None}
 use Rattle.std.specs.List.{list_any}
 use Rattle.memchr.specs.Find.{is_byte, places, places_between}
 use Rattle.segment_marks.specs.Marks.{is_mark, is_odd}
@@ -16,10 +16,11 @@ views_behind delims base stretch at = map (view_of delims) (map (moved_by base) 
 pub record StandsAt (delims : Delims) (stretch : List ℕ) (walk : MarkWalk) : Type 0 where
   pub within : walk.at ≤ length stretch
   pub marks : walk.marks ≡ places_between (is_mark delims) stretch walk.at (length stretch)
+  pub room : walk.count ≤ length walk.separators.items
 
--- the walk has the places of the element separators of a part, and the part is plain where it says so
+-- where the walk says so, a part is plain, and it has the places of the element separators
 pub record IsRead (delims : Delims) (part : List ℕ) (walk : MarkWalk) : Type 0 where
-  pub separators : walk.separators.items ≡ places (is_byte delims.element) part
+  pub separators : IsTrue walk.is_plain → take walk.count walk.separators.items ≡ places (is_byte delims.element) part
   pub none_odd : IsTrue walk.is_plain → list_any (is_odd delims) part ≡ false
 
 -- the first segment from an offset on has these bounds, and the others follow from a later one on

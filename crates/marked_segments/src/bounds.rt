@@ -5,7 +5,6 @@ ghost use Rattle.segment_marks.specs.Marks.{is_odd};
 ghost use Rattle.marked_segments.specs.Walk.{StandsAt, IsRead, IsNextSegment};
 
 use crate::walk::{MarkWalk, find_end};
-use hub_kinds::NoMemory;
 use x12_bytes::Delims;
 use x12_segs::lead;
 
@@ -27,28 +26,28 @@ fn lead_of(walk: &MarkWalk, part: &[u8], delims: Delims) -> usize
 }
 
 /// The next segment; a part of CR and LF alone is none.
-#[inline]
+#[inline(always)]
 pub(crate) fn next_bounds(
     walk: &mut MarkWalk,
     stretch: &[u8],
     delims: Delims,
     may_be_plain: bool,
-) -> Result<Option<Bounds>, NoMemory>
+) -> Option<Bounds>
     requires stands { StandsAt delims stretch.now walk.old }
     requires plain { IsTrue may_be_plain → is_odd delims delims.element ≡ false }
     ensures stands { StandsAt delims stretch.now walk.new }
-    ensures next { IfOk result (λ next. IsNextSegment stretch.now delims.terminator walk.old.at next walk.new.at) }
-    ensures plain { IfOk result (λ next. IfSome next (λ b.
-        IsTrue walk.new.is_plain → IsRead delims (slice_range stretch.now b.start b.end) walk.new)) }
+    ensures next { IsNextSegment stretch.now delims.terminator walk.old.at result walk.new.at }
+    ensures plain { IfSome result (λ b.
+        IsTrue walk.new.is_plain → IsRead delims (slice_range stretch.now b.start b.end) walk.new) }
 {
     'parts: loop {
         let from = walk.at;
-        let Some(end) = find_end(walk, stretch, delims, may_be_plain)? else {
-            return Ok(None);
+        let Some(end) = find_end(walk, stretch, delims, may_be_plain) else {
+            return None;
         };
         let start = from + lead_of(walk, &stretch[from..end], delims);
         if start < end {
-            return Ok(Some(Bounds { start, end }));
+            return Some(Bounds { start, end });
         }
     }
 }

@@ -1,4 +1,5 @@
-ghost use Rattle.std.specs.Prelude.{Some, None, ◌≡◌, ◌+◌, ◌<◌, ◌≤◌, ◌^◌, length, IfOk, IfSome, IsTrue, false, option_map, if◌then◌else◌};
+ghost use Rattle.std.specs.Prelude.{◌≡◌, ◌+◌, ◌<◌, ◌≤◌, ◌^◌, length, take, Some, None, option_map, IsTrue, false, if◌then◌else◌};
+ghost use Rattle.std.specs.Prelude.{IfOk, IfSome};
 ghost use Rattle.std.specs.Iterator.{YieldsFirst};
 ghost use Rattle.x12_segs.specs.Words.{span_views};
 ghost use Rattle.segment_marks.specs.Marks.{is_odd};
@@ -14,6 +15,9 @@ use std::alloc::Global;
 use std::marker::Model;
 use x12_bytes::Delims;
 use x12_segs::{SegView, SetSpan};
+
+/// For how many element separators of a segment there is room. A slot has no more than 40 elements.
+const MOST_SEPARATORS: usize = 64;
 
 /// The segments of a set that are still to come, and what was found of the one that was given last. Contracts see their list, and of
 /// that segment, where it is plain, the places of its element separators.
@@ -33,7 +37,7 @@ impl<'a> Model for MarkedSegments<'a> {
 
     ghost view = { λ s. record {
       left = views_behind s.delims s.base s.stretch.now s.walk.at;
-      separators = if s.walk.is_plain then Some s.walk.separators.items else None;
+      separators = if s.walk.is_plain then Some (take s.walk.count s.walk.separators.items) else None;
     } };
 
     ghost invariant = { λ s. StandsAt s.delims s.stretch.now s.walk × (s.base + length s.stretch.now < 2 ^ 64)
@@ -42,13 +46,13 @@ impl<'a> Model for MarkedSegments<'a> {
 
 impl<'a> MarkedSegments<'a> {
     /// The segments of a set's span, first to last. A segment's `start` counts from the front of the text.
-    pub fn of_span(alloc: Global, text: &'a [u8], set: &SetSpan) -> Self
+    pub fn of_span(alloc: Global, text: &'a [u8], set: &SetSpan) -> Result<Self, NoMemory>
         requires order { set.now.start ≤ set.now.end }
         requires within { set.now.end ≤ length text.now }
-        ensures { result.left ≡ span_views text.entry.now set.now }
+        ensures { IfOk result (λ segments. segments.left ≡ span_views text.entry.now set.now) }
     {
         let stretch = &text[set.start..set.end];
-        MarkedSegments {
+        Ok(MarkedSegments {
             base: set.start,
             stretch,
             delims: set.delims,
@@ -56,33 +60,31 @@ impl<'a> MarkedSegments<'a> {
             walk: MarkWalk {
                 marks: SegmentMarks::new(stretch, set.delims),
                 at: 0,
-                separators: Vec::new(alloc),
+                separators: vec![in alloc; 0; MOST_SEPARATORS]?,
+                count: 0,
                 is_plain: false,
             },
-        }
+        })
     }
 
-    /// The next segment; none where all were given. After an error nothing is said of what is still to come.
-    #[inline]
-    pub fn next_segment(&mut self) -> Result<Option<SegView<'a>>, NoMemory>
-        ensures next { IfOk result (λ next. YieldsFirst (λ rest. rest) self.old.left next self.new.left) }
-        ensures plain { IfOk result (λ next. IfSome next (λ seg. IfSome self.new.separators (λ places. IsPlain places seg))) }
+    /// The next segment; none where all were given.
+    #[inline(always)]
+    pub fn next_segment(&mut self) -> Option<SegView<'a>>
+        ensures next { YieldsFirst (λ rest. rest) self.old.left result self.new.left }
+        ensures plain { IfSome result (λ seg. IfSome self.new.separators (λ places. IsPlain places seg)) }
     {
-        match next_bounds(&mut self.walk, self.stretch, self.delims, self.may_be_plain)? {
-            Some(found) => {
-                let bytes = &self.stretch[found.start..found.end];
-                Ok(Some(SegView::new(self.base + found.start, bytes, self.delims)))
-            }
-            None => Ok(None),
-        }
+        let found = next_bounds(&mut self.walk, self.stretch, self.delims, self.may_be_plain)?;
+        let bytes = &self.stretch[found.start..found.end];
+        Some(SegView::new(self.base + found.start, bytes, self.delims))
     }
 
     /// The places of the element separators in the bytes of the segment that was given last, where surely no byte of it is odd.
+    #[inline]
     pub fn separators(&self) -> Option<&[usize]>
         ensures { option_map (λ places. places.now) result ≡ self.now.separators }
     {
         if self.walk.is_plain {
-            Some(self.walk.separators.as_slice())
+            Some(&self.walk.separators[..self.walk.count])
         } else {
             None
         }
