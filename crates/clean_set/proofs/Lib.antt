@@ -1,4 +1,5 @@
 pub mod SoundPlaces
 mod Clean
 mod Keeping
+mod Lent
 mod Taking

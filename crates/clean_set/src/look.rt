@@ -8,6 +8,7 @@ use crate::rules::are_rules_kept;
 use crate::seen::{nothing_seen, see};
 use guide_fast::FastGuide;
 use hub_kinds::NoMemory;
+use marked_segments::MarkedSegments;
 use std::alloc::Global;
 use x12_segs::SetSpan;
 
@@ -33,13 +34,13 @@ pub fn ends_if_clean<'a>(
         (IsCleanSet (guide_of fast.now) set.now.delims set.now.closed (span_views text.entry.now set.now))) }
 {
     let rows = fast.guide().rows();
-    let mut segs = set.segments(text);
-    let Some(header) = segs.next() else {
+    let mut segs = MarkedSegments::of_span(alloc, text, set)?;
+    let Some(header) = segs.next_segment() else {
         return Ok(None);
     };
     let mut seen = nothing_seen(alloc);
-    for seg in segs {
-        if !see(alloc, &mut seen, fast, seg)? {
+    while let Some(seg) = segs.next_segment() {
+        if !see(alloc, &mut seen, fast, seg, segs.separators())? {
             return Ok(None);
         }
     }

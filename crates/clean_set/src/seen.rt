@@ -1,8 +1,9 @@
-ghost use Rattle.std.specs.Prelude.{◌≡◌, ◌<◌, ◌++◌, ◌∷◌, [], List, IfOk};
+ghost use Rattle.std.specs.Prelude.{◌≡◌, ◌<◌, ◌++◌, ◌∷◌, [], List, IfOk, IfSome};
 ghost use Rattle.std.specs.Bool.{OnTrue};
 ghost use Rattle.std.specs.List.{AllByRecursion};
 ghost use Rattle.x12_segs.specs.Words.{SegValue};
 ghost use Rattle.guide_tree.specs.Words.{GuideTree, guide_of};
+ghost use Rattle.marked_segments.specs.Marked.{IsPlain};
 ghost use Rattle.clean_set.specs.Walked.{IsSeen};
 
 use crate::kept::{Kept, keep};
@@ -38,14 +39,17 @@ pub fn nothing_seen<'a, 'g>(alloc: Global) -> Seen<'a, 'g>
     }
 }
 
-/// Sees the next segment, and says whether surely nothing is wrong at it. Behind the SE there is none.
+/// Sees the next segment, with the places of its element separators, if it is plain, and says whether surely nothing is wrong at it.
+/// Behind the SE there is none.
 pub fn see<'a, 'g>(
     alloc: Global,
     seen: &mut Seen<'a, 'g>,
     fast: &FastGuide<'g>,
     seg: SegView<'a>,
+    plain: Option<&[usize]>,
 ) -> Result<bool, NoMemory>
-    requires { AllByRecursion (λ s. s.use_no < seen.old.walk.count) seen.old.walk.last.items }
+    requires room { AllByRecursion (λ s. s.use_no < seen.old.walk.count) seen.old.walk.last.items }
+    requires plain { IfSome plain (λ separators. IsPlain separators.now seg) }
     ensures { IfOk result (λ clean. OnTrue clean ((done : List SegValue) → IsSeen (guide_of fast.now) seen.old done
         → IsSeen (guide_of fast.now) seen.new (done ++ seg.entry ∷ []))) }
 {
@@ -56,7 +60,7 @@ pub fn see<'a, 'g>(
         seen.trailer = Some(seg);
         return Ok(true);
     }
-    let Some(slot) = take(alloc, &mut seen.walk, fast, &seg)? else {
+    let Some(slot) = take(alloc, &mut seen.walk, fast, &seg, plain)? else {
         return Ok(false);
     };
     keep(&mut seen.kept, &seg, slot)?;

@@ -3,10 +3,11 @@ ghost use Rattle.std.specs.Bool.{OnTrue};
 ghost use Rattle.std.specs.List.{AllByRecursion};
 ghost use Rattle.guide_tree.specs.Words.{guide_of, IsSound};
 ghost use Rattle.loop_match.specs.Steps.{place_view, turned};
+ghost use Rattle.marked_segments.specs.Marked.{IsPlain};
 ghost use Rattle.clean_set.specs.CleanBody.{IsFaultless};
 ghost use Rattle.clean_set.specs.Walked.{HasTaken};
 
-use elem_rules::check_segment;
+use elem_rules::{check_segment, is_clean_at};
 use guide_fast::FastGuide;
 use guide_tree::Slot;
 use hub_kinds::NoMemory;
@@ -47,11 +48,33 @@ fn write_place(next: &mut Vec<Step>, last: &[Step], turn: &Turn) -> Result<(), N
     Ok(())
 }
 
+/// Whether surely no element of the segment has a fault by the slot, by the places of its element separators, if it is plain.
+#[inline]
+fn looks_faultless(seg: &SegView, slot: &Slot, plain: Option<&[usize]>) -> bool
+    requires sound { IsSound slot.now }
+    requires plain { IfSome plain (λ separators. IsPlain separators.now seg.now) }
+    ensures { OnTrue result (IsFaultless seg.now slot.now) }
+{
+    match plain {
+        Some(separators) => is_clean_at(seg, slot, separators),
+        None => false,
+    }
+}
+
 /// Whether no element of the segment has a fault by the slot.
-fn is_faultless(alloc: Global, seg: &SegView, slot: &Slot) -> Result<bool, NoMemory>
-    requires { IsSound slot.now }
+fn is_faultless(
+    alloc: Global,
+    seg: &SegView,
+    slot: &Slot,
+    plain: Option<&[usize]>,
+) -> Result<bool, NoMemory>
+    requires sound { IsSound slot.now }
+    requires plain { IfSome plain (λ separators. IsPlain separators.now seg.now) }
     ensures { IfOk result (λ none. OnTrue none (IsFaultless seg.now slot.now)) }
 {
+    if looks_faultless(seg, slot, plain) {
+        return Ok(true);
+    }
     let faults = check_segment(alloc, seg, slot)?;
     Ok(faults.as_slice().is_empty())
 }
@@ -62,8 +85,10 @@ pub fn take<'g>(
     walk: &mut Walk,
     fast: &FastGuide<'g>,
     seg: &SegView,
+    plain: Option<&[usize]>,
 ) -> Result<Option<&'g Slot>, NoMemory>
-    requires { AllByRecursion (λ s. s.use_no < walk.old.count) walk.old.last.items }
+    requires room { AllByRecursion (λ s. s.use_no < walk.old.count) walk.old.last.items }
+    requires plain { IfSome plain (λ separators. IsPlain separators.now seg.now) }
     ensures { IfOk result (λ found. IfSome found (λ slot. HasTaken (guide_of fast.now) walk.old walk.new seg.now slot.now)) }
 {
     if walk.count >= MOST_SEGMENTS {
@@ -73,7 +98,7 @@ pub fn take<'g>(
     let Some(turn) = fast.turn_from(walk.last.as_slice(), walk.count, seg) else {
         return Ok(None);
     };
-    if !is_faultless(alloc, seg, turn.slot)? {
+    if !is_faultless(alloc, seg, turn.slot, plain)? {
         return Ok(None);
     }
     write_place(&mut walk.next, walk.last.as_slice(), &turn)?;

@@ -1,7 +1,13 @@
+use Rattle.std.proofs.Common.{◌≡◌, ◌∷◌, ◌++◌, List, length}
+use Rattle.x12_segs.specs.Words.{SegValue, span_views}
 use Rattle.guide_tree.specs.Words.{guide_of}
 use Rattle.clean_set.specs.Walked.{IsSeen}
 use Rattle.clean_set.proofs.look.ends_if_clean.Given as goal
 
--- the segments so far were seen
+-- the segments so far were seen, and the others are still to come
 abbrev pub invariant-loop-seg : goal.invariant-loop-seg
-invariant-loop-seg l = IsSeen (guide_of l.fast) l.seen l.yielded
+invariant-loop-seg l =
+    (done : List SegValue) × IsSeen (guide_of l.fast) l.seen done × (span_views l.text l.set ≡ l.header ∷ (done ++ l.segs.left))
+
+abbrev pub decreases-loop-seg : goal.decreases-loop-seg
+decreases-loop-seg l = length l.segs.left

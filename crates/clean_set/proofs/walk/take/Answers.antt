@@ -14,8 +14,8 @@ use Rattle.clean_set.specs.Walked.{IsCleanFrom}
 use Rattle.clean_set.proofs.Taking.{sound_turn, own_id, took, roomy}
 use Rattle.clean_set.proofs.walk.take.Goals as goal
 
-pub is_faultless-requires : goal.is_faultless-requires
-is_faultless-requires c =
+pub is_faultless-requires-clause-sound : goal.is_faultless-requires-clause-sound
+is_faultless-requires-clause-sound c =
     let well : IsWellFormed (guide_of c.args.fast.now) =
     subst (λ (rows : GuideRows). IsWellFormed (guide_of rows)) c.guide.ensures c.rows-accepted.ensures.accepted.well_formed in
     sound_turn (guide_of c.args.fast.now) c.as_slice.result.now c.in-Some.turn c.args.seg.now well c.in-Some.ensures.turn
@@ -24,7 +24,7 @@ pub is_silent-requires : goal.is_silent-requires
 is_silent-requires c =
     let few = c.if-walk-ge-MOST_SEGMENTS.false in
     subst (AllByRecursion (λ (s : Step). s.use_no + 1 < 18446744073709551616)) (sym c.as_slice-3.ensures.value)
-    (roomy c.args.walk.now.count c.args.walk.now.last.items (omega (arith, few)) c.requires)
+    (roomy c.args.walk.now.count c.args.walk.now.last.items (omega (arith, few)) c.requires.room)
 
 pub returns : goal.returns
 returns c =
@@ -51,7 +51,7 @@ returns c =
       count = refl;
       few = omega (arith, few);
       room = subst (AllByRecursion (λ (s : Step). s.use_no < c.args.walk.now.count + 1)) (sym moved)
-          (room_more c.args.walk.now.count last more t c.in-Some.ensures.uses c.requires goes);
+          (room_more c.args.walk.now.count last more t c.in-Some.ensures.uses c.requires.room goes);
       clean = λ rest h. took g last more t c.args.seg.now turn goes silent
           (OnTrue_at c.if-not-branch.false c.in_ok-is_faultless.ensures) rest
           (subst (λ (l : List Step). IsCleanFrom g (last_of (place_view l)) rest) moved h);

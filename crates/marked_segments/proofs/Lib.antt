@@ -1,0 +1,3 @@
+mod PartLemmas
+mod PlaceLemmas
+mod ReadLemmas
