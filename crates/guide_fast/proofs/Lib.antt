@@ -2,6 +2,7 @@ mod Listing
 mod Parting
 mod Starting
 mod IdNumbers
+mod IdBefore
 mod Numbering
 mod Tabled
 mod Straying

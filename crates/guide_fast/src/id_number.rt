@@ -1,5 +1,5 @@
-ghost use Rattle.std.specs.Prelude.{◌≡◌, ◌<◌, IfOk};
-ghost use Rattle.x12_segs.specs.Words.{elements_of};
+ghost use Rattle.std.specs.Prelude.{◌≡◌, slice_index_or, IfOk};
+ghost use Rattle.x12_segs.specs.Words.{elements_of, parts, part_or_empty};
 ghost use Rattle.guide_fast.specs.IdNumber.{packed, id_number, HasNumber, begin_numbers};
 
 use guide_tree::Node;
@@ -29,12 +29,47 @@ fn id_number(id: &[u8]) -> u32
     }
 }
 
+/// The byte at a place of a text; where none stands there, another.
+#[inline]
+fn byte_or(text: &[u8], place: usize, other: u8) -> u8
+    ensures { result ≡ slice_index_or text.now place other }
+{
+    match text.get(place) {
+        Some(byte) => *byte,
+        None => other,
+    }
+}
+
+/// The number of what stands before the first separator of a text.
+#[inline]
+fn number_before(separator: u8, text: &[u8]) -> u32
+    ensures { result ≡ id_number (part_or_empty (parts separator text.now) 0) }
+{
+    let a = byte_or(text, 0, separator);
+    if a == separator {
+        return 0;
+    }
+    let b = byte_or(text, 1, separator);
+    if b == separator {
+        return packed(1, a, 0, 0);
+    }
+    let c = byte_or(text, 2, separator);
+    if c == separator {
+        return packed(2, a, b, 0);
+    }
+    let d = byte_or(text, 3, separator);
+    if d == separator {
+        return packed(3, a, b, c);
+    }
+    0
+}
+
 /// The number of a segment's id.
 #[inline]
 pub fn number_of(seg: &SegView) -> u32
     ensures { HasNumber (elements_of seg.now) result }
 {
-    id_number(seg.id())
+    number_before(seg.delims().element, seg.bytes())
 }
 
 /// The numbers of the ids that nodes begin with.

@@ -10,9 +10,10 @@
 //! `FastGuide::is_silent` says whether nothing is told between the last place and the next: it is so exactly where `step_faults` has
 //! no fault.
 //!
-//! The cost of a next place is, for each loop round the last one, a look at each of the nodes that come behind where these are at
-//! most eight, and else a search in an ordered map of the ids that its nodes begin with, a search in the list of the nodes with that
-//! id, and a look at each of these that comes behind and doesn't fit by its picks.
+//! The cost of a next place is the number of the segment's id, from its first four bytes, and for each loop round the last one a look at
+//! the number of each node that comes behind where these are at most thirty-two, and else a search in an ordered map of the ids that its
+//! nodes begin with, a search in the list of the nodes with that id, and a look at each of these that comes behind and doesn't fit by its
+//! picks. A node is asked whether the segment fits it only where the numbers agree; an id of one to three bytes is the segment's then.
 //! Whether a step is silent takes some differences of counts for each loop. Memory and the building follow the nodes and the
 //! dictionary, but for the logarithm of an ordered map. These costs aren't proved.
 //!

@@ -1,4 +1,4 @@
-use Rattle.std.proofs.Common.{◌≡◌, [], sym, subst, ◌∙◌}
+use Rattle.std.proofs.Common.{◌≡◌, [], sym, ◌∙◌}
 use Rattle.x12_segs.specs.Words.{elements_of}
 use Rattle.guide_fast.proofs.IdNumbers.{fits_there, none_in}
 use Rattle.guide_fast.proofs.start.fits_with.Goals as goal
