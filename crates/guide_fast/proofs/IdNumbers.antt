@@ -1,5 +1,6 @@
 -- Ids with other numbers are others, and ids with one number that is not 0 are the same.
-use Rattle.std.proofs.Common.{◌≡◌, ℕ, ◌<◌, ◌==◌, length, List, [], ◌∷◌, Bool, true, false, ◌&&◌, ltb, if◌then◌else◌, refl, sym, ap, ◌∙◌, arith, None}
+use Rattle.std.proofs.Common.{◌≡◌, ℕ, ◌<◌, ◌==◌, length, List, [], ◌∷◌, Bool, true, false, ◌&&◌, ltb, if◌then◌else◌, None}
+use Rattle.std.proofs.Common.{refl, sym, ap, ◌∙◌, arith}
 use Rattle.std.proofs.lemmas.Bool.{eqb-true, lt-ltb, ltb-true}
 use Rattle.std.specs.Str.{bytes_eq}
 use Rattle.std.specs.List.{list_all}
