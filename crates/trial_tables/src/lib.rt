@@ -1,5 +1,6 @@
-//! Trials of `guide_fast` and `segment_marks`: where segments begin by the compiled house guide of orders, what is told of those without a
-//! place, how many nodes are needed, the places of an order's segments, and the marks of texts of all lengths.
+//! Trials of `guide_fast`, `segment_marks` and `marked_segments`: where segments begin by the compiled house guide of orders, what is told
+//! of those without a place, how many nodes are needed, the places of an order's segments, the marks of texts of all lengths, and the
+//! segments that these divide.
 //!
 //! Nothing is proved here but that the trials are safe and end.
 #![tactic(auto)]
@@ -10,3 +11,5 @@ mod guides;
 mod marks;
 #[cfg(test)]
 mod places;
+#[cfg(test)]
+mod segments;
