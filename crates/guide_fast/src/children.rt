@@ -126,17 +126,6 @@ impl<'g> Children<'g> {
         if nodes.len() - from <= FEW {
             return start_among(nodes, self.numbers.as_slice(), from, number, seg);
         }
-        self.start_searched(from, seg)
-    }
-
-    /// The same by a search among all ids. It stands apart, so that the look at few nodes stays short.
-    #[inline(never)]
-    fn start_searched(&self, from: usize, seg: &SegView) -> Option<Turn<'g>>
-        requires { from ≤ length self.now }
-        ensures turn { option_map (turned []) result ≡ fit_starts (elements_of seg.now) from (nodes_view (drop from self.now)) }
-        ensures depth { IfSome result (λ t. t.depth ≡ 0) }
-        ensures uses { IfSome result (λ t. t.use_no ≡ 0) }
-    {
         let children = places_from(self.index.places(seg.id()), from);
         first_fitting(self.nodes, children, seg)
     }

@@ -5,7 +5,7 @@ use Rattle.guide_tree.specs.declared.node.Node.{Node}
 use Rattle.guide_tree.specs.Words.{nodes_view, fit_starts}
 use Rattle.guide_fast.specs.Children.{begin_id, begin_ids}
 use Rattle.guide_fast.proofs.Starting.{start_found}
-use Rattle.guide_fast.proofs.children.Children.start_searched.Goals as goal
+use Rattle.guide_fast.proofs.children.Children.start_numbered.Goals as goal
 
 pub returns-clause-turn : goal.returns-clause-turn
 returns-clause-turn c =
@@ -14,7 +14,7 @@ returns-clause-turn c =
     let from = c.args.from in
     let v : c.args.self.now ≡ ns = sym c.self.view_is in
     let h : from ≤ length (begin_ids ns) =
-    subst (λ n. from ≤ n) (ap length v ∙ sym (length-map ns begin_id)) c.requires in
+    subst (λ n. from ≤ n) (ap length v ∙ sym (length-map ns begin_id)) c.requires.from in
     c.first_fitting.ensures.turn
     ∙ start_found s ns from c.id.result.now c.places_from-children.result.now c.id.ensures.value
     (c.places_from-children.ensures c.id.result.now (begin_ids ns) h (c.places.ensures (begin_ids ns) c.self.invariant.0))
