@@ -72,7 +72,11 @@ fn told(alloc: Global, delims: Delims, text: &[u8]) -> Result<String, Fail> {
     };
     let mut segments = MarkedSegments::of_span(alloc, text, &set)?;
     let mut out = String::new(alloc);
-    while let Some(seg) = segments.next_segment() {
+    // no segment is empty, so there are no more than bytes
+    for _ in 0..text.len() {
+        let Some(seg) = segments.next_segment() else {
+            break;
+        };
         let bytes = std::str::from_utf8(seg.bytes()).map_err(|_| "no text")?;
         write!(out, "{}:{bytes}", seg.start())?;
         add_places(&mut out, segments.separators())?;
