@@ -258,4 +258,5 @@ def main():
         hostile(program, folder)
 
 
-main()
+if __name__ == '__main__':
+    main()
