@@ -6,3 +6,4 @@ pub mod Interchange
 pub mod ReadBack
 pub mod Rising
 pub mod Ta1
+pub mod Known

@@ -25,9 +25,9 @@ pub fn append_segment_note(
         out,
         delims,
         b"IK3",
-        segment_id(fault.id.as_slice()),
+        segment_id(fault.id.bytes()),
         position.format(fault.position).as_bytes(),
-        fault.loop_id.as_slice(),
+        fault.loop_id.bytes(),
         code_text(code_shown(fault)).as_bytes(),
     )
 }
@@ -83,9 +83,9 @@ pub fn append_element_note(
     append_last_three(
         out,
         delims,
-        elem.reference.as_slice(),
+        elem.reference.bytes(),
         code_text(elem.code).as_bytes(),
-        copied(delims, elem.copy.as_slice()),
+        copied(delims, elem.copy.bytes()),
     )
 }
 

@@ -1,6 +1,7 @@
 ghost use Rattle.std.specs.Prelude.{◌≡◌, ◌++◌, [], ◌∷◌, IfOk, OnOk};
 ghost use Rattle.ack_999.specs.Report.{text_999, head_text, set_text, sets_text, tail_text, Completes};
 ghost use Rattle.ack_999.specs.Report.{convention_text, set_response, group_response, set_trailer};
+ghost use Rattle.ack_999.specs.Known.{bare_response, set_header};
 ghost use Rattle.hub_kinds.specs.Words.{is_word};
 ghost use Rattle.ack_999.specs.Group.{IsCountable};
 ghost use Rattle.x12_write.specs.Segment.{segments_text};
@@ -11,7 +12,7 @@ ghost use Rattle.x12_write.specs.Extends.{Extends};
 use crate::counts::{accepted_sets, listed_sets, segment_count, shows_sets, totals_of};
 use crate::faults::append_faults;
 use crate::totals::Totals;
-use hub_kinds::{GroupAnswer, NoMemory, SetAnswer, code_text, is_alphanumeric};
+use hub_kinds::{GroupAnswer, NoMemory, SetAnswer, Verdict, code_text, is_alphanumeric};
 use itoa::Buffer;
 use std::alloc::Global;
 use x12_bytes::Delims;
@@ -62,13 +63,7 @@ pub fn append_head(
     ensures text { OnOk result (out.new.items ≡ out.old.items ++ head_text delims.now group.now n) }
     ensures kept { Extends out.old.items out.new.items }
 {
-    let number = set_control_number(n);
-    append_segment(
-        out,
-        delims,
-        b"ST",
-        &[b"999".as_slice(), number.bytes(), b"005010X231".as_slice()],
-    )?;
+    append_set_header(out, delims, n)?;
     append_segment(
         out,
         delims,
@@ -79,6 +74,22 @@ pub fn append_head(
             group.version.bytes(),
         ],
     )
+}
+
+/// Writes ST behind what is there, whose elements but its number are always the same.
+fn append_set_header(out: &mut Vec<u8>, delims: &Delims, n: u32) -> Result<(), NoMemory>
+    ensures text { OnOk result
+        (out.new.items ≡ out.old.items ++ segments_text delims.now (set_header n ∷ [])) }
+    ensures kept { Extends out.old.items out.new.items }
+{
+    let separator = delims.element;
+    let end = delims.terminator;
+    out.extend_from_slice(&[b'S', b'T', separator, b'9', b'9', b'9', separator])?;
+    out.extend_from_slice(set_control_number(n).bytes())?;
+    out.extend_from_slice(&[
+        separator, b'0', b'0', b'5', b'0', b'1', b'0', b'X', b'2', b'3', b'1', end,
+    ])?;
+    Ok(())
 }
 
 /// Writes a set's AK2, what is told of its faults (IK3 and IK4), and its IK5 behind what is there.
@@ -106,6 +117,9 @@ fn append_set_response(out: &mut Vec<u8>, delims: &Delims, set: &SetAnswer) -> R
         (out.new.items ≡ out.old.items ++ segments_text delims.now (set_response set.now ∷ [])) }
     ensures kept { Extends out.old.items out.new.items }
 {
+    if set.codes.as_slice().is_empty() {
+        return append_verdict(out, delims, set.verdict);
+    }
     append_coded_segment(
         out,
         delims,
@@ -113,6 +127,18 @@ fn append_set_response(out: &mut Vec<u8>, delims: &Delims, set: &SetAnswer) -> R
         &[code_text(set.verdict).as_bytes()],
         set.codes.as_slice(),
     )
+}
+
+/// Writes an IK5 without codes behind what is there.
+fn append_verdict(out: &mut Vec<u8>, delims: &Delims, verdict: Verdict) -> Result<(), NoMemory>
+    ensures text { OnOk result
+        (out.new.items ≡ out.old.items ++ segments_text delims.now (bare_response verdict ∷ [])) }
+    ensures kept { Extends out.old.items out.new.items }
+{
+    out.extend_from_slice(&[b'I', b'K', b'5', delims.element])?;
+    out.extend_from_slice(code_text(verdict).as_bytes())?;
+    out.push(delims.terminator)?;
+    Ok(())
 }
 
 /// AK203: ST03, where it can be shown.

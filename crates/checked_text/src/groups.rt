@@ -5,15 +5,17 @@ ghost use Rattle.env_index.specs.Words.{span_of, GroupEntry};
 ghost use Rattle.judged_text.specs.Judged.{is_fa};
 ghost use Rattle.checked_text.specs.Answers.{AreGroupAnswers, AreSetAnswers, IsGroupAnswer, IsGroupAnswered, answer_by, codes_where};
 ghost use Rattle.checked_text.specs.Answers.{has_number_among};
+ghost use Rattle.checked_text.specs.Ends.{ends_of};
 
 use crate::answered::AnsweredGroup;
+use crate::ends::{GroupEnds, ends_of, listed};
 use crate::numbers::{add_number, group_number};
 use crate::sent::Sent;
 use crate::sets::answer_sets;
-use crate::support::{group_trailer, listed, support_of};
+use crate::support::support_of;
 use ack_999::{group_codes, group_verdict, totals_of};
-use env_index::{GroupEnvelope, Interchange};
-use hub_kinds::{GroupAnswer, GroupCode, Items, Lent, NoMemory, SetAnswer};
+use env_index::{GroupElements, GroupEnvelope, Interchange};
+use hub_kinds::{GroupAnswer, GroupCode, Items, NoMemory, SetAnswer};
 use judged_text::is_fa;
 use std::alloc::Global;
 use std::collections::BTreeSet;
@@ -85,50 +87,56 @@ pub(crate) fn answer_with<'a>(
     ensures { IfOk result (λ answer. (before : List GroupEntry) → earlier ≡ has_number_among before group.now
         → IsGroupAnswer sent.now before group.now answer) }
 {
-    let codes = codes_where(alloc, sent, group, earlier)?;
-    let answer = answer_by(codes, group, sets.as_slice());
+    let ends = ends_of(group);
+    let codes = codes_where(alloc, sent, group, &ends, earlier)?;
+    let answer = answer_by(codes, ends, sets.as_slice());
     Ok(AnsweredGroup {
         answer,
         sets: Items::from_vec(sets),
     })
 }
 
-/// The codes of a group.
+/// The codes of a group with these ends.
 fn codes_where(
     alloc: Global,
     sent: &Sent<'_>,
     group: &GroupEnvelope<'_, '_>,
+    ends: &GroupEnds<'_>,
     earlier: bool,
 ) -> Result<Items<GroupCode>, NoMemory>
+    requires { ends.now ≡ ends_of group.now }
     ensures { IfOk result (λ codes. codes ≡ codes_where sent.now earlier group.now) }
 {
-    let header = group.header();
-    let trailer = group_trailer(group);
     group_codes(
         alloc,
-        support_of(sent, &header),
-        header.element(6),
-        trailer.as_ref(),
+        support_of(sent, &ends.header),
+        ends.header.control.bytes(),
+        ends.trailer.as_ref(),
         group.set_count() as u64,
         earlier,
     )
 }
 
-/// The answer to a group with these codes and these answers to its sets.
+/// The answer to a group with these ends, these codes and these answers to its sets.
 fn answer_by<'a>(
     codes: Items<GroupCode>,
-    group: &GroupEnvelope<'_, 'a>,
+    ends: GroupEnds<'a>,
     sets: &[SetAnswer<'_>],
 ) -> GroupAnswer<'a>
-    ensures { result ≡ answer_by codes group.now sets.now }
+    ensures { (group : GroupEntry) → ends.entry ≡ ends_of group → result ≡ answer_by codes group sets.now }
 {
-    let header = group.header();
     let verdict = group_verdict(codes.as_slice(), &totals_of(sets));
+    let GroupEnds { header, trailer } = ends;
+    let GroupElements {
+        functional_id,
+        control,
+        version,
+    } = header;
     GroupAnswer {
-        functional_id: Lent::new(header.element(1)),
-        control: Lent::new(header.element(6)),
-        version: Lent::new(header.element(8)),
-        listed: Lent::new(listed(group)),
+        functional_id,
+        control,
+        version,
+        listed: listed(trailer),
         codes,
         verdict,
     }

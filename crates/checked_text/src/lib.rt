@@ -25,10 +25,12 @@
 mod acknowledge;
 mod acknowledgment;
 mod answered;
+mod ends;
 mod files;
 mod finding;
 mod found;
 mod groups;
+mod headers;
 mod key;
 mod laws;
 mod numbers;

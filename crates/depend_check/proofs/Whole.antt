@@ -1,4 +1,4 @@
--- No fault of a dependency is told of the segments of a body that all have places exactly where the dependencies are kept.
+-- No fault of a dependency is told of a body exactly where the segments that have places keep the dependencies.
 use Rattle.std.proofs.Common.{◌≡◌, ◌↔◌, inl, ℕ, zero, suc, Bool, true, false, ◌||◌, ◌==◌, List, [], map}
 use Rattle.std.proofs.Common.{refl, sym, ap, subst, ◌∙◌, true≢false, Option, Some, None, if◌then◌else◌}
 use Rattle.std.specs.Prelude.{IsTrue, option_map}
@@ -141,10 +141,17 @@ placed_kept g d body given end well =
           (kept r.dependency r.listed (sym (triggered_given r.dependency ps) ∙ r.triggered)) r.broken,
     )
 
+-- of a body of which these are the segments that have places, with their slots
+pub dependencies_of_placed : (g : GuideTree) (d : Delims) (xs : List Given) (body : List Segment) (given : List (Option Place)) (end : ℕ)
+    → IsWellFormed g → map as_given (placed_segments g.nodes body given) ≡ xs
+    → ((f : Fault) → IsDependencyFault g d body given end f → ⊥) ↔ AreDependenciesKept g.depends d xs
+dependencies_of_placed g d xs body given end well are =
+    subst (λ (ys : List Given). ((f : Fault) → IsDependencyFault g d body given end f → ⊥) ↔ AreDependenciesKept g.depends d ys) are
+    (placed_kept g d body given end well)
+
 -- as a derivation of the body gives it: each segment has a place that leads to its slot
 pub dependencies_kept : (g : GuideTree) (d : Delims) (xs : List Given) (body : List Segment) (given : List (Option Place)) (end : ℕ)
     → IsWellFormed g → map (λ (x : Given). x.0) xs ≡ body → map (slot_given g.nodes) given ≡ map (λ (x : Given). Some x.1) xs
     → ((f : Fault) → IsDependencyFault g d body given end f → ⊥) ↔ AreDependenciesKept g.depends d xs
 dependencies_kept g d xs body given end well are led =
-    subst (λ (ys : List Given). ((f : Fault) → IsDependencyFault g d body given end f → ⊥) ↔ AreDependenciesKept g.depends d ys)
-    (placed_given g.nodes xs body given are led) (placed_kept g d body given end well)
+    dependencies_of_placed g d xs body given end well (placed_given g.nodes xs body given are led)

@@ -52,10 +52,9 @@ fn in_target_order<'d>(
 }
 
 /// Adds what is told of a target that is needed and has no use.
-pub fn add_left_out(
-    alloc: Global,
-    faults: &mut Vec<Fault>,
-    nodes: &[Node],
+pub fn add_left_out<'a>(
+    faults: &mut Vec<Fault<'a>>,
+    nodes: &'a [Node],
     end: u64,
     placed: &[PlacedSeg],
     dependency: &Dependency,
@@ -65,20 +64,19 @@ pub fn add_left_out(
 {
     if is_left_out(dependency, placed) {
         if let Some(seat) = seat_among(b"", nodes, dependency.target.as_slice()) {
-            faults.push(unused_fault(alloc, end, &seat)?)?;
+            faults.push(unused_fault(end, &seat))?;
         }
     }
     Ok(())
 }
 
 /// Adds what is wrong by a dependency that is triggered.
-fn add_broken(
-    alloc: Global,
-    faults: &mut Vec<Fault>,
-    nodes: &[Node],
+fn add_broken<'a>(
+    faults: &mut Vec<Fault<'a>>,
+    nodes: &'a [Node],
     delims: Delims,
     end: u64,
-    placed: &[PlacedSeg],
+    placed: &[PlacedSeg<'_, 'a, 'a>],
     dependency: &Dependency,
 ) -> Result<(), NoMemory>
     requires { AreByLabel placed.now }
@@ -86,8 +84,8 @@ fn add_broken(
         ⊎ IsBroken (nodes_view nodes.now) delims end (placed_views placed.now) dependency.now f)) }
 {
     let uses = uses_of(dependency.target.as_slice(), placed);
-    add_left_out(alloc, faults, nodes, end, uses, dependency)?;
-    add_uses(alloc, faults, delims, dependency, uses)
+    add_left_out(faults, nodes, end, uses, dependency)?;
+    add_uses(faults, delims, dependency, uses)
 }
 
 fn asks_again(before: Option<&Dependency>, dependency: &Dependency) -> bool
@@ -100,14 +98,14 @@ fn asks_again(before: Option<&Dependency>, dependency: &Dependency) -> bool
 }
 
 /// What is wrong by dependencies that are triggered; where they are in that order, each thing that they ask is looked at once.
-fn find_broken(
+fn find_broken<'a>(
     alloc: Global,
-    nodes: &[Node],
+    nodes: &'a [Node],
     delims: Delims,
     end: u64,
-    placed: &[PlacedSeg],
+    placed: &[PlacedSeg<'_, 'a, 'a>],
     asked: &[&Dependency],
-) -> Result<Vec<Fault>, NoMemory>
+) -> Result<Vec<Fault<'a>>, NoMemory>
     requires { AreByLabel placed.now }
     ensures { IfOk result (λ v. (f : Fault) → Contains v.items f
         ↔ IsBrokenAmong (nodes_view nodes.now) delims end (placed_views placed.now) (lent asked.now) f) }
@@ -117,7 +115,7 @@ fn find_broken(
     for i in 0..asked.len() {
         let dependency = asked[i];
         if !asks_again(before, dependency) {
-            add_broken(alloc, &mut faults, nodes, delims, end, placed, dependency)?;
+            add_broken(&mut faults, nodes, delims, end, placed, dependency)?;
         }
         before = Some(dependency);
     }
@@ -125,14 +123,14 @@ fn find_broken(
 }
 
 /// What is wrong by dependencies, where placed segments are in the order of labels.
-pub fn find_faults(
+pub fn find_faults<'a>(
     alloc: Global,
-    nodes: &[Node],
+    nodes: &'a [Node],
     delims: Delims,
     end: u64,
-    placed: &[PlacedSeg],
+    placed: &[PlacedSeg<'_, 'a, 'a>],
     depends: &[Dependency],
-) -> Result<Vec<Fault>, NoMemory>
+) -> Result<Vec<Fault<'a>>, NoMemory>
     requires { AreByLabel placed.now }
     ensures { IfOk result (λ v. (f : Fault) → Contains v.items f
         ↔ IsFound (nodes_view nodes.now) delims end (placed_views placed.now) depends.now f) }

@@ -24,14 +24,14 @@ use x12_segs::SegView;
 const FEW: usize = 4;
 
 /// What is wrong by these dependencies with a body whose segments have these places.
-fn find_in_body(
+fn find_in_body<'a>(
     alloc: Global,
-    segs: &[SegView],
+    segs: &[SegView<'a>],
     placing: &Placing,
-    nodes: &[Node],
+    nodes: &'a [Node],
     delims: Delims,
     depends: &[Dependency],
-) -> Result<Vec<Fault>, NoMemory>
+) -> Result<Vec<Fault<'a>>, NoMemory>
     ensures { IfOk result (λ v. (f : Fault) → Contains v.items f ↔ IsFound (nodes_view nodes.now) delims (length segs.now + 2)
         (placed_segments (nodes_view nodes.now) (map elements_of segs.now) (map place_in placing.now.given)) depends.now f) }
 {
@@ -46,13 +46,13 @@ fn find_in_body(
 }
 
 /// The faults of the dependencies of accepted rows, in their order.
-fn check_by_rows(
+fn check_by_rows<'a>(
     alloc: Global,
-    segs: &[SegView],
+    segs: &[SegView<'a>],
     placing: &Placing,
-    rows: &GuideRows,
+    rows: &'a GuideRows,
     delims: Delims,
-) -> Result<Vec<Fault>, NoMemory>
+) -> Result<Vec<Fault<'a>>, NoMemory>
     requires { IsAccepted rows.now }
     ensures faults { IfOk result (λ v. (f : Fault) → Contains v.items f ↔ IsDependencyFault (guide_of rows.now) delims
         (map elements_of segs.now) (map place_in placing.now.given) (length segs.now + 2) f) }
@@ -66,12 +66,12 @@ fn check_by_rows(
 /// are read by the same delimiters; each once and in their order. A position is a segment's number in the set, ST being
 /// 1; the end is behind the last segment. The only error is want of memory. Dependencies are own; the 999 guide, IK3 and
 /// IK4, tells of them.
-pub fn check_dependencies(
+pub fn check_dependencies<'a>(
     alloc: Global,
-    segs: &[SegView],
+    segs: &[SegView<'a>],
     placing: &Placing,
-    guide: &Guide,
-) -> Result<Vec<Fault>, NoMemory>
+    guide: &'a Guide,
+) -> Result<Vec<Fault<'a>>, NoMemory>
     ensures faults { IfOk result (λ v. (delims : Delims) → All (λ s. s.delims ≡ delims) segs.now → (f : Fault)
         → Contains v.items f ↔ IsDependencyFault (guide_of guide.now) delims (map elements_of segs.now)
         (map place_in placing.now.given) (length segs.now + 2) f) }

@@ -43,30 +43,28 @@ fn is_triggered(dependency: &Dependency, placed: &[PlacedSeg]) -> bool
 }
 
 /// Adds what is wrong by a dependency that is triggered, in any order of the segments.
-fn add_broken_by(
-    alloc: Global,
-    faults: &mut Vec<Fault>,
-    nodes: &[Node],
+fn add_broken_by<'a>(
+    faults: &mut Vec<Fault<'a>>,
+    nodes: &'a [Node],
     delims: Delims,
     end: u64,
-    placed: &[PlacedSeg],
+    placed: &[PlacedSeg<'_, 'a, 'a>],
     dependency: &Dependency,
 ) -> Result<(), NoMemory>
     ensures { OnOk result ((f : Fault) → Contains faults.new.items f ↔ (Contains faults.old.items f
         ⊎ IsBroken (nodes_view nodes.now) delims end (placed_views placed.now) dependency.now f)) }
 {
-    add_left_out(alloc, faults, nodes, end, placed, dependency)?;
-    add_uses(alloc, faults, delims, dependency, placed)
+    add_left_out(faults, nodes, end, placed, dependency)?;
+    add_uses(faults, delims, dependency, placed)
 }
 
 /// The same of a dependency that may not be triggered.
-fn add_found(
-    alloc: Global,
-    faults: &mut Vec<Fault>,
-    nodes: &[Node],
+fn add_found<'a>(
+    faults: &mut Vec<Fault<'a>>,
+    nodes: &'a [Node],
     delims: Delims,
     end: u64,
-    placed: &[PlacedSeg],
+    placed: &[PlacedSeg<'_, 'a, 'a>],
     dependency: &Dependency,
 ) -> Result<(), NoMemory>
     ensures { OnOk result ((f : Fault) → Contains faults.new.items f ↔ (Contains faults.old.items f
@@ -75,25 +73,25 @@ fn add_found(
     if !is_triggered(dependency, placed) {
         return Ok(());
     }
-    add_broken_by(alloc, faults, nodes, delims, end, placed, dependency)
+    add_broken_by(faults, nodes, delims, end, placed, dependency)
 }
 
 /// What is wrong by dependencies, each of which looks at all segments: for so few that no order pays.
-pub fn find_few(
+pub fn find_few<'a>(
     alloc: Global,
-    nodes: &[Node],
+    nodes: &'a [Node],
     delims: Delims,
     end: u64,
-    placed: &[PlacedSeg],
+    placed: &[PlacedSeg<'_, 'a, 'a>],
     depends: &[Dependency],
-) -> Result<Vec<Fault>, NoMemory>
+) -> Result<Vec<Fault<'a>>, NoMemory>
     ensures { IfOk result (λ v. (f : Fault) → Contains v.items f
         ↔ IsFound (nodes_view nodes.now) delims end (placed_views placed.now) depends.now f) }
 {
     let mut faults = Vec::new(alloc);
     for i in 0..depends.len() {
         let dependency = &depends[i];
-        add_found(alloc, &mut faults, nodes, delims, end, placed, dependency)?;
+        add_found(&mut faults, nodes, delims, end, placed, dependency)?;
     }
     Ok(faults)
 }

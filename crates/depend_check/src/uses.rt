@@ -9,7 +9,6 @@ use elem_rules::is_empty;
 use guide_tree::{Dependency, DependencyKind};
 use hub_kinds::{Fault, NoMemory};
 use loop_match::{PlacedSeg, text_at};
-use std::alloc::Global;
 use x12_bytes::Delims;
 
 /// Whether a segment is a use of the slot with a label.
@@ -55,12 +54,11 @@ fn is_broken_by(delims: Delims, kind: DependencyKind, element: u32, placed: &Pla
 }
 
 /// Adds what a segment breaks of a dependency that is triggered.
-fn add_use(
-    alloc: Global,
-    faults: &mut Vec<Fault>,
+fn add_use<'a>(
+    faults: &mut Vec<Fault<'a>>,
     delims: Delims,
     dependency: &Dependency,
-    placed: &PlacedSeg,
+    placed: &PlacedSeg<'_, 'a, 'a>,
 ) -> Result<(), NoMemory>
     ensures { OnOk result (faults.new.items
         ≡ faults.old.items ++ faults_of_use delims dependency.now.target dependency.now.kind dependency.now.element
@@ -68,25 +66,24 @@ fn add_use(
 {
     let (kind, element) = (dependency.kind, dependency.element);
     if is_use(dependency.target.as_slice(), placed) && is_broken_by(delims, kind, element, placed) {
-        faults.push(told_of(alloc, kind, element, placed)?)?;
+        faults.push(told_of(kind, element, placed))?;
     }
     Ok(())
 }
 
 /// Adds what the segments break of a dependency that is triggered.
-pub fn add_uses(
-    alloc: Global,
-    faults: &mut Vec<Fault>,
+pub fn add_uses<'a>(
+    faults: &mut Vec<Fault<'a>>,
     delims: Delims,
     dependency: &Dependency,
-    placed: &[PlacedSeg],
+    placed: &[PlacedSeg<'_, 'a, 'a>],
 ) -> Result<(), NoMemory>
     ensures { OnOk result (faults.new.items
         ≡ faults.old.items ++ flat_map (faults_of_use delims dependency.now.target dependency.now.kind
         dependency.now.element) (placed_views placed.now)) }
 {
     for i in 0..placed.len() {
-        add_use(alloc, faults, delims, dependency, &placed[i])?;
+        add_use(faults, delims, dependency, &placed[i])?;
     }
     Ok(())
 }

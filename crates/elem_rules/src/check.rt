@@ -26,7 +26,7 @@ fn first_texts<'a>(alloc: Global, seg: &SegView<'a>, n: usize) -> Result<Vec<&'a
 }
 
 /// Adds what is wrong in the elements that have rows.
-fn check_rows(found: &mut Findings, of: &Elements) -> Result<(), NoMemory>
+fn check_rows<'a>(found: &mut Findings<'a>, of: &Elements<'_, 'a>) -> Result<(), NoMemory>
     requires few { length of.now.rows.now ≤ 40 }
     requires bounded { All (λ row. IsTrue (is_element_bounded row)) of.now.rows.now }
     ensures { OnOk result
@@ -45,7 +45,7 @@ fn check_rows(found: &mut Findings, of: &Elements) -> Result<(), NoMemory>
 }
 
 /// Adds the fault of a segment with more elements than rows.
-fn check_extra(found: &mut Findings, seg: &SegView, slot: &Slot) -> Result<(), NoMemory>
+fn check_extra<'a>(found: &mut Findings<'a>, seg: &SegView<'a>, slot: &Slot) -> Result<(), NoMemory>
     requires { length slot.now.elements ≤ 40 }
     ensures { OnOk result
         (found.new ≡ found.old ++ extra_found seg.now.delims slot.now (elements_of seg.now)) }
@@ -68,7 +68,7 @@ fn check_extra(found: &mut Findings, seg: &SegView, slot: &Slot) -> Result<(), N
 }
 
 /// The faults of a segment's elements in the order in which they are found; the same one may be found twice.
-fn find(alloc: Global, seg: &SegView, slot: &Slot) -> Result<Findings, NoMemory>
+fn find<'a>(alloc: Global, seg: &SegView<'a>, slot: &'a Slot) -> Result<Findings<'a>, NoMemory>
     requires bounded { IsTrue (is_slot_bounded slot.now) }
     requires conditions { IsTrue (list_all (is_condition_of slot.now) slot.now.conditions) }
     ensures exact { IfOk result
@@ -93,7 +93,11 @@ fn find(alloc: Global, seg: &SegView, slot: &Slot) -> Result<Findings, NoMemory>
 /// The faults of a segment's elements by the rows and conditions of its slot (999 guide, IK4): all of them, each once,
 /// by element, component, repetition and code. The slot keeps the bounds of an accepted guide, and its conditions
 /// name elements that have rows, as each slot of a checked `Guide` does.
-pub fn check_segment(alloc: Global, seg: &SegView, slot: &Slot) -> Result<Vec<ElemFault>, NoMemory>
+pub fn check_segment<'a>(
+    alloc: Global,
+    seg: &SegView<'a>,
+    slot: &'a Slot,
+) -> Result<Vec<ElemFault<'a>>, NoMemory>
     requires bounded { IsTrue (is_slot_bounded slot.now) }
     requires conditions { IsTrue (list_all (is_condition_of slot.now) slot.now.conditions) }
     ensures exact { IfOk result

@@ -16,10 +16,10 @@ use x12_bytes::Delims;
 
 /// The elements of a segment that have rows.
 #[derive(Clone, Copy)]
-pub struct Elements<'a> {
+pub struct Elements<'t, 'a> {
     pub delims: Delims,
     pub rows: &'a [Element],
-    pub texts: &'a [&'a [u8]],
+    pub texts: &'t [&'a [u8]],
 }
 
 /// The text of the element at a position, from 1 on; empty where there is none.
@@ -48,10 +48,10 @@ pub fn reference_at(rows: &[Element], position: u32) -> &[u8]
     }
 }
 
-/// Adds the fault of a broken condition at a position: an element that is too much is copied.
-fn add_broken(
-    found: &mut Findings,
-    of: &Elements,
+/// Adds the fault of a broken condition at a position: an element that is too much is lent.
+fn add_broken<'a>(
+    found: &mut Findings<'a>,
+    of: &Elements<'_, 'a>,
     code: ElementCode,
     position: u32,
 ) -> Result<(), NoMemory>
@@ -72,9 +72,9 @@ fn add_broken(
 }
 
 /// Adds a fault with a code for each row whose bit is set.
-fn add_each(
-    found: &mut Findings,
-    of: &Elements,
+fn add_each<'a>(
+    found: &mut Findings<'a>,
+    of: &Elements<'_, 'a>,
     code: ElementCode,
     bits: u64,
 ) -> Result<(), NoMemory>
@@ -93,10 +93,10 @@ fn add_each(
 }
 
 /// Adds the faults of relational conditions, each once for a position and a code, however many conditions are broken there.
-pub fn check_conditions(
+pub fn check_conditions<'a>(
     alloc: Global,
-    found: &mut Findings,
-    of: &Elements,
+    found: &mut Findings<'a>,
+    of: &Elements<'_, 'a>,
     conditions: &[Condition],
 ) -> Result<(), NoMemory>
     requires texts { length of.now.texts.now < 64 }

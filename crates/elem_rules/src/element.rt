@@ -80,10 +80,10 @@ pub fn element_reference(row: &Element) -> &[u8]
 }
 
 /// Adds the fault of an element that occurs more often than its repeat.
-fn check_repeat(
-    found: &mut Findings,
-    at: &Subject,
-    reference: &[u8],
+fn check_repeat<'a>(
+    found: &mut Findings<'a>,
+    at: &Subject<'a>,
+    reference: &'a [u8],
     repeat: u32,
 ) -> Result<(), NoMemory>
     requires { repeat ≤ 999 }
@@ -103,10 +103,10 @@ fn check_repeat(
     )
 }
 
-fn check_simple_occurrences(
-    found: &mut Findings,
-    at: &Subject,
-    row: &SimpleRow,
+fn check_simple_occurrences<'a>(
+    found: &mut Findings<'a>,
+    at: &Subject<'a>,
+    row: &'a SimpleRow,
     repeat: u32,
 ) -> Result<(), NoMemory>
     requires { repeat ≤ 999 }
@@ -124,10 +124,10 @@ fn check_simple_occurrences(
     Ok(())
 }
 
-fn check_composite_occurrences(
-    found: &mut Findings,
-    at: &Subject,
-    row: &CompositeRow,
+fn check_composite_occurrences<'a>(
+    found: &mut Findings<'a>,
+    at: &Subject<'a>,
+    row: &'a CompositeRow,
 ) -> Result<(), NoMemory>
     requires repeat { row.now.repeat ≤ 999 }
     requires components { length row.now.components ≤ 20 }
@@ -146,7 +146,11 @@ fn check_composite_occurrences(
 }
 
 /// Adds what is wrong in an element, by its row.
-pub fn check_element(found: &mut Findings, at: &Subject, row: &Element) -> Result<(), NoMemory>
+pub fn check_element<'a>(
+    found: &mut Findings<'a>,
+    at: &Subject<'a>,
+    row: &'a Element,
+) -> Result<(), NoMemory>
     requires { IsTrue (is_element_bounded row.now) }
     ensures { OnOk result
         (found.new ≡ found.old ++ element_found at.now.delims at.now.element row.now at.now.text.now) }

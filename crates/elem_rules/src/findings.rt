@@ -2,7 +2,7 @@ ghost use Rattle.std.specs.Prelude.{◌≡◌, ◌++◌, [], ◌∷◌, List, On
 ghost use Rattle.hub_kinds.specs.declared.fault.ElemFault.{ElemFault};
 ghost use Rattle.elem_rules.specs.Found.{fault, copy_of, reported};
 
-use hub_kinds::{ElemFault, ElementCode, NoMemory, copy_text};
+use hub_kinds::{ElemFault, ElementCode, Lent, NoMemory};
 use std::alloc::Global;
 use std::marker::Model;
 
@@ -17,43 +17,41 @@ pub struct Spot {
 
 /// The faults that were found so far, in the order in which they were found. Contracts see their list.
 #[derive(Drop)]
-pub struct Findings {
-    alloc: Global,
-    faults: Vec<ElemFault>,
+pub struct Findings<'a> {
+    faults: Vec<ElemFault<'a>>,
 }
 
-impl Model for Findings {
+impl<'a> Model for Findings<'a> {
     ghost Value = { List ElemFault };
 
     ghost view = { λ f. f.faults.items };
 }
 
-impl Findings {
+impl<'a> Findings<'a> {
     /// No fault.
-    pub fn new(alloc: Global) -> Findings
+    pub fn new(alloc: Global) -> Findings<'a>
         ensures { result ≡ [] }
     {
         Findings {
-            alloc,
             faults: Vec::new(alloc),
         }
     }
 
     /// The faults, as a list.
-    pub fn into_faults(self) -> Vec<ElemFault>
-        ensures { result.items ≡ self }
+    pub fn into_faults(self) -> Vec<ElemFault<'a>>
+        ensures { result.items ≡ self.entry }
     {
         self.faults
     }
 
-    /// Adds a fault with copies of these texts. Where memory is refused, here and in all calls that add, some of
+    /// Adds a fault that lends these texts. Where memory is refused, here and in all calls that add, some of
     /// the faults may be there.
     pub fn add(
         &mut self,
         spot: Spot,
         code: ElementCode,
-        reference: &[u8],
-        copy: &[u8],
+        reference: &'a [u8],
+        copy: &'a [u8],
     ) -> Result<(), NoMemory>
         ensures { OnOk result
             (self.new
@@ -64,20 +62,20 @@ impl Findings {
             component: spot.component,
             repetition: spot.repetition,
             code,
-            reference: copy_text(self.alloc, reference)?,
-            copy: copy_text(self.alloc, copy)?,
+            reference: Lent::new(reference),
+            copy: Lent::new(copy),
         };
         self.faults.push(fault)?;
         Ok(())
     }
 
-    /// Adds the fault with this code, if there is one; of what is missing nothing is copied.
+    /// Adds the fault with this code, if there is one; of what is missing no text is lent.
     pub fn add_if(
         &mut self,
         spot: Spot,
         code: Option<ElementCode>,
-        reference: &[u8],
-        text: &[u8],
+        reference: &'a [u8],
+        text: &'a [u8],
     ) -> Result<(), NoMemory>
         ensures { OnOk result
             (self.new
@@ -90,7 +88,7 @@ impl Findings {
     }
 }
 
-/// The text that is copied under a code: of what is missing nothing.
+/// The text that is shown under a code: of what is missing nothing.
 fn copy_of(code: ElementCode, text: &[u8]) -> &[u8]
     ensures { result.now ≡ copy_of code text.now }
 {

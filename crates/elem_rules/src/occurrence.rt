@@ -91,7 +91,11 @@ fn component_reference(row: &Component) -> &[u8]
 }
 
 /// Adds what is wrong in an occurrence of a simple element, which is one component.
-pub fn check_simple(found: &mut Findings, at: &Occurrence, row: &SimpleRow) -> Result<(), NoMemory>
+pub fn check_simple<'a>(
+    found: &mut Findings<'a>,
+    at: &Occurrence<'a>,
+    row: &'a SimpleRow,
+) -> Result<(), NoMemory>
     ensures { OnOk result
         (found.new
         ≡ found.old
@@ -120,10 +124,10 @@ pub fn check_simple(found: &mut Findings, at: &Occurrence, row: &SimpleRow) -> R
 }
 
 /// Adds what is wrong in an occurrence of a composite element.
-pub fn check_composite(
-    found: &mut Findings,
-    at: &Occurrence,
-    row: &CompositeRow,
+pub fn check_composite<'a>(
+    found: &mut Findings<'a>,
+    at: &Occurrence<'a>,
+    row: &'a CompositeRow,
 ) -> Result<(), NoMemory>
     requires { length row.now.components ≤ 20 }
     ensures { OnOk result
@@ -148,12 +152,12 @@ pub fn check_composite(
 }
 
 /// Adds what is wrong in component `m`, from 1, of an occurrence of a composite element.
-fn check_component(
-    found: &mut Findings,
-    at: &Occurrence,
+fn check_component<'a>(
+    found: &mut Findings<'a>,
+    at: &Occurrence<'a>,
     m: u32,
-    row: &Component,
-    text: &[u8],
+    row: &'a Component,
+    text: &'a [u8],
 ) -> Result<(), NoMemory>
     ensures { OnOk result
         (found.new
@@ -163,10 +167,10 @@ fn check_component(
     found.add_if(at.spot(m), fault, component_reference(row), text)
 }
 
-fn check_components(
-    found: &mut Findings,
-    at: &Occurrence,
-    rows: &[Component],
+fn check_components<'a>(
+    found: &mut Findings<'a>,
+    at: &Occurrence<'a>,
+    rows: &'a [Component],
 ) -> Result<(), NoMemory>
     requires { length rows.now ≤ 20 }
     ensures { OnOk result

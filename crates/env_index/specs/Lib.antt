@@ -18,3 +18,4 @@ pub mod Spans
 pub mod Summary
 pub mod Unjudged
 pub mod Words
+pub mod GroupElements

@@ -8,6 +8,7 @@ pub use Rattle.env_index.specs.Extents.{Chain, ChainFrom, Extent, IsNextHead, Re
 pub use Rattle.env_index.specs.Extents.{is_filler, onto_reach, reach_at, reach_from, reach_of}
 pub use Rattle.env_index.specs.Faults.{control_number, counts_groups, fault_by, fault_of, fault_of_headers, fault_with, has_control}
 pub use Rattle.env_index.specs.Faults.{has_set_headers, is_group_header, is_set_header, writes_number}
+pub use Rattle.env_index.specs.GroupElements.{group_elements}
 pub use Rattle.env_index.specs.Index.{IndexEntry, IndexValue, IsEntryOf, IsIndex, IsNextIn, IsReadIn, extent_of, extents_of}
 pub use Rattle.env_index.specs.IndexPlaces.{PlacesAreIndexPlaces, fault_or_unknown, faults_to_eight, interchanges_of}
 pub use Rattle.env_index.specs.Interchange.{InterchangeEntry, interchange_of}

@@ -4,6 +4,7 @@ ghost use Rattle.std.specs.Char.{is_ascii_uppercase};
 ghost use Rattle.env_index.specs.Faults.{control_number, writes_number, is_group_header, is_set_header, has_set_headers};
 ghost use Rattle.env_index.specs.Faults.{fault_of, fault_of_headers};
 
+use crate::header_elements::group_elements;
 use crate::interchange::{GroupEnvelope, Interchange};
 use hub_kinds::{InterchangeFault, MOST_CONTROL_DIGITS, is_alphanumeric, read_number};
 use x12_bytes::Header;
@@ -95,7 +96,7 @@ fn group_has_set_headers(group: &GroupEnvelope<'_, '_>) -> bool
     ensures { result ≡ has_set_headers group.now }
 {
     for index in 0..group.set_count() {
-        if !is_set_header(&group.set(index).header) {
+        if !is_set_header(&group.set_header(index)) {
             return false;
         }
     }
@@ -105,11 +106,12 @@ fn group_has_set_headers(group: &GroupEnvelope<'_, '_>) -> bool
 fn is_group_header(header: &SegView<'_>) -> bool
     ensures { result ≡ is_group_header header.now }
 {
-    let id = header.element(1);
+    let elements = group_elements(header);
+    let id = elements.functional_id.bytes();
     id.len() == 2
         && are_uppercase(id)
-        && read_number(header.element(6), MOST_CONTROL_DIGITS).is_some()
-        && is_alphanumeric(header.element(8), 1, 12)
+        && read_number(elements.control.bytes(), MOST_CONTROL_DIGITS).is_some()
+        && is_alphanumeric(elements.version.bytes(), 1, 12)
 }
 
 fn are_uppercase(text: &[u8]) -> bool

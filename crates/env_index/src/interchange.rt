@@ -137,7 +137,8 @@ impl<'i, 'a> Model for GroupEnvelope<'i, 'a> {
 }
 
 impl<'i, 'a> GroupEnvelope<'i, 'a> {
-    ghost use Rattle.std.specs.Prelude.{◌≡◌, ◌<◌, length, Some, slice_get};
+    ghost use Rattle.std.specs.Prelude.{◌≡◌, ◌<◌, length, Some, option_map, slice_get};
+    ghost use Rattle.env_index.specs.declared.entry.SetEnvelope.{SetEnvelope};
 
     /// Its header (GS).
     pub fn header(&self) -> SegView<'a>
@@ -172,5 +173,13 @@ impl<'i, 'a> GroupEnvelope<'i, 'a> {
             trailer: set_trailer(self.text, self.delims, &place),
             end: behind_segment(self.text, self.delims, place.last),
         }
+    }
+
+    /// The header (ST) of one of its sets, counted from 0, without a look at the rest of it.
+    pub fn set_header(&self, index: usize) -> SegView<'a>
+        requires { index < length self.now.sets }
+        ensures { option_map (λ (set : SetEnvelope). set.header) (slice_get self.now.sets index) ≡ Some result }
+    {
+        segment_at(self.text, self.delims, self.place.sets[index].header)
     }
 }

@@ -24,7 +24,8 @@
 //!   that are held in another way, and back (`envelope_is_mapped`);
 //! - an interchange ends at the least of three offsets (`end_is_least`), and holds its header;
 //! - each set of an interchange can be read alone in its span of the text (`sets_stand_alone`), and
-//!   the span that the index gives of it (`SetEnvelope::span`) is a set's.
+//!   the span that the index gives of it (`SetEnvelope::span`) is a set's;
+//! - `group_elements` gives GS01, GS06 and GS08 of a group's header, and `GroupEnvelope::set_header` the ST of a set.
 //!
 //! X12.5, interchange control header (ISA) and trailer (IEA), interchange acknowledgment (TA1);
 //! X12.6, functional group header (GS) and trailer (GE), transaction set header (ST) and trailer
@@ -45,6 +46,7 @@ mod by_marks;
 mod entry;
 mod envelopes;
 mod faults;
+mod header_elements;
 mod index;
 mod interchange;
 mod judging;
@@ -65,6 +67,7 @@ mod walk;
 pub use by_marks::index_of;
 pub use entry::SetEnvelope;
 pub use faults::judge_interchange;
+pub use header_elements::{GroupElements, group_elements};
 pub use index::{Index, IndexedInterchange};
 pub use interchange::{GroupEnvelope, Interchange};
 pub use judging::judge;

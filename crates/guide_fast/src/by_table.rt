@@ -35,11 +35,11 @@ impl<'g> NextPlace<'g> for FastGuide<'g> {
 
 /// The place and the slot of each segment of a body, and exactly its structural faults, each once and in their order, by a
 /// compiled guide; the body's end is behind its last segment. The only error is want of memory.
-pub fn place_all_fast<'g>(
+pub fn place_all_fast<'a, 'g: 'a>(
     alloc: Global,
-    segs: &[SegView],
+    segs: &[SegView<'a>],
     fast: &FastGuide<'g>,
-) -> Result<Placing<'g>, NoMemory>
+) -> Result<Placing<'a>, NoMemory>
     ensures places { IfOk result (λ p. map place_in p.given
         ≡ placing_of (nodes_view fast.now.nodes.items) (map elements_of segs.now)) }
     ensures placing { IfOk result (λ p.

@@ -1,4 +1,4 @@
--- No fault of a hierarchy is told of the segments of a body that all have places exactly where the hierarchy is whole.
+-- No fault of a hierarchy is told of a body exactly where the HLs that have places make a whole hierarchy.
 use Rattle.std.proofs.Common.{◌≡◌, ◌↔◌, inl, inr, ℕ, ◌+◌, List, map}
 use Rattle.std.proofs.Common.{take, drop, refl, sym, ap, subst, ◌∙◌, true≢false, Option, Some, None}
 use Rattle.std.specs.Prelude.{option_map, IsSomeAnd}
@@ -12,22 +12,20 @@ use Rattle.hub_kinds.specs.declared.fault.Fault.{Fault}
 use Rattle.hub_kinds.specs.declared.codes.ElementCode.TheVariants as ik403
 use Rattle.guide_tree.specs.declared.rows.HlRule.{HlRule}
 use Rattle.guide_tree.specs.Words.{Trees, GuideTree, Segment, Given, Place, slot_given}
-use Rattle.guide_law.specs.Law.{HasSlots}
 use Rattle.loop_match.specs.PlacedSegments.{PlacedSegment, placed_segments, as_given}
 use Rattle.loop_match.proofs.Leading.{placed_given}
 use Rattle.hl_check.specs.Hierarchy.{is_hl, segments_of, hl_segments, hls_of, hl_fault}
 use Rattle.hl_check.specs.Hierarchy.{IsFaultAmong, IsHierarchyFault, IsHlWhole, IsHierarchyWhole}
 use Rattle.hl_check.proofs.Viewing.{filter_view}
 
--- the HLs that have places are the HL segments, where each segment has one
-all_segments : (ts : Trees) (xs : List Given) (body : List Segment) (given : List (Option Place)) → map (λ (x : Given). x.0) xs ≡ body
-    → HasSlots ts given xs → segments_of (hls_of ts body given) ≡ hl_segments body
-all_segments ts xs body given are led =
+-- the HLs that have places are the HL segments of those that have places
+all_segments : (ts : Trees) (xs : List Given) (body : List Segment) (given : List (Option Place))
+    → map as_given (placed_segments ts body given) ≡ xs → segments_of (hls_of ts body given) ≡ hl_segments (map (λ (x : Given). x.0) xs)
+all_segments ts xs body given are =
     let placed = placed_segments ts body given in
     filter_view is_hl (λ (h : PlacedSegment). h.segment) placed
     ∙ ap hl_segments (sym (map-map (λ (x : Given). x.0) as_given placed))
-    ∙ ap (λ (ys : List Given). hl_segments (map (λ (x : Given). x.0) ys)) (placed_given ts xs body given are led)
-    ∙ ap hl_segments are
+    ∙ ap (λ (ys : List Given). hl_segments (map (λ (x : Given). x.0) ys)) are
 
 moved : (rule : HlRule) (d : Delims) (earlier front : List Segment) (h s : Segment) (later behind : List Segment) → earlier ≡ front → h ≡ s
     → later ≡ behind → IsHlWhole rule d earlier h later → IsHlWhole rule d front s behind
@@ -91,10 +89,18 @@ pub faultless_as_whole : (rule : Option HlRule) (d : Delims) (hls : List PlacedS
 faultless_as_whole None d hls = (λ none. tt, λ whole f h. absurd h)
 faultless_as_whole (Some rule) d hls = (faultless_whole rule d hls, whole_faultless rule d hls)
 
+-- of a body of which these are the segments that have places, with their slots
+pub hierarchy_of_placed : (g : GuideTree) (d : Delims) (xs : List Given) (body : List Segment) (given : List (Option Place))
+    → map as_given (placed_segments g.nodes body given) ≡ xs
+    → ((f : Fault) → IsHierarchyFault g d body given f → ⊥) ↔ IsHierarchyWhole g.hl d (hl_segments (map (λ (x : Given). x.0) xs))
+hierarchy_of_placed g d xs body given are =
+    subst (λ (hls : List Segment). ((f : Fault) → IsHierarchyFault g d body given f → ⊥) ↔ IsHierarchyWhole g.hl d hls)
+    (all_segments g.nodes xs body given are) (faultless_as_whole g.hl d (hls_of g.nodes body given))
+
 -- as a derivation of the body gives it: each segment has a place that leads to its slot
 pub hierarchy_whole : (g : GuideTree) (d : Delims) (xs : List Given) (body : List Segment) (given : List (Option Place))
     → map (λ (x : Given). x.0) xs ≡ body → map (slot_given g.nodes) given ≡ map (λ (x : Given). Some x.1) xs
     → ((f : Fault) → IsHierarchyFault g d body given f → ⊥) ↔ IsHierarchyWhole g.hl d (hl_segments body)
 hierarchy_whole g d xs body given are led =
-    subst (λ (hls : List Segment). ((f : Fault) → IsHierarchyFault g d body given f → ⊥) ↔ IsHierarchyWhole g.hl d hls)
-    (all_segments g.nodes xs body given are led) (faultless_as_whole g.hl d (hls_of g.nodes body given))
+    subst (λ (segs : List Segment). ((f : Fault) → IsHierarchyFault g d body given f → ⊥) ↔ IsHierarchyWhole g.hl d (hl_segments segs)) are
+    (hierarchy_of_placed g d xs body given (placed_given g.nodes xs body given are led))

@@ -18,11 +18,10 @@ use x12_bytes::Delims;
 
 /// Adds what the later HLs show of an HL, and keeps the number that it names.
 fn add_before<'a>(
-    alloc: Global,
-    faults: &mut Vec<Fault>,
+    faults: &mut Vec<Fault<'a>>,
     named: &mut BTreeSet<&'a [u8]>,
     delims: Delims,
-    hl: &PlacedSeg<'_, 'a, '_>,
+    hl: &PlacedSeg<'_, 'a, 'a>,
 ) -> Result<(), NoMemory>
     ensures named { OnOk result ((later : List Segment) → KnowsNamed named.old delims later
         → KnowsNamed named.new delims (elements_of hl.now.seg.now ∷ later)) }
@@ -31,16 +30,16 @@ fn add_before<'a>(
 {
     let (number, parent, _) = hl.seg.first_elements();
     let wrong = is_child_wrong(hl.seg.element(4), named.contains(number));
-    add_if(alloc, faults, wrong, hl, 4, ElementCode::PatternFailure)?;
+    add_if(faults, wrong, hl, 4, ElementCode::PatternFailure)?;
     add_named(named, delims, parent)
 }
 
 /// Adds what the later HLs show of each, from the last on.
-pub fn add_backward(
+pub fn add_backward<'a>(
     alloc: Global,
-    faults: &mut Vec<Fault>,
+    faults: &mut Vec<Fault<'a>>,
     delims: Delims,
-    hls: &[PlacedSeg],
+    hls: &[PlacedSeg<'_, 'a, 'a>],
 ) -> Result<(), NoMemory>
     ensures { OnOk result (faults.new.items ≡ faults.old.items ++ backward_faults delims (placed_views hls.now)) }
 {
@@ -48,7 +47,7 @@ pub fn add_backward(
     let mut left = hls.len();
     while left > 0 {
         left -= 1;
-        add_before(alloc, faults, &mut named, delims, &hls[left])?;
+        add_before(faults, &mut named, delims, &hls[left])?;
     }
     Ok(())
 }

@@ -23,12 +23,12 @@ use x12_bytes::Delims;
 use x12_segs::SegView;
 
 /// The faults of these HLs, as the two walks find them.
-fn find_faults(
+fn find_faults<'a>(
     alloc: Global,
     rule: &HlRule,
     delims: Delims,
-    hls: &[PlacedSeg],
-) -> Result<Vec<Fault>, NoMemory>
+    hls: &[PlacedSeg<'_, 'a, 'a>],
+) -> Result<Vec<Fault<'a>>, NoMemory>
     ensures { IfOk result (λ v. v.items ≡ found_faults rule.now delims (placed_views hls.now) (length hls.now)) }
 {
     let mut faults = Vec::new(alloc);
@@ -56,14 +56,14 @@ pub fn is_hierarchy_whole(
 }
 
 /// The faults of the HLs of a body, in their order.
-fn check_by_rule(
+fn check_by_rule<'a>(
     alloc: Global,
-    segs: &[SegView],
+    segs: &[SegView<'a>],
     placing: &Placing,
-    nodes: &[Node],
+    nodes: &'a [Node],
     rule: &HlRule,
     delims: Delims,
-) -> Result<Vec<Fault>, NoMemory>
+) -> Result<Vec<Fault<'a>>, NoMemory>
     ensures faults { IfOk result (λ v. (f : Fault) → Contains v.items f ↔ IsFaultAmong rule.now delims
         (hls_of (nodes_view nodes.now) (map elements_of segs.now) (map place_in placing.now.given)) f) }
     ensures rising { IfOk result (λ v. AreRising v.items) }
@@ -76,12 +76,12 @@ fn check_by_rule(
 /// segments are read by the same delimiters; each once, by position and element. A position is a segment's number in the
 /// set, ST being 1. Where the guide has no rule there is none. The only error is want of memory. X12.6, hierarchical level
 /// segment; the 999 guide, IK4.
-pub fn check_hl(
+pub fn check_hl<'a>(
     alloc: Global,
-    segs: &[SegView],
+    segs: &[SegView<'a>],
     placing: &Placing,
-    guide: &Guide,
-) -> Result<Vec<Fault>, NoMemory>
+    guide: &'a Guide,
+) -> Result<Vec<Fault<'a>>, NoMemory>
     ensures faults { IfOk result (λ v. (delims : Delims) → All (λ s. s.delims ≡ delims) segs.now → (f : Fault)
         → Contains v.items f ↔ IsHierarchyFault (guide_of guide.now) delims (map elements_of segs.now)
         (map place_in placing.now.given) f) }

@@ -1,26 +1,20 @@
-ghost use Rattle.std.specs.Prelude.{◌≡◌, ◌++◌, IfOk, OnOk};
+ghost use Rattle.std.specs.Prelude.{◌≡◌, ◌++◌, OnOk};
 ghost use Rattle.hl_check.specs.Hierarchy.{hl_fault};
 ghost use Rattle.hl_check.specs.Found.{fault_if};
 ghost use Rattle.loop_match.specs.Viewed.{placed_view};
 
 use elem_rules::reference_at;
-use hub_kinds::{ElemFault, ElementCode, Fault, NO_NUMBER, NoMemory, SegmentCode, copy_text};
+use hub_kinds::{ElemFault, ElementCode, Fault, Lent, NO_NUMBER, NoMemory, SegmentCode};
 use loop_match::{PlacedSeg, text_at};
-use std::alloc::Global;
 
 /// What is told of an element of an HL.
-fn hl_fault(
-    alloc: Global,
-    hl: &PlacedSeg,
-    element: u32,
-    code: ElementCode,
-) -> Result<Fault, NoMemory>
-    ensures { IfOk result (λ f. f ≡ hl_fault (placed_view hl.now) element code) }
+fn hl_fault<'a>(hl: &PlacedSeg<'_, 'a, 'a>, element: u32, code: ElementCode) -> Fault<'a>
+    ensures { result ≡ hl_fault (placed_view hl.now) element code }
 {
-    Ok(Fault {
+    Fault {
         position: hl.position,
-        id: copy_text(alloc, hl.seg.id())?,
-        loop_id: copy_text(alloc, hl.loop_id)?,
+        id: Lent::new(hl.seg.id()),
+        loop_id: Lent::new(hl.loop_id),
         code: SegmentCode::ElementErrors,
         slot: hl.slot.number,
         elem: Some(ElemFault {
@@ -28,25 +22,24 @@ fn hl_fault(
             component: NO_NUMBER,
             repetition: NO_NUMBER,
             code,
-            reference: copy_text(alloc, reference_at(hl.slot.elements.as_slice(), element))?,
-            copy: copy_text(alloc, text_at(hl.seg, element as usize))?,
+            reference: Lent::new(reference_at(hl.slot.elements.as_slice(), element)),
+            copy: Lent::new(text_at(hl.seg, element as usize)),
         }),
-    })
+    }
 }
 
 /// Adds the fault, where something is wrong.
-pub fn add_if(
-    alloc: Global,
-    faults: &mut Vec<Fault>,
+pub fn add_if<'a>(
+    faults: &mut Vec<Fault<'a>>,
     wrong: bool,
-    hl: &PlacedSeg,
+    hl: &PlacedSeg<'_, 'a, 'a>,
     element: u32,
     code: ElementCode,
 ) -> Result<(), NoMemory>
     ensures { OnOk result (faults.new.items ≡ faults.old.items ++ fault_if wrong (placed_view hl.now) element code) }
 {
     if wrong {
-        faults.push(hl_fault(alloc, hl, element, code)?)?;
+        faults.push(hl_fault(hl, element, code))?;
     }
     Ok(())
 }

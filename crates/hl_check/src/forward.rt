@@ -17,13 +17,12 @@ use x12_bytes::Delims;
 
 /// Adds what the earlier HLs show of the number, the parent and the level of an HL, and keeps its own.
 fn add_behind<'a>(
-    alloc: Global,
-    faults: &mut Vec<Fault>,
+    faults: &mut Vec<Fault<'a>>,
     levels: &mut BTreeMap<&'a [u8], &'a [u8]>,
     rule: &HlRule,
     delims: Delims,
     count: usize,
-    hl: &PlacedSeg<'_, 'a, '_>,
+    hl: &PlacedSeg<'_, 'a, 'a>,
 ) -> Result<(), NoMemory>
     ensures levels { OnOk result ((earlier : List Segment) → KnowsLevels levels.old earlier
         → KnowsLevels levels.new (earlier ++ elements_of hl.now.seg.now ∷ [])) }
@@ -36,40 +35,32 @@ fn add_behind<'a>(
     let named = is_filled(delims, parent);
     let number_wrong = is_number_wrong(rule, delims, number, known, count);
     let level_wrong = is_level_wrong(rule, named, above, level);
+    add_if(faults, number_wrong, hl, 1, ElementCode::PatternFailure)?;
     add_if(
-        alloc,
-        faults,
-        number_wrong,
-        hl,
-        1,
-        ElementCode::PatternFailure,
-    )?;
-    add_if(
-        alloc,
         faults,
         named && above.is_none(),
         hl,
         2,
         ElementCode::PatternFailure,
     )?;
-    add_if(alloc, faults, level_wrong, hl, 3, ElementCode::CodeNotUsed)?;
+    add_if(faults, level_wrong, hl, 3, ElementCode::CodeNotUsed)?;
     add_level(levels, number, level)
 }
 
 /// Adds what the earlier HLs show of each.
-pub fn add_forward(
+pub fn add_forward<'a>(
     alloc: Global,
-    faults: &mut Vec<Fault>,
+    faults: &mut Vec<Fault<'a>>,
     rule: &HlRule,
     delims: Delims,
-    hls: &[PlacedSeg],
+    hls: &[PlacedSeg<'_, 'a, 'a>],
 ) -> Result<(), NoMemory>
     ensures { OnOk result (faults.new.items
         ≡ faults.old.items ++ forward_faults rule.now delims (placed_views hls.now) (length hls.now)) }
 {
     let mut levels = BTreeMap::new(alloc);
     for i in 0..hls.len() {
-        add_behind(alloc, faults, &mut levels, rule, delims, i + 1, &hls[i])?;
+        add_behind(faults, &mut levels, rule, delims, i + 1, &hls[i])?;
     }
     Ok(())
 }

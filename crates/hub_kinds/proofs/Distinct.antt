@@ -4,7 +4,6 @@ use Rattle.std.proofs.Common.{◌∙◌, true≢false, arith}
 use Rattle.std.specs.Ordering.{is_lt, is_eq, ordering_reverse}
 use Rattle.std.specs.declared.cmp.Ordering.{Ordering}
 use Rattle.std.specs.declared.cmp.Ordering.TheVariants.{Less, Equal, Greater}
-use Rattle.std.specs.Cmp.{IsTotalOrder}
 use Rattle.std.specs.Cmp.Lexicographic.{on_texts}
 use Rattle.std.specs.List.{IsDistinct, IsAllAdjacentAnswer, list_any, AllByRecursion}
 use Rattle.std.specs.List.Sorted.{IsPermutation, IsSorted}

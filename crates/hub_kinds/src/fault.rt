@@ -4,32 +4,33 @@ ghost use Rattle.hub_kinds.specs.Fault.{elem_key, key_of, element_key_of};
 ghost use Rattle.hub_kinds.specs.Rising.{order_by};
 
 use crate::codes::{ElementCode, SegmentCode};
-use crate::items::Text;
+use crate::lent::Lent;
 use std::cmp::Ordering;
 
 /// The number of a component or a repetition that is not shown, and of a slot that is none.
 pub const NO_NUMBER: u32 = 0;
 
-/// A fault of a transaction set, as a segment or a missing segment shows it (999 guide, IK3).
+/// A fault of a transaction set, as a segment or a missing segment shows it (999 guide, IK3). Its texts are lent from the
+/// set's text and from the guide.
 #[derive(Debug, Drop)]
-pub struct Fault {
+pub struct Fault<'a> {
     /// The segment's number in the set, ST being 1; in 64 bits, so that it bounds no set.
     pub position: u64,
     /// The segment's id.
-    pub id: Text,
+    pub id: Lent<'a>,
     /// The id of the innermost loop; empty where there is none.
-    pub loop_id: Text,
+    pub loop_id: Lent<'a>,
     /// What is wrong with the segment.
     pub code: SegmentCode,
     /// The number of the guide's slot; `NO_NUMBER` for a stray.
     pub slot: u32,
     /// What is wrong with an element of it, under the code of element errors.
-    pub elem: Option<ElemFault>,
+    pub elem: Option<ElemFault<'a>>,
 }
 
-/// The part of a fault that speaks of an element (999 guide, IK4).
+/// The part of a fault that speaks of an element (999 guide, IK4), with texts that are lent likewise.
 #[derive(Debug, Drop)]
-pub struct ElemFault {
+pub struct ElemFault<'a> {
     /// The element's number in the segment, from 1.
     pub element: u32,
     /// The component's number in the element, from 1; `NO_NUMBER` where none is shown.
@@ -39,9 +40,9 @@ pub struct ElemFault {
     /// What is wrong with the element.
     pub code: ElementCode,
     /// The element's reference number, as the guide writes it; empty where there is none.
-    pub reference: Text,
+    pub reference: Lent<'a>,
     /// The text that the rule names, whole; empty where it names none.
-    pub copy: Text,
+    pub copy: Lent<'a>,
 }
 
 /// Which of two faults comes first: by position, segment code, slot, element, component, repetition, element

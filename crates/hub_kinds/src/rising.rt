@@ -16,22 +16,22 @@ pub trait Keyed: Sized {
         ensures { result ≡ order_by key self.now other.now };
 }
 
-impl Keyed for Fault {
+impl<'a> Keyed for Fault<'a> {
     ghost use Rattle.hub_kinds.specs.Fault.{key_of};
 
     ghost key = { key_of };
 
-    fn order(&self, other: &Fault) -> Ordering {
+    fn order(&self, other: &Fault<'a>) -> Ordering {
         fault_order(self, other)
     }
 }
 
-impl Keyed for ElemFault {
+impl<'a> Keyed for ElemFault<'a> {
     ghost use Rattle.hub_kinds.specs.Fault.{element_key_of};
 
     ghost key = { element_key_of };
 
-    fn order(&self, other: &ElemFault) -> Ordering {
+    fn order(&self, other: &ElemFault<'a>) -> Ordering {
         element_fault_order(self, other)
     }
 }

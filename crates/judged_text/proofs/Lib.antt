@@ -1,3 +1,4 @@
+pub mod Behind
 pub mod InSpans
 pub mod Stretch
 mod WorkedAnswers

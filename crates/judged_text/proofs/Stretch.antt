@@ -36,7 +36,7 @@ none_onto p x (part ∷ more) e h =
     let s = neither (list_any p part) (list_any (list_any p) more) h in
     nor (p x || list_any p part) (list_any (list_any p) more) (nor (p x) (list_any p part) e s.0) s.1
 
-none_divided : (p q : ℕ → Bool) (xs : List ℕ) → list_any p xs ≡ false → list_any (list_any p) (slice_split q xs) ≡ false
+pub none_divided : (p q : ℕ → Bool) (xs : List ℕ) → list_any p xs ≡ false → list_any (list_any p) (slice_split q xs) ≡ false
 none_divided p q [] h = refl
 none_divided p q (x ∷ xs) h =
     let e = neither (p x) (list_any p xs) h in

@@ -1,5 +1,5 @@
 -- Which interchanges are answered with a TA1, worked: these and no others, each with its note.
-use Rattle.std.specs.Prelude.{ℕ, ◌≡◌, refl, false, List, [], ◌∷◌, Option, Some, None, codes}
+use Rattle.std.specs.Prelude.{ℕ, ◌≡◌, refl, false, List, [], ◌∷◌, Some, None, codes}
 use Rattle.x12_bytes.specs.declared.delims.Delims.{Delims}
 use Rattle.x12_segs.specs.Words.{SegValue}
 use Rattle.hub_kinds.specs.declared.interchange.InterchangeFault.TheVariants as fault

@@ -31,9 +31,10 @@ fn is_answered(
 ) -> bool
     ensures { result ≡ is_answered sender fault interchange.now }
 {
+    // Most ask for none, which costs less to see.
     sender.is_some()
-        && is_repeatable(interchange.header())
         && (fault.is_some() || asks_for_ta1(interchange))
+        && is_repeatable(interchange.header())
 }
 
 /// Whether what a TA1 repeats of a header is digits.

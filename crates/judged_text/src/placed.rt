@@ -1,6 +1,6 @@
-ghost use Rattle.std.specs.Prelude.{◌≡◌, ℕ, Bool, false, slice_index_or, drop, take};
+ghost use Rattle.std.specs.Prelude.{◌≡◌, ◌≤◌, ℕ, Bool, false, slice_index_or, drop, length, map, take};
 ghost use Rattle.std.specs.List.{list_any};
-ghost use Rattle.x12_segs.specs.Words.{IsSetSpan, span_views};
+ghost use Rattle.x12_segs.specs.Words.{IsSetSpan, span_views, views};
 ghost use Rattle.hub_kinds.specs.declared.set_codes.Verdict.TheVariants as the_verdict;
 
 use crate::judged::JudgedInterchange;
@@ -30,12 +30,13 @@ impl<'j, 'i, 'a> Model for PlacedSet<'j, 'i, 'a> {
 }
 
 impl<'j, 'i, 'a> PlacedSet<'j, 'i, 'a> {
-    ghost use Rattle.std.specs.Prelude.{◌≡◌, ◌<◌, ℕ, Bool, false, Some, drop, length, slice_get};
+    ghost use Rattle.std.specs.Prelude.{◌≡◌, ◌<◌, ℕ, Bool, false, Some, drop, length, map, slice_get};
     ghost use Rattle.std.specs.List.{list_any};
     ghost use Rattle.env_index.specs.declared.entry.SetEnvelope.{SetEnvelope};
     ghost use Rattle.env_index.specs.Summary.{GroupEntry};
     ghost use Rattle.judged_text.specs.Judged.{delims_in, segments_in, standing_at, verdict_on};
     ghost use Rattle.judged_text.specs.Placed.{group_at, placed_at};
+    ghost use Rattle.x12_segs.specs.Words.{views};
 
     /// A set of an interchange, by the number of its group and its own in the group, both counted from 0.
     pub fn new(interchange: &'j JudgedInterchange<'i, 'a>, group: usize, set: usize) -> Self
@@ -131,6 +132,17 @@ impl<'j, 'i, 'a> PlacedSet<'j, 'i, 'a> {
         stretch_in(self.interchange.text(), &span)
     }
 
+    /// The stretch of the text behind its ST: read alone, it has the segments behind its ST.
+    pub fn stretch_behind_header(&self, set: &SetEnvelope<'a>) -> &'a [u8]
+        requires { set.now ≡ self.now.set }
+        ensures { map (λ seg. seg.bytes) (drop 1 (segments_in self.now))
+            ≡ map (λ seg. seg.bytes) (views result.now (delims_in self.now)) }
+    {
+        let interchange = self.interchange.interchange();
+        let span = set.span(interchange.header().delims());
+        behind_first(self.interchange.text(), &span)
+    }
+
     /// Whether its group has no code (999 guide, AK905).
     pub fn is_clear(&self) -> bool
         ensures { result ≡ self.now.standing.clear }
@@ -186,4 +198,35 @@ fn segments_in<'a>(text: &'a [u8], span: &SetSpan) -> Segments<'a>
     ensures { result ≡ span_views text.entry.now span.now }
 {
     span.segments(text)
+}
+
+/// The bytes of a text from an offset on.
+fn rest_of(text: &[u8], at: usize) -> &[u8]
+    requires { at ≤ length text.now }
+    ensures { result.now ≡ drop at text.entry.now }
+{
+    &text[at..]
+}
+
+/// The bytes of a text up to an offset.
+fn front_of(text: &[u8], end: usize) -> &[u8]
+    requires { end ≤ length text.now }
+    ensures { result.now ≡ take end text.entry.now }
+{
+    &text[..end]
+}
+
+/// The bytes behind the first segment of a set's span.
+fn behind_first<'a>(text: &'a [u8], span: &SetSpan) -> &'a [u8]
+    requires { IsSetSpan text.now span.now }
+    ensures { map (λ seg. seg.bytes) (drop 1 (span_views text.entry.now span.now))
+        ≡ map (λ seg. seg.bytes) (views result.now span.now.delims) }
+{
+    match segments_in(text, span).next() {
+        None => front_of(text, 0),
+        Some(first) => rest_of(
+            front_of(text, span.end),
+            first.start() + first.bytes().len() + 1,
+        ),
+    }
 }

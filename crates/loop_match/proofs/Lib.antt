@@ -3,12 +3,13 @@ pub mod Fitting
 pub mod Walking
 pub mod Giving
 pub mod Finding
-mod Passing
-mod Numbered
+pub mod Passing
+pub mod Numbered
 mod Rounds
 mod Slots
 mod Collecting
 pub mod Standing
 pub mod Leading
+pub mod Seated
 mod WithPlaces
 mod WorkedSegments

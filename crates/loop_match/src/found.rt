@@ -1,23 +1,22 @@
-ghost use Rattle.std.specs.Prelude.{◌≡◌, ◌++◌, [], ◌∷◌, OnOk, IfOk};
+ghost use Rattle.std.specs.Prelude.{◌≡◌, ◌++◌, [], ◌∷◌, OnOk};
 ghost use Rattle.guide_tree.specs.Words.{min_of, max_of, first_id, past_code, few_code, loop_of, fault_of, missing, too_few, past};
 ghost use Rattle.guide_tree.specs.Words.{stray_fault, view, guide_of};
 ghost use Rattle.x12_segs.specs.Words.{elements_of};
 
 use crate::next_place::NextPlace;
 use guide_tree::Node;
-use hub_kinds::{Fault, Items, NO_NUMBER, NoMemory, SegmentCode, Text};
+use hub_kinds::{Fault, Lent, NO_NUMBER, NoMemory, SegmentCode};
 use std::alloc::Global;
 use std::marker::Model;
 use x12_segs::SegView;
 
 /// The structural faults that were found so far, in the order in which they were found. Contracts see their list.
 #[derive(Drop)]
-pub struct Found {
-    alloc: Global,
-    faults: Vec<Fault>,
+pub struct Found<'a> {
+    faults: Vec<Fault<'a>>,
 }
 
-impl Model for Found {
+impl<'a> Model for Found<'a> {
     ghost use Rattle.std.specs.Prelude.{List};
     ghost use Rattle.hub_kinds.specs.declared.fault.Fault.{Fault};
 
@@ -26,25 +25,30 @@ impl Model for Found {
     ghost view = { λ f. f.faults.items };
 }
 
-impl Found {
+impl<'a> Found<'a> {
     /// No fault.
-    pub fn new(alloc: Global) -> Found
+    pub fn new(alloc: Global) -> Found<'a>
         ensures { result ≡ [] }
     {
         Found {
-            alloc,
             faults: Vec::new(alloc),
         }
     }
 
     /// Adds a fault of a node that stands in the loop with the id `outer`.
-    fn add(&mut self, at: u64, outer: &[u8], code: SegmentCode, node: &Node) -> Result<(), NoMemory>
+    fn add(
+        &mut self,
+        at: u64,
+        outer: &'a [u8],
+        code: SegmentCode,
+        node: &'a Node,
+    ) -> Result<(), NoMemory>
         ensures { OnOk result (self.new ≡ self.old ++ fault_of at outer.now code (view node.now) ∷ []) }
     {
         let fault = Fault {
             position: at,
-            id: text_of(self.alloc, first_id(node))?,
-            loop_id: text_of(self.alloc, loop_of(outer, node))?,
+            id: Lent::new(first_id(node)),
+            loop_id: Lent::new(loop_of(outer, node)),
             code,
             slot: node.number(),
             elem: None,
@@ -54,7 +58,7 @@ impl Found {
     }
 
     /// A node that is needed has no use.
-    pub fn missing(&mut self, at: u64, outer: &[u8], node: &Node) -> Result<(), NoMemory>
+    pub fn missing(&mut self, at: u64, outer: &'a [u8], node: &'a Node) -> Result<(), NoMemory>
         ensures { OnOk result (self.new ≡ self.old ++ missing at outer.now (view node.now)) }
     {
         if 1 <= min_of(node) {
@@ -64,7 +68,13 @@ impl Found {
     }
 
     /// A node has some uses, but fewer than the least.
-    pub fn too_few(&mut self, at: u64, outer: &[u8], uses: u64, node: &Node) -> Result<(), NoMemory>
+    pub fn too_few(
+        &mut self,
+        at: u64,
+        outer: &'a [u8],
+        uses: u64,
+        node: &'a Node,
+    ) -> Result<(), NoMemory>
         ensures { OnOk result (self.new ≡ self.old ++ too_few at outer.now uses (view node.now)) }
     {
         if uses < u64::from(min_of(node)) {
@@ -74,7 +84,13 @@ impl Found {
     }
 
     /// A node has a use past the greatest.
-    pub fn past(&mut self, at: u64, outer: &[u8], use_no: u64, node: &Node) -> Result<(), NoMemory>
+    pub fn past(
+        &mut self,
+        at: u64,
+        outer: &'a [u8],
+        use_no: u64,
+        node: &'a Node,
+    ) -> Result<(), NoMemory>
         ensures { OnOk result (self.new ≡ self.old ++ past at outer.now use_no (view node.now)) }
     {
         if u64::from(max_of(node)) <= use_no {
@@ -88,15 +104,15 @@ impl Found {
         &mut self,
         at: u64,
         next: &N,
-        seg: &SegView,
+        seg: &SegView<'a>,
     ) -> Result<(), NoMemory>
         ensures { OnOk result (self.new
             ≡ self.old ++ stray_fault (guide_of (N.guide next.now)) at (elements_of seg.now) ∷ []) }
     {
         let fault = Fault {
             position: at,
-            id: text_of(self.alloc, seg.id())?,
-            loop_id: text_of(self.alloc, b"")?,
+            id: Lent::new(seg.id()),
+            loop_id: Lent::new(b""),
             code: next.stray_code(seg),
             slot: NO_NUMBER,
             elem: None,
@@ -106,17 +122,11 @@ impl Found {
     }
 
     /// The faults, as a list.
-    pub fn into_faults(self) -> Vec<Fault>
-        ensures { result.items ≡ self }
+    pub fn into_faults(self) -> Vec<Fault<'a>>
+        ensures { result.items ≡ self.entry }
     {
         self.faults
     }
-}
-
-fn text_of(alloc: Global, bytes: &[u8]) -> Result<Text, NoMemory>
-    ensures { IfOk result (λ text. text ≡ bytes.now) }
-{
-    Ok(Items::from_vec(Vec::from_slice(alloc, bytes)?))
 }
 
 /// The id that a node begins with: its own, or that of a loop's first segment.

@@ -10,11 +10,11 @@ use guide_tree::Node;
 use hub_kinds::NoMemory;
 
 /// Nothing of the nodes from `from` on comes.
-pub fn unused(
-    found: &mut Found,
+pub fn unused<'a>(
+    found: &mut Found<'a>,
     at: u64,
-    outer: &[u8],
-    nodes: &[Node],
+    outer: &'a [u8],
+    nodes: &'a [Node],
     from: usize,
 ) -> Result<(), NoMemory>
     ensures { OnOk result (found.new ≡ found.old ++ unused at outer.now (nodes_view (drop from nodes.now))) }
@@ -26,11 +26,11 @@ pub fn unused(
 }
 
 /// The nodes from `from` on up to `child` are passed over, and the child has a use.
-pub fn entered(
-    found: &mut Found,
+pub fn entered<'a>(
+    found: &mut Found<'a>,
     at: u64,
-    outer: &[u8],
-    nodes: &[Node],
+    outer: &'a [u8],
+    nodes: &'a [Node],
     from: usize,
     to: Step,
 ) -> Result<(), NoMemory>
@@ -49,7 +49,12 @@ pub fn entered(
 
 /// Behind a place in a node its children end.
 #[cycle(ends)]
-pub fn ended_in(found: &mut Found, at: u64, node: &Node, place: &[Step]) -> Result<(), NoMemory>
+pub fn ended_in<'a>(
+    found: &mut Found<'a>,
+    at: u64,
+    node: &'a Node,
+    place: &[Step],
+) -> Result<(), NoMemory>
     requires { AllByRecursion (λ s. s.use_no + 1 < 2 ^ 64) place.now }
     ensures { OnOk result (found.new ≡ found.old ++ ended_in at (view node.now) (place_view place.now)) }
 {
@@ -61,11 +66,11 @@ pub fn ended_in(found: &mut Found, at: u64, node: &Node, place: &[Step]) -> Resu
 
 /// Behind a place the nodes in which it stands end.
 #[cycle(ends)]
-pub fn ended(
-    found: &mut Found,
+pub fn ended<'a>(
+    found: &mut Found<'a>,
     at: u64,
-    outer: &[u8],
-    nodes: &[Node],
+    outer: &'a [u8],
+    nodes: &'a [Node],
     place: &[Step],
 ) -> Result<(), NoMemory>
     requires { AllByRecursion (λ s. s.use_no + 1 < 2 ^ 64) place.now }

@@ -5,7 +5,8 @@
 //! where there is none; and its faults are exactly the structural faults of the body under that placing: uses past a maximum, what
 //! is missing, what is used too few times, strays; each once, by position, code and slot. `placed_segments` gives the segments that
 //! have places, each with its position, its slot and the loop that it stands in: these and no other, in their order
-//! (`placed_segments_have_places`). `place_by` is `place_all` by whatever finds the next place (`NextPlace`).
+//! (`placed_segments_have_places`). `place_by` is `place_all` by whatever finds the next place (`NextPlace`). For a walk of another crate,
+//! `step`, `end` and `Found::stray` add to what was found (`Found`) what the one pass tells of a step, of the body's end and of a stray.
 //!
 //! Source: X12.6, order of segments in a transaction set; the 999 guide (005010X231), IK304.
 #![tactic(auto)]
@@ -27,10 +28,11 @@ mod stray;
 mod walk;
 
 pub use fit::{fits, text_at};
-pub use found::{first_id, max_of, min_of};
+pub use found::{Found, first_id, max_of, min_of};
 pub use law::placed_segments_have_places;
 pub use loop_id::loop_id_of;
 pub use next::{Start, Step, Turn, again, start_of};
 pub use next_place::NextPlace;
 pub use placed::{PlacedSeg, placed_segments};
 pub use placing::{Placing, place_all, place_by};
+pub use steps::{end, step};

@@ -18,11 +18,11 @@ use x12_segs::SegView;
 
 /// The places that were given so far, and what showed on the way.
 #[derive(Drop)]
-pub struct Pass<'g> {
-    pub walk: Walk<'g>,
+pub struct Pass<'a> {
+    pub walk: Walk<'a>,
     /// The last place that was given before the segment.
     pub before: Vec<Step>,
-    pub found: Found,
+    pub found: Found<'a>,
 }
 
 fn keep(before: &mut Vec<Step>, last: &[Step]) -> Result<(), NoMemory>
@@ -34,11 +34,11 @@ fn keep(before: &mut Vec<Step>, last: &[Step]) -> Result<(), NoMemory>
 }
 
 /// Gives the segment its place, and finds what shows at it.
-fn pass_one<'g, N: NextPlace<'g>>(
-    pass: &mut Pass<'g>,
+fn pass_one<'a, 'g: 'a, N: NextPlace<'g>>(
+    pass: &mut Pass<'a>,
     next: &N,
     index: u64,
-    seg: &SegView,
+    seg: &SegView<'a>,
 ) -> Result<(), NoMemory>
     requires walk { IsWalk pass.old.walk index }
     requires few { index + 2 < 2 ^ 64 }
@@ -64,7 +64,7 @@ fn pass_one<'g, N: NextPlace<'g>>(
 }
 
 /// Finds what shows behind the body.
-fn pass_end(pass: &mut Pass, guide: &Guide, at: u64) -> Result<(), NoMemory>
+fn pass_end<'a>(pass: &mut Pass<'a>, guide: &'a Guide, at: u64) -> Result<(), NoMemory>
     requires { AllByRecursion (λ s. s.use_no + 1 < 2 ^ 64) pass.old.walk.last.items }
     ensures accepted { IsAccepted guide.now }
     ensures walk { pass.new.walk ≡ pass.old.walk }
@@ -76,11 +76,11 @@ fn pass_end(pass: &mut Pass, guide: &Guide, at: u64) -> Result<(), NoMemory>
 }
 
 /// Goes over a body.
-pub fn pass_all<'g, N: NextPlace<'g>>(
+pub fn pass_all<'a, 'g: 'a, N: NextPlace<'g>>(
     alloc: Global,
-    segs: &[SegView],
+    segs: &[SegView<'a>],
     next: &N,
-) -> Result<Pass<'g>, NoMemory>
+) -> Result<Pass<'a>, NoMemory>
     ensures accepted { OnOk result (IsAccepted (N.guide next.now)) }
     ensures within { IfOk result (λ p. AllByRecursion (λ m. m.start + m.depth ≤ length p.walk.steps.items) p.walk.marks.items) }
     ensures given { IfOk result (λ p. marks_view p.walk.steps.items p.walk.marks.items

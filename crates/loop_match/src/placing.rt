@@ -18,12 +18,12 @@ use x12_segs::SegView;
 
 /// The place and the slot of each segment of a set's body, and the structural faults of the body.
 #[derive(Drop)]
-pub struct Placing<'g> {
-    walk: Walk<'g>,
-    faults: Vec<Fault>,
+pub struct Placing<'a> {
+    walk: Walk<'a>,
+    faults: Vec<Fault<'a>>,
 }
 
-impl<'g> Model for Placing<'g> {
+impl<'a> Model for Placing<'a> {
     ghost use Rattle.std.specs.Prelude.{length, ◌+◌, ◌≤◌};
     ghost use Rattle.std.specs.List.{AllByRecursion};
     ghost use Rattle.loop_match.specs.Given.{Placed};
@@ -36,7 +36,7 @@ impl<'g> Model for Placing<'g> {
     ghost invariant = { λ p. AllByRecursion (λ m. m.start + m.depth ≤ length p.walk.steps.items) p.walk.marks.items };
 }
 
-impl<'g> Placing<'g> {
+impl<'a> Placing<'a> {
     ghost use Rattle.std.specs.Prelude.{◌≡◌, None, length, option_map, slice_index_or};
     ghost use Rattle.loop_match.specs.Given.{place_in, slot_in};
     ghost use Rattle.loop_match.specs.Steps.{place_view};
@@ -49,7 +49,7 @@ impl<'g> Placing<'g> {
     }
 
     /// The slot of a segment, by its index in the body; none for a stray.
-    pub fn slot(&self, index: usize) -> Option<&'g Slot>
+    pub fn slot(&self, index: usize) -> Option<&'a Slot>
         ensures { option_map (λ s. s.now) result ≡ slot_in (slice_index_or self.now.given index None) }
     {
         match self.walk.marks.as_slice().get(index) {
@@ -72,14 +72,14 @@ impl<'g> Placing<'g> {
     }
 
     /// The structural faults by position, code and slot; a position is a segment's number in the set, ST being 1.
-    pub fn faults(&self) -> &[Fault]
+    pub fn faults(&self) -> &[Fault<'a>]
         ensures { result.now ≡ self.now.faults }
     {
         self.faults.as_slice()
     }
 
     /// The same, given away.
-    pub fn into_faults(self) -> Items<Fault>
+    pub fn into_faults(self) -> Items<Fault<'a>>
         ensures { result ≡ self.entry.faults }
     {
         Items::from_vec(self.faults)
@@ -87,11 +87,11 @@ impl<'g> Placing<'g> {
 }
 
 /// What `place_all` gives, by what finds the next place. The only error is want of memory.
-pub fn place_by<'g, N: NextPlace<'g>>(
+pub fn place_by<'a, 'g: 'a, N: NextPlace<'g>>(
     alloc: Global,
-    segs: &[SegView],
+    segs: &[SegView<'a>],
     next: &N,
-) -> Result<Placing<'g>, NoMemory>
+) -> Result<Placing<'a>, NoMemory>
     ensures places { IfOk result (λ p. map place_in p.given
         ≡ placing_of (nodes_view (N.guide next.now).nodes.items) (map elements_of segs.now)) }
     ensures placing { IfOk result (λ p.
@@ -113,11 +113,11 @@ pub fn place_by<'g, N: NextPlace<'g>>(
 
 /// The place and the slot of each segment of a body, and exactly its structural faults, each once and in their order;
 /// the body's end is behind its last segment. The only error is want of memory.
-pub fn place_all<'g>(
+pub fn place_all<'a>(
     alloc: Global,
-    segs: &[SegView],
-    guide: &'g Guide,
-) -> Result<Placing<'g>, NoMemory>
+    segs: &[SegView<'a>],
+    guide: &'a Guide,
+) -> Result<Placing<'a>, NoMemory>
     ensures places { IfOk result (λ p. map place_in p.given
         ≡ placing_of (nodes_view guide.now.nodes.items) (map elements_of segs.now)) }
     ensures placing { IfOk result (λ p.

@@ -12,10 +12,10 @@ use hub_kinds::NoMemory;
 
 /// From a place in a node to one that follows it in the same node.
 #[cycle(steps)]
-pub fn stepped_in(
-    found: &mut Found,
+pub fn stepped_in<'a>(
+    found: &mut Found<'a>,
     at: u64,
-    node: &Node,
+    node: &'a Node,
     last: &[Step],
     next: &[Step],
 ) -> Result<(), NoMemory>
@@ -30,11 +30,11 @@ pub fn stepped_in(
 
 /// From a place among the nodes of one parent to one that follows it.
 #[cycle(steps)]
-pub fn stepped(
-    found: &mut Found,
+pub fn stepped<'a>(
+    found: &mut Found<'a>,
     at: u64,
-    outer: &[u8],
-    nodes: &[Node],
+    outer: &'a [u8],
+    nodes: &'a [Node],
     last: &[Step],
     next: &[Step],
 ) -> Result<(), NoMemory>

@@ -13,10 +13,10 @@ use guide_tree::Node;
 use hub_kinds::NoMemory;
 
 /// What shows at a placed segment.
-pub fn step(
-    found: &mut Found,
+pub fn step<'a>(
+    found: &mut Found<'a>,
     at: u64,
-    nodes: &[Node],
+    nodes: &'a [Node],
     last: &[Step],
     next: &[Step],
 ) -> Result<(), NoMemory>
@@ -34,8 +34,8 @@ pub fn step(
 }
 
 /// The same, where what finds the places may know that nothing shows.
-pub fn step_by<'g, N: NextPlace<'g>>(
-    found: &mut Found,
+pub fn step_by<'a, 'g: 'a, N: NextPlace<'g>>(
+    found: &mut Found<'a>,
     at: u64,
     by: &N,
     last: &[Step],
@@ -52,7 +52,12 @@ pub fn step_by<'g, N: NextPlace<'g>>(
 }
 
 /// What shows behind the body.
-pub fn end(found: &mut Found, at: u64, nodes: &[Node], last: &[Step]) -> Result<(), NoMemory>
+pub fn end<'a>(
+    found: &mut Found<'a>,
+    at: u64,
+    nodes: &'a [Node],
+    last: &[Step],
+) -> Result<(), NoMemory>
     requires { AllByRecursion (λ s. s.use_no + 1 < 2 ^ 64) last.now }
     ensures { OnOk result (found.new ≡ found.old ++ end_faults at (nodes_view nodes.now) (last_of (place_view last.now))) }
 {

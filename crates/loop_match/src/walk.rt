@@ -45,8 +45,8 @@ fn go(last: &mut Vec<Step>, turn: &Turn) -> Result<(), NoMemory>
 }
 
 /// Gives the segment its place and its slot, and tells whether there is one.
-pub fn place_one<'g, N: NextPlace<'g>>(
-    walk: &mut Walk<'g>,
+pub fn place_one<'a, 'g: 'a, N: NextPlace<'g>>(
+    walk: &mut Walk<'a>,
     next: &N,
     uses: u64,
     seg: &SegView,

@@ -5,6 +5,7 @@ pub mod GroupTexts
 pub mod Groups
 pub mod Growing
 pub mod Keeping
+pub mod Parted
 pub mod Passing
 pub mod Rendering
 pub mod Replacing
@@ -13,3 +14,4 @@ pub mod Together
 pub mod Writing
 pub mod WrittenSets
 pub mod Tallied
+pub mod WithoutGap

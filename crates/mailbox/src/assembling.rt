@@ -1,7 +1,7 @@
 ghost use Rattle.std.specs.Prelude.{◌≡◌, ◌++◌, ◌+◌, ◌≤◌, ◌<◌, ◌^◌, Some, OnOk, IfOk, drop, length, slice_get};
 ghost use Rattle.partner_setup.specs.Envelopes.{envelope_to};
 ghost use Rattle.partner_setup.specs.declared.partner.Partner.{Partner};
-ghost use Rattle.x12_write.specs.Header.{header_text};
+ghost use Rattle.x12_write.specs.Outbound.{AreHeaderEnds};
 ghost use Rattle.mailbox.specs.Mailbox.{box_text, group_total};
 ghost use Rattle.mailbox.specs.Numbers.{HasCap, HasCounters};
 ghost use Rattle.mailbox.specs.Rendered.{box_of_rendered, groups_of, groups_of_rendered};
@@ -19,7 +19,7 @@ use moment::At;
 use partner_setup::{Partner, Setup};
 use render_crew::OneThread;
 use std::alloc::Global;
-use x12_write::{append_header, append_trailer};
+use x12_write::{OutboundHeader, append_trailer};
 
 /// What a partner finds in its mailbox (X12.5).
 #[derive(Debug, Drop)]
@@ -57,40 +57,39 @@ fn append_groups(
     Ok(count)
 }
 
-/// Writes the ISA of an interchange to the partner at this place.
-fn append_partner_header(
-    out: &mut Vec<u8>,
+/// The header of the interchanges to the partner at this place, all but its number.
+fn header_for(
+    alloc: Global,
     setup: &Setup,
     index: usize,
     partner: &Partner,
     at: &At,
-    number: u32,
-) -> Result<(), NoMemory>
+) -> Result<OutboundHeader, NoMemory>
     requires { slice_get setup.now.partners index ≡ Some partner.now }
-    ensures { OnOk result (out.new.items ≡ out.old.items ++ header_text (envelope_to setup.now partner.now) at.now number) }
+    ensures { IfOk result (AreHeaderEnds (envelope_to setup.now partner.now) at.now) }
 {
-    append_header(out, &setup.envelope_to(index), at, number)
+    OutboundHeader::new(alloc, &setup.envelope_to(index), at)
 }
 
 /// Writes a delivered interchange (X12.5), as number `number`, its first group as number `first`, and answers how many groups it has.
 fn append_delivered(
     out: &mut Vec<u8>,
     setup: &Setup,
-    index: usize,
+    header: &OutboundHeader,
     partner: &Partner,
     at: &At,
     number: u32,
     first: u32,
     sets: &[Rendered],
 ) -> Result<u64, NoMemory>
-    requires partner { slice_get setup.now.partners index ≡ Some partner.now }
+    requires header { AreHeaderEnds (envelope_to setup.now partner.now) at.now header.now }
     requires first { IsNumber first }
     ensures text { OnOk result (out.new.items
         ≡ out.old.items ++ numbered_interchange setup.now partner.now at.now number first sets.now) }
     ensures count { IfOk result (λ n. n ≡ length (groups_of sets.now)) }
     ensures bound { IfOk result (λ n. n ≤ length sets.now) }
 {
-    append_partner_header(out, setup, index, partner, at, number)?;
+    header.append(out, number)?;
     let groups = append_groups(out, setup, partner, at, first, sets)?;
     append_trailer(out, &partner.delims, groups, number)?;
     Ok(groups)
@@ -109,14 +108,14 @@ fn behind(sets: &[Rendered], end: usize) -> &[Rendered]
 fn append_interchanges(
     out: &mut Vec<u8>,
     setup: &Setup,
-    index: usize,
+    header: &OutboundHeader,
     partner: &Partner,
     at: &At,
     acknowledgments: u64,
     groups: u64,
     sets: &[Rendered],
 ) -> Result<u64, NoMemory>
-    requires partner { slice_get setup.now.partners index ≡ Some partner.now }
+    requires header { AreHeaderEnds (envelope_to setup.now partner.now) at.now header.now }
     requires counters { HasCounters partner.now }
     requires cap { HasCap partner.now }
     ensures text { OnOk result (out.new.items
@@ -134,7 +133,7 @@ fn append_interchanges(
         let number = num(first, written);
         let control = num(first_control, count);
         let front = &rest[..end];
-        let more = append_delivered(out, setup, index, partner, at, number, control, front)?;
+        let more = append_delivered(out, setup, header, partner, at, number, control, front)?;
         count += more;
         written += 1;
         rest = behind(rest, end);
@@ -162,11 +161,12 @@ pub fn close(
         → IfOk result (λ mailbox. mailbox.groups ≡ groups_of_rendered p.cap sets.now) }
 {
     let receiver = &setup.partners()[partner];
+    let header = header_for(alloc, setup, partner, receiver, at)?;
     let mut out = Vec::with_capacity(alloc, room_for(sets.sets(), receiver.cap))?;
     let count = append_interchanges(
         &mut out,
         setup,
-        partner,
+        &header,
         receiver,
         at,
         acknowledgments,

@@ -26,8 +26,17 @@ fn is_text_in_the_way(from: &Delims, to: &Delims, text: &[u8]) -> bool
     text.iter().any(|byte| is_in_the_way(from, to, *byte))
 }
 
-/// The same of what is kept of an ST.
+/// The same of what is kept of an ST. Most are seen to be clear by all their bytes.
 fn is_header_blocked(from: &Delims, to: &Delims, header: &SegView<'_>) -> bool
+    ensures { result ≡ list_any (is_text_in_the_way from.now to.now) (kept_parts header.now) }
+{
+    if is_clear(from, to, header.bytes()) {
+        return false;
+    }
+    are_header_parts_blocked(from, to, header)
+}
+
+fn are_header_parts_blocked(from: &Delims, to: &Delims, header: &SegView<'_>) -> bool
     ensures { result ≡ list_any (is_text_in_the_way from.now to.now) (kept_parts header.now) }
 {
     is_text_in_the_way(from, to, header.id()) || are_kept_blocked(from, to, header.elements())

@@ -1,6 +1,7 @@
-ghost use Rattle.std.specs.Prelude.{◌≡◌, ◌==◌, ◌++◌, ◌+◌, ◌≤◌, OnOk, IfOk, length, take, drop, vec_len};
+ghost use Rattle.std.specs.Prelude.{◌≡◌, ◌==◌, ◌++◌, ◌+◌, ◌≤◌, OnOk, IfOk, IfSome, length, take, drop, vec_len};
 ghost use Rattle.std.specs.List.{flat_map};
 ghost use Rattle.x12_write.specs.Extends.{Extends};
+ghost use Rattle.mailbox.specs.Gapless.{AreWhole};
 ghost use Rattle.mailbox.specs.Mailbox.{inner_text, mapped, mapped_byte};
 ghost use Rattle.mailbox.specs.Read.{text_as_read};
 
@@ -45,7 +46,7 @@ fn append_one_as_read(out: &mut Vec<u8>, from: &Delims, seg: &SegView<'_>) -> Re
 }
 
 /// Writes them as they are read, each with the terminator of their text.
-fn append_as_read(
+fn append_each_as_read(
     out: &mut Vec<u8>,
     from: &Delims,
     mut left: Segments<'_>,
@@ -68,6 +69,28 @@ fn append_as_read(
     Ok(written)
 }
 
+/// The same, where it may be known what they are as they are read, and that there are so many.
+fn append_as_read(
+    out: &mut Vec<u8>,
+    from: &Delims,
+    whole: Option<&[u8]>,
+    left: Segments<'_>,
+    most: u64,
+) -> Result<u64, NoMemory>
+    requires { IfSome whole (λ bytes. AreWhole from.now bytes.now most (take most left)) }
+    ensures text { OnOk result (out.new.items ≡ out.old.items ++ flat_map (text_as_read from.now) (take most left.entry)) }
+    ensures kept { Extends out.old.items out.new.items }
+    ensures count { IfOk result (λ n. n ≡ length (take most left.entry)) }
+{
+    match whole {
+        None => append_each_as_read(out, from, left, most),
+        Some(bytes) => {
+            out.extend_from_slice(bytes)?;
+            Ok(most)
+        }
+    }
+}
+
 /// Changes the delimiters to the receiver's from a place on.
 fn change_from(out: &mut Vec<u8>, start: usize, from: &Delims, to: &Delims)
     requires { start ≤ vec_len out.old }
@@ -82,16 +105,18 @@ fn append_together(
     out: &mut Vec<u8>,
     from: &Delims,
     to: &Delims,
+    whole: Option<&[u8]>,
     left: Segments<'_>,
     most: u64,
 ) -> Result<u64, NoMemory>
-    requires { mapped_byte from.now to.now from.now.terminator ≡ to.now.terminator }
+    requires terminator { mapped_byte from.now to.now from.now.terminator ≡ to.now.terminator }
+    requires whole { IfSome whole (λ bytes. AreWhole from.now bytes.now most (take most left)) }
     ensures text { OnOk result (out.new.items ≡ out.old.items ++ flat_map (inner_text from.now to.now) (take most left.entry)) }
     ensures kept { Extends out.old.items out.new.items }
     ensures count { IfOk result (λ n. n ≡ length (take most left.entry)) }
 {
     let start = out.len();
-    let written = append_as_read(out, from, left, most)?;
+    let written = append_as_read(out, from, whole, left, most)?;
     change_from(out, start, from, to);
     Ok(written)
 }
@@ -100,14 +125,16 @@ fn append_together(
 fn append_unchanged(
     out: &mut Vec<u8>,
     delims: &Delims,
+    whole: Option<&[u8]>,
     left: Segments<'_>,
     most: u64,
 ) -> Result<u64, NoMemory>
+    requires { IfSome whole (λ bytes. AreWhole delims.now bytes.now most (take most left)) }
     ensures text { OnOk result (out.new.items ≡ out.old.items ++ flat_map (inner_text delims.now delims.now) (take most left.entry)) }
     ensures kept { Extends out.old.items out.new.items }
     ensures count { IfOk result (λ n. n ≡ length (take most left.entry)) }
 {
-    append_as_read(out, delims, left, most)
+    append_as_read(out, delims, whole, left, most)
 }
 
 /// Whether the terminator becomes the receiver's as any byte does: where no other delimiter is the same byte.
@@ -117,22 +144,25 @@ fn changes_terminator(from: &Delims, to: &Delims) -> bool
     mapped_byte(from, to, from.terminator) == to.terminator
 }
 
-/// Writes the first of the segments that are left, `most` of them, with the receiver's delimiters; answers how many there are.
+/// Writes the first of the segments that are left, `most` of them, with the receiver's delimiters; answers how many there are. What they
+/// are as they are read may be known, and that there are so many.
 pub(crate) fn append_inners(
     out: &mut Vec<u8>,
     from: &Delims,
     to: &Delims,
+    whole: Option<&[u8]>,
     left: Segments<'_>,
     most: u64,
 ) -> Result<u64, NoMemory>
+    requires { IfSome whole (λ bytes. AreWhole from.now bytes.now most (take most left)) }
     ensures text { OnOk result (out.new.items ≡ out.old.items ++ flat_map (inner_text from.now to.now) (take most left.entry)) }
     ensures kept { Extends out.old.items out.new.items }
     ensures count { IfOk result (λ n. n ≡ length (take most left.entry)) }
 {
     if are_same(from, to) {
-        append_unchanged(out, to, left, most)
+        append_unchanged(out, to, whole, left, most)
     } else if changes_terminator(from, to) {
-        append_together(out, from, to, left, most)
+        append_together(out, from, to, whole, left, most)
     } else {
         append_one_by_one(out, from, to, left, most)
     }

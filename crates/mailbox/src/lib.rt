@@ -29,6 +29,7 @@ mod blocking;
 mod deliveries;
 mod delivering;
 mod eligible;
+mod gapless;
 mod group_text;
 mod grouping;
 mod inner;

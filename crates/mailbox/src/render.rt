@@ -6,6 +6,7 @@ ghost use Rattle.judged_text.specs.Judged.{delims_in};
 ghost use Rattle.mailbox.specs.Mailbox.{set_header_text, inner_text, set_trailer_text, set_text};
 
 use crate::blocking::inner_count;
+use crate::gapless::inner_if_gapless;
 use crate::inner::append_inners;
 use crate::mapped::{append_mapped_elements, append_next_element};
 use env_index::SetEnvelope;
@@ -88,7 +89,9 @@ fn append_inner_of<'a>(
     ensures count { IfOk result (λ n. n ≡ length (inner_in placed.now)) }
 {
     let from = placed.delims();
-    append_inners(out, &from, to, placed.behind_header(set), inner_count(set))
+    let count = inner_count(set);
+    let whole = inner_if_gapless(placed, set, from.terminator, count);
+    append_inners(out, &from, to, whole, placed.behind_header(set), count)
 }
 
 /// Writes a placed set as it is delivered, as set number `number`.

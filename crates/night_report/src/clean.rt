@@ -1,4 +1,5 @@
-ghost use Rattle.std.specs.Prelude.{◌≡◌, ◌-◌, ◌≤◌, [], slice_index_or};
+ghost use Rattle.std.specs.Prelude.{◌≡◌, ◌-◌, ◌≤◌, ◌||◌, [], codes, slice_index_or};
+ghost use Rattle.std.specs.Str.{bytes_eq};
 ghost use Rattle.x12_segs.specs.Words.{parts};
 ghost use Rattle.night_report.specs.Clean as clean;
 
@@ -38,19 +39,20 @@ fn last_word(line: &[u8]) -> &[u8]
     last
 }
 
-fn has_word(line: &[u8], n: usize, text: &[u8]) -> bool
-    requires { 1 ≤ n }
-    ensures { result ≡ clean.has_word line.now n text.now }
+/// Whether a group's verdict is one that somebody has to look at (AK901).
+fn is_partial_or_rejected(verdict: &[u8]) -> bool
+    ensures { result ≡ (bytes_eq verdict.now (codes "P") || bytes_eq verdict.now (codes "R")) }
 {
-    word(line, n) == text
+    verdict == b"P".as_slice() || verdict == b"R".as_slice()
 }
 
 fn tells_of_trouble(line: &[u8]) -> bool
     ensures { result ≡ clean.tells_of_trouble line.now }
 {
-    has_word(line, 1, b"held")
-        || (has_word(line, 1, b"interchange") && has_word(line, 9, b"refused"))
-        || (has_word(line, 1, b"group") && (has_word(line, 4, b"P") || has_word(line, 4, b"R")))
+    let first = word(line, 1);
+    first == b"held".as_slice()
+        || (first == b"interchange".as_slice() && word(line, 9) == b"refused".as_slice())
+        || (first == b"group".as_slice() && is_partial_or_rejected(word(line, 4)))
 }
 
 fn ends_in_nought(line: &[u8]) -> bool
@@ -66,13 +68,13 @@ pub fn is_clean(report: &[u8]) -> bool
 {
     let mut parts = parts_of(report, b'\n');
     let mut line = parts.next_or_empty();
-    let mut is_clean = false;
+    let mut before: &[u8] = b"";
     for next in parts {
         if tells_of_trouble(line) {
             return false;
         }
-        is_clean = ends_in_nought(line);
+        before = line;
         line = next;
     }
-    is_clean
+    ends_in_nought(before)
 }

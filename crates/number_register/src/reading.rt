@@ -50,5 +50,5 @@ pub(crate) fn set_key<'a>(index: &Index<'a>, n: usize, k: usize, j: usize) -> &'
     requires { j < length (sets_of index.now.entries n k) }
     ensures { slice_get (map set_control (sets_of index.now.entries n k)) j ≡ Some result.now }
 {
-    group_at(index, n, k).set(j).header.element(2)
+    group_at(index, n, k).set_header(j).element(2)
 }

@@ -1,37 +1,17 @@
 -- A walk over a body adds exactly the element faults of its segments.
-use Rattle.std.proofs.Common.{⊎_elim, ◌≡◌, ◌↔◌, ◌⊎◌, inl, inr, ℕ, zero, suc, ◌+◌, ◌<◌, List, [], ◌∷◌, ◌++◌, map}
+use Rattle.std.proofs.Common.{⊎_elim, ◌≡◌, ◌⊎◌, inl, inr, ℕ, zero, suc, ◌+◌, ◌<◌, List, [], ◌∷◌, map}
 use Rattle.std.proofs.Common.{Option, Some, None}
 use Rattle.std.proofs.Common.{refl, sym, ◌∙◌, ap, subst, arith}
 use Rattle.std.specs.Prelude.{slice_index_or}
 use Rattle.std.specs.List.{Contains, slice_get}
-use Rattle.std.proofs.lemmas.List.Elements.{Contains-append_left, Contains-append_right, Contains-append_cases}
-use Rattle.x12_segs.specs.Words.{SegValue, elements_of}
+use Rattle.x12_segs.specs.Words.{SegValue}
 use Rattle.hub_kinds.specs.declared.fault.Fault.{Fault}
-use Rattle.hub_kinds.specs.declared.fault.ElemFault.{ElemFault}
 use Rattle.guide_tree.specs.declared.slot.Slot.{Slot}
 use Rattle.guide_tree.specs.Words.{Trees, Candidate, Place, slot_at, slot_given}
-use Rattle.guide_law.proofs.Among.{in_map, in_mapped, in_contains, contains_in}
-use Rattle.elem_rules.specs.ElementFaults.{IsElementFault}
 use Rattle.loop_match.specs.Given.{place_in, slot_in}
 use Rattle.loop_match.specs.LoopIds.{loop_id_of}
-use Rattle.set_check.specs.SetFaults.{told_by}
-use Rattle.set_check.specs.Adding.{IsTold, IsErrorBelow, Adds}
-
-pub told_adds : (old new : List Fault) (found : List ElemFault) (position : ℕ) (seg : SegValue) (loop_id : List ℕ) (slot : Slot)
-    → new ≡ old ++ map (told_by position (elements_of seg) loop_id slot) found
-    → ((e : ElemFault) → Contains found e ↔ IsElementFault seg.delims (elements_of seg) slot e)
-    → Adds old new (IsTold position seg loop_id slot)
-told_adds old new found position seg loop_id slot e exact f =
-    let tell = told_by position (elements_of seg) loop_id slot in (
-      (λ h. ⊎_elim (λ a. inl a)
-          (λ b. let m = in_mapped tell found f (contains_in (map tell found) f b) in
-          inr (record { elem = m.value; wrong = (exact m.value).0 (in_contains found m.value m.there); is = sym m.is }))
-          (Contains-append_cases old (map tell found) f (subst (λ (l : List Fault). Contains l f) e h))),
-      (λ h. subst (λ (l : List Fault). Contains l f) (sym e) (⊎_elim (λ a. Contains-append_left old (map tell found) f a)
-          (λ t. Contains-append_right old (map tell found) f (subst (λ (x : Fault). Contains (map tell found) x) (sym t.is)
-          (in_contains (map tell found) (tell t.elem) (in_map tell found t.elem (contains_in found t.elem ((exact t.elem).1 t.wrong))))))
-          h)),
-    )
+use Rattle.set_walk.specs.Told.{IsTold, Adds}
+use Rattle.set_check.specs.Adding.{IsErrorBelow}
 
 -- the place and the slot of what is given, by index
 pub place_there : (gs : List (Option Candidate)) (i : ℕ) (q : Place) → Some q ≡ place_in (slice_index_or gs i None)

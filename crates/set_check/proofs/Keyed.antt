@@ -1,21 +1,17 @@
 -- Two faults of a set that have one place in the order of faults are one.
 use Rattle.std.proofs.Common.{◌≡◌, inl, inr, ℕ, ◌+◌, Bool, true, false, List, Option, Some, get_or, drop}
-use Rattle.std.proofs.Common.{sym, ◌∙◌, ap, subst, arith, if◌then◌else◌, ◌==◌, ◌||◌, ◌++◌, ◌⊎◌, ◌↔◌, None, zero, suc, true≢false}
+use Rattle.std.proofs.Common.{sym, ◌∙◌, ap, subst, arith, ◌==◌, ◌||◌, ◌++◌, ◌⊎◌, ◌↔◌, None, zero, suc, true≢false}
 use Rattle.std.specs.Prelude.{IsSomeAnd}
 use Rattle.std.specs.List.{Contains}
-use Rattle.std.proofs.lemmas.Bool.{false≢true}
 use Rattle.std.proofs.lemmas.List.Elements.{Contains-append_cases}
 use Rattle.std.specs.List.{slice_get}
 use Rattle.hub_kinds.specs.declared.fault.Fault.{Fault}
 use Rattle.hub_kinds.specs.declared.fault.ElemFault.{ElemFault}
-use Rattle.hub_kinds.specs.declared.codes.SegmentCode.{SegmentCode}
-use Rattle.hub_kinds.specs.declared.codes.SegmentCode.TheVariants as ik304
-use Rattle.hub_kinds.specs.Words.{segment_rank, key_of, elem_key, IsKeyedBy, contains_text}
+use Rattle.hub_kinds.specs.Words.{key_of, elem_key, IsKeyedBy}
 use Rattle.x12_bytes.specs.declared.delims.Delims.{Delims}
 use Rattle.guide_tree.specs.declared.slot.Slot.{Slot}
-use Rattle.std.specs.Str.{bytes_eq}
-use Rattle.guide_tree.specs.Words.{Tree, Trees, segment, loop, GuideTree, any_slot, Segment, id_of, fits, Place, slot_at, IsSound}
-use Rattle.guide_tree.specs.Words.{past_code, few_code, stray_code, IsStructureFault}
+use Rattle.guide_tree.specs.Words.{Trees, GuideTree, Segment, Place, slot_at}
+use Rattle.guide_tree.specs.Words.{IsStructureFault}
 use Rattle.guide_tree.specs.declared.rows.HlRule.{HlRule}
 use Rattle.guide_tree.specs.declared.rows.DependencyKind.{DependencyKind}
 use Rattle.guide_tree.specs.declared.rows.DependencyKind.TheVariants as kind
@@ -23,56 +19,11 @@ use Rattle.hl_check.specs.Hierarchy.{IsFaultAmong, IsHierarchyFault, hls_of}
 use Rattle.depend_check.specs.Dependencies.{IsTargetBroken, IsDependencyFault}
 use Rattle.loop_match.specs.PlacedSegments.{PlacedSegment, placed_segments}
 use Rattle.elem_rules.specs.ElementFaults.{IsElementFault}
-use Rattle.elem_rules.proofs.Membership.{is_found, keyed}
 use Rattle.set_check.specs.SetParts.{SetParts, end_position}
 use Rattle.loop_match.specs.LoopIds.{loop_id_of}
 use Rattle.set_check.specs.SetFaults.{IsFaultUnder, IsErrorIn, IsRuleFault, HasKeyOfError, told_by}
 use Rattle.set_check.specs.Adding.{AreSound}
-
--- the codes of element errors and of dependencies, which no structural fault has
-abbrev is_apart : (rank : ℕ) → Bool
-is_apart rank = (rank == 7) || ((rank == 9) || (rank == 12))
-
-abbrev IsApart : SegmentCode → Type 0
-IsApart code = is_apart (segment_rank code) ≡ true
-
-either : (b : Bool) (x y : SegmentCode) → (IsApart x → ⊥) → (IsApart y → ⊥) → IsApart (if b then x else y) → ⊥
-either true x y p q h = p h
-either false x y p q h = q h
-
-past_is_not : (t : Tree) → IsApart (past_code t) → ⊥
-past_is_not (segment s) h = either (s.max == 0) ik304.NotUsedPresent ik304.SegmentTooOften false≢true false≢true h
-past_is_not (loop l ts) h = either (l.max == 0) ik304.NotUsedPresent ik304.LoopTooOften false≢true false≢true h
-
-few_is_not : (t : Tree) → IsApart (few_code t) → ⊥
-few_is_not (segment s) h = false≢true h
-few_is_not (loop l ts) h = false≢true h
-
-stray_is_not : (g : GuideTree) (s : Segment) → IsApart (stray_code g s) → ⊥
-stray_is_not g s h =
-    let known = any_slot (λ slot. bytes_eq slot.id (id_of s)) g.nodes in
-    let fit = any_slot (λ slot. fits slot s) g.nodes in
-    let listed = contains_text g.head.dictionary (id_of s) in
-    either known (if fit then ik304.OutOfSequence else ik304.UnexpectedSegment)
-    (if listed then ik304.NotInSet else ik304.UnrecognizedSegment)
-    (either fit ik304.OutOfSequence ik304.UnexpectedSegment false≢true false≢true)
-    (either listed ik304.NotInSet ik304.UnrecognizedSegment false≢true false≢true) h
-
-structure_is_not : (g : GuideTree) (body : List Segment) (given : List (Option Place)) (end : ℕ) (f : Fault)
-    → IsStructureFault g body given end f → IsApart f.code → ⊥
-structure_is_not g body given end f (inl r) h = past_is_not r.node (ap (λ (x : Fault). is_apart (segment_rank x.code)) (sym r.is) ∙ h)
-structure_is_not g body given end f (inr (inl r)) h =
-    let e : IsApart r.code = ap (λ (x : Fault). is_apart (segment_rank x.code)) (sym r.is) ∙ h in elim r.cases [
-      | inl c ↦ false≢true (ap (λ (x : SegmentCode). is_apart (segment_rank x)) (sym c.1) ∙ e)
-      | inr c ↦ few_is_not r.node (ap (λ (x : SegmentCode). is_apart (segment_rank x)) (sym c.2) ∙ e)
-    ]
-structure_is_not g body given end f (inr (inr r)) h =
-    stray_is_not g r.segment (ap (λ (x : Fault). is_apart (segment_rank x.code)) (sym r.is) ∙ h)
-
-one_elem : (d : Delims) (s : Segment) (slot : Slot) (e c : ElemFault) → IsSound slot → IsElementFault d s slot e
-    → IsElementFault d s slot c → elem_key (Some e) ≡ elem_key (Some c) → e ≡ c
-one_elem d s slot e c ok a b k =
-    keyed d s slot ok.conditioned e c (is_found d s slot ok.conditioned e a) (is_found d s slot ok.conditioned c b) k
+use Rattle.set_walk.proofs.Apart.{apart_at, same_apart, structure_is_not, one_elem}
 
 abbrev IsErrorAt : GuideTree → SetParts → List (Option Place) → (i : ℕ) → Segment → Place → Slot → ElemFault → Type 0
 IsErrorAt g parts given i s q slot e = (slice_get parts.body i ≡ Some s) × (slice_get given i ≡ Some (Some q))
@@ -109,9 +60,6 @@ errors_keyed g parts given f h ok a b e =
     (a.there, a.placed, a.leads, a.wrong) (there, placed, b.leads, b.wrong) m
     ∙ ap (λ (n : ℕ). told_by (n + 2) b.segment (loop_id_of g.nodes b.place) b.slot b.elem) (sym i)
     ∙ sym b.is
-
-abbrev apart_at : Fault → Bool
-apart_at f = is_apart (segment_rank f.code)
 
 -- the element codes of hierarchies, which no dependency's fault has
 abbrev of_hierarchy : Fault → Bool
@@ -174,9 +122,6 @@ beside_is_apart : (g : GuideTree) (parts : SetParts) (given : List (Option Place
     → apart_at f ≡ true
 beside_is_apart g parts given f (inl r) = ap apart_at r.is
 beside_is_apart g parts given f (inr r) = rule_is_apart g parts.delims parts.body given (end_position parts) f r.0
-
-same_apart : (f h : Fault) → key_of f ≡ key_of h → apart_at f ≡ apart_at h
-same_apart f h e = ap (λ (l : List ℕ). is_apart (get_or l 1 0)) e
 
 pub set_keyed : (g : GuideTree) (parts : SetParts) (given : List (Option Place)) (f h : Fault) → AreSound g.nodes
     → ((x y : Fault) → IsStructureFault g parts.body given (end_position parts) x

@@ -1,7 +1,7 @@
 mod Adding
 mod Checking
 mod Clean
-mod CleanSets
+mod WalkedSets
 pub mod Crossing
 mod Enveloping
 mod Errors

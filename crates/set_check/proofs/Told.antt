@@ -18,7 +18,7 @@ use Rattle.set_check.specs.SetFaults.{IsErrorIn, IsRuleFault, IsSetFault, AreSet
 use Rattle.set_check.specs.Meets.{MeetsAlone}
 use Rattle.set_check.specs.MeetsLaw.{IsWellGuided}
 use Rattle.set_check.proofs.Errors.{errors_from, IsErrorFrom, is_error, error_is}
-use Rattle.clean_set.proofs.SoundPlaces.{sound_places}
+use Rattle.set_walk.proofs.SoundPlaces.{sound_places}
 use Rattle.set_check.proofs.Meeting.{clean_as_it_meets}
 
 abbrev pub structure : GuideTree → SetParts → List Fault

@@ -18,11 +18,12 @@ use Rattle.elem_rules.proofs.Members.{no_member}
 use Rattle.set_check.specs.SetParts.{SetParts, parts_of, inner_of, before_trailer, end_position}
 use Rattle.loop_match.specs.LoopIds.{loop_id_of}
 use Rattle.set_check.specs.SetFaults.{AreSetFaults, IsErrorIn, IsFaultUnder, IsRuleFault, HasKeyOfError, told_by}
-use Rattle.set_check.specs.Adding.{Adds, HasKeyAmong, IsBeside, IsErrorBelow}
+use Rattle.set_walk.specs.Told.{Adds}
+use Rattle.set_check.specs.Adding.{HasKeyAmong, IsBeside, IsErrorBelow}
 use Rattle.hub_kinds.specs.Words.{AreRising, key_of, IsKeyedBy}
 use Rattle.set_check.proofs.Keyed.{errors_keyed, set_keyed}
 use Rattle.set_check.proofs.Rising.{rising_keyed}
-use Rattle.clean_set.proofs.SoundPlaces.{sound_places}
+use Rattle.set_walk.proofs.SoundPlaces.{sound_places}
 use Rattle.set_check.proofs.NoFaults.{member_at}
 
 -- the segments of the body are read by the set's delimiters
@@ -62,7 +63,7 @@ module _ (g : GuideTree) (d : Delims) (closed : Bool) (segs : List SegValue) (re
   abbrev given_body : List (Option Place)
   given_body = placing_of g.nodes (map elements_of Body)
 
-  error_of : (f : Fault) → IsErrorBelow g.nodes Body given_body (length Body) f
+  pub error_of : (f : Fault) → IsErrorBelow g.nodes Body given_body (length Body) f
       → IsErrorIn g.nodes (parts_of d closed segs) given_body f
   error_of f b = record {
     index = b.index;
@@ -78,7 +79,7 @@ module _ (g : GuideTree) (d : Delims) (closed : Bool) (segs : List SegValue) (re
     is = b.told.is;
   }
 
-  below_of : (f : Fault) → IsErrorIn g.nodes (parts_of d closed segs) given_body f
+  pub below_of : (f : Fault) → IsErrorIn g.nodes (parts_of d closed segs) given_body f
       → IsErrorBelow g.nodes Body given_body (length Body) f
   below_of f e =
       let s = found_in Body e.index e.segment e.there in
@@ -114,7 +115,7 @@ settled : (ts : Trees) (closed : Bool) (segs body : List SegValue) (given : List
 settled ts closed segs body given P b p h =
     subst (λ (xs : List SegValue). P xs (placing_of ts (map elements_of xs))) b (subst (P body) p h)
 
-at_end : (body : List SegValue) (P : ℕ → Type 0) → P (length body + 2) → P (length (map elements_of body) + 2)
+pub at_end : (body : List SegValue) (P : ℕ → Type 0) → P (length body + 2) → P (length (map elements_of body) + 2)
 at_end body P h = subst P (ap (λ (n : ℕ). n + 2) (sym (length-map body elements_of))) h
 
 module _ (g : GuideTree) (d : Delims) (closed : Bool) (segs body : List SegValue) (given : List (Option Place))

@@ -1,5 +1,5 @@
 -- The codes of sets, worked: which fault gives which code, these and no others, and what is cut.
-use Rattle.std.specs.Prelude.{ℕ, ◌≡◌, refl, true, false, List, [], ◌∷◌, Option, Some, None, codes}
+use Rattle.std.specs.Prelude.{ℕ, ◌≡◌, refl, true, List, [], ◌∷◌, Option, Some, None, codes}
 use Rattle.hub_kinds.specs.declared.codes.ElementCode.{ElementCode}
 use Rattle.hub_kinds.specs.declared.codes.ElementCode.TheVariants as element
 use Rattle.hub_kinds.specs.declared.codes.SegmentCode.{SegmentCode}

@@ -1,6 +1,6 @@
 -- X12.6, transaction set: when a set meets its guide, looked at alone: a grammar, and what its elements, its HL segments and its
 -- dependencies keep to, with no cursor and no list of faults.
-use Rattle.std.specs.Prelude.{◌≡◌, ◌≤◌, ℕ, IsTrue, List, [], map, length, Option, Some, None, ◌⊎◌}
+use Rattle.std.specs.Prelude.{◌≡◌, ◌≤◌, ℕ, IsTrue, List, map, length, Option, Some, None, ◌⊎◌}
 use Rattle.std.specs.List.{Contains}
 use Rattle.hub_kinds.specs.Words.{number_of}
 use Rattle.hub_kinds.specs.declared.fault.ElemFault.{ElemFault}

@@ -1,6 +1,6 @@
 -- 999 guide, IK3 and IK4: what is wrong with the segments of a set, by its guide; and the set's codes. Which of two faults of one
 -- key stands is own.
-use Rattle.std.specs.Prelude.{ℕ, ◌+◌, ◌≡◌, ◌↔◌, ◌⊎◌, List, Option, Some, None, option_map, Bool, false}
+use Rattle.std.specs.Prelude.{ℕ, ◌+◌, ◌≡◌, ◌↔◌, ◌⊎◌, List, Option, Some, None, Bool, false}
 use Rattle.std.specs.List.{Contains, slice_get}
 use Rattle.x12_bytes.specs.declared.delims.Delims.{Delims}
 use Rattle.hub_kinds.specs.declared.fault.Fault.{Fault}

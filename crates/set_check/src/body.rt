@@ -33,12 +33,12 @@ fn inner_of<'s, 'a>(closed: bool, segs: &'s [SegView<'a>]) -> &'s [SegView<'a>]
 }
 
 /// The faults of the segments of a set by its guide, in their order, each once.
-pub fn body_faults(
+pub fn body_faults<'a>(
     alloc: Global,
     set: &SetSpan,
-    segs: &[SegView],
-    guide: &Guide,
-) -> Result<Vec<Fault>, NoMemory>
+    segs: &[SegView<'a>],
+    guide: &'a Guide,
+) -> Result<Vec<Fault<'a>>, NoMemory>
     requires some { 1 ≤ length segs.now }
     requires room { 1 ≤ before_trailer set.now.closed (length segs.now) }
     requires read { All (λ s. s.delims ≡ set.now.delims) segs.now }
@@ -51,12 +51,12 @@ pub fn body_faults(
 }
 
 /// The same by its compiled guide.
-pub fn body_faults_fast(
+pub fn body_faults_fast<'a, 'g: 'a>(
     alloc: Global,
     set: &SetSpan,
-    segs: &[SegView],
-    fast: &FastGuide,
-) -> Result<Vec<Fault>, NoMemory>
+    segs: &[SegView<'a>],
+    fast: &FastGuide<'g>,
+) -> Result<Vec<Fault<'a>>, NoMemory>
     requires some { 1 ≤ length segs.now }
     requires room { 1 ≤ before_trailer set.now.closed (length segs.now) }
     requires read { All (λ s. s.delims ≡ set.now.delims) segs.now }
@@ -69,13 +69,13 @@ pub fn body_faults_fast(
 }
 
 /// The same of segments that have their places.
-fn placed_faults(
+fn placed_faults<'a>(
     alloc: Global,
     set: &SetSpan,
-    segs: &[SegView],
-    placing: Placing,
-    guide: &Guide,
-) -> Result<Vec<Fault>, NoMemory>
+    segs: &[SegView<'a>],
+    placing: Placing<'a>,
+    guide: &'a Guide,
+) -> Result<Vec<Fault<'a>>, NoMemory>
     requires some { 1 ≤ length segs.now }
     requires room { 1 ≤ before_trailer set.now.closed (length segs.now) }
     requires read { All (λ s. s.delims ≡ set.now.delims) segs.now }

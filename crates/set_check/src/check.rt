@@ -56,7 +56,7 @@ pub(crate) fn checked_by<'a>(
     set: SetSpan,
     guide: Option<&'a Guide>,
     envelope: Envelope<'a>,
-    faults: Vec<Fault>,
+    faults: Vec<Fault<'a>>,
 ) -> Result<CheckedSet<'a>, NoMemory>
     requires envelope { IsEnvelopeOf (set_parts text.now set) envelope }
     requires faults { AreSetFaults (said_by (option_copied guide)) (set_parts text.now set) faults.items }
@@ -89,12 +89,12 @@ pub(crate) fn checked_by<'a>(
 }
 
 /// The faults of the segments of a set by its guide; none where it has no guide.
-fn set_faults(
+fn set_faults<'a>(
     alloc: Global,
     set: &SetSpan,
-    segs: &[SegView],
-    guide: Option<&Guide>,
-) -> Result<Vec<Fault>, NoMemory>
+    segs: &[SegView<'a>],
+    guide: Option<&'a Guide>,
+) -> Result<Vec<Fault<'a>>, NoMemory>
     requires some { 1 ≤ length segs.now }
     requires room { 1 ≤ before_trailer set.now.closed (length segs.now) }
     requires read { All (λ s. s.delims ≡ set.now.delims) segs.now }

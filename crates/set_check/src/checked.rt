@@ -14,7 +14,7 @@ pub struct CheckedSet<'a> {
     pub(crate) text: &'a [u8],
     pub(crate) span: SetSpan,
     pub(crate) guide: Option<&'a Guide>,
-    pub(crate) faults: Vec<Fault>,
+    pub(crate) faults: Vec<Fault<'a>>,
     pub(crate) codes: Vec<SetCode>,
     pub(crate) envelope: Envelope<'a>,
 }
@@ -85,7 +85,7 @@ impl<'a> CheckedSet<'a> {
     }
 
     /// Its faults (999 guide, IK3 and IK4), in their order, each once.
-    pub fn faults(&self) -> &[Fault]
+    pub fn faults(&self) -> &[Fault<'a>]
         ensures value { result.now ≡ self.now.faults }
         ensures exact { AreSetFaults (guide_in self.now) (parts_in self.now) self.now.faults }
         ensures rising { AreRising self.now.faults }

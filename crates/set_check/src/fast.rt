@@ -14,10 +14,10 @@ use crate::check::checked_by;
 use crate::checked::CheckedSet;
 use crate::envelope::{Envelope, envelope_of};
 use crate::segments::segments_of;
-use clean_set::ends_if_clean;
 use guide_fast::FastGuide;
 use guide_tree::Guide;
 use hub_kinds::{Fault, NoMemory};
+use set_walk::{WalkedSet, walk_set};
 use std::alloc::Global;
 use x12_segs::{SegView, SetSpan};
 
@@ -39,8 +39,9 @@ pub fn check_set_fast<'a, 'g: 'a>(
     ensures codes { IfOk result (λ c. c.codes ≡ codes_with (guide_in c) (parts_in c) c.faults) }
     ensures meets { IfOk result (λ c. ((c.faults ≡ []) × (c.codes ≡ [])) ↔ MeetsAlone (guide_in c) (parts_in c)) }
 {
-    if let Some(envelope) = clean_envelope(alloc, text, &set, fast)? {
-        return checked_by(alloc, text, set, guide_by(fast), envelope, Vec::new(alloc));
+    if let Some(walked) = walked_by(alloc, text, &set, fast)? {
+        let Walked { envelope, faults } = walked;
+        return checked_by(alloc, text, set, guide_by(fast), envelope, faults);
     }
     let segs = segments_of(alloc, text, &set)?;
     let faults = set_faults_fast(alloc, &set, segs.as_slice(), fast)?;
@@ -48,29 +49,40 @@ pub fn check_set_fast<'a, 'g: 'a>(
     checked_by(alloc, text, set, guide_by(fast), envelope, faults)
 }
 
-/// The ends of a set where a quick look finds nothing wrong with its segments; none where it has no guide.
-fn clean_envelope<'a>(
+/// What one walk over a set found: what its codes speak of, and its faults.
+#[derive(Drop)]
+struct Walked<'a> {
+    envelope: Envelope<'a>,
+    faults: Vec<Fault<'a>>,
+}
+
+/// What one walk over a set finds, its faults in their order; none where it has no guide, or where its hierarchy or a dependency of its
+/// guide may be broken.
+fn walked_by<'a, 'g: 'a>(
     alloc: Global,
     text: &'a [u8],
     set: &SetSpan,
-    fast: Option<&FastGuide>,
-) -> Result<Option<Envelope<'a>>, NoMemory>
+    fast: Option<&FastGuide<'g>>,
+) -> Result<Option<Walked<'a>>, NoMemory>
     requires { IsSetSpan text.now set.now }
-    ensures envelope { IfOk result (λ found. IfSome found (IsEnvelopeOf (set_parts text.entry.now set.now))) }
-    ensures clean { IfOk result (λ found. IfSome found (λ _.
-        AreSetFaults (said_by (option_copied fast.entry)) (set_parts text.entry.now set.now) [])) }
+    ensures envelope { IfOk result (λ found. IfSome found (λ w. IsEnvelopeOf (set_parts text.entry.now set.now) w.envelope)) }
+    ensures faults { IfOk result (λ found. IfSome found (λ w.
+        AreSetFaults (said_by (option_copied fast.entry)) (set_parts text.entry.now set.now) w.faults.items)) }
+    ensures rising { IfOk result (λ found. IfSome found (λ w. AreRising w.faults.items)) }
 {
     let Some(fast) = fast else {
         return Ok(None);
     };
-    let Some(ends) = ends_if_clean(alloc, text, set, fast)? else {
+    let Some(walked) = walk_set(alloc, text, set, fast)? else {
         return Ok(None);
     };
-    Ok(Some(Envelope {
+    let WalkedSet { ends, faults } = walked;
+    let envelope = Envelope {
         header: ends.header,
         segments: ends.segments,
         trailer: ends.trailer,
-    }))
+    };
+    Ok(Some(Walked { envelope, faults }))
 }
 
 /// The guide of a compiled one.
@@ -84,12 +96,12 @@ fn guide_by<'a, 'g: 'a>(fast: Option<&FastGuide<'g>>) -> Option<&'a Guide>
 }
 
 /// The faults of the segments of a set by its compiled guide; none where it has no guide.
-fn set_faults_fast(
+fn set_faults_fast<'a, 'g: 'a>(
     alloc: Global,
     set: &SetSpan,
-    segs: &[SegView],
-    fast: Option<&FastGuide>,
-) -> Result<Vec<Fault>, NoMemory>
+    segs: &[SegView<'a>],
+    fast: Option<&FastGuide<'g>>,
+) -> Result<Vec<Fault<'a>>, NoMemory>
     requires some { 1 ≤ length segs.now }
     requires room { 1 ≤ before_trailer set.now.closed (length segs.now) }
     requires read { All (λ s. s.delims ≡ set.now.delims) segs.now }

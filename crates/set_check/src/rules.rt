@@ -28,12 +28,12 @@ fn has_key_among(faults: &[Fault], fault: &Fault) -> bool
 }
 
 /// The faults of hierarchies and dependencies.
-pub fn rule_faults(
+pub fn rule_faults<'a>(
     alloc: Global,
-    segs: &[SegView],
+    segs: &[SegView<'a>],
     placing: &Placing,
-    guide: &Guide,
-) -> Result<Vec<Fault>, NoMemory>
+    guide: &'a Guide,
+) -> Result<Vec<Fault<'a>>, NoMemory>
     ensures exact { IfOk result (λ v. (delims : Delims) → All (λ s. s.delims ≡ delims) segs.now → (f : Fault)
         → Contains v.items f ↔ IsRuleFault (guide_of guide.now) delims (map elements_of segs.now)
         (map place_in placing.now.given) (length segs.now + 2) f) }
@@ -46,9 +46,12 @@ pub fn rule_faults(
 }
 
 /// The element faults, and of the other faults those whose key none of them has.
-pub fn with_others(errors: Vec<Fault>, others: Vec<Fault>) -> Result<Vec<Fault>, NoMemory>
+pub fn with_others<'a>(
+    errors: Vec<Fault<'a>>,
+    others: Vec<Fault<'a>>,
+) -> Result<Vec<Fault<'a>>, NoMemory>
     requires { IsKeyedBy key_of errors.items }
-    ensures { IfOk result (λ v. (f : Fault) → Contains v.items f ↔ IsBeside errors.items others.items f) }
+    ensures { IfOk result (λ v. (f : Fault) → Contains v.items f ↔ IsBeside errors.entry.items others.entry.items f) }
 {
     if others.is_empty() {
         return Ok(errors);

@@ -25,8 +25,8 @@ pub const NOTICE: &[Row] = &[
 
 fn add_fault(out: &mut Vec<u8>, alloc: Global, fault: &Fault) -> Result<(), Fail> {
     add_number(out, alloc, fault.position, b' ')?;
-    add_text(out, fault.id.as_slice(), b'(')?;
-    add_text(out, fault.loop_id.as_slice(), b')')?;
+    add_text(out, fault.id.bytes(), b'(')?;
+    add_text(out, fault.loop_id.bytes(), b')')?;
     out.push(b' ')?;
     add_text(out, code_text(fault.code).as_bytes(), b' ')?;
     add_number(out, alloc, u64::from(fault.slot), b';')

@@ -177,8 +177,8 @@ fn add_fault(out: &mut Vec<u8>, alloc: Global, fault: &ElemFault) -> Result<(), 
     add_number(out, alloc, u64::from(fault.component), b' ')?;
     add_number(out, alloc, u64::from(fault.repetition), b' ')?;
     add_text(out, code_text(fault.code).as_bytes(), b' ')?;
-    add_text(out, fault.reference.as_slice(), b' ')?;
-    add_text(out, fault.copy.as_slice(), b';')
+    add_text(out, fault.reference.bytes(), b' ')?;
+    add_text(out, fault.copy.bytes(), b';')
 }
 
 fn written(alloc: Global, faults: &[ElemFault]) -> Result<Vec<u8>, Fail> {

@@ -37,14 +37,14 @@ fn add_elem(out: &mut Vec<u8>, alloc: Global, elem: &ElemFault) -> Result<(), Fa
     add_number(out, alloc, u64::from(elem.component), b'.')?;
     add_number(out, alloc, u64::from(elem.repetition), b' ')?;
     add_text(out, code_text(elem.code).as_bytes(), b' ')?;
-    add_text(out, elem.reference.as_slice(), b' ')?;
-    add_text(out, elem.copy.as_slice(), b';')
+    add_text(out, elem.reference.bytes(), b' ')?;
+    add_text(out, elem.copy.bytes(), b';')
 }
 
 fn add_fault(out: &mut Vec<u8>, alloc: Global, fault: &Fault) -> Result<(), Fail> {
     add_number(out, alloc, fault.position, b' ')?;
-    add_text(out, fault.id.as_slice(), b'(')?;
-    add_text(out, fault.loop_id.as_slice(), b')')?;
+    add_text(out, fault.id.bytes(), b'(')?;
+    add_text(out, fault.loop_id.bytes(), b')')?;
     out.push(b' ')?;
     add_text(out, code_text(fault.code).as_bytes(), b' ')?;
     match &fault.elem {

@@ -1,9 +1,12 @@
-//! The order of faults, which asks their numbers and codes alone.
+//! The order of faults, which asks their numbers and codes alone, and the memory that one takes.
 use crate::texts::holds;
-use hub_kinds::{ElemFault, ElementCode, Fault, Items, NoMemory, SegmentCode, Text, fault_order};
-use std::alloc::Global;
+use hub_kinds::{ElemFault, ElementCode, Fault, Lent, SegmentCode, fault_order};
 use std::cmp::Ordering;
+use std::mem::size_of;
 use std::test::Fail;
+
+// a set may have one for each of its elements; with texts that are lent it takes 104 bytes
+const _: () = prove!(size_of::<Fault>() <= 150);
 
 /// A fault that is shown by its numbers, the segment's id and the copy.
 struct Row {
@@ -75,67 +78,47 @@ const CASES: &[(Row, Row, Ordering)] = &[
     (UNUSED, NEXT_ELEMENT, Ordering::Greater),
 ];
 
-fn text(alloc: Global, bytes: &[u8]) -> Result<Text, NoMemory> {
-    Ok(Items::from_vec(Vec::from_slice(alloc, bytes)?))
-}
-
 /// An element that is too long.
-fn elem(alloc: Global, row: &Row) -> Result<Option<ElemFault>, NoMemory> {
-    let Some(element) = row.element else {
-        return Ok(None);
-    };
-    let reference = text(alloc, b"352")?;
-    let copy = text(alloc, row.copy)?;
-    Ok(Some(ElemFault {
-        element,
+fn elem(row: &Row) -> Option<ElemFault<'static>> {
+    Some(ElemFault {
+        element: row.element?,
         component: 0,
         repetition: 0,
         code: ElementCode::TooLong,
-        reference,
-        copy,
-    }))
-}
-
-fn fault(alloc: Global, row: &Row) -> Result<Fault, NoMemory> {
-    let id = text(alloc, row.id)?;
-    let elem = elem(alloc, row)?;
-    Ok(Fault {
-        position: row.position,
-        id,
-        loop_id: Items::from_vec(Vec::new(alloc)),
-        code: row.code,
-        slot: 4,
-        elem,
+        reference: Lent::new(b"352"),
+        copy: Lent::new(row.copy),
     })
 }
 
-fn order_with(alloc: Global, first: &Fault, second: &Row) -> Result<Ordering, NoMemory> {
-    let second = fault(alloc, second)?;
-    Ok(fault_order(first, &second))
+fn fault(row: &Row) -> Fault<'static> {
+    Fault {
+        position: row.position,
+        id: Lent::new(row.id),
+        loop_id: Lent::new(b""),
+        code: row.code,
+        slot: 4,
+        elem: elem(row),
+    }
 }
 
 /// How two faults are ordered.
-fn order(alloc: Global, first: &Row, second: &Row) -> Result<Ordering, NoMemory> {
-    let first = fault(alloc, first)?;
-    order_with(alloc, &first, second)
+fn order(first: &Row, second: &Row) -> Ordering {
+    fault_order(&fault(first), &fault(second))
 }
 
-fn expect_order(alloc: Global, case: &(Row, Row, Ordering)) -> Result<(), Fail> {
+fn expect_order(case: &(Row, Row, Ordering)) -> Result<(), Fail> {
     let (first, second, wanted) = case;
-    holds(
-        order(alloc, first, second)? == *wanted,
-        "faults in another order",
-    )
+    holds(order(first, second) == *wanted, "faults in another order")
 }
 
-fn expect_orders(alloc: Global, cases: &[(Row, Row, Ordering)]) -> Result<(), Fail> {
+fn expect_orders(cases: &[(Row, Row, Ordering)]) -> Result<(), Fail> {
     for case in cases {
-        expect_order(alloc, case)?;
+        expect_order(case)?;
     }
     Ok(())
 }
 
 #[test]
-fn orders_faults_by_their_numbers_alone(rt: HostRuntime) -> Result<(), Fail> {
-    expect_orders(rt.alloc(), CASES)
+fn orders_faults_by_their_numbers_alone(_rt: HostRuntime) -> Result<(), Fail> {
+    expect_orders(CASES)
 }

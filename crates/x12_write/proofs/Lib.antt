@@ -4,3 +4,5 @@ pub mod Plain
 pub mod Fields
 pub mod Headers
 pub mod Begins
+pub mod Ends
+pub mod Counting

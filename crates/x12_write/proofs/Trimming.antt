@@ -75,3 +75,12 @@ trimmed-take_full elements end d some within full =
     ap (λ (k : ℕ). trimmed (take k (read elements))) (sym n) ∙ ap trimmed more
     ∙ trimmed-push_full (take (end - 1) (read elements)) (get_or elements (end - 1) d).now full
     ∙ sym more ∙ ap (λ (k : ℕ). take k (read elements)) n
+
+-- up to an element that isn't empty nothing is left off, whatever stands behind it
+pub trimmed-behind : (front : List (List ℕ)) (last : List ℕ) (rest : List (List ℕ)) → 0 < length last
+    → trimmed (front ++ last ∷ rest) ≡ front ++ last ∷ trimmed rest
+trimmed-behind [] [] rest full = absurd (omega (arith, full))
+trimmed-behind [] (b ∷ bs) rest full = refl
+trimmed-behind (x ∷ []) last rest full = ap (before_rest x) (trimmed-behind [] last rest full) ∙ before_rest-some x last (trimmed rest)
+trimmed-behind (x ∷ y ∷ ys) last rest full =
+    ap (before_rest x) (trimmed-behind (y ∷ ys) last rest full) ∙ before_rest-some x y (ys ++ last ∷ trimmed rest)

@@ -3,7 +3,9 @@ pub mod Segment
 pub mod Extends
 pub mod Number
 pub mod Header
+pub mod Outbound
 pub mod Group
+pub mod GroupParts
 pub mod Trailer
 pub mod Undivided
 pub mod Sendable

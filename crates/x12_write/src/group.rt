@@ -1,8 +1,12 @@
-ghost use Rattle.std.specs.Prelude.{◌≡◌, ◌++◌, take, OnOk};
+ghost use Rattle.std.specs.Prelude.{◌≡◌, ◌++◌, [], ◌∷◌, codes, length, take, OnOk};
+ghost use Rattle.moment.specs.Moment.{date_of, time_of};
 ghost use Rattle.x12_write.specs.Extends.{Extends};
 ghost use Rattle.x12_write.specs.Group.{group_header_text, group_text, group_trailer_text, texts_in_row};
+ghost use Rattle.x12_write.specs.GroupParts.{names_of, stamp_of};
+ghost use Rattle.x12_write.specs.Segment.{elements_text};
 
-use crate::segment::append_segment;
+use crate::segment::append_end;
+use crate::trailer::counted;
 use hub_kinds::{Lent, NoMemory, Text};
 use itoa::Buffer;
 use moment::At;
@@ -51,22 +55,47 @@ pub fn append_group_header(
         (out.new.items ≡ out.old.items ++ group_header_text delims.now at.now header.now) }
     ensures kept { Extends out.old.items out.new.items }
 {
-    let mut control = Buffer::new();
-    append_segment(
-        out,
-        delims,
-        b"GS",
-        &[
-            header.functional_id.bytes(),
-            header.sender.bytes(),
-            header.receiver.bytes(),
-            at.date(),
-            at.time(),
-            control.format(header.control).as_bytes(),
-            b"X".as_slice(),
-            header.version.bytes(),
-        ],
-    )
+    append_names(out, delims.element, header)?;
+    append_stamp(out, delims.element, at, header.control)?;
+    append_end(out, delims, &[header.version.bytes()])
+}
+
+/// Writes the id, and GS01 to GS03.
+fn append_names(out: &mut Vec<u8>, separator: u8, header: &GroupHeader) -> Result<(), NoMemory>
+    ensures text { OnOk result
+        (out.new.items ≡ out.old.items ++ (codes "GS" ++ elements_text separator (names_of header.now))) }
+    ensures kept { Extends out.old.items out.new.items }
+{
+    out.extend_from_slice(&[b'G', b'S', separator])?;
+    out.extend_from_slice(header.functional_id.bytes())?;
+    out.push(separator)?;
+    out.extend_from_slice(header.sender.bytes())?;
+    out.push(separator)?;
+    out.extend_from_slice(header.receiver.bytes())?;
+    Ok(())
+}
+
+/// Writes GS04 to GS07.
+fn append_stamp(out: &mut Vec<u8>, separator: u8, at: &At, control: u32) -> Result<(), NoMemory>
+    ensures text { OnOk result (out.new.items ≡ out.old.items ++ elements_text separator (stamp_of at.now control)) }
+    ensures kept { Extends out.old.items out.new.items }
+{
+    let mut digits = Buffer::new();
+    out.extend_from_slice(&moment_of(separator, at.digits()))?;
+    out.extend_from_slice(digits.format(control).as_bytes())?;
+    out.extend_from_slice(&[separator, b'X'])?;
+    Ok(())
+}
+
+/// GS04 and GS05, and the separator behind them.
+fn moment_of(separator: u8, at: &[u8]) -> [u8; 15]
+    requires { length at.now ≡ 12 }
+    ensures { result ≡ elements_text separator (date_of at.now ∷ time_of at.now ∷ []) ++ separator ∷ [] }
+{
+    [
+        separator, at[0], at[1], at[2], at[3], at[4], at[5], at[6], at[7], separator, at[8], at[9],
+        at[10], at[11], separator,
+    ]
 }
 
 /// Writes texts behind what is there, one behind the other.
@@ -91,15 +120,9 @@ pub fn append_group_trailer(
         (out.new.items ≡ out.old.items ++ group_trailer_text delims.now sets control) }
     ensures kept { Extends out.old.items out.new.items }
 {
-    let mut count = Buffer::new();
-    let mut number = Buffer::new();
-    append_segment(
-        out,
-        delims,
-        b"GE",
-        &[
-            count.format(sets).as_bytes(),
-            number.format(control).as_bytes(),
-        ],
-    )
+    let mut tail = counted(delims, sets, control, 1);
+    tail.put(b'E');
+    tail.put(b'G');
+    out.extend_from_slice(tail.bytes())?;
+    Ok(())
 }

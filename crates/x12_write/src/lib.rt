@@ -8,6 +8,8 @@
 //! - `append_header` writes a header of fixed width, and what begins with it is read again as a header, with these
 //!   delimiters and with these elements as its fields, whatever stands behind it, where the envelope is fit to be sent
 //!   (`IsSendable`) and the number has at most nine digits;
+//! - an `OutboundHeader` is the header of an envelope and a moment, all but its number: made once, and written with any number the
+//!   same as by `append_header`, without a look at the envelope;
 //! - `append_group` writes a group whose header and trailer have one number; `append_group_header` and
 //!   `append_group_trailer` are its ends;
 //! - `append_trailer` writes the number of groups and the interchange's number in nine digits;
@@ -21,10 +23,13 @@
 
 mod delimiter;
 mod envelope;
+mod front;
 mod group;
 mod header;
 mod number;
+mod outbound;
 mod segment;
+mod tail;
 mod trailer;
 
 pub use delimiter::is_delimiter;
@@ -32,5 +37,6 @@ pub use envelope::Envelope;
 pub use group::{GroupHeader, append_group, append_group_header, append_group_trailer};
 pub use header::append_header;
 pub use number::PaddedNumber;
+pub use outbound::OutboundHeader;
 pub use segment::{append_coded_segment, append_end, append_segment, append_used};
 pub use trailer::append_trailer;

@@ -9,6 +9,9 @@ use std::marker::Model;
 /// The most digits that a `u32` has.
 const MOST_DIGITS: usize = 10;
 
+/// As many spaces as an id is filled with at most.
+const SPACES: [u8; 15] = [b' '; 15];
+
 /// A number in at least so many digits, which contracts see as its text.
 #[derive(Drop)]
 pub struct PaddedNumber {
@@ -55,14 +58,13 @@ fn first_shown(start: usize, least: usize) -> usize
 }
 
 /// Writes a text behind what is there, with spaces behind it up to `least` bytes.
-pub fn append_padded(out: &mut Vec<u8>, text: &[u8], least: usize) -> Result<(), NoMemory>
+pub(crate) fn append_padded(out: &mut Vec<u8>, text: &[u8], least: usize) -> Result<(), NoMemory>
+    requires { least ≤ 15 }
     ensures text { OnOk result (out.new.items ≡ out.old.items ++ padded_text least text.now) }
     ensures kept { Extends out.old.items out.new.items }
 {
     out.extend_from_slice(text)?;
     let spaces = least.saturating_sub(text.len());
-    for _space in 0..spaces {
-        out.push(b' ')?;
-    }
+    out.extend_from_slice(&SPACES[..spaces])?;
     Ok(())
 }

@@ -1,11 +1,11 @@
-ghost use Rattle.std.specs.Prelude.{◌≡◌, ◌++◌, OnOk};
+ghost use Rattle.std.specs.Prelude.{◌≡◌, ◌≤◌, ◌++◌, [], ◌∷◌, decimal, length, OnOk};
 ghost use Rattle.x12_write.specs.Extends.{Extends};
+ghost use Rattle.x12_write.specs.Number.{padded_number};
+ghost use Rattle.x12_write.specs.Segment.{end_text};
 ghost use Rattle.x12_write.specs.Trailer.{trailer_text};
 
-use crate::number::PaddedNumber;
-use crate::segment::append_segment;
+use crate::tail::SegmentTail;
 use hub_kinds::NoMemory;
-use itoa::Buffer;
 use x12_bytes::Delims;
 
 /// Writes IEA behind what is there: of so many groups, in the interchange of this number
@@ -20,12 +20,26 @@ pub fn append_trailer(
         (out.new.items ≡ out.old.items ++ trailer_text delims.now groups number) }
     ensures kept { Extends out.old.items out.new.items }
 {
-    let mut count = Buffer::new();
-    let number = PaddedNumber::new(number, 9);
-    append_segment(
-        out,
-        delims,
-        b"IEA",
-        &[count.format(groups).as_bytes(), number.bytes()],
-    )
+    let mut tail = counted(delims, groups, number, 9);
+    tail.put(b'A');
+    tail.put(b'E');
+    tail.put(b'I');
+    out.extend_from_slice(tail.bytes())?;
+    Ok(())
+}
+
+/// The end of a trailer behind its id: how many stand in what it ends, and the number of that, in at least so many digits.
+pub(crate) fn counted(delims: &Delims, count: u64, number: u32, least: usize) -> SegmentTail
+    requires from { 1 ≤ least }
+    requires to { least ≤ 10 }
+    ensures text { result ≡ end_text delims.now (decimal count ∷ padded_number least number ∷ []) }
+    ensures room { length result ≤ 43 }
+{
+    let mut tail = SegmentTail::new();
+    tail.put(delims.terminator);
+    tail.put_number(u64::from(number), least);
+    tail.put(delims.element);
+    tail.put_number(count, 1);
+    tail.put(delims.element);
+    tail
 }

@@ -2,7 +2,7 @@
 use ack_999::write_999;
 use hub_kinds::{
     ElemFault, ElementCode, Fault, GroupAnswer, GroupCode, GroupVerdict, Items, Lent, NoMemory,
-    SegmentCode, SetAnswer, SetCode, Text, Verdict,
+    SegmentCode, SetAnswer, SetCode, Verdict,
 };
 use std::alloc::Global;
 use x12_bytes::Delims;
@@ -52,49 +52,40 @@ pub struct GroupRow<'a> {
     pub verdict: GroupVerdict,
 }
 
-fn text(alloc: Global, bytes: &[u8]) -> Result<Text, NoMemory> {
-    Ok(Items::from_vec(Vec::from_slice(alloc, bytes)?))
-}
-
-fn elem_fault(alloc: Global, row: &ElemRow) -> Result<ElemFault, NoMemory> {
+fn elem_fault<'a>(row: &ElemRow<'a>) -> ElemFault<'a> {
     let [element, component, repetition] = row.numbers;
-    let reference = text(alloc, row.reference)?;
-    let copy = text(alloc, row.copy)?;
-    Ok(ElemFault {
+    ElemFault {
         element,
         component,
         repetition,
         code: row.code,
-        reference,
-        copy,
-    })
-}
-
-fn elem_of(alloc: Global, row: &FaultRow) -> Result<Option<ElemFault>, NoMemory> {
-    match &row.elem {
-        None => Ok(None),
-        Some(elem) => Ok(Some(elem_fault(alloc, elem)?)),
+        reference: Lent::new(row.reference),
+        copy: Lent::new(row.copy),
     }
 }
 
-fn fault(alloc: Global, row: &FaultRow) -> Result<Fault, NoMemory> {
-    let id = text(alloc, row.id)?;
-    let loop_id = text(alloc, row.loop_id)?;
-    let elem = elem_of(alloc, row)?;
-    Ok(Fault {
-        position: row.position,
-        id,
-        loop_id,
-        code: row.code,
-        slot: 1,
-        elem,
-    })
+fn elem_of<'a>(row: &FaultRow<'a>) -> Option<ElemFault<'a>> {
+    match &row.elem {
+        None => None,
+        Some(elem) => Some(elem_fault(elem)),
+    }
 }
 
-fn faults(alloc: Global, rows: &[FaultRow]) -> Result<Items<Fault>, NoMemory> {
+fn fault<'a>(row: &FaultRow<'a>) -> Fault<'a> {
+    Fault {
+        position: row.position,
+        id: Lent::new(row.id),
+        loop_id: Lent::new(row.loop_id),
+        code: row.code,
+        slot: 1,
+        elem: elem_of(row),
+    }
+}
+
+fn faults<'a>(alloc: Global, rows: &[FaultRow<'a>]) -> Result<Items<Fault<'a>>, NoMemory> {
     let mut faults = Vec::new(alloc);
     for row in rows {
-        faults.push(fault(alloc, row)?)?;
+        faults.push(fault(row))?;
     }
     Ok(Items::from_vec(faults))
 }

@@ -15,8 +15,8 @@ returns-clause-text c =
     let out : List ℕ = c.args.out.now.items in
     let position : List ℕ = position_text d.component e in
     let last : List (List ℕ) = e.reference ∷ element_text e.code ∷ copy_text d e.copy ∷ [] in
-    let same : c.as_slice.result.now ∷ c.as_bytes.result.now ∷ c.copied.result.now ∷ [] ≡ last =
-    cc (c.as_slice.ensures, c.as_bytes.ensures.value, c.code_text.ensures, c.copied.ensures, c.as_slice-2.ensures) in
+    let same : c.bytes.result.now ∷ c.as_bytes.result.now ∷ c.copied.result.now ∷ [] ≡ last =
+    cc (c.bytes.ensures, c.as_bytes.ensures.value, c.code_text.ensures, c.copied.ensures, c.bytes-2.ensures) in
     on_ok_weaker c.append_last_three.result
     (λ written.
     appended out c.extend_from_slice.new.self.items c.push.new.self.items c.append_position.new.out.items c.append_last_three.new.out.items

@@ -5,8 +5,8 @@ use Rattle.std.proofs.lemmas.Result.{on_ok_weaker}
 use Rattle.checked_text.specs.CheckedText.{SentValues, with_next}
 use Rattle.checked_text.proofs.sending.add_to.Goals as goal
 
-pub returns : goal.returns
-returns c =
+pub returns-clause-sent : goal.returns-clause-sent
+returns-clause-sent c =
     let setup = c.args.setup.now in
     let files = c.args.files.now in
     let place = c.args.place in

@@ -19,6 +19,7 @@ loop-i-init g c = (
   c.new-interchanges.ensures.items,
   λ before are. subst (λ (xs : List CheckedInterchange). AreAcknowledgments c.args.setup.now c.args.at.now xs c.args.files.now)
       (sym (append-nil before)) are,
+  c.requires.headers,
   c.requires.serves,
 )
 
@@ -49,7 +50,7 @@ answer_interchange-requires g c =
                 (c.loop-i.i + 1) entries))
                 (sym c.text-text.ensures)
                 (subst (λ (es : List IndexEntry). g.S.AnswerSource.serves c.loop-i.source c.args.index.now.text c.args.setup.now es)
-                (drop_one_more entries c.loop-i.i c.index-entries-i.result there) done.5),
+                (drop_one_more entries c.loop-i.i c.index-entries-i.result there) done.6),
           ),
           (
             sent.count,
@@ -57,9 +58,12 @@ answer_interchange-requires g c =
               λ n f at.
                   let count = room_left c.args.setup.now c.args.at.now all c.loop-i.files n f (length all) sent at refl in
                   omega (arith, count, so_many, entry_count, c.loop-i-test.true, room.2),
-              λ n f at.
-                  let count = groups_left c.args.setup.now c.args.at.now all c.loop-i.files n f (length all) sent at refl in
-                  omega (arith, count, so_many, entry_count, c.loop-i-test.true, room.2),
+              (
+                λ n f at.
+                    let count = groups_left c.args.setup.now c.args.at.now all c.loop-i.files n f (length all) sent at refl in
+                    omega (arith, count, so_many, entry_count, c.loop-i-test.true, room.2),
+                done.5,
+              ),
             ),
           ),
         ),
@@ -92,6 +96,7 @@ loop-i-preserved g c =
           AreAcknowledgments c.args.setup.now c.args.at.now xs c.answer_interchange.new.files)
           (append_assoc before done (next.answered ∷ []))
           (next.acknowledged (before ++ done) (c.loop-i.invariant.4 before are)),
+      c.in_ok-judged.ensures.headers,
       subst (λ (text : List ℕ). g.S.AnswerSource.serves c.answer_interchange.new.source text c.args.setup.now
           (drop (c.loop-i.i + 1) entries))
           c.text-text.ensures
@@ -100,7 +105,7 @@ loop-i-preserved g c =
           (c.loop-i.i + 1) entries)) (sym c.text-text.ensures)
           (subst (λ (es : List IndexEntry). g.S.AnswerSource.serves c.loop-i.source c.args.index.now.text c.args.setup.now es)
           (drop_one_more entries c.loop-i.i c.index-entries-i.result (ap (λ (n : ℕ). slice_get entries n) (sym counted) ∙ there))
-          c.loop-i.invariant.5))),
+          c.loop-i.invariant.6))),
     )
 
 pub returns : goal.returns

@@ -1,10 +1,9 @@
-use Rattle.std.proofs.Common.{◌≡◌, ◌+◌, ◌<◌, Bool, true, false, not, List, length, get_or, rules, tests, refl, sym, ap, subst, ◌∙◌}
+use Rattle.std.proofs.Common.{◌≡◌, rules, tests, subst}
 use Rattle.std.specs.Ordering.{is_lt}
 use Rattle.std.specs.List.{IsAllAdjacentAnswer}
 use Rattle.std.specs.List.Sorted.{IsSorted}
 use Rattle.std.proofs.lemmas.List.Sorted.{answers_always}
 use Rattle.hub_kinds.specs.Rising.{order_by}
-use Rattle.hub_kinds.specs.Twice.{has_twice}
 use Rattle.hub_kinds.proofs.Once.{order_ranks}
 use Rattle.hub_kinds.proofs.Distinct.{answered}
 use Rattle.hub_kinds.proofs.twice.has_twice.Goals as goal

@@ -13,4 +13,4 @@ returns-clause-text c =
     let same : c.len-start.result ≡ length c.args.out.now.items = search rules in
     changed_behind (mapped from to) c.args.out.now.items c.append_as_read.new.out.items c.change_from.new.out.items
     (flat_map (text_as_read from) segs) (flat_map (inner_text from to) segs) c.len-start.result same
-    c.in_ok-written.ensures.text c.change_from.ensures (changed_together from to c.requires segs)
+    c.in_ok-written.ensures.text c.change_from.ensures (changed_together from to c.requires.terminator segs)

@@ -2,7 +2,8 @@ use Rattle.std.proofs.Common.{◌≡◌, map, length, ℕ, refl, subst, arith}
 use Rattle.std.proofs.lemmas.Option.{slice_get_read}
 use Rattle.guide_tree.specs.Words.{nodes_view}
 use Rattle.loop_match.specs.Given.{place_in}
-use Rattle.set_check.specs.Adding.{Adds, IsErrorBelow}
+use Rattle.set_walk.specs.Told.{Adds}
+use Rattle.set_check.specs.Adding.{IsErrorBelow}
 use Rattle.set_check.proofs.elements.add_elements.Goals as goal
 
 pub loop-i-preserved : goal.loop-i-preserved

@@ -1,0 +1,12 @@
+-- 999 guide (005010X231), ST, and IK5 without codes: segments of which all but a number or a verdict is known. Private.
+use Rattle.std.specs.Prelude.{ℕ, [], ◌∷◌, codes}
+use Rattle.hub_kinds.specs.Words.{verdict_text}
+use Rattle.hub_kinds.specs.declared.set_codes.Verdict.{Verdict}
+use Rattle.x12_write.specs.Number.{padded_number}
+use Rattle.x12_write.specs.Segment.{Segment, segment}
+
+abbrev pub set_header : ℕ → Segment
+set_header n = segment (codes "ST") (codes "999" ∷ padded_number 4 n ∷ codes "005010X231" ∷ [])
+
+abbrev pub bare_response : Verdict → Segment
+bare_response verdict = segment (codes "IK5") (verdict_text verdict ∷ [])

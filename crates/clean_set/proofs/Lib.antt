@@ -1,5 +1,0 @@
-pub mod SoundPlaces
-mod Clean
-mod Keeping
-mod Lent
-mod Taking

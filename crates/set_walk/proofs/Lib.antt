@@ -1,0 +1,11 @@
+pub mod SoundPlaces
+mod Keeping
+mod Lent
+mod Telling
+mod Erring
+mod Slotting
+mod Ending
+mod Taking
+mod Seeing
+pub mod Apart
+mod Keyed
