@@ -1,6 +1,6 @@
 -- Own: whether segments with their slots keep a dependency, as a test; and the same of segments as they are kept. Private.
 use Rattle.std.specs.Prelude.{ℕ, ◌==◌, List, Bool, not, ◌&&◌, ◌||◌, if◌then◌else◌}
-use Rattle.std.specs.Prelude.{IsTrue, map, nat_le, length}
+use Rattle.std.specs.Prelude.{IsTrue, map}
 use Rattle.std.specs.List.{list_any, list_all}
 use Rattle.x12_bytes.specs.declared.delims.Delims.{Delims}
 use Rattle.guide_tree.specs.declared.rows.Dependency.{Dependency}
@@ -10,7 +10,6 @@ use Rattle.guide_tree.specs.Words.{GuideTree, Given}
 use Rattle.depend_check.specs.Standing.{stands_at, fills, triggers}
 use Rattle.hl_check.specs.Hierarchy.{IsHierarchyWhole}
 use Rattle.set_walk.specs.declared.kept.SlottedSeg.{SlottedSeg}
-use Rattle.set_walk.specs.declared.depends.TheConstants.{FEW}
 use Rattle.set_walk.specs.declared.kept.Kept.{Kept}
 use Rattle.set_walk.specs.Kept.{given_in, segment_in}
 
@@ -35,10 +34,6 @@ some_given xs test = list_any test xs
 
 abbrev pub some_in : List SlottedSeg → (Given → Bool) → Bool
 some_in xs test = list_any (λ x. test (given_in x)) xs
-
--- there are few dependencies, and these segments keep them
-abbrev pub are_few_kept : List SlottedSeg → Delims → List Dependency → Bool
-are_few_kept xs delims depends = nat_le (length depends) FEW && list_all (kept_by (some_in xs) delims) depends
 
 -- the rules over the whole set hold of what was kept
 abbrev pub AreRulesKept : GuideTree → Delims → Kept → Type 0

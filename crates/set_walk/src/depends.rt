@@ -1,11 +1,11 @@
-ghost use Rattle.std.specs.Prelude.{◌≡◌};
+ghost use Rattle.std.specs.Prelude.{◌≡◌, length, nat_le};
 ghost use Rattle.std.specs.List.{list_any, list_all};
 ghost use Rattle.x12_segs.specs.Words.{elements_of};
 ghost use Rattle.guide_tree.specs.Words.{element_of};
 ghost use Rattle.hub_kinds.specs.Words.{contains_text};
 ghost use Rattle.depend_check.specs.Standing.{stands_at, fills, triggers};
 ghost use Rattle.set_walk.specs.Kept.{given_in};
-ghost use Rattle.set_walk.specs.Depends.{lacks, has, some_in, target_by, kept_by, are_few_kept};
+ghost use Rattle.set_walk.specs.Depends.{lacks, has, some_in, target_by, kept_by};
 
 use crate::kept::SlottedSeg;
 use elem_rules::is_empty;
@@ -13,8 +13,15 @@ use guide_tree::{Dependency, DependencyKind};
 use loop_match::text_at;
 use x12_bytes::Delims;
 
-/// How many dependencies each look at all segments whose slots have labels.
+/// So many dependencies may each look at all segments whose slots have labels.
 pub const FEW: usize = 4;
+
+/// Whether there are few dependencies.
+pub fn are_few(depends: &[Dependency]) -> bool
+    ensures { result ≡ nat_le (length depends.now) FEW }
+{
+    depends.len() <= FEW
+}
 
 fn stands_at(label: &[u8], one: &SlottedSeg) -> bool
     ensures { result ≡ stands_at label.now (given_in one.now) }
@@ -99,21 +106,15 @@ fn keeps(delims: Delims, dependency: &Dependency, labelled: &[SlottedSeg]) -> bo
     !is_triggered(dependency, labelled) || keeps_target(delims, dependency, labelled)
 }
 
-fn keeps_all(delims: Delims, depends: &[Dependency], labelled: &[SlottedSeg]) -> bool
-    ensures { result ≡ list_all (kept_by (some_in labelled.now) delims) depends.now }
-{
-    depends
-        .iter()
-        .all(|dependency| keeps(delims, dependency, labelled))
-}
-
-/// Whether the dependencies are few, and the segments keep them.
+/// Whether the segments keep each of the dependencies.
 pub fn are_dependencies_kept(
     delims: Delims,
     depends: &[Dependency],
     labelled: &[SlottedSeg],
 ) -> bool
-    ensures { result ≡ are_few_kept labelled.now delims depends.now }
+    ensures { result ≡ list_all (kept_by (some_in labelled.now) delims) depends.now }
 {
-    depends.len() <= FEW && keeps_all(delims, depends, labelled)
+    depends
+        .iter()
+        .all(|dependency| keeps(delims, dependency, labelled))
 }

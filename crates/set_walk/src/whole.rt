@@ -7,6 +7,7 @@ ghost use Rattle.guide_tree.specs.Words.{end_faults, guide_of};
 ghost use Rattle.set_walk.specs.Walked.{IsSeen, last_in};
 ghost use Rattle.set_walk.specs.WalkedSet.{IsWalkedSet, IsWithoutRules};
 
+use crate::depends::are_few;
 use crate::ends::Ends;
 use crate::rules::are_rules_kept;
 use crate::seen::{Seen, nothing_seen, see};
@@ -99,8 +100,8 @@ fn with_order<'a>(walked: WalkedSet<'a>) -> WalkedSet<'a>
 
 /// Goes once over a set of a text by its compiled guide, with no list of its segments: the set's ends, and exactly the faults of its
 /// structure and of its elements (999 guide, IK3 and IK4), in their order, each once, where surely nothing is wrong with its hierarchy
-/// nor with a dependency; else none. By a guide without such rules there is none only of a set with 4,294,967,296 segments or more. The
-/// only error is want of memory.
+/// nor with a dependency; else none, and none by a guide with more than four dependencies. By a guide without such rules there is none
+/// only of a set with 4,294,967,296 segments or more. The only error is want of memory.
 pub fn walk_set<'a, 'g: 'a>(
     alloc: Global,
     text: &'a [u8],
@@ -114,7 +115,10 @@ pub fn walk_set<'a, 'g: 'a>(
     ensures given { IfOk result (λ walked. IsWithoutRules (guide_of fast.now) → length (span_views text.entry.now set.now) < 4294967296
         → IsTrue (is_some walked)) }
 {
-    let _accepted = fast.guide().rows();
+    let rows = fast.guide().rows();
+    if !are_few(rows.depends.as_slice()) {
+        return Ok(None);
+    }
     let mut segs = MarkedSegments::of_span(alloc, text, set)?;
     let Some(header) = segs.next_segment() else {
         return Ok(None);

@@ -21,7 +21,7 @@ const BODY: &[(&[u8], Option<u32>)] = &[
     (b"CTT*2", Some(14)),
 ];
 
-fn body(alloc: Global) -> Result<Vec<SegView<'static>>, Fail> {
+fn body<'a>(alloc: Global) -> Result<Vec<SegView<'a>>, Fail> {
     let mut segs = Vec::new(alloc);
     for (bytes, _) in BODY {
         segs.push(SegView::new(0, bytes, DELIMS))?;
