@@ -34,7 +34,8 @@ def routes_text(routes):
 
 def counters_text(counters):
     keys = ("interchange", "group", "set")
-    rows = (f"\n[[counter]]\npartner = {quoted(name)}\n" + "".join(f"{key} = {row[key]}\n" for key in keys) for name, row in counters.items())
+    rows = (f"\n[[counter]]\npartner = {quoted(name)}\n" + "".join(f"{key} = {row[key]}\n" for key in keys)
+            for name, row in counters.items())
     return "version = 2\n" + "".join(rows)
 
 
@@ -87,7 +88,8 @@ def differences(program, name, rng):
         return
     head = text[: text.index("[[route]]")]
     routes = {row["code"]: rng.sample(partners, rng.randint(1, min(16, len(partners)))) for row in setup["route"]}
-    counters = {it: {key: rng.choice([1, GREATEST - 1, rng.randint(1, GREATEST)]) for key in ("interchange", "group", "set")} for it in partners}
+    counters = {it: {key: rng.choice([1, GREATEST - 1, rng.randint(1, GREATEST)]) for key in ("interchange", "group", "set")}
+                for it in partners}
     night = Night(program, name, head + routes_text(routes), counters_text(counters))
     for partner in setup["partner"]:
         own, first = partner["name"], counters[partner["name"]]
