@@ -13,6 +13,20 @@ pub enum PoolFault {
     NoThread,
 }
 
+impl PoolFault {
+    ghost use Rattle.job_pool.specs.Refusals.{pool_fault_number};
+
+    /// The number of the refusal.
+    pub fn number(&self) -> u32
+        ensures { result ≡ pool_fault_number self.now }
+    {
+        match self {
+            PoolFault::NoMemory => 1,
+            PoolFault::NoThread => 2,
+        }
+    }
+}
+
 /// Jobs by number, from 0 on. What an answer is, it says by its own type.
 pub trait Task {
     /// What a worker has of its own, as its share of a count.

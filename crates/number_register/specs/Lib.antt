@@ -3,4 +3,5 @@ pub mod Inside
 pub mod NoIndex
 pub mod Placing
 pub mod Recording
+pub mod Refusals
 pub mod Slots

@@ -1,0 +1,66 @@
+"""A release as its user has it: the archive is made of the programs that stand, unpacked, and the commands of the pages are run in it."""
+import glob
+import os
+import re
+import shutil
+import subprocess
+import tempfile
+
+import check
+import words
+from trial import PROGRAM, TOP, Page
+
+TOTAL = "total interchanges 2 refused 0 groups 2 sets 2 accepted 2 held 0 outside 0"
+
+
+def bash(script, folder, **environment):
+    done = subprocess.run(["bash", "-c", script], cwd=folder, stdin=subprocess.DEVNULL, capture_output=True, text=True, timeout=300,
+                          env={**os.environ, **environment})
+    return done.returncode, done.stdout, done.stderr
+
+
+def commands(page, holds):
+    """The first block of commands of a page that has these words."""
+    with open(os.path.join(TOP, page), encoding="utf-8") as it:
+        return next(block for block in re.findall(r"^```sh\n(.*?)^```", it.read(), re.M | re.S) if holds in block)
+
+
+def examples():
+    page = Page("OPERATIONS.md and README.md, in a release")
+    with tempfile.TemporaryDirectory(prefix="nighthub-release-") as here:
+        programs = os.path.join(here, "programs")
+        os.mkdir(programs)
+        for path in (PROGRAM, check.CHECK, words.PROGRAM):
+            shutil.copy(path, programs)
+        made = subprocess.run([os.path.join(TOP, ".ci", "release"), programs, os.path.join(here, "dist")], capture_output=True, text=True)
+        page.want("the archive is made", (made.returncode, made.stderr), (0, ""))
+        archive = made.stdout.strip()
+        bash(f"tar xzf {archive}", here)
+        release = next(iter(glob.glob(os.path.join(here, "nighthub-*"))))
+        page.want("its sums", bash("sha256sum --check --quiet --strict SHA256SUMS", release), (0, "", ""))
+        page.holds("it names its commit", "\ncommit: " in open(os.path.join(release, "RELEASE"), encoding="utf-8").read(), "it doesn't")
+        status, said, failed = bash(commands("README.md", "two_partners.x12"), release)
+        page.want("the commands of README", (status, said.splitlines()[0], failed), (0, TOTAL, ""))
+        page.holds("an acknowledgment in words", said.splitlines()[1].startswith("interchange 1"), said)
+        bash("rm -r out", release)
+        page.want("the night of OPERATIONS", bash(commands("docs/OPERATIONS.md", "mkdir out"), release), (0, TOTAL + "\n", ""))
+        page.want("a check of the bundled files", bash(
+            "./nighthub_check --guide examples/guides/h850.toml --guide examples/guides/h856.toml --setup examples/night/setup.toml "
+            "--counters examples/night/counters.toml", release)[0], 0)
+        prefix = os.path.join(here, "prefix")
+        page.want("./install without a prefix", bash("./install", release)[0], 1)
+        page.want("./install", bash(f"./install {prefix} && ./install {prefix}", release)[0], 0)
+        config = os.path.join(here, "config")
+        shutil.copytree(os.path.join(prefix, "share", "nighthub", "examples", "guides"), os.path.join(config, "guides"))
+        for name in os.listdir(os.path.join(config, "guides")):
+            if name not in ("h850.toml", "h856.toml"):
+                os.remove(os.path.join(config, "guides", name))
+        for name in ("setup.toml", "counters.toml"):
+            shutil.copy(os.path.join(prefix, "share", "nighthub", "examples", "night", name), config)
+        shutil.copy(os.path.join(release, "examples", "night", "two_partners.x12"), os.path.join(here, "in.x12"))
+        nights = os.path.join(here, "nights")
+        run = commands("docs/OPERATIONS.md", "run_night 20260301").splitlines()[-1]
+        found = bash(run, here, NIGHTS=nights, CONFIG=config, NIGHTHUB=os.path.join(prefix, "bin", "nighthub"),
+                     PATH=os.path.join(prefix, "bin") + os.pathsep + os.environ["PATH"])
+        page.want("a night of run_night, installed", found, (0, f"{nights}/20260301/out\n", ""))
+    return page
