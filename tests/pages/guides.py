@@ -1,5 +1,8 @@
-"""The examples of docs/GUIDES.md: guide files that are taken, and those that are refused, by their number."""
-from trial import Page, night
+"""The examples of docs/GUIDES.md: guide files that are accepted, and those that are refused, by their number; what the page's own guides for
+qualifiers accept and reject; what a guide that tolerates unknown segments lets through."""
+import re
+
+from trial import COUNTERS, H850, H856, SETUP, TOP, Page, night
 
 HEAD = 'name = "SMALL"\ngroup = "PO"\nset = "850"\nversion = "005010"\n'
 SMALL = HEAD + 'nodes = [\n {seg="BEG", min=1, max=1, elements=["353 M ID 2 2 = 00", "92 M ID 2 2", "324 M AN 1 22"]},\n]\n'
@@ -78,8 +81,50 @@ TAKEN = {
 }
 
 
+ISA = "ISA*00*          *00*          *01*ACME           *ZZ*HUB            *260228*0900*^*00501*000000007*0*P*>~"
+
+
+def blocks():
+    """The guides of the page whose nodes are segments REF, each after a BEG, under the name H850."""
+    with open(f"{TOP}/docs/GUIDES.md", encoding="utf-8") as it:
+        texts = re.findall(r"^```toml\n(nodes = \[\n.*?)^```", it.read(), re.M | re.S)
+    head = HEAD.replace("SMALL", "H850")
+    return [head + text.replace("nodes = [\n", 'nodes = [\n {seg="BEG", min=1, max=1, elements=["353 M ID 2 2"]},\n', 1) for text in texts]
+
+
+def answer(guide, *references):
+    """What the acknowledgment says of an order with these qualifiers, one a REF, from its IK3 or IK5 on."""
+    segments = "".join(f"REF*{it}*1~" for it in references)
+    text = f"{ISA}GS*PO*ACME*BOLT*20260228*0900*12*X*005010~ST*850*0001~BEG*00~{segments}SE*{len(references) + 3}*0001~GE*1*12~IEA*1*000000007~"
+    acknowledgment = night(guides=[guide, H856], text=text)[3]["ACME.ack"].decode()
+    return acknowledgment.split("AK2*850*0001~")[1].split("AK9")[0]
+
+
+def qualifiers(page):
+    fixed, loop_by_one = blocks()
+    fixed = fixed.replace('"128 M ID 2 3"', '"128 M ID 2 3", "127 O AN 1 50"')
+    page.want("DP, then IA, by two slots", answer(fixed, "DP", "IA"), "IK5*A~")
+    page.want("IA, then DP, by two slots", "IK3*REF*4**7~" in answer(fixed, "IA", "DP"), True)
+    for references in (("DP",), ("DP", "IA"), ("IA", "DP"), ("IA", "DP", "VN", "IA")):
+        page.want(f"{references} by a loop", answer(loop_by_one, *references), "IK5*A~")
+    for references in ((), ("IA",), ("DP", "DP")):
+        page.want(f"{references} by a loop, rejected", "IK5*R" in answer(loop_by_one, *references), True)
+
+
+def tolerated(page):
+    """A segment with an empty one within it, which a receiver may read as a header."""
+    stray = "ISA*00*          *00*     ~~    *01*ACME           *ZZ*HUB            *260228*0900*^*00501*000000009*0*P*>~"
+    body = f"BEG*00*SA*PO1**20260228~PO1*1*5*EA*2.50~{stray}"
+    text = f"{ISA}GS*PO*ACME*BOLT*20260228*0900*12*X*005010~ST*850*0001~{body}SE*6*0001~GE*1*12~IEA*1*000000007~"
+    for name, guide, code in (("", H850, "IK5*R"), (" by a guide that tolerates 1", H850.replace("dictionary", 'tolerate_segment = ["1"]\ndictionary'), "IK5*E")):
+        found = night(guides=[guide, H856], text=text, counters=COUNTERS, setup=SETUP)[3]
+        page.want(f"a segment that begins with ISA{name}", (code in found["ACME.ack"].decode(), b"ISA|00" in found["BOLT.box"][10:]), (True, "E" in code))
+
+
 def examples():
     page = Page("GUIDES.md")
+    qualifiers(page)
+    tolerated(page)
     for name, (guide, number) in REFUSED.items():
         page.want(name, night(guides=[guide])[:3], (3, "", f"nighthub: guide HERE/guide_0.toml {number}\n"))
     for name, guide in TAKEN.items():
