@@ -1,6 +1,6 @@
 ghost use Rattle.std.specs.Prelude.{◌≡◌, ◌<◌, ◌≤◌, length, IfOk, IfSome, IsErrOf, OnOk};
 ghost use Rattle.std.specs.Io.KnownBytes.{IsAtEnd};
-ghost use Rattle.stream_read.specs.Source.{HasFailed};
+ghost use Rattle.stream_read.specs.Source.{GivenUp, HasFailed, TriedAgain};
 ghost use Rattle.hub_run.specs.StreamNight.{IsNightRead};
 
 use crate::plain::are_sound;
@@ -43,6 +43,9 @@ pub fn run_stream<S: Source, G: Gate + Sync, R: Threads + Wait + Clock + Sync>(
     ensures end { OnOk result (IsAtEnd (S.remaining source.new)) }
     ensures fault { IsErrOf result RunFault.Read → HasFailed (S.faults source.old) (S.faults source.new) (S.interruptions source.new) }
     ensures none { (IsErrOf result RunFault.Read → ⊥) → S.faults source.new ≡ S.faults source.old }
+    ensures tried { (IsErrOf result RunFault.Read → ⊥)
+        → TriedAgain (S.interruptions source.old) (S.longest source.old) (S.longest source.new) }
+    ensures given_up { GivenUp (S.interruptions source.old) (S.longest source.old) (S.longest source.new) }
 {
     are_sound(setup, at);
     let crew = Crew {

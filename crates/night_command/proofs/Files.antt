@@ -57,6 +57,12 @@ ending none first second third files f g empty one two three =
     three ∙ ap (λ (l : List File). l ++ g ∷ []) two ∙ append_assoc first (f ∷ []) (g ∷ [])
     ∙ ap (λ (l : List File). l ++ f ∷ g ∷ []) (one ∙ ap (λ (l : List File). l ++ files) empty)
 
+-- one of the files that were left was put
+pub one_more : (files done left rest : List NamedText) (file : NamedText) → files ≡ done ++ left → left ≡ file ∷ rest
+    → files ≡ (done ++ file ∷ []) ++ rest
+one_more files done left rest file whole is =
+    whole ∙ ap (λ (xs : List NamedText). done ++ xs) is ∙ sym (append_assoc done (file ∷ []) rest)
+
 -- these were put, and memory was wanting for the next one
 pub out_of_memory : (old now new : Option (List File)) (files done left : List NamedText) → AddsFiles old now (map file_of done)
     → KeepsFiles now new → files ≡ done ++ left → AddsSome old new (map file_of files) NoMemory

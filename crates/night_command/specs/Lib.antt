@@ -1,7 +1,7 @@
 pub mod CommandLine
 pub mod Failure
+pub mod Input
 pub mod NightFiles
 pub mod Outbox
 pub mod Outcome
-pub mod Reader
 pub mod SetupFiles

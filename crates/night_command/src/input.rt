@@ -1,22 +1,37 @@
 ghost use Rattle.std.specs.Prelude.{◌≡◌, IfOk, IfErr, IfSome};
 ghost use Rattle.night_command.specs.Failure.{IsOfInput};
+ghost use Rattle.night_command.specs.Input.{IsInputOf};
 
 use crate::failure::Failure;
-use crate::reader::Reader;
 use hub_run::within_limit;
+use night_ends::Reader;
 use std::alloc::Global;
-use std::fs::OpenFile;
+use std::fs::{Metadata, OpenFile};
 use std::io::Read;
 use std::rt::Files;
 use std::{fs, io};
 
-/// The file at a path, as a source of bytes. One that is said to be longer than the limit isn't read.
+/// The file at a path, as a source of bytes. One of which the system says that it is longer than the limit isn't read.
 pub fn open_input<'a, R: Files>(rt: &R, path: &str) -> Result<Reader<R::File>, Failure<'a>>
     ensures { IfErr result IsOfInput }
 {
-    match opened(rt, path) {
+    input_of(opened(rt, path))
+}
+
+/// A file, and what the system says of it.
+fn opened<R: Files>(rt: &R, path: &str) -> io::Result<(R::File, Metadata)> {
+    let file = fs::open(rt, path)?;
+    let said = file.metadata()?;
+    Ok((file, said))
+}
+
+/// What was opened, as a source of bytes.
+fn input_of<'a, F: Read + Drop>(opened: io::Result<(F, Metadata)>) -> Result<Reader<F>, Failure<'a>>
+    ensures { IsInputOf opened result }
+{
+    match opened {
         Ok((file, said)) => {
-            if within_limit(said) {
+            if within_limit(said.len()) {
                 Ok(Reader::new(file))
             } else {
                 Err(Failure::InputTooLong)
@@ -24,13 +39,6 @@ pub fn open_input<'a, R: Files>(rt: &R, path: &str) -> Result<Reader<R::File>, F
         }
         Err(error) => Err(Failure::of_fault(error, Failure::Input)),
     }
-}
-
-/// A file, and how long it is said to be.
-fn opened<R: Files>(rt: &R, path: &str) -> io::Result<(R::File, u64)> {
-    let file = fs::open(rt, path)?;
-    let said = file.metadata()?.len();
-    Ok((file, said))
 }
 
 /// All bytes of a reader.

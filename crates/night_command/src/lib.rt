@@ -18,13 +18,14 @@
 //!   what that had, where the outbox tells what it has; the last line of its report was printed, where the writer tells what it has; and
 //!   the status is 0 exactly where it is clean (`give_night`, `given`); each partner then reads in its acknowledgments what became of
 //!   its sets, by whatever guide files (`night_in`, `night`);
-//! - an input is told too long only where the source told more than the limit, and unreadable only where the source failed, or was
-//!   interrupted too often in a row (`night_in`, `long`, `unread`);
+//! - an input is told too long only where the source told more than the limit, and unreadable exactly where the source failed, or was
+//!   interrupted more than 1,000 times in a row (`night_in`, `long`, `unread`, `tried`); before it is read it is refused exactly where
+//!   opening it failed, or the system says that it is longer than the limit (`input_of`);
 //! - a run that fails has put none of the files of a night, or a front part of them; one whose input is too long or can't be read leaves
 //!   the outbox as it was (`give_night`, `left`, `none`; `night_in`, `too_long`, `none`, `some`);
 //! - the files of a night are put into the outbox when all of it is known, those of each partner in the order of the setup,
 //!   then the report and the counters; where one can't be put it is named, exactly where a put failed in this call, and those before it
-//!   are there (`put_night`);
+//!   are there (`put_night`); a put failed for want of memory exactly where the error's kind says so (`PutFault::of_error`);
 //! - a failed run leaves standard output as it was, unless standard output itself failed, and a run
 //!   that doesn't fail leaves standard error as it was; the line of a failure is what the definitions say (`Failure`);
 //! - a run says usage only where its words are no command line, and blames setup or input only where they name the files
@@ -56,7 +57,6 @@ mod night_files;
 mod outbox;
 mod outcome;
 mod put_fault;
-mod reader;
 mod setup;
 mod setup_files;
 
@@ -64,9 +64,8 @@ pub use command::Sharing;
 pub use failure::Failure;
 pub use input::{open_input, read_whole};
 pub use night::{give_night, night_in, night_main};
+pub use night_ends::{Directory, Outbox, Reader, Written, write_and_sync};
 pub use night_files::put_night;
-pub use outbox::{Directory, OutFault, Outbox};
 pub use put_fault::PutFault;
-pub use reader::Reader;
 pub use setup::setup_of;
 pub use setup_files::{GuideFile, SetupFiles};

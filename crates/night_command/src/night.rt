@@ -1,6 +1,6 @@
 ghost use Rattle.std.specs.Prelude.{◌≡◌, ◌≢◌, ◌<◌, ◌≤◌, ◌⊎◌, IfOk, IfErr, IfSome, IsErrOf, OnOk, length, map};
 ghost use Rattle.std.specs.Io.KnownBytes.{Appends};
-ghost use Rattle.stream_read.specs.Source.{HasFailed};
+ghost use Rattle.stream_read.specs.Source.{GivenUp, HasFailed, TriedAgain};
 ghost use Rattle.partner_setup.specs.Sound.{IsSoundSetup};
 ghost use Rattle.night_command.specs.CommandLine.{AsksForText, CanShare, IsCommandLine, NamesNight, guide_paths};
 ghost use Rattle.night_command.specs.Failure.{IsOfNight};
@@ -15,13 +15,13 @@ use crate::command::{Asked, Options, Sharing, read_words};
 use crate::failure::Failure;
 use crate::input::open_input;
 use crate::night_files::put_night;
-use crate::outbox::{Directory, Outbox};
 use crate::outcome::{Outcome, finish};
 use crate::setup::setup_at;
 use guide_toml::files_write_references;
 use hub_kinds::LONGEST_TEXT;
 use hub_run::{Night, OpenGate, Source, plain_references_are_quoted, run_stream};
 use moment::At;
+use night_ends::{Directory, Outbox};
 use partner_setup::Setup;
 use std::alloc::Global;
 use std::convert::AsStr;
@@ -171,6 +171,9 @@ where
     ensures files { IfOk result (λ night. AddsFiles (B.contents outbox.old) (B.contents outbox.new) (night_files setup.now night)) }
     ensures long { IsErrOf result Failure.InputTooLong → IfSome (S.remaining source.old) (λ xs. LONGEST_TEXT < length xs) }
     ensures unread { IsErrOf result Failure.Input → HasFailed (S.faults source.old) (S.faults source.new) (S.interruptions source.new) }
+    ensures tried { (IsErrOf result Failure.Input → ⊥)
+        → TriedAgain (S.interruptions source.old) (S.longest source.old) (S.longest source.new) }
+    ensures given_up { GivenUp (S.interruptions source.old) (S.longest source.old) (S.longest source.new) }
     ensures too_long { IsErrOf result Failure.InputTooLong → KeepsFiles (B.contents outbox.old) (B.contents outbox.new) }
     ensures none { IsErrOf result Failure.Input → KeepsFiles (B.contents outbox.old) (B.contents outbox.new) }
     ensures some { IfErr result (LeavesOutbox (S.remaining source.old) setup.now at.now (B.contents outbox.old) (B.contents outbox.new)) }

@@ -3,10 +3,11 @@ ghost use Rattle.partner_setup.specs.declared.partner.Partner.{Partner};
 ghost use Rattle.night_command.specs.Outbox.{AddsFiles, AddsSome, IsPutFault, file_of};
 ghost use Rattle.night_command.specs.NightFiles.{IsForPartners, files_of, last_files, night_files, partner_files};
 
-use crate::outbox::{NamedText, Outbox, put_all};
+use crate::outbox::{NamedText, put_all};
 use crate::put_fault::PutFault;
 use hub_kinds::{Items, NoMemory, Text};
 use hub_run::Night;
+use night_ends::Outbox;
 use partner_setup::{Partner, Setup};
 use std::alloc::Global;
 

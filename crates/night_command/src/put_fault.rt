@@ -1,4 +1,8 @@
+ghost use Rattle.std.specs.IoError.{error_kind};
+ghost use Rattle.night_command.specs.Outbox.{IsFaultOf, put_fault_number};
+
 use hub_kinds::{NoMemory, Text};
+use std::io;
 
 /// Why not all files of a night were put; those before are there.
 #[derive(Debug, Drop)]
@@ -11,7 +15,16 @@ pub enum PutFault {
 
 impl PutFault {
     ghost use Rattle.std.specs.Prelude.{◌≡◌};
-    ghost use Rattle.night_command.specs.Outbox.{put_fault_number};
+
+    /// Why the file of this name wasn't put, by the error of that: out of memory is never one of the file.
+    pub fn of_error(error: io::Error, name: Text) -> PutFault
+        ensures { IsFaultOf (error_kind error) name result }
+    {
+        match error.kind() {
+            io::ErrorKind::OutOfMemory => PutFault::NoMemory,
+            _ => PutFault::Output(name),
+        }
+    }
 
     /// The number of the fault.
     pub fn number(&self) -> u32

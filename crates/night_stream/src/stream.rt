@@ -2,7 +2,7 @@ ghost use Rattle.std.specs.Prelude.{◌≡◌, ◌≤◌, ◌<◌, ◌+◌, ℕ,
 ghost use Rattle.std.specs.Io.KnownBytes.{IsAtEnd};
 ghost use Rattle.hub_kinds.specs.declared.limits.TheConstants.{LONGEST_TEXT};
 ghost use Rattle.stream_read.specs.Held.{HasRead};
-ghost use Rattle.stream_read.specs.Source.{HasFailed};
+ghost use Rattle.stream_read.specs.Source.{GivenUp, HasFailed, TriedAgain};
 ghost use Rattle.stream_read.specs.declared.held.StreamFault.TheVariants.{InputTooLong, Read};
 ghost use Rattle.night_stream.specs.Crew.{IsReady};
 ghost use Rattle.night_stream.specs.Reading.{IsNightOfStream, IsReadUpTo};
@@ -62,6 +62,10 @@ fn read_on<S: Source>(held: &mut Held, source: &mut S, window: usize) -> Result<
     ensures fault { IsErrOf result (Stream Read) → HasFailed (S.faults source.old) (S.faults source.new) (S.interruptions source.new) }
     ensures none { (IsErrOf result (Stream Read) → ⊥) → S.faults source.new ≡ S.faults source.old }
     ensures few { OnOk result (held.new.total ≤ LONGEST_TEXT) }
+    ensures rested { (IsErrOf result (Stream Read) → ⊥) → S.interruptions source.new ≤ S.interruptions source.old }
+    ensures tried { (IsErrOf result (Stream Read) → ⊥)
+        → TriedAgain (S.interruptions source.old) (S.longest source.old) (S.longest source.new) }
+    ensures given_up { GivenUp (S.interruptions source.old) (S.longest source.old) (S.longest source.new) }
 {
     let full = held.fill(source, window)?;
     Ok(full)
@@ -156,6 +160,9 @@ pub fn stream_night<S: Source, G: Gate + Sync, R: Threads + Wait + Clock + Sync>
     ensures end { OnOk result (IsAtEnd (S.remaining source.new)) }
     ensures fault { IsErrOf result (Stream Read) → HasFailed (S.faults source.old) (S.faults source.new) (S.interruptions source.new) }
     ensures none { (IsErrOf result (Stream Read) → ⊥) → S.faults source.new ≡ S.faults source.old }
+    ensures tried { (IsErrOf result (Stream Read) → ⊥)
+        → TriedAgain (S.interruptions source.old) (S.longest source.old) (S.longest source.new) }
+    ensures given_up { GivenUp (S.interruptions source.old) (S.longest source.old) (S.longest source.new) }
 {
     let guides = FastGuides::of(alloc, setup)?;
     let mut held = Held::new(alloc);

@@ -6,8 +6,8 @@ use crate::tests::{Answer, WRITTEN, expect, expect_files, make_folder, ran_in, s
 use hub_kinds::{Items, copy_text};
 use moment::At;
 use night_command::{
-    Failure, GuideFile, OutFault, Outbox, Reader, SetupFiles, Sharing, night_in, night_main,
-    read_whole, setup_of,
+    Failure, GuideFile, Outbox, Reader, SetupFiles, Sharing, Written, night_in, night_main,
+    read_whole, setup_of, write_and_sync,
 };
 use partner_setup::Setup;
 use std::alloc::{AllocError, Global};
@@ -18,6 +18,7 @@ use std::test::Fail;
 use std::thread::Threads;
 use std::time::Clock;
 use std::{fs, io};
+use trial_ends::drive::{Drive, Form, Log, Sheet, Step};
 
 /// A reader of bytes, at most seven at once, that fails behind so many reads.
 #[derive(Drop)]
@@ -198,14 +199,16 @@ fn passes_over_a_fault_of_standard_error(rt: HostRuntime) -> Result<(), Fail> {
 
 /// An outbox that keeps the names of its files, a line each, and fails behind so many.
 #[derive(Drop)]
-struct Names {
+struct Names<'a> {
     names: Vec<u8>,
     puts: usize,
-    fault: OutFault,
+    fault: ErrorKind,
     faults: u64,
+    // what each file is written to
+    sheet: Sheet<'a>,
 }
 
-impl Names {
+impl<'a> Names<'a> {
     fn keep(&mut self, name: &[u8]) -> Result<(), AllocError>
         ensures { self.new.faults ≡ self.old.faults }
     {
@@ -215,23 +218,23 @@ impl Names {
     }
 }
 
-impl Outbox for Names {
+impl<'a> Outbox for Names<'a> {
     ghost faults = { λ n. n.faults };
 
-    fn put(&mut self, name: &[u8], _bytes: &[u8]) -> Result<(), OutFault> {
+    fn put<'f>(&mut self, name: &'f [u8], bytes: &'f [u8]) -> io::Result<Written<'f>> {
         if self.puts == 0 {
-            return match self.fault {
-                OutFault::NoMemory => Err(OutFault::NoMemory),
-                OutFault::Failed => {
-                    self.faults += 1;
-                    Err(OutFault::Failed)
-                }
-            };
+            if self.fault != ErrorKind::OutOfMemory {
+                self.faults += 1;
+            }
+            return Err(io::Error::from(self.fault));
         }
         self.puts -= 1;
-        match self.keep(name) {
-            Ok(()) => Ok(()),
-            Err(_) => Err(OutFault::NoMemory),
+        if self.keep(name).is_err() {
+            return Err(io::Error::from(ErrorKind::OutOfMemory));
+        }
+        match write_and_sync(&mut self.sheet, name, bytes) {
+            Ok(written) => Ok(written),
+            Err(_) => Err(io::Error::from(ErrorKind::OutOfMemory)),
         }
     }
 }
@@ -288,7 +291,7 @@ fn night_of<R: Threads + Wait + Clock + Sync + AllocGlobal, I: Read + Drop>(
     rt: &R,
     input: I,
     puts: usize,
-    fault: OutFault,
+    fault: ErrorKind,
 ) -> Result<(Option<Failure<'static>>, Vec<u8>), Fail> {
     let alloc = rt.alloc();
     let setup = example(alloc)?;
@@ -296,11 +299,20 @@ fn night_of<R: Threads + Wait + Clock + Sync + AllocGlobal, I: Read + Drop>(
         return Err("no moment")?;
     };
     let mut source = Reader::new(input);
+    let log = Log::new();
+    let drive = Drive {
+        alloc,
+        log: &log,
+        form: Form::Regular,
+        fails: Step::None,
+        kind: fault,
+    };
     let mut outbox = Names {
         names: Vec::new(alloc),
         puts,
         fault,
         faults: 0,
+        sheet: fs::create(&drive, "night")?,
     };
     let night = night_in(rt, alloc, &mut source, &mut outbox, &setup, &at, SHARING);
     Ok((night.err(), outbox.names))
@@ -309,7 +321,7 @@ fn night_of<R: Threads + Wait + Clock + Sync + AllocGlobal, I: Read + Drop>(
 #[test]
 fn names_the_file_that_failed(rt: HostRuntime) -> Result<(), Fail> {
     for (puts, (name, put)) in PUT.iter().enumerate() {
-        let (failure, names) = night_of(&rt, TWO_PARTNERS, puts, OutFault::Failed)?;
+        let (failure, names) = night_of(&rt, TWO_PARTNERS, puts, ErrorKind::StorageFull)?;
         same(rt.alloc(), names.as_slice(), put)?;
         match failure {
             Some(Failure::Output(failed)) => same(rt.alloc(), failed.as_slice(), name)?,
@@ -321,11 +333,11 @@ fn names_the_file_that_failed(rt: HostRuntime) -> Result<(), Fail> {
 
 #[test]
 fn puts_all_files(rt: HostRuntime) -> Result<(), Fail> {
-    let (failure, names) = night_of(&rt, TWO_PARTNERS, 6, OutFault::Failed)?;
+    let (failure, names) = night_of(&rt, TWO_PARTNERS, 6, ErrorKind::StorageFull)?;
     assert!(rt; failure.is_none());
     let all = b"ACME.ack\nACME.box\nBOLT.ack\nBOLT.box\nreport.txt\ncounters.toml\n";
     same(rt.alloc(), names.as_slice(), all)?;
-    let (failure, _) = night_of(&rt, TWO_PARTNERS, 2, OutFault::NoMemory)?;
+    let (failure, _) = night_of(&rt, TWO_PARTNERS, 2, ErrorKind::OutOfMemory)?;
     assert!(rt; matches!(failure, Some(Failure::Memory)));
     Ok(())
 }
@@ -334,12 +346,12 @@ fn puts_all_files(rt: HostRuntime) -> Result<(), Fail> {
 fn input_that_fails_at_some_read_is_none(rt: HostRuntime) -> Result<(), Fail> {
     for reads in 0..4 {
         let input = failing_reader(reads, ErrorKind::BrokenPipe);
-        let (failure, names) = night_of(&rt, input, 6, OutFault::Failed)?;
+        let (failure, names) = night_of(&rt, input, 6, ErrorKind::StorageFull)?;
         assert!(rt; matches!(failure, Some(Failure::Input)), "at read {reads}");
         assert!(rt; names.is_empty(), "at read {reads}");
     }
     let input = failing_reader(64, ErrorKind::BrokenPipe);
-    let (failure, _) = night_of(&rt, input, 6, OutFault::Failed)?;
+    let (failure, _) = night_of(&rt, input, 6, ErrorKind::StorageFull)?;
     assert!(rt; failure.is_none());
     Ok(())
 }
@@ -355,10 +367,10 @@ fn often_interrupted(often: u32) -> Interrupted {
 
 #[test]
 fn tries_again_what_was_interrupted(rt: HostRuntime) -> Result<(), Fail> {
-    let (failure, names) = night_of(&rt, often_interrupted(1_000), 6, OutFault::Failed)?;
+    let (failure, names) = night_of(&rt, often_interrupted(1_000), 6, ErrorKind::StorageFull)?;
     assert!(rt; failure.is_none());
     assert!(rt; !names.is_empty());
-    let (failure, names) = night_of(&rt, often_interrupted(1_001), 6, OutFault::Failed)?;
+    let (failure, names) = night_of(&rt, often_interrupted(1_001), 6, ErrorKind::StorageFull)?;
     assert!(rt; matches!(failure, Some(Failure::Input)));
     assert!(rt; names.is_empty());
     Ok(())

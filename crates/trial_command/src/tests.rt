@@ -275,3 +275,14 @@ fn refuses_a_file_that_is_too_long(rt: HostRuntime) -> Result<(), Fail> {
     let answer = ran_on_a_long_file(&rt, "night_too_long")?;
     expect(rt.alloc(), &answer, 4, b"", b"nighthub: input too long\n")
 }
+
+/// What stands in a file's place and keeps nothing, so that it can't be synced, is written all the same.
+#[test]
+fn writes_to_what_cannot_be_synced(rt: HostRuntime) -> Result<(), Fail> {
+    make_folder(&rt, "faults_of_devices")?;
+    rt.symlink("/dev/null", "faults_of_devices/out/report.txt")?;
+    let answer = ran_in(&rt, "faults_of_devices")?;
+    expect(rt.alloc(), &answer, 0, TOTAL, b"")?;
+    fs::remove_dir_all(&rt, "faults_of_devices")?;
+    Ok(())
+}

@@ -35,6 +35,8 @@ impl<'a> Source for Memory<'a> {
 
     ghost interruptions = { λ m. 0 };
 
+    ghost longest = { λ m. 0 };
+
     fn read(&mut self, buf: &mut [u8]) -> Result<usize, SourceFault> {
         Ok(self.give(buf, usize::MAX))
     }
@@ -50,6 +52,8 @@ pub struct Interrupted<'a> {
     later: u32,
     // how often it was, in a row
     row: u32,
+    // and at most
+    longest: u32,
 }
 
 impl<'a> Interrupted<'a> {
@@ -59,6 +63,7 @@ impl<'a> Interrupted<'a> {
             often: first,
             later,
             row: 0,
+            longest: 0,
         }
     }
 }
@@ -70,9 +75,12 @@ impl<'a> Source for Interrupted<'a> {
 
     ghost interruptions = { λ s. s.row };
 
+    ghost longest = { λ s. s.longest };
+
     fn read(&mut self, buf: &mut [u8]) -> Result<usize, SourceFault> {
         if self.row < self.often {
             self.row += 1;
+            self.longest = self.longest.max(self.row);
             return Err(SourceFault::Interrupted);
         }
         self.row = 0;
@@ -107,6 +115,8 @@ impl<'a> Source for Failing<'a> {
     ghost faults = { λ s. s.faults };
 
     ghost interruptions = { λ s. 0 };
+
+    ghost longest = { λ s. 0 };
 
     fn read(&mut self, buf: &mut [u8]) -> Result<usize, SourceFault> {
         if self.reads == 0 && self.faults == 0 {

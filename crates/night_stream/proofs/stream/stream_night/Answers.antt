@@ -26,6 +26,8 @@ loop-reading-preserved g c =
       read = c.in_ok-reading-2.ensures.read (g.S.Source.remaining c.args.source.now) (g.S.Source.remaining c.read_on.new.source) later;
       few = subst (λ (k : ℕ). k ≤ 4294967295) (sym c.in_ok-reading-2.ensures.total) c.in_ok-read_on.ensures.few;
       faults = search rules;
+      rested = search rules;
+      tried = search rules;
     }
 
 pub finish-requires-clause-read : goal.finish-requires-clause-read

@@ -1,4 +1,5 @@
 use Rattle.std.proofs.Common.{◌≡◌, ◌≤◌, ◌-◌}
+use Rattle.stream_read.specs.Source.{TriedAgain}
 use Rattle.night_stream.specs.Reading.{IsReadUpTo}
 use Rattle.night_stream.proofs.stream.stream_night.Given as goal
 
@@ -7,6 +8,8 @@ invariant-loop-reading g l = record {
   read : IsReadUpTo l.setup l.at (g.S.Source.remaining l.initial.source) (g.S.Source.remaining l.source) l.held l.reading;
   few : l.held.total ≤ 4294967295;
   faults : g.S.Source.faults l.source ≡ g.S.Source.faults l.initial.source;
+  rested : g.S.Source.interruptions l.source ≤ g.S.Source.interruptions l.initial.source;
+  tried : TriedAgain (g.S.Source.interruptions l.initial.source) (g.S.Source.longest l.initial.source) (g.S.Source.longest l.source);
 }
 
 abbrev pub decreases-loop-reading : goal.decreases-loop-reading

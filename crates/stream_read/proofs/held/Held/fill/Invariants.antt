@@ -1,5 +1,6 @@
 use Rattle.std.proofs.Common.{◌≡◌, ◌≤◌, ◌-◌}
 use Rattle.stream_read.specs.Held.{HasRead}
+use Rattle.stream_read.specs.Source.{TriedAgain}
 use Rattle.stream_read.proofs.held.Held.fill.Given as goal
 
 abbrev pub decreases-loop-left : goal.decreases-loop-left
@@ -11,4 +12,6 @@ invariant-loop-left g l = record {
   few : l.self.total ≤ 4294967295;
   bound : l.left ≤ l.window;
   faults : g.S.Source.faults l.source ≡ g.S.Source.faults l.initial.source;
+  rested : g.S.Source.interruptions l.source ≤ g.S.Source.interruptions l.initial.source;
+  tried : TriedAgain (g.S.Source.interruptions l.initial.source) (g.S.Source.longest l.initial.source) (g.S.Source.longest l.source);
 }
