@@ -102,13 +102,15 @@ fn two_workers_come_together_in_each_phase(rt: HostRuntime) -> Result<(), Fail> 
     let at = At::read(b"202603011530").ok_or("no moment")?;
     let text = two_orders(alloc)?;
     let cuts = Cuts::every(alloc, text.len(), 236)?;
-    let gate = Together {
-        entered: AtomicU64::new(0),
-        missed: AtomicU64::new(0),
-    };
-    run_night(&rt, alloc, text.as_slice(), &setup, &at, 2, &cuts, &gate)?;
-    assert_eq!(rt; gate.missed.load(Ordering::SeqCst), 0);
-    assert_eq!(rt; gate.entered.load(Ordering::SeqCst), 8);
+    for workers in [2u64, 64] {
+        let gate = Together {
+            entered: AtomicU64::new(0),
+            missed: AtomicU64::new(0),
+        };
+        run_night(&rt, alloc, text.as_slice(), &setup, &at, workers, &cuts, &gate)?;
+        assert_eq!(rt; gate.missed.load(Ordering::SeqCst), 0);
+        assert_eq!(rt; gate.entered.load(Ordering::SeqCst), 8);
+    }
     Ok(())
 }
 

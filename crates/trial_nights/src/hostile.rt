@@ -39,7 +39,7 @@ fn same_counters(one: &[Counters], other: &[Counters]) -> bool {
     true
 }
 
-fn are_same(one: &Night, other: &Night) -> bool {
+pub fn are_same(one: &Night, other: &Night) -> bool {
     same_texts(one.acks.as_slice(), other.acks.as_slice())
         && same_texts(one.boxes.as_slice(), other.boxes.as_slice())
         && one.report.as_slice() == other.report.as_slice()
@@ -97,6 +97,8 @@ fn a_header_64_times(rt: HostRuntime) -> Result<(), Fail> {
 fn the_first_word_of_a_header_100_000_times(rt: HostRuntime) -> Result<(), Fail> {
     let setup = two_partners(rt.alloc(), &FIRST)?;
     let text = repeated(rt.alloc(), b"ISA", 100_000)?;
+    let night = plain_night(rt.alloc(), &setup, text.as_slice())?;
+    assert!(rt; night.report.as_slice().ends_with(b" held 0 outside 300000\n"));
     expect_one_night(&rt, &setup, text.as_slice(), 53)
 }
 

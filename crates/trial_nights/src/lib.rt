@@ -32,3 +32,5 @@ mod runs;
 mod setup;
 #[cfg(test)]
 mod setups;
+#[cfg(test)]
+mod shared;
