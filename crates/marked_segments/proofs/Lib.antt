@@ -1,3 +1,8 @@
+mod BitLemmas
+mod BlockLemmas
+mod LaneLemmas
+mod MaskLemmas
 mod PartLemmas
 mod PlaceLemmas
 mod ReadLemmas
+mod Worked

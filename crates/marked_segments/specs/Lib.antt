@@ -1,2 +1,4 @@
+pub mod Blocks
 pub mod Marked
+pub mod Marks
 pub mod Walk

@@ -1,10 +1,11 @@
 -- Private. Where a walk by marks stands in a stretch of a text, and what it has read (X12.6, segment terminator, data element separator).
 use Rattle.std.specs.Prelude.{ℕ, ◌≡◌, ◌<◌, ◌≤◌, false, IsTrue, List, [], ◌∷◌, length, map, take, Option, Some, None}
 use Rattle.std.specs.List.{list_any}
-use Rattle.memchr.specs.Find.{is_byte, places, places_between}
-use Rattle.segment_marks.specs.Marks.{is_mark, is_odd}
+use Rattle.memchr.specs.Find.{is_byte, places}
+use Rattle.marked_segments.specs.Marks.{is_odd}
 use Rattle.x12_bytes.specs.declared.delims.Delims.{Delims}
 use Rattle.x12_segs.specs.Words.{SegValue, moved_by, seg_at, segs_from, view_of}
+use Rattle.marked_segments.specs.Blocks.{IsBlock}
 use Rattle.marked_segments.specs.declared.walk.MarkWalk.{MarkWalk}
 use Rattle.marked_segments.specs.declared.bounds.Bounds.{Bounds}
 
@@ -12,10 +13,9 @@ use Rattle.marked_segments.specs.declared.bounds.Bounds.{Bounds}
 abbrev pub views_behind : Delims → (base : ℕ) → (stretch : List ℕ) → (at : ℕ) → List SegValue
 views_behind delims base stretch at = map (view_of delims) (map (moved_by base) (segs_from stretch delims.terminator at))
 
--- the marks still to come are those from where the walk stands on
+-- the walk stands where what is left of its block begins
 pub record StandsAt (delims : Delims) (stretch : List ℕ) (walk : MarkWalk) : Type 0 where
-  pub within : walk.at ≤ length stretch
-  pub marks : walk.marks ≡ places_between (is_mark delims) stretch walk.at (length stretch)
+  pub block : IsBlock delims stretch walk.block
   pub room : walk.count ≤ length walk.separators.items
 
 -- where the walk says so, a part is plain, and it has the places of the element separators

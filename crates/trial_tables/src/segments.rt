@@ -45,7 +45,7 @@ const CASES: &[(Delims, &[u8], &str)] = &[
         b"ST*850*0001\nN1*^\n\nSE*3*0001\n",
         "0:ST*850*0001@2 6;12:N1*^@2;18:SE*3*0001@2 4;",
     ),
-    (TAB_SEPARATES, b"CTT\t1~A*B~", "0:CTT\t1-;6:A*B-;"),
+    (TAB_SEPARATES, b"CTT\t1~A*B~", "0:CTT\t1-;6:A*B@;"),
 ];
 
 fn add_places(out: &mut String, places: Option<&[usize]>) -> Result<(), Fail> {
@@ -94,4 +94,51 @@ fn segments_have_places(rt: HostRuntime) -> Result<(), Fail> {
         }
     }
     Ok(())
+}
+
+fn expect(alloc: Global, text: &[u8], wanted: &str) -> Result<(), Fail> {
+    let found = told(alloc, DELIMS, text)?;
+    if found.as_str() != wanted {
+        return Err(Fail::new(format!(in alloc; "{} bytes: {found}, not {wanted}", text.len())?));
+    }
+    Ok(())
+}
+
+/// One separator or one odd byte behind so many bytes, before a segment that has neither, in texts of every length.
+#[test]
+fn a_separator_stands_anywhere(rt: HostRuntime) -> Result<(), Fail> {
+    let alloc = rt.alloc();
+    let mut front = String::new(alloc);
+    for place in 0..150usize {
+        let next = place + 2;
+        let plain = format!(in alloc; "{front}*~CTT~")?;
+        let wanted = format!(in alloc; "0:{front}*@{place};{next}:CTT@;")?;
+        expect(alloc, plain.as_str().as_bytes(), wanted.as_str())?;
+        let odd = format!(in alloc; "{front}>~CTT~")?;
+        let wanted = format!(in alloc; "0:{front}>-;{next}:CTT@;")?;
+        expect(alloc, odd.as_str().as_bytes(), wanted.as_str())?;
+        front.push_str("A")?;
+    }
+    Ok(())
+}
+
+/// There is room for the places of 64 separators; a segment with more isn't told to be plain.
+#[test]
+fn separators_are_few(rt: HostRuntime) -> Result<(), Fail> {
+    let alloc = rt.alloc();
+    let mut many = String::new(alloc);
+    let mut places = String::new(alloc);
+    for place in 0..64usize {
+        many.push_str("*")?;
+        if place > 0 {
+            places.push_str(" ")?;
+        }
+        write!(places, "{place}")?;
+    }
+    let text = format!(in alloc; "{many}~")?;
+    let wanted = format!(in alloc; "0:{many}@{places};")?;
+    expect(alloc, text.as_str().as_bytes(), wanted.as_str())?;
+    let text = format!(in alloc; "{many}*~A*B~")?;
+    let wanted = format!(in alloc; "0:{many}*-;66:A*B@1;")?;
+    expect(alloc, text.as_str().as_bytes(), wanted.as_str())
 }

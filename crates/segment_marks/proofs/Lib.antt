@@ -1,3 +1,0 @@
-mod BlockLemmas
-mod LaneLemmas
-mod Worked
