@@ -1,0 +1,3 @@
+pub mod FittingBoth
+pub mod Looked
+pub mod Numbers

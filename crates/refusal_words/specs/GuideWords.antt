@@ -1,10 +1,12 @@
 -- Own: what is said of a guide file that is refused.
-use Rattle.std.specs.Prelude.{ℕ, ◌+◌, ◌==◌, List, [], ◌∷◌, ◌++◌, codes, decimal, string_bytes, if◌then◌else◌}
+use Rattle.std.specs.Prelude.{◌≡◌, ℕ, ◌+◌, ◌==◌, List, [], ◌∷◌, ◌++◌, codes, decimal, string_bytes, if◌then◌else◌}
 use Rattle.guide_toml.specs.declared.fault.GuideFileFault.{GuideFileFault}
 use Rattle.guide_toml.specs.declared.fault.GuideFileFault.TheVariants as fault
 use Rattle.refusal_words.specs.FileWords.{key_words}
+use Rattle.guide_tree.specs.Words.{Trees}
 use Rattle.guide_tree.specs.declared.fault.GuideFault.{GuideFault}
 use Rattle.guide_tree.specs.declared.fault.GuideFault.TheVariants as own
+use Rattle.refusal_words.specs.Nodes.{IsCommon, id_at}
 use Rattle.refusal_words.specs.Places.{in_place, place_text}
 use Rattle.refusal_words.specs.declared.file_words.KeyFault.{KeyFault}
 use Rattle.refusal_words.specs.declared.file_words.KeyFault.TheVariants as key_fault
@@ -51,14 +53,25 @@ rivals_words first first_name second second_name =
     place_text (codes "slot") first first_name
     ++ (codes " and " ++ (place_text (codes "slot") second second_name ++ codes " may come at one place, and both fit "))
 
--- a guide's own fault, by the ids of the slots that it names, and of two by what fits both
-abbrev pub own_words : GuideFault → (first second common : List ℕ) → List ℕ
-own_words own.TooDeep first second common = codes "loops are nested over 8 deep"
-own_words own.TooMany first second common = codes "over 2000 nodes"
-own_words (own.BadBounds slot) first second common =
-    slot_words (codes "slot") slot first (codes "bounds that can't be met or are too large, or an id that is none")
-own_words (own.BadTrigger slot) first second common =
-    slot_words (codes "loop") slot first (codes "its first node isn't a segment with min 1 and max 1")
-own_words (own.BadCondition slot) first second common = condition_words slot first
-own_words (own.Ambiguous a b) first second common = rivals_words a first b second ++ common
-own_words own.NoMemory first second common = codes "no memory"
+-- a guide's own fault, by what the slots that it names are called; of rivals, what stands before the segment that fits both
+abbrev pub own_words : GuideFault → (id : ℕ → List ℕ) → List ℕ
+own_words own.TooDeep id = codes "loops are nested over 8 deep"
+own_words own.TooMany id = codes "over 2000 nodes"
+own_words (own.BadBounds slot) id =
+    slot_words (codes "slot") slot (id slot) (codes "bounds that can't be met or are too large, or an id that is none")
+own_words (own.BadTrigger slot) id =
+    slot_words (codes "loop") slot (id slot) (codes "its first node isn't a segment with min 1 and max 1")
+own_words (own.BadCondition slot) id = condition_words slot (id slot)
+own_words (own.Ambiguous first second) id = rivals_words first (id first) second (id second)
+own_words own.NoMemory id = codes "no memory"
+
+-- what is shown of two slots, in words
+abbrev pub IsCommonSaid : Trees → (first second : ℕ) → List ℕ → Type 0
+IsCommonSaid nodes first second text = (s : List (List ℕ)) × IsCommon nodes first second s × (text ≡ segment_words s)
+
+-- a text says what is wrong with a guide: its slots by their numbers and ids, and of rivals a segment that fits both
+abbrev pub IsGuideSaid : Trees → GuideFault → List ℕ → Type 0
+IsGuideSaid nodes (own.Ambiguous first second) text =
+    (common : List ℕ) × IsCommonSaid nodes first second common
+    × (text ≡ own_words (own.Ambiguous first second) (id_at nodes) ++ common)
+IsGuideSaid nodes fault text = text ≡ own_words fault (id_at nodes)

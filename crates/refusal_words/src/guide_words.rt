@@ -1,10 +1,14 @@
-ghost use Rattle.std.specs.Prelude.{◌≡◌, ◌++◌, ℕ, List, IfOk, OnOk};
+ghost use Rattle.std.specs.Prelude.{◌≡◌, ◌++◌, ℕ, List, IfOk, IfSome, OnOk};
+ghost use Rattle.guide_tree.specs.Words.{nodes_view, numbered};
 ghost use Rattle.refusal_words.specs.GuideWords as words;
+ghost use Rattle.refusal_words.specs.Nodes as ids;
+ghost use Rattle.refusal_words.specs.Nodes.{FitsBoth};
+ghost use Rattle.refusal_words.specs.Search.{viewed};
 
 use crate::appended::{append, append_in_place, append_number, append_place};
 use crate::common::common_segment;
 use crate::file_words::{KeyFault, append_key};
-use crate::nodes::{id_of, node_at};
+use crate::nodes::{id_at, node_at};
 use guide_toml::GuideFileFault;
 use guide_tree::{GuideFault, Node};
 use hub_kinds::{NoMemory, Text, Texts};
@@ -92,27 +96,14 @@ fn append_segment(out: &mut Vec<u8>, segment: &[Text]) -> Result<(), NoMemory>
     }
 }
 
-/// The segment that the slots of two nodes both take, in words.
-fn common_words(
-    alloc: Global,
-    first: Option<&Node>,
-    second: Option<&Node>,
-) -> Result<Vec<u8>, NoMemory>
-    ensures { IfOk result (λ text. (segment : List (List ℕ)) × (text.items ≡ words.segment_words segment)) }
-{
-    let mut text = Vec::new(alloc);
-    match common_of(alloc, first, second)? {
-        None => append_segment(&mut text, &[])?,
-        Some(segment) => append_segment(&mut text, segment.as_slice())?,
-    }
-    Ok(text)
-}
-
+/// A segment that fits the slots of both nodes, where one is found.
 fn common_of(
     alloc: Global,
     first: Option<&Node>,
     second: Option<&Node>,
-) -> Result<Option<Texts>, NoMemory> {
+) -> Result<Option<Texts>, NoMemory>
+    ensures { IfOk result (λ found. IfSome found (FitsBoth (viewed first.entry) (viewed second.entry))) }
+{
     match (first, second) {
         (Some(Node::Segment(slot)), Some(Node::Segment(other))) => {
             common_segment(alloc, slot, other)
@@ -121,43 +112,50 @@ fn common_of(
     }
 }
 
-/// Adds what is wrong with a guide whose file is read, by its nodes.
+fn segment_text(alloc: Global, segment: &[Text]) -> Result<Vec<u8>, NoMemory>
+    ensures { IfOk result (λ text. text.items ≡ words.segment_words segment.now) }
+{
+    let mut text = Vec::new(alloc);
+    append_segment(&mut text, segment)?;
+    Ok(text)
+}
+
+/// The segment that the slots with these numbers both take, in words.
+fn common_text(alloc: Global, nodes: &[Node], first: u32, second: u32) -> Result<Vec<u8>, NoMemory>
+    ensures { IfOk result (λ text. words.IsCommonSaid (numbered 1 (nodes_view nodes.now)) first second text.items) }
+{
+    let one = node_at(nodes, first);
+    let other = node_at(nodes, second);
+    match common_of(alloc, one, other)? {
+        None => segment_text(alloc, &[]),
+        Some(segment) => segment_text(alloc, segment.as_slice()),
+    }
+}
+
+/// Adds what is wrong with a guide whose file is read, by its nodes, which are numbered as the guide numbers its slots.
 pub fn append_guide_words(
     alloc: Global,
     out: &mut Vec<u8>,
     fault: &GuideFault,
     nodes: &[Node],
 ) -> Result<(), NoMemory>
-    ensures { OnOk result ((first second : List ℕ) × (segment : List (List ℕ))
-        × (out.new.items ≡ out.old.items ++ words.own_words fault.now first second (words.segment_words segment))) }
+    ensures { OnOk result ((text : List ℕ) × words.IsGuideSaid (numbered 1 (nodes_view nodes.now)) fault.now text
+        × (out.new.items ≡ out.old.items ++ text)) }
 {
-    let (first, second) = slots_of(fault);
-    let one = node_at(nodes, first);
-    let other = node_at(nodes, second);
-    let common = common_words(alloc, one, other)?;
-    append_own(out, fault, id_of(one), id_of(other), common.as_slice())
-}
-
-/// The slots that a fault names; the first node, where it names none.
-fn slots_of(fault: &GuideFault) -> (u32, u32) {
     match fault {
-        GuideFault::BadBounds(slot)
-        | GuideFault::BadTrigger(slot)
-        | GuideFault::BadCondition(slot) => (*slot, *slot),
-        GuideFault::Ambiguous(first, second) => (*first, *second),
-        _ => (1, 1),
+        GuideFault::Ambiguous(first, second) => {
+            let common = common_text(alloc, nodes, *first, *second)?;
+            append_own(out, fault, nodes)?;
+            append(out, common.as_slice())
+        }
+        _ => append_own(out, fault, nodes),
     }
 }
 
-/// Adds the same, where the slots have these ids, and what fits both of two is this.
-fn append_own(
-    out: &mut Vec<u8>,
-    fault: &GuideFault,
-    first: &[u8],
-    second: &[u8],
-    common: &[u8],
-) -> Result<(), NoMemory>
-    ensures { OnOk result (out.new.items ≡ out.old.items ++ words.own_words fault.now first.now second.now common.now) }
+/// Adds what is wrong with a guide; of rivals, what stands before the segment that fits both.
+fn append_own(out: &mut Vec<u8>, fault: &GuideFault, nodes: &[Node]) -> Result<(), NoMemory>
+    ensures { OnOk result (out.new.items
+        ≡ out.old.items ++ words.own_words fault.now (ids.id_at (numbered 1 (nodes_view nodes.now)))) }
 {
     match fault {
         GuideFault::TooDeep => append(out, b"loops are nested over 8 deep"),
@@ -166,21 +164,24 @@ fn append_own(
             out,
             b"slot",
             *slot,
-            first,
+            id_at(nodes, *slot),
             b"bounds that can't be met or are too large, or an id that is none",
         ),
         GuideFault::BadTrigger(slot) => append_slot(
             out,
             b"loop",
             *slot,
-            first,
+            id_at(nodes, *slot),
             b"its first node isn't a segment with min 1 and max 1",
         ),
-        GuideFault::BadCondition(slot) => append_condition(out, *slot, first),
-        GuideFault::Ambiguous(one, other) => {
-            append_rivals(out, *one, first, *other, second)?;
-            append(out, common)
-        }
+        GuideFault::BadCondition(slot) => append_condition(out, *slot, id_at(nodes, *slot)),
+        GuideFault::Ambiguous(first, second) => append_rivals(
+            out,
+            *first,
+            id_at(nodes, *first),
+            *second,
+            id_at(nodes, *second),
+        ),
         GuideFault::NoMemory => append(out, b"no memory"),
     }
 }

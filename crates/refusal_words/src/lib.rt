@@ -3,7 +3,8 @@
 //!
 //! Proved:
 //! - each sentence is the one that the definitions give, byte for byte, of the refusal and of the rows that it speaks of;
-//! - a segment that is shown for two slots fits both (`common_segment`).
+//! - a guide's own refusal names each slot by the id of the node with its number, and the segment that is shown for two slots fits both
+//!   (`append_guide_words`, `common_segment`).
 //!
 //! Source: own; X12.6, segment, for the segment that is shown.
 #![tactic(auto)]
