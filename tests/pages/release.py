@@ -51,12 +51,10 @@ def examples():
         page.want("./install without a prefix", bash("./install", release)[0], 1)
         page.want("./install", bash(f"./install {prefix} && ./install {prefix}", release)[0], 0)
         config = os.path.join(here, "config")
-        shutil.copytree(os.path.join(prefix, "share", "nighthub", "examples", "guides"), os.path.join(config, "guides"))
-        for name in os.listdir(os.path.join(config, "guides")):
-            if name not in ("h850.toml", "h856.toml"):
-                os.remove(os.path.join(config, "guides", name))
-        for name in ("setup.toml", "counters.toml"):
-            shutil.copy(os.path.join(prefix, "share", "nighthub", "examples", "night", name), config)
+        os.makedirs(os.path.join(config, "guides"))
+        shared = os.path.join(prefix, "share", "nighthub", "examples")
+        for name, into in (("guides/h850.toml", "guides"), ("guides/h856.toml", "guides"), ("night/setup.toml", ""), ("night/counters.toml", "")):
+            shutil.copy(os.path.join(shared, name), os.path.join(config, into))
         shutil.copy(os.path.join(release, "examples", "night", "two_partners.x12"), os.path.join(here, "in.x12"))
         nights = os.path.join(here, "nights")
         run = commands("docs/OPERATIONS.md", "run_night 20260301").splitlines()[-1]
