@@ -1,4 +1,4 @@
-ghost use Rattle.std.specs.Prelude.{◌≤◌, OnOk};
+ghost use Rattle.std.specs.Prelude.{◌≤◌, ◌<◌, OnOk, OnErr};
 
 use job_pool::PoolFault;
 
@@ -7,7 +7,8 @@ const MOST_JOBS: usize = 4611686018427387904;
 
 /// Refuses more jobs than a pool takes.
 pub(crate) fn are_few(jobs: usize) -> Result<(), PoolFault>
-    ensures { OnOk result (jobs ≤ 4611686018427387904) }
+    ensures ok { OnOk result (jobs ≤ 4611686018427387904) }
+    ensures err { OnErr result (4611686018427387904 < jobs) }
 {
     if jobs <= MOST_JOBS {
         Ok(())

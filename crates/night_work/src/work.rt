@@ -63,7 +63,7 @@ pub(crate) fn worked_out<'g: 'a, 'a, G: Gate + Sync, R: Threads + Wait + Clock +
     let Ok(jobs) = check_jobs(alloc, setup, guides, index) else {
         return Err(PoolFault::NoMemory);
     };
-    let Done { done, full } = checks_by(rt, alloc, index, jobs.as_slice(), workers, gate)?;
+    let Done { done, full, .. } = checks_by(rt, alloc, index, jobs.as_slice(), workers, gate)?;
     match put_together(alloc, index, faults, done, &full) {
         Ok(findings) => Ok(findings),
         Err(_) => Err(PoolFault::NoMemory),

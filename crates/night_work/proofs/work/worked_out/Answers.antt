@@ -1,8 +1,9 @@
-use Rattle.std.proofs.Common.{ap, sym, subst}
+use Rattle.std.proofs.Common.{◌≡◌, List, ap, map, sym, subst}
 use Rattle.std.specs.List.{All}
 use Rattle.env_index.specs.Words.{IndexValue, places_of}
-use Rattle.worker_pool.specs.Spans.{ArePlaced, AreSpans}
-use Rattle.worker_pool.proofs.Placing.{placed_by}
+use Rattle.worker_pool.specs.Jobs.{place_of}
+use Rattle.worker_pool.specs.Spans.{AreSpans}
+use Rattle.worker_pool.specs.declared.job.CheckJob.{CheckJob}
 use Rattle.night_work.proofs.FewSets.{HasFewSets, HasItsSpans, few_sets, spans_alone}
 use Rattle.night_work.proofs.work.worked_out.Goals as goal
 
@@ -21,6 +22,5 @@ checks_by-requires-clause-spans g c κs within =
 pub checks_by-requires-clause-places : goal.checks_by-requires-clause-places
 checks_by-requires-clause-places g c κs within =
     let s = c.requires.settled in
-    subst (ArePlaced (places_of c.args.index.now)) (sym c.as_slice.ensures.value)
-    (placed_by c.in-Ok.jobs.items (places_of c.args.index.now)
-    (c.in-Ok.ensures.places s.1.entries (ap (λ (i : IndexValue). i.entries) s.4)))
+    subst (λ (jobs : List CheckJob). map place_of jobs ≡ places_of c.args.index.now) (sym c.as_slice.ensures.value)
+    (c.in-Ok.ensures.places s.1.entries (ap (λ (i : IndexValue). i.entries) s.4))
