@@ -1,6 +1,7 @@
 pub mod Agreeing
 pub mod Behind
 pub mod Bounded
+pub mod Doubtful
 pub mod Examples
 pub mod Keys
 pub mod Looks

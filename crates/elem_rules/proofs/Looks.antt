@@ -64,13 +64,13 @@ fit_more rows s k x text within is at fit before i row to there = elim (cases_eq
   | inr e ↦ before i row (omega (arith, e)) there
 ]
 
-has_length : (text : List ℕ) → not (length text == 0) ≡ has_bytes text
+pub has_length : (text : List ℕ) → not (length text == 0) ≡ has_bytes text
 has_length [] = refl
 has_length (byte ∷ bytes) =
     let some : (length (byte ∷ bytes) == 0) ≡ false = grind (arith, nat_tests) in
     ap not some
 
-bits_next : (present : ℕ → Bool) (k : ℕ) → marked (bits_to present k) (k + 1) (present (k + 1)) ≡ bits_to present (k + 1)
+pub bits_next : (present : ℕ → Bool) (k : ℕ) → marked (bits_to present k) (k + 1) (present (k + 1)) ≡ bits_to present (k + 1)
 bits_next present k = rw add-one refl
 
 pub bits_more : (s : Segment) (k bits : ℕ) (text : List ℕ) (empty : Bool) (next : ℕ) → text ≡ element_of s (k + 1)

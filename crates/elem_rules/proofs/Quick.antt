@@ -267,7 +267,7 @@ not_below present (suc n) few =
 pub not_marked : (present : ℕ → Bool) (n : ℕ) → n < 64 → bit_at (bits_to present n) 0 ≡ 0
 not_marked present n few = not_below present n few
 
-filled_as : (delims : Delims) (text : List ℕ) → IsPlain delims text → is_filled delims text ≡ has_bytes text
+pub filled_as : (delims : Delims) (text : List ℕ) → IsPlain delims text → is_filled delims text ≡ has_bytes text
 filled_as delims [] plain = refl
 filled_as delims (byte ∷ bytes) plain = ap not (filled_plain delims byte bytes plain)
 
@@ -297,6 +297,35 @@ pub record LooksClean (delims : Delims) (s : Segment) (slot : Slot) : Type 0 whe
   pub hold : All (λ c. IsTrue (holds (is_set (bits_to (λ k. has_bytes (element_of s k)) (length slot.elements))) c.relation c.positions))
       slot.conditions
 
+-- conditions that hold, by the bits of the elements that aren't empty, find nothing
+module _ (delims : Delims) (s : Segment) (slot : Slot) (few : length slot.elements ≤ 40)
+    (plain : (k : ℕ) → IsPlain delims (element_of s k)) where
+  abbrev bits : ℕ
+  bits = bits_to (λ k. has_bytes (element_of s k)) (length slot.elements)
+
+  set_as : (p : ℕ) → 1 ≤ p → p ≤ length slot.elements → is_present_in delims (texts_of slot s) p ≡ is_set bits p
+  set_as p from to =
+      ap (is_filled delims) (text_of_row slot s p from to) ∙ filled_as delims (element_of s p) (plain p)
+      ∙ sym (is_set_to (λ k. has_bytes (element_of s k)) (length slot.elements) p from to (omega arith))
+
+  condition_clean : (c : Condition) → IsTrue (is_condition_of slot c) → IsTrue (holds (is_set bits) c.relation c.positions)
+      → condition_found delims slot.elements (texts_of slot s) c ≡ []
+  condition_clean c sound h =
+      ap (λ l. flat_map (broken_found slot.elements (texts_of slot s) (condition_code c.relation)) l)
+      (broken_agrees (is_present_in delims (texts_of slot s)) (is_set bits) c.relation c.positions
+      (All-weaker (λ p. (1 ≤ p) × (p ≤ length slot.elements)) (λ p. is_present_in delims (texts_of slot s) p ≡ is_set bits p)
+      (λ p w. set_as p w.0 w.1) c.positions (positions_have_rows slot c sound))
+      ∙ holds_whole (is_set bits) c.relation c.positions h)
+
+  pub conditions_clean : IsTrue (list_all (is_condition_of slot) slot.conditions)
+      → All (λ c. IsTrue (holds (is_set bits) c.relation c.positions)) slot.conditions
+      → conditions_found delims slot.elements slot.conditions (texts_of slot s) ≡ []
+  conditions_clean sound hold = flat_none (condition_found delims slot.elements (texts_of slot s))
+      (λ c. IsTrue (is_condition_of slot c) × IsTrue (holds (is_set bits) c.relation c.positions)) slot.conditions
+      (both_hold (λ c. IsTrue (is_condition_of slot c)) (λ c. IsTrue (holds (is_set bits) c.relation c.positions)) slot.conditions
+      (conditions_hold slot sound) hold)
+      (λ c w. condition_clean c w.0 w.1)
+
 module _ (delims : Delims) (s : Segment) (slot : Slot) (g : LooksClean delims s slot) where
   one_clean : (k : ℕ) (o : Option Element) → nth slot.elements k ≡ o
       → option_map_or (λ row. element_found delims k row (element_of s k)) o [] ≡ []
@@ -317,35 +346,11 @@ module _ (delims : Delims) (s : Segment) (slot : Slot) (g : LooksClean delims s 
       (element_of s (length slot.elements + 1)) ∷ [] else [])
       (ap (list_any (is_filled delims)) g.no_more)
 
-  abbrev bits : ℕ
-  bits = bits_to (λ k. has_bytes (element_of s k)) (length slot.elements)
-
-  set_as : (p : ℕ) → 1 ≤ p → p ≤ length slot.elements → is_present_in delims (texts_of slot s) p ≡ is_set bits p
-  set_as p from to =
-      let few = g.few in
-      ap (is_filled delims) (text_of_row slot s p from to) ∙ filled_as delims (element_of s p) (g.plain p)
-      ∙ sym (is_set_to (λ k. has_bytes (element_of s k)) (length slot.elements) p from to (omega arith))
-
-  condition_clean : (c : Condition) → IsTrue (is_condition_of slot c) → IsTrue (holds (is_set bits) c.relation c.positions)
-      → condition_found delims slot.elements (texts_of slot s) c ≡ []
-  condition_clean c sound h =
-      ap (λ l. flat_map (broken_found slot.elements (texts_of slot s) (condition_code c.relation)) l)
-      (broken_agrees (is_present_in delims (texts_of slot s)) (is_set bits) c.relation c.positions
-      (All-weaker (λ p. (1 ≤ p) × (p ≤ length slot.elements)) (λ p. is_present_in delims (texts_of slot s) p ≡ is_set bits p)
-      (λ p w. set_as p w.0 w.1) c.positions (positions_have_rows slot c sound))
-      ∙ holds_whole (is_set bits) c.relation c.positions h)
-
-  conditions_clean : conditions_found delims slot.elements slot.conditions (texts_of slot s) ≡ []
-  conditions_clean = flat_none (condition_found delims slot.elements (texts_of slot s))
-      (λ c. IsTrue (is_condition_of slot c) × IsTrue (holds (is_set bits) c.relation c.positions)) slot.conditions
-      (both_hold (λ c. IsTrue (is_condition_of slot c)) (λ c. IsTrue (holds (is_set bits) c.relation c.positions)) slot.conditions
-      (conditions_hold slot g.sound) g.hold)
-      (λ c w. condition_clean c w.0 w.1)
-
   found_clean : found delims s slot ≡ []
   found_clean =
       ap (λ l. l ++ (extra_found delims slot s ++ conditions_found delims slot.elements slot.conditions (texts_of slot s))) rows_clean
-      ∙ ap (λ l. l ++ conditions_found delims slot.elements slot.conditions (texts_of slot s)) extra_clean ∙ conditions_clean
+      ∙ ap (λ l. l ++ conditions_found delims slot.elements slot.conditions (texts_of slot s)) extra_clean
+      ∙ conditions_clean delims s slot g.few g.plain g.sound g.hold
 
   pub no_fault : (f : ElemFault) → IsElementFault delims s slot f → ⊥
   no_fault f h = no_member f (subst (λ l. Contains l f) found_clean (is_found delims s slot g.sound f h))

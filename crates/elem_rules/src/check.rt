@@ -18,7 +18,11 @@ use std::alloc::Global;
 use x12_segs::SegView;
 
 /// The texts of a segment's first `n` elements; fewer where it has fewer.
-fn first_texts<'a>(alloc: Global, seg: &SegView<'a>, n: usize) -> Result<Vec<&'a [u8]>, NoMemory>
+pub(crate) fn first_texts<'a>(
+    alloc: Global,
+    seg: &SegView<'a>,
+    n: usize,
+) -> Result<Vec<&'a [u8]>, NoMemory>
     ensures { IfOk result (λ v. read v.items ≡ take n (drop 1 (elements_of seg.now))) }
 {
     let texts = seg.elements().take(n).collect(alloc)?;

@@ -5,6 +5,7 @@
 //! - `check_segment` gives exactly the faults of a segment's elements: each fault of the definition and no other, each
 //!   once, rising by element, component, repetition and code, for any bytes, delimiters and number of elements. A fault
 //!   shows the reference number of the row at its place and, whole, the text that its code speaks of;
+//! - `check_segment_at` gives the same faults of a segment without an odd byte, whose element separators were found before;
 //! - `is_clean_at` says of a segment whose element separators were found before that it is clean only where it has no fault;
 //! - `is_empty` and `reference_at`, by which crates above tell of elements: whether a text counts as empty, and the reference
 //!   number of the row at a position.
@@ -35,6 +36,7 @@ mod clean;
 mod conditions;
 mod divided;
 mod element;
+mod exact;
 mod findings;
 mod form;
 mod marked;
@@ -45,5 +47,6 @@ mod value;
 pub use check::check_segment;
 pub use conditions::reference_at;
 pub use divided::is_empty;
+pub use exact::check_segment_at;
 pub use marked::is_clean_at;
 pub use moment::At;

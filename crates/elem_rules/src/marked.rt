@@ -28,7 +28,7 @@ fn offset_or(offsets: &[usize], index: usize, end: usize) -> usize
 
 /// The element behind separator `k`, counted from 0.
 #[inline(always)]
-fn element_behind<'a>(seg: &SegView<'a>, separators: &[usize], k: usize) -> &'a [u8]
+pub(crate) fn element_behind<'a>(seg: &SegView<'a>, separators: &[usize], k: usize) -> &'a [u8]
     requires places { separators.now ≡ places (is_byte seg.now.delims.element) seg.now.bytes }
     requires within { k < length separators.now }
     ensures { result.now ≡ element_of (elements_of seg.now) (k + 1) }

@@ -8,7 +8,7 @@ ghost use Rattle.marked_segments.specs.Marked.{IsPlain};
 ghost use Rattle.set_walk.specs.Walked.{is_trailer, goes_on, HasTaken, IsSeen};
 
 use crate::kept::{Kept, keep};
-use crate::walk::{Walk, add_errors, looks_faultless, step_by, write_place};
+use crate::walk::{Walk, add_errors, step_by, write_place};
 use guide_fast::FastGuide;
 use hub_kinds::{Fault, NoMemory};
 use loop_match::{Found, Turn};
@@ -88,7 +88,6 @@ fn go<'a, 'g: 'a>(
     ensures { OnOk result (HasTaken (guide_of fast.now) seen.old seen.new seg.now) }
 {
     let _accepted = fast.guide().rows();
-    let clean = looks_faultless(seg, turn.slot, plain);
     let position = seen.walk.count + 2;
     let (last, next) = (&mut seen.walk.last, &mut seen.walk.next);
     write_place(next, last.as_slice(), turn)?;
@@ -101,7 +100,7 @@ fn go<'a, 'g: 'a>(
         seg,
         place,
         turn.slot,
-        clean,
+        plain,
     )?;
     step_by(&mut seen.structure, position, fast, last.as_slice(), place)?;
     keep(&mut seen.kept, seg, turn.slot)?;

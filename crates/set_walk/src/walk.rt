@@ -8,7 +8,7 @@ ghost use Rattle.marked_segments.specs.Marked.{IsPlain};
 ghost use Rattle.set_walk.specs.Told.{IsTold, Adds};
 ghost use Rattle.set_walk.specs.Walked.{IsFaultless};
 
-use crate::told::tell_elements;
+use crate::told::{element_faults, tell_found};
 use elem_rules::is_clean_at;
 use guide_fast::FastGuide;
 use guide_tree::Slot;
@@ -48,7 +48,7 @@ pub fn write_place(next: &mut Vec<Step>, last: &[Step], turn: &Turn) -> Result<(
 
 /// Whether surely no element of the segment has a fault by the slot, by the places of its element separators, if it is plain.
 #[inline]
-pub fn looks_faultless(seg: &SegView, slot: &Slot, plain: Option<&[usize]>) -> bool
+fn looks_faultless(seg: &SegView, slot: &Slot, plain: Option<&[usize]>) -> bool
     requires sound { IsSound slot.now }
     requires plain { IfSome plain (λ separators. IsPlain separators.now seg.now) }
     ensures { OnTrue result (IsFaultless seg.now slot.now) }
@@ -59,7 +59,8 @@ pub fn looks_faultless(seg: &SegView, slot: &Slot, plain: Option<&[usize]>) -> b
     }
 }
 
-/// Adds the faults of the elements of the segment at a position, which has this place and slot; none where it is clean.
+/// Adds the faults of the elements of the segment at a position, which has this place and slot, by the places of its element separators,
+/// if it is plain.
 pub fn add_errors<'a, 'g: 'a>(
     alloc: Global,
     faults: &mut Vec<Fault<'a>>,
@@ -68,18 +69,19 @@ pub fn add_errors<'a, 'g: 'a>(
     seg: &SegView<'a>,
     place: &[Step],
     slot: &'a Slot,
-    clean: bool,
+    plain: Option<&[usize]>,
 ) -> Result<(), NoMemory>
     requires sound { IsSound slot.now }
-    requires clean { OnTrue clean (IsFaultless seg.now slot.now) }
+    requires plain { IfSome plain (λ separators. IsPlain separators.now seg.now) }
     ensures { OnOk result (Adds faults.old.items faults.new.items
         (IsTold position seg.now (loop_id_of (guide_of fast.now).nodes (place_view place.now)) slot.now)) }
 {
-    if clean {
+    if looks_faultless(seg, slot, plain) {
         return Ok(());
     }
+    let found = element_faults(alloc, seg, slot, plain)?;
     let nodes = fast.guide().rows().nodes.as_slice();
-    tell_elements(alloc, faults, position, seg, nodes, place, slot)
+    tell_found(faults, position, seg, nodes, place, slot, found)
 }
 
 /// Finds what shows at the next place behind the last one.

@@ -11,12 +11,6 @@ use Rattle.set_walk.specs.Told.{IsTold, Adds}
 use Rattle.set_walk.proofs.Taking.{sound_turn, own_id, roomy, took}
 use Rattle.set_walk.proofs.seen.go.Goals as goal
 
-pub looks_faultless-clean-requires-clause-sound : goal.looks_faultless-clean-requires-clause-sound
-looks_faultless-clean-requires-clause-sound c =
-    let well : IsWellFormed (guide_of c.args.fast.now) =
-    subst (λ (rows : GuideRows). IsWellFormed (guide_of rows)) c.guide.ensures c.rows-accepted.ensures.accepted.well_formed in
-    sound_turn (guide_of c.args.fast.now) c.args.seen.now.walk.last.items c.args.turn.now c.args.seg.now well c.requires.turn
-
 pub add_errors-requires-clause-sound : goal.add_errors-requires-clause-sound
 add_errors-requires-clause-sound c =
     let well : IsWellFormed (guide_of c.args.fast.now) =

@@ -9,15 +9,15 @@ use Rattle.set_walk.specs.Told.{IsTold, Adds}
 use Rattle.set_walk.proofs.Telling.{none_added}
 use Rattle.set_walk.proofs.walk.add_errors.Goals as goal
 
-pub returns-then-clean : goal.returns-then-clean
-returns-then-clean c =
+pub returns-then-looks_faultless : goal.returns-then-looks_faultless
+returns-then-looks_faultless c =
     none_added c.args.faults.now.items c.args.position c.args.seg.now
     (loop_id_of (guide_of c.args.fast.now).nodes (place_view c.args.place.now)) c.args.slot.now
-    (OnTrue_at c.if-clean.true c.requires.clean)
+    (OnTrue_at c.if-looks_faultless.true c.looks_faultless.ensures)
 
 pub returns : goal.returns
 returns c =
     let nodes = c.as_slice-nodes.ensures.value ∙ ap (λ (r : GuideRows). r.nodes.items) (c.rows.ensures.same ∙ c.guide.ensures) in
-    subst (λ (ns : List Node). OnOk c.tell_elements.result (Adds c.args.faults.now.items c.tell_elements.new.faults.items
+    subst (λ (ns : List Node). OnOk c.tell_found.result (Adds c.args.faults.now.items c.tell_found.new.faults.items
     (IsTold c.args.position c.args.seg.now (loop_id_of (nodes_view ns) (place_view c.args.place.now)) c.args.slot.now))) nodes
-    c.tell_elements.ensures
+    c.tell_found.ensures

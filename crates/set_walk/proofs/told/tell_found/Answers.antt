@@ -1,12 +1,12 @@
 use Rattle.std.proofs.Common.{List, ℕ, subst}
 use Rattle.set_walk.specs.Told.{IsTold, Adds}
 use Rattle.set_walk.proofs.Telling.{told_adds}
-use Rattle.set_walk.proofs.told.tell_elements.Goals as goal
+use Rattle.set_walk.proofs.told.tell_found.Goals as goal
 
 pub returns : goal.returns
 returns c =
     subst (λ (l : List ℕ). Adds c.args.faults.now.items c.tell.new.faults.items
     (IsTold c.args.position c.args.seg.now l c.args.slot.now))
     c.loop_id_of-loop_id.ensures
-    (told_adds c.args.faults.now.items c.tell.new.faults.items c.in_ok-found.found.items c.args.position c.args.seg.now
-    c.loop_id_of-loop_id.result.now c.args.slot.now c.in_ok-tell.ensures c.in_ok-found.ensures.exact)
+    (told_adds c.args.faults.now.items c.tell.new.faults.items c.args.found.items c.args.position c.args.seg.now
+    c.loop_id_of-loop_id.result.now c.args.slot.now c.in_ok-tell.ensures c.requires)
