@@ -107,7 +107,16 @@ fn two_workers_come_together_in_each_phase(rt: HostRuntime) -> Result<(), Fail> 
             entered: AtomicU64::new(0),
             missed: AtomicU64::new(0),
         };
-        run_night(&rt, alloc, text.as_slice(), &setup, &at, workers, &cuts, &gate)?;
+        run_night(
+            &rt,
+            alloc,
+            text.as_slice(),
+            &setup,
+            &at,
+            workers,
+            &cuts,
+            &gate,
+        )?;
         assert_eq!(rt; gate.missed.load(Ordering::SeqCst), 0);
         assert_eq!(rt; gate.entered.load(Ordering::SeqCst), 8);
     }

@@ -98,7 +98,12 @@ fn the_first_word_of_a_header_100_000_times(rt: HostRuntime) -> Result<(), Fail>
     let setup = two_partners(rt.alloc(), &FIRST)?;
     let text = repeated(rt.alloc(), b"ISA", 100_000)?;
     let night = plain_night(rt.alloc(), &setup, text.as_slice())?;
-    assert!(rt; night.report.as_slice().ends_with(b" held 0 outside 300000\n"));
+    assert!(rt;
+        night
+            .report
+            .as_slice()
+            .ends_with(b" held 0 outside 300000\n")
+    );
     expect_one_night(&rt, &setup, text.as_slice(), 53)
 }
 
