@@ -1,14 +1,17 @@
 -- What clap found in the words is what the definitions say of them.
-use Rattle.std.proofs.Common.{◌≡◌, ◌⊎◌, ◌∙◌, List, true, codes, inl, inr, refl, sym, ap, subst}
+use Rattle.std.proofs.Common.{◌≡◌, ◌⊎◌, ◌∙◌, ℕ, List, [], ◌∷◌, length, map, Option, None, Some, option_map, true, false, codes, inl, inr}
+use Rattle.std.proofs.Common.{ap, arith, is_some, refl, subst, sym}
+use Rattle.std.specs.Borrow.{Bor}
 use Rattle.clap.specs.Words.{HasKind, HasMatchesOf, IsAmong, Text, all_of, fault_of, first_of, first_value, found_of}
-use Rattle.clap.specs.Words.{is_simple, is_simple_and_free, kind_of}
+use Rattle.clap.specs.Words.{is_simple, is_simple_and_free, kind_of, takes}
 use Rattle.clap.specs.declared.error.Error.{Error}
 use Rattle.clap.specs.declared.error.kind.ErrorKind.{ErrorKind}
-use Rattle.clap.specs.declared.error.kind.ErrorKind.TheVariants.{DisplayHelp, DisplayVersion}
+use Rattle.clap.specs.declared.error.kind.ErrorKind.TheVariants.{DisplayHelp, DisplayVersion, OutOfMemory}
 use Rattle.clap.specs.declared.parser.matches.ArgMatches.{ArgMatches}
 use Rattle.clap.proofs.OnLiterals.{clap_on_literals}
 use Rattle.clap.proofs.WalkLemmas.{first_value-rows, raw_values-rows}
-use Rattle.check_command.specs.CommandLine.{AreOptions, AsksForText, IsAsked, IsGiven, IsShown, check_app, or_none, value_of}
+use Rattle.check_command.specs.CommandLine.{AreNone, AreOptions, AsksForText, IsAsked, IsGiven, IsShown, check_app, names_none}
+use Rattle.check_command.specs.CommandLine.{or_none, value_of}
 use Rattle.check_command.specs.CommandLine.{values_found, values_of}
 use Rattle.check_command.specs.declared.command.Asked.{Asked}
 use Rattle.check_command.specs.declared.command.Asked.TheVariants.{Check, Show}
@@ -40,23 +43,60 @@ asked words m (Check o) has given = record {
   setup = sym (found words m (codes "setup") has) ∙ given.setup;
   guides = sym (ap or_none (all_found words m (codes "guide") has)) ∙ given.guides;
   counters = sym (found words m (codes "counters") has) ∙ given.counters;
+  some = given.some;
 }
 asked words m (Show text) has given = absurd given
 
 asked_by : (words : List Text) (e : Error) → HasKind (fault_of check_app words) e → (kind_of e ≡ DisplayHelp) ⊎ (kind_of e ≡ DisplayVersion)
-    → AsksForText words
+    → IsAmong DisplayHelp (fault_of check_app words) ⊎ IsAmong DisplayVersion (fault_of check_app words)
 asked_by words e (inl memory) (inl help) = cc
 asked_by words e (inl memory) (inr version) = cc
 asked_by words e (inr among) (inl help) = inl (subst (λ (k : ErrorKind). IsAmong k (fault_of check_app words)) help among)
 asked_by words e (inr among) (inr version) = inr (subst (λ (k : ErrorKind). IsAmong k (fault_of check_app words)) version among)
 
-pub shown : (words : List Text) (e : Error) (asked : Asked) → HasKind (fault_of check_app words) e → IsShown (kind_of e) asked
-    → IsAsked words asked
-shown words e (Check o) kind is = absurd is
-shown words e (Show text) kind is = asked_by words e kind is
+no_memory : (kind : ErrorKind) → (kind ≡ DisplayHelp) ⊎ (kind ≡ DisplayVersion) → kind ≡ OutOfMemory → ⊥
+no_memory kind (inl help) memory = cc
+no_memory kind (inr version) memory = cc
+
+pub shown : (words : List Text) (e : Error) (asked : Asked) → HasKind (fault_of check_app words) e
+    → (takes check_app words ≡ true → kind_of e ≡ OutOfMemory) → IsShown (kind_of e) asked → IsAsked words asked
+shown words e (Check o) kind passes is = absurd is
+shown words e (Show text) kind passes is =
+    record { asked = asked_by words e kind is; no_run = λ taken. no_memory (kind_of e) is (passes taken) }
 
 no_text : (text : String Global) (o : Options) → Show text ≡ Check o → ⊥
 no_text text o e = cc
+
+-- the text that is asked for isn't shown in place of a check
+pub text_asked : (words : List Text) (asked : Asked) (text : String Global) → asked ≡ Show text → IsAsked words asked → AsksForText words
+text_asked words asked text is by = subst (λ (a : Asked). IsAsked words a) is by
+
+none_setup : (o : Option (Bor (List ℕ))) (v : Option Text) → v ≡ option_map (λ s. s.now) o → is_some o ≡ false → v ≡ None
+none_setup None v e is = e
+none_setup (Some s) v e is = cc
+
+none_listed : (gs : List (Bor (List ℕ))) (v : List Text) → v ≡ map (λ g. g.now) gs → length gs ≡ 0 → v ≡ []
+none_listed [] v e is = e
+none_listed (g ∷ gs) v e is = cc
+
+-- options that name no file have no value
+pub none_given : (value : Text → Option Text) (values : Text → Option (List Text)) (o : Options) → names_none o ≡ true
+    → value (codes "setup") ≡ option_map (λ s. s.now) o.setup → or_none (values (codes "guide")) ≡ map (λ g. g.now) o.guides.items
+    → value (codes "counters") ≡ option_map (λ c. c.now) o.counters → AreNone value values
+none_given value values o none setup guides counters = record {
+  setup = none_setup o.setup (value (codes "setup")) setup (grind arith);
+  guides = none_listed o.guides.items (or_none (values (codes "guide"))) guides (grind arith);
+  counters = none_setup o.counters (value (codes "counters")) counters (grind arith);
+}
+
+-- and the words give them none
+pub none_valued : (words : List Text) (m : ArgMatches) → HasMatchesOf check_app words m
+    → AreNone (first_value (found_of m)) (values_found (found_of m)) → AreNone (value_of words) (values_of words)
+none_valued words m has none = record {
+  setup = sym (found words m (codes "setup") has) ∙ none.setup;
+  guides = sym (ap or_none (all_found words m (codes "guide") has)) ∙ none.guides;
+  counters = sym (found words m (codes "counters") has) ∙ none.counters;
+}
 
 -- words by which files are checked name them
 pub named : (words : List Text) (asked : Asked) (o : Options) → asked ≡ Check o → IsAsked words asked

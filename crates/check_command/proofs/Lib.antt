@@ -1,1 +1,4 @@
 pub mod CommandLine
+pub mod Counting
+pub mod Reading
+pub mod Telling

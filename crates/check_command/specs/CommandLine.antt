@@ -1,6 +1,6 @@
 -- The command line of the check (own), read as clap's definitions say: options that name files, one of which may be given again.
-use Rattle.std.specs.Prelude.{◌≡◌, ◌⊎◌, List, [], map, Option, Some, None, true, codes, option_map}
-use Rattle.clap.specs.Words.{App, Rule, Text, IsAmong, all_of, fault_of, first_of, matched_of, matches_of, new_app, new_rule}
+use Rattle.std.specs.Prelude.{◌≡◌, ◌⊎◌, ◌&&◌, ◌==◌, Bool, List, [], length, map, not, Option, Some, None, true, false, codes, is_some, option_map}
+use Rattle.clap.specs.Words.{App, Rule, Text, IsAmong, all_of, fault_of, first_of, matched_of, matches_of, new_app, new_rule, takes}
 use Rattle.clap.specs.Words.{raw_values, with_rule}
 use Rattle.clap.specs.declared.builder.action.ArgAction.TheVariants.{Append, Set}
 use Rattle.clap.specs.declared.error.kind.ErrorKind.{ErrorKind}
@@ -41,15 +41,32 @@ abbrev pub or_none : Option (List Text) → List Text
 or_none None = []
 or_none (Some texts) = texts
 
--- these are the files, where an option has one value and a list of values
+-- no file is named
+abbrev pub names_none : Options → Bool
+names_none options = not (is_some options.setup) && (not (is_some options.counters) && (length options.guides.items == 0))
+
+-- these are the files, one or more, where an option has one value and a list of values
 pub record AreOptions (value : Text → Option Text) (values : Text → Option (List Text)) (options : Options) : Type 0 where
   pub setup : value (codes "setup") ≡ option_map (λ s. s.now) options.setup
   pub guides : or_none (values (codes "guide")) ≡ map (λ g. g.now) options.guides.items
   pub counters : value (codes "counters") ≡ option_map (λ c. c.now) options.counters
+  pub some : names_none options ≡ false
 
--- the words ask for help or for the version
-abbrev pub AsksForText : List Text → Type 0
-AsksForText words = IsAmong DisplayHelp (fault_of check_app words) ⊎ IsAmong DisplayVersion (fault_of check_app words)
+-- no option has a value
+pub record AreNone (value : Text → Option Text) (values : Text → Option (List Text)) : Type 0 where
+  pub setup : value (codes "setup") ≡ None
+  pub guides : or_none (values (codes "guide")) ≡ []
+  pub counters : value (codes "counters") ≡ None
+
+-- nothing is wrong with the words, and they name a file
+pub record IsCommandLine (words : List Text) : Type 0 where
+  pub taken : takes check_app words ≡ true
+  pub named : AreNone (value_of words) (values_of words) → ⊥
+
+-- the words ask for help or for the version, and name no file to check
+pub record AsksForText (words : List Text) : Type 0 where
+  pub asked : IsAmong DisplayHelp (fault_of check_app words) ⊎ IsAmong DisplayVersion (fault_of check_app words)
+  pub no_run : takes check_app words ≡ true → ⊥
 
 -- what the words ask for
 abbrev pub IsAsked : List Text → Asked → Type 0

@@ -2,5 +2,8 @@ pub mod CommandLine
 pub mod Failure
 pub mod Files
 pub mod Judged
+pub mod Judgements
 pub mod Lines
 pub mod Runs
+pub mod SetupFiles
+pub mod Tellings

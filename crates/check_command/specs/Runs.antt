@@ -3,15 +3,19 @@ use Rattle.std.specs.Prelude.{ℕ, ◌≡◌, ◌⊎◌, List, Option}
 use Rattle.std.specs.Io.KnownBytes.{Appends}
 use Rattle.clap.specs.Words.{Text}
 use Rattle.check_command.specs.CommandLine.{AreOptions, AsksForText, value_of, values_of}
-use Rattle.check_command.specs.Files.{paths_in, paths_told}
+use Rattle.check_command.specs.Files.{paths_in, paths_of}
 use Rattle.check_command.specs.Lines.{lines_of, status_of}
+use Rattle.check_command.specs.Tellings.{AreTold}
 use Rattle.check_command.specs.declared.command.Options.{Options}
+use Rattle.check_command.specs.declared.files.GivenFiles.{GivenFiles}
 use Rattle.check_command.specs.declared.told.FileTold.{FileTold}
 
 -- a text is the lines of what is told of files with these paths, and this is its status
 pub record IsReport (paths : List (List ℕ)) (text : List ℕ) (status : ℕ) : Type 0 where
+  pub given : GivenFiles
+  pub files : paths_of given ≡ paths
   pub told : List FileTold
-  pub files : paths_told told ≡ paths
+  pub is : AreTold given told
   pub lines : text ≡ lines_of told
   pub own_status : status ≡ status_of told
 

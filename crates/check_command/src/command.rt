@@ -1,6 +1,7 @@
-ghost use Rattle.std.specs.Prelude.{◌≡◌, ◌≢◌, false, map, IfOk, IfErr, IsErrOf};
+ghost use Rattle.std.specs.Prelude.{◌≡◌, ◌≢◌, codes, false, map, IfOk, IfErr, IsErrOf};
 ghost use Rattle.clap.specs.Words.{app_of, first_value, found_of, kind_of, rule_of, with_rule};
-ghost use Rattle.check_command.specs.CommandLine.{IsAsked, IsGiven, IsShown, check_app, option_free, option_repeated, values_found};
+ghost use Rattle.check_command.specs.CommandLine.{AreNone, IsAsked, IsCommandLine, IsGiven, IsShown, check_app, option_free};
+ghost use Rattle.check_command.specs.CommandLine.{option_repeated, or_none, values_found};
 ghost use Rattle.check_command.specs.Failure.{IsOfWords};
 
 use crate::failure::Failure;
@@ -28,6 +29,18 @@ pub struct Options<'a> {
     pub counters: Option<&'a str>,
 }
 
+impl<'a> Options<'a> {
+    ghost use Rattle.std.specs.Prelude.{◌≡◌};
+    ghost use Rattle.check_command.specs.CommandLine.{names_none};
+
+    /// Whether no file is named.
+    fn names_none(&self) -> bool
+        ensures { result ≡ names_none self.now }
+    {
+        self.setup.is_none() && self.counters.is_none() && self.guides.len() == 0
+    }
+}
+
 /// What the words ask for.
 #[derive(Debug, Drop)]
 pub enum Asked<'a> {
@@ -40,6 +53,7 @@ pub enum Asked<'a> {
 /// Reads the words, which are the program's arguments without its name. Words that name no file are none.
 pub fn read_words<'a, S: AsStr>(alloc: Global, words: &'a [S]) -> Result<Asked<'a>, Failure>
     ensures asked { IfOk result (IsAsked (map S.text words.now)) }
+    ensures usage { IsErrOf result Failure.Usage → IsCommandLine (map S.text words.now) → ⊥ }
     ensures err { IfErr result IsOfWords }
 {
     let command = command(alloc)?;
@@ -95,22 +109,27 @@ fn repeated<'a>(alloc: Global, name: &'a str, help: &'a str) -> Arg<'a>
 
 fn options_given<'a>(alloc: Global, matches: &ArgMatches<'a>) -> Result<Asked<'a>, Failure>
     ensures given { IfOk result (IsGiven (first_value (found_of matches.now)) (values_found (found_of matches.now))) }
+    ensures usage { IsErrOf result Failure.Usage → AreNone (first_value (found_of matches.now)) (values_found (found_of matches.now)) }
     ensures err { IfErr result IsOfWords }
 {
-    let guides = match matches.get_strs("guide") {
-        None => Vec::new(alloc),
-        Some(guides) => copied(alloc, guides)?,
+    let options = Options {
+        setup: matches.get_str("setup"),
+        guides: guides_given(alloc, matches)?,
+        counters: matches.get_str("counters"),
     };
-    let setup = matches.get_str("setup");
-    let counters = matches.get_str("counters");
-    if setup.is_none() && counters.is_none() && guides.is_empty() {
+    if options.names_none() {
         return Err(Failure::Usage);
     }
-    Ok(Asked::Check(Options {
-        setup,
-        guides,
-        counters,
-    }))
+    Ok(Asked::Check(options))
+}
+
+fn guides_given<'a>(alloc: Global, matches: &ArgMatches<'a>) -> Result<Vec<&'a str>, AllocError>
+    ensures { IfOk result (λ guides. or_none (values_found (found_of matches.now) (codes "guide")) ≡ map (λ g. g.now) guides.items) }
+{
+    match matches.get_strs("guide") {
+        None => Ok(Vec::new(alloc)),
+        Some(guides) => copied(alloc, guides),
+    }
 }
 
 fn copied<'a>(alloc: Global, texts: &[&'a str]) -> Result<Vec<&'a str>, AllocError>
@@ -124,6 +143,7 @@ fn copied<'a>(alloc: Global, texts: &[&'a str]) -> Result<Vec<&'a str>, AllocErr
 /// The text that is asked for, where the words have no mistake.
 fn shown<'a>(alloc: Global, error: &Error) -> Result<Asked<'a>, Failure>
     ensures shown { IfOk result (IsShown (kind_of error.now)) }
+    ensures usage { IsErrOf result Failure.Usage → kind_of error.now ≢ ErrorKind.OutOfMemory }
     ensures err { IfErr result IsOfWords }
 {
     match error.kind() {

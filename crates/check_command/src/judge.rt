@@ -1,98 +1,18 @@
-ghost use Rattle.std.specs.Prelude.{◌≡◌, ◌∷◌, ◌++◌, [], map, IfOk, OnOk, option_map, length};
+ghost use Rattle.std.specs.Prelude.{◌≡◌, ◌<◌, ◌^◌, ◌++◌, IfOk, OnOk, Some, option_map};
+ghost use Rattle.guide_tree.specs.Words.{node_count, nodes_view};
 ghost use Rattle.check_command.specs.Files as files;
 ghost use Rattle.check_command.specs.Judged as judged;
+ghost use Rattle.check_command.specs.Judgements.{AreCountersFound, AreGuidesFound, IsGuideFound, IsToldBeside, with_guide};
+ghost use Rattle.check_command.specs.Tellings as tellings;
 
 use crate::files::{Given, GivenFiles};
-use crate::node_id::node_id;
+use crate::judged::{Judged, judge_counters, judge_guide, judge_rows};
 use crate::told::{FileTold, Listed, Told};
-use guide_toml::{GuideFileFault, read_guide, read_rows};
-use guide_tree::{Guide, GuideFault, Node};
+use guide_tree::{Guide, Node};
 use hub_kinds::{Items, NoMemory, Text};
-use partner_setup::{
-    CounterRows, FileFault, Setup, SetupFault, SetupRows, read_counters, read_setup,
-};
-use refusal_words::{
-    SetupNames, append_file_words, append_guide_file_words, append_guide_words, append_setup_words,
-};
+use partner_setup::{CounterRows, Setup, SetupFault, SetupRows};
+use refusal_words::{SetupNames, append_setup_words};
 use std::alloc::Global;
-
-/// What a file is judged as.
-#[derive(Debug, Drop)]
-enum Judged<T> {
-    /// What it says.
-    Taken(T),
-    /// Why it is refused, in words.
-    Refused(Text),
-}
-
-fn unread<T>(alloc: Global) -> Result<Judged<T>, NoMemory> {
-    Ok(Judged::Refused(Items::from_vec(Vec::from_slice(alloc, b"it can't be read")?)))
-}
-
-/// The number of the node in which a key stands; 0 where the refusal is of no key.
-fn number_of(fault: &GuideFileFault) -> u32 {
-    match fault {
-        GuideFileFault::Missing(_, slot) => *slot,
-        GuideFileFault::WrongKind(_, slot) => *slot,
-        GuideFileFault::Unknown(_, slot) => *slot,
-        GuideFileFault::NotToml | GuideFileFault::Guide(_) | GuideFileFault::NoMemory => 0,
-    }
-}
-
-fn guide_words(alloc: Global, bytes: &[u8], fault: &GuideFileFault) -> Result<Text, NoMemory> {
-    let mut text = Vec::new(alloc);
-    match fault {
-        GuideFileFault::Guide(own) => match read_rows(alloc, bytes) {
-            Ok(rows) => append_guide_words(alloc, &mut text, own, rows.nodes.as_slice())?,
-            Err(_) => append_guide_words(alloc, &mut text, own, &[])?,
-        },
-        _ => {
-            let id = node_id(alloc, bytes, number_of(fault))?;
-            append_guide_file_words(&mut text, fault, id.as_slice())?;
-        }
-    }
-    Ok(Items::from_vec(text))
-}
-
-fn judge_guide(alloc: Global, bytes: &Option<Text>) -> Result<Judged<Guide>, NoMemory> {
-    let Some(bytes) = bytes else {
-        return unread(alloc);
-    };
-    match read_guide(alloc, bytes.as_slice()) {
-        Ok(guide) => Ok(Judged::Taken(guide)),
-        Err(GuideFileFault::NoMemory | GuideFileFault::Guide(GuideFault::NoMemory)) => {
-            Err(NoMemory)
-        }
-        Err(fault) => Ok(Judged::Refused(guide_words(alloc, bytes.as_slice(), &fault)?)),
-    }
-}
-
-/// What is judged of a file of tables that was read so.
-fn judge_read<T: Drop>(alloc: Global, read: Result<T, FileFault>) -> Result<Judged<T>, NoMemory> {
-    match read {
-        Ok(rows) => Ok(Judged::Taken(rows)),
-        Err(FileFault::NoMemory) => Err(NoMemory),
-        Err(fault) => {
-            let mut text = Vec::new(alloc);
-            append_file_words(&mut text, &fault)?;
-            Ok(Judged::Refused(Items::from_vec(text)))
-        }
-    }
-}
-
-fn judge_rows(alloc: Global, bytes: &Option<Text>) -> Result<Judged<SetupRows>, NoMemory> {
-    match bytes {
-        None => unread(alloc),
-        Some(bytes) => judge_read(alloc, read_setup(alloc, bytes.as_slice())),
-    }
-}
-
-fn judge_counters(alloc: Global, bytes: &Option<Text>) -> Result<Judged<CounterRows>, NoMemory> {
-    match bytes {
-        None => unread(alloc),
-        Some(bytes) => judge_read(alloc, read_counters(alloc, bytes.as_slice())),
-    }
-}
 
 /// What is told of a setup that is made of these: it is taken, or its first refusal. The only error is want of memory.
 pub fn judge_setup(
@@ -117,63 +37,133 @@ pub fn judge_setup(
 }
 
 /// How many nodes there are, loops and what is in them.
-fn node_count(nodes: &[Node]) -> u64 {
+fn node_count(nodes: &[Node]) -> u64
+    requires { node_count (nodes_view nodes.now) < 2 ^ 32 }
+    ensures { result ≡ node_count (nodes_view nodes.now) }
+{
     let mut count = 0u64;
     for node in nodes {
-        count = count.saturating_add(1);
+        count += 1;
         if let Node::Loop(_, inner) = node {
-            count = count.saturating_add(node_count(inner));
+            count += node_count(inner);
         }
     }
     count
 }
 
-/// Adds what is told of a file.
-fn push_told<'a>(told: &mut Vec<FileTold<'a>>, path: &'a str, of: Told) -> Result<(), NoMemory>
-    ensures { OnOk result (files.paths_told told.new.items ≡ files.paths_told told.old.items ++ path.now ∷ []) }
+/// How many nodes a guide has.
+fn size_of(guide: &Guide) -> u64
+    ensures { result ≡ node_count (nodes_view guide.now.nodes.items) }
 {
-    told.push(FileTold { path, told: of })?;
-    Ok(())
+    node_count(&guide.rows().nodes)
 }
 
-/// Tells of a guide, and adds it to the guides, as long as none is refused.
-fn tell_guide<'a>(
-    alloc: Global,
-    given: &Given<'a>,
-    told: &mut Vec<FileTold<'a>>,
-    guides: &mut Vec<Guide>,
-) -> Result<bool, NoMemory>
-    ensures { OnOk result (files.paths_told told.new.items ≡ files.paths_told told.old.items ++ files.path_of given.now ∷ []) }
+/// What is told of a guide file, and its guide, where it is taken.
+struct ToldGuide<'a> {
+    line: FileTold<'a>,
+    guide: Option<Guide>,
+}
+
+fn tell_guide<'a>(alloc: Global, given: &Given<'a>) -> Result<ToldGuide<'a>, NoMemory>
+    ensures line { IfOk result (λ t. tellings.IsFileTold tellings.IsGuideTold given.now t.line) }
+    ensures guide { IfOk result (λ t. IsGuideFound given.now.bytes t.guide) }
 {
+    let path = given.path;
     match judge_guide(alloc, &given.bytes)? {
         Judged::Taken(guide) => {
-            let count = node_count(&guide.rows().nodes);
-            push_told(told, given.path, Told::Taken(count, Listed::Slots))?;
-            guides.push(guide)?;
-            Ok(true)
+            let told = Told::Taken(size_of(&guide), Listed::Slots);
+            Ok(ToldGuide {
+                line: FileTold { path, told },
+                guide: Some(guide),
+            })
         }
         Judged::Refused(text) => {
-            push_told(told, given.path, Told::Refused(text))?;
-            Ok(false)
+            let told = Told::Refused(text);
+            Ok(ToldGuide {
+                line: FileTold { path, told },
+                guide: None,
+            })
         }
     }
 }
 
-/// Tells of the guides; gives them, where none is refused.
-fn tell_guides<'a>(
-    alloc: Global,
-    given: &[Given<'a>],
-    told: &mut Vec<FileTold<'a>>,
+/// What is told of guide files, and their guides, where none is refused.
+struct ToldGuides<'a> {
+    lines: Vec<FileTold<'a>>,
+    guides: Option<Vec<Guide>>,
+}
+
+/// The guides with one more, where none is refused.
+fn with_guide(
+    guides: Option<Vec<Guide>>,
+    guide: Option<Guide>,
 ) -> Result<Option<Vec<Guide>>, NoMemory>
-    ensures { OnOk result (files.paths_told told.new.items ≡ files.paths_told told.old.items ++ map files.path_of given.now) }
+    ensures { IfOk result (λ more. option_map (λ v. v.items) more ≡ with_guide (option_map (λ v. v.items) guides) guide) }
 {
-    let mut guides = Vec::new(alloc);
-    let mut all = true;
-    for file in given {
-        let taken = tell_guide(alloc, file, told, &mut guides)?;
-        all = all && taken;
+    match (guides, guide) {
+        (Some(mut guides), Some(guide)) => {
+            guides.push(guide)?;
+            Ok(Some(guides))
+        }
+        _ => Ok(None),
     }
-    Ok(if all { Some(guides) } else { None })
+}
+
+fn tell_guides<'a>(alloc: Global, given: &[Given<'a>]) -> Result<ToldGuides<'a>, NoMemory>
+    ensures lines { IfOk result (λ t. tellings.AreGuidesTold given.now t.lines.items) }
+    ensures guides { IfOk result (λ t. AreGuidesFound given.now (option_map (λ v. v.items) t.guides)) }
+{
+    let mut lines = Vec::new(alloc);
+    let mut guides = Some(Vec::new(alloc));
+    for file in given {
+        let ToldGuide { line, guide } = tell_guide(alloc, file)?;
+        lines.push(line)?;
+        guides = with_guide(guides, guide)?;
+    }
+    Ok(ToldGuides { lines, guides })
+}
+
+/// What is told of a counters file, and its rows, where it is taken.
+struct ToldCounters<'a> {
+    line: Option<FileTold<'a>>,
+    rows: Option<CounterRows>,
+}
+
+fn tell_counters_in<'a>(alloc: Global, given: &Given<'a>) -> Result<ToldCounters<'a>, NoMemory>
+    ensures line { IfOk result (λ t. tellings.IsSomeTold tellings.IsCountersTold (Some given.now) t.line) }
+    ensures rows { IfOk result (λ t. AreCountersFound (Some given.now) t.rows) }
+{
+    let path = given.path;
+    match judge_counters(alloc, &given.bytes)? {
+        Judged::Taken(rows) => {
+            let told = Told::Taken(rows.as_slice().len() as u64, Listed::Counters);
+            Ok(ToldCounters {
+                line: Some(FileTold { path, told }),
+                rows: Some(rows),
+            })
+        }
+        Judged::Refused(text) => {
+            let told = Told::Refused(text);
+            Ok(ToldCounters {
+                line: Some(FileTold { path, told }),
+                rows: None,
+            })
+        }
+    }
+}
+
+/// The same where there may be no such file: then there are no counters.
+fn tell_counters<'a>(alloc: Global, given: &Option<Given<'a>>) -> Result<ToldCounters<'a>, NoMemory>
+    ensures line { IfOk result (λ t. tellings.IsSomeTold tellings.IsCountersTold given.now t.line) }
+    ensures rows { IfOk result (λ t. AreCountersFound given.now t.rows) }
+{
+    match given {
+        Some(file) => tell_counters_in(alloc, file),
+        None => Ok(ToldCounters {
+            line: None,
+            rows: Some(Items::from_vec(Vec::new(alloc))),
+        }),
+    }
 }
 
 /// What is told of a setup file, by the guides and the counters, where none of these is refused.
@@ -182,7 +172,9 @@ fn told_of_setup(
     bytes: &Option<Text>,
     guides: Option<Vec<Guide>>,
     counters: Option<CounterRows>,
-) -> Result<Told, NoMemory> {
+) -> Result<Told, NoMemory>
+    ensures { IfOk result (IsToldBeside (option_map (λ v. v.items) guides) counters bytes.now) }
+{
     match judge_rows(alloc, bytes)? {
         Judged::Refused(text) => Ok(Told::Refused(text)),
         Judged::Taken(rows) => match (guides, counters) {
@@ -192,39 +184,45 @@ fn told_of_setup(
     }
 }
 
-/// What is told of the counters that are given, and their rows where they are taken; without a file there are none.
-fn counters_told(
+fn tell_setup<'a>(
     alloc: Global,
-    given: &Option<Given<'_>>,
-) -> Result<(Told, Option<CounterRows>), NoMemory> {
-    let Some(file) = given else {
-        return Ok((
-            Told::Taken(0, Listed::Counters),
-            Some(Items::from_vec(Vec::new(alloc))),
-        ));
-    };
-    match judge_counters(alloc, &file.bytes)? {
-        Judged::Refused(text) => Ok((Told::Refused(text), None)),
-        Judged::Taken(rows) => {
-            let count = rows.as_slice().len() as u64;
-            Ok((Told::Taken(count, Listed::Counters), Some(rows)))
+    given: &Option<Given<'a>>,
+    guides: Option<Vec<Guide>>,
+    counters: Option<CounterRows>,
+) -> Result<Option<FileTold<'a>>, NoMemory>
+    ensures { IfOk result (tellings.IsSomeTold (IsToldBeside (option_map (λ v. v.items) guides) counters) given.now) }
+{
+    match given {
+        None => Ok(None),
+        Some(file) => {
+            let told = told_of_setup(alloc, &file.bytes, guides, counters)?;
+            Ok(Some(FileTold {
+                path: file.path,
+                told,
+            }))
         }
     }
 }
 
+fn push_some<'a>(lines: &mut Vec<FileTold<'a>>, line: Option<FileTold<'a>>) -> Result<(), NoMemory>
+    ensures { OnOk result (lines.new.items ≡ lines.old.items ++ files.listed line.entry) }
+{
+    if let Some(line) = line {
+        lines.push(line)?;
+    }
+    Ok(())
+}
+
 /// What is told of each file that is given: the guides in their order, the setup, the counters. The only error is want of memory.
 pub fn tell_files<'a>(alloc: Global, given: &GivenFiles<'a>) -> Result<Vec<FileTold<'a>>, NoMemory>
-    ensures { IfOk result (λ told. files.paths_told told.items ≡ files.paths_of given.now) }
+    ensures told { IfOk result (λ told. tellings.AreTold given.now told.items) }
+    ensures paths { IfOk result (λ told. files.paths_told told.items ≡ files.paths_of given.now) }
 {
-    let mut told = Vec::new(alloc);
-    let guides = tell_guides(alloc, given.guides.as_slice(), &mut told)?;
-    let (of_counters, counters) = counters_told(alloc, &given.counters)?;
-    if let Some(file) = &given.setup {
-        let of_setup = told_of_setup(alloc, &file.bytes, guides, counters)?;
-        push_told(&mut told, file.path, of_setup)?;
-    }
-    if let Some(file) = &given.counters {
-        push_told(&mut told, file.path, of_counters)?;
-    }
+    let ToldGuides { lines, guides } = tell_guides(alloc, given.guides.as_slice())?;
+    let ToldCounters { line, rows } = tell_counters(alloc, &given.counters)?;
+    let of_setup = tell_setup(alloc, &given.setup, guides, rows)?;
+    let mut told = lines;
+    push_some(&mut told, of_setup)?;
+    push_some(&mut told, line)?;
     Ok(told)
 }

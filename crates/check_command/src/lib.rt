@@ -3,14 +3,16 @@
 //!
 //! Proved:
 //! - what is printed is a line for each file that was given, the guides in their order, then the setup, then the counters; and the status
-//!   is 0 exactly where each of them is taken, else 3 (`check_main`);
-//! - a setup that is judged is told by `Setup::build`: it is taken exactly where nothing of its rows, counters and guides is refused, and
-//!   else the words are those of its first refusal (`judge_setup`);
-//! - a failed run prints no line of a file, unless standard output itself failed; it ends with 2, 5 or 6;
-//! - the words are read as clap's definitions say.
+//!   is 0 exactly where each of them is told as taken, else 3 (`check_main`);
+//! - what is told of a file is what its bytes say: a guide or counters are taken, with their size, where their reader gives them, and else
+//!   refused in the words of their fault; a setup file likewise, and where the others are taken, by what `Setup::build` makes of just
+//!   these rows; it is left open only where another file is refused (`tell_files`, `judge_setup`);
+//! - a failed run prints no line of a file, unless standard output itself failed; it ends with 2, 5 or 6; one that doesn't fail leaves
+//!   standard error as it was;
+//! - the words are read as clap's definitions say, and are usage only where they are no command line.
 //!
-//! Only tested: that the bytes of the files are those at the paths, and that standard output holds what is printed, of which the system
-//! tells nothing.
+//! Only tested: that the bytes of the files are those at the paths, the id beside a node's number where a key is refused, and that standard
+//! output holds what is printed, of which the system tells nothing.
 //!
 //! Source: own.
 #![tactic(auto)]
@@ -19,6 +21,7 @@ mod command;
 mod failure;
 mod files;
 mod judge;
+mod judged;
 mod lines;
 mod node_id;
 mod run;

@@ -1,4 +1,4 @@
-ghost use Rattle.std.specs.Prelude.{◌≡◌, ◌++◌, IfOk, OnOk};
+ghost use Rattle.std.specs.Prelude.{◌≡◌, ◌++◌, ◌⊎◌, IfOk, OnOk};
 ghost use Rattle.std.specs.List.{list_all};
 ghost use Rattle.check_command.specs.Lines as lines;
 ghost use Rattle.check_command.specs.declared.told.Told.TheVariants as told;
@@ -72,7 +72,8 @@ fn are_taken(files: &[FileTold<'_>]) -> bool
 
 /// The status: 0 where each file is taken, else 3.
 pub fn status_of(files: &[FileTold<'_>]) -> u8
-    ensures { result ≡ lines.status_of files.now }
+    ensures status { result ≡ lines.status_of files.now }
+    ensures values { (result ≡ 0) ⊎ (result ≡ 3) }
 {
     if are_taken(files) { 0 } else { 3 }
 }

@@ -1,5 +1,6 @@
-ghost use Rattle.std.specs.Prelude.{◌≡◌, ◌≢◌, ◌≤◌, IfOk, OnOk, map};
+ghost use Rattle.std.specs.Prelude.{◌≡◌, ◌≢◌, ◌≤◌, ◌⊎◌, IfOk, OnOk, map};
 ghost use Rattle.std.specs.Io.KnownBytes.{Appends};
+ghost use Rattle.check_command.specs.CommandLine.{IsCommandLine};
 ghost use Rattle.check_command.specs.Files.{paths_in};
 ghost use Rattle.check_command.specs.Runs.{IsChecked, IsPrinted, IsReport};
 
@@ -30,6 +31,9 @@ where
     O: Write,
     E: Write,
     ensures status { result ≤ 6 }
+    ensures silent { 2 ≤ result → result ≢ 3 → result ≢ 5 → out.new ≡ out.old }
+    ensures quiet { result ≢ 2 → result ≢ 5 → result ≢ 6 → err.new ≡ err.old }
+    ensures usage { result ≡ 2 → IsCommandLine (map S.text words.now) → ⊥ }
     ensures printed { result ≢ 2 → result ≢ 5 → result ≢ 6
         → IsPrinted (map S.text words.now) result (O.contents out.old) (O.contents out.new) }
 {
@@ -46,7 +50,9 @@ where
     R: Files + AllocGlobal,
     O: Write,
     E: Write,
-    ensures status { result ≤ 6 }
+    ensures status { (result ≡ 0) ⊎ ((result ≡ 3) ⊎ ((result ≡ 5) ⊎ (result ≡ 6))) }
+    ensures silent { result ≡ 6 → out.new ≡ out.old }
+    ensures quiet { result ≢ 5 → result ≢ 6 → err.new ≡ err.old }
     ensures printed { result ≢ 2 → result ≢ 5 → result ≢ 6
         → IsChecked (paths_in options.now) result (O.contents out.old) (O.contents out.new) }
 {
@@ -57,7 +63,8 @@ where
 }
 
 fn report_of<R: Files + AllocGlobal>(rt: &R, options: &Options<'_>) -> Result<Report, NoMemory>
-    ensures { IfOk result (λ report. IsReport (paths_in options.now) report.text.items report.status) }
+    ensures report { IfOk result (λ report. IsReport (paths_in options.now) report.text.items report.status) }
+    ensures status { IfOk result (λ report. (report.status ≡ 0) ⊎ (report.status ≡ 3)) }
 {
     let files = read_files(rt, options)?;
     let told = tell_files(rt.alloc(), &files)?;
@@ -71,6 +78,7 @@ fn report_of<R: Files + AllocGlobal>(rt: &R, options: &Options<'_>) -> Result<Re
 fn finish<O: Write, E: Write>(text: &[u8], status: u8, out: &mut O, err: &mut E) -> u8
     ensures printed { result ≢ 5 → Appends (O.contents out.old) (O.contents out.new) text.now }
     ensures status { result ≢ 5 → result ≡ status }
+    ensures quiet { result ≢ 5 → err.new ≡ err.old }
 {
     if print(text, out).is_err() {
         return Failure::Stdout.report(err);

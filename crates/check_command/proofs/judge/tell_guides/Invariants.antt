@@ -1,7 +1,10 @@
-use Rattle.std.proofs.Common.{◌≡◌, ◌++◌, drop, map}
-use Rattle.check_command.specs.Files.{path_of, paths_told}
+use Rattle.std.proofs.Common.{option_map, take}
+use Rattle.check_command.specs.Judgements.{AreGuidesFound}
+use Rattle.check_command.specs.Tellings.{AreGuidesTold}
 use Rattle.check_command.proofs.judge.tell_guides.Given as goal
 
 abbrev pub invariant-loop-file : goal.invariant-loop-file
-invariant-loop-file l =
-    paths_told l.told.items ++ map path_of (drop l.file-index l.given) ≡ paths_told l.initial.told.items ++ map path_of l.given
+invariant-loop-file l = record {
+  lines : AreGuidesTold (take l.file-index l.given) l.lines.items;
+  guides : AreGuidesFound (take l.file-index l.given) (option_map (λ v. v.items) l.guides);
+}

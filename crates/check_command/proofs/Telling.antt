@@ -1,0 +1,130 @@
+-- What is told of files one after another is what is told of all.
+use Rattle.std.proofs.Common.{◌≡◌, ◌⊎◌, ◌<◌, ◌+◌, ◌++◌, ◌∷◌, ◌∙◌, [], inl, inr, ℕ, List, Option, None, Some, append_assoc}
+use Rattle.std.proofs.Common.{ap, get_or, length, map, option_map, refl, subst, sym, take}
+use Rattle.std.proofs.lemmas.List.{take_more}
+use Rattle.guide_tree.specs.declared.rows.GuideRows.{GuideRows}
+use Rattle.partner_setup.specs.CountersFile.{counters_of_table}
+use Rattle.partner_setup.specs.declared.rows.CounterRow.{CounterRow}
+use Rattle.partner_setup.specs.declared.rows.SetupRows.{SetupRows}
+use Rattle.check_command.specs.Files.{in_order, listed, path_of, paths_of, paths_told}
+use Rattle.check_command.specs.Judgements.{AreCountersFound, AreGuidesFound, IsGuideFound, IsToldBeside, told_beside, with_guide}
+use Rattle.check_command.specs.SetupFiles.{AreCountersOf, AreGuidesOf, IsGuideOf, IsGuideRefused, IsSomeRefused}
+use Rattle.check_command.specs.Tellings.{AreGuidesTold, AreTold, IsCountersTold, IsFileTold, IsGuideTold, IsJudged, IsSetupTold, IsSomeTold}
+use Rattle.check_command.specs.declared.files.Given.{Given}
+use Rattle.check_command.specs.declared.files.GivenFiles.{GivenFiles}
+use Rattle.check_command.specs.declared.told.FileTold.{FileTold}
+use Rattle.check_command.specs.declared.told.Told.{Told}
+
+one_line_more : (fs : List Given) (ls : List FileTold) (f : Given) (l : FileTold) → AreGuidesTold fs ls → IsFileTold IsGuideTold f l
+    → AreGuidesTold (fs ++ f ∷ []) (ls ++ l ∷ [])
+one_line_more [] [] f l all is = (is, tt)
+one_line_more [] (k ∷ ls) f l all is = absurd all
+one_line_more (e ∷ fs) [] f l all is = absurd all
+one_line_more (e ∷ fs) (k ∷ ls) f l all is = (all.0, one_line_more fs ls f l all.1 is)
+
+here : (fs : List Given) (i : ℕ) (f : Given) → i < length fs → f ≡ get_or fs i f → take i fs ++ f ∷ [] ≡ take (i + 1) fs
+here fs i f within at = sym (take_more fs i f within ∙ ap (λ (x : Given). take i fs ++ x ∷ []) (sym at))
+
+-- one file more
+pub more_lines : (fs : List Given) (i : ℕ) (ls new : List FileTold) (f : Given) (l : FileTold) → i < length fs → f ≡ get_or fs i f
+    → AreGuidesTold (take i fs) ls → IsFileTold IsGuideTold f l → new ≡ ls ++ l ∷ [] → AreGuidesTold (take (i + 1) fs) new
+more_lines fs i ls new f l within at all is pushed =
+    rw (pushed)
+    (subst (λ (xs : List Given). AreGuidesTold xs (ls ++ l ∷ [])) (here fs i f within at) (one_line_more (take i fs) ls f l all is))
+
+one_guide_more : (fs : List Given) (gs : List GuideRows) (f : Given) (g : GuideRows) → AreGuidesOf fs gs → IsGuideOf f.bytes g
+    → AreGuidesOf (fs ++ f ∷ []) (gs ++ g ∷ [])
+one_guide_more [] [] f g all is = (is, tt)
+one_guide_more [] (h ∷ gs) f g all is = absurd all
+one_guide_more (e ∷ fs) [] f g all is = absurd all
+one_guide_more (e ∷ fs) (h ∷ gs) f g all is = (all.0, one_guide_more fs gs f g all.1 is)
+
+still_refused : (fs : List Given) (f : Given) → IsSomeRefused fs → IsSomeRefused (fs ++ f ∷ [])
+still_refused [] f some = absurd some
+still_refused (e ∷ fs) f (inl is) = inl is
+still_refused (e ∷ fs) f (inr some) = inr (still_refused fs f some)
+
+last_refused : (fs : List Given) (f : Given) → ((text : List ℕ) × IsGuideRefused f.bytes text) → IsSomeRefused (fs ++ f ∷ [])
+last_refused [] f is = inl is
+last_refused (e ∷ fs) f is = inr (last_refused fs f is)
+
+one_found_more : (fs : List Given) (gs : Option (List GuideRows)) (f : Given) (g : Option GuideRows) → AreGuidesFound fs gs
+    → IsGuideFound f.bytes g → AreGuidesFound (fs ++ f ∷ []) (with_guide gs g)
+one_found_more fs None f g all is = still_refused fs f all
+one_found_more fs (Some gs) f None all is = last_refused fs f is
+one_found_more fs (Some gs) f (Some g) all is = one_guide_more fs gs f g all is
+
+pub more_found : (fs : List Given) (i : ℕ) (gs new : Option (List GuideRows)) (f : Given) (g : Option GuideRows) → i < length fs
+    → f ≡ get_or fs i f → AreGuidesFound (take i fs) gs → IsGuideFound f.bytes g → new ≡ with_guide gs g
+    → AreGuidesFound (take (i + 1) fs) new
+more_found fs i gs new f g within at all is joined =
+    rw (joined)
+    (subst (λ (xs : List Given). AreGuidesFound xs (with_guide gs g)) (here fs i f within at)
+    (one_found_more (take i fs) gs f g all is))
+
+judged : (fs : List Given) (counters : Option Given) (gs : Option (List GuideRows)) (cs : Option (List CounterRow)) (rows : SetupRows)
+    (t : Told) → AreGuidesFound fs gs → AreCountersFound counters cs → t ≡ told_beside rows gs cs → IsJudged fs counters rows t
+judged fs counters None cs rows t guides found is = inr (inl guides, is)
+judged fs counters (Some gs) None rows t guides found is = inr (inr found, is)
+judged fs counters (Some gs) (Some cs) rows t guides found is = inl (gs, cs, guides, found, is)
+
+setup_told : (fs : List Given) (counters : Option Given) (gs : Option (List GuideRows)) (cs : Option (List CounterRow))
+    (bytes : Option (List ℕ)) (t : Told) → AreGuidesFound fs gs → AreCountersFound counters cs → IsToldBeside gs cs bytes t
+    → IsSetupTold fs counters bytes t
+setup_told fs counters gs cs bytes t guides found (inl is) = inl is
+setup_told fs counters gs cs bytes t guides found (inr (rows, file, is)) =
+    inr (rows, file, judged fs counters gs cs rows t guides found is)
+
+pub setup_line : (fs : List Given) (counters : Option Given) (gs : Option (List GuideRows)) (cs : Option (List CounterRow))
+    (file : Option Given) (line : Option FileTold) → AreGuidesFound fs gs → AreCountersFound counters cs
+    → IsSomeTold (IsToldBeside gs cs) file line → IsSomeTold (IsSetupTold fs counters) file line
+setup_line fs counters gs cs None None guides found is = is
+setup_line fs counters gs cs None (Some l) guides found is = is
+setup_line fs counters gs cs (Some f) None guides found is = is
+setup_line fs counters gs cs (Some f) (Some l) guides found is =
+    (is.0, setup_told fs counters gs cs f.bytes l.told guides found is.1)
+
+-- the guides' lines, then that of the setup, then that of the counters
+pub all_told : (given : GivenFiles) (lines new : List FileTold) (setup counters : Option FileTold) (gs : Option (List GuideRows))
+    (cs : Option (List CounterRow)) → AreGuidesTold given.guides lines → AreGuidesFound given.guides gs
+    → AreCountersFound given.counters cs → IsSomeTold (IsToldBeside gs cs) given.setup setup
+    → IsSomeTold IsCountersTold given.counters counters → new ≡ (lines ++ listed setup) ++ listed counters → AreTold given new
+all_told given lines new setup counters gs cs told found rows judged counted pushed = record {
+  guides = lines;
+  setup = setup;
+  counters = counters;
+  order = pushed ∙ append_assoc lines (listed setup) (listed counters);
+  of_guides = told;
+  of_setup = setup_line given.guides given.counters gs cs given.setup setup found rows judged;
+  of_counters = counted;
+}
+
+guide_paths : (fs : List Given) (ls : List FileTold) → AreGuidesTold fs ls → paths_told ls ≡ map path_of fs
+guide_paths [] [] all = refl
+guide_paths [] (l ∷ ls) all = absurd all
+guide_paths (f ∷ fs) [] all = absurd all
+guide_paths (f ∷ fs) (l ∷ ls) all = let a = all.0.0 in let b = guide_paths fs ls all.1 in cc
+
+some_path : (P : Option (List ℕ) → Told → Type 0) (f : Option Given) (l : Option FileTold) → IsSomeTold P f l
+    → paths_told (listed l) ≡ listed (option_map path_of f)
+some_path P None None is = refl
+some_path P None (Some l) is = absurd is
+some_path P (Some f) None is = absurd is
+some_path P (Some f) (Some l) is = ap (λ (p : List ℕ). p ∷ []) is.0
+
+joined_paths : (xs ys : List FileTold) → paths_told (xs ++ ys) ≡ paths_told xs ++ paths_told ys
+joined_paths [] ys = refl
+joined_paths (x ∷ xs) ys = ap (λ (ps : List (List ℕ)). x.path.now ∷ ps) (joined_paths xs ys)
+
+-- each file has its line
+pub same_paths : (given : GivenFiles) (lines : List FileTold) → AreTold given lines → paths_told lines ≡ paths_of given
+same_paths given lines told =
+    ap paths_told told.order
+    ∙ joined_paths told.guides (listed told.setup ++ listed told.counters)
+    ∙ ap (λ (ps : List (List ℕ)). paths_told told.guides ++ ps) (joined_paths (listed told.setup) (listed told.counters))
+    ∙ ap (λ (ps : List (List ℕ)). ps ++ (paths_told (listed told.setup) ++ paths_told (listed told.counters)))
+    (guide_paths given.guides told.guides told.of_guides)
+    ∙ ap (λ (ps : List (List ℕ)). map path_of given.guides ++ (ps ++ paths_told (listed told.counters)))
+    (some_path (IsSetupTold given.guides given.counters) given.setup told.setup told.of_setup)
+    ∙ ap (λ (ps : List (List ℕ)). map path_of given.guides ++ (listed (option_map path_of given.setup) ++ ps))
+    (some_path IsCountersTold given.counters told.counters told.of_counters)

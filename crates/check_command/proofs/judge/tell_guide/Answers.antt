@@ -1,0 +1,16 @@
+use Rattle.std.proofs.Common.{refl, subst}
+use Rattle.guide_tree.specs.declared.rows.GuideRows.{GuideRows}
+use Rattle.check_command.specs.Judgements.{IsGuideJudged}
+use Rattle.check_command.specs.declared.judged.Judged.{Judged}
+use Rattle.check_command.proofs.judge.tell_guide.Goals as goal
+
+pub returns-in-Taken-clause-line : goal.returns-in-Taken-clause-line
+returns-in-Taken-clause-line c = (
+  refl,
+  (
+    c.in-Taken.guide,
+    subst (λ (j : Judged GuideRows). IsGuideJudged c.args.given.now.bytes j) c.in-Taken.is c.in_ok-guide.ensures,
+    c.size_of.ensures,
+    refl,
+  ),
+)

@@ -1,0 +1,55 @@
+-- The check (own): what a file is judged as, and what is told beside others (no public clause cites these).
+use Rattle.std.specs.Prelude.{◌≡◌, ◌⊎◌, ℕ, List, [], ◌∷◌, ◌++◌, Option, None, Some, Result}
+use Rattle.toml.specs.Data.{Members}
+use Rattle.guide_tree.specs.declared.rows.GuideRows.{GuideRows}
+use Rattle.partner_setup.specs.SetupFile.{setup_of_table}
+use Rattle.partner_setup.specs.declared.rows.CounterRow.{CounterRow}
+use Rattle.partner_setup.specs.declared.rows.SetupRows.{SetupRows}
+use Rattle.toml_keys.specs.Refusals.{Refusal}
+use Rattle.check_command.specs.Judged.{setup_told}
+use Rattle.check_command.specs.SetupFiles.{AreCountersOf, AreCountersRefused, AreGuidesOf, IsFileOf, IsFileRefused, IsGuideOf, IsGuideRefused}
+use Rattle.check_command.specs.SetupFiles.{IsSomeRefused}
+use Rattle.check_command.specs.declared.files.Given.{Given}
+use Rattle.check_command.specs.declared.judged.Judged.{Judged}
+use Rattle.check_command.specs.declared.judged.Judged.TheVariants as judged
+use Rattle.check_command.specs.declared.told.Told.{Told}
+use Rattle.check_command.specs.declared.told.Told.TheVariants as told
+
+abbrev pub IsGuideJudged : Option (List ℕ) → Judged GuideRows → Type 0
+IsGuideJudged bytes (judged.Taken guide) = IsGuideOf bytes guide
+IsGuideJudged bytes (judged.Refused text) = IsGuideRefused bytes text
+
+abbrev pub IsFileJudged : {A : Type 0} → (Members → Result A Refusal) → Option (List ℕ) → Judged A → Type 0
+IsFileJudged read bytes (judged.Taken rows) = IsFileOf read bytes rows
+IsFileJudged read bytes (judged.Refused text) = IsFileRefused read bytes text
+
+-- the guide of a file, where it is taken
+abbrev pub IsGuideFound : Option (List ℕ) → Option GuideRows → Type 0
+IsGuideFound bytes (Some guide) = IsGuideOf bytes guide
+IsGuideFound bytes None = (text : List ℕ) × IsGuideRefused bytes text
+
+-- the guides, where none is refused
+abbrev pub AreGuidesFound : List Given → Option (List GuideRows) → Type 0
+AreGuidesFound fs (Some guides) = AreGuidesOf fs guides
+AreGuidesFound fs None = IsSomeRefused fs
+
+-- the same with one more
+abbrev pub with_guide : Option (List GuideRows) → Option GuideRows → Option (List GuideRows)
+with_guide None guide = None
+with_guide (Some guides) None = None
+with_guide (Some guides) (Some guide) = Some (guides ++ guide ∷ [])
+
+abbrev pub AreCountersFound : Option Given → Option (List CounterRow) → Type 0
+AreCountersFound given (Some rows) = AreCountersOf given rows
+AreCountersFound given None = AreCountersRefused given
+
+-- what is told of a setup beside what was found of the others
+abbrev pub told_beside : SetupRows → Option (List GuideRows) → Option (List CounterRow) → Told
+told_beside rows None counters = told.Open
+told_beside rows (Some guides) None = told.Open
+told_beside rows (Some guides) (Some counters) = setup_told rows counters guides
+
+abbrev pub IsToldBeside : Option (List GuideRows) → Option (List CounterRow) → Option (List ℕ) → Told → Type 0
+IsToldBeside guides counters bytes t =
+    ((text : List ℕ) × IsFileRefused setup_of_table bytes text × (t ≡ told.Refused text))
+    ⊎ ((rows : SetupRows) × IsFileOf setup_of_table bytes rows × (t ≡ told_beside rows guides counters))
