@@ -18,7 +18,8 @@ use Rattle.toml_keys.specs.Answers.{Gives}
 use Rattle.toml_keys.specs.Refusals.{Refusal}
 use Rattle.toml_keys.specs.declared.file_fault.FileFault.{FileFault}
 use Rattle.toml_keys.specs.declared.file_fault.FileFault.TheVariants as file
-use Rattle.check_command.specs.SetupFiles.{HasTable, IsFaultOf, IsFileOf, IsFileRefused, IsGuideFaultOf, IsGuideOf, IsGuideRefused, IsOwnSaid}
+use Rattle.check_command.specs.SetupFiles.{HasTable, IsFaultOf, IsFileOf, IsFileRefused, IsGuideFaultOf, IsGuideOf, IsGuideRefused}
+use Rattle.check_command.specs.SetupFiles.{IsOwnSaid}
 use Rattle.check_command.specs.SetupFiles.{IsSaidOf, table_of}
 
 -- bytes that write a table
