@@ -2,6 +2,8 @@ mod Listing
 mod Parting
 mod Starting
 mod IdNumbers
+mod FirstPicks
+mod SlotPicks
 mod IdBefore
 mod Numbering
 mod Tabled

@@ -5,3 +5,4 @@ pub mod Slots
 pub mod Needed
 pub mod Silent
 pub mod IdNumber
+pub mod FirstPick

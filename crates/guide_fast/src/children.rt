@@ -3,15 +3,17 @@ ghost use Rattle.x12_segs.specs.Words.{elements_of};
 ghost use Rattle.guide_tree.specs.Words.{nodes_view, fit_starts};
 ghost use Rattle.guide_fast.specs.Children.{fit_child, fit_listed};
 ghost use Rattle.guide_fast.specs.IdNumber.{HasNumber, begin_numbers};
+ghost use Rattle.guide_fast.specs.FirstPick.{HasValue, begin_picks};
 ghost use Rattle.loop_match.specs.Steps.{turned};
 
 use crate::counts::{count_between, needed_counts};
+use crate::first_pick::{Asked, FirstPick, asked_id, begin_picks};
 use crate::id_number::{begin_numbers, number_of};
 use crate::index::{TextIndex, places_from};
-use crate::start::start_here;
+use crate::start::{start_asked, start_picked};
 use guide_tree::Node;
 use hub_kinds::NoMemory;
-use loop_match::{Turn, first_id, start_of};
+use loop_match::{Turn, first_id};
 use std::alloc::Global;
 use std::marker::Model;
 use x12_segs::SegView;
@@ -25,6 +27,8 @@ pub struct Children<'g> {
     nodes: &'g [Node],
     /// The numbers of the ids that the nodes begin with.
     numbers: Vec<u32>,
+    /// The first picks of the slots that they begin with.
+    picks: Vec<FirstPick>,
     index: TextIndex<'g>,
     /// How many of the first nodes are needed: of none of them, of one, and so on up to all.
     needed: Vec<usize>,
@@ -37,6 +41,7 @@ impl<'g> Model for Children<'g> {
     ghost use Rattle.guide_fast.specs.Children.{begin_ids};
     ghost use Rattle.guide_fast.specs.Needed.{counts_from};
     ghost use Rattle.guide_fast.specs.IdNumber.{begin_numbers};
+    ghost use Rattle.guide_fast.specs.FirstPick.{begin_picks};
     ghost use Rattle.guide_tree.specs.contracts.node.Node as node;
     ghost use Rattle.std.specs.Coded.{codes};
 
@@ -47,7 +52,7 @@ impl<'g> Model for Children<'g> {
     ghost view = { λ c. c.nodes.now };
 
     ghost invariant = { λ c. Knows c.index.places (begin_ids c.nodes.now) × (c.needed.items ≡ counts_from 0 c.nodes.now)
-        × (c.numbers.items ≡ begin_numbers c.nodes.now) };
+        × (c.numbers.items ≡ begin_numbers c.nodes.now) × (c.picks.items ≡ begin_picks c.nodes.now) };
 }
 
 impl<'g> Children<'g> {
@@ -69,9 +74,11 @@ impl<'g> Children<'g> {
         }
         let needed = needed_counts(alloc, nodes)?;
         let numbers = begin_numbers(alloc, nodes)?;
+        let picks = begin_picks(alloc, nodes)?;
         Ok(Children {
             nodes,
             numbers,
+            picks,
             index,
             needed,
         })
@@ -124,10 +131,11 @@ impl<'g> Children<'g> {
     {
         let nodes = self.nodes;
         if nodes.len() - from <= FEW {
-            return start_among(nodes, self.numbers.as_slice(), from, number, seg);
+            let (numbers, picks) = (self.numbers.as_slice(), self.picks.as_slice());
+            return start_among(nodes, numbers, picks, from, number, seg);
         }
         let children = places_from(self.index.places(seg.id()), from);
-        first_fitting(self.nodes, children, seg)
+        first_fitting(nodes, self.picks.as_slice(), children, number, seg)
     }
 
     /// The first child behind one on whose start the segment fits, as a turn.
@@ -168,19 +176,24 @@ impl<'g> Children<'g> {
 fn start_among<'g>(
     nodes: &'g [Node],
     numbers: &[u32],
+    picks: &[FirstPick],
     from: usize,
     number: u32,
     seg: &SegView,
 ) -> Option<Turn<'g>>
     requires numbers { numbers.now ≡ begin_numbers nodes.now }
+    requires picks { picks.now ≡ begin_picks nodes.now }
     requires number { HasNumber (elements_of seg.now) number }
     requires from { from ≤ length nodes.now }
     ensures turn { option_map (turned []) result ≡ fit_starts (elements_of seg.now) from (nodes_view (drop from nodes.entry.now)) }
     ensures depth { IfSome result (λ t. t.depth ≡ 0) }
     ensures uses { IfSome result (λ t. t.use_no ≡ 0) }
 {
+    let mut asked = asked_id(number, seg);
     for k in from..nodes.len() {
-        if let Some(start) = start_here(&nodes[k], numbers[k], number, seg) {
+        if let Some(start) = start_picked(
+            &nodes[k], numbers[k], picks[k], number, &mut asked, seg,
+        ) {
             return Some(Turn {
                 depth: 0,
                 child: k,
@@ -194,13 +207,22 @@ fn start_among<'g>(
 }
 
 /// The turn to a child, if the segment fits its start.
-fn turn_to<'g>(nodes: &'g [Node], child: usize, seg: &SegView) -> Option<Turn<'g>>
+fn turn_to<'g>(
+    nodes: &'g [Node],
+    picks: &[FirstPick],
+    child: usize,
+    asked: &mut Asked,
+    seg: &SegView,
+) -> Option<Turn<'g>>
+    requires picks { picks.now ≡ begin_picks nodes.now }
+    requires asked { HasValue (elements_of seg.now) asked.old }
+    ensures asked { HasValue (elements_of seg.now) asked.new }
     ensures turn { option_map (turned []) result ≡ fit_child (elements_of seg.now) nodes.entry.now child }
     ensures depth { IfSome result (λ t. t.depth ≡ 0) }
     ensures uses { IfSome result (λ t. t.use_no ≡ 0) }
 {
     let node = nodes.get(child)?;
-    match start_of(node, seg) {
+    match start_asked(node, picks[child], asked, seg) {
         None => None,
         Some(start) => Some(Turn {
             depth: 0,
@@ -213,13 +235,22 @@ fn turn_to<'g>(nodes: &'g [Node], child: usize, seg: &SegView) -> Option<Turn<'g
 }
 
 /// The first of some children whose start the segment fits.
-fn first_fitting<'g>(nodes: &'g [Node], children: &[usize], seg: &SegView) -> Option<Turn<'g>>
+fn first_fitting<'g>(
+    nodes: &'g [Node],
+    picks: &[FirstPick],
+    children: &[usize],
+    number: u32,
+    seg: &SegView,
+) -> Option<Turn<'g>>
+    requires picks { picks.now ≡ begin_picks nodes.now }
+    requires number { HasNumber (elements_of seg.now) number }
     ensures turn { option_map (turned []) result ≡ fit_listed (elements_of seg.now) nodes.entry.now children.now }
     ensures depth { IfSome result (λ t. t.depth ≡ 0) }
     ensures uses { IfSome result (λ t. t.use_no ≡ 0) }
 {
+    let mut asked = asked_id(number, seg);
     for i in 0..children.len() {
-        if let Some(turn) = turn_to(nodes, children[i], seg) {
+        if let Some(turn) = turn_to(nodes, picks, children[i], &mut asked, seg) {
             return Some(turn);
         }
     }

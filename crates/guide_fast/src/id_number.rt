@@ -18,7 +18,7 @@ fn packed(length: u8, a: u8, b: u8, c: u8) -> u32
 }
 
 /// The number of an id of one to three bytes, by which it is told from every other; of any other id 0.
-fn id_number(id: &[u8]) -> u32
+pub(crate) fn id_number(id: &[u8]) -> u32
     ensures { result ≡ id_number id.now }
 {
     match id {

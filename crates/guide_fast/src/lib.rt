@@ -14,6 +14,8 @@
 //! the number of each node that comes behind where these are at most thirty-two, and else a search in an ordered map of the ids that its
 //! nodes begin with, a search in the list of the nodes with that id, and a look at each of these that comes behind and doesn't fit by its
 //! picks. A node is asked whether the segment fits it only where the numbers agree; an id of one to three bytes is the segment's then.
+//! Where its slot's first pick lists one code of one to three bytes, the number of the segment's element is compared with that of the code
+//! first; the element is looked up once for all of these nodes.
 //! Whether a step is silent takes some differences of counts for each loop. Memory and the building follow the nodes and the
 //! dictionary, but for the logarithm of an ordered map. These costs aren't proved.
 //!
@@ -24,6 +26,7 @@ mod by_table;
 mod children;
 mod counts;
 mod fast;
+mod first_pick;
 mod id_number;
 mod index;
 mod next;

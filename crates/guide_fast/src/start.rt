@@ -3,10 +3,12 @@ ghost use Rattle.x12_segs.specs.Words.{elements_of};
 ghost use Rattle.guide_tree.specs.Fits.{fit_slot};
 ghost use Rattle.guide_tree.specs.Words.{fits, fit_start, fit_again, view};
 ghost use Rattle.guide_fast.specs.IdNumber.{HasNumber, id_number, begin_number};
+ghost use Rattle.guide_fast.specs.FirstPick.{HasValue, begin_pick};
 ghost use Rattle.loop_match.specs.Steps.{below_start, started, step_view, turned};
 
+use crate::first_pick::{Asked, FirstPick, may_pick};
 use guide_tree::{Node, Slot};
-use loop_match::{Start, Step, Turn, fits};
+use loop_match::{Start, Step, Turn, fits, start_of};
 use x12_segs::SegView;
 
 /// Whether a segment fits a slot that has an id of the same number. An id of one to three bytes is the segment's own then, and needs no
@@ -64,6 +66,50 @@ pub fn start_here<'g>(node: &'g Node, own: u32, number: u32, seg: &SegView) -> O
         return None;
     }
     start_with(node, number, seg)
+}
+
+/// The same, where by the first pick of a node's first slot a segment that it surely doesn't pick is passed over.
+#[inline]
+pub fn start_picked<'g>(
+    node: &'g Node,
+    own: u32,
+    pick: FirstPick,
+    number: u32,
+    asked: &mut Asked,
+    seg: &SegView,
+) -> Option<Start<'g>>
+    requires segment { HasNumber (elements_of seg.now) number }
+    requires node { own ≡ begin_number node.now }
+    requires pick { pick ≡ begin_pick node.now }
+    requires asked { HasValue (elements_of seg.now) asked.old }
+    ensures asked { HasValue (elements_of seg.now) asked.new }
+    ensures start { option_map started result ≡ fit_start (elements_of seg.now) (view node.entry.now) }
+{
+    if number != own {
+        return None;
+    }
+    if !may_pick(pick, asked, seg) {
+        return None;
+    }
+    start_with(node, number, seg)
+}
+
+/// The same, where nothing is known of the numbers of ids.
+pub fn start_asked<'g>(
+    node: &'g Node,
+    pick: FirstPick,
+    asked: &mut Asked,
+    seg: &SegView,
+) -> Option<Start<'g>>
+    requires pick { pick ≡ begin_pick node.now }
+    requires asked { HasValue (elements_of seg.now) asked.old }
+    ensures asked { HasValue (elements_of seg.now) asked.new }
+    ensures start { option_map started result ≡ fit_start (elements_of seg.now) (view node.entry.now) }
+{
+    if !may_pick(pick, asked, seg) {
+        return None;
+    }
+    start_of(node, seg)
 }
 
 /// The turn to a node's next use, if the segment fits its start; none of a loop's first node.

@@ -3,7 +3,11 @@ ghost use Rattle.x12_segs.specs.Words.{elements_of};
 ghost use Rattle.guide_tree.specs.Words.{nodes_view};
 ghost use Rattle.guide_fast.specs.Listed.{Knows};
 ghost use Rattle.guide_fast.specs.Slots.{any_listed, fits_at, slots_of, slot_ids, lent_slots};
+ghost use Rattle.guide_fast.specs.FirstPick.{HasValue, slot_pick, slot_picks};
+ghost use Rattle.guide_tree.specs.Words.{fits};
 
+use crate::first_pick::{Asked, FirstPick, asked_id, may_pick, slot_pick};
+use crate::id_number::number_of;
 use crate::index::TextIndex;
 use guide_tree::{Guide, Node, Slot};
 use hub_kinds::{NoMemory, SegmentCode, Text};
@@ -17,6 +21,8 @@ use x12_segs::SegView;
 pub struct Strays<'g> {
     guide: &'g Guide,
     slots: Vec<&'g Slot>,
+    /// Their first picks.
+    picks: Vec<FirstPick>,
     ids: TextIndex<'g>,
     dictionary: TextIndex<'g>,
 }
@@ -29,6 +35,7 @@ impl<'g> Model for Strays<'g> {
     ghost use Rattle.std.specs.Coded.{codes};
     ghost use Rattle.guide_fast.specs.Listed.{Knows};
     ghost use Rattle.guide_fast.specs.Slots.{slots_of, slot_ids, lent_slots};
+    ghost use Rattle.guide_fast.specs.FirstPick.{slot_picks};
 
     ghost Value = { GuideRows };
 
@@ -37,7 +44,8 @@ impl<'g> Model for Strays<'g> {
     ghost view = { λ s. s.guide.now };
 
     ghost invariant = { λ s. (lent_slots s.slots.items ≡ slots_of (nodes_view s.guide.now.nodes.items))
-        × Knows s.ids.places (slot_ids (lent_slots s.slots.items)) × Knows s.dictionary.places s.guide.now.head.dictionary };
+        × Knows s.ids.places (slot_ids (lent_slots s.slots.items)) × Knows s.dictionary.places s.guide.now.head.dictionary
+        × (s.picks.items ≡ slot_picks (lent_slots s.slots.items)) };
 }
 
 impl<'g> Strays<'g> {
@@ -53,11 +61,13 @@ impl<'g> Strays<'g> {
     {
         let mut slots = Vec::new(alloc);
         add_slots(&mut slots, guide.rows().nodes.as_slice())?;
+        let picks = picks_of(alloc, slots.as_slice())?;
         let ids = ids_of(alloc, slots.as_slice())?;
         let dictionary = texts_of(alloc, guide.rows().head.dictionary.as_slice())?;
         Ok(Strays {
             guide,
             slots,
+            picks,
             ids,
             dictionary,
         })
@@ -74,7 +84,8 @@ impl<'g> Strays<'g> {
     fn fits_somewhere(&self, seg: &SegView) -> bool
         ensures { result ≡ any_slot (λ slot. fits slot (elements_of seg.now)) (nodes_view self.now.nodes.items) }
     {
-        any_fits(self.slots.as_slice(), self.ids.places(seg.id()), seg)
+        let (slots, picks) = (self.slots.as_slice(), self.picks.as_slice());
+        any_fits(slots, picks, self.ids.places(seg.id()), seg)
     }
 
     fn is_in_dictionary(&self, id: &[u8]) -> bool
@@ -125,6 +136,16 @@ fn ids_of<'g>(alloc: Global, slots: &[&'g Slot]) -> Result<TextIndex<'g>, NoMemo
     Ok(index)
 }
 
+fn picks_of(alloc: Global, slots: &[&Slot]) -> Result<Vec<FirstPick>, NoMemory>
+    ensures { IfOk result (λ picks. picks.items ≡ slot_picks (lent_slots slots.now)) }
+{
+    let mut picks = Vec::new(alloc);
+    for k in 0..slots.len() {
+        picks.push(slot_pick(slots[k]))?;
+    }
+    Ok(picks)
+}
+
 fn texts_of<'g>(alloc: Global, texts: &'g [Text]) -> Result<TextIndex<'g>, NoMemory>
     ensures { IfOk result (λ index. Knows index.places texts.now) }
 {
@@ -136,22 +157,46 @@ fn texts_of<'g>(alloc: Global, texts: &'g [Text]) -> Result<TextIndex<'g>, NoMem
 }
 
 /// Whether the segment fits some of the slots at these places.
-fn any_fits(slots: &[&Slot], places: &[usize], seg: &SegView) -> bool
+fn any_fits(slots: &[&Slot], picks: &[FirstPick], places: &[usize], seg: &SegView) -> bool
+    requires { picks.now ≡ slot_picks (lent_slots slots.now) }
     ensures { result ≡ any_listed (elements_of seg.now) (lent_slots slots.now) places.now }
 {
+    let mut asked = asked_id(number_of(seg), seg);
     for i in 0..places.len() {
-        if fits_at(slots, places[i], seg) {
+        if fits_at(slots, picks, places[i], &mut asked, seg) {
             return true;
         }
     }
     false
 }
 
-fn fits_at(slots: &[&Slot], place: usize, seg: &SegView) -> bool
-    ensures { result ≡ fits_at (elements_of seg.now) (lent_slots slots.now) place }
+fn fits_at(
+    slots: &[&Slot],
+    picks: &[FirstPick],
+    place: usize,
+    asked: &mut Asked,
+    seg: &SegView,
+) -> bool
+    requires picks { picks.now ≡ slot_picks (lent_slots slots.now) }
+    requires asked { HasValue (elements_of seg.now) asked.old }
+    ensures asked { HasValue (elements_of seg.now) asked.new }
+    ensures fits { result ≡ fits_at (elements_of seg.now) (lent_slots slots.now) place }
 {
     match slots.get(place) {
         None => false,
-        Some(slot) => fits(slot, seg),
+        Some(slot) => fits_picked(slot, picks[place], asked, seg),
     }
+}
+
+/// Whether the segment fits a slot with a first pick.
+fn fits_picked(slot: &Slot, pick: FirstPick, asked: &mut Asked, seg: &SegView) -> bool
+    requires pick { pick ≡ slot_pick slot.now }
+    requires asked { HasValue (elements_of seg.now) asked.old }
+    ensures asked { HasValue (elements_of seg.now) asked.new }
+    ensures fits { result ≡ fits slot.now (elements_of seg.now) }
+{
+    if !may_pick(pick, asked, seg) {
+        return false;
+    }
+    fits(slot, seg)
 }

@@ -1,12 +1,14 @@
 //! Trials of `guide_fast` and `marked_segments`: where segments begin by the compiled house guide of orders, what is told of those
-//! without a place, how many nodes are needed, the places of an order's segments, and the segments of texts of all lengths with the
-//! places of their element separators.
+//! without a place, how many nodes are needed, slots of one id that picks tell apart, the places of an order's segments, and the segments
+//! of texts of all lengths with the places of their element separators.
 //!
 //! Nothing is proved here but that the trials are safe and end.
 #![tactic(auto)]
 
 #[cfg(test)]
 mod guides;
+#[cfg(test)]
+mod picks;
 #[cfg(test)]
 mod places;
 #[cfg(test)]

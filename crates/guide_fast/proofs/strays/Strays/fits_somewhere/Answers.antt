@@ -12,7 +12,7 @@ pub returns : goal.returns
 returns c =
     let s = elements_of c.args.seg.now in
     let slots = lent_slots c.self.inside.slots.items in
-    c.any_fits.ensures ∙ ap (λ (l : List (Bor Slot)). any_listed s (lent_slots l) c.places.result.now) c.as_slice.ensures.value
+    c.any_fits.ensures ∙ ap (λ (l : List (Bor Slot)). any_listed s (lent_slots l) c.places.result.now) c.as_slice-slots.ensures.value
     ∙ any_found s (nodes_view c.self.inside.guide.now.nodes.items) slots c.id.result.now c.places.result.now c.self.invariant.0
     c.id.ensures.value (c.places.ensures (slot_ids slots) c.self.invariant.1)
     ∙ ap (λ (rows : GuideRows). any_slot (λ x. fits x s) (nodes_view rows.nodes.items)) c.self.view_is
