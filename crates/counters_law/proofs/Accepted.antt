@@ -1,29 +1,30 @@
 -- A setup of which nothing is refused takes a row of counters for each of its partners.
-use Rattle.std.proofs.Common.{◌≡◌, ◌≤◌, ◌∙◌, ℕ, Bool, true, false, ◌&&◌, ◌||◌, not, List, [], ◌∷◌, length, map, Option, None, Some, option_map}
-use Rattle.std.proofs.Common.{arith, ap, cond, eq-eqb, refl, suc, sym, ◌+◌}
+use Rattle.std.proofs.Common.{◌≡◌, ℕ, Bool, true, false, ◌||◌, not, List, [], ◌∷◌, map, Option, None, Some}
+use Rattle.std.proofs.Common.{option_map}
+use Rattle.std.proofs.Common.{arith, ap, cond, eq-eqb, refl, ◌+◌}
 use Rattle.std.specs.Prelude.{All}
 use Rattle.std.proofs.lemmas.Bool.{and_parts}
 use Rattle.std.proofs.lemmas.List.Elements.{All-head, All-tail}
 use Rattle.std.proofs.lemmas.Bool.Decides.{nat_tests}
-use Rattle.std.specs.Char.{is_ascii_alphanumeric}
-use Rattle.std.specs.List.{list_all, list_any, position_from}
+use Rattle.std.specs.List.{list_any, position_from}
 use Rattle.std.specs.Option.{option_or}
 use Rattle.std.specs.Str.{bytes_eq}
 use Rattle.guide_tree.specs.declared.rows.GuideRows.{GuideRows}
 use Rattle.hub_kinds.specs.Words.{contains_text, has_same_key}
 use Rattle.hub_kinds.specs.declared.counters.Counters.{Counters}
-use Rattle.partner_setup.specs.Setup.{partner_of, setup_of}
-use Rattle.partner_setup.specs.SetupFaults.{bad_cap, bad_counter, bad_delimiters, bad_guides, bad_id, bad_route, by_name, counts_for, fault_of_names}
-use Rattle.partner_setup.specs.SetupFaults.{are_counters, are_ids, first_fault, first_row, first_twin, has_ids, lesser, partner_name, same_partner, twin_from}
+use Rattle.partner_setup.specs.Setup.{partner_of}
+use Rattle.partner_setup.specs.SetupFaults.{bad_counter, bad_delimiters, bad_guides, bad_id, by_name, counts_for}
+use Rattle.partner_setup.specs.SetupFaults.{fault_of_names}
+use Rattle.partner_setup.specs.SetupFaults.{are_counters, are_ids, first_fault, first_row, first_twin, has_ids, lesser, partner_name}
+use Rattle.partner_setup.specs.SetupFaults.{same_partner, twin_from}
 use Rattle.partner_setup.specs.Sound.{AreCounters}
-use Rattle.partner_setup.specs.declared.partner.Partner.{Partner}
 use Rattle.partner_setup.specs.declared.rows.CounterRow.{CounterRow}
 use Rattle.partner_setup.specs.declared.rows.PartnerRow.{PartnerRow}
 use Rattle.partner_setup.specs.declared.rows.SetupRows.{SetupRows}
 use Rattle.partner_setup.specs.declared.setup_fault.IdOwner.TheVariants as owner
 use Rattle.partner_setup.specs.declared.setup_fault.SetupFault.TheVariants as fault
 use Rattle.counters_law.specs.GoingOn.{rows_of}
-use Rattle.counters_law.proofs.Telling.{ArePlain, IsPlain}
+use Rattle.counters_law.proofs.Telling.{ArePlain}
 
 -- the rows by the names of the rows of partners
 abbrev pub named : List PartnerRow → List Counters → List CounterRow
@@ -104,7 +105,8 @@ same_bytes [] = refl
 same_bytes (c ∷ s) = rw (eq-eqb c c refl) (same_bytes s)
 
 among : (all ps : List PartnerRow)
-    → ((name : List ℕ) → contains_text (map partner_name ps) name ≡ true → contains_text (map partner_name all) name ≡ true) → AreAmong all ps
+    → ((name : List ℕ) → contains_text (map partner_name ps) name ≡ true → contains_text (map partner_name all) name ≡ true)
+    → AreAmong all ps
 among all [] within = tt
 among all (p ∷ ps) within = (
   within p.name (rw (same_bytes p.name) refl),
@@ -145,7 +147,8 @@ five_none a b c d e none =
 
 abbrev NoneOf : SetupRows → List CounterRow → List GuideRows → Type 0
 NoneOf rows counters guides =
-    (option_map fault.SamePartner (same_partner rows.partners) ≡ None) × (option_map fault.BadDelimiters (bad_delimiters rows.partners) ≡ None)
+    (option_map fault.SamePartner (same_partner rows.partners) ≡ None)
+    × (option_map fault.BadDelimiters (bad_delimiters rows.partners) ≡ None)
     × (option_map fault.BadId (bad_id rows) ≡ None) × (option_map fault.BadGuides (bad_guides rows.partners guides) ≡ None)
     × (fault_of_names rows counters ≡ None)
 
@@ -153,7 +156,8 @@ none_of : (rows : SetupRows) (counters : List CounterRow) (guides : List GuideRo
     → NoneOf rows counters guides
 none_of rows counters guides none =
     five_none (option_map fault.SamePartner (same_partner rows.partners)) (option_map fault.BadDelimiters (bad_delimiters rows.partners))
-    (option_map fault.BadId (bad_id rows)) (option_map fault.BadGuides (bad_guides rows.partners guides)) (fault_of_names rows counters) none
+    (option_map fault.BadId (bad_id rows)) (option_map fault.BadGuides (bad_guides rows.partners guides)) (fault_of_names rows counters)
+    none
 
 pub no_fault : (rows : SetupRows) (counters : List CounterRow) (guides : List GuideRows) (next : List Counters)
     → first_fault rows counters guides ≡ None → All AreCounters next → first_fault rows (named rows.partners next) guides ≡ None

@@ -1,5 +1,5 @@
 -- The expressions of a counters file define its table.
-use Rattle.std.proofs.Common.{◌≡◌, ◌∙◌, ℕ, List, [], ◌∷◌, Option, None, Some, option_map, codes, refl, sym, ap}
+use Rattle.std.proofs.Common.{◌≡◌, ◌∙◌, List, [], ◌∷◌, Option, Some, option_map, codes, refl, sym, ap}
 use Rattle.std.specs.Prelude.{pos}
 use Rattle.toml.specs.Data.{Items, Members, array, integer, item, member, no_items, no_members, push_item, table}
 use Rattle.toml.specs.Tables.{Document, Nodes, along_dots, along_header, at_key, close, define, no_nodes, node, open_array, value}
@@ -16,7 +16,8 @@ abbrev open_at : Items → Nodes → Document
 open_at done last = (node (codes "counter") (open_array done last) version_node, codes "counter" ∷ [])
 
 one_more : (done : Items) (last : Nodes) (r : CounterRow) (rs : List CounterRow)
-    → run (open_at done last) (expressions_of (r ∷ rs)) ≡ run (open_at (push_item done (table (close last))) (nodes_of r)) (expressions_of rs)
+    → run (open_at done last) (expressions_of (r ∷ rs))
+    ≡ run (open_at (push_item done (table (close last))) (nodes_of r)) (expressions_of rs)
 unfolding define along_header along_dots at_key
 one_more done last r rs = refl
 

@@ -1,10 +1,11 @@
 -- A name of letters and digits is written as a basic string without an escape.
-use Rattle.std.proofs.Common.{◌≡◌, ◌≤◌, ◌⊎◌, ◌∙◌, ℕ, Bool, true, false, ◌&&◌, ◌||◌, ◌==◌, not, cond, List, [], ◌∷◌, ◌++◌, refl, sym, ap, arith}
+use Rattle.std.proofs.Common.{◌≡◌, ℕ, true, false, ◌==◌, List, [], ◌∷◌, ◌++◌, refl, ap}
+use Rattle.std.proofs.Common.{arith}
 use Rattle.std.proofs.lemmas.Bool.{and_parts}
 use Rattle.std.proofs.lemmas.Bool.Decides.{nat_tests}
 use Rattle.std.specs.List.{list_all, list_any}
 use Rattle.std.specs.Char.{is_ascii_alphanumeric}
-use Rattle.toml_writer.specs.Text.{basic, encoded, encoding_of, escaped, has, is_control, needs_escape, quotes_after, string_text}
+use Rattle.toml_writer.specs.Text.{basic, encoding_of, escaped, has, is_control, needs_escape, quotes_after, string_text}
 
 -- the byte is none of those that a string treats apart
 pub record IsEasy (c : ℕ) : Type 0 where

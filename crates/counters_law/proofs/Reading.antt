@@ -1,14 +1,14 @@
 -- The table of a counters file is read as its rows, and its text as that table.
-use Rattle.std.proofs.Common.{◌≡◌, ◌≤◌, ◌<◌, ◌+◌, ◌∙◌, ℕ, suc, Bool, true, false, ◌==◌, List, [], ◌∷◌, ◌++◌, length, Option, None, Some, Result, Ok}
-use Rattle.std.proofs.Common.{arith, ap, codes, option_map, refl, sym}
-use Rattle.std.specs.Prelude.{nat_le, pos}
+use Rattle.std.proofs.Common.{◌≡◌, ◌≤◌, ◌∙◌, ℕ, suc, true, false, List, [], ◌∷◌, ◌++◌, length, Option, None, Some}
+use Rattle.std.proofs.Common.{Ok}
+use Rattle.std.proofs.Common.{arith, ap, codes, option_map, refl}
+use Rattle.std.specs.Prelude.{pos}
 use Rattle.std.proofs.lemmas.Bool.Decides.{nat_tests}
-use Rattle.toml.specs.Data.{Items, Members, integer, string, table}
+use Rattle.toml.specs.Data.{Members, table}
 use Rattle.toml.specs.Parse.{lines, parse_document, skip_bom}
 use Rattle.toml.specs.Tables.{Document, close, no_nodes}
 use Rattle.toml.proofs.ReadLines.{read_lines, run}
 use Rattle.toml.proofs.Turns.{document_some}
-use Rattle.toml_keys.specs.Refusals.{Refusal}
 use Rattle.toml_keys.specs.Tables.{are_tables, count_of_integer}
 use Rattle.partner_setup.specs.CountersFile.{counter_in, counters_of_table, second_counter_of, top_of}
 use Rattle.partner_setup.specs.SetupFile.{rows_in}
@@ -55,5 +55,7 @@ pub text_parsed : (rs : List CounterRow) → ArePlain rs → parse_document (cod
 text_parsed rs plain =
     let text = codes "version = 2\n" ++ text_of rs in
     let es = number_pair (codes "version") 2 ∷ expressions_of rs in
-    let read = read_lines false false es text text (no_nodes, []) (suc (length text)) (version_text rs plain) (version_printed rs) refl (omega arith) in
-    parsed_by text (run (no_nodes, []) es) (table_of rs) (ap (lines (suc (length text)) (no_nodes, [])) (no_skip (text_of rs)) ∙ read) (defined rs)
+    let read = read_lines false false es text text (no_nodes, []) (suc (length text)) (version_text rs plain) (version_printed rs) refl
+    (omega arith) in
+    parsed_by text (run (no_nodes, []) es) (table_of rs) (ap (lines (suc (length text)) (no_nodes, [])) (no_skip (text_of rs)) ∙ read)
+    (defined rs)

@@ -11,7 +11,7 @@ use Rattle.partner_setup.specs.declared.partner.Partner.{Partner}
 use Rattle.partner_setup.specs.declared.rows.CounterRow.{CounterRow}
 use Rattle.partner_setup.specs.declared.rows.SetupRows.{SetupRows}
 use Rattle.counters_law.specs.GoingOn.{IsCountersFile, rows_of}
-use Rattle.counters_law.proofs.Accepted.{named, no_fault, plain, same_rows}
+use Rattle.counters_law.proofs.Accepted.{no_fault, plain, same_rows}
 use Rattle.counters_law.proofs.Bytes.{text_utf8}
 use Rattle.counters_law.proofs.Reading.{table_read, text_parsed}
 use Rattle.counters_law.proofs.Telling.{ArePlain, table_of, text_of}

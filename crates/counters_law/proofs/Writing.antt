@@ -1,5 +1,5 @@
 -- The text of a counters file is the printed lines of its expressions.
-use Rattle.std.proofs.Common.{◌≡◌, ◌≤◌, ◌<◌, ◌^◌, ◌∙◌, ℕ, Bool, true, false, List, [], ◌∷◌, ◌++◌, codes, refl, sym, ap, arith, append_assoc}
+use Rattle.std.proofs.Common.{◌≡◌, ◌≤◌, ℕ, true, false, List, [], ◌∷◌, ◌++◌, codes, refl, sym, ap, arith, append_assoc}
 use Rattle.std.specs.Prelude.{decimal, pos}
 use Rattle.std.proofs.lemmas.Fmt.{decimal_digit}
 use Rattle.toml_writer.specs.Text.{key_text, string_text}
@@ -38,7 +38,8 @@ version_key = refl
 
 number_text : (key : List ℕ) (n : ℕ) → key_text key ≡ key → n ≤ 999999999
     → IsLineText false true ([], key) (key_value (integer (pos n))) (number_line key n)
-number_text key n same small = (decimal n, ap (λ (k : List ℕ). k ++ (codes " = " ++ (decimal n ++ 10 ∷ []))) (sym same), (refl, omega arith))
+number_text key n same small =
+    (decimal n, ap (λ (k : List ℕ). k ++ (codes " = " ++ (decimal n ++ 10 ∷ []))) (sym same), (refl, omega arith))
 
 header_text : IsLineText false true ([], codes "counter") array_table (codes "\n[[counter]]\n")
 header_text = rw (counter_key) refl
@@ -46,7 +47,8 @@ header_text = rw (counter_key) refl
 abbrev partner_line : List ℕ → List ℕ
 partner_line name = codes "partner = \"" ++ (name ++ codes "\"\n")
 
-name_text : (r : CounterRow) → IsPlain r → IsLineText false true ([], codes "partner") (key_value (string r.partner)) (partner_line r.partner)
+name_text : (r : CounterRow) → IsPlain r
+    → IsLineText false true ([], codes "partner") (key_value (string r.partner)) (partner_line r.partner)
 name_text r p = (
   string_text r.partner,
   rw (partner_key, in_quotes r.partner p.name) (simp append_assoc),
@@ -89,14 +91,24 @@ rows_text (r ∷ rs) plain =
 
 pub rows_printed : (rs : List CounterRow) → AllPrinted (expressions_of rs)
 rows_printed [] = tt
-rows_printed (r ∷ rs) =
-    (omega arith, ((refl, omega arith, refl), ((refl, omega arith, refl), ((refl, omega arith, refl), ((refl, omega arith, refl), rows_printed rs)))))
+rows_printed (r ∷ rs) = (
+  omega arith,
+  (
+    (refl, omega arith, refl),
+    ((refl, omega arith, refl), ((refl, omega arith, refl), ((refl, omega arith, refl), rows_printed rs))),
+  ),
+)
 
 -- the first line
 pub version_text : (rs : List CounterRow) → ArePlain rs
     → IsLinesText false false (number_pair (codes "version") 2 ∷ expressions_of rs) (codes "version = 2\n" ++ text_of rs)
-version_text rs plain =
-    (codes "version = 2\n", text_of rs, refl, (codes "2", rw (version_key) refl, (sym (decimal_digit 2 (omega arith)), omega arith)), rows_text rs plain)
+version_text rs plain = (
+  codes "version = 2\n",
+  text_of rs,
+  refl,
+  (codes "2", rw (version_key) refl, (sym (decimal_digit 2 (omega arith)), omega arith)),
+  rows_text rs plain,
+)
 
 pub version_printed : (rs : List CounterRow) → AllPrinted (number_pair (codes "version") 2 ∷ expressions_of rs)
 version_printed rs = ((refl, omega arith, refl), rows_printed rs)

@@ -1,5 +1,5 @@
 -- The counters from night to night (own): the text that is written of next counters, read as a counters file by the same setup.
-use Rattle.std.specs.Prelude.{◌≡◌, ℕ, List, [], ◌∷◌, length, All, Option, None, Some, Result, Ok}
+use Rattle.std.specs.Prelude.{◌≡◌, ℕ, List, [], ◌∷◌, length, All, None, Some, Ok}
 use Rattle.std.specs.Str.{IsUtf8}
 use Rattle.toml.specs.Data.{Members}
 use Rattle.toml.specs.Parse.{parse_document}
