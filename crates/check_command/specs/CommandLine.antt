@@ -1,5 +1,6 @@
 -- The command line of the check (own), read as clap's definitions say: options that name files, one of which may be given again.
-use Rattle.std.specs.Prelude.{◌≡◌, ◌⊎◌, ◌&&◌, ◌==◌, Bool, List, [], length, map, not, Option, Some, None, true, false, codes, is_some, option_map}
+use Rattle.std.specs.Prelude.{◌≡◌, ◌⊎◌, ◌&&◌, ◌==◌, Bool, List, [], length, map, not, Option, Some, None, true, false, codes, is_some}
+use Rattle.std.specs.Prelude.{option_map}
 use Rattle.clap.specs.Words.{App, Rule, Text, IsAmong, all_of, fault_of, first_of, matched_of, matches_of, new_app, new_rule, takes}
 use Rattle.clap.specs.Words.{raw_values, with_rule}
 use Rattle.clap.specs.declared.builder.action.ArgAction.TheVariants.{Append, Set}

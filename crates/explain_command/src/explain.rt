@@ -51,7 +51,7 @@ where
 {
     match explained_file(rt.alloc(), fs::open(rt, path)) {
         Ok(lines) => finish(lines.as_slice(), out, err),
-        Err(failure) => failure.report(err),
+        Err(refusal) => refusal.report(err),
     }
 }
 

@@ -1,5 +1,6 @@
 -- What is found among the nodes that a search goes over.
-use Rattle.std.proofs.Common.{◌≡◌, ◌≢◌, ◌∙◌, ℕ, zero, suc, ◌+◌, ◌-◌, ◌<◌, List, length, get_or, drop, refl, sym, ap, add-one, arith, drop-cons, rules}
+use Rattle.std.proofs.Common.{◌≡◌, ◌≢◌, ◌∙◌, ℕ, zero, suc, ◌+◌, ◌-◌, ◌<◌, List, length, get_or, drop, refl, sym, ap, add-one, arith}
+use Rattle.std.proofs.Common.{drop-cons, rules}
 use Rattle.std.specs.declared.alloc.Global.{Global}
 use Rattle.std.specs.declared.vec.Vec.{Vec}
 use Rattle.guide_tree.specs.declared.node.Node.{Node}
