@@ -1,5 +1,5 @@
 -- How many nodes are left of a list that is gone over.
-use Rattle.std.proofs.Common.{◌≡◌, ◌≤◌, ◌∙◌, ℕ, ◌+◌, ◌<◌, List, length, get_or, drop, refl, sym, ap, add-one, arith, drop-cons, rules}
+use Rattle.std.proofs.Common.{◌≡◌, ◌∙◌, ℕ, ◌+◌, ◌<◌, List, length, get_or, drop, sym, ap, add-one, arith, drop-cons, rules}
 use Rattle.std.specs.Prelude.{Vec}
 use Rattle.std.specs.declared.alloc.Global.{Global}
 use Rattle.guide_tree.specs.declared.node.Loop.{Loop}
@@ -9,7 +9,7 @@ use Rattle.guide_tree.specs.declared.fault.GuideFault.TheVariants as fault
 use Rattle.guide_tree.specs.declared.rows.GuideRows.{GuideRows}
 use Rattle.guide_tree.specs.declared.slot.Slot.{Slot}
 use Rattle.guide_tree.specs.Accepted.{IsAccepted}
-use Rattle.guide_tree.specs.Words.{Tree, Trees, count_in, loop, node_count, nodes_view, segment, tree, view}
+use Rattle.guide_tree.specs.Words.{count_in, loop, node_count, nodes_view, segment, view}
 
 view_loop : (n : Node) (l : Loop) (ns : Vec Node Global) → n ≡ node.Loop l ns → view n ≡ loop l (nodes_view ns.items)
 view_loop n l ns e = ap view e ∙ (let v : view (node.Loop l ns) ≡ loop l (nodes_view ns.items) = search (rules, the_lemmas) in v)

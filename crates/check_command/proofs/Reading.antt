@@ -8,7 +8,7 @@ use Rattle.toml.specs.Parse.{parse_document}
 use Rattle.guide_tree.specs.declared.fault.GuideFault.{GuideFault}
 use Rattle.guide_tree.specs.declared.rows.GuideRows.{GuideRows}
 use Rattle.guide_tree.specs.Words.{guide_of, nodes_view, numbered}
-use Rattle.guide_toml.specs.Answers.{Answers, GivesAt}
+use Rattle.guide_toml.specs.Answers.{Answers}
 use Rattle.guide_toml.specs.Guides.{guide_of_table}
 use Rattle.guide_toml.specs.declared.fault.GuideFileFault.{GuideFileFault}
 use Rattle.guide_toml.specs.declared.fault.GuideFileFault.TheVariants as fault

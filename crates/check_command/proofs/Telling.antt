@@ -1,14 +1,13 @@
 -- What is told of files one after another is what is told of all.
-use Rattle.std.proofs.Common.{◌≡◌, ◌⊎◌, ◌<◌, ◌+◌, ◌++◌, ◌∷◌, ◌∙◌, [], inl, inr, ℕ, List, Option, None, Some, append_assoc}
+use Rattle.std.proofs.Common.{◌≡◌, ◌<◌, ◌+◌, ◌++◌, ◌∷◌, ◌∙◌, [], inl, inr, ℕ, List, Option, None, Some, append_assoc}
 use Rattle.std.proofs.Common.{ap, get_or, length, map, option_map, refl, subst, sym, take}
 use Rattle.std.proofs.lemmas.List.{take_more}
 use Rattle.guide_tree.specs.declared.rows.GuideRows.{GuideRows}
-use Rattle.partner_setup.specs.CountersFile.{counters_of_table}
 use Rattle.partner_setup.specs.declared.rows.CounterRow.{CounterRow}
 use Rattle.partner_setup.specs.declared.rows.SetupRows.{SetupRows}
-use Rattle.check_command.specs.Files.{in_order, listed, path_of, paths_of, paths_told}
+use Rattle.check_command.specs.Files.{listed, path_of, paths_of, paths_told}
 use Rattle.check_command.specs.Judgements.{AreCountersFound, AreGuidesFound, IsGuideFound, IsToldBeside, told_beside, with_guide}
-use Rattle.check_command.specs.SetupFiles.{AreCountersOf, AreGuidesOf, IsGuideOf, IsGuideRefused, IsSomeRefused}
+use Rattle.check_command.specs.SetupFiles.{AreGuidesOf, IsGuideOf, IsGuideRefused, IsSomeRefused}
 use Rattle.check_command.specs.Tellings.{AreGuidesTold, AreTold, IsCountersTold, IsFileTold, IsGuideTold, IsJudged, IsSetupTold, IsSomeTold}
 use Rattle.check_command.specs.declared.files.Given.{Given}
 use Rattle.check_command.specs.declared.files.GivenFiles.{GivenFiles}

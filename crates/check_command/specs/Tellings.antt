@@ -8,7 +8,8 @@ use Rattle.partner_setup.specs.declared.rows.CounterRow.{CounterRow}
 use Rattle.partner_setup.specs.declared.rows.SetupRows.{SetupRows}
 use Rattle.check_command.specs.Files.{in_order, path_of}
 use Rattle.check_command.specs.Judged.{setup_told}
-use Rattle.check_command.specs.SetupFiles.{AreCountersOf, AreCountersRefused, AreGuidesOf, IsFileOf, IsFileRefused, IsGuideOf, IsGuideRefused}
+use Rattle.check_command.specs.SetupFiles.{AreCountersOf, AreCountersRefused, AreGuidesOf, IsFileOf, IsFileRefused, IsGuideOf}
+use Rattle.check_command.specs.SetupFiles.{IsGuideRefused}
 use Rattle.check_command.specs.SetupFiles.{IsSomeRefused}
 use Rattle.check_command.specs.declared.files.Given.{Given}
 use Rattle.check_command.specs.declared.files.GivenFiles.{GivenFiles}

@@ -1,7 +1,8 @@
-ghost use Rattle.std.specs.Prelude.{◌≡◌, ◌≢◌, ◌≤◌, ◌⊎◌, ℕ, List, None, IfOk, IfErr, IfSome, OnOk, map};
+ghost use Rattle.std.specs.Prelude.{◌≡◌, ◌≢◌, ◌≤◌, ◌⊎◌, ℕ, List, None, IfOk, IfErr, IfSome, IsOkAnd, OnOk, map};
 ghost use Rattle.std.specs.Io.KnownBytes.{Appends};
 ghost use Rattle.explain_command.specs.CommandLine.{AsksForText, IsCommandLine, NamesFile};
-ghost use Rattle.explain_command.specs.Failure.{IsOfInput, IsStatus};
+ghost use Rattle.std.specs.IoError.{error_kind};
+ghost use Rattle.explain_command.specs.Failure.{IsMemoryOr, IsOfInput, IsStatus};
 ghost use Rattle.explain_command.specs.Outcome.{IsExplanationOf, IsOutcome, IsPrinted};
 
 use crate::command::{Asked, read_words};
@@ -48,9 +49,22 @@ where
     ensures quiet { result ≡ 0 → err.new ≡ err.old }
     ensures printed { result ≡ 0 → IsPrinted None (O.contents out.old) (O.contents out.new) }
 {
-    match fs::open(rt, path) {
-        Ok(file) => give_explanation(rt.alloc(), file, out, err),
-        Err(error) => Failure::of_fault(error, Failure::Input).report(err),
+    match explained_file(rt.alloc(), fs::open(rt, path)) {
+        Ok(lines) => finish(lines.as_slice(), out, err),
+        Err(refusal) => refusal.report(err),
+    }
+}
+
+/// The lines on the acknowledgments in a file that was opened so.
+fn explained_file<I: Read + Drop>(alloc: Global, opened: io::Result<I>) -> Result<Vec<u8>, Failure>
+    ensures lines { IfOk result (λ lines. IsOkAnd opened (λ input. IsExplanationOf (I.remaining input) lines.items)) }
+    ensures refused { IfOk opened (λ input. IfErr result (IsOfInput (I.remaining input))) }
+    ensures closed { IfErr opened (λ error. IfErr result (IsMemoryOr (error_kind error) Failure.Input)) }
+    ensures words { IfErr result (λ failure. failure ≢ Failure.Usage) }
+{
+    match opened {
+        Ok(input) => explained(alloc, input),
+        Err(fault) => Err(Failure::of_fault(fault, Failure::Input)),
     }
 }
 

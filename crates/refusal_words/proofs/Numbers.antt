@@ -1,8 +1,8 @@
 -- The node with a number among numbered nodes is the one at its place, the nodes counted from the first number on.
-use Rattle.std.proofs.Common.{◌≡◌, ◌∙◌, ℕ, zero, suc, ◌+◌, ◌<◌, ◌==◌, Option, None, Some, cond, true, false, refl, sym, ap, arith, eq-eqb}
+use Rattle.std.proofs.Common.{◌≡◌, ◌∙◌, ℕ, zero, suc, ◌+◌, ◌<◌, Option, None, refl, ap, arith}
 use Rattle.guide_tree.specs.Words.{Tree, Trees, count_in, loop, no_trees, node_count, numbered, numbered_in, or_else, segment, tree}
 use Rattle.refusal_words.specs.Nodes.{node_id, numbered_node, numbered_node_in}
-use Rattle.refusal_words.specs.Search.{Found, at, behind, found, found_in, numbered_found, or_in, with_number}
+use Rattle.refusal_words.specs.Search.{Found, at, behind, found, found_in, numbered_found, or_in}
 
 left_by : (ts : Trees) (n m size : ℕ) (f : Found) → ((k : ℕ) → f ≡ behind k → n ≡ size + k)
     → ((k : ℕ) → found ts k ≡ behind m → k ≡ node_count ts + m)

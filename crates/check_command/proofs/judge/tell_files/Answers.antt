@@ -7,8 +7,9 @@ use Rattle.check_command.proofs.judge.tell_files.Goals as goal
 pub returns-clause-told : goal.returns-clause-told
 returns-clause-told c =
     all_told c.args.given.now c.in_ok-lines.field-0.lines.items c.push_some-2.new.lines.items c.in_ok-of_setup.of_setup
-    c.in_ok-line.field-0.line (option_map (λ v. v.items) c.in_ok-lines.field-0.guides) c.in_ok-line.field-0.rows (search rules)
-    (search rules) (search rules) (search rules) (search rules) (c.in_ok-push_some-2.ensures
+    c.in_ok-line.field-0.line
+    (option_map (λ v. v.items) c.in_ok-lines.field-0.guides) c.in_ok-line.field-0.rows (search rules) (search rules)
+    (search rules) (search rules) (search rules) (c.in_ok-push_some-2.ensures
     ∙ ap (λ (ls : List FileTold). ls ++ listed c.in_ok-line.field-0.line) c.in_ok-push_some.ensures)
 
 pub returns-clause-paths : goal.returns-clause-paths

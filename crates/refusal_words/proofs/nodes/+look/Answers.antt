@@ -1,6 +1,5 @@
-use Rattle.std.proofs.Common.{◌≡◌, ◌≢◌, ◌<◌, ◌∙◌, List, length, sym, ap, arith, rules}
-use Rattle.guide_tree.specs.declared.node.Node.{Node}
-use Rattle.guide_tree.specs.Words.{loop, nodes_view, view}
+use Rattle.std.proofs.Common.{◌≢◌, ◌<◌, ◌∙◌, length, arith}
+use Rattle.guide_tree.specs.Words.{view}
 use Rattle.refusal_words.specs.Search.{at, behind}
 use Rattle.refusal_words.proofs.Looked.{at_loop, past_segment, view_loop, view_segment}
 use Rattle.refusal_words.proofs.nodes.+look.Goals as goal

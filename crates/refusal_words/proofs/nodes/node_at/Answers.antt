@@ -1,7 +1,6 @@
-use Rattle.std.proofs.Common.{◌≡◌, ◌+◌, ◌-◌, None, refl, sym, ap, ◌∙◌, arith}
-use Rattle.guide_tree.specs.Words.{nodes_view, numbered}
-use Rattle.refusal_words.specs.Nodes.{numbered_node}
-use Rattle.refusal_words.specs.Search.{numbered_found, found}
+use Rattle.std.proofs.Common.{◌-◌, sym, ap, ◌∙◌, arith}
+use Rattle.guide_tree.specs.Words.{nodes_view}
+use Rattle.refusal_words.specs.Search.{numbered_found}
 use Rattle.refusal_words.proofs.Numbers.{at_place, none_below}
 use Rattle.refusal_words.proofs.nodes.node_at.Goals as goal
 

@@ -1,0 +1,8 @@
+pub mod Accepted
+pub mod Bytes
+pub mod Defining
+pub mod Plain
+pub mod Reading
+pub mod Telling
+pub mod Together
+pub mod Writing
