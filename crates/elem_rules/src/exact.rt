@@ -1,4 +1,4 @@
-ghost use Rattle.std.specs.Prelude.{◌≡◌, ◌↔◌, ◌⊎◌, ◌+◌, ◌≤◌, ◌++◌, ℕ, IsTrue, IfOk, OnOk, length, drop, false};
+ghost use Rattle.std.specs.Prelude.{◌≡◌, ◌↔◌, ◌⊎◌, ◌+◌, ◌≤◌, ◌++◌, IsTrue, IfOk, OnOk, length, drop, false};
 ghost use Rattle.std.specs.List.{Contains, list_any, list_all};
 ghost use Rattle.memchr.specs.Find.{is_byte, places};
 ghost use Rattle.hub_kinds.specs.declared.fault.ElemFault.{ElemFault};

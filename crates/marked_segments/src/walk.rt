@@ -1,4 +1,4 @@
-ghost use Rattle.std.specs.Prelude.{◌≡◌, ◌+◌, ◌-◌, ◌≤◌, length, take, drop, IfOk, IfSome, IsTrue, slice_range};
+ghost use Rattle.std.specs.Prelude.{◌≡◌, ◌+◌, ◌-◌, ◌≤◌, length, take, drop, IfSome, IsTrue, slice_range};
 ghost use Rattle.memchr.specs.Find.{IsFirst, Nowhere, Passes, is_byte, places_from};
 ghost use Rattle.marked_segments.specs.Marks.{is_odd};
 ghost use Rattle.marked_segments.specs.Blocks.{IsMask, IsStretch};
