@@ -1,5 +1,5 @@
 -- What no byte of an ST is, no byte of what is kept of it is.
-use Rattle.std.proofs.Common.{◌≡◌, ℕ, List, [], ◌∷◌, Bool, false, ◌||◌, refl}
+use Rattle.std.proofs.Common.{◌≡◌, ℕ, List, [], ◌∷◌, Bool, false, refl}
 use Rattle.std.specs.Prelude.{◌==◌, drop, slice_index_or}
 use Rattle.std.specs.List.{list_any, remove}
 use Rattle.x12_segs.specs.Words.{SegValue, elements_of, id_of}

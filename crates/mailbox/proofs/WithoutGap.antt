@@ -2,7 +2,7 @@
 use Rattle.std.proofs.Common.{◌≡◌, ◌==◌, ◌&&◌, ◌||◌, ◌∙◌, ◌++◌, ◌+◌, ◌<◌, ℕ, zero, suc, Bool, true, false, cond, List, [], ◌∷◌, length}
 use Rattle.std.proofs.Common.{map, take, drop, refl, sym, ap, subst, arith, not, true≢false, eqb-true, append_assoc}
 use mathlib.Core.List.{map-map}
-use Rattle.std.specs.List.{All, count_by, flat_map, filter, slice_split, prefix_len}
+use Rattle.std.specs.List.{All, count_by, flat_map, filter, prefix_len}
 use Rattle.std.proofs.lemmas.Bool.{and_parts, eq-eqb, not-true, or_parts}
 use Rattle.std.proofs.lemmas.List.{take-append-drop}
 use Rattle.std.proofs.lemmas.List.Elements.{All-nil, All-push}

@@ -1,3 +1,7 @@
+ghost use Rattle.std.specs.Prelude.{◌≤◌, ◌+◌, ◌*◌, length};
+ghost use Rattle.std.specs.List.{sum_by};
+ghost use Rattle.mailbox.specs.Rendered.{text_in};
+
 use crate::grouping::goes_with;
 use crate::rendered::Rendered;
 
@@ -8,7 +12,9 @@ const GROUP: usize = 128;
 const INTERCHANGE: usize = 264;
 
 /// About how many bytes the texts of sets have, with GS and GE where one doesn't go with the one before it.
-fn room_of_sets(sets: &[Rendered]) -> usize {
+fn room_of_sets(sets: &[Rendered]) -> usize
+    ensures { result ≤ sum_by (λ s. length (text_in s)) sets.now + 128 * length sets.now }
+{
     let mut room: usize = 0;
     for i in 0..sets.len() {
         room = room.saturating_add(sets[i].text().len());
@@ -19,8 +25,10 @@ fn room_of_sets(sets: &[Rendered]) -> usize {
     room
 }
 
-/// About how many bytes a mailbox of these sets has, so that it is seldom moved while it is written.
-pub(crate) fn room_for(sets: &[Rendered], cap: u32) -> usize {
+/// About how many bytes a mailbox of these sets has, so that it is seldom moved while it is written: at most 656 a set beside its text.
+pub(crate) fn room_for(sets: &[Rendered], cap: u32) -> usize
+    ensures { result ≤ sum_by (λ s. length (text_in s)) sets.now + 656 * length sets.now }
+{
     if sets.is_empty() {
         return 0;
     }

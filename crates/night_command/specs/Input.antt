@@ -1,5 +1,5 @@
 -- Private. What is said of the input when it is opened (own).
-use Rattle.std.specs.Prelude.{◌≡◌, ◌<◌, ◌≤◌, IsOk, IsErrOf, Result, Ok, Err}
+use Rattle.std.specs.Prelude.{◌<◌, ◌≤◌, IsOk, IsErrOf, Result, Ok, Err}
 use Rattle.std.specs.Fs.{metadata_len}
 use Rattle.std.specs.IoError.{error_kind}
 use Rattle.std.specs.declared.fs.Metadata.{Metadata}

@@ -7,8 +7,8 @@ use Rattle.std.specs.declared.io.ErrorKind.TheVariants as kind
 use Rattle.stream_read.specs.declared.source.SourceFault.{SourceFault}
 use Rattle.stream_read.specs.declared.source.SourceFault.TheVariants.{Failed, Interrupted}
 
--- an error of this kind after so many interruptions in a row: an interruption is one, as long as they can be counted, and all else a
--- failure
+-- an error of this kind after so many interruptions in a row: an interruption is one, as long as they can be counted, and all else is
+-- a failure
 pub record IsFaultOf (of : ErrorKind) (row : ℕ) (fault : SourceFault) : Type 0 where
   pub interrupted : of ≡ kind.Interrupted → row < 4294967295 → fault ≡ Interrupted
   pub uncounted : 4294967295 ≤ row → fault ≡ Failed
@@ -27,7 +27,8 @@ pub record AreCounts (failed : Bool) (row longest : ℕ) (now_failed : Bool) (no
   pub row_is : now_row ≡ row
   pub longest_is : now_longest ≡ longest
 
-abbrev pub IsCounted : Result ℕ SourceFault → (failed : Bool) → (row longest : ℕ) → (now_failed : Bool) → (now_row now_longest : ℕ) → Type 0
+abbrev pub IsCounted : Result ℕ SourceFault → (failed : Bool) → (row longest : ℕ) → (now_failed : Bool) → (now_row now_longest : ℕ)
+    → Type 0
 IsCounted (Ok n) failed row longest now_failed now_row now_longest = AreCounts failed 0 longest now_failed now_row now_longest
 IsCounted (Err Interrupted) failed row longest now_failed now_row now_longest =
     AreCounts failed (row + 1) (max longest (row + 1)) now_failed now_row now_longest

@@ -6,7 +6,6 @@ use Rattle.toml.specs.Data.{Data, table, Items, no_items, item, Members, as_str,
 use Rattle.toml_keys.specs.Refusals.{Refusal, wrong_kind}
 use Rattle.toml_keys.specs.Keys.{least_unknown, if_known}
 use Rattle.toml_keys.specs.Tables.{◌>>=◌, required, optional, count_in, list_in, tables_in}
-use Rattle.partner_setup.specs.declared.receivers.TheConstants.{MOST_RECEIVERS}
 use Rattle.partner_setup.specs.declared.rows.HubRow.{HubRow}
 use Rattle.partner_setup.specs.declared.rows.PartnerRow.{PartnerRow}
 use Rattle.partner_setup.specs.declared.rows.RouteRow.{RouteRow}
@@ -43,7 +42,7 @@ usage_in d = option_and_then usage_of (as_str d)
 
 -- 1 to 16 texts
 abbrev pub are_receivers : List (List ℕ) → Bool
-are_receivers texts = nat_le 1 (length texts) && nat_le (length texts) MOST_RECEIVERS
+are_receivers texts = nat_le 1 (length texts) && nat_le (length texts) 16
 
 abbrev pub some_receivers : List (List ℕ) → Option (List (List ℕ))
 some_receivers texts = if are_receivers texts then Some texts else None

@@ -1,4 +1,4 @@
-use Rattle.std.proofs.Common.{ℕ, List, ◌∷◌, ◌++◌, [], map, sym, subst, rules}
+use Rattle.std.proofs.Common.{ℕ, List, ◌∷◌, [], map, sym, subst, rules}
 use Rattle.std.proofs.lemmas.List.{map-append}
 use Rattle.night_command.specs.Outbox.{AddsFiles, file_of}
 use Rattle.night_command.proofs.Files.{add_two, one_more}
