@@ -89,12 +89,12 @@ COUNTER_FILES = {
 
 FORM = "a name, a qualifier, an id or a code hasn't its form"
 DELIMITERS = "partner 2 (BOLT): a delimiter isn't one byte, isn't allowed, or stands for two of the four"
-ROUTE = "route 2 (BOLT): it leads to no partner, or to one twice, or its code has no form or is that of a route behind it"
-COUNTER = "counter 2 (BOLT): a number out of 1 to 999999999, a partner that isn't there, or one that has counters behind it too"
+ROUTE = "route 2 (BOLT): it leads to no partner, or to one twice, or its code has no form or is that of a later route"
+COUNTER = "counter 2 (BOLT): a number out of 1 to 999999999, a partner that isn't there, or one that has later counters too"
 
 SETUPS = {
     "two with one name": (replaced(SETUP, 'name = "BOLT"', 'name = "ACME"'),
-                          "partner 1 (ACME): a partner behind it has its name, or its qualifier and id"),
+                          "partner 1 (ACME): a later partner has its name, or its qualifier and id"),
     "one delimiter for two": (replaced(SETUP, 'component = ":"', 'component = "|"'), DELIMITERS),
     "a code of one byte": (replaced(SETUP, 'code = "BOLT"', 'code = "B"'), f"partner 2 (BOLT): {FORM}"),
     "a hub without an id": (replaced(SETUP, 'id = "HUB"', 'id = ""'), f"the hub: {FORM}"),

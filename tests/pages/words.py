@@ -44,7 +44,7 @@ WHOLE = {
     ],
     "three_guides/h855_rejected": [
         "interchange 1, group PR 12, 855 0001: rejected: segment 4 ACK in loop PO1, element 1 (668): "
-        "a code that the row doesn't list (IK403 7): ZZ",
+        "a code that the guide doesn't list (IK403 7): ZZ",
         "interchange 1, group PR 12, 855 0001: rejected: segment 4 ACK in loop PO1, element 3 (355): a condition asks for it (IK403 2)",
         "interchange 1, group PR 12, 855 0001: rejected: a segment or element fault whose code has no I (IK502 5)",
         "interchange 1, group PR 12: rejected (AK901 R)",
@@ -52,9 +52,9 @@ WHOLE = {
     ],
     "three_guides/h860_rejected": [
         "interchange 1, group PC 12, 860 0001: rejected: segment 2 BCH, element 1 (353): "
-        "a code that the row knows and doesn't use, or no level below that of the HL's parent (IK403 I6): 01",
+        "a code that the guide lists as not used, or no level below that of the HL's parent (IK403 I6): 01",
         "interchange 1, group PC 12, 860 0001: rejected: segment 3 POC in loop POC, element 5, component 1 (355): "
-        "a code that the row doesn't list (IK403 7): XX",
+        "a code that the guide doesn't list (IK403 7): XX",
         "interchange 1, group PC 12, 860 0001: rejected: a segment or element fault whose code has no I (IK502 5)",
         "interchange 1, group PC 12, 860 0001: rejected: a segment or element fault whose code has an I (IK502 I5)",
         "interchange 1, group PC 12: rejected (AK901 R)",

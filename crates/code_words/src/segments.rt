@@ -11,16 +11,15 @@ impl Worded for SegmentCode {
     fn words(self) -> &'static str {
         match self {
             SegmentCode::UnrecognizedSegment =>
-                "the segment's id is in no slot of the guide and not in its dictionary",
-            SegmentCode::UnexpectedSegment =>
-                "some slot has the id, but none picks this segment by its codes",
+                "the segment's id is neither in the guide nor in its dictionary",
+            SegmentCode::UnexpectedSegment => "the guide has the id, but not with these codes",
             SegmentCode::RequiredSegmentMissing => "a needed segment or loop isn't there",
             SegmentCode::LoopTooOften => "a loop comes more often than its maximum",
             SegmentCode::SegmentTooOften => "a segment comes more often than its maximum",
             SegmentCode::NotInSet => "the id is in the guide's dictionary alone",
-            SegmentCode::OutOfSequence => "the segment fits a slot, but none that may come here",
+            SegmentCode::OutOfSequence => "the guide has this segment, but not here",
             SegmentCode::ElementErrors => "something is wrong with its elements",
-            SegmentCode::NotUsedPresent => "a slot or loop with maximum 0 is used",
+            SegmentCode::NotUsedPresent => "a segment or loop with maximum 0 is there",
             SegmentCode::DependentMissing => "a dependency's segment is missing",
             SegmentCode::LoopTooSeldom => "a loop comes, but less often than its minimum",
             SegmentCode::SegmentTooSeldom => "a segment comes, but less often than its minimum",

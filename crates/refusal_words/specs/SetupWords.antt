@@ -27,15 +27,15 @@ where_words names fault.NoMemory = []
 
 -- what is wrong there
 abbrev pub said_of : SetupFault → List ℕ
-said_of (fault.SamePartner place) = codes "a partner behind it has its name, or its qualifier and id"
+said_of (fault.SamePartner place) = codes "a later partner has its name, or its qualifier and id"
 said_of (fault.BadDelimiters place) = codes "a delimiter isn't one byte, isn't allowed, or stands for two of the four"
 said_of (fault.BadId at) = codes "a name, a qualifier, an id or a code hasn't its form"
 said_of (fault.BadGuides (guided.Partner place)) = codes "a guide that isn't given, or two guides for the same sets"
-said_of (fault.BadGuides (guided.Guide place)) = codes "a guide behind it has its name"
+said_of (fault.BadGuides (guided.Guide place)) = codes "a later guide has its name"
 said_of (fault.BadRoute place) =
-    codes "it leads to no partner, or to one twice, or its code has no form or is that of a route behind it"
+    codes "it leads to no partner, or to one twice, or its code has no form or is that of a later route"
 said_of (fault.BadCounter place) =
-    codes "a number out of 1 to 999999999, a partner that isn't there, or one that has counters behind it too"
+    codes "a number out of 1 to 999999999, a partner that isn't there, or one that has later counters too"
 said_of (fault.BadCap place) = codes "a cap out of 1 to 99999"
 said_of fault.NoMemory = codes "no memory"
 

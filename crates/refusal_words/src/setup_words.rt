@@ -45,7 +45,7 @@ fn said_of(fault: &SetupFault) -> &'static [u8]
     ensures { result.now ≡ words.said_of fault.now }
 {
     match fault {
-        SetupFault::SamePartner(_) => b"a partner behind it has its name, or its qualifier and id",
+        SetupFault::SamePartner(_) => b"a later partner has its name, or its qualifier and id",
         SetupFault::BadDelimiters(_) => {
             b"a delimiter isn't one byte, isn't allowed, or stands for two of the four"
         }
@@ -53,12 +53,12 @@ fn said_of(fault: &SetupFault) -> &'static [u8]
         SetupFault::BadGuides(GuidesOwner::Partner(_)) => {
             b"a guide that isn't given, or two guides for the same sets"
         }
-        SetupFault::BadGuides(GuidesOwner::Guide(_)) => b"a guide behind it has its name",
+        SetupFault::BadGuides(GuidesOwner::Guide(_)) => b"a later guide has its name",
         SetupFault::BadRoute(_) => {
-            b"it leads to no partner, or to one twice, or its code has no form or is that of a route behind it"
+            b"it leads to no partner, or to one twice, or its code has no form or is that of a later route"
         }
         SetupFault::BadCounter(_) => {
-            b"a number out of 1 to 999999999, a partner that isn't there, or one that has counters behind it too"
+            b"a number out of 1 to 999999999, a partner that isn't there, or one that has later counters too"
         }
         SetupFault::BadCap(_) => b"a cap out of 1 to 99999",
         SetupFault::NoMemory => b"no memory",

@@ -7,22 +7,19 @@ use std::test::Fail;
 pub const SEGMENTS: &[(&str, &str)] = &[
     (
         "1",
-        "the segment's id is in no slot of the guide and not in its dictionary (IK304 1)",
+        "the segment's id is neither in the guide nor in its dictionary (IK304 1)",
     ),
     (
         "2",
-        "some slot has the id, but none picks this segment by its codes (IK304 2)",
+        "the guide has the id, but not with these codes (IK304 2)",
     ),
     ("3", "a needed segment or loop isn't there (IK304 3)"),
     ("4", "a loop comes more often than its maximum (IK304 4)"),
     ("5", "a segment comes more often than its maximum (IK304 5)"),
     ("6", "the id is in the guide's dictionary alone (IK304 6)"),
-    (
-        "7",
-        "the segment fits a slot, but none that may come here (IK304 7)",
-    ),
+    ("7", "the guide has this segment, but not here (IK304 7)"),
     ("8", "something is wrong with its elements (IK304 8)"),
-    ("I4", "a slot or loop with maximum 0 is used (IK304 I4)"),
+    ("I4", "a segment or loop with maximum 0 is there (IK304 I4)"),
     ("I6", "a dependency's segment is missing (IK304 I6)"),
     (
         "I7",
@@ -49,18 +46,18 @@ pub const ELEMENTS: &[(&str, &str)] = &[
         "6",
         "a byte or a form that its type doesn't allow (IK403 6)",
     ),
-    ("7", "a code that the row doesn't list (IK403 7)"),
+    ("7", "a code that the guide doesn't list (IK403 7)"),
     ("8", "no date (IK403 8)"),
     ("9", "no time (IK403 9)"),
     (
         "10",
         "a second one of several that exclude one another (IK403 10)",
     ),
-    ("12", "more occurrences than the row's repeat (IK403 12)"),
-    ("13", "more components than the row has (IK403 13)"),
+    ("12", "more occurrences than the guide allows (IK403 12)"),
+    ("13", "more components than the guide allows (IK403 13)"),
     (
         "I6",
-        "a code that the row knows and doesn't use, or no level below that of the HL's parent (IK403 I6)",
+        "a code that the guide lists as not used, or no level below that of the HL's parent (IK403 I6)",
     ),
     ("I9", "a dependency asks for it (IK403 I9)"),
     (

@@ -116,7 +116,7 @@ total ta1s 0 groups 0 sets 1 accepted 0
 12345678901234567890123456789012345678901234567890123456789012345678901234567890123456789012345678901~IK5*E*I5~",
         b"interchange 1, TA1 ??: accepted (TA104 A): a code that this hub doesn't write (TA105 999)
 interchange 1, group  , 850 0001: accepted with errors: segment  , element 2, component 3 (98): \
-a code that the row doesn't list (IK403 7): \
+a code that the guide doesn't list (IK403 7): \
 123456789012345678901234567890123456789012345678901234567890123456789012345678901234567890123456789
 interchange 1, group  , 850 0001: accepted with errors: a segment or element fault whose code has an I (IK502 I5)
 total ta1s 1 groups 0 sets 1 accepted 1

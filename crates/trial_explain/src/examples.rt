@@ -14,9 +14,9 @@ ST*999*0002*005010X231~AK1*SH*12*005010~AK2*856*0001~IK5*E*5~AK9*R*1*1*0*19*5~SE
 pub const LINES: &[u8] =
     b"interchange 1, TA1 000000006: refused (TA104 R): no IEA: it was cut off (TA105 023)
 interchange 2, group PO 12, 850 0002: rejected: segment 3 N3 in loop N1, element 1, repetition 2 (166): \
-more occurrences than the row's repeat (IK403 12): B
+more occurrences than the guide allows (IK403 12): B
 interchange 2, group PO 12, 850 0002: rejected: segment 6 Q9: \
-the segment's id is in no slot of the guide and not in its dictionary (IK304 1)
+the segment's id is neither in the guide nor in its dictionary (IK304 1)
 interchange 2, group PO 12, 850 0002: rejected: a segment or element fault whose code has no I (IK502 5)
 interchange 2, group PO 12, 850 0002: rejected: \
 SE01 isn't 1 to 10 digits equal to the number of segments, ST and SE among them (IK502 4)
