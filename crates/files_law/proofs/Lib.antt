@@ -1,0 +1,11 @@
+pub mod Acknowledgments
+pub mod Boxes
+pub mod Faults
+pub mod Mailboxes
+pub mod Nights
+pub mod Numbers
+pub mod Placed
+pub mod Reports
+pub mod Rows
+pub mod Sets
+pub mod Texts

@@ -1,0 +1,2 @@
+pub mod Acknowledgments
+pub mod Mailboxes
