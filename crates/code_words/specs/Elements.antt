@@ -7,7 +7,7 @@ use Rattle.hub_kinds.specs.declared.codes.ElementCode.TheVariants as element
 abbrev pub element_words : ElementCode → List ℕ
 element_words element.RequiredMissing = codes "a mandatory element, or a mandatory component of an occurrence that isn't empty, is empty"
 element_words element.ConditionalMissing = codes "a condition asks for it"
-element_words element.TooManyElements = codes "more elements than rows"
+element_words element.TooManyElements = codes "more elements than the guide has"
 element_words element.TooShort = codes "shorter than the minimum"
 element_words element.TooLong = codes "longer than the maximum"
 element_words element.InvalidCharacter = codes "a byte or a form that its type doesn't allow"

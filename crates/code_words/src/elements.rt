@@ -13,7 +13,7 @@ impl Worded for ElementCode {
             ElementCode::RequiredMissing =>
                 "a mandatory element, or a mandatory component of an occurrence that isn't empty, is empty",
             ElementCode::ConditionalMissing => "a condition asks for it",
-            ElementCode::TooManyElements => "more elements than rows",
+            ElementCode::TooManyElements => "more elements than the guide has",
             ElementCode::TooShort => "shorter than the minimum",
             ElementCode::TooLong => "longer than the maximum",
             ElementCode::InvalidCharacter => "a byte or a form that its type doesn't allow",

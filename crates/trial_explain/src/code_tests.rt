@@ -39,7 +39,7 @@ pub const ELEMENTS: &[(&str, &str)] = &[
         "a mandatory element, or a mandatory component of an occurrence that isn't empty, is empty (IK403 1)",
     ),
     ("2", "a condition asks for it (IK403 2)"),
-    ("3", "more elements than rows (IK403 3)"),
+    ("3", "more elements than the guide has (IK403 3)"),
     ("4", "shorter than the minimum (IK403 4)"),
     ("5", "longer than the maximum (IK403 5)"),
     (
