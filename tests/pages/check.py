@@ -9,7 +9,7 @@ from trial import COUNTERS, H850, H856, PROGRAM, SETUP, Page
 
 CHECK = os.path.abspath(os.environ.get("NIGHTHUB_CHECK", os.path.join(os.path.dirname(PROGRAM), "..", "..", "nighthub_check", "out",
                                                                       "nighthub_check")))
-OK = {"guide_0": "ok, 14 segments and loops", "guide_1": "ok, 12 segments and loops", "setup": "ok, 2 partners", "counters": "ok, 2 counters"}
+OK = {"guide_0": "ok, 14 slots", "guide_1": "ok, 12 slots", "setup": "ok, 2 partners", "counters": "ok, 2 counters"}
 ORDER = ("guide_0", "guide_1", "setup", "counters")
 
 
@@ -36,11 +36,11 @@ def lines(**said):
     return "".join(f"{kind}.toml: {text}\n" for kind, text in said.items())
 
 
-BOUNDS = "segment 1 (REF): bounds that can't be met or are too large, or an id that is none"
+BOUNDS = "slot 1 (REF): bounds that can't be met or are too large, or an id that is none"
 TRIGGER = "loop 1 (N9): its first node isn't a segment with min 1 and max 1"
-CONDITION = "segment 1 (REF): a condition, a pick or a label that can't be"
+CONDITION = "slot 1 (REF): a condition, a pick or a label that can't be"
 NO_DEPENDENCY = "a dependency, or `hl`, that can't be"
-BOTH = "segment 1 (REF) and segment 2 (REF) may come at one place, and both fit REF"
+BOTH = "slot 1 (REF) and slot 2 (REF) may come at one place, and both fit REF"
 
 GUIDES = {
     "not TOML": ('name = "A', "no TOML table"),
@@ -63,7 +63,7 @@ GUIDES = {
     "an empty loop": (nodes(loop("")), TRIGGER),
     "positions over the rows": (elements(*TWO, more=', conditions=["R0203"]'), CONDITION),
     "a label twice": (nodes(segment(more='label="R", '), segment("DTM", more='label="R", ')),
-                      "segment 2 (DTM): a condition, a pick or a label that can't be"),
+                      "slot 2 (DTM): a condition, a pick or a label that can't be"),
     "a hierarchy without HL": ('hl = {pairs=["/S"], sequential=true}\n' + SMALL, NO_DEPENDENCY),
     "a dependency on no slot": (DEPENDS + SMALL, NO_DEPENDENCY),
     "two that fit one segment": (nodes(segment(), segment()), BOTH),
@@ -109,7 +109,7 @@ def examples():
     page = Page("ERRORS.md")
     whole = {"guide_0": H850, "guide_1": H856, "setup": SETUP, "counters": COUNTERS}
     page.want("all files", check(**whole), (0, lines(**OK), ""))
-    page.want("a guide alone", check(guide_0=H850), (0, lines(guide_0="ok, 14 segments and loops"), ""))
+    page.want("a guide alone", check(guide_0=H850), (0, lines(guide_0="ok, 14 slots"), ""))
     page.want("a setup without counters", check(guide_0=H850, guide_1=H856, setup=SETUP),
               (0, lines(**{kind: OK[kind] for kind in ORDER[:3]}), ""))
     page.want("no word", run([]), (2, "", "nighthub_check: usage\n"))
@@ -130,11 +130,11 @@ def examples():
     page.want("a counter of 0", check(**{**whole, "counters": "set = 0".join(COUNTERS.rsplit("set = 1", 1))}),
               (3, lines(**{**OK, "setup": COUNTER}), ""))
     page.want("two guides with one name", check(guide_0=H850, guide_1=H850, setup=SETUP),
-              (3, lines(guide_0="ok, 14 segments and loops", guide_1="ok, 14 segments and loops",
+              (3, lines(guide_0="ok, 14 slots", guide_1="ok, 14 slots",
                         setup="partner 1 (ACME): a guide that isn't given, or two guides for the same sets"), ""))
     page.want("a setup beside a guide that is refused", check(guide_0=HEAD, setup=SETUP),
               (3, lines(guide_0="`nodes` is missing", setup="read, and not judged, since another file is refused"), ""))
     page.want("each guide's own refusal", check(guide_0="name = 7", guide_1=H856, setup=b"", counters=b""),
-              (3, lines(guide_0="`name` has another type or form", guide_1="ok, 12 segments and loops", setup="`hub` is missing",
+              (3, lines(guide_0="`name` has another type or form", guide_1="ok, 12 slots", setup="`hub` is missing",
                         counters="`version` is missing"), ""))
     return page

@@ -8,7 +8,7 @@ use Rattle.check_command.specs.declared.told.Told.{Told}
 use Rattle.check_command.specs.declared.told.Told.TheVariants as told
 
 abbrev pub noun_of : Listed → List ℕ
-noun_of listed.Slots = codes " segments and loops"
+noun_of listed.Slots = codes " slots"
 noun_of listed.Partners = codes " partners"
 noun_of listed.Counters = codes " counters"
 

@@ -19,7 +19,7 @@ fn noun_of(what: Listed) -> &'static [u8]
     ensures { result.now ≡ lines.noun_of what }
 {
     match what {
-        Listed::Slots => b" segments and loops",
+        Listed::Slots => b" slots",
         Listed::Partners => b" partners",
         Listed::Counters => b" counters",
     }

@@ -46,19 +46,19 @@ slot_words kind slot name text = in_place kind slot name ++ text
 -- slot 0 is none
 abbrev pub condition_words : (slot : ℕ) → (name : List ℕ) → List ℕ
 condition_words slot name = if slot == 0 then codes "a dependency, or `hl`, that can't be"
-    else slot_words (codes "segment") slot name (codes "a condition, a pick or a label that can't be")
+    else slot_words (codes "slot") slot name (codes "a condition, a pick or a label that can't be")
 
 abbrev pub rivals_words : (first : ℕ) → (first_name : List ℕ) → (second : ℕ) → (second_name : List ℕ) → List ℕ
 rivals_words first first_name second second_name =
-    place_text (codes "segment") first first_name
-    ++ (codes " and " ++ (place_text (codes "segment") second second_name ++ codes " may come at one place, and both fit "))
+    place_text (codes "slot") first first_name
+    ++ (codes " and " ++ (place_text (codes "slot") second second_name ++ codes " may come at one place, and both fit "))
 
 -- a guide's own fault, by what the slots that it names are called; of rivals, what stands before the segment that fits both
 abbrev pub own_words : GuideFault → (id : ℕ → List ℕ) → List ℕ
 own_words own.TooDeep id = codes "loops are nested over 8 deep"
 own_words own.TooMany id = codes "over 2000 nodes"
 own_words (own.BadBounds slot) id =
-    slot_words (codes "segment") slot (id slot) (codes "bounds that can't be met or are too large, or an id that is none")
+    slot_words (codes "slot") slot (id slot) (codes "bounds that can't be met or are too large, or an id that is none")
 own_words (own.BadTrigger slot) id =
     slot_words (codes "loop") slot (id slot) (codes "its first node isn't a segment with min 1 and max 1")
 own_words (own.BadCondition slot) id = condition_words slot (id slot)

@@ -162,7 +162,7 @@ fn append_own(out: &mut Vec<u8>, fault: &GuideFault, nodes: &[Node]) -> Result<(
         GuideFault::TooMany => append(out, b"over 2000 nodes"),
         GuideFault::BadBounds(slot) => append_slot(
             out,
-            b"segment",
+            b"slot",
             *slot,
             id_at(nodes, *slot),
             b"bounds that can't be met or are too large, or an id that is none",
@@ -208,7 +208,7 @@ fn append_condition(out: &mut Vec<u8>, slot: u32, name: &[u8]) -> Result<(), NoM
     }
     append_slot(
         out,
-        b"segment",
+        b"slot",
         slot,
         name,
         b"a condition, a pick or a label that can't be",
@@ -226,8 +226,8 @@ fn append_rivals(
     ensures { OnOk result (out.new.items
         ≡ out.old.items ++ words.rivals_words first first_name.now second second_name.now) }
 {
-    append_place(out, b"segment", u64::from(first), first_name)?;
+    append_place(out, b"slot", u64::from(first), first_name)?;
     append(out, b" and ")?;
-    append_place(out, b"segment", u64::from(second), second_name)?;
+    append_place(out, b"slot", u64::from(second), second_name)?;
     append(out, b" may come at one place, and both fit ")
 }
