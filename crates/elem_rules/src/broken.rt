@@ -73,7 +73,7 @@ fn broken_at(alloc: Global, present: u64, condition: &Condition) -> Result<Vec<u
 }
 
 /// Bits with those of positions set.
-fn marked_all(bits: u64, positions: &[u32]) -> u64
+pub(crate) fn marked_all(bits: u64, positions: &[u32]) -> u64
     requires { All (λ p. p < 64) positions.now }
     ensures { (listed : List ℕ) → AreBits bits listed → AreBits result (listed ++ positions.now) }
 {

@@ -7,17 +7,19 @@ ghost use Rattle.guide_tree.specs.Words.{is_slot_bounded, is_element_bounded, is
 ghost use Rattle.hub_kinds.specs.Words.{AreElementsRising, element_key_of, IsKeyedBy};
 ghost use Rattle.elem_rules.specs.ElementFaults.{IsElementFault};
 ghost use Rattle.elem_rules.specs.Divided.{has_more};
-ghost use Rattle.elem_rules.specs.Clean.{holds, is_odd, is_set, bits_to, has_bytes};
+ghost use Rattle.elem_rules.specs.Clean.{is_odd, bits_to, has_bytes};
+ghost use Rattle.elem_rules.specs.Flat.{IsFlatElement, IsFlatSlot};
 ghost use Rattle.elem_rules.specs.Found.{texts_of, element_found, rows_found, extra_found, conditions_found};
 
 use crate::check::first_texts;
-use crate::clean::{fits, hold_all};
 use crate::conditions::{Elements, check_conditions};
 use crate::element::{Subject, check_element};
 use crate::findings::{Findings, Spot};
+use crate::flat_row::FlatRow;
+use crate::flat_slot::{FlatSlot, all_hold, fits_flat};
 use crate::marked::element_behind;
 use crate::presence::marked;
-use guide_tree::{Condition, Element, Slot};
+use guide_tree::{Element, Slot};
 use hub_kinds::{ElemFault, ElementCode, NoMemory, in_order};
 use std::alloc::Global;
 use x12_segs::SegView;
@@ -38,18 +40,21 @@ fn check_row<'a>(
     found: &mut Findings<'a>,
     seg: &SegView<'a>,
     row: &'a Element,
+    flat: &FlatRow,
+    numbers: &[u32],
     separators: &[usize],
     k: usize,
 ) -> Result<(), NoMemory>
     requires bounded { IsTrue (is_element_bounded row.now) }
     requires few { k ≤ 40 }
+    requires flat { IsFlatElement flat.now numbers.now row.now }
     requires places { separators.now ≡ places (is_byte seg.now.delims.element) seg.now.bytes }
     requires plain { list_any (is_odd seg.now.delims) seg.now.bytes ≡ false }
     ensures { OnOk result
         (found.new ≡ found.old ++ element_found seg.now.delims (k + 1) row.now (element_of (elements_of seg.now) (k + 1))) }
 {
     let text = element_or_empty(seg, separators, k);
-    if fits(row, text, true) {
+    if fits_flat(flat, numbers, row, text) {
         return Ok(());
     }
     let at = Subject {
@@ -65,17 +70,21 @@ fn check_rows<'a>(
     found: &mut Findings<'a>,
     seg: &SegView<'a>,
     slot: &'a Slot,
+    flat: &FlatSlot,
     separators: &[usize],
 ) -> Result<(), NoMemory>
     requires bounded { IsTrue (is_slot_bounded slot.now) }
+    requires flat { IsFlatSlot flat.now slot.now }
     requires places { separators.now ≡ places (is_byte seg.now.delims.element) seg.now.bytes }
     requires plain { list_any (is_odd seg.now.delims) seg.now.bytes ≡ false }
     ensures { OnOk result
         (found.new ≡ found.old ++ rows_found seg.now.delims slot.now.elements (texts_of slot.now (elements_of seg.now))) }
 {
     let rows = slot.elements.as_slice();
+    let known = flat.rows.as_slice();
+    let numbers = flat.numbers.as_slice();
     for k in 0..rows.len() {
-        check_row(found, seg, &rows[k], separators, k)?;
+        check_row(found, seg, &rows[k], &known[k], numbers, separators, k)?;
     }
     Ok(())
 }
@@ -138,30 +147,18 @@ fn present_to(seg: &SegView, separators: &[usize], n: usize) -> u64
     present
 }
 
-/// Whether these conditions hold over the first `n` elements.
-fn hold_to(seg: &SegView, conditions: &[Condition], separators: &[usize], n: usize) -> bool
-    requires few { n ≤ 40 }
-    requires places { separators.now ≡ places (is_byte seg.now.delims.element) seg.now.bytes }
-    ensures { result ≡ list_all
-        (λ c. holds (is_set (bits_to (λ k. has_bytes (element_of (elements_of seg.now) k)) n)) c.relation c.positions)
-        conditions.now }
-{
-    match conditions {
-        [] => true,
-        _ => hold_all(present_to(seg, separators, n), conditions),
-    }
-}
-
 /// Adds the faults of relational conditions. Only where one is broken the texts are taken.
 fn check_conditions_at<'a>(
     alloc: Global,
     found: &mut Findings<'a>,
     seg: &SegView<'a>,
     slot: &'a Slot,
+    flat: &FlatSlot,
     separators: &[usize],
 ) -> Result<(), NoMemory>
     requires bounded { IsTrue (is_slot_bounded slot.now) }
     requires conditions { IsTrue (list_all (is_condition_of slot.now) slot.now.conditions) }
+    requires flat { IsFlatSlot flat.now slot.now }
     requires places { separators.now ≡ places (is_byte seg.now.delims.element) seg.now.bytes }
     requires plain { list_any (is_odd seg.now.delims) seg.now.bytes ≡ false }
     ensures { OnOk result
@@ -170,8 +167,8 @@ fn check_conditions_at<'a>(
         ⊎ Contains (conditions_found seg.now.delims slot.now.elements slot.now.conditions (texts_of slot.now (elements_of seg.now))) f)) }
 {
     let rows = slot.elements.as_slice();
-    let conditions = slot.conditions.as_slice();
-    if hold_to(seg, conditions, separators, rows.len()) {
+    let present = present_to(seg, separators, rows.len());
+    if all_hold(flat.conditions.as_slice(), present) {
         return Ok(());
     }
     let texts = first_texts(alloc, seg, rows.len())?;
@@ -180,7 +177,7 @@ fn check_conditions_at<'a>(
         rows,
         texts: texts.as_slice(),
     };
-    check_conditions(alloc, found, &of, conditions)
+    check_conditions(alloc, found, &of, slot.conditions.as_slice())
 }
 
 /// The faults of a segment's elements in the order in which they are found; the same one may be found twice.
@@ -188,10 +185,12 @@ fn find_at<'a>(
     alloc: Global,
     seg: &SegView<'a>,
     slot: &'a Slot,
+    flat: &FlatSlot,
     separators: &[usize],
 ) -> Result<Findings<'a>, NoMemory>
     requires bounded { IsTrue (is_slot_bounded slot.now) }
     requires conditions { IsTrue (list_all (is_condition_of slot.now) slot.now.conditions) }
+    requires flat { IsFlatSlot flat.now slot.now }
     requires places { separators.now ≡ places (is_byte seg.now.delims.element) seg.now.bytes }
     requires plain { list_any (is_odd seg.now.delims) seg.now.bytes ≡ false }
     ensures exact { IfOk result
@@ -200,23 +199,25 @@ fn find_at<'a>(
     ensures keyed { IfOk result (λ found. IsKeyedBy element_key_of found) }
 {
     let mut found = Findings::new(alloc);
-    check_rows(&mut found, seg, slot, separators)?;
+    check_rows(&mut found, seg, slot, flat, separators)?;
     check_extra(&mut found, seg, slot, separators)?;
-    check_conditions_at(alloc, &mut found, seg, slot, separators)?;
+    check_conditions_at(alloc, &mut found, seg, slot, flat, separators)?;
     Ok(found)
 }
 
 /// The same faults as `check_segment`'s, of a segment whose element separators stand at these offsets of its bytes, and which has
-/// no component and no repetition separator and no byte but characters from space to tilde. An element that surely fits its row
-/// isn't gone over again, and elements are looked up by the offsets.
+/// no component and no repetition separator and no byte but characters from space to tilde, by its slot and that as few numbers. An
+/// element that surely fits its row isn't gone over again, and elements are looked up by the offsets.
 pub fn check_segment_at<'a>(
     alloc: Global,
     seg: &SegView<'a>,
     slot: &'a Slot,
+    flat: &FlatSlot,
     separators: &[usize],
 ) -> Result<Vec<ElemFault<'a>>, NoMemory>
     requires bounded { IsTrue (is_slot_bounded slot.now) }
     requires conditions { IsTrue (list_all (is_condition_of slot.now) slot.now.conditions) }
+    requires flat { IsFlatSlot flat.now slot.now }
     requires places { separators.now ≡ places (is_byte seg.now.delims.element) seg.now.bytes }
     requires plain { list_any (is_odd seg.now.delims) seg.now.bytes ≡ false }
     ensures exact { IfOk result
@@ -224,6 +225,6 @@ pub fn check_segment_at<'a>(
         ↔ IsElementFault seg.now.delims (elements_of seg.now) slot.now f) }
     ensures rising { IfOk result (λ v. AreElementsRising v.items) }
 {
-    let found = find_at(alloc, seg, slot, separators)?;
+    let found = find_at(alloc, seg, slot, flat, separators)?;
     Ok(in_order(found.into_faults()))
 }

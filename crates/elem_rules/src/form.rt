@@ -62,7 +62,7 @@ fn points(text: &[u8]) -> usize
 }
 
 /// The digits of a decimal number without sign, if it has the form of one.
-fn decimal_digits(text: &[u8]) -> Option<usize>
+pub(crate) fn decimal_digits(text: &[u8]) -> Option<usize>
     ensures { result ≡ if is_decimal text.now then Some (count_by is_ascii_digit text.now) else None }
 {
     if !are_digits_or_points(text) {

@@ -7,6 +7,9 @@
 //!   shows the reference number of the row at its place and, whole, the text that its code speaks of;
 //! - `check_segment_at` gives the same faults of a segment without an odd byte, whose element separators were found before;
 //! - `is_clean_at` says of a segment whose element separators were found before that it is clean only where it has no fault;
+//! - `is_clean_flat` says the same by the rows and conditions of the slot as few numbers, which `SlotTables` has for each slot of
+//!   a guide. Of a value that a flat row is sure of the row finds no fault, and where all masks say so all conditions hold. A
+//!   value of which nothing is said is judged by the row itself;
 //! - `is_empty` and `reference_at`, by which crates above tell of elements: whether a text counts as empty, and the reference
 //!   number of the row at a position.
 //!
@@ -14,7 +17,8 @@
 //!
 //! A segment is walked a fixed number of times, whatever its rows and conditions; memory is taken for the texts of the
 //! elements that have rows, for the positions at which one condition is broken and for the faults alone. A segment without
-//! separators in its elements and without faults is seen to be clean in one walk, which takes no memory. Where conditions
+//! separators in its elements and without faults is seen to be clean in one walk, which takes no memory. A flat row takes 16
+//! bytes, a flat condition 24, a code of at most 32 of a row 4; the tables are built in one walk over the guide. Where conditions
 //! are broken at one element, however many, one fault is made for each code.
 //!
 //! Source: X12.6, data element types, composite and repeated data elements, relational conditions; the 999 guide
@@ -38,15 +42,23 @@ mod divided;
 mod element;
 mod exact;
 mod findings;
+mod flat_condition;
+mod flat_row;
+mod flat_slot;
 mod form;
 mod marked;
 mod occurrence;
 mod presence;
+mod slot_tables;
 mod value;
 
 pub use check::check_segment;
 pub use conditions::reference_at;
 pub use divided::is_empty;
 pub use exact::check_segment_at;
+pub use flat_condition::FlatCondition;
+pub use flat_row::{FlatKind, FlatRow, code_number};
+pub use flat_slot::{FlatSlot, is_clean_flat};
 pub use marked::is_clean_at;
 pub use moment::At;
+pub use slot_tables::SlotTables;

@@ -3,7 +3,8 @@ use crate::next::turn_behind;
 use crate::silent::{is_end_silent, is_silent};
 use crate::strays::Strays;
 use crate::tables::tables_of;
-use guide_tree::Guide;
+use elem_rules::{FlatSlot, SlotTables};
+use guide_tree::{Guide, Slot};
 use hub_kinds::{NoMemory, SegmentCode};
 use loop_match::{Step, Turn};
 use std::alloc::Global;
@@ -16,6 +17,7 @@ pub struct FastGuide<'g> {
     guide: &'g Guide,
     tables: Vec<Children<'g>>,
     strays: Strays<'g>,
+    slots: SlotTables<'g>,
 }
 
 impl<'g> Model for FastGuide<'g> {
@@ -32,7 +34,8 @@ impl<'g> Model for FastGuide<'g> {
 
     ghost view = { λ f. f.guide.now };
 
-    ghost invariant = { λ f. (trees_in f.tables.items ≡ tables_of (nodes_view f.guide.now.nodes.items)) × (f.strays ≡ f.guide.now) };
+    ghost invariant = { λ f. (trees_in f.tables.items ≡ tables_of (nodes_view f.guide.now.nodes.items)) × (f.strays ≡ f.guide.now)
+        × (f.slots ≡ f.guide.now) };
 }
 
 impl<'g> FastGuide<'g> {
@@ -41,6 +44,8 @@ impl<'g> FastGuide<'g> {
     ghost use Rattle.x12_segs.specs.Words.{elements_of};
     ghost use Rattle.guide_tree.specs.Words.{nodes_view, fit_behind, guide_of, step_faults, end_faults, stray_code};
     ghost use Rattle.loop_match.specs.Steps.{last_of, place_view, turned};
+    ghost use Rattle.elem_rules.specs.Flat.{IsFlatSlot};
+    ghost use Rattle.elem_rules.specs.NodeSlots.{IsSlotOf};
     ghost use Rattle.guide_fast.specs.Silent.{are_none};
     ghost use Rattle.guide_fast.specs.Tables.{HasTables, tables_of};
 
@@ -50,10 +55,12 @@ impl<'g> FastGuide<'g> {
     {
         let tables = tables_of(alloc, guide.rows().nodes.as_slice())?;
         let strays = Strays::of(alloc, guide)?;
+        let slots = SlotTables::of(alloc, guide)?;
         Ok(FastGuide {
             guide,
             tables,
             strays,
+            slots,
         })
     }
 
@@ -94,6 +101,15 @@ impl<'g> FastGuide<'g> {
     {
         let _accepted = self.guide.rows();
         self.tables.as_slice().get(number)
+    }
+
+    /// The rows and conditions of one of the guide's slots as few numbers.
+    #[inline]
+    pub fn flat_slot(&self, slot: &Slot) -> &FlatSlot
+        requires { IsSlotOf (nodes_view self.now.nodes.items) slot.now }
+        ensures { IsFlatSlot result.now slot.now }
+    {
+        self.slots.flat_slot(slot)
     }
 
     /// Whether nothing is told at a segment that is placed: nothing needed is passed over or left with too few uses, and no use is

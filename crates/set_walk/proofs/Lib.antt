@@ -1,6 +1,7 @@
 pub mod SoundPlaces
 mod Keeping
 mod Lent
+mod Odd
 mod Telling
 mod Erring
 mod Slotting

@@ -16,6 +16,7 @@ use Rattle.loop_match.specs.Steps.{place_view, last_of, turned, HasGone}
 use Rattle.loop_match.proofs.Fitting.{behind_is}
 use Rattle.loop_match.proofs.Passing.{left, found_step, found_stray}
 use Rattle.loop_match.proofs.Walking.{all_wider, gone_stray, gone_turn, room_more}
+use Rattle.elem_rules.specs.NodeSlots.{IsSlotOf}
 use Rattle.set_walk.specs.Told.{IsTold, Adds}
 use Rattle.set_walk.specs.Kept.{Slotted, IsKept}
 use Rattle.set_walk.specs.Walked.{next_for, IsErrorFrom, last_in, HasTaken}
@@ -36,6 +37,13 @@ pub sound_turn : (g : GuideTree) (last : List Step) (t : Turn) (seg : SegValue) 
 sound_turn g last t seg well e =
     sound_places g well (turned (place_view last) t).place t.slot.now
     (leads_to g.nodes (last_of (place_view last)) (elements_of seg) (turned (place_view last) t) (found g last t seg e))
+
+-- a turn leads to a slot of the guide
+pub slot_turn : (g : GuideTree) (last : List Step) (t : Turn) (seg : SegValue) → Leads g last t seg → IsSlotOf g.nodes t.slot.now
+slot_turn g last t seg e = (
+  (turned (place_view last) t).place,
+  leads_to g.nodes (last_of (place_view last)) (elements_of seg) (turned (place_view last) t) (found g last t seg e),
+)
 
 -- a segment has the id of the slot that it is given
 pub own_id : (g : GuideTree) (last : List Step) (t : Turn) (seg : SegValue) → Leads g last t seg

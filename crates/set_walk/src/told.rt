@@ -2,14 +2,16 @@ ghost use Rattle.std.specs.Prelude.{◌≡◌, ◌↔◌, ◌++◌, map, IfOk, O
 ghost use Rattle.std.specs.List.{Contains};
 ghost use Rattle.hub_kinds.specs.declared.fault.ElemFault.{ElemFault};
 ghost use Rattle.x12_segs.specs.Words.{elements_of};
-ghost use Rattle.guide_tree.specs.Words.{IsSound, nodes_view};
+ghost use Rattle.guide_tree.specs.Words.{IsSound, guide_of, nodes_view};
 ghost use Rattle.loop_match.specs.Steps.{place_view};
 ghost use Rattle.loop_match.specs.LoopIds.{loop_id_of};
 ghost use Rattle.elem_rules.specs.ElementFaults.{IsElementFault};
+ghost use Rattle.elem_rules.specs.NodeSlots.{IsSlotOf};
 ghost use Rattle.marked_segments.specs.Marked.{IsPlain};
 ghost use Rattle.set_walk.specs.Told.{told_by, IsTold, Adds};
 
 use elem_rules::{check_segment, check_segment_at};
+use guide_fast::FastGuide;
 use guide_tree::{Node, Slot};
 use hub_kinds::{ElemFault, Fault, Lent, NoMemory, SegmentCode};
 use loop_match::{Step, loop_id_of};
@@ -45,16 +47,18 @@ fn tell<'a>(
 /// What is wrong with a segment's elements by its slot, by the places of its element separators, if it is plain.
 pub(crate) fn element_faults<'a>(
     alloc: Global,
+    fast: &FastGuide,
     seg: &SegView<'a>,
     slot: &'a Slot,
     plain: Option<&[usize]>,
 ) -> Result<Vec<ElemFault<'a>>, NoMemory>
     requires sound { IsSound slot.now }
+    requires slot { IsSlotOf (guide_of fast.now).nodes slot.now }
     requires plain { IfSome plain (λ separators. IsPlain separators.now seg.now) }
     ensures { IfOk result (λ v. (f : ElemFault) → Contains v.items f ↔ IsElementFault seg.now.delims (elements_of seg.now) slot.now f) }
 {
     match plain {
-        Some(separators) => check_segment_at(alloc, seg, slot, separators),
+        Some(separators) => check_segment_at(alloc, seg, slot, fast.flat_slot(slot), separators),
         None => check_segment(alloc, seg, slot),
     }
 }

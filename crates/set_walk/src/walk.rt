@@ -5,11 +5,12 @@ ghost use Rattle.guide_tree.specs.Words.{guide_of, step_faults, end_faults, IsSo
 ghost use Rattle.loop_match.specs.LoopIds.{loop_id_of};
 ghost use Rattle.loop_match.specs.Steps.{last_of, place_view, turned};
 ghost use Rattle.marked_segments.specs.Marked.{IsPlain};
+ghost use Rattle.elem_rules.specs.NodeSlots.{IsSlotOf};
 ghost use Rattle.set_walk.specs.Told.{IsTold, Adds};
 ghost use Rattle.set_walk.specs.Walked.{IsFaultless};
 
 use crate::told::{element_faults, tell_found};
-use elem_rules::is_clean_at;
+use elem_rules::is_clean_flat;
 use guide_fast::FastGuide;
 use guide_tree::Slot;
 use hub_kinds::{Fault, NoMemory};
@@ -48,13 +49,14 @@ pub fn write_place(next: &mut Vec<Step>, last: &[Step], turn: &Turn) -> Result<(
 
 /// Whether surely no element of the segment has a fault by the slot, by the places of its element separators, if it is plain.
 #[inline]
-fn looks_faultless(seg: &SegView, slot: &Slot, plain: Option<&[usize]>) -> bool
+fn looks_faultless(fast: &FastGuide, seg: &SegView, slot: &Slot, plain: Option<&[usize]>) -> bool
     requires sound { IsSound slot.now }
+    requires slot { IsSlotOf (guide_of fast.now).nodes slot.now }
     requires plain { IfSome plain (λ separators. IsPlain separators.now seg.now) }
     ensures { OnTrue result (IsFaultless seg.now slot.now) }
 {
     match plain {
-        Some(separators) => is_clean_at(seg, slot, separators),
+        Some(separators) => is_clean_flat(seg, slot, fast.flat_slot(slot), separators),
         None => false,
     }
 }
@@ -72,14 +74,15 @@ pub fn add_errors<'a, 'g: 'a>(
     plain: Option<&[usize]>,
 ) -> Result<(), NoMemory>
     requires sound { IsSound slot.now }
+    requires slot { IsSlotOf (guide_of fast.now).nodes slot.now }
     requires plain { IfSome plain (λ separators. IsPlain separators.now seg.now) }
     ensures { OnOk result (Adds faults.old.items faults.new.items
         (IsTold position seg.now (loop_id_of (guide_of fast.now).nodes (place_view place.now)) slot.now)) }
 {
-    if looks_faultless(seg, slot, plain) {
+    if looks_faultless(fast, seg, slot, plain) {
         return Ok(());
     }
-    let found = element_faults(alloc, seg, slot, plain)?;
+    let found = element_faults(alloc, fast, seg, slot, plain)?;
     let nodes = fast.guide().rows().nodes.as_slice();
     tell_found(faults, position, seg, nodes, place, slot, found)
 }

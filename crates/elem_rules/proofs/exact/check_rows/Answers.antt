@@ -6,10 +6,13 @@ use Rattle.std.proofs.lemmas.List.Elements.{All-get_or}
 use Rattle.x12_segs.specs.Words.{elements_of}
 use Rattle.guide_tree.specs.declared.element.Element.{Element}
 use Rattle.guide_tree.specs.Words.{is_element_bounded}
+use Rattle.elem_rules.specs.declared.flat_row.FlatKind.TheVariants as kind
+use Rattle.elem_rules.specs.declared.flat_row.FlatRow.{FlatRow}
 use Rattle.elem_rules.specs.Rows.{nth}
 use Rattle.elem_rules.specs.Found.{text_at, texts_of, element_found}
 use Rattle.elem_rules.proofs.Agreeing.{text_of_row}
 use Rattle.elem_rules.proofs.Bounded.{rows_few, rows_bounded}
+use Rattle.elem_rules.proofs.FlatSlots.{flat_at}
 use Rattle.elem_rules.proofs.Steps.{up_to_more, row_more}
 use Rattle.elem_rules.proofs.exact.check_rows.Goals as goal
 
@@ -25,6 +28,14 @@ check_row-requires-clause-bounded c =
 pub check_row-requires-clause-few : goal.check_row-requires-clause-few
 check_row-requires-clause-few c =
     omega (arith, rows_few c.args.slot.now c.requires.bounded, ap length c.as_slice-rows.ensures, c.loop-k-test.true)
+
+pub check_row-requires-clause-flat : goal.check_row-requires-clause-flat
+check_row-requires-clause-flat c =
+    let d : FlatRow = record { least = 0; span = 0; from = 0; count = 0; kind = kind.Any } in
+    flat_at c.as_slice-known.result.now c.as_slice-rows.result.now c.as_slice-numbers.result.now d c.index-rows-k.result c.loop-k.k
+    (rw (c.as_slice-rows.ensures, c.as_slice-known.ensures.value) c.requires.flat.many)
+    (rw (c.as_slice-rows.ensures, c.as_slice-known.ensures.value, c.as_slice-numbers.ensures.value) c.requires.flat.each)
+    c.loop-k-test.true c.index-rows-k.is
 
 pub loop-k-preserved : goal.loop-k-preserved
 loop-k-preserved c =

@@ -8,7 +8,7 @@ use Rattle.loop_match.specs.declared.next.Step.{Step}
 use Rattle.loop_match.specs.LoopIds.{loop_id_of}
 use Rattle.loop_match.specs.Steps.{place_view, last_of, turned}
 use Rattle.set_walk.specs.Told.{IsTold, Adds}
-use Rattle.set_walk.proofs.Taking.{sound_turn, own_id, roomy, took}
+use Rattle.set_walk.proofs.Taking.{sound_turn, slot_turn, own_id, roomy, took}
 use Rattle.set_walk.proofs.seen.go.Goals as goal
 
 pub add_errors-requires-clause-sound : goal.add_errors-requires-clause-sound
@@ -16,6 +16,10 @@ add_errors-requires-clause-sound c =
     let well : IsWellFormed (guide_of c.args.fast.now) =
     subst (λ (rows : GuideRows). IsWellFormed (guide_of rows)) c.guide.ensures c.rows-accepted.ensures.accepted.well_formed in
     sound_turn (guide_of c.args.fast.now) c.args.seen.now.walk.last.items c.args.turn.now c.args.seg.now well c.requires.turn
+
+pub add_errors-requires-clause-slot : goal.add_errors-requires-clause-slot
+add_errors-requires-clause-slot c =
+    slot_turn (guide_of c.args.fast.now) c.args.seen.now.walk.last.items c.args.turn.now c.args.seg.now c.requires.turn
 
 pub step_by-requires : goal.step_by-requires
 step_by-requires c =
