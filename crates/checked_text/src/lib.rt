@@ -31,11 +31,9 @@ mod finding;
 mod found;
 mod groups;
 mod headers;
-mod key;
 mod laws;
 mod numbers;
 mod seen;
-mod seen_numbers;
 mod sending;
 mod sent;
 mod sets;
@@ -52,6 +50,5 @@ pub use finding::Finding;
 pub use laws::{
     accepted_as_it_meets, answers_are_one, asked_by_first_use, numbers_told_by_first_use,
 };
-pub use seen_numbers::SeenNumbers;
-pub use settled::{SettledFaults, faults_behind, settled_faults};
+pub use settled::{faults_behind, settled_faults};
 pub use walk::{CheckedText, answer_found, check_text, no_acknowledgments};

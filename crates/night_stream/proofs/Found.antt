@@ -6,9 +6,9 @@ use Rattle.env_index.specs.Words.{HasSpans, IndexEntry, IndexValue, with_faults}
 use Rattle.partner_setup.specs.Setup.{SetupValue}
 use Rattle.checked_text.proofs.Settling.{settled_spans}
 use Rattle.checked_text.specs.Asked.{IsFound, asked_of}
-use Rattle.checked_text.specs.SeenNumbers.{HaveSeen}
+use Rattle.number_register.specs.SeenNumbers.{HaveSeen}
 use Rattle.checked_text.specs.Settled.{faults_with}
-use Rattle.checked_text.specs.declared.seen_numbers.SeenNumbers.{SeenNumbers}
+use Rattle.number_register.specs.declared.seen.Seen.{Seen}
 use Rattle.night_work.specs.FoundOut.{IsFoundBehind}
 use Rattle.night_work.specs.declared.found.FoundBehind.{FoundBehind}
 use Rattle.night_writing.specs.Writing.{HasRoomFor, IsBatchWritten, WritingValue}
@@ -16,14 +16,14 @@ use Rattle.night_stream.proofs.Bounds.{room_for}
 use Rattle.night_stream.specs.Carried.{CanGoOn}
 
 -- each set stands in its span
-pub found_spans : (batch : List ℕ) (setup : SetupValue) (seen : SeenNumbers) (numbers : List (List ℕ)) (found : FoundBehind)
+pub found_spans : (batch : List ℕ) (setup : SetupValue) (seen : Seen) (numbers : List (List ℕ)) (found : FoundBehind)
     → IsFoundBehind batch setup seen found → HaveSeen seen numbers
     → All (λ (e : IndexEntry). HasSpans found.index.text e.interchange) found.index.entries
 found_spans batch setup seen numbers found is known =
     settled_spans batch is.plain found.index (faults_with setup numbers is.plain.entries) is.read (is.index numbers known)
 
 -- all that is asked is found
-pub found_asked : (batch : List ℕ) (setup : SetupValue) (seen : SeenNumbers) (numbers : List (List ℕ)) (found : FoundBehind)
+pub found_asked : (batch : List ℕ) (setup : SetupValue) (seen : Seen) (numbers : List (List ℕ)) (found : FoundBehind)
     → IsFoundBehind batch setup seen found → HaveSeen seen numbers
     → AllZip IsFound (asked_of found.index.text setup found.index.entries) found.findings.items
 found_asked batch setup seen numbers found is known =
@@ -31,7 +31,7 @@ found_asked batch setup seen numbers found is known =
     (sym (ap (λ (i : IndexValue). i.text) (is.index numbers known) ∙ is.read.same)) is.found
 
 -- there is room for it
-pub found_room : (setup : SetupValue) (at : List ℕ) (base : ℕ) (w : WritingValue) (batch : List ℕ) (seen : SeenNumbers)
+pub found_room : (setup : SetupValue) (at : List ℕ) (base : ℕ) (w : WritingValue) (batch : List ℕ) (seen : Seen)
     (numbers : List (List ℕ)) (found : FoundBehind) → CanGoOn setup at base w → base + length batch ≤ LONGEST_TEXT
     → IsFoundBehind batch setup seen found → HaveSeen seen numbers
     → HasRoomFor setup at (length found.index.entries) found.index.outside w
@@ -40,7 +40,7 @@ found_room setup at base w batch seen numbers found can few is known =
     (is.index numbers known)
 
 -- what is written of it is that of its index, settled by the numbers seen so far
-pub found_written : (setup : SetupValue) (at : List ℕ) (base : ℕ) (old new : WritingValue) (batch : List ℕ) (seen : SeenNumbers)
+pub found_written : (setup : SetupValue) (at : List ℕ) (base : ℕ) (old new : WritingValue) (batch : List ℕ) (seen : Seen)
     (numbers : List (List ℕ)) (found : FoundBehind) (is : IsFoundBehind batch setup seen found) → HaveSeen seen numbers
     → IsBatchWritten found.index.text setup at base found.index.entries found.index.outside old new
     → IsBatchWritten batch setup at base (with_faults is.plain.entries (faults_with setup numbers is.plain.entries)) is.plain.outside

@@ -10,7 +10,7 @@ use Rattle.env_index.specs.Index.{extents_of}
 use Rattle.env_index.proofs.Surround.{head_within}
 use Rattle.partner_setup.specs.Setup.{SetupValue}
 use Rattle.checked_text.specs.CheckedText.{judged}
-use Rattle.checked_text.specs.SeenNumbers.{HaveSeen}
+use Rattle.number_register.specs.SeenNumbers.{HaveSeen}
 use Rattle.checked_text.specs.Settled.{faults_with, kept_keys, settled_faults}
 use Rattle.batch_law.specs.Batches.{ChainUpTo}
 use Rattle.batch_law.proofs.Chains.{chain_up_to_end}

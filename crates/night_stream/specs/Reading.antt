@@ -5,7 +5,7 @@ use Rattle.hub_kinds.specs.declared.limits.TheConstants.{LONGEST_TEXT}
 use Rattle.partner_setup.specs.Setup.{SetupValue}
 use Rattle.night_writing.specs.Night.{IsNight}
 use Rattle.night_writing.specs.declared.night.Night.{Night}
-use Rattle.checked_text.specs.SeenNumbers.{HaveSeen}
+use Rattle.number_register.specs.SeenNumbers.{HaveSeen}
 use Rattle.checked_text.specs.Settled.{kept_keys}
 use Rattle.batch_cut.specs.Scouting.{Stands}
 use Rattle.batch_night.specs.UpTo.{IsNightUpTo, NightSoFar}

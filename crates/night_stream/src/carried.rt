@@ -1,6 +1,6 @@
 ghost use Rattle.std.specs.Prelude.{◌≡◌, ◌+◌, ◌≤◌, ℕ, List, [], IfErr, IfOk, length};
 ghost use Rattle.hub_kinds.specs.declared.limits.TheConstants.{LONGEST_TEXT};
-ghost use Rattle.checked_text.specs.SeenNumbers.{HaveSeen};
+ghost use Rattle.number_register.specs.SeenNumbers.{HaveSeen};
 ghost use Rattle.night_writing.specs.Writing.{nothing_written};
 ghost use Rattle.night_stream.specs.Carried.{CanGoOn, HasWorked};
 ghost use Rattle.night_stream.specs.Crew.{IsReady};
@@ -8,7 +8,6 @@ ghost use Rattle.night_stream.specs.Stopped.{IsOfPool};
 
 use crate::crew::Crew;
 use crate::stopped::Stopped;
-use checked_text::{SeenNumbers, SettledFaults, faults_behind};
 use cut_plan::Cuts;
 use env_index::index_plain;
 use fast_guides::FastGuides;
@@ -16,7 +15,9 @@ use hub_kinds::NoMemory;
 use moment::At;
 use night_work::{FoundBehind, find_out_behind};
 use night_writing::Writing;
+use number_register::Seen;
 use partner_setup::Setup;
+use place_work::{SettledFaults, settle_behind};
 use render_crew::ManyThreads;
 use std::alloc::Global;
 use std::sync::Wait;
@@ -29,7 +30,7 @@ use x12_bytes::HEADER_LEN;
 #[derive(Drop)]
 pub(crate) struct Carried {
     /// The numbers of the interchanges without the faults 1 to 8.
-    pub(crate) numbers: SeenNumbers,
+    pub(crate) numbers: Seen,
     /// What is written.
     pub(crate) writing: Writing,
 }
@@ -41,7 +42,7 @@ pub(crate) fn nothing_carried(alloc: Global, setup: &Setup) -> Result<Carried, N
 {
     let writing = Writing::new(alloc, setup)?;
     Ok(Carried {
-        numbers: SeenNumbers::new(alloc),
+        numbers: Seen::new(alloc),
         writing,
     })
 }
@@ -62,7 +63,7 @@ fn add_little<'a>(
 {
     let Carried { numbers, writing } = carried;
     let mut index = index_plain(alloc, batch)?;
-    let settled = faults_behind(alloc, setup, numbers, &index)?;
+    let settled = settle_behind(alloc, setup, numbers, &mut index)?;
     let SettledFaults { faults, numbers } = settled;
     index.settle(faults.as_slice());
     let writing = writing.add_batch(alloc, setup, at, base, &index)?;

@@ -4,9 +4,9 @@ use Rattle.std.specs.List.{AllZip}
 use Rattle.env_index.specs.Words.{IndexValue, IsIndex, settled}
 use Rattle.partner_setup.specs.Setup.{SetupValue}
 use Rattle.checked_text.specs.Asked.{IsFound, asked_of}
-use Rattle.checked_text.specs.SeenNumbers.{HaveSeen}
+use Rattle.number_register.specs.SeenNumbers.{HaveSeen}
+use Rattle.number_register.specs.declared.seen.Seen.{Seen}
 use Rattle.checked_text.specs.Settled.{faults_with, kept_keys, settled_faults}
-use Rattle.checked_text.specs.declared.seen_numbers.SeenNumbers.{SeenNumbers}
 use Rattle.night_work.specs.declared.found.FoundText.{FoundText}
 use Rattle.night_work.specs.declared.found.FoundBehind.{FoundBehind}
 
@@ -18,7 +18,7 @@ pub record IsFoundOut (text : List ℕ) (setup : SetupValue) (out : FoundText) :
   pub found : AllZip IsFound (asked_of text setup out.index.entries) out.findings.items
 
 -- the same of a text behind interchanges of which these numbers were seen, and the numbers behind it
-pub record IsFoundBehind (text : List ℕ) (setup : SetupValue) (old : SeenNumbers) (out : FoundBehind) : Type 0 where
+pub record IsFoundBehind (text : List ℕ) (setup : SetupValue) (old : Seen) (out : FoundBehind) : Type 0 where
   pub plain : IndexValue
   pub read : IsIndex text plain
   pub index : (before : List (List ℕ)) → HaveSeen old before → out.index ≡ settled plain (faults_with setup before plain.entries)

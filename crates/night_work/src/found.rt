@@ -1,17 +1,18 @@
 ghost use Rattle.std.specs.Prelude.{◌≡◌, ◌≤◌, ℕ, List, length, IfOk};
 ghost use Rattle.hub_kinds.specs.declared.limits.TheConstants.{LONGEST_TEXT};
-ghost use Rattle.checked_text.specs.SeenNumbers.{HaveSeen};
+ghost use Rattle.number_register.specs.SeenNumbers.{HaveSeen};
 ghost use Rattle.night_work.specs.FoundOut.{IsFoundBehind, IsFoundOut};
 
 use crate::index::index_by;
 use crate::work::worked_out;
-use checked_text::{Finding, SeenNumbers, SettledFaults, faults_behind};
+use checked_text::Finding;
 use cut_plan::Cuts;
 use env_index::Index;
 use fast_guides::FastGuides;
 use job_pool::PoolFault;
+use number_register::Seen;
 use partner_setup::Setup;
-use place_work::faults_alone;
+use place_work::{SettledFaults, settle_behind};
 use std::alloc::Global;
 use std::sync::Wait;
 use std::thread::Threads;
@@ -35,7 +36,7 @@ pub struct FoundBehind<'a> {
     /// What was found out at each place of the interchanges that have none of the faults 1 to 8, in the order of places.
     pub findings: Vec<Finding<'a>>,
     /// The numbers that are seen behind the text.
-    pub numbers: SeenNumbers,
+    pub numbers: Seen,
 }
 
 fn without_numbers<'a>(found: FoundBehind<'a>) -> FoundText<'a>
@@ -70,7 +71,7 @@ pub fn find_out<'g: 'a, 'a, G: Gate + Sync, R: Threads + Wait + Clock + Sync>(
     requires workers { (1 ≤ workers) × (workers ≤ 64) }
     ensures { IfOk result (λ found. IsFoundOut text.entry.now setup.entry.now found) }
 {
-    let seen = SeenNumbers::new(alloc);
+    let seen = Seen::new(alloc);
     let found = find_out_behind(rt, alloc, setup, guides, text, seen, cuts, workers, gate)?;
     Ok(without_numbers(found))
 }
@@ -83,7 +84,7 @@ pub fn find_out_behind<'g: 'a, 'a, G: Gate + Sync, R: Threads + Wait + Clock + S
     setup: &'a Setup,
     guides: &FastGuides<'g>,
     text: &'a [u8],
-    seen: SeenNumbers,
+    seen: Seen,
     cuts: &Cuts,
     workers: u64,
     gate: &G,
@@ -96,14 +97,10 @@ pub fn find_out_behind<'g: 'a, 'a, G: Gate + Sync, R: Threads + Wait + Clock + S
     ensures { IfOk result (λ found. IsFoundBehind text.entry.now setup.entry.now seen found) }
 {
     let mut index = index_by(rt, alloc, text, cuts, workers, gate)?;
-    // The fault 9 is told by the numbers that were seen, since the register has those of this text alone.
-    let Ok(SettledFaults { faults, numbers }) = faults_behind(alloc, setup, seen, &index) else {
+    let Ok(settled) = settle_behind(alloc, setup, seen, &mut index) else {
         return Err(PoolFault::NoMemory);
     };
-    let Ok(alone) = faults_alone(alloc, setup, &index) else {
-        return Err(PoolFault::NoMemory);
-    };
-    index.settle(alone.as_slice());
+    let SettledFaults { faults, numbers } = settled;
     let findings = worked_out(
         rt,
         alloc,

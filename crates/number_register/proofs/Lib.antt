@@ -9,6 +9,7 @@ mod Once
 mod Ordering
 mod Places
 mod Putting
+mod Runs
 mod Slotting
 mod Standing
 mod Uses

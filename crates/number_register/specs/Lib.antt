@@ -4,4 +4,5 @@ pub mod NoIndex
 pub mod Placing
 pub mod Recording
 pub mod Refusals
+pub mod SeenNumbers
 pub mod Slots

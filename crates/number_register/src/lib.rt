@@ -13,6 +13,8 @@
 //! - `FullRegister::recorded` are the places of the index, each once, in the order of recording;
 //! - `FullRegister::earlier_of` answers the first use of a place's number where that is an earlier place (`IsFirstUse`),
 //!   and none where there is no such place, whatever was recorded first;
+//! - `Seen` keeps the numbers of the interchanges of batch after batch: `add` adds exactly those of the interchange places of an
+//!   index, or leaves what was seen as it was where memory is refused; `holds` answers whether an interchange's number was seen;
 //! - for every interleaving of the threads, whenever the lock is free the records are of the index that the register's
 //!   type names, and the ledger's book is their count; a `Recorded` names its place, and a fresh one raises the caller's
 //!   share by one; so `Register::open` gives as many records as the shares add up to.
@@ -32,15 +34,19 @@
 
 mod fault;
 mod full;
+mod interchange_key;
 mod key;
 mod making;
 mod reading;
 mod records;
 mod register;
+mod seen;
 mod whole;
 
 pub use fault::RecordFault;
 pub use full::{FullRegister, Short};
+pub use interchange_key::{KEY_LEN, number_key};
 pub use records::Records;
 pub use register::{Named, RecordLock, Recorded, Register, Share};
+pub use seen::Seen;
 pub use whole::finish_all;

@@ -3,6 +3,8 @@
 //!
 //! Proved:
 //! - `faults_alone` gives each interchange of an index the least of its faults 1 to 8;
+//! - `settle_behind` settles an index with these, gives the faults 1 to 9 by the numbers that were seen in earlier batches
+//!   (`number_register::Seen`), and adds those of its interchange places;
 //! - `check_jobs` gives one job for each place of an index settled with the faults 1 to 8, in the order of places: at a set's place its
 //!   check, where it stands, by its sender's guide for its GS01, GS08 and ST01;
 //! - `flags_of` tells of each place whether an earlier one has its number: of a group and a set exactly where the first use of the
@@ -19,7 +21,7 @@ mod flags;
 mod jobs;
 mod sent;
 
-pub use alone::faults_alone;
+pub use alone::{SettledFaults, faults_alone, settle_behind};
 pub use findings::findings_of;
 pub use flags::flags_of;
 pub use jobs::check_jobs;

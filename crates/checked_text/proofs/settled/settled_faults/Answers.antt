@@ -4,4 +4,4 @@ use Rattle.checked_text.proofs.settled.settled_faults.Goals as goal
 
 pub returns : goal.returns
 returns c =
-    c.in_ok-faults.ensures.faults [] c.new.ensures ∙ sym (by_numbers c.args.setup.now [] c.args.index.now.entries)
+    c.in_ok-faults.ensures [] c.new.ensures ∙ sym (by_numbers c.args.setup.now [] c.args.index.now.entries)

@@ -1,13 +1,13 @@
 ghost use Rattle.std.specs.Prelude.{◌≡◌, ◌≤◌, ◌+◌, ◌++◌, length, take};
-ghost use Rattle.checked_text.specs.Settled.{number_key};
+ghost use Rattle.number_register.specs.SeenNumbers.{number_key};
 
 use x12_bytes::Header;
 
 /// How many bytes number an interchange: ISA05 to ISA08 have 34, ISA13 has 9.
-pub(crate) const KEY_LEN: usize = 43;
+pub const KEY_LEN: usize = 43;
 
 /// ISA05 to ISA08 and ISA13.
-pub(crate) fn number_key(header: &Header<'_>) -> [u8; KEY_LEN]
+pub fn number_key(header: &Header<'_>) -> [u8; KEY_LEN]
     ensures { result ≡ number_key header.now }
 {
     let mut key = [0; KEY_LEN];

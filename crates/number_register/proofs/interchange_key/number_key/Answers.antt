@@ -1,6 +1,6 @@
 use Rattle.std.proofs.Common.{◌≡◌, ◌+◌, ◌≤◌, ◌++◌, ℕ, List, length, take, sym, ap, ◌∙◌, append_assoc, arith}
 use Rattle.std.proofs.lemmas.List.{take_all}
-use Rattle.checked_text.proofs.key.number_key.Goals as goal
+use Rattle.number_register.proofs.interchange_key.number_key.Goals as goal
 
 -- a key once a field more is written
 one_more : (n at : ℕ) (field before old new : List ℕ) → n ≡ at + length field → take (at + length field) new ≡ take at old ++ field

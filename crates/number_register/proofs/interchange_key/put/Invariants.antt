@@ -1,5 +1,5 @@
 use Rattle.std.proofs.Common.{◌≡◌, ◌+◌, ◌++◌, length, take}
-use Rattle.checked_text.proofs.key.put.Given as goal
+use Rattle.number_register.proofs.interchange_key.put.Given as goal
 
 -- the bytes in front stay, and those of the field so far stand behind them
 abbrev pub invariant-loop-i : goal.invariant-loop-i
