@@ -2,3 +2,4 @@ pub mod CommandLine
 pub mod Counting
 pub mod Reading
 pub mod Telling
+pub mod WarningLines

@@ -1,11 +1,13 @@
 -- The check (own): what is told of each file that is given.
-use Rattle.std.specs.Prelude.{◌≡◌, ◌⊎◌, ⊤, ℕ, List, [], ◌∷◌, length, Option, None, Some}
+use Rattle.std.specs.Prelude.{◌≡◌, ◌⊎◌, ⊤, ℕ, List, [], ◌∷◌, length, map, Option, None, Some}
 use Rattle.guide_tree.specs.Words.{guide_of, node_count}
 use Rattle.guide_tree.specs.declared.rows.GuideRows.{GuideRows}
 use Rattle.partner_setup.specs.CountersFile.{counters_of_table}
 use Rattle.partner_setup.specs.SetupFile.{setup_of_table}
 use Rattle.partner_setup.specs.declared.rows.CounterRow.{CounterRow}
 use Rattle.partner_setup.specs.declared.rows.SetupRows.{SetupRows}
+use Rattle.guide_warnings.specs.Warnings.{warnings_of}
+use Rattle.refusal_words.specs.WarningWords.{warning_words}
 use Rattle.check_command.specs.Files.{in_order, path_of}
 use Rattle.check_command.specs.Judged.{setup_told}
 use Rattle.check_command.specs.SetupFiles.{AreCountersOf, AreCountersRefused, AreGuidesOf, IsFileOf, IsFileRefused, IsGuideOf}
@@ -18,17 +20,18 @@ use Rattle.check_command.specs.declared.told.Listed.TheVariants as listed
 use Rattle.check_command.specs.declared.told.Told.{Told}
 use Rattle.check_command.specs.declared.told.Told.TheVariants as told
 
--- a guide file: taken, with how many nodes the guide has, or refused
+-- a guide file: taken, with how many nodes the guide has and its warnings, or refused
 abbrev pub IsGuideTold : Option (List ℕ) → Told → Type 0
-IsGuideTold bytes (told.Taken count what) =
+IsGuideTold bytes (told.Taken count what warnings) =
     (guide : GuideRows) × IsGuideOf bytes guide × (count ≡ node_count (guide_of guide).nodes) × (what ≡ listed.Slots)
+    × (warnings ≡ map warning_words (warnings_of (guide_of guide)))
 IsGuideTold bytes told.Open = ⊥
 IsGuideTold bytes (told.Refused text) = IsGuideRefused bytes text
 
 -- a counters file: taken, with how many rows it has, or refused
 abbrev pub IsCountersTold : Option (List ℕ) → Told → Type 0
-IsCountersTold bytes (told.Taken count what) =
-    (rows : List CounterRow) × IsFileOf counters_of_table bytes rows × (count ≡ length rows) × (what ≡ listed.Counters)
+IsCountersTold bytes (told.Taken count what warnings) =
+    (rows : List CounterRow) × IsFileOf counters_of_table bytes rows × (count ≡ length rows) × (what ≡ listed.Counters) × (warnings ≡ [])
 IsCountersTold bytes told.Open = ⊥
 IsCountersTold bytes (told.Refused text) = IsFileRefused counters_of_table bytes text
 

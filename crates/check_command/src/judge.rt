@@ -8,6 +8,7 @@ ghost use Rattle.check_command.specs.Tellings as tellings;
 use crate::files::{Given, GivenFiles};
 use crate::judged::{Judged, judge_counters, judge_guide, judge_rows};
 use crate::told::{FileTold, Listed, Told};
+use crate::warned::{no_warnings, warning_texts};
 use guide_tree::{Guide, Node};
 use hub_kinds::{Items, NoMemory, Text};
 use partner_setup::{CounterRows, Setup, SetupFault, SetupRows};
@@ -26,7 +27,7 @@ pub fn judge_setup(
     let names = SetupNames::of(alloc, &rows, counters.as_slice(), guides.as_slice())?;
     let count = rows.partners.as_slice().len() as u64;
     match Setup::build(alloc, rows, counters, guides) {
-        Ok(_) => Ok(Told::Taken(count, Listed::Partners)),
+        Ok(_) => Ok(Told::Taken(count, Listed::Partners, no_warnings(alloc))),
         Err(SetupFault::NoMemory) => Err(NoMemory),
         Err(fault) => {
             let mut text = Vec::new(alloc);
@@ -71,7 +72,8 @@ fn tell_guide<'a>(alloc: Global, given: &Given<'a>) -> Result<ToldGuide<'a>, NoM
     let path = given.path;
     match judge_guide(alloc, &given.bytes)? {
         Judged::Taken(guide) => {
-            let told = Told::Taken(size_of(&guide), Listed::Slots);
+            let warnings = warning_texts(alloc, &guide)?;
+            let told = Told::Taken(size_of(&guide), Listed::Slots, warnings);
             Ok(ToldGuide {
                 line: FileTold { path, told },
                 guide: Some(guide),
@@ -136,7 +138,8 @@ fn tell_counters_in<'a>(alloc: Global, given: &Given<'a>) -> Result<ToldCounters
     let path = given.path;
     match judge_counters(alloc, &given.bytes)? {
         Judged::Taken(rows) => {
-            let told = Told::Taken(rows.as_slice().len() as u64, Listed::Counters);
+            let count = rows.as_slice().len() as u64;
+            let told = Told::Taken(count, Listed::Counters, no_warnings(alloc));
             Ok(ToldCounters {
                 line: Some(FileTold { path, told }),
                 rows: Some(rows),

@@ -2,11 +2,11 @@
 //! status.
 //!
 //! Proved:
-//! - what is printed is a line for each file that was given, the guides in their order, then the setup, then the counters; and the status
-//!   is 0 exactly where each of them is told as taken, else 3 (`check_main`);
-//! - what is told of a file is what its bytes say: a guide or counters are taken, with their size, where their reader gives them, and else
-//!   refused in the words of their fault; a setup file likewise, and where the others are taken, by what `Setup::build` makes of just
-//!   these rows; it is left open only where another file is refused (`tell_files`, `judge_setup`);
+//! - what is printed is a line for each file that was given, the guides in their order, then the setup, then the counters, and after it a
+//!   line for each of its warnings; and the status is 0 exactly where each of them is told as taken, else 3 (`check_main`);
+//! - what is told of a file is what its bytes say: a guide or counters are taken, with their size, where their reader gives them, a guide
+//!   with just its warnings, and else refused in the words of their fault; a setup file likewise, and where the others are taken, by what
+//!   `Setup::build` makes of just these rows; it is left open only where another file is refused (`tell_files`, `judge_setup`);
 //! - a failed run prints no line of a file, unless standard output itself failed; it ends with 2, 5 or 6; one that doesn't fail leaves
 //!   standard error as it was;
 //! - the words are read as clap's definitions say, and are usage only where they are no command line.
@@ -26,6 +26,7 @@ mod lines;
 mod node_id;
 mod run;
 mod told;
+mod warned;
 
 pub use command::{Asked, Options, read_words};
 pub use failure::Failure;

@@ -1,10 +1,9 @@
 ghost use Rattle.std.specs.Prelude.{◌≡◌, ◌++◌, ◌⊎◌, IfOk, OnOk};
 ghost use Rattle.std.specs.List.{list_all};
 ghost use Rattle.check_command.specs.Lines as lines;
-ghost use Rattle.check_command.specs.declared.told.Told.TheVariants as told;
 
 use crate::told::{FileTold, Listed, Told};
-use hub_kinds::NoMemory;
+use hub_kinds::{NoMemory, Text};
 use itoa::Buffer;
 use std::alloc::Global;
 
@@ -19,14 +18,14 @@ fn noun_of(what: Listed) -> &'static [u8]
     ensures { result.now ≡ lines.noun_of what }
 {
     match what {
-        Listed::Slots => b" slots",
+        Listed::Slots => b" segments and loops",
         Listed::Partners => b" partners",
         Listed::Counters => b" counters",
     }
 }
 
 fn append_count(out: &mut Vec<u8>, count: u64, what: Listed) -> Result<(), NoMemory>
-    ensures { OnOk result (out.new.items ≡ out.old.items ++ lines.told_text (told.Taken count what)) }
+    ensures { OnOk result (out.new.items ≡ out.old.items ++ lines.taken_text count what) }
 {
     let mut digits = Buffer::new();
     append(out, b"ok, ")?;
@@ -38,7 +37,7 @@ fn append_told(out: &mut Vec<u8>, told: &Told) -> Result<(), NoMemory>
     ensures { OnOk result (out.new.items ≡ out.old.items ++ lines.told_text told.now) }
 {
     match told {
-        Told::Taken(count, what) => append_count(out, *count, *what),
+        Told::Taken(count, what, _) => append_count(out, *count, *what),
         Told::Open => append(out, b"read, and not judged, since another file is refused"),
         Told::Refused(text) => append(out, text.as_slice()),
     }
@@ -53,13 +52,39 @@ fn append_line(out: &mut Vec<u8>, file: &FileTold<'_>) -> Result<(), NoMemory>
     append(out, b"\n")
 }
 
+fn append_warning_line(out: &mut Vec<u8>, path: &[u8], text: &[u8]) -> Result<(), NoMemory>
+    ensures { OnOk result (out.new.items ≡ out.old.items ++ lines.warning_line path.now text.now) }
+{
+    append(out, path)?;
+    append(out, b": warning: ")?;
+    append(out, text)?;
+    append(out, b"\n")
+}
+
+fn append_warning_lines(out: &mut Vec<u8>, path: &[u8], warnings: &[Text]) -> Result<(), NoMemory>
+    ensures { OnOk result (out.new.items ≡ out.old.items ++ lines.warning_lines path.now warnings.now) }
+{
+    for i in 0..warnings.len() {
+        append_warning_line(out, path, warnings[i].as_slice())?;
+    }
+    Ok(())
+}
+
+/// The line of a file, and those of its warnings.
+fn append_lines(out: &mut Vec<u8>, file: &FileTold<'_>) -> Result<(), NoMemory>
+    ensures { OnOk result (out.new.items ≡ out.old.items ++ lines.file_lines file.now) }
+{
+    append_line(out, file)?;
+    append_warning_lines(out, file.path.as_bytes(), file.told.warnings())
+}
+
 /// The lines of these files.
 pub fn lines_of(alloc: Global, files: &[FileTold<'_>]) -> Result<Vec<u8>, NoMemory>
     ensures { IfOk result (λ text. text.items ≡ lines.lines_of files.now) }
 {
     let mut text = Vec::new(alloc);
     for file in files {
-        append_line(&mut text, file)?;
+        append_lines(&mut text, file)?;
     }
     Ok(text)
 }

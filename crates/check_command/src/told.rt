@@ -1,7 +1,7 @@
 ghost use Rattle.std.specs.Prelude.{◌≡◌};
 ghost use Rattle.check_command.specs.Lines as lines;
 
-use hub_kinds::Text;
+use hub_kinds::{Text, Texts};
 
 /// What a file lists.
 #[derive(Clone, Copy, Debug, PartialEq, Eq)]
@@ -14,8 +14,8 @@ pub enum Listed {
 /// What is told of a file.
 #[derive(Debug, Drop)]
 pub enum Told {
-    /// It is taken, and has so many of what it lists.
-    Taken(u64, Listed),
+    /// It is taken, has so many of what it lists, and these warnings, in words.
+    Taken(u64, Listed, Texts),
     /// It is read, and isn't judged, since another file is refused.
     Open,
     /// It is refused: why, in words.
@@ -28,8 +28,18 @@ impl Told {
         ensures { result ≡ lines.is_taken self.now }
     {
         match self {
-            Told::Taken(_, _) => true,
+            Told::Taken(_, _, _) => true,
             _ => false,
+        }
+    }
+
+    /// Its warnings, in words.
+    pub fn warnings(&self) -> &[Text]
+        ensures { result.now ≡ lines.warnings_in self.now }
+    {
+        match self {
+            Told::Taken(_, _, warnings) => warnings.as_slice(),
+            _ => &[],
         }
     }
 }

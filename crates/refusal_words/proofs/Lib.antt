@@ -1,3 +1,4 @@
 pub mod FittingBoth
 pub mod Looked
 pub mod Numbers
+pub mod Texts

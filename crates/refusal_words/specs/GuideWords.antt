@@ -6,8 +6,11 @@ use Rattle.refusal_words.specs.FileWords.{key_words}
 use Rattle.guide_tree.specs.Words.{Trees}
 use Rattle.guide_tree.specs.declared.fault.GuideFault.{GuideFault}
 use Rattle.guide_tree.specs.declared.fault.GuideFault.TheVariants as own
-use Rattle.refusal_words.specs.Nodes.{IsCommon, id_at}
+use Rattle.refusal_words.specs.BoundsWords.{bounds_words}
+use Rattle.refusal_words.specs.ConditionWords.{condition_words}
+use Rattle.refusal_words.specs.Nodes.{IsCommon, id_at, numbered_node}
 use Rattle.refusal_words.specs.Places.{in_place, place_text}
+use Rattle.refusal_words.specs.TriggerWords.{trigger_words}
 use Rattle.refusal_words.specs.declared.file_words.KeyFault.{KeyFault}
 use Rattle.refusal_words.specs.declared.file_words.KeyFault.TheVariants as key_fault
 
@@ -39,31 +42,20 @@ abbrev pub segment_words : List (List ℕ) → List ℕ
 segment_words [] = codes "one segment"
 segment_words (id ∷ elements) = id ++ elements_words 1 elements
 
--- what is said of a slot, or of a loop
-abbrev pub slot_words : (kind : List ℕ) → (slot : ℕ) → (name text : List ℕ) → List ℕ
-slot_words kind slot name text = in_place kind slot name ++ text
-
--- slot 0 is none
-abbrev pub condition_words : (slot : ℕ) → (name : List ℕ) → List ℕ
-condition_words slot name = if slot == 0 then codes "a dependency, or `hl`, that can't be"
-    else slot_words (codes "slot") slot name (codes "a condition, a pick or a label that can't be")
-
 abbrev pub rivals_words : (first : ℕ) → (first_name : List ℕ) → (second : ℕ) → (second_name : List ℕ) → List ℕ
 rivals_words first first_name second second_name =
-    place_text (codes "slot") first first_name
-    ++ (codes " and " ++ (place_text (codes "slot") second second_name ++ codes " may come at one place, and both fit "))
+    place_text (codes "segment") first first_name
+    ++ (codes " and " ++ (place_text (codes "segment") second second_name ++ codes " may come at one place, and both fit "))
 
--- a guide's own fault, by what the slots that it names are called; of rivals, what stands before the segment that fits both
-abbrev pub own_words : GuideFault → (id : ℕ → List ℕ) → List ℕ
-own_words own.TooDeep id = codes "loops are nested over 8 deep"
-own_words own.TooMany id = codes "over 2000 nodes"
-own_words (own.BadBounds slot) id =
-    slot_words (codes "slot") slot (id slot) (codes "bounds that can't be met or are too large, or an id that is none")
-own_words (own.BadTrigger slot) id =
-    slot_words (codes "loop") slot (id slot) (codes "its first node isn't a segment with min 1 and max 1")
-own_words (own.BadCondition slot) id = condition_words slot (id slot)
-own_words (own.Ambiguous first second) id = rivals_words first (id first) second (id second)
-own_words own.NoMemory id = codes "no memory"
+-- a guide's own fault, by the nodes that have the numbers; of rivals, what stands before the segment that fits both
+abbrev pub own_words : GuideFault → Trees → List ℕ
+own_words own.TooDeep nodes = codes "loops are nested over 8 deep"
+own_words own.TooMany nodes = codes "over 2000 nodes"
+own_words (own.BadBounds slot) nodes = bounds_words slot (numbered_node slot nodes)
+own_words (own.BadTrigger slot) nodes = trigger_words slot (numbered_node slot nodes)
+own_words (own.BadCondition slot) nodes = condition_words slot (numbered_node slot nodes)
+own_words (own.Ambiguous first second) nodes = rivals_words first (id_at nodes first) second (id_at nodes second)
+own_words own.NoMemory nodes = codes "no memory"
 
 -- what is shown of two slots, in words
 abbrev pub IsCommonSaid : Trees → (first second : ℕ) → List ℕ → Type 0
@@ -73,5 +65,5 @@ IsCommonSaid nodes first second text = (s : List (List ℕ)) × IsCommon nodes f
 abbrev pub IsGuideSaid : Trees → GuideFault → List ℕ → Type 0
 IsGuideSaid nodes (own.Ambiguous first second) text =
     (common : List ℕ) × IsCommonSaid nodes first second common
-    × (text ≡ own_words (own.Ambiguous first second) (id_at nodes) ++ common)
-IsGuideSaid nodes fault text = text ≡ own_words fault (id_at nodes)
+    × (text ≡ own_words (own.Ambiguous first second) nodes ++ common)
+IsGuideSaid nodes fault text = text ≡ own_words fault nodes

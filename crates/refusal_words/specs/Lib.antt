@@ -1,3 +1,7 @@
+pub mod Bounds
+pub mod BoundsWords
+pub mod ConditionWords
+pub mod Conditions
 pub mod FileWords
 pub mod GuideWords
 pub mod Nodes
@@ -5,3 +9,5 @@ pub mod Places
 pub mod Search
 pub mod SetupNames
 pub mod SetupWords
+pub mod TriggerWords
+pub mod WarningWords

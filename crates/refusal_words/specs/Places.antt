@@ -17,3 +17,13 @@ in_place kind number name = place_text kind number name ++ codes ": "
 -- a key, as it is written
 abbrev pub key_text : List ℕ → List ℕ
 key_text key = codes "`" ++ (key ++ codes "`")
+
+-- `"ID"` and what is said of it
+abbrev pub quoted : (id text : List ℕ) → List ℕ
+quoted id text = codes "\"" ++ (id ++ (codes "\"" ++ text))
+
+abbrev pub one_number : (before : List ℕ) → ℕ → (after : List ℕ) → List ℕ
+one_number before number after = before ++ (decimal number ++ after)
+
+abbrev pub two_numbers : (before : List ℕ) → ℕ → (between : List ℕ) → ℕ → List ℕ
+two_numbers before number between other = before ++ (decimal number ++ (between ++ decimal other))

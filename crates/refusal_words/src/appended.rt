@@ -1,5 +1,5 @@
 ghost use Rattle.std.specs.Prelude.{◌≡◌, ◌++◌, OnOk, decimal};
-ghost use Rattle.refusal_words.specs.Places.{in_place, name_text, place_text};
+ghost use Rattle.refusal_words.specs.Places.{in_place, name_text, one_number, place_text, quoted, two_numbers};
 
 use hub_kinds::NoMemory;
 use itoa::Buffer;
@@ -57,4 +57,44 @@ pub fn append_in_place(
 {
     append_place(out, kind, number, name)?;
     append(out, b": ")
+}
+
+/// Adds a number between two texts.
+pub fn append_one(
+    out: &mut Vec<u8>,
+    before: &[u8],
+    number: u64,
+    after: &[u8],
+) -> Result<(), NoMemory>
+    ensures { OnOk result (out.new.items ≡ out.old.items ++ one_number before.now number after.now) }
+{
+    append(out, before)?;
+    append_number(out, number)?;
+    append(out, after)
+}
+
+/// Adds two numbers, each after a text.
+pub fn append_two(
+    out: &mut Vec<u8>,
+    before: &[u8],
+    number: u64,
+    between: &[u8],
+    other: u64,
+) -> Result<(), NoMemory>
+    ensures { OnOk result (out.new.items ≡ out.old.items ++ two_numbers before.now number between.now other) }
+{
+    append(out, before)?;
+    append_number(out, number)?;
+    append(out, between)?;
+    append_number(out, other)
+}
+
+/// Adds an id in quotes, and what is said of it.
+pub fn append_quoted(out: &mut Vec<u8>, id: &[u8], text: &[u8]) -> Result<(), NoMemory>
+    ensures { OnOk result (out.new.items ≡ out.old.items ++ quoted id.now text.now) }
+{
+    append(out, b"\"")?;
+    append(out, id)?;
+    append(out, b"\"")?;
+    append(out, text)
 }

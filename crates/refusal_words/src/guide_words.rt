@@ -1,14 +1,16 @@
 ghost use Rattle.std.specs.Prelude.{◌≡◌, ◌++◌, ℕ, List, IfOk, IfSome, OnOk};
 ghost use Rattle.guide_tree.specs.Words.{nodes_view, numbered};
 ghost use Rattle.refusal_words.specs.GuideWords as words;
-ghost use Rattle.refusal_words.specs.Nodes as ids;
 ghost use Rattle.refusal_words.specs.Nodes.{FitsBoth};
 ghost use Rattle.refusal_words.specs.Search.{viewed};
 
 use crate::appended::{append, append_in_place, append_number, append_place};
+use crate::bounds_words::append_bounds;
 use crate::common::common_segment;
+use crate::condition_words::append_condition;
 use crate::file_words::{KeyFault, append_key};
 use crate::nodes::{id_at, node_at};
+use crate::trigger_words::append_trigger;
 use guide_toml::GuideFileFault;
 use guide_tree::{GuideFault, Node};
 use hub_kinds::{NoMemory, Text, Texts};
@@ -155,26 +157,14 @@ pub fn append_guide_words(
 /// Adds what is wrong with a guide; of rivals, what stands before the segment that fits both.
 fn append_own(out: &mut Vec<u8>, fault: &GuideFault, nodes: &[Node]) -> Result<(), NoMemory>
     ensures { OnOk result (out.new.items
-        ≡ out.old.items ++ words.own_words fault.now (ids.id_at (numbered 1 (nodes_view nodes.now)))) }
+        ≡ out.old.items ++ words.own_words fault.now (numbered 1 (nodes_view nodes.now))) }
 {
     match fault {
         GuideFault::TooDeep => append(out, b"loops are nested over 8 deep"),
         GuideFault::TooMany => append(out, b"over 2000 nodes"),
-        GuideFault::BadBounds(slot) => append_slot(
-            out,
-            b"slot",
-            *slot,
-            id_at(nodes, *slot),
-            b"bounds that can't be met or are too large, or an id that is none",
-        ),
-        GuideFault::BadTrigger(slot) => append_slot(
-            out,
-            b"loop",
-            *slot,
-            id_at(nodes, *slot),
-            b"its first node isn't a segment with min 1 and max 1",
-        ),
-        GuideFault::BadCondition(slot) => append_condition(out, *slot, id_at(nodes, *slot)),
+        GuideFault::BadBounds(slot) => append_bounds(out, *slot, nodes),
+        GuideFault::BadTrigger(slot) => append_trigger(out, *slot, nodes),
+        GuideFault::BadCondition(slot) => append_condition(out, *slot, nodes),
         GuideFault::Ambiguous(first, second) => append_rivals(
             out,
             *first,
@@ -184,35 +174,6 @@ fn append_own(out: &mut Vec<u8>, fault: &GuideFault, nodes: &[Node]) -> Result<(
         ),
         GuideFault::NoMemory => append(out, b"no memory"),
     }
-}
-
-/// Adds what is said of a slot, or of a loop.
-fn append_slot(
-    out: &mut Vec<u8>,
-    kind: &[u8],
-    slot: u32,
-    name: &[u8],
-    text: &[u8],
-) -> Result<(), NoMemory>
-    ensures { OnOk result (out.new.items ≡ out.old.items ++ words.slot_words kind.now slot name.now text.now) }
-{
-    append_in_place(out, kind, u64::from(slot), name)?;
-    append(out, text)
-}
-
-fn append_condition(out: &mut Vec<u8>, slot: u32, name: &[u8]) -> Result<(), NoMemory>
-    ensures { OnOk result (out.new.items ≡ out.old.items ++ words.condition_words slot name.now) }
-{
-    if slot == 0 {
-        return append(out, b"a dependency, or `hl`, that can't be");
-    }
-    append_slot(
-        out,
-        b"slot",
-        slot,
-        name,
-        b"a condition, a pick or a label that can't be",
-    )
 }
 
 /// Adds the two slots that are rivals.
@@ -226,8 +187,8 @@ fn append_rivals(
     ensures { OnOk result (out.new.items
         ≡ out.old.items ++ words.rivals_words first first_name.now second second_name.now) }
 {
-    append_place(out, b"slot", u64::from(first), first_name)?;
+    append_place(out, b"segment", u64::from(first), first_name)?;
     append(out, b" and ")?;
-    append_place(out, b"slot", u64::from(second), second_name)?;
+    append_place(out, b"segment", u64::from(second), second_name)?;
     append(out, b" may come at one place, and both fit ")
 }

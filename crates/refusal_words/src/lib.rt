@@ -1,5 +1,5 @@
-//! Words for the refusals of guide files, setup files, counters files and setups: one sentence for each, which names the key, the node,
-//! the two slots and a segment that fits both, the partner, the route or the row of counters.
+//! Words for the refusals of guide files, setup files, counters files and setups, and for the warnings of guides: one sentence for each,
+//! which names the key, the node, the two slots and a segment that fits both, the partner, the route or the row of counters.
 //!
 //! Proved:
 //! - each sentence is the one that the definitions give, byte for byte, of the refusal and of the rows that it speaks of;
@@ -10,15 +10,22 @@
 #![tactic(auto)]
 
 mod appended;
+mod bounds;
+mod bounds_words;
 mod common;
+mod condition_words;
+mod conditions;
 mod file_words;
 mod guide_words;
 mod names;
 mod nodes;
 mod setup_words;
+mod trigger_words;
+mod warning_words;
 
 pub use common::common_segment;
 pub use file_words::append_file_words;
 pub use guide_words::{append_guide_file_words, append_guide_words};
 pub use names::SetupNames;
 pub use setup_words::append_setup_words;
+pub use warning_words::append_warning;

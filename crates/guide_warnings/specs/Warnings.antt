@@ -1,0 +1,14 @@
+-- Own: the warnings of a guide, in its order.
+use Rattle.std.specs.Prelude.{List, [], ◌∷◌, ◌++◌, if◌then◌else◌}
+use Rattle.guide_tree.specs.Words.{GuideTree}
+use Rattle.guide_tree.specs.declared.rows.GuideHead.{GuideHead}
+use Rattle.guide_warnings.specs.Headers.{lets_headers_through}
+use Rattle.guide_warnings.specs.Nodes.{nodes_warnings}
+use Rattle.guide_warnings.specs.declared.warning.Warning.{Warning}
+use Rattle.guide_warnings.specs.declared.warning.Warning.TheVariants as warning
+
+abbrev pub head_warnings : GuideHead → List Warning
+head_warnings head = if lets_headers_through head then warning.HeaderLetThrough ∷ [] else []
+
+abbrev pub warnings_of : GuideTree → List Warning
+warnings_of g = head_warnings g.head ++ nodes_warnings g.nodes

@@ -1,0 +1,19 @@
+//! What a guide that is accepted holds and can't be meant, or is dangerous: its warnings.
+//!
+//! Proved: `warnings_of` gives just the warnings that the definition lists, in its order: that of a header which may be let through, then
+//! the codes that can't be meant, node by node and element by element, of each list the first of each kind.
+//!
+//! It goes over the guide once, and looks each code up in the codes of its row.
+//!
+//! Source: own; X12.5, interchange header, and the 999 guide (005010X231), IK304, for headers that are let through; X12.6, code lists.
+#![tactic(auto)]
+
+mod codes;
+mod headers;
+mod nodes;
+mod rows;
+mod warning;
+mod warnings;
+
+pub use warning::{At, CodeDoubt, CodeWarning, Warning};
+pub use warnings::warnings_of;

@@ -1,0 +1,41 @@
+use hub_kinds::Text;
+
+/// An element of a segment, by its position from 1 on; in a composite the component too, else 0.
+#[derive(Clone, Copy, Debug, PartialEq, Eq)]
+pub struct At {
+    pub element: u64,
+    pub component: u64,
+}
+
+/// Why a code can't be meant.
+#[derive(Clone, Copy, Debug, PartialEq, Eq)]
+pub enum CodeDoubt {
+    /// It has a comma or a stroke, as if it were several.
+    Joined,
+    /// No value of its length is allowed.
+    OtherLength,
+    /// It is listed as used and as not used.
+    AlsoUnused,
+    /// A segment is picked by it, and its element may never be it.
+    NotListed,
+}
+
+/// A code of a segment position, and the first of its list that such a doubt is of.
+#[derive(Debug, Drop)]
+pub struct CodeWarning {
+    /// The number of the segment position.
+    pub slot: u32,
+    /// The segment id.
+    pub id: Text,
+    pub at: At,
+    pub doubt: CodeDoubt,
+    pub code: Text,
+}
+
+/// What a guide that is accepted holds, and can't be meant or is dangerous.
+#[derive(Debug, Drop)]
+pub enum Warning {
+    /// A set is accepted although it has a segment that the guide doesn't know, also one that begins with ISA.
+    HeaderLetThrough,
+    Code(CodeWarning),
+}

@@ -1,0 +1,30 @@
+ghost use Rattle.std.specs.Prelude.{◌≡◌, ◌++◌, IfOk, OnOk};
+ghost use Rattle.guide_tree.specs.Words.{guide_of};
+ghost use Rattle.guide_warnings.specs.Warnings as warnings;
+
+use crate::headers::lets_headers_through;
+use crate::nodes::push_nodes;
+use crate::warning::Warning;
+use guide_tree::{Guide, GuideHead};
+use hub_kinds::NoMemory;
+use std::alloc::Global;
+
+fn push_head(found: &mut Vec<Warning>, head: &GuideHead) -> Result<(), NoMemory>
+    ensures { OnOk result (found.new.items ≡ found.old.items ++ warnings.head_warnings head.now) }
+{
+    if lets_headers_through(head) {
+        found.push(Warning::HeaderLetThrough)?;
+    }
+    Ok(())
+}
+
+/// The warnings of a guide, in the guide's order. The only error is want of memory.
+pub fn warnings_of(alloc: Global, guide: &Guide) -> Result<Vec<Warning>, NoMemory>
+    ensures { IfOk result (λ found. found.items ≡ warnings.warnings_of (guide_of guide.now)) }
+{
+    let mut found = Vec::new(alloc);
+    let rows = guide.rows();
+    push_head(&mut found, &rows.head)?;
+    push_nodes(alloc, &mut found, &rows.nodes)?;
+    Ok(found)
+}

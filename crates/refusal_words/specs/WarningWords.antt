@@ -1,0 +1,34 @@
+-- Own: what a warning says of a guide that is accepted.
+use Rattle.std.specs.Prelude.{ℕ, ◌==◌, List, [], ◌++◌, codes, decimal, if◌then◌else◌}
+use Rattle.guide_warnings.specs.declared.warning.At.{At}
+use Rattle.guide_warnings.specs.declared.warning.CodeDoubt.{CodeDoubt}
+use Rattle.guide_warnings.specs.declared.warning.CodeDoubt.TheVariants as doubt
+use Rattle.guide_warnings.specs.declared.warning.CodeWarning.{CodeWarning}
+use Rattle.guide_warnings.specs.declared.warning.Warning.{Warning}
+use Rattle.guide_warnings.specs.declared.warning.Warning.TheVariants as warning
+use Rattle.refusal_words.specs.Places.{in_place}
+
+abbrev pub component_number_words : ℕ → List ℕ
+component_number_words number = codes ", component " ++ decimal number
+
+-- component 0 is none
+abbrev pub component_words : ℕ → List ℕ
+component_words number = if number == 0 then [] else component_number_words number
+
+abbrev pub at_words : At → List ℕ
+at_words at = codes "element " ++ (decimal at.element ++ (component_words at.component ++ codes ": "))
+
+abbrev pub doubt_words : CodeDoubt → List ℕ
+doubt_words doubt.Joined = codes " has a comma or a stroke; a space stands between codes"
+doubt_words doubt.OtherLength = codes " is shorter or longer than the element may be"
+doubt_words doubt.AlsoUnused = codes " is listed as used and as not used"
+doubt_words doubt.NotListed = codes " of `pick` isn't one of the element's codes"
+
+abbrev pub code_words : CodeWarning → List ℕ
+code_words w =
+    in_place (codes "segment") w.slot w.id ++ (at_words w.at ++ (codes "the code " ++ (w.code ++ doubt_words w.doubt)))
+
+abbrev pub warning_words : Warning → List ℕ
+warning_words warning.HeaderLetThrough =
+    codes "a segment that the guide doesn't know is accepted, also one that begins with ISA: a receiver may read it as a header"
+warning_words (warning.Code w) = code_words w
