@@ -9,7 +9,8 @@ from trial import COUNTERS, H850, H856, PROGRAM, SETUP, Page
 
 CHECK = os.path.abspath(os.environ.get("NIGHTHUB_CHECK", os.path.join(os.path.dirname(PROGRAM), "..", "..", "nighthub_check", "out",
                                                                       "nighthub_check")))
-OK = {"guide_0": "ok, 14 slots", "guide_1": "ok, 12 slots", "setup": "ok, 2 partners", "counters": "ok, 2 counters"}
+OK = {"guide_0": "ok, 14 segments and loops", "guide_1": "ok, 12 segments and loops", "setup": "ok, 2 partners",
+      "counters": "ok, 2 counters"}
 ORDER = ("guide_0", "guide_1", "setup", "counters")
 
 
@@ -36,11 +37,10 @@ def lines(**said):
     return "".join(f"{kind}.toml: {text}\n" for kind, text in said.items())
 
 
-BOUNDS = "slot 1 (REF): bounds that can't be met or are too large, or an id that is none"
-TRIGGER = "loop 1 (N9): its first node isn't a segment with min 1 and max 1"
-CONDITION = "slot 1 (REF): a condition, a pick or a label that can't be"
+REF = "segment 1 (REF): "
+TWICE = "an element stands twice in a condition or in `pick`, or an earlier segment has its label"
 NO_DEPENDENCY = "a dependency, or `hl`, that can't be"
-BOTH = "slot 1 (REF) and slot 2 (REF) may come at one place, and both fit REF"
+BOTH = "segment 1 (REF) and segment 2 (REF) may come at one place, and both fit REF"
 
 GUIDES = {
     "not TOML": ('name = "A', "no TOML table"),
@@ -57,19 +57,59 @@ GUIDES = {
     "8 tolerated": ('tolerate_segment = ["8"]\n' + SMALL, "`tolerate_segment` has another type or form"),
     "loops nested nine deep": (loops(9), "loops are nested over 8 deep"),
     "2,001 nodes": (many(2001), "over 2000 nodes"),
-    "least over most": (nodes(segment(least=2)), BOUNDS),
-    "no codes behind =": (elements("128 M ID 2 3 ="), BOUNDS),
-    "first child twice": (nodes(loop(segment("N9", 1, 2))), TRIGGER),
-    "an empty loop": (nodes(loop("")), TRIGGER),
-    "positions over the rows": (elements(*TWO, more=', conditions=["R0203"]'), CONDITION),
+    "least over most": (nodes(segment(least=2)), REF + "min 2 is over max 1"),
+    "a million uses": (nodes(segment(most=1000000)), REF + "max 1000000 is over 999999"),
+    "a loop's least over its most": (nodes(loop(segment("N9", 1, 1)).replace("min=0", "min=2")), "loop 1 (N9): min 2 is over max 1"),
+    "an id in lower case": (nodes(segment("fob")), 'segment 1 (fob): "fob" is no id of a segment position'),
+    "ISA": (nodes(segment("ISA")), 'segment 1 (ISA): "ISA" is no id of a segment position'),
+    "41 elements": (elements(*["128 O ID 2 3"] * 41), REF + "41 elements are over 40"),
+    "shortest 0": (elements("128 M ID 0 3"), REF + "element 1: shortest 0 is under 1"),
+    "shortest over longest": (elements(*TWO, "128 M ID 5 4"), REF + "element 3: shortest 5 is over longest 4"),
+    "longest 10,000": (elements("128 M AN 1 10000"), REF + "element 1: longest 10000 is over 9999"),
+    "a thousand repeats": (elements("128 M ID 2 3 x1000"), REF + "element 1: x1000 is out of 1 to 999"),
+    "no codes behind =": (elements("128 M ID 2 3 ="), REF + "element 1: no code stands after ="),
+    "no codes behind !": (elements("128 M ID 2 3 = DP !"), REF + "element 1: no code stands after !"),
+    "21 components": (elements("- M C" + " ; 128 O ID 2 3" * 21), REF + "element 1: 21 components are over 20"),
+    "a component": (elements("- M C ; 128 N ; 128 M ID 0 3"), REF + "element 1: component 2: shortest 0 is under 1"),
+    "first child twice": (nodes(loop(segment("N9", 1, 2))),
+                          "loop 1 (N9): its first segment needs min 1 and max 1, and has min 1 and max 2"),
+    "an empty loop": (nodes(loop("")), "loop 1 (N9): it has no node"),
+    "a loop first in a loop": (nodes(loop(loop(segment("N9", 1, 1)))), "loop 1 (N9): its first node is a loop"),
+    "positions over the rows": (elements(*TWO, more=', conditions=["R0203"]'), REF + "a condition names element 3 of 2"),
+    "one position": (elements(*TWO, more=', conditions=["R02"]'), REF + "a condition names fewer than two elements"),
+    "a position twice": (elements(*TWO, more=', conditions=["R0202"]'), REF + TWICE),
+    "a pick over the rows": (elements(*TWO, more=', pick=["3 DP"]'), REF + "`pick` names element 3 of 2"),
+    "a pick without codes": (elements(*TWO, more=', pick=["1"]'), REF + "`pick` has no code for element 1"),
     "a label twice": (nodes(segment(more='label="R", '), segment("DTM", more='label="R", ')),
-                      "slot 2 (DTM): a condition, a pick or a label that can't be"),
+                      "segment 2 (DTM): " + TWICE),
     "a hierarchy without HL": ('hl = {pairs=["/S"], sequential=true}\n' + SMALL, NO_DEPENDENCY),
     "a dependency on no slot": (DEPENDS + SMALL, NO_DEPENDENCY),
     "two that fit one segment": (nodes(segment(), segment()), BOTH),
     "two with a code in common": (nodes(segment(more='pick=["1 AB DP"], '), segment(more='pick=["1 DP IA"], ')),
                                   BOTH + " (element 1 = DP)"),
     "one that picks": (nodes(segment(more='pick=["1 AB DP"], '), segment()), BOTH + " (element 1 = AB)"),
+}
+
+HEADER = "a segment that the guide doesn't know is accepted, also one that begins with ISA: a receiver may read it as a header"
+CODE = "segment 1 (REF): element 1: the code"
+
+WARNED = {
+    "1 tolerated": ('tolerate_segment = ["1"]\n' + SMALL, [HEADER]),
+    "6 tolerated, and ISA known": ('dictionary = ["ISA"]\ntolerate_segment = ["6"]\n' + SMALL, [HEADER]),
+    "6 tolerated": ('dictionary = ["PER"]\ntolerate_segment = ["6"]\n' + SMALL, []),
+    "ISA known": ('dictionary = ["ISA"]\ntolerate_segment = ["7"]\n' + SMALL, []),
+    "a comma": (elements("128 M ID 2 5 = DP,IA"), [f"{CODE} DP,IA has a comma or a stroke; a space stands between codes"]),
+    "a stroke": (elements("128 M ID 2 5 = DP IA|VN"), [f"{CODE} IA|VN has a comma or a stroke; a space stands between codes"]),
+    "a code too long": (elements("128 M ID 2 2 = DP DPX"), [f"{CODE} DPX is shorter or longer than the element may be"]),
+    "a number too long": (elements("128 M N0 1 2 = -10 100"), [f"{CODE} 100 is shorter or longer than the element may be"]),
+    "a code used and not used": (elements("128 M ID 2 3 = DP ! DP"), [f"{CODE} DP is listed as used and as not used"]),
+    "a pick of no code": (nodes(segment(element="128 M ID 2 3 = DP", more='pick=["1 DP IA"], ')),
+                          [f"{CODE} IA of `pick` isn't one of the element's codes"]),
+    "a component": (elements("- M C ; 128 M ID 2 2 = DP ; 128 M ID 2 2 = DP ! XXX"),
+                    ["segment 1 (REF): element 1, component 2: the code XXX is shorter or longer than the element may be"]),
+    "in a loop, two warnings": (nodes(loop(segment("N9", 1, 1, "128 M ID 2 2 = DP,IA"))),
+                                ["segment 2 (N9): element 1: the code DP,IA has a comma or a stroke; a space stands between codes",
+                                 "segment 2 (N9): element 1: the code DP,IA is shorter or longer than the element may be"]),
 }
 
 FILES = {
@@ -109,7 +149,7 @@ def examples():
     page = Page("ERRORS.md")
     whole = {"guide_0": H850, "guide_1": H856, "setup": SETUP, "counters": COUNTERS}
     page.want("all files", check(**whole), (0, lines(**OK), ""))
-    page.want("a guide alone", check(guide_0=H850), (0, lines(guide_0="ok, 14 slots"), ""))
+    page.want("a guide alone", check(guide_0=H850), (0, lines(guide_0="ok, 14 segments and loops"), ""))
     page.want("a setup without counters", check(guide_0=H850, guide_1=H856, setup=SETUP),
               (0, lines(**{kind: OK[kind] for kind in ORDER[:3]}), ""))
     page.want("no word", run([]), (2, "", "nighthub_check: usage\n"))
@@ -121,6 +161,11 @@ def examples():
     page.want("a guide that isn't there", check(guide_0="/nowhere/file"), (3, "/nowhere/file: it can't be read\n", ""))
     for name, (guide, said) in GUIDES.items():
         page.want(name, check(guide_0=guide), (3, lines(guide_0=said), ""))
+    for name, (guide, said) in WARNED.items():
+        status, text, failed = check(guide_0=guide)
+        ok, *warnings = text.splitlines()
+        page.want(f"warned of: {name}", (status, ok.startswith("guide_0.toml: ok, "), warnings, failed),
+                  (0, True, [f"guide_0.toml: warning: {it}" for it in said], ""))
     for name, (setup, said) in FILES.items():
         page.want(f"a setup file: {name}", check(setup=setup), (3, lines(setup=said), ""))
     for name, (counters, said) in COUNTER_FILES.items():
@@ -130,11 +175,11 @@ def examples():
     page.want("a counter of 0", check(**{**whole, "counters": "set = 0".join(COUNTERS.rsplit("set = 1", 1))}),
               (3, lines(**{**OK, "setup": COUNTER}), ""))
     page.want("two guides with one name", check(guide_0=H850, guide_1=H850, setup=SETUP),
-              (3, lines(guide_0="ok, 14 slots", guide_1="ok, 14 slots",
+              (3, lines(guide_0="ok, 14 segments and loops", guide_1="ok, 14 segments and loops",
                         setup="partner 1 (ACME): a guide that isn't given, or two guides for the same sets"), ""))
     page.want("a setup beside a guide that is refused", check(guide_0=HEAD, setup=SETUP),
               (3, lines(guide_0="`nodes` is missing", setup="read, and not judged, since another file is refused"), ""))
     page.want("each guide's own refusal", check(guide_0="name = 7", guide_1=H856, setup=b"", counters=b""),
-              (3, lines(guide_0="`name` has another type or form", guide_1="ok, 12 slots", setup="`hub` is missing",
+              (3, lines(guide_0="`name` has another type or form", guide_1="ok, 12 segments and loops", setup="`hub` is missing",
                         counters="`version` is missing"), ""))
     return page
