@@ -41,22 +41,32 @@ impl<'a> CheckedSet<'a> {
         ensures { IfOk result (λ answer. answer ≡ answer_to self.entry earlier) }
     {
         let verdict = self.verdict(earlier);
-        let envelope = self.envelope;
-        let codes = set_codes(
-            alloc,
-            self.faults.as_slice(),
-            self.guide,
-            &envelope.header,
-            envelope.segments,
-            envelope.trailer.as_ref(),
-            earlier,
-        )?;
+        let CheckedSet {
+            guide,
+            faults,
+            codes,
+            envelope,
+            ..
+        } = self;
+        let codes = if earlier {
+            set_codes(
+                alloc,
+                faults.as_slice(),
+                guide,
+                &envelope.header,
+                envelope.segments,
+                envelope.trailer.as_ref(),
+                earlier,
+            )?
+        } else {
+            codes
+        };
         let (identifier, control, convention) = envelope.header.first_elements();
         Ok(SetAnswer {
             identifier: Lent::new(identifier),
             control: Lent::new(control),
             convention: Lent::new(convention),
-            faults: Items::from_vec(self.faults),
+            faults: Items::from_vec(faults),
             codes: Items::from_vec(codes),
             verdict,
         })
