@@ -43,7 +43,9 @@ NO_DEPENDENCY = "a dependency, or `hl`, that can't be"
 BOTH = "segment 1 (REF) and segment 2 (REF) may come at one place, and both fit REF"
 
 GUIDES = {
-    "not TOML": ('name = "A', "no TOML table"),
+    "not TOML": ('name = "A', "line 1, column 10: no TOML table"),
+    "a line that is no TOML": (SMALL.replace('set = "850"', 'set "850"'), "line 3, column 5: no TOML table"),
+    "a key twice": (SMALL + 'set = "850"\n', "line 8, column 1: no TOML table"),
     "no set": (SMALL.replace('set = "850"\n', ""), "`set` is missing"),
     "a set that is a number": (SMALL.replace('set = "850"', "set = 850"), "`set` has another type or form"),
     "a guide for FA": (SMALL.replace('"PO"', '"FA"'), "`group` has another type or form"),
@@ -113,21 +115,22 @@ WARNED = {
 }
 
 FILES = {
-    "no TOML": (b"hub=", "no TOML table"),
-    "no UTF-8": (b"\xff", "no TOML table"),
+    "no TOML": (b"hub=", "line 1, column 5: no TOML table"),
+    "no UTF-8": (b"\xff", "line 1, column 1: no UTF-8"),
+    "no UTF-8 in a comment, after a letter of two bytes": ("# a\n# \u00e9 ".encode() + b"\xe9\n", "line 2, column 6: no UTF-8"),
     "nothing": (b"", "`hub` is missing"),
     "a hub that is a number": (b"hub=1", "`hub` has another type or form"),
     "two keys of no setup": (b"zeta=1\nalpha=1", "`alpha` is no key of its table"),
 }
 
 COUNTER_FILES = {
-    "no UTF-8": (b"\xff", "no TOML table"),
+    "no UTF-8": (b"\xff", "line 1, column 1: no UTF-8"),
     "nothing": (b"", "`version` is missing"),
     "version 3": (b"version = 3", "`version` has another type or form"),
     "a group in version 1": (COUNTERS.replace("version = 2", "version = 1"), "`group` is no key of its table"),
 }
 
-FORM = "a name, a qualifier, an id or a code hasn't its form"
+FORM = "15 letters, digits, -, ., _ or, inside, spaces"
 DELIMITERS = "partner 2 (BOLT): a delimiter isn't one byte, isn't allowed, or stands for two of the four"
 ROUTE = "route 2 (BOLT): it leads to no partner, or to one twice, or its code has no form or is that of a later route"
 COUNTER = "counter 2 (BOLT): a number out of 1 to 999999999, a partner that isn't there, or one that has later counters too"
@@ -136,12 +139,17 @@ SETUPS = {
     "two with one name": (replaced(SETUP, 'name = "BOLT"', 'name = "ACME"'),
                           "partner 1 (ACME): a later partner has its name, or its qualifier and id"),
     "one delimiter for two": (replaced(SETUP, 'component = ":"', 'component = "|"'), DELIMITERS),
-    "a code of one byte": (replaced(SETUP, 'code = "BOLT"', 'code = "B"'), f"partner 2 (BOLT): {FORM}"),
-    "a hub without an id": (replaced(SETUP, 'id = "HUB"', 'id = ""'), f"the hub: {FORM}"),
+    "a code of one byte": (replaced(SETUP, 'code = "BOLT"', 'code = "B"'), f"partner 2 (BOLT): the code \"B\" isn't 2 to {FORM}"),
+    "a space at an id's end": (replaced(SETUP, 'id = "BOLT"', 'id = "BOLT "'), f"partner 2 (BOLT): the id \"BOLT \" isn't 1 to {FORM}"),
+    "a qualifier of three letters": (replaced(SETUP, 'qualifier = "ZZ"', 'qualifier = "ZZZ"'),
+                                     "the hub: the qualifier \"ZZZ\" isn't two letters or digits"),
+    "a name with a hyphen": (replaced(SETUP, 'name = "BOLT"', 'name = "BOLT-1"'),
+                             "partner 2 (BOLT-1): the name \"BOLT-1\" isn't 1 to 20 letters or digits"),
+    "a hub without an id": (replaced(SETUP, 'id = "HUB"', 'id = ""'), f"the hub: the id \"\" isn't 1 to {FORM}"),
     "a guide that isn't given": (replaced(SETUP, 'guides = ["H850"]', 'guides = ["H999"]'),
                                  "partner 2 (BOLT): a guide that isn't given, or two guides for the same sets"),
     "a route to nobody": (replaced(SETUP, 'to = "BOLT"', 'to = "CARL"'), ROUTE),
-    "a cap of 0": (replaced(SETUP, "cap = 1", "cap = 0"), "partner 2 (BOLT): a cap out of 1 to 99999"),
+    "a cap of 0": (replaced(SETUP, "cap = 1", "cap = 0"), "partner 2 (BOLT): the cap 0 is out of 1 to 99999"),
 }
 
 

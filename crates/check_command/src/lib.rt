@@ -7,12 +7,13 @@
 //! - what is told of a file is what its bytes say: a guide or counters are taken, with their size, where their reader gives them, a guide
 //!   with just its warnings, and else refused in the words of their fault; a setup file likewise, and where the others are taken, by what
 //!   `Setup::build` makes of just these rows; it is left open only where another file is refused (`tell_files`, `judge_setup`);
+//! - of bytes that write no table the line and the column are those of the first byte that is no UTF-8, or else of a place in the file;
 //! - a failed run prints no line of a file, unless standard output itself failed; it ends with 2, 5 or 6; one that doesn't fail leaves
 //!   standard error as it was;
 //! - the words are read as clap's definitions say, and are usage only where they are no command line.
 //!
-//! Only tested: that the bytes of the files are those at the paths, the id beside a node's number where a key is refused, and that standard
-//! output holds what is printed, of which the system tells nothing.
+//! Only tested: that the bytes of the files are those at the paths, that the place in UTF-8 that is no TOML is where its fault is, the id
+//! beside a node's number where a key is refused, and that standard output holds what is printed, of which the system tells nothing.
 //!
 //! Source: own.
 #![tactic(auto)]
@@ -23,6 +24,7 @@ mod files;
 mod judge;
 mod judged;
 mod lines;
+mod no_table;
 mod node_id;
 mod run;
 mod told;

@@ -1,3 +1,4 @@
+pub mod Mapped
 pub mod FittingBoth
 pub mod Looked
 pub mod Numbers

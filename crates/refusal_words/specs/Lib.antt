@@ -1,9 +1,11 @@
 pub mod Bounds
 pub mod BoundsWords
+pub mod CapWords
 pub mod ConditionWords
 pub mod Conditions
 pub mod FileWords
 pub mod GuideWords
+pub mod IdWords
 pub mod Nodes
 pub mod Places
 pub mod Search

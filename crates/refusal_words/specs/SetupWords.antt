@@ -25,19 +25,24 @@ where_words names (fault.BadCounter place) = row_words (codes "counter") names.c
 where_words names (fault.BadCap place) = row_words (codes "partner") names.partners place
 where_words names fault.NoMemory = []
 
+-- the text at a place; nothing where there is none
+abbrev pub text_at : (texts : List (List ℕ)) → (place : ℕ) → List ℕ
+text_at texts place = option_map_or (λ text. text) (slice_get texts place) []
+
 -- what is wrong there
-abbrev pub said_of : SetupFault → List ℕ
-said_of (fault.SamePartner place) = codes "a later partner has its name, or its qualifier and id"
-said_of (fault.BadDelimiters place) = codes "a delimiter isn't one byte, isn't allowed, or stands for two of the four"
-said_of (fault.BadId at) = codes "a name, a qualifier, an id or a code hasn't its form"
-said_of (fault.BadGuides (guided.Partner place)) = codes "a guide that isn't given, or two guides for the same sets"
-said_of (fault.BadGuides (guided.Guide place)) = codes "a later guide has its name"
-said_of (fault.BadRoute place) =
+abbrev pub said_of : SetupNames → SetupFault → List ℕ
+said_of names (fault.SamePartner place) = codes "a later partner has its name, or its qualifier and id"
+said_of names (fault.BadDelimiters place) = codes "a delimiter isn't one byte, isn't allowed, or stands for two of the four"
+said_of names (fault.BadId owner.Hub) = names.hub_ids
+said_of names (fault.BadId (owner.Partner place)) = text_at names.partner_ids place
+said_of names (fault.BadGuides (guided.Partner place)) = codes "a guide that isn't given, or two guides for the same sets"
+said_of names (fault.BadGuides (guided.Guide place)) = codes "a later guide has its name"
+said_of names (fault.BadRoute place) =
     codes "it leads to no partner, or to one twice, or its code has no form or is that of a later route"
-said_of (fault.BadCounter place) =
+said_of names (fault.BadCounter place) =
     codes "a number out of 1 to 999999999, a partner that isn't there, or one that has later counters too"
-said_of (fault.BadCap place) = codes "a cap out of 1 to 99999"
-said_of fault.NoMemory = codes "no memory"
+said_of names (fault.BadCap place) = text_at names.partner_caps place
+said_of names fault.NoMemory = codes "no memory"
 
 abbrev pub setup_words : SetupNames → SetupFault → List ℕ
-setup_words names why = where_words names why ++ said_of why
+setup_words names why = where_words names why ++ said_of names why

@@ -12,11 +12,13 @@
 mod appended;
 mod bounds;
 mod bounds_words;
+mod cap_words;
 mod common;
 mod condition_words;
 mod conditions;
 mod file_words;
 mod guide_words;
+mod id_words;
 mod names;
 mod nodes;
 mod setup_words;

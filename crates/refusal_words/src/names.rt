@@ -1,8 +1,10 @@
 ghost use Rattle.std.specs.Prelude.{◌≡◌, ℕ, List, map, IfOk};
 ghost use Rattle.refusal_words.specs.SetupNames as names;
 
+use crate::cap_words::cap_texts;
+use crate::id_words::{hub_text, partner_texts};
 use guide_tree::Guide;
-use hub_kinds::{Items, NoMemory, Texts, copy_text};
+use hub_kinds::{Items, NoMemory, Text, Texts, copy_text};
 use partner_setup::{CounterRow, PartnerRow, RouteRow, SetupRows};
 use std::alloc::Global;
 
@@ -59,13 +61,19 @@ fn names_of<T: Named>(alloc: Global, rows: &[T]) -> Result<Texts, NoMemory>
 }
 
 /// The names of the rows of a setup, which a refusal shows: those of partners, the codes of routes, the partners of counters and the
-/// names of guides, in their order.
+/// names of guides, in their order; and what is said of the hub's and the partners' ids and caps.
 #[derive(Debug, Drop)]
 pub struct SetupNames {
     pub partners: Texts,
     pub routes: Texts,
     pub counters: Texts,
     pub guides: Texts,
+    /// Which of the hub's qualifier, id and code hasn't its form.
+    pub hub_ids: Text,
+    /// The same of each partner, and of its name.
+    pub partner_ids: Texts,
+    /// What is said of each partner's cap, where it is refused.
+    pub partner_caps: Texts,
 }
 
 impl SetupNames {
@@ -86,6 +94,9 @@ impl SetupNames {
             routes: names_of(alloc, rows.routes.as_slice())?,
             counters: names_of(alloc, counters)?,
             guides: names_of(alloc, guides)?,
+            hub_ids: hub_text(alloc, &rows.hub)?,
+            partner_ids: partner_texts(alloc, rows.partners.as_slice())?,
+            partner_caps: cap_texts(alloc, rows.partners.as_slice())?,
         })
     }
 }

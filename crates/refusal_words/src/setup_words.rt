@@ -1,4 +1,5 @@
 ghost use Rattle.std.specs.Prelude.{◌≡◌, ◌++◌, OnOk};
+ghost use Rattle.partner_setup.specs.declared.setup_fault.SetupFault.TheVariants as refusal;
 ghost use Rattle.refusal_words.specs.SetupWords as words;
 
 use crate::appended::{append, append_in_place};
@@ -41,15 +42,34 @@ fn append_where(out: &mut Vec<u8>, names: &SetupNames, fault: &SetupFault) -> Re
     }
 }
 
-fn said_of(fault: &SetupFault) -> &'static [u8]
-    ensures { result.now ≡ words.said_of fault.now }
+fn text_at(texts: &[Text], place: usize) -> &[u8]
+    ensures { result.now ≡ words.text_at texts.entry.now place }
+{
+    match texts.get(place) {
+        None => &[],
+        Some(text) => text.as_slice(),
+    }
+}
+
+/// What is wrong with the hub's or a partner's ids.
+fn said_of_ids<'a>(names: &'a SetupNames, owner: &IdOwner) -> &'a [u8]
+    ensures { result.now ≡ words.said_of names.entry.now (refusal.BadId owner.now) }
+{
+    match owner {
+        IdOwner::Hub => names.hub_ids.as_slice(),
+        IdOwner::Partner(place) => text_at(names.partner_ids.as_slice(), *place),
+    }
+}
+
+fn said_of<'a>(names: &'a SetupNames, fault: &SetupFault) -> &'a [u8]
+    ensures { result.now ≡ words.said_of names.entry.now fault.now }
 {
     match fault {
         SetupFault::SamePartner(_) => b"a later partner has its name, or its qualifier and id",
         SetupFault::BadDelimiters(_) => {
             b"a delimiter isn't one byte, isn't allowed, or stands for two of the four"
         }
-        SetupFault::BadId(_) => b"a name, a qualifier, an id or a code hasn't its form",
+        SetupFault::BadId(owner) => said_of_ids(names, owner),
         SetupFault::BadGuides(GuidesOwner::Partner(_)) => {
             b"a guide that isn't given, or two guides for the same sets"
         }
@@ -60,12 +80,12 @@ fn said_of(fault: &SetupFault) -> &'static [u8]
         SetupFault::BadCounter(_) => {
             b"a number out of 1 to 999999999, a partner that isn't there, or one that has later counters too"
         }
-        SetupFault::BadCap(_) => b"a cap out of 1 to 99999",
+        SetupFault::BadCap(place) => text_at(names.partner_caps.as_slice(), *place),
         SetupFault::NoMemory => b"no memory",
     }
 }
 
-/// Adds what is wrong with a setup whose rows have these names.
+/// Adds what is wrong with a setup whose rows these names are of.
 pub fn append_setup_words(
     out: &mut Vec<u8>,
     names: &SetupNames,
@@ -74,5 +94,5 @@ pub fn append_setup_words(
     ensures { OnOk result (out.new.items ≡ out.old.items ++ words.setup_words names.now fault.now) }
 {
     append_where(out, names, fault)?;
-    append(out, said_of(fault))
+    append(out, said_of(names, fault))
 }
