@@ -1,4 +1,3 @@
-pub mod Mapped
 pub mod FittingBoth
 pub mod Looked
 pub mod Numbers

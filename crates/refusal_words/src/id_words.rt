@@ -1,14 +1,14 @@
-ghost use Rattle.std.specs.Prelude.{◌≡◌, ◌++◌, map, IfOk, OnOk};
+ghost use Rattle.std.specs.Prelude.{◌≡◌, ◌++◌, OnOk};
 ghost use Rattle.std.specs.List.{list_all};
 ghost use Rattle.partner_setup.specs.SetupFaults as faults;
 ghost use Rattle.refusal_words.specs.IdWords as words;
 
 use crate::appended::{append, append_quoted};
-use hub_kinds::{Items, NoMemory, Text, Texts, is_alphanumeric};
+use hub_kinds::{NoMemory, is_alphanumeric};
 use partner_setup::{HubRow, PartnerRow};
-use std::alloc::Global;
 
-fn is_name_byte(byte: u8) -> bool
+/// Letters, digits, `-`, `.` and `_`.
+pub fn is_name_byte(byte: u8) -> bool
     ensures { result ≡ faults.is_name_byte byte }
 {
     byte.is_ascii_alphanumeric() || byte == b'-' || byte == b'.' || byte == b'_'
@@ -26,7 +26,8 @@ fn are_inner(text: &[u8]) -> bool
     text.iter().all(|byte| is_inner(*byte))
 }
 
-fn is_id(text: &[u8], least: usize, most: usize) -> bool
+/// Whether a text has the form of an id, with so many to so many bytes.
+pub fn is_id(text: &[u8], least: usize, most: usize) -> bool
     ensures { result ≡ faults.is_id least most text.now }
 {
     match (text.first(), text.last()) {
@@ -49,7 +50,8 @@ fn append_form(out: &mut Vec<u8>, kind: &[u8], text: &[u8], said: &[u8]) -> Resu
     append_quoted(out, text, said)
 }
 
-fn append_code(out: &mut Vec<u8>, code: &[u8]) -> Result<(), NoMemory>
+/// Adds what is wrong with an application code; nothing where it has its form.
+pub fn append_code(out: &mut Vec<u8>, code: &[u8]) -> Result<(), NoMemory>
     ensures { OnOk result (out.new.items ≡ out.old.items ++ words.code_words code.now) }
 {
     if is_id(code, 2, 15) {
@@ -107,7 +109,8 @@ fn append_named(
     append_form(out, b"the name", name, b" isn't 1 to 20 letters or digits")
 }
 
-fn append_partner(out: &mut Vec<u8>, partner: &PartnerRow) -> Result<(), NoMemory>
+/// Adds which of a partner's name, qualifier, id and code hasn't its form.
+pub fn append_partner_ids(out: &mut Vec<u8>, partner: &PartnerRow) -> Result<(), NoMemory>
     ensures { OnOk result (out.new.items ≡ out.old.items ++ words.partner_words partner.now) }
 {
     append_named(
@@ -119,35 +122,14 @@ fn append_partner(out: &mut Vec<u8>, partner: &PartnerRow) -> Result<(), NoMemor
     )
 }
 
-fn partner_text(alloc: Global, partner: &PartnerRow) -> Result<Text, NoMemory>
-    ensures { IfOk result (λ text. text ≡ words.partner_words partner.now) }
+/// Adds which of the hub's qualifier, id and code hasn't its form.
+pub fn append_hub_ids(out: &mut Vec<u8>, hub: &HubRow) -> Result<(), NoMemory>
+    ensures { OnOk result (out.new.items ≡ out.old.items ++ words.hub_words hub.now) }
 {
-    let mut text = Vec::new(alloc);
-    append_partner(&mut text, partner)?;
-    Ok(Items::from_vec(text))
-}
-
-/// Which of each partner's name, qualifier, id and code hasn't its form.
-pub fn partner_texts(alloc: Global, partners: &[PartnerRow]) -> Result<Texts, NoMemory>
-    ensures { IfOk result (λ texts. texts ≡ map words.partner_words partners.now) }
-{
-    let mut texts = Vec::new(alloc);
-    for i in 0..partners.len() {
-        texts.push(partner_text(alloc, &partners[i])?)?;
-    }
-    Ok(Items::from_vec(texts))
-}
-
-/// Which of the hub's qualifier, id and code hasn't its form.
-pub fn hub_text(alloc: Global, hub: &HubRow) -> Result<Text, NoMemory>
-    ensures { IfOk result (λ text. text ≡ words.hub_words hub.now) }
-{
-    let mut text = Vec::new(alloc);
     append_ids(
-        &mut text,
+        out,
         hub.qualifier.as_slice(),
         hub.id.as_slice(),
         hub.code.as_slice(),
-    )?;
-    Ok(Items::from_vec(text))
+    )
 }
