@@ -39,22 +39,26 @@ def lines(**said):
 
 REF = "segment 1 (REF): "
 TWICE = "an element stands twice in a condition or in `pick`, or an earlier segment has its label"
+ELEMENTS = "`elements` isn't a list of texts, each as \"128 M ID 2 3 = DP IA\", \"367 N\" or \"- O C ; 355 O ID 2 2\""
 NO_DEPENDENCY = "a dependency, or `hl`, that can't be"
 BOTH = "segment 1 (REF) and segment 2 (REF) may come at one place, and both fit REF"
 
 GUIDES = {
-    "not TOML": ('name = "A', "no TOML table"),
+    "not TOML": ('name = "A', "line 1, column 10: no TOML table"),
+    "a line that is no TOML": (SMALL.replace('set = "850"', 'set "850"'), "line 3, column 5: no TOML table"),
+    "a key twice": (SMALL + 'set = "850"\n', "line 8, column 1: no TOML table"),
     "no set": (SMALL.replace('set = "850"\n', ""), "`set` is missing"),
-    "a set that is a number": (SMALL.replace('set = "850"', "set = 850"), "`set` has another type or form"),
-    "a guide for FA": (SMALL.replace('"PO"', '"FA"'), "`group` has another type or form"),
+    "a set that is a number": (SMALL.replace('set = "850"', "set = 850"), "`set` isn't a text of 3 letters or digits"),
+    "a guide for FA": (SMALL.replace('"PO"', '"FA"'), "`group` isn't a text of two upper-case letters, and not FA"),
     "a key of no guide": ('colour = "red"\n' + SMALL, "`colour` is no key of its table"),
-    "segment and loop at once": (nodes('{seg="REF", loop="N9", min=0, max=1}'), "node 1 (REF): `seg` has another type or form"),
+    "segment and loop at once": (nodes('{seg="REF", loop="N9", min=0, max=1}'),
+                                 "node 1 (REF): `seg` isn't a text, in a table that has `seg` or `loop`, and not both"),
     "a label on a loop": (nodes(loop("", 'label="X", ')), "node 1 (N9): `label` is no key of its table"),
     "no elements": (nodes('{seg="REF", min=0, max=1}'), "node 1 (REF): `elements` is missing"),
     "a second segment without elements": (nodes(segment(), '{seg="DTM", min=0, max=1}'), "node 2 (DTM): `elements` is missing"),
     "no elements in a loop": (nodes(loop('{seg="N9", min=1, max=1}')), "node 2 (N9): `elements` is missing"),
-    "a type that isn't there": (elements("128 M XX 2 3"), "node 1 (REF): `elements` has another type or form"),
-    "8 tolerated": ('tolerate_segment = ["8"]\n' + SMALL, "`tolerate_segment` has another type or form"),
+    "a type that isn't there": (elements("128 M XX 2 3"), f"node 1 (REF): {ELEMENTS}"),
+    "8 tolerated": ('tolerate_segment = ["8"]\n' + SMALL, "`tolerate_segment` isn't a list of texts, each a code of IK304 but 8"),
     "loops nested nine deep": (loops(9), "loops are nested over 8 deep"),
     "2,001 nodes": (many(2001), "over 2000 nodes"),
     "least over most": (nodes(segment(least=2)), REF + "min 2 is over max 1"),
@@ -113,35 +117,63 @@ WARNED = {
 }
 
 FILES = {
-    "no TOML": (b"hub=", "no TOML table"),
-    "no UTF-8": (b"\xff", "no TOML table"),
+    "no TOML": (b"hub=", "line 1, column 5: no TOML table"),
+    "no UTF-8": (b"\xff", "line 1, column 1: no UTF-8"),
+    "no UTF-8 in a comment, after a letter of two bytes": ("# a\n# \u00e9 ".encode() + b"\xe9\n", "line 2, column 6: no UTF-8"),
     "nothing": (b"", "`hub` is missing"),
-    "a hub that is a number": (b"hub=1", "`hub` has another type or form"),
+    "a hub that is a number": (b"hub=1", "`hub` isn't a table, [hub]"),
     "two keys of no setup": (b"zeta=1\nalpha=1", "`alpha` is no key of its table"),
 }
 
 COUNTER_FILES = {
-    "no UTF-8": (b"\xff", "no TOML table"),
+    "no UTF-8": (b"\xff", "line 1, column 1: no UTF-8"),
     "nothing": (b"", "`version` is missing"),
-    "version 3": (b"version = 3", "`version` has another type or form"),
+    "version 3": (b"version = 3", "`version` isn't 1 or 2"),
     "a group in version 1": (COUNTERS.replace("version = 2", "version = 1"), "`group` is no key of its table"),
 }
 
-FORM = "a name, a qualifier, an id or a code hasn't its form"
-DELIMITERS = "partner 2 (BOLT): a delimiter isn't one byte, isn't allowed, or stands for two of the four"
-ROUTE = "route 2 (BOLT): it leads to no partner, or to one twice, or its code has no form or is that of a later route"
-COUNTER = "counter 2 (BOLT): a number out of 1 to 999999999, a partner that isn't there, or one that has later counters too"
+OPEN = "read, and not judged, since another file is refused"
+FORM = "15 letters, digits, -, ., _ or, inside, spaces"
 
 SETUPS = {
     "two with one name": (replaced(SETUP, 'name = "BOLT"', 'name = "ACME"'),
-                          "partner 1 (ACME): a later partner has its name, or its qualifier and id"),
-    "one delimiter for two": (replaced(SETUP, 'component = ":"', 'component = "|"'), DELIMITERS),
-    "a code of one byte": (replaced(SETUP, 'code = "BOLT"', 'code = "B"'), f"partner 2 (BOLT): {FORM}"),
-    "a hub without an id": (replaced(SETUP, 'id = "HUB"', 'id = ""'), f"the hub: {FORM}"),
+                          "partner 1 (ACME): partner 2 has its name too"),
+    "two with one qualifier and id": (replaced(replaced(SETUP, 'qualifier = "01"', 'qualifier = "ZZ"'), 'id = "ACME"', 'id = "BOLT"'),
+                                      "partner 1 (ACME): a later partner has its qualifier and id"),
+    "one delimiter for two": (replaced(SETUP, 'component = ":"', 'component = "|"'),
+                              "partner 2 (BOLT): `element` and `component` are both \"|\""),
+    "a delimiter of two bytes": (replaced(SETUP, 'terminator = "!"', 'terminator = "\\r\\n"'),
+                                 "partner 2 (BOLT): `terminator` has 2 bytes, and needs one"),
+    "a hyphen as a delimiter": (replaced(SETUP, 'component = ":"', 'component = "-"'),
+                                "partner 2 (BOLT): `component` is \"-\", which may not delimit"),
+    "a line feed between elements": (replaced(SETUP, 'element = "|"', 'element = "\\n"'),
+                                     "partner 2 (BOLT): `element` is byte 10, which may not delimit"),
+    "a code of one byte": (replaced(SETUP, 'code = "BOLT"', 'code = "B"'), f"partner 2 (BOLT): the code \"B\" isn't 2 to {FORM}"),
+    "a space at an id's end": (replaced(SETUP, 'id = "BOLT"', 'id = "BOLT "'), f"partner 2 (BOLT): the id \"BOLT \" isn't 1 to {FORM}"),
+    "a qualifier of three letters": (replaced(SETUP, 'qualifier = "ZZ"', 'qualifier = "ZZZ"'),
+                                     "the hub: the qualifier \"ZZZ\" isn't two letters or digits"),
+    "a name with a hyphen": (replaced(SETUP, 'name = "BOLT"', 'name = "BOLT-1"'),
+                             "partner 2 (BOLT-1): the name \"BOLT-1\" isn't 1 to 20 letters or digits"),
+    "a hub without an id": (replaced(SETUP, 'id = "HUB"', 'id = ""'), f"the hub: the id \"\" isn't 1 to {FORM}"),
     "a guide that isn't given": (replaced(SETUP, 'guides = ["H850"]', 'guides = ["H999"]'),
-                                 "partner 2 (BOLT): a guide that isn't given, or two guides for the same sets"),
-    "a route to nobody": (replaced(SETUP, 'to = "BOLT"', 'to = "CARL"'), ROUTE),
-    "a cap of 0": (replaced(SETUP, "cap = 1", "cap = 0"), "partner 2 (BOLT): a cap out of 1 to 99999"),
+                                 "partner 2 (BOLT): \"H999\" is no guide that is given"),
+    "a guide named twice": (replaced(SETUP, 'guides = ["H850"]', 'guides = ["H850", "H850"]'),
+                            "partner 2 (BOLT): two of its guides are for the same sets"),
+    "a route to nobody": (replaced(SETUP, 'to = "BOLT"', 'to = "CARL"'), "route 2 (BOLT): \"CARL\" is no partner"),
+    "a route to one partner twice": (replaced(SETUP, 'to = "BOLT"', 'to = ["ACME", "BOLT", "BOLT"]'),
+                                     "route 2 (BOLT): \"BOLT\" stands twice in `to`"),
+    "two routes for one code": (SETUP + '\n[[route]]\ncode = "ACME"\nto = "BOLT"\n', "route 1 (ACME): route 3 has its code too"),
+    "a route for a code of one byte": (SETUP + '\n[[route]]\ncode = "B"\nto = "BOLT"\n',
+                                       f"route 3 (B): the code \"B\" isn't 2 to {FORM}"),
+    "a cap of 0": (replaced(SETUP, "cap = 1", "cap = 0"), "partner 2 (BOLT): the cap 0 is out of 1 to 99999"),
+}
+
+COUNTERS_OF = {
+    "a set counter of 0": ("set = 0".join(COUNTERS.rsplit("set = 1", 1)), "counter 2 (BOLT): `set` 0 is out of 1 to 999999999"),
+    "an interchange counter of ten digits": (COUNTERS.replace("interchange = 1", "interchange = 1000000000", 1),
+                                             "counter 1 (ACME): `interchange` 1000000000 is out of 1 to 999999999"),
+    "counters of nobody": (COUNTERS.replace('"BOLT"', '"CARL"'), "counter 2 (CARL): \"CARL\" is no partner"),
+    "counters of a partner twice": (COUNTERS.replace('"BOLT"', '"ACME"'), "counter 1 (ACME): counter 2 has its partner too"),
 }
 
 
@@ -172,14 +204,14 @@ def examples():
         page.want(f"a counters file: {name}", check(counters=counters), (3, lines(counters=said), ""))
     for name, (setup, said) in SETUPS.items():
         page.want(f"a setup: {name}", check(**{**whole, "setup": setup}), (3, lines(**{**OK, "setup": said}), ""))
-    page.want("a counter of 0", check(**{**whole, "counters": "set = 0".join(COUNTERS.rsplit("set = 1", 1))}),
-              (3, lines(**{**OK, "setup": COUNTER}), ""))
+    for name, (counters, said) in COUNTERS_OF.items():
+        page.want(f"counters: {name}", check(**{**whole, "counters": counters}), (3, lines(**{**OK, "setup": OPEN, "counters": said}), ""))
     page.want("two guides with one name", check(guide_0=H850, guide_1=H850, setup=SETUP),
               (3, lines(guide_0="ok, 14 segments and loops", guide_1="ok, 14 segments and loops",
-                        setup="partner 1 (ACME): a guide that isn't given, or two guides for the same sets"), ""))
+                        setup="partner 1 (ACME): \"H856\" is no guide that is given"), ""))
     page.want("a setup beside a guide that is refused", check(guide_0=HEAD, setup=SETUP),
-              (3, lines(guide_0="`nodes` is missing", setup="read, and not judged, since another file is refused"), ""))
+              (3, lines(guide_0="`nodes` is missing", setup=OPEN), ""))
     page.want("each guide's own refusal", check(guide_0="name = 7", guide_1=H856, setup=b"", counters=b""),
-              (3, lines(guide_0="`name` has another type or form", guide_1="ok, 12 segments and loops", setup="`hub` is missing",
-                        counters="`version` is missing"), ""))
+              (3, lines(guide_0="`name` isn't a text of 1 to 20 letters or digits", guide_1="ok, 12 segments and loops",
+                        setup="`hub` is missing", counters="`version` is missing"), ""))
     return page

@@ -12,15 +12,13 @@ use Rattle.guide_toml.specs.Answers.{Answers}
 use Rattle.guide_toml.specs.Guides.{guide_of_table}
 use Rattle.guide_toml.specs.declared.fault.GuideFileFault.{GuideFileFault}
 use Rattle.guide_toml.specs.declared.fault.GuideFileFault.TheVariants as fault
-use Rattle.refusal_words.specs.FileWords.{file_words}
 use Rattle.refusal_words.specs.GuideWords.{IsGuideSaid}
 use Rattle.toml_keys.specs.Answers.{Gives}
 use Rattle.toml_keys.specs.Refusals.{Refusal}
 use Rattle.toml_keys.specs.declared.file_fault.FileFault.{FileFault}
 use Rattle.toml_keys.specs.declared.file_fault.FileFault.TheVariants as file
 use Rattle.check_command.specs.SetupFiles.{HasTable, IsFaultOf, IsFileOf, IsFileRefused, IsGuideFaultOf, IsGuideOf, IsGuideRefused}
-use Rattle.check_command.specs.SetupFiles.{IsOwnSaid}
-use Rattle.check_command.specs.SetupFiles.{IsSaidOf, table_of}
+use Rattle.check_command.specs.SetupFiles.{IsFileSaid, IsOwnSaid, IsSaidOf, table_of}
 
 -- bytes that write a table
 record HasOne (bytes : List ℕ) : Type 0 where
@@ -125,7 +123,7 @@ guide_refused from bytes f text is table toml memory said =
 
 pub rows_refused : {A : Type 0} (read : Members → Result A Refusal) (from : Option (List ℕ)) (bytes : List ℕ) (f : FileFault)
     (text : List ℕ) → Some bytes ≡ from → SaysOf bytes (λ t. Gives (Err f) (read t))
-    → SaysNone A FileFault bytes file.NotToml file.NoMemory (Err f) → f ≢ file.NoMemory → text ≡ file_words f
+    → SaysNone A FileFault bytes file.NotToml file.NoMemory (Err f) → f ≢ file.NoMemory → IsFileSaid bytes f text
     → IsFileRefused read from text
 rows_refused read from bytes f text is table toml memory said =
     subst (λ (b : Option (List ℕ)). IsFileRefused read b text) is (f, fault_is read bytes f table toml memory, said)

@@ -7,6 +7,7 @@ use Rattle.partner_setup.specs.declared.rows.CounterRow.{CounterRow}
 use Rattle.partner_setup.specs.declared.rows.SetupRows.{SetupRows}
 use Rattle.check_command.specs.Files.{listed, path_of, paths_of, paths_told}
 use Rattle.check_command.specs.Judgements.{AreCountersFound, AreGuidesFound, IsGuideFound, IsToldBeside, told_beside, with_guide}
+use Rattle.check_command.specs.Judgements.{AreCountedAlone, AreCountedBeside, IsCountedAlone, with_told}
 use Rattle.check_command.specs.SetupFiles.{AreGuidesOf, IsGuideOf, IsGuideRefused, IsSomeRefused}
 use Rattle.check_command.specs.Tellings.{AreGuidesTold, AreTold, IsCountersTold, IsFileTold, IsGuideTold, IsJudged, IsSetupTold, IsSomeTold}
 use Rattle.check_command.specs.declared.files.Given.{Given}
@@ -83,19 +84,52 @@ setup_line fs counters gs cs (Some f) None guides found is = is
 setup_line fs counters gs cs (Some f) (Some l) guides found is =
     (is.0, setup_told fs counters gs cs f.bytes l.told guides found is.1)
 
+-- counters that no setup judges
+left_alone : (fs : List Given) (setup : Option Given) (gs : Option (List GuideRows)) (cs : Option (List CounterRow))
+    (bytes : Option (List ℕ)) (t : Told) → AreGuidesFound fs gs → AreCountedBeside gs cs setup None → IsCountedAlone bytes cs t
+    → IsCountersTold fs setup bytes t
+left_alone fs setup gs None bytes t guides beside is = inl is
+left_alone fs None gs (Some rows) bytes t guides beside is = inr (rows, is.0, inr (inr tt, is.1))
+left_alone fs (Some f) gs (Some rows) bytes t guides (inl (text, refused, none)) is =
+    inr (rows, is.0, inr (inr (text, refused), is.1))
+left_alone fs (Some f) None (Some rows) bytes t guides (inr found) is = inr (rows, is.0, inr (inl guides, is.1))
+left_alone fs (Some f) (Some gs) (Some rows) bytes t guides (inr (setup, file, none)) is = absurd (cc)
+
+-- counters that a setup judges
+counted : (fs : List Given) (setup : Option Given) (gs : Option (List GuideRows)) (cs : Option (List CounterRow))
+    (bytes : Option (List ℕ)) (t u : Told) → AreGuidesFound fs gs → AreCountedBeside gs cs setup (Some u) → IsCountedAlone bytes cs t
+    → IsCountersTold fs setup bytes u
+counted fs None gs cs bytes t u guides beside is = absurd (cc)
+counted fs (Some f) gs cs bytes t u guides (inl (text, refused, none)) is = absurd (cc)
+counted fs (Some f) None cs bytes t u guides (inr (setup, file, none)) is = absurd (cc)
+counted fs (Some f) (Some gs) None bytes t u guides (inr (setup, file, none)) is = absurd (cc)
+counted fs (Some f) (Some gs) (Some rows) bytes t u guides (inr (setup, file, same)) is =
+    inr (rows, is.0, inl (gs, setup, guides, file, cc))
+
+pub counters_line : (fs : List Given) (setup : Option Given) (gs : Option (List GuideRows)) (cs : Option (List CounterRow))
+    (file : Option Given) (line : Option FileTold) (t : Option Told) → AreGuidesFound fs gs → AreCountedBeside gs cs setup t
+    → AreCountedAlone file cs line → IsSomeTold (IsCountersTold fs setup) file (with_told line t)
+counters_line fs setup gs cs None None t guides beside is = tt
+counters_line fs setup gs cs None (Some l) t guides beside is = absurd is
+counters_line fs setup gs cs (Some f) None t guides beside is = absurd is
+counters_line fs setup gs cs (Some f) (Some l) None guides beside is =
+    (is.0, left_alone fs setup gs cs f.bytes l.told guides beside is.1)
+counters_line fs setup gs cs (Some f) (Some l) (Some u) guides beside is =
+    (is.0, counted fs setup gs cs f.bytes l.told u guides beside is.1)
+
 -- the guides' lines, then that of the setup, then that of the counters
-pub all_told : (given : GivenFiles) (lines new : List FileTold) (setup counters : Option FileTold) (gs : Option (List GuideRows))
-    (cs : Option (List CounterRow)) → AreGuidesTold given.guides lines → AreGuidesFound given.guides gs
-    → AreCountersFound given.counters cs → IsSomeTold (IsToldBeside gs cs) given.setup setup
-    → IsSomeTold IsCountersTold given.counters counters → new ≡ (lines ++ listed setup) ++ listed counters → AreTold given new
-all_told given lines new setup counters gs cs told found rows judged counted pushed = record {
+pub all_told : (given : GivenFiles) (lines new : List FileTold) (setup line : Option FileTold) (gs : Option (List GuideRows))
+    (cs : Option (List CounterRow)) (t : Option Told) → AreGuidesTold given.guides lines → AreGuidesFound given.guides gs
+    → AreCountersFound given.counters cs → IsSomeTold (IsToldBeside gs cs) given.setup setup → AreCountedBeside gs cs given.setup t
+    → AreCountedAlone given.counters cs line → new ≡ (lines ++ listed setup) ++ listed (with_told line t) → AreTold given new
+all_told given lines new setup line gs cs t told found rows judged beside alone pushed = record {
   guides = lines;
   setup = setup;
-  counters = counters;
-  order = pushed ∙ append_assoc lines (listed setup) (listed counters);
+  counters = with_told line t;
+  order = pushed ∙ append_assoc lines (listed setup) (listed (with_told line t));
   of_guides = told;
   of_setup = setup_line given.guides given.counters gs cs given.setup setup found rows judged;
-  of_counters = counted;
+  of_counters = counters_line given.guides given.setup gs cs given.counters line t found beside alone;
 }
 
 guide_paths : (fs : List Given) (ls : List FileTold) → AreGuidesTold fs ls → paths_told ls ≡ map path_of fs
@@ -126,4 +160,4 @@ same_paths given lines told =
     ∙ ap (λ (ps : List (List ℕ)). map path_of given.guides ++ (ps ++ paths_told (listed told.counters)))
     (some_path (IsSetupTold given.guides given.counters) given.setup told.setup told.of_setup)
     ∙ ap (λ (ps : List (List ℕ)). map path_of given.guides ++ (listed (option_map path_of given.setup) ++ ps))
-    (some_path IsCountersTold given.counters told.counters told.of_counters)
+    (some_path (IsCountersTold given.guides given.setup) given.counters told.counters told.of_counters)

@@ -7,3 +7,4 @@ pub mod Lines
 pub mod Runs
 pub mod SetupFiles
 pub mod Tellings
+pub mod TextPlaces

@@ -1,6 +1,8 @@
 -- The files of a setup (own): what the bytes of each say, and why they are refused. A file that can't be read has no bytes.
-use Rattle.std.specs.Prelude.{◌≡◌, ◌⊎◌, ⊤, ℕ, List, [], ◌∷◌, codes, Option, None, Some, Result, Ok, if◌then◌else◌}
+use Rattle.std.specs.Prelude.{◌≡◌, ◌≤◌, ◌⊎◌, ⊤, ℕ, true, false, List, [], ◌∷◌, codes, length, Option, None, Some, Result, Ok}
+use Rattle.std.specs.Prelude.{if◌then◌else◌}
 use Rattle.std.specs.Str.{is_utf8}
+use Rattle.std.specs.Str.Lossy.{utf8_valid_len}
 use Rattle.toml.specs.Data.{Members}
 use Rattle.toml.specs.Parse.{parse_document}
 use Rattle.guide_tree.specs.declared.rows.GuideRows.{GuideRows}
@@ -19,6 +21,7 @@ use Rattle.partner_setup.specs.CountersFile.{counters_of_table}
 use Rattle.partner_setup.specs.declared.rows.CounterRow.{CounterRow}
 use Rattle.refusal_words.specs.FileWords.{file_words}
 use Rattle.refusal_words.specs.GuideWords.{IsGuideSaid, guide_file_words}
+use Rattle.check_command.specs.TextPlaces.{said_at}
 use Rattle.check_command.specs.declared.files.Given.{Given}
 
 -- the table that bytes write
@@ -43,10 +46,21 @@ IsFaultOf read bytes refusal = HasTable bytes (λ t. FailsAs (meaning_of refusal
 abbrev pub unreadable : List ℕ
 unreadable = codes "it can't be read"
 
+-- what is said of bytes that are no table: where they stop to be UTF-8; and else a place in them, which is left open
+abbrev pub IsNoTableSaid : (bytes text : List ℕ) → Type 0
+IsNoTableSaid bytes text =
+    ((is_utf8 bytes ≡ false) × (text ≡ said_at bytes (utf8_valid_len bytes) (codes "no UTF-8")))
+    ⊎ ((is_utf8 bytes ≡ true)
+    × ((offset : ℕ) × (offset ≤ length bytes) × (text ≡ said_at bytes offset (codes "no TOML table"))))
+
+abbrev pub IsFileSaid : (bytes : List ℕ) → FileFault → (text : List ℕ) → Type 0
+IsFileSaid bytes file.NotToml text = IsNoTableSaid bytes text
+IsFileSaid bytes refusal text = text ≡ file_words refusal
+
 -- the words by which a file is refused that writes no rows
 abbrev pub IsFileRefused : {A : Type 0} → (Members → Result A Refusal) → Option (List ℕ) → (text : List ℕ) → Type 0
 IsFileRefused read None text = text ≡ unreadable
-IsFileRefused read (Some bytes) text = (refusal : FileFault) × IsFaultOf read bytes refusal × (text ≡ file_words refusal)
+IsFileRefused read (Some bytes) text = (refusal : FileFault) × IsFaultOf read bytes refusal × IsFileSaid bytes refusal text
 
 -- the guide that a guide file writes
 abbrev pub IsGuideOf : Option (List ℕ) → GuideRows → Type 0
@@ -66,6 +80,7 @@ IsOwnSaid bytes own text =
 
 -- what is said of a fault of the bytes; the name of the node in which a key stands is left open
 abbrev pub IsSaidOf : (bytes : List ℕ) → GuideFileFault → (text : List ℕ) → Type 0
+IsSaidOf bytes fault.NotToml text = IsNoTableSaid bytes text
 IsSaidOf bytes (fault.Guide own) text = IsOwnSaid bytes own text
 IsSaidOf bytes refusal text = (name : List ℕ) × (text ≡ guide_file_words refusal name)
 

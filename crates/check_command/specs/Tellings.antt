@@ -9,7 +9,7 @@ use Rattle.partner_setup.specs.declared.rows.SetupRows.{SetupRows}
 use Rattle.guide_warnings.specs.Warnings.{warnings_of}
 use Rattle.refusal_words.specs.WarningWords.{warning_words}
 use Rattle.check_command.specs.Files.{in_order, path_of}
-use Rattle.check_command.specs.Judged.{setup_told}
+use Rattle.check_command.specs.Judged.{counters_told, setup_told}
 use Rattle.check_command.specs.SetupFiles.{AreCountersOf, AreCountersRefused, AreGuidesOf, IsFileOf, IsFileRefused, IsGuideOf}
 use Rattle.check_command.specs.SetupFiles.{IsGuideRefused}
 use Rattle.check_command.specs.SetupFiles.{IsSomeRefused}
@@ -28,12 +28,27 @@ IsGuideTold bytes (told.Taken count what warnings) =
 IsGuideTold bytes told.Open = ⊥
 IsGuideTold bytes (told.Refused text) = IsGuideRefused bytes text
 
--- a counters file: taken, with how many rows it has, or refused
-abbrev pub IsCountersTold : Option (List ℕ) → Told → Type 0
-IsCountersTold bytes (told.Taken count what warnings) =
-    (rows : List CounterRow) × IsFileOf counters_of_table bytes rows × (count ≡ length rows) × (what ≡ listed.Counters) × (warnings ≡ [])
-IsCountersTold bytes told.Open = ⊥
-IsCountersTold bytes (told.Refused text) = IsFileRefused counters_of_table bytes text
+-- the rows of a setup file
+abbrev pub IsSetupOf : Option Given → SetupRows → Type 0
+IsSetupOf None rows = ⊥
+IsSetupOf (Some f) rows = IsFileOf setup_of_table f.bytes rows
+
+-- no setup file is given, or it is refused
+abbrev pub IsNoSetup : Option Given → Type 0
+IsNoSetup None = ⊤
+IsNoSetup (Some f) = (text : List ℕ) × IsFileRefused setup_of_table f.bytes text
+
+-- counters of these rows: what the guides and the setup make of them; taken where one of these says nothing
+abbrev pub AreCountersJudged : List Given → Option Given → List CounterRow → Told → Type 0
+AreCountersJudged guides setup counters t =
+    ((gs : List GuideRows) × (rows : SetupRows) × AreGuidesOf guides gs × IsSetupOf setup rows × (t ≡ counters_told rows counters gs))
+    ⊎ ((IsSomeRefused guides ⊎ IsNoSetup setup) × (t ≡ told.Taken (length counters) listed.Counters []))
+
+-- a counters file: refused by itself, or judged by its rows
+abbrev pub IsCountersTold : List Given → Option Given → Option (List ℕ) → Told → Type 0
+IsCountersTold guides setup bytes t =
+    ((text : List ℕ) × IsFileRefused counters_of_table bytes text × (t ≡ told.Refused text))
+    ⊎ ((rows : List CounterRow) × IsFileOf counters_of_table bytes rows × AreCountersJudged guides setup rows t)
 
 -- a setup of these rows: what the guides and the counters make of it; open where one of these is refused
 abbrev pub IsJudged : List Given → Option Given → SetupRows → Told → Type 0
@@ -72,4 +87,4 @@ pub record AreTold (given : GivenFiles) (lines : List FileTold) : Type 0 where
   pub order : lines ≡ in_order guides setup counters
   pub of_guides : AreGuidesTold given.guides guides
   pub of_setup : IsSomeTold (IsSetupTold given.guides given.counters) given.setup setup
-  pub of_counters : IsSomeTold IsCountersTold given.counters counters
+  pub of_counters : IsSomeTold (IsCountersTold given.guides given.setup) given.counters counters

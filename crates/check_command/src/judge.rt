@@ -1,9 +1,12 @@
-ghost use Rattle.std.specs.Prelude.{◌≡◌, ◌<◌, ◌^◌, ◌++◌, IfOk, OnOk, Some, option_map};
+ghost use Rattle.std.specs.Prelude.{◌≡◌, ◌<◌, ◌^◌, ◌++◌, if◌then◌else◌, IfOk, OnOk, Some, option_map};
 ghost use Rattle.guide_tree.specs.Words.{node_count, nodes_view};
 ghost use Rattle.check_command.specs.Files as files;
 ghost use Rattle.check_command.specs.Judged as judged;
-ghost use Rattle.check_command.specs.Judgements.{AreCountersFound, AreGuidesFound, IsGuideFound, IsToldBeside, with_guide};
+ghost use Rattle.check_command.specs.Judgements.{AreCountedAlone, AreCountedBeside, AreCountersFound, AreGuidesFound, IsCountedBeside};
+ghost use Rattle.check_command.specs.Judgements.{IsGuideFound, IsToldBeside, with_guide, with_told};
 ghost use Rattle.check_command.specs.Tellings as tellings;
+ghost use Rattle.check_command.specs.declared.told.Told.TheVariants as variants;
+ghost use Rattle.refusal_words.specs.SetupWords.{setup_words};
 
 use crate::files::{Given, GivenFiles};
 use crate::judged::{Judged, judge_counters, judge_guide, judge_rows};
@@ -12,29 +15,82 @@ use crate::warned::{no_warnings, warning_texts};
 use guide_tree::{Guide, Node};
 use hub_kinds::{Items, NoMemory, Text};
 use partner_setup::{CounterRows, Setup, SetupFault, SetupRows};
-use refusal_words::{SetupNames, append_setup_words};
+use refusal_words::{KeptRows, append_setup_words};
 use std::alloc::Global;
 
-/// What is told of a setup that is made of these: it is taken, or its first refusal. The only error is want of memory.
+/// What is told of a setup, and of the counters that it is judged by.
+#[derive(Debug, Drop)]
+pub struct SetupTold {
+    pub setup: Told,
+    pub counters: Told,
+}
+
+/// What is told of a setup that is made of these, and of the counters: they are taken, or the first refusal stands with the one that is
+/// at fault. The only error is want of memory.
 pub fn judge_setup(
     alloc: Global,
     rows: SetupRows,
     counters: CounterRows,
     guides: Vec<Guide>,
-) -> Result<Told, NoMemory>
-    ensures { IfOk result (λ told. told ≡ judged.setup_told rows counters guides.items) }
+) -> Result<SetupTold, NoMemory>
+    ensures setup { IfOk result (λ t. t.setup ≡ judged.setup_told rows counters guides.items) }
+    ensures counters { IfOk result (λ t. t.counters ≡ judged.counters_told rows counters guides.items) }
 {
-    let names = SetupNames::of(alloc, &rows, counters.as_slice(), guides.as_slice())?;
-    let count = rows.partners.as_slice().len() as u64;
+    let kept = KeptRows::of(alloc, &rows, counters.as_slice(), guides.as_slice())?;
+    let partners = rows.partners.as_slice().len() as u64;
+    let count = counters.as_slice().len() as u64;
+    let taken = Told::Taken(count, Listed::Counters, no_warnings(alloc));
     match Setup::build(alloc, rows, counters, guides) {
-        Ok(_) => Ok(Told::Taken(count, Listed::Partners, no_warnings(alloc))),
+        Ok(_) => Ok(SetupTold {
+            setup: Told::Taken(partners, Listed::Partners, no_warnings(alloc)),
+            counters: taken,
+        }),
         Err(SetupFault::NoMemory) => Err(NoMemory),
         Err(fault) => {
-            let mut text = Vec::new(alloc);
-            append_setup_words(&mut text, &names, &fault)?;
-            Ok(Told::Refused(Items::from_vec(text)))
+            let text = refusal_text(alloc, &kept, &fault)?;
+            Ok(refused_by(&fault, text, taken))
         }
     }
+}
+
+/// What is wrong with a setup of which these rows are kept.
+fn refusal_text(alloc: Global, kept: &KeptRows, fault: &SetupFault) -> Result<Text, NoMemory>
+    ensures { IfOk result (λ text. text ≡ setup_words kept.now fault.now) }
+{
+    let mut text = Vec::new(alloc);
+    append_setup_words(&mut text, kept, fault)?;
+    Ok(Items::from_vec(text))
+}
+
+/// Whether a counter is at fault, and not the setup.
+fn is_of_counters(fault: &SetupFault) -> bool
+    ensures { result ≡ judged.is_of_counters fault.now }
+{
+    match fault {
+        SetupFault::BadCounter(_) => true,
+        SetupFault::SamePartner(_)
+        | SetupFault::BadDelimiters(_)
+        | SetupFault::BadId(_)
+        | SetupFault::BadGuides(_)
+        | SetupFault::BadRoute(_)
+        | SetupFault::BadCap(_)
+        | SetupFault::NoMemory => false,
+    }
+}
+
+/// Where a refusal in these words stands: with the counters where one of them is at fault, and else with the setup.
+fn refused_by(fault: &SetupFault, text: Text, counters: Told) -> SetupTold
+    ensures setup { result.setup ≡ (if judged.is_of_counters fault.now then variants.Open else variants.Refused text) }
+    ensures counters { result.counters ≡ (if judged.is_of_counters fault.now then variants.Refused text else counters) }
+{
+    if is_of_counters(fault) {
+        return SetupTold {
+            setup: Told::Open,
+            counters: Told::Refused(text),
+        };
+    }
+    let setup = Told::Refused(text);
+    SetupTold { setup, counters }
 }
 
 /// How many nodes there are, loops and what is in them.
@@ -132,7 +188,7 @@ struct ToldCounters<'a> {
 }
 
 fn tell_counters_in<'a>(alloc: Global, given: &Given<'a>) -> Result<ToldCounters<'a>, NoMemory>
-    ensures line { IfOk result (λ t. tellings.IsSomeTold tellings.IsCountersTold (Some given.now) t.line) }
+    ensures line { IfOk result (λ t. AreCountedAlone (Some given.now) t.rows t.line) }
     ensures rows { IfOk result (λ t. AreCountersFound (Some given.now) t.rows) }
 {
     let path = given.path;
@@ -157,7 +213,7 @@ fn tell_counters_in<'a>(alloc: Global, given: &Given<'a>) -> Result<ToldCounters
 
 /// The same where there may be no such file: then there are no counters.
 fn tell_counters<'a>(alloc: Global, given: &Option<Given<'a>>) -> Result<ToldCounters<'a>, NoMemory>
-    ensures line { IfOk result (λ t. tellings.IsSomeTold tellings.IsCountersTold given.now t.line) }
+    ensures line { IfOk result (λ t. AreCountedAlone given.now t.rows t.line) }
     ensures rows { IfOk result (λ t. AreCountersFound given.now t.rows) }
 {
     match given {
@@ -169,22 +225,47 @@ fn tell_counters<'a>(alloc: Global, given: &Option<Given<'a>>) -> Result<ToldCou
     }
 }
 
+/// What is told of a setup file, and of the counters, where they are judged by it.
+struct Beside {
+    setup: Told,
+    counters: Option<Told>,
+}
+
 /// What is told of a setup file, by the guides and the counters, where none of these is refused.
 fn told_of_setup(
     alloc: Global,
     bytes: &Option<Text>,
     guides: Option<Vec<Guide>>,
     counters: Option<CounterRows>,
-) -> Result<Told, NoMemory>
-    ensures { IfOk result (IsToldBeside (option_map (λ v. v.items) guides) counters bytes.now) }
+) -> Result<Beside, NoMemory>
+    ensures setup { IfOk result (λ t. IsToldBeside (option_map (λ v. v.items) guides) counters bytes.now t.setup) }
+    ensures counters { IfOk result (λ t. IsCountedBeside (option_map (λ v. v.items) guides) counters bytes.now t.counters) }
 {
     match judge_rows(alloc, bytes)? {
-        Judged::Refused(text) => Ok(Told::Refused(text)),
+        Judged::Refused(text) => Ok(Beside {
+            setup: Told::Refused(text),
+            counters: None,
+        }),
         Judged::Taken(rows) => match (guides, counters) {
-            (Some(guides), Some(counters)) => judge_setup(alloc, rows, counters, guides),
-            _ => Ok(Told::Open),
+            (Some(guides), Some(counters)) => {
+                let SetupTold { setup, counters } = judge_setup(alloc, rows, counters, guides)?;
+                Ok(Beside {
+                    setup,
+                    counters: Some(counters),
+                })
+            }
+            _ => Ok(Beside {
+                setup: Told::Open,
+                counters: None,
+            }),
         },
     }
+}
+
+/// The line of a setup file, where there is one, and what is told of the counters, where they are judged by it.
+struct ToldSetup<'a> {
+    line: Option<FileTold<'a>>,
+    counters: Option<Told>,
 }
 
 fn tell_setup<'a>(
@@ -192,18 +273,39 @@ fn tell_setup<'a>(
     given: &Option<Given<'a>>,
     guides: Option<Vec<Guide>>,
     counters: Option<CounterRows>,
-) -> Result<Option<FileTold<'a>>, NoMemory>
-    ensures { IfOk result (tellings.IsSomeTold (IsToldBeside (option_map (λ v. v.items) guides) counters) given.now) }
+) -> Result<ToldSetup<'a>, NoMemory>
+    ensures line { IfOk result (λ t. tellings.IsSomeTold (IsToldBeside (option_map (λ v. v.items) guides) counters) given.now t.line) }
+    ensures counters { IfOk result (λ t. AreCountedBeside (option_map (λ v. v.items) guides) counters given.now t.counters) }
 {
     match given {
-        None => Ok(None),
+        None => Ok(ToldSetup {
+            line: None,
+            counters: None,
+        }),
         Some(file) => {
-            let told = told_of_setup(alloc, &file.bytes, guides, counters)?;
-            Ok(Some(FileTold {
-                path: file.path,
-                told,
-            }))
+            let path = file.path;
+            let Beside {
+                setup: told,
+                counters,
+            } = told_of_setup(alloc, &file.bytes, guides, counters)?;
+            Ok(ToldSetup {
+                line: Some(FileTold { path, told }),
+                counters,
+            })
         }
+    }
+}
+
+/// The line of a file of which something else is told, where there is one.
+fn with_told<'a>(line: Option<FileTold<'a>>, told: Option<Told>) -> Option<FileTold<'a>>
+    ensures { result ≡ with_told line.entry told }
+{
+    match (line, told) {
+        (Some(line), Some(told)) => Some(FileTold {
+            path: line.path,
+            told,
+        }),
+        (line, _) => line,
     }
 }
 
@@ -223,9 +325,12 @@ pub fn tell_files<'a>(alloc: Global, given: &GivenFiles<'a>) -> Result<Vec<FileT
 {
     let ToldGuides { lines, guides } = tell_guides(alloc, given.guides.as_slice())?;
     let ToldCounters { line, rows } = tell_counters(alloc, &given.counters)?;
-    let of_setup = tell_setup(alloc, &given.setup, guides, rows)?;
+    let ToldSetup {
+        line: of_setup,
+        counters,
+    } = tell_setup(alloc, &given.setup, guides, rows)?;
     let mut told = lines;
     push_some(&mut told, of_setup)?;
-    push_some(&mut told, line)?;
+    push_some(&mut told, with_told(line, counters))?;
     Ok(told)
 }

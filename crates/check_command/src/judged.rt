@@ -8,6 +8,7 @@ ghost use Rattle.check_command.specs.SetupFiles as files;
 ghost use Rattle.guide_tree.specs.Words.{nodes_view, numbered};
 ghost use Rattle.refusal_words.specs.GuideWords.{IsGuideSaid};
 
+use crate::no_table::no_table_text;
 use crate::node_id::node_id;
 use guide_toml::{GuideFileFault, read_guide, read_rows};
 use guide_tree::{Guide, GuideFault, Node};
@@ -78,6 +79,7 @@ fn refusal_of(alloc: Global, bytes: &[u8], fault: &GuideFileFault) -> Result<Tex
 {
     match fault {
         GuideFileFault::NoMemory | GuideFileFault::Guide(GuideFault::NoMemory) => Err(NoMemory),
+        GuideFileFault::NotToml => no_table_text(alloc, bytes),
         GuideFileFault::Guide(own) => guide_words(alloc, bytes, own),
         _ => key_words(alloc, bytes, fault),
     }
@@ -96,17 +98,24 @@ pub fn judge_guide(alloc: Global, bytes: &Option<Text>) -> Result<Judged<Guide>,
     }
 }
 
-/// Why a file of tables writes no rows. Want of memory says nothing of it.
-fn file_refusal(alloc: Global, fault: &FileFault) -> Result<Text, NoMemory>
-    ensures said { IfOk result (λ text. text ≡ file_words fault.now) }
-    ensures told { IfOk result (λ text. fault.now ≢ FileFault.NoMemory) }
+fn file_text(alloc: Global, fault: &FileFault) -> Result<Text, NoMemory>
+    ensures { IfOk result (λ text. text ≡ file_words fault.now) }
 {
-    if let FileFault::NoMemory = fault {
-        return Err(NoMemory);
-    }
     let mut text = Vec::new(alloc);
     append_file_words(&mut text, fault)?;
     Ok(Items::from_vec(text))
+}
+
+/// Why a file of tables writes no rows. Want of memory says nothing of it.
+fn file_refusal(alloc: Global, bytes: &[u8], fault: &FileFault) -> Result<Text, NoMemory>
+    ensures said { IfOk result (files.IsFileSaid bytes.now fault.now) }
+    ensures told { IfOk result (λ text. fault.now ≢ FileFault.NoMemory) }
+{
+    match fault {
+        FileFault::NoMemory => Err(NoMemory),
+        FileFault::NotToml => no_table_text(alloc, bytes),
+        _ => file_text(alloc, fault),
+    }
 }
 
 /// What a setup file is judged as.
@@ -118,7 +127,7 @@ pub fn judge_rows(alloc: Global, bytes: &Option<Text>) -> Result<Judged<SetupRow
     };
     match read_setup(alloc, bytes.as_slice()) {
         Ok(rows) => Ok(Judged::Taken(rows)),
-        Err(fault) => Ok(Judged::Refused(file_refusal(alloc, &fault)?)),
+        Err(fault) => Ok(Judged::Refused(file_refusal(alloc, bytes.as_slice(), &fault)?)),
     }
 }
 
@@ -131,6 +140,6 @@ pub fn judge_counters(alloc: Global, bytes: &Option<Text>) -> Result<Judged<Coun
     };
     match read_counters(alloc, bytes.as_slice()) {
         Ok(rows) => Ok(Judged::Taken(rows)),
-        Err(fault) => Ok(Judged::Refused(file_refusal(alloc, &fault)?)),
+        Err(fault) => Ok(Judged::Refused(file_refusal(alloc, bytes.as_slice(), &fault)?)),
     }
 }

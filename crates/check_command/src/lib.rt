@@ -4,15 +4,17 @@
 //! Proved:
 //! - what is printed is a line for each file that was given, the guides in their order, then the setup, then the counters, and after it a
 //!   line for each of its warnings; and the status is 0 exactly where each of them is told as taken, else 3 (`check_main`);
-//! - what is told of a file is what its bytes say: a guide or counters are taken, with their size, where their reader gives them, a guide
-//!   with just its warnings, and else refused in the words of their fault; a setup file likewise, and where the others are taken, by what
-//!   `Setup::build` makes of just these rows; it is left open only where another file is refused (`tell_files`, `judge_setup`);
+//! - what is told of a file is what its bytes say: a guide is taken, with its size and just its warnings, where its reader gives it, and
+//!   else refused in the words of its fault; a setup file or counters likewise, and where all can be read, by what `Setup::build` makes of
+//!   just these rows; the first refusal stands with the counters where it is of one of them; a setup is left open only where another file
+//!   is refused (`tell_files`, `judge_setup`);
+//! - of bytes that write no table the line and the column are those of the first byte that is no UTF-8, or else of a place in the file;
 //! - a failed run prints no line of a file, unless standard output itself failed; it ends with 2, 5 or 6; one that doesn't fail leaves
 //!   standard error as it was;
 //! - the words are read as clap's definitions say, and are usage only where they are no command line.
 //!
-//! Only tested: that the bytes of the files are those at the paths, the id beside a node's number where a key is refused, and that standard
-//! output holds what is printed, of which the system tells nothing.
+//! Only tested: that the bytes of the files are those at the paths, that the place in UTF-8 that is no TOML is where its fault is, the id
+//! beside a node's number where a key is refused, and that standard output holds what is printed, of which the system tells nothing.
 //!
 //! Source: own.
 #![tactic(auto)]
@@ -23,6 +25,7 @@ mod files;
 mod judge;
 mod judged;
 mod lines;
+mod no_table;
 mod node_id;
 mod run;
 mod told;
@@ -31,6 +34,6 @@ mod warned;
 pub use command::{Asked, Options, read_words};
 pub use failure::Failure;
 pub use files::{Given, GivenFiles};
-pub use judge::{judge_setup, tell_files};
+pub use judge::{SetupTold, judge_setup, tell_files};
 pub use run::check_main;
 pub use told::{FileTold, Listed, Told};

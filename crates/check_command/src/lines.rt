@@ -7,7 +7,7 @@ use hub_kinds::{NoMemory, Text};
 use itoa::Buffer;
 use std::alloc::Global;
 
-fn append(out: &mut Vec<u8>, text: &[u8]) -> Result<(), NoMemory>
+pub(crate) fn append(out: &mut Vec<u8>, text: &[u8]) -> Result<(), NoMemory>
     ensures { OnOk result (out.new.items ≡ out.old.items ++ text.now) }
 {
     out.extend_from_slice(text)?;

@@ -1,43 +1,54 @@
 -- Own: what is said of a setup that is refused.
 use Rattle.std.specs.Prelude.{ℕ, ◌+◌, List, [], ◌++◌, codes, slice_get}
 use Rattle.std.specs.Option.{option_map_or}
+use Rattle.partner_setup.specs.declared.rows.PartnerRow.{PartnerRow}
 use Rattle.partner_setup.specs.declared.setup_fault.IdOwner.TheVariants as owner
 use Rattle.partner_setup.specs.declared.setup_fault.GuidesOwner.TheVariants as guided
 use Rattle.partner_setup.specs.declared.setup_fault.SetupFault.{SetupFault}
 use Rattle.partner_setup.specs.declared.setup_fault.SetupFault.TheVariants as fault
+use Rattle.refusal_words.specs.DelimiterWords.{delimiters_words}
+use Rattle.refusal_words.specs.IdWords.{hub_words, partner_words}
+use Rattle.refusal_words.specs.Named.{counter_name, partner_name, route_name}
 use Rattle.refusal_words.specs.Places.{in_place}
-use Rattle.refusal_words.specs.declared.names.SetupNames.{SetupNames}
+use Rattle.refusal_words.specs.RowWords.{cap_words, counter_words, guides_words, route_words, same_words}
+use Rattle.refusal_words.specs.declared.kept_rows.KeptRows.{KeptRows}
 
--- a row by its number, from 1 on, and its name; nothing where no row has the place
-abbrev pub row_words : (kind : List ℕ) → (names : List (List ℕ)) → (place : ℕ) → List ℕ
-row_words kind names place = option_map_or (λ name. in_place kind (place + 1) name) (slice_get names place) []
+-- what is said of the row at a place; nothing where there is none
+abbrev pub said_at : {A : Type 0} → (said : A → List ℕ) → List A → (place : ℕ) → List ℕ
+said_at said rows place = option_map_or said (slice_get rows place) []
+
+-- a row by its number, from 1 on, and its name
+abbrev pub row_words : {A : Type 0} → (kind : List ℕ) → (name : A → List ℕ) → List A → (place : ℕ) → List ℕ
+row_words kind name rows place = said_at (λ r. in_place kind (place + 1) (name r)) rows place
+
+abbrev pub partner_at : KeptRows → (place : ℕ) → List ℕ
+partner_at kept place = row_words (codes "partner") partner_name kept.rows.partners place
 
 -- where the refusal stands
-abbrev pub where_words : SetupNames → SetupFault → List ℕ
-where_words names (fault.SamePartner place) = row_words (codes "partner") names.partners place
-where_words names (fault.BadDelimiters place) = row_words (codes "partner") names.partners place
-where_words names (fault.BadId owner.Hub) = codes "the hub: "
-where_words names (fault.BadId (owner.Partner place)) = row_words (codes "partner") names.partners place
-where_words names (fault.BadGuides (guided.Partner place)) = row_words (codes "partner") names.partners place
-where_words names (fault.BadGuides (guided.Guide place)) = row_words (codes "guide") names.guides place
-where_words names (fault.BadRoute place) = row_words (codes "route") names.routes place
-where_words names (fault.BadCounter place) = row_words (codes "counter") names.counters place
-where_words names (fault.BadCap place) = row_words (codes "partner") names.partners place
-where_words names fault.NoMemory = []
+abbrev pub where_words : KeptRows → SetupFault → List ℕ
+where_words kept (fault.SamePartner place) = partner_at kept place
+where_words kept (fault.BadDelimiters place) = partner_at kept place
+where_words kept (fault.BadId owner.Hub) = codes "the hub: "
+where_words kept (fault.BadId (owner.Partner place)) = partner_at kept place
+where_words kept (fault.BadGuides (guided.Partner place)) = partner_at kept place
+where_words kept (fault.BadGuides (guided.Guide place)) = row_words (codes "guide") (λ (name : List ℕ). name) kept.guides place
+where_words kept (fault.BadRoute place) = row_words (codes "route") route_name kept.rows.routes place
+where_words kept (fault.BadCounter place) = row_words (codes "counter") counter_name kept.counters place
+where_words kept (fault.BadCap place) = partner_at kept place
+where_words kept fault.NoMemory = []
 
 -- what is wrong there
-abbrev pub said_of : SetupFault → List ℕ
-said_of (fault.SamePartner place) = codes "a later partner has its name, or its qualifier and id"
-said_of (fault.BadDelimiters place) = codes "a delimiter isn't one byte, isn't allowed, or stands for two of the four"
-said_of (fault.BadId at) = codes "a name, a qualifier, an id or a code hasn't its form"
-said_of (fault.BadGuides (guided.Partner place)) = codes "a guide that isn't given, or two guides for the same sets"
-said_of (fault.BadGuides (guided.Guide place)) = codes "a later guide has its name"
-said_of (fault.BadRoute place) =
-    codes "it leads to no partner, or to one twice, or its code has no form or is that of a later route"
-said_of (fault.BadCounter place) =
-    codes "a number out of 1 to 999999999, a partner that isn't there, or one that has later counters too"
-said_of (fault.BadCap place) = codes "a cap out of 1 to 99999"
-said_of fault.NoMemory = codes "no memory"
+abbrev pub said_of : KeptRows → SetupFault → List ℕ
+said_of kept (fault.SamePartner place) = said_at (same_words kept place) kept.rows.partners place
+said_of kept (fault.BadDelimiters place) = said_at delimiters_words kept.rows.partners place
+said_of kept (fault.BadId owner.Hub) = hub_words kept.rows.hub
+said_of kept (fault.BadId (owner.Partner place)) = said_at partner_words kept.rows.partners place
+said_of kept (fault.BadGuides (guided.Partner place)) = said_at (guides_words kept) kept.rows.partners place
+said_of kept (fault.BadGuides (guided.Guide place)) = codes "a later guide has its name"
+said_of kept (fault.BadRoute place) = said_at (route_words kept place) kept.rows.routes place
+said_of kept (fault.BadCounter place) = said_at (counter_words kept place) kept.counters place
+said_of kept (fault.BadCap place) = said_at cap_words kept.rows.partners place
+said_of kept fault.NoMemory = codes "no memory"
 
-abbrev pub setup_words : SetupNames → SetupFault → List ℕ
-setup_words names why = where_words names why ++ said_of why
+abbrev pub setup_words : KeptRows → SetupFault → List ℕ
+setup_words kept why = where_words kept why ++ said_of kept why

@@ -8,9 +8,10 @@ use crate::appended::{append, append_in_place, append_number, append_place};
 use crate::bounds_words::append_bounds;
 use crate::common::common_segment;
 use crate::condition_words::append_condition;
-use crate::file_words::{KeyFault, append_key};
+use crate::file_words::{KeyFault, append_key, append_wrong};
 use crate::nodes::{id_at, node_at};
 use crate::trigger_words::append_trigger;
+use crate::wanted::guide_wanted;
 use guide_toml::GuideFileFault;
 use guide_tree::{GuideFault, Node};
 use hub_kinds::{NoMemory, Text, Texts};
@@ -53,7 +54,8 @@ pub fn append_guide_file_words(
             append_node_key(out, *slot, name, key.as_bytes(), &KeyFault::Missing)
         }
         GuideFileFault::WrongKind(key, slot) => {
-            append_node_key(out, *slot, name, key.as_bytes(), &KeyFault::WrongKind)
+            append_node(out, *slot, name)?;
+            append_wrong(out, key.as_bytes(), guide_wanted(key.as_bytes()))
         }
         GuideFileFault::Unknown(key, slot) => {
             append_node_key(out, *slot, name, key.as_bytes(), &KeyFault::Unknown)

@@ -1,4 +1,6 @@
+use Rattle.std.proofs.Common.{ℕ, List, subst}
 use Rattle.partner_setup.specs.SetupFile.{setup_of_table}
+use Rattle.check_command.specs.SetupFiles.{IsFileSaid}
 use Rattle.check_command.proofs.Reading.{rows_are, rows_refused}
 use Rattle.check_command.proofs.judged.judge_rows.Goals as goal
 
@@ -9,4 +11,5 @@ returns-in-Ok c =
 pub returns-in_ok-file_refusal-in-Err : goal.returns-in_ok-file_refusal-in-Err
 returns-in_ok-file_refusal-in-Err c =
     rows_refused setup_of_table c.args.bytes.now c.as_slice.result.now c.in-Err.fault c.in_ok-file_refusal-in-Err.field-0 (cc)
-    c.in-Err.ensures.table c.in-Err.ensures.not_toml c.in_ok-file_refusal-in-Err.ensures.told c.in_ok-file_refusal-in-Err.ensures.said
+    c.in-Err.ensures.table c.in-Err.ensures.not_toml c.in_ok-file_refusal-in-Err.ensures.told
+    (subst (λ (b : List ℕ). IsFileSaid b c.in-Err.fault c.in_ok-file_refusal-in-Err.field-0) (cc) c.in_ok-file_refusal-in-Err.ensures.said)

@@ -1,0 +1,28 @@
+-- Own: the names of rows, and how one is looked up.
+use Rattle.std.specs.Prelude.{ℕ, ◌+◌, Bool, not, List, drop, Option}
+use Rattle.std.specs.List.{find, list_any, position_from}
+use Rattle.std.specs.Str.{bytes_eq}
+use Rattle.partner_setup.specs.declared.rows.CounterRow.{CounterRow}
+use Rattle.partner_setup.specs.declared.rows.PartnerRow.{PartnerRow}
+use Rattle.partner_setup.specs.declared.rows.RouteRow.{RouteRow}
+
+abbrev pub partner_name : PartnerRow → List ℕ
+partner_name p = p.name
+
+abbrev pub route_name : RouteRow → List ℕ
+route_name r = r.code
+
+abbrev pub counter_name : CounterRow → List ℕ
+counter_name c = c.partner
+
+-- some row has the name
+abbrev pub is_named : {A : Type 0} → (A → List ℕ) → List A → (text : List ℕ) → Bool
+is_named name rows text = list_any (λ r. bytes_eq (name r) text) rows
+
+-- the first text that no row has as its name
+abbrev pub first_unknown : {A : Type 0} → (A → List ℕ) → List A → List (List ℕ) → Option (List ℕ)
+first_unknown name rows texts = find (λ t. not (is_named name rows t)) texts
+
+-- the number, from 1 on, of the first row behind this place that has the name
+abbrev pub next_named : {A : Type 0} → (A → List ℕ) → List A → (place : ℕ) → (text : List ℕ) → Option ℕ
+next_named name rows place text = position_from (λ r. bytes_eq (name r) text) (place + 2) (drop (place + 1) rows)

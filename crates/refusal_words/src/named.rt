@@ -1,0 +1,80 @@
+ghost use Rattle.std.specs.Prelude.{◌≡◌, ◌<◌, ℕ, List, length, option_map};
+ghost use Rattle.refusal_words.specs.Named as names;
+
+use hub_kinds::Text;
+use partner_setup::{CounterRow, PartnerRow, RouteRow};
+
+/// What has a name.
+pub trait Named {
+    /// The name.
+    ghost name: { Self → List ℕ };
+
+    /// The name.
+    fn name(&self) -> &[u8]
+        ensures { result.now ≡ name self.now };
+}
+
+impl Named for PartnerRow {
+    ghost name = { names.partner_name };
+
+    fn name(&self) -> &[u8] {
+        self.name.as_slice()
+    }
+}
+
+impl Named for RouteRow {
+    ghost name = { names.route_name };
+
+    fn name(&self) -> &[u8] {
+        self.code.as_slice()
+    }
+}
+
+impl Named for CounterRow {
+    ghost name = { names.counter_name };
+
+    fn name(&self) -> &[u8] {
+        self.partner.as_slice()
+    }
+}
+
+/// A text is its own name.
+impl Named for Text {
+    ghost name = { λ text. text };
+
+    fn name(&self) -> &[u8] {
+        self.as_slice()
+    }
+}
+
+/// Whether some row has the name.
+pub fn is_named<T: Named>(rows: &[T], text: &[u8]) -> bool
+    ensures { result ≡ names.is_named T.name rows.now text.now }
+{
+    rows.iter().any(|row| row.name() == text)
+}
+
+/// The first text that no row has as its name.
+pub fn first_unknown<'a, T: Named>(rows: &[T], texts: &'a [Text]) -> Option<&'a [u8]>
+    ensures { option_map (λ t. t.now) result ≡ names.first_unknown T.name rows.now texts.entry.now }
+{
+    for i in 0..texts.len() {
+        if !is_named(rows, texts[i].as_slice()) {
+            return Some(texts[i].as_slice());
+        }
+    }
+    None
+}
+
+/// The number, from 1 on, of the first row behind this place that has the name.
+pub fn next_named<T: Named>(rows: &[T], place: usize, text: &[u8]) -> Option<u64>
+    requires { place < length rows.now }
+    ensures { result ≡ names.next_named T.name rows.now place text.now }
+{
+    for i in place + 1..rows.len() {
+        if rows[i].name() == text {
+            return Some(i as u64 + 1);
+        }
+    }
+    None
+}
