@@ -44,25 +44,21 @@ WHOLE = {
     ],
     "three_guides/h855_rejected": [
         "interchange 1, group PR 12, 855 0001: rejected: segment 4 ACK in loop PO1, element 1 (668): "
-        "a code that the guide doesn't list (IK403 7): ZZ",
+        "ZZ is a code that the guide doesn't list (IK403 7)",
         "interchange 1, group PR 12, 855 0001: rejected: segment 4 ACK in loop PO1, element 3 (355): a condition asks for it (IK403 2)",
-        "interchange 1, group PR 12, 855 0001: rejected: a segment or element fault whose code has no I (IK502 5)",
         "interchange 1, group PR 12: rejected (AK901 R)",
         "total ta1s 0 groups 1 sets 1 accepted 0",
     ],
     "three_guides/h860_rejected": [
         "interchange 1, group PC 12, 860 0001: rejected: segment 2 BCH, element 1 (353): "
-        "a code that the guide lists as not used, or no level below that of the HL's parent (IK403 I6): 01",
+        "01 is a code that the guide lists as not used, or no level below that of the HL's parent (IK403 I6)",
         "interchange 1, group PC 12, 860 0001: rejected: segment 3 POC in loop POC, element 5, component 1 (355): "
-        "a code that the guide doesn't list (IK403 7): XX",
-        "interchange 1, group PC 12, 860 0001: rejected: a segment or element fault whose code has no I (IK502 5)",
-        "interchange 1, group PC 12, 860 0001: rejected: a segment or element fault whose code has an I (IK502 I5)",
+        "XX is a code that the guide doesn't list (IK403 7)",
         "interchange 1, group PC 12: rejected (AK901 R)",
         "total ta1s 0 groups 1 sets 1 accepted 0",
     ],
     "three_guides/h856_levels_rejected": [
-        "interchange 1, group SH 12, 856 0001: rejected: segment 12 MAN in loop HLP: a needed segment or loop isn't there (IK304 3)",
-        "interchange 1, group SH 12, 856 0001: rejected: a segment or element fault whose code has no I (IK502 5)",
+        "interchange 1, group SH 12, 856 0001: rejected: before segment 12 in loop HLP: MAN is missing (IK304 3)",
         "interchange 1, group SH 12: rejected (AK901 R)",
         "total ta1s 0 groups 1 sets 1 accepted 0",
     ],
@@ -119,7 +115,7 @@ def codes(page):
         page.holds(f"{element}, its table", len(table) > 5, f"{len(table)} rows")
         for code, cells in table.items():
             text = told("AK1*PO*12*005010~" + segments.format(code.replace(" ", "*")))[1]
-            said = re.search(rf": (?:[^:]*: )?((?:no IEA: )?[^:]*) \({element} {code.split()[-1]}\)", text)
+            said = re.search(rf": (?:[^:]*: )?(?:BEG )?((?:no IEA: )?[^:]*) \({element} {code.split()[-1]}\)", text)
             page.holds(f"{element} {code}", said and agree(said[1], cells), f"{text!r}, not {cells!r}")
 
 
@@ -131,6 +127,8 @@ def examples():
     for name in ("h855", "h860", "h856_levels"):
         accepted = run([os.path.join(EXAMPLES, "three_guides", f"{name}_accepted.ack")])
         page.want(f"{name}, accepted", accepted, (0, "total ta1s 0 groups 1 sets 1 accepted 1\n", ""))
+    with tempfile.NamedTemporaryFile("w", suffix=".ack") as it:
+        page.want("an empty file", run([it.name]), (0, "no acknowledgments\n", ""))
     for name, words, status, line in REFUSED:
         page.want(name, run(words), (status, "", f"nighthub_explain: {line}\n"))
     return page

@@ -98,11 +98,52 @@ element_place e =
     ++ (shown_if (codes ", component ") e.component []
     ++ (shown_if (codes ", repetition ") e.repetition [] ++ shown_if (codes " (") e.reference (codes ")"))))
 
+-- IK304 3, I6, I7 and I8: the segment is missing before the one that stands at its position
+abbrev pub is_of_missing : (code : List ℕ) → Bool
+is_of_missing code =
+    if bytes_eq code (codes "3") then true
+    else if bytes_eq code (codes "I6") then true
+    else if bytes_eq code (codes "I7") then true
+    else bytes_eq code (codes "I8")
+
+unfoldable pub segment_at : (position : List ℕ) → List ℕ
+segment_at position = codes "segment " ++ shown position
+
+unfoldable pub gap_place : SegmentTold → List ℕ
+gap_place s = codes "before " ++ (segment_at s.position ++ shown_if (codes " in loop ") s.loop_id [])
+
+unfoldable pub missing_name : (id : List ℕ) → List ℕ
+missing_name id = codes ": " ++ (shown id ++ codes " ")
+
+-- what the words of IK304 are said of
+abbrev pub segment_subject : SegmentTold → List ℕ
+segment_subject s =
+    if is_of_missing s.code then gap_place s ++ missing_name s.id else segment_place s ++ codes ": "
+
+-- IK403 4 to 9 and I6: the words are said of the value, which the copy shows
+abbrev pub is_of_value : (code : List ℕ) → Bool
+is_of_value code =
+    if bytes_eq code (codes "4") then true
+    else if bytes_eq code (codes "5") then true
+    else if bytes_eq code (codes "6") then true
+    else if bytes_eq code (codes "7") then true
+    else if bytes_eq code (codes "8") then true
+    else if bytes_eq code (codes "9") then true
+    else bytes_eq code (codes "I6")
+
+abbrev pub value_verb : (code : List ℕ) → List ℕ
+value_verb code = if bytes_eq code (codes "6") then codes " has " else codes " is "
+
+-- what is wrong with an element, and its copy where one is written
+abbrev pub element_fault : ElementTold → List ℕ
+element_fault e =
+    if is_of_value e.code
+    then shown_if [] e.copy (value_verb e.code) ++ coded (element_said e.code) (codes "IK403") e.code
+    else coded (element_said e.code) (codes "IK403") e.code ++ shown_if (codes ": ") e.copy []
+
 abbrev pub note_words_of : NoteTold → List ℕ
-note_words_of (note.OfSegment s) = segment_place s ++ (codes ": " ++ coded (segment_said s.code) (codes "IK304") s.code)
-note_words_of (note.OfElement s e) =
-    segment_place s
-    ++ (element_place e ++ (codes ": " ++ (coded (element_said e.code) (codes "IK403") e.code ++ shown_if (codes ": ") e.copy [])))
+note_words_of (note.OfSegment s) = segment_subject s ++ coded (segment_said s.code) (codes "IK304") s.code
+note_words_of (note.OfElement s e) = segment_place s ++ (element_place e ++ (codes ": " ++ element_fault e))
 
 abbrev pub note_line : (head : List ℕ) → NoteTold → List ℕ
 note_line head n = head ++ (note_words_of n ++ codes "\n")
@@ -128,11 +169,22 @@ note_lines head (n ∷ notes) = (if is_told_by_next n notes then [] else note_li
 abbrev pub is_accepted : (code : List ℕ) → Bool
 is_accepted code = bytes_eq code (codes "A")
 
+-- IK502 5 and I5, a segment or an element in error, say no more than the notes do
+abbrev pub repeats_notes : (code : List ℕ) → Bool
+repeats_notes code = if bytes_eq code (codes "5") then true else bytes_eq code (codes "I5")
+
+abbrev pub further_code_line : (head verdict code : List ℕ) → List ℕ
+further_code_line head verdict code = if repeats_notes code then [] else code_line head verdict set_said (codes "IK502") code
+
+-- a set's codes: all of them, or after its notes those that say more
+abbrev pub set_code_lines : (head : List ℕ) → SetTold → List NoteTold → List ℕ
+set_code_lines head s [] = code_lines head (set_verdict_said s.code) (codes "IK501") s.code set_said (codes "IK502") s.codes
+set_code_lines head s (n ∷ notes) = flat_map (further_code_line head (set_verdict_said s.code)) s.codes
+
 -- a set that isn't accepted: its notes, then its codes
 abbrev pub faulty_set_lines : SetTold → List ℕ
 faulty_set_lines s =
-    note_lines (set_head s ++ (set_verdict_said s.code ++ codes ": ")) s.notes
-    ++ code_lines (set_head s) (set_verdict_said s.code) (codes "IK501") s.code set_said (codes "IK502") s.codes
+    note_lines (set_head s ++ (set_verdict_said s.code ++ codes ": ")) s.notes ++ set_code_lines (set_head s) s s.notes
 
 abbrev pub faulty_group_lines : GroupTold → List ℕ
 faulty_group_lines g =

@@ -103,6 +103,60 @@ pub(crate) fn append_segment_place(
     append_if(out, " in loop ", segment.loop_id.bytes(), "")
 }
 
+/// Whether a segment is missing, by its code.
+fn is_of_missing(code: &[u8]) -> bool
+    ensures { result ≡ lines.is_of_missing code.now }
+{
+    code == b"3".as_slice()
+        || code == b"I6".as_slice()
+        || code == b"I7".as_slice()
+        || code == b"I8".as_slice()
+}
+
+/// Writes which segment of a set.
+#[tactic(auto, unfolding(crate::specs::Lines::segment_at))]
+fn append_segment_at(out: &mut Vec<u8>, position: &[u8]) -> Result<(), NoMemory>
+    ensures { OnOk result (out.new.items ≡ out.old.items ++ lines.segment_at position.now) }
+{
+    append_text(out, "segment ")?;
+    append_shown(out, position)
+}
+
+/// Writes before which segment one is missing.
+#[tactic(auto, unfolding(crate::specs::Lines::gap_place))]
+fn append_gap_place(out: &mut Vec<u8>, segment: &SegmentTold<'_>) -> Result<(), NoMemory>
+    ensures { OnOk result (out.new.items ≡ out.old.items ++ lines.gap_place segment.now) }
+{
+    append_text(out, "before ")?;
+    append_segment_at(out, segment.position.bytes())?;
+    append_if(out, " in loop ", segment.loop_id.bytes(), "")
+}
+
+/// Writes which one that is.
+#[tactic(auto, unfolding(crate::specs::Lines::missing_name))]
+fn append_missing_name(out: &mut Vec<u8>, id: &[u8]) -> Result<(), NoMemory>
+    ensures { OnOk result (out.new.items ≡ out.old.items ++ lines.missing_name id.now) }
+{
+    append_text(out, ": ")?;
+    append_shown(out, id)?;
+    append_text(out, " ")
+}
+
+/// Writes what the words of a segment's code are said of.
+pub(crate) fn append_segment_subject(
+    out: &mut Vec<u8>,
+    segment: &SegmentTold<'_>,
+) -> Result<(), NoMemory>
+    ensures { OnOk result (out.new.items ≡ out.old.items ++ lines.segment_subject segment.now) }
+{
+    if is_of_missing(segment.code.bytes()) {
+        append_gap_place(out, segment)?;
+        return append_missing_name(out, segment.id.bytes());
+    }
+    append_segment_place(out, segment)?;
+    append_text(out, ": ")
+}
+
 /// Writes which element is.
 #[tactic(auto, unfolding(crate::specs::Lines::element_place))]
 pub(crate) fn append_element_place(

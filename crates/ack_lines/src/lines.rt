@@ -61,7 +61,32 @@ fn append_verdict_line(
     append_text(out, "\n")
 }
 
-fn append_set_codes(out: &mut Vec<u8>, head: &[u8], set: &SetTold<'_>) -> Result<(), NoMemory>
+/// Whether a set's code says no more than its notes do.
+fn repeats_notes(code: &[u8]) -> bool
+    ensures { result ≡ lines.repeats_notes code.now }
+{
+    code == b"5".as_slice() || code == b"I5".as_slice()
+}
+
+/// Writes a line for each code of a set that says more than its notes do.
+fn append_further_codes(
+    out: &mut Vec<u8>,
+    head: &[u8],
+    verdict: &str,
+    codes: &[Lent<'_>],
+) -> Result<(), NoMemory>
+    ensures { OnOk result (out.new.items ≡ out.old.items ++ flat_map (lines.further_code_line head.now verdict.now) codes.now) }
+{
+    for code in codes {
+        if !repeats_notes(code.bytes()) {
+            append_code_line::<SetCode>(out, head, verdict, "IK502", code.bytes())?;
+        }
+    }
+    Ok(())
+}
+
+/// Writes a line for each code of a set, or one that says its verdict alone.
+fn append_all_codes(out: &mut Vec<u8>, head: &[u8], set: &SetTold<'_>) -> Result<(), NoMemory>
     ensures { OnOk result (out.new.items ≡ out.old.items ++ lines.code_lines head.now (lines.set_verdict_said set.now.code)
         (codes "IK501") set.now.code lines.set_said (codes "IK502") set.now.codes) }
 {
@@ -71,6 +96,17 @@ fn append_set_codes(out: &mut Vec<u8>, head: &[u8], set: &SetTold<'_>) -> Result
         return append_verdict_line(out, head, verdict, "IK501", code);
     }
     append_each_code::<SetCode>(out, head, verdict, "IK502", set.codes.as_slice())
+}
+
+/// Writes the lines of a set's codes, after those of its notes.
+fn append_set_codes(out: &mut Vec<u8>, head: &[u8], set: &SetTold<'_>) -> Result<(), NoMemory>
+    ensures { OnOk result (out.new.items ≡ out.old.items ++ lines.set_code_lines head.now set.now set.now.notes) }
+{
+    if set.notes.as_slice().is_empty() {
+        return append_all_codes(out, head, set);
+    }
+    let verdict = words_of::<Verdict>(set.code.bytes());
+    append_further_codes(out, head, verdict, set.codes.as_slice())
 }
 
 fn append_group_codes(out: &mut Vec<u8>, head: &[u8], group: &GroupTold<'_>) -> Result<(), NoMemory>

@@ -2,7 +2,7 @@ ghost use Rattle.std.specs.Prelude.{◌≡◌, ◌++◌, OnOk, codes};
 ghost use Rattle.ack_read.specs.declared.told.NoteTold.TheVariants.{OfElement, OfSegment};
 ghost use Rattle.ack_lines.specs.Lines as lines;
 
-use crate::heads::{append_element_place, append_segment_place};
+use crate::heads::{append_element_place, append_segment_place, append_segment_subject};
 use crate::shown::{append_coded, append_if, append_text};
 use ack_read::{ElementTold, NoteTold, SegmentTold};
 use code_words::words_of;
@@ -12,10 +12,45 @@ use hub_kinds::{ElementCode, NoMemory, SegmentCode};
 fn append_segment_words(out: &mut Vec<u8>, segment: &SegmentTold<'_>) -> Result<(), NoMemory>
     ensures { OnOk result (out.new.items ≡ out.old.items ++ lines.note_words_of (OfSegment segment.now)) }
 {
-    append_segment_place(out, segment)?;
-    append_text(out, ": ")?;
+    append_segment_subject(out, segment)?;
     let code = segment.code.bytes();
     append_coded(out, words_of::<SegmentCode>(code), "IK304", code)
+}
+
+/// Whether the words of an element's code are said of its value.
+fn is_of_value(code: &[u8]) -> bool
+    ensures { result ≡ lines.is_of_value code.now }
+{
+    code == b"4".as_slice()
+        || code == b"5".as_slice()
+        || code == b"6".as_slice()
+        || code == b"7".as_slice()
+        || code == b"8".as_slice()
+        || code == b"9".as_slice()
+        || code == b"I6".as_slice()
+}
+
+fn value_verb(code: &[u8]) -> &'static str
+    ensures { result.now ≡ lines.value_verb code.now }
+{
+    if code == b"6".as_slice() {
+        return " has ";
+    }
+    " is "
+}
+
+/// Writes what is wrong with an element, and its copy.
+fn append_element_fault(out: &mut Vec<u8>, element: &ElementTold<'_>) -> Result<(), NoMemory>
+    ensures { OnOk result (out.new.items ≡ out.old.items ++ lines.element_fault element.now) }
+{
+    let code = element.code.bytes();
+    let words = words_of::<ElementCode>(code);
+    if is_of_value(code) {
+        append_if(out, "", element.copy.bytes(), value_verb(code))?;
+        return append_coded(out, words, "IK403", code);
+    }
+    append_coded(out, words, "IK403", code)?;
+    append_if(out, ": ", element.copy.bytes(), "")
 }
 
 /// Writes what an IK4 says, behind this IK3.
@@ -29,9 +64,7 @@ fn append_element_words(
     append_segment_place(out, segment)?;
     append_element_place(out, element)?;
     append_text(out, ": ")?;
-    let code = element.code.bytes();
-    append_coded(out, words_of::<ElementCode>(code), "IK403", code)?;
-    append_if(out, ": ", element.copy.bytes(), "")
+    append_element_fault(out, element)
 }
 
 /// Writes the line of a note.

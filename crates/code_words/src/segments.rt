@@ -13,16 +13,16 @@ impl Worded for SegmentCode {
             SegmentCode::UnrecognizedSegment =>
                 "the segment's id is neither in the guide nor in its dictionary",
             SegmentCode::UnexpectedSegment => "the guide has the id, but not with these codes",
-            SegmentCode::RequiredSegmentMissing => "a needed segment or loop isn't there",
+            SegmentCode::RequiredSegmentMissing => "is missing",
             SegmentCode::LoopTooOften => "a loop comes more often than its maximum",
             SegmentCode::SegmentTooOften => "a segment comes more often than its maximum",
             SegmentCode::NotInSet => "the id is in the guide's dictionary alone",
             SegmentCode::OutOfSequence => "the guide has this segment, but not here",
             SegmentCode::ElementErrors => "something is wrong with its elements",
             SegmentCode::NotUsedPresent => "a segment or loop with maximum 0 is there",
-            SegmentCode::DependentMissing => "a dependency's segment is missing",
-            SegmentCode::LoopTooSeldom => "a loop comes, but less often than its minimum",
-            SegmentCode::SegmentTooSeldom => "a segment comes, but less often than its minimum",
+            SegmentCode::DependentMissing => "is missing, and a dependency asks for it",
+            SegmentCode::LoopTooSeldom => "begins a loop that comes less often than its minimum",
+            SegmentCode::SegmentTooSeldom => "comes less often than its minimum",
             SegmentCode::DependentNotUsedPresent => "a dependency forbids the segment",
         }
     }

@@ -4,7 +4,7 @@ use Rattle.std.specs.Prelude.{IsOkAnd}
 use Rattle.explain_command.specs.Outcome.{IsExplanationOf}
 
 untold : (told : Option (List ℕ)) (lines : List ℕ) → IsExplanationOf told lines → IsExplanationOf None lines
-untold told lines by = record { text = by.text; told_all = tt; found = by.found; read = by.read; said = by.said }
+untold told lines by = record { text = by.text; told_all = tt; said = by.said }
 
 pub explained : {A E : Type 0} (o : Result A E) (told : A → Option (List ℕ)) (lines : List ℕ)
     → IsOkAnd o (λ input. IsExplanationOf (told input) lines) → IsExplanationOf None lines

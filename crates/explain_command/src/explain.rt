@@ -1,9 +1,9 @@
-ghost use Rattle.std.specs.Prelude.{◌≡◌, ◌≢◌, ◌≤◌, ◌⊎◌, ℕ, List, None, IfOk, IfErr, IfSome, IsOkAnd, OnOk, map};
+ghost use Rattle.std.specs.Prelude.{◌≡◌, ◌≢◌, ◌≤◌, ◌⊎◌, ℕ, List, [], None, Some, IfOk, IfErr, IfSome, IsOkAnd, OnOk, map};
 ghost use Rattle.std.specs.Io.KnownBytes.{Appends};
 ghost use Rattle.explain_command.specs.CommandLine.{AsksForText, IsCommandLine, NamesFile};
 ghost use Rattle.std.specs.IoError.{error_kind};
 ghost use Rattle.explain_command.specs.Failure.{IsMemoryOr, IsOfInput, IsStatus};
-ghost use Rattle.explain_command.specs.Outcome.{IsExplanationOf, IsOutcome, IsPrinted};
+ghost use Rattle.explain_command.specs.Outcome.{IsExplanationOf, IsOutcome, IsPrinted, IsSaidOf};
 
 use crate::command::{Asked, read_words};
 use crate::failure::Failure;
@@ -88,17 +88,32 @@ where
 }
 
 /// The lines on the acknowledgments that a reader gives.
+#[tactic(auto, using(crate::proofs::Refusing::of_reader))]
 pub fn explained<I: Read + Drop>(alloc: Global, input: I) -> Result<Vec<u8>, Failure>
     ensures lines { IfOk result (λ lines. IsExplanationOf (I.remaining input) lines.items) }
     ensures refused { IfErr result (IsOfInput (I.remaining input)) }
+    ensures empty { I.remaining input ≡ Some [] → IfErr result (λ failure. failure ≢ Failure.NoHeader) }
 {
     match read_whole(alloc, input) {
         Ok(text) => {
-            let found = read_acknowledgments(alloc, text.as_slice())?;
-            Ok(explanation(alloc, found.as_slice())?)
+            let lines = lines_on(alloc, text.as_slice())?;
+            Ok(lines)
         }
         Err(error) => Err(Failure::of_fault(error, Failure::Input)),
     }
+}
+
+/// The lines on the acknowledgments of a text.
+fn lines_on(alloc: Global, text: &[u8]) -> Result<Vec<u8>, Failure>
+    ensures said { IfOk result (λ lines. IsSaidOf text.now lines.items) }
+    ensures refused { IfErr result (IsOfInput (Some text.now)) }
+    ensures empty { text.now ≡ [] → IfErr result (λ failure. failure ≡ Failure.Memory) }
+{
+    if text.is_empty() {
+        return Ok(Vec::from_slice(alloc, b"no acknowledgments\n")?);
+    }
+    let found = read_acknowledgments(alloc, text)?;
+    Ok(explanation(alloc, found.as_slice())?)
 }
 
 /// All bytes of a reader.

@@ -6,7 +6,8 @@
 //!   the words are no command line, with 4 only where they name a file; and prints nothing on standard output where it fails, but for a
 //!   failure of standard output itself;
 //! - `give_explanation` prints the lines on just the bytes that a reader gave;
-//! - `explained` refuses only bytes that don't begin with a header or tell nothing, a reader that fails, and want of memory;
+//! - `explained` refuses only bytes that don't begin with a header or tell nothing, but never none at all; a reader that fails; and want
+//!   of memory;
 //! - the line of a failure is the one that belongs to it, and so is its status.
 //!
 //! Source: own.

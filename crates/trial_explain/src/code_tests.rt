@@ -3,7 +3,7 @@ use crate::readers::{lines_on, same};
 use std::alloc::{AllocError, Global};
 use std::test::Fail;
 
-/// IK304, and what is said.
+/// IK304 of a segment that is there, and what is said.
 pub const SEGMENTS: &[(&str, &str)] = &[
     (
         "1",
@@ -13,26 +13,46 @@ pub const SEGMENTS: &[(&str, &str)] = &[
         "2",
         "the guide has the id, but not with these codes (IK304 2)",
     ),
-    ("3", "a needed segment or loop isn't there (IK304 3)"),
     ("4", "a loop comes more often than its maximum (IK304 4)"),
     ("5", "a segment comes more often than its maximum (IK304 5)"),
     ("6", "the id is in the guide's dictionary alone (IK304 6)"),
     ("7", "the guide has this segment, but not here (IK304 7)"),
     ("8", "something is wrong with its elements (IK304 8)"),
     ("I4", "a segment or loop with maximum 0 is there (IK304 I4)"),
-    ("I6", "a dependency's segment is missing (IK304 I6)"),
-    (
-        "I7",
-        "a loop comes, but less often than its minimum (IK304 I7)",
-    ),
-    (
-        "I8",
-        "a segment comes, but less often than its minimum (IK304 I8)",
-    ),
     ("I9", "a dependency forbids the segment (IK304 I9)"),
 ];
 
-/// IK403, and what is said; the last is in no list of this hub.
+/// IK304 of a segment that is missing, and what is said.
+pub const MISSING: &[(&str, &str)] = &[
+    ("3", "is missing (IK304 3)"),
+    ("I6", "is missing, and a dependency asks for it (IK304 I6)"),
+    (
+        "I7",
+        "begins a loop that comes less often than its minimum (IK304 I7)",
+    ),
+    ("I8", "comes less often than its minimum (IK304 I8)"),
+];
+
+/// IK403, and what is said of a value.
+pub const VALUES: &[(&str, &str, &str)] = &[
+    ("4", "is", "shorter than the minimum (IK403 4)"),
+    ("5", "is", "longer than the maximum (IK403 5)"),
+    (
+        "6",
+        "has",
+        "a byte or a form that its type doesn't allow (IK403 6)",
+    ),
+    ("7", "is", "a code that the guide doesn't list (IK403 7)"),
+    ("8", "is", "no date (IK403 8)"),
+    ("9", "is", "no time (IK403 9)"),
+    (
+        "I6",
+        "is",
+        "a code that the guide lists as not used, or no level below that of the HL's parent (IK403 I6)",
+    ),
+];
+
+/// IK403, and what is said of another fault; the last is in no list of this hub.
 pub const ELEMENTS: &[(&str, &str)] = &[
     (
         "1",
@@ -40,25 +60,12 @@ pub const ELEMENTS: &[(&str, &str)] = &[
     ),
     ("2", "a condition asks for it (IK403 2)"),
     ("3", "more elements than the guide has (IK403 3)"),
-    ("4", "shorter than the minimum (IK403 4)"),
-    ("5", "longer than the maximum (IK403 5)"),
-    (
-        "6",
-        "a byte or a form that its type doesn't allow (IK403 6)",
-    ),
-    ("7", "a code that the guide doesn't list (IK403 7)"),
-    ("8", "no date (IK403 8)"),
-    ("9", "no time (IK403 9)"),
     (
         "10",
         "a second one of several that exclude one another (IK403 10)",
     ),
     ("12", "more occurrences than the guide allows (IK403 12)"),
     ("13", "more components than the guide allows (IK403 13)"),
-    (
-        "I6",
-        "a code that the guide lists as not used, or no level below that of the HL's parent (IK403 I6)",
-    ),
     ("I9", "a dependency asks for it (IK403 I9)"),
     (
         "I10",
@@ -175,7 +182,32 @@ fn says_each_segment_code(rt: HostRuntime) -> Result<(), Fail> {
     for (code, words) in SEGMENTS {
         let notes = format!(in rt.alloc(); "IK3*BEG*2**{code}~")?;
         let segments = set_of(rt.alloc(), notes.as_str())?;
-        let lines = format!(in rt.alloc(); "{SET}: segment 2 BEG: {words}\n{SET} (IK501 R)\n")?;
+        let lines = format!(in rt.alloc(); "{SET}: segment 2 BEG: {words}\n")?;
+        expect_lines(rt.alloc(), segments.as_str(), lines.as_str(), OF_A_SET)?;
+    }
+    Ok(())
+}
+
+#[test]
+fn says_what_is_missing(rt: HostRuntime) -> Result<(), Fail> {
+    for (code, words) in MISSING {
+        let notes = format!(in rt.alloc(); "IK3*DTM*7*N1*{code}~IK3*DTM*8**{code}~")?;
+        let segments = set_of(rt.alloc(), notes.as_str())?;
+        let first = format!(in rt.alloc(); "{SET}: before segment 7 in loop N1: DTM {words}\n")?;
+        let lines = format!(in rt.alloc(); "{first}{SET}: before segment 8: DTM {words}\n")?;
+        expect_lines(rt.alloc(), segments.as_str(), lines.as_str(), OF_A_SET)?;
+    }
+    Ok(())
+}
+
+#[test]
+fn says_what_a_value_is(rt: HostRuntime) -> Result<(), Fail> {
+    let place = "segment 2 BEG, element";
+    for (code, verb, words) in VALUES {
+        let notes = format!(in rt.alloc(); "IK3*BEG*2**8~IK4*5*373*{code}*99~IK4*6*374*{code}~")?;
+        let segments = set_of(rt.alloc(), notes.as_str())?;
+        let first = format!(in rt.alloc(); "{SET}: {place} 5 (373): 99 {verb} {words}\n")?;
+        let lines = format!(in rt.alloc(); "{first}{SET}: {place} 6 (374): {words}\n")?;
         expect_lines(rt.alloc(), segments.as_str(), lines.as_str(), OF_A_SET)?;
     }
     Ok(())
@@ -187,7 +219,7 @@ fn says_each_element_code(rt: HostRuntime) -> Result<(), Fail> {
         let notes = format!(in rt.alloc(); "IK3*BEG*2*N1*8~IK4*1>2>3*353*{code}*99~")?;
         let segments = set_of(rt.alloc(), notes.as_str())?;
         let place = "segment 2 BEG in loop N1, element 1, component 2, repetition 3 (353)";
-        let lines = format!(in rt.alloc(); "{SET}: {place}: {words}: 99\n{SET} (IK501 R)\n")?;
+        let lines = format!(in rt.alloc(); "{SET}: {place}: {words}: 99\n")?;
         expect_lines(rt.alloc(), segments.as_str(), lines.as_str(), OF_A_SET)?;
     }
     Ok(())

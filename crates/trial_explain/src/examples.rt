@@ -17,7 +17,6 @@ interchange 2, group PO 12, 850 0002: rejected: segment 3 N3 in loop N1, element
 more occurrences than the guide allows (IK403 12): B
 interchange 2, group PO 12, 850 0002: rejected: segment 6 Q9: \
 the segment's id is neither in the guide nor in its dictionary (IK304 1)
-interchange 2, group PO 12, 850 0002: rejected: a segment or element fault whose code has no I (IK502 5)
 interchange 2, group PO 12, 850 0002: rejected: \
 SE01 isn't 1 to 10 digits equal to the number of segments, ST and SE among them (IK502 4)
 interchange 2, group PO 12: partly accepted (AK901 P)

@@ -35,7 +35,7 @@ fn expect<R: Files + AllocGlobal>(
 
 /// Files that aren't explained, and the line on each.
 const REFUSED: &[(&[u8], &[u8])] = &[
-    (b"", b"nighthub_explain: input 1\n"),
+    (b"\n", b"nighthub_explain: input 1\n"),
     (
         b"TA1*000000007*260228*0900*A*000~",
         b"nighthub_explain: input 1\n",
@@ -50,6 +50,8 @@ const REFUSED: &[(&[u8], &[u8])] = &[
 fn explains_a_file(rt: HostRuntime) -> Result<(), Fail> {
     fs::write(&rt, "explained.ack", TOLD)?;
     expect(&rt, &["explained.ack"], 0, LINES, b"")?;
+    fs::write(&rt, "explained.ack", b"".as_slice())?;
+    expect(&rt, &["explained.ack"], 0, b"no acknowledgments\n", b"")?;
     for (text, line) in REFUSED {
         fs::write(&rt, "explained.ack", *text)?;
         expect(&rt, &["explained.ack"], 4, b"", line)?;
