@@ -1,13 +1,15 @@
-ghost use Rattle.std.specs.Prelude.{◌≡◌, ◌≤◌, Contains, Some, map, length, slice_get, vec_len, IfOk};
+ghost use Rattle.std.specs.Prelude.{◌≡◌, ◌<◌, ◌≤◌, Contains, Some, map, length, slice_get, vec_len, IfOk};
+ghost use Rattle.std.specs.List.{All};
 ghost use Rattle.claim_desk.specs.Seats.{EachOnce};
 ghost use Rattle.env_index.specs.Words.{places_of};
 ghost use Rattle.job_pool.specs.Work.{numbers_from};
 ghost use Rattle.worker_pool.specs.Jobs.{job_of, job_value, number_of};
-ghost use Rattle.worker_pool.specs.Spans.{ArePlaced, AreSpans, IsJobSpan};
+ghost use Rattle.worker_pool.specs.Spans.{ArePlaced, AreSpans};
 
-use crate::done::{CheckDone, run_check};
+use crate::done::CheckDone;
 use crate::gate::Gate;
 use crate::job::CheckJob;
+use crate::place_job::PlaceJob;
 use claim_desk::Seat;
 use job_pool::{PoolFault, Ran, Task, run_tasks};
 use number_register::{Named, RecordLock, Records, Register, Share};
@@ -33,73 +35,64 @@ impl Checks for Brand {
 
 // An answer to one of the jobs that N names. Contracts see its number.
 #[derive(Drop)]
-struct NamedCheck<'a, N: Checks> {
-    done: CheckDone<'a>,
+struct NamedCheck<K: PlaceJob, N: Checks> {
+    done: K::Done,
     of: PhantomData<N>,
 }
 
-impl<'a, N: Checks> Model for NamedCheck<'a, N> {
+impl<K: PlaceJob, N: Checks> Model for NamedCheck<K, N> {
     ghost use Rattle.std.specs.Prelude.{◌≡◌, ℕ, Some, slice_get};
-    ghost use Rattle.worker_pool.specs.Jobs.{job_of};
 
     ghost Value = { ℕ };
 
-    ghost view = { λ d. d.done.number };
+    ghost view = { λ d. K.number_of d.done };
 
-    ghost invariant = { λ d. slice_get N.jobs d.done.number ≡ Some (job_of d.done) };
+    ghost invariant = { λ d. slice_get N.jobs (K.number_of d.done) ≡ Some (K.answers d.done) };
 }
 
 // The jobs that N names, at places of the index that J names. Contracts see how many they are.
 #[derive(Drop)]
-struct Checking<'t, 'f, 'g, 'i, 'a, J: Named, G, N: Checks> {
+struct Checking<'t, 'i, 'a, J: Named, K: PlaceJob, G, N: Checks> {
     alloc: Global,
-    jobs: &'t [CheckJob<'f, 'g, 'a>],
+    jobs: &'t [K],
     lock: &'t RecordLock<'i, 'a, J>,
     gate: &'t G,
     of: PhantomData<N>,
 }
 
-impl<'t, 'f, 'g, 'i, 'a, J: Named, G, N: Checks> Model for Checking<'t, 'f, 'g, 'i, 'a, J, G, N> {
-    ghost use Rattle.std.specs.Prelude.{◌≡◌, ℕ, length, map};
+impl<'t, 'i, 'a, J: Named, K: PlaceJob, G, N: Checks> Model for Checking<'t, 'i, 'a, J, K, G, N> {
+    ghost use Rattle.std.specs.Prelude.{◌≡◌, ℕ, Contains, length, map};
+    ghost use Rattle.std.specs.List.{All};
     ghost use Rattle.env_index.specs.Words.{places_of};
-    ghost use Rattle.worker_pool.specs.Jobs.{job_value};
-    ghost use Rattle.worker_pool.specs.Spans.{ArePlaced, AreSpans};
 
     ghost Value = { ℕ };
 
     ghost view = { λ t. length t.jobs.now };
 
-    ghost invariant = { λ t. (map job_value t.jobs.now ≡ N.jobs) × AreSpans t.jobs.now × ArePlaced (places_of J.index) t.jobs.now };
+    ghost invariant = { λ t. (map K.asks t.jobs.now ≡ N.jobs) × All K.is_ready t.jobs.now
+        × All (λ j. Contains (places_of J.index) (K.asks j).place) t.jobs.now };
 }
 
-// Records the place of a job, and checks its set.
-fn check_one<'g: 'a, 'a, J: Named, R: Wait + Clock>(
-    rt: &R,
-    alloc: Global,
-    job: &CheckJob<'_, 'g, 'a>,
-    lock: &RecordLock<'_, '_, J>,
-    share: &mut Share<J>,
-    number: u64,
-) -> Result<CheckDone<'a>, AllocError>
-    requires span { IsJobSpan job.now }
-    requires place { Contains (places_of J.index) job.now.place }
-    ensures job { IfOk result (λ d. job_of d ≡ job_value job.now) }
-    ensures number { IfOk result (λ d. d.number ≡ number) }
+// A job of a list by its number.
+fn job_at<K>(jobs: &[K], number: u64) -> &K
+    requires { number < length jobs.now }
+    ensures { slice_get jobs.entry.now number ≡ Some result.now }
 {
-    let Ok(recorded) = lock.record_locked(rt, share, job.place) else {
-        return Err(AllocError);
-    };
-    let Ok(done) = run_check(alloc, job, number, recorded) else {
-        return Err(AllocError);
-    };
-    Ok(done)
+    &jobs[number as usize]
 }
 
-impl<'t, 'f, 'g: 'a, 'i, 'a, J: Named + Send + Sync, G: Gate + Sync, N: Checks + Send + Sync> Task
-    for Checking<'t, 'f, 'g, 'i, 'a, J, G, N> {
+impl<
+    't,
+    'i,
+    'a,
+    J: Named + Send + Sync,
+    K: PlaceJob + Sync,
+    G: Gate + Sync,
+    N: Checks + Send + Sync,
+> Task for Checking<'t, 'i, 'a, J, K, G, N> {
     type Own = Share<J>;
 
-    type Done = NamedCheck<'a, N>;
+    type Done = NamedCheck<K, N>;
 
     ghost count = { λ t. t };
 
@@ -110,10 +103,15 @@ impl<'t, 'f, 'g: 'a, 'i, 'a, J: Named + Send + Sync, G: Gate + Sync, N: Checks +
         rt: &R,
         own: &mut Share<J>,
         number: u64,
-    ) -> Result<NamedCheck<'a, N>, AllocError> {
+    ) -> Result<NamedCheck<K, N>, AllocError> {
         self.gate.enter(rt, number);
-        let job = &self.jobs[number as usize];
-        let done = check_one(rt, self.alloc, job, self.lock, own, number)?;
+        let job = job_at::<K>(self.jobs, number);
+        let Ok(recorded) = self.lock.record_locked(rt, own, job.place()) else {
+            return Err(AllocError);
+        };
+        let Ok(done) = job.check(self.alloc, number, recorded) else {
+            return Err(AllocError);
+        };
         self.gate.answered(rt, number, &done);
         Ok(NamedCheck {
             done,
@@ -121,19 +119,19 @@ impl<'t, 'f, 'g: 'a, 'i, 'a, J: Named + Send + Sync, G: Gate + Sync, N: Checks +
         })
     }
 
-    fn number(named: &NamedCheck<'a, N>) -> u64 {
-        named.done.number()
+    fn number(named: &NamedCheck<K, N>) -> u64 {
+        K::number(&named.done)
     }
 }
 
 // The answers in the order of their jobs, without the name.
-fn without_name<'a, N: Checks>(
+fn without_name<K: PlaceJob, N: Checks>(
     alloc: Global,
-    list: Vec<NamedCheck<'a, N>>,
-) -> Result<Vec<CheckDone<'a>>, PoolFault>
+    list: Vec<NamedCheck<K, N>>,
+) -> Result<Vec<K::Done>, PoolFault>
     requires { list.items ≡ numbers_from 0 (length N.jobs) }
-    ensures done { IfOk result (λ v. map job_of v.items ≡ N.jobs) }
-    ensures numbers { IfOk result (λ v. map number_of v.items ≡ numbers_from 0 (length N.jobs)) }
+    ensures done { IfOk result (λ v. map K.answers v.items ≡ N.jobs) }
+    ensures numbers { IfOk result (λ v. map K.number_of v.items ≡ numbers_from 0 (length N.jobs)) }
 {
     let mut all = Vec::new(alloc);
     for named in list {
@@ -170,44 +168,51 @@ pub struct Checked<'i, 'a> {
     pub records: Records<'i, 'a>,
 }
 
+// The same for jobs of any type.
+#[derive(Drop)]
+struct Answered<'i, 'a, K: PlaceJob> {
+    seat: Seat,
+    done: Vec<K::Done>,
+    records: Records<'i, 'a>,
+}
+
 fn checks_named<
-    'f,
-    'g: 'a,
     'i,
     'a,
     J: Named + Send + Sync,
+    K: PlaceJob + Sync,
     N: Checks + Send + Sync,
     G: Gate + Sync,
     R: Threads + Wait + Clock + Sync,
 >(
     rt: &R,
     alloc: Global,
-    jobs: &[CheckJob<'f, 'g, 'a>],
+    jobs: &[K],
     register: Register<'i, 'a, J>,
     shares: Vec<Share<J>>,
     workers: u64,
     gate: &G,
-) -> Result<Checked<'i, 'a>, PoolFault>
-    requires named { map job_value jobs.now ≡ N.jobs }
-    requires spans { AreSpans jobs.now }
-    requires places { ArePlaced (places_of J.index) jobs.now }
+) -> Result<Answered<'i, 'a, K>, PoolFault>
+    requires named { map K.asks jobs.now ≡ N.jobs }
+    requires ready { All K.is_ready jobs.now }
+    requires places { All (λ j. Contains (places_of J.index) (K.asks j).place) jobs.now }
     requires few { length jobs.now ≤ 4611686018427387904 }
     requires workers { (1 ≤ workers) × (workers ≤ 64) }
     requires shares { (vec_len shares ≡ workers) × (register ≡ workers) }
     requires parts { J.parts ≡ 65 }
     ensures seat { IfOk result (λ c. EachOnce (length jobs.now) c.seat.got) }
-    ensures done { IfOk result (λ c. map job_of c.done.items ≡ map job_value jobs.now) }
-    ensures numbers { IfOk result (λ c. map number_of c.done.items ≡ numbers_from 0 (length jobs.now)) }
+    ensures done { IfOk result (λ c. map K.answers c.done.items ≡ map K.asks jobs.now) }
+    ensures numbers { IfOk result (λ c. map K.number_of c.done.items ≡ numbers_from 0 (length jobs.now)) }
     ensures records { IfOk result (λ c. c.records.index ≡ J.index) }
 {
-    let task = Checking::<'_, 'f, 'g, 'i, 'a, J, G, N> {
+    let task = Checking::<'_, 'i, 'a, J, K, G, N> {
         alloc,
         jobs,
         lock: register.side(),
         gate,
         of: PhantomData,
     };
-    let Ran { seat, owns, done } = run_tasks::<Checking<'_, 'f, 'g, 'i, 'a, J, G, N>, R>(
+    let Ran { seat, owns, done } = run_tasks::<Checking<'_, 'i, 'a, J, K, G, N>, R>(
         rt,
         alloc,
         &task,
@@ -215,8 +220,8 @@ fn checks_named<
         shares,
         workers,
     )?;
-    let done = without_name::<N>(alloc, done)?;
-    Ok(Checked {
+    let done = without_name::<K, N>(alloc, done)?;
+    Ok(Answered {
         seat,
         done,
         records: register.open(owns),
@@ -257,5 +262,16 @@ pub fn run_checks<
     let Ok(shares) = take_shares::<J>(alloc, &mut register, workers) else {
         return Err(PoolFault::NoMemory);
     };
-    checks_named::<J, Brand, G, R>(rt, alloc, jobs, register, shares, workers, gate)
+    let Answered {
+        seat,
+        done,
+        records,
+    } = checks_named::<J, CheckJob<'f, 'g, 'a>, Brand, G, R>(
+        rt, alloc, jobs, register, shares, workers, gate,
+    )?;
+    Ok(Checked {
+        seat,
+        done,
+        records,
+    })
 }

@@ -36,6 +36,7 @@ mod job;
 mod judgement;
 mod marks;
 mod phase;
+mod place_job;
 mod pool;
 
 pub use checks::{Checked, run_checks};
