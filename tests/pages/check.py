@@ -168,6 +168,11 @@ SETUPS = {
     "a cap of 0": (replaced(SETUP, "cap = 1", "cap = 0"), "partner 2 (BOLT): the cap 0 is out of 1 to 99999"),
 }
 
+SETUP_WARNINGS = {
+    "a partner without a route": (replaced(SETUP, 'to = "BOLT"', 'to = "ACME"'), "partner 2 (BOLT): no route leads to it"),
+    "a guide of nobody": (replaced(SETUP, ', "H856"', ""), '"H856" is a guide that no partner names'),
+}
+
 COUNTERS_OF = {
     "a set counter of 0": ("set = 0".join(COUNTERS.rsplit("set = 1", 1)), "counter 2 (BOLT): `set` 0 is out of 1 to 999999999"),
     "an interchange counter of ten digits": (COUNTERS.replace("interchange = 1", "interchange = 1000000000", 1),
@@ -204,6 +209,9 @@ def examples():
         page.want(f"a counters file: {name}", check(counters=counters), (3, lines(counters=said), ""))
     for name, (setup, said) in SETUPS.items():
         page.want(f"a setup: {name}", check(**{**whole, "setup": setup}), (3, lines(**{**OK, "setup": said}), ""))
+    for name, (setup, said) in SETUP_WARNINGS.items():
+        page.want(f"warned of: {name}", check(**{**whole, "setup": setup}),
+                  (0, lines(**{**OK, "setup": f"{OK['setup']}\nsetup.toml: warning: {said}"}), ""))
     for name, (counters, said) in COUNTERS_OF.items():
         page.want(f"counters: {name}", check(**{**whole, "counters": counters}), (3, lines(**{**OK, "setup": OPEN, "counters": said}), ""))
     page.want("two guides with one name", check(guide_0=H850, guide_1=H850, setup=SETUP),

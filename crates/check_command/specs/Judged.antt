@@ -7,6 +7,7 @@ use Rattle.partner_setup.specs.declared.rows.SetupRows.{SetupRows}
 use Rattle.partner_setup.specs.declared.setup_fault.SetupFault.{SetupFault}
 use Rattle.partner_setup.specs.declared.setup_fault.SetupFault.TheVariants as refused
 use Rattle.refusal_words.specs.KeptRows.{kept_rows}
+use Rattle.refusal_words.specs.SetupWarnings.{setup_warnings}
 use Rattle.refusal_words.specs.SetupWords.{setup_words}
 use Rattle.refusal_words.specs.declared.kept_rows.KeptRows.{KeptRows}
 use Rattle.check_command.specs.declared.told.Listed.TheVariants as listed
@@ -24,9 +25,9 @@ is_of_counters (refused.BadRoute place) = false
 is_of_counters (refused.BadCap place) = false
 is_of_counters refused.NoMemory = false
 
--- it is taken where nothing is refused, and left open by a counter; else the words of the first refusal
+-- it is taken, with its warnings, where nothing is refused, and left open by a counter; else the words of the first refusal
 abbrev pub told_by : (partners : ℕ) → KeptRows → Option SetupFault → Told
-told_by partners kept None = told.Taken partners listed.Partners []
+told_by partners kept None = told.Taken partners listed.Partners (setup_warnings kept)
 told_by partners kept (Some fault) = if is_of_counters fault then told.Open else told.Refused (setup_words kept fault)
 
 abbrev pub setup_told : SetupRows → List CounterRow → List GuideRows → Told

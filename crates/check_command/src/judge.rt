@@ -15,7 +15,7 @@ use crate::warned::{no_warnings, warning_texts};
 use guide_tree::{Guide, Node};
 use hub_kinds::{Items, NoMemory, Text};
 use partner_setup::{CounterRows, Setup, SetupFault, SetupRows};
-use refusal_words::{KeptRows, append_setup_words};
+use refusal_words::{KeptRows, append_setup_words, setup_warning_texts};
 use std::alloc::Global;
 
 /// What is told of a setup, and of the counters that it is judged by.
@@ -41,10 +41,13 @@ pub fn judge_setup(
     let count = counters.as_slice().len() as u64;
     let taken = Told::Taken(count, Listed::Counters, no_warnings(alloc));
     match Setup::build(alloc, rows, counters, guides) {
-        Ok(_) => Ok(SetupTold {
-            setup: Told::Taken(partners, Listed::Partners, no_warnings(alloc)),
-            counters: taken,
-        }),
+        Ok(_) => {
+            let warnings = setup_warning_texts(alloc, &kept)?;
+            Ok(SetupTold {
+                setup: Told::Taken(partners, Listed::Partners, warnings),
+                counters: taken,
+            })
+        }
         Err(SetupFault::NoMemory) => Err(NoMemory),
         Err(fault) => {
             let text = refusal_text(alloc, &kept, &fault)?;

@@ -6,8 +6,8 @@
 //!   line for each of its warnings; and the status is 0 exactly where each of them is told as taken, else 3 (`check_main`);
 //! - what is told of a file is what its bytes say: a guide is taken, with its size and just its warnings, where its reader gives it, and
 //!   else refused in the words of its fault; a setup file or counters likewise, and where all can be read, by what `Setup::build` makes of
-//!   just these rows; the first refusal stands with the counters where it is of one of them; a setup is left open only where another file
-//!   is refused (`tell_files`, `judge_setup`);
+//!   just these rows: a setup that is taken has just its warnings, and the first refusal stands with the counters where it is of one of
+//!   them; a setup is left open only where another file is refused (`tell_files`, `judge_setup`);
 //! - of bytes that write no table the line and the column are those of the first byte that is no UTF-8, or else of a place in the file;
 //! - a failed run prints no line of a file, unless standard output itself failed; it ends with 2, 5 or 6; one that doesn't fail leaves
 //!   standard error as it was;

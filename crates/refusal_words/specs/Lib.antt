@@ -13,6 +13,7 @@ pub mod Nodes
 pub mod Places
 pub mod RowWords
 pub mod Search
+pub mod SetupWarnings
 pub mod SetupWords
 pub mod TriggerWords
 pub mod Wanted

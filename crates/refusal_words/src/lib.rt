@@ -1,5 +1,5 @@
-//! Words for the refusals of guide files, setup files, counters files and setups, and for the warnings of guides: one sentence for each,
-//! which names the key, the node, the two slots and a segment that fits both, the partner, the route or the row of counters.
+//! Words for the refusals of guide files, setup files, counters files and setups, and for the warnings of guides and setups: one sentence
+//! for each, which names the key, the node, the two slots and a segment that fits both, the partner, the route or the row of counters.
 //!
 //! Proved:
 //! - each sentence is the one that the definitions give, byte for byte, of the refusal and of the rows that it speaks of;
@@ -24,6 +24,7 @@ mod kept_rows;
 mod named;
 mod nodes;
 mod row_words;
+mod setup_warnings;
 mod setup_words;
 mod trigger_words;
 mod wanted;
@@ -33,5 +34,6 @@ pub use common::common_segment;
 pub use file_words::append_file_words;
 pub use guide_words::{append_guide_file_words, append_guide_words};
 pub use kept_rows::KeptRows;
+pub use setup_warnings::setup_warning_texts;
 pub use setup_words::append_setup_words;
 pub use warning_words::append_warning;
