@@ -23,10 +23,10 @@ ORDER = "interchange 1, group PO 12"
 WHOLE = {
     "night/one_order": ["total ta1s 0 groups 1 sets 1 accepted 1"],
     "night/rejected": [
+        f"{ORDER}: rejected (AK901 R)",
         f"{ORDER}, 850 001: rejected: SE02 isn't ST02, byte for byte (IK502 3)",
         f"{ORDER}, 850 001: rejected: SE01 isn't 1 to 10 digits equal to the number of segments, ST and SE among them (IK502 4)",
         f"{ORDER}, 850 001: rejected: ST02 has fewer than four bytes (IK502 7)",
-        f"{ORDER}: rejected (AK901 R)",
         "total ta1s 0 groups 1 sets 1 accepted 0",
     ],
     "night/partly_accepted": [
@@ -43,26 +43,34 @@ WHOLE = {
         "total ta1s 1 groups 0 sets 0 accepted 0",
     ],
     "three_guides/h855_rejected": [
+        "interchange 1, group PR 12: rejected (AK901 R)",
         "interchange 1, group PR 12, 855 0001: rejected: segment 4 ACK in loop PO1, element 1 (668): "
         "ZZ is a code that the guide doesn't list (IK403 7)",
         "interchange 1, group PR 12, 855 0001: rejected: segment 4 ACK in loop PO1, element 3 (355): a condition asks for it (IK403 2)",
-        "interchange 1, group PR 12: rejected (AK901 R)",
         "total ta1s 0 groups 1 sets 1 accepted 0",
     ],
     "three_guides/h860_rejected": [
+        "interchange 1, group PC 12: rejected (AK901 R)",
         "interchange 1, group PC 12, 860 0001: rejected: segment 2 BCH, element 1 (353): "
         "01 is a code that the guide lists as not used, or no level below that of the HL's parent (IK403 I6)",
         "interchange 1, group PC 12, 860 0001: rejected: segment 3 POC in loop POC, element 5, component 1 (355): "
         "XX is a code that the guide doesn't list (IK403 7)",
-        "interchange 1, group PC 12: rejected (AK901 R)",
         "total ta1s 0 groups 1 sets 1 accepted 0",
     ],
     "three_guides/h856_levels_rejected": [
-        "interchange 1, group SH 12, 856 0001: rejected: before segment 12 in loop HLP: MAN is missing (IK304 3)",
         "interchange 1, group SH 12: rejected (AK901 R)",
+        "interchange 1, group SH 12, 856 0001: rejected: before segment 12 in loop HLP: MAN is missing (IK304 3)",
         "total ta1s 0 groups 1 sets 1 accepted 0",
     ],
 }
+# a group without a GE, whose orders are accepted by themselves
+FALLEN = "AK1*PO*12*005010~AK2*850*0001~IK5*A~AK2*850*0002~IK5*A~AK9*R*2*2*0*3~"
+FALLEN_LINES = [
+    f"{ORDER}: rejected: no GE (AK905 3)",
+    f"{ORDER}, 850 0001: rejected with its group (IK501 A)",
+    f"{ORDER}, 850 0002: rejected with its group (IK501 A)",
+    "total ta1s 0 groups 1 sets 2 accepted 0",
+]
 REFUSED = [
     ("no word", [], 2, "usage"),
     ("two files", ["a", "b"], 2, "usage"),
@@ -124,6 +132,7 @@ def examples():
     codes(page)
     for name, lines in WHOLE.items():
         page.want(name, run([os.path.join(EXAMPLES, f"{name}.ack")]), (0, "".join(f"{it}\n" for it in lines), ""))
+    page.want("a group without a GE", told(FALLEN), (0, "".join(f"{it}\n" for it in FALLEN_LINES), ""))
     for name in ("h855", "h860", "h856_levels"):
         accepted = run([os.path.join(EXAMPLES, "three_guides", f"{name}_accepted.ack")])
         page.want(f"{name}, accepted", accepted, (0, "total ta1s 0 groups 1 sets 1 accepted 1\n", ""))

@@ -1,3 +1,4 @@
 pub mod Lines
+pub mod Reported
 pub mod Shown
 pub mod Words

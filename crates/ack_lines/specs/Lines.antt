@@ -1,6 +1,6 @@
 -- Own: the lines that say in words what an acknowledgment tells (X12.5, TA1; 999 guide, AK1 to AK9): one for each TA1, for each group and
 -- set that isn't accepted one a fault, and a last one of totals.
-use Rattle.std.specs.Prelude.{ℕ, Bool, true, false, ◌&&◌, List, [], ◌∷◌, ◌++◌, codes, decimal, if◌then◌else◌}
+use Rattle.std.specs.Prelude.{ℕ, Bool, true, false, not, ◌&&◌, List, [], ◌∷◌, ◌++◌, codes, decimal, if◌then◌else◌}
 use Rattle.std.specs.List.{count_by, flat_map}
 use Rattle.std.specs.Str.{bytes_eq}
 use Rattle.hub_kinds.specs.Words as texts
@@ -16,8 +16,10 @@ use Rattle.ack_read.specs.declared.told.SegmentTold.{SegmentTold}
 use Rattle.ack_read.specs.declared.told.SetTold.{SetTold}
 use Rattle.ack_read.specs.declared.told.Ta1Told.{Ta1Told}
 use Rattle.ack_read.specs.declared.told.Told.{Told}
-use Rattle.ack_read.specs.declared.told.Told.TheVariants as told
+use Rattle.ack_lines.specs.Reported.{is_rejected, reported_of}
 use Rattle.ack_lines.specs.Shown.{shown, shown_if}
+use Rattle.ack_lines.specs.declared.reported.Reported.{Reported}
+use Rattle.ack_lines.specs.declared.reported.Reported.TheVariants as reported
 
 -- the words of each code, by its text
 abbrev pub segment_said : (code : List ℕ) → List ℕ
@@ -177,45 +179,54 @@ abbrev pub further_code_line : (head verdict code : List ℕ) → List ℕ
 further_code_line head verdict code = if repeats_notes code then [] else code_line head verdict set_said (codes "IK502") code
 
 -- a set's codes: all of them, or after its notes those that say more
-abbrev pub set_code_lines : (head : List ℕ) → SetTold → List NoteTold → List ℕ
-set_code_lines head s [] = code_lines head (set_verdict_said s.code) (codes "IK501") s.code set_said (codes "IK502") s.codes
-set_code_lines head s (n ∷ notes) = flat_map (further_code_line head (set_verdict_said s.code)) s.codes
+abbrev pub set_code_lines : (head verdict : List ℕ) → SetTold → List NoteTold → List ℕ
+set_code_lines head verdict s [] = code_lines head verdict (codes "IK501") s.code set_said (codes "IK502") s.codes
+set_code_lines head verdict s (n ∷ notes) = flat_map (further_code_line head verdict) s.codes
 
--- a set that isn't accepted: its notes, then its codes
-abbrev pub faulty_set_lines : SetTold → List ℕ
-faulty_set_lines s =
-    note_lines (set_head s ++ (set_verdict_said s.code ++ codes ": ")) s.notes ++ set_code_lines (set_head s) s s.notes
+-- a set with these words of its verdict: its notes, then its codes
+abbrev pub faulty_set_lines : (verdict : List ℕ) → SetTold → List ℕ
+faulty_set_lines verdict s =
+    note_lines (set_head s ++ (verdict ++ codes ": ")) s.notes ++ set_code_lines (set_head s) verdict s s.notes
+
+-- the verdict on a set whose group is rejected
+abbrev pub fallen_verdict : (code : List ℕ) → List ℕ
+fallen_verdict code = if is_rejected code then set_verdict_said code else codes "rejected with its group"
+
+-- a set that isn't accepted, by itself or since its group is rejected
+abbrev pub set_lines : SetTold → (falls : Bool) → List ℕ
+set_lines s true = faulty_set_lines (fallen_verdict s.code) s
+set_lines s false = if is_accepted s.code then [] else faulty_set_lines (set_verdict_said s.code) s
 
 abbrev pub faulty_group_lines : GroupTold → List ℕ
 faulty_group_lines g =
     code_lines (group_head g.interchange g.functional_id g.control ++ codes ": ") (group_verdict_said g.code) (codes "AK901") g.code
     group_said (codes "AK905") g.codes
 
-abbrev pub told_lines : Told → List ℕ
-told_lines (told.OfInterchange t) = ta1_line t
-told_lines (told.OfSet s) = if is_accepted s.code then [] else faulty_set_lines s
-told_lines (told.OfGroup g) = if is_accepted g.code then [] else faulty_group_lines g
+abbrev pub reported_lines : Reported → List ℕ
+reported_lines (reported.OfInterchange t) = ta1_line t
+reported_lines (reported.OfGroup g) = if is_accepted g.code then [] else faulty_group_lines g
+reported_lines (reported.OfSet s falls) = set_lines s falls
 
 -- the totals: TA1s, groups, sets, and sets that are accepted, with or without errors (AK904)
-abbrev pub is_ta1 : Told → Bool
-is_ta1 (told.OfInterchange t) = true
-is_ta1 (told.OfSet s) = false
-is_ta1 (told.OfGroup g) = false
+abbrev pub is_ta1 : Reported → Bool
+is_ta1 (reported.OfInterchange t) = true
+is_ta1 (reported.OfGroup g) = false
+is_ta1 (reported.OfSet s falls) = false
 
-abbrev pub is_group : Told → Bool
-is_group (told.OfInterchange t) = false
-is_group (told.OfSet s) = false
-is_group (told.OfGroup g) = true
+abbrev pub is_group : Reported → Bool
+is_group (reported.OfInterchange t) = false
+is_group (reported.OfGroup g) = true
+is_group (reported.OfSet s falls) = false
 
-abbrev pub is_set : Told → Bool
-is_set (told.OfInterchange t) = false
-is_set (told.OfSet s) = true
-is_set (told.OfGroup g) = false
+abbrev pub is_set : Reported → Bool
+is_set (reported.OfInterchange t) = false
+is_set (reported.OfGroup g) = false
+is_set (reported.OfSet s falls) = true
 
-abbrev pub is_accepted_set : Told → Bool
-is_accepted_set (told.OfInterchange t) = false
-is_accepted_set (told.OfSet s) = if is_accepted s.code then true else bytes_eq s.code (codes "E")
-is_accepted_set (told.OfGroup g) = false
+abbrev pub is_accepted_set : Reported → Bool
+is_accepted_set (reported.OfInterchange t) = false
+is_accepted_set (reported.OfGroup g) = false
+is_accepted_set (reported.OfSet s falls) = not falls && (if is_accepted s.code then true else bytes_eq s.code (codes "E"))
 
 abbrev pub counted : (word : List ℕ) → ℕ → List ℕ
 counted word n = codes " " ++ (word ++ (codes " " ++ decimal n))
@@ -228,7 +239,10 @@ total_line ta1s groups sets accepted =
     ++ (counted (codes "sets") sets ++ (counted (codes "accepted") accepted ++ codes "\n"))))
 
 -- all of it
+abbrev pub all_lines : List Reported → List ℕ
+all_lines all =
+    flat_map reported_lines all
+    ++ total_line (count_by is_ta1 all) (count_by is_group all) (count_by is_set all) (count_by is_accepted_set all)
+
 abbrev pub explanation : List Told → List ℕ
-explanation found =
-    flat_map told_lines found
-    ++ total_line (count_by is_ta1 found) (count_by is_group found) (count_by is_set found) (count_by is_accepted_set found)
+explanation found = all_lines (reported_of found)

@@ -1,43 +1,48 @@
-ghost use Rattle.std.specs.Prelude.{◌≡◌, ◌++◌, OnOk, IfOk, codes};
+ghost use Rattle.std.specs.Prelude.{◌≡◌, ◌++◌, OnOk, IfOk, IsPermutation, codes, map};
 ghost use Rattle.std.specs.List.{count_by, flat_map};
 ghost use Rattle.ack_lines.specs.Lines as lines;
+ghost use Rattle.ack_lines.specs.Reported.{reported_of, told_of};
 
-use crate::lines::{append_told_lines, is_accepted};
+use crate::lines::{append_reported, is_accepted};
+use crate::reported::{Reported, reported_of};
 use crate::shown::{append_number, append_text};
 use ack_read::Told;
 use hub_kinds::NoMemory;
 use std::alloc::Global;
 
 /// The lines that say in words what is told: one for each TA1, for each group and set that isn't accepted one a fault, and a last one of
-/// totals. They are printable ASCII, each ends with LF, and no text of the acknowledgment is shown longer than 99 bytes, so that their
-/// length follows that of what is told.
-pub fn explanation(alloc: Global, found: &[Told<'_>]) -> Result<Vec<u8>, NoMemory>
-    ensures { IfOk result (λ text. text.items ≡ lines.explanation found.now) }
+/// totals. A group that is rejected comes before its sets, none of which is accepted. The lines are printable ASCII, each ends with LF,
+/// and no text of the acknowledgment is shown longer than 99 bytes, so that their length follows that of what is told.
+#[tactic(auto, using(crate::proofs::Once::once))]
+pub fn explanation<'a>(alloc: Global, found: Vec<Told<'a>>) -> Result<Vec<u8>, NoMemory>
+    ensures lines { IfOk result (λ text. text.items ≡ lines.explanation found.entry.items) }
+    ensures once { IsPermutation found.entry.items (map told_of (reported_of found.entry.items)) }
 {
+    let all = reported_of(alloc, found)?;
     let mut out = Vec::new(alloc);
-    append_each(alloc, &mut out, found)?;
-    append_totals(&mut out, found)?;
+    append_each(alloc, &mut out, all.as_slice())?;
+    append_totals(&mut out, all.as_slice())?;
     Ok(out)
 }
 
-fn append_each(alloc: Global, out: &mut Vec<u8>, found: &[Told<'_>]) -> Result<(), NoMemory>
-    ensures { OnOk result (out.new.items ≡ out.old.items ++ flat_map lines.told_lines found.now) }
+fn append_each(alloc: Global, out: &mut Vec<u8>, all: &[Reported<'_>]) -> Result<(), NoMemory>
+    ensures { OnOk result (out.new.items ≡ out.old.items ++ flat_map lines.reported_lines all.now) }
 {
-    for told in found {
-        append_told_lines(alloc, out, told)?;
+    for one in all {
+        append_reported(alloc, out, one)?;
     }
     Ok(())
 }
 
-fn append_totals(out: &mut Vec<u8>, found: &[Told<'_>]) -> Result<(), NoMemory>
-    ensures { OnOk result (out.new.items ≡ out.old.items ++ lines.total_line (count_by lines.is_ta1 found.now)
-        (count_by lines.is_group found.now) (count_by lines.is_set found.now) (count_by lines.is_accepted_set found.now)) }
+fn append_totals(out: &mut Vec<u8>, all: &[Reported<'_>]) -> Result<(), NoMemory>
+    ensures { OnOk result (out.new.items ≡ out.old.items ++ lines.total_line (count_by lines.is_ta1 all.now)
+        (count_by lines.is_group all.now) (count_by lines.is_set all.now) (count_by lines.is_accepted_set all.now)) }
 {
     append_text(out, "total")?;
-    append_count(out, "ta1s", ta1_count(found))?;
-    append_count(out, "groups", group_count(found))?;
-    append_count(out, "sets", set_count(found))?;
-    append_count(out, "accepted", accepted_count(found))?;
+    append_count(out, "ta1s", ta1_count(all))?;
+    append_count(out, "groups", group_count(all))?;
+    append_count(out, "sets", set_count(all))?;
+    append_count(out, "accepted", accepted_count(all))?;
     append_text(out, "\n")
 }
 
@@ -50,58 +55,59 @@ fn append_count(out: &mut Vec<u8>, word: &str, count: usize) -> Result<(), NoMem
     append_number(out, count as u64)
 }
 
-fn ta1_count(found: &[Told<'_>]) -> usize
-    ensures { result ≡ count_by lines.is_ta1 found.now }
+fn ta1_count(all: &[Reported<'_>]) -> usize
+    ensures { result ≡ count_by lines.is_ta1 all.now }
 {
     let mut count = 0;
-    for told in found {
-        if matches!(told, Told::OfInterchange(_)) {
+    for one in all {
+        if matches!(one, Reported::OfInterchange(_)) {
             count += 1;
         }
     }
     count
 }
 
-fn group_count(found: &[Told<'_>]) -> usize
-    ensures { result ≡ count_by lines.is_group found.now }
+fn group_count(all: &[Reported<'_>]) -> usize
+    ensures { result ≡ count_by lines.is_group all.now }
 {
     let mut count = 0;
-    for told in found {
-        if matches!(told, Told::OfGroup(_)) {
+    for one in all {
+        if matches!(one, Reported::OfGroup(_)) {
             count += 1;
         }
     }
     count
 }
 
-fn set_count(found: &[Told<'_>]) -> usize
-    ensures { result ≡ count_by lines.is_set found.now }
+fn set_count(all: &[Reported<'_>]) -> usize
+    ensures { result ≡ count_by lines.is_set all.now }
 {
     let mut count = 0;
-    for told in found {
-        if matches!(told, Told::OfSet(_)) {
+    for one in all {
+        if matches!(one, Reported::OfSet(_, _)) {
             count += 1;
         }
     }
     count
 }
 
-/// Whether a set is told that is accepted, with or without errors.
-fn is_accepted_set(told: &Told<'_>) -> bool
-    ensures { result ≡ lines.is_accepted_set told.now }
+/// Whether a set is accepted, with or without errors, and its group isn't rejected.
+fn is_accepted_set(one: &Reported<'_>) -> bool
+    ensures { result ≡ lines.is_accepted_set one.now }
 {
-    match told {
-        Told::OfSet(set) => is_accepted(set.code.bytes()) || set.code.bytes() == b"E".as_slice(),
+    match one {
+        Reported::OfSet(set, falls) => !*falls
+            && (is_accepted(set.code.bytes()) || set.code.bytes() == b"E".as_slice()),
         _ => false,
     }
 }
 
-fn accepted_count(found: &[Told<'_>]) -> usize
-    ensures { result ≡ count_by lines.is_accepted_set found.now }
+fn accepted_count(all: &[Reported<'_>]) -> usize
+    ensures { result ≡ count_by lines.is_accepted_set all.now }
 {
     let mut count = 0;
-    for told in found {
-        if is_accepted_set(told) {
+    for one in all {
+        if is_accepted_set(one) {
             count += 1;
         }
     }

@@ -2,8 +2,8 @@
 //! with each fault by its segment, its element and its code; and a last line of totals.
 //!
 //! Proved:
-//! - `explanation` is just these lines, of what is told in its order, byte for byte; texts of the acknowledgment are shown without
-//!   bytes that don't print, and cut to 99 bytes.
+//! - `explanation` is just these lines, of what is told in its order, but a group that is rejected before its sets, byte for byte; texts
+//!   of the acknowledgment are shown without bytes that don't print, and cut to 99 bytes; all that is told is reported, each once.
 //!
 //! Source: own; X12.5, TA1; 999 guide (005010X231), AK1, AK2, IK3, IK4, IK5 and AK9.
 #![tactic(auto)]
@@ -12,6 +12,7 @@ mod explain;
 mod heads;
 mod lines;
 mod notes;
+mod reported;
 mod shown;
 
 pub use explain::explanation;

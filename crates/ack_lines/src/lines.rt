@@ -5,8 +5,9 @@ ghost use Rattle.ack_lines.specs.Lines as lines;
 
 use crate::heads::{append_group_head, append_set_head, append_ta1_line};
 use crate::notes::append_note_lines;
+use crate::reported::{Reported, is_rejected};
 use crate::shown::{append_coded, append_text};
-use ack_read::{GroupTold, SetTold, Told};
+use ack_read::{GroupTold, SetTold};
 use code_words::{Worded, words_of};
 use hub_kinds::{GroupCode, GroupVerdict, Lent, NoMemory, SetCode, Verdict};
 use std::alloc::Global;
@@ -86,26 +87,33 @@ fn append_further_codes(
 }
 
 /// Writes a line for each code of a set, or one that says its verdict alone.
-fn append_all_codes(out: &mut Vec<u8>, head: &[u8], set: &SetTold<'_>) -> Result<(), NoMemory>
-    ensures { OnOk result (out.new.items ≡ out.old.items ++ lines.code_lines head.now (lines.set_verdict_said set.now.code)
+fn append_all_codes(
+    out: &mut Vec<u8>,
+    head: &[u8],
+    verdict: &str,
+    set: &SetTold<'_>,
+) -> Result<(), NoMemory>
+    ensures { OnOk result (out.new.items ≡ out.old.items ++ lines.code_lines head.now verdict.now
         (codes "IK501") set.now.code lines.set_said (codes "IK502") set.now.codes) }
 {
-    let code = set.code.bytes();
-    let verdict = words_of::<Verdict>(code);
     if set.codes.as_slice().is_empty() {
-        return append_verdict_line(out, head, verdict, "IK501", code);
+        return append_verdict_line(out, head, verdict, "IK501", set.code.bytes());
     }
     append_each_code::<SetCode>(out, head, verdict, "IK502", set.codes.as_slice())
 }
 
 /// Writes the lines of a set's codes, after those of its notes.
-fn append_set_codes(out: &mut Vec<u8>, head: &[u8], set: &SetTold<'_>) -> Result<(), NoMemory>
-    ensures { OnOk result (out.new.items ≡ out.old.items ++ lines.set_code_lines head.now set.now set.now.notes) }
+fn append_set_codes(
+    out: &mut Vec<u8>,
+    head: &[u8],
+    verdict: &str,
+    set: &SetTold<'_>,
+) -> Result<(), NoMemory>
+    ensures { OnOk result (out.new.items ≡ out.old.items ++ lines.set_code_lines head.now verdict.now set.now set.now.notes) }
 {
     if set.notes.as_slice().is_empty() {
-        return append_all_codes(out, head, set);
+        return append_all_codes(out, head, verdict, set);
     }
-    let verdict = words_of::<Verdict>(set.code.bytes());
     append_further_codes(out, head, verdict, set.codes.as_slice())
 }
 
@@ -121,18 +129,52 @@ fn append_group_codes(out: &mut Vec<u8>, head: &[u8], group: &GroupTold<'_>) -> 
     append_each_code::<GroupCode>(out, head, verdict, "AK905", group.codes.as_slice())
 }
 
-/// Writes the lines of a set that isn't accepted.
-fn append_set_lines(alloc: Global, out: &mut Vec<u8>, set: &SetTold<'_>) -> Result<(), NoMemory>
-    ensures { OnOk result (out.new.items ≡ out.old.items ++ lines.faulty_set_lines set.now) }
+/// Writes the lines of a set that isn't accepted, with these words of its verdict.
+fn append_set_lines(
+    alloc: Global,
+    out: &mut Vec<u8>,
+    verdict: &str,
+    set: &SetTold<'_>,
+) -> Result<(), NoMemory>
+    ensures { OnOk result (out.new.items ≡ out.old.items ++ lines.faulty_set_lines verdict.now set.now) }
 {
     let mut head = Vec::new(alloc);
     append_set_head(&mut head, set)?;
     let mut noted = Vec::new(alloc);
     append_set_head(&mut noted, set)?;
-    append_text(&mut noted, words_of::<Verdict>(set.code.bytes()))?;
+    append_text(&mut noted, verdict)?;
     append_text(&mut noted, ": ")?;
     append_note_lines(out, noted.as_slice(), set.notes.as_slice())?;
-    append_set_codes(out, head.as_slice(), set)
+    append_set_codes(out, head.as_slice(), verdict, set)
+}
+
+/// The words of the verdict on a set whose group is rejected.
+fn fallen_verdict(code: &[u8]) -> &'static str
+    ensures { result.now ≡ lines.fallen_verdict code.now }
+{
+    if is_rejected(code) {
+        return words_of::<Verdict>(code);
+    }
+    "rejected with its group"
+}
+
+/// Writes the lines of a set, whose group is rejected, or isn't.
+fn append_set(
+    alloc: Global,
+    out: &mut Vec<u8>,
+    set: &SetTold<'_>,
+    falls: bool,
+) -> Result<(), NoMemory>
+    ensures { OnOk result (out.new.items ≡ out.old.items ++ lines.set_lines set.now falls) }
+{
+    let code = set.code.bytes();
+    if falls {
+        return append_set_lines(alloc, out, fallen_verdict(code), set);
+    }
+    if is_accepted(code) {
+        return Ok(());
+    }
+    append_set_lines(alloc, out, words_of::<Verdict>(code), set)
 }
 
 /// Writes the lines of a group that isn't accepted.
@@ -161,20 +203,20 @@ pub(crate) fn is_accepted(code: &[u8]) -> bool
     code == b"A".as_slice()
 }
 
-/// Writes the lines of what is told.
-pub(crate) fn append_told_lines(
+/// Writes the lines of what is reported.
+pub(crate) fn append_reported(
     alloc: Global,
     out: &mut Vec<u8>,
-    told: &Told<'_>,
+    one: &Reported<'_>,
 ) -> Result<(), NoMemory>
-    ensures { OnOk result (out.new.items ≡ out.old.items ++ lines.told_lines told.now) }
+    ensures { OnOk result (out.new.items ≡ out.old.items ++ lines.reported_lines one.now) }
 {
-    match told {
-        Told::OfInterchange(ta1) => append_ta1_line(out, ta1),
-        Told::OfSet(set) if !is_accepted(set.code.bytes()) => append_set_lines(alloc, out, set),
-        Told::OfGroup(group) if !is_accepted(group.code.bytes()) => append_group_lines(
+    match one {
+        Reported::OfInterchange(ta1) => append_ta1_line(out, ta1),
+        Reported::OfSet(set, falls) => append_set(alloc, out, set, *falls),
+        Reported::OfGroup(group) if !is_accepted(group.code.bytes()) => append_group_lines(
             alloc, out, group,
         ),
-        _ => Ok(()),
+        Reported::OfGroup(_) => Ok(()),
     }
 }

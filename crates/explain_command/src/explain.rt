@@ -113,7 +113,7 @@ fn lines_on(alloc: Global, text: &[u8]) -> Result<Vec<u8>, Failure>
         return Ok(Vec::from_slice(alloc, b"no acknowledgments\n")?);
     }
     let found = read_acknowledgments(alloc, text)?;
-    Ok(explanation(alloc, found.as_slice())?)
+    Ok(explanation(alloc, found)?)
 }
 
 /// All bytes of a reader.

@@ -279,6 +279,17 @@ interchange 1, group PO 12: partly accepted (AK901 P)
         "groups 1 sets 2 accepted 1",
     ),
     (
+        "AK2*850*0001~IK5*A~AK2*850*0002~IK5*R*4~AK2*850*0003~IK3*BEG*2**8~IK4*1*353*7*99~IK5*E*5~AK9*R*4*3*0*5~",
+        "interchange 1, group PO 12: rejected: GE01 isn't 1 to 6 digits equal to the number of sets (AK905 5)
+interchange 1, group PO 12, 850 0001: rejected with its group (IK501 A)
+interchange 1, group PO 12, 850 0002: rejected: \
+SE01 isn't 1 to 10 digits equal to the number of segments, ST and SE among them (IK502 4)
+interchange 1, group PO 12, 850 0003: rejected with its group: segment 2 BEG, element 1 (353): \
+99 is a code that the guide doesn't list (IK403 7)
+",
+        "groups 1 sets 3 accepted 0",
+    ),
+    (
         "AK9*R*1*1*0~",
         "interchange 1, group PO 12: rejected (AK901 R)\n",
         "groups 1 sets 0 accepted 0",

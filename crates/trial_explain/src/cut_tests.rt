@@ -1,5 +1,5 @@
 //! Acknowledgments as they are written, cut at each byte, and texts that are none.
-use crate::examples::{LINES, TOLD};
+use crate::examples::{LINES, OPEN, TOLD};
 use crate::readers::{lines_on, same};
 use explain_command::Failure;
 use std::alloc::Global;
@@ -24,14 +24,23 @@ fn before_last_line(lines: &[u8]) -> usize {
     begin
 }
 
-/// What is told of a front part is told of the whole, but for the totals; a front part that tells nothing is refused.
+/// The lines on a front part, without its totals, and without the set whose group the whole rejects.
+fn settled(lines: &[u8]) -> &[u8] {
+    let told = lines.get(..before_last_line(lines)).unwrap_or(b"");
+    if told.ends_with(OPEN) {
+        return told
+            .get(..told.len().saturating_sub(OPEN.len()))
+            .unwrap_or(b"");
+    }
+    told
+}
+
+/// What is told of a front part is told of the whole, but for the totals and for a set whose group is cut off; a front part that tells
+/// nothing is refused.
 fn expect_front(alloc: Global, cut: usize) -> Result<(), Fail> {
     let answer = lines_on(alloc, TOLD.get(..cut).unwrap_or(TOLD));
     let holds = match &answer {
-        Ok(lines) => {
-            let end = before_last_line(lines.as_slice());
-            cut >= 138 && LINES.starts_with(lines.as_slice().get(..end).unwrap_or(b""))
-        }
+        Ok(lines) => cut >= 138 && LINES.starts_with(settled(lines.as_slice())),
         Err(Failure::NoHeader) => cut < 106,
         Err(Failure::TellsNothing) => 106 <= cut && cut < 138,
         Err(_) => false,
@@ -102,6 +111,14 @@ const FOREIGN: &[(&[u8], &[u8])] = &[
         b"interchange 1, group PO 12, 850 0001: a code that this hub doesn't write (IK501 M)
 interchange 1, group PO 12: a code that this hub doesn't write (AK901 X)
 total ta1s 0 groups 1 sets 1 accepted 0
+",
+    ),
+    (
+        b"AK2*850*0001~IK5*A~TA1*000000007*260228*0900*A*000~AK1*PO*12~AK2*850*0002~IK5*A~AK9*R*1*1*0*3~AK2*850*0003~IK5*A~",
+        b"interchange 1, TA1 000000007: accepted (TA104 A): the interchange isn't refused (TA105 000)
+interchange 1, group PO 12: rejected: no GE (AK905 3)
+interchange 1, group PO 12, 850 0002: rejected with its group (IK501 A)
+total ta1s 1 groups 1 sets 3 accepted 2
 ",
     ),
     (

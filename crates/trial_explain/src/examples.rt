@@ -20,8 +20,12 @@ the segment's id is neither in the guide nor in its dictionary (IK304 1)
 interchange 2, group PO 12, 850 0002: rejected: \
 SE01 isn't 1 to 10 digits equal to the number of segments, ST and SE among them (IK502 4)
 interchange 2, group PO 12: partly accepted (AK901 P)
-interchange 2, group SH 12, 856 0001: accepted with errors: a segment or element fault whose code has no I (IK502 5)
 interchange 2, group SH 12: rejected: an earlier group of the interchange has the same GS06 (AK905 19)
 interchange 2, group SH 12: rejected: GE01 isn't 1 to 6 digits equal to the number of sets (AK905 5)
-total ta1s 1 groups 2 sets 3 accepted 2
+interchange 2, group SH 12, 856 0001: rejected with its group: a segment or element fault whose code has no I (IK502 5)
+total ta1s 1 groups 2 sets 3 accepted 1
 ";
+
+/// What the last set is told by where its group is cut off.
+pub const OPEN: &[u8] =
+    b"interchange 2, group SH 12, 856 0001: accepted with errors: a segment or element fault whose code has no I (IK502 5)\n";

@@ -3,5 +3,5 @@ use Rattle.std.specs.List.{count_by}
 use Rattle.ack_lines.specs.Lines.{is_accepted_set}
 use Rattle.ack_lines.proofs.explain.accepted_count.Given as goal
 
-abbrev pub invariant-loop-told : goal.invariant-loop-told
-invariant-loop-told l = l.count ≡ count_by is_accepted_set (take l.told-index l.found)
+abbrev pub invariant-loop-one : goal.invariant-loop-one
+invariant-loop-one l = l.count ≡ count_by is_accepted_set (take l.one-index l.all)

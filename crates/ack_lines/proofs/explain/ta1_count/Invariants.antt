@@ -3,5 +3,5 @@ use Rattle.std.specs.List.{count_by}
 use Rattle.ack_lines.specs.Lines.{is_ta1}
 use Rattle.ack_lines.proofs.explain.ta1_count.Given as goal
 
-abbrev pub invariant-loop-told : goal.invariant-loop-told
-invariant-loop-told l = l.count ≡ count_by is_ta1 (take l.told-index l.found)
+abbrev pub invariant-loop-one : goal.invariant-loop-one
+invariant-loop-one l = l.count ≡ count_by is_ta1 (take l.one-index l.all)
