@@ -133,6 +133,8 @@ def examples():
     for name, lines in WHOLE.items():
         page.want(name, run([os.path.join(EXAMPLES, f"{name}.ack")]), (0, "".join(f"{it}\n" for it in lines), ""))
     page.want("a group without a GE", told(FALLEN), (0, "".join(f"{it}\n" for it in FALLEN_LINES), ""))
+    asked = told("TA1*000000007*260228*0900*A*000~" + FALLEN)[1]
+    page.holds("behind a TA1", "interchange 1 (TA1 000000007), group PO 12: rejected: no GE" in asked, asked)
     for name in ("h855", "h860", "h856_levels"):
         accepted = run([os.path.join(EXAMPLES, "three_guides", f"{name}_accepted.ack")])
         page.want(f"{name}, accepted", accepted, (0, "total ta1s 0 groups 1 sets 1 accepted 1\n", ""))

@@ -1,6 +1,6 @@
 -- Own: the lines that say in words what an acknowledgment tells (X12.5, TA1; 999 guide, AK1 to AK9): one for each TA1, for each group and
 -- set that isn't accepted one a fault, and a last one of totals.
-use Rattle.std.specs.Prelude.{ℕ, Bool, true, false, not, ◌&&◌, List, [], ◌∷◌, ◌++◌, codes, decimal, if◌then◌else◌}
+use Rattle.std.specs.Prelude.{ℕ, Bool, true, false, not, ◌==◌, ◌&&◌, List, [], ◌∷◌, ◌++◌, codes, decimal, if◌then◌else◌}
 use Rattle.std.specs.List.{count_by, flat_map}
 use Rattle.std.specs.Str.{bytes_eq}
 use Rattle.hub_kinds.specs.Words as texts
@@ -66,17 +66,20 @@ ta1_words code note =
 abbrev pub ta1_line : Ta1Told → List ℕ
 ta1_line t = interchange_head t.interchange ++ (ta1_name t.control ++ ta1_words t.code t.note)
 
--- which group: AK101 and AK102
-unfoldable pub group_head : ℕ → (functional_id control : List ℕ) → List ℕ
-group_head n functional_id control =
-    interchange_head n ++ (codes ", group " ++ (shown functional_id ++ (codes " " ++ shown control)))
+-- which group: AK101 and AK102; and the interchange of the sender, where a TA1 says which that is
+unfoldable pub group_name : (functional_id control : List ℕ) → List ℕ
+group_name functional_id control = codes ", group " ++ (shown functional_id ++ (codes " " ++ shown control))
+
+unfoldable pub group_head : ℕ → (sender functional_id control : List ℕ) → List ℕ
+group_head n sender functional_id control =
+    interchange_head n ++ (shown_if (codes " (TA1 ") sender (codes ")") ++ group_name functional_id control)
 
 -- and which set: AK201 and AK202
 unfoldable pub set_name : (identifier control : List ℕ) → List ℕ
 set_name identifier control = codes ", " ++ (shown identifier ++ (codes " " ++ (shown control ++ codes ": ")))
 
-abbrev pub set_head : SetTold → List ℕ
-set_head s = group_head s.interchange s.functional_id s.group_control ++ set_name s.identifier s.control
+abbrev pub set_head : (sender : List ℕ) → SetTold → List ℕ
+set_head sender s = group_head s.interchange sender s.functional_id s.group_control ++ set_name s.identifier s.control
 
 -- a line for a code of a list: the words of its verdict stand in front
 abbrev pub code_line : (head verdict : List ℕ) → (said : List ℕ → List ℕ) → (element code : List ℕ) → List ℕ
@@ -184,28 +187,54 @@ set_code_lines head verdict s [] = code_lines head verdict (codes "IK501") s.cod
 set_code_lines head verdict s (n ∷ notes) = flat_map (further_code_line head verdict) s.codes
 
 -- a set with these words of its verdict: its notes, then its codes
-abbrev pub faulty_set_lines : (verdict : List ℕ) → SetTold → List ℕ
-faulty_set_lines verdict s =
-    note_lines (set_head s ++ (verdict ++ codes ": ")) s.notes ++ set_code_lines (set_head s) verdict s s.notes
+abbrev pub faulty_set_lines : (sender verdict : List ℕ) → SetTold → List ℕ
+faulty_set_lines sender verdict s =
+    note_lines (set_head sender s ++ (verdict ++ codes ": ")) s.notes ++ set_code_lines (set_head sender s) verdict s s.notes
 
 -- the verdict on a set whose group is rejected
 abbrev pub fallen_verdict : (code : List ℕ) → List ℕ
 fallen_verdict code = if is_rejected code then set_verdict_said code else codes "rejected with its group"
 
 -- a set that isn't accepted, by itself or since its group is rejected
-abbrev pub set_lines : SetTold → (falls : Bool) → List ℕ
-set_lines s true = faulty_set_lines (fallen_verdict s.code) s
-set_lines s false = if is_accepted s.code then [] else faulty_set_lines (set_verdict_said s.code) s
+abbrev pub set_lines : (sender : List ℕ) → SetTold → (falls : Bool) → List ℕ
+set_lines sender s true = faulty_set_lines sender (fallen_verdict s.code) s
+set_lines sender s false = if is_accepted s.code then [] else faulty_set_lines sender (set_verdict_said s.code) s
 
-abbrev pub faulty_group_lines : GroupTold → List ℕ
-faulty_group_lines g =
-    code_lines (group_head g.interchange g.functional_id g.control ++ codes ": ") (group_verdict_said g.code) (codes "AK901") g.code
+abbrev pub faulty_group_lines : (sender : List ℕ) → GroupTold → List ℕ
+faulty_group_lines sender g =
+    code_lines (group_head g.interchange sender g.functional_id g.control ++ codes ": ") (group_verdict_said g.code) (codes "AK901") g.code
     group_said (codes "AK905") g.codes
 
-abbrev pub reported_lines : Reported → List ℕ
-reported_lines (reported.OfInterchange t) = ta1_line t
-reported_lines (reported.OfGroup g) = if is_accepted g.code then [] else faulty_group_lines g
-reported_lines (reported.OfSet s falls) = set_lines s falls
+abbrev pub reported_lines : (sender : List ℕ) → Reported → List ℕ
+reported_lines sender (reported.OfInterchange t) = ta1_line t
+reported_lines sender (reported.OfGroup g) = if is_accepted g.code then [] else faulty_group_lines sender g
+reported_lines sender (reported.OfSet s falls) = set_lines sender s falls
+
+-- the last TA1 so far: in which interchange it stands, and of which one of the sender it tells
+pub record Asked : Type 0 where
+  pub interchange : ℕ
+  pub control : List ℕ
+
+abbrev pub none_asked : Asked
+none_asked = record { interchange = 0; control = [] }
+
+abbrev pub asked_behind : Asked → Reported → Asked
+asked_behind at (reported.OfInterchange t) = record { interchange = t.interchange; control = t.control }
+asked_behind at (reported.OfGroup g) = at
+asked_behind at (reported.OfSet s falls) = at
+
+abbrev pub interchange_of : Reported → ℕ
+interchange_of (reported.OfInterchange t) = t.interchange
+interchange_of (reported.OfGroup g) = g.interchange
+interchange_of (reported.OfSet s falls) = s.interchange
+
+-- what is said in an interchange is said of the one of the sender that its TA1 names
+abbrev pub sender_of : Asked → (interchange : ℕ) → List ℕ
+sender_of at n = if at.interchange == n then at.control else []
+
+abbrev pub lines_behind : Asked → List Reported → List ℕ
+lines_behind at [] = []
+lines_behind at (r ∷ rs) = reported_lines (sender_of at (interchange_of r)) r ++ lines_behind (asked_behind at r) rs
 
 -- the totals: TA1s, groups, sets, and sets that are accepted, with or without errors (AK904)
 abbrev pub is_ta1 : Reported → Bool
@@ -241,7 +270,7 @@ total_line ta1s groups sets accepted =
 -- all of it
 abbrev pub all_lines : List Reported → List ℕ
 all_lines all =
-    flat_map reported_lines all
+    lines_behind none_asked all
     ++ total_line (count_by is_ta1 all) (count_by is_group all) (count_by is_set all) (count_by is_accepted_set all)
 
 abbrev pub explanation : List Told → List ℕ

@@ -1,5 +1,5 @@
 ghost use Rattle.std.specs.Prelude.{◌≡◌, ◌++◌, OnOk, IfOk, IsPermutation, codes, map};
-ghost use Rattle.std.specs.List.{count_by, flat_map};
+ghost use Rattle.std.specs.List.{count_by};
 ghost use Rattle.ack_lines.specs.Lines as lines;
 ghost use Rattle.ack_lines.specs.Reported.{reported_of, told_of};
 
@@ -7,7 +7,7 @@ use crate::lines::{append_reported, is_accepted};
 use crate::reported::{Reported, reported_of};
 use crate::shown::{append_number, append_text};
 use ack_read::Told;
-use hub_kinds::NoMemory;
+use hub_kinds::{Lent, NoMemory};
 use std::alloc::Global;
 
 /// The lines that say in words what is told: one for each TA1, for each group and set that isn't accepted one a fault, and a last one of
@@ -26,12 +26,33 @@ pub fn explanation<'a>(alloc: Global, found: Vec<Told<'a>>) -> Result<Vec<u8>, N
 }
 
 fn append_each(alloc: Global, out: &mut Vec<u8>, all: &[Reported<'_>]) -> Result<(), NoMemory>
-    ensures { OnOk result (out.new.items ≡ out.old.items ++ flat_map lines.reported_lines all.now) }
+    ensures { OnOk result (out.new.items ≡ out.old.items ++ lines.lines_behind lines.none_asked all.now) }
 {
-    for one in all {
-        append_reported(alloc, out, one)?;
+    let mut left = all;
+    let mut asked = (0, Lent::new(b""));
+    while let [one, behind @ ..] = left {
+        let sender: &[u8] = if asked.0 == interchange_of(one) {
+            asked.1.bytes()
+        } else {
+            b""
+        };
+        append_reported(alloc, out, sender, one)?;
+        if let Reported::OfInterchange(ta1) = one {
+            asked = (ta1.interchange, Lent::new(ta1.control.bytes()));
+        }
+        left = behind;
     }
     Ok(())
+}
+
+fn interchange_of(one: &Reported<'_>) -> u64
+    ensures { result ≡ lines.interchange_of one.now }
+{
+    match one {
+        Reported::OfInterchange(ta1) => ta1.interchange,
+        Reported::OfGroup(group) => group.interchange,
+        Reported::OfSet(set, _) => set.interchange,
+    }
 }
 
 fn append_totals(out: &mut Vec<u8>, all: &[Reported<'_>]) -> Result<(), NoMemory>

@@ -20,12 +20,25 @@ fn append_interchange(out: &mut Vec<u8>, interchange: u64) -> Result<(), NoMemor
 pub(crate) fn append_group_head(
     out: &mut Vec<u8>,
     interchange: u64,
+    sender: &[u8],
     functional_id: &[u8],
     control: &[u8],
 ) -> Result<(), NoMemory>
-    ensures { OnOk result (out.new.items ≡ out.old.items ++ lines.group_head interchange functional_id.now control.now) }
+    ensures { OnOk result (out.new.items ≡ out.old.items ++ lines.group_head interchange sender.now functional_id.now control.now) }
 {
     append_interchange(out, interchange)?;
+    append_if(out, " (TA1 ", sender, ")")?;
+    append_group_name(out, functional_id, control)
+}
+
+#[tactic(auto, unfolding(crate::specs::Lines::group_name))]
+fn append_group_name(
+    out: &mut Vec<u8>,
+    functional_id: &[u8],
+    control: &[u8],
+) -> Result<(), NoMemory>
+    ensures { OnOk result (out.new.items ≡ out.old.items ++ lines.group_name functional_id.now control.now) }
+{
     append_text(out, ", group ")?;
     append_shown(out, functional_id)?;
     append_text(out, " ")?;
@@ -44,12 +57,17 @@ fn append_set_name(out: &mut Vec<u8>, identifier: &[u8], control: &[u8]) -> Resu
 }
 
 /// Writes of which set something is told.
-pub(crate) fn append_set_head(out: &mut Vec<u8>, set: &SetTold<'_>) -> Result<(), NoMemory>
-    ensures { OnOk result (out.new.items ≡ out.old.items ++ lines.set_head set.now) }
+pub(crate) fn append_set_head(
+    out: &mut Vec<u8>,
+    sender: &[u8],
+    set: &SetTold<'_>,
+) -> Result<(), NoMemory>
+    ensures { OnOk result (out.new.items ≡ out.old.items ++ lines.set_head sender.now set.now) }
 {
     append_group_head(
         out,
         set.interchange,
+        sender,
         set.functional_id.bytes(),
         set.group_control.bytes(),
     )?;

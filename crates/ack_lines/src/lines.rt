@@ -133,15 +133,16 @@ fn append_group_codes(out: &mut Vec<u8>, head: &[u8], group: &GroupTold<'_>) -> 
 fn append_set_lines(
     alloc: Global,
     out: &mut Vec<u8>,
+    sender: &[u8],
     verdict: &str,
     set: &SetTold<'_>,
 ) -> Result<(), NoMemory>
-    ensures { OnOk result (out.new.items ≡ out.old.items ++ lines.faulty_set_lines verdict.now set.now) }
+    ensures { OnOk result (out.new.items ≡ out.old.items ++ lines.faulty_set_lines sender.now verdict.now set.now) }
 {
     let mut head = Vec::new(alloc);
-    append_set_head(&mut head, set)?;
+    append_set_head(&mut head, sender, set)?;
     let mut noted = Vec::new(alloc);
-    append_set_head(&mut noted, set)?;
+    append_set_head(&mut noted, sender, set)?;
     append_text(&mut noted, verdict)?;
     append_text(&mut noted, ": ")?;
     append_note_lines(out, noted.as_slice(), set.notes.as_slice())?;
@@ -162,33 +163,36 @@ fn fallen_verdict(code: &[u8]) -> &'static str
 fn append_set(
     alloc: Global,
     out: &mut Vec<u8>,
+    sender: &[u8],
     set: &SetTold<'_>,
     falls: bool,
 ) -> Result<(), NoMemory>
-    ensures { OnOk result (out.new.items ≡ out.old.items ++ lines.set_lines set.now falls) }
+    ensures { OnOk result (out.new.items ≡ out.old.items ++ lines.set_lines sender.now set.now falls) }
 {
     let code = set.code.bytes();
     if falls {
-        return append_set_lines(alloc, out, fallen_verdict(code), set);
+        return append_set_lines(alloc, out, sender, fallen_verdict(code), set);
     }
     if is_accepted(code) {
         return Ok(());
     }
-    append_set_lines(alloc, out, words_of::<Verdict>(code), set)
+    append_set_lines(alloc, out, sender, words_of::<Verdict>(code), set)
 }
 
 /// Writes the lines of a group that isn't accepted.
 fn append_group_lines(
     alloc: Global,
     out: &mut Vec<u8>,
+    sender: &[u8],
     group: &GroupTold<'_>,
 ) -> Result<(), NoMemory>
-    ensures { OnOk result (out.new.items ≡ out.old.items ++ lines.faulty_group_lines group.now) }
+    ensures { OnOk result (out.new.items ≡ out.old.items ++ lines.faulty_group_lines sender.now group.now) }
 {
     let mut head = Vec::new(alloc);
     append_group_head(
         &mut head,
         group.interchange,
+        sender,
         group.functional_id.bytes(),
         group.control.bytes(),
     )?;
@@ -203,19 +207,20 @@ pub(crate) fn is_accepted(code: &[u8]) -> bool
     code == b"A".as_slice()
 }
 
-/// Writes the lines of what is reported.
+/// Writes the lines of what is reported of this interchange of the sender.
 pub(crate) fn append_reported(
     alloc: Global,
     out: &mut Vec<u8>,
+    sender: &[u8],
     one: &Reported<'_>,
 ) -> Result<(), NoMemory>
-    ensures { OnOk result (out.new.items ≡ out.old.items ++ lines.reported_lines one.now) }
+    ensures { OnOk result (out.new.items ≡ out.old.items ++ lines.reported_lines sender.now one.now) }
 {
     match one {
         Reported::OfInterchange(ta1) => append_ta1_line(out, ta1),
-        Reported::OfSet(set, falls) => append_set(alloc, out, set, *falls),
+        Reported::OfSet(set, falls) => append_set(alloc, out, sender, set, *falls),
         Reported::OfGroup(group) if !is_accepted(group.code.bytes()) => append_group_lines(
-            alloc, out, group,
+            alloc, out, sender, group,
         ),
         Reported::OfGroup(_) => Ok(()),
     }

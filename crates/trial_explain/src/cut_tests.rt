@@ -116,8 +116,8 @@ total ta1s 0 groups 1 sets 1 accepted 0
     (
         b"AK2*850*0001~IK5*A~TA1*000000007*260228*0900*A*000~AK1*PO*12~AK2*850*0002~IK5*A~AK9*R*1*1*0*3~AK2*850*0003~IK5*A~",
         b"interchange 1, TA1 000000007: accepted (TA104 A): the interchange isn't refused (TA105 000)
-interchange 1, group PO 12: rejected: no GE (AK905 3)
-interchange 1, group PO 12, 850 0002: rejected with its group (IK501 A)
+interchange 1 (TA1 000000007), group PO 12: rejected: no GE (AK905 3)
+interchange 1 (TA1 000000007), group PO 12, 850 0002: rejected with its group (IK501 A)
 total ta1s 1 groups 1 sets 3 accepted 2
 ",
     ),
@@ -131,7 +131,7 @@ total ta1s 0 groups 0 sets 1 accepted 0
         b"TA1*\x1b\xff*260228*0900*A*999~AK2*850*0001~IK4*2>3*98*7*\
 12345678901234567890123456789012345678901234567890123456789012345678901234567890123456789012345678901~IK5*E*I5~",
         b"interchange 1, TA1 ??: accepted (TA104 A): a code that this hub doesn't write (TA105 999)
-interchange 1, group  , 850 0001: accepted with errors: segment  , element 2, component 3 (98): \
+interchange 1 (TA1 ??), group  , 850 0001: accepted with errors: segment  , element 2, component 3 (98): \
 123456789012345678901234567890123456789012345678901234567890123456789012345678901234567890123456789 \
 is a code that the guide doesn't list (IK403 7)
 total ta1s 1 groups 0 sets 1 accepted 1

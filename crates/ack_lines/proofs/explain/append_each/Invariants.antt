@@ -1,7 +1,11 @@
-use Rattle.std.proofs.Common.{◌≡◌, ◌++◌, take}
-use Rattle.std.specs.List.{flat_map}
-use Rattle.ack_lines.specs.Lines.{reported_lines}
+use Rattle.std.proofs.Common.{◌≡◌, ◌++◌, length}
+use Rattle.ack_lines.specs.Lines.{lines_behind, none_asked}
 use Rattle.ack_lines.proofs.explain.append_each.Given as goal
 
-abbrev pub invariant-loop-one : goal.invariant-loop-one
-invariant-loop-one l = l.out.items ≡ l.initial.out.items ++ flat_map reported_lines (take l.one-index l.all)
+abbrev pub invariant-loop-left : goal.invariant-loop-left
+invariant-loop-left l =
+    l.out.items ++ lines_behind (record { interchange = l.asked.0; control = l.asked.1 }) l.left
+    ≡ l.initial.out.items ++ lines_behind none_asked l.all
+
+abbrev pub decreases-loop-left : goal.decreases-loop-left
+decreases-loop-left l = length l.left
