@@ -4,6 +4,8 @@ mod Starting
 mod IdNumbers
 mod FirstPicks
 mod SlotPicks
+mod Keyed
+mod LookedUp
 mod IdBefore
 mod Numbering
 mod Tabled
