@@ -10,6 +10,7 @@ mod IdBefore
 mod Numbering
 mod Tabled
 mod Straying
+mod Strayed
 mod Counting
 pub mod Silencing
 mod Stepping

@@ -32,3 +32,6 @@ begin_key n = tree_key (view n)
 
 abbrev pub begin_keys : List Node → List (List ℕ)
 begin_keys ns = map begin_key ns
+
+abbrev pub slot_keys : List Slot → List (List ℕ)
+slot_keys slots = map slot_key slots
