@@ -34,7 +34,7 @@ none_picked s [] e = absurd (false≢true (sym e))
 none_picked s (p ∷ ps) e =
     ap (λ b. b && list_all (λ q. contains_text q.codes (element_of s q.position)) ps) (no_code p.codes (element_of s p.position) e)
 
-and_false : (b : Bool) → (b && false) ≡ false
+pub and_false : (b : Bool) → (b && false) ≡ false
 and_false true = refl
 and_false false = refl
 
@@ -42,7 +42,7 @@ pub no_fit : (s : Segment) (x : Slot) → may_pick s (slot_pick x) ≡ false →
 no_fit s x e =
     ap (λ b. bytes_eq x.id (id_of s) && b) (none_picked s x.picks e) ∙ and_false (bytes_eq x.id (id_of s))
 
-no_slot_fit : (s : Segment) (q : Place) (x : Slot) → fits x s ≡ false → fit_slot s q x ≡ None
+pub no_slot_fit : (s : Segment) (q : Place) (x : Slot) → fits x s ≡ false → fit_slot s q x ≡ None
 no_slot_fit s q x e = rw e refl
 
 pub no_start_picked : (s : Segment) (t : Tree) → may_pick s (tree_pick t) ≡ false → fit_start s t ≡ None

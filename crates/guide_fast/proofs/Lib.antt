@@ -4,10 +4,13 @@ mod Starting
 mod IdNumbers
 mod FirstPicks
 mod SlotPicks
+mod Keyed
+mod LookedUp
 mod IdBefore
 mod Numbering
 mod Tabled
 mod Straying
+mod Strayed
 mod Counting
 pub mod Silencing
 mod Stepping

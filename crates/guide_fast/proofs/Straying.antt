@@ -1,18 +1,18 @@
--- The slots with a segment's id hold each that it fits.
-use Rattle.std.proofs.Common.{◌≡◌, ℕ, zero, suc, ◌+◌, ◌==◌, length, List, [], ◌∷◌, Bool, true, false, ◌||◌, not, cond}
-use Rattle.std.proofs.Common.{drop, refl, sym, ap, ◌∙◌}
+-- The slots of a guide are those of its tree.
+use Rattle.std.proofs.Common.{◌≡◌, ℕ, ◌+◌, ◌==◌, length, List, [], ◌∷◌, Bool, true, false, ◌||◌, not, cond}
+use Rattle.std.proofs.Common.{refl, sym, ap, ◌∙◌}
 use Rattle.std.proofs.Common.{Option, Some, None, arith}
-use Rattle.std.specs.Prelude.{slice_get, is_some}
+use Rattle.std.specs.Prelude.{is_some}
 use Rattle.std.specs.Str.{bytes_eq}
 use Rattle.std.specs.List.{list_any}
 use Rattle.std.proofs.lemmas.Bool.{ne_eqb}
 use Rattle.std.proofs.lemmas.List.Folds.{list_any-append}
 use Rattle.hub_kinds.specs.Words.{contains_text}
 use Rattle.guide_tree.specs.declared.slot.Slot.{Slot}
-use Rattle.guide_tree.specs.Words.{Tree, Trees, segment, loop, no_trees, tree, Segment, or_else, id_of, fits, any_slot}
+use Rattle.guide_tree.specs.Words.{Tree, Trees, segment, loop, no_trees, tree, Segment, or_else, fits, any_slot}
 use Rattle.guide_tree.specs.Words.{find_slot, find_slot_in}
 use Rattle.guide_fast.specs.Listed.{places_of}
-use Rattle.guide_fast.specs.Slots.{slots_in, slots_of, slot_ids, fits_it, any_listed}
+use Rattle.guide_fast.specs.Slots.{slots_in, slots_of, slot_ids}
 
 abbrev is_nil : List ℕ → Bool
 is_nil [] = true
@@ -60,41 +60,9 @@ id_known : (id : List ℕ) (slots : List Slot) → contains_text (slot_ids slots
 id_known id [] = refl
 id_known id (s ∷ slots) = ap (λ (b : Bool). bytes_eq s.id id || b) (id_known id slots)
 
-got : (ns : List Slot) (k : ℕ) (m : Slot) (ms : List Slot) → drop k ns ≡ m ∷ ms → slice_get ns k ≡ Some m
-got [] zero m ms e = cc
-got [] (suc k) m ms e = cc
-got (n ∷ ns) zero m ms e = let x : n ≡ m = cc in ap Some x
-got (n ∷ ns) (suc k) m ms e = got ns k m ms e
-
-rest : (ns : List Slot) (k : ℕ) (m : Slot) (ms : List Slot) → drop k ns ≡ m ∷ ms → drop (k + 1) ns ≡ ms
-rest [] zero m ms e = cc
-rest [] (suc k) m ms e = cc
-rest (n ∷ ns) zero m ms e = let x : ns ≡ ms = cc in x
-rest (n ∷ ns) (suc k) m ms e =
-    let a : suc k + 1 ≡ suc (k + 1) = omega arith in ap (λ (i : ℕ). drop i (n ∷ ns)) a ∙ rest ns k m ms e
-
-not_fit : (s : Segment) (x : Slot) → bytes_eq x.id (id_of s) ≡ false → fits x s ≡ false
-not_fit s x e = rw e refl
-
-one_listed : (s : Segment) (ns : List Slot) (k : ℕ) (m : Slot) (b : Bool) (ks : List ℕ) (all : Bool)
-    → slice_get ns k ≡ Some m → (b ≡ false → fits m s ≡ false) → any_listed s ns ks ≡ all
-    → any_listed s ns (cond b (k ∷ ks) ks) ≡ (fits m s || all)
-one_listed s ns k m true ks all at not_so e =
-    ap (λ (o : Option Slot). fits_it s o || any_listed s ns ks) at ∙ ap (λ (b : Bool). fits m s || b) e
-one_listed s ns k m false ks all at not_so e = e ∙ sym (ap (λ (b : Bool). b || all) (not_so refl))
-
-listed_any : (s : Segment) (ns : List Slot) (k : ℕ) (ms : List Slot) → drop k ns ≡ ms
-    → any_listed s ns (places_of (id_of s) k (slot_ids ms)) ≡ list_any (λ x. fits x s) ms
-listed_any s ns k [] e = refl
-listed_any s ns k (m ∷ ms) e =
-    one_listed s ns k m (bytes_eq m.id (id_of s)) (places_of (id_of s) (k + 1) (slot_ids ms)) (list_any (λ x. fits x s) ms)
-    (got ns k m ms e) (not_fit s m) (listed_any s ns (k + 1) ms (rest ns k m ms e))
-
-pub any_found : (s : Segment) (ts : Trees) (slots : List Slot) (id ks : List ℕ) → slots ≡ slots_of ts → id ≡ id_of s
-    → ks ≡ places_of id 0 (slot_ids slots) → any_listed s slots ks ≡ any_slot (λ x. fits x s) ts
-any_found s ts slots id ks e i h =
-    ap (any_listed s slots) (h ∙ ap (λ (t : List ℕ). places_of t 0 (slot_ids slots)) i)
-    ∙ listed_any s slots 0 slots refl ∙ ap (list_any (λ x. fits x s)) e ∙ sym (any_of (λ x. fits x s) ts)
+pub any_fit : (s : Segment) (ts : Trees) (slots : List Slot) → slots ≡ slots_of ts
+    → list_any (λ x. fits x s) slots ≡ any_slot (λ x. fits x s) ts
+any_fit s ts slots e = ap (list_any (λ x. fits x s)) e ∙ sym (any_of (λ x. fits x s) ts)
 
 pub known_id : (id : List ℕ) (ts : Trees) (slots : List Slot) (b : Bool) → slots ≡ slots_of ts
     → b ≡ contains_text (slot_ids slots) id → b ≡ any_slot (λ x. bytes_eq x.id id) ts

@@ -6,3 +6,4 @@ pub mod Needed
 pub mod Silent
 pub mod IdNumber
 pub mod FirstPick
+pub mod Keys

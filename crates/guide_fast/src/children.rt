@@ -1,19 +1,22 @@
 ghost use Rattle.std.specs.Prelude.{◌≡◌, ◌≤◌, [], length, drop, option_map, IfSome};
 ghost use Rattle.x12_segs.specs.Words.{elements_of};
 ghost use Rattle.guide_tree.specs.Words.{nodes_view, fit_starts};
-ghost use Rattle.guide_fast.specs.Children.{fit_child, fit_listed};
+ghost use Rattle.guide_fast.specs.Children.{fit_child, fit_listed, until};
 ghost use Rattle.guide_fast.specs.IdNumber.{HasNumber, begin_numbers};
 ghost use Rattle.guide_fast.specs.FirstPick.{HasValue, begin_picks};
+ghost use Rattle.guide_fast.specs.Keys.{begin_keys};
+ghost use Rattle.guide_fast.specs.Listed.{Knows};
 ghost use Rattle.loop_match.specs.Steps.{turned};
 
 use crate::counts::{count_between, needed_counts};
 use crate::first_pick::{Asked, FirstPick, asked_id, begin_picks};
 use crate::id_number::{begin_numbers, number_of};
 use crate::index::{TextIndex, places_from};
+use crate::keys::{POSITIONS, begin_key};
 use crate::start::{start_asked, start_picked};
 use guide_tree::Node;
 use hub_kinds::NoMemory;
-use loop_match::{Turn, first_id};
+use loop_match::{Turn, text_at};
 use std::alloc::Global;
 use std::marker::Model;
 use x12_segs::SegView;
@@ -29,6 +32,7 @@ pub struct Children<'g> {
     numbers: Vec<u32>,
     /// The first picks of the slots that they begin with.
     picks: Vec<FirstPick>,
+    /// The places of each text by which they are looked for.
     index: TextIndex<'g>,
     /// How many of the first nodes are needed: of none of them, of one, and so on up to all.
     needed: Vec<usize>,
@@ -38,7 +42,7 @@ impl<'g> Model for Children<'g> {
     ghost use Rattle.std.specs.Prelude.{◌≡◌, List};
     ghost use Rattle.guide_tree.specs.declared.node.Node.{Node};
     ghost use Rattle.guide_fast.specs.Listed.{Knows};
-    ghost use Rattle.guide_fast.specs.Children.{begin_ids};
+    ghost use Rattle.guide_fast.specs.Keys.{begin_keys};
     ghost use Rattle.guide_fast.specs.Needed.{counts_from};
     ghost use Rattle.guide_fast.specs.IdNumber.{begin_numbers};
     ghost use Rattle.guide_fast.specs.FirstPick.{begin_picks};
@@ -51,7 +55,7 @@ impl<'g> Model for Children<'g> {
 
     ghost view = { λ c. c.nodes.now };
 
-    ghost invariant = { λ c. Knows c.index.places (begin_ids c.nodes.now) × (c.needed.items ≡ counts_from 0 c.nodes.now)
+    ghost invariant = { λ c. Knows c.index.places (begin_keys c.nodes.now) × (c.needed.items ≡ counts_from 0 c.nodes.now)
         × (c.numbers.items ≡ begin_numbers c.nodes.now) × (c.picks.items ≡ begin_picks c.nodes.now) };
 }
 
@@ -70,7 +74,7 @@ impl<'g> Children<'g> {
     {
         let mut index = TextIndex::new(alloc);
         for k in 0..nodes.len() {
-            index.add(first_id(&nodes[k]), k)?;
+            index.add(begin_key(&nodes[k]), k)?;
         }
         let needed = needed_counts(alloc, nodes)?;
         let numbers = begin_numbers(alloc, nodes)?;
@@ -129,13 +133,11 @@ impl<'g> Children<'g> {
         ensures depth { IfSome result (λ t. t.depth ≡ 0) }
         ensures uses { IfSome result (λ t. t.use_no ≡ 0) }
     {
-        let nodes = self.nodes;
+        let (nodes, picks) = (self.nodes, self.picks.as_slice());
         if nodes.len() - from <= FEW {
-            let (numbers, picks) = (self.numbers.as_slice(), self.picks.as_slice());
-            return start_among(nodes, numbers, picks, from, number, seg);
+            return start_among(nodes, self.numbers.as_slice(), picks, from, number, seg);
         }
-        let children = places_from(self.index.places(seg.id()), from);
-        first_fitting(nodes, self.picks.as_slice(), children, number, seg)
+        start_looked_up(nodes, picks, &self.index, from, number, seg)
     }
 
     /// The first child behind one on whose start the segment fits, as a turn.
@@ -234,25 +236,58 @@ fn turn_to<'g>(
     }
 }
 
-/// The first of some children whose start the segment fits.
+/// The first of some children whose start the segment fits, up to one in front of a place.
 fn first_fitting<'g>(
     nodes: &'g [Node],
     picks: &[FirstPick],
     children: &[usize],
+    end: usize,
     number: u32,
     seg: &SegView,
 ) -> Option<Turn<'g>>
     requires picks { picks.now ≡ begin_picks nodes.now }
     requires number { HasNumber (elements_of seg.now) number }
-    ensures turn { option_map (turned []) result ≡ fit_listed (elements_of seg.now) nodes.entry.now children.now }
+    ensures turn { option_map (turned []) result ≡ fit_listed (elements_of seg.now) nodes.entry.now (until end children.now) }
     ensures depth { IfSome result (λ t. t.depth ≡ 0) }
     ensures uses { IfSome result (λ t. t.use_no ≡ 0) }
 {
     let mut asked = asked_id(number, seg);
     for i in 0..children.len() {
+        if children[i] >= end {
+            return None;
+        }
         if let Some(turn) = turn_to(nodes, picks, children[i], &mut asked, seg) {
             return Some(turn);
         }
     }
     None
+}
+
+/// The first child from `from` on whose start the segment fits, as a turn, by its first elements.
+fn start_looked_up<'g>(
+    nodes: &'g [Node],
+    picks: &[FirstPick],
+    index: &TextIndex<'g>,
+    from: usize,
+    number: u32,
+    seg: &SegView,
+) -> Option<Turn<'g>>
+    requires picks { picks.now ≡ begin_picks nodes.now }
+    requires index { Knows index.now.places (begin_keys nodes.now) }
+    requires number { HasNumber (elements_of seg.now) number }
+    requires from { from ≤ length nodes.now }
+    ensures turn { option_map (turned []) result ≡ fit_starts (elements_of seg.now) from (nodes_view (drop from nodes.entry.now)) }
+    ensures depth { IfSome result (λ t. t.depth ≡ 0) }
+    ensures uses { IfSome result (λ t. t.use_no ≡ 0) }
+{
+    let mut first = None;
+    let mut end = nodes.len();
+    for position in 0..POSITIONS as usize {
+        let children = places_from(index.places(text_at(seg, position)), from);
+        if let Some(turn) = first_fitting(nodes, picks, children, end, number, seg) {
+            first = Some(turn);
+            end = turn.child;
+        }
+    }
+    first
 }

@@ -11,9 +11,11 @@
 //! no fault.
 //!
 //! The cost of a next place is the number of the segment's id, from its first four bytes, and for each loop round the last one a look at
-//! the number of each node that comes behind where these are at most thirty-two, and else a search in an ordered map of the ids that its
-//! nodes begin with, a search in the list of the nodes with that id, and a look at each of these that comes behind and doesn't fit by its
-//! picks. A node is asked whether the segment fits it only where the numbers agree; an id of one to three bytes is the segment's then.
+//! the number of each node that comes behind where these are at most thirty-two. Else its nodes stand in an ordered map, each by the one
+//! code of its slot's first pick, where the pick is of the id or one of the four elements behind it and lists one, and by its id otherwise.
+//! Each of these five texts of the segment is searched for there, then in the list of the nodes with it, and of these each is looked at
+//! that comes behind, stands in front of what was found before, and doesn't fit by a further pick.
+//! A node is asked whether the segment fits it only where the numbers agree; an id of one to three bytes is the segment's then.
 //! Where its slot's first pick lists one code of one to three bytes, the number of the segment's element is compared with that of the code
 //! first; the element is looked up once for all of these nodes.
 //! Whether a step is silent takes some differences of counts for each loop. Memory and the building follow the nodes and the
@@ -29,6 +31,7 @@ mod fast;
 mod first_pick;
 mod id_number;
 mod index;
+mod keys;
 mod next;
 mod silent;
 mod start;

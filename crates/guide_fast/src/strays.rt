@@ -1,17 +1,20 @@
 ghost use Rattle.std.specs.Prelude.{◌≡◌, ◌++◌, OnOk, IfOk};
+ghost use Rattle.std.specs.List.{list_any};
 ghost use Rattle.x12_segs.specs.Words.{elements_of};
 ghost use Rattle.guide_tree.specs.Words.{nodes_view};
 ghost use Rattle.guide_fast.specs.Listed.{Knows};
 ghost use Rattle.guide_fast.specs.Slots.{any_listed, fits_at, slots_of, slot_ids, lent_slots};
 ghost use Rattle.guide_fast.specs.FirstPick.{HasValue, slot_pick, slot_picks};
+ghost use Rattle.guide_fast.specs.Keys.{slot_keys};
 ghost use Rattle.guide_tree.specs.Words.{fits};
 
 use crate::first_pick::{Asked, FirstPick, asked_id, may_pick, slot_pick};
 use crate::id_number::number_of;
 use crate::index::TextIndex;
+use crate::keys::{POSITIONS, slot_key};
 use guide_tree::{Guide, Node, Slot};
 use hub_kinds::{NoMemory, SegmentCode, Text};
-use loop_match::fits;
+use loop_match::{fits, text_at};
 use std::alloc::Global;
 use std::marker::Model;
 use x12_segs::SegView;
@@ -24,6 +27,8 @@ pub struct Strays<'g> {
     /// Their first picks.
     picks: Vec<FirstPick>,
     ids: TextIndex<'g>,
+    /// The places of each text by which they are looked for.
+    keys: TextIndex<'g>,
     dictionary: TextIndex<'g>,
 }
 
@@ -36,6 +41,7 @@ impl<'g> Model for Strays<'g> {
     ghost use Rattle.guide_fast.specs.Listed.{Knows};
     ghost use Rattle.guide_fast.specs.Slots.{slots_of, slot_ids, lent_slots};
     ghost use Rattle.guide_fast.specs.FirstPick.{slot_picks};
+    ghost use Rattle.guide_fast.specs.Keys.{slot_keys};
 
     ghost Value = { GuideRows };
 
@@ -45,7 +51,7 @@ impl<'g> Model for Strays<'g> {
 
     ghost invariant = { λ s. (lent_slots s.slots.items ≡ slots_of (nodes_view s.guide.now.nodes.items))
         × Knows s.ids.places (slot_ids (lent_slots s.slots.items)) × Knows s.dictionary.places s.guide.now.head.dictionary
-        × (s.picks.items ≡ slot_picks (lent_slots s.slots.items)) };
+        × (s.picks.items ≡ slot_picks (lent_slots s.slots.items)) × Knows s.keys.places (slot_keys (lent_slots s.slots.items)) };
 }
 
 impl<'g> Strays<'g> {
@@ -63,12 +69,14 @@ impl<'g> Strays<'g> {
         add_slots(&mut slots, guide.rows().nodes.as_slice())?;
         let picks = picks_of(alloc, slots.as_slice())?;
         let ids = ids_of(alloc, slots.as_slice())?;
+        let keys = keys_of(alloc, slots.as_slice())?;
         let dictionary = texts_of(alloc, guide.rows().head.dictionary.as_slice())?;
         Ok(Strays {
             guide,
             slots,
             picks,
             ids,
+            keys,
             dictionary,
         })
     }
@@ -85,7 +93,7 @@ impl<'g> Strays<'g> {
         ensures { result ≡ any_slot (λ slot. fits slot (elements_of seg.now)) (nodes_view self.now.nodes.items) }
     {
         let (slots, picks) = (self.slots.as_slice(), self.picks.as_slice());
-        any_fits(slots, picks, self.ids.places(seg.id()), seg)
+        any_looked_up(slots, picks, &self.keys, seg)
     }
 
     fn is_in_dictionary(&self, id: &[u8]) -> bool
@@ -136,6 +144,17 @@ fn ids_of<'g>(alloc: Global, slots: &[&'g Slot]) -> Result<TextIndex<'g>, NoMemo
     Ok(index)
 }
 
+fn keys_of<'g>(alloc: Global, slots: &[&'g Slot]) -> Result<TextIndex<'g>, NoMemory>
+    ensures { IfOk result (λ index. Knows index.places (slot_keys (lent_slots slots.now))) }
+{
+    let mut index = TextIndex::new(alloc);
+    for k in 0..slots.len() {
+        let slot: &'g Slot = slots[k];
+        index.add(slot_key(slot), k)?;
+    }
+    Ok(index)
+}
+
 fn picks_of(alloc: Global, slots: &[&Slot]) -> Result<Vec<FirstPick>, NoMemory>
     ensures { IfOk result (λ picks. picks.items ≡ slot_picks (lent_slots slots.now)) }
 {
@@ -154,6 +173,20 @@ fn texts_of<'g>(alloc: Global, texts: &'g [Text]) -> Result<TextIndex<'g>, NoMem
         index.add(texts[k].as_slice(), k)?;
     }
     Ok(index)
+}
+
+/// Whether the segment fits some of the slots, by its first elements.
+fn any_looked_up(slots: &[&Slot], picks: &[FirstPick], keys: &TextIndex, seg: &SegView) -> bool
+    requires picks { picks.now ≡ slot_picks (lent_slots slots.now) }
+    requires keys { Knows keys.now.places (slot_keys (lent_slots slots.now)) }
+    ensures { result ≡ list_any (λ slot. fits slot (elements_of seg.now)) (lent_slots slots.now) }
+{
+    for position in 0..POSITIONS as usize {
+        if any_fits(slots, picks, keys.places(text_at(seg, position)), seg) {
+            return true;
+        }
+    }
+    false
 }
 
 /// Whether the segment fits some of the slots at these places.
