@@ -5,9 +5,9 @@ usage: bench/checks.py [PROGRAM]     (crates/nighthub/out/nighthub if absent; va
 
 Nights of 8 MB for the bundled setup and guides, in a fresh folder: as make_night.py makes them; the same with a tenth of the segments
 of bodies at fault, or with the last segment of each body a stray; sets of 100,000 segments; interchanges of 240 bytes with one set;
-sets of 75 bytes. Then files of one partner against a small guide and a large one: strays and the ends of a loop against 20 and 2,000
-nodes, the last of 10 and of 10,000 codes, sets of the last of 10 and of 1,000 guides, by the ratio of their instructions without
-those of reading the guides.
+sets of 75 bytes; and 4 MB of ship notices alone. Then files of one partner against a small guide and a large one: strays and the ends
+of a loop against 20 and 2,000 nodes, the last of 10 and of 10,000 codes, sets of the last of 10 and of 1,000 guides, by the ratio of
+their instructions without those of reading the guides.
 """
 import os
 import random
@@ -16,7 +16,7 @@ import subprocess
 import sys
 import tempfile
 
-from make_night import night
+from make_night import Sender, night
 from night import ISA, PROGRAM, words_of
 
 GS = b'GS*PO*%s*BOLT*20260228*0900*%d*X*005010~'
@@ -79,9 +79,19 @@ def short_sets():
         yield interchange(number, [sealed(k, body) for k in range(1, 1001)])
 
 
+def notices():
+    sender, made = Sender(random.Random(5), 'ACME'), 0
+    sender.kinds = {b'856': sender.kinds[b'856']}
+    while made < SIZE // 2:
+        text = sender.interchange()
+        made += len(text)
+        yield text
+
+
 NIGHTS = [('orders and notices', lambda: night(SIZE)), ('a tenth of the segments at fault', lambda: with_bodies(tenth)),
           ('the last segment of each set a stray', lambda: with_bodies(late)), ('sets of 100,000 segments', long_sets),
-          ('interchanges of 240 bytes', small_interchanges), ('sets of 75 bytes', short_sets)]
+          ('interchanges of 240 bytes', small_interchanges), ('sets of 75 bytes', short_sets),
+          ('ship notices alone', notices)]
 
 
 def instructions(words):

@@ -19,10 +19,10 @@ def run(words):
     return done.returncode, done.stdout.decode(errors="replace"), done.stderr.decode(errors="replace")
 
 
-def check(**files):
+def check(all=False, **files):
     """Status, standard output and standard error of a check of files by their kinds; a text that begins with / is a file's name."""
     with tempfile.TemporaryDirectory(prefix="nighthub-page-") as here:
-        words = []
+        words = ["--all"] if all else []
         for kind, given in files.items():
             path = given if isinstance(given, str) and given.startswith("/") else os.path.join(here, f"{kind}.toml")
             if path != given:
@@ -39,26 +39,72 @@ def lines(**said):
 
 REF = "segment 1 (REF): "
 TWICE = "an element stands twice in a condition or in `pick`, or an earlier segment has its label"
-ELEMENTS = "`elements` isn't a list of texts, each as \"128 M ID 2 3 = DP IA\", \"367 N\" or \"- O C ; 355 O ID 2 2\""
+ROW = "a text as \"128 M ID 2 3 = DP IA\", \"367 N\" or \"- O C ; 355 O ID 2 2\""
+TYPE = "a type (AN, ID, N0 to N9, R, DT, TM)"
+OPTIONS = "xN, wide, or = and codes, in this order"
 NO_DEPENDENCY = "a dependency, or `hl`, that can't be"
 BOTH = "segment 1 (REF) and segment 2 (REF) may come at one place, and both fit REF"
 
+QUOTES = "a text in quotes isn't closed, or holds a byte that may not stand in it"
+NO_VALUE = "no value stands here: a text in quotes, a number without leading zeros, true, false, a list, a table"
+# what is no TOML, and what is said of it
+TOML = {
+    "[hub": "line 1, column 5: ] has to stand behind the name of a table: the file ends",
+    "[[partner]\n": "line 1, column 11: ]] has to stand behind the name of a list of tables: the line ends",
+    "a = 1 2\n": f"line 1, column 5: {NO_VALUE}: 1 2",
+    "a = 007\n": f"line 1, column 5: {NO_VALUE}: 007",
+    'a = ["x" "y"]': 'line 1, column 10: a comma or ] has to stand here: "y"]',
+    "a = {b=1 c=2}": "line 1, column 10: a comma or } has to stand here: c=2}",
+    'a = "\\q"': 'line 1, column 7: no letter of an escape stands behind \\: q"',
+    "a = 1__0": "line 1, column 5: _ stands between digits alone: 1__0",
+    "a = 99999999999999999999": "line 1, column 5: the number is too large: 99999999999999999999",
+    "a = 2026-13-01": "line 1, column 5: no date or time stands here: 2026-13-01",
+    "a = 1\na.b = 2": "line 2, column 1: a key with a point goes on behind a value that is no table: a.b = 2",
+    "= 1": "line 1, column 1: a key has to stand here, of letters, digits, - and _, or in quotes: = 1",
+    'a = "x\ty\1"': f'line 1, column 9: {QUOTES}: \\x01"',
+    "a = 'x\r\nb = 1": f"line 1, column 7: {QUOTES}: the line ends",
+    "a = " + "[" * 100: "line 1, column 85: over 80 lists or tables stand in one another: " + "[" * 20,
+    "a = " + "=" * 100: f"line 1, column 5: {NO_VALUE}: " + "=" * 40,
+}
+
 GUIDES = {
-    "not TOML": ('name = "A', "line 1, column 10: no TOML table"),
-    "a line that is no TOML": (SMALL.replace('set = "850"', 'set "850"'), "line 3, column 5: no TOML table"),
-    "a key twice": (SMALL + 'set = "850"\n', "line 8, column 1: no TOML table"),
+    "not TOML": ('name = "A', f"line 1, column 10: {QUOTES}: the file ends"),
+    "a line that is no TOML": (SMALL.replace('set = "850"', 'set "850"'), 'line 3, column 5: = has to stand behind a key: "850"'),
+    "a key twice": (SMALL + 'set = "850"\n', 'line 8, column 1: the key stands twice: set = "850"'),
     "no set": (SMALL.replace('set = "850"\n', ""), "`set` is missing"),
-    "a set that is a number": (SMALL.replace('set = "850"', "set = 850"), "`set` isn't a text of 3 letters or digits"),
-    "a guide for FA": (SMALL.replace('"PO"', '"FA"'), "`group` isn't a text of two upper-case letters, and not FA"),
+    "a set that is a number": (SMALL.replace('set = "850"', "set = 850"), "`set` is 850, and has to be a text of 3 letters or digits"),
+    "a guide for FA": (SMALL.replace('"PO"', '"FA"'), "`group` is \"FA\", and has to be a text of two upper-case letters, and not FA"),
     "a key of no guide": ('colour = "red"\n' + SMALL, "`colour` is no key of its table"),
     "segment and loop at once": (nodes('{seg="REF", loop="N9", min=0, max=1}'),
-                                 "node 1 (REF): `seg` isn't a text, in a table that has `seg` or `loop`, and not both"),
+                                 "node 1 (REF): `seg` is \"REF\", and has to be a text, in a table that has `seg` or `loop`, and not both"),
     "a label on a loop": (nodes(loop("", 'label="X", ')), "node 1 (N9): `label` is no key of its table"),
     "no elements": (nodes('{seg="REF", min=0, max=1}'), "node 1 (REF): `elements` is missing"),
     "a second segment without elements": (nodes(segment(), '{seg="DTM", min=0, max=1}'), "node 2 (DTM): `elements` is missing"),
     "no elements in a loop": (nodes(loop('{seg="N9", min=1, max=1}')), "node 2 (N9): `elements` is missing"),
-    "a type that isn't there": (elements("128 M XX 2 3"), f"node 1 (REF): {ELEMENTS}"),
-    "8 tolerated": ('tolerate_segment = ["8"]\n' + SMALL, "`tolerate_segment` isn't a list of texts, each a code of IK304 but 8"),
+    "neither segment nor loop": (nodes('{min=0, max=1}'),
+                                 "node 1: `seg` isn't a text, in a table that has `seg` or `loop`, and not both"),
+    "a most that is a text": (nodes('{seg="REF", min=0, max="9", elements=["128 M ID 2 3"]}'),
+                              "node 1 (REF): `max` is \"9\", and has to be a number of 0 to 4294967295"),
+    "8 tolerated": ('tolerate_segment = ["1", "8"]\n' + SMALL,
+                    "text 2 of `tolerate_segment` is \"8\", and has to be a code of IK304 but 8"),
+    "a code of no element fault": ('tolerate_element = ["I7"]\n' + SMALL,
+                                   "text 1 of `tolerate_element` is \"I7\", and has to be a code of IK403"),
+    "an id that is known in lower case": ('dictionary = ["per"]\n' + SMALL,
+                                          "text 1 of `dictionary` is \"per\", and has to be a segment's id"),
+    "a level of three letters": ('hl = {pairs=["/S", "S/ABC"], sequential=true}\n' + SMALL,
+                                 "`hl`: text 2 of `pairs` is \"S/ABC\", and has to be two levels as \"/S\" or \"S/O\""),
+    "a dependency's code of two words": (DEPENDS.replace('codes=["', 'codes=["A B", "') + SMALL,
+                                         "dependency 1: text 1 of `codes` is \"A B\", and has to be a code"),
+    "a row that is no text": (nodes('{seg="REF", min=0, max=1, elements=["128 M ID 2 3", 128]}'),
+                              f"node 1 (REF): text 2 of `elements` is 128, and has to be {ROW}"),
+    "a condition of one digit": (elements(*TWO, more=', conditions=["R0102", "P012"]'),
+                                 "node 1 (REF): text 2 of `conditions` is \"P012\", and has to be one of P, R, E, C, L and two digits "
+                                 "for each element"),
+    "a pick of no element": (elements(*TWO, more=', pick=["DP"]'),
+                             "node 1 (REF): text 1 of `pick` is \"DP\", and has to be an element's number and its codes"),
+    "elements that are a text": (nodes('{seg="REF", min=0, max=1, elements="128 M ID 2 3"}'),
+                                 "node 1 (REF): `elements` is \"128 M ID 2 3\", and has to be a list of texts, each as "
+                                 "\"128 M ID 2 3 = DP IA\", \"367 N\" or \"- O C ; 355 O ID 2 2\""),
     "loops nested nine deep": (loops(9), "loops are nested over 8 deep"),
     "2,001 nodes": (many(2001), "over 2000 nodes"),
     "least over most": (nodes(segment(least=2)), REF + "min 2 is over max 1"),
@@ -94,8 +140,28 @@ GUIDES = {
     "one that picks": (nodes(segment(more='pick=["1 AB DP"], '), segment()), BOTH + " (element 1 = AB)"),
 }
 
+ROWS = {
+    "12345 M ID 2 3": "\"12345\" stands where a reference number of 1 to 4 digits, or - may stand",
+    "128 X ID 2 3": "\"X\" stands where M, O or N may stand",
+    "128 M XX 2 3": f"\"XX\" stands where {TYPE}, or C may stand",
+    "128 M ID x 3": "\"x\" stands where the shortest length may stand",
+    "128 M ID 2": "the longest length is missing",
+    "128 M ID 2 3 ID": f"\"ID\" stands where {OPTIONS} may stand",
+    "128 M ID 2 3 wide x2": f"\"x2\" stands where {OPTIONS} may stand",
+    "128 M ID 2 3 = DP ;": "\";\" stands where nothing more may stand",
+    "128 M ID 2 3 = DP = IA": "\"=\" stands where a code, or ! and codes may stand",
+    "128 M ID 2 3 = DP ! IA ! L1": "\"!\" stands where a code may stand",
+    "128 N ID": "\"ID\" stands where nothing more may stand",
+    "- M C wide": "\"wide\" stands where xN, or ; and a component may stand",
+    "- M C ; 128 M ID 2 3 ; 355 O": f"component 2: {TYPE} is missing",
+    "128  M ID 2 3": "a space too many stands where M, O or N may stand",
+    "128\\tM ID 2 3": "\"128\\u0009M\" stands where a reference number of 1 to 4 digits, or - may stand",
+}
+
 HEADER = "a segment that the guide doesn't know is accepted, also one that begins with ISA: a receiver may read it as a header"
 CODE = "segment 1 (REF): element 1: the code"
+UNMET = "no set can meet this: "
+NONE_STANDS = " is mandatory, and its type or its lengths allow none of its codes"
 
 WARNED = {
     "1 tolerated": ('tolerate_segment = ["1"]\n' + SMALL, [HEADER]),
@@ -106,6 +172,26 @@ WARNED = {
     "a stroke": (elements("128 M ID 2 5 = DP IA|VN"), [f"{CODE} IA|VN has a comma or a stroke; a space stands between codes"]),
     "a code too long": (elements("128 M ID 2 2 = DP DPX"), [f"{CODE} DPX is shorter or longer than the element may be"]),
     "a number too long": (elements("128 M N0 1 2 = -10 100"), [f"{CODE} 100 is shorter or longer than the element may be"]),
+    "an element that no set can meet": (nodes(segment("REF", 1, 1, "128 M ID 2 2 = DPX")),
+                                        [f"{UNMET}{REF}element 1{NONE_STANDS}", f"{CODE} DPX is shorter or longer than the element may be"]),
+    "one that no set can meet in a mandatory loop": (
+        nodes(loop(segment("N9", 1, 1, "128 M DT 8 8 = TODAY TOMORROW")).replace("min=0", "min=1")),
+        [f"{UNMET}segment 2 (N9): element 1{NONE_STANDS}",
+         "segment 2 (N9): element 1: the code TODAY has bytes that no value of the element's type has, or is no day or time",
+         "segment 2 (N9): element 1: the code TODAY is shorter or longer than the element may be"]),
+    "one that a set may leave out": (nodes(segment("REF", 0, 1, "128 M ID 2 2 = DPX")),
+                                     [f"{CODE} DPX is shorter or longer than the element may be"]),
+    "letters in a number": (elements("610 O N2 1 15 = AB"),
+                            [f"{CODE} AB has bytes that no value of the element's type has, or is no day or time",
+                             f"{CODE} AB is shorter or longer than the element may be"]),
+    "a day that there is not": (elements("373 O DT 8 8 = 20260228 20260230"),
+                                [f"{CODE} 20260230 has bytes that no value of the element's type has, or is no day or time"]),
+    "a label of nobody": (nodes(segment(more='label="R", ')), ["segment 1 (REF): no dependency names its label R"]),
+    "a dependency on a code that isn't there": (
+        DEPENDS.replace('"P"', '"P", "X"')
+        + nodes(segment("HL", 1, 1, '628 M AN 1 12", "734 O AN 1 12", "735 M ID 1 2 = S P', 'label="HL", '),
+                segment("MAN", more='label="MAN", ')),
+        ["dependency 1: the code X isn't one of element 3 of segment 1 (HL)"]),
     "a code used and not used": (elements("128 M ID 2 3 = DP ! DP"), [f"{CODE} DP is listed as used and as not used"]),
     "a pick of no code": (nodes(segment(element="128 M ID 2 3 = DP", more='pick=["1 DP IA"], ')),
                           [f"{CODE} IA of `pick` isn't one of the element's codes"]),
@@ -117,19 +203,31 @@ WARNED = {
 }
 
 FILES = {
-    "no TOML": (b"hub=", "line 1, column 5: no TOML table"),
-    "no UTF-8": (b"\xff", "line 1, column 1: no UTF-8"),
-    "no UTF-8 in a comment, after a letter of two bytes": ("# a\n# \u00e9 ".encode() + b"\xe9\n", "line 2, column 6: no UTF-8"),
+    "no TOML": (b"hub=", f"line 1, column 5: {NO_VALUE}: the file ends"),
+    "no UTF-8": (b"\xff", "line 1, column 1: no UTF-8: \\xFF"),
+    "no UTF-8 in a comment, after a letter of two bytes": ("# a\n# \u00e9 ".encode() + b"\xe9\n", "line 2, column 6: no UTF-8: \\xE9"),
     "nothing": (b"", "`hub` is missing"),
-    "a hub that is a number": (b"hub=1", "`hub` isn't a table, [hub]"),
+    "a hub that is a number": (b"hub=1", "`hub` is 1, and has to be a table, [hub]"),
     "two keys of no setup": (b"zeta=1\nalpha=1", "`alpha` is no key of its table"),
+    "a partner without a cap": (replaced(SETUP, "cap = 1\n", ""), "partner 2 (BOLT): `cap` is missing"),
+    "a cap that is a text": (replaced(SETUP, "cap = 1\n", "cap = \"1\"\n"),
+                             "partner 2 (BOLT): `cap` is \"1\", and has to be a number of 0 to 4294967295"),
+    "a key of no partner": (replaced(SETUP, "cap = 1\n", "cap = 1\nphone = 5\n"), "partner 2 (BOLT): `phone` is no key of its table"),
+    "another usage": (replaced(SETUP, 'usage = "P"', 'usage = "prod"'), "the hub: `usage` is \"prod\", and has to be \"P\" or \"T\""),
+    "a guide that is a number": (replaced(SETUP, 'guides = ["H850"]', 'guides = ["H850", 856]'),
+                                 "partner 2 (BOLT): text 2 of `guides` is 856, and has to be a text"),
+    "a route to none": (replaced(SETUP, 'to = "BOLT"', "to = []"),
+                        "route 2 (BOLT): `to` is a list of 0, and has to be a text, or a list of 1 to 16 texts"),
 }
 
 COUNTER_FILES = {
-    "no UTF-8": (b"\xff", "line 1, column 1: no UTF-8"),
+    "no UTF-8": (b"\xff", "line 1, column 1: no UTF-8: \\xFF"),
     "nothing": (b"", "`version` is missing"),
-    "version 3": (b"version = 3", "`version` isn't 1 or 2"),
-    "a group in version 1": (COUNTERS.replace("version = 2", "version = 1"), "`group` is no key of its table"),
+    "version 3": (b"version = 3", "`version` is 3, and has to be 1 or 2"),
+    "a group in version 1": (COUNTERS.replace("version = 2", "version = 1"), "counter 1 (ACME): `group` is no key of its table"),
+    "a counter without a group": (COUNTERS.replace("group = 1\n", "", 1), "counter 1 (ACME): `group` is missing"),
+    "a counter that is a text": ("interchange = \"1\"".join(COUNTERS.rsplit("interchange = 1", 1)),
+                                 "counter 2 (BOLT): `interchange` is \"1\", and has to be a number of 0 to 4294967295"),
 }
 
 OPEN = "read, and not judged, since another file is refused"
@@ -139,7 +237,7 @@ SETUPS = {
     "two with one name": (replaced(SETUP, 'name = "BOLT"', 'name = "ACME"'),
                           "partner 1 (ACME): partner 2 has its name too"),
     "two with one qualifier and id": (replaced(replaced(SETUP, 'qualifier = "01"', 'qualifier = "ZZ"'), 'id = "ACME"', 'id = "BOLT"'),
-                                      "partner 1 (ACME): a later partner has its qualifier and id"),
+                                      "partner 1 (ACME): partner 2 has its qualifier \"ZZ\" and id \"BOLT\" too"),
     "one delimiter for two": (replaced(SETUP, 'component = ":"', 'component = "|"'),
                               "partner 2 (BOLT): `element` and `component` are both \"|\""),
     "a delimiter of two bytes": (replaced(SETUP, 'terminator = "!"', 'terminator = "\\r\\n"'),
@@ -168,7 +266,10 @@ SETUPS = {
     "a cap of 0": (replaced(SETUP, "cap = 1", "cap = 0"), "partner 2 (BOLT): the cap 0 is out of 1 to 99999"),
 }
 
+COMMON = "which texts often hold: a set with it isn't delivered to this partner"
 SETUP_WARNINGS = {
+    "a comma between elements": (replaced(SETUP, 'element = "|"', 'element = ","'), f'partner 2 (BOLT): `element` is ",", {COMMON}'),
+    "a stroke at segment ends": (replaced(SETUP, 'terminator = "!"', 'terminator = "/"'), f'partner 2 (BOLT): `terminator` is "/", {COMMON}'),
     "a partner without a route": (replaced(SETUP, 'to = "BOLT"', 'to = "ACME"'), "partner 2 (BOLT): no route leads to it"),
     "a guide of nobody": (replaced(SETUP, ', "H856"', ""), '"H856" is a guide that no partner names'),
 }
@@ -182,8 +283,76 @@ COUNTERS_OF = {
 }
 
 
+BAD_GUIDE = """name = "A-1"
+group = "po"
+set = "850"
+version = "005010"
+hl = {pairs=["S"], sequental=true}
+nodes = [
+ {seg="BEG", min=1, max="1", elements=["353 M ID 2 2", "x"]},
+ {loop="N1", min=1, label="X", nodes=[{seg="N1", min=1, max=1, elements=[]}, {seg="N2", min=0, max=1, elements=[], conditions=["Q12"]}]},
+]
+"""
+ALL_GUIDE = [
+    '`name` is "A-1", and has to be a text of 1 to 20 letters or digits',
+    '`group` is "po", and has to be a text of two upper-case letters, and not FA',
+    "`hl`: `sequental` is no key of its table",
+    '`hl`: text 1 of `pairs` is "S", and has to be two levels as "/S" or "S/O"',
+    "`hl`: `sequential` is missing",
+    'node 1 (BEG): `max` is "1", and has to be a number of 0 to 4294967295',
+    'node 1 (BEG): text 2 of `elements` is "x": "x" stands where a reference number of 1 to 4 digits, or - may stand',
+    "node 2 (N1): `label` is no key of its table",
+    "node 2 (N1): `max` is missing",
+    'node 4 (N2): text 1 of `conditions` is "Q12", and has to be one of P, R, E, C, L and two digits for each element',
+]
+
+
+def all_examples(page):
+    """What --all says behind the first refusal."""
+    whole = {"guide_0": H850, "guide_1": H856, "setup": SETUP, "counters": COUNTERS}
+    page.want("--all, nothing to say", check(all=True, **whole), (0, lines(**OK), ""))
+
+    def said(name, wanted, status=3, **files):
+        page.want(f"--all, {name}", check(all=True, **files), (status, "".join(f"{it}\n" for it in wanted), ""))
+
+    said("keys of a guide", [f"guide_0.toml: {it}" for it in ALL_GUIDE], guide_0=BAD_GUIDE)
+    said("nodes of a guide", [
+        "guide_0.toml: segment 1 (REF): min 2 is over max 1",
+        "guide_0.toml: segment 1 (REF): a condition names element 3 of 1",
+        "guide_0.toml: loop 2 (N9): its first segment needs min 1 and max 1, and has min 1 and max 2",
+    ], guide_0=nodes(segment(least=2, more='conditions=["R0103"], '), loop(segment("N9", 1, 2))))
+    keys = replaced(replaced(SETUP, 'usage = "P"', 'usage = "prod"'), "cap = 1\n", "cap = \"1\"\nphone = 5\n")
+    said("keys of a setup", [
+        'setup.toml: the hub: `usage` is "prod", and has to be "P" or "T"',
+        "setup.toml: partner 2 (BOLT): `phone` is no key of its table",
+        'setup.toml: partner 2 (BOLT): `cap` is "1", and has to be a number of 0 to 4294967295',
+    ], setup=keys)
+    rows = replaced(replaced(replaced(SETUP, "cap = 1\n", "cap = 0\n"), 'component = ":"', 'component = "|"'), 'to = "BOLT"', 'to = ["CARL", "BOLT", "BOLT"]')
+    said("rows of a setup", [
+        *lines(guide_0=OK["guide_0"], guide_1=OK["guide_1"]).splitlines(),
+        "setup.toml: partner 2 (BOLT): `element` and `component` are both \"|\"",
+        "setup.toml: partner 2 (BOLT): the cap 0 is out of 1 to 99999",
+        'setup.toml: route 2 (BOLT): "CARL" is no partner',
+        'setup.toml: route 2 (BOLT): "BOLT" stands twice in `to`',
+        "counters.toml: ok, 2 counters",
+    ], **{**whole, "setup": rows})
+    numbers = COUNTERS.replace("interchange = 1", "interchange = 0", 1).replace("set = 1", "set = 1000000000", 1)
+    said("rows of counters alone", [
+        "counters.toml: counter 1 (ACME): `interchange` 0 is out of 1 to 999999999",
+        "counters.toml: counter 1 (ACME): `set` 1000000000 is out of 1 to 999999999",
+    ], counters=numbers)
+    said("a setup that is left open", [
+        "guide_0.toml: `nodes` is missing",
+        f"setup.toml: {OPEN}",
+        "setup.toml: partner 2 (BOLT): the cap 0 is out of 1 to 99999",
+    ], guide_0=HEAD, setup=replaced(SETUP, "cap = 1\n", "cap = 0\n"))
+
+
 def examples():
     page = Page("ERRORS.md")
+    all_examples(page)
+    for text, said in TOML.items():
+        page.want(f"no TOML: {text}", check(setup=text), (3, lines(setup=said), ""))
     whole = {"guide_0": H850, "guide_1": H856, "setup": SETUP, "counters": COUNTERS}
     page.want("all files", check(**whole), (0, lines(**OK), ""))
     page.want("a guide alone", check(guide_0=H850), (0, lines(guide_0="ok, 14 segments and loops"), ""))
@@ -192,12 +361,17 @@ def examples():
     page.want("no word", run([]), (2, "", "nighthub_check: usage\n"))
     page.want("a word of no option", run(["--zeta"]), (2, "", "nighthub_check: usage\n"))
     page.want("two setups", run(["--setup", "a", "--setup", "b"]), (2, "", "nighthub_check: usage\n"))
+    page.want("no file but --all", run(["--all"]), (2, "", "nighthub_check: usage\n"))
     for word in ("--help", "--version"):
         status, said, failed = run([word])
         page.want(word, (status, bool(said), failed), (0, True, ""))
     page.want("a guide that isn't there", check(guide_0="/nowhere/file"), (3, "/nowhere/file: it can't be read\n", ""))
     for name, (guide, said) in GUIDES.items():
         page.want(name, check(guide_0=guide), (3, lines(guide_0=said), ""))
+    for row, said in ROWS.items():
+        whole_text = row.replace("\\t", "\\u0009")
+        page.want(f"a row: {row}", check(guide_0=elements(*TWO, row)),
+                  (3, lines(guide_0=f"node 1 (REF): text 3 of `elements` is \"{whole_text}\": {said}"), ""))
     for name, (guide, said) in WARNED.items():
         status, text, failed = check(guide_0=guide)
         ok, *warnings = text.splitlines()
@@ -220,6 +394,6 @@ def examples():
     page.want("a setup beside a guide that is refused", check(guide_0=HEAD, setup=SETUP),
               (3, lines(guide_0="`nodes` is missing", setup=OPEN), ""))
     page.want("each guide's own refusal", check(guide_0="name = 7", guide_1=H856, setup=b"", counters=b""),
-              (3, lines(guide_0="`name` isn't a text of 1 to 20 letters or digits", guide_1="ok, 12 segments and loops",
+              (3, lines(guide_0="`name` is 7, and has to be a text of 1 to 20 letters or digits", guide_1="ok, 12 segments and loops",
                         setup="`hub` is missing", counters="`version` is missing"), ""))
     return page

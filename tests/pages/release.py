@@ -10,6 +10,7 @@ import check
 import words
 from trial import PROGRAM, TOP, Page
 
+GATHER, TRACK = (os.path.join(TOP, "crates", name, "out", name) for name in ("nighthub_gather", "nighthub_track"))
 TOTAL = "total interchanges 2 refused 0 groups 2 sets 2 accepted 2 held 0 outside 0"
 
 
@@ -30,7 +31,7 @@ def examples():
     with tempfile.TemporaryDirectory(prefix="nighthub-release-") as here:
         programs = os.path.join(here, "programs")
         os.mkdir(programs)
-        for path in (PROGRAM, check.CHECK, words.PROGRAM):
+        for path in (PROGRAM, check.CHECK, words.PROGRAM, GATHER, TRACK):
             shutil.copy(path, programs)
         made = subprocess.run([os.path.join(TOP, ".ci", "release"), programs, os.path.join(here, "dist")], capture_output=True, text=True)
         page.want("the archive is made", (made.returncode, made.stderr), (0, ""))
@@ -47,6 +48,11 @@ def examples():
         page.want("a check of the bundled files", bash(
             "./nighthub_check --guide examples/guides/h850.toml --guide examples/guides/h856.toml --setup examples/night/setup.toml "
             "--counters examples/night/counters.toml", release)[0], 0)
+        page.want("files gathered", bash(
+            "cat /dev/null >none && ./nighthub_gather all.x12 examples/night/two_partners.x12 none examples/night/one_order.x12 && exit 9; "
+            "[ $? = 1 ] && cmp all.x12 <(cat examples/night/two_partners.x12 examples/night/one_order.x12) && rm all.x12 none", release),
+            (0, "examples/night/two_partners.x12: 2 interchanges, 461 bytes at 0\nnone: set aside: it is empty\nexamples/night/one_order.x12: 1 interchange, 236 bytes at 461\n"
+             "total taken 2 cut off 0 set aside 1 bytes 697\n", ""))
         prefix = os.path.join(here, "prefix")
         page.want("./install without a prefix", bash("./install", release)[0], 1)
         page.want("./install", bash(f"./install {prefix} && ./install {prefix}", release)[0], 0)

@@ -73,10 +73,24 @@ FALLEN_LINES = [
 ]
 REFUSED = [
     ("no word", [], 2, "usage"),
-    ("two files", ["a", "b"], 2, "usage"),
+    ("a word of no option", ["-x"], 2, "usage"),
     ("no file", ["/nowhere/file"], 4, "input"),
     ("an order", [os.path.join(EXAMPLES, "night", "one_order.x12")], 4, "input 2"),
     ("no interchange", [os.path.join(EXAMPLES, "night", "setup.toml")], 4, "input 1"),
+]
+
+
+# a 999 that goes on, and what is printed of it
+CUT = "ST*999*0001*005010X231~AK1*PO*12*005010~AK2*850*0001~IK5*R*4~"
+CUT_LINES = [
+    f"{ORDER}, 850 0001: rejected: SE01 isn't 1 to 10 digits equal to the number of segments, ST and SE among them (IK502 4)",
+    "total ta1s 0 groups 0 sets 1 accepted 0",
+]
+ENDS = [
+    ("a 999 without an SE", CUT, CUT_LINES, "the text ends inside a 999"),
+    ("a segment without its end", CUT + "AK9*R*1*1*", CUT_LINES, "the text ends inside a segment"),
+    ("nothing told yet", "ST*999*0001*005010X231~AK1*PO*12", [], "the text ends inside a segment"),
+    ("a 997", "ST*997*0001~AK1*PO*12~AK2*850*0001~AK5*A~AK9*A*1*1*1~SE*6*0001~", [], "this is a 997, which is not read here"),
 ]
 
 
@@ -127,12 +141,29 @@ def codes(page):
             page.holds(f"{element} {code}", said and agree(said[1], cells), f"{text!r}, not {cells!r}")
 
 
+def several(page):
+    """Several files, each line with its file's name in front; one of them is cut off, and one isn't there."""
+    names = [os.path.join(EXAMPLES, f"night/{it}.ack") for it in ("one_order", "rejected")]
+    lines = [f"{name}: {it}" for name, key in zip(names, ("night/one_order", "night/rejected")) for it in WHOLE[key]]
+    page.want("two files", run(names), (0, "".join(f"{it}\n" for it in lines), ""))
+    with tempfile.NamedTemporaryFile("w", suffix=".ack") as it:
+        it.write(ISA + CUT)
+        it.flush()
+        cut = [f"{it.name}: {line}" for line in CUT_LINES]
+        page.want("three files", run([it.name, "/nowhere/file", names[0]]),
+                  (4, "".join(f"{line}\n" for line in cut + lines[:1]),
+                   f"nighthub_explain: {it.name}: the text ends inside a 999\nnighthub_explain: /nowhere/file: input\n"))
+
+
 def examples():
     page = Page("ACKNOWLEDGMENT.md, in words")
+    several(page)
     codes(page)
     for name, lines in WHOLE.items():
         page.want(name, run([os.path.join(EXAMPLES, f"{name}.ack")]), (0, "".join(f"{it}\n" for it in lines), ""))
     page.want("a group without a GE", told(FALLEN), (0, "".join(f"{it}\n" for it in FALLEN_LINES), ""))
+    for name, segments, lines, why in ENDS:
+        page.want(name, told(segments), (4, "".join(f"{it}\n" for it in lines), f"nighthub_explain: {why}\n"))
     asked = told("TA1*000000007*260228*0900*A*000~" + FALLEN)[1]
     page.holds("behind a TA1", "interchange 1 (TA1 000000007), group PO 12: rejected: no GE" in asked, asked)
     for name in ("h855", "h860", "h856_levels"):

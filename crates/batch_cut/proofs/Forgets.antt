@@ -13,7 +13,7 @@ use Rattle.batch_law.specs.Begun.{is_begun, may_begin}
 use Rattle.batch_law.specs.Batches.{end_by, end_from}
 use Rattle.batch_law.specs.Moved.{moved_view}
 use Rattle.batch_law.proofs.Moving.{drop_past, head_past, header_past, kind_moved, rest_past, segs_past, views_moved}
-use Rattle.batch_cut.specs.Open.{GoesOn, IsOpen}
+use Rattle.batch_cut.specs.Open.{IsOpen}
 use Rattle.batch_cut.specs.Scouting.{IsInside}
 use Rattle.batch_cut.specs.declared.scout.Inside.{Inside}
 

@@ -1,10 +1,10 @@
 -- What a part that is looked at makes of its interchange.
-use Rattle.std.proofs.Common.{◌≡◌, ℕ, ◌+◌, ◌-◌, ◌<◌, ◌≤◌, max, List, [], ◌∷◌, ◌++◌, Bool, true, false, ◌&&◌, not, nat_eq, Option, Some}
+use Rattle.std.proofs.Common.{◌≡◌, ℕ, ◌+◌, ◌-◌, ◌<◌, ◌≤◌, max, List, [], ◌++◌, Bool, true, false, ◌&&◌, not, nat_eq, Some}
 use Rattle.std.proofs.Common.{None}
 use Rattle.std.proofs.Common.{length, take, drop, get_or, cond, slice_range, refl, sym, ap, subst, ◌∙◌, arith, inl, inr}
 use Rattle.std.specs.List.{prefix_len}
-use Rattle.std.proofs.lemmas.Bool.{and_cases, and_parts, both_ways, cases_eq, cases_lt, false_from_ne_true, not-false, not-true}
-use Rattle.std.proofs.lemmas.List.{append-nil, drop-append-le, get_or-drop, length-append, length-drop, take-append-le, take_rest}
+use Rattle.std.proofs.lemmas.Bool.{and_cases, and_parts, both_ways, cases_lt, false_from_ne_true, not-false, not-true}
+use Rattle.std.proofs.lemmas.List.{append-nil, drop-append-le, get_or-drop, length-drop, take-append-le, take_rest}
 use Rattle.std.proofs.lemmas.List.Sums.{prefix_len-le-length, prefix_len_passes, prefix_len_stops}
 use Rattle.memchr.specs.Find.{IsFirstByte, is_byte}
 use Rattle.x12_bytes.specs.Bytes.{is_line_end}
@@ -20,7 +20,6 @@ use Rattle.batch_law.proofs.First.{Leads}
 use Rattle.batch_cut.specs.Open.{GoesOn, IsOpen}
 use Rattle.batch_cut.specs.Steps.{Steps, Waits}
 use Rattle.batch_cut.specs.declared.following.OpenPart.{OpenPart}
-use Rattle.batch_cut.specs.declared.following.Step.{Step}
 use Rattle.batch_cut.specs.declared.following.Step.TheVariants as step
 use Rattle.batch_cut.proofs.Parts.{IsPart, closed_stays, end_at_segment, ends_at_head, part_stays, passes_empty, waits_for_head}
 use Rattle.batch_cut.proofs.Parts.{waits_for_terminator}

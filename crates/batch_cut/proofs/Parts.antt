@@ -1,27 +1,24 @@
 -- One part of a text, and where its interchange ends.
-use Rattle.std.proofs.Common.{◌≡◌, ℕ, ◌+◌, ◌-◌, ◌<◌, ◌≤◌, List, [], ◌∷◌, ◌++◌, Bool, true, false, nat_eq, Option, Some, None}
-use Rattle.std.proofs.Common.{length, take, drop, get_or, map, cond, slice_range, refl, sym, ap, subst, ◌∙◌, arith, inl, inr}
+use Rattle.std.proofs.Common.{◌≡◌, ℕ, ◌+◌, ◌-◌, ◌<◌, ◌≤◌, List, [], ◌∷◌, ◌++◌, Bool, true, false, nat_eq, Some, None}
+use Rattle.std.proofs.Common.{length, take, drop, get_or, map, cond, slice_range, refl, sym, ap, ◌∙◌, arith}
 use Rattle.std.specs.List.{prefix_len}
-use Rattle.std.proofs.lemmas.Bool.{both_ways, cases_lt, false_from_ne_true}
+use Rattle.std.proofs.lemmas.Bool.{both_ways, false_from_ne_true}
 use Rattle.std.proofs.lemmas.List.{append-nil, drop-append-le, get_or_append_left, get_or-drop, get_or-take, length-append, length-drop}
 use Rattle.std.proofs.lemmas.List.{length-take-le, take_rest}
-use Rattle.std.proofs.lemmas.List.Sums.{prefix_len-le-length, prefix_len_is}
+use Rattle.std.proofs.lemmas.List.Sums.{prefix_len_is}
 use Rattle.memchr.specs.Find.{IsFirstByte, is_byte}
 use Rattle.x12_bytes.specs.Bytes.{is_line_end}
 use Rattle.x12_bytes.specs.HeaderTest.{is_head}
 use Rattle.x12_bytes.specs.declared.delims.Delims.{Delims}
-use Rattle.x12_segs.specs.Words.{Seg, part_at, rest_from, seg_at, segs_from, without_line_ends, SegValue, view_of, kind_of}
+use Rattle.x12_segs.specs.Words.{Seg, rest_from, seg_at, segs_from, without_line_ends, SegValue, view_of, kind_of}
 use Rattle.x12_segs.proofs.SegLemmas.{IsCut, cut_found, part_at-none, part_at-some, rest_from-found, rest_from-none, segs_from-found}
 use Rattle.x12_segs.proofs.SegLemmas.{segs_from-none, without_line_ends-slice}
 use Rattle.env_index.specs.Words.{behind, ends_interchange}
-use Rattle.env_index.proofs.Surround.{no_head_past}
 use Rattle.batch_law.specs.Begun.{is_begun, may_begin}
 use Rattle.batch_law.specs.Batches.{end_by, end_from}
 use Rattle.batch_law.proofs.Begin.{begun_cut}
-use Rattle.batch_law.proofs.Chains.{none_behind}
 use Rattle.batch_law.proofs.First.{Leads, first_is, first_start}
 use Rattle.batch_law.proofs.Split.{first_byte, from_rest}
-use Rattle.batch_cut.specs.Open.{GoesOn, IsOpen}
 
 -- a part that a terminator ends
 pub record IsPart (text : List ℕ) (t at lead end : ℕ) : Type 0 where

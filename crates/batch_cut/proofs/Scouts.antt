@@ -1,18 +1,16 @@
 -- How far the interchanges are whole.
-use Rattle.std.proofs.Common.{◌≡◌, ℕ, ◌+◌, ◌-◌, ◌<◌, ◌≤◌, List, [], ◌∷◌, ◌++◌, Bool, true, false, Option, Some, None, length, take, drop}
-use Rattle.std.proofs.Common.{refl, sym, ap, subst, ◌∙◌, arith, inl, inr}
-use Rattle.std.proofs.lemmas.Bool.{cases_lt}
-use Rattle.std.proofs.lemmas.List.{append-nil, append_assoc, length-append}
+use Rattle.std.proofs.Common.{◌≡◌, ℕ, ◌+◌, ◌<◌, ◌≤◌, List, [], ◌∷◌, ◌++◌, true, Option, Some, None, length}
+use Rattle.std.proofs.Common.{refl, sym, ap, ◌∙◌, arith}
+use Rattle.std.proofs.lemmas.List.{append-nil, length-append}
 use Rattle.x12_bytes.specs.Header.{delims_of, header_at}
 use Rattle.x12_bytes.specs.HeaderTest.{is_head}
 use Rattle.env_index.specs.Words.{Extent, IsNextHead, reach_at}
 use Rattle.env_index.proofs.Surround.{head_within}
 use Rattle.batch_law.specs.Batches.{ChainUpTo, WholeUpTo, end_from, whole_end}
 use Rattle.batch_law.proofs.Chains.{chain_joined, end_behind, end_within, whole_chain}
-use Rattle.batch_cut.specs.Open.{GoesOn, IsOpen}
 use Rattle.batch_cut.specs.declared.scout.Entered.{Entered}
 use Rattle.batch_cut.specs.declared.scout.Entered.TheVariants.{Open, Wait}
-use Rattle.batch_cut.specs.Scouting.{Advances, Enters, EntersAt, EntersNone, IsGap, IsInside, IsLeft, Stands, has_any}
+use Rattle.batch_cut.specs.Scouting.{Advances, Enters, EntersAt, EntersNone, IsGap, IsInside, Stands}
 use Rattle.batch_cut.specs.Seeking.{NoneRead}
 use Rattle.batch_cut.specs.Steps.{WaitsBehind}
 use Rattle.batch_cut.specs.declared.following.OpenPart.{OpenPart}
@@ -20,27 +18,21 @@ use Rattle.batch_cut.specs.declared.scout.Inside.{Inside}
 use Rattle.batch_cut.proofs.Looks.{goes_now}
 
 -- so far
-pub record ComesTo (read : List ℕ) (from at : ℕ) (inside : Option Inside) (found : Bool) : Type 0 where
+pub record ComesTo (read : List ℕ) (from at : ℕ) (inside : Option Inside) (count : ℕ) : Type 0 where
   pub whole : List Extent
   pub chain : (more : List ℕ) → ChainUpTo (read ++ more) from at whole
-  pub is : found ≡ has_any whole
+  pub is : count ≡ length whole
+  pub few : count ≤ at
   pub stands : Stands read at inside
 
-pub comes_first : (read : List ℕ) (at : ℕ) (inside : Option Inside) → Stands read at inside → ComesTo read at at inside false
+pub comes_first : (read : List ℕ) (at : ℕ) (inside : Option Inside) → Stands read at inside → ComesTo read at at inside 0
 comes_first read at inside stands = record {
   whole = [];
   chain = λ more. (omega arith, λ q low lt. absurd (omega (arith, low, lt)));
   is = refl;
+  few = omega arith;
   stands = stands;
 }
-
-any_joined : (xs : List Extent) → has_any (xs ++ []) ≡ has_any xs
-any_joined [] = refl
-any_joined (x ∷ xs) = refl
-
-any_pushed : (xs : List Extent) (x : Extent) → true ≡ has_any (xs ++ x ∷ [])
-any_pushed [] x = refl
-any_pushed (y ∷ ys) x = refl
 
 -- a gap that is read
 pub gap_of : (read : List ℕ) (from at : ℕ) → WholeUpTo read from at [] → IsGap read from at
@@ -72,17 +64,19 @@ one_whole read at end head is =
     )
 
 -- one more
-pub comes_on : (read : List ℕ) (from at start end : ℕ) (inside : Option Inside) (found : Bool) (i : Inside)
-    → ComesTo read from at inside found → EntersAt read at start i → end_from read i.delims i.part.at ≡ Some end
-    → ComesTo read from end None true
-comes_on read from at start end inside found i so_far enters is =
+pub comes_on : (read : List ℕ) (from at start end : ℕ) (inside : Option Inside) (count : ℕ) (i : Inside)
+    → ComesTo read from at inside count → EntersAt read at start i → end_from read i.delims i.part.at ≡ Some end
+    → ComesTo read from end None (count + 1)
+comes_on read from at start end inside count i so_far enters is =
     let x : Extent = record { start = start; end = end } in
     let one = one_whole read start end enters.inside.head (end_read read start i end enters.inside is) in
     record {
       whole = so_far.whole ++ ([] ++ x ∷ []);
       chain = λ more. chain_joined (read ++ more) from at end so_far.whole ([] ++ x ∷ []) (so_far.chain more)
           (chain_joined (read ++ more) at start end [] (x ∷ []) (enters.gap more) (one.2 more));
-      is = any_pushed so_far.whole x;
+      is = (let n : count + 1 ≡ length (so_far.whole ++ ([] ++ x ∷ [])) =
+          omega (arith, so_far.is, length-append so_far.whole ([] ++ x ∷ [])) in n);
+      few = omega (arith, so_far.few, (enters.gap []).0, one.0);
       stands = one.1;
     }
 
@@ -93,29 +87,31 @@ comes_further read from at start end i enters is gap =
     omega (arith, (enters.gap []).0, (one_whole read start end enters.inside.head (end_read read start i end enters.inside is)).0)
 
 -- where it stops
-pub stops_outside : (read : List ℕ) (from at next : ℕ) (inside : Option Inside) (found : Bool) → ComesTo read from at inside found
+pub stops_outside : (read : List ℕ) (from at next : ℕ) (inside : Option Inside) (count : ℕ) → ComesTo read from at inside count
     → EntersNone read at next
-    → Advances read from (record { scout = record { at = next; inside = None }; found = found })
-stops_outside read from at next inside found so_far enters = record {
+    → Advances read from (record { scout = record { at = next; inside = None }; count = count })
+stops_outside read from at next inside count so_far enters = record {
   whole = so_far.whole ++ [];
   chain = λ more. chain_joined (read ++ more) from at next so_far.whole [] (so_far.chain more) (enters.gap more);
-  found = so_far.is ∙ sym (any_joined so_far.whole);
+  count = so_far.is ∙ ap (λ (xs : List Extent). length xs) (sym (append-nil so_far.whole));
+  few = omega (arith, so_far.few, (enters.gap []).0);
   stands = enters.within;
   left = enters.none;
 }
 
-pub stops_inside : (read : List ℕ) (from at start : ℕ) (inside : Option Inside) (found : Bool) (i : Inside) (part : OpenPart)
-    → ComesTo read from at inside found → EntersAt read at start i → WaitsBehind read i.delims i.part.at part
+pub stops_inside : (read : List ℕ) (from at start : ℕ) (inside : Option Inside) (count : ℕ) (i : Inside) (part : OpenPart)
+    → ComesTo read from at inside count → EntersAt read at start i → WaitsBehind read i.delims i.part.at part
     → Advances read from (record {
       scout = record { at = start; inside = Some (record { delims = i.delims; part = part }) };
-      found = found;
+      count = count;
     })
-stops_inside read from at start inside found i part so_far enters waits =
+stops_inside read from at start inside count i part so_far enters waits =
     let its : IsInside read start i = enters.inside in
     record {
       whole = so_far.whole ++ [];
       chain = λ more. chain_joined (read ++ more) from at start so_far.whole [] (so_far.chain more) (enters.gap more);
-      found = so_far.is ∙ sym (any_joined so_far.whole);
+      count = so_far.is ∙ ap (λ (xs : List Extent). length xs) (sym (append-nil so_far.whole));
+      few = omega (arith, so_far.few, (enters.gap []).0);
       stands = record {
         head = its.head;
         delims = its.delims;

@@ -1,12 +1,12 @@
 -- The next header in what is read of a text.
-use Rattle.std.proofs.Common.{◌≡◌, ℕ, ◌+◌, ◌-◌, ◌<◌, ◌≤◌, List, [], ◌∷◌, Bool, true, false, ◌&&◌, ◌||◌, nat_eq, leb, ltb, length, take}
-use Rattle.std.proofs.Common.{drop, get_or, refl, sym, ap, subst, ◌∙◌, arith, inl, inr, Option, Some, None}
+use Rattle.std.proofs.Common.{◌≡◌, ℕ, ◌+◌, ◌-◌, ◌<◌, ◌≤◌, List, [], Bool, true, false, ◌&&◌, ◌||◌, leb, ltb, length, take}
+use Rattle.std.proofs.Common.{drop, get_or, sym, ap, subst, ◌∙◌, arith, inl, inr}
 use Rattle.std.specs.Prelude.{codes, slice_range}
 use Rattle.std.specs.Str.{bytes_eq}
 use Rattle.std.specs.Cmp.Lexicographic.{bytes_decides}
-use Rattle.std.proofs.lemmas.Bool.{and_parts, both_ways, cases_eq, cases_lt, eq-eqb, false_from_ne_true, ltb-true}
+use Rattle.std.proofs.lemmas.Bool.{and_parts, cases_eq, cases_lt, eq-eqb, false_from_ne_true, ltb-true}
 use Rattle.std.proofs.lemmas.List.{get_or-drop, get_or-take, length-drop, take_rest}
-use Rattle.memchr.specs.Find.{IsFirstByte, Nowhere, Passes, is_byte}
+use Rattle.memchr.specs.Find.{Nowhere, Passes, is_byte}
 use Rattle.x12_bytes.specs.HeaderTest.{is_head}
 use Rattle.env_index.specs.Words.{IsNextHead}
 use Rattle.env_index.proofs.Nexting.{no_head_ahead}

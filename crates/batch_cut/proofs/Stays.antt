@@ -1,5 +1,5 @@
 -- What is known of an open interchange stays where more is read.
-use Rattle.std.proofs.Common.{◌≡◌, ℕ, ◌+◌, ◌-◌, ◌<◌, ◌≤◌, List, ◌++◌, Option, Some, None}
+use Rattle.std.proofs.Common.{◌≡◌, ℕ, ◌+◌, ◌<◌, ◌≤◌, List, ◌++◌, Option, Some, None}
 use Rattle.std.proofs.Common.{length, take, drop, get_or, nat_eq, sym, ap, refl, ◌∙◌, arith}
 use Rattle.std.proofs.lemmas.List.{append_assoc, get_or-drop, get_or_append_left, length-append, take_at}
 use Rattle.x12_bytes.specs.Bytes.{is_line_end}

@@ -1,10 +1,10 @@
 -- X12.5, interchange: up to where the interchanges are whole in what is read of a text.
-use Rattle.std.specs.Prelude.{◌≡◌, ℕ, ◌+◌, ◌≤◌, Bool, true, false, List, [], ◌∷◌, ◌++◌, length, Option, Some, None}
+use Rattle.std.specs.Prelude.{◌≡◌, ℕ, ◌+◌, ◌≤◌, true, false, List, [], ◌++◌, length, Option, Some, None}
 use Rattle.x12_bytes.specs.Header.{delims_of, header_at}
 use Rattle.x12_bytes.specs.HeaderTest.{is_head}
 use Rattle.x12_bytes.specs.declared.layout.TheConstants.{HEADER_LEN}
 use Rattle.env_index.specs.Words.{Extent}
-use Rattle.batch_law.specs.Batches.{ChainUpTo, WholeUpTo, whole_end}
+use Rattle.batch_law.specs.Batches.{ChainUpTo, whole_end}
 use Rattle.batch_cut.specs.Open.{GoesOn, IsOpen}
 use Rattle.batch_cut.specs.declared.scout.Advanced.{Advanced}
 use Rattle.batch_cut.specs.declared.scout.Entered.{Entered}
@@ -50,14 +50,11 @@ abbrev pub IsLeft : List ℕ → ℕ → Option Inside → Type 0
 IsLeft read at None = (q : ℕ) → at ≤ q → is_head read q ≡ false
 IsLeft read at (Some i) = whole_end read at ≡ None
 
-abbrev pub has_any : List Extent → Bool
-has_any [] = false
-has_any (x ∷ xs) = true
-
 -- these interchanges are whole, whatever follows; then none is
 pub record Advances (read : List ℕ) (from : ℕ) (a : Advanced) : Type 0 where
   pub whole : List Extent
   pub chain : (more : List ℕ) → ChainUpTo (read ++ more) from a.scout.at whole
-  pub found : a.found ≡ has_any whole
+  pub count : a.count ≡ length whole
+  pub few : a.count ≤ a.scout.at
   pub stands : Stands read a.scout.at a.scout.inside
   pub left : IsLeft read a.scout.at a.scout.inside

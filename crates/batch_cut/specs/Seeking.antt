@@ -1,5 +1,5 @@
 -- X12.5, interchange: the next header in what is read of a text. Private.
-use Rattle.std.specs.Prelude.{◌≡◌, ℕ, ◌<◌, ◌≤◌, List, [], length, false}
+use Rattle.std.specs.Prelude.{◌≡◌, ℕ, ◌≤◌, List, [], false}
 use Rattle.x12_bytes.specs.HeaderTest.{is_head}
 use Rattle.env_index.specs.Words.{IsNextHead}
 use Rattle.batch_law.specs.Batches.{WholeUpTo}

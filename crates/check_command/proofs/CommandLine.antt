@@ -11,7 +11,7 @@ use Rattle.clap.specs.declared.parser.matches.ArgMatches.{ArgMatches}
 use Rattle.clap.proofs.OnLiterals.{clap_on_literals}
 use Rattle.clap.proofs.WalkLemmas.{first_value-rows, raw_values-rows}
 use Rattle.check_command.specs.CommandLine.{AreNone, AreOptions, AsksForText, IsAsked, IsGiven, IsShown, check_app, names_none}
-use Rattle.check_command.specs.CommandLine.{or_none, value_of}
+use Rattle.check_command.specs.CommandLine.{is_all, or_none, value_of}
 use Rattle.check_command.specs.CommandLine.{values_found, values_of}
 use Rattle.check_command.specs.declared.command.Asked.{Asked}
 use Rattle.check_command.specs.declared.command.Asked.TheVariants.{Check, Show}
@@ -43,6 +43,7 @@ asked words m (Check o) has given = record {
   setup = sym (found words m (codes "setup") has) ∙ given.setup;
   guides = sym (ap or_none (all_found words m (codes "guide") has)) ∙ given.guides;
   counters = sym (found words m (codes "counters") has) ∙ given.counters;
+  all = sym (ap is_all (found words m (codes "all") has)) ∙ given.all;
   some = given.some;
 }
 asked words m (Show text) has given = absurd given

@@ -17,18 +17,18 @@ use Rattle.toml_keys.specs.Answers.{Gives}
 use Rattle.toml_keys.specs.Refusals.{Refusal}
 use Rattle.toml_keys.specs.declared.file_fault.FileFault.{FileFault}
 use Rattle.toml_keys.specs.declared.file_fault.FileFault.TheVariants as file
-use Rattle.check_command.specs.SetupFiles.{HasTable, IsFaultOf, IsFileOf, IsFileRefused, IsGuideFaultOf, IsGuideOf, IsGuideRefused}
+use Rattle.check_command.specs.SetupFiles.{HasTable, IsFaultOf, IsFileOf, IsFileRefused, IsGuideFaultOf, IsGuideOf, IsGuideRefused, Words}
 use Rattle.check_command.specs.SetupFiles.{IsFileSaid, IsOwnSaid, IsSaidOf, table_of}
 
 -- bytes that write a table
-record HasOne (bytes : List ℕ) : Type 0 where
+pub record HasOne (bytes : List ℕ) : Type 0 where
   pub table : Members
   pub utf8 : IsUtf8 bytes
   pub parsed : parse_document bytes ≡ Some table
   pub is : table_of bytes ≡ Some table
 
 -- bytes that write none
-record HasNone (bytes : List ℕ) : Type 0 where
+pub record HasNone (bytes : List ℕ) : Type 0 where
   pub none : IsUtf8 bytes → parse_document bytes ≡ None
   pub is : table_of bytes ≡ None
 
@@ -44,7 +44,7 @@ text_or_not : (bytes : List ℕ) (b : Bool) → is_utf8 bytes ≡ b → HasOne b
 text_or_not bytes true is = parsed_or_not bytes (parse_document bytes) is refl
 text_or_not bytes false is = inr (record { none = λ utf8. absurd (no_text bytes is utf8); is = rw is refl })
 
-one_or_none : (bytes : List ℕ) → HasOne bytes ⊎ HasNone bytes
+pub one_or_none : (bytes : List ℕ) → HasOne bytes ⊎ HasNone bytes
 one_or_none bytes = text_or_not bytes (is_utf8 bytes) refl
 
 -- what a reader of files promises of no table
@@ -59,8 +59,9 @@ says : (bytes : List ℕ) (P : Members → Type 0) → HasOne bytes → SaysOf b
 says bytes P one table = (one.table, one.is, table one.table one.utf8 one.parsed)
 
 -- an answer other than these two is that of a table
-has_table : {A E : Type 0} (bytes : List ℕ) (P : Members → Type 0) (no_toml no_memory : E) (r : Result A E) → HasOne bytes ⊎ HasNone bytes
-    → (r ≡ Err no_toml → ⊥) → r ≢ Err no_memory → SaysOf bytes P → SaysNone A E bytes no_toml no_memory r → HasTable bytes P
+pub has_table : {A E : Type 0} (bytes : List ℕ) (P : Members → Type 0) (no_toml no_memory : E) (r : Result A E)
+    → HasOne bytes ⊎ HasNone bytes → (r ≡ Err no_toml → ⊥) → r ≢ Err no_memory → SaysOf bytes P
+    → SaysNone A E bytes no_toml no_memory r → HasTable bytes P
 has_table bytes P no_toml no_memory r (inl one) other memory table toml = says bytes P one table
 has_table bytes P no_toml no_memory r (inr none) other memory table toml = absurd (other (toml.1 (memory, none.none)))
 
@@ -79,7 +80,7 @@ guide_is from bytes g is table toml =
     table toml)
 
 -- the fault by which it wasn't
-guide_fault_is : (bytes : List ℕ) (f : GuideFileFault) → SaysOf bytes (λ t. Answers (Err f) (guide_of_table t))
+pub guide_fault_is : (bytes : List ℕ) (f : GuideFileFault) → SaysOf bytes (λ t. Answers (Err f) (guide_of_table t))
     → SaysNone GuideRows GuideFileFault bytes fault.NotToml fault.NoMemory (Err f) → f ≢ fault.NoMemory → IsGuideFaultOf bytes f
 guide_fault_is bytes fault.NotToml table toml memory = no_table bytes _ (one_or_none bytes) (λ t never. never) table
 guide_fault_is bytes fault.NoMemory table toml memory = memory refl
@@ -121,12 +122,18 @@ pub guide_refused : (from : Option (List ℕ)) (bytes : List ℕ) (f : GuideFile
 guide_refused from bytes f text is table toml memory said =
     subst (λ (b : Option (List ℕ)). IsGuideRefused b text) is (f, guide_fault_is bytes f table toml memory, said)
 
-pub rows_refused : {A : Type 0} (read : Members → Result A Refusal) (from : Option (List ℕ)) (bytes : List ℕ) (f : FileFault)
-    (text : List ℕ) → Some bytes ≡ from → SaysOf bytes (λ t. Gives (Err f) (read t))
-    → SaysNone A FileFault bytes file.NotToml file.NoMemory (Err f) → f ≢ file.NoMemory → IsFileSaid bytes f text
-    → IsFileRefused read from text
-rows_refused read from bytes f text is table toml memory said =
-    subst (λ (b : Option (List ℕ)). IsFileRefused read b text) is (f, fault_is read bytes f table toml memory, said)
+pub rows_refused : {A : Type 0} (read : Members → Result A Refusal) (words : Words) (from : Option (List ℕ)) (bytes : List ℕ)
+    (f : FileFault) (text : List ℕ) → Some bytes ≡ from → SaysOf bytes (λ t. Gives (Err f) (read t))
+    → SaysNone A FileFault bytes file.NotToml file.NoMemory (Err f) → f ≢ file.NoMemory → IsFileSaid words bytes f text
+    → IsFileRefused read words from text
+rows_refused read words from bytes f text is table toml memory said =
+    subst (λ (b : Option (List ℕ)). IsFileRefused read words b text) is (f, fault_is read bytes f table toml memory, said)
+
+-- the table that was read
+pub table_is : (bytes read : List ℕ) (t : Members) → read ≡ bytes → IsUtf8 bytes → parse_document read ≡ Some t
+    → table_of bytes ≡ Some t
+table_is bytes read t same utf8 parsed =
+    rw (is_utf8-from_IsUtf8 bytes utf8) (subst (λ (x : List ℕ). parse_document x ≡ Some t) same parsed)
 
 -- what is said of the guide that the bytes write
 pub own_said : (bytes : List ℕ) (f : GuideFault) (rows : GuideRows) (text : List ℕ)

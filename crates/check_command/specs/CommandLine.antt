@@ -1,9 +1,10 @@
 -- The command line of the check (own), read as clap's definitions say: options that name files, one of which may be given again.
 use Rattle.std.specs.Prelude.{◌≡◌, ◌⊎◌, ◌&&◌, ◌==◌, Bool, List, [], length, map, not, Option, Some, None, true, false, codes, is_some}
 use Rattle.std.specs.Prelude.{option_map}
+use Rattle.std.specs.Str.{bytes_eq}
 use Rattle.clap.specs.Words.{App, Rule, Text, IsAmong, all_of, fault_of, first_of, matched_of, matches_of, new_app, new_rule, takes}
 use Rattle.clap.specs.Words.{raw_values, with_rule}
-use Rattle.clap.specs.declared.builder.action.ArgAction.TheVariants.{Append, Set}
+use Rattle.clap.specs.declared.builder.action.ArgAction.TheVariants.{Append, Set, SetTrue}
 use Rattle.clap.specs.declared.error.kind.ErrorKind.{ErrorKind}
 use Rattle.clap.specs.declared.error.kind.ErrorKind.TheVariants.{DisplayHelp, DisplayVersion}
 use Rattle.clap.specs.declared.parser.matches.Found.{Found}
@@ -19,16 +20,24 @@ option_free name = record (new_rule name) { long = Some name; value_names = 1; a
 abbrev pub option_repeated : Text → Rule
 option_repeated name = record (option_free name) { action = Some Append }
 
+-- an option of this name without a value
+abbrev pub option_flag : Text → Rule
+option_flag name = record (new_rule name) { long = Some name; action = Some SetTrue }
+
 -- the program without its options: its words have no program's name in front, and it has a version
 abbrev pub program : App
 program =
     let bare = new_app (codes "nighthub_check") in
     record bare { top = record bare.top { has_version = true; no_binary_name = true } }
 
-abbrev pub check_app : App
-check_app =
+-- with the options that name files
+abbrev pub files_app : App
+files_app =
     with_rule (with_rule (with_rule program (option_free (codes "setup"))) (option_repeated (codes "guide")))
     (option_free (codes "counters"))
+
+abbrev pub check_app : App
+check_app = with_rule files_app (option_flag (codes "all"))
 
 -- the value that the words give an option
 abbrev pub value_of : List Text → Text → Option Text
@@ -46,11 +55,17 @@ or_none (Some texts) = texts
 abbrev pub names_none : Options → Bool
 names_none options = not (is_some options.setup) && (not (is_some options.counters) && (length options.guides.items == 0))
 
--- these are the files, one or more, where an option has one value and a list of values
+-- the value that an option without a value has where it is given
+abbrev pub is_all : Option Text → Bool
+is_all None = false
+is_all (Some text) = bytes_eq text (codes "true")
+
+-- these are the files, one or more, and whether all is said, where an option has one value and a list of values
 pub record AreOptions (value : Text → Option Text) (values : Text → Option (List Text)) (options : Options) : Type 0 where
   pub setup : value (codes "setup") ≡ option_map (λ s. s.now) options.setup
   pub guides : or_none (values (codes "guide")) ≡ map (λ g. g.now) options.guides.items
   pub counters : value (codes "counters") ≡ option_map (λ c. c.now) options.counters
+  pub all : is_all (value (codes "all")) ≡ options.all
   pub some : names_none options ≡ false
 
 -- no option has a value

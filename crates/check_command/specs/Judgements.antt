@@ -7,10 +7,11 @@ use Rattle.partner_setup.specs.SetupFile.{setup_of_table}
 use Rattle.partner_setup.specs.declared.rows.CounterRow.{CounterRow}
 use Rattle.partner_setup.specs.declared.rows.SetupRows.{SetupRows}
 use Rattle.toml_keys.specs.Refusals.{Refusal}
+use Rattle.key_words.specs.KeySentences.{counters_key_words, setup_key_words}
 use Rattle.check_command.specs.Files.{path_of}
 use Rattle.check_command.specs.Judged.{counters_told, setup_told}
 use Rattle.check_command.specs.SetupFiles.{AreCountersOf, AreCountersRefused, AreGuidesOf, IsFileOf, IsFileRefused, IsGuideOf}
-use Rattle.check_command.specs.SetupFiles.{IsGuideRefused}
+use Rattle.check_command.specs.SetupFiles.{IsGuideRefused, Words}
 use Rattle.check_command.specs.SetupFiles.{IsSomeRefused}
 use Rattle.check_command.specs.declared.files.Given.{Given}
 use Rattle.check_command.specs.declared.judged.Judged.{Judged}
@@ -24,9 +25,9 @@ abbrev pub IsGuideJudged : Option (List ℕ) → Judged GuideRows → Type 0
 IsGuideJudged bytes (judged.Taken guide) = IsGuideOf bytes guide
 IsGuideJudged bytes (judged.Refused text) = IsGuideRefused bytes text
 
-abbrev pub IsFileJudged : {A : Type 0} → (Members → Result A Refusal) → Option (List ℕ) → Judged A → Type 0
-IsFileJudged read bytes (judged.Taken rows) = IsFileOf read bytes rows
-IsFileJudged read bytes (judged.Refused text) = IsFileRefused read bytes text
+abbrev pub IsFileJudged : {A : Type 0} → (Members → Result A Refusal) → Words → Option (List ℕ) → Judged A → Type 0
+IsFileJudged read words bytes (judged.Taken rows) = IsFileOf read bytes rows
+IsFileJudged read words bytes (judged.Refused text) = IsFileRefused read words bytes text
 
 -- the guide of a file, where it is taken
 abbrev pub IsGuideFound : Option (List ℕ) → Option GuideRows → Type 0
@@ -56,7 +57,7 @@ told_beside rows (Some guides) (Some counters) = setup_told rows counters guides
 
 abbrev pub IsToldBeside : Option (List GuideRows) → Option (List CounterRow) → Option (List ℕ) → Told → Type 0
 IsToldBeside guides counters bytes t =
-    ((text : List ℕ) × IsFileRefused setup_of_table bytes text × (t ≡ told.Refused text))
+    ((text : List ℕ) × IsFileRefused setup_of_table setup_key_words bytes text × (t ≡ told.Refused text))
     ⊎ ((rows : SetupRows) × IsFileOf setup_of_table bytes rows × (t ≡ told_beside rows guides counters))
 
 -- what is told of the counters beside what was found of the others
@@ -67,7 +68,7 @@ counted_beside rows (Some guides) (Some counters) = Some (counters_told rows cou
 
 abbrev pub IsCountedBeside : Option (List GuideRows) → Option (List CounterRow) → Option (List ℕ) → Option Told → Type 0
 IsCountedBeside guides counters bytes t =
-    ((text : List ℕ) × IsFileRefused setup_of_table bytes text × (t ≡ None))
+    ((text : List ℕ) × IsFileRefused setup_of_table setup_key_words bytes text × (t ≡ None))
     ⊎ ((rows : SetupRows) × IsFileOf setup_of_table bytes rows × (t ≡ counted_beside rows guides counters))
 
 -- the same where there may be no setup file
@@ -77,7 +78,7 @@ AreCountedBeside guides counters (Some f) t = IsCountedBeside guides counters f.
 
 -- what is told of a counters file by itself, and its rows, where it is taken
 abbrev pub IsCountedAlone : Option (List ℕ) → Option (List CounterRow) → Told → Type 0
-IsCountedAlone bytes None t = (text : List ℕ) × IsFileRefused counters_of_table bytes text × (t ≡ told.Refused text)
+IsCountedAlone bytes None t = (text : List ℕ) × IsFileRefused counters_of_table counters_key_words bytes text × (t ≡ told.Refused text)
 IsCountedAlone bytes (Some rows) t = IsFileOf counters_of_table bytes rows × (t ≡ told.Taken (length rows) listed.Counters [])
 
 abbrev pub AreCountedAlone : Option Given → Option (List CounterRow) → Option FileTold → Type 0

@@ -1,10 +1,10 @@
 pub mod CommandLine
 pub mod Failure
 pub mod Files
+pub mod Further
 pub mod Judged
 pub mod Judgements
 pub mod Lines
 pub mod Runs
 pub mod SetupFiles
 pub mod Tellings
-pub mod TextPlaces

@@ -1,6 +1,9 @@
 -- The check (own): the lines that are printed of each file, and the status.
-use Rattle.std.specs.Prelude.{ℕ, Bool, true, false, List, [], ◌∷◌, ◌++◌, codes, decimal, if◌then◌else◌}
+use Rattle.std.specs.Prelude.{ℕ, Bool, true, false, List, [], ◌∷◌, ◌++◌, ◌&&◌, ◌+◌, codes, decimal}
+use Rattle.std.specs.Prelude.{slice_get, Option, None, Some, if◌then◌else◌}
 use Rattle.std.specs.List.{list_all}
+use Rattle.std.specs.Option.{option_map_or}
+use Rattle.std.specs.Str.{bytes_eq}
 use Rattle.check_command.specs.declared.told.FileTold.{FileTold}
 use Rattle.check_command.specs.declared.told.Listed.{Listed}
 use Rattle.check_command.specs.declared.told.Listed.TheVariants as listed
@@ -53,3 +56,62 @@ is_taken (told.Refused text) = false
 -- 0 where each file is taken, else 3
 abbrev pub status_of : List FileTold → ℕ
 status_of fs = if list_all (λ f. is_taken f.told) fs then 0 else 3
+
+abbrev pub is_empty : List (List ℕ) → Bool
+is_empty [] = true
+is_empty (s ∷ ss) = false
+
+-- where all is asked for: a line for each thing that is said
+abbrev pub said_line : (path text : List ℕ) → List ℕ
+said_line path text = path ++ (codes ": " ++ (text ++ codes "\n"))
+
+abbrev pub said_lines : (path : List ℕ) → List (List ℕ) → List ℕ
+said_lines path [] = []
+said_lines path (text ∷ texts) = said_line path text ++ said_lines path texts
+
+-- but for what the file's own line says
+abbrev pub other_line : (path own text : List ℕ) → List ℕ
+other_line path own text = if bytes_eq text own then [] else said_line path text
+
+abbrev pub other_lines : (path own : List ℕ) → List (List ℕ) → List ℕ
+other_lines path own [] = []
+other_lines path own (text ∷ texts) = other_line path own text ++ other_lines path own texts
+
+abbrev pub refusal : Told → List ℕ
+refusal (told.Taken count what warnings) = []
+refusal told.Open = []
+refusal (told.Refused text) = text
+
+-- a file that is taken has its own lines where nothing is said, else these in their place
+abbrev pub taken_lines : FileTold → List (List ℕ) → List ℕ
+taken_lines f [] = file_lines f
+taken_lines f (s ∷ ss) = said_lines f.path.now (s ∷ ss)
+
+-- another has its own line, and then these
+abbrev pub file_lines_all : FileTold → List (List ℕ) → List ℕ
+file_lines_all f said =
+    if is_taken f.told then taken_lines f said else line_of f ++ other_lines f.path.now (refusal f.told) said
+
+-- what is said of the file at a place
+abbrev pub said_at : List (List (List ℕ)) → (place : ℕ) → List (List ℕ)
+said_at all place = option_map_or (λ said. said) (slice_get all place) []
+
+abbrev pub lines_from : (place : ℕ) → List FileTold → List (List (List ℕ)) → List ℕ
+lines_from place [] all = []
+lines_from place (f ∷ fs) all = file_lines_all f (said_at all place) ++ lines_from (place + 1) fs all
+
+abbrev pub all_lines : List FileTold → List (List (List ℕ)) → List ℕ
+all_lines fs all = lines_from 0 fs all
+
+-- 0 where each file is taken, and nothing is said of any, else 3
+abbrev pub all_status : List FileTold → List (List (List ℕ)) → ℕ
+all_status fs all = if list_all (λ f. is_taken f.told) fs && list_all is_empty all then 0 else 3
+
+-- what is printed where all is asked for, and what is said is there, or where it isn't
+abbrev pub text_of : List FileTold → Option (List (List (List ℕ))) → List ℕ
+text_of fs None = lines_of fs
+text_of fs (Some all) = all_lines fs all
+
+abbrev pub status_with : List FileTold → Option (List (List (List ℕ))) → ℕ
+status_with fs None = status_of fs
+status_with fs (Some all) = all_status fs all

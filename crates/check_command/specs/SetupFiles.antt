@@ -1,8 +1,7 @@
 -- The files of a setup (own): what the bytes of each say, and why they are refused. A file that can't be read has no bytes.
-use Rattle.std.specs.Prelude.{◌≡◌, ◌≤◌, ◌⊎◌, ⊤, ℕ, true, false, List, [], ◌∷◌, codes, length, Option, None, Some, Result, Ok}
+use Rattle.std.specs.Prelude.{◌≡◌, ◌⊎◌, ⊤, ℕ, List, [], ◌∷◌, codes, Option, None, Some, Result, Ok}
 use Rattle.std.specs.Prelude.{if◌then◌else◌}
 use Rattle.std.specs.Str.{is_utf8}
-use Rattle.std.specs.Str.Lossy.{utf8_valid_len}
 use Rattle.toml.specs.Data.{Members}
 use Rattle.toml.specs.Parse.{parse_document}
 use Rattle.guide_tree.specs.declared.rows.GuideRows.{GuideRows}
@@ -19,9 +18,9 @@ use Rattle.toml_keys.specs.declared.file_fault.FileFault.{FileFault}
 use Rattle.toml_keys.specs.declared.file_fault.FileFault.TheVariants as file
 use Rattle.partner_setup.specs.CountersFile.{counters_of_table}
 use Rattle.partner_setup.specs.declared.rows.CounterRow.{CounterRow}
-use Rattle.refusal_words.specs.FileWords.{file_words}
-use Rattle.refusal_words.specs.GuideWords.{IsGuideSaid, guide_file_words}
-use Rattle.check_command.specs.TextPlaces.{said_at}
+use Rattle.key_words.specs.KeySentences.{counters_key_words, guide_key_words}
+use Rattle.key_words.specs.NoTables.{IsNoTableSaid}
+use Rattle.refusal_words.specs.GuideWords.{IsGuideSaid}
 use Rattle.check_command.specs.declared.files.Given.{Given}
 
 -- the table that bytes write
@@ -46,21 +45,19 @@ IsFaultOf read bytes refusal = HasTable bytes (λ t. FailsAs (meaning_of refusal
 abbrev pub unreadable : List ℕ
 unreadable = codes "it can't be read"
 
--- what is said of bytes that are no table: where they stop to be UTF-8; and else a place in them, which is left open
-abbrev pub IsNoTableSaid : (bytes text : List ℕ) → Type 0
-IsNoTableSaid bytes text =
-    ((is_utf8 bytes ≡ false) × (text ≡ said_at bytes (utf8_valid_len bytes) (codes "no UTF-8")))
-    ⊎ ((is_utf8 bytes ≡ true)
-    × ((offset : ℕ) × (offset ≤ length bytes) × (text ≡ said_at bytes offset (codes "no TOML table"))))
+-- how a refusal is said, by the file's table
+abbrev pub Words : Type 0
+Words = Members → FileFault → List ℕ
 
-abbrev pub IsFileSaid : (bytes : List ℕ) → FileFault → (text : List ℕ) → Type 0
-IsFileSaid bytes file.NotToml text = IsNoTableSaid bytes text
-IsFileSaid bytes refusal text = text ≡ file_words refusal
+abbrev pub IsFileSaid : Words → (bytes : List ℕ) → FileFault → (text : List ℕ) → Type 0
+IsFileSaid words bytes file.NotToml text = IsNoTableSaid bytes text
+IsFileSaid words bytes refusal text = HasTable bytes (λ t. text ≡ words t refusal)
 
 -- the words by which a file is refused that writes no rows
-abbrev pub IsFileRefused : {A : Type 0} → (Members → Result A Refusal) → Option (List ℕ) → (text : List ℕ) → Type 0
-IsFileRefused read None text = text ≡ unreadable
-IsFileRefused read (Some bytes) text = (refusal : FileFault) × IsFaultOf read bytes refusal × IsFileSaid bytes refusal text
+abbrev pub IsFileRefused : {A : Type 0} → (Members → Result A Refusal) → Words → Option (List ℕ) → (text : List ℕ) → Type 0
+IsFileRefused read words None text = text ≡ unreadable
+IsFileRefused read words (Some bytes) text =
+    (refusal : FileFault) × IsFaultOf read bytes refusal × IsFileSaid words bytes refusal text
 
 -- the guide that a guide file writes
 abbrev pub IsGuideOf : Option (List ℕ) → GuideRows → Type 0
@@ -78,11 +75,11 @@ abbrev pub IsOwnSaid : (bytes : List ℕ) → GuideFault → (text : List ℕ) �
 IsOwnSaid bytes own text =
     (guide : GuideTree) × HasTable bytes (λ t. guide_of_table t ≡ Ok guide) × IsGuideSaid (numbered 1 guide.nodes) own text
 
--- what is said of a fault of the bytes; the name of the node in which a key stands is left open
+-- what is said of a fault of the bytes: of a key by the table that they write
 abbrev pub IsSaidOf : (bytes : List ℕ) → GuideFileFault → (text : List ℕ) → Type 0
 IsSaidOf bytes fault.NotToml text = IsNoTableSaid bytes text
 IsSaidOf bytes (fault.Guide own) text = IsOwnSaid bytes own text
-IsSaidOf bytes refusal text = (name : List ℕ) × (text ≡ guide_file_words refusal name)
+IsSaidOf bytes refusal text = HasTable bytes (λ t. text ≡ guide_key_words t refusal)
 
 -- the words by which a guide file is refused
 abbrev pub IsGuideRefused : Option (List ℕ) → (text : List ℕ) → Type 0
@@ -109,4 +106,4 @@ AreCountersOf (Some f) counters = IsFileOf counters_of_table f.bytes counters
 -- the counters file is refused
 abbrev pub AreCountersRefused : Option Given → Type 0
 AreCountersRefused None = ⊥
-AreCountersRefused (Some f) = (text : List ℕ) × IsFileRefused counters_of_table f.bytes text
+AreCountersRefused (Some f) = (text : List ℕ) × IsFileRefused counters_of_table counters_key_words f.bytes text

@@ -8,6 +8,7 @@ use Rattle.partner_setup.specs.declared.rows.CounterRow.{CounterRow}
 use Rattle.partner_setup.specs.declared.rows.SetupRows.{SetupRows}
 use Rattle.guide_warnings.specs.Warnings.{warnings_of}
 use Rattle.refusal_words.specs.WarningWords.{warning_words}
+use Rattle.key_words.specs.KeySentences.{counters_key_words, setup_key_words}
 use Rattle.check_command.specs.Files.{in_order, path_of}
 use Rattle.check_command.specs.Judged.{counters_told, setup_told}
 use Rattle.check_command.specs.SetupFiles.{AreCountersOf, AreCountersRefused, AreGuidesOf, IsFileOf, IsFileRefused, IsGuideOf}
@@ -36,7 +37,7 @@ IsSetupOf (Some f) rows = IsFileOf setup_of_table f.bytes rows
 -- no setup file is given, or it is refused
 abbrev pub IsNoSetup : Option Given → Type 0
 IsNoSetup None = ⊤
-IsNoSetup (Some f) = (text : List ℕ) × IsFileRefused setup_of_table f.bytes text
+IsNoSetup (Some f) = (text : List ℕ) × IsFileRefused setup_of_table setup_key_words f.bytes text
 
 -- counters of these rows: what the guides and the setup make of them; taken where one of these says nothing
 abbrev pub AreCountersJudged : List Given → Option Given → List CounterRow → Told → Type 0
@@ -47,7 +48,7 @@ AreCountersJudged guides setup counters t =
 -- a counters file: refused by itself, or judged by its rows
 abbrev pub IsCountersTold : List Given → Option Given → Option (List ℕ) → Told → Type 0
 IsCountersTold guides setup bytes t =
-    ((text : List ℕ) × IsFileRefused counters_of_table bytes text × (t ≡ told.Refused text))
+    ((text : List ℕ) × IsFileRefused counters_of_table counters_key_words bytes text × (t ≡ told.Refused text))
     ⊎ ((rows : List CounterRow) × IsFileOf counters_of_table bytes rows × AreCountersJudged guides setup rows t)
 
 -- a setup of these rows: what the guides and the counters make of it; open where one of these is refused
@@ -59,7 +60,7 @@ IsJudged guides counters rows t =
 -- a setup file: refused by itself, or judged by its rows
 abbrev pub IsSetupTold : List Given → Option Given → Option (List ℕ) → Told → Type 0
 IsSetupTold guides counters bytes t =
-    ((text : List ℕ) × IsFileRefused setup_of_table bytes text × (t ≡ told.Refused text))
+    ((text : List ℕ) × IsFileRefused setup_of_table setup_key_words bytes text × (t ≡ told.Refused text))
     ⊎ ((rows : SetupRows) × IsFileOf setup_of_table bytes rows × IsJudged guides counters rows t)
 
 -- a file of which this is told has its line under its path

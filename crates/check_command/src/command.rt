@@ -1,7 +1,7 @@
-ghost use Rattle.std.specs.Prelude.{◌≡◌, ◌≢◌, codes, false, map, IfOk, IfErr, IsErrOf};
+ghost use Rattle.std.specs.Prelude.{◌≡◌, ◌≢◌, codes, false, map, option_map, IfOk, IfErr, IsErrOf};
 ghost use Rattle.clap.specs.Words.{app_of, first_value, found_of, kind_of, rule_of, with_rule};
-ghost use Rattle.check_command.specs.CommandLine.{AreNone, IsAsked, IsCommandLine, IsGiven, IsShown, check_app, option_free};
-ghost use Rattle.check_command.specs.CommandLine.{option_repeated, or_none, values_found};
+ghost use Rattle.check_command.specs.CommandLine.{AreNone, IsAsked, IsCommandLine, IsGiven, IsShown, check_app, files_app, is_all};
+ghost use Rattle.check_command.specs.CommandLine.{option_flag, option_free, option_repeated, or_none, values_found};
 ghost use Rattle.check_command.specs.Failure.{IsOfWords};
 
 use crate::failure::Failure;
@@ -27,6 +27,8 @@ pub struct Options<'a> {
     pub guides: Vec<&'a str>,
     /// The counters, where they are given.
     pub counters: Option<&'a str>,
+    /// Whether a check goes on behind a file's first refusal.
+    pub all: bool,
 }
 
 impl<'a> Options<'a> {
@@ -66,6 +68,14 @@ pub fn read_words<'a, S: AsStr>(alloc: Global, words: &'a [S]) -> Result<Asked<'
 fn command<'a>(alloc: Global) -> Result<Command<'a>, AllocError>
     ensures { IfOk result (λ command. app_of command ≡ check_app) }
 {
+    let command = files_command(alloc)?;
+    with_option(command, flag(alloc))
+}
+
+/// The program with the options that name files.
+fn files_command<'a>(alloc: Global) -> Result<Command<'a>, AllocError>
+    ensures { IfOk result (λ command. app_of command ≡ files_app) }
+{
     let command = Command::new(alloc, "nighthub_check")
         .about("Says what is wrong with the files of a setup")
         .version("0.1.0")
@@ -99,6 +109,17 @@ fn option<'a>(alloc: Global, name: &'a str, help: &'a str) -> Arg<'a>
         .action(ArgAction::Set)
 }
 
+/// The option without a value, by which a check goes on behind a refusal.
+fn flag<'a>(alloc: Global) -> Arg<'a>
+    ensures rule { rule_of result ≡ option_flag (codes "all") }
+    ensures local { result.global ≡ false }
+{
+    Arg::new(alloc, "all")
+        .long("all")
+        .help("Says all that is wrong with each table, row and node by itself")
+        .action(ArgAction::SetTrue)
+}
+
 /// The same, which may be given again.
 fn repeated<'a>(alloc: Global, name: &'a str, help: &'a str) -> Arg<'a>
     ensures rule { rule_of result ≡ option_repeated name.now }
@@ -116,11 +137,22 @@ fn options_given<'a>(alloc: Global, matches: &ArgMatches<'a>) -> Result<Asked<'a
         setup: matches.get_str("setup"),
         guides: guides_given(alloc, matches)?,
         counters: matches.get_str("counters"),
+        all: is_all(matches.get_str("all")),
     };
     if options.names_none() {
         return Err(Failure::Usage);
     }
     Ok(Asked::Check(options))
+}
+
+/// Whether the value of the option is that of one that is given.
+fn is_all(value: Option<&str>) -> bool
+    ensures { result ≡ is_all (option_map (λ v. v.now) value.entry) }
+{
+    match value {
+        None => false,
+        Some(text) => text.as_bytes() == b"true".as_slice(),
+    }
 }
 
 fn guides_given<'a>(alloc: Global, matches: &ArgMatches<'a>) -> Result<Vec<&'a str>, AllocError>

@@ -1,21 +1,23 @@
-ghost use Rattle.std.specs.Prelude.{◌≡◌, ◌≢◌, ℕ, List, IfOk};
+ghost use Rattle.std.specs.Prelude.{◌≡◌, ◌≢◌, IfOk, Some};
+ghost use Rattle.toml.specs.View.{table_view};
 ghost use Rattle.partner_setup.specs.CountersFile.{counters_of_table};
 ghost use Rattle.partner_setup.specs.SetupFile.{setup_of_table};
-ghost use Rattle.refusal_words.specs.FileWords.{file_words};
-ghost use Rattle.refusal_words.specs.GuideWords.{guide_file_words};
+ghost use Rattle.key_words.specs.KeySentences.{counters_key_words, guide_key_words, setup_key_words};
 ghost use Rattle.check_command.specs.Judgements.{IsFileJudged, IsGuideJudged};
 ghost use Rattle.check_command.specs.SetupFiles as files;
 ghost use Rattle.guide_tree.specs.Words.{nodes_view, numbered};
 ghost use Rattle.refusal_words.specs.GuideWords.{IsGuideSaid};
 
-use crate::no_table::no_table_text;
-use crate::node_id::node_id;
 use guide_toml::{GuideFileFault, read_guide, read_rows};
 use guide_tree::{Guide, GuideFault, Node};
 use hub_kinds::{Items, NoMemory, Text};
+use key_words::{
+    append_counters_key_words, append_guide_key_words, append_setup_key_words, no_table_text,
+};
 use partner_setup::{CounterRows, FileFault, SetupRows, read_counters, read_setup};
-use refusal_words::{append_file_words, append_guide_file_words, append_guide_words};
+use refusal_words::append_guide_words;
 use std::alloc::Global;
+use toml::Table;
 
 /// What a file is judged as.
 #[derive(Debug, Drop)]
@@ -31,16 +33,6 @@ fn unread(alloc: Global) -> Result<Text, NoMemory>
     ensures { IfOk result (λ text. text ≡ files.unreadable) }
 {
     Ok(Items::from_vec(Vec::from_slice(alloc, b"it can't be read")?))
-}
-
-/// The number of the node in which a key stands; 0 where the refusal is of no key.
-fn number_of(fault: &GuideFileFault) -> u32 {
-    match fault {
-        GuideFileFault::Missing(_, slot) => *slot,
-        GuideFileFault::WrongKind(_, slot) => *slot,
-        GuideFileFault::Unknown(_, slot) => *slot,
-        GuideFileFault::NotToml | GuideFileFault::Guide(_) | GuideFileFault::NoMemory => 0,
-    }
 }
 
 /// What is wrong with a guide of these nodes.
@@ -62,14 +54,33 @@ fn guide_words(alloc: Global, bytes: &[u8], fault: &GuideFault) -> Result<Text, 
     }
 }
 
-/// What is wrong with a guide file, where it isn't the guide's own fault.
-fn key_words(alloc: Global, bytes: &[u8], fault: &GuideFileFault) -> Result<Text, NoMemory>
-    ensures { IfOk result (λ text. (name : List ℕ) × (text ≡ guide_file_words fault.now name)) }
+/// The table that bytes write, which are known to write one: the only error is want of memory.
+pub fn table_of(alloc: Global, bytes: &[u8]) -> Result<Table, NoMemory>
+    ensures { IfOk result (λ table. files.table_of bytes.now ≡ Some (table_view table)) }
 {
-    let id = node_id(alloc, bytes, number_of(fault))?;
+    match std::str::from_utf8(bytes) {
+        Err(_) => Err(NoMemory),
+        Ok(text) => match toml::table_from_str(alloc, text) {
+            Ok(table) => Ok(table),
+            Err(_) => Err(NoMemory),
+        },
+    }
+}
+
+fn guide_key_text(alloc: Global, top: &Table, fault: &GuideFileFault) -> Result<Text, NoMemory>
+    ensures { IfOk result (λ text. text ≡ guide_key_words (table_view top.now) fault.now) }
+{
     let mut text = Vec::new(alloc);
-    append_guide_file_words(&mut text, fault, id.as_slice())?;
+    append_guide_key_words(alloc, &mut text, top, fault)?;
     Ok(Items::from_vec(text))
+}
+
+/// What is wrong with a key of a guide file.
+fn key_words(alloc: Global, bytes: &[u8], fault: &GuideFileFault) -> Result<Text, NoMemory>
+    ensures { IfOk result (λ text. files.HasTable bytes.now (λ t. text ≡ guide_key_words t fault.now)) }
+{
+    let top = table_of(alloc, bytes)?;
+    guide_key_text(alloc, &top, fault)
 }
 
 /// Why bytes write no guide. Want of memory says nothing of them.
@@ -98,48 +109,84 @@ pub fn judge_guide(alloc: Global, bytes: &Option<Text>) -> Result<Judged<Guide>,
     }
 }
 
-fn file_text(alloc: Global, fault: &FileFault) -> Result<Text, NoMemory>
-    ensures { IfOk result (λ text. text ≡ file_words fault.now) }
+fn setup_key_text(alloc: Global, top: &Table, fault: &FileFault) -> Result<Text, NoMemory>
+    ensures { IfOk result (λ text. text ≡ setup_key_words (table_view top.now) fault.now) }
 {
     let mut text = Vec::new(alloc);
-    append_file_words(&mut text, fault)?;
+    append_setup_key_words(alloc, &mut text, top, fault)?;
     Ok(Items::from_vec(text))
 }
 
-/// Why a file of tables writes no rows. Want of memory says nothing of it.
-fn file_refusal(alloc: Global, bytes: &[u8], fault: &FileFault) -> Result<Text, NoMemory>
-    ensures said { IfOk result (files.IsFileSaid bytes.now fault.now) }
+/// What is wrong with a key of a setup file.
+fn setup_text(alloc: Global, bytes: &[u8], fault: &FileFault) -> Result<Text, NoMemory>
+    ensures { IfOk result (λ text. files.HasTable bytes.now (λ t. text ≡ setup_key_words t fault.now)) }
+{
+    let top = table_of(alloc, bytes)?;
+    setup_key_text(alloc, &top, fault)
+}
+
+/// Why a setup file writes no rows. Want of memory says nothing of it.
+fn setup_refusal(alloc: Global, bytes: &[u8], fault: &FileFault) -> Result<Text, NoMemory>
+    ensures said { IfOk result (files.IsFileSaid setup_key_words bytes.now fault.now) }
     ensures told { IfOk result (λ text. fault.now ≢ FileFault.NoMemory) }
 {
     match fault {
         FileFault::NoMemory => Err(NoMemory),
         FileFault::NotToml => no_table_text(alloc, bytes),
-        _ => file_text(alloc, fault),
+        _ => setup_text(alloc, bytes, fault),
+    }
+}
+
+fn counters_key_text(alloc: Global, top: &Table, fault: &FileFault) -> Result<Text, NoMemory>
+    ensures { IfOk result (λ text. text ≡ counters_key_words (table_view top.now) fault.now) }
+{
+    let mut text = Vec::new(alloc);
+    append_counters_key_words(alloc, &mut text, top, fault)?;
+    Ok(Items::from_vec(text))
+}
+
+/// What is wrong with a key of a counters file.
+fn counters_text(alloc: Global, bytes: &[u8], fault: &FileFault) -> Result<Text, NoMemory>
+    ensures { IfOk result (λ text. files.HasTable bytes.now (λ t. text ≡ counters_key_words t fault.now)) }
+{
+    let top = table_of(alloc, bytes)?;
+    counters_key_text(alloc, &top, fault)
+}
+
+/// Why a counters file writes no rows. Want of memory says nothing of it.
+fn counters_refusal(alloc: Global, bytes: &[u8], fault: &FileFault) -> Result<Text, NoMemory>
+    ensures said { IfOk result (files.IsFileSaid counters_key_words bytes.now fault.now) }
+    ensures told { IfOk result (λ text. fault.now ≢ FileFault.NoMemory) }
+{
+    match fault {
+        FileFault::NoMemory => Err(NoMemory),
+        FileFault::NotToml => no_table_text(alloc, bytes),
+        _ => counters_text(alloc, bytes, fault),
     }
 }
 
 /// What a setup file is judged as.
 pub fn judge_rows(alloc: Global, bytes: &Option<Text>) -> Result<Judged<SetupRows>, NoMemory>
-    ensures { IfOk result (IsFileJudged setup_of_table bytes.now) }
+    ensures { IfOk result (IsFileJudged setup_of_table setup_key_words bytes.now) }
 {
     let Some(bytes) = bytes else {
         return Ok(Judged::Refused(unread(alloc)?));
     };
     match read_setup(alloc, bytes.as_slice()) {
         Ok(rows) => Ok(Judged::Taken(rows)),
-        Err(fault) => Ok(Judged::Refused(file_refusal(alloc, bytes.as_slice(), &fault)?)),
+        Err(fault) => Ok(Judged::Refused(setup_refusal(alloc, bytes.as_slice(), &fault)?)),
     }
 }
 
 /// What a counters file is judged as.
 pub fn judge_counters(alloc: Global, bytes: &Option<Text>) -> Result<Judged<CounterRows>, NoMemory>
-    ensures { IfOk result (IsFileJudged counters_of_table bytes.now) }
+    ensures { IfOk result (IsFileJudged counters_of_table counters_key_words bytes.now) }
 {
     let Some(bytes) = bytes else {
         return Ok(Judged::Refused(unread(alloc)?));
     };
     match read_counters(alloc, bytes.as_slice()) {
         Ok(rows) => Ok(Judged::Taken(rows)),
-        Err(fault) => Ok(Judged::Refused(file_refusal(alloc, bytes.as_slice(), &fault)?)),
+        Err(fault) => Ok(Judged::Refused(counters_refusal(alloc, bytes.as_slice(), &fault)?)),
     }
 }

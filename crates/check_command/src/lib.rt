@@ -8,25 +8,29 @@
 //!   else refused in the words of its fault; a setup file or counters likewise, and where all can be read, by what `Setup::build` makes of
 //!   just these rows: a setup that is taken has just its warnings, and the first refusal stands with the counters where it is of one of
 //!   them; a setup is left open only where another file is refused (`tell_files`, `judge_setup`);
-//! - of bytes that write no table the line and the column are those of the first byte that is no UTF-8, or else of a place in the file;
+//! - of a key that is refused the place, the value and one cause are those of the file's own table;
+//! - of bytes that write no table the line and the column are those of the first byte that is no UTF-8, or else of a place in the file, and
+//!   what stands there is shown;
+//! - where `--all` is given, what is said of each file further is what is wrong with each of its tables, rows and nodes by itself, by the
+//!   definitions, and but for what its line says already; and the status is 0 only where nothing is;
 //! - a failed run prints no line of a file, unless standard output itself failed; it ends with 2, 5 or 6; one that doesn't fail leaves
 //!   standard error as it was;
 //! - the words are read as clap's definitions say, and are usage only where they are no command line.
 //!
-//! Only tested: that the bytes of the files are those at the paths, that the place in UTF-8 that is no TOML is where its fault is, the id
-//! beside a node's number where a key is refused, and that standard output holds what is printed, of which the system tells nothing.
+//! Only tested: that the bytes of the files are those at the paths, that the place in UTF-8 that is no TOML is where its fault is, and that
+//! standard output holds what is printed, of which the system tells nothing.
 //!
 //! Source: own.
 #![tactic(auto)]
 
+mod all_lines;
 mod command;
 mod failure;
 mod files;
+mod further;
 mod judge;
 mod judged;
 mod lines;
-mod no_table;
-mod node_id;
 mod run;
 mod told;
 mod warned;
@@ -34,6 +38,7 @@ mod warned;
 pub use command::{Asked, Options, read_words};
 pub use failure::Failure;
 pub use files::{Given, GivenFiles};
+pub use further::said_of_files;
 pub use judge::{SetupTold, judge_setup, tell_files};
 pub use run::check_main;
 pub use told::{FileTold, Listed, Told};

@@ -43,7 +43,7 @@ fn append_told(out: &mut Vec<u8>, told: &Told) -> Result<(), NoMemory>
     }
 }
 
-fn append_line(out: &mut Vec<u8>, file: &FileTold<'_>) -> Result<(), NoMemory>
+pub(crate) fn append_line(out: &mut Vec<u8>, file: &FileTold<'_>) -> Result<(), NoMemory>
     ensures { OnOk result (out.new.items ≡ out.old.items ++ lines.line_of file.now) }
 {
     append(out, file.path.as_bytes())?;
@@ -71,7 +71,7 @@ fn append_warning_lines(out: &mut Vec<u8>, path: &[u8], warnings: &[Text]) -> Re
 }
 
 /// The line of a file, and those of its warnings.
-fn append_lines(out: &mut Vec<u8>, file: &FileTold<'_>) -> Result<(), NoMemory>
+pub(crate) fn append_lines(out: &mut Vec<u8>, file: &FileTold<'_>) -> Result<(), NoMemory>
     ensures { OnOk result (out.new.items ≡ out.old.items ++ lines.file_lines file.now) }
 {
     append_line(out, file)?;
@@ -89,7 +89,7 @@ pub fn lines_of(alloc: Global, files: &[FileTold<'_>]) -> Result<Vec<u8>, NoMemo
     Ok(text)
 }
 
-fn are_taken(files: &[FileTold<'_>]) -> bool
+pub(crate) fn are_taken(files: &[FileTold<'_>]) -> bool
     ensures { result ≡ list_all (λ f. lines.is_taken f.told) files.now }
 {
     files.iter().all(|file| file.told.is_taken())

@@ -3,13 +3,18 @@ ghost use Rattle.std.specs.Io.KnownBytes.{Appends};
 ghost use Rattle.check_command.specs.CommandLine.{IsCommandLine};
 ghost use Rattle.check_command.specs.Files.{paths_in};
 ghost use Rattle.check_command.specs.Runs.{IsChecked, IsPrinted, IsReport};
+ghost use Rattle.check_command.specs.Lines as lines;
 
+use crate::all_lines::{all_lines, all_status};
 use crate::command::{Asked, Options, read_words};
 use crate::failure::Failure;
 use crate::files::read_files;
+use crate::further::said_if;
 use crate::judge::tell_files;
 use crate::lines::{lines_of, status_of};
-use hub_kinds::NoMemory;
+use crate::told::FileTold;
+use hub_kinds::{Items, NoMemory, Texts};
+use std::alloc::Global;
 use std::convert::AsStr;
 use std::io;
 use std::io::Write;
@@ -54,7 +59,7 @@ where
     ensures silent { result ≡ 6 → out.new ≡ out.old }
     ensures quiet { result ≢ 5 → result ≢ 6 → err.new ≡ err.old }
     ensures printed { result ≢ 2 → result ≢ 5 → result ≢ 6
-        → IsChecked (paths_in options.now) result (O.contents out.old) (O.contents out.new) }
+        → IsChecked (paths_in options.now) options.now.all result (O.contents out.old) (O.contents out.new) }
 {
     match report_of(rt, options) {
         Ok(report) => finish(report.text.as_slice(), report.status, out, err),
@@ -63,15 +68,40 @@ where
 }
 
 fn report_of<R: Files + AllocGlobal>(rt: &R, options: &Options<'_>) -> Result<Report, NoMemory>
-    ensures report { IfOk result (λ report. IsReport (paths_in options.now) report.text.items report.status) }
+    ensures report { IfOk result (λ report. IsReport (paths_in options.now) options.now.all report.text.items report.status) }
     ensures status { IfOk result (λ report. (report.status ≡ 0) ⊎ (report.status ≡ 3)) }
 {
     let files = read_files(rt, options)?;
     let told = tell_files(rt.alloc(), &files)?;
+    let said = said_if(rt.alloc(), options.all, &files)?;
     Ok(Report {
-        text: lines_of(rt.alloc(), told.as_slice())?,
-        status: status_of(told.as_slice()),
+        text: text_of(rt.alloc(), told.as_slice(), &said)?,
+        status: status_with(told.as_slice(), &said),
     })
+}
+
+/// The lines of files, of which this is said where all is asked for.
+fn text_of(
+    alloc: Global,
+    told: &[FileTold<'_>],
+    said: &Option<Items<Texts>>,
+) -> Result<Vec<u8>, NoMemory>
+    ensures { IfOk result (λ text. text.items ≡ lines.text_of told.now said.now) }
+{
+    match said {
+        None => lines_of(alloc, told),
+        Some(all) => all_lines(alloc, told, all.as_slice()),
+    }
+}
+
+fn status_with(told: &[FileTold<'_>], said: &Option<Items<Texts>>) -> u8
+    ensures status { result ≡ lines.status_with told.now said.now }
+    ensures values { (result ≡ 0) ⊎ (result ≡ 3) }
+{
+    match said {
+        None => status_of(told),
+        Some(all) => all_status(told, all.as_slice()),
+    }
 }
 
 /// Prints a text, and gives this status, or that of a failure of standard output.

@@ -12,5 +12,7 @@ of_reader None text failure.Usage same by = by
 of_reader None text failure.Input same by = tt
 of_reader None text failure.NoHeader same by = tt
 of_reader None text failure.TellsNothing same by = tt
+of_reader None text failure.Is997 same by = tt
+of_reader None text (failure.CutOff cut) same by = by
 of_reader None text failure.Stdout same by = by
 of_reader None text failure.Memory same by = tt

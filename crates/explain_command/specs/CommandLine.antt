@@ -1,16 +1,17 @@
--- The command line (own), read as clap's definitions say: one word, the file of acknowledgments.
-use Rattle.std.specs.Prelude.{◌≡◌, ◌⊎◌, ℕ, Option, Some, true, codes, List}
-use Rattle.clap.specs.Words.{App, Rule, Text, IsAmong, fault_of, first_of, first_value, matches_of, new_app, new_rule, takes, with_rule}
-use Rattle.clap.specs.declared.builder.action.ArgAction.TheVariants.{Set}
+-- The command line (own), read as clap's definitions say: the files of acknowledgments, one or more.
+use Rattle.std.specs.Prelude.{◌≡◌, ◌≢◌, ◌⊎◌, ℕ, Option, Some, None, true, codes, List, [], map, option_map}
+use Rattle.clap.specs.Words.{App, Rule, Text, IsAmong, all_of, fault_of, matched_of, matches_of, new_app, new_rule, raw_values, takes}
+use Rattle.clap.specs.Words.{with_rule}
+use Rattle.clap.specs.declared.builder.action.ArgAction.TheVariants.{Append}
 use Rattle.clap.specs.declared.error.kind.ErrorKind.{ErrorKind}
 use Rattle.clap.specs.declared.error.kind.ErrorKind.TheVariants.{DisplayHelp, DisplayVersion}
 use Rattle.clap.specs.declared.parser.matches.Found.{Found}
 use Rattle.explain_command.specs.declared.command.Asked.{Asked}
 use Rattle.explain_command.specs.declared.command.Asked.TheVariants.{Explain, Show}
 
--- the file, which is wanted, by its place
+-- the files, at least one, by their place
 abbrev pub file_rule : Rule
-file_rule = record (new_rule (codes "file")) { value_names = 1; required = true; action = Some Set }
+file_rule = record (new_rule (codes "file")) { value_names = 1; required = true; action = Some Append }
 
 -- its words have no program's name in front, and it has a version
 abbrev pub program : App
@@ -21,19 +22,31 @@ program =
 abbrev pub explain_app : App
 explain_app = with_rule program file_rule
 
--- the value that the words give the file
-abbrev pub value_of : List Text → Text → Option Text
-value_of words name = first_of name (matches_of explain_app words)
+-- the values that the words give a name, in their order
+abbrev pub values_of : List Text → Text → Option (List Text)
+values_of words name = all_of name (matches_of explain_app words)
 
--- the words name a file
-abbrev pub NamesFile : List Text → (path : List ℕ) → Type 0
-NamesFile words path = value_of words (codes "file") ≡ Some path
+abbrev pub or_none : Option (List Text) → List Text
+or_none None = []
+or_none (Some texts) = texts
 
--- and nothing is wrong with them
+-- these are the files, where a name has a list of values
+pub record AreFiles (values : Text → Option (List Text)) (paths : List (List ℕ)) : Type 0 where
+  pub given : or_none (values (codes "file")) ≡ paths
+  pub some : paths ≢ []
+
+-- the words name these files, in their order
+abbrev pub NamesFiles : List Text → (paths : List (List ℕ)) → Type 0
+NamesFiles words paths = AreFiles (values_of words) paths
+
+-- no file is named
+abbrev pub NamesNone : (values : Text → Option (List Text)) → Type 0
+NamesNone values = or_none (values (codes "file")) ≡ []
+
+-- nothing is wrong with the words, and they name a file
 pub record IsCommandLine (words : List Text) : Type 0 where
   pub taken : takes explain_app words ≡ true
-  pub path : List ℕ
-  pub given : NamesFile words path
+  pub named : NamesNone (values_of words) → ⊥
 
 -- the words ask for help or for the version, and name no file
 pub record AsksForText (words : List Text) : Type 0 where
@@ -42,14 +55,17 @@ pub record AsksForText (words : List Text) : Type 0 where
 
 -- what the words ask for
 abbrev pub IsAsked : List Text → Asked → Type 0
-IsAsked words (Explain path) = NamesFile words path.now
+IsAsked words (Explain paths) = NamesFiles words (map (λ p. p.now) paths.items)
 IsAsked words (Show text) = AsksForText words
 
 -- the same of what clap found, and of the kind of what it reports (no public clause cites these)
-abbrev pub IsGiven : Found → Asked → Type 0
-IsGiven found (Explain path) = first_value found (codes "file") ≡ Some path.now
-IsGiven found (Show text) = ⊥
+abbrev pub values_found : Found → Text → Option (List Text)
+values_found found name = option_map raw_values (matched_of found name)
+
+abbrev pub IsGiven : (values : Text → Option (List Text)) → Asked → Type 0
+IsGiven values (Explain paths) = AreFiles values (map (λ p. p.now) paths.items)
+IsGiven values (Show text) = ⊥
 
 abbrev pub IsShown : ErrorKind → Asked → Type 0
-IsShown kind (Explain path) = ⊥
+IsShown kind (Explain paths) = ⊥
 IsShown kind (Show text) = (kind ≡ DisplayHelp) ⊎ (kind ≡ DisplayVersion)

@@ -1,10 +1,13 @@
 -- The program's failures (own): the line that each prints, and the status that it ends with.
-use Rattle.std.specs.Prelude.{ℕ, ◌≡◌, ◌≢◌, ◌==◌, ◌||◌, IsTrue, List, ◌++◌, Option, IfSome, codes}
+use Rattle.std.specs.Prelude.{ℕ, ◌≡◌, ◌≢◌, ◌==◌, ◌||◌, IsTrue, true, List, ◌++◌, Option, None, IfSome, codes}
 use Rattle.std.specs.declared.io.ErrorKind.{ErrorKind}
 use Rattle.std.specs.declared.io.ErrorKind.TheVariants.{OutOfMemory}
 use Rattle.ack_read.specs.Words.{IsRefused}
 use Rattle.ack_read.specs.declared.fault.ReadFault.{ReadFault}
 use Rattle.ack_read.specs.declared.fault.ReadFault.TheVariants as fault
+use Rattle.x12_bytes.specs.HeaderTest.{is_head}
+use Rattle.explain_command.specs.Ends.{cut_of, is_997}
+use Rattle.explain_command.specs.declared.ends.CutOff.TheVariants as cut
 use Rattle.explain_command.specs.declared.failure.Failure.{Failure}
 use Rattle.explain_command.specs.declared.failure.Failure.TheVariants as failure
 
@@ -14,6 +17,9 @@ subject_of failure.Usage = codes "usage"
 subject_of failure.Input = codes "input"
 subject_of failure.NoHeader = codes "input 1"
 subject_of failure.TellsNothing = codes "input 2"
+subject_of failure.Is997 = codes "this is a 997, which is not read here"
+subject_of (failure.CutOff cut.InSegment) = codes "the text ends inside a segment"
+subject_of (failure.CutOff cut.In999) = codes "the text ends inside a 999"
 subject_of failure.Stdout = codes "output stdout"
 subject_of failure.Memory = codes "memory"
 
@@ -21,11 +27,21 @@ subject_of failure.Memory = codes "memory"
 abbrev pub line_of : Failure → List ℕ
 line_of f = codes "nighthub_explain: " ++ (subject_of f ++ codes "\n")
 
+-- behind the path of one of several files
+abbrev pub said_of : Failure → List ℕ
+said_of f = codes ": " ++ (subject_of f ++ codes "\n")
+
+-- the line of one of several files
+abbrev pub line_in : (path : List ℕ) → Failure → List ℕ
+line_in path f = codes "nighthub_explain: " ++ (path ++ said_of f)
+
 abbrev pub status_of : Failure → ℕ
 status_of failure.Usage = 2
 status_of failure.Input = 4
 status_of failure.NoHeader = 4
 status_of failure.TellsNothing = 4
+status_of failure.Is997 = 4
+status_of (failure.CutOff c) = 4
 status_of failure.Stdout = 5
 status_of failure.Memory = 6
 
@@ -49,7 +65,8 @@ IsOfWords _ = ⊥
 abbrev pub IsOfInput : (told : Option (List ℕ)) → Failure → Type 0
 IsOfInput told failure.Input = Unit {0}
 IsOfInput told failure.NoHeader = IfSome told (λ text. IsRefused text fault.NoHeader)
-IsOfInput told failure.TellsNothing = IfSome told (λ text. IsRefused text fault.TellsNothing)
+IsOfInput told failure.TellsNothing = IfSome told (λ text. IsRefused text fault.TellsNothing × (cut_of text ≡ None))
+IsOfInput told failure.Is997 = IfSome told (λ text. (is_head text 0 ≡ true) × (is_997 text ≡ true))
 IsOfInput told failure.Memory = Unit {0}
 IsOfInput told _ = ⊥
 

@@ -1,3 +1,5 @@
 pub mod CommandLine
+pub mod Ends
 pub mod Failure
 pub mod Outcome
+pub mod Reports

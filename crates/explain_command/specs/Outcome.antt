@@ -1,30 +1,37 @@
 -- The program's results (own): what is printed.
-use Rattle.std.specs.Prelude.{◌≡◌, ℕ, List, [], Option, None, IfSome, codes}
+use Rattle.std.specs.Prelude.{◌≡◌, ◌≢◌, ℕ, List, [], Option, None, Some, IfSome, codes, false}
 use Rattle.std.specs.Io.KnownBytes.{Appends}
-use Rattle.ack_read.specs.Words.{AreToldBy}
+use Rattle.ack_read.specs.Words.{AreToldBy, IsRefused}
+use Rattle.ack_read.specs.declared.fault.ReadFault.TheVariants as fault
 use Rattle.ack_read.specs.declared.told.Told.{Told}
 use Rattle.ack_lines.specs.Words.{explanation}
-use Rattle.clap.specs.Words.{Text}
-use Rattle.explain_command.specs.CommandLine.{AsksForText, NamesFile}
+use Rattle.explain_command.specs.Ends.{cut_of, is_997}
+use Rattle.explain_command.specs.declared.ends.CutOff.{CutOff}
 
--- these lines say in words what the acknowledgments of a text tell; a text without a byte is that of a partner whom nobody answers
-pub data IsSaidOf (text lines : List ℕ) : Type 0 where
-  Unanswered : text ≡ [] → lines ≡ codes "no acknowledgments\n" → IsSaidOf text lines
-  Answered : (found : List Told) → AreToldBy text found → lines ≡ explanation found → IsSaidOf text lines
+-- these lines say in words what the acknowledgments of a text tell, and where it is cut off: a text without a byte is that of a partner
+-- whom nobody answers; one that is cut off may tell nothing yet
+pub data IsSaidOf (text lines : List ℕ) (cut : Option CutOff) : Type 0 where
+  Unanswered : text ≡ [] → lines ≡ codes "no acknowledgments\n" → cut ≡ None → IsSaidOf text lines cut
+  Answered : (found : List Told) → AreToldBy text found → is_997 text ≡ false → lines ≡ explanation found → cut_of text ≡ cut
+      → IsSaidOf text lines cut
+  Begun : IsRefused text fault.TellsNothing → is_997 text ≡ false → lines ≡ [] → cut_of text ≡ cut → cut ≢ None
+      → IsSaidOf text lines cut
 
 -- they are those of some text, which is all that a reader told, where it told it
-pub record IsExplanationOf (told : Option (List ℕ)) (lines : List ℕ) : Type 0 where
+pub record IsExplanationOf (told : Option (List ℕ)) (lines : List ℕ) (cut : Option CutOff) : Type 0 where
   pub text : List ℕ
   pub told_all : IfSome told (λ xs. text ≡ xs)
-  pub said : IsSaidOf text lines
+  pub said : IsSaidOf text lines cut
 
--- such lines were printed
+-- such lines were printed of a whole text
 pub record IsPrinted (told : Option (List ℕ)) (was is : Option (List ℕ)) : Type 0 where
   pub lines : List ℕ
-  pub by : IsExplanationOf told lines
+  pub by : IsExplanationOf told lines None
   pub printed : Appends was is lines
 
--- what these words may have printed: a text where they ask for one, otherwise lines on the file that they name
-pub data IsOutcome (words : List Text) (was is : Option (List ℕ)) : Type 0 where
-  Shown : (asked : AsksForText words) (text : List ℕ) → Appends was is text → IsOutcome words was is
-  Explained : (path : List ℕ) → NamesFile words path → IsPrinted None was is → IsOutcome words was is
+-- such lines were printed of a text that is cut off
+pub record IsCutShort (told : Option (List ℕ)) (was is : Option (List ℕ)) : Type 0 where
+  pub cut : CutOff
+  pub lines : List ℕ
+  pub by : IsExplanationOf told lines (Some cut)
+  pub printed : Appends was is lines

@@ -1,6 +1,7 @@
-ghost use Rattle.std.specs.Prelude.{◌≡◌, ◌≢◌, Some, false, codes, map, IfOk, IfErr, IsErrOf, List, ℕ};
-ghost use Rattle.clap.specs.Words.{app_of, first_value, found_of, kind_of, rule_of, with_rule};
-ghost use Rattle.explain_command.specs.CommandLine.{IsAsked, IsCommandLine, IsGiven, IsShown, explain_app, file_rule};
+ghost use Rattle.std.specs.Prelude.{◌≡◌, ◌≢◌, false, codes, map, IfOk, IfErr, IsErrOf};
+ghost use Rattle.clap.specs.Words.{app_of, found_of, kind_of, rule_of, with_rule};
+ghost use Rattle.explain_command.specs.CommandLine.{IsAsked, IsCommandLine, IsGiven, IsShown, NamesNone, explain_app, file_rule, or_none};
+ghost use Rattle.explain_command.specs.CommandLine.{values_found};
 ghost use Rattle.explain_command.specs.Failure.{IsOfWords};
 
 use crate::failure::Failure;
@@ -13,15 +14,15 @@ use std::convert::AsStr;
 const STATUSES: &str = "Status:
   0  the acknowledgments are explained
   2  usage
-  4  the file can't be read, or holds no acknowledgments
+  4  a file can't be read, holds no acknowledgments, or is cut off
   5  standard output
   6  no memory";
 
 /// What the words ask for.
 #[derive(Debug, Drop)]
 pub enum Asked<'a> {
-    /// To explain the acknowledgments in the file at this path.
-    Explain(&'a str),
+    /// To explain the acknowledgments in the files at these paths, in their order; there is one or more.
+    Explain(Vec<&'a str>),
     /// To show a text: help, or the version.
     Show(String),
 }
@@ -34,7 +35,7 @@ pub fn read_words<'a, S: AsStr>(alloc: Global, words: &'a [S]) -> Result<Asked<'
 {
     let command = command(alloc)?;
     match command.try_get_matches_from(words) {
-        Ok(matches) => explain_asked(&matches),
+        Ok(matches) => files_asked(alloc, &matches),
         Err(error) => shown(alloc, &error),
     }
 }
@@ -57,27 +58,47 @@ fn with_file<'a>(command: Command<'a>, file: Arg<'a>) -> Result<Command<'a>, All
     command.arg(file)
 }
 
-/// The file of acknowledgments, which is wanted.
+/// The files of acknowledgments, of which one is wanted.
 fn file<'a>(alloc: Global) -> Arg<'a>
     ensures rule { rule_of result ≡ file_rule }
     ensures local { result.global ≡ false }
 {
     Arg::new(alloc, "file")
         .value_name("NAME.ack")
-        .help("A partner's acknowledgments, as nighthub writes them")
+        .help(
+            "A partner's acknowledgments, as nighthub writes them; of several files each line has its file's name in front",
+        )
         .required(true)
-        .action(ArgAction::Set)
+        .action(ArgAction::Append)
 }
 
-fn explain_asked<'a>(matches: &ArgMatches<'a>) -> Result<Asked<'a>, Failure>
-    ensures given { IfOk result (IsGiven (found_of matches.now)) }
-    ensures usage { IsErrOf result Failure.Usage → (path : List ℕ) → first_value (found_of matches.now) (codes "file") ≡ Some path → ⊥ }
+fn files_asked<'a>(alloc: Global, matches: &ArgMatches<'a>) -> Result<Asked<'a>, Failure>
+    ensures given { IfOk result (IsGiven (values_found (found_of matches.now))) }
+    ensures usage { IsErrOf result Failure.Usage → NamesNone (values_found (found_of matches.now)) }
     ensures err { IfErr result IsOfWords }
 {
-    match matches.get_str("file") {
-        Some(path) => Ok(Asked::Explain(path)),
-        None => Err(Failure::Usage),
+    let paths = files_given(alloc, matches)?;
+    if paths.is_empty() {
+        return Err(Failure::Usage);
     }
+    Ok(Asked::Explain(paths))
+}
+
+fn files_given<'a>(alloc: Global, matches: &ArgMatches<'a>) -> Result<Vec<&'a str>, AllocError>
+    ensures { IfOk result (λ files. or_none (values_found (found_of matches.now) (codes "file")) ≡ map (λ f. f.now) files.items) }
+{
+    match matches.get_strs("file") {
+        None => Ok(Vec::new(alloc)),
+        Some(files) => copied(alloc, files),
+    }
+}
+
+fn copied<'a>(alloc: Global, texts: &[&'a str]) -> Result<Vec<&'a str>, AllocError>
+    ensures { IfOk result (λ copy. copy.items ≡ texts.now) }
+{
+    let mut copy = Vec::new(alloc);
+    copy.extend_from_slice(texts)?;
+    Ok(copy)
 }
 
 /// The text that is asked for, where the words have no mistake.

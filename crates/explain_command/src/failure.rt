@@ -1,8 +1,9 @@
 ghost use Rattle.std.specs.Prelude.{◌≡◌, ◌++◌, OnOk, codes};
 ghost use Rattle.std.specs.Io.KnownBytes.{Appends};
 ghost use Rattle.std.specs.IoError.{error_kind};
-ghost use Rattle.explain_command.specs.Failure.{IsMemoryOr, line_of, status_of, subject_of};
+ghost use Rattle.explain_command.specs.Failure.{IsMemoryOr, line_in, line_of, said_of, status_of, subject_of};
 
+use crate::ends::CutOff;
 use ack_read::ReadFault;
 use hub_kinds::NoMemory;
 use std::alloc::{AllocError, AllocFailed};
@@ -20,6 +21,10 @@ pub enum Failure {
     NoHeader,
     /// The file tells nothing: it has no TA1, and no IK5 or AK9 of a 999.
     TellsNothing,
+    /// The file has the response to a set of a 997 (AK5).
+    Is997,
+    /// The file is cut off.
+    CutOff(CutOff),
     /// Standard output failed.
     Stdout,
     /// Memory was refused.
@@ -51,7 +56,30 @@ impl Failure {
     pub fn print<E: Write>(self, err: &mut E) -> io::Result<()>
         ensures { OnOk result (Appends (E.contents err.old) (E.contents err.new) (line_of self)) }
     {
+        let program = b"nighthub_explain: ";
+        err.write_all(program)?;
+        self.print_subject(err)
+    }
+
+    /// Writes the line of one of several files: its path stands in front of what failed.
+    pub fn print_of<E: Write>(self, path: &[u8], err: &mut E) -> io::Result<()>
+        ensures { OnOk result (Appends (E.contents err.old) (E.contents err.new) (line_in path.now self)) }
+    {
         err.write_all(b"nighthub_explain: ")?;
+        self.print_named(path, err)
+    }
+
+    fn print_named<E: Write>(self, path: &[u8], err: &mut E) -> io::Result<()>
+        ensures { OnOk result (Appends (E.contents err.old) (E.contents err.new) (path.now ++ said_of self)) }
+    {
+        err.write_all(path)?;
+        self.print_said(err)
+    }
+
+    fn print_said<E: Write>(self, err: &mut E) -> io::Result<()>
+        ensures { OnOk result (Appends (E.contents err.old) (E.contents err.new) (said_of self)) }
+    {
+        err.write_all(b": ")?;
         self.print_subject(err)
     }
 
@@ -70,6 +98,9 @@ impl Failure {
             Failure::Input => "input",
             Failure::NoHeader => "input 1",
             Failure::TellsNothing => "input 2",
+            Failure::Is997 => "this is a 997, which is not read here",
+            Failure::CutOff(CutOff::InSegment) => "the text ends inside a segment",
+            Failure::CutOff(CutOff::In999) => "the text ends inside a 999",
             Failure::Stdout => "output stdout",
             Failure::Memory => "memory",
         }
@@ -80,7 +111,11 @@ impl Failure {
     {
         match self {
             Failure::Usage => 2,
-            Failure::Input | Failure::NoHeader | Failure::TellsNothing => 4,
+            Failure::Input
+            | Failure::NoHeader
+            | Failure::TellsNothing
+            | Failure::Is997
+            | Failure::CutOff(_) => 4,
             Failure::Stdout => 5,
             Failure::Memory => 6,
         }

@@ -2,21 +2,28 @@
 //!
 //! Proved:
 //! - `read_words` gives what the words ask for, as clap's definitions say, and calls usage only what is none;
-//! - `explain_main` ends with 0 where just the lines on some acknowledgments are printed, or a text that was asked for; with 2 only where
-//!   the words are no command line, with 4 only where they name a file; and prints nothing on standard output where it fails, but for a
-//!   failure of standard output itself;
+//! - `explain_main` prints just the lines on the files that the words name, in their order, of several each with its file's path in front,
+//!   or a text that was asked for. It ends with 0 where each file is explained, and whole, with 4 where one is refused or cut off, and with
+//!   2 only where the words are no command line; where memory is refused it prints nothing on standard output;
+//! - a file is cut off just where a byte but CR and LF stands behind its last terminator, or else an ST without an SE behind it;
 //! - `give_explanation` prints the lines on just the bytes that a reader gave;
-//! - `explained` refuses only bytes that don't begin with a header or tell nothing, but never none at all; a reader that fails; and want
-//!   of memory;
+//! - `explained` refuses only bytes that don't begin with a header, are a 997, or tell nothing and aren't cut off, but never none at all;
+//!   a reader that fails; and want of memory;
 //! - the line of a failure is the one that belongs to it, and so is its status.
 //!
 //! Source: own.
 #![tactic(auto)]
 
 mod command;
+mod ends;
 mod explain;
 mod failure;
+mod files;
+mod run;
 
 pub use command::{Asked, read_words};
-pub use explain::{explain_main, explained, give_explanation};
+pub use ends::CutOff;
+pub use explain::{Account, explained, explained_file, give_explanation};
 pub use failure::Failure;
+pub use files::{FileTold, Told};
+pub use run::explain_main;

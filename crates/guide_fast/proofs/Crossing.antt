@@ -5,6 +5,7 @@ use denote.Param.Send.{IsSync, sendable}
 use Rattle.guide_fast.proofs.index.TextIndex.TheSendSync as index
 use Rattle.guide_fast.specs.contracts.children.Children as children
 use Rattle.guide_fast.specs.contracts.fast.FastGuide as fast
+use Rattle.guide_fast.specs.contracts.station.Station as station
 use Rattle.guide_fast.specs.contracts.strays.Strays as strays
 use Rattle.guide_tree.proofs.node.Loop.TheSendSync as loop
 use Rattle.guide_tree.proofs.node.Node.TheLaws.TheKnot as knot
@@ -19,6 +20,17 @@ children_sync : (κ : NamedLft) → IsSync (children.the_field κ).row
 children_sync κ =
     search (
       index.the_field_sync,
+      loop.the_field_sync,
+      slot.the_field_sync,
+      vec.the_sync,
+      crosses,
+      knot.crosses,
+      sendable,
+    ) depth 60 fits 20000
+
+station_sync : (κ : NamedLft) → IsSync (station.the_field κ).row
+station_sync κ =
+    search (
       loop.the_field_sync,
       slot.the_field_sync,
       vec.the_sync,
@@ -46,6 +58,7 @@ pub fast_sync : (κ : NamedLft) → IsSync (fast.the_field κ).row
 fast_sync κ =
     search (
       children_sync,
+      station_sync,
       strays_sync,
       loop.the_field_sync,
       dependency.the_sync,

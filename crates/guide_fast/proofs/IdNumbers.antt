@@ -93,6 +93,13 @@ fits_there s x number h e some none =
     sym (ap (λ (b : Bool). b && list_all (λ p. contains_text p.codes (element_of s p.position)) x.picks) found
     ∙ ap (λ (ps : List Pick). list_all (λ p. contains_text p.codes (element_of s p.position)) ps) none)
 
+-- a slot whose id has another number
+pub no_fit_there : (s : Segment) (x : Slot) (own number : ℕ) → HasNumber s number → own ≡ id_number x.id → (own ≡ number → ⊥)
+    → false ≡ fits x s
+no_fit_there s x own number h e some =
+    sym (ap (λ (b : Bool). b && list_all (λ p. contains_text p.codes (element_of s p.position)) x.picks)
+    (differ (bytes_eq x.id (id_of s)) x.id (id_of s) (bytes_decides x.id (id_of s)).0 (λ f. some (e ∙ f ∙ sym h))))
+
 pub none_in : (xs : List Pick) → (length xs == 0) ≡ true → xs ≡ []
 none_in [] e = refl
 none_in (x ∷ xs) e = absurd (omega (arith, eqb-true (length (x ∷ xs)) 0 e))

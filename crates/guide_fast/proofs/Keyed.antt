@@ -1,7 +1,7 @@
 -- The text by which a slot is looked for is one of the first elements of each segment that fits it.
-use Rattle.std.proofs.Common.{◌≡◌, inl, inr, ℕ, zero, suc, ◌<◌, List, [], ◌∷◌, Bool, true, false, ◌&&◌, ◌||◌, nat_lt}
-use Rattle.std.proofs.Common.{refl, sym, ap, ◌∙◌, arith, None}
-use Rattle.std.proofs.lemmas.Bool.{cases_lt, ltb-true, false≢true}
+use Rattle.std.proofs.Common.{◌≡◌, inl, inr, ℕ, zero, suc, ◌<◌, ◌≤◌, ◌+◌, List, [], ◌∷◌, Bool, true, false, ◌&&◌, ◌||◌, cond, nat_lt}
+use Rattle.std.proofs.Common.{length, get_or, take, drop, refl, sym, ap, subst, ◌∙◌, arith, None}
+use Rattle.std.proofs.lemmas.Bool.{cases_lt, false≢true}
 use Rattle.std.specs.List.{list_all}
 use Rattle.std.specs.Str.{bytes_eq}
 use Rattle.hub_kinds.specs.Words.{contains_text}
@@ -9,7 +9,7 @@ use Rattle.guide_tree.specs.declared.slot.Slot.{Slot}
 use Rattle.guide_tree.specs.declared.slot.Pick.{Pick}
 use Rattle.guide_tree.specs.Words.{Tree, segment, loop, no_trees, tree, Segment, element_of, fits, fit_start, id_of, use_of}
 use Rattle.guide_fast.specs.declared.keys.TheConstants.{POSITIONS}
-use Rattle.guide_fast.specs.Keys.{code_or, key_of, slot_key, tree_key}
+use Rattle.guide_fast.specs.Keys.{code_or, key_of, slot_key, tree_key, reach_of, slot_reach, tree_reach, Reaches}
 use Rattle.guide_fast.proofs.FirstPicks.{and_false, no_slot_fit}
 
 -- a text is one of the first elements
@@ -35,31 +35,52 @@ not_told s (suc n) k text l e =
           ∙ right_false (is_told s n text) (bytes_eq text (element_of s n)) e
     ]
 
-other_id : (s : Segment) (id : List ℕ) (rest : Bool) → is_told s POSITIONS id ≡ false → (bytes_eq id (id_of s) && rest) ≡ false
-other_id s id rest e = ap (λ (b : Bool). b && rest) (not_told s POSITIONS 0 id (omega arith) e)
+other_id : (s : Segment) (n : ℕ) (id : List ℕ) (rest : Bool) → 1 ≤ n → is_told s n id ≡ false → (bytes_eq id (id_of s) && rest) ≡ false
+other_id s n id rest h e = ap (λ (b : Bool). b && rest) (not_told s n 0 id (omega (arith, h)) e)
 
-by_codes : (s : Segment) (id : List ℕ) (k : ℕ) (is_near : Bool) (codes : List (List ℕ)) (rest : Bool) → nat_lt k POSITIONS ≡ is_near
-    → is_told s POSITIONS (code_or id is_near codes) ≡ false
+least : (n k : ℕ) (is_near : Bool) → cond is_near (k + 1) 1 ≤ n → 1 ≤ n
+least n k true h = omega (arith, h)
+least n k false h = h
+
+by_codes : (s : Segment) (n : ℕ) (id : List ℕ) (k : ℕ) (is_near : Bool) (codes : List (List ℕ)) (rest : Bool)
+    → cond is_near (k + 1) 1 ≤ n → is_told s n (code_or id is_near codes) ≡ false
     → (bytes_eq id (id_of s) && (contains_text codes (element_of s k) && rest)) ≡ false
-by_codes s id k is_near [] rest near e = other_id s id (contains_text [] (element_of s k) && rest) e
-by_codes s id k true (c ∷ []) rest near e =
-    ap (λ (b : Bool). bytes_eq id (id_of s) && ((b || false) && rest)) (not_told s POSITIONS k c (ltb-true k POSITIONS near) e)
+by_codes s n id k is_near [] rest h e = other_id s n id (contains_text [] (element_of s k) && rest) (least n k is_near h) e
+by_codes s n id k true (c ∷ []) rest h e =
+    ap (λ (b : Bool). bytes_eq id (id_of s) && ((b || false) && rest)) (not_told s n k c (omega (arith, h)) e)
     ∙ and_false (bytes_eq id (id_of s))
-by_codes s id k false (c ∷ []) rest near e = other_id s id (contains_text (c ∷ []) (element_of s k) && rest) e
-by_codes s id k is_near (c ∷ d ∷ more) rest near e = other_id s id (contains_text (c ∷ d ∷ more) (element_of s k) && rest) e
+by_codes s n id k false (c ∷ []) rest h e = other_id s n id (contains_text (c ∷ []) (element_of s k) && rest) h e
+by_codes s n id k is_near (c ∷ d ∷ more) rest h e =
+    other_id s n id (contains_text (c ∷ d ∷ more) (element_of s k) && rest) (least n k is_near h) e
 
-by_picks : (s : Segment) (id : List ℕ) (ps : List Pick) → is_told s POSITIONS (key_of id ps) ≡ false
+by_picks : (s : Segment) (n : ℕ) (id : List ℕ) (ps : List Pick) → reach_of ps ≤ n → is_told s n (key_of id ps) ≡ false
     → (bytes_eq id (id_of s) && list_all (λ p. contains_text p.codes (element_of s p.position)) ps) ≡ false
-by_picks s id [] e = other_id s id true e
-by_picks s id (p ∷ ps) e =
-    by_codes s id p.position (nat_lt p.position POSITIONS) p.codes
-    (list_all (λ q. contains_text q.codes (element_of s q.position)) ps) refl e
+by_picks s n id [] h e = other_id s n id true h e
+by_picks s n id (p ∷ ps) h e =
+    by_codes s n id p.position (nat_lt p.position POSITIONS) p.codes
+    (list_all (λ q. contains_text q.codes (element_of s q.position)) ps) h e
 
-pub no_fit_told : (s : Segment) (x : Slot) → is_told s POSITIONS (slot_key x) ≡ false → fits x s ≡ false
-no_fit_told s x e = by_picks s x.id x.picks e
+pub no_fit_told : (s : Segment) (n : ℕ) (x : Slot) → slot_reach x ≤ n → is_told s n (slot_key x) ≡ false → fits x s ≡ false
+no_fit_told s n x h e = by_picks s n x.id x.picks h e
 
-pub no_start_told : (s : Segment) (t : Tree) → is_told s POSITIONS (tree_key t) ≡ false → fit_start s t ≡ None
-no_start_told s (segment x) e = no_slot_fit s [] x (no_fit_told s x e)
-no_start_told s (loop l no_trees) e = refl
-no_start_told s (loop l (tree (segment x) ts)) e = no_slot_fit s (use_of 0 0 ∷ []) x (no_fit_told s x e)
-no_start_told s (loop l (tree (loop k us) ts)) e = refl
+pub no_start_told : (s : Segment) (n : ℕ) (t : Tree) → tree_reach t ≤ n → is_told s n (tree_key t) ≡ false → fit_start s t ≡ None
+no_start_told s n (segment x) h e = no_slot_fit s [] x (no_fit_told s n x h e)
+no_start_told s n (loop l no_trees) h e = refl
+no_start_told s n (loop l (tree (segment x) ts)) h e = no_slot_fit s (use_of 0 0 ∷ []) x (no_fit_told s n x h e)
+no_start_told s n (loop l (tree (loop k us) ts)) h e = refl
+
+pub reached_behind : {X : Type 0} (f : X → ℕ) (n k : ℕ) (xs : List X) → Reaches f n xs → Reaches f n (drop k xs)
+reached_behind f n zero xs h = h
+reached_behind f n (suc k) [] h = h
+reached_behind f n (suc k) (x ∷ xs) h = reached_behind f n k xs h.1
+
+-- one more is reached
+pub one_reached : {X : Type 0} (f : X → ℕ) (xs : List X) (k n m : ℕ) (x : X) → k < length xs → x ≡ get_or xs k x
+    → Reaches f n (take k xs) → n ≤ m → f x ≤ m → Reaches f m (take (k + 1) xs)
+one_reached f [] k n m x l e h grown own = absurd (omega (arith, l))
+one_reached f (y ∷ xs) zero n m x l e h grown own = (subst (λ z. f z ≤ m) e own, tt)
+one_reached f (y ∷ xs) (suc k) n m x l e h grown own =
+    let a : suc (k + 1) ≡ suc k + 1 = omega arith in
+    let first = h.0 in
+    subst (λ (i : ℕ). Reaches f m (take i (y ∷ xs))) a
+    (omega (arith, first, grown), one_reached f xs k n m x (omega (arith, l)) e h.1 grown own)

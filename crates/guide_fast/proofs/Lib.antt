@@ -14,4 +14,7 @@ mod Strayed
 mod Counting
 pub mod Silencing
 mod Stepping
+mod KnownTurns
+mod KnownStarts
+mod StationTurns
 pub mod Crossing

@@ -9,10 +9,9 @@ use Rattle.guide_tree.specs.declared.node.Node.{Node}
 use Rattle.guide_tree.specs.Words.{Segment, Candidate, Place, or_else, into, use_of, fit_start, fit_starts, view, nodes_view, element_of}
 use Rattle.loop_match.specs.declared.next.Turn.{Turn}
 use Rattle.loop_match.specs.Steps.{turned, below_start}
-use Rattle.guide_fast.specs.declared.keys.TheConstants.{POSITIONS}
 use Rattle.guide_fast.specs.Listed.{places_of}
 use Rattle.guide_fast.specs.Children.{fit_node, fit_child, fit_listed, until}
-use Rattle.guide_fast.specs.Keys.{begin_key, begin_keys}
+use Rattle.guide_fast.specs.Keys.{begin_key, begin_keys, begin_reach, Reaches}
 use Rattle.guide_fast.proofs.Keyed.{is_told, no_start_told}
 
 -- the first node that a segment fits among those that are looked for by one of its first elements
@@ -51,12 +50,12 @@ all_but : (b : Bool) (o : Option Candidate) → (b ≡ false → o ≡ None) →
 all_but true o e = refl
 all_but false o e = sym (e refl)
 
-pub all_told : (s : Segment) (k : ℕ) (ns : List Node) → fit_told s POSITIONS k ns ≡ fit_starts s k (nodes_view ns)
-all_told s k [] = refl
-all_told s k (m ∷ ms) =
-    ap (λ (o : Option Candidate). or_else (option_map (into (use_of k 0)) o) (fit_told s POSITIONS (k + 1) ms))
-    (all_but (is_told s POSITIONS (begin_key m)) (fit_start s (view m)) (no_start_told s (view m)))
-    ∙ ap (or_else (option_map (into (use_of k 0)) (fit_start s (view m)))) (all_told s (k + 1) ms)
+pub all_told : (s : Segment) (n k : ℕ) (ns : List Node) → Reaches begin_reach n ns → fit_told s n k ns ≡ fit_starts s k (nodes_view ns)
+all_told s n k [] h = refl
+all_told s n k (m ∷ ms) h =
+    ap (λ (o : Option Candidate). or_else (option_map (into (use_of k 0)) o) (fit_told s n (k + 1) ms))
+    (all_but (is_told s n (begin_key m)) (fit_start s (view m)) (no_start_told s n (view m) h.0))
+    ∙ ap (or_else (option_map (into (use_of k 0)) (fit_start s (view m)))) (all_told s n (k + 1) ms h.1)
 
 -- a candidate among nodes from k on has a child from k on
 behind : (k d : ℕ) (o r : Option Candidate) → k ≤ child_or d r → k ≤ child_or d (or_else (option_map (into (use_of k 0)) o) r)

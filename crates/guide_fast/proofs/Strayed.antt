@@ -6,11 +6,11 @@ use Rattle.std.specs.Str.{bytes_eq}
 use Rattle.std.specs.List.{list_any}
 use Rattle.guide_tree.specs.declared.slot.Slot.{Slot}
 use Rattle.guide_tree.specs.Words.{Segment, element_of, fits}
-use Rattle.guide_fast.specs.declared.keys.TheConstants.{POSITIONS}
-use Rattle.guide_fast.specs.Keys.{slot_key, slot_keys}
+use Rattle.guide_fast.specs.Keys.{slot_key, slot_keys, lent_reach, Reaches}
 use Rattle.guide_fast.specs.Listed.{places_of}
-use Rattle.guide_fast.specs.Slots.{fits_it, any_listed}
+use Rattle.guide_fast.specs.Slots.{fits_it, any_listed, lent_slots}
 use Rattle.guide_fast.proofs.Keyed.{is_told, no_fit_told}
+use denote.Ref.{Bor}
 
 -- whether a segment fits some slot among those that are looked for by one of its first elements
 abbrev pub any_told : Segment → (positions : ℕ) → List Slot → Bool
@@ -97,8 +97,9 @@ second : (a b : Bool) → (a ≡ false → b ≡ false) → (a && b) ≡ b
 second true b e = refl
 second false b e = sym (e refl)
 
-pub all_told : (s : Segment) (slots : List Slot) → any_told s POSITIONS slots ≡ list_any (λ x. fits x s) slots
-all_told s [] = refl
-all_told s (x ∷ xs) =
-    ap (λ (b : Bool). b || any_told s POSITIONS xs) (second (is_told s POSITIONS (slot_key x)) (fits x s) (no_fit_told s x))
-    ∙ ap (λ (b : Bool). fits x s || b) (all_told s xs)
+pub all_told : (s : Segment) (n : ℕ) (slots : List (Bor Slot)) → Reaches lent_reach n slots
+    → any_told s n (lent_slots slots) ≡ list_any (λ x. fits x s) (lent_slots slots)
+all_told s n [] h = refl
+all_told s n (x ∷ xs) h =
+    ap (λ (b : Bool). b || any_told s n (lent_slots xs)) (second (is_told s n (slot_key x.now)) (fits x.now s) (no_fit_told s n x.now h.0))
+    ∙ ap (λ (b : Bool). fits x.now s || b) (all_told s n xs h.1)

@@ -7,3 +7,4 @@ pub mod Silent
 pub mod IdNumber
 pub mod FirstPick
 pub mod Keys
+pub mod Ahead

@@ -4,7 +4,7 @@ ghost use Rattle.guide_tree.specs.Words.{nodes_view, fit_starts};
 ghost use Rattle.guide_fast.specs.Children.{fit_child, fit_listed, until};
 ghost use Rattle.guide_fast.specs.IdNumber.{HasNumber, begin_numbers};
 ghost use Rattle.guide_fast.specs.FirstPick.{HasValue, begin_picks};
-ghost use Rattle.guide_fast.specs.Keys.{begin_keys};
+ghost use Rattle.guide_fast.specs.Keys.{begin_keys, begin_reach, Reaches};
 ghost use Rattle.guide_fast.specs.Listed.{Knows};
 ghost use Rattle.loop_match.specs.Steps.{turned};
 
@@ -12,7 +12,7 @@ use crate::counts::{count_between, needed_counts};
 use crate::first_pick::{Asked, FirstPick, asked_id, begin_picks};
 use crate::id_number::{begin_numbers, number_of};
 use crate::index::{TextIndex, places_from};
-use crate::keys::{POSITIONS, begin_key};
+use crate::keys::{begin_key, nodes_reach};
 use crate::start::{start_asked, start_picked};
 use guide_tree::Node;
 use hub_kinds::NoMemory;
@@ -34,6 +34,8 @@ pub struct Children<'g> {
     picks: Vec<FirstPick>,
     /// The places of each text by which they are looked for.
     index: TextIndex<'g>,
+    /// How many of a segment's first texts these are.
+    reach: usize,
     /// How many of the first nodes are needed: of none of them, of one, and so on up to all.
     needed: Vec<usize>,
 }
@@ -42,7 +44,7 @@ impl<'g> Model for Children<'g> {
     ghost use Rattle.std.specs.Prelude.{◌≡◌, List};
     ghost use Rattle.guide_tree.specs.declared.node.Node.{Node};
     ghost use Rattle.guide_fast.specs.Listed.{Knows};
-    ghost use Rattle.guide_fast.specs.Keys.{begin_keys};
+    ghost use Rattle.guide_fast.specs.Keys.{begin_keys, begin_reach, Reaches};
     ghost use Rattle.guide_fast.specs.Needed.{counts_from};
     ghost use Rattle.guide_fast.specs.IdNumber.{begin_numbers};
     ghost use Rattle.guide_fast.specs.FirstPick.{begin_picks};
@@ -56,7 +58,8 @@ impl<'g> Model for Children<'g> {
     ghost view = { λ c. c.nodes.now };
 
     ghost invariant = { λ c. Knows c.index.places (begin_keys c.nodes.now) × (c.needed.items ≡ counts_from 0 c.nodes.now)
-        × (c.numbers.items ≡ begin_numbers c.nodes.now) × (c.picks.items ≡ begin_picks c.nodes.now) };
+        × (c.numbers.items ≡ begin_numbers c.nodes.now) × (c.picks.items ≡ begin_picks c.nodes.now)
+        × Reaches begin_reach c.reach c.nodes.now };
 }
 
 impl<'g> Children<'g> {
@@ -84,6 +87,7 @@ impl<'g> Children<'g> {
             numbers,
             picks,
             index,
+            reach: nodes_reach(nodes),
             needed,
         })
     }
@@ -137,7 +141,7 @@ impl<'g> Children<'g> {
         if nodes.len() - from <= FEW {
             return start_among(nodes, self.numbers.as_slice(), picks, from, number, seg);
         }
-        start_looked_up(nodes, picks, &self.index, from, number, seg)
+        start_looked_up(nodes, picks, &self.index, self.reach, from, number, seg)
     }
 
     /// The first child behind one on whose start the segment fits, as a turn.
@@ -268,12 +272,14 @@ fn start_looked_up<'g>(
     nodes: &'g [Node],
     picks: &[FirstPick],
     index: &TextIndex<'g>,
+    reach: usize,
     from: usize,
     number: u32,
     seg: &SegView,
 ) -> Option<Turn<'g>>
     requires picks { picks.now ≡ begin_picks nodes.now }
     requires index { Knows index.now.places (begin_keys nodes.now) }
+    requires reach { Reaches begin_reach reach nodes.now }
     requires number { HasNumber (elements_of seg.now) number }
     requires from { from ≤ length nodes.now }
     ensures turn { option_map (turned []) result ≡ fit_starts (elements_of seg.now) from (nodes_view (drop from nodes.entry.now)) }
@@ -282,7 +288,7 @@ fn start_looked_up<'g>(
 {
     let mut first = None;
     let mut end = nodes.len();
-    for position in 0..POSITIONS as usize {
+    for position in 0..reach {
         let children = places_from(index.places(text_at(seg, position)), from);
         if let Some(turn) = first_fitting(nodes, picks, children, end, number, seg) {
             first = Some(turn);

@@ -1,6 +1,8 @@
 use crate::children::Children;
+use crate::id_number::number_of;
 use crate::next::turn_behind;
 use crate::silent::{is_end_silent, is_silent};
+use crate::station::{NextTurn, Station, fits_known, leads_by, stations_of, turn_by};
 use crate::strays::Strays;
 use crate::tables::tables_of;
 use elem_rules::{FlatSlot, SlotTables};
@@ -18,6 +20,8 @@ pub struct FastGuide<'g> {
     tables: Vec<Children<'g>>,
     strays: Strays<'g>,
     slots: SlotTables<'g>,
+    /// At each slot's number the turns from its places, where they are few; at 0 those of the beginning.
+    stations: Vec<Option<Station<'g>>>,
 }
 
 impl<'g> Model for FastGuide<'g> {
@@ -27,6 +31,7 @@ impl<'g> Model for FastGuide<'g> {
     ghost use Rattle.guide_tree.specs.Words.{nodes_view};
     ghost use Rattle.std.specs.Coded.{codes};
     ghost use Rattle.guide_fast.specs.Tables.{trees_in, tables_of};
+    ghost use Rattle.guide_fast.specs.Ahead.{AreStations};
 
     ghost Value = { GuideRows };
 
@@ -35,11 +40,11 @@ impl<'g> Model for FastGuide<'g> {
     ghost view = { λ f. f.guide.now };
 
     ghost invariant = { λ f. (trees_in f.tables.items ≡ tables_of (nodes_view f.guide.now.nodes.items)) × (f.strays ≡ f.guide.now)
-        × (f.slots ≡ f.guide.now) };
+        × (f.slots ≡ f.guide.now) × AreStations (nodes_view f.guide.now.nodes.items) f.stations.items };
 }
 
 impl<'g> FastGuide<'g> {
-    ghost use Rattle.std.specs.Prelude.{◌≡◌, ◌+◌, ◌<◌, ◌≤◌, ◌^◌, ℕ, length, option_map, slice_get, IfOk, IfSome};
+    ghost use Rattle.std.specs.Prelude.{◌≡◌, ◌+◌, ◌<◌, ◌≤◌, ◌^◌, ℕ, [], length, option_map, slice_get, IfOk, IfSome};
     ghost use Rattle.std.specs.List.{AllByRecursion};
     ghost use Rattle.x12_segs.specs.Words.{elements_of};
     ghost use Rattle.guide_tree.specs.Words.{nodes_view, fit_behind, guide_of, step_faults, end_faults, stray_code};
@@ -48,6 +53,8 @@ impl<'g> FastGuide<'g> {
     ghost use Rattle.elem_rules.specs.NodeSlots.{IsSlotOf};
     ghost use Rattle.guide_fast.specs.Silent.{are_none};
     ghost use Rattle.guide_fast.specs.Tables.{HasTables, tables_of};
+    ghost use Rattle.guide_fast.specs.Ahead.{IsStation, StandsAt};
+    ghost use Rattle.std.specs.Bool.{OnTrue};
 
     /// Of a guide. The only error is want of memory.
     pub fn of(alloc: Global, guide: &'g Guide) -> Result<FastGuide<'g>, NoMemory>
@@ -56,11 +63,13 @@ impl<'g> FastGuide<'g> {
         let tables = tables_of(alloc, guide.rows().nodes.as_slice())?;
         let strays = Strays::of(alloc, guide)?;
         let slots = SlotTables::of(alloc, guide)?;
+        let stations = stations_of(alloc, guide.rows().nodes.as_slice())?;
         Ok(FastGuide {
             guide,
             tables,
             strays,
             slots,
+            stations,
         })
     }
 
@@ -82,6 +91,80 @@ impl<'g> FastGuide<'g> {
     {
         let _accepted = self.guide.rows();
         turn_behind(self.tables.as_slice(), &self.tables[0], last, uses, seg)
+    }
+
+    /// The station of a slot's number, if the last place leads by its children.
+    #[inline]
+    fn station_for(&self, slot: u32, last: &[Step]) -> Option<&Station<'g>>
+        ensures { IfSome result (λ st. IsStation (nodes_view self.entry.now.nodes.items) st.now
+            × StandsAt st.now.path.items (place_view last.now)) }
+    {
+        match self.stations.as_slice().get(slot as usize) {
+            Some(Some(station)) if leads_by(station.path.as_slice(), last) => Some(station),
+            _ => None,
+        }
+    }
+
+    /// The turn from the last place, which leads by a station's children.
+    #[inline]
+    fn turn_at(
+        &self,
+        station: &Station<'g>,
+        last: &[Step],
+        uses: u64,
+        seg: &SegView,
+    ) -> Option<NextTurn<'g>>
+        requires station { IsStation (nodes_view self.now.nodes.items) station.now }
+        requires stands { StandsAt station.now.path.items (place_view last.now) }
+        requires room { AllByRecursion (λ s. s.use_no < uses) last.now }
+        requires few { uses + 1 < 2 ^ 64 }
+        ensures turn { option_map (λ n. turned (place_view last.now) n.turn) result
+            ≡ fit_behind (elements_of seg.now) (nodes_view self.now.nodes.items) (place_view last.now) }
+        ensures depth { IfSome result (λ n. n.turn.depth ≤ length last.now) }
+        ensures uses { IfSome result (λ n. n.turn.use_no ≤ uses) }
+        ensures silent { IfSome result (λ n. OnTrue n.silent ((at : ℕ) → step_faults at (nodes_view self.now.nodes.items)
+            (last_of (place_view last.now)) (turned (place_view last.now) n.turn).place ≡ [])) }
+    {
+        let number = number_of(seg);
+        let turns = station.turns.as_slice();
+        for k in 0..turns.len() {
+            let known = &turns[k];
+            if fits_known(known, number, seg) {
+                return Some(turn_by(known, last, uses));
+            }
+        }
+        None
+    }
+
+    /// The same turn as `turn_from`, and whether surely nothing is reported at its place of the order and number of segments. It is
+    /// found sooner where `slot` is the number of the last place's slot, or 0 at the beginning.
+    #[inline]
+    pub fn next_turn(
+        &self,
+        slot: u32,
+        last: &[Step],
+        uses: u64,
+        seg: &SegView,
+    ) -> Option<NextTurn<'g>>
+        requires room { AllByRecursion (λ s. s.use_no < uses) last.now }
+        requires few { uses + 1 < 2 ^ 64 }
+        ensures turn { option_map (λ n. turned (place_view last.now) n.turn) result
+            ≡ fit_behind (elements_of seg.now) (nodes_view self.now.nodes.items) (place_view last.now) }
+        ensures depth { IfSome result (λ n. n.turn.depth ≤ length last.now) }
+        ensures uses { IfSome result (λ n. n.turn.use_no ≤ uses) }
+        ensures silent { IfSome result (λ n. OnTrue n.silent ((at : ℕ) → step_faults at (nodes_view self.now.nodes.items)
+            (last_of (place_view last.now)) (turned (place_view last.now) n.turn).place ≡ [])) }
+    {
+        if let Some(station) = self.station_for(slot, last) {
+            return self.turn_at(station, last, uses, seg);
+        }
+        match self.turn_from(last, uses, seg) {
+            None => None,
+            Some(turn) => Some(NextTurn {
+                turn,
+                silent: false,
+            }),
+        }
     }
 
     /// Why a segment has no place (999 guide, IK304): whether its id is one of the guide's slots, or else of its dictionary, and

@@ -7,14 +7,19 @@
 //! `Children::start_from` the first of them from one on whose start a segment fits, and `Children::needed_between` how many of some are
 //! needed, which is how many are told of where none of them comes.
 //! `place_all_fast` gives what `place_all` of `loop_match` gives, by these.
+//! `FastGuide::next_turn` gives the same place, by the turns that are kept of the last place's slot, and says of some that surely nothing
+//! is reported at them.
 //! `FastGuide::is_silent` says whether nothing is told between the last place and the next: it is so exactly where `step_faults` has
 //! no fault.
 //!
-//! The cost of a next place is the number of the segment's id, from its first four bytes, and for each loop round the last one a look at
-//! the number of each node that comes behind where these are at most thirty-two. Else its nodes stand in an ordered map, each by the one
+//! Of each slot that at most thirty-two turns follow these are kept, the innermost loop's first: which they are depends on the children
+//! that lead to the slot, but not on the uses. A next place by them costs a look at each turn's number up to the one that is taken.
+//! Else the cost of a next place is the number of the segment's id, from its first four bytes, and for each loop round the last one a look
+//! at the number of each node that comes behind where these are at most thirty-two. Else its nodes stand in an ordered map, each by the one
 //! code of its slot's first pick, where the pick is of the id or one of the four elements behind it and lists one, and by its id otherwise.
-//! Each of these five texts of the segment is searched for there, then in the list of the nodes with it, and of these each is looked at
-//! that comes behind, stands in front of what was found before, and doesn't fit by a further pick.
+//! The segment's texts up to the last that such a pick is of are searched for there, then a place in the list of the nodes with each, and
+//! of these nodes each is looked at that comes behind, stands in front of what was found before, and doesn't fit by a further pick.
+//! Whether a stray fits some slot is found likewise.
 //! A node is asked whether the segment fits it only where the numbers agree; an id of one to three bytes is the segment's then.
 //! Where its slot's first pick lists one code of one to three bytes, the number of the segment's element is compared with that of the code
 //! first; the element is looked up once for all of these nodes.
@@ -32,9 +37,11 @@ mod first_pick;
 mod id_number;
 mod index;
 mod keys;
+mod known;
 mod next;
 mod silent;
 mod start;
+mod station;
 mod strays;
 mod tables;
 
@@ -42,3 +49,4 @@ pub use by_table::place_all_fast;
 pub use children::Children;
 pub use fast::FastGuide;
 pub use loop_match::Turn;
+pub use station::NextTurn;

@@ -14,7 +14,7 @@ use x12_segs::SegView;
 /// Whether a segment fits a slot that has an id of the same number. An id of one to three bytes is the segment's own then, and needs no
 /// look.
 #[inline]
-fn fits_with(slot: &Slot, number: u32, seg: &SegView) -> bool
+pub(crate) fn fits_with(slot: &Slot, number: u32, seg: &SegView) -> bool
     requires segment { HasNumber (elements_of seg.now) number }
     requires slot { number ≡ id_number slot.now.id }
     ensures { result ≡ fits slot.now (elements_of seg.now) }

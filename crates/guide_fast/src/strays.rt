@@ -5,13 +5,13 @@ ghost use Rattle.guide_tree.specs.Words.{nodes_view};
 ghost use Rattle.guide_fast.specs.Listed.{Knows};
 ghost use Rattle.guide_fast.specs.Slots.{any_listed, fits_at, slots_of, slot_ids, lent_slots};
 ghost use Rattle.guide_fast.specs.FirstPick.{HasValue, slot_pick, slot_picks};
-ghost use Rattle.guide_fast.specs.Keys.{slot_keys};
+ghost use Rattle.guide_fast.specs.Keys.{slot_keys, lent_reach, Reaches};
 ghost use Rattle.guide_tree.specs.Words.{fits};
 
 use crate::first_pick::{Asked, FirstPick, asked_id, may_pick, slot_pick};
 use crate::id_number::number_of;
 use crate::index::TextIndex;
-use crate::keys::{POSITIONS, slot_key};
+use crate::keys::{slot_key, slots_reach};
 use guide_tree::{Guide, Node, Slot};
 use hub_kinds::{NoMemory, SegmentCode, Text};
 use loop_match::{fits, text_at};
@@ -29,6 +29,8 @@ pub struct Strays<'g> {
     ids: TextIndex<'g>,
     /// The places of each text by which they are looked for.
     keys: TextIndex<'g>,
+    /// How many of a segment's first texts these are.
+    reach: usize,
     dictionary: TextIndex<'g>,
 }
 
@@ -41,7 +43,7 @@ impl<'g> Model for Strays<'g> {
     ghost use Rattle.guide_fast.specs.Listed.{Knows};
     ghost use Rattle.guide_fast.specs.Slots.{slots_of, slot_ids, lent_slots};
     ghost use Rattle.guide_fast.specs.FirstPick.{slot_picks};
-    ghost use Rattle.guide_fast.specs.Keys.{slot_keys};
+    ghost use Rattle.guide_fast.specs.Keys.{slot_keys, lent_reach, Reaches};
 
     ghost Value = { GuideRows };
 
@@ -51,7 +53,8 @@ impl<'g> Model for Strays<'g> {
 
     ghost invariant = { λ s. (lent_slots s.slots.items ≡ slots_of (nodes_view s.guide.now.nodes.items))
         × Knows s.ids.places (slot_ids (lent_slots s.slots.items)) × Knows s.dictionary.places s.guide.now.head.dictionary
-        × (s.picks.items ≡ slot_picks (lent_slots s.slots.items)) × Knows s.keys.places (slot_keys (lent_slots s.slots.items)) };
+        × (s.picks.items ≡ slot_picks (lent_slots s.slots.items)) × Knows s.keys.places (slot_keys (lent_slots s.slots.items))
+        × Reaches lent_reach s.reach s.slots.items };
 }
 
 impl<'g> Strays<'g> {
@@ -70,6 +73,7 @@ impl<'g> Strays<'g> {
         let picks = picks_of(alloc, slots.as_slice())?;
         let ids = ids_of(alloc, slots.as_slice())?;
         let keys = keys_of(alloc, slots.as_slice())?;
+        let reach = slots_reach(slots.as_slice());
         let dictionary = texts_of(alloc, guide.rows().head.dictionary.as_slice())?;
         Ok(Strays {
             guide,
@@ -77,6 +81,7 @@ impl<'g> Strays<'g> {
             picks,
             ids,
             keys,
+            reach,
             dictionary,
         })
     }
@@ -93,7 +98,7 @@ impl<'g> Strays<'g> {
         ensures { result ≡ any_slot (λ slot. fits slot (elements_of seg.now)) (nodes_view self.now.nodes.items) }
     {
         let (slots, picks) = (self.slots.as_slice(), self.picks.as_slice());
-        any_looked_up(slots, picks, &self.keys, seg)
+        any_looked_up(slots, picks, &self.keys, self.reach, seg)
     }
 
     fn is_in_dictionary(&self, id: &[u8]) -> bool
@@ -176,12 +181,19 @@ fn texts_of<'g>(alloc: Global, texts: &'g [Text]) -> Result<TextIndex<'g>, NoMem
 }
 
 /// Whether the segment fits some of the slots, by its first elements.
-fn any_looked_up(slots: &[&Slot], picks: &[FirstPick], keys: &TextIndex, seg: &SegView) -> bool
+fn any_looked_up(
+    slots: &[&Slot],
+    picks: &[FirstPick],
+    keys: &TextIndex,
+    reach: usize,
+    seg: &SegView,
+) -> bool
     requires picks { picks.now ≡ slot_picks (lent_slots slots.now) }
     requires keys { Knows keys.now.places (slot_keys (lent_slots slots.now)) }
+    requires reach { Reaches lent_reach reach slots.now }
     ensures { result ≡ list_any (λ slot. fits slot (elements_of seg.now)) (lent_slots slots.now) }
 {
-    for position in 0..POSITIONS as usize {
+    for position in 0..reach {
         if any_fits(slots, picks, keys.places(text_at(seg, position)), seg) {
             return true;
         }

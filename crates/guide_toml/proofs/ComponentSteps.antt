@@ -27,12 +27,42 @@ cut_is : (text : Tokens) (from end : ℕ) (rest group : Tokens) → rest ≡ dro
 cut_is text from end rest group r e g =
     ap (λ (x : Tokens). take (position_or_len is_semicolon x) x) (sym r) ∙ ap (λ (n : ℕ). take n rest) (sym e) ∙ sym g
 
+-- the group is the first of those from here on
+pub first_group : (text : Tokens) (from end : ℕ) (rest group : Tokens) → rest ≡ drop from text
+    → end ≡ position_or_len is_semicolon rest → group ≡ take end rest
+    → groups_of (drop from text) ≡ group ∷ (first_part is_semicolon (drop from text) []).more
+first_group text from end rest group r e g =
+    let p = first_part is_semicolon (drop from text) [] in
+    p.is ∙ ap (λ (x : Tokens). x ∷ p.more) (cut_is text from end rest group r e g)
+
+-- and the only one, where no semicolon stands behind it
+pub only_group : (text : Tokens) (from end : ℕ) (rest group : Tokens) → rest ≡ drop from text
+    → end ≡ position_or_len is_semicolon rest → group ≡ take end rest → end ≡ length rest
+    → groups_of (drop from text) ≡ group ∷ []
+only_group text from end rest group r e g l =
+    let whole : group ≡ drop from text = g ∙ take_all end rest (omega arith) ∙ r in
+    let all : position_or_len is_semicolon (drop from text) ≡ length (drop from text) =
+    ap (position_or_len is_semicolon) (sym r) ∙ sym e ∙ l ∙ ap length r in
+    last_part is_semicolon (drop from text) all ∙ ap (λ (t : Tokens). t ∷ []) (sym whole)
+
+-- else others follow behind that semicolon
+pub next_group : (text : Tokens) (from end : ℕ) (rest group : Tokens) → rest ≡ drop from text
+    → end ≡ position_or_len is_semicolon rest → group ≡ take end rest → end < length rest
+    → groups_of (drop from text) ≡ group ∷ groups_of (drop (from + (end + 1)) text)
+next_group text from end rest group r e g l =
+    let at : end ≡ position_or_len is_semicolon (drop from text) = e ∙ ap (position_or_len is_semicolon) r in
+    let long = ap length r in
+    let f = slice_split_first is_semicolon (drop from text) [] (omega arith) in
+    f ∙ ap (λ (t : Tokens). t ∷ groups_of (drop (position_or_len is_semicolon (drop from text) + 1) (drop from text)))
+    (cut_is text from end rest group r e g)
+    ∙ ap (λ (n : ℕ). group ∷ groups_of (drop (n + 1) (drop from text))) (sym at)
+    ∙ ap (λ (t : Tokens). group ∷ groups_of t) (drop-drop (end + 1) from text)
+
 pub fails_here : (done : List Component) (text : Tokens) (from end : ℕ) (rest group : Tokens) (f : TextFault)
     → Stands done text from end rest group → Lacks f (component_of group) → Lacks f (components_of (groups_of text))
 fails_here done text from end rest group f s h =
     let p = first_part is_semicolon (drop from text) [] in
-    let e : groups_of (drop from text) ≡ group ∷ p.more =
-    p.is ∙ ap (λ (x : Tokens). x ∷ p.more) (cut_is text from end rest group s.rest_is s.end_is s.group_is) in
+    let e = first_group text from end rest group s.rest_is s.end_is s.group_is in
     lacks_all f (component_of group) (λ c. option_map (λ cs. c ∷ cs) (components_of p.more)) (λ ys. done ++ ys)
     (components_of (groups_of text)) h
     (ap (λ (gs : List Tokens). option_map (λ ys. done ++ ys) (components_of gs)) (sym e) ∙ s.so_far)
@@ -41,11 +71,7 @@ pub ends_here : (done : List Component) (text : Tokens) (from end : ℕ) (rest g
     → Stands done text from end rest group → component_of group ≡ Some x → end ≡ length rest
     → components_of (groups_of text) ≡ Some (done ++ x ∷ [])
 ends_here done text from end rest group x s h l =
-    let whole : group ≡ drop from text = s.group_is ∙ take_all end rest (omega arith) ∙ s.rest_is in
-    let all : position_or_len is_semicolon (drop from text) ≡ length (drop from text) =
-    ap (position_or_len is_semicolon) (sym s.rest_is) ∙ sym s.end_is ∙ l ∙ ap length s.rest_is in
-    let e : groups_of (drop from text) ≡ group ∷ [] =
-    last_part is_semicolon (drop from text) all ∙ ap (λ (t : Tokens). t ∷ []) (sym whole) in
+    let e = only_group text from end rest group s.rest_is s.end_is s.group_is l in
     sym (adds done x (component_of group) (Some []) (components_of (groups_of text)) h
     (ap (λ (gs : List Tokens). option_map (λ ys. done ++ ys) (components_of gs)) (sym e) ∙ s.so_far))
     ∙ ap Some (append-nil (done ++ x ∷ []))
@@ -55,15 +81,7 @@ pub goes_on : (done : List Component) (text : Tokens) (from end : ℕ) (rest gro
     → option_map (λ ys. (done ++ x ∷ []) ++ ys)
     (components_of (groups_of (drop (from + (end + 1)) text))) ≡ components_of (groups_of text)
 goes_on done text from end rest group x s h l =
-    let r = s.rest_is in
-    let at : end ≡ position_or_len is_semicolon (drop from text) = s.end_is ∙ ap (position_or_len is_semicolon) r in
-    let long = ap length r in
-    let f = slice_split_first is_semicolon (drop from text) [] (omega arith) in
-    let e : groups_of (drop from text) ≡ group ∷ groups_of (drop (from + (end + 1)) text) =
-    f ∙ ap (λ (t : Tokens). t ∷ groups_of (drop (position_or_len is_semicolon (drop from text) + 1) (drop from text)))
-    (cut_is text from end rest group r s.end_is s.group_is)
-    ∙ ap (λ (n : ℕ). group ∷ groups_of (drop (n + 1) (drop from text))) (sym at)
-    ∙ ap (λ (t : Tokens). group ∷ groups_of t) (drop-drop (end + 1) from text) in
+    let e = next_group text from end rest group s.rest_is s.end_is s.group_is l in
     adds done x (component_of group) (components_of (groups_of (drop (from + (end + 1)) text)))
     (components_of (groups_of text)) h
     (ap (λ (gs : List Tokens). option_map (λ ys. done ++ ys) (components_of gs)) (sym e) ∙ s.so_far)

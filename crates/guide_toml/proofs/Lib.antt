@@ -9,3 +9,5 @@ pub mod WrittenRows
 pub mod WrittenTokens
 pub mod WrittenElements
 pub mod References
+pub mod ElementStops
+pub mod StopSteps

@@ -1,9 +1,11 @@
 pub mod Answers
 pub mod Counts
+pub mod ElementStops
 pub mod ElementTexts
 pub mod Entries
 pub mod Guides
 pub mod Keys
+pub mod ListedTexts
 pub mod Refusals
 pub mod Refused
 pub mod Tokens

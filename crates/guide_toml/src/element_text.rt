@@ -66,7 +66,7 @@ fn number_type_of(token: &[u8]) -> Option<ElementType>
     }
 }
 
-fn type_of(token: &[u8]) -> Option<ElementType>
+pub(crate) fn type_of(token: &[u8]) -> Option<ElementType>
     ensures { result ≡ texts.type_of token.now }
 {
     if token == b"AN".as_slice() {
@@ -94,7 +94,7 @@ fn repeat_of(token: &[u8]) -> Option<u32>
 }
 
 /// How often an element may occur, and the tokens behind that.
-fn take_repeat<'a, 't>(tokens: &'t [Lent<'a>]) -> (u32, &'t [Lent<'a>])
+pub(crate) fn take_repeat<'a, 't>(tokens: &'t [Lent<'a>]) -> (u32, &'t [Lent<'a>])
     ensures number { result.0 ≡ (texts.take_repeat tokens.entry.now).0 }
     ensures rest { result.1.now ≡ (texts.take_repeat tokens.entry.now).1 }
 {
@@ -107,7 +107,7 @@ fn take_repeat<'a, 't>(tokens: &'t [Lent<'a>]) -> (u32, &'t [Lent<'a>])
     }
 }
 
-fn take_wide<'a, 't>(tokens: &'t [Lent<'a>]) -> (bool, &'t [Lent<'a>])
+pub(crate) fn take_wide<'a, 't>(tokens: &'t [Lent<'a>]) -> (bool, &'t [Lent<'a>])
     ensures wide { result.0 ≡ (texts.take_wide tokens.entry.now).0 }
     ensures rest { result.1.now ≡ (texts.take_wide tokens.entry.now).1 }
 {

@@ -26,16 +26,20 @@ mod fault;
 mod fault_codes;
 mod keys;
 mod laws;
+mod listed_text;
 mod lists;
 mod nodes;
 mod read;
+mod stops;
 mod table;
 mod tokens;
 mod values;
 
 pub use fault::GuideFileFault;
 pub use laws::{files_write_references, written_row_is_read_back};
+pub use listed_text::{ListedText, can_stand};
 pub use read::{read_guide, read_rows};
+pub use stops::{ElementStop, Wanted, element_stop};
 pub use toml_keys::{
     AnyText, Count, ListOf, Present, Reading, TextFault, Word, optional, refuse_unknown, required,
     some_table_at, some_tables_at, table_at, tables_at,

@@ -1,9 +1,9 @@
 -- X12.6, code lists (own): codes that can't be meant, and the first such code of a list.
-use Rattle.std.specs.Prelude.{ℕ, ◌==◌, Bool, false, ◌||◌, not, List, [], ◌∷◌, Option, Some, None}
+use Rattle.std.specs.Prelude.{ℕ, ◌==◌, Bool, false, ◌&&◌, ◌||◌, not, is_none, List, [], ◌∷◌, Option, Some, None}
 use Rattle.std.specs.List.{find, list_any}
 use Rattle.std.specs.Option.{option_map_or}
 use Rattle.hub_kinds.specs.Words.{contains_text}
-use Rattle.elem_rules.specs.Values.{value_length}
+use Rattle.elem_rules.specs.Values.{calendar_fault, is_form, value_length}
 use Rattle.guide_tree.specs.Words.{is_within}
 use Rattle.guide_tree.specs.declared.element.SimpleRow.{SimpleRow}
 use Rattle.guide_tree.specs.declared.slot.Slot.{Slot}
@@ -21,6 +21,10 @@ is_joined code = list_any (λ byte. (byte == 44) || ((byte == 47) || (byte == 12
 abbrev pub has_length : SimpleRow → List ℕ → Bool
 has_length row code = is_within row.min row.max (value_length row.data_type code)
 
+-- it has the bytes that values of the row's type have, and is no date or time that there is not
+abbrev pub has_form : SimpleRow → List ℕ → Bool
+has_form row code = is_form row.data_type row.wide code && is_none (calendar_fault row.data_type code)
+
 -- the row lists it as not used
 abbrev pub is_unused : SimpleRow → List ℕ → Bool
 is_unused row code = option_map_or (λ c. option_map_or (λ unused. contains_text unused code) c.unused false) row.codes false
@@ -31,6 +35,7 @@ is_not_listed row code = option_map_or (λ c. not (contains_text c.used code)) r
 
 abbrev pub is_doubtful : CodeDoubt → SimpleRow → List ℕ → Bool
 is_doubtful doubt.Joined row code = is_joined code
+is_doubtful doubt.OtherForm row code = not (has_form row code)
 is_doubtful doubt.OtherLength row code = not (has_length row code)
 is_doubtful doubt.AlsoUnused row code = is_unused row code
 is_doubtful doubt.NotListed row code = is_not_listed row code

@@ -18,7 +18,9 @@ abbrev pub at_element : (position : ℕ) → At
 at_element position = record { element = position; component = 0 }
 
 abbrev pub listed_warnings : Slot → At → SimpleRow → (listed : List (List ℕ)) → List Warning
-listed_warnings s at row listed = code_warnings s at doubt.Joined row listed ++ code_warnings s at doubt.OtherLength row listed
+listed_warnings s at row listed =
+    code_warnings s at doubt.Joined row listed
+    ++ (code_warnings s at doubt.OtherForm row listed ++ code_warnings s at doubt.OtherLength row listed)
 
 abbrev pub unused_warnings : Slot → At → SimpleRow → CodeList → List Warning
 unused_warnings s at row c = option_map_or (listed_warnings s at row) c.unused []

@@ -3,7 +3,10 @@ use Rattle.std.specs.Prelude.{List, [], ◌∷◌, ◌++◌, if◌then◌else◌
 use Rattle.guide_tree.specs.Words.{GuideTree}
 use Rattle.guide_tree.specs.declared.rows.GuideHead.{GuideHead}
 use Rattle.guide_warnings.specs.Headers.{lets_headers_through}
+use Rattle.guide_warnings.specs.Dependencies.{dependency_warnings}
+use Rattle.guide_warnings.specs.Labels.{nodes_labels}
 use Rattle.guide_warnings.specs.Nodes.{nodes_warnings}
+use Rattle.guide_warnings.specs.Unmet.{unmet_nodes}
 use Rattle.guide_warnings.specs.declared.warning.Warning.{Warning}
 use Rattle.guide_warnings.specs.declared.warning.Warning.TheVariants as warning
 
@@ -11,4 +14,7 @@ abbrev pub head_warnings : GuideHead → List Warning
 head_warnings head = if lets_headers_through head then warning.HeaderLetThrough ∷ [] else []
 
 abbrev pub warnings_of : GuideTree → List Warning
-warnings_of g = head_warnings g.head ++ nodes_warnings g.nodes
+warnings_of g =
+    head_warnings g.head
+    ++ (unmet_nodes g.nodes
+    ++ (nodes_warnings g.nodes ++ (nodes_labels g.depends g.nodes ++ dependency_warnings g.nodes 1 g.depends)))

@@ -1,12 +1,13 @@
-ghost use Rattle.std.specs.Prelude.{◌≡◌, ◌≤◌, ◌++◌, length, IfOk, OnOk, option_map};
+ghost use Rattle.std.specs.Prelude.{◌≡◌, ◌≤◌, ◌++◌, ◌||◌, length, IfOk, OnOk, option_map};
 ghost use Rattle.std.specs.Char.{is_ascii_digit};
-ghost use Rattle.std.specs.List.{count_by, find};
-ghost use Rattle.elem_rules.specs.Values.{value_length};
+ghost use Rattle.std.specs.List.{count_by, find, list_all, list_any};
+ghost use Rattle.elem_rules.specs.Values.{is_character, is_decimal, is_point, is_whole, value_length, without_sign};
 ghost use Rattle.guide_warnings.specs.Codes as codes;
 
 use crate::warning::{At, CodeDoubt, CodeWarning, Warning};
 use guide_tree::{ElementType, SimpleRow, Slot};
 use hub_kinds::{NoMemory, Text, copy_text};
+use moment::{is_date, is_digits, is_time};
 use std::alloc::Global;
 
 fn is_joined(code: &[u8]) -> bool
@@ -34,11 +35,73 @@ fn value_length(data_type: ElementType, text: &[u8]) -> usize
     }
 }
 
-fn has_length(row: &SimpleRow, code: &[u8]) -> bool
+/// Whether a value of a row may have the length of a code.
+pub fn has_length(row: &SimpleRow, code: &[u8]) -> bool
     ensures { result ≡ codes.has_length row.now code.now }
 {
     let length = value_length(row.data_type, code);
     row.min as usize <= length && length <= row.max as usize
+}
+
+fn are_characters(wide: bool, text: &[u8]) -> bool
+    ensures { result ≡ list_all (is_character wide) text.now }
+{
+    text.iter()
+        .all(|byte| 32 <= *byte && *byte <= 126 || wide && 128 <= *byte)
+}
+
+fn without_sign(text: &[u8]) -> &[u8]
+    ensures { result.now ≡ without_sign text.entry.now }
+{
+    match text.split_first() {
+        Some((sign, rest)) if *sign == b'-' => rest,
+        _ => text,
+    }
+}
+
+fn is_whole(text: &[u8]) -> bool
+    ensures { result ≡ is_whole text.now }
+{
+    1 <= text.len() && is_digits(text)
+}
+
+fn points(text: &[u8]) -> usize
+    ensures value { result ≡ count_by is_point text.now }
+    ensures bound { result ≤ length text.now }
+{
+    text.iter().filter(|byte| **byte == b'.').count()
+}
+
+fn are_digits_or_points(text: &[u8]) -> bool
+    ensures { result ≡ list_all (λ byte. is_ascii_digit byte || is_point byte) text.now }
+{
+    text.iter()
+        .all(|byte| byte.is_ascii_digit() || *byte == b'.')
+}
+
+fn has_digit(text: &[u8]) -> bool
+    ensures { result ≡ list_any is_ascii_digit text.now }
+{
+    text.iter().any(|byte| byte.is_ascii_digit())
+}
+
+fn is_decimal(text: &[u8]) -> bool
+    ensures { result ≡ is_decimal text.now }
+{
+    are_digits_or_points(text) && points(text) <= 1 && has_digit(text)
+}
+
+/// Whether a value of a row may have the bytes of a code.
+pub fn has_form(row: &SimpleRow, code: &[u8]) -> bool
+    ensures { result ≡ codes.has_form row.now code.now }
+{
+    match row.data_type {
+        ElementType::Text | ElementType::Identifier => are_characters(row.wide, code),
+        ElementType::Number(_) => is_whole(without_sign(code)),
+        ElementType::Decimal => is_decimal(without_sign(code)),
+        ElementType::Date => is_digits(code) && is_date(code),
+        ElementType::Time => is_digits(code) && is_time(code),
+    }
 }
 
 fn is_unused(row: &SimpleRow, code: &[u8]) -> bool
@@ -53,7 +116,8 @@ fn is_unused(row: &SimpleRow, code: &[u8]) -> bool
     }
 }
 
-fn is_not_listed(row: &SimpleRow, code: &[u8]) -> bool
+/// Whether a row has a list of codes, and not this one.
+pub fn is_not_listed(row: &SimpleRow, code: &[u8]) -> bool
     ensures { result ≡ codes.is_not_listed row.now code.now }
 {
     match &row.codes {
@@ -67,6 +131,7 @@ fn is_doubtful(doubt: CodeDoubt, row: &SimpleRow, code: &[u8]) -> bool
 {
     match doubt {
         CodeDoubt::Joined => is_joined(code),
+        CodeDoubt::OtherForm => !has_form(row, code),
         CodeDoubt::OtherLength => !has_length(row, code),
         CodeDoubt::AlsoUnused => is_unused(row, code),
         CodeDoubt::NotListed => is_not_listed(row, code),

@@ -1,7 +1,9 @@
 //! What a guide that is accepted holds and can't be meant, or is dangerous: its warnings.
 //!
-//! Proved: `warnings_of` gives just the warnings that the definition lists, in its order: that of a header which may be let through, then
-//! the codes that can't be meant, node by node and element by element, of each list the first of each kind.
+//! Proved: `warnings_of` gives just the warnings that the definition lists, in its order: that of a header which may be let through; then
+//! the elements by which no set can meet the guide (that none does is proved in `unmet_law`); then the codes that can't be meant, node by
+//! node and element by element, of each list the first of each kind; then the labels that no dependency names, and the codes of
+//! dependencies that the element can't have of which they speak.
 //!
 //! It goes over the guide once, and looks each code up in the codes of its row.
 //!
@@ -9,11 +11,16 @@
 #![tactic(auto)]
 
 mod codes;
+mod dependencies;
 mod headers;
+mod labels;
 mod nodes;
 mod rows;
+mod unmet;
 mod warning;
 mod warnings;
 
-pub use warning::{At, CodeDoubt, CodeWarning, Warning};
+pub use warning::{
+    At, CodeDoubt, CodeWarning, DependencyWarning, LabelWarning, UnmetWarning, Warning,
+};
 pub use warnings::warnings_of;

@@ -19,6 +19,7 @@ fn push_listed(
     ensures { OnOk result (found.new.items ≡ found.old.items ++ rows.listed_warnings slot.now at row.now listed.now) }
 {
     push_code(alloc, found, slot, at, CodeDoubt::Joined, row, listed)?;
+    push_code(alloc, found, slot, at, CodeDoubt::OtherForm, row, listed)?;
     push_code(alloc, found, slot, at, CodeDoubt::OtherLength, row, listed)
 }
 
@@ -126,7 +127,7 @@ fn push_elements(alloc: Global, found: &mut Vec<Warning>, slot: &Slot) -> Result
 }
 
 /// The row of the simple element at a position, from 1 on.
-fn row_at<'a>(slot: &'a Slot, position: u32) -> Option<&'a SimpleRow>
+pub fn row_at<'a>(slot: &'a Slot, position: u32) -> Option<&'a SimpleRow>
     ensures { option_map (λ row. row.now) result ≡ rows.row_at slot.entry.now position }
 {
     if position == 0 {

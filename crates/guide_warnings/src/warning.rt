@@ -12,6 +12,8 @@ pub struct At {
 pub enum CodeDoubt {
     /// It has a comma or a stroke, as if it were several.
     Joined,
+    /// No value of its form is allowed: the bytes that its type has, and for a date or a time a day or a time that exists.
+    OtherForm,
     /// No value of its length is allowed.
     OtherLength,
     /// It is listed as used and as not used.
@@ -32,10 +34,50 @@ pub struct CodeWarning {
     pub code: Text,
 }
 
+/// A label of a segment position that no dependency names.
+#[derive(Debug, Drop)]
+pub struct LabelWarning {
+    /// The number of the segment position.
+    pub slot: u32,
+    /// The segment id.
+    pub id: Text,
+    pub label: Text,
+}
+
+/// A code of a dependency, the first that the element can't have of which it speaks.
+#[derive(Debug, Drop)]
+pub struct DependencyWarning {
+    /// The dependency, from 1 on.
+    pub dependency: u64,
+    /// The number of the segment position.
+    pub slot: u32,
+    /// The segment id.
+    pub id: Text,
+    /// The element's position, from 1 on.
+    pub element: u32,
+    pub code: Text,
+}
+
+/// An element of a segment position that each set needs: it is mandatory, and its type or its lengths allow none of its codes. So no set
+/// can meet the guide.
+#[derive(Debug, Drop)]
+pub struct UnmetWarning {
+    /// The number of the segment position.
+    pub slot: u32,
+    /// The segment id.
+    pub id: Text,
+    /// The element's position, from 1 on.
+    pub element: u64,
+}
+
 /// What a guide that is accepted holds, and can't be meant or is dangerous.
 #[derive(Debug, Drop)]
 pub enum Warning {
     /// A set is accepted although it has a segment that the guide doesn't know, also one that begins with ISA.
     HeaderLetThrough,
     Code(CodeWarning),
+    UnnamedLabel(LabelWarning),
+    CodeOfDependency(DependencyWarning),
+    /// No set can meet the guide.
+    Unmet(UnmetWarning),
 }

@@ -2,8 +2,11 @@ ghost use Rattle.std.specs.Prelude.{◌≡◌, ◌++◌, IfOk, OnOk};
 ghost use Rattle.guide_tree.specs.Words.{guide_of};
 ghost use Rattle.guide_warnings.specs.Warnings as warnings;
 
+use crate::dependencies::push_dependencies;
 use crate::headers::lets_headers_through;
+use crate::labels::push_labels;
 use crate::nodes::push_nodes;
+use crate::unmet::push_unmet;
 use crate::warning::Warning;
 use guide_tree::{Guide, GuideHead};
 use hub_kinds::NoMemory;
@@ -25,6 +28,9 @@ pub fn warnings_of(alloc: Global, guide: &Guide) -> Result<Vec<Warning>, NoMemor
     let mut found = Vec::new(alloc);
     let rows = guide.rows();
     push_head(&mut found, &rows.head)?;
+    push_unmet(alloc, &mut found, &rows.nodes)?;
     push_nodes(alloc, &mut found, &rows.nodes)?;
+    push_labels(alloc, &mut found, rows.depends.as_slice(), &rows.nodes)?;
+    push_dependencies(alloc, &mut found, guide)?;
     Ok(found)
 }

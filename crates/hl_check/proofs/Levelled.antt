@@ -1,28 +1,21 @@
 -- A hierarchy that looks whole is: where HLs are numbered from 1 on, a number is that of one HL alone.
 use Rattle.std.proofs.Common.{◌≡◌, inl, inr, ℕ, zero, suc, ◌+◌, ◌<◌, ◌≤◌, Bool, true, false, ◌&&◌, ◌||◌, not, cond, codes}
 use Rattle.std.proofs.Common.{List, [], ◌∷◌, length, take, drop, Option, Some, None, refl, sym, ap, subst, ◌∙◌, arith, true≢false}
-use Rattle.std.proofs.Common.{get_or}
-use Rattle.std.specs.Prelude.{decimal, is_some, is_none, if◌then◌else◌, option_map}
+use Rattle.std.specs.Prelude.{decimal, is_some, is_none, if◌then◌else◌}
 use Rattle.std.specs.List.{slice_get, find, list_any}
 use Rattle.std.specs.Option.{option_map_or}
 use Rattle.std.specs.Str.{bytes_eq}
 use Rattle.std.proofs.lemmas.Bool.{and_parts, false_from_ne_true, cases_eq}
 use Rattle.std.proofs.lemmas.Fmt.{decimal_injective}
 use Rattle.std.proofs.lemmas.List.{length-take-le}
-use Rattle.std.proofs.lemmas.Option.{slice_get_within, slice_get-map}
+use Rattle.std.proofs.lemmas.Option.{slice_get_within}
 use Rattle.std.proofs.lemmas.Slice.Eq.{bytes_eq-Decides}
 use Rattle.x12_bytes.specs.declared.delims.Delims.{Delims}
 use Rattle.guide_tree.specs.declared.rows.HlRule.{HlRule}
 use Rattle.guide_tree.specs.Words.{Segment}
-use Rattle.x12_segs.specs.Words.{elements_of}
 use Rattle.elem_rules.specs.Divided.{is_filled}
-use Rattle.loop_match.specs.declared.placed.PlacedSeg.{PlacedSeg}
-use Rattle.loop_match.specs.PlacedSegments.{PlacedSegment}
-use Rattle.loop_match.specs.Viewed.{placed_views}
 use Rattle.hl_check.specs.Hierarchy.{number_of, parent_of, level_of, child_of, numbered, is_parent_wrong, is_listed}
 use Rattle.hl_check.specs.Hierarchy.{is_level_wrong, is_named, IsHierarchyWhole}
-use Rattle.hl_check.specs.Hierarchy.{segments_of}
-use Rattle.hl_check.proofs.Viewing.{view_there}
 use Rattle.hl_check.specs.Levels.{IsBelow, IsPlaced, HasChildren, LooksWhole, LooksWholeTo}
 
 pub same_text : (xs ys : List ℕ) → bytes_eq xs ys ≡ true → xs ≡ ys
@@ -214,9 +207,3 @@ looks_more rule d hls n before here k h l there = elim (cases_eq k n) [
   | inl e ↦ subst (λ (m : ℕ). LooksWhole rule d hls m h) (sym e) (here h (sym (ap (slice_get hls) e) ∙ there))
   | inr e ↦ before k h (omega (arith, l, e)) there
 ]
-
-pub seg_there : (hls : List PlacedSeg) (i : ℕ) (h : PlacedSeg) → h ≡ get_or hls i h → i < length hls
-    → slice_get (segments_of (placed_views hls)) i ≡ Some (elements_of h.seg.now)
-seg_there hls i h e l =
-    slice_get-map (λ (p : PlacedSegment). p.segment) (placed_views hls) i
-    ∙ ap (option_map (λ (p : PlacedSegment). p.segment)) (view_there hls i h e l)

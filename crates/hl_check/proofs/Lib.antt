@@ -7,3 +7,4 @@ pub mod Whole
 mod NoneFound
 mod Worked
 mod Levelled
+mod Naming

@@ -2,3 +2,4 @@ pub mod Hierarchy
 pub mod Found
 pub mod Known
 pub mod Levels
+pub mod Names

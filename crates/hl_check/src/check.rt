@@ -14,7 +14,6 @@ ghost use Rattle.loop_match.specs.Viewed.{placed_views};
 use crate::backward::add_backward;
 use crate::forward::add_forward;
 use crate::hls::hls_of;
-use crate::levels::look_whole;
 use guide_tree::{Guide, HlRule, Node};
 use hub_kinds::{Fault, NoMemory, in_order};
 use loop_match::{PlacedSeg, Placing};
@@ -48,9 +47,6 @@ pub fn is_hierarchy_whole(
 ) -> Result<bool, NoMemory>
     ensures { IfOk result (λ whole. OnTrue whole (IsHierarchyWhole (Some rule.now) delims (segments_of (placed_views hls.now)))) }
 {
-    if look_whole(rule, delims, hls) {
-        return Ok(true);
-    }
     let faults = find_faults(alloc, rule, delims, hls)?;
     Ok(faults.as_slice().is_empty())
 }

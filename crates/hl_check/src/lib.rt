@@ -7,12 +7,13 @@
 //!
 //! `IsHierarchyWhole` of `specs/Hierarchy.antt` says of HL segments alone that nothing is wrong with them; where each segment
 //! of a body has a place that leads to a slot, there is no fault exactly then (`proofs/Whole.antt`). Where `is_hierarchy_whole`
-//! says yes of HL segments that were found before, they are whole.
+//! says yes of HL segments that were found before, they are whole, and where `look_whole` does of HL01 to HL04 that were kept of
+//! them.
 //!
-//! HLs that are numbered by their count, name earlier ones, and have the children that they tell of at once, it sees to be whole
-//! in one walk (`look_whole`), which takes no memory. Else, and by `check_hl`, numbers are looked up in an ordered map and an
-//! ordered set, so that the cost follows the bytes, but for a logarithm, whatever numbers somebody chooses; nothing goes as deep
-//! as the hierarchy.
+//! HLs that are numbered by their count, name earlier ones, and have the children that they tell of at once, `look_whole` sees
+//! to be whole in one walk over what was kept of them, which takes no memory. By the other two calls numbers are looked up in an
+//! ordered map and an ordered set, so that the cost follows the bytes, but for a logarithm, whatever numbers somebody chooses;
+//! nothing goes as deep as the hierarchy.
 //!
 //! Source: X12.6, hierarchical level segment (HL); the 999 guide (005010X231), IK4. Which code stands for which fault is
 //! own.
@@ -25,6 +26,9 @@ mod forward;
 mod hls;
 mod known;
 mod levels;
+mod names;
 mod rules;
 
 pub use check::{check_hl, is_hierarchy_whole};
+pub use levels::look_whole;
+pub use names::HlNames;

@@ -1,34 +1,13 @@
 -- Own: what is said of a guide file that is refused.
-use Rattle.std.specs.Prelude.{◌≡◌, ℕ, ◌+◌, ◌==◌, List, [], ◌∷◌, ◌++◌, codes, decimal, string_bytes, if◌then◌else◌}
-use Rattle.guide_toml.specs.declared.fault.GuideFileFault.{GuideFileFault}
-use Rattle.guide_toml.specs.declared.fault.GuideFileFault.TheVariants as fault
-use Rattle.refusal_words.specs.FileWords.{key_words, wrong_words}
+use Rattle.std.specs.Prelude.{◌≡◌, ℕ, ◌+◌, List, [], ◌∷◌, ◌++◌, codes, decimal}
 use Rattle.guide_tree.specs.Words.{Trees}
 use Rattle.guide_tree.specs.declared.fault.GuideFault.{GuideFault}
 use Rattle.guide_tree.specs.declared.fault.GuideFault.TheVariants as own
 use Rattle.refusal_words.specs.BoundsWords.{bounds_words}
 use Rattle.refusal_words.specs.ConditionWords.{condition_words}
 use Rattle.refusal_words.specs.Nodes.{IsCommon, id_at, numbered_node}
-use Rattle.refusal_words.specs.Places.{in_place, place_text}
+use Rattle.refusal_words.specs.Places.{place_text}
 use Rattle.refusal_words.specs.TriggerWords.{trigger_words}
-use Rattle.refusal_words.specs.Wanted.{guide_wanted}
-use Rattle.refusal_words.specs.declared.file_words.KeyFault.{KeyFault}
-use Rattle.refusal_words.specs.declared.file_words.KeyFault.TheVariants as key_fault
-
--- the node in which a key stands, by its number and its id; 0 is none
-abbrev pub node_words : (slot : ℕ) → (name : List ℕ) → List ℕ
-node_words slot name = if slot == 0 then [] else in_place (codes "node") slot name
-
-abbrev pub node_key_words : (slot : ℕ) → (name key : List ℕ) → KeyFault → List ℕ
-node_key_words slot name key why = node_words slot name ++ key_words key why
-
-abbrev pub guide_file_words : GuideFileFault → (name : List ℕ) → List ℕ
-guide_file_words fault.NotToml name = codes "no TOML table"
-guide_file_words (fault.Missing key slot) name = node_key_words slot name key.now key_fault.Missing
-guide_file_words (fault.WrongKind key slot) name = node_words slot name ++ wrong_words key.now (guide_wanted key.now)
-guide_file_words (fault.Unknown key slot) name = node_key_words slot name (string_bytes key) key_fault.Unknown
-guide_file_words (fault.Guide refused) name = codes "a guide that is refused"
-guide_file_words fault.NoMemory name = codes "no memory"
 
 -- an element that isn't empty
 abbrev pub element_words : (number : ℕ) → List ℕ → List ℕ

@@ -27,3 +27,6 @@ one_number before number after = before ++ (decimal number ++ after)
 
 abbrev pub two_numbers : (before : List ℕ) → ℕ → (between : List ℕ) → ℕ → List ℕ
 two_numbers before number between other = before ++ (decimal number ++ (between ++ decimal other))
+
+abbrev pub two_texts : (first second : List ℕ) → List ℕ
+two_texts first second = first ++ second

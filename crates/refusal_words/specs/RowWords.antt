@@ -8,7 +8,7 @@ use Rattle.partner_setup.specs.declared.rows.CounterRow.{CounterRow}
 use Rattle.partner_setup.specs.declared.rows.PartnerRow.{PartnerRow}
 use Rattle.partner_setup.specs.declared.rows.RouteRow.{RouteRow}
 use Rattle.refusal_words.specs.IdWords.{code_words}
-use Rattle.refusal_words.specs.Named.{counter_name, first_unknown, is_named, next_named, partner_name, route_name}
+use Rattle.refusal_words.specs.Named.{counter_name, first_unknown, is_named, next_named, next_sender, partner_name, route_name}
 use Rattle.refusal_words.specs.Places.{key_text, one_number, quoted}
 use Rattle.refusal_words.specs.declared.kept_rows.KeptRows.{KeptRows}
 
@@ -17,10 +17,24 @@ abbrev pub next_words : (kind said : List ℕ) → (next : Option ℕ) → (othe
 next_words kind said next otherwise = option_map_or (λ n. one_number kind n said) next otherwise
 
 -- X12.5: a qualifier and an id stand for one partner
+abbrev pub sender_ids_words : PartnerRow → List ℕ
+sender_ids_words p = quoted p.qualifier (codes " and id ") ++ quoted p.id (codes " too")
+
+abbrev pub sender_words : (next : Option ℕ) → PartnerRow → List ℕ
+sender_words None p = []
+sender_words (Some n) p =
+    one_number (codes "partner ") n (codes " has its qualifier ")
+    ++ sender_ids_words p
+
+abbrev pub name_words : (next : Option ℕ) → (otherwise : List ℕ) → List ℕ
+name_words None otherwise = otherwise
+name_words (Some n) otherwise = one_number (codes "partner ") n (codes " has its name too")
+
+-- a later partner has its name, or else its qualifier and id
 abbrev pub same_words : KeptRows → (place : ℕ) → PartnerRow → List ℕ
 same_words kept place p =
-    next_words (codes "partner ") (codes " has its name too") (next_named partner_name kept.rows.partners place p.name)
-    (codes "a later partner has its qualifier and id")
+    name_words (next_named partner_name kept.rows.partners place p.name)
+    (sender_words (next_sender kept.rows.partners place p.qualifier p.id) p)
 
 abbrev pub cap_words : PartnerRow → List ℕ
 cap_words p = one_number (codes "the cap ") p.cap (codes " is out of 1 to 99999")

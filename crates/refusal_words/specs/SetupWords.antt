@@ -1,7 +1,6 @@
 -- Own: what is said of a setup that is refused.
 use Rattle.std.specs.Prelude.{ℕ, ◌+◌, List, [], ◌++◌, codes, slice_get}
 use Rattle.std.specs.Option.{option_map_or}
-use Rattle.partner_setup.specs.declared.rows.PartnerRow.{PartnerRow}
 use Rattle.partner_setup.specs.declared.setup_fault.IdOwner.TheVariants as owner
 use Rattle.partner_setup.specs.declared.setup_fault.GuidesOwner.TheVariants as guided
 use Rattle.partner_setup.specs.declared.setup_fault.SetupFault.{SetupFault}

@@ -1,5 +1,5 @@
 ghost use Rattle.std.specs.Prelude.{◌≡◌, ◌++◌, OnOk, decimal};
-ghost use Rattle.refusal_words.specs.Places.{in_place, name_text, one_number, place_text, quoted, two_numbers};
+ghost use Rattle.refusal_words.specs.Places.{in_place, name_text, one_number, place_text, quoted, two_numbers, two_texts};
 
 use hub_kinds::NoMemory;
 use itoa::Buffer;
@@ -97,4 +97,12 @@ pub fn append_quoted(out: &mut Vec<u8>, id: &[u8], text: &[u8]) -> Result<(), No
     append(out, id)?;
     append(out, b"\"")?;
     append(out, text)
+}
+
+/// Adds two texts.
+pub fn append_texts(out: &mut Vec<u8>, first: &[u8], second: &[u8]) -> Result<(), NoMemory>
+    ensures { OnOk result (out.new.items ≡ out.old.items ++ two_texts first.now second.now) }
+{
+    append(out, first)?;
+    append(out, second)
 }

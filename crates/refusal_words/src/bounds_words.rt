@@ -98,7 +98,7 @@ fn kind_of(node: &Node) -> &'static [u8]
     }
 }
 
-fn append_node(out: &mut Vec<u8>, slot: u32, node: &Node) -> Result<(), NoMemory>
+pub fn append_node(out: &mut Vec<u8>, slot: u32, node: &Node) -> Result<(), NoMemory>
     ensures { OnOk result (out.new.items ≡ out.old.items ++ words.node_words slot (view node.now)) }
 {
     append_in_place(out, kind_of(node), u64::from(slot), id_of(Some(node)))?;

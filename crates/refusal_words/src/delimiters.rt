@@ -44,7 +44,7 @@ fn may_be(delimiter: Delimiter, byte: u8) -> bool
     }
 }
 
-fn byte_of(text: &[u8]) -> Option<u8>
+pub fn byte_of(text: &[u8]) -> Option<u8>
     ensures { result ≡ faults.byte_of text.now }
 {
     match text {

@@ -4,66 +4,15 @@ ghost use Rattle.refusal_words.specs.GuideWords as words;
 ghost use Rattle.refusal_words.specs.Nodes.{FitsBoth};
 ghost use Rattle.refusal_words.specs.Search.{viewed};
 
-use crate::appended::{append, append_in_place, append_number, append_place};
+use crate::appended::{append, append_number, append_place};
 use crate::bounds_words::append_bounds;
 use crate::common::common_segment;
 use crate::condition_words::append_condition;
-use crate::file_words::{KeyFault, append_key, append_wrong};
 use crate::nodes::{id_at, node_at};
 use crate::trigger_words::append_trigger;
-use crate::wanted::guide_wanted;
-use guide_toml::GuideFileFault;
 use guide_tree::{GuideFault, Node};
 use hub_kinds::{NoMemory, Text, Texts};
 use std::alloc::Global;
-
-/// Adds the node in which a key stands, where it is one.
-fn append_node(out: &mut Vec<u8>, slot: u32, name: &[u8]) -> Result<(), NoMemory>
-    ensures { OnOk result (out.new.items ≡ out.old.items ++ words.node_words slot name.now) }
-{
-    if slot == 0 {
-        return Ok(());
-    }
-    append_in_place(out, b"node", u64::from(slot), name)
-}
-
-fn append_node_key(
-    out: &mut Vec<u8>,
-    slot: u32,
-    name: &[u8],
-    key: &[u8],
-    fault: &KeyFault,
-) -> Result<(), NoMemory>
-    ensures { OnOk result (out.new.items ≡ out.old.items ++ words.node_key_words slot name.now key.now fault.now) }
-{
-    append_node(out, slot, name)?;
-    append_key(out, key, fault)
-}
-
-/// Adds what is wrong with a guide file, where it isn't the guide's own fault; `name` is the id of the node's segment or loop.
-pub fn append_guide_file_words(
-    out: &mut Vec<u8>,
-    fault: &GuideFileFault,
-    name: &[u8],
-) -> Result<(), NoMemory>
-    ensures { OnOk result (out.new.items ≡ out.old.items ++ words.guide_file_words fault.now name.now) }
-{
-    match fault {
-        GuideFileFault::NotToml => append(out, b"no TOML table"),
-        GuideFileFault::Missing(key, slot) => {
-            append_node_key(out, *slot, name, key.as_bytes(), &KeyFault::Missing)
-        }
-        GuideFileFault::WrongKind(key, slot) => {
-            append_node(out, *slot, name)?;
-            append_wrong(out, key.as_bytes(), guide_wanted(key.as_bytes()))
-        }
-        GuideFileFault::Unknown(key, slot) => {
-            append_node_key(out, *slot, name, key.as_bytes(), &KeyFault::Unknown)
-        }
-        GuideFileFault::Guide(_) => append(out, b"a guide that is refused"),
-        GuideFileFault::NoMemory => append(out, b"no memory"),
-    }
-}
 
 fn append_element(out: &mut Vec<u8>, number: u64, text: &[u8]) -> Result<(), NoMemory>
     ensures { OnOk result (out.new.items ≡ out.old.items ++ words.element_words number text.now) }

@@ -1,5 +1,5 @@
-//! Words for the refusals of guide files, setup files, counters files and setups, and for the warnings of guides and setups: one sentence
-//! for each, which names the key, the node, the two slots and a segment that fits both, the partner, the route or the row of counters.
+//! Words for the refusals of guides and setups, and for the warnings of guides and setups: one sentence for each, which names the node, the
+//! two slots and a segment that fits both, the partner, the route or the row of counters.
 //!
 //! Proved:
 //! - each sentence is the one that the definitions give, byte for byte, of the refusal and of the rows that it speaks of;
@@ -17,23 +17,26 @@ mod condition_words;
 mod conditions;
 mod delimiter_words;
 mod delimiters;
-mod file_words;
+mod doubtful_partners;
 mod guide_words;
 mod id_words;
 mod kept_rows;
 mod named;
 mod nodes;
+mod nodes_said;
 mod row_words;
+mod rows_said;
+mod sentences;
 mod setup_warnings;
 mod setup_words;
 mod trigger_words;
-mod wanted;
 mod warning_words;
 
 pub use common::common_segment;
-pub use file_words::append_file_words;
-pub use guide_words::{append_guide_file_words, append_guide_words};
+pub use guide_words::append_guide_words;
 pub use kept_rows::KeptRows;
+pub use nodes_said::push_nodes_said;
+pub use rows_said::{push_counters_said, push_setup_said};
 pub use setup_warnings::setup_warning_texts;
 pub use setup_words::append_setup_words;
 pub use warning_words::append_warning;

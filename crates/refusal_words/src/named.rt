@@ -78,3 +78,21 @@ pub fn next_named<T: Named>(rows: &[T], place: usize, text: &[u8]) -> Option<u64
     }
     None
 }
+
+/// The number, from 1 on, of the first partner behind this place that has the qualifier and the id.
+pub fn next_sender(
+    partners: &[PartnerRow],
+    place: usize,
+    qualifier: &[u8],
+    id: &[u8],
+) -> Option<u64>
+    requires { place < length partners.now }
+    ensures { result ≡ names.next_sender partners.now place qualifier.now id.now }
+{
+    for i in place + 1..partners.len() {
+        if partners[i].qualifier.as_slice() == qualifier && partners[i].id.as_slice() == id {
+            return Some(i as u64 + 1);
+        }
+    }
+    None
+}

@@ -5,7 +5,7 @@ ghost use Rattle.refusal_words.specs.RowWords as words;
 use crate::appended::{append, append_one, append_quoted};
 use crate::id_words::{append_code, is_id};
 use crate::kept_rows::KeptRows;
-use crate::named::{first_unknown, is_named, next_named};
+use crate::named::{first_unknown, is_named, next_named, next_sender};
 use hub_kinds::{NoMemory, Text, contains_text};
 use partner_setup::{CounterRow, PartnerRow, RouteRow};
 
@@ -25,6 +25,24 @@ fn append_next(
     }
 }
 
+fn append_sender_ids(out: &mut Vec<u8>, partner: &PartnerRow) -> Result<(), NoMemory>
+    ensures { OnOk result (out.new.items ≡ out.old.items ++ words.sender_ids_words partner.now) }
+{
+    append_quoted(out, partner.qualifier.as_slice(), b" and id ")?;
+    append_quoted(out, partner.id.as_slice(), b" too")
+}
+
+/// Adds the partner that has this one's qualifier and id.
+fn append_sender(out: &mut Vec<u8>, next: Option<u64>, partner: &PartnerRow) -> Result<(), NoMemory>
+    ensures { OnOk result (out.new.items ≡ out.old.items ++ words.sender_words next partner.now) }
+{
+    let Some(number) = next else {
+        return Ok(());
+    };
+    append_one(out, b"partner ", number, b" has its qualifier ")?;
+    append_sender_ids(out, partner)
+}
+
 /// Adds what of the partner at this place a later one has too.
 pub fn append_same_partner(
     out: &mut Vec<u8>,
@@ -36,13 +54,14 @@ pub fn append_same_partner(
     ensures { OnOk result (out.new.items ≡ out.old.items ++ words.same_words kept.now place partner.now) }
 {
     let partners = kept.rows.partners.as_slice();
-    append_next(
-        out,
-        b"partner ",
-        b" has its name too",
-        next_named(partners, place, partner.name.as_slice()),
-        b"a later partner has its qualifier and id",
-    )
+    match next_named(partners, place, partner.name.as_slice()) {
+        Some(number) => append_one(out, b"partner ", number, b" has its name too"),
+        None => {
+            let qualifier = partner.qualifier.as_slice();
+            let next = next_sender(partners, place, qualifier, partner.id.as_slice());
+            append_sender(out, next, partner)
+        }
+    }
 }
 
 /// Adds what is wrong with a partner's cap.
@@ -84,7 +103,7 @@ pub fn append_guides(
 }
 
 /// The first text that stands again behind itself.
-fn first_again(texts: &[Text]) -> Option<&[u8]>
+pub fn first_again(texts: &[Text]) -> Option<&[u8]>
     ensures { option_map (λ t. t.now) result ≡ words.first_again texts.entry.now }
 {
     for i in 0..texts.len() {
@@ -131,13 +150,13 @@ pub fn append_route(
     append_code(out, route.code.as_slice())
 }
 
-fn is_counter(number: u32) -> bool
+pub fn is_counter(number: u32) -> bool
     ensures { result ≡ faults.is_counter number }
 {
     1 <= number && number <= 999_999_999
 }
 
-fn append_number_of(out: &mut Vec<u8>, key: &[u8], number: u32) -> Result<(), NoMemory>
+pub fn append_number_of(out: &mut Vec<u8>, key: &[u8], number: u32) -> Result<(), NoMemory>
     ensures { OnOk result (out.new.items ≡ out.old.items ++ words.number_words key.now number) }
 {
     append(out, b"`")?;

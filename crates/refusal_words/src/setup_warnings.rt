@@ -1,28 +1,60 @@
 //! What a warning says of a setup that is accepted.
-ghost use Rattle.std.specs.Prelude.{◌≡◌, ◌++◌, ◌∷◌, [], codes, IfOk, OnOk};
+ghost use Rattle.std.specs.Prelude.{◌≡◌, ◌++◌, ◌∷◌, [], ℕ, List, codes, IfOk, OnOk};
 ghost use Rattle.refusal_words.specs.Places.{in_place, quoted};
 ghost use Rattle.refusal_words.specs.SetupWarnings as warnings;
 
 use crate::appended::{append, append_in_place, append_quoted};
+use crate::doubtful_partners::push_delimiters;
 use crate::kept_rows::KeptRows;
-use hub_kinds::{Items, NoMemory, Text, Texts, contains_text};
+use guide_tree::Codes;
+use hub_kinds::{Items, NoMemory, Text, Texts, copy_text};
 use partner_setup::{PartnerRow, RouteRow};
 use std::alloc::Global;
 
-fn is_kept_to(partners: &[PartnerRow], guide: &[u8]) -> bool
-    ensures { result ≡ warnings.is_kept_to partners.now guide.now }
-{
-    partners
-        .iter()
-        .any(|partner| contains_text(partner.guides.as_slice(), guide))
+/// What names others.
+trait Naming: Drop {
+    /// The names.
+    ghost named: { Self → List (List ℕ) };
+
+    /// The names.
+    fn named(&self) -> &[Text]
+        ensures { result.now ≡ named self.now };
 }
 
-fn is_reached(routes: &[RouteRow], partner: &[u8]) -> bool
-    ensures { result ≡ warnings.is_reached routes.now partner.now }
+impl Naming for PartnerRow {
+    ghost named = { warnings.guides_of };
+
+    fn named(&self) -> &[Text] {
+        self.guides.as_slice()
+    }
+}
+
+impl Naming for RouteRow {
+    ghost named = { warnings.receivers_of };
+
+    fn named(&self) -> &[Text] {
+        self.to.as_slice()
+    }
+}
+
+fn push_copies(alloc: Global, names: &mut Vec<Text>, more: &[Text]) -> Result<(), NoMemory>
+    ensures { OnOk result (names.new.items ≡ names.old.items ++ more.now) }
 {
-    routes
-        .iter()
-        .any(|route| contains_text(route.to.as_slice(), partner))
+    for i in 0..more.len() {
+        names.push(copy_text(alloc, more[i].as_slice())?)?;
+    }
+    Ok(())
+}
+
+/// All that some rows name, in an order by which a name is found.
+fn names_in<T: Naming>(alloc: Global, rows: &[T]) -> Result<Codes, NoMemory>
+    ensures { IfOk result (λ names. names ≡ warnings.names_in T.named rows.now) }
+{
+    let mut names = Vec::new(alloc);
+    for i in 0..rows.len() {
+        push_copies(alloc, &mut names, rows[i].named())?;
+    }
+    Codes::new(alloc, Items::from_vec(names))
 }
 
 fn guide_text(alloc: Global, guide: &[u8]) -> Result<Text, NoMemory>
@@ -36,12 +68,12 @@ fn guide_text(alloc: Global, guide: &[u8]) -> Result<Text, NoMemory>
 fn push_guide(
     alloc: Global,
     found: &mut Vec<Text>,
-    partners: &[PartnerRow],
+    named: &Codes,
     guide: &[u8],
 ) -> Result<(), NoMemory>
-    ensures { OnOk result (found.new.items ≡ found.old.items ++ warnings.guide_warning partners.now guide.now) }
+    ensures { OnOk result (found.new.items ≡ found.old.items ++ warnings.guide_warning named.now guide.now) }
 {
-    if is_kept_to(partners, guide) {
+    if named.contains(guide) {
         return Ok(());
     }
     found.push(guide_text(alloc, guide)?)?;
@@ -51,13 +83,13 @@ fn push_guide(
 fn push_guides(
     alloc: Global,
     found: &mut Vec<Text>,
-    partners: &[PartnerRow],
+    named: &Codes,
     guides: &[Text],
 ) -> Result<(), NoMemory>
-    ensures { OnOk result (found.new.items ≡ found.old.items ++ warnings.guide_warnings partners.now guides.now) }
+    ensures { OnOk result (found.new.items ≡ found.old.items ++ warnings.guide_warnings named.now guides.now) }
 {
     for i in 0..guides.len() {
-        push_guide(alloc, found, partners, guides[i].as_slice())?;
+        push_guide(alloc, found, named, guides[i].as_slice())?;
     }
     Ok(())
 }
@@ -74,14 +106,14 @@ fn partner_text(alloc: Global, number: u64, partner: &PartnerRow) -> Result<Text
 fn push_partner(
     alloc: Global,
     found: &mut Vec<Text>,
-    routes: &[RouteRow],
+    reached: &Codes,
     number: u64,
     partner: &PartnerRow,
 ) -> Result<(), NoMemory>
-    ensures { OnOk result (found.new.items ≡ found.old.items ++ warnings.partner_warning routes.now number partner.now) }
+    ensures { OnOk result (found.new.items ≡ found.old.items ++ warnings.partner_warning reached.now number partner.now) }
 {
-    if is_reached(routes, partner.name.as_slice()) {
-        return Ok(());
+    if reached.contains(partner.name.as_slice()) {
+        return push_delimiters(alloc, found, number, partner);
     }
     found.push(partner_text(alloc, number, partner)?)?;
     Ok(())
@@ -90,25 +122,27 @@ fn push_partner(
 fn push_partners(
     alloc: Global,
     found: &mut Vec<Text>,
-    routes: &[RouteRow],
+    reached: &Codes,
     partners: &[PartnerRow],
 ) -> Result<(), NoMemory>
-    ensures { OnOk result (found.new.items ≡ found.old.items ++ warnings.partner_warnings routes.now 1 partners.now) }
+    ensures { OnOk result (found.new.items ≡ found.old.items ++ warnings.partner_warnings reached.now 1 partners.now) }
 {
     for i in 0..partners.len() {
-        push_partner(alloc, found, routes, i as u64 + 1, &partners[i])?;
+        push_partner(alloc, found, reached, i as u64 + 1, &partners[i])?;
     }
     Ok(())
 }
 
-/// The warnings of a setup of which these rows are kept, in words: the partners that no route leads to, then the guides that no partner
-/// names. The only error is want of memory.
+/// The warnings of a setup of which these rows are kept, in words: the partners that no route leads to, or that receive by delimiters which
+/// texts often hold; then the guides that no partner names. The only error is want of memory.
 pub fn setup_warning_texts(alloc: Global, kept: &KeptRows) -> Result<Texts, NoMemory>
     ensures { IfOk result (λ texts. texts ≡ warnings.setup_warnings kept.now) }
 {
     let mut found = Vec::new(alloc);
     let partners = kept.rows.partners.as_slice();
-    push_partners(alloc, &mut found, kept.rows.routes.as_slice(), partners)?;
-    push_guides(alloc, &mut found, partners, kept.guides.as_slice())?;
+    let reached = names_in(alloc, kept.rows.routes.as_slice())?;
+    let named = names_in(alloc, partners)?;
+    push_partners(alloc, &mut found, &reached, partners)?;
+    push_guides(alloc, &mut found, &named, kept.guides.as_slice())?;
     Ok(Items::from_vec(found))
 }

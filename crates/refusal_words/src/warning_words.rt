@@ -1,8 +1,12 @@
 ghost use Rattle.std.specs.Prelude.{◌≡◌, ◌++◌, OnOk};
 ghost use Rattle.refusal_words.specs.WarningWords as words;
 
-use crate::appended::{append, append_in_place, append_number};
-use guide_warnings::{At, CodeDoubt, CodeWarning, Warning};
+use crate::appended::{
+    append, append_in_place, append_number, append_one, append_place, append_texts,
+};
+use guide_warnings::{
+    At, CodeDoubt, CodeWarning, DependencyWarning, LabelWarning, UnmetWarning, Warning,
+};
 use hub_kinds::NoMemory;
 
 fn append_component_number(out: &mut Vec<u8>, component: u64) -> Result<(), NoMemory>
@@ -35,6 +39,8 @@ fn doubt_words(doubt: CodeDoubt) -> &'static [u8]
 {
     match doubt {
         CodeDoubt::Joined => b" has a comma or a stroke; a space stands between codes",
+        CodeDoubt::OtherForm =>
+            b" has bytes that no value of the element's type has, or is no day or time",
         CodeDoubt::OtherLength => b" is shorter or longer than the element may be",
         CodeDoubt::AlsoUnused => b" is listed as used and as not used",
         CodeDoubt::NotListed => b" of `pick` isn't one of the element's codes",
@@ -52,6 +58,55 @@ fn append_code(out: &mut Vec<u8>, warning: &CodeWarning) -> Result<(), NoMemory>
     append(out, doubt_words(warning.doubt))
 }
 
+fn append_label(out: &mut Vec<u8>, warning: &LabelWarning) -> Result<(), NoMemory>
+    ensures { OnOk result (out.new.items ≡ out.old.items ++ words.label_words warning.now) }
+{
+    let number = u64::from(warning.slot);
+    append_in_place(out, b"segment", number, warning.id.as_slice())?;
+    append_texts(
+        out,
+        b"no dependency names its label ",
+        warning.label.as_slice(),
+    )
+}
+
+fn append_of_element(out: &mut Vec<u8>, warning: &DependencyWarning) -> Result<(), NoMemory>
+    ensures { OnOk result (out.new.items ≡ out.old.items ++ words.of_element_words warning.now) }
+{
+    let element = u64::from(warning.element);
+    append_one(out, b" isn't one of element ", element, b" of ")?;
+    let number = u64::from(warning.slot);
+    append_place(out, b"segment", number, warning.id.as_slice())
+}
+
+fn append_dependency_code(out: &mut Vec<u8>, warning: &DependencyWarning) -> Result<(), NoMemory>
+    ensures { OnOk result (out.new.items ≡ out.old.items ++ words.dependency_code_words warning.now) }
+{
+    append_texts(out, b"the code ", warning.code.as_slice())?;
+    append_of_element(out, warning)
+}
+
+fn append_dependency(out: &mut Vec<u8>, warning: &DependencyWarning) -> Result<(), NoMemory>
+    ensures { OnOk result (out.new.items ≡ out.old.items ++ words.dependency_words warning.now) }
+{
+    append_in_place(out, b"dependency", warning.dependency, b"")?;
+    append_dependency_code(out, warning)
+}
+
+fn append_unmet(out: &mut Vec<u8>, warning: &UnmetWarning) -> Result<(), NoMemory>
+    ensures { OnOk result (out.new.items ≡ out.old.items ++ words.unmet_words warning.now) }
+{
+    let number = u64::from(warning.slot);
+    append(out, b"no set can meet this: ")?;
+    append_in_place(out, b"segment", number, warning.id.as_slice())?;
+    append_one(
+        out,
+        b"element ",
+        warning.element,
+        b" is mandatory, and its type or its lengths allow none of its codes",
+    )
+}
+
 /// Adds what a warning says of a guide that is accepted.
 pub fn append_warning(out: &mut Vec<u8>, warning: &Warning) -> Result<(), NoMemory>
     ensures { OnOk result (out.new.items ≡ out.old.items ++ words.warning_words warning.now) }
@@ -62,5 +117,8 @@ pub fn append_warning(out: &mut Vec<u8>, warning: &Warning) -> Result<(), NoMemo
             b"a segment that the guide doesn't know is accepted, also one that begins with ISA: a receiver may read it as a header",
         ),
         Warning::Code(warning) => append_code(out, warning),
+        Warning::UnnamedLabel(warning) => append_label(out, warning),
+        Warning::CodeOfDependency(warning) => append_dependency(out, warning),
+        Warning::Unmet(warning) => append_unmet(out, warning),
     }
 }

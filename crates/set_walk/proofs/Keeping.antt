@@ -7,6 +7,7 @@ use Rattle.std.specs.List.{Contains, list_any, list_all, filter}
 use Rattle.std.specs.Option.{option_map_or}
 use mathlib.Core.List.{map-map}
 use Rattle.std.proofs.lemmas.Bool.{and_parts, not-true, ne_eqb, false_from_ne_true}
+use Rattle.std.proofs.lemmas.List.{map-append}
 use Rattle.std.proofs.lemmas.List.Elements.{All-contains, filter-append}
 use Rattle.std.proofs.lemmas.List.Folds.{list_any_at}
 use Rattle.std.proofs.lemmas.List.Sums.{AllPass-from_list_all}
@@ -20,11 +21,12 @@ use Rattle.guide_tree.specs.declared.rows.DependencyKind.TheVariants as kind
 use Rattle.guide_tree.specs.declared.slot.Slot.{Slot}
 use Rattle.guide_tree.specs.Words.{GuideTree, Given, Segment, id_of}
 use Rattle.hl_check.specs.Hierarchy.{is_hl, hl_segments, IsHierarchyWhole}
+use Rattle.hl_check.specs.Names.{Names, names_of}
 use Rattle.depend_check.specs.Standing.{stands_at, fills, triggers}
 use Rattle.depend_check.specs.Kept.{IsTargetKept, AreDependenciesKept}
 use Rattle.set_walk.specs.declared.kept.SlottedSeg.{SlottedSeg}
 use Rattle.set_walk.specs.declared.kept.Kept.{Kept}
-use Rattle.set_walk.specs.Kept.{Slotted, slotted_view, segs_in, given_by, segment_in, is_hierarchical, is_labelled, IsKept}
+use Rattle.set_walk.specs.Kept.{Slotted, slotted_view, segs_in, given_by, segment_in, is_hierarchical, is_labelled, AreNamesKept, IsKept}
 use Rattle.set_walk.specs.Depends.{lacks, has, target_by, kept_by, some_given, some_in}
 
 kept_view : {X Y : Type 0} (b : Bool) (v : X → Y) (x : X) (xs : List X) (ys : List Y) → map v xs ≡ ys
@@ -148,14 +150,39 @@ pub same_id : (slot : Slot) (seg : SegValue) → bytes_eq slot.id (id_of (elemen
 same_id slot seg e =
     ap (λ (l : List ℕ). bytes_eq l (codes "HL")) (sym ((bytes_eq-Decides slot.id (id_of (elements_of seg))).0 e))
 
+abbrev named : Slotted → Names
+named x = names_of (elements_of x.0)
+
+named_hls : (hls : List SlottedSeg) → map names_of (map segment_in hls) ≡ map named (map slotted_view hls)
+named_hls [] = refl
+named_hls (x ∷ xs) = ap (λ (l : List Names). names_of (segment_in x) ∷ l) (named_hls xs)
+
+named_if : (b : Bool) (x : Slotted) → map named (if b then x ∷ [] else []) ≡ (if b then named x ∷ [] else [])
+named_if true x = refl
+named_if false x = refl
+
+names_more : (old new : Kept) (seg : SegValue) (slot : Slot) (hl : Bool)
+    → map slotted_view new.hls.items ≡ map slotted_view old.hls.items ++ (if hl then (seg, slot) ∷ [] else [])
+    → new.names.items ≡ old.names.items ++ (if hl then names_of (elements_of seg) ∷ [] else [])
+    → AreNamesKept old → AreNamesKept new
+names_more old new seg slot hl hls names was =
+    let x : Slotted = (seg, slot) in
+    let own : List Slotted = map slotted_view old.hls.items in
+    names ∙ ap (λ (l : List Names). l ++ (if hl then names_of (elements_of seg) ∷ [] else [])) (was ∙ named_hls old.hls.items)
+    ∙ ap (λ (l : List Names). map named own ++ l) (sym (named_if hl x))
+    ∙ sym (map-append named own (if hl then x ∷ [] else []))
+    ∙ sym (ap (map named) hls) ∙ sym (named_hls new.hls.items)
+
 pub kept_more : (old new : Kept) (xs : List Slotted) (seg : SegValue) (slot : Slot) (hl label : Bool)
     → bytes_eq slot.id (id_of (elements_of seg)) ≡ true → hl ≡ bytes_eq slot.id (codes "HL") → label ≡ is_some slot.label
     → map slotted_view new.hls.items ≡ map slotted_view old.hls.items ++ (if hl then (seg, slot) ∷ [] else [])
+    → new.names.items ≡ old.names.items ++ (if hl then names_of (elements_of seg) ∷ [] else [])
     → map slotted_view new.labelled.items ≡ map slotted_view old.labelled.items ++ (if label then (seg, slot) ∷ [] else [])
     → IsKept old xs → IsKept new (xs ++ (seg, slot) ∷ [])
-kept_more old new xs seg slot hl label id is_one has_one hls labelled kept = record {
+kept_more old new xs seg slot hl label id is_one has_one hls names labelled kept = record {
   hls = more_filtered slotted_view is_hierarchical old.hls.items new.hls.items xs (seg, slot) hl (same_id slot seg id ∙ sym is_one)
       kept.hls hls;
+  names = names_more old new seg slot hl hls names kept.names;
   labelled = more_filtered slotted_view is_labelled old.labelled.items new.labelled.items xs (seg, slot) label (sym has_one)
       kept.labelled labelled;
 }

@@ -22,7 +22,8 @@ use Rattle.hl_check.proofs.Whole.{hierarchy_of_placed}
 use Rattle.depend_check.specs.Dependencies.{IsDependencyFault}
 use Rattle.depend_check.proofs.Whole.{dependencies_of_placed}
 use Rattle.set_walk.specs.Depends.{AreRulesKept}
-use Rattle.set_walk.specs.Kept.{Slotted, slotted_view, given_by, IsKept}
+use Rattle.hl_check.specs.Names.{names_of}
+use Rattle.set_walk.specs.Kept.{Slotted, slotted_view, segment_in, given_by, IsKept}
 use Rattle.set_walk.specs.WalkedBody.{IsBodyFault, IsElementFaultIn, places_by}
 use Rattle.set_walk.specs.WalkedSet.{IsWalkedSet, trailer_list}
 use Rattle.set_walk.specs.Walked.{goes_on, is_trailer, IsErrorFrom, IsErrorBehind, IsKeptBehind, HasTaken, IsSeen, slotted_from, faults_of}
@@ -46,8 +47,8 @@ Begun g rest f found last =
     (Contains found f ⊎ IsErrorFrom g.nodes 2 (last_of (place_view last)) rest f) ↔ IsErrorFrom g.nodes 2 None rest f
 
 pub seen_nothing : (g : GuideTree) (s : Seen) → s.walk.last.items ≡ [] → s.walk.count ≡ 0 → s.structure ≡ [] → s.errors.items ≡ []
-    → s.kept.hls.items ≡ [] → s.kept.labelled.items ≡ [] → s.trailer ≡ None → IsSeen g s []
-seen_nothing g s last count structure errors hls labelled trailer = record {
+    → s.kept.hls.items ≡ [] → s.kept.names.items ≡ [] → s.kept.labelled.items ≡ [] → s.trailer ≡ None → IsSeen g s []
+seen_nothing g s last count structure errors hls names labelled trailer = record {
   body = [];
   all = sym (ap trailer_list trailer);
   trailer = trailer;
@@ -67,7 +68,11 @@ seen_nothing g s last count structure errors hls labelled trailer = record {
       (subst (Begun g rest f []) (sym last) (λ h. ⊎_elim (λ a. absurd (no_member f a)) (λ b. b) h, λ h. inr h)));
   kept = λ rest. record {
     taken = [];
-    kept = record { hls = ap (map slotted_view) hls; labelled = ap (map slotted_view) labelled };
+    kept = record {
+      hls = ap (map slotted_view) hls;
+      names = names ∙ sym (ap (map names_of) (ap (map segment_in) hls));
+      labelled = ap (map slotted_view) labelled;
+    };
     are = ap (λ (l : List Step). slotted_from g.nodes (last_of (place_view l)) rest) last;
   };
 }

@@ -108,7 +108,7 @@ took g old new t seg e goes uses room count structure adds keeps trailer =
 -- a stray
 abbrev past_stray : Seen → List Fault → ℕ → Seen
 past_stray old found n = record {
-  walk = record { last = old.walk.last; next = old.walk.next; count = n };
+  walk = record { last = old.walk.last; next = old.walk.next; slot = old.walk.slot; count = n };
   structure = found;
   errors = old.errors;
   kept = old.kept;

@@ -5,6 +5,7 @@ use Rattle.x12_segs.specs.Words.{SegValue, elements_of}
 use Rattle.guide_tree.specs.declared.slot.Slot.{Slot}
 use Rattle.guide_tree.specs.Words.{Given, Segment}
 use Rattle.hl_check.specs.Hierarchy.{is_hl}
+use Rattle.hl_check.specs.Names.{AreNames}
 use Rattle.set_walk.specs.declared.kept.SlottedSeg.{SlottedSeg}
 use Rattle.set_walk.specs.declared.kept.Kept.{Kept}
 
@@ -33,7 +34,12 @@ is_hierarchical x = is_hl (elements_of x.0)
 abbrev pub is_labelled : Slotted → Bool
 is_labelled x = is_some x.1.label
 
--- of these segments the HLs, and those whose slots have labels
+-- HL01 to HL04 of each HL that was kept
+abbrev pub AreNamesKept : Kept → Type 0
+AreNamesKept k = AreNames k.names.items (map segment_in k.hls.items)
+
+-- of these segments the HLs with their names, and those whose slots have labels
 pub record IsKept (k : Kept) (xs : List Slotted) : Type 0 where
   pub hls : map slotted_view k.hls.items ≡ filter is_hierarchical xs
+  pub names : AreNamesKept k
   pub labelled : map slotted_view k.labelled.items ≡ filter is_labelled xs

@@ -7,7 +7,8 @@
 //! segments, whatever is wrong with it. By one that has them it gives none where they may be broken, as with more than four
 //! dependencies. `tell_elements` adds exactly the element faults of one segment.
 //!
-//! Of the segments only the HLs and those whose slots have labels are kept, which the rules over the whole set look at behind the walk.
+//! Of the segments only the HLs, with their elements HL01 to HL04, and those whose slots have labels are kept, which the rules over the
+//! whole set look at behind the walk.
 //!
 //! Source: X12.6, transaction set; the 999 guide (005010X231), IK3 and IK4. The walk is own.
 #![tactic(auto)]
@@ -16,6 +17,7 @@ mod depends;
 mod ends;
 mod hierarchy;
 mod kept;
+mod named;
 mod rules;
 mod seen;
 mod told;

@@ -1,16 +1,19 @@
-ghost use Rattle.std.specs.Prelude.{◌≡◌, ◌<◌, ◌≤◌, ◌+◌, ◌++◌, ◌∷◌, [], List, Some, None, length, IfOk, IfSome, OnOk};
+ghost use Rattle.std.specs.Prelude.{◌≡◌, ◌↔◌, ◌<◌, ◌≤◌, ◌+◌, ◌++◌, ◌∷◌, [], ℕ, List, Some, None, length, IfOk, IfSome, OnOk};
 ghost use Rattle.std.specs.Bool.{OnTrue};
-ghost use Rattle.std.specs.List.{AllByRecursion};
+ghost use Rattle.std.specs.List.{AllByRecursion, Contains};
+ghost use Rattle.hub_kinds.specs.declared.fault.ElemFault.{ElemFault};
 ghost use Rattle.x12_segs.specs.Words.{SegValue, elements_of};
-ghost use Rattle.guide_tree.specs.Words.{GuideTree, fit_behind, guide_of};
+ghost use Rattle.guide_tree.specs.Words.{GuideTree, fit_behind, guide_of, step_faults};
+ghost use Rattle.elem_rules.specs.ElementFaults.{IsElementFault};
 ghost use Rattle.loop_match.specs.Steps.{place_view, turned};
 ghost use Rattle.marked_segments.specs.Marked.{IsPlain};
-ghost use Rattle.set_walk.specs.Walked.{is_trailer, goes_on, HasTaken, IsSeen};
+ghost use Rattle.set_walk.specs.Walked.{is_trailer, goes_on, last_in, HasTaken, IsFaultless, IsSeen};
 
 use crate::kept::{Kept, keep};
-use crate::walk::{Walk, add_errors, step_by, write_place};
-use guide_fast::FastGuide;
-use hub_kinds::{Fault, NoMemory};
+use crate::told::tell_found;
+use crate::walk::{Walk, errors_of, looks_faultless, move_on, step_by, write_place};
+use guide_fast::{FastGuide, NextTurn};
+use hub_kinds::{ElemFault, Fault, NoMemory};
 use loop_match::{Found, Turn};
 use std::alloc::Global;
 use std::mem::swap;
@@ -39,12 +42,14 @@ pub fn nothing_seen<'a, 'g>(alloc: Global) -> Seen<'a, 'g>
         walk: Walk {
             last: Vec::new(alloc),
             next: Vec::new(alloc),
+            slot: 0,
             count: 0,
         },
         structure: Found::new(alloc),
         errors: Vec::new(alloc),
         kept: Kept {
             hls: Vec::new(alloc),
+            names: Vec::new(alloc),
             labelled: Vec::new(alloc),
         },
         trailer: None,
@@ -69,9 +74,8 @@ fn pass_stray<'a, 'g>(
     Ok(())
 }
 
-/// Goes to the place of the next segment by its turn, and finds what shows there and what is wrong with its elements.
-fn go<'a, 'g: 'a>(
-    alloc: Global,
+/// Goes to the place of the next segment by its turn, where nothing is to be reported.
+fn go_silently<'a, 'g: 'a>(
     seen: &mut Seen<'a, 'g>,
     fast: &FastGuide<'g>,
     seg: &SegView<'a>,
@@ -81,32 +85,93 @@ fn go<'a, 'g: 'a>(
     requires room { AllByRecursion (λ s. s.use_no < seen.old.walk.count) seen.old.walk.last.items }
     requires few { seen.old.walk.count < 4294967295 }
     requires plain { IfSome plain (λ separators. IsPlain separators.now seg.now) }
+    requires faultless { IsFaultless seg.now turn.now.slot.now }
+    requires silent { (at : ℕ) → step_faults at (guide_of fast.now).nodes (last_in seen.old.walk)
+        (turned (place_view seen.old.walk.last.items) turn.now).place ≡ [] }
     requires turn { Some (turned (place_view seen.old.walk.last.items) turn.now)
         ≡ fit_behind (elements_of seg.now) (guide_of fast.now).nodes (place_view seen.old.walk.last.items) }
     requires depth { turn.now.depth ≤ length seen.old.walk.last.items }
     requires uses { turn.now.use_no ≤ seen.old.walk.count }
     ensures { OnOk result (HasTaken (guide_of fast.now) seen.old seen.new seg.now) }
 {
-    let _accepted = fast.guide().rows();
+    let _guide = fast.guide();
+    move_on(&mut seen.walk.last, turn)?;
+    keep(&mut seen.kept, seg, plain, turn.slot)?;
+    seen.walk.slot = turn.slot.number;
+    seen.walk.count += 1;
+    Ok(())
+}
+
+/// Goes to the place of the next segment by its turn, reports what shows there, and adds what is wrong with its elements.
+fn go_reporting<'a, 'g: 'a>(
+    seen: &mut Seen<'a, 'g>,
+    fast: &FastGuide<'g>,
+    seg: &SegView<'a>,
+    plain: Option<&[usize]>,
+    turn: &Turn<'g>,
+    found: Vec<ElemFault<'a>>,
+) -> Result<(), NoMemory>
+    requires room { AllByRecursion (λ s. s.use_no < seen.old.walk.count) seen.old.walk.last.items }
+    requires few { seen.old.walk.count < 4294967295 }
+    requires plain { IfSome plain (λ separators. IsPlain separators.now seg.now) }
+    requires found { (f : ElemFault) → Contains found.items f
+        ↔ IsElementFault seg.now.delims (elements_of seg.now) turn.now.slot.now f }
+    requires turn { Some (turned (place_view seen.old.walk.last.items) turn.now)
+        ≡ fit_behind (elements_of seg.now) (guide_of fast.now).nodes (place_view seen.old.walk.last.items) }
+    requires depth { turn.now.depth ≤ length seen.old.walk.last.items }
+    requires uses { turn.now.use_no ≤ seen.old.walk.count }
+    ensures { OnOk result (HasTaken (guide_of fast.now) seen.old seen.new seg.now) }
+{
     let position = seen.walk.count + 2;
     let (last, next) = (&mut seen.walk.last, &mut seen.walk.next);
     write_place(next, last.as_slice(), turn)?;
     let place = next.as_slice();
-    add_errors(
-        alloc,
+    let nodes = fast.guide().rows().nodes.as_slice();
+    tell_found(
         &mut seen.errors,
         position,
-        fast,
         seg,
+        nodes,
         place,
         turn.slot,
-        plain,
+        found,
     )?;
     step_by(&mut seen.structure, position, fast, last.as_slice(), place)?;
-    keep(&mut seen.kept, seg, turn.slot)?;
+    keep(&mut seen.kept, seg, plain, turn.slot)?;
     swap(last, next);
+    seen.walk.slot = turn.slot.number;
     seen.walk.count += 1;
     Ok(())
+}
+
+/// Goes to the place of the next segment by its turn, and finds what shows there and what is wrong with its elements.
+fn go<'a, 'g: 'a>(
+    alloc: Global,
+    seen: &mut Seen<'a, 'g>,
+    fast: &FastGuide<'g>,
+    seg: &SegView<'a>,
+    plain: Option<&[usize]>,
+    next: &NextTurn<'g>,
+) -> Result<(), NoMemory>
+    requires room { AllByRecursion (λ s. s.use_no < seen.old.walk.count) seen.old.walk.last.items }
+    requires few { seen.old.walk.count < 4294967295 }
+    requires plain { IfSome plain (λ separators. IsPlain separators.now seg.now) }
+    requires silent { OnTrue next.now.silent ((at : ℕ) → step_faults at (guide_of fast.now).nodes (last_in seen.old.walk)
+        (turned (place_view seen.old.walk.last.items) next.now.turn).place ≡ []) }
+    requires turn { Some (turned (place_view seen.old.walk.last.items) next.now.turn)
+        ≡ fit_behind (elements_of seg.now) (guide_of fast.now).nodes (place_view seen.old.walk.last.items) }
+    requires depth { next.now.turn.depth ≤ length seen.old.walk.last.items }
+    requires uses { next.now.turn.use_no ≤ seen.old.walk.count }
+    ensures { OnOk result (HasTaken (guide_of fast.now) seen.old seen.new seg.now) }
+{
+    let _accepted = fast.guide().rows();
+    let slot = next.turn.slot;
+    let faultless = looks_faultless(fast, seg, slot, plain);
+    if faultless && next.silent {
+        return go_silently(seen, fast, seg, plain, &next.turn);
+    }
+    let found = errors_of(alloc, fast, seg, slot, plain, faultless)?;
+    go_reporting(seen, fast, seg, plain, &next.turn, found)
 }
 
 /// Takes the next segment of the body.
@@ -122,9 +187,10 @@ fn take<'a, 'g: 'a>(
     requires plain { IfSome plain (λ separators. IsPlain separators.now seg.now) }
     ensures { OnOk result (HasTaken (guide_of fast.now) seen.old seen.new seg.now) }
 {
-    match fast.turn_from(seen.walk.last.as_slice(), seen.walk.count, seg) {
+    let walk = &seen.walk;
+    match fast.next_turn(walk.slot, walk.last.as_slice(), walk.count, seg) {
         None => pass_stray(seen, fast, seg),
-        Some(turn) => go(alloc, seen, fast, seg, plain, &turn),
+        Some(next) => go(alloc, seen, fast, seg, plain, &next),
     }
 }
 

@@ -1,19 +1,20 @@
-ghost use Rattle.std.specs.Prelude.{◌≡◌, ◌++◌, ◌+◌, ◌<◌, ◌≤◌, ◌^◌, length, IfSome, OnOk};
+ghost use Rattle.std.specs.Prelude.{◌≡◌, ◌↔◌, ◌++◌, ◌+◌, ◌<◌, ◌≤◌, ◌^◌, length, IfOk, IfSome, OnOk};
 ghost use Rattle.std.specs.Bool.{OnTrue};
-ghost use Rattle.std.specs.List.{AllByRecursion};
+ghost use Rattle.std.specs.List.{AllByRecursion, Contains};
+ghost use Rattle.hub_kinds.specs.declared.fault.ElemFault.{ElemFault};
+ghost use Rattle.x12_segs.specs.Words.{elements_of};
 ghost use Rattle.guide_tree.specs.Words.{guide_of, step_faults, end_faults, IsSound};
-ghost use Rattle.loop_match.specs.LoopIds.{loop_id_of};
 ghost use Rattle.loop_match.specs.Steps.{last_of, place_view, turned};
 ghost use Rattle.marked_segments.specs.Marked.{IsPlain};
+ghost use Rattle.elem_rules.specs.ElementFaults.{IsElementFault};
 ghost use Rattle.elem_rules.specs.NodeSlots.{IsSlotOf};
-ghost use Rattle.set_walk.specs.Told.{IsTold, Adds};
 ghost use Rattle.set_walk.specs.Walked.{IsFaultless};
 
-use crate::told::{element_faults, tell_found};
+use crate::told::element_faults;
 use elem_rules::is_clean_flat;
 use guide_fast::FastGuide;
 use guide_tree::Slot;
-use hub_kinds::{Fault, NoMemory};
+use hub_kinds::{ElemFault, NoMemory};
 use loop_match::{Found, Step, Turn, end, step};
 use std::alloc::Global;
 use x12_segs::SegView;
@@ -24,7 +25,29 @@ pub struct Walk {
     pub last: Vec<Step>,
     /// Room for the next place.
     pub next: Vec<Step>,
+    /// The number of the last place's slot, by which the next turn is found sooner; 0 at the beginning.
+    pub slot: u32,
     pub count: u64,
+}
+
+/// Goes from the last place to the one to which a turn leads.
+#[inline(always)]
+pub fn move_on(last: &mut Vec<Step>, turn: &Turn) -> Result<(), NoMemory>
+    requires { turn.now.depth ≤ length last.old.items }
+    ensures { OnOk result (place_view last.new.items ≡ (turned (place_view last.old.items) turn.now).place) }
+{
+    last.truncate(turn.depth);
+    last.push(Step {
+        child: turn.child,
+        use_no: turn.use_no,
+    })?;
+    if turn.into_loop {
+        last.push(Step {
+            child: 0,
+            use_no: 0,
+        })?;
+    }
+    Ok(())
 }
 
 /// Writes the place that a turn leads to from the last one.
@@ -33,23 +56,18 @@ pub fn write_place(next: &mut Vec<Step>, last: &[Step], turn: &Turn) -> Result<(
     ensures { OnOk result (place_view next.new.items ≡ (turned (place_view last.now) turn.now).place) }
 {
     next.clear();
-    next.extend_from_slice(&last[..turn.depth])?;
-    next.push(Step {
-        child: turn.child,
-        use_no: turn.use_no,
-    })?;
-    if turn.into_loop {
-        next.push(Step {
-            child: 0,
-            use_no: 0,
-        })?;
-    }
-    Ok(())
+    next.extend_from_slice(last)?;
+    move_on(next, turn)
 }
 
 /// Whether surely no element of the segment has a fault by the slot, by the places of its element separators, if it is plain.
 #[inline]
-fn looks_faultless(fast: &FastGuide, seg: &SegView, slot: &Slot, plain: Option<&[usize]>) -> bool
+pub fn looks_faultless(
+    fast: &FastGuide,
+    seg: &SegView,
+    slot: &Slot,
+    plain: Option<&[usize]>,
+) -> bool
     requires sound { IsSound slot.now }
     requires slot { IsSlotOf (guide_of fast.now).nodes slot.now }
     requires plain { IfSome plain (λ separators. IsPlain separators.now seg.now) }
@@ -61,30 +79,26 @@ fn looks_faultless(fast: &FastGuide, seg: &SegView, slot: &Slot, plain: Option<&
     }
 }
 
-/// Adds the faults of the elements of the segment at a position, which has this place and slot, by the places of its element separators,
-/// if it is plain.
-pub fn add_errors<'a, 'g: 'a>(
+/// What is wrong with a segment's elements by its slot, by the places of its element separators, if it is plain; nothing where it was
+/// seen to be faultless.
+pub fn errors_of<'a>(
     alloc: Global,
-    faults: &mut Vec<Fault<'a>>,
-    position: u64,
-    fast: &FastGuide<'g>,
+    fast: &FastGuide,
     seg: &SegView<'a>,
-    place: &[Step],
     slot: &'a Slot,
     plain: Option<&[usize]>,
-) -> Result<(), NoMemory>
+    faultless: bool,
+) -> Result<Vec<ElemFault<'a>>, NoMemory>
     requires sound { IsSound slot.now }
     requires slot { IsSlotOf (guide_of fast.now).nodes slot.now }
     requires plain { IfSome plain (λ separators. IsPlain separators.now seg.now) }
-    ensures { OnOk result (Adds faults.old.items faults.new.items
-        (IsTold position seg.now (loop_id_of (guide_of fast.now).nodes (place_view place.now)) slot.now)) }
+    requires faultless { OnTrue faultless (IsFaultless seg.now slot.now) }
+    ensures { IfOk result (λ v. (f : ElemFault) → Contains v.items f ↔ IsElementFault seg.now.delims (elements_of seg.now) slot.now f) }
 {
-    if looks_faultless(fast, seg, slot, plain) {
-        return Ok(());
+    if faultless {
+        return Ok(Vec::new(alloc));
     }
-    let found = element_faults(alloc, fast, seg, slot, plain)?;
-    let nodes = fast.guide().rows().nodes.as_slice();
-    tell_found(faults, position, seg, nodes, place, slot, found)
+    element_faults(alloc, fast, seg, slot, plain)
 }
 
 /// Finds what shows at the next place behind the last one.

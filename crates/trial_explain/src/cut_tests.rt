@@ -1,7 +1,7 @@
 //! Acknowledgments as they are written, cut at each byte, and texts that are none.
 use crate::examples::{LINES, OPEN, TOLD};
-use crate::readers::{lines_on, same};
-use explain_command::Failure;
+use crate::readers::{lines_on, same, whole};
+use explain_command::{CutOff, Failure, explained};
 use std::alloc::Global;
 use std::test::Fail;
 
@@ -35,14 +35,15 @@ fn settled(lines: &[u8]) -> &[u8] {
     told
 }
 
-/// What is told of a front part is told of the whole, but for the totals and for a set whose group is cut off; a front part that tells
-/// nothing is refused.
+/// What is told of a front part is told of the whole, but for the totals and for a set whose group is cut off; a front part that
+/// tells nothing is refused, or cut off.
 fn expect_front(alloc: Global, cut: usize) -> Result<(), Fail> {
     let answer = lines_on(alloc, TOLD.get(..cut).unwrap_or(TOLD));
     let holds = match &answer {
-        Ok(lines) => cut >= 138 && LINES.starts_with(settled(lines.as_slice())),
+        Ok(lines) if cut < 138 => 106 < cut && lines.is_empty(),
+        Ok(lines) => LINES.starts_with(settled(lines.as_slice())),
         Err(Failure::NoHeader) => cut < 106,
-        Err(Failure::TellsNothing) => 106 <= cut && cut < 138,
+        Err(Failure::TellsNothing) => cut == 106,
         Err(_) => false,
     };
     if holds {
@@ -74,7 +75,6 @@ const SILENT: &[&[u8]] = &[
     b"IEA*0*000000001~",
     b"GS*PO*ACME*BOLT*20260228*0900*12*X*005010~ST*850*0001~SE*2*0001~GE*1*12~IEA*1*000000001~",
     b"AK1*PO*12~AK2*850*0001~IK3*BEG*2**8~IK4*1*353*7~",
-    b"IK5*R",
     b"TA1X*1~ta1*1~ IK5*R~IK50*R~AK99*R~",
 ];
 
@@ -149,5 +149,38 @@ fn takes_segments_of_other_hands(rt: HostRuntime) -> Result<(), Fail> {
             Err(_) => return Err("refused".into()),
         }
     }
+    Ok(())
+}
+
+/// Segments behind a header, and where they are cut off.
+const ENDS: &[(&[u8], Option<CutOff>)] = &[
+    (b"IK5*R~", None),
+    (b"IK5*R~\r\n", None),
+    (b"IK5*R~ ", Some(CutOff::InSegment)),
+    (b"IK5*R", Some(CutOff::InSegment)),
+    (b"ST*999*0001~AK1*PO*12~IK5*R~", Some(CutOff::In999)),
+    (b"ST*999*0001~SE*2*0001~ST*999*0002~\n", Some(CutOff::In999)),
+    (b"ST*999*0001~IK5*R~SE*3*0001~GE*1*1~", None),
+];
+
+#[test]
+fn says_where_a_text_is_cut_off(rt: HostRuntime) -> Result<(), Fail> {
+    for (segments, cut) in ENDS {
+        let mut text = Vec::from_slice(rt.alloc(), HEADER)?;
+        text.extend_from_slice(segments)?;
+        match explained(rt.alloc(), whole(text.as_slice())) {
+            Ok(account) => assert!(rt; account.cut == *cut, "another end"),
+            Err(_) => return Err("refused".into()),
+        }
+    }
+    Ok(())
+}
+
+#[test]
+fn refuses_a_997(rt: HostRuntime) -> Result<(), Fail> {
+    let mut text = Vec::from_slice(rt.alloc(), HEADER)?;
+    text.extend_from_slice(b"ST*997*0001~AK1*PO*12~AK2*850*0001~AK5*A~AK9*A*1*1*1~SE*6*0001~")?;
+    let answer = explained(rt.alloc(), whole(text.as_slice()));
+    assert!(rt; matches!(&answer, Err(Failure::Is997)), "a 997 is read");
     Ok(())
 }

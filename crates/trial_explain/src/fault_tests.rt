@@ -24,7 +24,7 @@ fn a_file_that_fails_at_some_read_is_not_explained(rt: HostRuntime) -> Result<()
         assert!(rt; matches!(&answer, Err(Failure::Input)), "at read {reads}");
     }
     match explained(rt.alloc(), slow(1000)) {
-        Ok(lines) => same(rt.alloc(), lines.as_slice(), LINES),
+        Ok(account) => same(rt.alloc(), account.lines.as_slice(), LINES),
         Err(_) => Err("refused".into()),
     }
 }

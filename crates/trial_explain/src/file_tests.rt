@@ -66,8 +66,44 @@ fn explains_a_file(rt: HostRuntime) -> Result<(), Fail> {
     )
 }
 
+/// Lines, each with a name in front.
+fn named<R: Files + AllocGlobal>(rt: &R, name: &str, lines: &[u8]) -> Result<Vec<u8>, Fail> {
+    let mut text = Vec::new(rt.alloc());
+    for line in lines.split(|byte| *byte == b'\n') {
+        if !line.is_empty() {
+            text.extend_from_slice(name.as_bytes())?;
+            text.extend_from_slice(line)?;
+            text.push(b'\n')?;
+        }
+    }
+    Ok(text)
+}
+
+/// Several files, of which one is cut off and one isn't there: each is told, and the status is the worst of theirs.
+#[test]
+fn explains_several_files(rt: HostRuntime) -> Result<(), Fail> {
+    fs::write(&rt, "first.ack", TOLD)?;
+    fs::write(&rt, "second.ack", b"".as_slice())?;
+    let mut lines = named(&rt, "first.ack: ", LINES)?;
+    lines.extend_from_slice(b"second.ack: no acknowledgments\n")?;
+    expect(&rt, &["first.ack", "second.ack"], 0, lines.as_slice(), b"")?;
+    fs::write(&rt, "second.ack", TOLD.get(..TOLD.len() - 1).unwrap_or(b""))?;
+    let mut lines = named(&rt, "second.ack: ", LINES)?;
+    lines.extend_from_slice(named(&rt, "first.ack: ", LINES)?.as_slice())?;
+    expect(
+        &rt,
+        &["second.ack", "third.ack", "first.ack"],
+        4,
+        lines.as_slice(),
+        b"nighthub_explain: second.ack: the text ends inside a segment\nnighthub_explain: third.ack: input\n",
+    )?;
+    fs::remove_file(&rt, "first.ack")?;
+    fs::remove_file(&rt, "second.ack")?;
+    Ok(())
+}
+
 /// Words that are no command line.
-const NO_COMMAND_LINES: &[&[&str]] = &[&[], &["a.ack", "b.ack"], &["--in", "a.ack"], &["-x"]];
+const NO_COMMAND_LINES: &[&[&str]] = &[&[], &["--in", "a.ack"], &["-x"], &["a.ack", "-x"]];
 
 #[test]
 fn says_what_the_words_must_be(rt: HostRuntime) -> Result<(), Fail> {

@@ -38,7 +38,7 @@ pub fn whole(text: &[u8]) -> Slow<'_> {
 
 /// The lines on these acknowledgments.
 pub fn lines_on(alloc: Global, text: &[u8]) -> Result<Vec<u8>, Failure> {
-    explained(alloc, whole(text))
+    Ok(explained(alloc, whole(text))?.lines)
 }
 
 /// Whether a text is the one that is wanted; if not, it is shown.

@@ -31,6 +31,6 @@ pub fn seen(read: &[u8]) -> Seen {
         at: 0,
         inside: None,
     };
-    let Advanced { scout, found } = advance(read, start);
-    (scout.at, found, scout.inside.is_some())
+    let Advanced { scout, count } = advance(read, start);
+    (scout.at, count > 0, scout.inside.is_some())
 }

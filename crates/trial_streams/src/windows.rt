@@ -24,7 +24,7 @@ fn ends(alloc: Global, text: &[u8], window: usize) -> Result<Vec<usize>, Fail>
         let is_full = held.fill(&mut source, window)?;
         let ahead = advance(held.bytes(), scout);
         base = base.saturating_add(ahead.scout.at);
-        if ahead.found {
+        if ahead.count > 0 {
             ends.push(base)?;
         }
         held.give_up(ahead.scout.at);

@@ -19,7 +19,7 @@ decides_field_byte h b =
     (Decides-not (nat_eq b (element_of h)) (Decides-eqb b (element_of h)))
     (Decides-not (nat_eq b (terminator_of h)) (Decides-eqb b (terminator_of h)))
 
-decides_field_bytes : (h bytes : List ℕ) → Decides (list_all (is_field_byte h) bytes) (All (IsFieldByte h) bytes)
+pub decides_field_bytes : (h bytes : List ℕ) → Decides (list_all (is_field_byte h) bytes) (All (IsFieldByte h) bytes)
 decides_field_bytes h bytes = Decides-by_and (is_field_byte h) (IsFieldByte h) (list_all (is_field_byte h)) (decides_field_byte h) refl
     (λ _ _. refl) bytes
 

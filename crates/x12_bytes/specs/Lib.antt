@@ -1,4 +1,5 @@
 pub mod Bytes
+pub mod FieldRow
 pub mod Header
 pub mod HeaderTest
 pub mod Spaces

@@ -16,6 +16,7 @@ pub const REPETITION: usize = 82;
 pub const TERMINATOR: usize = 105;
 
 /// Where the separator before field `k` stands.
+#[inline(always)]
 pub fn separator_place(k: usize) -> usize
     requires from { 1 ≤ k }
     requires to { k ≤ 16 }
@@ -43,6 +44,7 @@ pub fn separator_place(k: usize) -> usize
 }
 
 /// Field `k` of a header's bytes.
+#[inline(always)]
 pub fn field(bytes: &[u8], k: usize) -> &[u8]
     requires len { length bytes.now ≡ HEADER_LEN }
     requires from { 1 ≤ k }

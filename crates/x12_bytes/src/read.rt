@@ -1,6 +1,8 @@
 ghost use Rattle.std.specs.Prelude.{◌≡◌, ◌↔◌, ◌≤◌, true, ℕ, List, IsSome, IfSome, IsTrue, is_some, length};
 ghost use Rattle.x12_bytes.specs.Header.{Head, HasFields, IsFieldAt, IsHeader, header_at};
 ghost use Rattle.x12_bytes.specs.HeaderTest.{is_head};
+ghost use Rattle.x12_bytes.specs.FieldRow.{HasRow, is_free};
+ghost use Rattle.std.specs.List.{list_all};
 ghost use Rattle.x12_bytes.specs.declared.layout.TheConstants.{HEADER_LEN};
 
 use crate::bytes;
@@ -47,19 +49,49 @@ fn is_header(bytes: &[u8]) -> bool
         && has_fields(bytes)
 }
 
-/// Whether each field stands behind a separator and holds no delimiter, asked from left to right.
+/// Whether each field stands behind a separator and holds no delimiter. Written out, so that each place and each width is a constant:
+/// a header is tested wherever a letter I is met.
 fn has_fields(bytes: &[u8]) -> bool
     requires { length bytes.now ≡ HEADER_LEN }
     ensures { IsTrue result ↔ HasFields bytes.now }
 {
-    for k in 1..17 {
-        if !is_field_at(bytes, k) {
-            return false;
-        }
-    }
-    true
+    has_eight(bytes, 1) && has_eight(bytes, 9)
 }
 
+/// Whether that is so of eight fields from this one on.
+#[inline(always)]
+fn has_eight(bytes: &[u8], k: usize) -> bool
+    requires len { length bytes.now ≡ HEADER_LEN }
+    requires from { 1 ≤ k }
+    requires to { k ≤ 9 }
+    ensures { IsTrue result ↔ HasRow bytes.now k 8 }
+{
+    has_four(bytes, k) && has_four(bytes, k + 4)
+}
+
+/// Whether it is so of four.
+#[inline(always)]
+fn has_four(bytes: &[u8], k: usize) -> bool
+    requires len { length bytes.now ≡ HEADER_LEN }
+    requires from { 1 ≤ k }
+    requires to { k ≤ 13 }
+    ensures { IsTrue result ↔ HasRow bytes.now k 4 }
+{
+    has_two(bytes, k) && has_two(bytes, k + 2)
+}
+
+/// Whether it is so of two.
+#[inline(always)]
+fn has_two(bytes: &[u8], k: usize) -> bool
+    requires len { length bytes.now ≡ HEADER_LEN }
+    requires from { 1 ≤ k }
+    requires to { k ≤ 15 }
+    ensures { IsTrue result ↔ HasRow bytes.now k 2 }
+{
+    is_field_at(bytes, k) && is_field_at(bytes, k + 1)
+}
+
+#[inline(always)]
 fn is_field_at(bytes: &[u8], k: usize) -> bool
     requires len { length bytes.now ≡ HEADER_LEN }
     requires from { 1 ≤ k }
@@ -69,9 +101,19 @@ fn is_field_at(bytes: &[u8], k: usize) -> bool
     let element = bytes[ELEMENT];
     let terminator = bytes[TERMINATOR];
     bytes[layout::separator_place(k)] == element
-        && layout::field(bytes, k)
-            .iter()
-            .all(|b| *b != element && *b != terminator)
+        && is_free_of(layout::field(bytes, k), element, terminator)
+}
+
+/// Whether neither byte stands in a field. No byte ends it, so that many are looked at in one step.
+#[inline(always)]
+fn is_free_of(field: &[u8], element: u8, terminator: u8) -> bool
+    ensures { result ≡ list_all (is_free element terminator) field.now }
+{
+    let mut free = true;
+    for byte in field {
+        free = free & (*byte != element) & (*byte != terminator);
+    }
+    free
 }
 
 /// The header that is known to begin at this offset of the text (X12.5, ISA): it isn't tested again.

@@ -1,5 +1,4 @@
-use Rattle.std.proofs.Common.{◌≡◌, ◌+◌, true, false, refl, sym, subst, rules, max, Some, None, slice_range, length}
-use Rattle.memchr.specs.Find.{IsFirstByte, is_byte}
+use Rattle.std.proofs.Common.{◌≡◌, ◌+◌, true, false, refl, sym, subst, rules, max}
 use Rattle.x12_bytes.specs.HeaderTest.{is_head}
 use Rattle.x12_segs.specs.Words.{seg_at, view_of, kind_of}
 use Rattle.env_index.specs.Words.{ends_interchange}

@@ -1,5 +1,6 @@
 use Rattle.std.proofs.Common.{ℕ, List, subst}
 use Rattle.partner_setup.specs.CountersFile.{counters_of_table}
+use Rattle.key_words.specs.KeySentences.{counters_key_words}
 use Rattle.check_command.specs.SetupFiles.{IsFileSaid}
 use Rattle.check_command.proofs.Reading.{rows_are, rows_refused}
 use Rattle.check_command.proofs.judged.judge_counters.Goals as goal
@@ -8,8 +9,10 @@ pub returns-in-Ok : goal.returns-in-Ok
 returns-in-Ok c =
     rows_are counters_of_table c.args.bytes.now c.as_slice.result.now c.in-Ok.rows (cc) c.in-Ok.ensures.table c.in-Ok.ensures.not_toml
 
-pub returns-in_ok-file_refusal-in-Err : goal.returns-in_ok-file_refusal-in-Err
-returns-in_ok-file_refusal-in-Err c =
-    rows_refused counters_of_table c.args.bytes.now c.as_slice.result.now c.in-Err.fault c.in_ok-file_refusal-in-Err.field-0 (cc)
-    c.in-Err.ensures.table c.in-Err.ensures.not_toml c.in_ok-file_refusal-in-Err.ensures.told
-    (subst (λ (b : List ℕ). IsFileSaid b c.in-Err.fault c.in_ok-file_refusal-in-Err.field-0) (cc) c.in_ok-file_refusal-in-Err.ensures.said)
+pub returns-in_ok-counters_refusal-in-Err : goal.returns-in_ok-counters_refusal-in-Err
+returns-in_ok-counters_refusal-in-Err c =
+    let text = c.in_ok-counters_refusal-in-Err.field-0 in
+    rows_refused counters_of_table counters_key_words c.args.bytes.now c.as_slice.result.now c.in-Err.fault text (cc)
+    c.in-Err.ensures.table c.in-Err.ensures.not_toml c.in_ok-counters_refusal-in-Err.ensures.told
+    (subst (λ (b : List ℕ). IsFileSaid counters_key_words b c.in-Err.fault text) (cc)
+    c.in_ok-counters_refusal-in-Err.ensures.said)

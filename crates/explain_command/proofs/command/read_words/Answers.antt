@@ -1,9 +1,9 @@
-use Rattle.std.proofs.Common.{◌≡◌, ◌∙◌, ap, subst, map, true, codes}
+use Rattle.std.proofs.Common.{◌≡◌, ◌∙◌, ap, subst, map, true}
 use Rattle.std.proofs.lemmas.Result.{IfOk-weaker}
 use Rattle.clap.specs.Words.{App, HasKind, HasMatchesOf, app_of, fault_of, is_simple_and_free, kind_of, takes}
 use Rattle.clap.specs.declared.error.kind.ErrorKind.TheVariants.{OutOfMemory}
 use Rattle.explain_command.specs.CommandLine.{explain_app}
-use Rattle.explain_command.proofs.CommandLine.{asked, found, free, shown}
+use Rattle.explain_command.proofs.CommandLine.{asked, free, none_named, shown}
 use Rattle.explain_command.proofs.command.read_words.Goals as goal
 
 pub returns-in-Ok-clause-asked : goal.returns-in-Ok-clause-asked
@@ -11,7 +11,7 @@ returns-in-Ok-clause-asked g c =
     let app : app_of c.in_ok-command.command ≡ explain_app = c.in_ok-command.ensures in
     let words = map g.S.AsStr.text c.args.words.now in
     let has = subst (λ (a : App). HasMatchesOf a words c.in-Ok.matches) app c.in-Ok.ensures.matches in
-    IfOk-weaker c.explain_asked.result _ _ (λ a given. asked words c.in-Ok.matches a has given) c.explain_asked.ensures.given
+    IfOk-weaker c.files_asked.result _ _ (λ a given. asked words c.in-Ok.matches a has given) c.files_asked.ensures.given
 
 pub returns-in-Ok-clause-usage : goal.returns-in-Ok-clause-usage
 returns-in-Ok-clause-usage g c usage line =
@@ -19,7 +19,7 @@ returns-in-Ok-clause-usage g c usage line =
     let words = map g.S.AsStr.text c.args.words.now in
     let m = c.in-Ok.matches in
     let has = subst (λ (a : App). HasMatchesOf a words m) app c.in-Ok.ensures.matches in
-    c.explain_asked.ensures.usage usage line.path (found words m (codes "file") has ∙ line.given)
+    line.named (none_named words m has (c.files_asked.ensures.usage usage))
 
 pub returns-in-Err-clause-asked : goal.returns-in-Err-clause-asked
 returns-in-Err-clause-asked g c =

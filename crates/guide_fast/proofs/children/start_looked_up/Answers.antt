@@ -3,8 +3,8 @@ use Rattle.std.proofs.lemmas.List.{length-map}
 use Rattle.x12_segs.specs.Words.{elements_of}
 use Rattle.guide_tree.specs.Words.{or_else}
 use Rattle.guide_fast.specs.Children.{fit_listed, until}
-use Rattle.guide_fast.specs.Keys.{begin_key, begin_keys}
-use Rattle.guide_fast.specs.declared.keys.TheConstants.{POSITIONS}
+use Rattle.guide_fast.specs.Keys.{begin_key, begin_keys, begin_reach}
+use Rattle.guide_fast.proofs.Keyed.{reached_behind}
 use Rattle.guide_fast.proofs.LookedUp.{fit_told, child_or, none_told, all_told, one_more, found_sooner, none_sooner}
 use Rattle.guide_fast.proofs.children.start_looked_up.Goals.{in-Some, in_default}
 use Rattle.guide_fast.proofs.children.start_looked_up.Goals as goal
@@ -42,6 +42,6 @@ pub returns-clause-turn : goal.returns-clause-turn
 returns-clause-turn c =
     let ns = c.args.nodes.now in
     let s = elements_of c.args.seg.now in
-    let all : c.loop-position.position ≡ POSITIONS = omega (arith, c.loop-position-test.false, c.loop-position.auto.position-end) in
+    let all : c.loop-position.position ≡ c.args.reach = omega (arith, c.loop-position-test.false, c.loop-position.auto.position-end) in
     c.loop-position.invariant.0 ∙ ap (λ (n : ℕ). fit_told s n c.args.from (drop c.args.from ns)) all
-    ∙ all_told s c.args.from (drop c.args.from ns)
+    ∙ all_told s c.args.reach c.args.from (drop c.args.from ns) (reached_behind begin_reach c.args.reach c.args.from ns c.requires.reach)

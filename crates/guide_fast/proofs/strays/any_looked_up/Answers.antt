@@ -2,7 +2,6 @@ use Rattle.std.proofs.Common.{◌≡◌, ℕ, sym, ap, ◌∙◌, arith}
 use Rattle.x12_segs.specs.Words.{elements_of}
 use Rattle.guide_fast.specs.Keys.{slot_keys}
 use Rattle.guide_fast.specs.Slots.{lent_slots}
-use Rattle.guide_fast.specs.declared.keys.TheConstants.{POSITIONS}
 use Rattle.guide_fast.proofs.Strayed.{any_told, none_told, none_more, some_found, all_told}
 use Rattle.guide_fast.proofs.strays.any_looked_up.Goals as goal
 
@@ -25,5 +24,5 @@ pub returns : goal.returns
 returns c =
     let s = elements_of c.args.seg.now in
     let slots = lent_slots c.args.slots.now in
-    let all : c.loop-position.position ≡ POSITIONS = omega (arith, c.loop-position-test.false, c.loop-position.auto.position-end) in
-    sym c.loop-position.invariant ∙ ap (λ (n : ℕ). any_told s n slots) all ∙ all_told s slots
+    let all : c.loop-position.position ≡ c.args.reach = omega (arith, c.loop-position-test.false, c.loop-position.auto.position-end) in
+    sym c.loop-position.invariant ∙ ap (λ (n : ℕ). any_told s n slots) all ∙ all_told s c.args.reach c.args.slots.now c.requires.reach

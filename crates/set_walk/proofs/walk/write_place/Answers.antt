@@ -1,30 +1,18 @@
-use Rattle.std.proofs.Common.{◌≡◌, ◌++◌, ◌∷◌, [], ap, sym, ◌∙◌, List, take, Bool}
-use Rattle.std.proofs.lemmas.List.{append_assoc}
-use Rattle.guide_tree.specs.Words.{use_of}
+use Rattle.std.proofs.Common.{◌≡◌, ◌≤◌, ◌++◌, ap, sym, subst, ◌∙◌, List, length, OnOk}
 use Rattle.loop_match.specs.declared.next.Step.{Step}
-use Rattle.loop_match.specs.Steps.{place_view, below_start}
-use Rattle.loop_match.proofs.Walking.{went, step_of}
+use Rattle.loop_match.specs.Steps.{place_view, turned}
 use Rattle.set_walk.proofs.walk.write_place.Goals as goal
 
-pub returns-in_ok-push-2 : goal.returns-in_ok-push-2
-returns-in_ok-push-2 c =
-    let turn = c.args.turn.now in
-    let last = c.args.last.now in
-    let first : c.extend_from_slice.new.self.items ≡ take turn.depth last =
-    c.in_ok-extend_from_slice.ensures.items ∙ ap (λ (l : List Step). l ++ take turn.depth last) c.clear.ensures.items in
-    ap place_view (c.in_ok-push-2.ensures.items
-    ∙ ap (λ (l : List Step). l ++ step_of 0 0 ∷ [])
-    (c.in_ok-push.ensures.items ∙ ap (λ (l : List Step). l ++ step_of turn.child turn.use_no ∷ []) first)
-    ∙ append_assoc (take turn.depth last) (step_of turn.child turn.use_no ∷ []) (step_of 0 0 ∷ []))
-    ∙ went turn.depth last (step_of turn.child turn.use_no ∷ step_of 0 0 ∷ [])
-    ∙ ap (λ (b : Bool). take turn.depth (place_view last) ++ use_of turn.child turn.use_no ∷ below_start b) (sym c.if-turn.true)
+pub move_on-requires : goal.move_on-requires
+move_on-requires c =
+    let all : c.extend_from_slice.new.self.items ≡ c.args.last.now =
+    c.in_ok-extend_from_slice.ensures.items ∙ ap (λ (l : List Step). l ++ c.args.last.now) c.clear.ensures.items in
+    subst (λ (l : List Step). c.args.turn.now.depth ≤ length l) (sym all) c.requires
 
-pub returns-else-turn : goal.returns-else-turn
-returns-else-turn c =
+pub returns : goal.returns
+returns c =
     let turn = c.args.turn.now in
-    let last = c.args.last.now in
-    let first : c.extend_from_slice.new.self.items ≡ take turn.depth last =
-    c.in_ok-extend_from_slice.ensures.items ∙ ap (λ (l : List Step). l ++ take turn.depth last) c.clear.ensures.items in
-    ap place_view (c.in_ok-push.ensures.items ∙ ap (λ (l : List Step). l ++ step_of turn.child turn.use_no ∷ []) first)
-    ∙ went turn.depth last (step_of turn.child turn.use_no ∷ [])
-    ∙ ap (λ (b : Bool). take turn.depth (place_view last) ++ use_of turn.child turn.use_no ∷ below_start b) (sym c.if-turn.false)
+    let all : c.extend_from_slice.new.self.items ≡ c.args.last.now =
+    c.in_ok-extend_from_slice.ensures.items ∙ ap (λ (l : List Step). l ++ c.args.last.now) c.clear.ensures.items in
+    subst (λ (l : List Step). OnOk c.move_on.result (place_view c.move_on.new.last.items ≡ (turned (place_view l) turn).place)) all
+    c.move_on.ensures

@@ -1,4 +1,4 @@
-use Rattle.std.proofs.Common.{◌≡◌, ◌∙◌, refl, rules, subst}
+use Rattle.std.proofs.Common.{◌≡◌, ◌∙◌, [], refl, rules, subst}
 use Rattle.std.specs.Prelude.{is_some}
 use Rattle.std.proofs.lemmas.Bool.{OnTrue_at}
 use Rattle.guide_tree.specs.declared.rows.GuideRows.{GuideRows}
@@ -16,7 +16,8 @@ returns-clause-walked c done seen =
     let closed : is_some c.args.seen.trailer ≡ set.closed = search rules in
     let rules : AreRulesKept g set.delims c.args.seen.kept =
     subst (λ (rows : GuideRows). AreRulesKept (guide_of rows) set.delims c.args.seen.kept)
-    (c.rows.ensures.same ∙ c.guide.ensures) (OnTrue_at c.if-not-branch.false c.in_ok-are_rules_kept.ensures.kept) in
+    (c.rows.ensures.same ∙ c.guide.ensures)
+    (OnTrue_at c.if-not-branch.false c.in_ok-are_rules_kept.ensures.kept (seen.kept []).kept.names) in
     seen_whole g set.delims set.closed c.args.header c.args.seen done
     (record {
       ends = record { header = c.args.header; segments = c.count_with_ends.result; trailer = c.args.seen.trailer };

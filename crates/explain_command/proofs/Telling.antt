@@ -1,0 +1,8 @@
+-- What is told of files one after another is what is told of all.
+use Rattle.std.proofs.Common.{◌++◌, ◌∷◌, [], List}
+use Rattle.explain_command.specs.Reports.{AreTold, IsTold}
+use Rattle.explain_command.specs.declared.files.FileTold.{FileTold}
+
+pub one_more : (fs : List FileTold) (f : FileTold) → AreTold fs → IsTold f.told → AreTold (fs ++ f ∷ [])
+one_more [] f all is = (is, tt)
+one_more (g ∷ fs) f all is = (all.0, one_more fs f all.1 is)

@@ -1,0 +1,39 @@
+-- X12.6, segment terminator and transaction set (ST, SE), and the 997 (AK5): whether a text is cut off, and whether it is one that isn't
+-- read (own).
+use Rattle.std.specs.Prelude.{ℕ, ◌==◌, Bool, false, ◌&&◌, ◌||◌, not, List, [], ◌∷◌, codes, Option, None, Some}
+use Rattle.std.specs.Prelude.{if◌then◌else◌}
+use Rattle.std.specs.List.{list_any}
+use Rattle.std.specs.Str.{bytes_eq}
+use Rattle.x12_bytes.specs.Bytes.{is_line_end}
+use Rattle.x12_segs.specs.Words.{id_of, views}
+use Rattle.x12_segs.specs.View.{SegValue}
+use Rattle.ack_read.specs.Words.{first_delims}
+use Rattle.explain_command.specs.declared.ends.CutOff.{CutOff}
+use Rattle.explain_command.specs.declared.ends.CutOff.TheVariants as cut
+
+-- some byte but CR and LF stands behind the last terminator; or so it does at the begin, and no terminator follows
+abbrev pub ends_open : (terminator : ℕ) → (is_open : Bool) → List ℕ → Bool
+ends_open terminator is_open [] = is_open
+ends_open terminator is_open (b ∷ bs) = ends_open terminator (not (b == terminator) && (is_open || not (is_line_end b))) bs
+
+-- whether a set is begun behind a segment with this id
+abbrev pub stays_begun : (begun : Bool) → (id : List ℕ) → Bool
+stays_begun begun id = bytes_eq id (codes "ST") || (begun && not (bytes_eq id (codes "SE")))
+
+-- a set is begun, by an ST, and no SE follows
+abbrev pub ends_in_set : (begun : Bool) → List SegValue → Bool
+ends_in_set begun [] = begun
+ends_in_set begun (s ∷ ss) = ends_in_set (stays_begun begun (id_of s)) ss
+
+abbrev pub is_response : SegValue → Bool
+is_response s = bytes_eq (id_of s) (codes "AK5")
+
+-- the text has the response to a set that a 997 has, and a 999 doesn't
+abbrev pub is_997 : (text : List ℕ) → Bool
+is_997 text = list_any is_response (views text (first_delims text))
+
+-- where a text is cut off: in a segment, or else in a 999
+abbrev pub cut_of : (text : List ℕ) → Option CutOff
+cut_of text =
+    if ends_open (first_delims text).terminator false text then Some cut.InSegment
+    else (if ends_in_set false (views text (first_delims text)) then Some cut.In999 else None)

@@ -1,0 +1,89 @@
+-- The program's results (own): what is printed of the files that the words name, and the status.
+use Rattle.std.specs.Prelude.{ℕ, ◌≡◌, ◌≢◌, ◌⊎◌, ◌==◌, ⊤, Bool, true, List, [], ◌∷◌, ◌++◌, codes, length, map, nat_lt, Option, None, Some}
+use Rattle.std.specs.Prelude.{is_none, option_map, if◌then◌else◌}
+use Rattle.std.specs.List.{list_all}
+use Rattle.std.specs.Io.KnownBytes.{Appends}
+use Rattle.clap.specs.Words.{Text}
+use Rattle.explain_command.specs.CommandLine.{AsksForText, NamesFiles}
+use Rattle.explain_command.specs.Failure.{IsOfInput}
+use Rattle.explain_command.specs.Outcome.{IsExplanationOf}
+use Rattle.explain_command.specs.declared.failure.Failure.{Failure}
+use Rattle.explain_command.specs.declared.failure.Failure.TheVariants as failure
+use Rattle.explain_command.specs.declared.files.FileTold.{FileTold}
+use Rattle.explain_command.specs.declared.files.Told.{Told}
+use Rattle.explain_command.specs.declared.files.Told.TheVariants as told
+
+-- a file is explained, or is refused for what it holds, or since it can't be read
+abbrev pub IsTold : Told → Type 0
+IsTold (told.Explained a) = IsExplanationOf None a.lines.items a.cut
+IsTold (told.Refused f) = IsOfInput None f × (f ≢ failure.Memory)
+
+abbrev pub AreTold : List FileTold → Type 0
+AreTold [] = ⊤
+AreTold (f ∷ fs) = IsTold f.told × AreTold fs
+
+abbrev pub paths_of : List FileTold → List (List ℕ)
+paths_of fs = map (λ (f : FileTold). f.path.now) fs
+
+-- the lines on a file; one that is refused has none
+abbrev pub own_lines : Told → List ℕ
+own_lines (told.Explained a) = a.lines.items
+own_lines (told.Refused f) = []
+
+-- lines, each with a name in front; begins: a line begins here
+abbrev pub named_lines : (name : List ℕ) → (begins : Bool) → (lines : List ℕ) → List ℕ
+named_lines name begins [] = []
+named_lines name begins (b ∷ bs) = (if begins then name ++ (b ∷ []) else b ∷ []) ++ named_lines name (b == 10) bs
+
+-- a path, before what is said of its file
+abbrev pub path_words : (path : List ℕ) → List ℕ
+path_words path = path ++ codes ": "
+
+-- of several files each line has its file's path in front
+abbrev pub file_lines : (several : Bool) → FileTold → List ℕ
+file_lines several f = if several then named_lines (path_words f.path.now) true (own_lines f.told) else own_lines f.told
+
+abbrev pub lines_of : (several : Bool) → List FileTold → List ℕ
+lines_of several [] = []
+lines_of several (f ∷ fs) = file_lines several f ++ lines_of several fs
+
+-- what a line on standard error says of a file: where it is cut off, or why it is refused
+abbrev pub failure_of : Told → Option Failure
+failure_of (told.Explained a) = option_map failure.CutOff a.cut
+failure_of (told.Refused f) = Some f
+
+-- 0 where each file is explained, and whole, else 4
+abbrev pub are_whole : List FileTold → Bool
+are_whole fs = list_all (λ f. is_none (failure_of f.told)) fs
+
+abbrev pub status_of : List FileTold → ℕ
+status_of fs = if are_whole fs then 0 else 4
+
+abbrev pub are_several : {A : Type 0} → List A → Bool
+are_several paths = nat_lt 1 (length paths)
+
+-- a text is the lines on the files at these paths, and this is their status
+pub record IsReport (paths : List (List ℕ)) (text : List ℕ) (status : ℕ) : Type 0 where
+  pub told : List FileTold
+  pub files : paths_of told ≡ paths
+  pub is : AreTold told
+  pub lines : text ≡ lines_of (are_several paths) told
+  pub own_status : status ≡ status_of told
+
+-- such a text is what was printed
+pub record IsExplained (paths : List (List ℕ)) (status : ℕ) (was is : Option (List ℕ)) : Type 0 where
+  pub text : List ℕ
+  pub report : IsReport paths text status
+  pub printed : Appends was is text
+
+-- a text was shown that the words ask for
+pub record IsShownText (words : List Text) (status : ℕ) (was is : Option (List ℕ)) : Type 0 where
+  pub asked : AsksForText words
+  pub text : List ℕ
+  pub printed : Appends was is text
+  pub own_status : status ≡ 0
+
+-- the files that the words name were explained, or such a text was shown
+abbrev pub IsRun : (words : List Text) → (status : ℕ) → (was is : Option (List ℕ)) → Type 0
+IsRun words status was is =
+    ((paths : List (List ℕ)) × NamesFiles words paths × IsExplained paths status was is) ⊎ IsShownText words status was is

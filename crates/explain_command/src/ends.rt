@@ -1,0 +1,84 @@
+ghost use Rattle.std.specs.Prelude.{◌≡◌, false};
+ghost use Rattle.x12_bytes.specs.Bytes.{is_line_end};
+ghost use Rattle.std.specs.List.{list_any};
+ghost use Rattle.x12_segs.specs.Words.{views};
+ghost use Rattle.ack_read.specs.Words.{first_delims};
+ghost use Rattle.explain_command.specs.Ends as ends;
+
+use x12_bytes::Delims;
+use x12_segs::{SegView, segments};
+
+/// Where a text of acknowledgments is cut off.
+#[derive(Clone, Copy, Debug, PartialEq, Eq)]
+pub enum CutOff {
+    /// Within a segment: its terminator is missing.
+    InSegment,
+    /// Within a 999: its SE is missing.
+    In999,
+}
+
+fn is_line_end(byte: u8) -> bool
+    ensures { result ≡ is_line_end byte }
+{
+    byte == b'\r' || byte == b'\n'
+}
+
+/// Whether some byte but CR and LF stands behind the last terminator.
+fn ends_open(terminator: u8, text: &[u8]) -> bool
+    ensures { result ≡ ends.ends_open terminator false text.now }
+{
+    let mut is_open = false;
+    for i in 0..text.len() {
+        is_open = text[i] != terminator && (is_open || !is_line_end(text[i]));
+    }
+    is_open
+}
+
+fn stays_begun(begun: bool, id: &[u8]) -> bool
+    ensures { result ≡ ends.stays_begun begun id.now }
+{
+    id == b"ST".as_slice() || begun && !(id == b"SE".as_slice())
+}
+
+/// Whether a set is begun, and no SE follows.
+fn ends_in_set(text: &[u8], delims: Delims) -> bool
+    ensures { result ≡ ends.ends_in_set false (views text.now delims) }
+{
+    let mut begun = false;
+    for segment in segments(text, delims) {
+        begun = stays_begun(begun, segment.id());
+    }
+    begun
+}
+
+fn is_response(segment: &SegView<'_>) -> bool
+    ensures { result ≡ ends.is_response segment.now }
+{
+    segment.id() == b"AK5".as_slice()
+}
+
+/// Whether a text, read by these delimiters, has the response to a set that a 997 has.
+pub fn has_response(text: &[u8], delims: Delims) -> bool
+    ensures { result ≡ list_any ends.is_response (views text.now delims) }
+{
+    for segment in segments(text, delims) {
+        if is_response(&segment) {
+            return true;
+        }
+    }
+    false
+}
+
+/// Where a text is cut off, read by the delimiters of its first header.
+pub fn cut_of(text: &[u8], delims: Delims) -> Option<CutOff>
+    requires { delims ≡ first_delims text.now }
+    ensures { result ≡ ends.cut_of text.now }
+{
+    if ends_open(delims.terminator, text) {
+        Some(CutOff::InSegment)
+    } else if ends_in_set(text, delims) {
+        Some(CutOff::In999)
+    } else {
+        None
+    }
+}

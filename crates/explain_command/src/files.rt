@@ -1,0 +1,201 @@
+//! What is told of files, one after another.
+ghost use Rattle.std.specs.Prelude.{◌≡◌, ◌++◌, ◌∷◌, ◌⊎◌, [], true, map, is_none, if◌then◌else◌, IfOk, OnOk};
+ghost use Rattle.explain_command.specs.Reports as reports;
+
+use crate::explain::{Account, explained_file};
+use crate::failure::Failure;
+use hub_kinds::NoMemory;
+use std::alloc::Global;
+use std::fs;
+use std::io::Write;
+use std::rt::Files;
+
+/// What is told of a file.
+#[derive(Debug, Drop)]
+pub enum Told {
+    /// What its acknowledgments tell, in words.
+    Explained(Account),
+    /// Why it is refused.
+    Refused(Failure),
+}
+
+/// A file, by its path, and what is told of it.
+#[derive(Debug, Drop)]
+pub struct FileTold<'a> {
+    pub path: &'a str,
+    pub told: Told,
+}
+
+impl Told {
+    ghost use Rattle.std.specs.Prelude.{◌≡◌};
+    ghost use Rattle.explain_command.specs.Reports.{failure_of, own_lines};
+
+    /// The lines on the file; of one that is refused none.
+    fn lines(&self) -> &[u8]
+        ensures { result.now ≡ own_lines self.now }
+    {
+        match self {
+            Told::Explained(account) => account.lines.as_slice(),
+            Told::Refused(_) => &[],
+        }
+    }
+
+    /// Where the file is cut off, or why it is refused.
+    fn failure(&self) -> Option<Failure>
+        ensures { result ≡ failure_of self.now }
+    {
+        match self {
+            Told::Explained(account) => account.cut.map(Failure::CutOff),
+            Told::Refused(failure) => Some(*failure),
+        }
+    }
+}
+
+/// What is told of the file at a path. The only error is want of memory.
+fn tell_file<R: Files + AllocGlobal>(rt: &R, path: &str) -> Result<Told, NoMemory>
+    ensures { IfOk result (λ told. reports.IsTold told) }
+{
+    match explained_file(rt.alloc(), fs::open(rt, path)) {
+        Ok(account) => Ok(Told::Explained(account)),
+        Err(Failure::Memory) => Err(NoMemory),
+        Err(failure) => Ok(Told::Refused(failure)),
+    }
+}
+
+fn told_at<'a, R: Files + AllocGlobal>(rt: &R, path: &'a str) -> Result<FileTold<'a>, NoMemory>
+    ensures told { IfOk result (λ file. reports.IsTold file.told) }
+    ensures path { IfOk result (λ file. file.path.now ≡ path.entry.now) }
+{
+    let told = tell_file(rt, path)?;
+    Ok(FileTold { path, told })
+}
+
+/// What is told of the files at these paths, in their order. The only error is want of memory.
+pub fn tell_files<'a, R: Files + AllocGlobal>(
+    rt: &R,
+    paths: &[&'a str],
+) -> Result<Vec<FileTold<'a>>, NoMemory>
+    ensures told { IfOk result (λ told. reports.AreTold told.items) }
+    ensures paths { IfOk result (λ told. reports.paths_of told.items ≡ map (λ p. p.now) paths.now) }
+{
+    let mut files = Vec::new(rt.alloc());
+    for path in paths {
+        files.push(told_at(rt, path)?)?;
+    }
+    Ok(files)
+}
+
+fn append(out: &mut Vec<u8>, text: &[u8]) -> Result<(), NoMemory>
+    ensures { OnOk result (out.new.items ≡ out.old.items ++ text.now) }
+{
+    out.extend_from_slice(text)?;
+    Ok(())
+}
+
+/// A path, before what is said of its file.
+fn path_words(alloc: Global, path: &str) -> Result<Vec<u8>, NoMemory>
+    ensures { IfOk result (λ name. name.items ≡ reports.path_words path.now) }
+{
+    let mut name = Vec::new(alloc);
+    append(&mut name, path.as_bytes())?;
+    append(&mut name, b": ")?;
+    Ok(name)
+}
+
+/// Adds a byte, with the name before it where a line begins.
+fn append_byte(out: &mut Vec<u8>, name: &[u8], begins: bool, byte: u8) -> Result<(), NoMemory>
+    ensures { OnOk result (out.new.items ≡ out.old.items ++ (if begins then name.now ++ (byte ∷ []) else byte ∷ [])) }
+{
+    if begins {
+        append(out, name)?;
+    }
+    append(out, &[byte])
+}
+
+/// Adds lines, each with this name in front.
+fn append_named(out: &mut Vec<u8>, name: &[u8], lines: &[u8]) -> Result<(), NoMemory>
+    ensures { OnOk result (out.new.items ≡ out.old.items ++ reports.named_lines name.now true lines.now) }
+{
+    let mut begins = true;
+    for i in 0..lines.len() {
+        append_byte(out, name, begins, lines[i])?;
+        begins = lines[i] == b'\n';
+    }
+    Ok(())
+}
+
+/// Adds the lines on a file, one of several or the only one.
+fn append_file(
+    alloc: Global,
+    out: &mut Vec<u8>,
+    several: bool,
+    file: &FileTold<'_>,
+) -> Result<(), NoMemory>
+    ensures { OnOk result (out.new.items ≡ out.old.items ++ reports.file_lines several file.now) }
+{
+    if several {
+        let name = path_words(alloc, file.path)?;
+        append_named(out, name.as_slice(), file.told.lines())
+    } else {
+        append(out, file.told.lines())
+    }
+}
+
+/// The lines on files.
+pub fn lines_of(alloc: Global, several: bool, files: &[FileTold<'_>]) -> Result<Vec<u8>, NoMemory>
+    ensures { IfOk result (λ text. text.items ≡ reports.lines_of several files.now) }
+{
+    let mut text = Vec::new(alloc);
+    for i in 0..files.len() {
+        append_file(alloc, &mut text, several, &files[i])?;
+    }
+    Ok(text)
+}
+
+fn is_whole(file: &FileTold<'_>) -> bool
+    ensures { result ≡ is_none (reports.failure_of file.now.told) }
+{
+    file.told.failure().is_none()
+}
+
+fn are_whole(files: &[FileTold<'_>]) -> bool
+    ensures { result ≡ reports.are_whole files.now }
+{
+    files.iter().all(|file| is_whole(file))
+}
+
+/// The status: 0 where each file is explained, and whole, else 4.
+pub fn status_of(files: &[FileTold<'_>]) -> u8
+    ensures status { result ≡ reports.status_of files.now }
+    ensures values { (result ≡ 0) ⊎ (result ≡ 4) }
+{
+    if are_whole(files) { 0 } else { 4 }
+}
+
+/// Prints the line on a file that is cut off or refused. A fault of standard error is passed over.
+fn report_failure<E: Write>(several: bool, file: &FileTold<'_>, failure: Failure, err: &mut E) {
+    if several {
+        let _ = failure.print_of(file.path.as_bytes(), err);
+    } else {
+        let _ = failure.print(err);
+    }
+    let _ = err.flush();
+}
+
+/// Prints the line on a file, where there is one.
+fn report_file<E: Write>(several: bool, file: &FileTold<'_>, err: &mut E)
+    ensures { is_none (reports.failure_of file.now.told) ≡ true → err.new ≡ err.old }
+{
+    if let Some(failure) = file.told.failure() {
+        report_failure(several, file, failure, err);
+    }
+}
+
+/// Prints the lines on files that are cut off or refused, in the order of the files.
+pub fn report_failures<E: Write>(several: bool, files: &[FileTold<'_>], err: &mut E)
+    ensures { reports.are_whole files.now ≡ true → err.new ≡ err.old }
+{
+    for i in 0..files.len() {
+        report_file(several, &files[i], err);
+    }
+}

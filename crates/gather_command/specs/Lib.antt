@@ -1,0 +1,5 @@
+pub mod CommandLine
+pub mod Failure
+pub mod Lines
+pub mod Members
+pub mod Outcome

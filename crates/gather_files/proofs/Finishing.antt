@@ -1,0 +1,171 @@
+-- A file is closed at its end.
+use Rattle.std.proofs.Common.{◌≡◌, ◌∙◌, ℕ, ◌+◌, ◌-◌, ◌≤◌, ◌⊎◌, List, [], ◌∷◌, ◌++◌, true, inl, inr, Option, Some, None, IfSome}
+use Rattle.std.proofs.Common.{length, take, drop, refl, sym, ap, subst, arith}
+use Rattle.std.specs.List.{All}
+use Rattle.std.specs.Io.KnownBytes.{Appends, Consumes, IsAtEnd}
+use Rattle.std.proofs.lemmas.List.{append_assoc, append-nil, length-append, take-append-drop, take_all, take_at, take-append-le}
+use Rattle.std.proofs.lemmas.List.Elements.{All-cons, All-head, All-nil, All-tail}
+use Rattle.x12_bytes.specs.Bytes.{is_line_end}
+use Rattle.x12_bytes.specs.Header.{terminator_of}
+use Rattle.x12_bytes.specs.HeaderTest.{is_head}
+use Rattle.env_index.proofs.Surround.{head_within}
+use Rattle.batch_law.specs.Batches.{ChainUpTo}
+use Rattle.batch_law.proofs.Heads.{head_kept, head_more}
+use Rattle.batch_law.proofs.Moving.{head_past, header_past}
+use Rattle.stream_read.specs.Held.{HeldValue}
+use Rattle.gather_law.specs.Gathered.{HoldsInterchanges, IsWholeBefore}
+use Rattle.gather_law.proofs.Parts.{goes_up, holds_on, keeps, reads_on}
+use Rattle.gather_files.specs.Closing.{IsClosedSo, IsOwnTerminator, PutsBehind, PutsInPlace}
+use Rattle.gather_files.specs.Gathering.{AreEnds, IsPassed, IsTaken}
+use Rattle.gather_files.specs.Lead.{led}
+use Rattle.gather_files.specs.declared.closing.Closed.{Closed}
+use Rattle.gather_files.specs.declared.gather.Passing.{Passing}
+use Rattle.gather_files.proofs.Behind.{IsPut}
+use Rattle.gather_files.proofs.Passing.{whole_now, writes_on}
+
+-- what is put after a file is put after it where other bytes stand before
+own_past : (front file : List ℕ) (b : ℕ) → IsOwnTerminator file b → IsOwnTerminator (front ++ file) b
+own_past front file b (start, head, is) =
+    (length front + start, head_past front file start ∙ head, is ∙ ap terminator_of (sym (header_past front file start)))
+
+put_past : (front file : List ℕ) (b : ℕ) → IsPut file b → IsPut (front ++ file) b
+put_past front file b (inl space) = inl space
+put_past front file b (inr own) = inr (own_past front file b own)
+
+all_past : (front file xs : List ℕ) → All (IsPut file) xs → All (IsPut (front ++ file)) xs
+all_past front file [] all = All-nil (IsPut (front ++ file))
+all_past front file (x ∷ xs) all =
+    All-cons (IsPut (front ++ file)) x xs (put_past front file x (All-head (IsPut file) x xs all))
+    (all_past front file xs (All-tail (IsPut file) x xs all))
+
+puts_past : (front old new : List ℕ) (n : ℕ) → PutsBehind old new n → PutsBehind (front ++ old) (front ++ new) n
+puts_past front old new n puts = record {
+  rest = puts.rest;
+  is = ap (λ (l : List ℕ). front ++ l) puts.is ∙ sym (append_assoc front old puts.rest);
+  few = puts.few;
+  own = all_past front new puts.rest puts.own;
+}
+
+-- what stays of what is held, and what is put after it
+record Stays (front held closed : List ℕ) (count n : ℕ) : Type 0 where
+  kept : List ℕ
+  ends : List ℕ
+  is : held ≡ kept ++ ends
+  are : AreEnds ends
+  puts : PutsBehind kept closed count
+  untouched : count ≡ 0 → ends ≡ []
+  whole : IsWholeBefore front kept n
+  header : (106 ≤ length kept) ⊎ (ends ≡ [])
+
+module _ (first now was mid : Option (List ℕ)) (held : HeldValue) (p : Passing) (e : ℕ) (passed : IsPassed first now was mid held p)
+    (few : e ≤ length held.bytes) (grows : p.seen - p.ends ≤ length held.bytes - e)
+    (are : AreEnds (drop (length held.bytes - e) held.bytes))
+    (closed : List ℕ) (count : ℕ) where
+  abbrev at : ℕ
+  at = length held.bytes - e
+
+  as_it_is : PutsBehind held.bytes closed count → Stays passed.front held.bytes closed count p.interchanges
+  as_it_is puts = record {
+    kept = held.bytes;
+    ends = [];
+    is = sym (append-nil held.bytes);
+    are = All-nil (λ (b : ℕ). is_line_end b ≡ true);
+    puts = puts;
+    untouched = λ _. refl;
+    whole = subst (λ (l : List ℕ). IsWholeBefore passed.front l p.interchanges) (take_all (length held.bytes) held.bytes (omega arith))
+        (whole_now first now was mid held p (length held.bytes) (omega (arith, passed.seen)) passed);
+    header = inr refl;
+  }
+
+  in_place : PutsInPlace (take at held.bytes) closed count → Stays passed.front held.bytes closed count p.interchanges
+  in_place puts = record {
+    kept = take at held.bytes;
+    ends = drop at held.bytes;
+    is = sym (take-append-drop at held.bytes);
+    are = are;
+    puts = puts.puts;
+    untouched = λ none. absurd (omega (arith, none, puts.some));
+    whole = whole_now first now was mid held p at grows passed;
+    header = inl puts.header;
+  }
+
+  stays : PutsBehind held.bytes closed count ⊎ PutsInPlace (take at held.bytes) closed count
+      → Stays passed.front held.bytes closed count p.interchanges
+  stays (inl puts) = as_it_is puts
+  stays (inr puts) = in_place puts
+
+-- it begins with the header that it began with
+begins_so : (file front kept ends closed : List ℕ) (puts : List ℕ) → is_head file 0 ≡ true → file ≡ (front ++ kept) ++ ends
+    → (106 ≤ length kept) ⊎ (ends ≡ []) → closed ≡ kept ++ puts → is_head (front ++ closed) 0 ≡ true
+begins_so file front kept ends closed puts head is room put =
+    let body : List ℕ = front ++ kept in
+    let c : ℕ = length body in
+    let size : length file ≡ c + length ends = ap (λ (l : List ℕ). length l) is ∙ length-append body ends in
+    let fits : 106 ≤ c = elim room [
+      | inl le ↦ omega (arith, le, length-append front kept)
+      | inr none ↦ omega (arith, head_within file 0 head, size, ap (λ (l : List ℕ). length l) none)
+    ] in
+    let here : is_head body 0 ≡ true =
+    ap (λ (l : List ℕ). is_head l 0) (sym (take_at body ends c refl))
+    ∙ head_kept (body ++ ends) c (omega (arith, length-append body ends)) 0 (omega (arith, fits))
+    ∙ ap (λ (l : List ℕ). is_head l 0) (sym is) ∙ head in
+    ap (λ (l : List ℕ). is_head l 0) (ap (λ (l : List ℕ). front ++ l) put ∙ sym (append_assoc front kept puts))
+    ∙ head_more (body ++ puts) c (omega (arith, length-append body puts)) 0
+    (ap (λ (l : List ℕ). is_head l 0) (take_at body puts c refl) ∙ here)
+
+nothing_left : (xs : List ℕ) → length xs ≡ 0 → xs ≡ []
+nothing_left [] is = refl
+nothing_left (x ∷ xs) is = absurd (omega (arith, is))
+
+all_told : (first now : Option (List ℕ)) (text : List ℕ) → Consumes first now text → IsAtEnd now → IfSome first (λ xs. xs ≡ text)
+all_told None now text consumed end = tt
+all_told (Some xs) None text consumed end = absurd consumed
+all_told (Some xs) (Some ys) text consumed end = consumed ∙ ap (λ (l : List ℕ). text ++ l) end ∙ append-nil text
+
+pub finished : (first now was mid is : Option (List ℕ)) (held : HeldValue) (p : Passing) (e : ℕ) (c : Closed)
+    → (passed : IsPassed first now was mid held p) → IsAtEnd now → e ≤ length held.bytes
+    → p.seen - p.ends ≤ length held.bytes - e → AreEnds (drop (length held.bytes - e) held.bytes)
+    → IsClosedSo held.bytes (take (length held.bytes - e) held.bytes) c → Appends mid is c.bytes.items
+    → IsTaken first was is (record { interchanges = p.interchanges + c.interchanges; len = p.written + length c.bytes.items; end = c.end })
+finished first now was mid is held p e c passed at_end few grows are so wrote =
+    let closed : List ℕ = c.bytes.items in
+    let front : List ℕ = passed.front in
+    let s : Stays front held.bytes closed c.count p.interchanges =
+    stays first now was mid held p e passed few grows are closed c.count so.puts in
+    let file : List ℕ = led passed.file in
+    let divided : file ≡ (front ++ s.kept) ++ s.ends =
+    passed.led_is ∙ ap (λ (l : List ℕ). front ++ l) s.is ∙ sym (append_assoc front s.kept s.ends) in
+    let whole : IsWholeBefore front closed p.interchanges =
+    subst (λ (l : List ℕ). IsWholeBefore front l p.interchanges) (sym s.puts.is)
+    (reads_on front s.kept s.puts.rest p.interchanges s.whole) in
+    let holds : HoldsInterchanges (front ++ closed) (p.interchanges + c.interchanges) =
+    holds_on front closed p.interchanges c.interchanges whole so.holds in
+    record {
+      closed = front ++ closed;
+      goes_in = record {
+        file = passed.file;
+        told_all = all_told first now passed.file passed.consumed at_end;
+        count = c.count;
+        few = so.few;
+        closes = record {
+          kept = front ++ s.kept;
+          ends = s.ends;
+          file_is = divided;
+          line_ends = s.are;
+          puts = puts_past front s.kept closed c.count s.puts;
+          untouched = s.untouched;
+        };
+        len = (let n : p.written + length closed ≡ length (front ++ closed) =
+            omega (arith, passed.size, length-append front closed) in n);
+        begins = begins_so file front s.kept s.ends closed s.puts.rest passed.begins divided s.header s.puts.is;
+        keeps = keeps (front ++ closed) (p.interchanges + c.interchanges) holds;
+        holds = holds;
+        whole = λ w. (let none : c.count ≡ 0 = so.whole w in
+            let same : closed ≡ held.bytes =
+            s.puts.is ∙ ap (λ (l : List ℕ). s.kept ++ l) (nothing_left s.puts.rest (s.puts.few ∙ none)) ∙ append-nil s.kept
+            ∙ sym (append-nil s.kept) ∙ ap (λ (l : List ℕ). s.kept ++ l) (sym (s.untouched none)) ∙ sym s.is in
+            ap (λ (l : List ℕ). front ++ l) same ∙ sym passed.led_is);
+        ended = λ w. goes_up front closed p.interchanges whole (so.ended w);
+      };
+      written = writes_on was mid is front closed passed.written wrote;
+    }

@@ -1,0 +1,10 @@
+pub mod Beginning
+pub mod Behind
+pub mod Ends
+pub mod Finishing
+pub mod Keeps
+pub mod LastFound
+pub mod LastPart
+pub mod Leading
+pub mod Passing
+pub mod Sealing

@@ -1,0 +1,17 @@
+use Rattle.std.proofs.Common.{◌+◌, ℕ, List, Option, sym, ap, subst}
+use Rattle.batch_cut.specs.Scouting.{Advances, IsInside, Stands}
+use Rattle.batch_cut.specs.declared.scout.Advanced.{Advanced}
+use Rattle.batch_cut.specs.declared.scout.Inside.{Inside}
+use Rattle.gather_law.specs.Gathered.{HoldsInterchanges}
+use Rattle.gather_files.proofs.Keeps.{holds_inside}
+use Rattle.gather_files.proofs.closing.close.Goals as goal
+
+pub as_it_is-requires-in-Some-clause-holds : goal.as_it_is-requires-in-Some-clause-holds
+as_it_is-requires-in-Some-clause-holds c =
+    let held : List ℕ = c.args.held.now in
+    let a : Advanced = c.from_the_front-count.result in
+    let advances : Advances held 0 a = c.from_the_front-count.ensures in
+    let stands : IsInside held a.scout.at c.in-Some.inside =
+    subst (λ (o : Option Inside). Stands held a.scout.at o) c.in-Some.is advances.stands in
+    subst (HoldsInterchanges held) (ap (λ (n : ℕ). n + 1) (sym advances.count))
+    (holds_inside held a.scout.at advances.whole c.in-Some.inside advances.chain stands c.if-inside-held.true)

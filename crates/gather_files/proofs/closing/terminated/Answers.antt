@@ -1,0 +1,42 @@
+use Rattle.std.proofs.Common.{◌≡◌, ◌∙◌, ◌⊎◌, ◌++◌, ◌∷◌, [], ◌≤◌, ◌+◌, ℕ, List, true, false, length, refl, sym, ap, subst, arith, inl, inr}
+use Rattle.std.proofs.lemmas.List.{length-append}
+use Rattle.env_index.proofs.Surround.{head_within}
+use Rattle.gather_law.specs.Gathered.{GoesUpTo, HoldsInterchanges}
+use Rattle.gather_files.specs.Closing.{PutsBehind}
+use Rattle.gather_files.specs.declared.gather.End.{End}
+use Rattle.gather_files.specs.declared.gather.End.TheVariants as end
+use Rattle.gather_files.proofs.Behind.{nothing_behind, one_more}
+use Rattle.gather_files.proofs.closing.terminated.Goals.{then-is_ended, else-is_ended}
+use Rattle.gather_files.proofs.closing.terminated.Goals as goal
+
+pub returns : goal.returns
+returns c = λ held.
+    (let file : List ℕ = c.args.file.now in
+    let t : ℕ = c.args.last.terminator in
+    let bytes : List ℕ = c.push.new.self.items in
+    let is : bytes ≡ file ++ t ∷ [] = c.in_ok-push.ensures.items ∙ ap (λ (l : List ℕ). l ++ t ∷ []) c.in_ok-bytes.ensures.items in
+    let puts : PutsBehind file bytes 1 =
+    subst (λ (l : List ℕ). PutsBehind file l 1) (sym is) (one_more file file 0 t (nothing_behind file) (inr c.requires.own)) in
+    let header : 106 ≤ length file = omega (arith, head_within file c.requires.own.0 c.requires.own.1) in
+    let long : c.args.last.number ≤ length (file ++ t ∷ []) = omega (arith, c.requires.few, length-append file (t ∷ [])) in
+    record {
+      holds = subst (λ (l : List ℕ). HoldsInterchanges l c.args.last.number) (sym is) c.requires.holds;
+      some = subst (λ (l : List ℕ). c.args.last.number ≤ length l) (sym is) long;
+      ended = λ w. elim c.if-is_ended.branch [
+        | then-is_ended w1 ↦ subst (λ (l : List ℕ). GoesUpTo l (length l)) c.as_slice.ensures.value (c.is_ended.ensures w1.if-is_ended.true)
+        | else-is_ended w1 ↦ absurd (no_cut c.if-is_ended.end w w1.end-is)
+      ];
+      whole = λ w. elim c.if-is_ended.branch [
+        | then-is_ended w1 ↦ absurd (no_mended c.if-is_ended.end w w1.end-is)
+        | else-is_ended w1 ↦ absurd (no_cut c.if-is_ended.end (inl w) w1.end-is)
+      ];
+      few = omega arith;
+      puts = inr (record { header = header; some = omega arith; puts = puts });
+    })
+  where
+    no_mended : (e : End) → e ≡ end.Whole → e ≡ end.Mended → ⊥
+    no_mended e whole mended = cc
+
+    no_cut : (e : End) → (e ≡ end.Whole) ⊎ (e ≡ end.Mended) → e ≡ end.CutOff → ⊥
+    no_cut e (inl w) cut = cc
+    no_cut e (inr m) cut = cc

@@ -1,0 +1,65 @@
+-- X12.5, interchange: a file, and what is put after it (own).
+use Rattle.std.specs.Prelude.{ℕ, ◌≡◌, ◌<◌, ◌≤◌, ◌⊎◌, true, false, List, [], ◌∷◌, ◌++◌, length, drop, slice_index, None}
+use Rattle.std.specs.List.{All}
+use Rattle.memchr.specs.Find.{IsFirstByte, is_byte}
+use Rattle.x12_bytes.specs.Bytes.{is_line_end}
+use Rattle.x12_bytes.specs.Header.{header_at, terminator_of}
+use Rattle.x12_bytes.specs.HeaderTest.{is_head}
+use Rattle.x12_bytes.specs.declared.layout.TheConstants.{HEADER_LEN}
+use Rattle.batch_law.specs.Begun.{may_begin}
+use Rattle.gather_law.specs.Gathered.{GoesUpTo, HoldsInterchanges}
+use Rattle.gather_files.specs.declared.closing.Closed.{Closed}
+use Rattle.gather_files.specs.declared.closing.OpenInterchange.{OpenInterchange}
+use Rattle.gather_files.specs.declared.gather.End.TheVariants as end
+
+-- the terminator of an interchange of the file
+abbrev pub IsOwnTerminator : List ℕ → ℕ → Type 0
+IsOwnTerminator file b = (start : ℕ) × (is_head file start ≡ true) × (b ≡ terminator_of (header_at file start))
+
+-- so many bytes more: spaces and its own terminators
+pub record PutsBehind (old new : List ℕ) (count : ℕ) : Type 0 where
+  pub rest : List ℕ
+  pub is : new ≡ old ++ rest
+  pub few : length rest ≡ count
+  pub own : All (λ b. (b ≡ 32) ⊎ IsOwnTerminator new b) rest
+
+-- a file as it goes in: without the CR and LF at its end, if something is put there, and with so many bytes more
+pub record Closes (file closed : List ℕ) (count : ℕ) : Type 0 where
+  pub kept : List ℕ
+  pub ends : List ℕ
+  pub file_is : file ≡ kept ++ ends
+  pub line_ends : All (λ b. is_line_end b ≡ true) ends
+  pub puts : PutsBehind kept closed count
+  pub untouched : count ≡ 0 → ends ≡ []
+
+-- so many bytes in place of CR and LF, at least one
+pub record PutsInPlace (kept new : List ℕ) (count : ℕ) : Type 0 where
+  pub header : HEADER_LEN ≤ length kept
+  pub some : 1 ≤ count
+  pub puts : PutsBehind kept new count
+
+-- Private from here on: what is held of a file at its end.
+
+-- it goes in so closed: as it is and with bytes behind it, or without its CR and LF and with more than nothing in their place, where a
+-- header stands before
+pub record IsClosedSo (held kept : List ℕ) (c : Closed) : Type 0 where
+  pub holds : HoldsInterchanges c.bytes.items c.interchanges
+  pub some : c.interchanges ≤ length c.bytes.items
+  pub ended : (c.end ≡ end.Whole) ⊎ (c.end ≡ end.Mended) → GoesUpTo c.bytes.items (length c.bytes.items)
+  pub whole : c.end ≡ end.Whole → c.count ≡ 0
+  pub few : c.count ≤ 17
+  pub puts : PutsBehind held c.bytes.items c.count ⊎ PutsInPlace kept c.bytes.items c.count
+
+-- the terminator of its open interchange closes it
+pub record IsClosedBy (file : List ℕ) (last : OpenInterchange) : Type 0 where
+  pub own : IsOwnTerminator file last.terminator
+  pub holds : HoldsInterchanges (file ++ last.terminator ∷ []) last.number
+  pub few : last.number ≤ length file
+
+-- from here to the end one segment stands, which no terminator ends, and at which no header can turn out to begin
+pub record IsLastSegment (file : List ℕ) (t lead : ℕ) : Type 0 where
+  pub within : lead < length file
+  pub other : is_line_end (slice_index file lead) ≡ false
+  pub none : IsFirstByte (is_byte t) (drop lead file) None
+  pub no_head : is_head file lead ≡ false
+  pub none_begins : may_begin file lead ≡ false

@@ -1,0 +1,4 @@
+pub mod Causes
+pub mod Closing
+pub mod Gathering
+pub mod Lead

@@ -1,0 +1,14 @@
+pub mod KeyForms
+pub mod KeySentences
+pub mod KeyTables
+pub mod KeysSaid
+pub mod ListItems
+pub mod NoTables
+pub mod NodeTables
+pub mod Places
+pub mod Seen
+pub mod Shown
+pub mod Spots
+pub mod StopWords
+pub mod TextPlaces
+pub mod Wanted

@@ -1,0 +1,34 @@
+-- TOML (own): what is said of bytes that write no table: a place in them, one cause, and what stands there.
+use Rattle.std.specs.Prelude.{◌≡◌, ◌≤◌, ◌⊎◌, ℕ, true, false, List, codes, length}
+use Rattle.std.specs.Str.{is_utf8}
+use Rattle.std.specs.Str.Lossy.{utf8_valid_len}
+use Rattle.key_words.specs.TextPlaces.{said_at}
+use Rattle.key_words.specs.declared.toml_cause.TomlCause.{TomlCause}
+use Rattle.key_words.specs.declared.toml_cause.TomlCause.TheVariants as cause
+
+abbrev pub cause_words : TomlCause → List ℕ
+cause_words cause.Key = codes "a key has to stand here, of letters, digits, - and _, or in quotes"
+cause_words cause.Equals = codes "= has to stand behind a key"
+cause_words cause.TableEnd = codes "] has to stand behind the name of a table"
+cause_words cause.RowEnd = codes "]] has to stand behind the name of a list of tables"
+cause_words cause.LineEnd = codes "the line has to end here"
+cause_words cause.FileEnd = codes "the file has to end here"
+cause_words cause.ListComma = codes "a comma or ] has to stand here"
+cause_words cause.TableComma = codes "a comma or } has to stand here"
+cause_words cause.Quotes = codes "a text in quotes isn't closed, or holds a byte that may not stand in it"
+cause_words cause.Escape = codes "no letter of an escape stands behind \\"
+cause_words cause.Value = codes "no value stands here: a text in quotes, a number without leading zeros, true, false, a list, a table"
+cause_words cause.Underscore = codes "_ stands between digits alone"
+cause_words cause.TooLarge = codes "the number is too large"
+cause_words cause.Moment = codes "no date or time stands here"
+cause_words cause.KeyTwice = codes "the key stands twice"
+cause_words cause.NoTable = codes "a key with a point goes on behind a value that is no table"
+cause_words cause.TooDeep = codes "over 80 lists or tables stand in one another"
+cause_words cause.Other = codes "no TOML table"
+
+-- bytes that are no UTF-8, where they stop to be it; and else a place in them and a cause, which are left open
+abbrev pub IsNoTableSaid : (bytes text : List ℕ) → Type 0
+IsNoTableSaid bytes text =
+    ((is_utf8 bytes ≡ false) × (text ≡ said_at bytes (utf8_valid_len bytes) (codes "no UTF-8")))
+    ⊎ ((is_utf8 bytes ≡ true)
+    × ((offset : ℕ) × (offset ≤ length bytes) × (cause : TomlCause) × (text ≡ said_at bytes offset (cause_words cause))))

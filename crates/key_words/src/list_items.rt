@@ -1,0 +1,118 @@
+ghost use Rattle.std.specs.Prelude.{◌≡◌, IfOk, option_map};
+ghost use Rattle.toml.specs.View.{items_view, view};
+ghost use Rattle.key_words.specs.ListItems as lists;
+
+use guide_toml::{ListedText, can_stand};
+use hub_kinds::NoMemory;
+use std::alloc::Global;
+use toml::Value;
+
+/// What the values of a list are.
+#[derive(Clone, Copy, Debug, PartialEq, Eq)]
+pub enum ListItem {
+    AnyText,
+    Guide(ListedText),
+}
+
+/// A value that can't stand in its list, and its number, from 1 on.
+#[derive(Clone, Copy)]
+pub struct WrongItem<'v> {
+    pub number: u64,
+    pub value: &'v Value,
+}
+
+fn is_listed(alloc: Global, kind: ListedText, value: &Value) -> Result<bool, NoMemory>
+    ensures { IfOk result (λ yes. yes ≡ lists.is_listed kind (view value.now)) }
+{
+    match value.as_str() {
+        None => Ok(false),
+        Some(text) => can_stand(alloc, kind, text.as_bytes()),
+    }
+}
+
+fn is_item(alloc: Global, kind: ListItem, value: &Value) -> Result<bool, NoMemory>
+    ensures { IfOk result (λ yes. yes ≡ lists.is_item kind (view value.now)) }
+{
+    match kind {
+        ListItem::AnyText => Ok(value.as_str().is_some()),
+        ListItem::Guide(text) => is_listed(alloc, text, value),
+    }
+}
+
+/// The first value that can't stand in a list. The only error is want of memory.
+pub fn first_wrong<'v>(
+    alloc: Global,
+    kind: ListItem,
+    values: &'v [Value],
+) -> Result<Option<WrongItem<'v>>, NoMemory>
+    ensures { IfOk result (λ found. option_map (λ w. (w.number, view w.value.now)) found
+        ≡ lists.first_wrong kind 1 (items_view values.entry.now)) }
+{
+    for i in 0..values.len() {
+        if !is_item(alloc, kind, &values[i])? {
+            return Ok(Some(WrongItem {
+                number: i as u64 + 1,
+                value: &values[i],
+            }));
+        }
+    }
+    Ok(None)
+}
+
+/// Whether a value is a list of such texts alone.
+pub fn are_listed(alloc: Global, kind: ListedText, value: &Value) -> Result<bool, NoMemory>
+    ensures { IfOk result (λ yes. yes ≡ lists.are_listed kind (view value.now)) }
+{
+    match value.as_array() {
+        None => Ok(false),
+        Some(values) => match first_wrong(alloc, ListItem::Guide(kind), values) {
+            Ok(found) => Ok(found.is_none()),
+            Err(NoMemory) => Err(NoMemory),
+        },
+    }
+}
+
+fn setup_items_at(key: &[u8]) -> Option<ListItem>
+    ensures { result ≡ lists.setup_items_at key.now }
+{
+    if key == b"guides".as_slice() {
+        Some(ListItem::AnyText)
+    } else if key == b"to".as_slice() {
+        Some(ListItem::AnyText)
+    } else {
+        None
+    }
+}
+
+fn rule_items_at(key: &[u8]) -> Option<ListItem>
+    ensures { result ≡ lists.rule_items_at key.now }
+{
+    if key == b"pairs".as_slice() {
+        Some(ListItem::Guide(ListedText::LevelPair))
+    } else if key == b"codes".as_slice() {
+        Some(ListItem::Guide(ListedText::Code))
+    } else if key == b"dictionary".as_slice() {
+        Some(ListItem::Guide(ListedText::SegmentId))
+    } else if key == b"tolerate_segment".as_slice() {
+        Some(ListItem::Guide(ListedText::SegmentCode))
+    } else if key == b"tolerate_element".as_slice() {
+        Some(ListItem::Guide(ListedText::ElementCode))
+    } else {
+        setup_items_at(key)
+    }
+}
+
+/// What the values of the list at a key are.
+pub fn items_at(key: &[u8]) -> Option<ListItem>
+    ensures { result ≡ lists.items_at key.now }
+{
+    if key == b"elements".as_slice() {
+        Some(ListItem::Guide(ListedText::Element))
+    } else if key == b"conditions".as_slice() {
+        Some(ListItem::Guide(ListedText::Condition))
+    } else if key == b"pick".as_slice() {
+        Some(ListItem::Guide(ListedText::Pick))
+    } else {
+        rule_items_at(key)
+    }
+}

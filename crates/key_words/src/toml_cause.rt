@@ -1,0 +1,89 @@
+ghost use Rattle.std.specs.Prelude.{◌≡◌};
+ghost use Rattle.key_words.specs.NoTables.{cause_words};
+
+use toml_parser::ErrorKind;
+
+/// Why a text is no TOML document.
+#[derive(Clone, Copy, Debug, PartialEq, Eq)]
+pub enum TomlCause {
+    Key,
+    Equals,
+    TableEnd,
+    RowEnd,
+    LineEnd,
+    FileEnd,
+    ListComma,
+    TableComma,
+    Quotes,
+    Escape,
+    Value,
+    Underscore,
+    TooLarge,
+    Moment,
+    KeyTwice,
+    NoTable,
+    TooDeep,
+    /// None of these.
+    Other,
+}
+
+/// The parser's faults, and their causes.
+const CAUSES: &[(ErrorKind, TomlCause)] = &[
+    (ErrorKind::Key, TomlCause::Key),
+    (ErrorKind::MissingEquals, TomlCause::Equals),
+    (ErrorKind::UnclosedTable, TomlCause::TableEnd),
+    (ErrorKind::UnclosedArrayTable, TomlCause::RowEnd),
+    (ErrorKind::EndOfLine, TomlCause::LineEnd),
+    (ErrorKind::Content, TomlCause::FileEnd),
+    (ErrorKind::Array, TomlCause::ListComma),
+    (ErrorKind::InlineTable, TomlCause::TableComma),
+    (ErrorKind::String, TomlCause::Quotes),
+    (ErrorKind::Escape, TomlCause::Escape),
+    (ErrorKind::Value, TomlCause::Value),
+    (ErrorKind::Underscore, TomlCause::Underscore),
+    (ErrorKind::Overflow, TomlCause::TooLarge),
+    (ErrorKind::Datetime, TomlCause::Moment),
+    (ErrorKind::DuplicateKey, TomlCause::KeyTwice),
+    (ErrorKind::Extend, TomlCause::NoTable),
+    (ErrorKind::Recursion, TomlCause::TooDeep),
+];
+
+impl TomlCause {
+    /// The cause of a fault of the parser, by its message, since it lends no other sign of it. Which one that is no clause says.
+    pub fn of_message(message: &str) -> TomlCause {
+        for (kind, cause) in CAUSES {
+            if kind.description() == message {
+                return *cause;
+            }
+        }
+        TomlCause::Other
+    }
+
+    /// Its words.
+    pub fn words(self) -> &'static [u8]
+        ensures { result.now ≡ cause_words self }
+    {
+        match self {
+            TomlCause::Key => b"a key has to stand here, of letters, digits, - and _, or in quotes",
+            TomlCause::Equals => b"= has to stand behind a key",
+            TomlCause::TableEnd => b"] has to stand behind the name of a table",
+            TomlCause::RowEnd => b"]] has to stand behind the name of a list of tables",
+            TomlCause::LineEnd => b"the line has to end here",
+            TomlCause::FileEnd => b"the file has to end here",
+            TomlCause::ListComma => b"a comma or ] has to stand here",
+            TomlCause::TableComma => b"a comma or } has to stand here",
+            TomlCause::Quotes =>
+                b"a text in quotes isn't closed, or holds a byte that may not stand in it",
+            TomlCause::Escape => b"no letter of an escape stands behind \\",
+            TomlCause::Value =>
+                b"no value stands here: a text in quotes, a number without leading zeros, true, false, a list, a table",
+            TomlCause::Underscore => b"_ stands between digits alone",
+            TomlCause::TooLarge => b"the number is too large",
+            TomlCause::Moment => b"no date or time stands here",
+            TomlCause::KeyTwice => b"the key stands twice",
+            TomlCause::NoTable => b"a key with a point goes on behind a value that is no table",
+            TomlCause::TooDeep => b"over 80 lists or tables stand in one another",
+            TomlCause::Other => b"no TOML table",
+        }
+    }
+}

@@ -1,0 +1,148 @@
+ghost use Rattle.std.specs.Prelude.{◌≡◌, ◌||◌, IfOk, None, if◌then◌else◌};
+ghost use Rattle.std.specs.List.{All};
+ghost use Rattle.env_index.specs.Words.{HasSpans};
+ghost use Rattle.checked_text.specs.Acknowledgments.{has_any, present};
+ghost use Rattle.checked_text.specs.CheckedText.{AreAnswersBy, CheckedInterchange, judged};
+ghost use Rattle.track_answers.specs.Noted.{AreNoted, IsNoted, notes_of};
+
+use crate::groups::answer_groups;
+use crate::notes::all_notes;
+use crate::sent::Sent;
+use crate::standings::standings_of;
+use checked_text::AnsweredGroup;
+use env_index::{Index, IndexedInterchange};
+use hub_kinds::NoMemory;
+use judged_text::{JudgedInterchange, ta1_note};
+use partner_setup::Setup;
+use std::alloc::Global;
+use track_notes::Notes;
+
+/// A text once its sets are checked.
+#[derive(Drop)]
+pub struct NotedText<'i, 'a> {
+    /// Its interchanges, in their order.
+    pub interchanges: Vec<JudgedInterchange<'i, 'a>>,
+    /// What is kept of the answers to each of them.
+    pub notes: Vec<Notes>,
+}
+
+/// What is answered to the groups of an interchange from this sender, each set checked by the sender's guide for it.
+fn answers_to<'a>(
+    alloc: Global,
+    setup: &'a Setup,
+    text: &'a [u8],
+    sender: Option<usize>,
+    entry: &IndexedInterchange<'a>,
+) -> Result<Vec<Option<AnsweredGroup<'a>>>, NoMemory>
+    requires { HasSpans text.now entry.now.interchange }
+    ensures { IfOk result (λ v. AreAnswersBy text.entry.now setup.entry.now entry.now entry.now.fault sender v.items) }
+{
+    if entry.fault().is_some() {
+        return Ok(Vec::new(alloc));
+    }
+    match sender {
+        None => Ok(Vec::new(alloc)),
+        Some(sender) => {
+            let interchange = entry.interchange();
+            let sent = Sent::new(text, setup, sender, interchange.header().delims());
+            answer_groups(alloc, &sent, interchange)
+        }
+    }
+}
+
+/// Whether something is answered to any of these groups.
+fn has_any(groups: &[Option<AnsweredGroup<'_>>]) -> bool
+    ensures { result ≡ has_any (present groups.now) }
+{
+    for group in groups {
+        if group.is_some() {
+            return true;
+        }
+    }
+    false
+}
+
+/// The sender of an interchange, where a TA1 or a 999 answers it.
+fn if_any(sender: Option<usize>, noted: bool, has_reports: bool) -> Option<usize>
+    ensures { result ≡ (if noted || has_reports then sender else None) }
+{
+    if noted || has_reports { sender } else { None }
+}
+
+/// What is kept of the answers to an interchange, which are these.
+fn notes_with(
+    alloc: Global,
+    entry: &IndexedInterchange<'_>,
+    sender: Option<usize>,
+    groups: Vec<Option<AnsweredGroup<'_>>>,
+) -> Result<Notes, NoMemory>
+    ensures { IfOk result (λ notes. (x : CheckedInterchange) → x.entry ≡ entry.now → x.sender ≡ sender → x.groups ≡ groups.entry.items
+        → notes ≡ notes_of x) }
+{
+    let has_reports = has_any(groups.as_slice());
+    let noted = ta1_note(sender, entry.fault(), entry.interchange()).is_some();
+    Ok(Notes {
+        groups: all_notes(alloc, groups)?,
+        recipient: if_any(sender, noted, has_reports),
+        has_reports,
+    })
+}
+
+/// An interchange with the standings that the answers to its groups leave.
+fn judge<'i, 'a>(
+    alloc: Global,
+    text: &'a [u8],
+    entry: &'i IndexedInterchange<'a>,
+    sender: Option<usize>,
+    groups: &[Option<AnsweredGroup<'_>>],
+) -> Result<JudgedInterchange<'i, 'a>, NoMemory>
+    requires { HasSpans text.now entry.now.interchange }
+    ensures { IfOk result (λ j. (x : CheckedInterchange) → x.entry ≡ entry.entry.now → x.sender ≡ sender → x.groups ≡ groups.now
+        → j ≡ judged text.entry.now x) }
+{
+    let standings = standings_of(alloc, groups)?;
+    Ok(JudgedInterchange::new(text, entry.interchange(), sender, entry.fault(), standings))
+}
+
+/// Answers an interchange, and keeps what is asked of it later.
+fn note_interchange<'i, 'a>(
+    alloc: Global,
+    setup: &'a Setup,
+    text: &'a [u8],
+    entry: &'i IndexedInterchange<'a>,
+) -> Result<(JudgedInterchange<'i, 'a>, Notes), NoMemory>
+    requires { HasSpans text.now entry.now.interchange }
+    ensures { IfOk result (λ noted. IsNoted text.entry.now setup.entry.now entry.entry.now noted.0 noted.1) }
+{
+    let sender = setup.sender_of(entry.interchange().header());
+    let groups = answers_to(alloc, setup, text, sender, entry)?;
+    let judged = judge(alloc, text, entry, sender, groups.as_slice())?;
+    let notes = notes_with(alloc, entry, sender, groups)?;
+    Ok((judged, notes))
+}
+
+/// Checks the sets of a text by the guides of their senders, answers them, and keeps of each interchange of the settled index what is
+/// asked of it later. X12.5, interchange; 999 guide (005010X231). The only error is want of memory.
+pub fn note_text<'i, 'a>(
+    alloc: Global,
+    setup: &'a Setup,
+    index: &'i Index<'a>,
+) -> Result<NotedText<'i, 'a>, NoMemory>
+    requires { All (λ e. HasSpans index.now.text e.interchange) index.now.entries }
+    ensures { IfOk result (λ noted. AreNoted index.entry.now.text setup.entry.now index.entry.now.entries
+        noted.interchanges.items noted.notes.items) }
+{
+    let text = index.text();
+    let entries = index.interchanges();
+    let mut interchanges = Vec::new(alloc);
+    let mut notes = Vec::new(alloc);
+    for i in 0..entries.len() {
+        let (judged, kept) = note_interchange(alloc, setup, text, &entries[i])?;
+        interchanges.push(judged)?;
+        notes.push(kept)?;
+    }
+    Ok(NotedText {
+        interchanges,
+        notes,
+    })
+}

@@ -1,0 +1,63 @@
+-- The program's failures (own): the line that each prints; what it says, and the status, are those of nighthub, but for a file that is
+-- there already.
+use Rattle.std.specs.Prelude.{ℕ, ◌≡◌, ◌≢◌, List, ◌++◌, codes}
+use Rattle.stream_read.specs.declared.held.StreamFault.{StreamFault}
+use Rattle.stream_read.specs.declared.held.StreamFault.TheVariants as stream
+use Rattle.night_command.specs.Failure as night
+use Rattle.night_command.specs.declared.failure.Failure.{Failure}
+use Rattle.night_command.specs.declared.failure.Failure.TheVariants as failure
+use Rattle.track_command.specs.declared.failure.TrackFailure.{TrackFailure}
+use Rattle.track_command.specs.declared.failure.TrackFailure.TheVariants.{Night, There}
+
+-- what failed, with its name and its number
+abbrev pub night_text : Failure → List ℕ
+night_text f = night.subject_of f ++ (night.name_of f ++ (night.number_of f ++ codes "\n"))
+
+-- a path, and that something is there
+abbrev pub there_words : List ℕ
+there_words = codes " is there already\n"
+
+abbrev pub there_text : (path : List ℕ) → List ℕ
+there_text path = path ++ there_words
+
+-- the line on standard error: what it begins with, and the rest
+abbrev pub lead_of : TrackFailure → List ℕ
+lead_of (Night f) = codes "nighthub_track: "
+lead_of (There path) = codes "nighthub_track: output "
+
+abbrev pub rest_of : TrackFailure → List ℕ
+rest_of (Night f) = night_text f
+rest_of (There path) = there_text path
+
+abbrev pub line_of : TrackFailure → List ℕ
+line_of f = lead_of f ++ rest_of f
+
+abbrev pub status_of : TrackFailure → ℕ
+status_of (Night f) = night.status_of f
+status_of (There path) = 5
+
+-- what a stream that isn't read on fails by
+abbrev pub stream_failure : StreamFault → Failure
+stream_failure stream.InputTooLong = failure.InputTooLong
+stream_failure stream.NoMemory = failure.Memory
+stream_failure stream.Read = failure.Input
+
+-- what reading the arguments may fail by
+abbrev pub IsOfWords : TrackFailure → Type 0
+IsOfWords (Night f) = night.IsOfWords f
+IsOfWords (There path) = ⊥
+
+-- what a track may fail by once the setup is made
+abbrev pub IsOfTrack : Failure → Type 0
+IsOfTrack failure.Input = Unit {0}
+IsOfTrack failure.InputTooLong = Unit {0}
+IsOfTrack (failure.Output name) = Unit {0}
+IsOfTrack failure.Memory = Unit {0}
+IsOfTrack _ = ⊥
+
+-- what a place that a file can't go to fails by
+abbrev pub IsOfPlace : TrackFailure → Type 0
+IsOfPlace (Night (failure.Output name)) = Unit {0}
+IsOfPlace (Night failure.Memory) = Unit {0}
+IsOfPlace (Night _) = ⊥
+IsOfPlace (There path) = Unit {0}

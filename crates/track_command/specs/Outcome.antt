@@ -1,0 +1,50 @@
+-- The program's results (own): the file that is put, and the status.
+use Rattle.std.specs.Prelude.{◌≡◌, ◌≤◌, ◌⊎◌, ℕ, if◌then◌else◌, List, [], ◌∷◌, Option, IfSome, length}
+use Rattle.std.specs.Io.KnownBytes.{Appends}
+use Rattle.hub_kinds.specs.declared.limits.TheConstants.{LONGEST_TEXT}
+use Rattle.clap.specs.Words.{Text}
+use Rattle.night_command.specs.Outbox.{AddsFiles, File, KeepsFiles}
+use Rattle.night_command.specs.SetupFiles.{IsSetupAt}
+use Rattle.partner_setup.specs.Setup.{SetupValue}
+use Rattle.set_documents.specs.Documents.{DocumentValue}
+use Rattle.track_night.specs.Track.{IsTrack}
+use Rattle.track_night.specs.declared.track.Track.{Track}
+use Rattle.track_command.specs.CommandLine.{AreOptions, AsksForText, guide_paths, value_of, values_of}
+use Rattle.track_command.specs.declared.command.Options.{Options}
+
+-- 0 where the night is clean
+abbrev pub status_of : Track → ℕ
+status_of track = if track.clean then 0 else 1
+
+-- the table of the bytes that a source gave, no more than the limit, which are all that it told, where it told them
+pub record IsTrackOfSource (told : Option (List ℕ)) (setup : SetupValue) (documents : List DocumentValue) (track : Track) : Type 0 where
+  pub text : List ℕ
+  pub told_all : IfSome told (λ xs. xs ≡ text)
+  pub within : length text ≤ LONGEST_TEXT
+  pub is : IsTrack text setup documents track
+
+-- a table is given: it is that of a source and a setup, it is put behind what the outbox had as the file of this name, and the status is
+-- the night's
+pub record IsGiven (told : Option (List ℕ)) (setup : SetupValue) (documents : List DocumentValue) (name : List ℕ) (status : ℕ)
+    (had has : Option (List File)) : Type 0 where
+  pub track : Track
+  pub by : IsTrackOfSource told setup documents track
+  pub file : AddsFiles had has ((name, track.table) ∷ [])
+  pub own_status : status ≡ status_of track
+
+-- the table of some text that isn't too long, by a setup that some files make, whose guides have the paths of the options
+pub record IsTrackBy (options : Options) (status : ℕ) : Type 0 where
+  pub setup : SetupValue
+  pub made : IsSetupAt (guide_paths options) setup
+  pub text : List ℕ
+  pub within : length text ≤ LONGEST_TEXT
+  pub track : Track
+  pub is : IsTrack text setup options.documents.items track
+  pub own_status : status ≡ status_of track
+
+-- what a run of these words has done that didn't fail: printed a text where they ask for one; otherwise it has put a table by the options
+-- that they give, and printed nothing
+pub data IsOutcome (words : List Text) (status : ℕ) (was is : Option (List ℕ)) : Type 0 where
+  Shown : (asked : AsksForText words) (text : List ℕ) → Appends was is text → status ≡ 0 → IsOutcome words status was is
+  Tracked : (options : Options) → AreOptions (value_of words) (values_of words) options → IsTrackBy options status → was ≡ is
+      → IsOutcome words status was is

@@ -1,0 +1,225 @@
+ghost use Rattle.std.specs.Prelude.{◌≡◌, ◌≢◌, ◌<◌, ◌≤◌, ◌⊎◌, ◌∷◌, [], IfOk, IfErr, IfSome, IsErrOf, OnErr, OnOk, length, map};
+ghost use Rattle.std.specs.Io.KnownBytes.{Appends};
+ghost use Rattle.hub_kinds.specs.declared.limits.TheConstants.{LONGEST_TEXT};
+ghost use Rattle.stream_read.specs.Source.{HasFailed};
+ghost use Rattle.night_command.specs.Outbox.{AddsFiles, KeepsFiles};
+ghost use Rattle.night_command.specs.SetupFiles.{IsMemoryOrIs, IsRefusedAt, IsSetupAt};
+ghost use Rattle.track_command.specs.CommandLine.{AsksForText, IsCommandLine, NamesNight, guide_paths};
+ghost use Rattle.track_command.specs.Failure.{IsOfTrack, stream_failure};
+ghost use Rattle.track_command.specs.Outcome.{IsGiven, IsOutcome, IsTrackBy, IsTrackOfSource, status_of};
+
+use crate::command::{Asked, Options, read_words};
+use crate::failure::TrackFailure;
+use crate::setup_files::read_files;
+use crate::whole::{Places, is_free};
+use hub_kinds::copy_text;
+use night_command::{Failure, PutFault, open_input, setup_of};
+use night_ends::Outbox;
+use partner_setup::Setup;
+use set_documents::Document;
+use std::alloc::Global;
+use std::convert::AsStr;
+use std::io;
+use std::io::Write;
+use std::rt::Files;
+use stream_read::{Held, Source, StreamFault};
+use track_night::{Track, track_plain};
+
+/// More bytes than an input may have.
+const ALL: usize = 4_294_967_296;
+
+/// Runs the program on these words, its arguments without its name, and gives its exit status: 0 or 1 where it has put the table of a
+/// night or printed a text that was asked for, otherwise the status of the failure whose line it has printed on `err`.
+pub fn track_main<R, S, O, E>(rt: &R, words: &[S], out: &mut O, err: &mut E) -> u8
+where
+    R: Files + AllocGlobal,
+    S: AsStr,
+    O: Write,
+    E: Write,
+    ensures status { result ≤ 6 }
+    ensures silent { 2 ≤ result → result ≢ 5 → out.new ≡ out.old }
+    ensures quiet { result ≤ 1 → err.new ≡ err.old }
+    ensures usage { result ≡ 2 → IsCommandLine (map S.text words.now) → ⊥ }
+    ensures setup { result ≡ 3 → NamesNight (map S.text words.now) }
+    ensures input { result ≡ 4 → NamesNight (map S.text words.now) }
+    ensures output { result ≡ 5 → NamesNight (map S.text words.now) ⊎ AsksForText (map S.text words.now) }
+    ensures tracked { result ≤ 1 → IsOutcome (map S.text words.now) result (O.contents out.old) (O.contents out.new) }
+{
+    match read_words(rt.alloc(), words) {
+        Ok(Asked::Run(options)) => run(rt, &options, err),
+        Ok(Asked::Show(text)) => show(text.as_bytes(), out, err),
+        Err(mistake) => TrackFailure::Night(mistake).report(err),
+    }
+}
+
+/// Prints a text that was asked for. Gives 0, or the status of a failure of standard output.
+fn show<O: Write, E: Write>(text: &[u8], out: &mut O, err: &mut E) -> u8
+    ensures status { (result ≡ 0) ⊎ (result ≡ 5) }
+    ensures printed { result ≢ 5 → Appends (O.contents out.old) (O.contents out.new) text.now }
+    ensures quiet { result ≢ 5 → err.new ≡ err.old }
+{
+    if print(text, out).is_err() {
+        return TrackFailure::Night(Failure::Stdout).report(err);
+    }
+    0
+}
+
+fn print<O: Write>(text: &[u8], out: &mut O) -> io::Result<()>
+    ensures { OnOk result (Appends (O.contents out.old) (O.contents out.new) text.now) }
+{
+    out.write_all(text)?;
+    out.flush()
+}
+
+/// The setup that the files of these options make, or the first refusal of them.
+fn setup_at<'a, R: Files + AllocGlobal>(rt: &R, options: &Options<'a>) -> Result<Setup, Failure<'a>>
+    ensures made { IfOk result (IsSetupAt (guide_paths options.now)) }
+    ensures refused { IfErr result (IsMemoryOrIs (IsRefusedAt (guide_paths options.now))) }
+{
+    let files = read_files(rt, options)?;
+    setup_of(rt.alloc(), &files)
+}
+
+/// Tracks the night that these options name, where its file can go to its place.
+fn run<R, E>(rt: &R, options: &Options<'_>, err: &mut E) -> u8
+where
+    R: Files + AllocGlobal,
+    E: Write,
+    ensures status { result ≤ 6 }
+    ensures words { result ≢ 2 }
+    ensures quiet { result ≤ 1 → err.new ≡ err.old }
+    ensures tracked { result ≤ 1 → IsTrackBy options.now result }
+{
+    if let Err(failure) = is_free(rt, options.output) {
+        return failure.report(err);
+    }
+    match setup_at(rt, options) {
+        Ok(setup) => run_by(rt, options, &setup, err),
+        Err(refusal) => TrackFailure::Night(refusal).report(err),
+    }
+}
+
+/// The same by the setup of these options.
+fn run_by<R, E>(rt: &R, options: &Options<'_>, setup: &Setup, err: &mut E) -> u8
+where
+    R: Files + AllocGlobal,
+    E: Write,
+    requires { IsSetupAt (guide_paths options.now) setup.now }
+    ensures status { result ≤ 6 }
+    ensures words { result ≢ 2 }
+    ensures taken { result ≢ 3 }
+    ensures quiet { result ≤ 1 → err.new ≡ err.old }
+    ensures tracked { result ≤ 1 → IsTrackBy options.now result }
+{
+    match open_input(rt, options.input) {
+        Ok(source) => {
+            let mut source = source;
+            let mut places = Places::of(rt);
+            give_track(
+                rt.alloc(),
+                &mut source,
+                &mut places,
+                setup,
+                options.documents.as_slice(),
+                options.output.as_bytes(),
+                err,
+            )
+        }
+        Err(fault) => TrackFailure::Night(fault).report(err),
+    }
+}
+
+/// Puts the table of the night of a source into an outbox, as the file of this name, and gives the night's status. Where that fails, the
+/// status of the failure, whose line is on `err`.
+pub fn give_track<S, B, E>(
+    alloc: Global,
+    source: &mut S,
+    outbox: &mut B,
+    setup: &Setup,
+    documents: &[Document<'_>],
+    name: &[u8],
+    err: &mut E,
+) -> u8
+where
+    S: Source,
+    B: Outbox,
+    E: Write,
+    requires { B.faults outbox.old < 18446744073709551615 }
+    ensures status { result ≤ 6 }
+    ensures words { result ≢ 2 }
+    ensures taken { result ≢ 3 }
+    ensures quiet { result ≤ 1 → err.new ≡ err.old }
+    ensures given { result ≤ 1 → IsGiven (S.remaining source.old) setup.now documents.now name.now result
+        (B.contents outbox.old) (B.contents outbox.new) }
+    ensures left { 2 ≤ result → KeepsFiles (B.contents outbox.old) (B.contents outbox.new) }
+{
+    match track_in(alloc, source, outbox, setup, documents, name) {
+        Ok(track) => status(&track),
+        Err(failure) => TrackFailure::Night(failure).report(err),
+    }
+}
+
+/// The status of a night: 0 where it was clean, otherwise 1.
+fn status(track: &Track) -> u8
+    ensures value { result ≡ status_of track.now }
+    ensures bound { result ≤ 1 }
+{
+    if track.clean { 0 } else { 1 }
+}
+
+/// The table of the night of a source, which is put into an outbox as the file of this name when all of it is known.
+pub fn track_in<S, B>(
+    alloc: Global,
+    source: &mut S,
+    outbox: &mut B,
+    setup: &Setup,
+    documents: &[Document<'_>],
+    name: &[u8],
+) -> Result<Track, Failure<'static>>
+where
+    S: Source,
+    B: Outbox,
+    requires { B.faults outbox.old < 18446744073709551615 }
+    ensures track { IfOk result (IsTrackOfSource (S.remaining source.old) setup.now documents.now) }
+    ensures file { IfOk result (λ track. AddsFiles (B.contents outbox.old) (B.contents outbox.new) ((name.now, track.table) ∷ [])) }
+    ensures long { IsErrOf result Failure.InputTooLong → IfSome (S.remaining source.old) (λ xs. LONGEST_TEXT < length xs) }
+    ensures unread { IsErrOf result Failure.Input → HasFailed (S.faults source.old) (S.faults source.new) (S.interruptions source.new) }
+    ensures left { IfErr result (λ _. KeepsFiles (B.contents outbox.old) (B.contents outbox.new)) }
+    ensures err { IfErr result IsOfTrack }
+{
+    let mut held = Held::new(alloc);
+    if let Err(fault) = held.fill(source, ALL) {
+        return Err(of_stream(fault));
+    }
+    let track = track_plain(alloc, held.bytes(), setup, documents)?;
+    put_table(alloc, outbox, name, track.table.as_slice())?;
+    Ok(track)
+}
+
+fn of_stream(fault: StreamFault) -> Failure<'static>
+    ensures { result ≡ stream_failure fault }
+{
+    match fault {
+        StreamFault::InputTooLong => Failure::InputTooLong,
+        StreamFault::NoMemory => Failure::Memory,
+        StreamFault::Read => Failure::Input,
+    }
+}
+
+/// Puts a file into an outbox.
+fn put_table<B: Outbox>(
+    alloc: Global,
+    outbox: &mut B,
+    name: &[u8],
+    bytes: &[u8],
+) -> Result<(), PutFault>
+    requires { B.faults outbox.old < 18446744073709551615 }
+    ensures file { OnOk result (AddsFiles (B.contents outbox.old) (B.contents outbox.new) ((name.now, bytes.now) ∷ [])) }
+    ensures left { OnErr result (KeepsFiles (B.contents outbox.old) (B.contents outbox.new)) }
+{
+    let kept = copy_text(alloc, name)?;
+    match outbox.put(name, bytes) {
+        Ok(_) => Ok(()),
+        Err(error) => Err(PutFault::of_error(error, kept)),
+    }
+}

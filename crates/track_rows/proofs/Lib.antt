@@ -1,0 +1,7 @@
+pub mod Behind
+pub mod Chunks
+pub mod First
+pub mod Hindering
+pub mod Sending
+pub mod Targets
+pub mod Walks

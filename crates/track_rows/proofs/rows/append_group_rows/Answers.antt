@@ -1,0 +1,42 @@
+use Rattle.std.proofs.Common.{◌≡◌, ℕ, List, ◌++◌, Some, refl, sym, ap, ◌∙◌}
+use Rattle.std.specs.Prelude.{slice_get}
+use Rattle.std.proofs.lemmas.Result.{on_ok_weaker}
+use Rattle.env_index.specs.Words.{InterchangeEntry, GroupEntry}
+use Rattle.hub_kinds.specs.declared.set_codes.GroupVerdict.{GroupVerdict}
+use Rattle.judged_text.specs.Judged.{standing_at}
+use Rattle.judged_text.specs.declared.standing.GroupStanding.{GroupStanding}
+use Rattle.csv_fields.specs.Csv.{cells_text}
+use Rattle.track_rows.specs.Cells.{group_cells, interchange_cells}
+use Rattle.track_rows.specs.Rows.{sets_at}
+use Rattle.track_rows.specs.Walking.{sets_text}
+use Rattle.track_rows.proofs.Walks.{head_text, rows_as, sets_are_rows}
+use Rattle.track_rows.proofs.rows.append_group_rows.Goals as goal
+
+same_group : (groups found : List GroupEntry) (n : ℕ) (g h : GroupEntry) → found ≡ groups → slice_get found n ≡ Some g
+    → slice_get groups n ≡ Some h → g ≡ h
+same_group groups found n g h same at_g at_h =
+    let some : Some g ≡ Some h = sym at_g ∙ ap (λ (gs : List GroupEntry). slice_get gs n) same ∙ at_h in
+    cc
+
+pub returns-clause-rows : goal.returns-clause-rows
+returns-clause-rows c =
+    let by = c.args.by.now in
+    let x = c.args.judged.now in
+    let k : ℕ = c.args.k in
+    let notes = c.args.notes.now in
+    on_ok_weaker c.append_sets.result
+    (λ made g there.
+    let same : c.group-group.result ≡ g = same_group _ _ _ _ _
+    (ap (λ (i : InterchangeEntry). i.content.groups) c.interchange.ensures.value) c.group-group.ensures there in
+    let verdict = c.verdict_at-verdict.ensures
+    ∙ ap (λ (ss : List GroupStanding). (standing_at ss k).verdict) c.standings.ensures in
+    let head : c.as_slice.result.now ≡ head_text by c.args.n x g (standing_at x.standings k) notes =
+    c.as_slice.ensures.value ∙ c.in_ok-head.ensures
+    ∙ ap (λ (h : GroupEntry). cells_text (interchange_cells by.setup c.args.n x
+    ++ group_cells h c.verdict_at-verdict.result notes.codes)) same
+    ∙ ap (λ (v : GroupVerdict). cells_text (interchange_cells by.setup c.args.n x ++ group_cells g v notes.codes)) verdict in
+    rows_as by _ _ _ _ _ _ _ _
+    (λ before. ap (λ (h : List ℕ). sets_text by h notes before (sets_at x k g)) head
+    ∙ sets_are_rows by c.args.n before notes x g (standing_at x.standings k) 0 g.sets)
+    refl (made g there))
+    c.append_sets.ensures.rows

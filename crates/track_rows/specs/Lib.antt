@@ -1,0 +1,5 @@
+pub mod Cells
+pub mod Hindrance
+pub mod Mailed
+pub mod Rows
+pub mod Walking
