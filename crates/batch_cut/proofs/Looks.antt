@@ -90,6 +90,7 @@ waits_blank read d at lead o all =
       open_part = o;
       unknown = waits_for_terminator read d at lead order (omega arith) o.line_ends (λ lt. absurd (omega (arith, lt)))
           (λ k lt. o.none k (omega (arith, lt))) (no_head_past read lead (omega arith));
+      short = inl (inl all);
     }
 
 -- nothing but CR and LF stood before the terminator
@@ -152,6 +153,7 @@ module _ (read : List ℕ) (d : Delims) (at lead plead pseen : ℕ) (o : IsOpen 
     same = refl;
     open_part = seen_on seen is;
     unknown = waits_for_head read d at lead leads none may;
+    short = inl (inr may);
   }
 
   pub waits_unended : (seen : ℕ) → seen ≡ max lead pseen → IsFirstByte (is_byte d.terminator) (slice_range read seen (length read)) None
@@ -183,6 +185,7 @@ module _ (read : List ℕ) (d : Delims) (at lead plead pseen : ℕ) (o : IsOpen 
           none = clear;
         };
         unknown = waits_for_terminator read d at lead order (omega arith) o.line_ends (λ _. leads.other) clear none;
+        short = inr (other, refl);
       }
 
   pub passes_on : (seen ahead : ℕ) → seen ≡ max lead pseen

@@ -97,6 +97,7 @@ stops_outside read from at next inside count so_far enters = record {
   few = omega (arith, so_far.few, (enters.gap []).0);
   stands = enters.within;
   left = enters.none;
+  farthest = enters.as_far;
 }
 
 pub stops_inside : (read : List ℕ) (from at start : ℕ) (inside : Option Inside) (count : ℕ) (i : Inside) (part : OpenPart)
@@ -122,6 +123,7 @@ stops_inside read from at start inside count i part so_far enters waits =
       left = ap (λ d. end_from read d (start + 106)) (sym its.delims)
           ∙ goes_now read i.delims (start + 106) i.part.at its.goes_on
           ∙ goes_now read i.delims i.part.at part.at waits.goes_on ∙ waits.unknown;
+      farthest = waits.short;
     }
 
 -- an interchange that isn't looked at yet
@@ -152,6 +154,7 @@ enters_from read from start (Wait at) gap enters = record {
   gap = gaps_joined read from start at gap enters.gap;
   within = enters.within;
   none = enters.none;
+  as_far = enters.as_far;
 }
 
 pub enters_next : (read : List ℕ) (from start : ℕ) (e : Entered) → IsNextHead read from start → Enters read start e → Enters read from e
@@ -159,4 +162,9 @@ enters_next read from start e next enters =
     enters_from read from start e (gap_to read from start next (head_within read start next.head)) enters
 
 pub enters_none : (read : List ℕ) (from at : ℕ) → NoneRead read from at → EntersNone read from at
-enters_none read from at none = record { gap = gap_of read from at none.gap; within = none.gap.1; none = none.none }
+enters_none read from at none = record {
+  gap = gap_of read from at none.gap;
+  within = none.gap.1;
+  none = none.none;
+  as_far = none.as_far;
+}

@@ -1,6 +1,6 @@
 -- The next header in what is read of a text.
 use Rattle.std.proofs.Common.{◌≡◌, ℕ, ◌+◌, ◌-◌, ◌<◌, ◌≤◌, List, [], Bool, true, false, ◌&&◌, ◌||◌, leb, ltb, length, take}
-use Rattle.std.proofs.Common.{drop, get_or, sym, ap, subst, ◌∙◌, arith, inl, inr}
+use Rattle.std.proofs.Common.{drop, get_or, refl, sym, ap, subst, ◌∙◌, arith, inl, inr}
 use Rattle.std.specs.Prelude.{codes, slice_range}
 use Rattle.std.specs.Str.{bytes_eq}
 use Rattle.std.specs.Cmp.Lexicographic.{bytes_decides}
@@ -83,6 +83,7 @@ gap_to_begun read from at gap may =
       gap = gap;
       none = λ q low. false_from_ne_true (is_head read q)
           (λ is. absurd (omega (arith, head_within read q is, begun_short (drop at read) may, room, low, gap.1)));
+      as_far = inr may;
     }
 
 -- all that is read
@@ -97,4 +98,5 @@ gap_to_end read from at gap nowhere =
       gap = subst (λ (k : ℕ). WholeUpTo read from k []) end
           (gap_on read from at (length (slice_range read at (length read))) gap nowhere (omega (arith, end)));
       none = λ q low. false_from_ne_true (is_head read q) (λ is. absurd (omega (arith, head_within read q is, low)));
+      as_far = inl refl;
     }

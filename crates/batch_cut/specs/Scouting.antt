@@ -5,7 +5,7 @@ use Rattle.x12_bytes.specs.HeaderTest.{is_head}
 use Rattle.x12_bytes.specs.declared.layout.TheConstants.{HEADER_LEN}
 use Rattle.env_index.specs.Words.{Extent}
 use Rattle.batch_law.specs.Batches.{ChainUpTo, whole_end}
-use Rattle.batch_cut.specs.Open.{GoesOn, IsOpen}
+use Rattle.batch_cut.specs.Open.{GoesOn, IsAsFar, IsOpen, IsShort}
 use Rattle.batch_cut.specs.declared.scout.Advanced.{Advanced}
 use Rattle.batch_cut.specs.declared.scout.Entered.{Entered}
 use Rattle.batch_cut.specs.declared.scout.Entered.TheVariants.{Open, Wait}
@@ -40,6 +40,7 @@ pub record EntersNone (read : List ℕ) (from at : ℕ) : Type 0 where
   pub gap : IsGap read from at
   pub within : at ≤ length read
   pub none : (q : ℕ) → at ≤ q → is_head read q ≡ false
+  pub as_far : IsAsFar read at
 
 abbrev pub Enters : List ℕ → ℕ → Entered → Type 0
 Enters read from (Open start i) = EntersAt read from start i
@@ -50,6 +51,11 @@ abbrev pub IsLeft : List ℕ → ℕ → Option Inside → Type 0
 IsLeft read at None = (q : ℕ) → at ≤ q → is_head read q ≡ false
 IsLeft read at (Some i) = whole_end read at ≡ None
 
+-- nor could it go on: all is read, or what stands there isn't whole yet
+abbrev pub IsFarthest : List ℕ → ℕ → Option Inside → Type 0
+IsFarthest read at None = IsAsFar read at
+IsFarthest read at (Some i) = IsShort read i.part.lead i.part.seen
+
 -- these interchanges are whole, whatever follows; then none is
 pub record Advances (read : List ℕ) (from : ℕ) (a : Advanced) : Type 0 where
   pub whole : List Extent
@@ -58,3 +64,4 @@ pub record Advances (read : List ℕ) (from : ℕ) (a : Advanced) : Type 0 where
   pub few : a.count ≤ a.scout.at
   pub stands : Stands read a.scout.at a.scout.inside
   pub left : IsLeft read a.scout.at a.scout.inside
+  pub farthest : IsFarthest read a.scout.at a.scout.inside

@@ -3,25 +3,25 @@ use Rattle.std.proofs.Common.{◌≡◌, ◌∙◌, ℕ, ◌+◌, ◌-◌, ◌�
 use Rattle.std.proofs.Common.{length, take, drop, refl, sym, ap, subst, arith}
 use Rattle.std.specs.List.{All}
 use Rattle.std.specs.Io.KnownBytes.{Appends, Consumes, IsAtEnd}
-use Rattle.std.proofs.lemmas.List.{append_assoc, append-nil, length-append, take-append-drop, take_all, take_at, take-append-le}
+use Rattle.std.proofs.lemmas.List.{append_assoc, append-nil, length-append, take-append-drop, take_all, take_at}
 use Rattle.std.proofs.lemmas.List.Elements.{All-cons, All-head, All-nil, All-tail}
 use Rattle.x12_bytes.specs.Bytes.{is_line_end}
 use Rattle.x12_bytes.specs.Header.{terminator_of}
 use Rattle.x12_bytes.specs.HeaderTest.{is_head}
 use Rattle.env_index.proofs.Surround.{head_within}
-use Rattle.batch_law.specs.Batches.{ChainUpTo}
 use Rattle.batch_law.proofs.Heads.{head_kept, head_more}
 use Rattle.batch_law.proofs.Moving.{head_past, header_past}
 use Rattle.stream_read.specs.Held.{HeldValue}
-use Rattle.gather_law.specs.Gathered.{HoldsInterchanges, IsWholeBefore}
+use Rattle.gather_law.specs.Gathered.{HoldsInterchanges, IsWholeBefore, StandsApart}
 use Rattle.gather_law.proofs.Parts.{goes_up, holds_on, keeps, reads_on}
-use Rattle.gather_files.specs.Closing.{IsClosedSo, IsOwnTerminator, PutsBehind, PutsInPlace}
+use Rattle.gather_files.specs.Closing.{IsClosedSo, IsOwnTerminator, PutsBehind, PutsInPlace, StaysApart}
 use Rattle.gather_files.specs.Gathering.{AreEnds, IsPassed, IsTaken}
 use Rattle.gather_files.specs.Lead.{led}
 use Rattle.gather_files.specs.declared.closing.Closed.{Closed}
 use Rattle.gather_files.specs.declared.gather.Passing.{Passing}
 use Rattle.gather_files.proofs.Behind.{IsPut}
 use Rattle.gather_files.proofs.Passing.{whole_now, writes_on}
+use Rattle.gather_files.proofs.Untouched.{held_apart}
 
 -- what is put after a file is put after it where other bytes stand before
 own_past : (front file : List ℕ) (b : ℕ) → IsOwnTerminator file b → IsOwnTerminator (front ++ file) b
@@ -125,9 +125,9 @@ all_told (Some xs) (Some ys) text consumed end = consumed ∙ ap (λ (l : List �
 pub finished : (first now was mid is : Option (List ℕ)) (held : HeldValue) (p : Passing) (e : ℕ) (c : Closed)
     → (passed : IsPassed first now was mid held p) → IsAtEnd now → e ≤ length held.bytes
     → p.seen - p.ends ≤ length held.bytes - e → AreEnds (drop (length held.bytes - e) held.bytes)
-    → IsClosedSo held.bytes (take (length held.bytes - e) held.bytes) c → Appends mid is c.bytes.items
+    → IsClosedSo held.bytes (take (length held.bytes - e) held.bytes) c → StaysApart held.bytes c → Appends mid is c.bytes.items
     → IsTaken first was is (record { interchanges = p.interchanges + c.interchanges; len = p.written + length c.bytes.items; end = c.end })
-finished first now was mid is held p e c passed at_end few grows are so wrote =
+finished first now was mid is held p e c passed at_end few grows are so stays_apart wrote =
     let closed : List ℕ = c.bytes.items in
     let front : List ℕ = passed.front in
     let s : Stays front held.bytes closed c.count p.interchanges =
@@ -140,6 +140,11 @@ finished first now was mid is held p e c passed at_end few grows are so wrote =
     (reads_on front s.kept s.puts.rest p.interchanges s.whole) in
     let holds : HoldsInterchanges (front ++ closed) (p.interchanges + c.interchanges) =
     holds_on front closed p.interchanges c.interchanges whole so.holds in
+    let as_it_was : (c.count ≡ 0 → front ++ closed ≡ file) = λ none. (
+    let same : closed ≡ held.bytes =
+    s.puts.is ∙ ap (λ (l : List ℕ). s.kept ++ l) (nothing_left s.puts.rest (s.puts.few ∙ none)) ∙ append-nil s.kept
+    ∙ sym (append-nil s.kept) ∙ ap (λ (l : List ℕ). s.kept ++ l) (sym (s.untouched none)) ∙ sym s.is in
+    ap (λ (l : List ℕ). front ++ l) same ∙ sym passed.led_is) in
     record {
       closed = front ++ closed;
       goes_in = record {
@@ -160,12 +165,12 @@ finished first now was mid is held p e c passed at_end few grows are so wrote =
         begins = begins_so file front s.kept s.ends closed s.puts.rest passed.begins divided s.header s.puts.is;
         keeps = keeps (front ++ closed) (p.interchanges + c.interchanges) holds;
         holds = holds;
-        whole = λ w. (let none : c.count ≡ 0 = so.whole w in
-            let same : closed ≡ held.bytes =
-            s.puts.is ∙ ap (λ (l : List ℕ). s.kept ++ l) (nothing_left s.puts.rest (s.puts.few ∙ none)) ∙ append-nil s.kept
-            ∙ sym (append-nil s.kept) ∙ ap (λ (l : List ℕ). s.kept ++ l) (sym (s.untouched none)) ∙ sym s.is in
-            ap (λ (l : List ℕ). front ++ l) same ∙ sym passed.led_is);
+        whole = λ w. as_it_was (so.whole w);
         ended = λ w. goes_up front closed p.interchanges whole (so.ended w);
+        apart = λ a. (let own = stays_apart (held_apart front held.bytes p.interchanges
+            (subst (λ (l : List ℕ). IsWholeBefore front l p.interchanges) (take_all (length held.bytes) held.bytes (omega arith))
+            (whole_now first now was mid held p (length held.bytes) (omega (arith, passed.seen)) passed))
+            (subst StandsApart passed.led_is a)) in (as_it_was own.0, own.1));
       };
       written = writes_on was mid is front closed passed.written wrote;
     }

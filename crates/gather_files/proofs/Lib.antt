@@ -8,3 +8,4 @@ pub mod LastPart
 pub mod Leading
 pub mod Passing
 pub mod Sealing
+pub mod Untouched

@@ -7,9 +7,10 @@ use Rattle.x12_bytes.specs.Header.{header_at, terminator_of}
 use Rattle.x12_bytes.specs.HeaderTest.{is_head}
 use Rattle.x12_bytes.specs.declared.layout.TheConstants.{HEADER_LEN}
 use Rattle.batch_law.specs.Begun.{may_begin}
-use Rattle.gather_law.specs.Gathered.{GoesUpTo, HoldsInterchanges}
+use Rattle.gather_law.specs.Gathered.{GoesUpTo, HoldsInterchanges, IsClosedFile}
 use Rattle.gather_files.specs.declared.closing.Closed.{Closed}
 use Rattle.gather_files.specs.declared.closing.OpenInterchange.{OpenInterchange}
+use Rattle.gather_files.specs.declared.gather.End.{End}
 use Rattle.gather_files.specs.declared.gather.End.TheVariants as end
 
 -- the terminator of an interchange of the file
@@ -38,7 +39,23 @@ pub record PutsInPlace (kept new : List ℕ) (count : ℕ) : Type 0 where
   pub some : 1 ≤ count
   pub puts : PutsBehind kept new count
 
+-- as a file ends after which nothing is put: with its last interchange, or in one that lacks no terminator
+abbrev pub IsUntouched : End → Type 0
+IsUntouched end.Whole = Unit {0}
+IsUntouched end.CutOff = Unit {0}
+IsUntouched end.Mended = ⊥
+IsUntouched end.CutInHeader = ⊥
+
 -- Private from here on: what is held of a file at its end.
+
+-- no header can turn out to begin in it, and its interchanges are closed
+pub record IsHeldApart (held : List ℕ) : Type 0 where
+  pub ends : (q : ℕ) → q < length held → may_begin held q ≡ false
+  pub closed : IsClosedFile held
+
+-- then it stays as it is
+abbrev pub StaysApart : List ℕ → Closed → Type 0
+StaysApart held c = IsHeldApart held → (c.count ≡ 0) × IsUntouched c.end
 
 -- it goes in so closed: as it is and with bytes behind it, or without its CR and LF and with more than nothing in their place, where a
 -- header stands before

@@ -9,9 +9,9 @@ use Rattle.stream_read.specs.Held.{HeldValue}
 use Rattle.stream_read.specs.declared.held.StreamFault.{StreamFault}
 use Rattle.stream_read.specs.declared.held.StreamFault.TheVariants as stream
 use Rattle.batch_cut.specs.Scouting.{Stands}
-use Rattle.gather_law.specs.Gathered.{GoesUpTo, HoldsInterchanges, IsWholeBefore, KeepsToItself}
+use Rattle.gather_law.specs.Gathered.{GoesUpTo, HoldsInterchanges, IsWholeBefore, KeepsToItself, StandsApart}
 use Rattle.gather_files.specs.Causes.{cause_of}
-use Rattle.gather_files.specs.Closing.{Closes}
+use Rattle.gather_files.specs.Closing.{Closes, IsUntouched}
 use Rattle.gather_files.specs.Lead.{led}
 use Rattle.gather_files.specs.declared.cause.Cause.{Cause}
 use Rattle.gather_files.specs.declared.fault.GatherFault.{GatherFault}
@@ -36,6 +36,7 @@ pub record GoesIn (told : Option (List ℕ)) (closed : List ℕ) (taken : Taken)
   pub holds : HoldsInterchanges closed taken.interchanges
   pub whole : taken.end ≡ end.Whole → closed ≡ led file
   pub ended : (taken.end ≡ end.Whole) ⊎ (taken.end ≡ end.Mended) → GoesUpTo closed (length closed)
+  pub apart : StandsApart (led file) → (closed ≡ led file) × IsUntouched taken.end
 
 -- what is written then
 pub record IsTaken (told was is : Option (List ℕ)) (taken : Taken) : Type 0 where

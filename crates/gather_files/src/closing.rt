@@ -2,7 +2,7 @@ ghost use Rattle.std.specs.Prelude.{◌≡◌, ◌≤◌, ◌⊎◌, ℕ, IfOk, 
 ghost use Rattle.x12_bytes.specs.Bytes.{is_line_end};
 ghost use Rattle.batch_cut.specs.Scouting.{Advances};
 ghost use Rattle.gather_law.specs.Gathered.{GoesUpTo, HoldsInterchanges};
-ghost use Rattle.gather_files.specs.Closing.{IsClosedBy, IsClosedSo, IsLastSegment};
+ghost use Rattle.gather_files.specs.Closing.{IsClosedBy, IsClosedSo, IsLastSegment, StaysApart};
 ghost use Rattle.gather_files.specs.declared.gather.End.TheVariants.{Mended, Whole};
 
 use crate::gather::End;
@@ -41,7 +41,8 @@ pub(crate) struct OpenInterchange {
 /// their place.
 pub(crate) fn close(alloc: Global, held: &[u8], kept: usize) -> Result<Closed, NoMemory>
     requires { kept ≤ length held.now }
-    ensures { IfOk result (IsClosedSo held.now (take kept held.now)) }
+    ensures closed { IfOk result (IsClosedSo held.now (take kept held.now)) }
+    ensures apart { IfOk result (StaysApart held.now) }
 {
     let Advanced { scout, count } = from_the_front(held);
     match scout.inside {
@@ -61,7 +62,9 @@ fn as_it_is(alloc: Global, held: &[u8], end: End, interchanges: u64) -> Result<C
     requires holds { HoldsInterchanges held.now interchanges }
     requires few { interchanges ≤ length held.now }
     requires ended { (end ≡ Whole) ⊎ (end ≡ Mended) → GoesUpTo held.now (length held.now) }
-    ensures { IfOk result (λ c. (kept : List ℕ) → IsClosedSo held.now kept c) }
+    ensures closed { IfOk result (λ c. (kept : List ℕ) → IsClosedSo held.now kept c) }
+    ensures untouched { IfOk result (λ c. c.count ≡ 0) }
+    ensures told { IfOk result (λ c. c.end ≡ end) }
 {
     let bytes = Vec::from_slice(alloc, held)?;
     Ok(Closed {

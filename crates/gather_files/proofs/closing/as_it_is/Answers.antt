@@ -4,8 +4,8 @@ use Rattle.gather_files.specs.Closing.{PutsBehind}
 use Rattle.gather_files.proofs.Behind.{nothing_behind}
 use Rattle.gather_files.proofs.closing.as_it_is.Goals as goal
 
-pub returns : goal.returns
-returns c = λ kept. record {
+pub returns-clause-closed : goal.returns-clause-closed
+returns-clause-closed c = λ kept. record {
   holds = subst (λ (l : List ℕ). HoldsInterchanges l c.args.interchanges) (sym c.in_ok-bytes.ensures.items) c.requires.holds;
   some = subst (λ (l : List ℕ). c.args.interchanges ≤ length l) (sym c.in_ok-bytes.ensures.items) c.requires.few;
   ended = λ w. subst (λ (l : List ℕ). GoesUpTo l (length l)) (sym c.in_ok-bytes.ensures.items) (c.requires.ended w);

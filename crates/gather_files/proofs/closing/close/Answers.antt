@@ -1,9 +1,12 @@
-use Rattle.std.proofs.Common.{◌+◌, ℕ, List, Option, sym, ap, subst}
+use Rattle.std.proofs.Common.{◌+◌, ℕ, List, Option, sym, ap, subst, arith}
+use Rattle.std.proofs.lemmas.Result.{IfOk-weaker}
 use Rattle.batch_cut.specs.Scouting.{Advances, IsInside, Stands}
 use Rattle.batch_cut.specs.declared.scout.Advanced.{Advanced}
 use Rattle.batch_cut.specs.declared.scout.Inside.{Inside}
 use Rattle.gather_law.specs.Gathered.{HoldsInterchanges}
+use Rattle.gather_files.specs.Closing.{StaysApart}
 use Rattle.gather_files.proofs.Keeps.{holds_inside}
+use Rattle.gather_files.proofs.Untouched.{inside_all}
 use Rattle.gather_files.proofs.closing.close.Goals as goal
 
 pub as_it_is-requires-in-Some-clause-holds : goal.as_it_is-requires-in-Some-clause-holds
@@ -15,3 +18,23 @@ as_it_is-requires-in-Some-clause-holds c =
     subst (λ (o : Option Inside). Stands held a.scout.at o) c.in-Some.is advances.stands in
     subst (HoldsInterchanges held) (ap (λ (n : ℕ). n + 1) (sym advances.count))
     (holds_inside held a.scout.at advances.whole c.in-Some.inside advances.chain stands c.if-inside-held.true)
+
+pub returns-in-Some-last_open-clause-apart : goal.returns-in-Some-last_open-clause-apart
+returns-in-Some-last_open-clause-apart c =
+    IfOk-weaker c.terminated.result _ (StaysApart c.args.held.now)
+    (λ closed was apart. absurd (omega (
+      arith,
+      c.if-inside-held.false,
+      inside_all c.args.held.now c.from_the_front-count.result c.from_the_front-count.ensures c.in-Some.inside c.in-Some.is apart,
+    )))
+    c.terminated.ensures
+
+pub returns-in-None-last_open-clause-apart : goal.returns-in-None-last_open-clause-apart
+returns-in-None-last_open-clause-apart c =
+    IfOk-weaker c.spaced-in-None-last_open.result _ (StaysApart c.args.held.now)
+    (λ closed was apart. absurd (omega (
+      arith,
+      c.if-inside-held.false,
+      inside_all c.args.held.now c.from_the_front-count.result c.from_the_front-count.ensures c.in-Some.inside c.in-Some.is apart,
+    )))
+    c.spaced-in-None-last_open.ensures

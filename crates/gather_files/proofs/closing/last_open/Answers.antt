@@ -1,4 +1,4 @@
-use Rattle.std.proofs.Common.{◌≡◌, ◌+◌, ◌<◌, ◌++◌, ◌∷◌, [], ◌≤◌, ℕ, List, Option, Some, length, sym, ap, subst, arith}
+use Rattle.std.proofs.Common.{◌≡◌, ◌+◌, ◌++◌, ◌∷◌, [], ◌≤◌, ℕ, List, Option, Some, length, sym, ap, subst, arith}
 use Rattle.env_index.proofs.Surround.{head_within}
 use Rattle.batch_cut.specs.Scouting.{Advances, IsInside, Stands}
 use Rattle.batch_cut.specs.declared.scout.Advanced.{Advanced}

@@ -1,5 +1,5 @@
-use Rattle.std.proofs.Common.{◌≡◌, ◌∙◌, ◌+◌, ◌<◌, ◌≤◌, ◌++◌, ◌∷◌, [], ℕ, List, Option, Some, None, true, false}
-use Rattle.std.proofs.Common.{length, refl, sym, ap, subst, arith, inl, inr}
+use Rattle.std.proofs.Common.{◌≡◌, ◌∙◌, ◌+◌, ◌<◌, ◌≤◌, ◌++◌, ◌∷◌, [], ℕ, List, Option, None, false}
+use Rattle.std.proofs.Common.{length, sym, ap, subst, arith, inl, inr}
 use Rattle.std.proofs.lemmas.List.{append-nil, length-append}
 use Rattle.x12_bytes.specs.HeaderTest.{is_head}
 use Rattle.env_index.proofs.Surround.{head_within}
@@ -11,7 +11,7 @@ use Rattle.batch_cut.specs.declared.scout.Inside.{Inside}
 use Rattle.gather_law.specs.Closing.{blanks}
 use Rattle.gather_law.specs.Gathered.{HoldsInterchanges}
 use Rattle.gather_law.proofs.Blanks.{blanks_break}
-use Rattle.gather_files.specs.Closing.{IsOwnTerminator, PutsBehind}
+use Rattle.gather_files.specs.Closing.{PutsBehind}
 use Rattle.gather_files.proofs.Behind.{blanks_behind, inside_own, one_more}
 use Rattle.gather_files.proofs.Sealing.{none_open, seals}
 use Rattle.gather_files.proofs.closing.spaced.Goals as goal

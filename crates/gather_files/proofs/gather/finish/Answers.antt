@@ -1,7 +1,7 @@
 use Rattle.std.proofs.Common.{◌+◌, ◌-◌, ◌≤◌, ℕ, List, length, take, drop, sym, ap, subst}
 use Rattle.std.specs.Io.KnownBytes.{Appends}
 use Rattle.stream_read.specs.Held.{HeldValue}
-use Rattle.gather_files.specs.Closing.{IsClosedSo}
+use Rattle.gather_files.specs.Closing.{IsClosedSo, StaysApart}
 use Rattle.gather_files.specs.Gathering.{AreEnds, IsTaken}
 use Rattle.gather_files.specs.declared.closing.Closed.{Closed}
 use Rattle.gather_files.specs.declared.gather.Passing.{Passing}
@@ -22,7 +22,8 @@ returns-clause-taken g c first now was passed at_end =
     let so : IsClosedSo held.bytes (take (length held.bytes - e) held.bytes) closed =
     subst (λ (l : List ℕ). IsClosedSo held.bytes (take (length l - e) held.bytes) closed) c.bytes-3.ensures
     (subst (λ (l : List ℕ). IsClosedSo l (take (length c.bytes-3.result.now - e) l) closed) c.bytes-2.ensures
-    c.in_ok-closed.ensures) in
+    c.in_ok-closed.ensures.closed) in
+    let apart : StaysApart held.bytes closed = subst (λ (l : List ℕ). StaysApart l closed) c.bytes-2.ensures c.in_ok-closed.ensures.apart in
     let wrote : Appends (g.W.Write.contents c.args.out.now) (g.W.Write.contents c.put.new.out) closed.bytes.items =
     subst (λ (l : List ℕ). Appends (g.W.Write.contents c.args.out.now) (g.W.Write.contents c.put.new.out) l) c.as_slice-bytes.ensures.value
     c.in_ok-put.ensures.written in
@@ -33,4 +34,4 @@ returns-clause-taken g c first now was passed at_end =
     }))
     (sym (ap (λ (l : List ℕ). length l) c.as_slice-bytes.ensures.value))
     (finished first now was (g.W.Write.contents c.args.out.now) (g.W.Write.contents c.put.new.out) held p e closed passed at_end few grows
-    ends so wrote)
+    ends so apart wrote)
