@@ -268,6 +268,8 @@ SETUPS = {
 
 COMMON = "which texts often hold: a set with it isn't delivered to this partner"
 SETUP_WARNINGS = {
+    "a name in other letters": (SETUP.replace('"BOLT"', '"acme"'),
+                                "partner 2 (acme): its name differs from that of partner 1 (ACME) in case alone"),
     "a comma between elements": (replaced(SETUP, 'element = "|"', 'element = ","'), f'partner 2 (BOLT): `element` is ",", {COMMON}'),
     "a stroke at segment ends": (replaced(SETUP, 'terminator = "!"', 'terminator = "/"'), f'partner 2 (BOLT): `terminator` is "/", {COMMON}'),
     "a partner without a route": (replaced(SETUP, 'to = "BOLT"', 'to = "ACME"'), "partner 2 (BOLT): no route leads to it"),

@@ -9,6 +9,7 @@ pub mod GuideWords
 pub mod IdWords
 pub mod KeptRows
 pub mod Named
+pub mod NamedAlike
 pub mod Nodes
 pub mod NodesSaid
 pub mod Places

@@ -4,6 +4,7 @@ use Rattle.hub_kinds.specs.Words.{contains_text}
 use Rattle.partner_setup.specs.declared.rows.PartnerRow.{PartnerRow}
 use Rattle.partner_setup.specs.declared.rows.RouteRow.{RouteRow}
 use Rattle.refusal_words.specs.DoubtfulPartners.{delimiter_warnings}
+use Rattle.refusal_words.specs.NamedAlike.{alike_warnings}
 use Rattle.refusal_words.specs.Places.{in_place, quoted}
 use Rattle.refusal_words.specs.declared.kept_rows.KeptRows.{KeptRows}
 
@@ -36,8 +37,10 @@ abbrev pub partner_warnings : (reached : List (List ℕ)) → (number : ℕ) →
 partner_warnings reached number [] = []
 partner_warnings reached number (p ∷ ps) = partner_warning reached number p ++ partner_warnings reached (number + 1) ps
 
--- the partners that receive nothing, or by delimiters that texts often hold; and then the guides that nothing is judged by
+-- the partners whose name differs from an earlier one's in case alone; those that receive nothing, or by delimiters that texts often hold;
+-- and then the guides that nothing is judged by
 abbrev pub setup_warnings : KeptRows → List (List ℕ)
 setup_warnings kept =
-    partner_warnings (names_in receivers_of kept.rows.routes) 1 kept.rows.partners
-    ++ guide_warnings (names_in guides_of kept.rows.partners) kept.guides
+    alike_warnings kept.rows.partners
+    ++ (partner_warnings (names_in receivers_of kept.rows.routes) 1 kept.rows.partners
+    ++ guide_warnings (names_in guides_of kept.rows.partners) kept.guides)

@@ -22,6 +22,7 @@ mod guide_words;
 mod id_words;
 mod kept_rows;
 mod named;
+mod named_alike;
 mod nodes;
 mod nodes_said;
 mod row_words;

@@ -6,6 +6,7 @@ ghost use Rattle.refusal_words.specs.SetupWarnings as warnings;
 use crate::appended::{append, append_in_place, append_quoted};
 use crate::doubtful_partners::push_delimiters;
 use crate::kept_rows::KeptRows;
+use crate::named_alike::push_named_alike;
 use guide_tree::Codes;
 use hub_kinds::{Items, NoMemory, Text, Texts, copy_text};
 use partner_setup::{PartnerRow, RouteRow};
@@ -133,8 +134,9 @@ fn push_partners(
     Ok(())
 }
 
-/// The warnings of a setup of which these rows are kept, in words: the partners that no route leads to, or that receive by delimiters which
-/// texts often hold; then the guides that no partner names. The only error is want of memory.
+/// The warnings of a setup of which these rows are kept, in words: the partners whose name differs from an earlier one's in case alone;
+/// those that no route leads to, or that receive by delimiters which texts often hold; then the guides that no partner names. The only
+/// error is want of memory.
 pub fn setup_warning_texts(alloc: Global, kept: &KeptRows) -> Result<Texts, NoMemory>
     ensures { IfOk result (λ texts. texts ≡ warnings.setup_warnings kept.now) }
 {
@@ -142,6 +144,7 @@ pub fn setup_warning_texts(alloc: Global, kept: &KeptRows) -> Result<Texts, NoMe
     let partners = kept.rows.partners.as_slice();
     let reached = names_in(alloc, kept.rows.routes.as_slice())?;
     let named = names_in(alloc, partners)?;
+    push_named_alike(alloc, &mut found, partners)?;
     push_partners(alloc, &mut found, &reached, partners)?;
     push_guides(alloc, &mut found, &named, kept.guides.as_slice())?;
     Ok(Items::from_vec(found))
