@@ -266,10 +266,9 @@ SETUPS = {
     "a cap of 0": (replaced(SETUP, "cap = 1", "cap = 0"), "partner 2 (BOLT): the cap 0 is out of 1 to 99999"),
 }
 
+ALIKE = "setup.toml: warning: partner 2 (acme): its name differs from that of partner 1 (ACME) in case alone"
 COMMON = "which texts often hold: a set with it isn't delivered to this partner"
 SETUP_WARNINGS = {
-    "a name in other letters": (SETUP.replace('"BOLT"', '"acme"'),
-                                "partner 2 (acme): its name differs from that of partner 1 (ACME) in case alone"),
     "a comma between elements": (replaced(SETUP, 'element = "|"', 'element = ","'), f'partner 2 (BOLT): `element` is ",", {COMMON}'),
     "a stroke at segment ends": (replaced(SETUP, 'terminator = "!"', 'terminator = "/"'), f'partner 2 (BOLT): `terminator` is "/", {COMMON}'),
     "a partner without a route": (replaced(SETUP, 'to = "BOLT"', 'to = "ACME"'), "partner 2 (BOLT): no route leads to it"),
@@ -388,6 +387,8 @@ def examples():
     for name, (setup, said) in SETUP_WARNINGS.items():
         page.want(f"warned of: {name}", check(**{**whole, "setup": setup}),
                   (0, lines(**{**OK, "setup": f"{OK['setup']}\nsetup.toml: warning: {said}"}), ""))
+    small = {"setup": SETUP.replace('"BOLT"', '"acme"'), "counters": COUNTERS.replace('"BOLT"', '"acme"')}
+    page.want("warned of: a name in other letters", check(**{**whole, **small}), (0, lines(**{**OK, "setup": f"{OK['setup']}\n{ALIKE}"}), ""))
     for name, (counters, said) in COUNTERS_OF.items():
         page.want(f"counters: {name}", check(**{**whole, "counters": counters}), (3, lines(**{**OK, "setup": OPEN, "counters": said}), ""))
     page.want("two guides with one name", check(guide_0=H850, guide_1=H850, setup=SETUP),
