@@ -9,7 +9,9 @@ pub mod Parted
 pub mod Passing
 pub mod Rendering
 pub mod Replacing
+pub mod Rows
 pub mod Sending
+pub mod Sharing
 pub mod Together
 pub mod Writing
 pub mod WrittenSets

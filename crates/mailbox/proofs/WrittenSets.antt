@@ -1,8 +1,6 @@
 -- The written sets, with a set, and with the sets of a partner more.
 use Rattle.std.proofs.Common.{◌≡◌, ◌≢◌, ◌<◌, ◌≤◌, ◌⊎◌, inl, inr, ℕ, ◌+◌, List, [], ◌∷◌, ◌++◌, Some, length, refl, sym, ap}
-use Rattle.std.proofs.Common.{◌∙◌, arith, append_assoc, map, map-id, Ok, Err, Result, IfOk, MatchResult}
-use Rattle.std.specs.List.{AllZip, range_with_len}
-use Rattle.render_crew.proofs.Gathered.{gathered, numbered}
+use Rattle.std.proofs.Common.{◌∙◌, arith, append_assoc}
 use Rattle.std.specs.Prelude.{slice_get, slice_set}
 use Rattle.std.proofs.lemmas.Bool.{cases_lt}
 use Rattle.std.proofs.lemmas.Option.{slice_get_within}
@@ -29,34 +27,6 @@ one_added partner k p left rest old new all is split was =
     ∙ append_assoc old (one ∷ []) (rendered_from partner (k + 1) rest)
     ∙ sym (ap (λ (ps : List PlacedValue). old ++ rendered_from partner k ps) split)
     ∙ was
-
--- what was gathered of each place of a list, in order, is what is written of the list
-numbered_rendered : (partner : Partner) (k a : ℕ) (ps : List PlacedValue)
-    → numbered (λ (i : ℕ) (p : PlacedValue). rendered partner (k + i) p) a ps ≡ rendered_from partner (k + a) ps
-numbered_rendered partner k a [] = refl
-numbered_rendered partner k a (p ∷ ps) =
-    ap (λ (l : List RenderedValue). rendered partner (k + a) p ∷ l) (numbered_rendered partner k (a + 1) ps
-    ∙ ap (λ (n : ℕ). rendered_from partner n ps) (omega arith))
-
-pub all_gathered : (E : Type 0) (partner : Partner) (k : ℕ) (ps : List PlacedValue) (rs : List (Result RenderedValue E))
-    (written : List RenderedValue) → rs ≡ map Ok written
-    → AllZip {B = Result RenderedValue E}
-    (λ i r. IfOk r (λ v. (p : PlacedValue) → slice_get ps i ≡ Some p → v ≡ rendered partner (k + i) p)) (range_with_len 0 (length ps)) rs
-    → written ≡ rendered_from partner k ps
-all_gathered E partner k ps rs written is made =
-    sym (map-id written)
-    ∙ gathered E (λ (i : ℕ) (p : PlacedValue). rendered partner (k + i) p) (λ (v : RenderedValue). v) ps rs written is made
-    ∙ numbered_rendered partner k 0 ps ∙ ap (λ (n : ℕ). rendered_from partner n ps) (omega arith)
-
--- what a gathering answers
-pub gathering_gives : {V E F : Type 0} (items : V → List RenderedValue) (partner : Partner) (k : ℕ) (ps : List PlacedValue)
-    (rs : List (Result RenderedValue E)) (r : Result V F) (Q : F → Type 0)
-    → MatchResult r (λ v. (ys : List RenderedValue) × (rs ≡ map Ok ys) × (items v ≡ ys)) Q
-    → AllZip {B = Result RenderedValue E}
-    (λ i r. IfOk r (λ v. (p : PlacedValue) → slice_get ps i ≡ Some p → v ≡ rendered partner (k + i) p)) (range_with_len 0 (length ps)) rs
-    → IfOk r (λ v. items v ≡ rendered_from partner k ps)
-gathering_gives {V} {E} {F} items partner k ps rs (Ok v) Q given made = given.2 ∙ all_gathered E partner k ps rs given.0 given.1 made
-gathering_gives {V} {E} {F} items partner k ps rs (Err e) Q given made = tt
 
 pub some_same : {A : Type 0} (a b : A) → Some a ≡ Some b → a ≡ b
 some_same a b e = cc

@@ -7,6 +7,7 @@ pub mod Kept
 pub mod Mailbox
 pub mod Numbered
 pub mod Numbers
+pub mod Parts
 pub mod Gapless
 pub mod Read
 pub mod Rendered

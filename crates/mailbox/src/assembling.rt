@@ -37,7 +37,7 @@ fn append_groups(
     partner: &Partner,
     at: &At,
     first: u32,
-    sets: &[Rendered],
+    sets: &[Rendered<'_>],
 ) -> Result<u64, NoMemory>
     requires first { IsNumber first }
     ensures text { OnOk result (out.new.items
@@ -80,7 +80,7 @@ fn append_delivered(
     at: &At,
     number: u32,
     first: u32,
-    sets: &[Rendered],
+    sets: &[Rendered<'_>],
 ) -> Result<u64, NoMemory>
     requires header { AreHeaderEnds (envelope_to setup.now partner.now) at.now header.now }
     requires first { IsNumber first }
@@ -96,7 +96,7 @@ fn append_delivered(
 }
 
 /// The sets behind the first of them.
-fn behind(sets: &[Rendered], end: usize) -> &[Rendered]
+fn behind<'x, 'r>(sets: &'x [Rendered<'r>], end: usize) -> &'x [Rendered<'r>]
     requires { end ≤ length sets.now }
     ensures { result.now ≡ drop end sets.entry.now }
 {
@@ -113,7 +113,7 @@ fn append_interchanges(
     at: &At,
     acknowledgments: u64,
     groups: u64,
-    sets: &[Rendered],
+    sets: &[Rendered<'_>],
 ) -> Result<u64, NoMemory>
     requires header { AreHeaderEnds (envelope_to setup.now partner.now) at.now header.now }
     requires counters { HasCounters partner.now }
@@ -162,7 +162,8 @@ pub fn close(
 {
     let receiver = &setup.partners()[partner];
     let header = header_for(alloc, setup, partner, receiver, at)?;
-    let mut out = Vec::with_capacity(alloc, room_for(sets.sets(), receiver.cap))?;
+    let sets = sets.lent(alloc)?;
+    let mut out = Vec::with_capacity(alloc, room_for(sets.as_slice(), receiver.cap))?;
     let count = append_interchanges(
         &mut out,
         setup,
@@ -171,7 +172,7 @@ pub fn close(
         at,
         acknowledgments,
         groups,
-        sets.sets(),
+        sets.as_slice(),
     )?;
     Ok(Mailbox {
         text: Items::from_vec(out),

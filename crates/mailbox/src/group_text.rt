@@ -20,7 +20,7 @@ fn code_at(setup: &Setup, sender: usize) -> &[u8]
 }
 
 /// Writes sets, one behind the other.
-fn append_sets(out: &mut Vec<u8>, sets: &[Rendered]) -> Result<(), NoMemory>
+fn append_sets(out: &mut Vec<u8>, sets: &[Rendered<'_>]) -> Result<(), NoMemory>
     ensures { OnOk result (out.new.items ≡ out.old.items ++ texts_in_row (map text_in sets.now)) }
 {
     for set in sets {
@@ -64,7 +64,7 @@ fn append_header_of(
     partner: &Partner,
     at: &At,
     control: u32,
-    first: &Rendered,
+    first: &Rendered<'_>,
 ) -> Result<(), NoMemory>
     ensures { OnOk result (out.new.items
         ≡ out.old.items ++ group_header_text partner.now.delims at.now (header_of setup.now partner.now control first.now.key)) }
@@ -87,7 +87,7 @@ pub(crate) fn append_group(
     partner: &Partner,
     at: &At,
     control: u32,
-    sets: &[Rendered],
+    sets: &[Rendered<'_>],
 ) -> Result<(), NoMemory>
     requires { 0 < length sets.now }
     ensures { OnOk result (out.new.items ≡ out.old.items ++ group_of setup.now partner.now at.now control sets.now) }

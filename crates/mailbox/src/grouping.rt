@@ -6,14 +6,14 @@ ghost use Rattle.mailbox.specs.Rendered.{groups_of};
 use crate::rendered::Rendered;
 
 /// Whether two sets go into one group.
-pub(crate) fn goes_with(a: &Rendered, b: &Rendered) -> bool
+pub(crate) fn goes_with(a: &Rendered<'_>, b: &Rendered<'_>) -> bool
     ensures { result ≡ same_key a.now.key b.now.key }
 {
     a.sender() == b.sender() && a.functional_id() == b.functional_id() && a.version() == b.version()
 }
 
 /// How many sets follow each other in the first group.
-fn run_len(sets: &[Rendered]) -> usize
+fn run_len(sets: &[Rendered<'_>]) -> usize
     requires { 0 < length sets.now }
     ensures value { result ≡ run_len sets.now }
     ensures some { 0 < result }
@@ -28,7 +28,7 @@ fn run_len(sets: &[Rendered]) -> usize
 }
 
 /// How many sets go into the first group.
-pub(crate) fn first_group(sets: &[Rendered]) -> usize
+pub(crate) fn first_group(sets: &[Rendered<'_>]) -> usize
     requires { 0 < length sets.now }
     ensures some { 0 < result }
     ensures bound { result ≤ length sets.now }

@@ -33,15 +33,18 @@ mod gapless;
 mod group_text;
 mod grouping;
 mod inner;
+mod kept;
 mod laws;
 mod mapped;
 mod outcome;
+mod parts;
 mod receiving;
 mod render;
 mod render_batch;
 mod rendered;
 mod rendered_sets;
 mod room;
+mod row;
 mod writers;
 
 pub use assembling::{Mailbox, assemble, close};

@@ -12,7 +12,7 @@ const GROUP: usize = 128;
 const INTERCHANGE: usize = 264;
 
 /// About how many bytes the texts of sets have, with GS and GE where one doesn't go with the one before it.
-fn room_of_sets(sets: &[Rendered]) -> usize
+fn room_of_sets(sets: &[Rendered<'_>]) -> usize
     ensures { result ≤ sum_by (λ s. length (text_in s)) sets.now + 128 * length sets.now }
 {
     let mut room: usize = 0;
@@ -26,7 +26,7 @@ fn room_of_sets(sets: &[Rendered]) -> usize
 }
 
 /// About how many bytes a mailbox of these sets has, so that it is seldom moved while it is written: at most 656 a set beside its text.
-pub(crate) fn room_for(sets: &[Rendered], cap: u32) -> usize
+pub(crate) fn room_for(sets: &[Rendered<'_>], cap: u32) -> usize
     ensures { result ≤ sum_by (λ s. length (text_in s)) sets.now + 656 * length sets.now }
 {
     if sets.is_empty() {

@@ -1,11 +1,14 @@
-ghost use Rattle.std.specs.Prelude.{◌≡◌, ◌+◌, ◌<◌, ◌^◌, Some, IfOk, length, slice_get};
+ghost use Rattle.std.specs.Prelude.{◌≡◌, ◌+◌, ◌<◌, ◌≤◌, ◌^◌, List, Some, IfOk, length, map, slice_get};
 ghost use Rattle.std.specs.Thread.{IsSync};
 ghost use Rattle.judged_text.specs.Judged.{PlacedValue};
 ghost use Rattle.mailbox.specs.Numbers.{HasCounters};
-ghost use Rattle.mailbox.specs.Rendered.{rendered, rendered_from};
+ghost use Rattle.mailbox.specs.Parts.{AreParts, rendered_part};
+ghost use Rattle.mailbox.specs.Rendered.{rendered_from};
+ghost use Rattle.mailbox.specs.declared.parts.Part.{Part};
 
-use crate::rendered::{Rendered, render};
-use crate::rendered_sets::RenderedSets;
+use crate::parts::{Part, parts_of};
+use crate::rendered_sets::{RenderedSets, joined};
+use crate::row::write_row;
 use hub_kinds::NoMemory;
 use judged_text::PlacedSet;
 use partner_setup::Partner;
@@ -47,12 +50,8 @@ impl Writers for OneThread {
         k: u64,
         sets: &[PlacedSet<'_, '_, '_>],
     ) -> Result<RenderedSets, NoMemory> {
-        let mut written = RenderedSets::none(alloc);
-        for i in 0..sets.len() {
-            let set = render(alloc, partner, k + i as u64, &sets[i])?;
-            written.push(set)?;
-        }
-        Ok(written)
+        let row = write_row(alloc, partner, k, sets)?;
+        RenderedSets::from_row(alloc, row)
     }
 }
 
@@ -67,33 +66,58 @@ impl<'r, R: Threads + Sync> Writers for ManyThreads<'r, R> {
         sets: &[PlacedSet<'_, '_, '_>],
     ) -> Result<RenderedSets, NoMemory> {
         let share = self.share_of(sets.len(), FEWEST);
-        let written = write_by(self.rt, alloc, share, partner, k, sets)?;
-        Ok(RenderedSets::from_vec(written))
+        let parts = parts_of(alloc, sets.len(), share)?;
+        let written = write_by(self.rt, alloc, parts.as_slice(), partner, k, sets)?;
+        joined(alloc, written)
     }
 }
 
-/// Writes sets in threads that get so many of them at the least, and gathers what they wrote front to back.
-fn write_by<R: Threads + Sync>(
-    rt: &R,
+/// Writes the sets of a part.
+fn write_part(
     alloc: Global,
-    share: usize,
     partner: &Partner,
     k: u64,
     sets: &[PlacedSet<'_, '_, '_>],
-) -> Result<Vec<Rendered>, NoMemory>
+    part: Part,
+) -> Result<RenderedSets, NoMemory>
     requires counters { HasCounters partner.now }
     requires few { k + length sets.now < 2 ^ 64 }
-    ensures { IfOk result (λ v. v.items ≡ rendered_from partner.now k sets.now) }
+    requires order { part.from ≤ part.to }
+    requires within { part.to ≤ length sets.now }
+    ensures { IfOk result (λ v. v ≡ rendered_part partner.now k sets.now part) }
 {
-    let written: Result<Vec<Rendered>, NoMemory> = (0..sets.len())
+    let row = write_row(
+        alloc,
+        partner,
+        k + part.from as u64,
+        &sets[part.from..part.to],
+    )?;
+    RenderedSets::from_row(alloc, row)
+}
+
+/// Writes sets in threads, a part in each, and gathers what they wrote front to back.
+fn write_by<R: Threads + Sync>(
+    rt: &R,
+    alloc: Global,
+    parts: &[Part],
+    partner: &Partner,
+    k: u64,
+    sets: &[PlacedSet<'_, '_, '_>],
+) -> Result<Vec<RenderedSets>, NoMemory>
+    requires counters { HasCounters partner.now }
+    requires few { k + length sets.now < 2 ^ 64 }
+    requires parts { AreParts 0 (length sets.now) parts.now }
+    ensures { IfOk result (λ v. v.items ≡ map (rendered_part partner.now k sets.now) parts.now) }
+{
+    let written: Result<Vec<RenderedSets>, NoMemory> = (0..parts.len())
         .into_par_iter()
-        .with_min_len(share)
         .map(
-            |i: usize| -> Result<Rendered, NoMemory>
-                requires { (i < length sets.now) × HasCounters partner.now × (k + length sets.now < 2 ^ 64) }
-                ensures { IfOk result (λ set. (p : PlacedValue) → slice_get sets.entry.now i ≡ Some p
-                    → set ≡ rendered partner.entry.now (k + i) p) }
-            { render(alloc, partner, k + i as u64, &sets[i]) },
+            |i: usize| -> Result<RenderedSets, NoMemory>
+                requires { (i < length parts.now) × AreParts 0 (length sets.now) parts.now × HasCounters partner.now
+                    × (k + length sets.now < 2 ^ 64) }
+                ensures { IfOk result (λ v. (p : Part) → slice_get parts.entry.now i ≡ Some p
+                    → v ≡ rendered_part partner.entry.now k sets.entry.now p) }
+            { write_part(alloc, partner, k, sets, parts[i]) },
         )
         .collect(rt, alloc)?;
     written

@@ -73,22 +73,25 @@ fn next_at(
     )
 }
 
-/// What a night closes with for the partner at a place, by its acknowledgments and the sets that were written for it.
+/// What a night closes with for the partner at a place, by its acknowledgments and the sets that were written for it, which are given
+/// up.
 fn close_at(
     alloc: Global,
     setup: &Setup,
     place: usize,
     at: &At,
     file: &Acknowledgments,
-    sets: &RenderedSets,
+    sets: RenderedSets,
 ) -> Result<Closed, NoMemory>
     requires { place < length setup.now.partners }
     ensures text { (p : Partner) → slice_get setup.now.partners place ≡ Some p
-        → IfOk result (λ closed. closed.text ≡ box_behind setup.now at.now file.now sets.now p) }
+        → IfOk result (λ closed. closed.text ≡ box_behind setup.now at.now file.now sets p) }
     ensures next { (p : Partner) → slice_get setup.now.partners place ≡ Some p
-        → IfOk result (λ closed. closed.next ≡ next_behind file.now sets.now p) }
+        → IfOk result (λ closed. closed.next ≡ next_behind file.now sets p) }
 {
-    let mailbox = close(alloc, setup, place, at, file.count(), file.groups(), sets)?;
+    let acknowledgments = file.count();
+    let groups = file.groups();
+    let mailbox = close(alloc, setup, place, at, acknowledgments, groups, &sets)?;
     let next = next_at(setup, place, file, sets.count(), mailbox.groups);
     Ok(Closed {
         text: mailbox.text,
@@ -102,22 +105,23 @@ pub(crate) fn close_all(
     setup: &Setup,
     at: &At,
     files: &[Acknowledgments],
-    boxes: &[RenderedSets],
+    boxes: Vec<RenderedSets>,
 ) -> Result<AllClosed, NoMemory>
     requires files { length files.now ≡ length setup.now.partners }
-    requires boxes { length boxes.now ≡ length setup.now.partners }
-    ensures boxes { IfOk result (λ closed. AreForPartners setup.now (box_by setup.now at.now files.now boxes.now) closed.boxes) }
-    ensures next { IfOk result (λ closed. AreForPartners setup.now (next_by files.now boxes.now) closed.next) }
+    requires boxes { length boxes.items ≡ length setup.now.partners }
+    ensures boxes { IfOk result (λ closed. AreForPartners setup.now (box_by setup.now at.now files.now boxes.items) closed.boxes) }
+    ensures next { IfOk result (λ closed. AreForPartners setup.now (next_by files.now boxes.items) closed.next) }
 {
     let mut texts = Vec::new(alloc);
-    let mut next = Vec::new(alloc);
-    for place in 0..setup.partners().len() {
-        let closed = close_at(alloc, setup, place, at, &files[place], &boxes[place])?;
+    let mut counters = Vec::new(alloc);
+    for sets in boxes {
+        let place = counters.len();
+        let closed = close_at(alloc, setup, place, at, &files[place], sets)?;
         texts.push(closed.text)?;
-        next.push(closed.next)?;
+        counters.push(closed.next)?;
     }
     Ok(AllClosed {
         boxes: Items::from_vec(texts),
-        next: Items::from_vec(next),
+        next: Items::from_vec(counters),
     })
 }

@@ -236,7 +236,7 @@ impl Writing {
             boxes,
         } = self;
         let report = lines.close(outside)?;
-        let closed = close_all(alloc, setup, at, files.as_slice(), boxes.as_slice())?;
+        let closed = close_all(alloc, setup, at, files.as_slice(), boxes)?;
         let acks = texts_of(alloc, files)?;
         Ok(Night {
             acks,

@@ -1,4 +1,4 @@
-ghost use Rattle.std.specs.Prelude.{◌*◌, ◌+◌, ◌<◌, ◌≤◌};
+ghost use Rattle.std.specs.Prelude.{◌*◌, ◌≤◌};
 
 /// The thread that asks.
 #[derive(Drop)]
@@ -14,23 +14,22 @@ pub struct ManyThreads<'r, R> {
 }
 
 impl<'r, R> ManyThreads<'r, R> {
-    ghost use Rattle.std.specs.Prelude.{◌*◌, ◌+◌, ◌<◌, ◌≤◌, max};
+    ghost use Rattle.std.specs.Prelude.{◌*◌, ◌≤◌, max};
 
-    /// How many of so many items a thread gets at the least, where `fewest` items are worth a thread. No more shares of that size are in
-    /// them than there are workers, and so no more threads are started.
+    /// How many of so many items a thread gets, where `fewest` items are worth a thread: so many that as many shares as there are workers
+    /// have them all, and no more threads are started.
     pub fn share_of(&self, items: usize, fewest: usize) -> usize
         ensures fewest { fewest ≤ result }
-        ensures workers { items < result * (max self.now.workers 1 + 1) }
+        ensures workers { items ≤ result * max self.now.workers 1 }
     {
         share_of(items, self.workers.max(1) as usize).max(fewest)
     }
 }
 
-/// A share of which there are not more than workers: rounded down, so that halving comes to it, where there are enough of them.
+/// A share of which as many as there are workers have all items.
 fn share_of(items: usize, workers: usize) -> usize
     requires { 1 ≤ workers }
-    ensures { items < result * (workers + 1) }
+    ensures { items ≤ result * workers }
 {
-    let share = items / workers;
-    if workers <= share { share } else { share + 1 }
+    items.div_ceil(workers)
 }
