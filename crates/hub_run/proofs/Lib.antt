@@ -30,6 +30,7 @@ pub mod TellingGroups
 pub mod TellingNights
 pub mod TellingSets
 pub mod Together
+pub mod WholeNight
 pub mod Workers
 pub mod Written
 mod WorkedResponses

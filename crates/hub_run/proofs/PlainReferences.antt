@@ -24,13 +24,10 @@ use Rattle.set_check.specs.Checked.{said_by}
 use Rattle.checked_text.specs.Answers.{SentValue}
 use Rattle.checked_text.specs.CheckedText.{sent_by}
 use Rattle.checked_text.specs.Settled.{settled_faults}
-use Rattle.hub_run.specs.Quotable.{AreQuotable, IsGroupQuotable, IsGuidePlain, IsGuideQuotable, IsNodePlain, IsNodeQuotable}
+use Rattle.hub_run.specs.Quotable.{AreAllQuotable, AreQuotable, IsGroupQuotable, IsGuidePlain, IsGuideQuotable, IsNodePlain, IsNodeQuotable}
 use Rattle.hub_run.specs.Quotable.{IsPlainReference, IsRowPlain, IsRowQuotable}
-use Rattle.hub_run.specs.ReadBack.{AreReadBack, AreSetsRead, IsRead, IsReadBack}
-use Rattle.hub_run.specs.Ta1sRead.{AreTa1sOf, AreTa1sRead, AreTa1sReadBack, AreTa1sReadBackBy}
 use Rattle.hub_run.specs.Told.{groups_told, is_told_to}
 use Rattle.hub_run.proofs.Headers.{at_index}
-use Rattle.hub_run.proofs.Pairs.{pairs_weaker_at}
 
 -- what is so of everything is so of each item
 pub everywhere : {A : Type 0} (P : A → Type 0) → ((x : A) → P x) → (xs : List A) → All P xs
@@ -104,30 +101,7 @@ all_quoted text setup place p entries can plain =
     (λ e. everywhere (IsGroupQuotable p.delims (sent e)) (group_quoted p.delims can setup plain text place e) (groups e))
     (filter (is_told_to setup place) entries)
 
-pub plain_read : (text : List ℕ) (setup : SetupValue) (acknowledgments : List (List ℕ)) → IsSoundSetup setup
-    → All IsGuidePlain setup.guides → AreReadBack text setup acknowledgments → AreSetsRead text setup acknowledgments
-plain_read text setup acknowledgments sound plain back =
-    let entries : List IndexEntry = (settled back.index (settled_faults setup back.index.entries)).entries in
-    let count : ℕ = length setup.guides in
-    record {
-      index = back.index;
-      read = back.read;
-      each = pairs_weaker_at (λ place partner told. IsReadBack text setup entries place partner told)
-          (λ place partner told. IsRead text setup entries place partner told) setup.partners acknowledgments
-          (λ place partner told at_place if_quoted. if_quoted (all_quoted text setup place partner entries
-          (at_index (IsSoundPartner count) setup.partners place partner at_place sound.partners).divides plain)) back.each;
-    }
-
-pub plain_ta1s_read : (text : List ℕ) (setup : SetupValue) (acknowledgments : List (List ℕ)) → IsSoundSetup setup
-    → All IsGuidePlain setup.guides → AreTa1sReadBack text setup acknowledgments → AreTa1sRead text setup acknowledgments
-plain_ta1s_read text setup acknowledgments sound plain back =
-    let entries : List IndexEntry = (settled back.index (settled_faults setup back.index.entries)).entries in
-    let count : ℕ = length setup.guides in
-    record {
-      index = back.index;
-      read = back.read;
-      each = pairs_weaker_at (λ place partner told. AreTa1sReadBackBy text setup entries place partner told)
-          (λ place partner told. AreTa1sOf setup entries place partner told) setup.partners acknowledgments
-          (λ place partner told at_place if_quoted. if_quoted (all_quoted text setup place partner entries
-          (at_index (IsSoundPartner count) setup.partners place partner at_place sound.partners).divides plain)) back.each;
-    }
+pub plain_quoted : (text : List ℕ) (setup : SetupValue) → IsSoundSetup setup → All IsGuidePlain setup.guides → AreAllQuotable text setup
+plain_quoted text setup sound plain index place partner read at_place =
+    all_quoted text setup place partner (settled index (settled_faults setup index.entries)).entries
+    (at_index (IsSoundPartner (length setup.guides)) setup.partners place partner at_place sound.partners).divides plain

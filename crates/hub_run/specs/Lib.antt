@@ -7,3 +7,4 @@ pub mod StreamNight
 pub mod Ta1sRead
 pub mod Tallied
 pub mod Told
+pub mod WholeNight

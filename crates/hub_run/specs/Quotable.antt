@@ -1,6 +1,6 @@
 -- X12.6, delimiters and data elements: where the reference numbers of guides, which an acknowledgment repeats, hold none of its own
 -- delimiters, so that it can be read. Ids of loops are words of letters and digits in every guide that is accepted.
-use Rattle.std.specs.Prelude.{◌≡◌, ℕ, true, List, filter, IfSome}
+use Rattle.std.specs.Prelude.{◌≡◌, ℕ, true, List, filter, slice_get, IfSome, Some}
 use Rattle.std.specs.Char.{is_ascii_alphanumeric}
 use Rattle.std.specs.List.{All, list_all}
 use Rattle.x12_bytes.specs.declared.delims.Delims.{Delims}
@@ -11,13 +11,14 @@ use Rattle.guide_tree.specs.declared.rows.GuideRows.{GuideRows}
 use Rattle.guide_tree.specs.Words.{EachNode, GuideTree, Tree, loop, segment}
 use Rattle.guide_tree.specs.View as view
 use Rattle.elem_rules.specs.Rows.{component_reference, components_of, element_reference}
-use Rattle.env_index.specs.Words.{IndexEntry, GroupEntry}
+use Rattle.env_index.specs.Words.{GroupEntry, IndexEntry, IndexValue, IsIndex, settled}
 use Rattle.partner_setup.specs.declared.partner.Partner.{Partner}
 use Rattle.partner_setup.specs.Setup.{SetupValue, guide_of}
 use Rattle.set_check.specs.Checked.{said_by}
 use Rattle.judged_text.specs.Judged.{responded_groups}
 use Rattle.checked_text.specs.Answers.{SentValue}
 use Rattle.checked_text.specs.CheckedText.{sent_by}
+use Rattle.checked_text.specs.Settled.{settled_faults}
 use Rattle.hub_run.specs.Told.{groups_told, is_told_to}
 
 -- neither the element separator nor the terminator stands in the reference numbers of a row and of its components
@@ -45,6 +46,12 @@ abbrev pub AreQuotable : (text : List ℕ) → SetupValue → (place : ℕ) → 
 AreQuotable text setup place partner entries =
     All (λ e. All (IsGroupQuotable partner.delims (sent_by text setup place e)) (responded_groups (groups_told e)))
     (filter (is_told_to setup place) entries)
+
+-- and of each partner, in what is answered to a text
+abbrev pub AreAllQuotable : (text : List ℕ) → SetupValue → Type 0
+AreAllQuotable text setup =
+    (index : IndexValue) (place : ℕ) (partner : Partner) → IsIndex text index → slice_get setup.partners place ≡ Some partner
+    → AreQuotable text setup place partner (settled index (settled_faults setup index.entries)).entries
 
 -- letters and digits alone, for which no delimiter of a partner is taken
 abbrev pub IsPlainReference : (reference : List ℕ) → Type 0

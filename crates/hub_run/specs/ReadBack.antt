@@ -58,15 +58,7 @@ abbrev pub IsReadBack : (text : List ℕ) → SetupValue → List IndexEntry →
 IsReadBack text setup entries place partner acknowledgments =
     AreQuotable text setup place partner entries → IsRead text setup entries place partner acknowledgments
 
--- each partner reads just that
-pub record AreSetsRead (text : List ℕ) (setup : SetupValue) (acknowledgments : List (List ℕ)) : Type 0 where
-  pub index : IndexValue
-  pub read : IsIndex text index
-  pub each : AreAllPairs
-      (λ place partner told. IsRead text setup (settled index (settled_faults setup index.entries)).entries place partner told)
-      setup.partners acknowledgments
-
--- each partner does whose guides' reference numbers can be quoted
+-- each partner reads its own so
 pub record AreReadBack (text : List ℕ) (setup : SetupValue) (acknowledgments : List (List ℕ)) : Type 0 where
   pub index : IndexValue
   pub read : IsIndex text index

@@ -40,15 +40,7 @@ abbrev pub AreTa1sReadBackBy : (text : List ℕ) → SetupValue → List IndexEn
 AreTa1sReadBackBy text setup entries place partner acknowledgments =
     AreQuotable text setup place partner entries → AreTa1sOf setup entries place partner acknowledgments
 
--- each partner reads just those
-pub record AreTa1sRead (text : List ℕ) (setup : SetupValue) (acknowledgments : List (List ℕ)) : Type 0 where
-  pub index : IndexValue
-  pub read : IsIndex text index
-  pub each : AreAllPairs
-      (λ place partner told. AreTa1sOf setup (settled index (settled_faults setup index.entries)).entries place partner told)
-      setup.partners acknowledgments
-
--- each partner does whose guides' reference numbers can be quoted
+-- each partner reads its own so
 pub record AreTa1sReadBack (text : List ℕ) (setup : SetupValue) (acknowledgments : List (List ℕ)) : Type 0 where
   pub index : IndexValue
   pub read : IsIndex text index

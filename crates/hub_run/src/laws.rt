@@ -5,10 +5,10 @@ ghost use Rattle.partner_setup.specs.Setup.{SetupValue};
 ghost use Rattle.partner_setup.specs.Sound.{IsSoundSetup};
 ghost use Rattle.night_writing.specs.declared.night.Night.{Night};
 ghost use Rattle.night_writing.specs.Night.{IsNight};
-ghost use Rattle.hub_run.specs.Quotable.{IsGuidePlain};
-ghost use Rattle.hub_run.specs.ReadBack.{AreReadBack, AreSetsRead};
+ghost use Rattle.hub_run.specs.Quotable.{AreAllQuotable, IsGuidePlain};
+ghost use Rattle.hub_run.specs.ReadBack.{AreReadBack};
 ghost use Rattle.hub_run.specs.SetsRead.{AreBoxesRead};
-ghost use Rattle.hub_run.specs.Ta1sRead.{AreTa1sRead, AreTa1sReadBack};
+ghost use Rattle.hub_run.specs.Ta1sRead.{AreTa1sReadBack};
 ghost use Rattle.hub_run.specs.Tallied.{AreCountersTallied, AreNumbersTallied};
 ghost use Rattle.hub_run.specs.Told.{AreSetsTold};
 
@@ -43,14 +43,10 @@ pub fn ta1s_are_read_as_interchanges_are_answered()
         → IsNight text setup at night → AreTa1sReadBack text setup night.acks }
 {}
 
-/// Where each guide of a sound setup has letters and digits alone as reference numbers, each partner reads in its acknowledgments just what
-/// becomes of its sets (X12.6, data element reference number) and just the TA1s of its interchanges (X12.5). It does nothing: its contract
-/// is the law.
+/// Where each guide of a sound setup has letters and digits alone as reference numbers, no partner's element separator or terminator stands
+/// in one, so each can read its acknowledgments (X12.6, data element reference number). It does nothing: its contract is the law.
 pub fn plain_references_are_quoted()
-    ensures sets { (text : List ℕ) (setup : SetupValue) (acknowledgments : List (List ℕ)) → IsSoundSetup setup
-        → All IsGuidePlain setup.guides → AreReadBack text setup acknowledgments → AreSetsRead text setup acknowledgments }
-    ensures ta1s { (text : List ℕ) (setup : SetupValue) (acknowledgments : List (List ℕ)) → IsSoundSetup setup
-        → All IsGuidePlain setup.guides → AreTa1sReadBack text setup acknowledgments → AreTa1sRead text setup acknowledgments }
+    ensures { (text : List ℕ) (setup : SetupValue) → IsSoundSetup setup → All IsGuidePlain setup.guides → AreAllQuotable text setup }
 {}
 
 /// The next counters of a night are, partner by partner, those of the tally of its acknowledgments, with a group or without, and its

@@ -2,8 +2,9 @@
 //! report out. This crate composes what the crates below it promise.
 //!
 //! Proved:
-//! - `run_plain` gives the night of the definition: each partner's acknowledgments, byte for byte, its mailbox, whose interchanges
-//!   are numbered behind them, its next counters, and the report; a text, a setup and a moment have one night (`night_is_one`);
+//! - each run gives the whole night, by one record of what it is and what is told and read of it (`IsWholeNight`);
+//! - it is that of the definition: each partner's acknowledgments, byte for byte, its mailbox, whose interchanges are numbered behind
+//!   them, its next counters, and the report; a text, a setup and a moment have one night (`night_is_one`);
 //! - the bytes of its acknowledgments are, one behind the other, those of the interchanges that are answered, with a 999 for each
 //!   group and an AK2 loop for each set; the loop ends with an IK5 whose code is A exactly where the set meets its guide and no
 //!   earlier set of its group has its ST02, and then tells of nothing else; AK9 has the group's verdict, counts and codes

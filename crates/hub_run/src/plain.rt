@@ -2,10 +2,7 @@ ghost use Rattle.std.specs.Prelude.{◌↔◌, ◌<◌, ◌≤◌, length, IfOk,
 ghost use Rattle.moment.specs.Moment.{IsMoment};
 ghost use Rattle.partner_setup.specs.Sound.{IsSoundSetup};
 ghost use Rattle.night_writing.specs.Night.{IsNight};
-ghost use Rattle.hub_run.specs.ReadBack.{AreReadBack};
-ghost use Rattle.hub_run.specs.SetsRead.{AreBoxesRead};
-ghost use Rattle.hub_run.specs.Ta1sRead.{AreTa1sReadBack};
-ghost use Rattle.hub_run.specs.Told.{AreSetsTold};
+ghost use Rattle.hub_run.specs.WholeNight.{IsWholeNight};
 
 use crate::run_fault::RunFault;
 use crate::writing::write_night;
@@ -24,11 +21,7 @@ use std::alloc::Global;
 /// X12.5, interchange and interchange acknowledgment; X12.6, functional group and transaction set; 999 guide (005010X231).
 pub fn run_plain(alloc: Global, text: &[u8], setup: &Setup, at: &At) -> Result<Night, RunFault>
     ensures too_long { IsErrOf result RunFault.InputTooLong ↔ (LONGEST_TEXT < length text.now) }
-    ensures night { IfOk result (IsNight text.now setup.now at.now) }
-    ensures told { IfOk result (λ night. AreSetsTold text.now setup.now at.now night.acks) }
-    ensures read { IfOk result (λ night. AreReadBack text.now setup.now night.acks) }
-    ensures answered { IfOk result (λ night. AreTa1sReadBack text.now setup.now night.acks) }
-    ensures found { IfOk result (λ night. AreBoxesRead text.now setup.now night.boxes) }
+    ensures night { IfOk result (IsWholeNight text.now setup.now at.now) }
 {
     if !within_limit(text.len() as u64) {
         return Err(RunFault::InputTooLong);

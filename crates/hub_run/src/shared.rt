@@ -1,10 +1,7 @@
 ghost use Rattle.std.specs.Prelude.{◌≡◌, ◌↔◌, ◌<◌, ◌≤◌, length, IfOk, IsErrOf};
 ghost use Rattle.moment.specs.Moment.{IsMoment};
 ghost use Rattle.night_writing.specs.Night.{IsNight};
-ghost use Rattle.hub_run.specs.ReadBack.{AreReadBack};
-ghost use Rattle.hub_run.specs.SetsRead.{AreBoxesRead};
-ghost use Rattle.hub_run.specs.Ta1sRead.{AreTa1sReadBack};
-ghost use Rattle.hub_run.specs.Told.{AreSetsTold};
+ghost use Rattle.hub_run.specs.WholeNight.{IsWholeNight};
 
 use crate::plain::are_sound;
 use crate::run_fault::RunFault;
@@ -41,11 +38,7 @@ pub fn run_night<G: Gate + Sync, R: Threads + Wait + Clock + Sync>(
     requires workers { (1 ≤ workers) × (workers ≤ 64) }
     requires cuts { cuts.now.text_len ≡ length text.now }
     ensures too_long { IsErrOf result RunFault.InputTooLong ↔ (LONGEST_TEXT < length text.now) }
-    ensures night { IfOk result (IsNight text.now setup.now at.now) }
-    ensures told { IfOk result (λ night. AreSetsTold text.now setup.now at.now night.acks) }
-    ensures read { IfOk result (λ night. AreReadBack text.now setup.now night.acks) }
-    ensures answered { IfOk result (λ night. AreTa1sReadBack text.now setup.now night.acks) }
-    ensures found { IfOk result (λ night. AreBoxesRead text.now setup.now night.boxes) }
+    ensures night { IfOk result (IsWholeNight text.now setup.now at.now) }
 {
     if !within_limit(text.len() as u64) {
         return Err(RunFault::InputTooLong);

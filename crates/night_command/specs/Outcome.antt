@@ -2,9 +2,8 @@
 use Rattle.std.specs.Prelude.{◌≡◌, ◌≤◌, ◌⊎◌, ℕ, if◌then◌else◌, List, ◌++◌, Option, IfSome, codes, length, string_bytes}
 use Rattle.std.specs.Io.KnownBytes.{Appends}
 use Rattle.hub_kinds.specs.declared.limits.TheConstants.{LONGEST_TEXT}
-use Rattle.night_writing.specs.Night.{IsNight}
-use Rattle.hub_run.specs.ReadBack.{AreSetsRead}
-use Rattle.hub_run.specs.Ta1sRead.{AreTa1sRead}
+use Rattle.hub_run.specs.Quotable.{AreAllQuotable}
+use Rattle.hub_run.specs.WholeNight.{IsWholeNight}
 use Rattle.night_writing.specs.declared.night.Night.{Night}
 use Rattle.night_report.specs.Clean.{is_clean, last_of, lines_of}
 use Rattle.partner_setup.specs.Setup.{SetupValue}
@@ -34,17 +33,15 @@ abbrev pub status_of : Outcome → ℕ
 status_of (Shown text) = 0
 status_of (Ran night) = if is_clean night.report then 0 else 1
 
--- the night of some text that isn't too long, at the moment of the options and by a setup that some files make, whose guides have the
--- paths of the options; each partner reads in its acknowledgments just what becomes of its sets, and one TA1 for each of its interchanges
--- that is answered
+-- the whole night of some text that isn't too long, at the moment of the options and by a setup that some files make, whose guides have the
+-- paths of the options; each partner's guides can be quoted, so each reads its acknowledgments
 pub record IsNightBy (options : Options) (night : Night) : Type 0 where
   pub setup : SetupValue
   pub made : IsSetupAt (guide_paths options) setup
   pub text : List ℕ
   pub within : length text ≤ LONGEST_TEXT
-  pub is_night : IsNight text setup options.at night
-  pub read : AreSetsRead text setup night.acks
-  pub answered : AreTa1sRead text setup night.acks
+  pub whole : IsWholeNight text setup options.at night
+  pub quotable : AreAllQuotable text setup
 
 -- such a night was run: what was printed is the last line of its report, and the status is its own
 pub record IsPrinted (options : Options) (status : ℕ) (was is : Option (List ℕ)) : Type 0 where
@@ -53,19 +50,18 @@ pub record IsPrinted (options : Options) (status : ℕ) (was is : Option (List �
   pub own_status : status ≡ status_of (Ran night)
   pub printed : Appends was is (text_of (Ran night))
 
--- where files make the setup, each partner reads in its acknowledgments just what becomes of its sets, and its TA1s
-abbrev pub IsReadByFiles : (text : List ℕ) → SetupValue → Night → Type 0
-IsReadByFiles text setup night =
-    (paths : List (List ℕ)) → IsSetupAt paths setup → AreSetsRead text setup night.acks × AreTa1sRead text setup night.acks
+-- the guides of files can be quoted
+abbrev pub IsQuotableOfFiles : (text : List ℕ) → SetupValue → Type 0
+IsQuotableOfFiles text setup = (paths : List (List ℕ)) → IsSetupAt paths setup → AreAllQuotable text setup
 
--- the night of the bytes that a source gave, no more than the limit, which are all that it told, where it told them; each partner reads
--- it so
+-- the whole night of the bytes that a source gave, no more than the limit, which are all that it told, where it told them; where files make
+-- the setup, each partner reads its acknowledgments
 pub record IsNightOfSource (told : Option (List ℕ)) (setup : SetupValue) (at : List ℕ) (night : Night) : Type 0 where
   pub text : List ℕ
   pub told_all : IfSome told (λ xs. xs ≡ text)
   pub within : length text ≤ LONGEST_TEXT
-  pub is_night : IsNight text setup at night
-  pub read : IsReadByFiles text setup night
+  pub whole : IsWholeNight text setup at night
+  pub quotable : IsQuotableOfFiles text setup
 
 -- a night is given: it is that of a source, a setup and a moment, its files are put behind what the outbox had, the last line of its report
 -- is printed, and the status is its own

@@ -5,19 +5,19 @@
 //! Proved, where a call returns (it waits for its workers):
 //! - `night_main` is safe on every input, and its status is 0 to 6;
 //! - a run that doesn't fail has printed what its words ask for, and nothing else, where the writer tells what it has: help or
-//!   the version where they ask for that; otherwise the last line of the report of the night of some text, no longer than the
-//!   limit, at the moment that the words name, by a setup that the bytes of some files make, one guide file for each guide that
-//!   the words name; each partner then reads in its acknowledgments what became of its sets, and the status is 0 exactly where
-//!   that report is clean (`night_main`, `printed`);
+//!   the version where they ask for that; otherwise the last line of the report of the whole night (`IsWholeNight` of `hub_run`) of
+//!   some text, no longer than the limit, at the moment that the words name, by a setup that the bytes of some files make, one guide
+//!   file for each guide that the words name; each partner can read its acknowledgments, and the status is 0 exactly where that
+//!   report is clean (`night_main`, `printed`);
 //! - how many workers share a night, and how long the pieces are that they take, is what the words say, from 1 to 64 and from 1 to
 //!   4,294,967,295, or 4 and 1,048,576 (`AreOptions`); whatever these are, the night is the same;
 //! - the setup of files is what their bytes make, all of it, or their first refusal: of the guides in their order, of the
 //!   setup file, of the counters file, of what they make together, a file that can't be read being refused at its place;
 //!   files that make a setup have no refusal, and only want of memory comes before the first one (`setup_of`);
-//! - a night that is given is that of the bytes that its source told, its setup and its moment; its files were put into the outbox, behind
-//!   what that had, where the outbox tells what it has; the last line of its report was printed, where the writer tells what it has; and
-//!   the status is 0 exactly where it is clean (`give_night`, `given`); each partner then reads in its acknowledgments what became of
-//!   its sets, by whatever guide files (`night_in`, `night`);
+//! - a night that is given is the whole night of the bytes that its source told, its setup and its moment; its files were put into the
+//!   outbox, behind what that had, where the outbox tells what it has; the last line of its report was printed, where the writer tells
+//!   what it has; and the status is 0 exactly where it is clean (`give_night`, `given`); each partner can read its acknowledgments,
+//!   by whatever guide files (`night_in`, `night`);
 //! - an input is told too long only where the source told more than the limit, and unreadable exactly where the source failed, or was
 //!   interrupted more than 1,000 times in a row (`night_in`, `long`, `unread`, `tried`); before it is read it is refused exactly where
 //!   opening it failed, or the system says that it is longer than the limit (`input_of`);

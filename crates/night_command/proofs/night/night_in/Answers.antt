@@ -11,12 +11,10 @@ returns-clause-night g c =
       text = given.text;
       told_all = given.told_all;
       within = given.few;
-      is_night = given.is;
-      read = λ paths at.
-          let plain = setup_plain c.files_write_references.ensures paths c.args.setup.now at in (
-            c.plain_references_are_quoted.ensures.sets given.text c.args.setup.now _ c.is_sound.ensures plain given.read,
-            c.plain_references_are_quoted.ensures.ta1s given.text c.args.setup.now _ c.is_sound.ensures plain given.answered,
-          );
+      whole = given.whole;
+      quotable = λ paths at.
+          c.plain_references_are_quoted.ensures given.text c.args.setup.now c.is_sound.ensures
+          (setup_plain c.files_write_references.ensures paths c.args.setup.now at);
     }
 
 pub returns-in_err-put_night-clause-some : goal.returns-in_err-put_night-clause-some
@@ -28,12 +26,10 @@ returns-in_err-put_night-clause-some g c =
       text = given.text;
       told_all = given.told_all;
       within = given.few;
-      is_night = given.is;
-      read = λ paths at.
-          let plain = setup_plain c.files_write_references.ensures paths setup at in (
-            c.plain_references_are_quoted.ensures.sets given.text setup _ c.is_sound.ensures plain given.read,
-            c.plain_references_are_quoted.ensures.ta1s given.text setup _ c.is_sound.ensures plain given.answered,
-          );
+      whole = given.whole;
+      quotable = λ paths at.
+          c.plain_references_are_quoted.ensures given.text setup c.is_sound.ensures
+          (setup_plain c.files_write_references.ensures paths setup at);
     } in
     told_fault c.from_residual-in_err-put_night.result c.in_err-put_night.field-0.0
     (λ (failed : Failure). LeavesOutbox told setup c.args.at.now (g.B.Outbox.contents c.args.outbox.now)

@@ -10,9 +10,8 @@ returns-in-Ok-clause-printed g c clean =
         made = c.requires.made;
         text = given.by.text;
         within = given.by.within;
-        is_night = given.by.is_night;
-        read = (given.by.read _ c.requires.made).0;
-        answered = (given.by.read _ c.requires.made).1;
+        whole = given.by.whole;
+        quotable = given.by.quotable _ c.requires.made;
       };
       own_status = given.own_status;
       printed = given.printed;
