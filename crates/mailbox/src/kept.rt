@@ -1,15 +1,13 @@
-ghost use Rattle.std.specs.Prelude.{◌≡◌, List, get_or};
-ghost use Rattle.mailbox.specs.Kept.{Stands, kept_of};
+ghost use Rattle.std.specs.Prelude.{◌≡◌};
+ghost use Rattle.mailbox.specs.Kept.{StandsIn, kept_in};
 
 use crate::rendered::Rendered;
-use hub_kinds::{Lent, Text};
+use hub_kinds::Lent;
 
-/// Where a written set stands: in which row of bytes, from where to where, and of that how many bytes are GS01 and GS08 of its group,
-/// one behind the other at its front; and the place in the setup of its sender.
+/// Where a written set stands in a text: from where to where, and of that how many bytes are GS01 and GS08 of its group, one behind the
+/// other at its front; and the place in the setup of its sender.
 #[derive(Clone, Copy, Debug)]
 pub(crate) struct Kept {
-    /// The row's place.
-    pub(crate) row: usize,
     /// Its first byte.
     pub(crate) from: usize,
     /// The byte behind its last.
@@ -22,14 +20,13 @@ pub(crate) struct Kept {
     pub(crate) sender: usize,
 }
 
-/// A set that is kept in these rows.
-pub(crate) fn lent_of<'r>(rows: &'r [Text], kept: Kept) -> Rendered<'r>
-    requires { Stands rows.now kept }
-    ensures { result ≡ kept_of rows.entry.now kept }
+/// A set that is kept in this text.
+pub(crate) fn lent_of<'r>(text: &'r [u8], kept: Kept) -> Rendered<'r>
+    requires { StandsIn text.now kept }
+    ensures { result ≡ kept_in text.entry.now kept }
 {
-    let row = rows[kept.row].as_slice();
     Rendered::new(
-        Lent::new(&row[kept.from..kept.to]),
+        Lent::new(&text[kept.from..kept.to]),
         kept.sender,
         kept.id_len,
         kept.version_len,

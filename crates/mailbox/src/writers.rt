@@ -1,4 +1,5 @@
 ghost use Rattle.std.specs.Prelude.{◌≡◌, ◌+◌, ◌<◌, ◌≤◌, ◌^◌, List, Some, IfOk, length, map, slice_get};
+ghost use Rattle.std.specs.List.{flat_map};
 ghost use Rattle.std.specs.Thread.{IsSync};
 ghost use Rattle.judged_text.specs.Judged.{PlacedValue};
 ghost use Rattle.mailbox.specs.Numbers.{HasCounters};
@@ -7,7 +8,7 @@ ghost use Rattle.mailbox.specs.Rendered.{rendered_from};
 ghost use Rattle.mailbox.specs.declared.parts.Part.{Part};
 
 use crate::parts::{Part, parts_of};
-use crate::rendered_sets::{RenderedSets, joined};
+use crate::rendered_sets::RenderedSets;
 use crate::row::write_row;
 use hub_kinds::NoMemory;
 use judged_text::PlacedSet;
@@ -26,18 +27,18 @@ pub trait Writers {
     ghost is_ready: { Self → Type 0 };
 
     /// Writes sets that are delivered to a partner, before which `k` sets were delivered to it, front to back (X12.6, transaction
-    /// set). The only error is want of memory.
+    /// set): in parts, which are all of them one behind the other. The only error is want of memory.
     fn write_sets(
         &self,
         alloc: Global,
         partner: &Partner,
         k: u64,
         sets: &[PlacedSet<'_, '_, '_>],
-    ) -> Result<RenderedSets, NoMemory>
+    ) -> Result<Vec<RenderedSets>, NoMemory>
         requires ready { is_ready self.now }
         requires counters { HasCounters partner.now }
         requires few { k + length sets.now < 2 ^ 64 }
-        ensures { IfOk result (λ v. v ≡ rendered_from partner.now k sets.now) };
+        ensures { IfOk result (λ parts. flat_map (λ sets. sets) parts.items ≡ rendered_from partner.now k sets.now) };
 }
 
 impl Writers for OneThread {
@@ -49,9 +50,10 @@ impl Writers for OneThread {
         partner: &Partner,
         k: u64,
         sets: &[PlacedSet<'_, '_, '_>],
-    ) -> Result<RenderedSets, NoMemory> {
-        let row = write_row(alloc, partner, k, sets)?;
-        RenderedSets::from_row(alloc, row)
+    ) -> Result<Vec<RenderedSets>, NoMemory> {
+        let mut parts = Vec::new(alloc);
+        parts.push(write_row(alloc, partner, k, sets)?)?;
+        Ok(parts)
     }
 }
 
@@ -64,11 +66,10 @@ impl<'r, R: Threads + Sync> Writers for ManyThreads<'r, R> {
         partner: &Partner,
         k: u64,
         sets: &[PlacedSet<'_, '_, '_>],
-    ) -> Result<RenderedSets, NoMemory> {
+    ) -> Result<Vec<RenderedSets>, NoMemory> {
         let share = self.share_of(sets.len(), FEWEST);
         let parts = parts_of(alloc, sets.len(), share)?;
-        let written = write_by(self.rt, alloc, parts.as_slice(), partner, k, sets)?;
-        joined(alloc, written)
+        write_by(self.rt, alloc, parts.as_slice(), partner, k, sets)
     }
 }
 
@@ -86,13 +87,12 @@ fn write_part(
     requires within { part.to ≤ length sets.now }
     ensures { IfOk result (λ v. v ≡ rendered_part partner.now k sets.now part) }
 {
-    let row = write_row(
+    write_row(
         alloc,
         partner,
         k + part.from as u64,
         &sets[part.from..part.to],
-    )?;
-    RenderedSets::from_row(alloc, row)
+    )
 }
 
 /// Writes sets in threads, a part in each, and gathers what they wrote front to back.

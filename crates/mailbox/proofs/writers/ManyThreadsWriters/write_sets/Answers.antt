@@ -11,6 +11,5 @@ write_by-requires-sync-R g c κs within = c.requires.ready
 pub returns : goal.returns
 returns g c =
     let part = rendered_part c.args.partner.now c.args.k c.args.sets.now in
-    IfOk-weaker c.joined.result _ _ (λ v is. is
-    ∙ ap (flat_map same) (c.in_ok-written.ensures ∙ ap (map part) c.as_slice.ensures.value)
-    ∙ parts_make_all c.args.partner.now c.args.k c.args.sets.now c.in_ok-parts.parts.items c.in_ok-parts.ensures) c.joined.ensures
+    IfOk-weaker c.write_by.result _ _ (λ v is. ap (flat_map same) (is ∙ ap (map part) c.as_slice.ensures.value)
+    ∙ parts_make_all c.args.partner.now c.args.k c.args.sets.now c.in_ok-parts.parts.items c.in_ok-parts.ensures) c.write_by.ensures

@@ -3,16 +3,16 @@ use Rattle.std.specs.List.{All}
 use Rattle.count_numbers.specs.Num.{num}
 use Rattle.x12_segs.specs.Words.{SegValue, element_of}
 use Rattle.env_index.specs.Words.{GroupEntry}
-use Rattle.mailbox.specs.Kept.{StandsInRow, kept_in}
+use Rattle.mailbox.specs.Kept.{StandsIn, kept_in}
 use Rattle.mailbox.specs.Mailbox.{set_text}
 use Rattle.mailbox.specs.Rendered.{RenderedValue, rendered}
 use Rattle.mailbox.specs.declared.kept.Kept.{Kept}
 use Rattle.mailbox.proofs.Rows.{row_stands, row_view}
-use Rattle.mailbox.proofs.row.Row.with.Goals as goal
+use Rattle.mailbox.proofs.rendered_sets.RenderedSets.with.Goals as goal
 
 pub invariant_of-result : goal.invariant_of-result
 invariant_of-result c =
-    let old : List ℕ = c.self.inside.bytes.items in
+    let old : List ℕ = c.self.inside.text.items in
     let new : List ℕ = c.append_written.new.out.items in
     let ks : List Kept = c.self.inside.sets.items in
     let id : List ℕ = c.element-id.result.now in
@@ -25,23 +25,22 @@ invariant_of-result c =
     let from : c.len-from.result ≡ length old = search rules in
     let to : c.len.result ≡ length new = search rules in
     let k : Kept = record {
-      row = 0;
       from = c.len-from.result;
       to = c.len.result;
       id_len = length id;
       version_len = length version;
       sender = c.sender_in.result;
     } in
-    subst (λ (b : List ℕ). All (StandsInRow b) c.push.new.self.items) (sym bytes)
-    (subst (All (StandsInRow (old ++ piece))) (sym c.in_ok-push.ensures.items)
+    subst (λ (b : List ℕ). All (StandsIn b) c.push.new.self.items) (sym bytes)
+    (subst (All (StandsIn (old ++ piece))) (sym c.in_ok-push.ensures.items)
     (row_stands old piece c.args.partner.now c.args.k c.args.placed.now id version k refl
     (c.element-id.ensures.value ∙ ap (λ (seg : SegValue). element_of seg 1) header)
     (c.element-version.ensures.value ∙ ap (λ (seg : SegValue). element_of seg 8) header)
-    c.sender_in.ensures refl refl refl from (to ∙ ap (λ (b : List ℕ). length b) bytes) ks c.self.invariant))
+    c.sender_in.ensures refl refl from (to ∙ ap (λ (b : List ℕ). length b) bytes) ks c.self.invariant))
 
 pub returns : goal.returns
 returns c =
-    let old : List ℕ = c.self.inside.bytes.items in
+    let old : List ℕ = c.self.inside.text.items in
     let new : List ℕ = c.append_written.new.out.items in
     let ks : List Kept = c.self.inside.sets.items in
     let id : List ℕ = c.element-id.result.now in
@@ -54,7 +53,6 @@ returns c =
     let from : c.len-from.result ≡ length old = search rules in
     let to : c.len.result ≡ length new = search rules in
     let k : Kept = record {
-      row = 0;
       from = c.len-from.result;
       to = c.len.result;
       id_len = length id;
@@ -66,5 +64,5 @@ returns c =
     ∙ row_view old piece c.args.partner.now c.args.k c.args.placed.now id version k refl
     (c.element-id.ensures.value ∙ ap (λ (seg : SegValue). element_of seg 1) header)
     (c.element-version.ensures.value ∙ ap (λ (seg : SegValue). element_of seg 8) header)
-    c.sender_in.ensures refl refl refl from (to ∙ ap (λ (b : List ℕ). length b) bytes) ks c.self.invariant
+    c.sender_in.ensures refl refl from (to ∙ ap (λ (b : List ℕ). length b) bytes) ks c.self.invariant
     ∙ ap (λ (vs : List RenderedValue). vs ++ rendered c.args.partner.now c.args.k c.args.placed.now ∷ []) c.self.view_is

@@ -1,6 +1,0 @@
-use Rattle.std.proofs.Common.{◌≡◌, map, take}
-use Rattle.checked_text.specs.Standings.{standing_by}
-use Rattle.track_answers.proofs.standings.standings_of.Given as goal
-
-abbrev pub invariant-loop-group : goal.invariant-loop-group
-invariant-loop-group l = l.standings.items ≡ map standing_by (take l.group-index l.groups)
