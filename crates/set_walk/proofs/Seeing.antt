@@ -135,7 +135,8 @@ with_ends header body (Some x) true e = let n : length (body ++ x ∷ []) ≡ le
 
 -- what was found is what the body has
 module _ (g : GuideTree) (s : Seen) (done : List SegValue) (well : IsWellFormed g) (seen : IsSeen g s done) (all : List Fault)
-    (is : all ≡ (s.structure ++ end_faults (s.walk.count + 2) g.nodes (last_in s.walk)) ++ s.errors.items) where
+    (same : (f : Fault) → Contains all f
+    ↔ Contains ((s.structure ++ end_faults (s.walk.count + 2) g.nodes (last_in s.walk)) ++ s.errors.items) f) where
   abbrev by_nodes : List Fault
   by_nodes = s.structure ++ end_faults (s.walk.count + 2) g.nodes (last_in s.walk)
 
@@ -162,8 +163,8 @@ module _ (g : GuideTree) (s : Seen) (done : List SegValue) (well : IsWellFormed 
   pub seen_faults : (f : Fault) → Contains all f ↔ IsBodyFault g seen.body f
   seen_faults f = (
     λ h. ⊎_elim (λ a. inl ((of_nodes f).0 a)) (λ b. inr ((of_elements f).0 b))
-        (Contains-append_cases by_nodes s.errors.items f (subst (λ (l : List Fault). Contains l f) is h)),
-    λ h. subst (λ (l : List Fault). Contains l f) (sym is) (⊎_elim
+        (Contains-append_cases by_nodes s.errors.items f ((same f).0 h)),
+    λ h. (same f).1 (⊎_elim
         (λ a. Contains-append_left by_nodes s.errors.items f ((of_nodes f).1 a))
         (λ b. Contains-append_right by_nodes s.errors.items f ((of_elements f).1 b)) h),
   )
@@ -194,7 +195,8 @@ module _ (g : GuideTree) (d : Delims) (s : Seen) (done : List SegValue) (well : 
 pub seen_whole : (g : GuideTree) (d : Delims) (closed : Bool) (header : SegValue) (s : Seen) (done : List SegValue) (w : WalkedSet)
     → IsWellFormed g → AreRulesKept g d s.kept → IsSeen g s done → is_some s.trailer ≡ closed → w.ends.header ≡ header
     → w.ends.trailer ≡ s.trailer → w.ends.segments ≡ s.walk.count + (if closed then 2 else 1)
-    → w.faults.items ≡ (s.structure ++ end_faults (s.walk.count + 2) g.nodes (last_in s.walk)) ++ s.errors.items
+    → ((f : Fault) → Contains w.faults.items f
+    ↔ Contains ((s.structure ++ end_faults (s.walk.count + 2) g.nodes (last_in s.walk)) ++ s.errors.items) f)
     → IsWalkedSet g d closed (header ∷ done) w
 seen_whole g d closed header s done w well rules seen ends first last counted found =
     let all : header ∷ done ≡ header ∷ (seen.body ++ trailer_list s.trailer) = ap (λ (l : List SegValue). header ∷ l) seen.all in

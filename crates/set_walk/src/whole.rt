@@ -28,6 +28,22 @@ fn count_with_ends(count: u64, closed: bool) -> u64
     if closed { count + 2 } else { count + 1 }
 }
 
+/// The faults of two lists; the fewer are moved behind the others, so that no list stands twice.
+fn faults_of_both<'a>(
+    structure: Vec<Fault<'a>>,
+    errors: Vec<Fault<'a>>,
+) -> Result<Vec<Fault<'a>>, NoMemory>
+    ensures { IfOk result (λ v. (f : Fault) → Contains v.items f ↔ Contains (structure.entry.items ++ errors.entry.items) f) }
+{
+    let (mut structure, mut errors) = (structure, errors);
+    if structure.len() < errors.len() {
+        errors.append(&mut structure)?;
+        return Ok(errors);
+    }
+    structure.append(&mut errors)?;
+    Ok(structure)
+}
+
 /// The structural faults with those that show behind the body, and the faults of elements.
 fn body_faults<'a, 'g: 'a>(
     fast: &FastGuide<'g>,
@@ -37,14 +53,12 @@ fn body_faults<'a, 'g: 'a>(
 ) -> Result<Vec<Fault<'a>>, NoMemory>
     requires few { walk.now.count < 4294967296 }
     requires room { AllByRecursion (λ s. s.use_no < walk.now.count) walk.now.last.items }
-    ensures { IfOk result (λ v. v.items ≡ (structure.entry
-        ++ end_faults (walk.now.count + 2) (guide_of fast.now).nodes (last_in walk.now)) ++ errors.entry.items) }
+    ensures { IfOk result (λ v. (f : Fault) → Contains v.items f ↔ Contains ((structure.entry
+        ++ end_faults (walk.now.count + 2) (guide_of fast.now).nodes (last_in walk.now)) ++ errors.entry.items) f) }
 {
-    let (mut structure, mut errors) = (structure, errors);
+    let mut structure = structure;
     end_by(&mut structure, walk.count + 2, fast, walk.last.as_slice())?;
-    let mut faults = structure.into_faults();
-    faults.append(&mut errors)?;
-    Ok(faults)
+    faults_of_both(structure.into_faults(), errors)
 }
 
 /// What was found, once all segments of a set were seen; none where it hasn't the SE that it is to have, or where its hierarchy or a
