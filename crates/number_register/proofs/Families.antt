@@ -13,7 +13,8 @@ use Rattle.number_register.specs.Recording.{numbered_in}
 use Rattle.number_register.specs.Slots.{code_of, fields_of, group_code, group_place}
 use Rattle.number_register.specs.Slots.{groups_of, interchange_place, set_control, set_place, sets_of}
 use Rattle.number_register.proofs.Ordering.{groups_in_order, interchanges_in_order, sets_in_order}
-use Rattle.number_register.proofs.Places.{groups_there_of, numbered, of_entries, sets_there_of, IsOfEntry}
+use Rattle.number_register.proofs.ForAbove.{numbered}
+use Rattle.number_register.proofs.Places.{groups_there_of, of_entries, sets_there_of, IsOfEntry}
 use Rattle.number_register.proofs.Uses.{AreUses}
 
 abbrev control_of : GroupEntry → Option ℕ

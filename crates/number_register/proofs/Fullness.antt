@@ -3,7 +3,7 @@ use Rattle.std.proofs.Common.{◌≡◌, ◌&&◌, inl, inr, Bool, true, false, 
 use Rattle.std.specs.Prelude.{Contains}
 use Rattle.std.specs.List.{list_all}
 use Rattle.std.proofs.lemmas.Bool.{cases_Bool}
-use Rattle.number_register.proofs.Places.{in_back, in_front}
+use Rattle.number_register.proofs.ForAbove.{in_back, in_front}
 
 behind : (a b : Bool) → a ≡ true → (a && b) ≡ false → b ≡ false
 behind true b e h = h

@@ -3,6 +3,7 @@ mod Earlier
 mod Families
 mod Fill
 mod Firsts
+pub mod ForAbove
 mod Fullness
 mod Holding
 mod Once

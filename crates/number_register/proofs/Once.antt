@@ -7,7 +7,7 @@ use Rattle.std.proofs.lemmas.Map.Views.{Contains-from_any}
 use Rattle.hub_kinds.specs.declared.place.Place.{Place}
 use Rattle.work_core.specs.Complete.{AreOnce, times_place}
 use Rattle.work_core.specs.Core.{same_place, was_recorded}
-use Rattle.number_register.proofs.Places.{in_cons, no_member}
+use Rattle.number_register.proofs.ForAbove.{in_cons, no_member}
 use Rattle.number_register.proofs.Slotting.{other_stays, own_is, same_by, same_itself}
 
 abbrev one_if_true : Bool → ℕ

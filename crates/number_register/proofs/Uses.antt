@@ -10,7 +10,8 @@ use Rattle.env_index.specs.Words.{IndexValue, is_before, IsFirstUse, Number, Num
 use Rattle.number_register.specs.Recording.{IsEarlierIn, numbered_in}
 use Rattle.number_register.proofs.Firsts.{IsFirstBefore}
 use Rattle.number_register.proofs.Ordering.{AreInOrder, before_is_less}
-use Rattle.number_register.proofs.Places.{mapped_in, numbered, of_mapped}
+use Rattle.number_register.proofs.ForAbove.{numbered}
+use Rattle.number_register.proofs.Places.{mapped_in, of_mapped}
 
 -- listed numbers are those at their places, and at no other
 pub record AreUses (index : IndexValue) (at : ℕ → Place) {V : Type 0} (number : V → Number) (numbers : List V) : Type 0 where
