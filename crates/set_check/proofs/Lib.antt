@@ -10,6 +10,7 @@ mod Meeting
 mod NoCodes
 mod NoFaults
 pub mod Once
+mod Reporting
 mod Rising
 mod Spans
 mod Told

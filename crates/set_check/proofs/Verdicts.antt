@@ -1,6 +1,7 @@
 -- The verdict on a checked set: accepted exactly where the set meets its guide and no earlier set has its ST02, which rejects it.
 use Rattle.std.proofs.Common.{◌≡◌, ◌↔◌, ◌∙◌, ap, sym, refl, ℕ, suc, Bool, true, false, List, [], ◌∷◌, ◌++◌, take, is_none}
 use Rattle.std.proofs.Common.{Option, ◌&&◌, if◌then◌else◌}
+use Rattle.std.specs.Prelude.{filter_map, not}
 use Rattle.std.specs.List.{list_all, list_any}
 use Rattle.hub_kinds.specs.declared.fault.Fault.{Fault}
 use Rattle.hub_kinds.specs.declared.set_codes.SetCode.{SetCode}
@@ -9,7 +10,7 @@ use Rattle.hub_kinds.specs.declared.set_codes.Verdict.{Verdict}
 use Rattle.hub_kinds.specs.declared.set_codes.Verdict.TheVariants.{Accepted, AcceptedWithErrors, Rejected}
 use Rattle.guide_tree.specs.Words.{GuideTree}
 use Rattle.set_check.specs.Checked.{Checked, IsChecked, guide_in, parts_in}
-use Rattle.set_check.specs.Codes.{code_if, first_five, telling, has_i, has_no_i, lacks_trailer, has_other_control, has_other_count}
+use Rattle.set_check.specs.Codes.{code_if, first_five, is_of_guides, reported, has_other_control, has_other_count}
 use Rattle.set_check.specs.Codes.{has_short_control, convention_codes}
 use Rattle.set_check.specs.Meets.{MeetsAlone}
 use Rattle.set_check.specs.SetFaults.{codes_where}
@@ -43,8 +44,8 @@ other_among false false g t o w s last = other_first 4 g t o w s last
 not_of_faults : (guide : Option GuideTree) (parts : SetParts) (faults : List Fault)
     → list_all tells_of_faults (codes_where guide parts faults true) ≡ false
 not_of_faults guide parts faults =
-    other_among (list_any (λ f. has_no_i (telling f)) faults) (list_any (λ f. has_i (telling f)) faults)
-    (is_none guide) (lacks_trailer parts.trailer) (has_other_control parts.header parts.trailer)
+    other_among (list_any (λ c. not (is_of_guides c)) (filter_map reported faults)) (list_any is_of_guides (filter_map reported faults))
+    (is_none guide) (is_none parts.trailer) (has_other_control parts.header parts.trailer)
     (has_other_count (segment_count parts) parts.trailer) (has_short_control parts.header)
     (convention_codes guide parts.header)
 

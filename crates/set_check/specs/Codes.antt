@@ -1,10 +1,10 @@
 -- 999 guide, implementation transaction set syntax error code (IK502): the codes of a set; which code stands for which fault is own.
-use Rattle.std.specs.Prelude.{ℕ, ◌==◌, Bool, true, false, not, ◌&&◌, nat_lt, List, [], ◌∷◌, ◌++◌, Option, Some, None, is_none, length, take}
-use Rattle.std.specs.List.{list_any}
+use Rattle.std.specs.Prelude.{ℕ, ◌==◌, Bool, true, false, not, ◌&&◌, nat_eq, nat_lt, List, [], ◌∷◌, ◌++◌, Option, Some, None, is_none}
+use Rattle.std.specs.Prelude.{codes, filter_map, if◌then◌else◌, length, take}
+use Rattle.std.specs.List.{list_any, starts_with}
 use Rattle.std.specs.Str.{bytes_eq}
 use Rattle.hub_kinds.specs.Words.{segment_text, element_text, number_of}
 use Rattle.hub_kinds.specs.declared.codes.SegmentCode.{SegmentCode}
-use Rattle.hub_kinds.specs.declared.codes.SegmentCode.TheVariants as segment
 use Rattle.hub_kinds.specs.declared.fault.ElemFault.{ElemFault}
 use Rattle.hub_kinds.specs.declared.fault.Fault.{Fault}
 use Rattle.hub_kinds.specs.declared.set_codes.SetCode.{SetCode}
@@ -20,44 +20,23 @@ abbrev pub code_if : Bool → SetCode → List SetCode
 code_if true code = code ∷ []
 code_if false code = []
 
--- a segment's fault as IK304 tells it; 8 alone tells of none, since its elements' faults do
-abbrev pub segment_telling : SegmentCode → List ℕ
-segment_telling segment.ElementErrors = []
-segment_telling segment.UnrecognizedSegment = segment_text segment.UnrecognizedSegment
-segment_telling segment.UnexpectedSegment = segment_text segment.UnexpectedSegment
-segment_telling segment.RequiredSegmentMissing = segment_text segment.RequiredSegmentMissing
-segment_telling segment.LoopTooOften = segment_text segment.LoopTooOften
-segment_telling segment.SegmentTooOften = segment_text segment.SegmentTooOften
-segment_telling segment.NotInSet = segment_text segment.NotInSet
-segment_telling segment.OutOfSequence = segment_text segment.OutOfSequence
-segment_telling segment.NotUsedPresent = segment_text segment.NotUsedPresent
-segment_telling segment.DependentMissing = segment_text segment.DependentMissing
-segment_telling segment.LoopTooSeldom = segment_text segment.LoopTooSeldom
-segment_telling segment.SegmentTooSeldom = segment_text segment.SegmentTooSeldom
-segment_telling segment.DependentNotUsedPresent = segment_text segment.DependentNotUsedPresent
+-- the code that a fault is reported by: IK403 of an element, else IK304; 8 alone reports none, since the faults of its elements do
+abbrev pub reported_by : SegmentCode → Option ElemFault → Option (List ℕ)
+reported_by seg None = if bytes_eq (segment_text seg) (codes "8") then None else Some (segment_text seg)
+reported_by seg (Some elem) = Some (element_text elem.code)
 
--- the code that tells of a fault: IK403 where an element is at fault, else IK304
-abbrev pub telling_by : SegmentCode → Option ElemFault → List ℕ
-telling_by seg None = segment_telling seg
-telling_by seg (Some elem) = element_text elem.code
+abbrev pub reported : Fault → Option (List ℕ)
+reported f = reported_by f.code f.elem
 
-abbrev pub telling : Fault → List ℕ
-telling f = telling_by f.code f.elem
+-- a code of the implementation guides begins with I
+abbrev pub is_of_guides : List ℕ → Bool
+is_of_guides code = starts_with nat_eq code (codes "I")
 
--- a code of the implementation guides has an I in front, one of the standard has none
-abbrev pub has_i : List ℕ → Bool
-has_i [] = false
-has_i (b ∷ bs) = b == 73
-
-abbrev pub has_no_i : List ℕ → Bool
-has_no_i [] = false
-has_no_i (b ∷ bs) = not (b == 73)
-
--- 5: a fault whose code has no I; I5: one whose code has one
+-- 5: some fault is reported by a code of the standard; I5: by one of the implementation guides
 abbrev pub fault_codes : List Fault → List SetCode
 fault_codes faults =
-    code_if (list_any (λ f. has_no_i (telling f)) faults) code.SegmentsInError
-    ++ code_if (list_any (λ f. has_i (telling f)) faults) code.ImplementationSegmentsInError
+    code_if (list_any (λ c. not (is_of_guides c)) (filter_map reported faults)) code.SegmentsInError
+    ++ code_if (list_any is_of_guides (filter_map reported faults)) code.ImplementationSegmentsInError
 
 -- 1: there is no guide for the set
 abbrev pub guide_codes : Option GuideTree → List SetCode
@@ -66,11 +45,6 @@ guide_codes guide = code_if (is_none guide) code.NotSupported
 -- the transaction set control number: ST02 of the header
 abbrev pub control_of : SegValue → List ℕ
 control_of header = element_of header 2
-
--- the set has no SE
-abbrev pub lacks_trailer : Option SegValue → Bool
-lacks_trailer None = true
-lacks_trailer (Some trailer) = false
 
 -- SE02 is another text than ST02
 abbrev pub has_other_control : SegValue → Option SegValue → Bool
@@ -94,7 +68,7 @@ has_short_control header = nat_lt (length (control_of header)) LEAST_CONTROL
 -- 2, 3, 4 and 7: what ST, SE and the number of segments show
 abbrev pub envelope_codes : SegValue → ℕ → Option SegValue → List SetCode
 envelope_codes header segments trailer =
-    code_if (lacks_trailer trailer) code.TrailerMissing
+    code_if (is_none trailer) code.TrailerMissing
     ++ code_if (has_other_control header trailer) code.ControlNumbersDiffer
     ++ code_if (has_other_count segments trailer) code.SegmentCountWrong
     ++ code_if (has_short_control header) code.ControlNumberInvalid

@@ -1,52 +1,69 @@
-//! Which faults a set's codes 5 and I5 tell of.
-ghost use Rattle.std.specs.Prelude.{◌≡◌};
+//! Which faults a set's codes 5 and I5 are for.
+ghost use Rattle.std.specs.Prelude.{◌≡◌, false, filter_map, not};
 ghost use Rattle.std.specs.List.{list_any};
-ghost use Rattle.set_check.specs.Codes.{has_i, has_no_i, segment_telling, telling};
+ghost use Rattle.std.specs.Option.{option_map_or};
+ghost use Rattle.set_check.specs.Codes.{is_of_guides, reported, reported_by};
 
-use hub_kinds::{Fault, SegmentCode, code_text};
+use hub_kinds::{Fault, Lent, SegmentCode, code_text};
 
-/// Whether a fault is told by a code of the standard.
+/// Whether a fault is reported by a code of the standard.
 pub fn has_base_fault(faults: &[Fault]) -> bool
-    ensures { result ≡ list_any (λ f. has_no_i (telling f)) faults.now }
+    ensures { result ≡ list_any (λ c. not (is_of_guides c)) (filter_map reported faults.now) }
 {
-    faults.iter().any(|fault| has_no_i(telling(fault)))
+    faults.iter().any(|fault| is_of_standard(reported(fault)))
 }
 
-/// Whether a fault is told by a code of the implementation guides.
+/// Whether a fault is reported by a code of the implementation guides.
 pub fn has_implementation_fault(faults: &[Fault]) -> bool
-    ensures { result ≡ list_any (λ f. has_i (telling f)) faults.now }
+    ensures { result ≡ list_any is_of_guides (filter_map reported faults.now) }
 {
-    faults.iter().any(|fault| has_i(telling(fault)))
+    faults
+        .iter()
+        .any(|fault| is_of_implementation(reported(fault)))
 }
 
-/// The code that tells of a fault: IK403 where an element is at fault, else IK304 unless it is 8.
-fn telling(fault: &Fault) -> &'static [u8]
-    ensures { result.now ≡ telling fault.now }
+fn is_of_standard(reported: Option<Lent<'static>>) -> bool
+    ensures { result ≡ option_map_or (λ c. not (is_of_guides c)) reported false }
+{
+    match reported {
+        None => false,
+        Some(code) => !is_of_guides(code.bytes()),
+    }
+}
+
+fn is_of_implementation(reported: Option<Lent<'static>>) -> bool
+    ensures { result ≡ option_map_or is_of_guides reported false }
+{
+    match reported {
+        None => false,
+        Some(code) => is_of_guides(code.bytes()),
+    }
+}
+
+/// The code that a fault is reported by: IK403 of an element, else IK304 unless it is 8.
+fn reported(fault: &Fault) -> Option<Lent<'static>>
+    ensures { result ≡ reported fault.now }
 {
     match &fault.elem {
-        Some(elem) => code_text(elem.code).as_bytes(),
-        None => segment_telling(fault.code),
+        Some(elem) => Some(Lent::new(code_text(elem.code).as_bytes())),
+        None => reported_of_segment(fault.code),
     }
 }
 
-fn segment_telling(code: SegmentCode) -> &'static [u8]
-    ensures { result.now ≡ segment_telling code }
+fn reported_of_segment(code: SegmentCode) -> Option<Lent<'static>>
+    ensures { result ≡ reported_by code None }
 {
-    if code == SegmentCode::ElementErrors {
-        b""
+    let text = code_text(code).as_bytes();
+    if text == b"8" {
+        None
     } else {
-        code_text(code).as_bytes()
+        Some(Lent::new(text))
     }
 }
 
-fn has_i(code: &[u8]) -> bool
-    ensures { result ≡ has_i code.now }
+/// Whether a code begins with I.
+fn is_of_guides(code: &[u8]) -> bool
+    ensures { result ≡ is_of_guides code.now }
 {
-    !code.is_empty() && code[0] == b'I'
-}
-
-fn has_no_i(code: &[u8]) -> bool
-    ensures { result ≡ has_no_i code.now }
-{
-    !code.is_empty() && code[0] != b'I'
+    code.starts_with(b"I")
 }
