@@ -8,8 +8,7 @@ use Rattle.std.proofs.lemmas.Option.{slice_get_within, get_or_from_slice_get}
 use Rattle.hub_kinds.specs.declared.counters.Counters.{Counters}
 use Rattle.count_numbers.specs.declared.run.RunKey.{RunKey}
 use Rattle.count_numbers.specs.Counted.{acknowledgments_in, groups_in, numbers_behind}
-use Rattle.count_numbers.specs.Num.{num}
-use Rattle.count_numbers.specs.Layout.{delivered_groups, interchange_count}
+use Rattle.count_numbers.specs.Layout.{delivered_groups}
 use Rattle.count_numbers.specs.Numbers.{numbers_of}
 use Rattle.count_numbers.specs.Tallies.{entries_for, tallies_of}
 use Rattle.count_numbers.specs.Tally.{PartnerTally, groups_in_one, keys_of, tally_of}
@@ -19,12 +18,13 @@ use Rattle.count_numbers.specs.declared.entry.PartnerEntry.{PartnerEntry}
 use Rattle.count_numbers.specs.declared.numbering.PartnerNumbers.{PartnerNumbers}
 use Rattle.count_numbers.proofs.Counts.{numbers_counted}
 use Rattle.judged_text.specs.Judged.{PlacedValue}
+use Rattle.mailbox.specs.Mailbox.{group_total}
 use Rattle.mailbox.specs.Numbered.{key_of}
 use Rattle.mailbox.proofs.Tallied.{groups_are_counted}
 use Rattle.partner_setup.specs.declared.partner.Partner.{Partner}
 use Rattle.checked_text.specs.Acknowledgments.{has_reports}
 use Rattle.checked_text.specs.CheckedText.{CheckedInterchange, acknowledged_to, acknowledgment_of, groups_to}
-use Rattle.night_writing.specs.Night.{counters_behind, sets_to}
+use Rattle.night_writing.specs.Night.{counters_by, sets_to}
 use Rattle.hub_run.specs.Tallied.{AreCountersTallied, AreNumbersTallied, entry_of, night_numbers}
 
 abbrev deliveries : List PlacedValue → List Entry
@@ -64,19 +64,13 @@ keys_behind [] sets = keys_delivered sets
 keys_behind (x ∷ xs) sets = keys_behind xs sets
 
 -- the next counters, told by keys, are those told by sets
-abbrev next_by_keys : Partner → (acknowledgments groups delivered sets : ℕ) → Counters
-next_by_keys p acknowledgments groups delivered sets = record {
-  interchange = num p.counters.interchange (acknowledgments + interchange_count p.cap sets);
-  group = num p.counters.group (groups + delivered);
-  set = num p.counters.set sets;
-}
-
 next_counted : (p : Partner) (acknowledgments groups : ℕ) (sets : List PlacedValue)
     → (numbers_behind p.counters p.cap acknowledgments groups (map key_of sets)).next
-    ≡ counters_behind p.counters p.cap acknowledgments groups sets
+    ≡ counters_by p.counters p.cap acknowledgments groups (length sets) (group_total p.cap sets)
 next_counted p acknowledgments groups sets =
-    ap (λ (n : ℕ). next_by_keys p acknowledgments groups (delivered_groups p.cap (map key_of sets)) n) (length-map sets key_of)
-    ∙ ap (λ (d : ℕ). next_by_keys p acknowledgments groups d (length sets)) (sym (groups_are_counted p.cap sets))
+    ap (λ (n : ℕ). counters_by p.counters p.cap acknowledgments groups n (delivered_groups p.cap (map key_of sets)))
+    (length-map sets key_of)
+    ∙ ap (counters_by p.counters p.cap acknowledgments groups (length sets)) (sym (groups_are_counted p.cap sets))
 
 -- a partner's numbers by the counts of its entries
 told : (es : List Entry) (p : Partner) (acknowledgments groups : ℕ) (sets : List PlacedValue) → 1 ≤ p.cap → length es < 2 ^ 64

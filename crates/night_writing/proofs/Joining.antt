@@ -16,8 +16,8 @@ use Rattle.checked_text.specs.CheckedText.{CheckedInterchange, AreAcknowledgment
 use Rattle.checked_text.specs.Pairs.{ArePairs}
 use Rattle.checked_text.proofs.Pairing.{pairs_more}
 use Rattle.night_writing.specs.declared.night.Night.{Night}
-use Rattle.night_writing.specs.ByPlace.{box_behind, box_by, counters_by, next_behind, next_by, sent_at, sets_at}
-use Rattle.night_writing.specs.Night.{AreForPartners, IsNightOf, acks_of, box_of, judgements, next_of}
+use Rattle.night_writing.specs.ByPlace.{box_behind, box_by, next_behind, next_by, sent_at, sets_at}
+use Rattle.night_writing.specs.Night.{AreForPartners, IsNightOf, acks_of, box_of, counters_by, judgements, next_of}
 use Rattle.night_writing.specs.Writing.{AreRendered, IsClosedBy, IsWrittenOf, WritingValue}
 
 for_partners : {A : Type 0} (setup : SetupValue) (f g : ℕ → Partner → A) (xs : List A)

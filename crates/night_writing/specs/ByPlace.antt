@@ -1,12 +1,11 @@
 -- A partner's mailbox and next counters (own), by what is kept at its place: its acknowledgments and the sets that were written for it.
-use Rattle.std.specs.Prelude.{ℕ, ◌+◌, List, [], length, slice_index_or}
+use Rattle.std.specs.Prelude.{ℕ, List, [], length, slice_index_or}
 use Rattle.hub_kinds.specs.declared.counters.Counters.{Counters}
-use Rattle.count_numbers.specs.Layout.{interchange_count}
-use Rattle.count_numbers.specs.Num.{num}
 use Rattle.partner_setup.specs.declared.partner.Partner.{Partner}
 use Rattle.partner_setup.specs.Setup.{SetupValue}
 use Rattle.mailbox.specs.Rendered.{RenderedValue, box_of_rendered, groups_of_rendered}
 use Rattle.checked_text.specs.CheckedText.{SentValues, nothing_sent}
+use Rattle.night_writing.specs.Night.{counters_by}
 
 -- the acknowledgments that it is sent
 abbrev pub sent_at : List SentValues → (place : ℕ) → SentValues
@@ -22,14 +21,6 @@ box_behind setup at sent sets partner = box_of_rendered setup partner at sent.co
 
 abbrev pub box_by : SetupValue → (at : List ℕ) → List SentValues → List (List RenderedValue) → (place : ℕ) → Partner → List ℕ
 box_by setup at files boxes place partner = box_behind setup at (sent_at files place) (sets_at boxes place) partner
-
--- the counters behind so many acknowledgments with so many groups, and so many sets with so many
-abbrev pub counters_by : Counters → (cap acknowledgments groups sets delivered_groups : ℕ) → Counters
-counters_by now cap acknowledgments groups sets delivered_groups = record {
-  interchange = num now.interchange (acknowledgments + interchange_count cap sets);
-  group = num now.group (groups + delivered_groups);
-  set = num now.set sets;
-}
 
 -- the counters behind these acknowledgments and sets
 abbrev pub next_behind : SentValues → List RenderedValue → Partner → Counters

@@ -2,7 +2,7 @@
 -- front to back. It names no piece, worker, window or order of arrival.
 use Rattle.std.specs.Prelude.{◌≡◌, ℕ, ◌+◌, List, map, length}
 use Rattle.hub_kinds.specs.declared.counters.Counters.{Counters}
-use Rattle.env_index.specs.Words.{IndexValue, IsIndex, settled}
+use Rattle.env_index.specs.Words.{IndexValue, IsIndex}
 use Rattle.count_numbers.specs.Layout.{interchange_count}
 use Rattle.count_numbers.specs.Num.{num}
 use Rattle.partner_setup.specs.declared.partner.Partner.{Partner}
@@ -13,7 +13,7 @@ use Rattle.mailbox.specs.Mailbox.{box_text, group_total}
 use Rattle.checked_text.specs.CheckedText.{CheckedInterchange, AreCheckedAs, acknowledged_to, acknowledgments_to, groups_to}
 use Rattle.checked_text.specs.CheckedText.{judged}
 use Rattle.checked_text.specs.Pairs.{AreAllPairs}
-use Rattle.checked_text.specs.Settled.{settled_faults}
+use Rattle.checked_text.specs.Settled.{settled_entries}
 use Rattle.night_report.specs.Report.{report_text}
 use Rattle.night_writing.specs.declared.night.Night.{Night}
 
@@ -21,7 +21,7 @@ use Rattle.night_writing.specs.declared.night.Night.{Night}
 pub record IsKnown (text : List ℕ) (setup : SetupValue) (known : List CheckedInterchange) (outside : ℕ) : Type 0 where
   pub index : IndexValue
   pub read : IsIndex text index
-  pub answered : AreCheckedAs text setup (settled index (settled_faults setup index.entries)).entries known
+  pub answered : AreCheckedAs text setup (settled_entries setup index.entries) known
   pub counted : outside ≡ index.outside
 
 -- the same by the standings of its groups alone
@@ -42,19 +42,19 @@ box_of text setup at known place partner =
     box_text setup partner at (length (acknowledged_to place known)) (groups_to (acknowledged_to place known))
     (sets_to text setup known place)
 
--- the counters behind so many acknowledgments, which have so many groups, and these delivered sets
-abbrev pub counters_behind : Counters → (cap acknowledgments groups : ℕ) → List PlacedValue → Counters
-counters_behind now cap acknowledgments groups sets = record {
-  interchange = num now.interchange (acknowledgments + interchange_count cap (length sets));
-  group = num now.group (groups + group_total cap sets);
-  set = num now.set (length sets);
+-- the counters after so many acknowledgments with so many groups, and so many delivered sets with so many
+abbrev pub counters_by : Counters → (cap acknowledgments groups sets delivered_groups : ℕ) → Counters
+counters_by now cap acknowledgments groups sets delivered_groups = record {
+  interchange = num now.interchange (acknowledgments + interchange_count cap sets);
+  group = num now.group (groups + delivered_groups);
+  set = num now.set sets;
 }
 
 -- its next counters
 abbrev pub next_of : (text : List ℕ) → SetupValue → List CheckedInterchange → (place : ℕ) → Partner → Counters
 next_of text setup known place partner =
-    counters_behind partner.counters partner.cap (length (acknowledged_to place known)) (groups_to (acknowledged_to place known))
-    (sets_to text setup known place)
+    counters_by partner.counters partner.cap (length (acknowledged_to place known)) (groups_to (acknowledged_to place known))
+    (length (sets_to text setup known place)) (group_total partner.cap (sets_to text setup known place))
 
 -- for each partner of a setup, by its place, what a function gives
 abbrev pub AreForPartners : {A : Type 0} → SetupValue → (ℕ → Partner → A) → List A → Type 0

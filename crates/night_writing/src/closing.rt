@@ -1,8 +1,8 @@
 ghost use Rattle.std.specs.Prelude.{◌≡◌, ◌<◌, ◌≤◌, Some, IfOk, length, slice_get};
 ghost use Rattle.partner_setup.specs.declared.partner.Partner.{Partner};
 ghost use Rattle.partner_setup.specs.Sound.{AreCounters};
-ghost use Rattle.night_writing.specs.ByPlace.{box_behind, box_by, counters_by, next_behind, next_by};
-ghost use Rattle.night_writing.specs.Night.{AreForPartners};
+ghost use Rattle.night_writing.specs.ByPlace.{box_behind, box_by, next_behind, next_by};
+ghost use Rattle.night_writing.specs.Night.{AreForPartners, counters_by};
 
 use checked_text::Acknowledgments;
 use count_numbers::{interchange_count, num};
