@@ -1,10 +1,10 @@
 -- What a night gives (own), up to an offset of its text at which no interchange is open.
 use Rattle.std.specs.Prelude.{◌≡◌, ℕ, List, [], ◌++◌, map}
 use Rattle.std.specs.List.{All}
-use Rattle.env_index.specs.Words.{HasSpans, IndexEntry, IndexValue, IsIndex, settled, with_faults}
+use Rattle.env_index.specs.Words.{HasSpans, IndexEntry, IndexValue, IsIndex, with_faults}
 use Rattle.partner_setup.specs.Setup.{SetupValue}
 use Rattle.checked_text.specs.CheckedText.{AreCheckedAs, CheckedInterchange}
-use Rattle.checked_text.specs.Settled.{faults_with, kept_keys, settled_faults}
+use Rattle.checked_text.specs.Settled.{faults_with, kept_keys, settled_entries}
 use Rattle.batch_law.specs.Moved.{IsIndexUpTo, moved_entry}
 use Rattle.batch_checked.specs.MovedAnswers.{moved_answered}
 use Rattle.night_writing.specs.Writing.{IsBatchWritten, IsWrittenOf, WritingValue, nothing_written}
@@ -21,7 +21,7 @@ none_yet setup = record { entries = []; known = []; writing = nothing_written se
 
 pub record IsNightUpTo (text : List ℕ) (setup : SetupValue) (at : List ℕ) (to : ℕ) (n : NightSoFar) : Type 0 where
   pub index : IsIndexUpTo text to n.entries n.writing.outside
-  pub answered : AreCheckedAs text setup (with_faults n.entries (settled_faults setup n.entries)) n.known
+  pub answered : AreCheckedAs text setup (settled_entries setup n.entries) n.known
   pub written : IsWrittenOf text setup at n.known n.writing
 
 -- a batch was written behind the old, settled by the numbers seen so far
@@ -51,5 +51,5 @@ pub record IsWhole (text : List ℕ) (setup : SetupValue) (at : List ℕ) (n : N
   pub index : IndexValue
   pub read : IsIndex text index
   pub counted : n.writing.outside ≡ index.outside
-  pub answered : AreCheckedAs text setup (settled index (settled_faults setup index.entries)).entries n.known
+  pub answered : AreCheckedAs text setup (settled_entries setup index.entries) n.known
   pub written : IsWrittenOf text setup at n.known n.writing

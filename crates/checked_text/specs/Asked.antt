@@ -11,14 +11,14 @@ use Rattle.x12_segs.specs.Words.{SegValue, element_of}
 use Rattle.x12_segs.specs.declared.set_span.SetSpan.{SetSpan}
 use Rattle.set_check.specs.Checked.{Checked}
 use Rattle.set_check.specs.Codes.{control_of}
-use Rattle.env_index.specs.Words.{IndexEntry, Numbered, index_places, with_faults, span_of, GroupEntry}
+use Rattle.env_index.specs.Words.{IndexEntry, Numbered, index_places, span_of, GroupEntry}
 use Rattle.env_index.specs.declared.entry.SetEnvelope.{SetEnvelope}
 use Rattle.partner_setup.specs.Setup.{SetupValue, guide_of, sender_of}
 use Rattle.checked_text.specs.Answers.{SentValue, controls_of, has_number_among}
 use Rattle.checked_text.specs.CheckedText.{sent_by}
 use Rattle.checked_text.specs.FirstUse.{IsUsedEarlier, knows}
 use Rattle.checked_text.specs.Seen.{is_among}
-use Rattle.checked_text.specs.Settled.{settled_faults}
+use Rattle.checked_text.specs.Settled.{settled_entries}
 use Rattle.checked_text.specs.declared.finding.Finding.{Finding}
 
 -- how a set is checked: where it stands, and by which guide
@@ -105,10 +105,6 @@ pub record IsFound (asked : Asked) (found : Finding) : Type 0 where
 -- that an earlier place has a place's number is asked where the first use of the number is an earlier place
 abbrev pub IsAskedAt : SetupValue → List IndexEntry → Numbered → Asked → Type 0
 IsAskedAt setup es place asked = (asked.earlier ≡ true) ↔ IsUsedEarlier setup es place.place
-
--- the index once it is settled
-abbrev pub settled_entries : SetupValue → List IndexEntry → List IndexEntry
-settled_entries setup es = with_faults es (settled_faults setup es)
 
 -- one question at each place, told by first uses
 abbrev pub AreAskedByFirstUse : (text : List ℕ) → SetupValue → List IndexEntry → Type 0

@@ -1,6 +1,5 @@
 -- X12.5, interchange: what each partner reads in its acknowledgments of a night, by the definition of the index.
 use Rattle.std.specs.Prelude.{ℕ, ◌+◌, List, [], ◌∷◌}
-use Rattle.env_index.specs.Words.{settled}
 use Rattle.count_numbers.specs.Num.{num}
 use Rattle.partner_setup.specs.declared.partner.Partner.{Partner}
 use Rattle.partner_setup.specs.Envelopes.{envelope_to}
@@ -8,7 +7,7 @@ use Rattle.partner_setup.specs.Setup.{SetupValue}
 use Rattle.checked_text.specs.Acknowledgments.{acknowledgment_text, groups_of}
 use Rattle.checked_text.specs.CheckedText.{CheckedInterchange, acknowledged_to, acknowledgment_of}
 use Rattle.checked_text.specs.Pairs.{AreAllPairs}
-use Rattle.checked_text.specs.Settled.{settled_faults}
+use Rattle.checked_text.specs.Settled.{settled_entries}
 use Rattle.night_writing.specs.Night.{IsKnown}
 use Rattle.hub_run.specs.Quotable.{AreQuotable}
 use Rattle.written_law.specs.Files.{HasInterchanges}
@@ -33,5 +32,5 @@ pub record AreAcknowledgmentsRead (text : List ℕ) (setup : SetupValue) (at : L
   pub is_known : IsKnown text setup known outside
   pub each : AreAllPairs
       (λ place partner file.
-      AreQuotable text setup place partner (settled is_known.index (settled_faults setup is_known.index.entries)).entries
+      AreQuotable text setup place partner (settled_entries setup is_known.index.entries)
       → HasAcknowledgments setup at known place partner file) setup.partners acknowledgments

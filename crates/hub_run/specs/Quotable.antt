@@ -11,14 +11,14 @@ use Rattle.guide_tree.specs.declared.rows.GuideRows.{GuideRows}
 use Rattle.guide_tree.specs.Words.{EachNode, GuideTree, Tree, loop, segment}
 use Rattle.guide_tree.specs.View as view
 use Rattle.elem_rules.specs.Rows.{component_reference, components_of, element_reference}
-use Rattle.env_index.specs.Words.{GroupEntry, IndexEntry, IndexValue, IsIndex, settled}
+use Rattle.env_index.specs.Words.{GroupEntry, IndexEntry, IndexValue, IsIndex}
 use Rattle.partner_setup.specs.declared.partner.Partner.{Partner}
 use Rattle.partner_setup.specs.Setup.{SetupValue, guide_of}
 use Rattle.set_check.specs.Checked.{said_by}
 use Rattle.judged_text.specs.Judged.{responded_groups}
 use Rattle.checked_text.specs.Answers.{SentValue}
 use Rattle.checked_text.specs.CheckedText.{sent_by}
-use Rattle.checked_text.specs.Settled.{settled_faults}
+use Rattle.checked_text.specs.Settled.{settled_entries}
 use Rattle.hub_run.specs.Told.{groups_told, is_told_to}
 
 -- neither the element separator nor the terminator stands in the reference numbers of a row and of its components
@@ -51,7 +51,7 @@ AreQuotable text setup place partner entries =
 abbrev pub AreAllQuotable : (text : List ℕ) → SetupValue → Type 0
 AreAllQuotable text setup =
     (index : IndexValue) (place : ℕ) (partner : Partner) → IsIndex text index → slice_get setup.partners place ≡ Some partner
-    → AreQuotable text setup place partner (settled index (settled_faults setup index.entries)).entries
+    → AreQuotable text setup place partner (settled_entries setup index.entries)
 
 -- letters and digits alone, for which no delimiter of a partner is taken
 abbrev pub IsPlainReference : (reference : List ℕ) → Type 0

@@ -2,7 +2,7 @@
 use Rattle.std.specs.Prelude.{◌≡◌, ◌↔◌, ℕ, List, [], ◌∷◌, ◌++◌, codes, filter}
 use Rattle.std.specs.List.{flat_map}
 use Rattle.x12_segs.specs.Words.{SegValue, element_of}
-use Rattle.env_index.specs.Words.{IndexEntry, IndexValue, IsIndex, settled, GroupEntry}
+use Rattle.env_index.specs.Words.{IndexEntry, IndexValue, IsIndex, GroupEntry}
 use Rattle.env_index.specs.declared.entry.SetEnvelope.{SetEnvelope}
 use Rattle.partner_setup.specs.declared.partner.Partner.{Partner}
 use Rattle.partner_setup.specs.Setup.{SetupValue}
@@ -11,7 +11,7 @@ use Rattle.checked_text.specs.Answers.{SentValue}
 use Rattle.checked_text.specs.CheckedText.{sent_by}
 use Rattle.checked_text.specs.Meets.{Meets}
 use Rattle.checked_text.specs.Pairs.{AreAllPairs}
-use Rattle.checked_text.specs.Settled.{settled_faults}
+use Rattle.checked_text.specs.Settled.{settled_entries}
 use Rattle.hub_run.specs.Quotable.{AreQuotable}
 use Rattle.hub_run.specs.Responses.{Response, responses_in}
 use Rattle.hub_run.specs.Told.{groups_told, is_told_to, told_sets}
@@ -63,5 +63,5 @@ pub record AreReadBack (text : List ℕ) (setup : SetupValue) (acknowledgments :
   pub index : IndexValue
   pub read : IsIndex text index
   pub each : AreAllPairs
-      (λ place partner told. IsReadBack text setup (settled index (settled_faults setup index.entries)).entries place partner told)
+      (λ place partner told. IsReadBack text setup (settled_entries setup index.entries) place partner told)
       setup.partners acknowledgments

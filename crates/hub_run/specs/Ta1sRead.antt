@@ -5,11 +5,11 @@ use Rattle.std.specs.List.{flat_map}
 use Rattle.x12_bytes.specs.Header.{field_of}
 pub use Rattle.ack_read.specs.Ta1s.{Ta1, ta1s_of, ta1s_among, ta1s_in}
 use Rattle.hub_kinds.specs.Words.{acknowledgment_code}
-use Rattle.env_index.specs.Words.{IndexEntry, IndexValue, IsIndex, settled}
+use Rattle.env_index.specs.Words.{IndexEntry, IndexValue, IsIndex}
 use Rattle.partner_setup.specs.declared.partner.Partner.{Partner}
 use Rattle.partner_setup.specs.Setup.{SetupValue}
 use Rattle.checked_text.specs.Pairs.{AreAllPairs}
-use Rattle.checked_text.specs.Settled.{settled_faults}
+use Rattle.checked_text.specs.Settled.{settled_entries}
 use Rattle.hub_run.specs.Quotable.{AreQuotable}
 use Rattle.hub_run.specs.Told.{is_from, note_to}
 
@@ -46,5 +46,5 @@ pub record AreTa1sReadBack (text : List ℕ) (setup : SetupValue) (acknowledgmen
   pub read : IsIndex text index
   pub each : AreAllPairs
       (λ place partner told.
-      AreTa1sReadBackBy text setup (settled index (settled_faults setup index.entries)).entries place partner told)
+      AreTa1sReadBackBy text setup (settled_entries setup index.entries) place partner told)
       setup.partners acknowledgments

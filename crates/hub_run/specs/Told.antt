@@ -14,7 +14,7 @@ use Rattle.hub_kinds.specs.declared.answers.GroupAnswer.{GroupAnswer}
 use Rattle.hub_kinds.specs.declared.answers.SetAnswer.{SetAnswer}
 use Rattle.hub_kinds.specs.declared.set_codes.SetCode.{SetCode}
 use Rattle.hub_kinds.specs.declared.set_codes.Verdict.{Verdict}
-use Rattle.env_index.specs.Words.{IndexEntry, IndexValue, IsIndex, settled, GroupEntry}
+use Rattle.env_index.specs.Words.{IndexEntry, IndexValue, IsIndex, GroupEntry}
 use Rattle.env_index.specs.declared.entry.SetEnvelope.{SetEnvelope}
 use Rattle.count_numbers.specs.Num.{num}
 use Rattle.partner_setup.specs.declared.partner.Partner.{Partner}
@@ -33,7 +33,7 @@ use Rattle.checked_text.specs.Answers.{IsGroupAnswer, IsSetAnswer, SentValue}
 use Rattle.checked_text.specs.CheckedText.{is_partner, sent_by}
 use Rattle.checked_text.specs.Meets.{Meets}
 use Rattle.checked_text.specs.Pairs.{AreAllPairs}
-use Rattle.checked_text.specs.Settled.{settled_faults}
+use Rattle.checked_text.specs.Settled.{settled_entries}
 
 -- AK2 of a set with this ST: ST01, ST02, and ST03 where it is the name of a convention
 abbrev pub set_opening : Delims → (st : SegValue) → List ℕ
@@ -159,5 +159,5 @@ pub record AreSetsTold (text : List ℕ) (setup : SetupValue) (at : List ℕ) (a
   pub index : IndexValue
   pub read : IsIndex text index
   pub each : AreAllPairs
-      (λ place partner told. IsPartnerTold text setup at (settled index (settled_faults setup index.entries)).entries place partner told)
+      (λ place partner told. IsPartnerTold text setup at (settled_entries setup index.entries) place partner told)
       setup.partners acknowledgments
