@@ -8,6 +8,7 @@
 //! - `check_text` checks each set of the interchanges without a fault by its sender's guide, and answers each group and set: the
 //!   standings that it leaves, and the acknowledgments of each partner, byte for byte, are those of these answers, behind the
 //!   acknowledgments that stood before;
+//! - `answers_to` answers the groups of one interchange, and `judge` gives it the standings that these answers leave;
 //! - the acknowledgment of an interchange has a TA1 where it is answered with one, and a 999 for each group but those of acknowledgments;
 //!   it takes its partner's next interchange number, and its group, where it has 999s, the next group number;
 //! - the interchanges of a text are answered in one way (`answers_are_one`), and the answer to a set tells that it is accepted
@@ -51,4 +52,5 @@ pub use laws::{
     accepted_as_it_meets, answers_are_one, asked_by_first_use, numbers_told_by_first_use,
 };
 pub use settled::{faults_behind, settled_faults};
-pub use walk::{CheckedText, answer_found, check_text, no_acknowledgments};
+pub use spot::answers_to;
+pub use walk::{CheckedText, answer_found, check_text, judge, no_acknowledgments};

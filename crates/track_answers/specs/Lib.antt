@@ -1,4 +1,2 @@
-pub mod Ends
-pub mod Known
 pub mod Noted
 pub mod Notes

@@ -9,15 +9,7 @@
 //! (005010X231).
 #![tactic(auto)]
 
-mod ends;
-mod groups;
 mod noted;
 mod notes;
-mod numbers;
-mod seen;
-mod sent;
-mod sets;
-mod standings;
-mod support;
 
 pub use noted::{NotedText, note_text};

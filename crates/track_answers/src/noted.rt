@@ -2,14 +2,11 @@ ghost use Rattle.std.specs.Prelude.{◌≡◌, ◌||◌, IfOk, None, if◌then�
 ghost use Rattle.std.specs.List.{All};
 ghost use Rattle.env_index.specs.Words.{HasSpans};
 ghost use Rattle.checked_text.specs.Acknowledgments.{has_any, present};
-ghost use Rattle.checked_text.specs.CheckedText.{AreAnswersBy, CheckedInterchange, judged};
+ghost use Rattle.checked_text.specs.CheckedText.{CheckedInterchange};
 ghost use Rattle.track_answers.specs.Noted.{AreNoted, IsNoted, notes_of};
 
-use crate::groups::answer_groups;
 use crate::notes::all_notes;
-use crate::sent::Sent;
-use crate::standings::standings_of;
-use checked_text::AnsweredGroup;
+use checked_text::{AnsweredGroup, answers_to, judge};
 use env_index::{Index, IndexedInterchange};
 use hub_kinds::NoMemory;
 use judged_text::{JudgedInterchange, ta1_note};
@@ -24,30 +21,6 @@ pub struct NotedText<'i, 'a> {
     pub interchanges: Vec<JudgedInterchange<'i, 'a>>,
     /// What is kept of the answers to each of them.
     pub notes: Vec<Notes>,
-}
-
-/// What is answered to the groups of an interchange from this sender, each set checked by the sender's guide for it.
-fn answers_to<'a>(
-    alloc: Global,
-    setup: &'a Setup,
-    text: &'a [u8],
-    sender: Option<usize>,
-    entry: &IndexedInterchange<'a>,
-) -> Result<Vec<Option<AnsweredGroup<'a>>>, NoMemory>
-    requires { HasSpans text.now entry.now.interchange }
-    ensures { IfOk result (λ v. AreAnswersBy text.entry.now setup.entry.now entry.now entry.now.fault sender v.items) }
-{
-    if entry.fault().is_some() {
-        return Ok(Vec::new(alloc));
-    }
-    match sender {
-        None => Ok(Vec::new(alloc)),
-        Some(sender) => {
-            let interchange = entry.interchange();
-            let sent = Sent::new(text, setup, sender, interchange.header().delims());
-            answer_groups(alloc, &sent, interchange)
-        }
-    }
 }
 
 /// Whether something is answered to any of these groups.
@@ -86,22 +59,6 @@ fn notes_with(
         recipient: if_any(sender, noted, has_reports),
         has_reports,
     })
-}
-
-/// An interchange with the standings that the answers to its groups leave.
-fn judge<'i, 'a>(
-    alloc: Global,
-    text: &'a [u8],
-    entry: &'i IndexedInterchange<'a>,
-    sender: Option<usize>,
-    groups: &[Option<AnsweredGroup<'_>>],
-) -> Result<JudgedInterchange<'i, 'a>, NoMemory>
-    requires { HasSpans text.now entry.now.interchange }
-    ensures { IfOk result (λ j. (x : CheckedInterchange) → x.entry ≡ entry.entry.now → x.sender ≡ sender → x.groups ≡ groups.now
-        → j ≡ judged text.entry.now x) }
-{
-    let standings = standings_of(alloc, groups)?;
-    Ok(JudgedInterchange::new(text, entry.interchange(), sender, entry.fault(), standings))
 }
 
 /// Answers an interchange, and keeps what is asked of it later.

@@ -13,7 +13,7 @@ returns c =
     (c.header.ensures ∙ ap (λ (i : InterchangeEntry). i.header) c.interchange.ensures.value) in
     record {
       known = x;
-      answered = record { entry = refl; sender = sender; groups = c.in_ok-groups.ensures };
+      answered = record { entry = refl; sender = sender; groups = c.in_ok-groups.ensures.answers };
       judgement = c.in_ok-judged.ensures x refl refl (sym c.as_slice.ensures.value);
       is = c.in_ok-notes.ensures x refl refl refl;
     }
