@@ -10,7 +10,6 @@ mod Meeting
 mod NoCodes
 mod NoFaults
 pub mod Once
-mod Reporting
 mod Rising
 mod Spans
 mod Told

@@ -1,7 +1,8 @@
 -- The verdict on a checked set: accepted exactly where the set meets its guide and no earlier set has its ST02, which rejects it.
 use Rattle.std.proofs.Common.{◌≡◌, ◌↔◌, ◌∙◌, ap, sym, refl, ℕ, suc, Bool, true, false, List, [], ◌∷◌, ◌++◌, take, is_none}
 use Rattle.std.proofs.Common.{Option, ◌&&◌, if◌then◌else◌}
-use Rattle.std.specs.Prelude.{filter_map, not}
+use Rattle.std.specs.Prelude.{not}
+use Rattle.std.specs.Option.{option_map_or}
 use Rattle.std.specs.List.{list_all, list_any}
 use Rattle.hub_kinds.specs.declared.fault.Fault.{Fault}
 use Rattle.hub_kinds.specs.declared.set_codes.SetCode.{SetCode}
@@ -44,7 +45,8 @@ other_among false false g t o w s last = other_first 4 g t o w s last
 not_of_faults : (guide : Option GuideTree) (parts : SetParts) (faults : List Fault)
     → list_all tells_of_faults (codes_where guide parts faults true) ≡ false
 not_of_faults guide parts faults =
-    other_among (list_any (λ c. not (is_of_guides c)) (filter_map reported faults)) (list_any is_of_guides (filter_map reported faults))
+    other_among (list_any (λ f. option_map_or (λ c. not (is_of_guides c)) (reported f) false) faults)
+    (list_any (λ f. option_map_or is_of_guides (reported f) false) faults)
     (is_none guide) (is_none parts.trailer) (has_other_control parts.header parts.trailer)
     (has_other_count (segment_count parts) parts.trailer) (has_short_control parts.header)
     (convention_codes guide parts.header)

@@ -1,7 +1,8 @@
 -- 999 guide, implementation transaction set syntax error code (IK502): the codes of a set; which code stands for which fault is own.
 use Rattle.std.specs.Prelude.{ℕ, ◌==◌, Bool, true, false, not, ◌&&◌, nat_eq, nat_lt, List, [], ◌∷◌, ◌++◌, Option, Some, None, is_none}
-use Rattle.std.specs.Prelude.{codes, filter_map, if◌then◌else◌, length, take}
+use Rattle.std.specs.Prelude.{codes, if◌then◌else◌, length, take}
 use Rattle.std.specs.List.{list_any, starts_with}
+use Rattle.std.specs.Option.{option_map_or}
 use Rattle.std.specs.Str.{bytes_eq}
 use Rattle.hub_kinds.specs.Words.{segment_text, element_text, number_of}
 use Rattle.hub_kinds.specs.declared.codes.SegmentCode.{SegmentCode}
@@ -35,8 +36,8 @@ is_of_guides code = starts_with nat_eq code (codes "I")
 -- 5: some fault is reported by a code of the standard; I5: by one of the implementation guides
 abbrev pub fault_codes : List Fault → List SetCode
 fault_codes faults =
-    code_if (list_any (λ c. not (is_of_guides c)) (filter_map reported faults)) code.SegmentsInError
-    ++ code_if (list_any is_of_guides (filter_map reported faults)) code.ImplementationSegmentsInError
+    code_if (list_any (λ f. option_map_or (λ c. not (is_of_guides c)) (reported f) false) faults) code.SegmentsInError
+    ++ code_if (list_any (λ f. option_map_or is_of_guides (reported f) false) faults) code.ImplementationSegmentsInError
 
 -- 1: there is no guide for the set
 abbrev pub guide_codes : Option GuideTree → List SetCode

@@ -1,5 +1,5 @@
 //! Which faults a set's codes 5 and I5 are for.
-ghost use Rattle.std.specs.Prelude.{◌≡◌, false, filter_map, not};
+ghost use Rattle.std.specs.Prelude.{◌≡◌, false, not};
 ghost use Rattle.std.specs.List.{list_any};
 ghost use Rattle.std.specs.Option.{option_map_or};
 ghost use Rattle.set_check.specs.Codes.{is_of_guides, reported, reported_by};
@@ -8,33 +8,33 @@ use hub_kinds::{Fault, Lent, SegmentCode, code_text};
 
 /// Whether a fault is reported by a code of the standard.
 pub fn has_base_fault(faults: &[Fault]) -> bool
-    ensures { result ≡ list_any (λ c. not (is_of_guides c)) (filter_map reported faults.now) }
+    ensures { result ≡ list_any (λ f. option_map_or (λ c. not (is_of_guides c)) (reported f) false) faults.now }
 {
     faults.iter().any(|fault| is_of_standard(reported(fault)))
 }
 
 /// Whether a fault is reported by a code of the implementation guides.
 pub fn has_implementation_fault(faults: &[Fault]) -> bool
-    ensures { result ≡ list_any is_of_guides (filter_map reported faults.now) }
+    ensures { result ≡ list_any (λ f. option_map_or is_of_guides (reported f) false) faults.now }
 {
     faults
         .iter()
         .any(|fault| is_of_implementation(reported(fault)))
 }
 
-fn is_of_standard(reported: Option<Lent<'static>>) -> bool
-    ensures { result ≡ option_map_or (λ c. not (is_of_guides c)) reported false }
+fn is_of_standard(code: Option<Lent<'static>>) -> bool
+    ensures { result ≡ option_map_or (λ c. not (is_of_guides c)) code.entry false }
 {
-    match reported {
+    match code {
         None => false,
         Some(code) => !is_of_guides(code.bytes()),
     }
 }
 
-fn is_of_implementation(reported: Option<Lent<'static>>) -> bool
-    ensures { result ≡ option_map_or is_of_guides reported false }
+fn is_of_implementation(code: Option<Lent<'static>>) -> bool
+    ensures { result ≡ option_map_or is_of_guides code.entry false }
 {
-    match reported {
+    match code {
         None => false,
         Some(code) => is_of_guides(code.bytes()),
     }
@@ -54,7 +54,7 @@ fn reported_of_segment(code: SegmentCode) -> Option<Lent<'static>>
     ensures { result ≡ reported_by code None }
 {
     let text = code_text(code).as_bytes();
-    if text == b"8" {
+    if text == b"8".as_slice() {
         None
     } else {
         Some(Lent::new(text))
