@@ -51,6 +51,6 @@ pub use finding::Finding;
 pub use laws::{
     accepted_as_it_meets, answers_are_one, asked_by_first_use, numbers_told_by_first_use,
 };
-pub use settled::{faults_behind, settled_faults};
+pub use settled::{fault_alone, faults_behind, settled_faults};
 pub use spot::answers_to;
 pub use walk::{CheckedText, answer_found, check_text, judge, no_acknowledgments};
