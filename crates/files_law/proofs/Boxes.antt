@@ -1,36 +1,26 @@
 -- X12.5, interchange: what each partner reads in its mailbox of a night.
-use Rattle.std.proofs.Common.{◌≡◌, ℕ, true, ◌+◌, List, [], ◌∷◌, ◌++◌, length, map, refl, sym, ap, subst, ◌∙◌}
-use Rattle.std.specs.List.{All}
-use Rattle.std.proofs.lemmas.List.Elements.{All-weaker}
+use Rattle.std.proofs.Common.{◌≡◌, ℕ, ◌+◌, List, [], ◌∷◌, ◌++◌, length, refl, sym, ap, subst, ◌∙◌}
 use Rattle.x12_write.specs.Group.{texts_in_row}
 use Rattle.moment.specs.Moment.{IsMoment}
-use Rattle.env_index.specs.Words.{IndexEntry, settled}
 use Rattle.count_numbers.specs.Layout.{interchanges_of}
 use Rattle.count_numbers.specs.Num.{num}
 use Rattle.partner_setup.specs.declared.partner.Partner.{Partner}
 use Rattle.partner_setup.specs.Setup.{SetupValue}
 use Rattle.partner_setup.specs.Sound.{IsSoundPartner, IsSoundSetup}
-use Rattle.judged_text.specs.Judged.{PlacedValue, all_sets}
-use Rattle.mailbox.specs.Deliveries.{is_delivered_to}
+use Rattle.judged_text.specs.Judged.{PlacedValue}
 use Rattle.mailbox.specs.Mailbox.{delivered_text, delivered_texts}
 use Rattle.mailbox.specs.Numbered.{NumberedValue, groups_of, numbered_from}
-use Rattle.checked_text.specs.CheckedText.{IsCheckedAs, acknowledged_to, groups_to, judged}
-use Rattle.checked_text.specs.Settled.{settled_faults}
+use Rattle.checked_text.specs.CheckedText.{acknowledged_to, groups_to}
 use Rattle.night_writing.specs.declared.night.Night.{Night}
 use Rattle.night_writing.specs.Night.{IsNight, box_of, sets_to}
-use Rattle.hub_run.proofs.Headers.{at_index}
-use Rattle.hub_run.proofs.Pairs.{pairs_weaker_at}
-use Rattle.hub_run.proofs.SettledSound.{IsSettledSound, settled_sound}
-use Rattle.hub_run.proofs.Sources.{IsSource, settled_sources}
-use Rattle.hub_run.proofs.Together.{pairs_all}
+use Rattle.hub_run.proofs.ForAbove.{at_index, pairs_weaker_at}
 use Rattle.written_law.specs.Files.{HasInterchanges}
 use Rattle.written_law.specs.Written.{NoInnerHeads, texts_of}
 use Rattle.written_law.proofs.Interchanges.{interchanges_read}
 use Rattle.written_law.proofs.Within.{within_clear}
 use Rattle.files_law.specs.Mailboxes.{AreMailboxesRead, mailbox_texts, texts_for}
-use Rattle.files_law.proofs.Faults.{HasPlain, settled_plain}
 use Rattle.files_law.proofs.Mailboxes.{box_delivered}
-use Rattle.files_law.proofs.Placed.{IsKnownSource, IsPlaced, IsSent, known_placed, passing, ready}
+use Rattle.files_law.proofs.Placed.{sets_sent, sources_known}
 
 in_a_row : (setup : SetupValue) (partner : Partner) (at : List ℕ) (k before : ℕ) (chunks : List (List NumberedValue))
     → delivered_texts setup partner at k before chunks ≡ texts_in_row (mailbox_texts setup partner at k before chunks)
@@ -42,23 +32,7 @@ in_a_row setup partner at k before (sets ∷ more) =
 pub boxes_by_night : (text : List ℕ) (setup : SetupValue) (at : List ℕ) (night : Night) → IsSoundSetup setup → IsMoment at
     → IsNight text setup at night → AreMailboxesRead text setup at night.boxes
 boxes_by_night text setup at night sound moment is =
-    let index = is.is_known.index in
-    let entries : List IndexEntry = (settled index (settled_faults setup index.entries)).entries in
-    let read = is.is_known.read in
-    let sources : All (λ (e : IndexEntry). IsSource text e.interchange) entries =
-    settled_sources text index (settled_faults setup index.entries) read in
-    let sounds : All IsSettledSound entries = settled_sound text setup index read in
-    let plains : All HasPlain entries = settled_plain text index (settled_faults setup index.entries) read in
-    let known : All (IsKnownSource text) is.known =
-    pairs_all (λ n e x. IsCheckedAs text setup e x) (IsKnownSource text) entries is.known is.is_known.answered (λ n e x at_e answered.
-    subst (λ (y : IndexEntry). (IsSource text y.interchange × IsSettledSound y) × HasPlain y) (sym answered.entry) (
-      (
-        at_index (λ (y : IndexEntry). IsSource text y.interchange) entries n e at_e sources,
-        at_index IsSettledSound entries n e at_e
-            sounds,
-      ),
-      at_index HasPlain entries n e at_e plains,
-    )) in
+    let sources = sources_known text setup is.known is.outside is.is_known in
     record {
       known = is.known;
       outside = is.outside;
@@ -72,10 +46,7 @@ boxes_by_night text setup at night sound moment is =
           let texts : List (List ℕ) = texts_for text setup at is.known place partner in
           let all = box_delivered setup partner (length setup.guides) sound.hub own at moment (length (acknowledged_to place is.known))
           (groups_to (acknowledged_to place is.known)) sets
-          (All-weaker (λ p. IsPlaced partner.delims text p × (is_delivered_to setup place p ≡ true)) (IsSent partner.delims setup)
-          (λ p both. ready setup place partner text p at_place sound own both.0 both.1) sets
-          (passing (IsPlaced partner.delims text) (is_delivered_to setup place) (all_sets (map (judged text) is.known))
-          (known_placed partner.delims own.divides text is.known known))) in
+          (sets_sent text setup is.known sound sources place partner at_place) in
           let row : box ≡ texts_in_row texts =
           same ∙ in_a_row setup partner at (length (acknowledged_to place is.known)) (groups_to (acknowledged_to place is.known))
           (interchanges_of partner.cap (numbered_from 0 sets)) in

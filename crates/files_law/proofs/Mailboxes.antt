@@ -7,19 +7,14 @@ use Rattle.std.specs.List.{All, flat_map, list_all, range_with_len}
 use Rattle.std.specs.Char.{is_ascii_uppercase}
 use Rattle.std.proofs.lemmas.Bool.{and_from, and_parts}
 use Rattle.std.proofs.lemmas.List.{length-take}
-use Rattle.std.proofs.lemmas.List.Elements.{All-cons, All-drop, All-from_recursion, All-head, All-map, All-nil, All-tail}
-use Rattle.std.proofs.lemmas.List.Elements.{All-take}
+use Rattle.std.proofs.lemmas.List.Elements.{All-cons, All-head, All-map, All-nil, All-tail}
 use Rattle.x12_bytes.specs.declared.delims.Delims.{Delims}
 use Rattle.x12_segs.specs.Words.{element_of, part_or_empty}
-use Rattle.moment.specs.Moment.{IsMoment, date_of, time_of}
+use Rattle.moment.specs.Moment.{IsMoment}
 use Rattle.x12_write.specs.Group.{texts_in_row}
 use Rattle.x12_write.specs.Number.{padded_number}
 use Rattle.x12_write.specs.Segment.{Segment, segment, segment_text}
-use Rattle.x12_write.specs.Undivided.{IsUndivided}
 use Rattle.x12_write.specs.declared.envelope.Envelope.{Envelope}
-use Rattle.x12_write.proofs.Plain.{decimal-undivided}
-use Rattle.ack_999.proofs.ReadBack.{IsReadable}
-use Rattle.ack_999.proofs.ReadableFaults.{readable}
 use Rattle.count_numbers.specs.Layout.{in_interchange, interchange_count, interchanges_of}
 use Rattle.count_numbers.specs.Num.{num}
 use Rattle.partner_setup.specs.declared.partner.Partner.{Partner}
@@ -28,20 +23,17 @@ use Rattle.partner_setup.specs.Setup.{SetupValue}
 use Rattle.partner_setup.specs.SetupFaults.{are_ids}
 use Rattle.partner_setup.specs.Sound.{IsSoundPartner}
 use Rattle.judged_text.specs.Judged.{PlacedValue, delims_in}
-use Rattle.mailbox.specs.Mailbox.{delivered_group_text, delivered_text, groups_text, numbered_text, sender_code}
+use Rattle.mailbox.specs.Mailbox.{delivered_group_text, delivered_text, groups_text, numbered_text}
 use Rattle.mailbox.specs.Numbered.{NumberedValue, goes_with, groups_of, numbered_from, onto_groups}
-use Rattle.hub_run.proofs.Enveloping.{code_inside, date, inside, plain, time}
-use Rattle.hub_run.proofs.Marked.{IsMarked, marked}
-use Rattle.hub_run.proofs.PlainReferences.{everywhere}
+use Rattle.hub_run.proofs.ForAbove as box
+use Rattle.hub_run.proofs.ForAbove.{IsMarked, chunks_all, everywhere, groups_all, marked, numbered_all, trimmed_at}
 use Rattle.hub_kinds.specs.Words.{is_number, is_word}
 use Rattle.x12_write.specs.Header.{header_text}
 use Rattle.ack_999.specs.ReadBack.{written_parts}
 use Rattle.partner_setup.proofs.Sending.{sendable}
-use Rattle.hub_run.proofs.Reading.{trimmed_at}
 use Rattle.written_law.specs.Whole.{Elements, IsWholeGroup, IsWholeSet, Whole, WholeGroup, WholeSet, group_segments, is_gs, set_segments}
 use Rattle.written_law.specs.Whole.{kind_by, whole_segments}
 use Rattle.x12_segs.specs.declared.kind.Kind.TheVariants.{Ta1}
-use Rattle.hub_run.proofs.Mailboxes.{IsReady}
 use Rattle.files_law.specs.Mailboxes.{mailbox_texts}
 use Rattle.written_law.specs.Written.{IsWritten, Written, written_text}
 use Rattle.written_law.proofs.Numbers.{decimal_read}
@@ -98,31 +90,21 @@ chunk_most cap xs = All-map (λ chunk. length chunk ≤ cap) (in_interchange cap
     (everywhere (λ n. length (in_interchange cap xs n) ≤ cap) (λ n. omega (arith, length-take cap (drop (n * cap) xs)))
     (range_with_len 0 (interchange_count cap (length xs))))
 
-module _ (P : NumberedValue → Type 0) where
-  one_all : (x : NumberedValue) (b : Bool) (group : List NumberedValue) (groups : List (List NumberedValue)) → P x
-      → All (All P) (group ∷ groups) → All (All P) (cond b ((x ∷ group) ∷ groups) ((x ∷ []) ∷ group ∷ groups))
-  one_all x true group groups first all =
-      All-cons (All P) (x ∷ group) groups (All-cons P x group first (All-head (All P) group groups all)) (All-tail (All P) group groups all)
-  one_all x false group groups first all = All-cons (All P) (x ∷ []) (group ∷ groups) (All-cons P x [] first (All-nil P)) all
+-- groups, none of which is empty
+abbrev pub IsSome : List NumberedValue → Type 0
+IsSome group = 0 < length group
 
-  onto_all : (x : NumberedValue) (groups : List (List NumberedValue)) → P x → All (All P) groups → All (All P) (onto_groups x groups)
-  onto_all x [] first all = All-cons (All P) (x ∷ []) [] (All-cons P x [] first (All-nil P)) (All-nil (All P))
-  onto_all x (group ∷ groups) first all = one_all x (goes_with x group) group groups first all
+onto_some : (x : NumberedValue) (groups : List (List NumberedValue)) → All IsSome groups → All IsSome (onto_groups x groups)
+onto_some x [] some = All-cons IsSome (x ∷ []) [] (omega arith) (All-nil IsSome)
+onto_some x (group ∷ groups) some = by (goes_with x group)
+  where
+    by : (b : Bool) → All IsSome (cond b ((x ∷ group) ∷ groups) ((x ∷ []) ∷ group ∷ groups))
+    by true = All-cons IsSome (x ∷ group) groups (omega arith) (All-tail IsSome group groups some)
+    by false = All-cons IsSome (x ∷ []) (group ∷ groups) (omega arith) some
 
-  groups_all : (xs : List NumberedValue) → All P xs → All (All P) (groups_of xs)
-  groups_all [] all = All-nil (All P)
-  groups_all (x ∷ xs) all = onto_all x (groups_of xs) (All-head P x xs all) (groups_all xs (All-tail P x xs all))
-
-chunks_all : {A : Type 0} (P : A → Type 0) (cap : ℕ) (xs : List A) → All P xs → All (All P) (interchanges_of cap xs)
-chunks_all P cap xs all = All-map (All P) (in_interchange cap xs) (range_with_len 0 (interchange_count cap (length xs)))
-    (everywhere (λ n. All P (in_interchange cap xs n)) (λ n. All-take P cap (drop (n * cap) xs) (All-drop P (n * cap) xs all))
-    (range_with_len 0 (interchange_count cap (length xs))))
-
-numbered_all : (P : PlacedValue → Type 0) (k : ℕ) (ps : List PlacedValue) → All P ps → All (λ x. P x.set) (numbered_from k ps)
-numbered_all P k [] all = All-nil (λ x. P x.set)
-numbered_all P k (p ∷ ps) all =
-    All-cons (λ x. P x.set) (record { place = k; set = p }) (numbered_from (k + 1) ps) (All-head P p ps all)
-    (numbered_all P (k + 1) ps (All-tail P p ps all))
+pub groups_some : (xs : List NumberedValue) → All IsSome (groups_of xs)
+groups_some [] = All-nil IsSome
+groups_some (x ∷ xs) = onto_some x (groups_of xs) (groups_some xs)
 
 module _ (setup : SetupValue) (p : Partner) (guides : ℕ) (hub_ids : are_ids setup.hub.qualifier setup.hub.id setup.hub.code ≡ true)
     (sound : IsSoundPartner guides p) (at : List ℕ) (moment : IsMoment at) where
@@ -139,42 +121,10 @@ module _ (setup : SetupValue) (p : Partner) (guides : ℕ) (hub_ids : are_ids se
   Sent x = IsSent d setup x.set
 
   abbrev gs_of : NumberedValue → (g : ℕ) → Segment
-  gs_of x g = segment (codes "GS")
-      (element_of x.set.group.header 1 ∷ sender_code setup x.set ∷ p.code ∷ date_of at ∷ time_of at ∷ decimal g ∷ codes "X"
-      ∷ element_of x.set.group.header 8 ∷ [])
-
-  readable_gs_of : (x : NumberedValue) (g : ℕ) → IsReady d setup x.set → IsReadable d (gs_of x g)
-  readable_gs_of x g ready =
-      let P : List ℕ → Type 0 = IsUndivided d in
-      let code : P p.code = inside setup p guides hub_ids sound at moment p.code (code_inside p.qualifier p.id p.code sound.ids) in
-      let agency : P (codes "X") = plain setup p guides hub_ids sound at moment (codes "X") refl in
-      readable d sound.divides (codes "GS") (gs_of x g).elements (omega arith) refl refl
-      (All-from_recursion P (gs_of x g).elements (
-        ready.functional_id,
-        (
-          ready.sender,
-          (
-            code,
-            (
-              date setup p guides hub_ids sound at moment,
-              (
-                time setup p guides hub_ids sound at moment,
-                (decimal-undivided d sound.divides g, (agency, (ready.version, tt))),
-              ),
-            ),
-          ),
-        ),
-      ))
+  gs_of x g = box.gs_of setup p guides hub_ids sound at moment x g
 
   abbrev ge_of : (sets g : ℕ) → Segment
-  ge_of sets g = segment (codes "GE") (decimal sets ∷ decimal g ∷ [])
-
-  readable_ge_of : (sets g : ℕ) → IsReadable d (ge_of sets g)
-  readable_ge_of sets g =
-      let P : List ℕ → Type 0 = IsUndivided d in
-      readable d sound.divides (codes "GE") (decimal sets ∷ decimal g ∷ []) (omega arith) refl refl
-      (All-from_recursion P (decimal sets ∷ decimal g ∷ [])
-      (decimal-undivided d sound.divides sets, (decimal-undivided d sound.divides g, tt)))
+  ge_of sets g = box.ge_of setup p guides hub_ids sound at moment sets g
 
   first_word : (x : NumberedValue) → Sent x → is_word 3 3 (element_of x.set.set.header 1) ≡ true
   first_word x sent =
@@ -227,18 +177,14 @@ module _ (setup : SetupValue) (p : Partner) (guides : ℕ) (hub_ids : are_ids se
       let last : List ℕ = segment_text d ge.id ge.elements in
       let inner : List Elements = flat_map set_segments sets.sets in
       let gs_made : IsMadeOf d first (written_parts gs ∷ []) = row_made d first (written_parts gs ∷ [])
-      (one_row d gs sound.divides (readable_gs_of x g sent.ready) (record { long = omega arith; other = refl })) in
+      (one_row d gs sound.divides (box.readable_gs_of setup p guides hub_ids sound at moment x g sent.ready) (record { long = omega arith; other = refl })) in
       let ge_made : IsMadeOf d last (written_parts ge ∷ []) = row_made d last (written_parts ge ∷ [])
-      (one_row d ge sound.divides (readable_ge_of (length texts) g) (record { long = omega arith; other = refl })) in (
+      (one_row d ge sound.divides (box.readable_ge_of setup p guides hub_ids sound at moment (length texts) g) (record { long = omega arith; other = refl })) in (
         record { header = written_parts gs; sets = sets.sets; trailer = written_parts ge },
         both_made d (first ++ texts_in_row texts) last (written_parts gs ∷ inner) (written_parts ge ∷ [])
             (both_made d first (texts_in_row texts) (written_parts gs ∷ []) inner gs_made sets.row) ge_made,
         record { kind = refl; header = gs_is x g sent small; sets = sets.whole; trailer = refl },
       )
-
-  -- groups, none of which is empty
-  abbrev IsSome : List NumberedValue → Type 0
-  IsSome group = 0 < length group
 
   groups_whole : (g : ℕ) (groups : List (List NumberedValue)) → All (All Sent) groups → All IsSome groups → AreGroups setup p at g groups
   groups_whole g [] all some = record { list = []; row = nothing_made d; whole = All-nil IsWholeGroup; count = refl }
@@ -255,18 +201,6 @@ module _ (setup : SetupValue) (p : Partner) (guides : ℕ) (hub_ids : are_ids se
         whole = All-cons IsWholeGroup one.0 rest.list one.2 rest.whole;
         count = ap suc rest.count;
       }
-
-  onto_some : (x : NumberedValue) (groups : List (List NumberedValue)) → All IsSome groups → All IsSome (onto_groups x groups)
-  onto_some x [] some = All-cons IsSome (x ∷ []) [] (omega arith) (All-nil IsSome)
-  onto_some x (group ∷ groups) some = by (goes_with x group)
-    where
-      by : (b : Bool) → All IsSome (cond b ((x ∷ group) ∷ groups) ((x ∷ []) ∷ group ∷ groups))
-      by true = All-cons IsSome (x ∷ group) groups (omega arith) (All-tail IsSome group groups some)
-      by false = All-cons IsSome (x ∷ []) (group ∷ groups) (omega arith) some
-
-  groups_some : (xs : List NumberedValue) → All IsSome (groups_of xs)
-  groups_some [] = All-nil IsSome
-  groups_some (x ∷ xs) = onto_some x (groups_of xs) (groups_some xs)
 
   -- a delivered interchange
   interchange_delivered : (number before : ℕ) → number ≤ 999999999 → (sets : List NumberedValue) → length sets ≤ p.cap → All Sent sets

@@ -30,13 +30,9 @@ use Rattle.night_writing.specs.declared.night.Night.{Night}
 use Rattle.night_writing.specs.Night.{IsNight, acks_of}
 use Rattle.hub_run.specs.Quotable.{IsGroupQuotable}
 use Rattle.hub_run.specs.Told.{groups_told, is_told_to}
-use Rattle.hub_run.proofs.Enveloping.{component}
-use Rattle.hub_run.proofs.Headers.{HasHeader, HaveHeaders, at_index, settled_headers}
-use Rattle.hub_run.proofs.Pairs.{pairs_tail, pairs_weaker_at}
-use Rattle.hub_run.proofs.QuotedElements.{AreElementsUndivided, elements_undivided}
-use Rattle.hub_run.proofs.ReadingSets.{group_quoted}
-use Rattle.hub_run.proofs.SettledSound.{IsSettledSound, settled_sound}
-use Rattle.hub_run.proofs.TellingNights.{IsAnsweredGroup, acknowledged_as_told, answered_anywhere, answers_here}
+use Rattle.hub_run.proofs.ForAbove.{IsAnsweredGroup, IsGroupRead, IsRead, acknowledged_as_told, all_read, answered_anywhere, answers_here}
+use Rattle.hub_run.proofs.ForAbove.{at_index, component, elements_undivided, group_quoted, groups_read, pairs_tail, pairs_weaker_at}
+use Rattle.hub_run.proofs.ForAbove.{settled_headers, settled_sound}
 use Rattle.written_law.specs.Files.{HasInterchanges}
 use Rattle.written_law.specs.Whole.{IsWholeSet, WholeSet, set_segments}
 use Rattle.written_law.specs.Written.{BeginsOtherwise, IsWritten, Written, texts_of}
@@ -47,24 +43,6 @@ use Rattle.files_law.proofs.Acknowledgments.{AreReports, AsWritten, interchange_
 use Rattle.files_law.proofs.Numbers.{few_groups, num_small}
 use Rattle.files_law.proofs.Reports.{report_row, report_set, report_whole}
 use Rattle.files_law.proofs.Rows.{both_rows, no_row}
-
--- the sets of a group have the STs that are read, and its elements are undivided
-abbrev IsGroupRead : Delims → SentValue → GroupEntry → Type 0
-IsGroupRead d sent g = All (HasHeader sent.text sent.delims) g.sets × AreElementsUndivided d g
-
-groups_read : (d : Delims) (sent : SentValue) (gs : List GroupEntry)
-    → All (λ (g : GroupEntry). All (HasHeader sent.text sent.delims) g.sets) gs → All (AreElementsUndivided d) gs
-    → All (IsGroupRead d sent) gs
-groups_read d sent [] headers elements = All-nil (IsGroupRead d sent)
-groups_read d sent (g ∷ gs) headers elements =
-    let H : GroupEntry → Type 0 = λ x. All (HasHeader sent.text sent.delims) x.sets in
-    let E : GroupEntry → Type 0 = AreElementsUndivided d in
-    All-cons (IsGroupRead d sent) g gs (All-head H g gs headers, All-head E g gs elements)
-    (groups_read d sent gs (All-tail H g gs headers) (All-tail E g gs elements))
-
--- the sets of an interchange have the STs that are read, and without a fault it has none of the faults 1 to 7
-abbrev IsRead : (text : List ℕ) → IndexEntry → Type 0
-IsRead text entry = HaveHeaders text entry.interchange × IsSettledSound entry
 
 no_reports : (d : Delims) → AreReports d []
 no_reports d = record { sets = []; row = no_row d; whole = All-nil IsWholeSet }
@@ -228,15 +206,6 @@ module _ (text : List ℕ) (setup : SetupValue) (at : List ℕ) (moment : IsMome
   partner_reads es xs headers are quotable =
       has_interchanges (acknowledgment_texts setup p at 0 0 (acknowledged_to place xs)) (acks_of setup at xs place p)
       (in_a_row setup p at 0 0 (acknowledged_to place xs)) (all_written 0 0 es xs headers are quotable)
-
--- both of each interchange
-all_read : (text : List ℕ) (es : List IndexEntry) → All (λ e. HaveHeaders text e.interchange) es → All IsSettledSound es
-    → All (IsRead text) es
-all_read text [] headers sound = All-nil (IsRead text)
-all_read text (e ∷ es) headers sound =
-    let H : IndexEntry → Type 0 = λ y. HaveHeaders text y.interchange in
-    All-cons (IsRead text) e es (All-head H e es headers, All-head IsSettledSound e es sound)
-    (all_read text es (All-tail H e es headers) (All-tail IsSettledSound e es sound))
 
 pub read_by_night : (text : List ℕ) (setup : SetupValue) (at : List ℕ) (night : Night) → IsSoundSetup setup → IsMoment at
     → IsNight text setup at night → AreAcknowledgmentsRead text setup at night.acks

@@ -1,40 +1,26 @@
 -- X12.6, functional group and transaction set: the sets that are delivered to a partner, with what is known of their headers.
-use Rattle.std.proofs.Common.{◌≡◌, ◌≢◌, ℕ, ◌+◌, Bool, true, false, cond, ◌&&◌, ◌||◌, not, List, [], ◌∷◌, Option, Some, None}
-use Rattle.std.proofs.Common.{length, map, refl, sym, ap, subst, ◌∙◌, eqb-true, true≢false}
-use Rattle.std.specs.Prelude.{filter, is_none, slice_get, if◌then◌else◌}
-use Rattle.std.specs.List.{All, list_all, list_any}
-use Rattle.std.proofs.lemmas.Bool.{and_parts, false≢true, not-true}
-use Rattle.std.proofs.lemmas.List.Elements.{All-append, All-cons, All-head, All-nil, All-tail}
+use Rattle.std.proofs.Common.{◌≡◌, ℕ, ◌+◌, true, List, [], ◌∷◌, Some, None, length, map, refl, sym, subst}
+use Rattle.std.specs.Prelude.{slice_get}
+use Rattle.std.specs.List.{All, list_all}
+use Rattle.std.proofs.lemmas.Bool.{and_parts}
+use Rattle.std.proofs.lemmas.List.Elements.{All-append, All-cons, All-head, All-nil, All-tail, All-weaker}
 use Rattle.x12_bytes.specs.Header.{delims_of}
 use Rattle.x12_bytes.specs.declared.delims.Delims.{Delims}
-use Rattle.x12_segs.specs.Words.{is_inner, kind_of, element_of}
-use Rattle.x12_write.specs.Undivided.{CanDivide, IsUndivided}
+use Rattle.x12_write.specs.Undivided.{CanDivide}
 use Rattle.env_index.specs.declared.entry.SetEnvelope.{SetEnvelope}
-use Rattle.env_index.specs.Words.{GroupEntry}
+use Rattle.env_index.specs.Words.{GroupEntry, IndexEntry, has_set_headers, is_group_header, is_set_header, settled}
 use Rattle.partner_setup.specs.declared.partner.Partner.{Partner}
-use Rattle.partner_setup.specs.Setup.{SetupValue, route_of}
-use Rattle.partner_setup.specs.SetupFaults.{may_end}
+use Rattle.partner_setup.specs.Setup.{SetupValue}
 use Rattle.partner_setup.specs.Sound.{IsSoundPartner, IsSoundSetup}
-use Rattle.partner_setup.proofs.Marks.{undivided}
-use Rattle.mailbox.specs.declared.outcome.Outcome.TheVariants.{DeliveredTo, HeldForDelimiter}
 use Rattle.judged_text.specs.declared.standing.GroupStanding.{GroupStanding}
-use Rattle.mailbox.specs.Deliveries.{is_not_rejected, is_blocked, is_deliverable, is_delivered_to, is_delivery_to, outcome_at}
-use Rattle.mailbox.specs.Deliveries.{outcome_by, outcomes_on}
-use Rattle.judged_text.specs.Judged.{JudgedValue, PlacedValue, all_sets, delims_in, groups_from, is_fa, is_refused, sets_from, sets_of}
-use Rattle.judged_text.specs.Judged.{standing_at, verdict_on}
-use Rattle.mailbox.specs.Mailbox.{code_by}
-use Rattle.mailbox.specs.Numbered.{sender_in}
-use Rattle.checked_text.specs.CheckedText.{CheckedInterchange, judged}
-use Rattle.hub_run.proofs.Mailboxes.{IsReady}
-use Rattle.hub_run.proofs.Changing.{AreApart}
-use Rattle.hub_run.proofs.Enveloping.{code_inside, ending}
-use Rattle.hub_run.proofs.Headers.{at_index}
-use Rattle.hub_run.proofs.QuotedElements.{AreElementsUndivided, elements_undivided}
-use Rattle.hub_run.proofs.SettledSound.{IsSettledSound, none_is}
-use Rattle.hub_run.proofs.Sources.{IsSource, IsThere}
-use Rattle.hub_run.proofs.SpanBytes.{IsRawView, header_raw, inner_is, inner_kinds, inner_raw}
-use Rattle.env_index.specs.Words.{has_set_headers, is_group_header, is_set_header}
-use Rattle.files_law.proofs.Faults.{ArePlain, have_headers}
+use Rattle.judged_text.specs.Judged.{JudgedValue, PlacedValue, all_sets, delims_in, groups_from, sets_from, sets_of, standing_at}
+use Rattle.mailbox.specs.Deliveries.{is_delivered_to}
+use Rattle.checked_text.specs.CheckedText.{CheckedInterchange, IsCheckedAs, judged}
+use Rattle.checked_text.specs.Settled.{settled_faults}
+use Rattle.night_writing.specs.Night.{IsKnown, sets_to}
+use Rattle.hub_run.proofs.ForAbove.{AreApart, AreElementsUndivided, IsReady, IsSettledSound, IsSource, IsThere, at_index, delivered_free}
+use Rattle.hub_run.proofs.ForAbove.{elements_undivided, faultless, is_ready, pairs_all, passing, settled_sound, settled_sources}
+use Rattle.files_law.proofs.Faults.{ArePlain, HasPlain, have_headers, settled_plain}
 
 -- GS and ST have their form, and what is repeated of them is undivided
 pub record AreFine (to : Delims) (g : GroupEntry) (set : SetEnvelope) : Type 0 where
@@ -106,7 +92,7 @@ groups_fine to (g ∷ gs) undivided headers sets =
 abbrev pub IsKnownSource : (text : List ℕ) → CheckedInterchange → Type 0
 IsKnownSource text x = (IsSource text x.entry.interchange × IsSettledSound x.entry) × ArePlain (delims_of x.entry.interchange.header)
 
-pub known_placed : (to : Delims) → CanDivide to → (text : List ℕ) (known : List CheckedInterchange) → All (IsKnownSource text) known
+known_placed : (to : Delims) → CanDivide to → (text : List ℕ) (known : List CheckedInterchange) → All (IsKnownSource text) known
     → All (IsPlaced to text) (all_sets (map (judged text) known))
 known_placed to can text [] all = All-nil (IsPlaced to text)
 known_placed to can text (x ∷ known) all =
@@ -119,80 +105,6 @@ known_placed to can text (x ∷ known) all =
     groups_fine to x.entry.interchange.content.groups (elements_undivided to can x.entry.interchange sound) headers.0 headers.1))
     (known_placed to can text known (All-tail (IsKnownSource text) x known all))
 
--- those that pass a test
-pub passing : {A : Type 0} (P : A → Type 0) (test : A → Bool) (xs : List A) → All P xs → All (λ x. P x × (test x ≡ true)) (filter test xs)
-passing P test [] all = All-nil (λ x. P x × (test x ≡ true))
-passing {A} P test (x ∷ xs) all = by (passing P test xs (All-tail P x xs all)) (test x) refl
-  where
-    Q : A → Type 0
-    Q y = P y × (test y ≡ true)
-
-    by : All Q (filter test xs) → (b : Bool) → test x ≡ b → All Q (cond b (x ∷ filter test xs) (filter test xs))
-    by rest true is = All-cons Q x (filter test xs) (All-head P x xs all, is) rest
-    by rest false is = rest
-
--- what is delivered to a partner isn't blocked for it
-module _ (setup : SetupValue) (place : ℕ) (partner : Partner) (at_place : slice_get setup.partners place ≡ Some partner)
-    (p : PlacedValue) where
-  by_target : (to : ℕ) (o : Option Partner) → slice_get setup.partners to ≡ o → is_delivery_to place (outcome_by o p to) ≡ true
-      → is_blocked partner.delims p ≡ false
-  by_target to None is delivered = absurd (false≢true delivered)
-  by_target to (Some q) is delivered = by (is_blocked q.delims p) refl delivered
-    where
-      by : (b : Bool) → is_blocked q.delims p ≡ b → is_delivery_to place (if b then HeldForDelimiter to else DeliveredTo to) ≡ true
-          → is_blocked partner.delims p ≡ false
-      by true blocked delivered = absurd (false≢true delivered)
-      by false blocked delivered =
-          let same : to ≡ place = eqb-true to place delivered in
-          let there : Some q ≡ Some partner = sym is ∙ ap (slice_get setup.partners) same ∙ at_place in
-          let one : q ≡ partner = cc in
-          subst (λ (r : Partner). is_blocked r.delims p ≡ false) one blocked
-
-  on_targets : (ts : List ℕ) → list_any (is_delivery_to place) (map (outcome_at setup p) ts) ≡ true → is_blocked partner.delims p ≡ false
-  on_targets [] any = absurd (false≢true any)
-  on_targets (t ∷ ts) any = by (on_targets ts) (is_delivery_to place (outcome_at setup p t)) refl any
-    where
-      by : (list_any (is_delivery_to place) (map (outcome_at setup p) ts) ≡ true → is_blocked partner.delims p ≡ false) → (b : Bool)
-          → is_delivery_to place (outcome_at setup p t) ≡ b
-          → (b || list_any (is_delivery_to place) (map (outcome_at setup p) ts)) ≡ true → is_blocked partner.delims p ≡ false
-      by rest true is any = by_target t (slice_get setup.partners t) refl is
-      by rest false is any = rest any
-
-  on_route : (route : List ℕ) → list_any (is_delivery_to place) (outcomes_on setup p route) ≡ true → is_blocked partner.delims p ≡ false
-  on_route [] any = absurd (false≢true any)
-  on_route (t ∷ ts) any = on_targets (t ∷ ts) any
-
-  delivered_free : is_delivered_to setup place p ≡ true → (is_deliverable p ≡ true) × (is_blocked partner.delims p ≡ false)
-  delivered_free delivered = by (is_deliverable p) refl delivered
-    where
-      route : List ℕ
-      route = route_of setup (element_of p.group.header 3)
-
-      by : (b : Bool) → is_deliverable p ≡ b → list_any (is_delivery_to place) (if b then outcomes_on setup p route else []) ≡ true
-          → (is_deliverable p ≡ true) × (is_blocked partner.delims p ≡ false)
-      by true is any = (is, on_route route any)
-      by false is any = absurd (false≢true any)
-
-  faultless : is_deliverable p ≡ true → p.interchange.fault ≡ None
-  faultless deliverable =
-      let last = and_parts (is_not_rejected (verdict_on p) && p.standing.clear && not (is_fa p.group)) (not (is_refused p.interchange))
-      deliverable in
-      let refused : is_refused p.interchange ≡ false = not-true (is_refused p.interchange) last.1 in
-      none_is p.interchange.fault (was_true (is_none p.interchange.fault) refused)
-    where
-      was_true : (b : Bool) → not b ≡ false → b ≡ true
-      was_true true is = refl
-      was_true false is = absurd (true≢false is)
-
--- the code of a sender holds no delimiter
-code_undivided : (to : Delims) (e : (may_end to.element ≡ true) × (may_end to.terminator ≡ true)) (setup : SetupValue) → IsSoundSetup setup
-    → (n : ℕ) (o : Option Partner) → slice_get setup.partners n ≡ o → IsUndivided to (code_by o)
-code_undivided to marks setup sound n None is = All-nil (λ b. (b ≢ to.element) × (b ≢ to.terminator))
-code_undivided to marks setup sound n (Some q) is =
-    let one : IsSoundPartner (length setup.guides) q =
-    at_index (IsSoundPartner (length setup.guides)) setup.partners n q is sound.partners in
-    undivided to.element to.terminator marks.0 marks.1 q.code (code_inside q.qualifier q.id q.code one.ids)
-
 -- a delivered set, and its headers
 pub record IsSent (to : Delims) (setup : SetupValue) (p : PlacedValue) : Type 0 where
   pub ready : IsReady to setup p
@@ -200,30 +112,50 @@ pub record IsSent (to : Delims) (setup : SetupValue) (p : PlacedValue) : Type 0 
   pub gs : is_group_header p.group.header ≡ true
   pub st : is_set_header p.set.header ≡ true
 
-pub ready : (setup : SetupValue) (place : ℕ) (partner : Partner) (text : List ℕ) (p : PlacedValue)
+ready : (setup : SetupValue) (place : ℕ) (partner : Partner) (text : List ℕ) (p : PlacedValue)
     → slice_get setup.partners place ≡ Some partner → IsSoundSetup setup → IsSoundPartner (length setup.guides) partner
     → IsPlaced partner.delims text p → is_delivered_to setup place p ≡ true → IsSent partner.delims setup p
 ready setup place partner text p at_place sound own placed delivered =
-    let d : Delims = partner.delims in
-    let from : Delims = delims_in p in
     let free = delivered_free setup place partner at_place p delivered in
-    let fine : AreFine d p.group p.set = placed.fine (faultless setup place partner at_place p free.0) in
-    let inner = inner_is text p placed.text_is placed.there in
+    let fine : AreFine partner.delims p.group p.set = placed.fine (faultless setup place partner at_place p free.0) in
     record {
-      ready = record {
-        fit = record {
-          apart = placed.apart;
-          header = header_raw text from p.set placed.there;
-          inner = subst (All (IsRawView from)) (sym inner) (inner_raw text from p.set placed.there);
-          kinds = subst (All (λ seg. is_inner (kind_of seg) ≡ true)) (sym inner) (inner_kinds text from p.set placed.there);
-          free = free.1;
-        };
-        functional_id = fine.undivided.functional_id;
-        version = fine.undivided.version;
-        sender = code_undivided d (ending d d.repetition own.delims) setup sound (sender_in p) (slice_get setup.partners (sender_in p))
-            refl;
-      };
+      ready = is_ready setup place partner text p at_place sound own (record {
+        text_is = placed.text_is;
+        apart = placed.apart;
+        there = placed.there;
+        elements = λ none. (placed.fine none).undivided;
+      }) delivered;
       plain = placed.plain;
       gs = fine.gs;
       st = fine.st;
     }
+
+-- what is known of a night
+pub sources_known : (text : List ℕ) (setup : SetupValue) (known : List CheckedInterchange) (outside : ℕ)
+    → IsKnown text setup known outside → All (IsKnownSource text) known
+sources_known text setup known outside is =
+    let faults = settled_faults setup is.index.entries in
+    let entries : List IndexEntry = (settled is.index faults).entries in
+    let sources : All (λ (e : IndexEntry). IsSource text e.interchange) entries = settled_sources text is.index faults is.read in
+    let sounds : All IsSettledSound entries = settled_sound text setup is.index is.read in
+    let plains : All HasPlain entries = settled_plain text is.index faults is.read in
+    pairs_all (λ n e x. IsCheckedAs text setup e x) (IsKnownSource text) entries known is.answered (λ n e x at_e answered.
+    subst (λ (y : IndexEntry). (IsSource text y.interchange × IsSettledSound y) × HasPlain y) (sym answered.entry) (
+      (
+        at_index (λ (y : IndexEntry). IsSource text y.interchange) entries n e at_e sources,
+        at_index IsSettledSound entries n e at_e
+            sounds,
+      ),
+      at_index HasPlain entries n e at_e plains,
+    ))
+
+-- the sets that are delivered to a partner are sent to it
+pub sets_sent : (text : List ℕ) (setup : SetupValue) (known : List CheckedInterchange) → IsSoundSetup setup
+    → All (IsKnownSource text) known → (place : ℕ) (partner : Partner) → slice_get setup.partners place ≡ Some partner
+    → All (IsSent partner.delims setup) (sets_to text setup known place)
+sets_sent text setup known sound sources place partner at_place =
+    let own = at_index (IsSoundPartner (length setup.guides)) setup.partners place partner at_place sound.partners in
+    All-weaker (λ p. IsPlaced partner.delims text p × (is_delivered_to setup place p ≡ true)) (IsSent partner.delims setup)
+    (λ p both. ready setup place partner text p at_place sound own both.0 both.1) (sets_to text setup known place)
+    (passing (IsPlaced partner.delims text) (is_delivered_to setup place) (all_sets (map (judged text) known))
+    (known_placed partner.delims own.divides text known sources))

@@ -6,17 +6,15 @@ use Rattle.std.specs.List.{All}
 use Rattle.std.specs.Str.{bytes_eq}
 use Rattle.std.proofs.lemmas.Bool.{eqb-true, false_from_ne_true}
 use Rattle.std.proofs.lemmas.List.{map-append, take-append-le}
-use Rattle.std.proofs.lemmas.List.Elements.{All-append, All-cons, All-head, All-nil, All-tail, All-weaker}
+use Rattle.std.proofs.lemmas.List.Elements.{All-append, All-cons, All-head, All-nil, All-tail}
 use Rattle.std.proofs.lemmas.List.Concat.{flat_map-append}
 use Rattle.x12_bytes.specs.declared.delims.Delims.{Delims}
 use Rattle.x12_segs.specs.Words.{parts}
 use Rattle.x12_write.specs.Segment.{Segment, elements_text, segment_text, segments_text, trimmed}
-use Rattle.x12_write.specs.Undivided.{CanDivide, IsUndivided}
+use Rattle.x12_write.specs.Undivided.{CanDivide}
 use Rattle.ack_999.specs.ReadBack.{written_parts}
-use Rattle.ack_999.proofs.ReadBack.{IsReadable, trimmed-all}
-use Rattle.hub_run.proofs.Bodies.{IsBody, Lacks}
-use Rattle.hub_run.proofs.Marked.{lacks_element, lacks_terminator}
-use Rattle.hub_run.proofs.SetTexts.{IsDivided, body_of, divided_body, divided_parts}
+use Rattle.ack_999.proofs.ReadBack.{IsReadable}
+use Rattle.hub_run.proofs.ForAbove.{IsBody, IsDivided, body_of, divided, divided_body, divided_parts}
 use Rattle.written_law.specs.Whole.{Elements}
 use Rattle.written_law.specs.Written.{BeginsOtherwise, IsOneSegment, segments_in_row}
 
@@ -47,18 +45,6 @@ both_rows d a b xs ys front back = record {
       ∙ ap (λ (es : List Elements). es ++ map (parts d.element) back.segments) front.elements
       ∙ ap (λ (es : List Elements). xs ++ es) back.elements;
 }
-
-divided : (d : Delims) (s : Segment) → IsReadable d s → IsDivided d s.id (trimmed s.elements)
-divided d s readable =
-    let all : All (IsUndivided d) (trimmed s.elements) = trimmed-all (IsUndivided d) s.elements readable.elements in
-    record {
-      some = readable.some;
-      first = readable.first;
-      id_element = lacks_element d s.id readable.id;
-      id_terminator = lacks_terminator d s.id readable.id;
-      by_element = All-weaker (IsUndivided d) (Lacks d.element) (lacks_element d) (trimmed s.elements) all;
-      by_terminator = All-weaker (IsUndivided d) (Lacks d.terminator) (lacks_terminator d) (trimmed s.elements) all;
-    }
 
 pub begins : (d : Delims) (id : List ℕ) (elements : List (List ℕ)) → 2 ≤ length id → bytes_eq (take 2 id) (codes "IS") ≡ false
     → BeginsOtherwise (body_of d id elements)

@@ -88,7 +88,7 @@ known_placed to can text (x ∷ known) all =
     (known_placed to can text known (All-tail (IsKnownSource text) x known all))
 
 -- those that pass a test
-passing : {A : Type 0} (P : A → Type 0) (test : A → Bool) (xs : List A) → All P xs → All (λ x. P x × (test x ≡ true)) (filter test xs)
+pub passing : {A : Type 0} (P : A → Type 0) (test : A → Bool) (xs : List A) → All P xs → All (λ x. P x × (test x ≡ true)) (filter test xs)
 passing P test [] all = All-nil (λ x. P x × (test x ≡ true))
 passing {A} P test (x ∷ xs) all = by (passing P test xs (All-tail P x xs all)) (test x) refl
   where
@@ -130,7 +130,7 @@ module _ (setup : SetupValue) (place : ℕ) (partner : Partner) (at_place : slic
   on_route [] any = absurd (false≢true any)
   on_route (t ∷ ts) any = on_targets (t ∷ ts) any
 
-  delivered_free : is_delivered_to setup place p ≡ true → (is_deliverable p ≡ true) × (is_blocked partner.delims p ≡ false)
+  pub delivered_free : is_delivered_to setup place p ≡ true → (is_deliverable p ≡ true) × (is_blocked partner.delims p ≡ false)
   delivered_free delivered = by (is_deliverable p) refl delivered
     where
       route : List ℕ
@@ -141,7 +141,7 @@ module _ (setup : SetupValue) (place : ℕ) (partner : Partner) (at_place : slic
       by true is any = (is, on_route route any)
       by false is any = absurd (false≢true any)
 
-  faultless : is_deliverable p ≡ true → p.interchange.fault ≡ None
+  pub faultless : is_deliverable p ≡ true → p.interchange.fault ≡ None
   faultless deliverable =
       let last = and_parts (is_not_rejected (verdict_on p) && p.standing.clear && not (is_fa p.group)) (not (is_refused p.interchange))
       deliverable in
@@ -161,10 +161,11 @@ code_undivided to marks setup sound n (Some q) is =
     at_index (IsSoundPartner (length setup.guides)) setup.partners n q is sound.partners in
     undivided to.element to.terminator marks.0 marks.1 q.code (code_inside q.qualifier q.id q.code one.ids)
 
-ready : (setup : SetupValue) (place : ℕ) (partner : Partner) (text : List ℕ) (p : PlacedValue)
+-- a set that is delivered, as it stands in the text, can be read again
+pub is_ready : (setup : SetupValue) (place : ℕ) (partner : Partner) (text : List ℕ) (p : PlacedValue)
     → slice_get setup.partners place ≡ Some partner → IsSoundSetup setup → IsSoundPartner (length setup.guides) partner
     → IsPlaced partner.delims text p → is_delivered_to setup place p ≡ true → IsReady partner.delims setup p
-ready setup place partner text p at_place sound own placed delivered =
+is_ready setup place partner text p at_place sound own placed delivered =
     let d : Delims = partner.delims in
     let from : Delims = delims_in p in
     let free = delivered_free setup place partner at_place p delivered in
@@ -211,7 +212,7 @@ boxes_read_by_night text setup at night sound moment is =
           (sets_are_found setup partner (length setup.guides) sound.hub own at moment (length (acknowledged_to place is.known))
           (groups_to (acknowledged_to place is.known)) sets
           (All-weaker (λ p. IsPlaced partner.delims text p × (is_delivered_to setup place p ≡ true)) (IsReady partner.delims setup)
-          (λ p both. ready setup place partner text p at_place sound own both.0 both.1) sets
+          (λ p both. is_ready setup place partner text p at_place sound own both.0 both.1) sets
           (passing (IsPlaced partner.delims text) (is_delivered_to setup place) (all_sets (map (judged text) is.known))
           (known_placed partner.delims own.divides text is.known known))))) is.is.boxes;
     }

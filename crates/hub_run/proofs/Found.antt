@@ -60,8 +60,8 @@ made_found d text said made =
     ∙ append-nil said
 
 -- a written segment
-written : (d : Delims) (s : Segment) → IsReadable d s → IsDivided d s.id (trimmed s.elements)
-written d s readable =
+pub divided : (d : Delims) (s : Segment) → IsReadable d s → IsDivided d s.id (trimmed s.elements)
+divided d s readable =
     let all : All (IsUndivided d) (trimmed s.elements) = trimmed-all (IsUndivided d) s.elements readable.elements in
     record {
       some = readable.some;
@@ -78,11 +78,11 @@ pub other_made : (d : Delims) (s : Segment) → (d.element == d.terminator) ≡ 
 other_made d s other readable off = record {
   bodies = body_of d s.id (trimmed s.elements) ∷ [];
   is = sym (append-nil (segment_text d s.id s.elements));
-  all = All-cons (IsBody d) (body_of d s.id (trimmed s.elements)) [] (divided_body d s.id (trimmed s.elements) other (written d s readable))
+  all = All-cons (IsBody d) (body_of d s.id (trimmed s.elements)) [] (divided_body d s.id (trimmed s.elements) other (divided d s readable))
       (All-nil (IsBody d));
   gives = λ ss.
       ap (λ (seg : List (List ℕ)). all_said d (sets_behind None (seg ∷ ss)))
-      (divided_parts d s.id (trimmed s.elements) (written d s readable))
+      (divided_parts d s.id (trimmed s.elements) (divided d s readable))
       ∙ ap (λ (b : Bool). all_said d (cond b (sets_behind (Some ((s.id ∷ trimmed s.elements) ∷ [])) ss) (sets_behind None ss))) off;
 }
 

@@ -2,6 +2,7 @@ pub mod Bodies
 pub mod Changing
 pub mod Delivered
 pub mod Enveloping
+pub mod ForAbove
 pub mod Found
 pub mod Headers
 pub mod Mailboxes

@@ -82,16 +82,16 @@ module _ (P : NumberedValue → Type 0) where
   onto_all x [] first all = All-cons (All P) (x ∷ []) [] (All-cons P x [] first (All-nil P)) (All-nil (All P))
   onto_all x (group ∷ groups) first all = one_all x (goes_with x group) group groups first all
 
-  groups_all : (xs : List NumberedValue) → All P xs → All (All P) (groups_of xs)
+  pub groups_all : (xs : List NumberedValue) → All P xs → All (All P) (groups_of xs)
   groups_all [] all = All-nil (All P)
   groups_all (x ∷ xs) all = onto_all x (groups_of xs) (All-head P x xs all) (groups_all xs (All-tail P x xs all))
 
-chunks_all : {A : Type 0} (P : A → Type 0) (cap : ℕ) (xs : List A) → All P xs → All (All P) (interchanges_of cap xs)
+pub chunks_all : {A : Type 0} (P : A → Type 0) (cap : ℕ) (xs : List A) → All P xs → All (All P) (interchanges_of cap xs)
 chunks_all P cap xs all = All-map (All P) (in_interchange cap xs) (range_with_len 0 (interchange_count cap (length xs)))
     (everywhere (λ n. All P (in_interchange cap xs n)) (λ n. All-take P cap (drop (n * cap) xs) (All-drop P (n * cap) xs all))
     (range_with_len 0 (interchange_count cap (length xs))))
 
-numbered_all : (P : PlacedValue → Type 0) (k : ℕ) (ps : List PlacedValue) → All P ps → All (λ x. P x.set) (numbered_from k ps)
+pub numbered_all : (P : PlacedValue → Type 0) (k : ℕ) (ps : List PlacedValue) → All P ps → All (λ x. P x.set) (numbered_from k ps)
 numbered_all P k [] all = All-nil (λ x. P x.set)
 numbered_all P k (p ∷ ps) all =
     All-cons (λ x. P x.set) (record { place = k; set = p }) (numbered_from (k + 1) ps) (All-head P p ps all)
@@ -124,12 +124,12 @@ module _ (setup : SetupValue) (p : Partner) (guides : ℕ) (hub_ids : are_ids se
       (set_made d marks sound.divides x.set (All-head Ready x xs all).fit (num p.counters.set x.place))
       (row_made xs (All-tail Ready x xs all))
 
-  abbrev gs_of : NumberedValue → (g : ℕ) → Segment
+  abbrev pub gs_of : NumberedValue → (g : ℕ) → Segment
   gs_of x g = segment (codes "GS")
       (element_of x.set.group.header 1 ∷ sender_code setup x.set ∷ p.code ∷ date_of at ∷ time_of at ∷ decimal g ∷ codes "X"
       ∷ element_of x.set.group.header 8 ∷ [])
 
-  readable_gs_of : (x : NumberedValue) (g : ℕ) → Ready x → IsReadable d (gs_of x g)
+  pub readable_gs_of : (x : NumberedValue) (g : ℕ) → Ready x → IsReadable d (gs_of x g)
   readable_gs_of x g ready =
       let P : List ℕ → Type 0 = IsUndivided d in
       let code : P p.code = inside setup p guides hub_ids sound at moment p.code (code_inside p.qualifier p.id p.code sound.ids) in
@@ -152,10 +152,10 @@ module _ (setup : SetupValue) (p : Partner) (guides : ℕ) (hub_ids : are_ids se
         ),
       ))
 
-  abbrev ge_of : (sets g : ℕ) → Segment
+  abbrev pub ge_of : (sets g : ℕ) → Segment
   ge_of sets g = segment (codes "GE") (decimal sets ∷ decimal g ∷ [])
 
-  readable_ge_of : (sets g : ℕ) → IsReadable d (ge_of sets g)
+  pub readable_ge_of : (sets g : ℕ) → IsReadable d (ge_of sets g)
   readable_ge_of sets g =
       let P : List ℕ → Type 0 = IsUndivided d in
       readable d sound.divides (codes "GE") (decimal sets ∷ decimal g ∷ []) (omega arith) refl refl

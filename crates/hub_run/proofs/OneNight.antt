@@ -32,7 +32,8 @@ night_of_known text setup at known outside a b is was = parts_are_all a b
     (is.report ∙ sym was.report)
     (for_partners_once setup (next_of text setup known) a.next b.next is.next was.next)
 
-known_once : (text : List ℕ) (setup : SetupValue) (a b : List CheckedInterchange) (m n : ℕ) → (is : IsKnown text setup a m)
+-- one thing is known of a text
+pub known_once : (text : List ℕ) (setup : SetupValue) (a b : List CheckedInterchange) (m n : ℕ) → (is : IsKnown text setup a m)
     → (was : IsKnown text setup b n) → (a ≡ b) × (m ≡ n)
 known_once text setup a b m n is was =
     let same : is.index ≡ was.index = index_is_one text is.index was.index is.read was.read in

@@ -126,7 +126,7 @@ module _ (to : Delims) (marked : IsMarked to) (can : CanDivide to) (p : PlacedVa
       (All-drop (All (λ b. Le b × Lt b)) 2 (drop 1 es) (All-drop (All (λ b. Le b × Lt b)) 1 es elements_lack))
 
   -- ST
-  abbrev st_elements : List (List ℕ)
+  abbrev pub st_elements : List (List ℕ)
   st_elements = map change xs ++ number ∷ map change ys
 
   abbrev st_body : List ℕ
@@ -139,7 +139,7 @@ module _ (to : Delims) (marked : IsMarked to) (can : CanDivide to) (p : PlacedVa
   all_divided c here front back =
       All-append (Lacks c) (map change xs) (number ∷ map change ys) front (All-cons (Lacks c) number (map change ys) here back)
 
-  st_divided : IsDivided to (codes "ST") st_elements
+  pub st_divided : IsDivided to (codes "ST") st_elements
   st_divided =
       let id : IsUndivided to (codes "ST") = plain-undivided to can (codes "ST") refl in
       let front = kept_lack from to marked can fit.apart xs xs_kept in
@@ -191,13 +191,13 @@ module _ (to : Delims) (marked : IsMarked to) (can : CanDivide to) (p : PlacedVa
   abbrev count : ℕ
   count = length inner + 2
 
-  abbrev se_elements : List (List ℕ)
+  abbrev pub se_elements : List (List ℕ)
   se_elements = decimal count ∷ number ∷ []
 
-  abbrev se_body : List ℕ
+  abbrev pub se_body : List ℕ
   se_body = body_of to (codes "SE") se_elements
 
-  se_divided : IsDivided to (codes "SE") se_elements
+  pub se_divided : IsDivided to (codes "SE") se_elements
   se_divided =
       let id : IsUndivided to (codes "SE") = plain-undivided to can (codes "SE") refl in
       let both : All (IsUndivided to) se_elements = All-from_recursion (IsUndivided to) se_elements
@@ -234,16 +234,16 @@ module _ (to : Delims) (marked : IsMarked to) (can : CanDivide to) (p : PlacedVa
       ∙ ap (λ (s : Said). plainly id ∷ plainly total ∷ s ∷ []) number_said
 
   -- what stands between them
-  abbrev found_in : SegValue → List (List ℕ)
+  abbrev pub found_in : SegValue → List (List ℕ)
   found_in seg = parts to.element (change seg.bytes)
 
-  abbrev inner_bodies : List (List ℕ)
+  abbrev pub inner_bodies : List (List ℕ)
   inner_bodies = map (λ (seg : SegValue). change seg.bytes) inner
 
-  abbrev Inner : SegValue → Type 0
+  abbrev pub Inner : SegValue → Type 0
   Inner seg = IsRawView from seg × All F seg.bytes
 
-  inner_all : All Inner inner
+  pub inner_all : All Inner inner
   inner_all = all_both (IsRawView from) (λ seg. All F seg.bytes) inner fit.inner inner_free
 
   inner_made : All (IsBody to) inner_bodies
@@ -254,7 +254,7 @@ module _ (to : Delims) (marked : IsMarked to) (can : CanDivide to) (p : PlacedVa
   inner_texts : flat_map (inner_text from to) inner ≡ bodies_text to inner_bodies
   inner_texts = sym (flat_map-map (λ (body : List ℕ). body ++ to.terminator ∷ []) (λ (seg : SegValue). change seg.bytes) inner)
 
-  inner_found : map (parts to.element) inner_bodies ≡ map found_in inner
+  pub inner_found : map (parts to.element) inner_bodies ≡ map found_in inner
   inner_found = map_as (parts to.element) (λ (seg : SegValue). change seg.bytes) found_in Inner (λ seg is. refl) inner inner_all
 
   all_inner_said : map (said_by to) (map found_in inner) ≡ map (λ (seg : SegValue). said_by from (elements_of seg)) inner
@@ -276,10 +276,10 @@ module _ (to : Delims) (marked : IsMarked to) (can : CanDivide to) (p : PlacedVa
       )) inner (all_both Inner (λ seg. is_inner (kind_of seg) ≡ true) inner inner_all fit.kinds))
 
   -- the whole set
-  abbrev set_bodies : List (List ℕ)
+  abbrev pub set_bodies : List (List ℕ)
   set_bodies = st_body ∷ (inner_bodies ++ se_body ∷ [])
 
-  text_of_set : set_text to p n ≡ bodies_text to set_bodies
+  pub text_of_set : set_text to p n ≡ bodies_text to set_bodies
   text_of_set =
       let t : List ℕ = to.terminator ∷ [] in
       let between : List ℕ = bodies_text to inner_bodies in
@@ -289,6 +289,12 @@ module _ (to : Delims) (marked : IsMarked to) (can : CanDivide to) (p : PlacedVa
       ∙ append_assoc (st_body ++ t) between ((se_body ++ t) ++ [])
       ∙ ap (λ (more : List ℕ). (st_body ++ t) ++ more)
       (sym (flat_map-append (λ (body : List ℕ). body ++ t) inner_bodies (se_body ∷ [])))
+
+  pub set_all : All (IsBody to) set_bodies
+  set_all = All-cons (IsBody to) st_body (inner_bodies ++ se_body ∷ [])
+      (divided_body to (codes "ST") st_elements marked.apart.element_terminator st_divided)
+      (All-append (IsBody to) inner_bodies (se_body ∷ []) inner_made (All-cons (IsBody to) se_body []
+      (divided_body to (codes "SE") se_elements marked.apart.element_terminator se_divided) (All-nil (IsBody to))))
 
   set_found : (ss : Segments) → all_said to (sets_behind None (map (parts to.element) set_bodies ++ ss))
       ≡ set_said p n ∷ all_said to (sets_behind None ss)
@@ -313,12 +319,4 @@ module _ (to : Delims) (marked : IsMarked to) (can : CanDivide to) (p : PlacedVa
       ∙ ap (λ (s : List Said). map (λ (seg : SegValue). said_by from (elements_of seg)) inner ++ s ∷ []) se_said))
 
   pub set_made : IsMade to (set_text to p n) (set_said p n ∷ [])
-  set_made = record {
-    bodies = set_bodies;
-    is = text_of_set;
-    all = All-cons (IsBody to) st_body (inner_bodies ++ se_body ∷ [])
-        (divided_body to (codes "ST") st_elements marked.apart.element_terminator st_divided)
-        (All-append (IsBody to) inner_bodies (se_body ∷ []) inner_made (All-cons (IsBody to) se_body []
-        (divided_body to (codes "SE") se_elements marked.apart.element_terminator se_divided) (All-nil (IsBody to))));
-    gives = set_found;
-  }
+  set_made = record { bodies = set_bodies; is = text_of_set; all = set_all; gives = set_found }

@@ -73,11 +73,11 @@ both_read d xs ys ts us a b front back = record {
 }
 
 -- the sets of a group have the STs that are read, and its elements are undivided
-abbrev IsGroupRead : Delims → SentValue → GroupEntry → Type 0
+abbrev pub IsGroupRead : Delims → SentValue → GroupEntry → Type 0
 IsGroupRead d sent g = All (HasHeader sent.text sent.delims) g.sets × AreElementsUndivided d g
 
 -- both of each group
-groups_read : (d : Delims) (sent : SentValue) (gs : List GroupEntry)
+pub groups_read : (d : Delims) (sent : SentValue) (gs : List GroupEntry)
     → All (λ (g : GroupEntry). All (HasHeader sent.text sent.delims) g.sets) gs → All (AreElementsUndivided d) gs
     → All (IsGroupRead d sent) gs
 groups_read d sent [] headers elements = All-nil (IsGroupRead d sent)
@@ -88,7 +88,7 @@ groups_read d sent (g ∷ gs) headers elements =
     (groups_read d sent gs (All-tail H g gs headers) (All-tail E g gs elements))
 
 -- the sets of an interchange have the STs that are read, and without a fault it has none of the faults 1 to 7
-abbrev IsRead : (text : List ℕ) → IndexEntry → Type 0
+abbrev pub IsRead : (text : List ℕ) → IndexEntry → Type 0
 IsRead text entry = HaveHeaders text entry.interchange × IsSettledSound entry
 
 -- the 999s of the groups that are answered
@@ -338,7 +338,7 @@ module _ (text : List ℕ) (setup : SetupValue) (at : List ℕ) (moment : IsMome
       ∙ ta1s_of_all setup place es
 
 -- both of each interchange
-all_read : (text : List ℕ) (es : List IndexEntry) → All (λ e. HaveHeaders text e.interchange) es → All IsSettledSound es
+pub all_read : (text : List ℕ) (es : List IndexEntry) → All (λ e. HaveHeaders text e.interchange) es → All IsSettledSound es
     → All (IsRead text) es
 all_read text [] headers sound = All-nil (IsRead text)
 all_read text (e ∷ es) headers sound =

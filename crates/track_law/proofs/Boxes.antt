@@ -1,29 +1,23 @@
 -- X12.5, ISA13, and X12.6, GS06 and ST02: the numbers under which a partner finds the sets in its mailbox.
-use Rattle.std.proofs.Common.{◌≡◌, ℕ, zero, suc, ◌+◌, ◌<◌, ◌==◌, Bool, true, false, cond, ◌&&◌, if◌then◌else◌, List, [], ◌∷◌, ◌++◌}
-use Rattle.std.proofs.Common.{Option, Some, None, length, map, take, drop, refl, sym, ap, subst, ◌∙◌, arith, append_assoc, append-nil}
-use Rattle.std.specs.Prelude.{codes, decimal, slice_index_or}
-use Rattle.std.specs.Str.{bytes_eq}
-use Rattle.std.specs.List.{All, flat_map, list_all}
-use Rattle.std.proofs.lemmas.Bool.{and_parts, false≢true}
-use Rattle.std.proofs.lemmas.List.{map-append}
-use Rattle.std.proofs.lemmas.List.Concat.{flat_map-append}
-use Rattle.std.proofs.lemmas.List.Elements.{All-cons, All-from_recursion, All-head, All-nil, All-tail, All-weaker}
+use Rattle.std.proofs.Common.{◌≡◌, ℕ, ◌+◌, true, List, [], ◌∷◌, ◌++◌}
+use Rattle.std.proofs.Common.{None, length, map, refl, sym, ap, subst, ◌∙◌, arith, append-nil}
+use Rattle.std.specs.Prelude.{decimal}
+use Rattle.std.specs.List.{All}
+use Rattle.std.proofs.lemmas.Bool.{and_parts}
+use Rattle.std.proofs.lemmas.List.Elements.{All-cons, All-head, All-nil, All-tail}
 use Rattle.x12_bytes.specs.declared.delims.Delims.{Delims}
 use Rattle.hub_kinds.specs.Words.{is_word}
-use Rattle.x12_segs.specs.declared.kind.Kind.TheVariants.{InterchangeTrailer, GroupHeader, GroupTrailer, SetHeader, SetTrailer, Ta1, Other}
-use Rattle.x12_segs.specs.Words.{element_of, elements_of, is_inner, part_or_empty, parts, views}
-use Rattle.moment.specs.Moment.{IsMoment, date_of, time_of}
+use Rattle.x12_segs.specs.Words.{element_of, elements_of}
+use Rattle.moment.specs.Moment.{IsMoment}
 use Rattle.x12_write.specs.declared.envelope.Envelope.{Envelope}
 use Rattle.x12_write.specs.Group.{texts_in_row}
-use Rattle.x12_write.specs.Header.{header_elements, header_text}
+use Rattle.x12_write.specs.Header.{header_text}
 use Rattle.x12_write.specs.Number.{padded_number}
-use Rattle.x12_write.specs.Segment.{Segment, segment, segment_text, trimmed}
-use Rattle.x12_write.specs.Undivided.{CanDivide, IsUndivided}
-use Rattle.x12_write.proofs.Plain.{decimal-undivided}
+use Rattle.x12_write.specs.Segment.{Segment, segment_text, trimmed}
 use Rattle.ack_999.specs.ReadBack.{written_parts}
-use Rattle.ack_999.proofs.ReadBack.{IsReadable, trimmed-all}
+use Rattle.ack_999.proofs.ReadBack.{IsReadable}
 use Rattle.ack_999.proofs.ReadableFaults.{readable}
-use Rattle.count_numbers.specs.Layout.{in_interchange, interchange_count, interchanges_of}
+use Rattle.count_numbers.specs.Layout.{interchanges_of}
 use Rattle.count_numbers.specs.Num.{num}
 use Rattle.partner_setup.specs.declared.partner.Partner.{Partner}
 use Rattle.partner_setup.specs.Envelopes.{envelope_to}
@@ -31,26 +25,22 @@ use Rattle.partner_setup.specs.Setup.{SetupValue}
 use Rattle.partner_setup.specs.SetupFaults.{are_ids}
 use Rattle.partner_setup.specs.Sound.{IsSoundPartner}
 use Rattle.judged_text.specs.Judged.{PlacedValue, delims_in}
-use Rattle.mailbox.specs.Mailbox.{box_text, delivered_group_text, delivered_text, delivered_texts, groups_text, numbered_text, sender_code}
-use Rattle.mailbox.specs.Numbered.{NumberedValue, goes_with, groups_of, numbered_from, onto_groups}
-use Rattle.hub_run.specs.SetsRead.{Segments, has_id, sets_behind, sets_found}
-use Rattle.hub_run.proofs.Bodies.{IsBody, Lacks, text_read}
-use Rattle.hub_run.proofs.Enveloping.{code_inside, date, iea, inside, isa, isa_text, plain, readable_iea, readable_isa, time}
-use Rattle.hub_run.proofs.Found.{IsBetween}
-use Rattle.hub_run.proofs.Mailboxes.{IsReady}
-use Rattle.hub_run.proofs.Marked.{IsMarked, lacks_element, lacks_terminator, marked}
-use Rattle.hub_run.proofs.Reading.{trimmed_at}
-use Rattle.hub_run.proofs.SetTexts.{IsDivided, body_of, divided_body, divided_parts}
-use Rattle.written_law.specs.Whole.{Elements, IsWholeSet, WholeSet, kind_by, set_segments}
+use Rattle.mailbox.specs.Mailbox.{box_text, delivered_group_text, delivered_text, delivered_texts, groups_text, numbered_text}
+use Rattle.mailbox.specs.Numbered.{NumberedValue, groups_of, numbered_from}
+use Rattle.hub_run.proofs.ForAbove as box
+use Rattle.hub_run.proofs.ForAbove.{IsBody, IsMarked, body_of, divided, divided_body, divided_parts, groups_all, iea, isa, isa_text, marked}
+use Rattle.hub_run.proofs.ForAbove.{readable_iea, readable_isa, trimmed_at}
+use Rattle.written_law.specs.Whole.{Elements, IsWholeSet, WholeSet, set_segments}
 use Rattle.files_law.proofs.Faults.{kept_word}
+use Rattle.files_law.proofs.Mailboxes.{IsSome, groups_some}
 use Rattle.files_law.proofs.Numbers.{num_small}
 use Rattle.files_law.proofs.Placed.{IsSent}
 use Rattle.files_law.proofs.Rows.{IsOther, one_row}
 use Rattle.files_law.proofs.Sets.{delivered_row, delivered_set, delivered_whole}
-use Rattle.files_law.proofs.Texts.{IsMadeOf, both_made, nothing_made, row_made}
-use Rattle.track_law.specs.Found.{Found, found_behind, found_in, numbers_of, read_or}
-use Rattle.track_law.proofs.LaidOut.{in_group, in_groups, in_interchanges, numbers_at}
-use Rattle.track_law.proofs.Finding.{Gives, all_between, divided, found_by, gives_both, gives_nothing, groups_all, one_set, second}
+use Rattle.files_law.proofs.Texts.{IsMadeOf, row_made}
+use Rattle.track_law.specs.Found.{found_behind, found_in, numbers_of}
+use Rattle.track_law.proofs.LaidOut.{in_group, in_groups, in_interchanges}
+use Rattle.track_law.proofs.Finding.{Gives, all_between, found_by, gives_both, gives_nothing, one_set, second}
 
 module _ (setup : SetupValue) (p : Partner) (guides : ℕ) (hub_ids : are_ids setup.hub.qualifier setup.hub.id setup.hub.code ≡ true)
     (sound : IsSoundPartner guides p) (at : List ℕ) (moment : IsMoment at) where
@@ -67,42 +57,10 @@ module _ (setup : SetupValue) (p : Partner) (guides : ℕ) (hub_ids : are_ids se
   Sent x = IsSent d setup x.set
 
   abbrev gs_of : NumberedValue → (g : ℕ) → Segment
-  gs_of x g = segment (codes "GS")
-      (element_of x.set.group.header 1 ∷ sender_code setup x.set ∷ p.code ∷ date_of at ∷ time_of at ∷ decimal g ∷ codes "X"
-      ∷ element_of x.set.group.header 8 ∷ [])
-
-  readable_gs_of : (x : NumberedValue) (g : ℕ) → IsReady d setup x.set → IsReadable d (gs_of x g)
-  readable_gs_of x g ready =
-      let P : List ℕ → Type 0 = IsUndivided d in
-      let code : P p.code = inside setup p guides hub_ids sound at moment p.code (code_inside p.qualifier p.id p.code sound.ids) in
-      let agency : P (codes "X") = plain setup p guides hub_ids sound at moment (codes "X") refl in
-      readable d sound.divides (codes "GS") (gs_of x g).elements (omega arith) refl refl
-      (All-from_recursion P (gs_of x g).elements (
-        ready.functional_id,
-        (
-          ready.sender,
-          (
-            code,
-            (
-              date setup p guides hub_ids sound at moment,
-              (
-                time setup p guides hub_ids sound at moment,
-                (decimal-undivided d sound.divides g, (agency, (ready.version, tt))),
-              ),
-            ),
-          ),
-        ),
-      ))
+  gs_of x g = box.gs_of setup p guides hub_ids sound at moment x g
 
   abbrev ge_of : (sets g : ℕ) → Segment
-  ge_of sets g = segment (codes "GE") (decimal sets ∷ decimal g ∷ [])
-
-  readable_ge_of : (sets g : ℕ) → IsReadable d (ge_of sets g)
-  readable_ge_of sets g =
-      let P : List ℕ → Type 0 = IsUndivided d in
-      readable d sound.divides (codes "GE") (decimal sets ∷ decimal g ∷ []) (omega arith) refl refl
-      (All-from_recursion P (decimal sets ∷ decimal g ∷ [])
-      (decimal-undivided d sound.divides sets, (decimal-undivided d sound.divides g, tt)))
+  ge_of sets g = box.ge_of setup p guides hub_ids sound at moment sets g
 
   row_of : (s : Segment) → IsReadable d s → IsOther s → IsMadeOf d (segment_text d s.id s.elements) (written_parts s ∷ [])
   row_of s readable other = row_made d (segment_text d s.id s.elements) (written_parts s ∷ []) (one_row d s sound.divides readable other)
@@ -142,14 +100,14 @@ module _ (setup : SetupValue) (p : Partner) (guides : ℕ) (hub_ids : are_ids se
       → Gives d (segment_text d (gs_of x n).id (gs_of x n).elements) i g [] i (decimal n)
   gs_gives i g x n sent = record {
     es = written_parts (gs_of x n) ∷ [];
-    made = row_of (gs_of x n) (readable_gs_of x n sent.ready) (record { long = omega arith; other = refl });
+    made = row_of (gs_of x n) (box.readable_gs_of setup p guides hub_ids sound at moment x n sent.ready) (record { long = omega arith; other = refl });
     gives = λ ss. ap (λ (h : List ℕ). map numbers_of (found_behind i h None ss)) (trimmed_at (gs_of x n).elements 5);
   }
 
   ge_gives : (i g : List ℕ) (sets n : ℕ) → Gives d (segment_text d (ge_of sets n).id (ge_of sets n).elements) i g [] i g
   ge_gives i g sets n = record {
     es = written_parts (ge_of sets n) ∷ [];
-    made = row_of (ge_of sets n) (readable_ge_of sets n) (record { long = omega arith; other = refl });
+    made = row_of (ge_of sets n) (box.readable_ge_of setup p guides hub_ids sound at moment sets n) (record { long = omega arith; other = refl });
     gives = λ ss. refl;
   }
 
@@ -167,21 +125,6 @@ module _ (setup : SetupValue) (p : Partner) (guides : ℕ) (hub_ids : are_ids se
       (gives_both d (first ++ texts_in_row texts) last i g i (decimal n) i (decimal n) numbers []
       (gives_both d first (texts_in_row texts) i g i (decimal n) i (decimal n) [] numbers (gs_gives i g x n (All-head Sent x xs all))
       (sets_give i (decimal n) (x ∷ xs) all)) (ge_gives i (decimal n) (length texts) n))
-
-  abbrev IsSome : List NumberedValue → Type 0
-  IsSome group = 0 < length group
-
-  onto_some : (x : NumberedValue) (groups : List (List NumberedValue)) → All IsSome groups → All IsSome (onto_groups x groups)
-  onto_some x [] some = All-cons IsSome (x ∷ []) [] (omega arith) (All-nil IsSome)
-  onto_some x (group ∷ groups) some = by (goes_with x group)
-    where
-      by : (b : Bool) → All IsSome (cond b ((x ∷ group) ∷ groups) ((x ∷ []) ∷ group ∷ groups))
-      by true = All-cons IsSome (x ∷ group) groups (omega arith) (All-tail IsSome group groups some)
-      by false = All-cons IsSome (x ∷ []) (group ∷ groups) (omega arith) some
-
-  groups_some : (xs : List NumberedValue) → All IsSome (groups_of xs)
-  groups_some [] = All-nil IsSome
-  groups_some (x ∷ xs) = onto_some x (groups_of xs) (groups_some xs)
 
   -- what is read last behind groups
   abbrev last_group : (g : List ℕ) → (n : ℕ) → List (List NumberedValue) → List ℕ

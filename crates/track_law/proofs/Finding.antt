@@ -1,55 +1,21 @@
 -- The sets that a partner finds in its mailbox, under their numbers.
-use Rattle.std.proofs.Common.{◌≡◌, ℕ, zero, suc, ◌+◌, ◌<◌, ◌==◌, Bool, true, false, cond, ◌&&◌, if◌then◌else◌, List, [], ◌∷◌, ◌++◌}
-use Rattle.std.proofs.Common.{Option, Some, None, length, map, take, drop, refl, sym, ap, subst, ◌∙◌, arith, append_assoc, append-nil}
-use Rattle.std.specs.Prelude.{codes, decimal, slice_index_or}
+use Rattle.std.proofs.Common.{◌≡◌, ℕ, ◌+◌, Bool, true, false, if◌then◌else◌, List, [], ◌∷◌, ◌++◌}
+use Rattle.std.proofs.Common.{Option, Some, None, map, take, drop, refl, sym, ap, ◌∙◌, append_assoc, append-nil}
+use Rattle.std.specs.Prelude.{codes}
 use Rattle.std.specs.Str.{bytes_eq}
-use Rattle.std.specs.List.{All, flat_map, list_all}
-use Rattle.std.proofs.lemmas.Bool.{and_parts, false≢true}
-use Rattle.std.proofs.lemmas.List.{map-append}
-use Rattle.std.proofs.lemmas.List.Concat.{flat_map-append}
-use Rattle.std.proofs.lemmas.List.Elements.{All-cons, All-from_recursion, All-head, All-nil, All-tail, All-weaker}
+use Rattle.std.specs.List.{All, list_all}
+use Rattle.std.proofs.lemmas.Bool.{and_parts}
+use Rattle.std.proofs.lemmas.List.Elements.{All-cons, All-head, All-nil, All-tail}
 use Rattle.x12_bytes.specs.declared.delims.Delims.{Delims}
 use Rattle.hub_kinds.specs.Words.{is_word}
 use Rattle.x12_segs.specs.declared.kind.Kind.TheVariants.{InterchangeTrailer, GroupHeader, GroupTrailer, SetHeader, SetTrailer, Ta1, Other}
-use Rattle.x12_segs.specs.Words.{element_of, elements_of, is_inner, part_or_empty, parts, views}
-use Rattle.moment.specs.Moment.{IsMoment, date_of, time_of}
-use Rattle.x12_write.specs.declared.envelope.Envelope.{Envelope}
-use Rattle.x12_write.specs.Group.{texts_in_row}
-use Rattle.x12_write.specs.Header.{header_elements, header_text}
-use Rattle.x12_write.specs.Number.{padded_number}
-use Rattle.x12_write.specs.Segment.{Segment, segment, segment_text, trimmed}
-use Rattle.x12_write.specs.Undivided.{CanDivide, IsUndivided}
-use Rattle.x12_write.proofs.Plain.{decimal-undivided}
-use Rattle.ack_999.specs.ReadBack.{written_parts}
-use Rattle.ack_999.proofs.ReadBack.{IsReadable, trimmed-all}
-use Rattle.ack_999.proofs.ReadableFaults.{readable}
-use Rattle.count_numbers.specs.Layout.{in_interchange, interchange_count, interchanges_of}
-use Rattle.count_numbers.specs.Num.{num}
-use Rattle.partner_setup.specs.declared.partner.Partner.{Partner}
-use Rattle.partner_setup.specs.Envelopes.{envelope_to}
-use Rattle.partner_setup.specs.Setup.{SetupValue}
-use Rattle.partner_setup.specs.SetupFaults.{are_ids}
-use Rattle.partner_setup.specs.Sound.{IsSoundPartner}
-use Rattle.judged_text.specs.Judged.{PlacedValue, delims_in}
-use Rattle.mailbox.specs.Mailbox.{box_text, delivered_group_text, delivered_text, delivered_texts, groups_text, numbered_text, sender_code}
-use Rattle.mailbox.specs.Numbered.{NumberedValue, goes_with, groups_of, numbered_from, onto_groups}
+use Rattle.x12_segs.specs.Words.{elements_of, is_inner, part_or_empty, views}
+use Rattle.x12_write.specs.Segment.{segment}
 use Rattle.hub_run.specs.SetsRead.{Segments, has_id, sets_behind, sets_found}
-use Rattle.hub_run.proofs.Bodies.{IsBody, Lacks, text_read}
-use Rattle.hub_run.proofs.Enveloping.{code_inside, date, iea, inside, isa, isa_text, plain, readable_iea, readable_isa, time}
-use Rattle.hub_run.proofs.Found.{IsBetween}
-use Rattle.hub_run.proofs.Mailboxes.{IsReady}
-use Rattle.hub_run.proofs.Marked.{IsMarked, lacks_element, lacks_terminator, marked}
-use Rattle.hub_run.proofs.Reading.{trimmed_at}
-use Rattle.hub_run.proofs.SetTexts.{IsDivided, body_of, divided_body, divided_parts}
-use Rattle.written_law.specs.Whole.{Elements, IsWholeSet, WholeSet, kind_by, set_segments}
-use Rattle.files_law.proofs.Faults.{kept_word}
-use Rattle.files_law.proofs.Numbers.{num_small}
-use Rattle.files_law.proofs.Placed.{IsSent}
-use Rattle.files_law.proofs.Rows.{IsOther, one_row}
-use Rattle.files_law.proofs.Sets.{delivered_row, delivered_set, delivered_whole}
-use Rattle.files_law.proofs.Texts.{IsMadeOf, both_made, nothing_made, row_made}
+use Rattle.hub_run.proofs.ForAbove.{IsBetween, text_read}
+use Rattle.written_law.specs.Whole.{Elements, WholeSet, kind_by, set_segments}
+use Rattle.files_law.proofs.Texts.{IsMadeOf, both_made, nothing_made}
 use Rattle.track_law.specs.Found.{Found, found_behind, found_in, numbers_of, read_or}
-use Rattle.track_law.proofs.LaidOut.{in_group, in_groups, in_interchanges, numbers_at}
 
 -- the sets that are found under their numbers are those that are found
 found_sets_behind : (i g : List ℕ) (begun : Option Segments) (ss : Segments)
@@ -145,34 +111,6 @@ pub second : (es : List (List ℕ)) (change : List ℕ → List ℕ) (number : L
 second [] change number word = cc
 second (a ∷ []) change number word = cc
 second (a ∷ b ∷ rest) change number word = refl
-
--- a written segment
-pub divided : (d : Delims) (s : Segment) → IsReadable d s → IsDivided d s.id (trimmed s.elements)
-divided d s readable =
-    let all : All (IsUndivided d) (trimmed s.elements) = trimmed-all (IsUndivided d) s.elements readable.elements in
-    record {
-      some = readable.some;
-      first = readable.first;
-      id_element = lacks_element d s.id readable.id;
-      id_terminator = lacks_terminator d s.id readable.id;
-      by_element = All-weaker (IsUndivided d) (Lacks d.element) (lacks_element d) (trimmed s.elements) all;
-      by_terminator = All-weaker (IsUndivided d) (Lacks d.terminator) (lacks_terminator d) (trimmed s.elements) all;
-    }
-
-module _ (P : NumberedValue → Type 0) where
-  one_all : (x : NumberedValue) (b : Bool) (group : List NumberedValue) (groups : List (List NumberedValue)) → P x
-      → All (All P) (group ∷ groups) → All (All P) (cond b ((x ∷ group) ∷ groups) ((x ∷ []) ∷ group ∷ groups))
-  one_all x true group groups first all =
-      All-cons (All P) (x ∷ group) groups (All-cons P x group first (All-head (All P) group groups all)) (All-tail (All P) group groups all)
-  one_all x false group groups first all = All-cons (All P) (x ∷ []) (group ∷ groups) (All-cons P x [] first (All-nil P)) all
-
-  onto_all : (x : NumberedValue) (groups : List (List NumberedValue)) → P x → All (All P) groups → All (All P) (onto_groups x groups)
-  onto_all x [] first all = All-cons (All P) (x ∷ []) [] (All-cons P x [] first (All-nil P)) (All-nil (All P))
-  onto_all x (group ∷ groups) first all = one_all x (goes_with x group) group groups first all
-
-  pub groups_all : (xs : List NumberedValue) → All P xs → All (All P) (groups_of xs)
-  groups_all [] all = All-nil (All P)
-  groups_all (x ∷ xs) all = onto_all x (groups_of xs) (All-head P x xs all) (groups_all xs (All-tail P x xs all))
 
 -- a text is made of segments in which these numbers are found, whatever was read before and whatever follows; and the numbers that are
 -- read last go on

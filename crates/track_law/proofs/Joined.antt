@@ -1,37 +1,26 @@
 -- The rows of a night name what each partner finds in its mailbox.
-use Rattle.std.proofs.Common.{◌≡◌, ◌≤◌, ℕ, ◌+◌, ◌*◌, Bool, true, false, cond, ◌&&◌, List, [], ◌∷◌, ◌++◌, Option, Some, None}
-use Rattle.std.proofs.Common.{length, map, take, drop, refl, sym, ap, subst, ◌∙◌, arith}
+use Rattle.std.proofs.Common.{◌≡◌, ◌≤◌, ℕ, ◌+◌, Bool, true, false, cond, ◌&&◌, List, [], ◌∷◌, ◌++◌, Option, Some, None}
+use Rattle.std.proofs.Common.{length, map, refl, sym, ap, ◌∙◌, arith}
 use Rattle.std.specs.Prelude.{count_by, slice_get}
-use Rattle.std.specs.List.{All, filter, range_with_len}
-use Rattle.std.proofs.lemmas.List.Elements.{All-cons, All-drop, All-head, All-map, All-nil, All-tail, All-take, All-weaker}
 use Rattle.std.proofs.Math.Nat.{zero-mul}
 use Rattle.std.proofs.lemmas.List.Sums.{sum_by-cons}
 use Rattle.moment.specs.Moment.{IsMoment}
-use Rattle.env_index.specs.Words.{IndexEntry, settled}
-use Rattle.count_numbers.specs.Layout.{in_interchange, interchange_count, interchanges_of}
+use Rattle.count_numbers.specs.Layout.{interchanges_of}
 use Rattle.count_numbers.proofs.Interchanges.{no_interchange}
 use Rattle.partner_setup.specs.declared.partner.Partner.{Partner}
 use Rattle.partner_setup.specs.Setup.{SetupValue}
 use Rattle.partner_setup.specs.Sound.{IsSoundPartner, IsSoundSetup}
 use Rattle.judged_text.specs.Judged.{PlacedValue, all_sets}
-use Rattle.mailbox.specs.Deliveries.{is_delivered_to}
-use Rattle.mailbox.specs.Mailbox.{box_text, group_total, groups_within}
+use Rattle.mailbox.specs.Mailbox.{group_total, groups_within}
 use Rattle.mailbox.specs.Numbered.{NumberedValue, numbered_from}
-use Rattle.checked_text.specs.CheckedText.{CheckedInterchange, IsCheckedAs, acknowledged_to, is_acknowledged_to, is_partner, judged}
+use Rattle.checked_text.specs.CheckedText.{CheckedInterchange, acknowledged_to, is_acknowledged_to, is_partner}
 use Rattle.checked_text.specs.CheckedText.{acknowledgment_of, recipient_of}
 use Rattle.checked_text.specs.CheckedText as checked
-use Rattle.checked_text.specs.Acknowledgments.{groups_of, has_reports}
-use Rattle.checked_text.specs.Settled.{settled_faults}
+use Rattle.checked_text.specs.Acknowledgments.{has_reports}
 use Rattle.night_writing.specs.declared.night.Night.{Night}
 use Rattle.night_writing.specs.Night.{IsNight, box_of, judgements, sets_to}
-use Rattle.hub_run.proofs.Headers.{at_index}
-use Rattle.hub_run.proofs.Pairs.{pairs_weaker_at}
-use Rattle.hub_run.proofs.PlainReferences.{everywhere}
-use Rattle.hub_run.proofs.SettledSound.{IsSettledSound, settled_sound}
-use Rattle.hub_run.proofs.Sources.{IsSource, settled_sources}
-use Rattle.hub_run.proofs.Together.{pairs_all}
-use Rattle.files_law.proofs.Faults.{HasPlain, settled_plain}
-use Rattle.files_law.proofs.Placed.{IsKnownSource, IsPlaced, IsSent, known_placed, passing, ready}
+use Rattle.hub_run.proofs.ForAbove.{at_index, chunks_all, known_once, numbered_all, pairs_weaker_at}
+use Rattle.files_law.proofs.Placed.{IsSent, sets_sent, sources_known}
 use Rattle.set_documents.specs.Documents.{DocumentValue}
 use Rattle.track_notes.specs.declared.notes.Notes.{Notes}
 use Rattle.track_answers.specs.Noted.{notes_of}
@@ -39,13 +28,12 @@ use Rattle.track_rows.specs.Mailed.{acknowledgments_to, groups_to, is_to, mailed
 use Rattle.track_rows.specs.Rows.{TrackedBy, rows_from, track_text}
 use Rattle.track_night.specs.Track.{IsTrack, tracked_by}
 use Rattle.track_night.specs.declared.track.Track.{Track}
-use Rattle.track_law.specs.Entries.{Entry, Row, entries_from}
+use Rattle.track_law.specs.Entries.{Row, entries_from}
 use Rattle.track_law.specs.Found.{found_in, numbers_of}
 use Rattle.track_law.specs.Named.{Delivery, IsNamedBy, NamesWhatIsFound, deliveries_to}
 use Rattle.track_law.proofs.Deliveries.{delivered_alone, of_all, sets_told, told_from}
 use Rattle.track_law.proofs.Boxes.{box_found}
 use Rattle.track_law.proofs.LaidOut.{in_interchanges, laid_out, numbers_from}
-use Rattle.track_law.proofs.OneTrack.{known_once}
 use Rattle.track_law.proofs.Rows.{all_are, noted_length}
 use Rattle.track_law.proofs.Told.{numbers_told}
 
@@ -87,17 +75,6 @@ grouped place (x ∷ xs) =
     by true c is = ap (λ (d : Bool). cond d 1 0 + checked.groups_to (acknowledged_to place xs)) (sym is)
     by false c is = omega arith
 
-chunks_all : {A : Type 0} (P : A → Type 0) (cap : ℕ) (xs : List A) → All P xs → All (All P) (interchanges_of cap xs)
-chunks_all P cap xs all = All-map (All P) (in_interchange cap xs) (range_with_len 0 (interchange_count cap (length xs)))
-    (everywhere (λ n. All P (in_interchange cap xs n)) (λ n. All-take P cap (drop (n * cap) xs) (All-drop P (n * cap) xs all))
-    (range_with_len 0 (interchange_count cap (length xs))))
-
-numbered_all : (P : PlacedValue → Type 0) (k : ℕ) (ps : List PlacedValue) → All P ps → All (λ x. P x.set) (numbered_from k ps)
-numbered_all P k [] all = All-nil (λ x. P x.set)
-numbered_all P k (p ∷ ps) all =
-    All-cons (λ x. P x.set) (record { place = k; set = p }) (numbered_from (k + 1) ps) (All-head P p ps all)
-    (numbered_all P (k + 1) ps (All-tail P p ps all))
-
 module _ (by : TrackedBy) (sound : IsSoundSetup by.setup) (place : ℕ) (partner : Partner)
     (at_place : slice_get by.setup.partners place ≡ Some partner) where
   told_numbers : (done ps : List PlacedValue)
@@ -129,23 +106,7 @@ pub named_by_night : (text : List ℕ) (setup : SetupValue) (at : List ℕ) (doc
     → IsSoundSetup setup → IsMoment at → IsNight text setup at night → IsTrack text setup documents track
     → NamesWhatIsFound text setup track night.boxes
 named_by_night text setup at documents track night sound moment is was =
-    let index = is.is_known.index in
-    let entries : List IndexEntry = (settled index (settled_faults setup index.entries)).entries in
-    let read = is.is_known.read in
-    let sources : All (λ (e : IndexEntry). IsSource text e.interchange) entries =
-    settled_sources text index (settled_faults setup index.entries) read in
-    let sounds : All IsSettledSound entries = settled_sound text setup index read in
-    let plains : All HasPlain entries = settled_plain text index (settled_faults setup index.entries) read in
-    let known : All (IsKnownSource text) is.known =
-    pairs_all (λ n e x. IsCheckedAs text setup e x) (IsKnownSource text) entries is.known is.is_known.answered (λ n e x at_e answered.
-    subst (λ (y : IndexEntry). (IsSource text y.interchange × IsSettledSound y) × HasPlain y) (sym answered.entry) (
-      (
-        at_index (λ (y : IndexEntry). IsSource text y.interchange) entries n e at_e sources,
-        at_index IsSettledSound entries n e at_e
-            sounds,
-      ),
-      at_index HasPlain entries n e at_e plains,
-    )) in
+    let sources = sources_known text setup is.known is.outside is.is_known in
     let same = known_once text setup is.known was.known is.outside was.outside is.is_known was.is_known in
     let by : TrackedBy = tracked_by setup documents is.known in
     let xs = judgements text is.known in
@@ -164,11 +125,7 @@ named_by_night text setup at documents track night sound moment is was =
           setup.partners night.boxes (λ place partner box at_place same_box.
           let own = at_index (IsSoundPartner (length setup.guides)) setup.partners place partner at_place sound.partners in
           let sets : List PlacedValue = sets_to text setup is.known place in
-          let sent : All (IsSent partner.delims setup) sets =
-          All-weaker (λ p. IsPlaced partner.delims text p × (is_delivered_to setup place p ≡ true)) (IsSent partner.delims setup)
-          (λ p both. ready setup place partner text p at_place sound own both.0 both.1) sets
-          (passing (IsPlaced partner.delims text) (is_delivered_to setup place) (all_sets (map (judged text) is.known))
-          (known_placed partner.delims own.divides text is.known known)) in
+          let sent = sets_sent text setup is.known sound sources place partner at_place in
           let chunked = chunks_all (λ (x : NumberedValue). IsSent partner.delims setup x.set) partner.cap (numbered_from 0 sets)
           (numbered_all (IsSent partner.delims setup) 0 sets sent) in
           let a : ℕ = length (acknowledged_to place is.known) in
