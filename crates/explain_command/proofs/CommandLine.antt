@@ -1,17 +1,15 @@
 -- What clap found in the words is what the definitions say of them.
-use Rattle.std.proofs.Common.{◌≡◌, ◌⊎◌, ◌∙◌, ℕ, List, Vec, true, codes, inl, inr, map, refl, String, sym, ap, subst}
-use Rattle.clap.specs.Words.{HasKind, HasMatchesOf, IsAmong, Text, all_of, fault_of, found_of}
-use Rattle.clap.specs.Words.{is_simple, is_simple_and_free, kind_of, takes}
+use Rattle.std.proofs.Common.{◌≡◌, ◌∙◌, ℕ, List, Vec, true, codes, map, refl, String, sym, ap, subst}
+use Rattle.clap.specs.Words.{HasKind, HasMatchesOf, Text, fault_of, found_of, is_simple, is_simple_and_free, kind_of, takes}
 use Rattle.clap.specs.declared.error.Error.{Error}
-use Rattle.clap.specs.declared.error.kind.ErrorKind.{ErrorKind}
-use Rattle.clap.specs.declared.error.kind.ErrorKind.TheVariants.{DisplayHelp, DisplayVersion, OutOfMemory}
+use Rattle.clap.specs.declared.error.kind.ErrorKind.TheVariants.{OutOfMemory}
 use Rattle.clap.specs.declared.parser.matches.ArgMatches.{ArgMatches}
 use Rattle.clap.proofs.OnLiterals.{clap_on_literals}
-use Rattle.clap.proofs.WalkLemmas.{raw_values-rows}
 use Rattle.std.specs.Borrow.{Bor}
 use Rattle.std.specs.declared.alloc.Global.{Global}
-use Rattle.explain_command.specs.CommandLine.{AsksForText, IsAsked, IsGiven, IsShown, NamesFiles, NamesNone, explain_app, or_none}
-use Rattle.explain_command.specs.CommandLine.{values_found, values_of}
+use Rattle.night_ends.specs.Words.{or_none, values_found}
+use Rattle.night_ends.proofs.ForAbove.{all_found, asks_for_text}
+use Rattle.explain_command.specs.CommandLine.{AsksForText, IsAsked, IsGiven, IsShown, NamesFiles, NamesNone, explain_app, values_of}
 use Rattle.explain_command.specs.declared.command.Asked.{Asked}
 use Rattle.explain_command.specs.declared.command.Asked.TheVariants.{Explain, Show}
 
@@ -23,15 +21,10 @@ pub free : is_simple_and_free explain_app ≡ true
 unfolding clap_on_literals
 free = refl
 
--- the values that clap found for a name
-all_found : (words : List Text) (m : ArgMatches) (name : Text) → HasMatchesOf explain_app words m
-    → values_found (found_of m) name ≡ values_of words name
-all_found words m name has = raw_values-rows (found_of m) name ∙ ap (all_of name) (has simple).0
-
 pub asked : (words : List Text) (m : ArgMatches) (asked : Asked) → HasMatchesOf explain_app words m
     → IsGiven (values_found (found_of m)) asked → IsAsked words asked
 asked words m (Explain paths) has given = record {
-  given = sym (ap or_none (all_found words m (codes "file") has)) ∙ given.given;
+  given = sym (ap or_none (all_found explain_app simple words m (codes "file") has)) ∙ given.given;
   some = given.some;
 }
 asked words m (Show text) has given = absurd given
@@ -39,25 +32,13 @@ asked words m (Show text) has given = absurd given
 -- where clap found no file, the words name none
 pub none_named : (words : List Text) (m : ArgMatches) → HasMatchesOf explain_app words m → NamesNone (values_found (found_of m))
     → NamesNone (values_of words)
-none_named words m has none = sym (ap or_none (all_found words m (codes "file") has)) ∙ none
-
-asked_by : (words : List Text) (e : Error) → HasKind (fault_of explain_app words) e
-    → (kind_of e ≡ DisplayHelp) ⊎ (kind_of e ≡ DisplayVersion)
-    → IsAmong DisplayHelp (fault_of explain_app words) ⊎ IsAmong DisplayVersion (fault_of explain_app words)
-asked_by words e (inl memory) (inl help) = cc
-asked_by words e (inl memory) (inr version) = cc
-asked_by words e (inr among) (inl help) = inl (subst (λ (k : ErrorKind). IsAmong k (fault_of explain_app words)) help among)
-asked_by words e (inr among) (inr version) = inr (subst (λ (k : ErrorKind). IsAmong k (fault_of explain_app words)) version among)
-
-no_memory : (kind : ErrorKind) → (kind ≡ DisplayHelp) ⊎ (kind ≡ DisplayVersion) → kind ≡ OutOfMemory → ⊥
-no_memory kind (inl help) memory = cc
-no_memory kind (inr version) memory = cc
+none_named words m has none = sym (ap or_none (all_found explain_app simple words m (codes "file") has)) ∙ none
 
 pub shown : (words : List Text) (e : Error) (asked : Asked) → HasKind (fault_of explain_app words) e
     → (takes explain_app words ≡ true → kind_of e ≡ OutOfMemory) → IsShown (kind_of e) asked → IsAsked words asked
 shown words e (Explain paths) kind passes is = absurd is
 shown words e (Show text) kind passes is =
-    record { asked = asked_by words e kind is; no_run = λ taken. no_memory (kind_of e) is (passes taken) }
+    let both = asks_for_text explain_app words e kind passes is in record { asked = both.0; no_run = both.1 }
 
 -- the files that are asked for are those that the words name
 pub files_named : (words : List Text) (asked : Asked) (paths : Vec (Bor (List ℕ)) Global) → asked ≡ Explain paths → IsAsked words asked

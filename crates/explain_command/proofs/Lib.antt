@@ -1,6 +1,5 @@
 pub mod CommandLine
 pub mod Opened
 pub mod Refusing
-pub mod Writing
 pub mod Ended
 pub mod Telling

@@ -1,11 +1,10 @@
 -- The command line (own), read as clap's definitions say: the files of acknowledgments, one or more.
-use Rattle.std.specs.Prelude.{◌≡◌, ◌≢◌, ◌⊎◌, ℕ, Option, Some, None, true, codes, List, [], map, option_map}
-use Rattle.clap.specs.Words.{App, Rule, Text, IsAmong, all_of, fault_of, matched_of, matches_of, new_app, new_rule, raw_values, takes}
-use Rattle.clap.specs.Words.{with_rule}
+use Rattle.std.specs.Prelude.{◌≡◌, ◌≢◌, ◌⊎◌, ℕ, Option, Some, true, codes, List, [], map}
+use Rattle.clap.specs.Words.{App, Rule, Text, IsAmong, all_of, fault_of, matches_of, new_app, new_rule, takes, with_rule}
 use Rattle.clap.specs.declared.builder.action.ArgAction.TheVariants.{Append}
 use Rattle.clap.specs.declared.error.kind.ErrorKind.{ErrorKind}
 use Rattle.clap.specs.declared.error.kind.ErrorKind.TheVariants.{DisplayHelp, DisplayVersion}
-use Rattle.clap.specs.declared.parser.matches.Found.{Found}
+use Rattle.night_ends.specs.Words.{or_none}
 use Rattle.explain_command.specs.declared.command.Asked.{Asked}
 use Rattle.explain_command.specs.declared.command.Asked.TheVariants.{Explain, Show}
 
@@ -25,10 +24,6 @@ explain_app = with_rule program file_rule
 -- the values that the words give a name, in their order
 abbrev pub values_of : List Text → Text → Option (List Text)
 values_of words name = all_of name (matches_of explain_app words)
-
-abbrev pub or_none : Option (List Text) → List Text
-or_none None = []
-or_none (Some texts) = texts
 
 -- these are the files, where a name has a list of values
 pub record AreFiles (values : Text → Option (List Text)) (paths : List (List ℕ)) : Type 0 where
@@ -59,9 +54,6 @@ IsAsked words (Explain paths) = NamesFiles words (map (λ p. p.now) paths.items)
 IsAsked words (Show text) = AsksForText words
 
 -- the same of what clap found, and of the kind of what it reports (no public clause cites these)
-abbrev pub values_found : Found → Text → Option (List Text)
-values_found found name = option_map raw_values (matched_of found name)
-
 abbrev pub IsGiven : (values : Text → Option (List Text)) → Asked → Type 0
 IsGiven values (Explain paths) = AreFiles values (map (λ p. p.now) paths.items)
 IsGiven values (Show text) = ⊥

@@ -1,12 +1,13 @@
-ghost use Rattle.std.specs.Prelude.{◌≡◌, ◌≢◌, false, codes, map, IfOk, IfErr, IsErrOf};
-ghost use Rattle.clap.specs.Words.{app_of, found_of, kind_of, rule_of, with_rule};
-ghost use Rattle.explain_command.specs.CommandLine.{IsAsked, IsCommandLine, IsGiven, IsShown, NamesNone, explain_app, file_rule, or_none};
-ghost use Rattle.explain_command.specs.CommandLine.{values_found};
+ghost use Rattle.std.specs.Prelude.{◌≡◌, ◌≢◌, false, map, IfOk, IfErr, IsErrOf};
+ghost use Rattle.clap.specs.Words.{app_of, found_of, kind_of, rule_of};
+ghost use Rattle.night_ends.specs.Words.{values_found};
+ghost use Rattle.explain_command.specs.CommandLine.{IsAsked, IsCommandLine, IsGiven, IsShown, NamesNone, explain_app, file_rule};
 ghost use Rattle.explain_command.specs.Failure.{IsOfWords};
 
 use crate::failure::Failure;
 use clap::error::ErrorKind;
 use clap::{Arg, ArgAction, ArgMatches, Command, Error};
+use night_ends::{texts_given, with_argument};
 use std::alloc::{AllocError, Global};
 use std::convert::AsStr;
 
@@ -48,14 +49,7 @@ fn command<'a>(alloc: Global) -> Result<Command<'a>, AllocError>
         .version("0.1.0")
         .after_help(STATUSES)
         .no_binary_name(true);
-    with_file(command, file(alloc))
-}
-
-fn with_file<'a>(command: Command<'a>, file: Arg<'a>) -> Result<Command<'a>, AllocError>
-    requires { file.global ≡ false }
-    ensures { IfOk result (λ more. app_of more ≡ with_rule (app_of command.entry) (rule_of file.entry)) }
-{
-    command.arg(file)
+    with_argument(command, file(alloc))
 }
 
 /// The files of acknowledgments, of which one is wanted.
@@ -77,28 +71,11 @@ fn files_asked<'a>(alloc: Global, matches: &ArgMatches<'a>) -> Result<Asked<'a>,
     ensures usage { IsErrOf result Failure.Usage → NamesNone (values_found (found_of matches.now)) }
     ensures err { IfErr result IsOfWords }
 {
-    let paths = files_given(alloc, matches)?;
+    let paths = texts_given(alloc, matches, "file")?;
     if paths.is_empty() {
         return Err(Failure::Usage);
     }
     Ok(Asked::Explain(paths))
-}
-
-fn files_given<'a>(alloc: Global, matches: &ArgMatches<'a>) -> Result<Vec<&'a str>, AllocError>
-    ensures { IfOk result (λ files. or_none (values_found (found_of matches.now) (codes "file")) ≡ map (λ f. f.now) files.items) }
-{
-    match matches.get_strs("file") {
-        None => Ok(Vec::new(alloc)),
-        Some(files) => copied(alloc, files),
-    }
-}
-
-fn copied<'a>(alloc: Global, texts: &[&'a str]) -> Result<Vec<&'a str>, AllocError>
-    ensures { IfOk result (λ copy. copy.items ≡ texts.now) }
-{
-    let mut copy = Vec::new(alloc);
-    copy.extend_from_slice(texts)?;
-    Ok(copy)
 }
 
 /// The text that is asked for, where the words have no mistake.

@@ -10,6 +10,7 @@ use crate::ends::{CutOff, cut_of, has_response};
 use crate::failure::Failure;
 use ack_lines::explanation;
 use ack_read::{ReadFault, read_acknowledgments};
+use night_ends::{print_text, read_whole};
 use std::alloc::Global;
 use std::io;
 use std::io::{Read, Write};
@@ -116,16 +117,6 @@ fn account_by(alloc: Global, text: &[u8], cut: Option<CutOff>) -> Result<Account
     }
 }
 
-/// All bytes of a reader.
-fn read_whole<I: Read + Drop>(alloc: Global, input: I) -> io::Result<Vec<u8>>
-    ensures { IfOk result (λ text. IfSome (I.remaining input) (λ bytes. text.items ≡ bytes)) }
-{
-    let mut input = input;
-    let mut text = Vec::new(alloc);
-    input.read_to_end(&mut text)?;
-    Ok(text)
-}
-
 /// Prints the lines on a text, and gives 0; behind them, where the text is cut off, the line that says so on `err`, and its status.
 fn give<O: Write, E: Write>(account: &Account, out: &mut O, err: &mut E) -> u8
     ensures status { ((result ≡ 0) × (account.now.cut ≡ None)) ⊎ (((result ≡ 4) × (account.now.cut ≢ None)) ⊎ (result ≡ 5)) }
@@ -135,7 +126,7 @@ fn give<O: Write, E: Write>(account: &Account, out: &mut O, err: &mut E) -> u8
     match account.cut {
         None => finish(account.lines.as_slice(), out, err),
         Some(cut) => {
-            if print(account.lines.as_slice(), out).is_err() {
+            if print_text(account.lines.as_slice(), out).is_err() {
                 return Failure::Stdout.report(err);
             }
             Failure::CutOff(cut).report(err)
@@ -150,16 +141,8 @@ pub(crate) fn finish<O: Write, E: Write>(text: &[u8], out: &mut O, err: &mut E) 
     ensures printed { result ≢ 5 → Appends (O.contents out.old) (O.contents out.new) text.now }
     ensures quiet { result ≢ 5 → err.new ≡ err.old }
 {
-    if print(text, out).is_err() {
+    if print_text(text, out).is_err() {
         return Failure::Stdout.report(err);
     }
     0
-}
-
-/// Writes a text, and sees that it is out.
-pub(crate) fn print<O: Write>(text: &[u8], out: &mut O) -> io::Result<()>
-    ensures { OnOk result (Appends (O.contents out.old) (O.contents out.new) text.now) }
-{
-    out.write_all(text)?;
-    out.flush()
 }

@@ -5,10 +5,11 @@ ghost use Rattle.explain_command.specs.Failure.{IsStatus};
 ghost use Rattle.explain_command.specs.Reports.{IsExplained, IsReport, IsRun, status_of};
 
 use crate::command::{Asked, read_words};
-use crate::explain::{finish, print};
+use crate::explain::finish;
 use crate::failure::Failure;
 use crate::files::{FileTold, lines_of, report_failures, status_of, tell_files};
 use hub_kinds::NoMemory;
+use night_ends::print_text;
 use std::convert::AsStr;
 use std::io::Write;
 use std::rt::Files;
@@ -79,7 +80,7 @@ fn give_report<O: Write, E: Write>(report: &Report<'_>, out: &mut O, err: &mut E
     ensures printed { result ≢ 5 → Appends (O.contents out.old) (O.contents out.new) report.now.text.items }
     ensures quiet { result ≡ 0 → err.new ≡ err.old }
 {
-    if print(report.text.as_slice(), out).is_err() {
+    if print_text(report.text.as_slice(), out).is_err() {
         return Failure::Stdout.report(err);
     }
     report_failures(1 < report.told.len(), report.told.as_slice(), err);

@@ -6,17 +6,11 @@ use Rattle.std.proofs.lemmas.List.Elements.{All-append, All-cons, All-nil}
 use Rattle.gather_files.specs.Gathering.{IsGathered}
 use Rattle.gather_files.specs.declared.gather.Gathered.{Gathered}
 use Rattle.gather_files.specs.declared.gather.Gathered.TheVariants as gathered
+use Rattle.night_ends.proofs.ForAbove.{writes_on}
 use Rattle.gather_command.specs.Lines.{line_of_file}
 use Rattle.gather_command.specs.Members.{AreGathered, GoesInSo, IsMember, IsOutcome, Member, bytes_of, lines_of, no_total}
 use Rattle.gather_command.specs.Members.{total_from, total_with}
 use Rattle.gather_command.specs.declared.total.Total.{Total}
-
-writes_on : (a b c : Option (List ℕ)) (xs ys : List ℕ) → Appends a b xs → Appends b c ys → Appends a c (xs ++ ys)
-writes_on None b c xs ys first second = tt
-writes_on (Some old) None c xs ys first second = absurd first
-writes_on (Some old) (Some mid) None xs ys first second = absurd second
-writes_on (Some old) (Some mid) (Some new) xs ys first second =
-    second ∙ ap (λ (l : List ℕ). l ++ ys) first ∙ append_assoc old xs ys
 
 nothing_written : (a : Option (List ℕ)) → Appends a a []
 nothing_written None = tt

@@ -1,11 +1,11 @@
 -- The command line of gathering (own), read as clap's definitions say: the file that is made, and the files that are gathered.
-use Rattle.std.specs.Prelude.{◌≡◌, ◌⊎◌, List, [], map, Option, Some, None, true, codes, option_map}
-use Rattle.clap.specs.Words.{App, Rule, Text, IsAmong, all_of, fault_of, first_of, matched_of, matches_of, new_app, new_rule, takes}
-use Rattle.clap.specs.Words.{raw_values, with_rule}
+use Rattle.std.specs.Prelude.{◌≡◌, ◌⊎◌, List, map, Option, Some, None, true, codes}
+use Rattle.clap.specs.Words.{App, Rule, Text, IsAmong, all_of, fault_of, first_of, matches_of, new_app, new_rule, takes}
+use Rattle.clap.specs.Words.{with_rule}
 use Rattle.clap.specs.declared.builder.action.ArgAction.TheVariants.{Append, Set}
 use Rattle.clap.specs.declared.error.kind.ErrorKind.{ErrorKind}
 use Rattle.clap.specs.declared.error.kind.ErrorKind.TheVariants.{DisplayHelp, DisplayVersion}
-use Rattle.clap.specs.declared.parser.matches.Found.{Found}
+use Rattle.night_ends.specs.Words.{or_none}
 use Rattle.gather_command.specs.declared.command.Asked.{Asked}
 use Rattle.gather_command.specs.declared.command.Asked.TheVariants.{Gather, Show}
 use Rattle.gather_command.specs.declared.command.Job.{Job}
@@ -35,10 +35,6 @@ value_of words name = first_of name (matches_of gather_app words)
 abbrev pub values_of : List Text → Text → Option (List Text)
 values_of words name = all_of name (matches_of gather_app words)
 
-abbrev pub or_none : Option (List Text) → List Text
-or_none None = []
-or_none (Some texts) = texts
-
 -- these are the files, where a name has one value and a list of values
 pub record IsJob (value : Text → Option Text) (values : Text → Option (List Text)) (job : Job) : Type 0 where
   pub out : value (codes "out") ≡ Some job.out.now
@@ -64,9 +60,6 @@ IsAsked words (Gather job) = IsJob (value_of words) (values_of words) job
 IsAsked words (Show text) = AsksForText words
 
 -- the same of what clap found, and of the kind of what it reports (no public clause cites these)
-abbrev pub values_found : Found → Text → Option (List Text)
-values_found found name = option_map raw_values (matched_of found name)
-
 abbrev pub IsGiven : (value : Text → Option Text) → (values : Text → Option (List Text)) → Asked → Type 0
 IsGiven value values (Gather job) = IsJob value values job
 IsGiven value values (Show text) = ⊥

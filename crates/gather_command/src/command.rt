@@ -1,12 +1,13 @@
-ghost use Rattle.std.specs.Prelude.{◌≡◌, ◌≢◌, false, codes, map, IfOk, IfErr, IsErrOf};
-ghost use Rattle.clap.specs.Words.{app_of, first_value, found_of, kind_of, rule_of, with_rule};
+ghost use Rattle.std.specs.Prelude.{◌≡◌, ◌≢◌, false, map, IfOk, IfErr, IsErrOf};
+ghost use Rattle.clap.specs.Words.{app_of, first_value, found_of, kind_of, rule_of};
+ghost use Rattle.night_ends.specs.Words.{values_found};
 ghost use Rattle.gather_command.specs.CommandLine.{IsAsked, IsCommandLine, IsGiven, IsShown, NamesNone, file_rule, gather_app, out_rule};
-ghost use Rattle.gather_command.specs.CommandLine.{or_none, values_found};
 ghost use Rattle.gather_command.specs.Failure.{IsOfWords};
 
 use crate::failure::Failure;
 use clap::error::ErrorKind;
 use clap::{Arg, ArgAction, ArgMatches, Command, Error};
+use night_ends::{texts_given, with_argument};
 use std::alloc::{AllocError, Global};
 use std::convert::AsStr;
 
@@ -62,13 +63,6 @@ fn command<'a>(alloc: Global) -> Result<Command<'a>, AllocError>
     with_argument(command, files(alloc))
 }
 
-fn with_argument<'a>(command: Command<'a>, argument: Arg<'a>) -> Result<Command<'a>, AllocError>
-    requires { argument.global ≡ false }
-    ensures { IfOk result (λ more. app_of more ≡ with_rule (app_of command.entry) (rule_of argument.entry)) }
-{
-    command.arg(argument)
-}
-
 /// The file that is made.
 fn out<'a>(alloc: Global) -> Arg<'a>
     ensures rule { rule_of result ≡ out_rule }
@@ -101,25 +95,8 @@ fn job_given<'a>(alloc: Global, matches: &ArgMatches<'a>) -> Result<Asked<'a>, F
     let Some(out) = matches.get_str("out") else {
         return Err(Failure::Usage);
     };
-    let files = files_given(alloc, matches)?;
+    let files = texts_given(alloc, matches, "file")?;
     Ok(Asked::Gather(Job { out, files }))
-}
-
-fn files_given<'a>(alloc: Global, matches: &ArgMatches<'a>) -> Result<Vec<&'a str>, AllocError>
-    ensures { IfOk result (λ files. or_none (values_found (found_of matches.now) (codes "file")) ≡ map (λ f. f.now) files.items) }
-{
-    match matches.get_strs("file") {
-        None => Ok(Vec::new(alloc)),
-        Some(files) => copied(alloc, files),
-    }
-}
-
-fn copied<'a>(alloc: Global, texts: &[&'a str]) -> Result<Vec<&'a str>, AllocError>
-    ensures { IfOk result (λ copy. copy.items ≡ texts.now) }
-{
-    let mut copy = Vec::new(alloc);
-    copy.extend_from_slice(texts)?;
-    Ok(copy)
 }
 
 /// The text that is asked for, where the arguments have no mistake.

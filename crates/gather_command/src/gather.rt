@@ -1,4 +1,4 @@
-ghost use Rattle.std.specs.Prelude.{◌≡◌, ◌≢◌, ◌≤◌, ◌⊎◌, IfErr, IfOk, OnOk, map};
+ghost use Rattle.std.specs.Prelude.{◌≡◌, ◌≢◌, ◌≤◌, ◌⊎◌, IfErr, IfOk, map};
 ghost use Rattle.std.specs.Io.KnownBytes.{Appends};
 ghost use Rattle.gather_command.specs.CommandLine.{IsCommandLine};
 ghost use Rattle.gather_command.specs.Failure.{IsStatus};
@@ -8,6 +8,7 @@ use crate::all::{Gathering, gather_all};
 use crate::command::{Asked, Job, read_words};
 use crate::failure::Failure;
 use crate::total::{Total, append_total};
+use night_ends::print_text;
 use std::convert::AsStr;
 use std::fs::{OpenFile, OpenOptions};
 use std::io::{ErrorKind, Write};
@@ -178,16 +179,8 @@ fn finish<O: Write, E: Write>(text: &[u8], status: u8, out: &mut O, err: &mut E)
     ensures printed { result ≢ 5 → Appends (O.contents out.old) (O.contents out.new) text.now }
     ensures quiet { result ≢ 5 → err.new ≡ err.old }
 {
-    if print(text, out).is_err() {
+    if print_text(text, out).is_err() {
         return Failure::Stdout.report(err);
     }
     status
-}
-
-/// Writes a text, and sees that it is out.
-fn print<O: Write>(text: &[u8], out: &mut O) -> io::Result<()>
-    ensures { OnOk result (Appends (O.contents out.old) (O.contents out.new) text.now) }
-{
-    out.write_all(text)?;
-    out.flush()
 }

@@ -1,2 +1,3 @@
 pub mod Outbox
 pub mod Reader
+pub mod Words

@@ -1,6 +1,7 @@
-ghost use Rattle.std.specs.Prelude.{None, if◌then◌else◌};
+ghost use Rattle.std.specs.Prelude.{◌≡◌, None, if◌then◌else◌, IfOk, IfSome};
 ghost use Rattle.night_ends.specs.Reader.{IsAnswerOf};
 
+use std::alloc::Global;
 use std::io;
 use std::io::{ErrorKind, Read};
 use stream_read::{Source, SourceFault};
@@ -94,4 +95,14 @@ fn answer_of(answer: io::Result<usize>, row: u32) -> Result<usize, SourceFault>
             }
         }
     }
+}
+
+/// All bytes of a reader.
+pub fn read_whole<I: Read + Drop>(alloc: Global, input: I) -> io::Result<Vec<u8>>
+    ensures { IfOk result (λ text. IfSome (I.remaining input) (λ bytes. text.items ≡ bytes)) }
+{
+    let mut input = input;
+    let mut text = Vec::new(alloc);
+    input.read_to_end(&mut text)?;
+    Ok(text)
 }

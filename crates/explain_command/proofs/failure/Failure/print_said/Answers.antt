@@ -2,12 +2,12 @@ use Rattle.std.proofs.Common.{◌++◌}
 use Rattle.std.specs.Prelude.{codes}
 use Rattle.std.proofs.lemmas.Result.{on_ok_weaker}
 use Rattle.explain_command.specs.Failure.{subject_of}
-use Rattle.explain_command.proofs.Writing.{two}
+use Rattle.night_ends.proofs.ForAbove.{writes_on}
 use Rattle.explain_command.proofs.failure.Failure.print_said.Goals as goal
 
 pub returns : goal.returns
 returns g c =
     on_ok_weaker c.print_subject.result
-    (two (g.E.Write.contents c.args.err.now) (g.E.Write.contents c.write_all.new.self) (g.E.Write.contents c.print_subject.new.err)
+    (writes_on (g.E.Write.contents c.args.err.now) (g.E.Write.contents c.write_all.new.self) (g.E.Write.contents c.print_subject.new.err)
     (codes ": ") (subject_of c.args.self ++ codes "\n") c.in_ok-write_all.ensures.bytes)
     c.print_subject.ensures
