@@ -7,5 +7,4 @@ pub mod PlainGuides
 pub mod Refusing
 pub mod SettingUp
 pub mod Shared
-pub mod Writing
 mod WorkedWords

@@ -1,19 +1,20 @@
 -- The command line (own), read as clap's definitions say: options with one value each, of which those that name files and the moment are
 -- wanted; one of them, for the guides, is given once for each guide.
-use Rattle.std.specs.Prelude.{◌≡◌, ◌⊎◌, ◌≤◌, ℕ, Option, Some, None, true, false, List, codes, map, option_map, nat_le, ◌&&◌}
+use Rattle.std.specs.Prelude.{◌≡◌, ◌⊎◌, ◌≤◌, ℕ, Option, Some, None, true, false, List, codes, map, nat_le, ◌&&◌}
 use Rattle.std.specs.Prelude.{if◌then◌else◌}
 use Rattle.hub_kinds.specs.Words.{number_of}
-use Rattle.clap.specs.Words.{App, Rule, Text, IsAmong, all_of, fault_of, first_of, first_value, matched_of, matches_of, new_app, new_rule}
-use Rattle.clap.specs.Words.{raw_values, takes, with_rule}
+use Rattle.clap.specs.Words.{App, Rule, Text, IsAmong, all_of, fault_of, first_of, first_value, matches_of, new_app, new_rule, takes}
+use Rattle.clap.specs.Words.{with_rule}
 use Rattle.clap.specs.declared.builder.action.ArgAction.TheVariants.{Append, Set}
 use Rattle.clap.specs.declared.error.kind.ErrorKind.{ErrorKind}
 use Rattle.clap.specs.declared.error.kind.ErrorKind.TheVariants.{DisplayHelp, DisplayVersion}
 use Rattle.clap.specs.declared.parser.matches.Found.{Found}
 use Rattle.moment.specs.Moment.{IsMoment}
+use Rattle.night_ends.specs.Words.{values_found}
 use Rattle.night_command.specs.declared.command.Asked.{Asked}
 use Rattle.night_command.specs.declared.command.Asked.TheVariants.{Run, Show}
 use Rattle.night_command.specs.declared.command.Options.{Options}
-use Rattle.night_command.specs.declared.command.Sharing.{Sharing}
+use Rattle.night_command.specs.declared.sharing.Sharing.{Sharing}
 
 -- an option of this name, given once
 abbrev pub option_named : Text → Rule
@@ -33,15 +34,18 @@ program =
     let bare = new_app (codes "nighthub") in
     record bare { top = record bare.top { has_version = true; no_binary_name = true } }
 
--- the setup
-abbrev pub setup_app : App
-setup_app =
-    with_rule (with_rule (with_rule program (option_named (codes "setup"))) (option_repeated (codes "guide")))
-    (option_named (codes "counters"))
+-- the options that name the setup
+abbrev pub with_setup : App → App
+with_setup app =
+    with_rule (with_rule (with_rule app (option_named (codes "setup"))) (option_repeated (codes "guide"))) (option_named (codes "counters"))
+
+-- and those that name the moment and the input of a night
+abbrev pub with_night : App → App
+with_night app = with_rule (with_rule (with_setup app) (option_named (codes "at"))) (option_named (codes "in"))
 
 -- the night
 abbrev pub night_app : App
-night_app = with_rule (with_rule (with_rule setup_app (option_named (codes "at"))) (option_named (codes "in"))) (option_named (codes "out"))
+night_app = with_rule (with_night program) (option_named (codes "out"))
 
 -- and how it is shared among workers
 abbrev pub hub_app : App
@@ -128,17 +132,13 @@ abbrev pub IsAsked : List Text → Asked → Type 0
 IsAsked words (Run options) = AreOptions (value_of words) (values_of words) options
 IsAsked words (Show text) = AsksForText words
 
--- the same of what clap found, and of the kind of what it reports (no public clause cites these)
-abbrev pub values_found : Found → Text → Option (List Text)
-values_found found name = option_map raw_values (matched_of found name)
-
+-- the same of what clap found, and of the kind of what it reports (no public clause of a program cites these)
 abbrev pub IsGiven : Found → Asked → Type 0
 IsGiven found (Run options) = AreOptions (first_value found) (values_found found) options
 IsGiven found (Show text) = ⊥
 
-abbrev pub IsShown : ErrorKind → Asked → Type 0
-IsShown kind (Run options) = ⊥
-IsShown kind (Show text) = (kind ≡ DisplayHelp) ⊎ (kind ≡ DisplayVersion)
+abbrev pub IsOfText : ErrorKind → Type 0
+IsOfText kind = (kind ≡ DisplayHelp) ⊎ (kind ≡ DisplayVersion)
 
 -- how a night is shared by the values of its options; not at all where one of them can't be taken
 abbrev pub IsShared : (value : Text → Option Text) → Option Sharing → Type 0

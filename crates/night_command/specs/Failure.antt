@@ -68,9 +68,13 @@ number_of (failure.CountersFile refusal) = number_text (file_number refusal)
 number_of (failure.Setup refusal) = number_text (setup_number refusal)
 number_of _ = []
 
+-- what failed, with its name and its number, up to the end of the line
+abbrev pub cause_of : Failure → List ℕ
+cause_of f = subject_of f ++ (name_of f ++ (number_of f ++ codes "\n"))
+
 -- the line on standard error
 abbrev pub line_of : Failure → List ℕ
-line_of f = codes "nighthub: " ++ (subject_of f ++ (name_of f ++ (number_of f ++ codes "\n")))
+line_of f = codes "nighthub: " ++ cause_of f
 
 abbrev pub status_of : Failure → ℕ
 status_of failure.Usage = 2

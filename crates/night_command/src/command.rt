@@ -1,16 +1,16 @@
-ghost use Rattle.std.specs.Prelude.{◌≡◌, ◌≢◌, ℕ, List, Some, false, codes, map, option_map, IfOk, IfErr, IfNone, IfSome, IsErrOf};
-ghost use Rattle.moment.specs.Moment.{IsMoment};
-ghost use Rattle.clap.specs.Words.{app_of, first_value, found_of, kind_of, rule_of, with_rule};
-ghost use Rattle.night_command.specs.CommandLine.{AreGiven, IsAsked, IsCommandLine, IsGiven, IsShared, IsShown, hub_app};
-ghost use Rattle.night_command.specs.CommandLine.{night_app, number_given};
-ghost use Rattle.night_command.specs.CommandLine.{option_free, option_named, option_repeated, setup_app, up_to_most, values_found};
+ghost use Rattle.std.specs.Prelude.{◌≡◌, ◌≢◌, map, IfOk, IfErr, IsErrOf};
+ghost use Rattle.clap.specs.Words.{app_of, first_value, found_of, kind_of};
+ghost use Rattle.night_command.specs.CommandLine.{AreGiven, IsAsked, IsCommandLine, IsGiven, IsOfText, hub_app, night_app};
 ghost use Rattle.night_command.specs.Failure.{IsOfWords};
+ghost use Rattle.night_ends.specs.Words.{values_found};
 
 use crate::failure::Failure;
+use crate::options::{moment_given, option_free, option_named, with_night};
+use crate::sharing::{Sharing, sharing_given};
 use clap::error::ErrorKind;
-use clap::{Arg, ArgAction, ArgMatches, Command, Error};
-use hub_kinds::{LONGEST_TEXT, read_number};
+use clap::{ArgMatches, Command, Error};
 use moment::At;
+use night_ends::{copied, with_argument};
 use std::alloc::{AllocError, Global};
 use std::convert::AsStr;
 
@@ -26,24 +26,6 @@ Status:
   4  the input
   5  an output
   6  no memory, or no thread";
-
-/// How many workers share a night where the words don't say it.
-const WORKERS: u64 = 4;
-/// How many may.
-const MOST_WORKERS: u64 = 64;
-/// How many bytes a piece has where the words don't say it.
-const PIECE: u64 = 1_048_576;
-/// How many digits a number of the words has at most.
-const MOST_DIGITS: usize = 10;
-
-/// How a night is shared.
-#[derive(Clone, Copy, Debug)]
-pub struct Sharing {
-    /// Among how many workers, 1 to 64.
-    pub workers: u64,
-    /// How many bytes of the input a worker takes at a time, 1 or more.
-    pub piece: u64,
-}
 
 /// The files and the moment of a night, and how it is shared. Each file is named by its path.
 #[derive(Debug, Drop)]
@@ -82,7 +64,10 @@ pub fn read_words<'a, S: AsStr>(alloc: Global, words: &'a [S]) -> Result<Asked<'
     let command = command(alloc)?;
     match command.try_get_matches_from(words) {
         Ok(matches) => run_asked(alloc, &matches),
-        Err(error) => shown(alloc, &error),
+        Err(error) => match text_asked(alloc, &error) {
+            Ok(text) => Ok(Asked::Show(text)),
+            Err(mistake) => Err(mistake),
+        },
     }
 }
 
@@ -90,96 +75,39 @@ fn command<'a>(alloc: Global) -> Result<Command<'a>, AllocError>
     ensures { IfOk result (λ command. app_of command ≡ hub_app) }
 {
     let command = night_command(alloc)?;
-    let workers = free(
+    let workers = option_free(
         alloc,
         "workers",
         "N",
         "How many workers share the night, 1 to 64 [default: 4]",
     );
-    let command = with_option(command, workers)?;
-    let piece = free(
+    let command = with_argument(command, workers)?;
+    let piece = option_free(
         alloc,
         "piece",
         "BYTES",
         "How many bytes of the input a worker takes at a time [default: 1048576]",
     );
-    with_option(command, piece)
+    with_argument(command, piece)
 }
 
 /// The command with the options that name a night.
 fn night_command<'a>(alloc: Global) -> Result<Command<'a>, AllocError>
     ensures { IfOk result (λ command. app_of command ≡ night_app) }
 {
-    let command = setup_command(alloc)?;
-    let at = option(
-        alloc,
-        "at",
-        "CCYYMMDDHHMM",
-        "The day and time that the night bears",
-    );
-    let command = with_option(command, at)?;
-    let input = option(alloc, "in", "FILE", "The interchanges that came in");
-    let command = with_option(command, input)?;
-    let output = option(
-        alloc,
-        "out",
-        "DIR",
-        "The folder, which exists, for the files that are written",
-    );
-    with_option(command, output)
-}
-
-/// The command with the options that name the setup.
-fn setup_command<'a>(alloc: Global) -> Result<Command<'a>, AllocError>
-    ensures { IfOk result (λ command. app_of command ≡ setup_app) }
-{
     let command = Command::new(alloc, "nighthub")
         .about("Acknowledges the X12 interchanges of a night and delivers their sets")
         .version("0.1.0")
         .after_help(FILES_AND_STATUSES)
         .no_binary_name(true);
-    let setup = option(alloc, "setup", "FILE", "The partners and routes");
-    let command = with_option(command, setup)?;
-    let guide = repeated(alloc, "guide", "FILE", "A guide, given once for each");
-    let command = with_option(command, guide)?;
-    let counters = option(alloc, "counters", "FILE", "The numbers to go on from");
-    with_option(command, counters)
-}
-
-fn with_option<'a>(command: Command<'a>, option: Arg<'a>) -> Result<Command<'a>, AllocError>
-    requires { option.global ≡ false }
-    ensures { IfOk result (λ more. app_of more ≡ with_rule (app_of command.entry) (rule_of option.entry)) }
-{
-    command.arg(option)
-}
-
-/// An option of this name that takes one value, and is wanted.
-fn option<'a>(alloc: Global, name: &'a str, value: &'a str, help: &'a str) -> Arg<'a>
-    ensures rule { rule_of result ≡ option_named name.now }
-    ensures local { result.global ≡ false }
-{
-    Arg::new(alloc, name)
-        .long(name)
-        .value_name(value)
-        .help(help)
-        .required(true)
-        .action(ArgAction::Set)
-}
-
-/// An option of this name that takes one value, and may be left out.
-fn free<'a>(alloc: Global, name: &'a str, value: &'a str, help: &'a str) -> Arg<'a>
-    ensures rule { rule_of result ≡ option_free name.now }
-    ensures local { result.global ≡ false }
-{
-    option(alloc, name, value, help).required(false)
-}
-
-/// An option of this name that takes one value each time, and is wanted once or more.
-fn repeated<'a>(alloc: Global, name: &'a str, value: &'a str, help: &'a str) -> Arg<'a>
-    ensures rule { rule_of result ≡ option_repeated name.now }
-    ensures local { result.global ≡ false }
-{
-    option(alloc, name, value, help).action(ArgAction::Append)
+    let command = with_night(alloc, command)?;
+    let output = option_named(
+        alloc,
+        "out",
+        "DIR",
+        "The folder, which exists, for the files that are written",
+    );
+    with_argument(command, output)
 }
 
 fn run_asked<'a>(alloc: Global, matches: &ArgMatches<'a>) -> Result<Asked<'a>, Failure<'a>>
@@ -221,67 +149,16 @@ fn run_asked<'a>(alloc: Global, matches: &ArgMatches<'a>) -> Result<Asked<'a>, F
     }))
 }
 
-/// The moment that the words name, if there is such a one.
-fn moment_given(matches: &ArgMatches<'_>) -> Option<At>
-    ensures some { IfSome result (λ at. first_value (found_of matches.now) (codes "at") ≡ Some at) }
-    ensures none { IfNone result ((text : List ℕ) → first_value (found_of matches.now) (codes "at") ≡ Some text → IsMoment text → ⊥) }
-{
-    let text = matches.get_str("at")?;
-    At::read(text.as_bytes())
-}
-
-/// How the night is shared, if it can be so.
-fn sharing_given(matches: &ArgMatches<'_>) -> Option<Sharing>
-    ensures { IsShared (first_value (found_of matches.now)) result }
-{
-    let workers = number_given(matches.get_str("workers"), WORKERS, MOST_WORKERS)?;
-    let piece = number_given(matches.get_str("piece"), PIECE, LONGEST_TEXT as u64)?;
-    Some(Sharing { workers, piece })
-}
-
-/// The number that an option gives which may be left out, from 1 up to the most.
-fn number_given(text: Option<&str>, otherwise: u64, most: u64) -> Option<u64>
-    ensures { result ≡ number_given otherwise most (option_map (λ t. t.now) text.entry) }
-{
-    match text {
-        None => Some(otherwise),
-        Some(text) => up_to_most(most, read_number(text.as_bytes(), MOST_DIGITS)),
-    }
-}
-
-fn up_to_most(most: u64, number: Option<u64>) -> Option<u64>
-    ensures { result ≡ up_to_most most number }
-{
-    match number {
-        None => None,
-        Some(number) => {
-            if 1 <= number && number <= most {
-                Some(number)
-            } else {
-                None
-            }
-        }
-    }
-}
-
-fn copied<'a>(alloc: Global, texts: &[&'a str]) -> Result<Vec<&'a str>, AllocError>
-    ensures { IfOk result (λ copy. copy.items ≡ texts.now) }
-{
-    let mut copy = Vec::new(alloc);
-    copy.extend_from_slice(texts)?;
-    Ok(copy)
-}
-
 /// The text that is asked for, where the words have no mistake.
-fn shown<'a>(alloc: Global, error: &Error) -> Result<Asked<'a>, Failure<'a>>
-    ensures shown { IfOk result (IsShown (kind_of error.now)) }
+pub fn text_asked<'a>(alloc: Global, error: &Error) -> Result<String, Failure<'a>>
+    ensures shown { IfOk result (λ _. IsOfText (kind_of error.now)) }
     ensures usage { IsErrOf result Failure.Usage → kind_of error.now ≢ ErrorKind.OutOfMemory }
     ensures err { IfErr result IsOfWords }
 {
     match error.kind() {
         ErrorKind::DisplayHelp | ErrorKind::DisplayVersion => {
             let text = format!(in alloc; "{error}")?;
-            Ok(Asked::Show(text))
+            Ok(text)
         }
         ErrorKind::OutOfMemory => Err(Failure::Memory),
         _ => Err(Failure::Usage),

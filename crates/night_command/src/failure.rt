@@ -1,8 +1,8 @@
 ghost use Rattle.std.specs.Prelude.{◌≡◌, ◌⊎◌, ◌++◌, OnOk, decimal};
 ghost use Rattle.std.specs.Io.KnownBytes.{Appends};
 ghost use Rattle.std.specs.IoError.{error_kind};
-ghost use Rattle.night_command.specs.Failure.{IsMemoryOr, file_number, guide_file_number, line_of, name_of, number_of, number_text};
-ghost use Rattle.night_command.specs.Failure.{own_number, status_of, subject_of};
+ghost use Rattle.night_command.specs.Failure.{IsMemoryOr, cause_of, file_number, guide_file_number, line_of, name_of, number_of};
+ghost use Rattle.night_command.specs.Failure.{number_text, own_number, status_of, subject_of};
 
 use crate::put_fault::PutFault;
 use guide_toml::GuideFileFault;
@@ -68,6 +68,13 @@ impl<'a> Failure<'a> {
         ensures { OnOk result (Appends (E.contents err.old) (E.contents err.new) (line_of self.now)) }
     {
         err.write_all(b"nighthub: ")?;
+        self.print_cause(err)
+    }
+
+    /// Writes what failed, with its name and its number, and ends the line.
+    pub fn print_cause<E: Write>(&self, err: &mut E) -> io::Result<()>
+        ensures { OnOk result (Appends (E.contents err.old) (E.contents err.new) (cause_of self.now)) }
+    {
         err.write_all(self.subject().as_bytes())?;
         err.write_all(self.name())?;
         self.print_number(err)?;
@@ -114,7 +121,8 @@ impl<'a> Failure<'a> {
         }
     }
 
-    fn status(&self) -> u8
+    /// The status that a program ends with which fails so.
+    pub fn status(&self) -> u8
         ensures { result ≡ status_of self.now }
     {
         match self {

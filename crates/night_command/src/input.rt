@@ -1,11 +1,10 @@
-ghost use Rattle.std.specs.Prelude.{◌≡◌, IfOk, IfErr, IfSome};
+ghost use Rattle.std.specs.Prelude.{IfErr};
 ghost use Rattle.night_command.specs.Failure.{IsOfInput};
 ghost use Rattle.night_command.specs.Input.{IsInputOf};
 
 use crate::failure::Failure;
 use hub_run::within_limit;
 use night_ends::Reader;
-use std::alloc::Global;
 use std::fs::{Metadata, OpenFile};
 use std::io::Read;
 use std::rt::Files;
@@ -39,14 +38,4 @@ fn input_of<'a, F: Read + Drop>(opened: io::Result<(F, Metadata)>) -> Result<Rea
         }
         Err(error) => Err(Failure::of_fault(error, Failure::Input)),
     }
-}
-
-/// All bytes of a reader.
-pub fn read_whole<I: Read + Drop>(alloc: Global, input: I) -> io::Result<Vec<u8>>
-    ensures { IfOk result (λ text. IfSome (I.remaining input) (λ bytes. text.items ≡ bytes)) }
-{
-    let mut input = input;
-    let mut text = Vec::new(alloc);
-    input.read_to_end(&mut text)?;
-    Ok(text)
 }

@@ -29,8 +29,7 @@
 //! - a failed run leaves standard output as it was, unless standard output itself failed, and a run
 //!   that doesn't fail leaves standard error as it was; the line of a failure is what the definitions say (`Failure`);
 //! - a run says usage only where its words are no command line, and blames setup or input only where they name the files
-//!   and the moment of a night; which words do is said by clap's definitions;
-//! - what is read whole of a reader is all of its bytes (`read_whole`).
+//!   and the moment of a night; which words do is said by clap's definitions.
 //!
 //! Only tested: that the bytes of a setup's files and of the input are those of the files at the paths that the words
 //! name, since no contract says what a file of the system holds; and that a folder of the system holds what is put there, and
@@ -54,18 +53,22 @@ mod failure;
 mod input;
 mod night;
 mod night_files;
+mod options;
 mod outbox;
 mod outcome;
 mod put_fault;
 mod setup;
 mod setup_files;
+mod sharing;
 
-pub use command::Sharing;
+pub use command::text_asked;
 pub use failure::Failure;
-pub use input::{open_input, read_whole};
+pub use input::open_input;
 pub use night::{give_night, night_in, night_main};
-pub use night_ends::{Directory, Outbox, Reader, Written, write_and_sync};
+pub use night_ends::{Directory, Outbox, Reader, Written, read_whole, write_and_sync};
 pub use night_files::put_night;
+pub use options::{moment_given, option_free, option_named, option_repeated, with_night};
 pub use put_fault::PutFault;
-pub use setup::setup_of;
+pub use setup::{setup_at, setup_of};
 pub use setup_files::{GuideFile, SetupFiles};
+pub use sharing::{Sharing, sharing_given};

@@ -11,12 +11,13 @@ ghost use Rattle.night_command.specs.Outcome.{LeavesFront, LeavesOutbox, status_
 ghost use Rattle.night_command.specs.SetupFiles.{IsSetupAt};
 ghost use Rattle.night_command.specs.declared.outcome.Outcome.{Outcome};
 
-use crate::command::{Asked, Options, Sharing, read_words};
+use crate::command::{Asked, Options, read_words};
 use crate::failure::Failure;
 use crate::input::open_input;
 use crate::night_files::put_night;
 use crate::outcome::{Outcome, finish};
 use crate::setup::setup_at;
+use crate::sharing::Sharing;
 use guide_toml::files_write_references;
 use hub_kinds::LONGEST_TEXT;
 use hub_run::{Night, OpenGate, Source, plain_references_are_quoted, run_stream};
@@ -73,7 +74,8 @@ where
     ensures quiet { result ≤ 1 → err.new ≡ err.old }
     ensures printed { result ≤ 1 → IsPrinted options.now result (O.contents out.old) (O.contents out.new) }
 {
-    match setup_at(rt, options) {
+    let guides = options.guides.as_slice();
+    match setup_at(rt, guides, options.setup, options.counters) {
         Ok(setup) => run_by(rt, options, &setup, out, err),
         Err(refusal) => refusal.report(err),
     }

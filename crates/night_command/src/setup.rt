@@ -1,13 +1,11 @@
-ghost use Rattle.std.specs.Prelude.{◌≡◌, IfErr, IfOk};
+ghost use Rattle.std.specs.Prelude.{◌≡◌, IfErr, IfOk, map};
 ghost use Rattle.partner_setup.specs.CountersFile.{counters_of_table};
 ghost use Rattle.partner_setup.specs.Setup.{SetupValue};
 ghost use Rattle.partner_setup.specs.SetupFile.{setup_of_table};
-ghost use Rattle.night_command.specs.CommandLine.{guide_paths};
 ghost use Rattle.night_command.specs.Failure.{counters_failure, guide_failure, setup_failure, setup_file_failure};
 ghost use Rattle.night_command.specs.SetupFiles.{AreGuidesOf, IsFileOf, IsFirstRefusal, IsGuideOf, IsMemoryOrIs, IsOfCounters, IsOfGuide};
 ghost use Rattle.night_command.specs.SetupFiles.{IsOfGuides, IsOfSetupFile, IsRefusedAt, IsSetupAt, IsSetupOf};
 
-use crate::command::Options;
 use crate::failure::Failure;
 use crate::setup_files::{GuideFile, SetupFiles, read_files};
 use guide_toml::{GuideFileFault, read_guide};
@@ -19,15 +17,17 @@ use partner_setup::{
 use std::alloc::Global;
 use std::rt::Files;
 
-/// The setup that the files of these options make, or the first refusal of them.
+/// The setup that the files at these paths make, those of the guides, of the setup and of the counters, or the first refusal of them.
 pub fn setup_at<'a, R: Files + AllocGlobal>(
     rt: &R,
-    options: &Options<'a>,
+    guides: &[&'a str],
+    setup: &str,
+    counters: &str,
 ) -> Result<Setup, Failure<'a>>
-    ensures made { IfOk result (IsSetupAt (guide_paths options.now)) }
-    ensures refused { IfErr result (IsMemoryOrIs (IsRefusedAt (guide_paths options.now))) }
+    ensures made { IfOk result (IsSetupAt (map (λ g. g.now) guides.now)) }
+    ensures refused { IfErr result (IsMemoryOrIs (IsRefusedAt (map (λ g. g.now) guides.now))) }
 {
-    let files = read_files(rt, options)?;
+    let files = read_files(rt, guides, setup, counters)?;
     setup_of(rt.alloc(), &files)
 }
 

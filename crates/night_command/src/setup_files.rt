@@ -1,12 +1,10 @@
 ghost use Rattle.std.specs.Prelude.{◌≡◌, Some, None, Ok, IfOk, IfErr, map};
 ghost use Rattle.std.specs.IoError.{error_kind};
-ghost use Rattle.night_command.specs.CommandLine.{guide_paths};
 ghost use Rattle.night_command.specs.Failure.{IsMissing};
 ghost use Rattle.night_command.specs.SetupFiles.{path_of, paths_of};
 
-use crate::command::Options;
-use crate::input::read_whole;
 use hub_kinds::{Items, NoMemory, Text};
+use night_ends::read_whole;
 use std::alloc::Global;
 use std::rt::Files;
 use std::{fs, io};
@@ -31,18 +29,20 @@ pub struct SetupFiles<'a> {
     pub counters: Option<Text>,
 }
 
-/// Reads the files of the setup that these options name.
-pub fn read_files<'a, R: Files + AllocGlobal>(
+/// Reads the files of a setup: those of the guides, of the setup and of the counters.
+pub(crate) fn read_files<'a, R: Files + AllocGlobal>(
     rt: &R,
-    options: &Options<'a>,
+    guides: &[&'a str],
+    setup: &str,
+    counters: &str,
 ) -> Result<SetupFiles<'a>, NoMemory>
-    ensures { IfOk result (λ files. paths_of files ≡ guide_paths options.now) }
+    ensures { IfOk result (λ files. paths_of files ≡ map (λ g. g.now) guides.now) }
 {
-    let guides = read_guides(rt, options.guides.as_slice())?;
+    let guides = read_guides(rt, guides)?;
     Ok(SetupFiles {
         guides: Items::from_vec(guides),
-        setup: read_file(rt, options.setup)?,
-        counters: read_file(rt, options.counters)?,
+        setup: read_file(rt, setup)?,
+        counters: read_file(rt, counters)?,
     })
 }
 

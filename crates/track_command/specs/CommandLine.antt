@@ -1,13 +1,12 @@
 -- The command line (own), read as clap's definitions say: the options of nighthub, with a file for the table in place of the folder, and
 -- one for each kind of set whose document's number stands elsewhere.
-use Rattle.std.specs.Prelude.{◌≡◌, ◌⊎◌, ℕ, Option, Some, true, false, List, codes, map, option_map}
-use Rattle.clap.specs.Words.{App, Rule, Text, IsAmong, all_of, fault_of, first_of, first_value, matched_of, matches_of, new_app}
-use Rattle.clap.specs.Words.{raw_values, takes, with_rule}
-use Rattle.clap.specs.declared.error.kind.ErrorKind.{ErrorKind}
+use Rattle.std.specs.Prelude.{◌≡◌, ◌⊎◌, ℕ, Option, Some, true, false, List, codes, map}
+use Rattle.clap.specs.Words.{App, Rule, Text, IsAmong, all_of, fault_of, first_of, first_value, matches_of, new_app, takes, with_rule}
 use Rattle.clap.specs.declared.error.kind.ErrorKind.TheVariants.{DisplayHelp, DisplayVersion}
 use Rattle.clap.specs.declared.parser.matches.Found.{Found}
 use Rattle.moment.specs.Moment.{IsMoment}
-use Rattle.night_command.specs.CommandLine.{option_free, option_named, option_repeated, piece_given, workers_given}
+use Rattle.night_command.specs.CommandLine.{option_free, option_named, option_repeated, piece_given, with_night, workers_given}
+use Rattle.night_ends.specs.Words.{values_found}
 use Rattle.set_documents.specs.Documents.{DocumentValue}
 use Rattle.set_documents.specs.Given.{documents_given}
 use Rattle.track_command.specs.declared.command.Asked.{Asked}
@@ -20,16 +19,9 @@ program =
     let bare = new_app (codes "nighthub_track") in
     record bare { top = record bare.top { has_version = true; no_binary_name = true } }
 
--- the setup
-abbrev pub setup_app : App
-setup_app =
-    with_rule (with_rule (with_rule program (option_named (codes "setup"))) (option_repeated (codes "guide")))
-    (option_named (codes "counters"))
-
 -- the night
 abbrev pub night_app : App
-night_app =
-    with_rule (with_rule (with_rule setup_app (option_named (codes "at"))) (option_named (codes "in"))) (option_named (codes "track"))
+night_app = with_rule (with_night program) (option_named (codes "track"))
 
 -- which element of a set is shown as its document's number: once for each kind of set, or not at all
 abbrev pub document_rule : Rule
@@ -105,14 +97,7 @@ abbrev pub IsAsked : List Text → Asked → Type 0
 IsAsked words (Run options) = AreOptions (value_of words) (values_of words) options
 IsAsked words (Show text) = AsksForText words
 
--- the same of what clap found, and of the kind of what it reports (no public clause cites these)
-abbrev pub values_found : Found → Text → Option (List Text)
-values_found found name = option_map raw_values (matched_of found name)
-
+-- the same of what clap found (no public clause cites this)
 abbrev pub IsGiven : Found → Asked → Type 0
 IsGiven found (Run options) = AreOptions (first_value found) (values_found found) options
 IsGiven found (Show text) = ⊥
-
-abbrev pub IsShown : ErrorKind → Asked → Type 0
-IsShown kind (Run options) = ⊥
-IsShown kind (Show text) = (kind ≡ DisplayHelp) ⊎ (kind ≡ DisplayVersion)

@@ -9,10 +9,6 @@ use Rattle.night_command.specs.declared.failure.Failure.TheVariants as failure
 use Rattle.track_command.specs.declared.failure.TrackFailure.{TrackFailure}
 use Rattle.track_command.specs.declared.failure.TrackFailure.TheVariants.{Night, There}
 
--- what failed, with its name and its number
-abbrev pub night_text : Failure → List ℕ
-night_text f = night.subject_of f ++ (night.name_of f ++ (night.number_of f ++ codes "\n"))
-
 -- a path, and that something is there
 abbrev pub there_words : List ℕ
 there_words = codes " is there already\n"
@@ -26,7 +22,7 @@ lead_of (Night f) = codes "nighthub_track: "
 lead_of (There path) = codes "nighthub_track: output "
 
 abbrev pub rest_of : TrackFailure → List ℕ
-rest_of (Night f) = night_text f
+rest_of (Night f) = night.cause_of f
 rest_of (There path) = there_text path
 
 abbrev pub line_of : TrackFailure → List ℕ

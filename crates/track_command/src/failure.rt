@@ -2,7 +2,6 @@ ghost use Rattle.std.specs.Prelude.{◌≡◌, OnOk};
 ghost use Rattle.std.specs.Io.KnownBytes.{Appends};
 ghost use Rattle.track_command.specs.Failure.{lead_of, line_of, rest_of, status_of, there_text, there_words};
 
-use crate::report::{print_night, status_of_night};
 use hub_kinds::{NoMemory, Text};
 use night_command::Failure;
 use std::alloc::AllocError;
@@ -51,7 +50,7 @@ impl<'a> TrackFailure<'a> {
         ensures { OnOk result (Appends (E.contents err.old) (E.contents err.new) (rest_of self.now)) }
     {
         match self {
-            TrackFailure::Night(failure) => print_night(failure, err),
+            TrackFailure::Night(failure) => failure.print_cause(err),
             TrackFailure::There(path) => print_there(path.as_slice(), err),
         }
     }
@@ -60,7 +59,7 @@ impl<'a> TrackFailure<'a> {
         ensures { result ≡ status_of self.now }
     {
         match self {
-            TrackFailure::Night(failure) => status_of_night(failure),
+            TrackFailure::Night(failure) => failure.status(),
             TrackFailure::There(_) => 5,
         }
     }

@@ -17,8 +17,6 @@
 
 mod command;
 mod failure;
-mod report;
-mod setup_files;
 mod track;
 mod whole;
 

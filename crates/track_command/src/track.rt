@@ -3,23 +3,21 @@ ghost use Rattle.std.specs.Io.KnownBytes.{Appends};
 ghost use Rattle.hub_kinds.specs.declared.limits.TheConstants.{LONGEST_TEXT};
 ghost use Rattle.stream_read.specs.Source.{HasFailed};
 ghost use Rattle.night_command.specs.Outbox.{AddsFiles, KeepsFiles};
-ghost use Rattle.night_command.specs.SetupFiles.{IsMemoryOrIs, IsRefusedAt, IsSetupAt};
+ghost use Rattle.night_command.specs.SetupFiles.{IsSetupAt};
 ghost use Rattle.track_command.specs.CommandLine.{AsksForText, IsCommandLine, NamesNight, guide_paths};
 ghost use Rattle.track_command.specs.Failure.{IsOfTrack, stream_failure};
 ghost use Rattle.track_command.specs.Outcome.{IsGiven, IsOutcome, IsTrackBy, IsTrackOfSource, status_of};
 
 use crate::command::{Asked, Options, read_words};
 use crate::failure::TrackFailure;
-use crate::setup_files::read_files;
 use crate::whole::{Places, is_free};
 use hub_kinds::copy_text;
-use night_command::{Failure, PutFault, open_input, setup_of};
-use night_ends::Outbox;
+use night_command::{Failure, PutFault, open_input, setup_at};
+use night_ends::{Outbox, print_text};
 use partner_setup::Setup;
 use set_documents::Document;
 use std::alloc::Global;
 use std::convert::AsStr;
-use std::io;
 use std::io::Write;
 use std::rt::Files;
 use stream_read::{Held, Source, StreamFault};
@@ -58,26 +56,10 @@ fn show<O: Write, E: Write>(text: &[u8], out: &mut O, err: &mut E) -> u8
     ensures printed { result ≢ 5 → Appends (O.contents out.old) (O.contents out.new) text.now }
     ensures quiet { result ≢ 5 → err.new ≡ err.old }
 {
-    if print(text, out).is_err() {
+    if print_text(text, out).is_err() {
         return TrackFailure::Night(Failure::Stdout).report(err);
     }
     0
-}
-
-fn print<O: Write>(text: &[u8], out: &mut O) -> io::Result<()>
-    ensures { OnOk result (Appends (O.contents out.old) (O.contents out.new) text.now) }
-{
-    out.write_all(text)?;
-    out.flush()
-}
-
-/// The setup that the files of these options make, or the first refusal of them.
-fn setup_at<'a, R: Files + AllocGlobal>(rt: &R, options: &Options<'a>) -> Result<Setup, Failure<'a>>
-    ensures made { IfOk result (IsSetupAt (guide_paths options.now)) }
-    ensures refused { IfErr result (IsMemoryOrIs (IsRefusedAt (guide_paths options.now))) }
-{
-    let files = read_files(rt, options)?;
-    setup_of(rt.alloc(), &files)
 }
 
 /// Tracks the night that these options name, where its file can go to its place.
@@ -93,7 +75,8 @@ where
     if let Err(failure) = is_free(rt, options.output) {
         return failure.report(err);
     }
-    match setup_at(rt, options) {
+    let guides = options.guides.as_slice();
+    match setup_at(rt, guides, options.setup, options.counters) {
         Ok(setup) => run_by(rt, options, &setup, err),
         Err(refusal) => TrackFailure::Night(refusal).report(err),
     }
