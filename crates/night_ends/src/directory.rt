@@ -1,6 +1,6 @@
 ghost use Rattle.std.specs.Prelude.{◌≡◌, ◌≢◌, ◌++◌, [], IfOk, OnOk, string_bytes, codes};
 
-use crate::outbox::Outbox;
+use crate::outbox::{Outbox, faults_behind};
 use crate::written::{Written, write_and_sync};
 use std::alloc::Global;
 use std::io::ErrorKind;
@@ -30,31 +30,13 @@ impl<'a, R: Files + AllocGlobal> Directory<'a, R> {
     }
 }
 
-impl<'a, R> Directory<'a, R> {
-    ghost use Rattle.std.specs.Prelude.{◌≡◌, ◌<◌};
-    ghost use Rattle.night_ends.specs.Outbox.{CountsPut};
-
-    /// Counts what a put answers, and gives it on.
-    fn counted<'f>(&mut self, answer: io::Result<Written<'f>>) -> io::Result<Written<'f>>
-        requires { self.old.faults < 18446744073709551615 }
-        ensures same { result ≡ answer.entry }
-        ensures faults { CountsPut answer.entry self.old.faults self.new.faults }
-    {
-        if let Err(error) = &answer {
-            if error.kind() != ErrorKind::OutOfMemory {
-                self.faults += 1;
-            }
-        }
-        answer
-    }
-}
-
 impl<'a, R: Files + AllocGlobal> Outbox for Directory<'a, R> {
     ghost faults = { λ d. d.faults };
 
     fn put<'f>(&mut self, name: &'f [u8], bytes: &'f [u8]) -> io::Result<Written<'f>> {
         let answer = write_file(self.rt, self.path, name, bytes);
-        self.counted(answer)
+        self.faults = faults_behind(&answer, self.faults);
+        answer
     }
 }
 

@@ -24,7 +24,7 @@ mod words;
 mod written;
 
 pub use directory::Directory;
-pub use outbox::Outbox;
+pub use outbox::{Outbox, faults_behind};
 pub use printing::print_text;
 pub use reader::{Reader, read_whole};
 pub use words::{copied, texts_given, with_argument};

@@ -3,6 +3,7 @@ ghost use Rattle.night_ends.specs.Outbox.{CountsPut, File, PutsFile};
 
 use crate::written::Written;
 use std::io;
+use std::io::ErrorKind;
 
 /// A place for the files of a night.
 pub trait Outbox {
@@ -18,4 +19,21 @@ pub trait Outbox {
         ensures written { IfOk result (λ written. written ≡ (name.now, bytes.now)) }
         ensures files { PutsFile (contents self.old) (contents self.new) result (name.now, bytes.now) }
         ensures faults { CountsPut result (faults self.old) (faults self.new) };
+}
+
+/// How often a put has failed, with this answer of one more.
+pub fn faults_behind(answer: &io::Result<Written<'_>>, faults: u64) -> u64
+    requires { faults < 18446744073709551615 }
+    ensures { CountsPut answer.now faults result }
+{
+    match answer {
+        Ok(_) => faults,
+        Err(error) => {
+            if error.kind() == ErrorKind::OutOfMemory {
+                faults
+            } else {
+                faults + 1
+            }
+        }
+    }
 }

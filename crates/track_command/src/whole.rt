@@ -4,7 +4,7 @@ ghost use Rattle.track_command.specs.Failure.{IsOfPlace};
 use crate::failure::TrackFailure;
 use hub_kinds::copy_text;
 use night_command::Failure;
-use night_ends::{Outbox, Written, write_and_sync};
+use night_ends::{Outbox, Written, faults_behind, write_and_sync};
 use std::alloc::Global;
 use std::fs::{File, OpenFile};
 use std::io::{ErrorKind, Write};
@@ -29,31 +29,13 @@ impl<'a, R: Files + AllocGlobal> Places<'a, R> {
     }
 }
 
-impl<'a, R> Places<'a, R> {
-    ghost use Rattle.std.specs.Prelude.{◌≡◌, ◌<◌};
-    ghost use Rattle.night_ends.specs.Outbox.{CountsPut};
-
-    /// Counts what a put answers, and gives it on.
-    fn counted<'f>(&mut self, answer: io::Result<Written<'f>>) -> io::Result<Written<'f>>
-        requires { self.old.faults < 18446744073709551615 }
-        ensures same { result ≡ answer.entry }
-        ensures faults { CountsPut answer.entry self.old.faults self.new.faults }
-    {
-        if let Err(error) = &answer {
-            if error.kind() != ErrorKind::OutOfMemory {
-                self.faults += 1;
-            }
-        }
-        answer
-    }
-}
-
 impl<'a, R: Files + AllocGlobal> Outbox for Places<'a, R> {
     ghost faults = { λ p. p.faults };
 
     fn put<'f>(&mut self, name: &'f [u8], bytes: &'f [u8]) -> io::Result<Written<'f>> {
         let answer = put_whole(self.rt, name, bytes);
-        self.counted(answer)
+        self.faults = faults_behind(&answer, self.faults);
+        answer
     }
 }
 
