@@ -5,9 +5,11 @@ ghost use Rattle.x12_bytes.specs.Bytes.{is_line_end};
 ghost use Rattle.x12_segs.specs.Words.{seg_at, view_of, kind_of};
 ghost use Rattle.env_index.specs.Words.{ends_interchange};
 ghost use Rattle.batch_cut.specs.Open.{IsOpen};
-ghost use Rattle.batch_cut.specs.Steps.{Follows, Steps};
+ghost use Rattle.batch_cut.specs.Passing.{AreSearched};
+ghost use Rattle.batch_cut.specs.Steps.{Follows, Steps, Walks};
 
 use crate::begin::may_begin;
+use crate::passing::{Searched, not_searched, pass_over, search};
 use memchr::memchr;
 use x12_bytes::{Delims, read_header};
 use x12_segs::{Kind, SegView, kind_of};
@@ -38,6 +40,14 @@ pub(crate) enum Step {
 pub enum Followed {
     /// It ends at this offset.
     End(usize),
+    /// It isn't whole by what is read.
+    Wait(OpenPart),
+}
+
+/// The same, with how far is searched.
+pub(crate) enum Walked {
+    /// It ends at this offset.
+    End(usize, Searched),
     /// It isn't whole by what is read.
     Wait(OpenPart),
 }
@@ -159,12 +169,28 @@ pub fn follow(read: &[u8], delims: Delims, part: OpenPart) -> Followed
     requires { IsOpen read.now delims.terminator part.at part.lead part.seen }
     ensures { Follows read.now delims part.at result }
 {
+    match walk(read, delims, part, not_searched()) {
+        Walked::End(end, _) => Followed::End(end),
+        Walked::Wait(wait) => Followed::Wait(wait),
+    }
+}
+
+/// The same by what was searched before: parts that can't end it are passed over together.
+pub(crate) fn walk(read: &[u8], delims: Delims, part: OpenPart, searched: Searched) -> Walked
+    requires open_part { IsOpen read.now delims.terminator part.at part.lead part.seen }
+    requires searched { AreSearched read.now searched }
+    ensures { Walks read.now delims part.at result }
+{
     let mut part = part;
+    let mut searched = searched;
     loop {
         match look_at(read, delims, part) {
-            Step::On(next) => part = opened(next),
-            Step::End(end) => return Followed::End(end),
-            Step::Wait(wait) => return Followed::Wait(wait),
+            Step::On(next) => {
+                searched = search(read, searched, next);
+                part = opened(pass_over(read, delims, searched, next));
+            }
+            Step::End(end) => return Walked::End(end, searched),
+            Step::Wait(wait) => return Walked::Wait(wait),
         }
     }
 }
