@@ -21,18 +21,18 @@ returns-in-Ok-clause-usage g c usage line =
     let has = subst (λ (a : App). HasMatchesOf a words m) app c.in-Ok.ensures.matches in
     c.run_asked.ensures.usage usage (all_given words m has line.given)
 
-pub returns-in-Err-clause-asked : goal.returns-in-Err-clause-asked
-returns-in-Err-clause-asked g c =
+pub returns-in-Ok-text_asked-clause-asked : goal.returns-in-Ok-text_asked-clause-asked
+returns-in-Ok-text_asked-clause-asked g c =
     let app : app_of c.in_ok-command.command ≡ track_app = c.in_ok-command.ensures in
     let words = map g.S.AsStr.text c.args.words.now in
     let kind = subst (λ (a : App). HasKind (fault_of a words) c.in-Err.error) app
     (c.in-Err.ensures.kinds (ap is_simple_and_free app ∙ free)) in
     let passes : takes track_app words ≡ true → kind_of c.in-Err.error ≡ OutOfMemory =
     λ taken. c.in-Err.ensures.passes (ap (λ (a : App). takes a words) app ∙ taken) in
-    IfOk-weaker c.shown.result _ _ (λ a is. shown words c.in-Err.error a kind passes is) c.shown.ensures.shown
+    shown words c.in-Err.error kind passes c.in-Ok-text_asked.ensures.shown
 
-pub returns-in-Err-clause-usage : goal.returns-in-Err-clause-usage
-returns-in-Err-clause-usage g c usage line =
+pub returns-in-Err-text_asked-clause-usage : goal.returns-in-Err-text_asked-clause-usage
+returns-in-Err-text_asked-clause-usage g c usage line =
     let app : app_of c.in_ok-command.command ≡ track_app = c.in_ok-command.ensures in
     let words = map g.S.AsStr.text c.args.words.now in
-    c.shown.ensures.usage usage (c.in-Err.ensures.passes (ap (λ (a : App). takes a words) app ∙ line.taken))
+    c.in-Err-text_asked.ensures.usage usage (c.in-Err.ensures.passes (ap (λ (a : App). takes a words) app ∙ line.taken))
