@@ -177,9 +177,11 @@ module _ (setup : SetupValue) (p : Partner) (guides : ℕ) (hub_ids : are_ids se
       let last : List ℕ = segment_text d ge.id ge.elements in
       let inner : List Elements = flat_map set_segments sets.sets in
       let gs_made : IsMadeOf d first (written_parts gs ∷ []) = row_made d first (written_parts gs ∷ [])
-      (one_row d gs sound.divides (box.readable_gs_of setup p guides hub_ids sound at moment x g sent.ready) (record { long = omega arith; other = refl })) in
+      (one_row d gs sound.divides (box.readable_gs_of setup p guides hub_ids sound at moment x g sent.ready)
+      (record { long = omega arith; other = refl })) in
       let ge_made : IsMadeOf d last (written_parts ge ∷ []) = row_made d last (written_parts ge ∷ [])
-      (one_row d ge sound.divides (box.readable_ge_of setup p guides hub_ids sound at moment (length texts) g) (record { long = omega arith; other = refl })) in (
+      (one_row d ge sound.divides (box.readable_ge_of setup p guides hub_ids sound at moment (length texts) g)
+      (record { long = omega arith; other = refl })) in (
         record { header = written_parts gs; sets = sets.sets; trailer = written_parts ge },
         both_made d (first ++ texts_in_row texts) last (written_parts gs ∷ inner) (written_parts ge ∷ [])
             (both_made d first (texts_in_row texts) (written_parts gs ∷ []) inner gs_made sets.row) ge_made,

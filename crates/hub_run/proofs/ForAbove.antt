@@ -9,8 +9,8 @@ pub use Rattle.hub_run.proofs.Headers.{at_index, settled_headers}
 pub use Rattle.hub_run.proofs.Mailboxes.{IsReady, chunks_all, ge_of, groups_all, gs_of, numbered_all, readable_ge_of, readable_gs_of}
 pub use Rattle.hub_run.proofs.Marked.{IsMarked, marked}
 pub use Rattle.hub_run.proofs.OneNight.{known_once}
-pub use Rattle.hub_run.proofs.OneSet.{Inner, IsFit, found_in, inner_all, inner_bodies, inner_found, se_body, se_divided, se_elements, set_all}
-pub use Rattle.hub_run.proofs.OneSet.{set_bodies, st_divided, st_elements, text_of_set}
+pub use Rattle.hub_run.proofs.OneSet.{Inner, IsFit, found_in, inner_all, inner_bodies, inner_found, se_body, se_divided, se_elements}
+pub use Rattle.hub_run.proofs.OneSet.{set_all, set_bodies, st_divided, st_elements, text_of_set}
 pub use Rattle.hub_run.proofs.Pairs.{pairs_tail, pairs_weaker_at}
 pub use Rattle.hub_run.proofs.PlainReferences.{everywhere}
 pub use Rattle.hub_run.proofs.QuotedElements.{AreElementsUndivided, elements_undivided}

@@ -100,14 +100,16 @@ module _ (setup : SetupValue) (p : Partner) (guides : ℕ) (hub_ids : are_ids se
       → Gives d (segment_text d (gs_of x n).id (gs_of x n).elements) i g [] i (decimal n)
   gs_gives i g x n sent = record {
     es = written_parts (gs_of x n) ∷ [];
-    made = row_of (gs_of x n) (box.readable_gs_of setup p guides hub_ids sound at moment x n sent.ready) (record { long = omega arith; other = refl });
+    made = row_of (gs_of x n) (box.readable_gs_of setup p guides hub_ids sound at moment x n sent.ready)
+        (record { long = omega arith; other = refl });
     gives = λ ss. ap (λ (h : List ℕ). map numbers_of (found_behind i h None ss)) (trimmed_at (gs_of x n).elements 5);
   }
 
   ge_gives : (i g : List ℕ) (sets n : ℕ) → Gives d (segment_text d (ge_of sets n).id (ge_of sets n).elements) i g [] i g
   ge_gives i g sets n = record {
     es = written_parts (ge_of sets n) ∷ [];
-    made = row_of (ge_of sets n) (box.readable_ge_of setup p guides hub_ids sound at moment sets n) (record { long = omega arith; other = refl });
+    made = row_of (ge_of sets n) (box.readable_ge_of setup p guides hub_ids sound at moment sets n)
+        (record { long = omega arith; other = refl });
     gives = λ ss. refl;
   }
 
