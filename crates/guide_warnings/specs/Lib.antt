@@ -1,5 +1,6 @@
 pub mod Codes
 pub mod Dependencies
+pub mod Dictionary
 pub mod Headers
 pub mod Labels
 pub mod Nodes

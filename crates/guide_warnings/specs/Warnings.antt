@@ -4,6 +4,7 @@ use Rattle.guide_tree.specs.Words.{GuideTree}
 use Rattle.guide_tree.specs.declared.rows.GuideHead.{GuideHead}
 use Rattle.guide_warnings.specs.Headers.{lets_headers_through}
 use Rattle.guide_warnings.specs.Dependencies.{dependency_warnings}
+use Rattle.guide_warnings.specs.Dictionary.{dictionary_warnings}
 use Rattle.guide_warnings.specs.Labels.{nodes_labels}
 use Rattle.guide_warnings.specs.Nodes.{nodes_warnings}
 use Rattle.guide_warnings.specs.Unmet.{unmet_nodes}
@@ -16,5 +17,6 @@ head_warnings head = if lets_headers_through head then warning.HeaderLetThrough 
 abbrev pub warnings_of : GuideTree → List Warning
 warnings_of g =
     head_warnings g.head
+    ++ (dictionary_warnings g.nodes g.head.dictionary
     ++ (unmet_nodes g.nodes
-    ++ (nodes_warnings g.nodes ++ (nodes_labels g.depends g.nodes ++ dependency_warnings g.nodes 1 g.depends)))
+    ++ (nodes_warnings g.nodes ++ (nodes_labels g.depends g.nodes ++ dependency_warnings g.nodes 1 g.depends))))

@@ -34,6 +34,15 @@ pub struct CodeWarning {
     pub code: Text,
 }
 
+/// An id of the dictionary that a segment position has too, by the first such position.
+#[derive(Debug, Drop)]
+pub struct DictionaryWarning {
+    /// The number of the segment position.
+    pub slot: u32,
+    /// The segment id.
+    pub id: Text,
+}
+
 /// A label of a segment position that no dependency names.
 #[derive(Debug, Drop)]
 pub struct LabelWarning {
@@ -75,6 +84,8 @@ pub struct UnmetWarning {
 pub enum Warning {
     /// A set is accepted although it has a segment that the guide doesn't know, also one that begins with ISA.
     HeaderLetThrough,
+    /// The dictionary is never asked for it.
+    IdInDictionary(DictionaryWarning),
     Code(CodeWarning),
     UnnamedLabel(LabelWarning),
     CodeOfDependency(DependencyWarning),

@@ -3,6 +3,7 @@ ghost use Rattle.guide_tree.specs.Words.{guide_of};
 ghost use Rattle.guide_warnings.specs.Warnings as warnings;
 
 use crate::dependencies::push_dependencies;
+use crate::dictionary::push_dictionary;
 use crate::headers::lets_headers_through;
 use crate::labels::push_labels;
 use crate::nodes::push_nodes;
@@ -28,6 +29,12 @@ pub fn warnings_of(alloc: Global, guide: &Guide) -> Result<Vec<Warning>, NoMemor
     let mut found = Vec::new(alloc);
     let rows = guide.rows();
     push_head(&mut found, &rows.head)?;
+    push_dictionary(
+        alloc,
+        &mut found,
+        &rows.nodes,
+        rows.head.dictionary.as_slice(),
+    )?;
     push_unmet(alloc, &mut found, &rows.nodes)?;
     push_nodes(alloc, &mut found, &rows.nodes)?;
     push_labels(alloc, &mut found, rows.depends.as_slice(), &rows.nodes)?;
