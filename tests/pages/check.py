@@ -160,6 +160,7 @@ ROWS = {
 
 HEADER = "a segment that the guide doesn't know is accepted, also one that begins with ISA: a receiver may read it as a header"
 CODE = "segment 1 (REF): element 1: the code"
+IDLE = "its id stands in `dictionary` too, where it does nothing"
 UNMET = "no set can meet this: "
 NONE_STANDS = " is mandatory, and its type or its lengths allow none of its codes"
 
@@ -168,6 +169,11 @@ WARNED = {
     "6 tolerated, and ISA known": ('dictionary = ["ISA"]\ntolerate_segment = ["6"]\n' + SMALL, [HEADER]),
     "6 tolerated": ('dictionary = ["PER"]\ntolerate_segment = ["6"]\n' + SMALL, []),
     "ISA known": ('dictionary = ["ISA"]\ntolerate_segment = ["7"]\n' + SMALL, []),
+    "an id that is known and used": ('dictionary = ["PER", "REF"]\n' + nodes(segment()), [f"{REF}{IDLE}"]),
+    "ids that are known and used, one at two places, where 1 is tolerated": (
+        'dictionary = ["DTM", "N9", "PER"]\ntolerate_segment = ["1"]\n'
+        + nodes(segment("DTM"), segment(), loop(segment("N9", 1, 1) + ", " + segment("DTM"))),
+        [HEADER, f"segment 1 (DTM): {IDLE}", f"segment 4 (N9): {IDLE}"]),
     "a comma": (elements("128 M ID 2 5 = DP,IA"), [f"{CODE} DP,IA has a comma or a stroke; a space stands between codes"]),
     "a stroke": (elements("128 M ID 2 5 = DP IA|VN"), [f"{CODE} IA|VN has a comma or a stroke; a space stands between codes"]),
     "a code too long": (elements("128 M ID 2 2 = DP DPX"), [f"{CODE} DPX is shorter or longer than the element may be"]),

@@ -5,6 +5,7 @@ use Rattle.guide_warnings.specs.declared.warning.CodeDoubt.{CodeDoubt}
 use Rattle.guide_warnings.specs.declared.warning.CodeDoubt.TheVariants as doubt
 use Rattle.guide_warnings.specs.declared.warning.CodeWarning.{CodeWarning}
 use Rattle.guide_warnings.specs.declared.warning.DependencyWarning.{DependencyWarning}
+use Rattle.guide_warnings.specs.declared.warning.DictionaryWarning.{DictionaryWarning}
 use Rattle.guide_warnings.specs.declared.warning.LabelWarning.{LabelWarning}
 use Rattle.guide_warnings.specs.declared.warning.UnmetWarning.{UnmetWarning}
 use Rattle.guide_warnings.specs.declared.warning.Warning.{Warning}
@@ -32,6 +33,9 @@ abbrev pub code_words : CodeWarning → List ℕ
 code_words w =
     in_place (codes "segment") w.slot w.id ++ (at_words w.at ++ (codes "the code " ++ (w.code ++ doubt_words w.doubt)))
 
+abbrev pub dictionary_words : DictionaryWarning → List ℕ
+dictionary_words w = in_place (codes "segment") w.slot w.id ++ codes "its id stands in `dictionary` too, where it does nothing"
+
 abbrev pub label_words : LabelWarning → List ℕ
 label_words w = in_place (codes "segment") w.slot w.id ++ two_texts (codes "no dependency names its label ") w.label
 
@@ -55,6 +59,7 @@ unmet_words w =
 abbrev pub warning_words : Warning → List ℕ
 warning_words warning.HeaderLetThrough =
     codes "a segment that the guide doesn't know is accepted, also one that begins with ISA: a receiver may read it as a header"
+warning_words (warning.IdInDictionary w) = dictionary_words w
 warning_words (warning.Code w) = code_words w
 warning_words (warning.UnnamedLabel w) = label_words w
 warning_words (warning.CodeOfDependency w) = dependency_words w

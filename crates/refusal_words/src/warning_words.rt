@@ -5,7 +5,8 @@ use crate::appended::{
     append, append_in_place, append_number, append_one, append_place, append_texts,
 };
 use guide_warnings::{
-    At, CodeDoubt, CodeWarning, DependencyWarning, LabelWarning, UnmetWarning, Warning,
+    At, CodeDoubt, CodeWarning, DependencyWarning, DictionaryWarning, LabelWarning, UnmetWarning,
+    Warning,
 };
 use hub_kinds::NoMemory;
 
@@ -56,6 +57,17 @@ fn append_code(out: &mut Vec<u8>, warning: &CodeWarning) -> Result<(), NoMemory>
     append(out, b"the code ")?;
     append(out, warning.code.as_slice())?;
     append(out, doubt_words(warning.doubt))
+}
+
+fn append_dictionary(out: &mut Vec<u8>, warning: &DictionaryWarning) -> Result<(), NoMemory>
+    ensures { OnOk result (out.new.items ≡ out.old.items ++ words.dictionary_words warning.now) }
+{
+    let number = u64::from(warning.slot);
+    append_in_place(out, b"segment", number, warning.id.as_slice())?;
+    append(
+        out,
+        b"its id stands in `dictionary` too, where it does nothing",
+    )
 }
 
 fn append_label(out: &mut Vec<u8>, warning: &LabelWarning) -> Result<(), NoMemory>
@@ -116,6 +128,7 @@ pub fn append_warning(out: &mut Vec<u8>, warning: &Warning) -> Result<(), NoMemo
             out,
             b"a segment that the guide doesn't know is accepted, also one that begins with ISA: a receiver may read it as a header",
         ),
+        Warning::IdInDictionary(warning) => append_dictionary(out, warning),
         Warning::Code(warning) => append_code(out, warning),
         Warning::UnnamedLabel(warning) => append_label(out, warning),
         Warning::CodeOfDependency(warning) => append_dependency(out, warning),
