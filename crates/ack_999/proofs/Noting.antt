@@ -1,4 +1,4 @@
--- IK4, written one part behind the other.
+-- IK4, written one part after the other.
 use Rattle.std.proofs.Common.{◌≡◌, ℕ, ◌<◌, List, [], ◌∷◌, ◌++◌, length, sym, ap, ◌∙◌, arith, append_assoc}
 use Rattle.x12_bytes.specs.declared.delims.Delims.{Delims}
 use Rattle.hub_kinds.specs.Words.{element_text}
@@ -27,7 +27,7 @@ element_text-some element.NotUsedPresent = omega arith
 element_text-some element.PatternFailure = omega arith
 element_text-some element.DependentNotUsedPresent = omega arith
 
--- in front of a code nothing is left off
+-- before a code nothing is left off
 trimmed-code : (position reference code : List ℕ) (rest : List (List ℕ)) → 0 < length code
     → trimmed (position ∷ reference ∷ code ∷ rest) ≡ position ∷ trimmed (reference ∷ code ∷ rest)
 trimmed-code position reference [] rest some = absurd (omega (arith, some))
@@ -48,7 +48,7 @@ segment_text-code d id position reference copy k =
     (trimmed-code position reference (element_text k) (copy ∷ []) (element_text-some k))
     ∙ ap (λ (t : List ℕ). id ++ t) (append_assoc (d.element ∷ position) (elements_text d.element (trimmed last)) (d.terminator ∷ []))
 
--- what four calls append, one behind the other
+-- what four calls append, one after the other
 pub appended : (out out1 out2 out3 out4 id position end : List ℕ) (separator : ℕ) → out1 ≡ out ++ id → out2 ≡ out1 ++ separator ∷ []
     → out3 ≡ out2 ++ position → out4 ≡ out3 ++ end → out4 ≡ out ++ (id ++ (separator ∷ (position ++ end)))
 appended out out1 out2 out3 out4 id position end separator a b c d = rw (d, c, b, a) (simp append_assoc)

@@ -84,7 +84,7 @@ text_999-parts d g sets n =
     (set_trailer (segment_count g t) n)
     ∙ ap (λ (k : ℕ). segments_text d (inner ++ set_trailer k n ∷ [])) (counted d g sets n)
 
--- behind head and sets, the trailers complete the acknowledgment
+-- after head and sets, the trailers complete the acknowledgment
 pub text_999-completed : (d : Delims) (g : GroupAnswer) (sets : List SetAnswer) (n count : ℕ) (t : Totals)
     (before old answered new : List ℕ)
     → t ≡ totals_of sets → old ≡ before ++ head_text d g n ++ sets_text d g sets

@@ -1,4 +1,4 @@
--- What is told at each position.
+-- What is reported at each position.
 use Rattle.std.proofs.Common.{◌≡◌, ℕ, Bool, true, false, List, [], ◌∷◌, ◌++◌, map, refl, sym, ap, ◌∙◌}
 use Rattle.std.proofs.Common.{arith, append_assoc, eq-eqb}
 use Rattle.std.proofs.Common.{Option, Some, None}
@@ -77,7 +77,7 @@ structural-after q before [] apart all = apart
 structural-after q before (x ∷ xs) apart all =
     structural-after q (element_position x) xs (ap (λ (o : Option ℕ). is_this o q) (structural-one before x all.0).1) all.1
 
--- element faults behind one of their position
+-- element faults after one of their position
 elements-more : (p : ℕ) (xs : List Fault) → AllByRecursion (λ f. is_of_element f ≡ true) xs → AllByRecursion (λ f. f.position ≡ p) xs
     → notes_behind (Some p) xs ≡ map (λ e. ElementNote e) (filter_map (λ g. g.elem) xs)
 elements-more p [] all at = refl
@@ -88,7 +88,7 @@ elements-more p (x ∷ xs) all at = by x.elem refl (elements-more p xs all.1 at.
     by None is rest = let off = ap is_some is in cc (off, all.0)
     by (Some e) is rest = rw (is, eq-eqb p x.position (sym at.0), at.0) (ap (λ (l : List Note). ElementNote e ∷ l) rest)
 
--- the first of them, behind none of its position
+-- the first of them, after none of its position
 element-one : (before : Option ℕ) (x : Fault) (e : ElemFault) → x.elem ≡ Some e → is_this before x.position ≡ false
     → (notes_on before x ≡ SegmentNote x ∷ ElementNote e ∷ []) × (element_position x ≡ Some x.position)
 element-one before x e is apart = (
@@ -100,7 +100,7 @@ shown-first : (x : Fault) (e : ElemFault) (xs : List Fault) → x.elem ≡ Some 
     → SegmentNote x ∷ ElementNote e ∷ map (λ e. ElementNote e) (filter_map (λ g. g.elem) xs) ≡ element_notes (x ∷ xs)
 shown-first x e xs is = rw is refl
 
--- element faults of one position, behind none of it
+-- element faults of one position, after none of it
 elements : (p : ℕ) (before : Option ℕ) (xs : List Fault) → is_this before p ≡ false → AllByRecursion (λ f. is_of_element f ≡ true) xs
     → AllByRecursion (λ f. f.position ≡ p) xs → notes_behind before xs ≡ element_notes xs
 elements p before [] apart all at = refl

@@ -14,7 +14,7 @@ use Rattle.x12_write.specs.Segment.{Segment, trimmed, before_rest, elements_text
 use Rattle.ack_999.specs.ReadBack.{written_parts}
 use Rattle.x12_write.specs.Undivided.{IsUndivided}
 
--- nothing in a segment is taken for a delimiter, or passed over in front of it
+-- nothing in a segment is taken for a delimiter, or passed over before it
 pub record IsReadable (d : Delims) (s : Segment) : Type 0 where
   pub some : 0 < length s.id
   pub first : prefix_len is_line_end s.id ≡ 0
@@ -38,7 +38,7 @@ lacks-terminator d text undivided =
     ≡ false) (λ (b : ℕ) (other : P b). false_from_ne_true (b == d.terminator)
     (λ h. other.1 (eqb-true b d.terminator h))) text undivided
 
--- elements that lack the separator, behind an id that does, are the parts
+-- elements that lack the separator, after an id that does, are the parts
 parts-elements : (e : ℕ) (id : List ℕ) (elements : List (List ℕ)) → Lacks e id → All (Lacks e) elements
     → parts e (id ++ elements_text e elements) ≡ id ∷ elements
 parts-elements e id [] p q = ap (parts e) (append-nil id) ∙ slice_split_none (λ b. b == e) id p
@@ -56,7 +56,7 @@ trimmed-all P (x ∷ xs) all = front x (trimmed xs) (All-head P x xs all) (trimm
     front [] (y ∷ ys) p q = All-cons P [] (y ∷ ys) p q
     front (b ∷ bs) rest p q = All-cons P (b ∷ bs) rest p q
 
--- elements behind their separators lack a terminator
+-- elements after their separators lack a terminator
 elements_text-lacks : (e t : ℕ) (elements : List (List ℕ)) → e ≢ t → All (Lacks t) elements → Lacks t (elements_text e elements)
 elements_text-lacks e t [] other all = All-nil (λ b. (b == t) ≡ false)
 elements_text-lacks e t (x ∷ xs) other all =
@@ -68,7 +68,7 @@ stays-zero : (b : Bool) (n m : ℕ) → cond b (1 + n) 0 ≡ 0 → cond b (1 + m
 stays-zero true n m h = absurd (omega (arith, h))
 stays-zero false n m h = refl
 
--- a text that begins with no line end, with more behind it
+-- a text that begins with no line end, with more after it
 prefix_len-behind : (p : ℕ → Bool) (xs ys : List ℕ) → 0 < length xs → prefix_len p xs ≡ 0 → prefix_len p (xs ++ ys) ≡ 0
 prefix_len-behind p [] ys some none = absurd (omega (arith, some))
 prefix_len-behind p (x ∷ xs) ys some none = stays-zero (p x) (prefix_len p xs) (prefix_len p (xs ++ ys)) none
@@ -95,7 +95,7 @@ segs_of-cons place part (next ∷ more) some = refl
 some-parts : (c : ℕ) (text : List ℕ) → 0 < length (parts c text)
 some-parts c text = omega (arith, length-slice_split (λ b. b == c) text)
 
--- one written segment in front of other text is read first
+-- one written segment before other text is read first
 read-first : (d : Delims) (s : Segment) (place : ℕ) (text : List ℕ) → d.element ≢ d.terminator → IsReadable d s
     → (next : ℕ) × (map (λ seg. parts d.element seg.bytes) (segs_of place (parts d.terminator (segment_text d s.id s.elements ++ text)))
     ≡ written_parts s ∷ map (λ seg. parts d.element seg.bytes) (segs_of next (parts d.terminator text)))

@@ -1,4 +1,4 @@
--- No segment that tells of a fault holds a delimiter.
+-- No segment that reports a fault holds a delimiter.
 use Rattle.std.proofs.Common.{◌≡◌, ◌≢◌, ℕ, ◌<◌, Bool, true, false, List, [], ◌∷◌, ◌++◌, length, map, refl, arith, eq-eqb}
 use Rattle.std.specs.Prelude.{All, IfSome, Option, Some, None, not, ◌||◌, ◌&&◌, ◌==◌, nat_le, take, codes, decimal, if◌then◌else◌}
 use Rattle.std.specs.List.{list_all, prefix_len}

@@ -1,4 +1,4 @@
--- What is told of faults, one fault behind the other.
+-- What is reported of faults, one fault after the other.
 use Rattle.std.proofs.Common.{◌≡◌, ℕ, List, ◌++◌, length, ◌≤◌, drop, sym, ap, ◌∙◌}
 use Rattle.std.specs.Prelude.{Option, None}
 use Rattle.std.proofs.lemmas.List.{drop_all, append-nil}
@@ -14,7 +14,7 @@ pub notes_text-is : (d : Delims) (faults : List Fault)
 notes_text-is d faults =
     sym (flat_map-map (λ s. segment_text d s.id s.elements) (note_segment d) (notes_behind None faults))
 
--- where no fault is left, all is told
+-- where no fault is left, all is reported
 pub all_told : (d : Delims) (before : Option ℕ) (faults : List Fault) (i : ℕ) (old new : List ℕ) → length faults ≤ i
     → new ++ notes_text d (notes_behind before (drop i faults)) ≡ old ++ notes_text d (notes_behind None faults)
     → new ≡ old ++ segments_text d (fault_segments d faults)

@@ -33,7 +33,7 @@ at-most : (a b : ℕ) (P : Type 0) → (a < b) ⊎ ((a ≡ b) × P) → a ≤ b
 at-most a b P (inl less) = omega (arith, less)
 at-most a b P (inr same) = let e = same.0 in omega (arith, e)
 
--- what is compared behind the position, and behind the rank
+-- what is compared after the position, and after the rank
 abbrev by_rank : Fault → List ℕ
 by_rank f = rank_of f ∷ f.slot ∷ elem_key f.elem
 

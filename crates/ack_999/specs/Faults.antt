@@ -35,7 +35,7 @@ abbrev pub position_text : ℕ → ElemFault → List ℕ
 position_text separator e =
     decimal e.element ++ elements_text separator (trimmed (number_text e.component ∷ number_text e.repetition ∷ []))
 
--- what is told of faults: IK3, of a segment; IK4, of an element
+-- what is reported of faults: IK3, of a segment; IK4, of an element
 pub data Note : Type 0 where
   SegmentNote : (fault : Fault) → Note
   ElementNote : (elem : ElemFault) → Note
@@ -54,7 +54,7 @@ element_position f = at f.elem
     at None = None
     at (Some _) = Some f.position
 
--- the notes on a fault: an IK3; where an element is at fault an IK4, behind an IK3 unless the fault before is an element fault of
+-- the notes on a fault: an IK3; where an element is at fault an IK4, after an IK3 unless the fault before is an element fault of
 -- the same position
 abbrev pub notes_for : Option ℕ → Fault → Option ElemFault → List Note
 notes_for before f None = SegmentNote f ∷ []
@@ -63,7 +63,7 @@ notes_for before f (Some e) = (if is_this before f.position then [] else Segment
 abbrev pub notes_on : Option ℕ → Fault → List Note
 notes_on before f = notes_for before f f.elem
 
--- the notes on faults, one fault behind the other
+-- the notes on faults, one fault after the other
 abbrev pub notes_behind : Option ℕ → List Fault → List Note
 notes_behind before [] = []
 notes_behind before (f ∷ faults) = notes_on before f ++ notes_behind (element_position f) faults

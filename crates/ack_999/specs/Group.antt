@@ -82,7 +82,7 @@ group_verdict_of (_ ∷ _) verdicts = group.Rejected
 abbrev pub verdicts_of : List SetAnswer → List Verdict
 verdicts_of sets = map (λ s. s.verdict) sets
 
--- how many sets have each verdict, and how many segments tell of their faults
+-- how many sets have each verdict, and how many segments report their faults
 abbrev pub totals_of : List SetAnswer → Totals
 totals_of sets = record {
   accepted = count_by is_accepted (verdicts_of sets);
@@ -95,7 +95,7 @@ totals_of sets = record {
 abbrev pub received_sets : Totals → ℕ
 received_sets t = t.accepted + t.accepted_with_errors + t.rejected
 
--- an AK2 and an IK5 for each set, and between them what tells of its faults
+-- an AK2 and an IK5 for each set, and between them what reports its faults
 abbrev pub set_segment_count : Totals → ℕ
 set_segment_count t = 2 * received_sets t + t.fault_segments
 

@@ -80,7 +80,7 @@ segments_999 d g sets n =
 abbrev pub text_999 : Delims → GroupAnswer → List SetAnswer → ℕ → List ℕ
 text_999 d g sets n = segments_text d (segments_999 d g sets n)
 
--- its parts, as they are written one behind the other
+-- its parts, as they are written one after the other
 abbrev pub head_text : Delims → GroupAnswer → ℕ → List ℕ
 head_text d g n = segments_text d (head_segments g n)
 
@@ -97,7 +97,7 @@ tail_text d g t n = segments_text d (group_response g t ∷ set_trailer (segment
 abbrev pub sets_text : Delims → GroupAnswer → List SetAnswer → List ℕ
 sets_text d g sets = if shows_sets g.codes then flat_map (set_text d) sets else []
 
--- behind the head and the sets of an acknowledgment, what is appended completes it
+-- after the head and the sets of an acknowledgment, what is appended completes it
 abbrev pub Completes : Delims → GroupAnswer → Totals → ℕ → List ℕ → List ℕ → Type 0
 Completes d g totals n old new =
     (before : List ℕ) (sets : List SetAnswer) → totals ≡ totals_of sets

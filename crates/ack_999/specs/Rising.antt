@@ -1,4 +1,4 @@
--- 999 guide, error identification (IK3) and implementation data element note (IK4): what is told at each position of a set whose
+-- 999 guide, error identification (IK3) and implementation data element note (IK4): what is reported at each position of a set whose
 -- faults stand in their order (own), each once.
 use Rattle.std.specs.Prelude.{ℕ, ◌≡◌, ◌==◌, Bool, is_some, nat_lt, List, [], ◌∷◌, ◌++◌, All, map, filter, filter_map}
 use Rattle.x12_bytes.specs.declared.delims.Delims.{Delims}
@@ -17,7 +17,7 @@ rank_of f = segment_rank f.code
 abbrev pub IsToldByElements : Fault → Type 0
 IsToldByElements f = is_of_element f ≡ (rank_of f == segment_rank ElementErrors)
 
--- the code comes before 8, or behind it
+-- the code comes before 8, or after it
 abbrev pub comes_before : Fault → Bool
 comes_before f = nat_lt (rank_of f) (segment_rank ElementErrors)
 
@@ -38,7 +38,7 @@ is_above p f = nat_lt p f.position
 abbrev pub segment_notes : List Fault → List Note
 segment_notes faults = map (λ f. SegmentNote f) faults
 
--- element faults of one segment: one IK3, whose code is 8, and behind it an IK4 each
+-- element faults of one segment: one IK3, whose code is 8, and after it an IK4 each
 abbrev pub element_notes : List Fault → List Note
 element_notes [] = []
 element_notes (f ∷ faults) = SegmentNote f ∷ map (λ e. ElementNote e) (filter_map (λ g. g.elem) (f ∷ faults))
@@ -50,7 +50,8 @@ notes_at faults =
     ++ element_notes (filter is_of_element faults)
     ++ segment_notes (filter comes_behind faults)
 
--- what is told of faults is, for each position, what is told of those below, the notes on those at it, and what is told of those above
+-- what is reported of faults is, for each position, what is reported of those below, the notes on those at it, and what is reported of
+-- those above
 abbrev pub TellsEachPosition : Type 0
 TellsEachPosition =
     (d : Delims) (faults : List Fault) → AreRising faults → All IsToldByElements faults → (p : ℕ)

@@ -1,4 +1,4 @@
--- X12.5, interchange acknowledgment segment (TA1): what a partner is told of an interchange that it sent.
+-- X12.5, interchange acknowledgment segment (TA1): what is reported to a partner of an interchange that it sent.
 use Rattle.std.specs.Prelude.{ℕ, List, [], ◌∷◌, codes}
 use Rattle.x12_bytes.specs.declared.delims.Delims.{Delims}
 use Rattle.x12_bytes.specs.Header.{field_of}

@@ -66,7 +66,7 @@ fn hides_sets(code: GroupCode) -> bool
     }
 }
 
-/// How many sets have each verdict, and how many segments tell of their faults.
+/// How many sets have each verdict, and how many segments report their faults.
 pub fn totals_of(sets: &[SetAnswer]) -> Totals
     ensures value { result ≡ totals_of sets.now }
     ensures countable { IsCountable result }

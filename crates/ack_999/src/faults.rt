@@ -8,7 +8,7 @@ use crate::notes::{append_element_note, append_segment_note};
 use hub_kinds::{Fault, NoMemory};
 use x12_bytes::Delims;
 
-/// Writes what is told of a set's faults behind what is there.
+/// Writes what is reported of a set's faults after what is there.
 pub fn append_faults(out: &mut Vec<u8>, delims: &Delims, faults: &[Fault]) -> Result<(), NoMemory>
     ensures text { OnOk result (out.new.items ≡ out.old.items ++ segments_text delims.now (fault_segments delims.now faults.now)) }
     ensures kept { Extends out.old.items out.new.items }
@@ -21,7 +21,7 @@ pub fn append_faults(out: &mut Vec<u8>, delims: &Delims, faults: &[Fault]) -> Re
     Ok(())
 }
 
-/// Writes what is told of one fault; `before` is the position of the fault before, where that is an element
+/// Writes what is reported of one fault; `before` is the position of the fault before, where that is an element
 /// fault.
 fn append_notes(
     out: &mut Vec<u8>,
@@ -61,7 +61,7 @@ fn is_this(number: Option<u64>, other: u64) -> bool
     }
 }
 
-/// How many segments tell of a set's faults.
+/// How many segments report a set's faults.
 pub fn fault_segment_count(faults: &[Fault]) -> u64
     ensures value { result ≡ length (notes faults.now) }
     ensures bound { result ≤ 2 * length faults.now }
@@ -75,7 +75,7 @@ pub fn fault_segment_count(faults: &[Fault]) -> u64
     count
 }
 
-/// How many segments tell of one fault.
+/// How many segments report one fault.
 fn note_count(before: Option<u64>, fault: &Fault) -> u64
     ensures value { result ≡ length (notes_on before fault.now) }
     ensures bound { result ≤ 2 }

@@ -35,7 +35,7 @@ pub fn write_ack_interchange(
     Ok(out)
 }
 
-/// Writes a TA1 behind what is there, where there is one.
+/// Writes a TA1 after what is there, where there is one.
 fn append_ta1_part(out: &mut Vec<u8>, ta1: Option<&[u8]>) -> Result<(), NoMemory>
     ensures text { OnOk result (out.new.items ≡ out.old.items ++ ta1_part (option_map (λ t. t.now) ta1.entry)) }
     ensures kept { Extends out.old.items out.new.items }
@@ -46,7 +46,7 @@ fn append_ta1_part(out: &mut Vec<u8>, ta1: Option<&[u8]>) -> Result<(), NoMemory
     Ok(())
 }
 
-/// Writes the group of these acknowledgments behind what is there, where there are any.
+/// Writes the group of these acknowledgments after what is there, where there are any.
 fn append_group_part(
     out: &mut Vec<u8>,
     envelope: &Envelope,
@@ -71,7 +71,7 @@ fn group_count(reports: &[Text]) -> u64
     if reports.is_empty() { 0 } else { 1 }
 }
 
-/// Writes GS of the group of number `control` (1 to 999,999,999) that acknowledgments stand in, behind what is there.
+/// Writes GS of the group of number `control` (1 to 999,999,999) that acknowledgments stand in, after what is there.
 pub fn append_ack_group_header(
     out: &mut Vec<u8>,
     envelope: &Envelope,

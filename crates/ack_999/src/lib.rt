@@ -4,16 +4,16 @@
 //! a segment's end.
 //!
 //! Proved:
-//! - `write_999` writes exactly the 999's segments, among them what is told of each set's faults,
+//! - `write_999` writes exactly the 999's segments, among them what is reported of each set's faults,
 //!   and SE01 is their number; read again by the same delimiters, the text has these segments;
-//!   `append_999` writes it behind what is there; `append_head`, `append_set` and `append_tail` write the same, one part after another;
+//!   `append_999` writes it after what is there; `append_head`, `append_set` and `append_tail` write the same, one part after another;
 //! - `write_ta1` writes exactly the TA1: ISA13, ISA09 and ISA10 of the interchange that is answered, A where the note is `000` and
-//!   else R, and the note; `append_ta1` writes it behind what is there;
+//!   else R, and the note; `append_ta1` writes it after what is there;
 //! - `write_ack_interchange` writes exactly the interchange: its header in its fixed width, the TA1 if there is one, the group of the
 //!   999s if there are any, and the trailer with the number of groups; `append_ack_group_header` writes the header of that group; the
 //!   interchange's header is read again where the envelope is fit to be sent;
-//! - of faults that stand in their order, each once, each position is told by an IK3 for each structural fault and one IK3
-//!   with code 8 for all element faults together, with an IK4 for each behind it (`each_position_is_told`);
+//! - of faults that stand in their order, each once, each position is reported by an IK3 for each structural fault and one IK3
+//!   with code 8 for all element faults together, with an IK4 for each after it (`each_position_is_told`);
 //! - a call that appends keeps what was there before, also where memory is refused;
 //! - `group_codes` gives the group's codes, in their order;
 //! - `group_verdict` works on counts and answers the verdict that the sets' verdicts give; totals that

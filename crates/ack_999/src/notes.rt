@@ -11,7 +11,7 @@ use itoa::Buffer;
 use x12_bytes::Delims;
 use x12_write::{append_end, append_segment, append_used};
 
-/// Writes IK3 behind what is there.
+/// Writes IK3 after what is there.
 pub fn append_segment_note(
     out: &mut Vec<u8>,
     delims: &Delims,
@@ -32,7 +32,7 @@ pub fn append_segment_note(
     )
 }
 
-/// Writes a segment of four elements behind what is there.
+/// Writes a segment of four elements after what is there.
 fn append_four<'a>(
     out: &mut Vec<u8>,
     delims: &Delims,
@@ -68,7 +68,7 @@ fn code_shown(fault: &Fault) -> SegmentCode
     }
 }
 
-/// Writes IK4 behind what is there.
+/// Writes IK4 after what is there.
 pub fn append_element_note(
     out: &mut Vec<u8>,
     delims: &Delims,
@@ -89,7 +89,7 @@ pub fn append_element_note(
     )
 }
 
-/// Writes the last three elements of a segment and its terminator behind what is there.
+/// Writes the last three elements of a segment and its terminator after what is there.
 fn append_last_three<'a>(
     out: &mut Vec<u8>,
     delims: &Delims,
@@ -103,7 +103,7 @@ fn append_last_three<'a>(
     append_end(out, delims, &[first, second, third])
 }
 
-/// Writes IK401 behind what is there.
+/// Writes IK401 after what is there.
 fn append_position(out: &mut Vec<u8>, separator: u8, elem: &ElemFault) -> Result<(), NoMemory>
     ensures text { OnOk result (out.new.items ≡ out.old.items ++ position_text separator elem.now) }
     ensures kept { Extends out.old.items out.new.items }

@@ -36,7 +36,7 @@ pub fn write_999(
     Ok(out)
 }
 
-/// Writes the implementation acknowledgment of a functional group behind what is there.
+/// Writes the implementation acknowledgment of a functional group after what is there.
 pub fn append_999(
     out: &mut Vec<u8>,
     delims: &Delims,
@@ -52,8 +52,8 @@ pub fn append_999(
     append_tail(out, delims, group, &totals_of(sets), n)
 }
 
-/// Writes an acknowledgment's ST and AK1 behind what is there. Where memory is refused, here and in
-/// the other calls that append, a part of the text may be there, behind what was there before.
+/// Writes an acknowledgment's ST and AK1 after what is there. Where memory is refused, here and in
+/// the other calls that append, a part of the text may be there, after what was there before.
 pub fn append_head(
     out: &mut Vec<u8>,
     delims: &Delims,
@@ -76,7 +76,7 @@ pub fn append_head(
     )
 }
 
-/// Writes ST behind what is there, whose elements but its number are always the same.
+/// Writes ST after what is there, whose elements but its number are always the same.
 fn append_set_header(out: &mut Vec<u8>, delims: &Delims, n: u32) -> Result<(), NoMemory>
     ensures text { OnOk result
         (out.new.items ≡ out.old.items ++ segments_text delims.now (set_header n ∷ [])) }
@@ -92,7 +92,7 @@ fn append_set_header(out: &mut Vec<u8>, delims: &Delims, n: u32) -> Result<(), N
     Ok(())
 }
 
-/// Writes a set's AK2, what is told of its faults (IK3 and IK4), and its IK5 behind what is there.
+/// Writes a set's AK2, what is reported of its faults (IK3 and IK4), and its IK5 after what is there.
 pub fn append_set(out: &mut Vec<u8>, delims: &Delims, set: &SetAnswer) -> Result<(), NoMemory>
     ensures text { OnOk result (out.new.items ≡ out.old.items ++ set_text delims.now set.now) }
     ensures kept { Extends out.old.items out.new.items }
@@ -111,7 +111,7 @@ pub fn append_set(out: &mut Vec<u8>, delims: &Delims, set: &SetAnswer) -> Result
     append_set_response(out, delims, set)
 }
 
-/// Writes IK5 behind what is there.
+/// Writes IK5 after what is there.
 fn append_set_response(out: &mut Vec<u8>, delims: &Delims, set: &SetAnswer) -> Result<(), NoMemory>
     ensures text { OnOk result
         (out.new.items ≡ out.old.items ++ segments_text delims.now (set_response set.now ∷ [])) }
@@ -129,7 +129,7 @@ fn append_set_response(out: &mut Vec<u8>, delims: &Delims, set: &SetAnswer) -> R
     )
 }
 
-/// Writes an IK5 without codes behind what is there.
+/// Writes an IK5 without codes after what is there.
 fn append_verdict(out: &mut Vec<u8>, delims: &Delims, verdict: Verdict) -> Result<(), NoMemory>
     ensures text { OnOk result
         (out.new.items ≡ out.old.items ++ segments_text delims.now (bare_response verdict ∷ [])) }
@@ -154,7 +154,7 @@ fn is_convention(text: &[u8]) -> bool
     is_alphanumeric(text, 1, 35)
 }
 
-/// Writes the sets that are shown behind what is there.
+/// Writes the sets that are shown after what is there.
 fn append_sets(
     out: &mut Vec<u8>,
     delims: &Delims,
@@ -174,7 +174,7 @@ fn append_sets(
     Ok(())
 }
 
-/// Writes an acknowledgment's AK9 and SE behind what is there. `totals` are those of all sets of
+/// Writes an acknowledgment's AK9 and SE after what is there. `totals` are those of all sets of
 /// the group, whether they are shown or not.
 pub fn append_tail(
     out: &mut Vec<u8>,
@@ -194,7 +194,7 @@ pub fn append_tail(
     append_set_trailer(out, delims, segment_count(group, totals), n)
 }
 
-/// Writes AK9 behind what is there.
+/// Writes AK9 after what is there.
 fn append_group_response(
     out: &mut Vec<u8>,
     delims: &Delims,
@@ -223,7 +223,7 @@ fn append_group_response(
     )
 }
 
-/// Writes SE behind what is there.
+/// Writes SE after what is there.
 fn append_set_trailer(
     out: &mut Vec<u8>,
     delims: &Delims,

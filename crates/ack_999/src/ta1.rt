@@ -22,7 +22,7 @@ pub fn write_ta1(
     Ok(out)
 }
 
-/// Writes the interchange acknowledgment behind what is there.
+/// Writes the interchange acknowledgment after what is there.
 pub fn append_ta1(
     out: &mut Vec<u8>,
     delims: &Delims,
@@ -43,7 +43,7 @@ pub fn append_ta1(
     )
 }
 
-/// Writes the segment with these five elements behind what is there.
+/// Writes the segment with these five elements after what is there.
 fn append_five<'a>(
     out: &mut Vec<u8>,
     delims: &Delims,

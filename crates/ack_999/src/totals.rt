@@ -2,7 +2,7 @@ use crate::faults::fault_segment_count;
 use hub_kinds::{SetAnswer, Verdict};
 
 /// How many of a group's transaction sets have each verdict (999 guide, IK501), and in how many segments their
-/// faults are told (IK3 and IK4).
+/// faults are reported (IK3 and IK4).
 #[derive(Clone, Copy, Debug, PartialEq, Eq)]
 pub struct Totals {
     /// A.

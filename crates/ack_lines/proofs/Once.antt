@@ -1,4 +1,4 @@
--- What is told is reported, each once.
+-- What is reported stands in the lines, each once.
 use Rattle.std.proofs.Common.{◌≡◌, ◌∙◌, ◌++◌, ◌∷◌, [], Bool, true, false, List, map, refl, sym, ap, subst}
 use Rattle.std.specs.Prelude.{if◌then◌else◌, IsPermutation}
 use Rattle.std.proofs.lemmas.List.{append_assoc, append-nil, map-append}
@@ -59,6 +59,6 @@ once_behind sets (told.OfGroup g ∷ more) =
     (IsPermutation-append one (map told_of (group_reported g sets)) more (map told_of (reported_behind [] more))
     (group_once (is_rejected g.code) g sets) (once_behind [] more)))
 
--- what is reported is what is told, each once
+-- what stands in the lines is what is reported, each once
 pub once : (found : List Told) → IsPermutation found (map told_of (reported_of found))
 once found = once_behind [] found

@@ -1,4 +1,4 @@
--- Own: the lines that say in words what an acknowledgment tells (X12.5, TA1; 999 guide, AK1 to AK9): one for each TA1, for each group and
+-- Own: the lines that say in words what an acknowledgment reports (X12.5, TA1; 999 guide, AK1 to AK9): one for each TA1, for each group and
 -- set that isn't accepted one a fault, and a last one of totals.
 use Rattle.std.specs.Prelude.{ℕ, Bool, true, false, not, ◌==◌, ◌&&◌, List, [], ◌∷◌, ◌++◌, codes, decimal, if◌then◌else◌}
 use Rattle.std.specs.List.{count_by, flat_map}
@@ -46,7 +46,7 @@ note_said code = words_by note_codes note_code_text note_words code
 abbrev pub interchange_said : (code : List ℕ) → List ℕ
 interchange_said code = words_by interchange_verdicts interchange_verdict_text interchange_words code
 
--- words, and behind them the element that has the code, and the code
+-- words, and after them the element that has the code, and the code
 unfoldable pub coded : (words element code : List ℕ) → List ℕ
 coded words element code = words ++ (codes " (" ++ (element ++ (codes " " ++ (shown code ++ codes ")"))))
 
@@ -54,7 +54,7 @@ coded words element code = words ++ (codes " (" ++ (element ++ (codes " " ++ (sh
 unfoldable pub interchange_head : ℕ → List ℕ
 interchange_head n = codes "interchange " ++ decimal n
 
--- a TA1: the number of the interchange that it tells of, TA104 and TA105
+-- a TA1: the number of the interchange that it answers, TA104 and TA105
 unfoldable pub ta1_name : (control : List ℕ) → List ℕ
 ta1_name control = codes ", TA1 " ++ (shown control ++ codes ": ")
 
@@ -153,7 +153,7 @@ note_words_of (note.OfElement s e) = segment_place s ++ (element_place e ++ (cod
 abbrev pub note_line : (head : List ℕ) → NoteTold → List ℕ
 note_line head n = head ++ (note_words_of n ++ codes "\n")
 
--- an IK3 with an IK4 behind it is told by that
+-- an IK3 with an IK4 after it is reported by that
 abbrev pub is_of_element : List NoteTold → Bool
 is_of_element [] = false
 is_of_element (note.OfSegment s ∷ notes) = false
@@ -210,7 +210,7 @@ reported_lines sender (reported.OfInterchange t) = ta1_line t
 reported_lines sender (reported.OfGroup g) = if is_accepted g.code then [] else faulty_group_lines sender g
 reported_lines sender (reported.OfSet s falls) = set_lines sender s falls
 
--- the last TA1 so far: in which interchange it stands, and of which one of the sender it tells
+-- the last TA1 so far: in which interchange it stands, and which one of the sender it answers
 pub record Asked : Type 0 where
   pub interchange : ℕ
   pub control : List ℕ

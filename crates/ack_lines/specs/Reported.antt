@@ -1,5 +1,5 @@
 -- 999 guide (005010X231), AK9: what is reported of acknowledgments, and in which order. A group that is rejected is rejected with all of
--- its sets, whatever their IK5 says, and comes before them; any other comes behind its sets, as it is told.
+-- its sets, whatever their IK5 says, and comes before them; any other comes after its sets, as it is reported.
 use Rattle.std.specs.Prelude.{ℕ, Bool, true, false, List, [], ◌∷◌, ◌++◌, map, codes, if◌then◌else◌}
 use Rattle.std.specs.Str.{bytes_eq}
 use Rattle.ack_read.specs.declared.told.GroupTold.{GroupTold}
@@ -22,7 +22,7 @@ group_reported g sets =
     if is_rejected g.code then reported.OfGroup g ∷ map (set_reported true) sets
     else map (set_reported false) sets ++ reported.OfGroup g ∷ []
 
--- what is told behind sets whose AK9 is still to come; where none comes before the next TA1 or the end, they stand for themselves
+-- what is reported after sets whose AK9 is still to come; where none comes before the next TA1 or the end, they stand for themselves
 abbrev pub reported_behind : (sets : List SetTold) → List Told → List Reported
 reported_behind sets [] = map (set_reported false) sets
 reported_behind sets (told.OfInterchange t ∷ more) =
@@ -30,7 +30,7 @@ reported_behind sets (told.OfInterchange t ∷ more) =
 reported_behind sets (told.OfSet s ∷ more) = reported_behind (sets ++ s ∷ []) more
 reported_behind sets (told.OfGroup g ∷ more) = group_reported g sets ++ reported_behind [] more
 
--- what is told with each
+-- what is reported with each
 abbrev pub told_of : Reported → Told
 told_of (reported.OfInterchange t) = told.OfInterchange t
 told_of (reported.OfGroup g) = told.OfGroup g

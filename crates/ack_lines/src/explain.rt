@@ -10,9 +10,9 @@ use ack_read::Told;
 use hub_kinds::{Lent, NoMemory};
 use std::alloc::Global;
 
-/// The lines that say in words what is told: one for each TA1, for each group and set that isn't accepted one a fault, and a last one of
-/// totals. A group that is rejected comes before its sets, none of which is accepted. The lines are printable ASCII, each ends with LF,
-/// and no text of the acknowledgment is shown longer than 99 bytes, so that their length follows that of what is told.
+/// The lines that say in words what is reported: one for each TA1, for each group and set that isn't accepted one a fault, and a last one
+/// of totals. A group that is rejected comes before its sets, none of which is accepted. The lines are printable ASCII, each ends with LF,
+/// and no text of the acknowledgment is shown longer than 99 bytes, so that their length follows that of what is reported.
 #[tactic(auto, using(crate::proofs::Once::once))]
 pub fn explanation<'a>(alloc: Global, found: Vec<Told<'a>>) -> Result<Vec<u8>, NoMemory>
     ensures lines { IfOk result (λ text. text.items ≡ lines.explanation found.entry.items) }

@@ -6,7 +6,7 @@ use ack_read::{ElementTold, SegmentTold, SetTold, Ta1Told};
 use code_words::{InterchangeVerdict, NoteCode, words_of};
 use hub_kinds::NoMemory;
 
-/// Writes in which interchange something is told.
+/// Writes in which interchange something is reported.
 #[tactic(auto, unfolding(crate::specs::Lines::interchange_head))]
 fn append_interchange(out: &mut Vec<u8>, interchange: u64) -> Result<(), NoMemory>
     ensures { OnOk result (out.new.items ≡ out.old.items ++ lines.interchange_head interchange) }
@@ -15,7 +15,7 @@ fn append_interchange(out: &mut Vec<u8>, interchange: u64) -> Result<(), NoMemor
     append_number(out, interchange)
 }
 
-/// Writes of which group something is told.
+/// Writes of which group something is reported.
 #[tactic(auto, unfolding(crate::specs::Lines::group_head))]
 pub(crate) fn append_group_head(
     out: &mut Vec<u8>,
@@ -56,7 +56,7 @@ fn append_set_name(out: &mut Vec<u8>, identifier: &[u8], control: &[u8]) -> Resu
     append_text(out, ": ")
 }
 
-/// Writes of which set something is told.
+/// Writes of which set something is reported.
 pub(crate) fn append_set_head(
     out: &mut Vec<u8>,
     sender: &[u8],

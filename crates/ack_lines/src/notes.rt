@@ -53,7 +53,7 @@ fn append_element_fault(out: &mut Vec<u8>, element: &ElementTold<'_>) -> Result<
     append_if(out, ": ", element.copy.bytes(), "")
 }
 
-/// Writes what an IK4 says, behind this IK3.
+/// Writes what an IK4 says, after this IK3.
 fn append_element_words(
     out: &mut Vec<u8>,
     segment: &SegmentTold<'_>,
@@ -79,7 +79,7 @@ fn append_note_line(out: &mut Vec<u8>, head: &[u8], note: &NoteTold<'_>) -> Resu
     append_text(out, "\n")
 }
 
-/// Whether an IK3 is told by the IK4 behind it.
+/// Whether an IK3 is reported by the IK4 after it.
 fn is_told_by_next(note: &NoteTold<'_>, behind: &[NoteTold<'_>]) -> bool
     ensures { result ≡ lines.is_told_by_next note.now behind.now }
 {

@@ -17,7 +17,7 @@ pub(crate) enum Reported<'a> {
     OfSet(SetTold<'a>, bool),
 }
 
-/// What is reported of what is told, a group that is rejected before its sets.
+/// What is reported, in the order of the lines: a group that is rejected before its sets.
 pub(crate) fn reported_of<'a>(
     alloc: Global,
     found: Vec<Told<'a>>,

@@ -77,7 +77,7 @@ pub(crate) fn append_number(out: &mut Vec<u8>, number: u64) -> Result<(), NoMemo
     append_text(out, digits.format(number))
 }
 
-/// Writes words, and behind them the element that has the code, and the code.
+/// Writes words, and after them the element that has the code, and the code.
 #[tactic(auto, unfolding(crate::specs::Lines::coded))]
 pub(crate) fn append_coded(
     out: &mut Vec<u8>,

@@ -1,4 +1,4 @@
--- The sets and the interchanges that are told are the responses and the TA1s of the text.
+-- The sets and the interchanges that are reported are the responses and the TA1s of the text.
 use Rattle.std.proofs.Common.{◌≡◌, ℕ, Bool, true, false, List, [], ◌∷◌, ◌++◌, map, bytes_eq, refl, ap, ◌∙◌}
 use Rattle.std.specs.Prelude.{codes, if◌then◌else◌}
 use Rattle.std.specs.List.{flat_map}
@@ -26,7 +26,7 @@ kind_by set response ta1 segment element group verdict header =
     else if header then kind.InterchangeHeader
     else kind.Other
 
--- what is read of a set by a segment of this kind, and by those behind it
+-- what is read of a set by a segment of this kind, and by those after it
 set_by : (d : Delims) (at : Standing) (s : List (List ℕ)) (ss : List (List (List ℕ))) (a b c e f g h i : Bool)
     → flat_map response_by (told_by_kind at s (kind_by a b c e f g h i))
     ++ responses_behind (behind_kind d at s (kind_by a b c e f g h i)).identifier
@@ -56,7 +56,7 @@ sets_behind d at (s ∷ ss) =
     ∙ set_by d at s ss (bytes_eq id (codes "AK2")) (bytes_eq id (codes "IK5")) (bytes_eq id (codes "TA1")) (bytes_eq id (codes "IK3"))
     (bytes_eq id (codes "IK4")) (bytes_eq id (codes "AK1")) (bytes_eq id (codes "AK9")) (bytes_eq id (codes "ISA"))
 
--- the sets that are told are the responses of the text
+-- the sets that are reported are the responses of the text
 pub sets_are_read : (d : Delims) (text : List ℕ) → responses_told (told_in d text) ≡ responses_in d text
 sets_are_read d text = sets_behind d at_begin (map elements_of (views text d))
 
@@ -104,6 +104,6 @@ ta1s_behind d at (s ∷ ss) =
     ∙ ap (λ (ts : List Ta1). flat_map ta1_by (told_by at s) ++ ts) (ta1s_behind d (behind d at s) ss)
     ∙ ap (λ (ts : List Ta1). ts ++ ta1s_among ss) (one_ta1 at s)
 
--- the interchanges that are told are the TA1s of the text
+-- the interchanges that are reported are the TA1s of the text
 pub ta1s_are_read : (d : Delims) (text : List ℕ) → ta1s_told (told_in d text) ≡ ta1s_in d text
 ta1s_are_read d text = ta1s_behind d at_begin (map elements_of (views text d))

@@ -1,4 +1,4 @@
--- What small acknowledgments tell, read from their bytes.
+-- What small acknowledgments report, read from their bytes.
 use Rattle.std.proofs.Common.{◌≡◌, [], ◌∷◌, Some, refl}
 use Rattle.std.specs.Prelude.{codes}
 use Rattle.x12_bytes.specs.declared.delims.Delims.{Delims}
@@ -14,7 +14,7 @@ use Rattle.ack_read.specs.declared.told.Told.TheVariants as told
 marks : Delims
 marks = record { element = 42; component = 62; repetition = Some 94; terminator = 126 }
 
--- a TA1 is told of its interchange
+-- a TA1 is reported with its interchange
 ta1 : Ta1Told
 ta1 = record {
   interchange = 1;
@@ -29,7 +29,7 @@ an_interchange_is_told : told_in marks (codes "ISA*00~TA1*000000007*260228*0900*
 unfolding marks ta1
 an_interchange_is_told = refl
 
--- an IK4 is told with its IK3, by its set; the codes that are empty aren't told
+-- an IK4 is reported with its IK3, by its set; the codes that are empty aren't reported
 third : SegmentTold
 third = record { id = codes "N3"; position = codes "3"; loop_id = codes "N1"; code = codes "8" }
 
@@ -73,7 +73,7 @@ a_set_and_its_group_are_told :
 unfolding marks third second_occurrence order group
 a_set_and_its_group_are_told = refl
 
--- what is told of one set isn't told of the next
+-- what is reported of one set isn't reported of the next
 accepted : SetTold
 accepted = record {
   interchange = 0;
@@ -90,7 +90,7 @@ the_next_set_has_no_notes : told_in marks (codes "AK2*850*0001~IK3*N3*3*N1*8~AK2
 unfolding marks accepted
 the_next_set_has_no_notes = refl
 
--- a set without an IK5 and a group without an AK9 aren't told
+-- a set without an IK5 and a group without an AK9 aren't reported
 what_is_cut_off_is_not_told : told_in marks (codes "ISA~AK1*PO*12~AK2*850*0001~IK3*N3*3*N1*8~IK5*A") ≡ []
 unfolding marks
 what_is_cut_off_is_not_told = refl

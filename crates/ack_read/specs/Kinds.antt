@@ -1,4 +1,4 @@
--- X12.5 and the 999 guide (005010X231): what a segment's id says of what it tells in an acknowledgment.
+-- X12.5 and the 999 guide (005010X231): what a segment's id says of what it reports in an acknowledgment.
 use Rattle.std.specs.Prelude.{ℕ, List, codes, if◌then◌else◌}
 use Rattle.std.specs.Str.{bytes_eq}
 use Rattle.ack_read.specs.declared.kind.AckKind.{AckKind}

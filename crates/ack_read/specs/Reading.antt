@@ -17,7 +17,7 @@ use Rattle.ack_read.specs.declared.told.Told.TheVariants as told
 abbrev pub first_delims : (text : List ℕ) → Delims
 first_delims text = delims_of (header_at text 0)
 
--- these are the acknowledgments of a text: it begins with a header, and tells of an interchange, a set or a group
+-- these are the acknowledgments of a text: it begins with a header, and reports an interchange, a set or a group
 pub record AreToldBy (text : List ℕ) (found : List Told) : Type 0 where
   pub headed : is_head text 0 ≡ true
   pub told : found ≡ told_in (first_delims text) text
@@ -29,7 +29,7 @@ IsRefused text fault.NoHeader = is_head text 0 ≡ false
 IsRefused text fault.TellsNothing = (is_head text 0 ≡ true) × (told_in (first_delims text) text ≡ [])
 IsRefused text fault.NoMemory = Unit {0}
 
--- the sets that are told, as a receiver reads them
+-- the sets that are reported, as a receiver reads them
 abbrev pub response_by : Told → List Response
 response_by (told.OfInterchange t) = []
 response_by (told.OfSet s) = record { identifier = s.identifier; control = s.control; code = s.code } ∷ []
@@ -38,7 +38,7 @@ response_by (told.OfGroup g) = []
 abbrev pub responses_told : List Told → List Response
 responses_told found = flat_map response_by found
 
--- the TA1s that are told, as a receiver reads them
+-- the TA1s that are reported, as a receiver reads them
 abbrev pub ta1_by : Told → List Ta1
 ta1_by (told.OfInterchange t) = record { control = t.control; date = t.date; time = t.time; code = t.code; note = t.note } ∷ []
 ta1_by (told.OfSet s) = []

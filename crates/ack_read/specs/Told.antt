@@ -1,4 +1,5 @@
--- X12.5, interchange acknowledgment (TA1), and the 999 guide (005010X231): what the segments of acknowledgments tell, each where it stands.
+-- X12.5, interchange acknowledgment (TA1), and the 999 guide (005010X231): what the segments of acknowledgments report, each where it
+-- stands.
 use Rattle.std.specs.Prelude.{ℕ, ◌+◌, Bool, true, false, List, [], ◌∷◌, ◌++◌, map, filter, drop}
 use Rattle.x12_bytes.specs.declared.delims.Delims.{Delims}
 use Rattle.x12_segs.specs.Words.{components, elements_of, part_or_empty, views}
@@ -15,8 +16,8 @@ use Rattle.ack_read.specs.declared.told.Ta1Told.{Ta1Told}
 use Rattle.ack_read.specs.declared.told.Told.{Told}
 use Rattle.ack_read.specs.declared.told.Told.TheVariants as told
 
--- where a segment stands: in which interchange, counted from 1; behind which AK1 (AK101, AK102) and which AK2 (AK201, AK202); behind which
--- IK3; and what is told of the segments and elements of the set so far
+-- where a segment stands: in which interchange, counted from 1; after which AK1 (AK101, AK102) and which AK2 (AK201, AK202); after which
+-- IK3; and what is reported of the segments and elements of the set so far
 pub record Standing : Type 0 where
   pub interchange : ℕ
   pub functional_id : List ℕ
@@ -66,7 +67,7 @@ element_told d s =
       copy = part_or_empty s 4;
     }
 
--- where the segments behind a segment stand
+-- where the segments after a segment stand
 abbrev pub behind_kind : Delims → Standing → (segment : List (List ℕ)) → AckKind → Standing
 behind_kind d at s kind.InterchangeHeader = record at { interchange = at.interchange + 1 }
 behind_kind d at s kind.GroupHeader = record at { functional_id = part_or_empty s 1; group_control = part_or_empty s 2 }
@@ -119,7 +120,7 @@ group_told at s = record {
   codes = codes_from 5 s;
 }
 
--- what a segment tells: a TA1 of an interchange, an IK5 of a set, an AK9 of a group; any other tells nothing by itself
+-- what a segment reports: a TA1 of an interchange, an IK5 of a set, an AK9 of a group; any other reports nothing by itself
 abbrev pub told_by_kind : Standing → (segment : List (List ℕ)) → AckKind → List Told
 told_by_kind at s kind.Ta1 = told.OfInterchange (ta1_told at s) ∷ []
 told_by_kind at s kind.SetResponse = told.OfSet (set_told at s) ∷ []
@@ -134,11 +135,11 @@ told_by_kind at s kind.Other = []
 abbrev pub told_by : Standing → (segment : List (List ℕ)) → List Told
 told_by at s = told_by_kind at s (ack_kind (part_or_empty s 0))
 
--- what segments tell, the first of which stands here
+-- what segments report, the first of which stands here
 abbrev pub told_behind : Delims → Standing → (segments : List (List (List ℕ))) → List Told
 told_behind d at [] = []
 told_behind d at (s ∷ ss) = told_by at s ++ told_behind d (behind d at s) ss
 
--- what a text tells, read by these delimiters
+-- what a text reports, read by these delimiters
 abbrev pub told_in : Delims → (text : List ℕ) → List Told
 told_in d text = told_behind d at_begin (map elements_of (views text d))

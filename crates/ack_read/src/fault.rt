@@ -5,7 +5,7 @@ use hub_kinds::NoMemory;
 pub enum ReadFault {
     /// It doesn't begin with the header of an interchange.
     NoHeader,
-    /// It tells nothing: it has no TA1, and no IK5 or AK9 of a 999.
+    /// It reports nothing: it has no TA1, and no IK5 or AK9 of a 999.
     TellsNothing,
     /// Memory was asked for and refused.
     NoMemory,

@@ -1,16 +1,16 @@
 ghost use Rattle.std.specs.Prelude.{◌≡◌};
 ghost use Rattle.ack_read.specs.Kinds.{ack_kind};
 
-/// What a segment of an acknowledgment tells, by its id (X12.5; 999 guide).
+/// What a segment of an acknowledgment reports, by its id (X12.5; 999 guide).
 #[derive(Clone, Copy, Debug, PartialEq, Eq)]
 pub enum AckKind {
     /// ISA: an interchange begins.
     InterchangeHeader,
     /// TA1: what becomes of an interchange.
     Ta1,
-    /// AK1: of which group the 999 tells.
+    /// AK1: which group the 999 answers.
     GroupHeader,
-    /// AK2: of which set is told next.
+    /// AK2: which set is answered next.
     SetHeader,
     /// IK3: a segment in error.
     SegmentNote,
@@ -24,7 +24,7 @@ pub enum AckKind {
     Other,
 }
 
-/// What a segment of this id tells.
+/// What a segment of this id reports.
 pub fn ack_kind(id: &[u8]) -> AckKind
     ensures { result ≡ ack_kind id.now }
 {

@@ -30,7 +30,7 @@ pub(crate) fn lent_texts<'a>(alloc: Global, parts: Parts<'a>) -> Result<Items<Le
     Ok(Items::from_vec(texts))
 }
 
-/// What an IK3 tells.
+/// What an IK3 reports.
 pub(crate) fn segment_told<'a>(segment: &SegView<'a>) -> SegmentTold<'a>
     ensures { result ≡ segment_told (elements_of segment.now) }
 {
@@ -55,7 +55,7 @@ pub(crate) fn again<'a>(segment: &SegmentTold<'a>) -> SegmentTold<'a>
     }
 }
 
-/// What an IK4 tells.
+/// What an IK4 reports.
 pub(crate) fn element_told<'a>(delims: Delims, segment: &SegView<'a>) -> ElementTold<'a>
     ensures { result ≡ element_told delims (elements_of segment.now) }
 {

@@ -12,7 +12,7 @@ use std::alloc::Global;
 use x12_bytes::{Delims, read_header};
 use x12_segs::segments;
 
-/// What the acknowledgments of a text tell, in its order: of interchanges (TA1), of sets (AK2 to IK5) and of groups (AK1 to AK9). The
+/// What the acknowledgments of a text report, in its order: of interchanges (TA1), of sets (AK2 to IK5) and of groups (AK1 to AK9). The
 /// text is read by the delimiters of the header that it begins with. It takes as much work as the text has bytes.
 pub fn read_acknowledgments<'a>(alloc: Global, text: &'a [u8]) -> Result<Vec<Told<'a>>, ReadFault>
     ensures told { IfOk result (λ found. AreToldBy text.now found.items) }
@@ -30,7 +30,7 @@ pub fn read_acknowledgments<'a>(alloc: Global, text: &'a [u8]) -> Result<Vec<Tol
     Ok(found)
 }
 
-/// What a text tells, read by these delimiters.
+/// What a text reports, read by these delimiters.
 fn told_in<'a>(alloc: Global, delims: Delims, text: &'a [u8]) -> Result<Vec<Told<'a>>, NoMemory>
     ensures { IfOk result (λ found. found.items ≡ told_in delims text.now) }
 {

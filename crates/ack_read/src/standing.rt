@@ -60,7 +60,7 @@ impl<'a> Standing<'a> {
         }
     }
 
-    /// Goes behind a segment, and adds what it tells.
+    /// Goes past a segment, and adds what it reports.
     pub(crate) fn pass(
         &mut self,
         alloc: Global,
@@ -132,7 +132,7 @@ impl<'a> Standing<'a> {
         Ok(())
     }
 
-    /// What a TA1 tells.
+    /// What a TA1 reports.
     fn ta1(&self, segment: &SegView<'a>) -> Ta1Told<'a>
         ensures { result ≡ told.ta1_told self.now (elements_of segment.now) }
     {
@@ -147,7 +147,7 @@ impl<'a> Standing<'a> {
         }
     }
 
-    /// What an IK5 tells, with all that was told of its set.
+    /// What an IK5 reports, with all that was reported of its set.
     fn end_set(&mut self, alloc: Global, segment: &SegView<'a>) -> Result<SetTold<'a>, NoMemory>
         ensures told { IfOk result (λ set. set ≡ told.set_told self.old (elements_of segment.now)) }
         ensures behind { IfOk result (λ _. self.new ≡ record self.old { notes = [] }) }
@@ -168,7 +168,7 @@ impl<'a> Standing<'a> {
         })
     }
 
-    /// What an AK9 tells.
+    /// What an AK9 reports.
     fn group(&self, alloc: Global, segment: &SegView<'a>) -> Result<GroupTold<'a>, NoMemory>
         ensures { IfOk result (λ group. group ≡ told.group_told self.now (elements_of segment.now)) }
     {

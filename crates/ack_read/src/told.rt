@@ -1,6 +1,6 @@
 use hub_kinds::{Items, Lent};
 
-/// What is told of a segment in error (999 guide, IK3), as it stands.
+/// What is reported of a segment in error (999 guide, IK3), as it stands.
 #[derive(Debug, Drop)]
 pub struct SegmentTold<'a> {
     /// IK301: its id.
@@ -13,7 +13,7 @@ pub struct SegmentTold<'a> {
     pub code: Lent<'a>,
 }
 
-/// What is told of an element in error (999 guide, IK4), as it stands.
+/// What is reported of an element in error (999 guide, IK4), as it stands.
 #[derive(Debug, Drop)]
 pub struct ElementTold<'a> {
     /// IK401, its first component: the element's number.
@@ -30,19 +30,19 @@ pub struct ElementTold<'a> {
     pub copy: Lent<'a>,
 }
 
-/// What is told of a set's segments and elements (999 guide, IK3 and IK4).
+/// What is reported of a set's segments and elements (999 guide, IK3 and IK4).
 #[derive(Debug, Drop)]
 pub enum NoteTold<'a> {
     /// An IK3.
     OfSegment(SegmentTold<'a>),
-    /// An IK4, behind this IK3.
+    /// An IK4, after this IK3.
     OfElement(SegmentTold<'a>, ElementTold<'a>),
 }
 
-/// What is told of a set (999 guide, AK2 to IK5), as it stands.
+/// What is reported of a set (999 guide, AK2 to IK5), as it stands.
 #[derive(Debug, Drop)]
 pub struct SetTold<'a> {
-    /// In which interchange of the text it is told, counted from 1.
+    /// In which interchange of the text it is reported, counted from 1.
     pub interchange: u64,
     /// AK101: the group's functional identifier.
     pub functional_id: Lent<'a>,
@@ -52,7 +52,7 @@ pub struct SetTold<'a> {
     pub identifier: Lent<'a>,
     /// AK202: its control number.
     pub control: Lent<'a>,
-    /// What is told of its segments and elements, in its order.
+    /// What is reported of its segments and elements, in its order.
     pub notes: Items<NoteTold<'a>>,
     /// IK501: the verdict.
     pub code: Lent<'a>,
@@ -60,10 +60,10 @@ pub struct SetTold<'a> {
     pub codes: Items<Lent<'a>>,
 }
 
-/// What is told of a group (999 guide, AK1 and AK9), as it stands.
+/// What is reported of a group (999 guide, AK1 and AK9), as it stands.
 #[derive(Debug, Drop)]
 pub struct GroupTold<'a> {
-    /// In which interchange of the text it is told, counted from 1.
+    /// In which interchange of the text it is reported, counted from 1.
     pub interchange: u64,
     /// AK101: its functional identifier.
     pub functional_id: Lent<'a>,
@@ -81,12 +81,12 @@ pub struct GroupTold<'a> {
     pub codes: Items<Lent<'a>>,
 }
 
-/// What is told of an interchange (X12.5, TA1), as it stands.
+/// What is reported of an interchange (X12.5, TA1), as it stands.
 #[derive(Debug, Drop)]
 pub struct Ta1Told<'a> {
-    /// In which interchange of the text it is told, counted from 1.
+    /// In which interchange of the text it is reported, counted from 1.
     pub interchange: u64,
-    /// TA101: the number of the interchange that it tells of.
+    /// TA101: the number of the interchange that it answers.
     pub control: Lent<'a>,
     /// TA102: its date.
     pub date: Lent<'a>,
@@ -98,7 +98,7 @@ pub struct Ta1Told<'a> {
     pub note: Lent<'a>,
 }
 
-/// What an acknowledgment tells.
+/// What an acknowledgment reports.
 #[derive(Debug, Drop)]
 pub enum Told<'a> {
     /// Of an interchange.

@@ -1,4 +1,4 @@
--- Acknowledgments don't tell where an interchange stands.
+-- Acknowledgments don't say where an interchange stands.
 use Rattle.std.proofs.Common.{◌≡◌, ℕ, ◌+◌, Bool, true, false, cond, List, [], ◌∷◌, ◌++◌, Some, None, length, map}
 use Rattle.std.proofs.Common.{refl, sym, ap, ◌∙◌}
 use Rattle.std.specs.Prelude.{◌&&◌, ◌||◌, codes, is_some, nat_le, if◌then◌else◌}
@@ -69,7 +69,7 @@ module _ (by : ℕ) where
         by_test true same = ap (λ (more : List Acknowledgment). acknowledgment_of d ∷ more) same
         by_test false same = same
 
--- what is sent is told by the acknowledgments alone
+-- what is sent follows from the acknowledgments alone
 abbrev texts_from : SetupValue → Partner → (at : List ℕ) → (k g : ℕ) → List Acknowledgment → List ℕ
 texts_from setup partner at k g [] = []
 texts_from setup partner at k g (a ∷ more) =

@@ -8,7 +8,7 @@ ghost use Rattle.checked_text.specs.CheckedText.{AreAcknowledgments, AreCheckedA
 ghost use Rattle.checked_text.specs.Settled.{faults_from, faults_with, kept_keys, settled_faults};
 ghost use Rattle.batch_checked.specs.MovedAnswers.{moved_answered};
 
-/// A law, with nothing to run: the answers to a batch's interchanges are those to the same interchanges of the whole text.
+/// A theorem, with nothing to run: the answers to a batch's interchanges are those to the same interchanges of the whole text.
 pub fn batches_are_answered()
     ensures moved { (before text behind : List ℕ) (setup : SetupValue) (es : List IndexEntry) (xs : List CheckedInterchange)
         → All (λ e. HasSpans text e.interchange) es → AreCheckedAs text setup es xs
@@ -21,7 +21,7 @@ pub fn batches_are_answered()
         ≡ map (moved_judged before behind) (map (judged text) xs) }
 {}
 
-/// A law, with nothing to run: the faults of a batch's interchanges follow from the numbers of the interchanges before it.
+/// A theorem, with nothing to run: the faults of a batch's interchanges follow from the numbers of the interchanges before it.
 pub fn faults_go_on()
     ensures by_numbers { (setup : SetupValue) (before es : List IndexEntry)
         → faults_from setup before es ≡ faults_with setup (kept_keys setup before) es }
@@ -34,7 +34,7 @@ pub fn faults_go_on()
         ≡ with_faults es (settled_faults setup es) ++ with_faults fs (faults_from setup es fs) }
 {}
 
-/// A law, with nothing to run: acknowledgments don't tell where an interchange stands.
+/// A theorem, with nothing to run: acknowledgments don't say where an interchange stands.
 pub fn acknowledgments_go_on()
     ensures { (setup : SetupValue) (at : List ℕ) (by : ℕ) (done xs : List CheckedInterchange) (files : List SentValues)
         → AreAcknowledgments setup at (done ++ xs) files

@@ -23,7 +23,7 @@ abbrev pub Stands : List ℕ → ℕ → Option Inside → Type 0
 Stands read at None = at ≤ length read
 Stands read at (Some i) = IsInside read at i
 
--- an open interchange lies behind the offset
+-- an open interchange lies after the offset
 abbrev pub IsBehind : ℕ → Option Inside → Type 0
 IsBehind at None = Unit {0}
 IsBehind at (Some i) = (at ≤ i.part.at) × (at ≤ i.part.lead) × (at ≤ i.part.seen)

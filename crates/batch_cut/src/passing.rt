@@ -70,7 +70,7 @@ pub(crate) fn search(read: &[u8], searched: Searched, at: usize) -> Searched
     }
 }
 
-/// Where a part begins, at or behind one that begins at an offset, before which no part can end the interchange. The last two bytes that
+/// Where a part begins, at or after one that begins at an offset, before which no part can end the interchange. The last two bytes that
 /// are read are too few to tell whether a header begins there.
 pub(crate) fn pass_over(read: &[u8], delims: Delims, searched: Searched, from: usize) -> usize
     requires searched { AreSearched read.now searched }

@@ -1,4 +1,4 @@
--- The chain of a text goes on behind an offset at which no interchange is open, and what is read up to there has its own chain.
+-- The chain of a text goes on after an offset at which no interchange is open, and what is read up to there has its own chain.
 use Rattle.std.proofs.Common.{◌≡◌, ℕ, ◌+◌, ◌<◌, ◌≤◌, List, [], ◌∷◌, ◌++◌, true, false, Some, inl, inr}
 use Rattle.std.proofs.Common.{length, take, refl, sym, ap, subst, ◌∙◌, arith}
 use Rattle.std.proofs.lemmas.Bool.{both_ways, cases_lt, false_from_ne_true}
@@ -29,7 +29,7 @@ chain_order text from to [] chain = chain.0
 chain_order text from to (x ∷ xs) chain =
     omega (arith, chain.0.behind, chain.1, end_behind text x.start chain.0.head, chain_order text x.end to xs chain.2)
 
--- what comes behind goes on with it
+-- what comes after goes on with it
 pub chain_on : (text : List ℕ) (from to : ℕ) (xs ys : List Extent) → ChainUpTo text from to xs → ChainFrom text to ys
     → ChainFrom text from (xs ++ ys)
 chain_on text from to [] [] chain later = λ q low. elim (cases_lt q to) [ inl lt ↦ chain.1 q low lt | inr ge ↦ later q ge ]

@@ -1,4 +1,4 @@
--- Where the first part behind an offset begins.
+-- Where the first part after an offset begins.
 use Rattle.std.proofs.Common.{◌≡◌, ℕ, ◌+◌, ◌-◌, ◌<◌, ◌≤◌, List, [], ◌∷◌, ◌++◌, Bool, true, false, nat_eq, Option, Some, None}
 use Rattle.std.proofs.Common.{length, take, drop, get_or, map, cond, slice_range, sym, ap, ◌∙◌, arith, inl, inr}
 use Rattle.std.proofs.lemmas.Bool.{cases_lt}

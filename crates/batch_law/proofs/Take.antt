@@ -19,7 +19,7 @@ use Rattle.batch_law.proofs.Heads.{head_kept, none_more}
 use Rattle.batch_law.proofs.Split.{IsSplit, first_byte, split_at}
 use Rattle.batch_law.proofs.Whole.{low_within, reach_ends, reach_goes_on}
 
--- an interchange ends behind what it begins with
+-- an interchange ends after what it begins with
 pub low_end : (text : List ℕ) (d : Delims) (low : ℕ) (segs : List Seg) (rest : Seg) → StandInOrder low segs rest (length text)
     → low ≤ (reach_of text (map (view_of d) segs) rest).end
 low_end text d low [] rest order = by_test (is_head text rest.start)
@@ -102,7 +102,7 @@ module _ (text : List ℕ) (c : ℕ) (below : c < length text) (d : Delims) wher
             ap end_by none_here ∙ ap (λ (k : ℕ). let r : Reach = record { segs = []; end = k } in r) (size ∙ sym last)
       ]
 
-  -- no end behind what is read
+  -- no end after what is read
   by_later : (p : ℕ) → p ≤ c → AtOpen p → (later : List Seg) (rest : Seg)
       → later ≡ segs_from text d.terminator p → rest ≡ rest_from text d.terminator p
       → (reach_of text (map (view_of d) later) rest).end ≤ c → Clears text c (reach_of text (map (view_of d) later) rest).end

@@ -83,7 +83,7 @@ module _ (text : List ℕ) (c : ℕ) (within : c ≤ length text) (d : Delims) w
           let none : is_head text seg.start ≡ false = none_begins text c within seg.start near head may in
           ap (λ (r : Reach). r.end) (reach_goes_on text (view_of d seg) (map (view_of d) (segs ++ later)) rest none ends) ∙ more same
 
-  -- behind an offset
+  -- after an offset
   pub end_is : (from e : ℕ) → from ≤ c → end_from (take c text) d from ≡ Some e → (reach_from text d from).end ≡ e
   end_is from e le is =
       let read : List ℕ = take c text in

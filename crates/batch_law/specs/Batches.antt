@@ -9,7 +9,7 @@ use Rattle.x12_segs.specs.Words.{Seg, segs_from, rest_from, SegValue, view_of, k
 use Rattle.env_index.specs.Words.{Extent, IsNextHead, behind, ends_interchange, reach_at}
 use Rattle.batch_law.specs.Begun.{may_begin}
 
--- where an interchange ends, by what is read of the text: at a header that is read where a segment or the rest begins, or behind the
+-- where an interchange ends, by what is read of the text: at a header that is read where a segment or the rest begins, or after the
 -- terminator of its IEA, if no segment before can still turn out to begin at a header; else that isn't known yet
 abbrev pub end_by : List ℕ → List SegValue → Seg → Option ℕ
 end_by read [] rest = if is_head read rest.start then Some rest.start else None

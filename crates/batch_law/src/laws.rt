@@ -5,13 +5,13 @@ ghost use Rattle.batch_law.specs.Begun.{may_begin};
 ghost use Rattle.batch_law.specs.Batches.{ChainUpTo, WholeUpTo};
 ghost use Rattle.batch_law.specs.Moved.{IsIndexUpTo, moved_entry};
 
-/// A law, with nothing to run: a header whose last bytes aren't read yet shows in those that are.
+/// A theorem, with nothing to run: a header whose last bytes aren't read yet shows in those that are.
 pub fn header_shows_early()
     ensures { (read more : List ℕ) (at : ℕ) → at ≤ length read → is_head read at ≡ false → may_begin read at ≡ false
         → is_head (read ++ more) at ≡ false }
 {}
 
-/// A law, with nothing to run: interchanges that are whole by what is read of a text are the text's, whatever follows; what is read
+/// A theorem, with nothing to run: interchanges that are whole by what is read of a text are the text's, whatever follows; what is read
 /// up to an offset at which none is open has just these, and those that follow there go on with them.
 pub fn whole_stays_whole()
     ensures whole { (read more : List ℕ) (from to : ℕ) (xs : List Extent) → WholeUpTo read from to xs
@@ -22,7 +22,7 @@ pub fn whole_stays_whole()
         → ChainFrom text from (xs ++ ys) }
 {}
 
-/// A law, with nothing to run: the index of a text is that of its batches, one behind the other, each entry moved by the bytes before
+/// A theorem, with nothing to run: the index of a text is that of its batches, one after the other, each entry moved by the bytes before
 /// its batch, where no interchange is open between two of them.
 pub fn batches_are_the_index()
     ensures starts { (text : List ℕ) → IsIndexUpTo text 0 [] 0 }

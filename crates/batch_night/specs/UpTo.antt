@@ -24,12 +24,12 @@ pub record IsNightUpTo (text : List ℕ) (setup : SetupValue) (at : List ℕ) (t
   pub answered : AreCheckedAs text setup (settled_entries setup n.entries) n.known
   pub written : IsWrittenOf text setup at n.known n.writing
 
--- a batch was written behind the old, settled by the numbers seen so far
+-- a batch was written after the old, settled by the numbers seen so far
 abbrev pub IsBatchOf : (batch : List ℕ) → SetupValue → (at : List ℕ) → (base : ℕ) → (old : NightSoFar) → IndexValue → WritingValue → Type 0
 IsBatchOf batch setup at base old index new = IsBatchWritten batch setup at base
     (with_faults index.entries (faults_with setup (kept_keys setup old.entries) index.entries)) index.outside old.writing new
 
--- what is carried behind it
+-- what is carried after it
 abbrev pub behind_batch : (base : ℕ) → NightSoFar → IndexValue → List CheckedInterchange → WritingValue → NightSoFar
 behind_batch base old index known w = record {
   entries = old.entries ++ map (moved_entry base) index.entries;

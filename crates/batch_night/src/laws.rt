@@ -7,7 +7,7 @@ ghost use Rattle.batch_law.specs.Batches.{ChainUpTo};
 ghost use Rattle.batch_night.specs.UpTo.{IsBatchDone, IsBatchOf, IsNightUpTo, IsWhole, NightSoFar, behind_batch, none_yet};
 ghost use Rattle.night_writing.specs.Writing.{IsClosedBy, WritingValue};
 
-/// A law, with nothing to run: a night goes on batch by batch, and behind the last batch it is what is known of the whole text; a batch
+/// A theorem, with nothing to run: a night goes on batch by batch, and after the last batch it is what is known of the whole text; a batch
 /// whose index is written, settled by the numbers seen so far, shows all that it has to show.
 pub fn nights_go_on()
     ensures starts { (text : List ℕ) (setup : SetupValue) (at : List ℕ) → IsNightUpTo text setup at 0 (none_yet setup) }
@@ -23,7 +23,7 @@ pub fn nights_go_on()
         → IsNightUpTo text setup at (length text) night → IsWhole text setup at night }
 {}
 
-/// A law, with nothing to run: behind the last batch the night of the whole text is what was carried, with the envelopes of the
+/// A theorem, with nothing to run: after the last batch the night of the whole text is what was carried, with the envelopes of the
 /// mailboxes, the total and the next counters.
 pub fn batches_give_the_night()
     ensures { (text : List ℕ) (setup : SetupValue) (at : List ℕ) (n : NightSoFar) (night : Night)

@@ -108,7 +108,7 @@ module _ (setup : SetupValue) (before behind : List ℕ) where
   note_moved x =
       ap (λ (n : ℕ). by_count x n) (length-map x.interchange.content.groups (moved_group by))
 
-  -- the lines behind its first
+  -- the lines after its first
   abbrev rest_of : JudgedValue → List ℕ
   rest_of x = answer_line (ta1_note x.sender x.fault x.interchange) ++ content_lines setup x
 

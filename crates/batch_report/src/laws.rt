@@ -8,7 +8,7 @@ ghost use Rattle.night_report.specs.Adding.{together};
 ghost use Rattle.batch_sets.specs.MovedSets.{moved_judged, moved_placed};
 ghost use Rattle.batch_sets.specs.Within.{IsWithinText};
 
-/// A law, with nothing to run: the lines and the totals of a text's report are those of its batches, one behind the other, with the
+/// A theorem, with nothing to run: the lines and the totals of a text's report are those of its batches, one after the other, with the
 /// offsets and numbers of the whole text; so are the sets that are delivered to a partner.
 pub fn reports_go_on()
     ensures moved { (setup : SetupValue) (before behind : List ℕ) (n : ℕ) (xs : List JudgedValue) → All IsWithinText (all_sets xs)

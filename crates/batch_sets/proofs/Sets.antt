@@ -23,7 +23,7 @@ use Rattle.batch_law.specs.Moved.{moved_span, moved_view}
 use Rattle.batch_law.proofs.MovingEntries.{span_views_past}
 use Rattle.batch_sets.specs.MovedSets.{moved_checked, moved_parts}
 
--- what stands behind the batch isn't looked at
+-- what stands after the batch isn't looked at
 pub views_within : (text behind : List ℕ) (span : SetSpan) → span.end ≤ length text → span_views (text ++ behind) span
     ≡ span_views text span
 views_within text behind span fits =
@@ -75,7 +75,7 @@ module _ (by : ℕ) where
       ap (λ (body : List Segment). parts body (trailer_of closed (map (moved_view by) (x ∷ xs)))) (inner_moved closed (x ∷ xs))
       ∙ ap (parts (map elements_of (inner_of closed (x ∷ xs)))) (trailer_moved closed (x ∷ xs))
 
-  -- what is wrong with a set isn't told by where it stands
+  -- what is wrong with a set doesn't depend on where it stands
   error_moved : (ts : Trees) (p : SetParts) (given : List (Option Place)) (f : Fault) → IsErrorIn ts p given f
       → IsErrorIn ts (moved_parts by p) given f
   error_moved ts p given f e = record {

@@ -1,4 +1,4 @@
--- The front of one list, and behind it what another has there.
+-- The front of one list, and after it what another has there.
 use Rattle.std.proofs.Common.{◌≡◌, ℕ, zero, suc, ◌<◌, ◌≤◌, List, [], ◌∷◌, ◌++◌, Bool, true, ◌&&◌, length, take, drop, get_or}
 use Rattle.std.proofs.Common.{refl, sym, ap, arith}
 use Rattle.std.specs.List.{list_all}

@@ -1,5 +1,5 @@
 //! What may begin with a header, by the bytes that are read of a text, can be completed to one: with `header_shows_early` of
-//! `batch_law`, the test says exactly whether more bytes can make a header. A law alone, beside the program's chain: its call does
+//! `batch_law`, the test says exactly whether more bytes can make a header. A theorem alone, beside the program's chain: its call does
 //! nothing.
 //!
 //! Proved:

@@ -1,4 +1,4 @@
--- What clap found in the words is what the definitions say of them.
+-- What clap found in the arguments is what the definitions say of them.
 use Rattle.std.proofs.Common.{◌≡◌, ◌⊎◌, ◌∙◌, ℕ, List, [], ◌∷◌, length, map, Option, None, Some, option_map, true, false, codes, inl, inr}
 use Rattle.std.proofs.Common.{ap, arith, is_some, refl, subst, sym}
 use Rattle.std.specs.Borrow.{Bor}
@@ -90,7 +90,7 @@ none_given value values o none setup guides counters = record {
   counters = none_setup o.counters (value (codes "counters")) counters (grind arith);
 }
 
--- and the words give them none
+-- and the arguments give them none
 pub none_valued : (words : List Text) (m : ArgMatches) → HasMatchesOf check_app words m
     → AreNone (first_value (found_of m)) (values_found (found_of m)) → AreNone (value_of words) (values_of words)
 none_valued words m has none = record {
@@ -99,7 +99,7 @@ none_valued words m has none = record {
   counters = sym (found words m (codes "counters") has) ∙ none.counters;
 }
 
--- words by which files are checked name them
+-- arguments by which files are checked name them
 pub named : (words : List Text) (asked : Asked) (o : Options) → asked ≡ Check o → IsAsked words asked
     → AreOptions (value_of words) (values_of words) o
 named words (Check p) o e is =

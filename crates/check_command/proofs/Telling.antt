@@ -1,4 +1,4 @@
--- What is told of files one after another is what is told of all.
+-- What is reported of files one after another is what is reported of all.
 use Rattle.std.proofs.Common.{◌≡◌, ◌<◌, ◌+◌, ◌++◌, ◌∷◌, ◌∙◌, [], inl, inr, ℕ, List, Option, None, Some, append_assoc}
 use Rattle.std.proofs.Common.{ap, get_or, length, map, option_map, refl, subst, sym, take}
 use Rattle.std.proofs.lemmas.List.{take_more}

@@ -24,7 +24,7 @@ option_repeated name = record (option_free name) { action = Some Append }
 abbrev pub option_flag : Text → Rule
 option_flag name = record (new_rule name) { long = Some name; action = Some SetTrue }
 
--- the program without its options: its words have no program's name in front, and it has a version
+-- the program without its options: its arguments don't begin with a program's name, and it has a version
 abbrev pub program : App
 program =
     let bare = new_app (codes "nighthub_check") in
@@ -39,7 +39,7 @@ files_app =
 abbrev pub check_app : App
 check_app = with_rule files_app (option_flag (codes "all"))
 
--- the value that the words give an option
+-- the value that the arguments give an option
 abbrev pub value_of : List Text → Text → Option Text
 value_of words name = first_of name (matches_of check_app words)
 
@@ -74,17 +74,17 @@ pub record AreNone (value : Text → Option Text) (values : Text → Option (Lis
   pub guides : or_none (values (codes "guide")) ≡ []
   pub counters : value (codes "counters") ≡ None
 
--- nothing is wrong with the words, and they name a file
+-- nothing is wrong with the arguments, and they name a file
 pub record IsCommandLine (words : List Text) : Type 0 where
   pub taken : takes check_app words ≡ true
   pub named : AreNone (value_of words) (values_of words) → ⊥
 
--- the words ask for help or for the version, and name no file to check
+-- the arguments ask for help or for the version, and name no file to check
 pub record AsksForText (words : List Text) : Type 0 where
   pub asked : IsAmong DisplayHelp (fault_of check_app words) ⊎ IsAmong DisplayVersion (fault_of check_app words)
   pub no_run : takes check_app words ≡ true → ⊥
 
--- what the words ask for
+-- what the arguments ask for
 abbrev pub IsAsked : List Text → Asked → Type 0
 IsAsked words (Check options) = AreOptions (value_of words) (values_of words) options
 IsAsked words (Show text) = AsksForText words

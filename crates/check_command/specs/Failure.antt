@@ -13,7 +13,7 @@ status_of failure.Usage = 2
 status_of failure.Stdout = 5
 status_of failure.Memory = 6
 
--- what reading the words may fail by
+-- what reading the arguments may fail by
 abbrev pub IsOfWords : Failure → Type 0
 IsOfWords failure.Usage = Unit {0}
 IsOfWords failure.Memory = Unit {0}

@@ -22,6 +22,6 @@ abbrev pub paths_in : Options → List (List ℕ)
 paths_in options =
     in_order (map (λ p. p.now) options.guides.items) (option_map (λ p. p.now) options.setup) (option_map (λ p. p.now) options.counters)
 
--- the paths of what is told
+-- the paths of what is reported
 abbrev pub paths_told : List FileTold → List (List ℕ)
 paths_told told = map (λ (f : FileTold). f.path.now) told

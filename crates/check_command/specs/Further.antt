@@ -27,7 +27,7 @@ abbrev pub AreNodesSaid : (bytes : List ℕ) → Sentences → Type 0
 AreNodesSaid bytes said =
     (guide : GuideTree) × HasTable bytes (λ t. guide_of_table t ≡ Ok guide) × (said ≡ nodes_said (numbered 1 guide.nodes))
 
--- behind such a refusal of a guide file: of its keys, or of its nodes
+-- after such a refusal of a guide file: of its keys, or of its nodes
 abbrev pub IsGuideFurther : (bytes : List ℕ) → GuideFileFault → Sentences → Type 0
 IsGuideFurther bytes fault.NotToml said = said ≡ []
 IsGuideFurther bytes (fault.Guide own) said = AreNodesSaid bytes said
@@ -40,7 +40,7 @@ IsSaidOfGuide (Some bytes) said =
     ((guide : GuideRows) × IsGuideOf (Some bytes) guide × (said ≡ []))
     ⊎ ((refusal : GuideFileFault) × IsGuideFaultOf bytes refusal × IsGuideFurther bytes refusal said)
 
--- behind a refusal of another file: of its keys
+-- after a refusal of another file: of its keys
 abbrev pub IsFileFurther : (Members → Sentences) → (bytes : List ℕ) → FileFault → Sentences → Type 0
 IsFileFurther keys bytes file.NotToml said = said ≡ []
 IsFileFurther keys bytes refusal said = HasTable bytes (λ t. said ≡ keys t)

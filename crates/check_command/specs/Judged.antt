@@ -1,4 +1,4 @@
--- The check (own): what is told of a setup, and of the counters that it is judged by.
+-- The check (own): what is reported of a setup, and of the counters that it is judged by.
 use Rattle.std.specs.Prelude.{ℕ, Bool, true, false, List, [], length, Option, Some, None, if◌then◌else◌}
 use Rattle.guide_tree.specs.declared.rows.GuideRows.{GuideRows}
 use Rattle.partner_setup.specs.SetupFaults.{first_fault}

@@ -1,4 +1,4 @@
--- The check (own): what a file is judged as, and what is told beside others (no public clause cites these).
+-- The check (own): what a file is judged as, and what is reported beside others (no public clause cites these).
 use Rattle.std.specs.Prelude.{◌≡◌, ◌⊎◌, ℕ, List, [], ◌∷◌, ◌++◌, length, Option, None, Some, Result}
 use Rattle.toml.specs.Data.{Members}
 use Rattle.guide_tree.specs.declared.rows.GuideRows.{GuideRows}
@@ -49,7 +49,7 @@ abbrev pub AreCountersFound : Option Given → Option (List CounterRow) → Type
 AreCountersFound given (Some rows) = AreCountersOf given rows
 AreCountersFound given None = AreCountersRefused given
 
--- what is told of a setup beside what was found of the others
+-- what is reported of a setup beside what was found of the others
 abbrev pub told_beside : SetupRows → Option (List GuideRows) → Option (List CounterRow) → Told
 told_beside rows None counters = told.Open
 told_beside rows (Some guides) None = told.Open
@@ -60,7 +60,7 @@ IsToldBeside guides counters bytes t =
     ((text : List ℕ) × IsFileRefused setup_of_table setup_key_words bytes text × (t ≡ told.Refused text))
     ⊎ ((rows : SetupRows) × IsFileOf setup_of_table bytes rows × (t ≡ told_beside rows guides counters))
 
--- what is told of the counters beside what was found of the others
+-- what is reported of the counters beside what was found of the others
 abbrev pub counted_beside : SetupRows → Option (List GuideRows) → Option (List CounterRow) → Option Told
 counted_beside rows None counters = None
 counted_beside rows (Some guides) None = None
@@ -76,7 +76,7 @@ abbrev pub AreCountedBeside : Option (List GuideRows) → Option (List CounterRo
 AreCountedBeside guides counters None t = t ≡ None
 AreCountedBeside guides counters (Some f) t = IsCountedBeside guides counters f.bytes t
 
--- what is told of a counters file by itself, and its rows, where it is taken
+-- what is reported of a counters file by itself, and its rows, where it is taken
 abbrev pub IsCountedAlone : Option (List ℕ) → Option (List CounterRow) → Told → Type 0
 IsCountedAlone bytes None t = (text : List ℕ) × IsFileRefused counters_of_table counters_key_words bytes text × (t ≡ told.Refused text)
 IsCountedAlone bytes (Some rows) t = IsFileOf counters_of_table bytes rows × (t ≡ told.Taken (length rows) listed.Counters [])
@@ -87,7 +87,7 @@ AreCountedAlone None rows (Some l) = ⊥
 AreCountedAlone (Some f) rows None = ⊥
 AreCountedAlone (Some f) rows (Some l) = (l.path.now ≡ path_of f) × IsCountedAlone f.bytes rows l.told
 
--- a file of which something else is told
+-- a file of which something else is reported
 abbrev pub told_else : FileTold → Told → FileTold
 told_else l t = record { path = l.path; told = t }
 

@@ -23,7 +23,7 @@ told_text (told.Taken count what warnings) = taken_text count what
 told_text told.Open = codes "read, and not judged, since another file is refused"
 told_text (told.Refused text) = text
 
--- `F: ` and what is told of it
+-- `F: ` and what is reported of it
 abbrev pub line_of : FileTold → List ℕ
 line_of f = f.path.now ++ (codes ": " ++ (told_text f.told ++ codes "\n"))
 

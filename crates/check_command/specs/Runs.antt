@@ -11,8 +11,8 @@ use Rattle.check_command.specs.declared.command.Options.{Options}
 use Rattle.check_command.specs.declared.files.GivenFiles.{GivenFiles}
 use Rattle.check_command.specs.declared.told.FileTold.{FileTold}
 
--- a text is what is printed of files with these paths, and this is its status: of each what is told of it, and where all is asked for what
--- is said of each part of it
+-- a text is what is printed of files with these paths, and this is its status: of each what is reported of it, and where all is asked for
+-- what is said of each part of it
 pub record IsReport (paths : List (List ℕ)) (all : Bool) (text : List ℕ) (status : ℕ) : Type 0 where
   pub given : GivenFiles
   pub files : paths_of given ≡ paths
@@ -30,7 +30,7 @@ pub record IsChecked (paths : List (List ℕ)) (all : Bool) (status : ℕ) (was 
   pub report : IsReport paths all text status
   pub printed : Appends was is text
 
--- the files that the words name were checked, or a text was shown that they ask for
+-- the files that the arguments name were checked, or a text was shown that they ask for
 abbrev pub IsPrinted : (words : List Text) → (status : ℕ) → (was is : Option (List ℕ)) → Type 0
 IsPrinted words status was is =
     ((options : Options) × AreOptions (value_of words) (values_of words) options × IsChecked (paths_in options) options.all status was is)

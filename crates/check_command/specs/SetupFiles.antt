@@ -36,7 +36,7 @@ abbrev pub IsFileOf : {A : Type 0} → (Members → Result A Refusal) → Option
 IsFileOf read None rows = ⊥
 IsFileOf read (Some bytes) rows = HasTable bytes (λ t. read t ≡ Ok rows)
 
--- why its bytes write none: they are no table, or the first fault of the table; want of memory says nothing of them
+-- why its bytes write none: they are no table, or the first fault of the table; out of memory says nothing of them
 abbrev pub IsFaultOf : {A : Type 0} → (Members → Result A Refusal) → (bytes : List ℕ) → FileFault → Type 0
 IsFaultOf read bytes file.NotToml = table_of bytes ≡ None
 IsFaultOf read bytes file.NoMemory = ⊥

@@ -1,4 +1,4 @@
--- The check (own): what is told of each file that is given.
+-- The check (own): what is reported of each file that is given.
 use Rattle.std.specs.Prelude.{◌≡◌, ◌⊎◌, ⊤, ℕ, List, [], ◌∷◌, length, map, Option, None, Some}
 use Rattle.guide_tree.specs.Words.{guide_of, node_count}
 use Rattle.guide_tree.specs.declared.rows.GuideRows.{GuideRows}
@@ -63,7 +63,7 @@ IsSetupTold guides counters bytes t =
     ((text : List ℕ) × IsFileRefused setup_of_table setup_key_words bytes text × (t ≡ told.Refused text))
     ⊎ ((rows : SetupRows) × IsFileOf setup_of_table bytes rows × IsJudged guides counters rows t)
 
--- a file of which this is told has its line under its path
+-- a file of which this is reported has its line under its path
 abbrev pub IsFileTold : (Option (List ℕ) → Told → Type 0) → Given → FileTold → Type 0
 IsFileTold P f line = (line.path.now ≡ path_of f) × P f.bytes line.told
 
@@ -80,7 +80,7 @@ IsSomeTold P None (Some l) = ⊥
 IsSomeTold P (Some f) None = ⊥
 IsSomeTold P (Some f) (Some l) = IsFileTold P f l
 
--- what is told of all files: the guides in their order, then the setup, then the counters
+-- what is reported of all files: the guides in their order, then the setup, then the counters
 pub record AreTold (given : GivenFiles) (lines : List FileTold) : Type 0 where
   pub guides : List FileTold
   pub setup : Option FileTold

@@ -10,7 +10,7 @@ use clap::{Arg, ArgAction, ArgMatches, Command, Error};
 use std::alloc::{AllocError, Global};
 use std::convert::AsStr;
 
-/// What stands behind the options in the text of `--help`.
+/// What stands after the options in the text of `--help`.
 const STATUSES: &str = "Status:
   0  each file is taken
   2  usage
@@ -27,7 +27,7 @@ pub struct Options<'a> {
     pub guides: Vec<&'a str>,
     /// The counters, where they are given.
     pub counters: Option<&'a str>,
-    /// Whether a check goes on behind a file's first refusal.
+    /// Whether a check goes on after a file's first refusal.
     pub all: bool,
 }
 
@@ -43,7 +43,7 @@ impl<'a> Options<'a> {
     }
 }
 
-/// What the words ask for.
+/// What the arguments ask for.
 #[derive(Debug, Drop)]
 pub enum Asked<'a> {
     /// To check files.
@@ -52,7 +52,7 @@ pub enum Asked<'a> {
     Show(String),
 }
 
-/// Reads the words, which are the program's arguments without its name. Words that name no file are none.
+/// Reads the program's arguments without its name. Arguments that name no file are no command line.
 pub fn read_words<'a, S: AsStr>(alloc: Global, words: &'a [S]) -> Result<Asked<'a>, Failure>
     ensures asked { IfOk result (IsAsked (map S.text words.now)) }
     ensures usage { IsErrOf result Failure.Usage → IsCommandLine (map S.text words.now) → ⊥ }
@@ -109,7 +109,7 @@ fn option<'a>(alloc: Global, name: &'a str, help: &'a str) -> Arg<'a>
         .action(ArgAction::Set)
 }
 
-/// The option without a value, by which a check goes on behind a refusal.
+/// The option without a value, by which a check goes on after a refusal.
 fn flag<'a>(alloc: Global) -> Arg<'a>
     ensures rule { rule_of result ≡ option_flag (codes "all") }
     ensures local { result.global ≡ false }
@@ -172,7 +172,7 @@ fn copied<'a>(alloc: Global, texts: &[&'a str]) -> Result<Vec<&'a str>, AllocErr
     Ok(copy)
 }
 
-/// The text that is asked for, where the words have no mistake.
+/// The text that is asked for, where the arguments have no mistake.
 fn shown<'a>(alloc: Global, error: &Error) -> Result<Asked<'a>, Failure>
     ensures shown { IfOk result (IsShown (kind_of error.now)) }
     ensures usage { IsErrOf result Failure.Usage → kind_of error.now ≢ ErrorKind.OutOfMemory }

@@ -10,7 +10,7 @@ use std::io::Write;
 /// Why a run failed.
 #[derive(Clone, Copy, Debug, PartialEq, Eq)]
 pub enum Failure {
-    /// The words are not those of the command line.
+    /// The arguments are not those of the command line.
     Usage,
     /// Standard output failed.
     Stdout,

@@ -81,7 +81,7 @@ fn bytes_at<R: Files + AllocGlobal>(rt: &R, path: &str) -> io::Result<Vec<u8>> {
     Ok(bytes)
 }
 
-/// None for a file that can't be read; want of memory says nothing of the file.
+/// None for a file that can't be read; out of memory says nothing of the file.
 fn bytes_or_none(read: io::Result<Vec<u8>>) -> Result<Option<Text>, NoMemory> {
     match read {
         Ok(bytes) => Ok(Some(Text::from_vec(bytes))),

@@ -66,7 +66,7 @@ fn guide_keys(alloc: Global, bytes: &[u8]) -> Result<Texts, NoMemory>
     guide_keys_in(alloc, &top)
 }
 
-/// Behind this refusal of a guide file.
+/// After this refusal of a guide file.
 fn behind_guide(alloc: Global, bytes: &[u8], fault: &GuideFileFault) -> Result<Texts, NoMemory>
     ensures said { IfOk result (further.IsGuideFurther bytes.now fault.now) }
     ensures told { IfOk result (λ said. fault.now ≢ GuideFileFault.NoMemory) }
@@ -106,7 +106,7 @@ fn setup_keys(alloc: Global, bytes: &[u8]) -> Result<Texts, NoMemory>
     setup_keys_in(alloc, &top)
 }
 
-/// Behind this refusal of a setup file.
+/// After this refusal of a setup file.
 fn behind_setup(alloc: Global, bytes: &[u8], fault: &FileFault) -> Result<Texts, NoMemory>
     ensures said { IfOk result (further.IsFileFurther setup_keys_said bytes.now fault.now) }
     ensures told { IfOk result (λ said. fault.now ≢ FileFault.NoMemory) }
@@ -153,7 +153,7 @@ fn counters_keys(alloc: Global, bytes: &[u8]) -> Result<Texts, NoMemory>
     counters_keys_in(alloc, &top)
 }
 
-/// Behind this refusal of a counters file.
+/// After this refusal of a counters file.
 fn behind_counters(alloc: Global, bytes: &[u8], fault: &FileFault) -> Result<Texts, NoMemory>
     ensures said { IfOk result (further.IsFileFurther counters_keys_said bytes.now fault.now) }
     ensures told { IfOk result (λ said. fault.now ≢ FileFault.NoMemory) }
@@ -222,7 +222,7 @@ fn push_some(all: &mut Vec<Texts>, said: Option<Texts>) -> Result<(), NoMemory>
     Ok(())
 }
 
-/// What is said of each file that is given. The only error is want of memory.
+/// What is said of each file that is given. The only error is out of memory.
 pub fn said_of_files(alloc: Global, given: &GivenFiles<'_>) -> Result<Items<Texts>, NoMemory>
     ensures { IfOk result (λ all. further.AreSaid given.now all) }
 {

@@ -18,15 +18,15 @@ use partner_setup::{CounterRows, Setup, SetupFault, SetupRows};
 use refusal_words::{KeptRows, append_setup_words, setup_warning_texts};
 use std::alloc::Global;
 
-/// What is told of a setup, and of the counters that it is judged by.
+/// What is reported of a setup, and of the counters that it is judged by.
 #[derive(Debug, Drop)]
 pub struct SetupTold {
     pub setup: Told,
     pub counters: Told,
 }
 
-/// What is told of a setup that is made of these, and of the counters: they are taken, or the first refusal stands with the one that is
-/// at fault. The only error is want of memory.
+/// What is reported of a setup that is made of these, and of the counters: they are taken, or the first refusal stands with the one that is
+/// at fault. The only error is out of memory.
 pub fn judge_setup(
     alloc: Global,
     rows: SetupRows,
@@ -118,7 +118,7 @@ fn size_of(guide: &Guide) -> u64
     node_count(&guide.rows().nodes)
 }
 
-/// What is told of a guide file, and its guide, where it is taken.
+/// What is reported of a guide file, and its guide, where it is taken.
 struct ToldGuide<'a> {
     line: FileTold<'a>,
     guide: Option<Guide>,
@@ -148,7 +148,7 @@ fn tell_guide<'a>(alloc: Global, given: &Given<'a>) -> Result<ToldGuide<'a>, NoM
     }
 }
 
-/// What is told of guide files, and their guides, where none is refused.
+/// What is reported of guide files, and their guides, where none is refused.
 struct ToldGuides<'a> {
     lines: Vec<FileTold<'a>>,
     guides: Option<Vec<Guide>>,
@@ -184,7 +184,7 @@ fn tell_guides<'a>(alloc: Global, given: &[Given<'a>]) -> Result<ToldGuides<'a>,
     Ok(ToldGuides { lines, guides })
 }
 
-/// What is told of a counters file, and its rows, where it is taken.
+/// What is reported of a counters file, and its rows, where it is taken.
 struct ToldCounters<'a> {
     line: Option<FileTold<'a>>,
     rows: Option<CounterRows>,
@@ -228,13 +228,13 @@ fn tell_counters<'a>(alloc: Global, given: &Option<Given<'a>>) -> Result<ToldCou
     }
 }
 
-/// What is told of a setup file, and of the counters, where they are judged by it.
+/// What is reported of a setup file, and of the counters, where they are judged by it.
 struct Beside {
     setup: Told,
     counters: Option<Told>,
 }
 
-/// What is told of a setup file, by the guides and the counters, where none of these is refused.
+/// What is reported of a setup file, by the guides and the counters, where none of these is refused.
 fn told_of_setup(
     alloc: Global,
     bytes: &Option<Text>,
@@ -265,7 +265,7 @@ fn told_of_setup(
     }
 }
 
-/// The line of a setup file, where there is one, and what is told of the counters, where they are judged by it.
+/// The line of a setup file, where there is one, and what is reported of the counters, where they are judged by it.
 struct ToldSetup<'a> {
     line: Option<FileTold<'a>>,
     counters: Option<Told>,
@@ -299,7 +299,7 @@ fn tell_setup<'a>(
     }
 }
 
-/// The line of a file of which something else is told, where there is one.
+/// The line of a file of which something else is reported, where there is one.
 fn with_told<'a>(line: Option<FileTold<'a>>, told: Option<Told>) -> Option<FileTold<'a>>
     ensures { result ≡ with_told line.entry told }
 {
@@ -321,7 +321,7 @@ fn push_some<'a>(lines: &mut Vec<FileTold<'a>>, line: Option<FileTold<'a>>) -> R
     Ok(())
 }
 
-/// What is told of each file that is given: the guides in their order, the setup, the counters. The only error is want of memory.
+/// What is reported of each file that is given: the guides in their order, the setup, the counters. The only error is out of memory.
 pub fn tell_files<'a>(alloc: Global, given: &GivenFiles<'a>) -> Result<Vec<FileTold<'a>>, NoMemory>
     ensures told { IfOk result (λ told. tellings.AreTold given.now told.items) }
     ensures paths { IfOk result (λ told. files.paths_told told.items ≡ files.paths_of given.now) }

@@ -54,7 +54,7 @@ fn guide_words(alloc: Global, bytes: &[u8], fault: &GuideFault) -> Result<Text, 
     }
 }
 
-/// The table that bytes write, which are known to write one: the only error is want of memory.
+/// The table that bytes write, which are known to write one: the only error is out of memory.
 pub fn table_of(alloc: Global, bytes: &[u8]) -> Result<Table, NoMemory>
     ensures { IfOk result (λ table. files.table_of bytes.now ≡ Some (table_view table)) }
 {
@@ -83,7 +83,7 @@ fn key_words(alloc: Global, bytes: &[u8], fault: &GuideFileFault) -> Result<Text
     guide_key_text(alloc, &top, fault)
 }
 
-/// Why bytes write no guide. Want of memory says nothing of them.
+/// Why bytes write no guide. Out of memory says nothing of them.
 fn refusal_of(alloc: Global, bytes: &[u8], fault: &GuideFileFault) -> Result<Text, NoMemory>
     ensures said { IfOk result (files.IsSaidOf bytes.now fault.now) }
     ensures told { IfOk result (λ text. fault.now ≢ GuideFileFault.NoMemory) }
@@ -125,7 +125,7 @@ fn setup_text(alloc: Global, bytes: &[u8], fault: &FileFault) -> Result<Text, No
     setup_key_text(alloc, &top, fault)
 }
 
-/// Why a setup file writes no rows. Want of memory says nothing of it.
+/// Why a setup file writes no rows. Out of memory says nothing of it.
 fn setup_refusal(alloc: Global, bytes: &[u8], fault: &FileFault) -> Result<Text, NoMemory>
     ensures said { IfOk result (files.IsFileSaid setup_key_words bytes.now fault.now) }
     ensures told { IfOk result (λ text. fault.now ≢ FileFault.NoMemory) }
@@ -153,7 +153,7 @@ fn counters_text(alloc: Global, bytes: &[u8], fault: &FileFault) -> Result<Text,
     counters_key_text(alloc, &top, fault)
 }
 
-/// Why a counters file writes no rows. Want of memory says nothing of it.
+/// Why a counters file writes no rows. Out of memory says nothing of it.
 fn counters_refusal(alloc: Global, bytes: &[u8], fault: &FileFault) -> Result<Text, NoMemory>
     ensures said { IfOk result (files.IsFileSaid counters_key_words bytes.now fault.now) }
     ensures told { IfOk result (λ text. fault.now ≢ FileFault.NoMemory) }

@@ -27,7 +27,7 @@ struct Report {
     status: u8,
 }
 
-/// Runs the check on these words, its arguments without its name, and gives its exit status: 0 or 3 where it has told of each file,
+/// Runs the check on its arguments, without its name, and gives its exit status: 0 or 3 where it has reported on each file,
 /// 0 where it has printed a text that was asked for, otherwise that of the failure whose line it has printed on `err`.
 pub fn check_main<R, S, O, E>(rt: &R, words: &[S], out: &mut O, err: &mut E) -> u8
 where
@@ -49,7 +49,7 @@ where
     }
 }
 
-/// Tells of the files that these options name.
+/// Reports the files that these options name.
 fn check<R, O, E>(rt: &R, options: &Options<'_>, out: &mut O, err: &mut E) -> u8
 where
     R: Files + AllocGlobal,

@@ -11,7 +11,7 @@ pub enum Listed {
     Counters,
 }
 
-/// What is told of a file.
+/// What is reported of a file.
 #[derive(Debug, Drop)]
 pub enum Told {
     /// It is taken, has so many of what it lists, and these warnings, in words.
@@ -44,7 +44,7 @@ impl Told {
     }
 }
 
-/// A file, by its path, and what is told of it.
+/// A file, by its path, and what is reported of it.
 #[derive(Debug, Drop)]
 pub struct FileTold<'a> {
     pub path: &'a str,

@@ -34,7 +34,7 @@ fn texts_of(alloc: Global, warnings: &[Warning]) -> Result<Texts, NoMemory>
     Ok(Items::from_vec(texts))
 }
 
-/// The warnings of a guide, in words. The only error is want of memory.
+/// The warnings of a guide, in words. The only error is out of memory.
 pub fn warning_texts(alloc: Global, guide: &Guide) -> Result<Texts, NoMemory>
     ensures { IfOk result (λ texts. texts ≡ map warning_words (warnings_of (guide_of guide.now))) }
 {

@@ -19,7 +19,7 @@ module _ (setup : SetupValue) where
       ap (λ (l : List IndexEntry). map key_of l) (filter-append (λ e. is_none (fault_alone setup e)) es fs)
       ∙ map-append key_of (filter (λ e. is_none (fault_alone setup e)) es) (filter (λ e. is_none (fault_alone setup e)) fs)
 
-  -- the numbers behind one interchange more
+  -- the numbers after one interchange more
   pub keys_more : (numbers : List (List ℕ)) (before : List IndexEntry) (e : IndexEntry)
       → numbers ++ kept_keys setup (before ++ e ∷ [])
       ≡ keys_with (numbers ++ kept_keys setup before) (fault_alone setup e) (key_of e)

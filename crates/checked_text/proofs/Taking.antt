@@ -1,4 +1,4 @@
--- What was found out about places, taken one behind another.
+-- What was found out about places, taken one after another.
 use Rattle.std.proofs.Common.{◌≡◌, ℕ, suc, ◌+◌, ◌≤◌, List, [], ◌∷◌, ◌++◌, Some, take, drop, length, get_or, refl, sym, ap, subst}
 use Rattle.std.proofs.Common.{◌∙◌, arith}
 use Rattle.std.proofs.Common.{append_assoc, drop-cons}
@@ -29,7 +29,7 @@ pub first_is : (a : Asked) (bs : List Asked) (fs : List Finding) (f : Finding) (
     → fs ≡ f ∷ more → IsFound a f × AllZip IsFound bs more
 first_is a bs fs f more h e = subst (λ (l : List Finding). AllZip IsFound (a ∷ bs) l) e h
 
--- of the sets of a group, one behind another
+-- of the sets of a group, one after another
 pub sets_step : (sent : SentValue) (gs : SegValue) (sets : List SetEnvelope) (i : ℕ) (set : SetEnvelope) → slice_get sets i ≡ Some set
     → sets_asked sent gs (take i sets) (drop i sets)
     ≡ set_asked sent gs (take i sets) set ∷ sets_asked sent gs (take (i + 1) sets) (drop (i + 1) sets)
@@ -38,13 +38,13 @@ sets_step sent gs sets i set is =
     ∙ ap (λ (l : List SetEnvelope). set_asked sent gs (take i sets) set ∷ sets_asked sent gs l (drop (i + 1) sets))
     (sym (take_one_more sets i set is))
 
--- of the groups of an interchange, one behind another
+-- of the groups of an interchange, one after another
 pub groups_step : (sent : SentValue) (groups : List GroupEntry) (i : ℕ) (group : GroupEntry) → slice_get groups i ≡ Some group
     → groups_asked sent (take i groups) (drop i groups) ≡ groups_asked sent (take i groups) (group ∷ drop (i + 1) groups)
 groups_step sent groups i group is =
     ap (λ (l : List GroupEntry). groups_asked sent (take i groups) l) (drop_one_more groups i group is)
 
--- the sets of the first group, and then what is behind it
+-- the sets of the first group, and then what is after it
 pub own_sets : (sent : SentValue) (before : List GroupEntry) (group : GroupEntry) (groups : List GroupEntry) (more : List Asked)
     → groups_asked sent before (group ∷ groups) ++ more
     ≡ group_asked before group ∷ (sets_asked sent group.header [] group.sets ++ (groups_asked sent (before ++ group ∷ []) groups ++ more))
@@ -58,7 +58,7 @@ AreFound bs fs = AllZip IsFound bs fs
 pub moved_asked : (bs cs : List Asked) (fs : List Finding) → bs ≡ cs → AllZip IsFound bs fs → AllZip IsFound cs fs
 moved_asked bs cs fs e h = subst (λ (l : List Asked). AllZip IsFound l fs) e h
 
--- the next set of a group, and what is behind it
+-- the next set of a group, and what is after it
 pub next_set : (sent : SentValue) (gs : SegValue) (sets : List SetEnvelope) (i : ℕ) (set : SetEnvelope) (more : List Asked)
     (fs : List Finding) → slice_get sets i ≡ Some set
     → AllZip IsFound (sets_asked sent gs (take i sets) (drop i sets) ++ more) fs
@@ -79,7 +79,7 @@ pub next_group : (sent : SentValue) (groups : List GroupEntry) (i : ℕ) (group 
 next_group sent groups i group more fs is h =
     moved_asked _ _ fs (ap (λ (l : List Asked). l ++ more) (groups_step sent groups i group is)) h
 
--- the groups behind it
+-- the groups after it
 pub behind_group : (sent : SentValue) (groups : List GroupEntry) (i : ℕ) (group : GroupEntry) (more : List Asked) (fs : List Finding)
     → slice_get groups i ≡ Some group
     → AllZip IsFound (groups_asked sent (take i groups ++ group ∷ []) (drop (i + 1) groups) ++ more) fs
@@ -94,14 +94,14 @@ pub no_group : (sent : SentValue) (groups : List GroupEntry) (i : ℕ) (more : L
 no_group sent groups i more fs past h =
     moved_asked _ _ fs (ap (λ (l : List GroupEntry). groups_asked sent (take i groups) l ++ more) (drop_all i groups past)) h
 
--- a group's own, then its sets, then what is behind it
+-- a group's own, then its sets, then what is after it
 pub first_group : (sent : SentValue) (before : List GroupEntry) (group : GroupEntry) (groups : List GroupEntry) (more : List Asked)
     (fs : List Finding) → AllZip IsFound (groups_asked sent before (group ∷ groups) ++ more) fs
     → AllZip IsFound (group_asked before group
     ∷ (sets_asked sent group.header [] group.sets ++ (groups_asked sent (before ++ group ∷ []) groups ++ more))) fs
 first_group sent before group groups more fs h = moved_asked _ _ fs (own_sets sent before group groups more) h
 
--- behind the first
+-- after the first
 pub behind_first : (a : Asked) (bs : List Asked) (fs : List Finding) (f : Finding) (more : List Finding) → AllZip IsFound (a ∷ bs) fs
     → fs ≡ f ∷ more → AllZip IsFound bs more
 behind_first a bs fs f more h e = (first_is a bs fs f more h e).1

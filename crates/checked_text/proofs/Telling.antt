@@ -1,4 +1,4 @@
--- What is asked of the places of an index is told by first uses of numbers, place by place.
+-- What is asked of the places of an index follows from first uses of numbers, place by place.
 use Rattle.std.proofs.Common.{◌≡◌, ℕ, ◌+◌, List, [], ◌∷◌, ◌++◌, Bool, true, false, Option, Some, None, length, take, map, refl}
 use Rattle.std.proofs.Common.{ap, sym, subst, ◌∙◌, arith, true≢false}
 use Rattle.std.specs.Prelude.{◌↔◌, slice_get, is_none, is_some}
@@ -40,7 +40,7 @@ take_end [] ys = refl
 take_end (x ∷ xs) ys = ap (λ l. x ∷ l) (take_end xs ys)
 
 module _ (setup : SetupValue) (es : List IndexEntry) where
-  -- the sets of a group that are left, behind these
+  -- the sets of a group that are left, after these
   sets_told : (isa gs : ℕ) (sent : SentValue) (header : SegValue) (all before sets : List SetEnvelope) (st : ℕ) → all ≡ before ++ sets
       → ((j : ℕ) (set : SetEnvelope) → slice_get all j ≡ Some set
       → (is_among (control_of set.header) (controls_of (take j all)) ≡ true) ↔ IsUsedEarlier setup es (place_at isa gs (1 + j)))
@@ -58,7 +58,7 @@ module _ (setup : SetupValue) (es : List IndexEntry) where
             (omega (arith, counted, length_snoc before set)),
       )
 
-  -- the groups of an interchange that are left, behind these
+  -- the groups of an interchange that are left, after these
   groups_told : (n : ℕ) (sent : SentValue) (all before groups : List GroupEntry) (gs : ℕ) → all ≡ before ++ groups
       → AreNumbersByPlace setup es n all → gs ≡ 1 + length before
       → AllZip (IsAskedAt setup es) (groups_from (1 + n) gs groups) (groups_asked sent before groups)
@@ -98,7 +98,7 @@ module _ (setup : SetupValue) (es : List IndexEntry) where
   duplicate_is true = refl
   duplicate_is false = refl
 
-  -- what is asked of an interchange that has places is told of it
+  -- what is asked of an interchange that has places is reported of it
   kept_told : (text : List ℕ) (n : ℕ) (e : IndexEntry) (fault : Option InterchangeFault) (sender : Option ℕ) → is_some sender ≡ true
       → ((is_duplicate fault ≡ true) ↔ IsUsedEarlier setup es (place_at (1 + n) 0 0))
       → AreNumbersByPlace setup es n e.interchange.content.groups

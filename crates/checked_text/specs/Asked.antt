@@ -32,7 +32,7 @@ pub record Asked : Type 0 where
   pub earlier : Bool
   pub set : Option SetAsked
 
--- a set of a group with this GS, behind these
+-- a set of a group with this GS, after these
 abbrev pub set_asked : SentValue → (gs : SegValue) → (before : List SetEnvelope) → SetEnvelope → Asked
 set_asked sent gs before set = record {
   earlier = is_among (control_of set.header) (controls_of before);
@@ -43,7 +43,7 @@ set_asked sent gs before set = record {
   });
 }
 
--- the sets of a group that are left, behind these
+-- the sets of a group that are left, after these
 abbrev pub sets_asked : SentValue → (gs : SegValue) → (before : List SetEnvelope) → List SetEnvelope → List Asked
 sets_asked sent gs before [] = []
 sets_asked sent gs before (set ∷ sets) = set_asked sent gs before set ∷ sets_asked sent gs (before ++ set ∷ []) sets
@@ -106,7 +106,7 @@ pub record IsFound (asked : Asked) (found : Finding) : Type 0 where
 abbrev pub IsAskedAt : SetupValue → List IndexEntry → Numbered → Asked → Type 0
 IsAskedAt setup es place asked = (asked.earlier ≡ true) ↔ IsUsedEarlier setup es place.place
 
--- one question at each place, told by first uses
+-- one question at each place, answered by first uses
 abbrev pub AreAskedByFirstUse : (text : List ℕ) → SetupValue → List IndexEntry → Type 0
 AreAskedByFirstUse text setup es =
     AllZip (IsAskedAt setup es) (index_places (knows setup) (map (λ (e : IndexEntry). e.interchange) es))

@@ -4,16 +4,16 @@
 //! Proved:
 //! - `settled_faults` gives each interchange of an index its least fault of 1 to 9: 8 where no partner of the setup is its
 //!   sender, 9 where an earlier interchange without faults 1 to 8 has the same number; `faults_behind` does so where interchanges
-//!   come before the index, by their numbers alone, and gives the numbers that those behind it go on from;
+//!   come before the index, by their numbers alone, and gives the numbers that those after it go on from;
 //! - `check_text` checks each set of the interchanges without a fault by its sender's guide, and answers each group and set: the
-//!   standings that it leaves, and the acknowledgments of each partner, byte for byte, are those of these answers, behind the
+//!   standings that it leaves, and the acknowledgments of each partner, byte for byte, are those of these answers, after the
 //!   acknowledgments that stood before;
 //! - `answers_to` answers the groups of one interchange, and `judge` gives it the standings that these answers leave;
 //! - the acknowledgment of an interchange has a TA1 where it is answered with one, and a 999 for each group but those of acknowledgments;
 //!   it takes its partner's next interchange number, and its group, where it has 999s, the next group number;
-//! - the interchanges of a text are answered in one way (`answers_are_one`), and the answer to a set tells that it is accepted
+//! - the interchanges of a text are answered in one way (`answers_are_one`), and the answer to a set says that it is accepted
 //!   exactly where the set meets its guide and no earlier set of its group has its ST02 (`accepted_as_it_meets`);
-//! - a duplicate, a group's code 19 and a set's code 23 are told exactly where the first use of the number, by the order of places, is
+//! - a duplicate, a group's code 19 and a set's code 23 are reported exactly where the first use of the number, by the order of places, is
 //!   an earlier place (`numbers_told_by_first_use`).
 //!
 //! Numbers are looked up in ordered sets, so that the cost follows the bytes but for a logarithm, whatever numbers somebody
@@ -21,6 +21,8 @@
 //!
 //! Source: X12.5, interchange sender and control number, interchange acknowledgment (TA1); X12.6, functional group and transaction
 //! set; 999 guide (005010X231).
+//!
+//! Tests: `trial_nights`.
 #![tactic(auto)]
 
 mod acknowledge;

@@ -42,7 +42,7 @@ IsWhole v = v.weight ≡ v.seats → 0 < v.ended → EachOnce v.n v.got
 abbrev pub after_claim : View → ℕ → View
 after_claim v j = if ltb j v.n then view v.n v.seats (v.got ++ j ∷ []) v.weight v.ended else view v.n v.seats v.got v.weight (v.ended + 1)
 
--- what a claim tells, and what a look tells
+-- what a claim says, and what a look says
 abbrev pub claimed : Step (Unit {0}) → Me (Unit {0}) View → ℕ → Me (Unit {0}) View → Type 0
 claimed st m r m' = (m'.1 ≡ m.1) × (m'.0 ≡ after_claim m.0 r) × IsWhole m'.0
 

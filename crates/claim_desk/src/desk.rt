@@ -52,7 +52,7 @@ impl Model for Seat {
 }
 
 impl Desk {
-    /// A desk for so many jobs, and one seat that is all its seats. The only error is want of memory.
+    /// A desk for so many jobs, and one seat that is all its seats. The only error is out of memory.
     pub fn new(alloc: Global, n: u64, seats: u64) -> Result<(Desk, Seat), NoMemory>
         requires n { n ≤ 4611686018427387904 }
         requires seats { (1 ≤ seats) × (seats ≤ 64) }

@@ -10,7 +10,7 @@ pub enum InterchangeVerdict {
     Refused,
 }
 
-/// What is told of an interchange: interchange note code (X12.5, TA105), those that this hub writes.
+/// What is reported of an interchange: interchange note code (X12.5, TA105), those that this hub writes.
 #[derive(Clone, Copy, Debug, PartialEq, Eq)]
 pub enum NoteCode {
     /// `000`: no error.

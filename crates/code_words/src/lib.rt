@@ -1,4 +1,4 @@
-//! The words of the codes that an acknowledgment tells by: what is wrong with a segment, an element, a set or a group, the verdicts on
+//! The words of the codes of an acknowledgment: what is wrong with a segment, an element, a set or a group, the verdicts on
 //! sets and groups, and the note on an interchange. They are those of docs/ACKNOWLEDGMENT.md.
 //!
 //! Proved:
@@ -8,6 +8,8 @@
 //!
 //! Source: 999 guide (005010X231), the code lists of IK304, IK403, IK501, IK502, AK901 and AK905; X12.5, TA104 and TA105; the words are
 //! own.
+//!
+//! Tests: `trial_explain`.
 #![tactic(auto)]
 
 mod elements;

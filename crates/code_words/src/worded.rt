@@ -3,7 +3,7 @@ ghost use Rattle.code_words.specs.Worded.{code_by, words_by};
 
 use hub_kinds::Code;
 
-/// A code that is told in words.
+/// A code that is put in words.
 pub trait Worded: Code {
     /// Its words.
     ghost words: { Self → List ℕ };

@@ -1,4 +1,4 @@
--- Fewer than 2^64 acknowledgments, their groups and sets are as many as a tally tells.
+-- Fewer than 2^64 acknowledgments, their groups and sets are as many as a tally gives.
 use Rattle.std.proofs.Common.{◌≡◌, ◌<◌, ◌≤◌, ◌+◌, ◌^◌, ℕ, Bool, true, false, List, [], ◌∷◌, length, refl, ap, ◌∙◌, arith}
 use Rattle.hub_kinds.specs.declared.counters.Counters.{Counters}
 use Rattle.count_numbers.specs.declared.numbering.PartnerNumbers.{PartnerNumbers}

@@ -1,4 +1,4 @@
--- Runs tell the keys that they are of.
+-- Runs give the keys that they are of.
 use Rattle.std.proofs.Common.{◌≡◌, ◌<◌, ◌≤◌, ℕ, zero, suc, ◌-◌, ◌^◌, Bool, true, false, List, [], ◌∷◌, ◌++◌, length}
 use Rattle.std.proofs.Common.{replicate, length-append, refl, ap, ◌∙◌, arith}
 use Rattle.count_numbers.specs.declared.run.RunKey.{RunKey}

@@ -1,4 +1,4 @@
--- The groups of delivered interchanges are told by runs: a run is a group in each interchange that its sets lie in.
+-- The groups of delivered interchanges are given by runs: a run is a group in each interchange that its sets lie in.
 use Rattle.std.proofs.Common.{◌≡◌, ◌<◌, ◌≤◌, ℕ, zero, suc, ◌+◌, ◌-◌, ◌*◌, ◌/◌, ◌%◌, ◌==◌, ◌^◌, Bool, true, false, if◌then◌else◌}
 use Rattle.std.proofs.Common.{List, [], ◌∷◌, map, take, drop, length, refl, sym, ap, subst, ◌∙◌, arith, sum_by}
 use Rattle.std.proofs.Math.Nat.{add-mul, div-mul-le_self}
@@ -28,7 +28,7 @@ full_before cap m n h few =
     let more : n / cap ≤ interchange_count cap n = no_fewer (n % cap == 0) (n / cap) in
     omega arith
 
--- behind a full interchanges and b sets more
+-- after a full interchanges and b sets more
 count_at : (cap a b n : ℕ) → n ≡ a * cap + suc b → suc b < cap → interchange_count cap n ≡ a + 1
 count_at cap a b n e h =
     ap (interchange_count cap) e
@@ -147,7 +147,7 @@ one_left cap room k =
     ∙ ap (λ (xs : List RunKey). 1 + delivered_groups cap xs) (drop-nil room)
     ∙ ap (λ (g : ℕ). 1 + g) (no_groups cap)
 
--- how many groups the runs of keys tell is how many they have, and these are no more than the keys
+-- how many groups the runs of keys give is how many they have, and these are no more than the keys
 abbrev AreTold : (cap p room : ℕ) → List RunKey → Type 0
 AreTold cap p room keys =
     (group_count_behind cap p (runs_of keys) ≡ groups_with_room cap room keys) × (groups_with_room cap room keys ≤ length keys)

@@ -1,4 +1,4 @@
--- The first delivered interchange, and those behind it.
+-- The first delivered interchange, and those after it.
 use Rattle.std.proofs.Common.{◌≡◌, ◌<◌, ◌≤◌, ◌⊎◌, inl, inr, ℕ, zero, suc, ◌+◌, ◌-◌, ◌*◌, ◌/◌, ◌%◌, ◌==◌, Bool, true, false}
 use Rattle.std.proofs.Common.{if◌then◌else◌, List, [], ◌∷◌, take, drop, length, map, refl, sym, ap, ◌∙◌, arith, length-drop}
 use Rattle.std.proofs.Math.Nat.{add-mod_left, add-div_left, mod-eq_of_lt, div-eq_of_lt, zero-div, zero-mod, zero-mul, add-mul}

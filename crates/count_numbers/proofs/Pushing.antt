@@ -1,4 +1,4 @@
--- A run behind runs is one with the last of them, or stands behind it.
+-- A run after runs is one with the last of them, or stands after it.
 use Rattle.std.proofs.Common.{◌≡◌, ◌<◌, ℕ, zero, suc, true, false, List, [], ◌∷◌, ◌++◌, length, refl, sym, ap, ◌∙◌, arith}
 use Rattle.std.specs.Prelude.{slice_index_or, slice_set}
 use Rattle.count_numbers.specs.declared.run.Run.{Run}

@@ -114,7 +114,7 @@ groups_are_told_by_runs = refl
 no_groups : group_count 2 [] ≡ 0
 no_groups = refl
 
--- behind one set, three sets lie in the first and the second interchange of two each, behind two in the second and the third
+-- after one set, three sets lie in the first and the second interchange of two each, after two in the second and the third
 over_two : interchanges_over 2 1 3 ≡ 2
 over_two = refl
 
@@ -173,7 +173,7 @@ without_a_group = refl
 abbrev some_entries : List Entry
 some_entries = Delivered (key 0) ∷ Delivered (key 0) ∷ Acknowledged true ∷ Delivered (key 0) ∷ Delivered (key 1) ∷ []
 
--- a run goes on behind a cut
+-- a run goes on after a cut
 tally_in_front : tally_between tt some_entries 0 2 ≡ tally 0 0 (run 2 (key 0) ∷ [])
 tally_in_front = refl
 

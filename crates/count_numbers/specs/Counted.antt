@@ -45,7 +45,7 @@ numbers_behind counters cap acknowledgments groups keys = record {
   };
 }
 
--- the numbers that a tally tells are those of what it is of, where that is fewer than 2^64
+-- the numbers that a tally gives are those of what it is of, where that is fewer than 2^64
 abbrev pub NumbersAreCounted : Type 0
 NumbersAreCounted =
     (es : List Entry) → length es < 2 ^ 64 → (counters : Counters) (cap : ℕ) → 1 ≤ cap

@@ -1,4 +1,4 @@
--- A run in front of what is joined is a run in front of the first part; joining is associative, and follows the lists.
+-- A run before what is joined is a run before the first part; joining is associative, and follows the lists.
 use Rattle.std.proofs.Common.{◌≡◌, ℕ, Bool, true, false, if◌then◌else◌, List, [], ◌∷◌, ◌++◌, refl, sym, ap, ◌∙◌}
 use Rattle.count_numbers.specs.declared.run.RunKey.{RunKey}
 use Rattle.count_numbers.specs.declared.run.Run.{Run}
@@ -65,7 +65,7 @@ join_nil [] = refl
 join_nil (x ∷ []) = refl
 join_nil (x ∷ y ∷ xs) = ap (λ (rs : List Run). x ∷ rs) (join_nil (y ∷ xs))
 
--- something is left in front of what something is joined with
+-- something is left before what something is joined with
 onto_some : (x : Run) (ys : List Run) → (r : Run) × (rs : List Run) × (onto_runs x ys ≡ r ∷ rs)
 onto_some x [] = (x, [], refl)
 onto_some x (y ∷ ys) = cases (same_key x.key y.key) refl
@@ -93,7 +93,7 @@ pub runs_append : (ks ls : List RunKey) → runs_of (ks ++ ls) ≡ join_runs (ru
 runs_append [] ls = refl
 runs_append (a ∷ ks) ls = ap (onto_runs (single a)) (runs_append ks ls) ∙ sym (join_onto (single a) (runs_of ks) (runs_of ls))
 
--- what is behind the first is only put behind
+-- what is after the first is only put after it
 pub join_first : (xs : List Run) (y : Run) (ys : List Run) → join_runs xs (y ∷ []) ++ ys ≡ join_runs xs (y ∷ ys)
 join_first [] y ys = refl
 join_first (x ∷ []) y ys = cases (same_key x.key y.key) refl

@@ -50,16 +50,16 @@ abbrev pub set_count : List Run → ℕ
 set_count [] = 0
 set_count (run ∷ runs) = together run.sets (set_count runs)
 
--- fewer than 2^64 sets are as many as their runs tell
+-- fewer than 2^64 sets are as many as their runs give
 abbrev pub SetsAreCounted : Type 0
 SetsAreCounted = (keys : List RunKey) → length keys < 2 ^ 64 → set_count (runs_of keys) ≡ length keys
 
--- in how many delivered interchanges the sets of a run lie, the first of them behind `before` sets: of those that hold the sets up to
+-- in how many delivered interchanges the sets of a run lie, the first of them after `before` sets: of those that hold the sets up to
 -- its last, all but those that are full before it; it is a group in each
 abbrev pub interchanges_over : (cap before sets : ℕ) → ℕ
 interchanges_over cap before sets = interchange_count cap (together before sets) - before / cap
 
--- how many groups runs are, the first of them behind `before` sets
+-- how many groups runs are, the first of them after `before` sets
 abbrev pub group_count_behind : (cap before : ℕ) → List Run → ℕ
 group_count_behind cap before [] = 0
 group_count_behind cap before (run ∷ runs) =
@@ -69,7 +69,7 @@ group_count_behind cap before (run ∷ runs) =
 abbrev pub group_count : (cap : ℕ) → List Run → ℕ
 group_count cap runs = group_count_behind cap 0 runs
 
--- fewer than 2^64 sets have as many groups by their runs as by themselves, and as many as their runs tell
+-- fewer than 2^64 sets have as many groups by their runs as by themselves, and as many as their runs give
 abbrev pub GroupsAreCounted : Type 0
 GroupsAreCounted =
     (cap : ℕ) (keys : List RunKey) → 1 ≤ cap → length keys < 2 ^ 64

@@ -11,8 +11,8 @@ use Rattle.count_numbers.specs.Tally.{PartnerTally}
 abbrev pub delivered_in : (cap : ℕ) → PartnerTally → ℕ
 delivered_in cap t = interchange_count cap (set_count t.runs)
 
--- its acknowledgments come first, then its delivered interchanges, and their groups in the same order; the counters go on behind
--- both, and behind the delivered sets
+-- its acknowledgments come first, then its delivered interchanges, and their groups in the same order; the counters go on after
+-- both, and after the delivered sets
 abbrev pub numbers_of : PartnerTally → Counters → (cap : ℕ) → PartnerNumbers
 numbers_of t counters cap = record {
   first_acknowledgment = counters.interchange;

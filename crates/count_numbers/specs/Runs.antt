@@ -16,7 +16,7 @@ together a b = min (a + b) (2 ^ 64 - 1)
 abbrev pub merged : Run → Run → Run
 merged a b = record { key = a.key; sets = together a.sets b.sets }
 
--- a run in front of runs: one with the first of them, where they have one key
+-- a run before runs: one with the first of them, where they have one key
 abbrev pub onto_runs : Run → List Run → List Run
 onto_runs x [] = x ∷ []
 onto_runs x (y ∷ ys) = if same_key x.key y.key then merged x y ∷ ys else x ∷ y ∷ ys
@@ -30,7 +30,7 @@ abbrev pub runs_of : List RunKey → List Run
 runs_of [] = []
 runs_of (key ∷ keys) = onto_runs (single key) (runs_of keys)
 
--- runs behind runs: the last of the first and the first of the second are one where they have one key
+-- runs after runs: the last of the first and the first of the second are one where they have one key
 abbrev pub join_runs : List Run → List Run → List Run
 join_runs [] ys = ys
 join_runs (x ∷ []) ys = onto_runs x ys

@@ -5,7 +5,7 @@ ghost use Rattle.count_numbers.specs.declared.number.TheConstants.{GREATEST_NUMB
 /// The greatest control number; 1 follows it.
 pub const GREATEST_NUMBER: u32 = 999_999_999;
 
-/// The control number that comes `k` behind a first one; 1 follows 999,999,999 (X12.5, interchange control number;
+/// The control number that comes `k` after a first one; 1 follows 999,999,999 (X12.5, interchange control number;
 /// X12.6, group control number and transaction set control number; the order is own).
 pub fn num(start: u32, k: u64) -> u32
     requires least { 1 ≤ start }

@@ -59,7 +59,7 @@ fn set_count(runs: &[Run<'_>]) -> u64
     sets
 }
 
-/// In how many delivered interchanges the sets of a run lie, the first of them behind `before` sets.
+/// In how many delivered interchanges the sets of a run lie, the first of them after `before` sets.
 fn interchanges_over(cap: u32, before: u64, sets: u64) -> u64
     requires { 1 ≤ cap }
     ensures { result ≡ interchanges_over cap before sets }
@@ -111,8 +111,8 @@ fn numbers_of(tally: &Tally<'_>, counters: Counters, cap: u32) -> PartnerNumbers
 }
 
 /// The numbers of partners that have these tallies, counters and caps, the greatest number of sets that a delivered
-/// interchange holds: acknowledgments are numbered from the counter on, and delivered interchanges behind them, and so are the
-/// groups of both. The only error is want of memory. X12.5, interchange control number (ISA13); X12.6, group control number
+/// interchange holds: acknowledgments are numbered from the counter on, and delivered interchanges after them, and so are the
+/// groups of both. The only error is out of memory. X12.5, interchange control number (ISA13); X12.6, group control number
 /// (GS06) and transaction set control number (ST02).
 pub fn numbers_for(
     alloc: Global,

@@ -45,7 +45,7 @@ pub(crate) fn single(key: RunKey<'_>) -> Run<'_>
     Run { key, sets: 1 }
 }
 
-/// Puts a run behind runs: it is one with the last of them where they have one key.
+/// Puts a run after runs: it is one with the last of them where they have one key.
 pub(crate) fn push_run<'a>(runs: &mut Vec<Run<'a>>, run: Run<'a>) -> Result<(), NoMemory>
     ensures pushed { OnOk result (runs.new.items ≡ join_runs runs.old.items (run.entry ∷ [])) }
     ensures kept { OnErr result (runs.new.items ≡ runs.old.items) }
@@ -60,7 +60,7 @@ pub(crate) fn push_run<'a>(runs: &mut Vec<Run<'a>>, run: Run<'a>) -> Result<(), 
     Ok(())
 }
 
-/// Runs behind runs.
+/// Runs after runs.
 pub(crate) fn join_runs<'a>(
     mut front: Vec<Run<'a>>,
     mut back: Vec<Run<'a>>,

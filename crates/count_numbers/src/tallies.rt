@@ -25,7 +25,7 @@ impl<'a> Tallies<'a> {
     ghost use Rattle.count_numbers.specs.Tally.{Acknowledged, Delivered};
     ghost use Rattle.count_numbers.specs.Tallies.{tallies_of, all_joined};
 
-    /// Of nothing, for so many partners. The only error is want of memory.
+    /// Of nothing, for so many partners. The only error is out of memory.
     pub fn new(alloc: Global, partners: usize) -> Result<Tallies<'a>, NoMemory>
         ensures { IfOk result (λ tallies. tallies ≡ tallies_of partners []) }
     {
@@ -52,7 +52,7 @@ impl<'a> Tallies<'a> {
         self.list[partner].acknowledge(has_group);
     }
 
-    /// Counts one set more that is delivered to the partner at a place. The only error is want of memory, and then all is as it was.
+    /// Counts one set more that is delivered to the partner at a place. The only error is out of memory, and then all is as it was.
     pub fn deliver(&mut self, partner: usize, key: RunKey<'a>) -> Result<(), NoMemory>
         requires { partner < length self.old }
         ensures counted { OnOk result ((n : ℕ) (es : List PartnerEntry) → self.old ≡ tallies_of n es
@@ -62,7 +62,7 @@ impl<'a> Tallies<'a> {
         self.list[partner].deliver(key)
     }
 
-    /// The tallies of two stretches that follow each other, for as many partners as both have. The only error is want of memory.
+    /// The tallies of two stretches that follow each other, for as many partners as both have. The only error is out of memory.
     pub fn append(self, alloc: Global, back: Tallies<'a>) -> Result<Tallies<'a>, NoMemory>
         ensures { IfOk result (λ tallies. tallies ≡ all_joined self.entry back.entry) }
     {

@@ -8,6 +8,8 @@
 //! records are written once.
 //!
 //! Source: RFC 4180.
+//!
+//! Tests: `trial_track`.
 #![tactic(auto)]
 
 mod fields;

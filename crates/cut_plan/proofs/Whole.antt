@@ -1,4 +1,4 @@
--- The pieces of a text, one behind another, are the text.
+-- The pieces of a text, one after another, are the text.
 use Rattle.std.proofs.Common.{◌≡◌, ℕ, ◌+◌, ◌-◌, ◌≤◌, List, [], ◌∷◌, ◌++◌, take, drop, true, sym, ap, ◌∙◌, arith, append-nil}
 use Rattle.std.specs.Prelude.{slice_range, nat_le}
 use Rattle.std.specs.List.{flat_map, list_all}

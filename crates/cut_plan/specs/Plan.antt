@@ -8,7 +8,7 @@ pub record Plan : Type 0 where
   pub text_len : ℕ
   pub places : List ℕ
 
--- each is at or behind the one before it, and the first at or behind a
+-- each is at or after the one before it, and the first at or after a
 abbrev pub rises_from : ℕ → List ℕ → Bool
 rises_from a [] = true
 rises_from a (c ∷ cs) = nat_le a c && rises_from c cs
@@ -36,7 +36,7 @@ pub record IsPlan (plan : Plan) : Type 0 where
 abbrev pub multiples_below : ℕ → ℕ → List ℕ
 multiples_below len n = map (λ k. n * k) (range_with_len 1 ((len - 1) / n))
 
--- the bytes of the pieces, one behind another, are the text
+-- the bytes of the pieces, one after another, are the text
 abbrev pub PiecesAreTheText : Plan → Type 0
 PiecesAreTheText plan =
     (text : List ℕ) → length text ≡ plan.text_len → flat_map (λ p. slice_range text p.from p.to) (pieces plan) ≡ text

@@ -1,12 +1,12 @@
 use hub_kinds::NoMemory;
 use std::fmt;
 
-/// Why a list of places is no plan of cuts, the first that is judged first; want of memory comes last (own).
+/// Why a list of places is no plan of cuts, the first that is judged first; out of memory comes last (own).
 #[derive(Clone, Copy, Debug, PartialEq, Eq, Drop)]
 pub enum CutFault {
-    /// A place lies in front of the one before it.
+    /// A place lies before the one before it.
     Unsorted,
-    /// A place lies behind the text's end.
+    /// A place lies after the text's end.
     PastEnd,
     /// Memory was asked for and refused.
     NoMemory,

@@ -5,7 +5,7 @@ use hub_kinds::NoMemory;
 use std::alloc::Global;
 use x12_bytes::Piece;
 
-/// Whether no place lies in front of the one before it.
+/// Whether no place lies before the one before it.
 pub(crate) fn is_rising(places: &[usize]) -> bool
     ensures { result ≡ rises_from 0 places.now }
 {
@@ -19,7 +19,7 @@ pub(crate) fn is_rising(places: &[usize]) -> bool
     true
 }
 
-/// Whether no place lies behind the text's end.
+/// Whether no place lies after the text's end.
 pub(crate) fn is_inside(places: &[usize], text_len: usize) -> bool
     ensures { result ≡ all_up_to text_len places.now }
 {

@@ -1,4 +1,4 @@
--- What is told of dependencies by the uses of their slots is what is told of them by all placed segments.
+-- What is reported of dependencies by the uses of their slots is what is reported of them by all placed segments.
 use Rattle.std.proofs.Common.{◌≡◌, ◌↔◌, ◌⊎◌, inl, inr, refl, ℕ, zero, suc, true, List, [], ◌∷◌, ◌++◌, sym, ap, subst, ◌∙◌}
 use Rattle.std.proofs.Common.{Option, Some, None, true≢false}
 use Rattle.elem_rules.proofs.Members.{no_member}

@@ -18,7 +18,7 @@ use Rattle.depend_check.specs.Dependencies.{Seat, seat_of, unused_fault, use_fau
 use Rattle.depend_check.specs.Uses.{IsFound}
 use Rattle.depend_check.proofs.Seats.{one_seat}
 
--- what is told of a use
+-- what is reported of a use
 abbrev IsTold : DependencyKind → ℕ → Type 0
 IsTold kind.Need zero = ⊥
 IsTold kind.Need (suc e) = Unit {0}

@@ -1,4 +1,4 @@
--- No fault of a dependency is told of a body exactly where the segments that have places keep the dependencies.
+-- No fault of a dependency is reported of a body exactly where the segments that have places keep the dependencies.
 use Rattle.std.proofs.Common.{◌≡◌, ◌↔◌, inl, ℕ, zero, suc, Bool, true, false, ◌||◌, ◌==◌, List, [], map}
 use Rattle.std.proofs.Common.{refl, sym, ap, subst, ◌∙◌, true≢false, Option, Some, None, if◌then◌else◌}
 use Rattle.std.specs.Prelude.{IsTrue, option_map}
@@ -82,7 +82,7 @@ seated g d well c =
 used_given : (label : List ℕ) (ps : List PlacedSegment) → list_any (is_use label) ps ≡ list_any (stands_at label) (map as_given ps)
 used_given label ps = any_view (stands_at label) as_given ps
 
--- where nothing is told of a target, it is kept
+-- where nothing is reported of a target, it is kept
 target_kept : (ts : Trees) (d : Delims) (end : ℕ) (ps : List PlacedSegment) (label : List ℕ) (k : DependencyKind) (e : ℕ)
     → Seated ts label → ((f : Fault) → IsTargetBroken ts d end ps label k e f → ⊥) → IsTargetKept d (map as_given ps) label k e
 target_kept ts d end ps label kind.Need zero seat none =

@@ -55,7 +55,7 @@ first_slot number id rows = record (slot number id rows) { min = 1; max = 1 }
 abbrev pub man_rows : List Element
 man_rows = simple (codes "88") ∷ simple (codes "87") ∷ []
 
--- BSN; loops HL, in each HL and up to nine MAN; up to nine REF behind them
+-- BSN; loops HL, in each HL and up to nine MAN; up to nine REF after them
 abbrev notice : Trees
 notice = tree (segment (first_slot 1 (codes "BSN") [])) (tree (loop (repeated 2 (codes "HL"))
     (tree (segment (first_slot 3 (codes "HL") [])) (tree (segment (slot 4 (codes "MAN") man_rows)) no_trees)))

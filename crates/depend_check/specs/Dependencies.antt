@@ -1,4 +1,4 @@
--- Own: dependencies between the segments of a set, over the whole set; how the 999 guide's IK3 and IK4 tell that one is broken.
+-- Own: dependencies between the segments of a set, over the whole set; how the 999 guide's IK3 and IK4 say that one is broken.
 use Rattle.std.specs.Prelude.{ℕ, zero, suc, ◌≡◌, IsTrue, IsFalse, List, [], Bool, true, false}
 use Rattle.std.specs.Prelude.{Option, Some, None, if◌then◌else◌}
 use Rattle.std.specs.List.{Contains, list_any}
@@ -49,7 +49,7 @@ abbrev mutual
 abbrev pub seat_of : Trees → (label : List ℕ) → Option Seat
 seat_of ts label = seat_among [] label ts
 
--- a slot that is needed and isn't used is told of at the end
+-- a slot that is needed and isn't used is reported at the end
 abbrev pub unused_fault : (end : ℕ) → Seat → Fault
 unused_fault end seat = record {
   position = end;

@@ -51,7 +51,7 @@ fn in_target_order<'d>(
     Ok(asked)
 }
 
-/// Adds what is told of a target that is needed and has no use.
+/// Adds what is reported of a target that is needed and has no use.
 pub fn add_left_out<'a>(
     faults: &mut Vec<Fault<'a>>,
     nodes: &'a [Node],

@@ -64,8 +64,8 @@ fn check_by_rows<'a>(
 
 /// Exactly the faults of the dependencies of a guide in a body, under these places of its segments, where all segments
 /// are read by the same delimiters; each once and in their order. A position is a segment's number in the set, ST being
-/// 1; the end is behind the last segment. The only error is want of memory. Dependencies are own; the 999 guide, IK3 and
-/// IK4, tells of them.
+/// 1; the end is after the last segment. The only error is out of memory. Dependencies are own; the 999 guide, IK3 and
+/// IK4, reports them.
 pub fn check_dependencies<'a>(
     alloc: Global,
     segs: &[SegView<'a>],

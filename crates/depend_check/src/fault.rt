@@ -10,7 +10,7 @@ use guide_tree::DependencyKind;
 use hub_kinds::{ElemFault, ElementCode, Fault, Lent, NO_NUMBER, SegmentCode};
 use loop_match::{PlacedSeg, text_at};
 
-/// What is told of a slot that is needed and isn't used.
+/// What is reported of a slot that is needed and isn't used.
 pub fn unused_fault<'a>(end: u64, seat: &GuideSeat<'a>) -> Fault<'a>
     ensures { result ≡ unused_fault end (seat_view seat.now) }
 {
@@ -60,7 +60,7 @@ fn element_fault<'a>(
     use_fault(placed, SegmentCode::ElementErrors, Some(elem))
 }
 
-/// What is told of a use that breaks a dependency of this kind, which speaks of an element, or at 0 of the whole slot.
+/// What is reported of a use that breaks a dependency of this kind, which speaks of an element, or at 0 of the whole slot.
 pub fn told_of<'a>(kind: DependencyKind, element: u32, placed: &PlacedSeg<'_, 'a, 'a>) -> Fault<'a>
     ensures { result ≡ told_of kind element (placed_view placed.now) }
 {

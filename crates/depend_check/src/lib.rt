@@ -2,7 +2,7 @@
 //!
 //! Proved: `check_dependencies` gives exactly the faults of the dependencies that are triggered, each once and in their
 //! order. A dependency is triggered where some use of its slot, anywhere in the set, has one of its codes in an element.
-//! Then a slot that it needs and that has no use is told of at the end; each use of a slot that it bans; each use of its
+//! Then a slot that it needs and that has no use is reported at the end; each use of a slot that it bans; each use of its
 //! target that lacks a needed element, or has a banned one.
 //!
 //! `AreDependenciesKept` of `specs/Kept.antt` says of segments with their slots alone that they keep the dependencies of an
@@ -14,7 +14,9 @@
 //! dependencies there are. Memory is taken for one entry a segment, one a dependency, and the texts that trigger; a guide
 //! without dependencies takes neither time nor memory.
 //!
-//! Source: own; how it is told, the 999 guide (005010X231), IK3 and IK4.
+//! Source: own; how it is reported, the 999 guide (005010X231), IK3 and IK4.
+//!
+//! Tests: `trial_nights`, `trial_sets`.
 #![tactic(auto)]
 
 mod asked;

@@ -1,4 +1,4 @@
--- A segment by the places of its separators: behind the last one all elements are empty.
+-- A segment by the places of its separators: after the last one all elements are empty.
 use Rattle.std.proofs.Common.{◌≡◌, ℕ, zero, suc, ◌<◌, ◌≤◌, ◌∙◌, List, [], ◌∷◌, Bool, true, false, drop, ap, sym, subst, arith}
 use Rattle.std.specs.Prelude.{Some, IsTrue}
 use Rattle.std.specs.List.{list_all}
@@ -11,7 +11,7 @@ use Rattle.elem_rules.specs.Rows.{nth}
 use Rattle.elem_rules.specs.Clean.{fits, fits_empty, marked, bits_to}
 use Rattle.moment.proofs.Both.{both}
 
--- an item behind the first n
+-- an item after the first n
 all_past : {X : Type 0} (p : X → Bool) (xs : List X) (n k : ℕ) (x : X) → list_all p (drop n xs) ≡ true → n < k → nth xs k ≡ Some x
     → p x ≡ true
 all_past p xs n zero x h lt e = absurd (omega arith)
@@ -21,7 +21,7 @@ all_past p (y ∷ xs) zero (suc (suc k)) x h lt e = all_past p xs zero (suc k) x
 all_past p (y ∷ xs) (suc n) (suc zero) x h lt e = absurd (omega arith)
 all_past p (y ∷ xs) (suc n) (suc (suc k)) x h lt e = all_past p xs n (suc k) x h (omega arith) e
 
--- each row fits: those of the elements that are there, and those behind them, which may be empty
+-- each row fits: those of the elements that are there, and those after them, which may be empty
 pub fit_all : (rows : List Element) (s : Segment) (n : ℕ)
     → ((k : ℕ) (row : Element) → k ≤ n → nth rows k ≡ Some row → IsTrue (fits row (element_of s k)))
     → list_all fits_empty (drop n rows) ≡ true → ((k : ℕ) → n < k → element_of s k ≡ []) → (k : ℕ) (row : Element)

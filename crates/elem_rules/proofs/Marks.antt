@@ -208,7 +208,7 @@ module _ (rows : List Element) (texts : List (List ℕ)) (present : ℕ → Bool
           ]),
         )
 
--- the three parts of the walk, one behind another, hold what is found
+-- the three parts of the walk, one after another, hold what is found
 pub found_members : (delims given : Delims) (s : Segment) (slot : Slot) (rows : List Element) (texts : List (List ℕ))
     (conditions : List Condition)
     (start first second last : List ElemFault) → given ≡ delims → rows ≡ slot.elements → conditions ≡ slot.conditions

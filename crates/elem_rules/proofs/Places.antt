@@ -60,7 +60,7 @@ rising p (x ∷ xs) i e is k lt =
       | false ↦ rising p xs (suc i) e end k
     ]) lt
 
--- an item in front of the first part
+-- an item before the first part
 first_onto : (x : ℕ) (list : List (List ℕ)) → get_or (onto_first x list) 0 [] ≡ x ∷ get_or list 0 []
 first_onto x [] = refl
 first_onto x (part ∷ list) = refl
@@ -159,7 +159,7 @@ pub parts_up_to : (t : ℕ) (text ps : List ℕ) (n : ℕ) → ps ≡ places (is
 parts_up_to t text ps n are le =
     drop_all n (drop 1 (parts t text)) (omega (arith, length-drop 1 (parts t text), length_parts t text ps are))
 
--- behind the last place there is no part
+-- after the last place there is no part
 pub part_past : (t : ℕ) (text ps : List ℕ) (k : ℕ) → ps ≡ places (is_byte t) text → length ps < k → get_or (parts t text) k [] ≡ []
 part_past t text ps k are past = get_or_past (parts t text) k [] (omega (arith, length_parts t text ps are))
 

@@ -1,4 +1,4 @@
--- One step of a walk: what was found up to a number, and what is left behind it.
+-- One step of a walk: what was found up to a number, and what is left after it.
 use Rattle.std.proofs.Common.{◌≡◌, ℕ, ◌+◌, ◌-◌, ◌<◌, ◌≤◌, ◌∙◌, List, [], ◌++◌, length, get_or, drop, refl, ap, sym, arith, add-one, zero}
 use Rattle.std.proofs.Common.{suc, append_assoc, append-nil}
 use mathlib.Core.Logic.{inl, inr}
@@ -51,7 +51,7 @@ text_read texts position index x from is within at =
     ∙ ap (option_map (λ t. t.now)) (slice_get-get_or texts index x within ∙ ap Some (sym at)) in
     sym (ap (λ o. unwrap_or o []) here)
 
--- the three parts of the walk, one behind another
+-- the three parts of the walk, one after another
 pub found_joined : (delims given : Delims) (s : Segment) (slot : Slot) (rows : List Element) (texts : List (List ℕ))
     (conditions : List Condition) (start first second last : List ElemFault) → given ≡ delims → rows ≡ slot.elements
     → conditions ≡ slot.conditions → texts ≡ texts_of slot s → start ≡ [] → first ≡ start ++ rows_found given rows texts
@@ -71,7 +71,7 @@ found_joined delims given s slot rows texts conditions start first second last i
     ∙ append_assoc (rows_found delims slot.elements (texts_of slot s)) (extra_found delims slot s)
     (conditions_found delims slot.elements slot.conditions (texts_of slot s))
 
--- numbers behind the last one of which something is found add nothing
+-- numbers after the last one of which something is found add nothing
 pub up_to_rest : {A : Type 0} (f : ℕ → List A) (n to : ℕ) → n ≤ to → ((k : ℕ) → n < k → f k ≡ []) → up_to f to ≡ up_to f n
 up_to_rest f n zero le h = let e : n ≡ 0 = omega arith in ap (up_to f) (sym e)
 up_to_rest f n (suc to) le h = elim (cases_eq n (suc to)) [
@@ -79,7 +79,7 @@ up_to_rest f n (suc to) le h = elim (cases_eq n (suc to)) [
   | inr e ↦ ap (λ l. up_to f to ++ l) (h (suc to) (omega (arith, e))) ∙ append-nil (up_to f to) ∙ up_to_rest f n to (omega (arith, e)) h
 ]
 
--- behind the last part there are none
+-- after the last part there are none
 pub past_parts : (all : List (List ℕ)) (n k : ℕ) → drop n all ≡ [] → n < k → get_or all (k - 1) [] ≡ []
 past_parts all n k done lt =
     let same : n + (k - 1 - n) ≡ k - 1 = omega arith in

@@ -17,7 +17,7 @@ is_empty delims text = list_all (is_inner_separator delims) text
 abbrev pub is_filled : Delims → List ℕ → Bool
 is_filled delims text = not (is_empty delims text)
 
--- there are more than n parts: one behind the first n isn't empty
+-- there are more than n parts: one after the first n isn't empty
 abbrev pub has_more : Delims → ℕ → List (List ℕ) → Bool
 has_more delims n parts = list_any (is_filled delims) (drop n parts)
 

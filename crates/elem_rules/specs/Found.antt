@@ -20,7 +20,7 @@ use Rattle.elem_rules.specs.Divided.{is_empty, is_filled, has_more, occurrence_i
 use Rattle.elem_rules.specs.Rows.{Usage, usage_of, nth, shown_repetition, element_reference, component_reference, reference_at}
 use Rattle.elem_rules.specs.ElementFaults.{component_fault, whole_fault}
 
--- what f gives of the numbers from 1 to n, one behind another
+-- what f gives of the numbers from 1 to n, one after another
 abbrev pub up_to : {A : Type 0} → (ℕ → List A) → ℕ → List A
 up_to f zero = []
 up_to f (suc n) = up_to f n ++ f (suc n)

@@ -17,7 +17,7 @@ pub fn is_empty(delims: Delims, text: &[u8]) -> bool
     text.iter().all(|byte| is_inner_separator(delims, *byte))
 }
 
-/// Whether there are more than `n` parts: one behind the first `n` isn't empty.
+/// Whether there are more than `n` parts: one after the first `n` isn't empty.
 pub fn has_more(delims: Delims, n: usize, parts: Parts) -> bool
     ensures { result ≡ has_more delims n parts.entry }
 {

@@ -89,7 +89,7 @@ fn check_rows<'a>(
     Ok(())
 }
 
-/// Whether an element behind the first `n` isn't empty.
+/// Whether an element after the first `n` isn't empty.
 fn has_extra(seg: &SegView, separators: &[usize], n: usize) -> bool
     requires places { separators.now ≡ places (is_byte seg.now.delims.element) seg.now.bytes }
     requires plain { list_any (is_odd seg.now.delims) seg.now.bytes ≡ false }

@@ -8,6 +8,7 @@ ghost use Rattle.elem_rules.specs.Values.{is_character, without_sign, is_whole, 
 use guide_tree::ElementType;
 use moment::is_digits;
 
+/// Whether a byte is a character of a text: from space to tilde, and from 0x80 on where `wide` is true (X12.6, string data element types).
 pub fn is_character(byte: u8, wide: bool) -> bool
     ensures { result ≡ is_character wide byte }
 {
@@ -41,6 +42,7 @@ fn without_sign(text: &[u8]) -> &[u8]
     }
 }
 
+/// Whether a text is a whole number without sign: one or more digits, and nothing else (X12.6, N).
 pub fn is_whole(text: &[u8]) -> bool
     ensures { result ≡ is_whole text.now }
 {

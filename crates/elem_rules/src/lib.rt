@@ -10,7 +10,7 @@
 //! - `is_clean_flat` says the same by the rows and conditions of the slot as few numbers, which `SlotTables` has for each slot of
 //!   a guide. Of a value that a flat row is sure of the row finds no fault, and where all masks say so all conditions hold. A
 //!   value of which nothing is said is judged by the row itself;
-//! - `is_empty` and `reference_at`, by which crates above tell of elements: whether a text counts as empty, and the reference
+//! - `is_empty` and `reference_at`, by which crates above speak of elements: whether a text counts as empty, and the reference
 //!   number of the row at a position.
 //!
 //! The moment of a run, `At`, is given on from `moment`, by whose calendar dates and times are judged.

@@ -15,7 +15,7 @@ use crate::presence::marked;
 use guide_tree::{Condition, Element, Slot};
 use x12_segs::SegView;
 
-/// The offset at an index, or `end` behind the last one.
+/// The offset at an index, or `end` after the last one.
 #[inline(always)]
 fn offset_or(offsets: &[usize], index: usize, end: usize) -> usize
     ensures { result ≡ slice_index_or offsets.now index end }
@@ -26,7 +26,7 @@ fn offset_or(offsets: &[usize], index: usize, end: usize) -> usize
     end
 }
 
-/// The element behind separator `k`, counted from 0.
+/// The element after separator `k`, counted from 0.
 #[inline(always)]
 pub(crate) fn element_behind<'a>(seg: &SegView<'a>, separators: &[usize], k: usize) -> &'a [u8]
     requires places { separators.now ≡ places (is_byte seg.now.delims.element) seg.now.bytes }

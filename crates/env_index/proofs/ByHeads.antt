@@ -1,4 +1,4 @@
--- The headers of a text, one behind another, are the next ones; and an index that was not judged.
+-- The headers of a text, one after another, are the next ones; and an index that was not judged.
 use Rattle.std.proofs.Common.{◌≡◌, ℕ, ◌+◌, ◌-◌, ◌≤◌, ◌<◌, List, [], ◌∷◌, ◌++◌, length, Bool, true, false, zero, suc, arith}
 use Rattle.std.proofs.Common.{sym, ap, refl, subst, ◌∙◌, inl, inr}
 use Rattle.std.specs.List.{All}
@@ -116,7 +116,7 @@ pub head_found : (text : List ℕ) (list : List HeadAt) (i seen : ℕ) → i < l
 head_found text list i seen lt le left =
     heads_first (length text - seen) text seen (length text) _ (drop (i + 1) list) (omega arith) le (sym left ∙ drop_more list i _ lt)
 
--- behind the last header there is none
+-- after the last header there is none
 pub none_left : (text : List ℕ) (list : List HeadAt) (i seen at : ℕ) → length list ≤ i → drop i list ≡ heads_in text seen (length text)
     → ((q : ℕ) → at ≤ q → q < seen → is_head text q ≡ false) → (q : ℕ) → at ≤ q → is_head text q ≡ false
 none_left text list i seen at end left none q low = elim (cases_lt q seen) [

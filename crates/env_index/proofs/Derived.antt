@@ -88,7 +88,7 @@ in_open_set (x ∷ xs) close rest all closed = by_kind (kind_of x) (λ others. i
     by_kind Ta1 more all = one_more _ (more all)
     by_kind Other more all = one_more _ (more all)
 
--- a set in front of what an open group goes on with
+-- a set before what an open group goes on with
 set_in_front : (s : Set SegValue) (rest : List SegValue) → IsSet kind_of s rest → (tails (set_items s ++ rest)).in_group
     ≡ (let t : GroupTail = (tails rest).in_group in (let u : GroupTail = record t { sets = set_entry s ∷ t.sets } in u))
 set_in_front s rest is =
@@ -112,7 +112,7 @@ set_in_front s rest is =
           } in e) ∷ g.sets;
         } in u))) n)
 
--- members in front of what an open group goes on with
+-- members before what an open group goes on with
 abbrev front_members : List (InGroup SegValue) → GroupTail → GroupTail
 front_members [] t = t
 front_members (ASet s ∷ ms) t = let u : GroupTail = front_members ms t in
@@ -150,7 +150,7 @@ group_ends (Some x) rest closed = by_kind (kind_of x) closed
         → onto_group k x (tails rest) ≡ record { sets = []; close = Some x; misplaced = false; after = (tails rest).in_body }
     by_kind k is = rw is refl
 
--- members in front of a group's end
+-- members before a group's end
 members_told : (ms : List (InGroup SegValue)) (close : Option SegValue) (after : Summary)
     → front_members ms (record { sets = []; close = close; misplaced = false; after = after }) ≡ record {
       sets = sets_in ms;
@@ -164,7 +164,7 @@ members_told (ASet s ∷ ms) close after = ap (λ (t : GroupTail). (let u : Grou
 members_told (OutOfGroup x ∷ ms) close after = ap (λ (t : GroupTail). (let u : GroupTail = record t { misplaced = true } in u))
     (members_told ms close after)
 
--- a group in front of what the interchange goes on with
+-- a group before what the interchange goes on with
 abbrev front_group : Group SegValue → Summary → Summary
 front_group g s = record {
   groups = group_entry g ∷ s.groups;
@@ -194,7 +194,7 @@ group_in_front g rest is =
         → onto_body k g.header t ≡ front_group g (tails rest).in_body
     by_kind k t header goes_on = rw header (ap (with_group g.header) goes_on)
 
--- what stands in the interchange, in front of what it goes on with
+-- what stands in the interchange, before what it goes on with
 abbrev front_body : List (InBody SegValue) → Summary → Summary
 front_body [] s = s
 front_body (ATa1 x ∷ ms) s = with_ta1 (front_body ms s)
@@ -226,7 +226,7 @@ body_in_front (OutOfBody x ∷ ms) rest are = by_kind (kind_of x) are.0 (body_in
     by_kind SetTrailer out goes_on = ap with_misplaced goes_on
     by_kind Other out goes_on = ap with_misplaced goes_on
 
--- what stands in the interchange, in front of its end
+-- what stands in the interchange, before its end
 body_told : (ms : List (InBody SegValue)) (close : Option SegValue)
     → front_body ms (record { groups = []; ta1s = 0; misplaced = false; trailer = close })
     ≡ summary_of (record { members = ms; trailer = close })

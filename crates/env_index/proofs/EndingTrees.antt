@@ -1,4 +1,4 @@
--- In segments that derive a tree nothing stands behind an IEA.
+-- In segments that derive a tree nothing stands after an IEA.
 use Rattle.std.proofs.Common.{◌≡◌, List, [], ◌∷◌, ◌++◌, Bool, true, false, Option, Some, None, refl, ap, subst, ◌∙◌}
 use Rattle.std.specs.List.{flat_map, list_all}
 use Rattle.std.proofs.lemmas.Bool.{and_parts}

@@ -51,7 +51,7 @@ few_more text from start end outside more few low high count =
     let long = length-take (start - from) (drop from text) in
     omega (arith, most, long, count, few, low, high)
 
--- behind the last interchange there is none
+-- after the last interchange there is none
 pub chain_ends : (text : List ℕ) (es : List IndexEntry) (from : ℕ) → ChainFrom text from []
     → ((xs : List Extent) → ChainFrom text from xs → Chain text (extents_of es ++ xs)) → Chain text (extents_of es)
 chain_ends text es from none old = subst (Chain text) (append-nil (extents_of es)) (old [] none)

@@ -1,4 +1,4 @@
--- The marks of a piece, from an offset behind a terminator on, are the segments that follow the offset in the text.
+-- The marks of a piece, from an offset after a terminator on, are the segments that follow the offset in the text.
 use Rattle.std.proofs.Common.{◌≡◌, ℕ, ◌+◌, ◌-◌, ◌≤◌, ◌<◌, List, [], ◌∷◌, ◌++◌, length, Some, None, Option, take, drop, map, get_or, sym}
 use Rattle.std.proofs.Common.{ap, ◌∙◌, arith, subst, refl, nat_eq, zero, suc, inl, inr}
 use Rattle.std.specs.Prelude.{slice_range}
@@ -109,7 +109,7 @@ in_order_above (seg ∷ segs) from rest len e low le h zero lt = omega (arith, l
 in_order_above (seg ∷ segs) from rest len e low le h (suc j) lt =
     in_order_above segs (seg.start + length seg.bytes + 1) rest len e low (omega (arith, le, h.0)) h.1 j (omega (arith, lt))
 
--- what stands before an offset behind a terminator, and what stands behind it
+-- what stands before an offset after a terminator, and what stands after it
 pub record IsSplit (text : List ℕ) (t s at b e : ℕ) : Type 0 where
   pub front : List Seg
   pub whole : segs_within text t s b ≡ front ++ segs_within text t at b
@@ -204,7 +204,7 @@ last_to [] e place h = absurd (omega (arith, h))
 last_to (p ∷ []) e place h = omega arith
 last_to (p ∷ r ∷ ps) e place h = omega (arith, last_to (r ∷ ps) e (place + length p + 1) (omega arith))
 
--- the marks of a piece, from an offset behind a terminator on
+-- the marks of a piece, from an offset after a terminator on
 abbrev IsKnownOf : List ℕ → ℕ → ℕ → Marking → Type 0
 IsKnownOf text t at q = (first_shown q).to < at → at ≤ end_shown q → IsKnown text t at (list_shown q)
 
@@ -264,7 +264,7 @@ pub first_behind : (text : List ℕ) (t at : ℕ) (list : List Mark) → 0 < len
     → (let m : Mark = get_or list 0 no_mark in ∥ AreNext text t (m.end + 1) (drop 1 list) ∥₁)
 first_behind text t at list some next = ∥∥₁_map next (λ n. (next_mark text t at list some n).2)
 
--- what is read stands in front of a terminator
+-- what is read stands before a terminator
 pub read_behind : (text : List ℕ) (t at start end : ℕ) → at ≤ length text → LiesIn at (length text) (Segment start end)
     → IsNextPart text t at (Segment start end) → get_or text (end + 1 - 1) 0 ≡ t
 read_behind text t at start end h lies next =

@@ -43,7 +43,7 @@ module _ (text : List ℕ) (d : Delims) (rest : Seg) where
   later seg segs q (inr (inl (head, inr w))) = inr (inl (head, inr w))
   later seg segs q (inr (inr w)) = inr (inr w)
 
-  -- the first segment may end it, or what is behind it
+  -- the first segment may end it, or what is after it
   abbrev FirstEnds : Seg → ℕ → Type 0
   FirstEnds seg q =
       ((ends_interchange (kind_of (view_of d seg)) ≡ true) × (q ≡ seg.start + length seg.bytes + 1))
@@ -72,7 +72,7 @@ module _ (text : List ℕ) (d : Delims) (rest : Seg) where
   rest_alone q (inr (inl (head, inr w))) = inl (head, w)
   rest_alone q (inr (inr w)) = inr w
 
-  -- none of them lies before what they stand behind
+  -- none of them lies before what they stand after
   none_before : (segs : List Seg) (low q : ℕ) → StandInOrder low segs rest (length text) → May segs q → low ≤ q
   none_before [] low q order may = elim (rest_alone q may) [
     | inl w ↦ omega (arith, order.0, w.1)

@@ -9,7 +9,7 @@ use Rattle.memchr.specs.Find.{Nowhere, Passes, is_byte}
 use Rattle.x12_bytes.specs.HeaderTest.{is_head}
 use Rattle.env_index.proofs.Surround.{head_letter}
 
--- behind an offset, up to which no letter I stands
+-- after an offset, up to which no letter I stands
 pub no_head_ahead : (text : List ℕ) (at ahead q : ℕ) → Nowhere (Passes (is_byte 73) (slice_range text at (length text))) 0 ahead
     → at ≤ q → q < at + ahead → is_head text q ≡ false
 no_head_ahead text at ahead q nowhere low high =

@@ -84,7 +84,7 @@ module _ {X : Type 0} (kind : X → Kind) where
         more.1.1,
       )
 
-  -- what may stand behind a group's members
+  -- what may stand after a group's members
   behind_members : (x : X) (xs : List X) (u : Option X) (s : List X) → Closed kind GroupTrailer ends_group u s
       → x ∷ xs ≡ option_items u ++ s
       → (kind x ≡ GroupTrailer) ⊎ (ends_group (kind x) ≡ true)

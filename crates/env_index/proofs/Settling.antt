@@ -22,7 +22,7 @@ settled_more es fs i e new f all inside given is before =
     ∙ append_assoc (take i es) (new ∷ []) (with_faults (drop (i + 1) es) (drop (i + 1) fs))
     ∙ ap (λ (l : List IndexEntry). take i es ++ l) (sym rest) ∙ before
 
--- behind the last one nothing is left to be given
+-- after the last one nothing is left to be given
 pub settled_all : (es : List IndexEntry) (fs : List (Option InterchangeFault)) (i : ℕ) (all : List IndexEntry) → length es ≤ i
     → take i es ++ with_faults (drop i es) (drop i fs) ≡ all → es ≡ all
 settled_all es fs i all end before =

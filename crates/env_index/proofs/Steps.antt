@@ -11,7 +11,7 @@ use Rattle.env_index.specs.Extents.{behind}
 use Rattle.env_index.specs.Reading.{State, end_so_far, end_set, end_group, end_all, misplace, step, finished, nothing_read}
 use Rattle.env_index.proofs.Tails.{GroupTail, SetTail, Tails, cut_off, no_segments, with_group, with_set, onto}
 
--- what is whole, in front of what an interchange goes on with
+-- what is whole, before what an interchange goes on with
 abbrev pub put : State → Summary → Summary
 put s b = record {
   groups = s.groups ++ b.groups;
@@ -108,7 +108,7 @@ all_closed s None (Some set) t = refl
 all_closed s (Some group) None t = refl
 all_closed s (Some group) (Some set) t = refl
 
--- a segment out of place, in front of what goes on
+-- a segment out of place, before what goes on
 misplaced_in_body : (s : State) (set : Option SegValue) (t u : Tails) → u.in_body ≡ record t.in_body { misplaced = true }
     → resume (misplace (open_at s None set)) t ≡ resume (open_at s None set) u
 misplaced_in_body s set t u is =
@@ -185,7 +185,7 @@ step_at Other x s None set t other = misplaced_in_body s set t (onto Other x t) 
 step_at Other x s (Some group) None t other = misplaced_in_group s group t (onto Other x t) refl
 step_at Other x s (Some group) (Some set) t other = longer_set s group set x t (onto Other x t) refl
 
--- a segment may be taken, or stand in front of what comes
+-- a segment may be taken, or stand before what comes
 pub step_onto : (k : Kind) (x : SegValue) (s : State) (t : Tails) → k ≢ InterchangeTrailer → resume (step k x s) t ≡ resume s (onto k x t)
 step_onto k x s t other = step_at k x s s.group s.set t other
 

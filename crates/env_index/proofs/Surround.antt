@@ -45,7 +45,7 @@ pub no_head_at : (text : List ℕ) (q : ℕ) → is_filler (get_or text q 0) ≡
 no_head_at text q filler = false_from_ne_true (is_head text q)
     (λ is. both_ways (is_filler (get_or text q 0)) (ap is_filler (head_letter text q is)) filler)
 
--- nor behind the text
+-- nor after the text
 pub no_head_past : (text : List ℕ) (q : ℕ) → length text ≤ q → is_head text q ≡ false
 no_head_past text q past = false_from_ne_true (is_head text q) (λ is. absurd (omega (arith, head_within text q is)))
 
@@ -113,7 +113,7 @@ starts_behind_filler text x lone =
     let not_behind : n < x.start → ⊥ = filler_reaches text x.start (omega arith) none in
     omega (arith, not_before, not_behind)
 
--- behind it stands filler too
+-- after it stands filler too
 pub filler_behind : (text : List ℕ) (x : Extent) → IsLone text x → prefix_len is_filler (drop x.end text) < length (drop x.end text) → ⊥
 filler_behind text x lone lt =
     let rest : List ℕ = drop x.end text in
@@ -150,7 +150,7 @@ filled text at le =
         both_ways (is_filler (get_or text k 0)) (ap is_filler (sym same)
         ∙ prefix_len_stops is_filler (slice_range text 0 at) 0 lt) (prefix_len_passes is_filler text k 0 (omega arith))
 
--- a header behind filler, with filler behind its interchange, is alone
+-- a header after filler, with filler after its interchange, is alone
 pub lone_between : (text : List ℕ) (end : ℕ) → is_head text (prefix_len is_filler text) ≡ true
     → end ≡ (reach_at text (prefix_len is_filler text)).end
     → length (drop end text) ≤ prefix_len is_filler (drop end text) → IsLone text (record { start = prefix_len is_filler text; end = end })

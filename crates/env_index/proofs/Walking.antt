@@ -46,7 +46,7 @@ reach_at_head text delims segs more rest left start end next head =
     } in r) (cond (ends_interchange (kind_of seg)) (record { segs = seg ∷ []; end = behind seg }) (onto_reach seg on)))
     head
 
--- an IEA ends it behind its terminator
+-- an IEA ends it after its terminator
 pub reach_at_trailer : (text : List ℕ) (delims : Delims) (segs more : List Seg) (rest left : Seg) (start end : ℕ)
     → TakesPart text segs rest (Segment start end) more left
     → start ≤ end → end ≤ length text → is_head text start ≡ false
@@ -100,7 +100,7 @@ other_kind SetTrailer other = refl
 other_kind Ta1 other = refl
 other_kind Other other = refl
 
--- an interchange has no segment behind its IEA
+-- an interchange has no segment after its IEA
 pub only_last : (text : List ℕ) (segs : List SegValue) (rest : Seg) → EndsWithTrailer kind_of (reach_of text segs rest).segs
 only_last text [] rest = tt
 only_last text (seg ∷ segs) rest = by_tests (is_head text seg.start) (ends_interchange (kind_of seg)) refl (only_last text segs rest)

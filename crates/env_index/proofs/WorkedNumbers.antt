@@ -91,7 +91,7 @@ each_at P (x ∷ xs) (suc k) d lt each = each_at P xs k d (omega (arith, lt)) ea
 each_of : (P : Numbered → Type 0) (xs : List Numbered) (x : Numbered) → EachIs P xs → Contains xs x → P x
 each_of P xs x each (k, lt, is) = subst P is (each_at P xs k x lt each)
 
--- a place that has this number alone, behind no other that has it, has no earlier one
+-- a place that has this number alone, after no other that has it, has no earlier one
 none_earlier : (xs : List Numbered) (p : Place) (n : Number) → EachIs (λ x. x.place ≡ p → x.number ≡ n) xs
     → EachIs (λ x. x.number ≡ n → is_before x.place p ≡ false) xs → (q : Place) → IsFirstUse xs p q → ⊥
 none_earlier xs p n own others q is =
@@ -233,7 +233,7 @@ group_of_copy_is_apart q is = none_earlier (index_places everyone sent_twice) (p
 )
     ((λ e. cc), ((λ e. cc), ((λ e. cc), ((λ e. refl), tt)))) q is
 
--- one without IEA has no places, so what is sent again behind it has no earlier use; nor has one whose sender isn't known
+-- one without IEA has no places, so what is sent again after it has no earlier use; nor has one whose sender isn't known
 abbrev truncated_first : List InterchangeEntry
 truncated_first = interchange None (twelve [] ∷ []) ∷ one_group (twelve []) ∷ []
 

@@ -1,5 +1,5 @@
 -- X12.5, interchange, and X12.6, functional group and transaction set: the grammar of an interchange's segments, whatever a segment
--- is held as: all that is asked of one is its kind. What a missing trailer asks of the segment behind it, and what counts as out of
+-- is held as: all that is asked of one is its kind. What a missing trailer asks of the segment after it, and what counts as out of
 -- place, are own.
 use Rattle.std.specs.Prelude.{◌≡◌, List, [], ◌∷◌, ◌++◌, Bool, true, false, Option, Some, None}
 use Rattle.std.specs.List.{flat_map, list_all}

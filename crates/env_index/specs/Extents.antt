@@ -10,16 +10,16 @@ use Rattle.x12_segs.specs.declared.kind.Kind.{Kind}
 use Rattle.x12_segs.specs.declared.kind.Kind.TheVariants.{InterchangeTrailer, GroupHeader, GroupTrailer, SetHeader, SetTrailer}
 use Rattle.x12_segs.specs.declared.kind.Kind.TheVariants.{Ta1, Other}
 
--- the segments of an interchange behind its header, and where it ends
+-- the segments of an interchange after its header, and where it ends
 pub record Reach : Type 0 where
   pub segs : List SegValue
   pub end : ℕ
 
--- the offset behind a segment's terminator
+-- the offset after a segment's terminator
 abbrev pub behind : SegValue → ℕ
 behind seg = seg.start + length seg.bytes + 1
 
--- the offset behind the last of some segments; where there is none, the one that they would follow
+-- the offset after the last of some segments; where there is none, the one that they would follow
 abbrev pub behind_last : ℕ → List SegValue → ℕ
 behind_last from [] = from
 behind_last from (seg ∷ segs) = behind_last (behind seg) segs
@@ -37,7 +37,7 @@ ends_interchange Ta1 = false
 ends_interchange Other = false
 
 -- the first segment or rest that begins at a header ends it there, before anything else;
--- else the first IEA behind its terminator; else the text's end
+-- else the first IEA after its terminator; else the text's end
 abbrev pub reach_of : List ℕ → List SegValue → Seg → Reach
 reach_of text [] rest = record { segs = []; end = if is_head text rest.start then rest.start else length text }
 reach_of text (seg ∷ segs) rest =
@@ -54,7 +54,7 @@ reach_from text delims from =
 abbrev pub reach_at : List ℕ → ℕ → Reach
 reach_at text start = reach_from text (delims_of (header_at text start)) (start + HEADER_LEN)
 
--- the least header at or behind an offset
+-- the least header at or after an offset
 pub record IsNextHead (text : List ℕ) (from start : ℕ) : Type 0 where
   pub behind : from ≤ start
   pub head : is_head text start ≡ true
@@ -65,7 +65,7 @@ pub record Extent : Type 0 where
   pub start : ℕ
   pub end : ℕ
 
--- the interchanges from an offset on: each starts at the least header behind the one before
+-- the interchanges from an offset on: each starts at the least header after the one before
 abbrev pub ChainFrom : List ℕ → ℕ → List Extent → Type 0
 ChainFrom text from [] = (q : ℕ) → from ≤ q → is_head text q ≡ false
 ChainFrom text from (x ∷ xs) = IsNextHead text from x.start × (x.end ≡ (reach_at text x.start).end) × ChainFrom text x.end xs

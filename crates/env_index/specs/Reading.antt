@@ -13,7 +13,7 @@ use Rattle.env_index.specs.Places.{seg_in, set_in, group_in}
 use Rattle.env_index.specs.Summary.{GroupEntry, Summary}
 
 -- the groups that are whole; how many TA1 there were, and whether a segment was out of place; the GS of an open group and its
--- whole sets; the ST of an open set, how many segments stand behind it so far, and the last of these
+-- whole sets; the ST of an open set, how many segments stand after it so far, and the last of these
 pub record State : Type 0 where
   pub groups : List GroupEntry
   pub ta1s : ℕ

@@ -10,7 +10,7 @@ use Rattle.env_index.specs.Envelope.{Set, InGroup, ASet, OutOfGroup, InBody, ATa
 use Rattle.env_index.specs.Interchange.{InterchangeEntry}
 use Rattle.env_index.specs.Summary.{set_entry}
 
--- the span of a set of the index: from its ST to behind its last segment
+-- the span of a set of the index: from its ST to just after its last segment
 abbrev pub span_of : Delims → SetEnvelope → SetSpan
 span_of delims e = record { start = e.header.start; end = e.end; delims = delims; closed = is_some e.trailer }
 

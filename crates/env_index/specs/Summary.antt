@@ -11,14 +11,14 @@ pub record GroupEntry : Type 0 where
   pub sets : List SetEnvelope
   pub trailer : Option SegValue
 
--- an interchange behind its header: its groups in order, how many TA1 stand directly in it, whether a segment is out of place, its IEA
+-- an interchange after its header: its groups in order, how many TA1 stand directly in it, whether a segment is out of place, its IEA
 pub record Summary : Type 0 where
   pub groups : List GroupEntry
   pub ta1s : ℕ
   pub misplaced : Bool
   pub trailer : Option SegValue
 
--- a set: its ST, how many segments it has with ST and SE, its SE, and the offset behind its last segment
+-- a set: its ST, how many segments it has with ST and SE, its SE, and the offset after its last segment
 abbrev pub set_entry : Set SegValue → SetEnvelope
 set_entry s = record {
   header = s.header;

@@ -21,7 +21,7 @@ pub(crate) struct Builder {
     pub(crate) sets: Vec<SetPlace>,
     /// The ST of the open set.
     pub(crate) set: Option<Stretch>,
-    /// How many segments stand behind that ST.
+    /// How many segments stand after that ST.
     pub(crate) count: u32,
     /// The last of these.
     pub(crate) last: Option<Stretch>,

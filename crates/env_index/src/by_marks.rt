@@ -45,7 +45,7 @@ fn read_marked<'a>(
 /// The index of a text by the headers and the marks of its pieces, before any interchange is judged. A piece may have no
 /// marks, or marks under another pair: the text is read there.
 ///
-/// The text has at most `LONGEST_TEXT` bytes, since places are kept in 32 bits. The only error is want of memory.
+/// The text has at most `LONGEST_TEXT` bytes, since places are kept in 32 bits. The only error is out of memory.
 /// X12.5, interchange; X12.6, functional group and transaction set.
 pub fn index_of<'a>(
     alloc: Global,

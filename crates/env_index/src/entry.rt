@@ -11,7 +11,7 @@ pub struct SetEnvelope<'a> {
     pub segments: u64,
     /// Its trailer (SE), where it has one.
     pub trailer: Option<SegView<'a>>,
-    /// The offset behind the terminator of its last segment.
+    /// The offset after the terminator of its last segment.
     pub end: usize,
 }
 
@@ -19,7 +19,7 @@ impl<'a> SetEnvelope<'a> {
     ghost use Rattle.std.specs.Prelude.{◌≡◌};
     ghost use Rattle.env_index.specs.Spans.{span_of};
 
-    /// The stretch of the text that the set takes, from the first byte of its ST to behind the
+    /// The stretch of the text that the set takes, from the first byte of its ST to just after the
     /// terminator of its last segment, read by the delimiters of its interchange (X12.6, transaction
     /// set).
     pub fn span(&self, delims: Delims) -> SetSpan

@@ -5,7 +5,7 @@ use std::marker::Model;
 use x12_bytes::{Delims, Header};
 use x12_segs::SegView;
 
-/// An interchange of a text: its header and the envelopes behind it, lent from the text (X12.5,
+/// An interchange of a text: its header and the envelopes after it, lent from the text (X12.5,
 /// interchange).
 #[derive(Drop)]
 pub struct Interchange<'a> {
@@ -67,7 +67,7 @@ impl<'a> Interchange<'a> {
         self.start
     }
 
-    /// The offset behind its last byte in the text.
+    /// The offset after its last byte in the text.
     pub fn end(&self) -> usize
         ensures { result ≡ self.now.end }
     {

@@ -22,7 +22,7 @@ fn count_before(list: &[Mark], at: usize) -> usize
     low
 }
 
-/// The segments that are known to follow an offset behind a terminator, one behind another; none where the marks were taken
+/// The segments that are known to follow an offset after a terminator, one after another; none where the marks were taken
 /// under another terminator or of another piece.
 pub(crate) fn known_behind(marks: &Marks, terminator: u8, at: usize) -> &[Mark]
     ensures { (text : List ℕ) → AreMarks text marks.now → get_or text (at - 1) 0 ≡ terminator → AreNext text terminator at result.now }

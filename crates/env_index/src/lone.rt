@@ -14,9 +14,9 @@ use hub_kinds::NoMemory;
 use std::alloc::Global;
 
 /// The interchange that a text is, where it is exactly one, with nothing but CR, LF and space
-/// before and behind it; none for any other text (X12.5, interchange; the bytes around it are own).
+/// before and after it; none for any other text (X12.5, interchange; the bytes around it are own).
 ///
-/// The text has at most `LONGEST_TEXT` bytes. The only error is want of memory.
+/// The text has at most `LONGEST_TEXT` bytes. The only error is out of memory.
 pub fn read_lone<'a>(alloc: Global, text: &'a [u8]) -> Result<Option<Interchange<'a>>, NoMemory>
     requires { length text.now ≤ LONGEST_TEXT }
     ensures lone { IfOk result

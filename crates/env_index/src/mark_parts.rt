@@ -24,7 +24,7 @@ pub(crate) struct MarkParts<'a, 'm> {
 }
 
 impl<'a, 'm> MarkParts<'a, 'm> {
-    /// The parts from an offset behind a terminator on; no piece before `piece` ends behind it.
+    /// The parts from an offset after a terminator on; no piece before `piece` ends after it.
     pub(crate) fn new(
         text: &'a [u8],
         terminator: u8,
@@ -86,7 +86,7 @@ impl<'a, 'm> MarkParts<'a, 'm> {
     }
 }
 
-/// The first piece from one on that ends behind an offset.
+/// The first piece from one on that ends after an offset.
 pub(crate) fn piece_at(marks: &[Marks], from: usize, at: usize) -> usize {
     let mut piece = from;
     while piece < marks.len() && marks[piece].end() <= at {
@@ -95,7 +95,7 @@ pub(crate) fn piece_at(marks: &[Marks], from: usize, at: usize) -> usize {
     piece
 }
 
-/// The segments that the marks of a piece tell behind an offset.
+/// The segments that the marks of a piece give after an offset.
 fn known_in(marks: &[Marks], piece: usize, terminator: u8, at: usize) -> &[Mark]
     ensures { (text : List ℕ) → All (AreMarks text) marks.now → get_or text (at - 1) 0 ≡ terminator
         → AreNext text terminator at result.now }

@@ -9,7 +9,7 @@ use hub_kinds::NoMemory;
 use memchr::memchr;
 use std::alloc::Global;
 
-/// The interchange with the least start at or behind an offset; none where no header begins there.
+/// The interchange with the least start at or after an offset; none where no header begins there.
 pub(crate) fn next_interchange<'a>(
     alloc: Global,
     text: &'a [u8],

@@ -74,7 +74,7 @@ fn add_interchange(
 
 impl<'a> Index<'a> {
     /// The places of the interchanges that have no fault, of their groups and of their sets, in the order of the text. Each
-    /// interchange is counted, also one with a fault. The only error is want of memory. X12.5, interchange; X12.6, functional
+    /// interchange is counted, also one with a fault. The only error is out of memory. X12.5, interchange; X12.6, functional
     /// group and transaction set.
     ///
     /// An index is settled with the faults 1 to 8 for this, not with 9: the places of an interchange whose number is used

@@ -23,7 +23,7 @@ pub(crate) struct GroupPlace {
     pub(crate) trailer: Option<Stretch>,
 }
 
-/// Where all stands that an interchange has behind its header.
+/// Where all stands that an interchange has after its header.
 #[derive(Drop)]
 pub(crate) struct BodyPlace {
     pub(crate) groups: Vec<GroupPlace>,

@@ -37,7 +37,7 @@ fn judged(interchange: Interchange<'_>) -> IndexedInterchange<'_>
 
 /// The index of a text that is read front to back, each interchange with the least of its faults 1 to 7.
 ///
-/// The text has at most `LONGEST_TEXT` bytes, since places are kept in 32 bits. The only error is want of memory.
+/// The text has at most `LONGEST_TEXT` bytes, since places are kept in 32 bits. The only error is out of memory.
 /// X12.5, interchange; X12.6, functional group and transaction set.
 pub fn index_plain<'a>(alloc: Global, text: &'a [u8]) -> Result<Index<'a>, NoMemory>
     requires { length text.now ≤ LONGEST_TEXT }

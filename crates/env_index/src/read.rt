@@ -16,11 +16,11 @@ use std::alloc::Global;
 use x12_bytes::{HEADER_LEN, read_header};
 
 /// The interchange whose header (ISA) begins at the offset `start`; none where no header begins
-/// there. It ends behind the terminator of its IEA; without one at the next segment that begins at
+/// there. It ends after the terminator of its IEA; without one at the next segment that begins at
 /// a header, or at the text's end. What follows its end is not read (X12.5, interchange).
 ///
 /// The text has at most `LONGEST_TEXT` bytes, since places are kept in 32 bits; offsets count its bytes
-/// from 0. The only error is want of memory.
+/// from 0. The only error is out of memory.
 pub fn read_interchange<'a>(
     alloc: Global,
     text: &'a [u8],

@@ -10,7 +10,7 @@ use x12_segs::SegView;
 pub(crate) fn segment_at<'a>(text: &'a [u8], delims: Delims, place: Stretch) -> SegView<'a>
     ensures { result ≡ seg_in text.entry.now delims place }
 {
-    // What lies behind the text's end is no byte of the segment, so any place may be asked for.
+    // What lies after the text's end is no byte of the segment, so any place may be asked for.
     let end = text.len().min(place.end as usize);
     let start = end.min(place.start as usize);
     SegView::new(place.start as usize, &text[start..end], delims)
@@ -30,7 +30,7 @@ pub(crate) fn trailer_at<'a>(
     }
 }
 
-/// The offset behind the terminator of the segment that stands at a place of the text.
+/// The offset after the terminator of the segment that stands at a place of the text.
 pub(crate) fn behind_segment(text: &[u8], delims: Delims, place: Stretch) -> usize
     ensures { result ≡ behind (seg_in text.now delims place) }
 {

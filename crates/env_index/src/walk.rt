@@ -16,7 +16,7 @@ use std::alloc::Global;
 use x12_bytes::{Delims, read_header};
 use x12_segs::{Kind, Part, SegView, kind_of};
 
-/// Reads what an interchange has behind its header to its end, part by part. Of each part, whether it
+/// Reads what an interchange has after its header to its end, part by part. Of each part, whether it
 /// begins at a header is asked first.
 pub(crate) fn read_body<P: PartSource + Drop>(
     alloc: Global,

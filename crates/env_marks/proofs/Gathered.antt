@@ -11,7 +11,7 @@ use Rattle.cut_plan.specs.Plan.{rises_from, pieces_from, all_up_to}
 use Rattle.env_marks.specs.Laws.{PieceLaws, joined_all, values}
 
 module _ {U X V : Type 0} {value : U → List X → ℕ → ℕ → V} {joined : V → V → V} (laws : PieceLaws value joined) where
-  -- the pieces from b on, joined to what stands in front of them
+  -- the pieces from b on, joined to what stands before them
   pub joined_all-pieces : (u : U) (items : List X) (a b : ℕ) (cs : List ℕ) (end : ℕ) → a ≤ b → b ≤ end → end ≤ length items →
       rises_from b cs ≡ true → all_up_to end cs ≡ true →
       joined_all joined (value u items a b) (values value u items (pieces_from b cs end)) ≡ value u items a end

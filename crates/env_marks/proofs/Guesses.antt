@@ -80,7 +80,7 @@ last_is (h ∷ k ∷ more) some =
     ∙ ap (λ i. Some (get_or (h ∷ k ∷ more) i no_head_at).pair)
     (let e : suc (suc (length more) - 1) ≡ suc (suc (length more)) - 1 = omega arith in e)
 
--- the headers of a text, up to an offset and behind it
+-- the headers of a text, up to an offset and after it
 pub record IsParted (text : List ℕ) (at : ℕ) (list : List HeadAt) : Type 0 where
   pub whole : list ≡ heads_in text 0 (at + 1) ++ heads_in text (at + 1) (length text + 1)
   pub divided : AreDivided (length (heads_in text 0 (at + 1))) at list

@@ -11,7 +11,7 @@ use Rattle.x12_segs.proofs.SegLemmas.{segs_of-cons, drop-slice_range}
 use Rattle.env_marks.specs.Frags.{frag_of}
 use Rattle.env_marks.specs.Marking.{Cut, mark_of, last_of, marking_of}
 
--- a terminator was found behind an offset of a stretch
+-- a terminator was found after an offset of a stretch
 pub record IsPartCut (text : List ℕ) (t at to len : ℕ) : Type 0 where
   pub below : at + len < to
   pub divided : parts t (slice_range text at to) ≡ slice_range text at (at + len) ∷ parts t (slice_range text (at + len + 1) to)

@@ -30,7 +30,7 @@ under_another_pair : marks_of bars one_order 100 150
     ≡ under bars (Uncut (record { from = 100; to = 150; body = Some 100; separator = None; id_end = None }))
 under_another_pair = refl
 
--- cut behind the G of GS
+-- cut after the G of GS
 id_across_a_cut : joined_marks (marks_of stars one_order 100 107) (marks_of stars one_order 107 150)
     ≡ under stars (Cut front (group_header ∷ []) set_id)
 id_across_a_cut = refl
@@ -47,7 +47,7 @@ line_ends = 126 ∷ 13 ∷ 10 ∷ 71 ∷ 13 ∷ 10 ∷ 83 ∷ 42 ∷ 126 ∷ []
 abbrev empty_at : ℕ → Frag
 empty_at place = record { from = place; to = place; body = None; separator = None; id_end = None }
 
--- CR LF in front of a segment are passed over, those in its id are not
+-- CR LF before a segment are passed over, those in its id are not
 among_line_ends : marks_of stars line_ends 0 9
     ≡ under stars (Cut (empty_at 0) (record { start = 3; end = 8; id_end = 7 } ∷ []) (empty_at 9))
 among_line_ends = refl

@@ -1,4 +1,4 @@
--- X12.6, segment: two stretches, one behind the other, are one stretch; and what a stretch between terminators is.
+-- X12.6, segment: two stretches, one after the other, are one stretch; and what a stretch between terminators is.
 use Rattle.std.specs.Prelude.{◌≡◌, ℕ, ◌+◌, List, [], ◌∷◌, ◌++◌, Bool, true, false, Option, Some, None, length, map}
 use Rattle.std.specs.Prelude.{unwrap_or, drop, suc}
 use Rattle.std.specs.Option.{option_or}
@@ -14,7 +14,7 @@ use Rattle.env_marks.specs.declared.frag.Mark.{Mark}
 use Rattle.env_marks.specs.Frags.{stop_at, id_stop, is_other_than, frag_of, both_frags, id_end_of_both, mark_by, marks_in}
 use Rattle.env_marks.specs.Marking.{mark_of}
 
--- a stop in the front, or else behind it
+-- a stop in the front, or else after it
 pub stop_at-append : (test : ℕ → Bool) (o : ℕ) (xs ys : List ℕ) →
     stop_at test o (xs ++ ys) ≡ option_or (stop_at test o xs) (stop_at test (o + length xs) ys)
 stop_at-append test o [] ys = ap (λ n. stop_at test n ys) (let e : o ≡ o + 0 = omega arith in e)
@@ -112,7 +112,7 @@ stop_none test o (x ∷ xs) h =
     ] in
     at (test x) h
 
--- the id's end is looked for behind the CR and LF at the front
+-- the id's end is looked for after the CR and LF at the front
 pub id_stop_behind : (e o : ℕ) (xs : List ℕ) →
     id_stop e o xs ≡ stop_at (is_other_than e) (o + prefix_len is_line_end xs) (drop (prefix_len is_line_end xs) xs)
 id_stop_behind e o [] = refl

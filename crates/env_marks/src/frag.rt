@@ -4,7 +4,7 @@ ghost use Rattle.env_marks.specs.Frags.{both_frags, marks_in, id_end_of_both};
 use hub_kinds::NoMemory;
 
 /// A stretch of a text without a terminator, by offsets: its ends, its first byte other than CR and LF, its first element
-/// separator, and the first one behind that byte (X12.6, segment).
+/// separator, and the first one after that byte (X12.6, segment).
 #[derive(Clone, Copy, Debug, PartialEq, Eq)]
 pub struct Frag {
     pub from: usize,
@@ -22,7 +22,7 @@ pub struct Mark {
     pub id_end: usize,
 }
 
-/// Two stretches, one behind the other.
+/// Two stretches, one after the other.
 pub(crate) fn both_frags(front: Frag, behind: Frag) -> Frag
     ensures { result ≡ both_frags front behind }
 {

@@ -7,7 +7,7 @@ use hub_kinds::NoMemory;
 use std::alloc::Global;
 
 /// The value of all pieces, from those of each in order. However the items were cut, it is the value of them all. The only error
-/// is want of memory.
+/// is out of memory.
 pub fn gather<P: Piecewise>(alloc: Global, list: Vec<P>) -> Result<P, NoMemory>
     requires { 0 < length list.items }
     ensures { (under : P.Under) (items : List P.Item) (plan : Plan) → IsPlan plan → plan.text_len ≤ length items
@@ -19,7 +19,7 @@ pub fn gather<P: Piecewise>(alloc: Global, list: Vec<P>) -> Result<P, NoMemory>
     Ok(all)
 }
 
-/// Joins a value with those behind it.
+/// Joins a value with those after it.
 fn join_all<P: Piecewise>(alloc: Global, first: P, rest: Vec<P>) -> Result<P, NoMemory>
     ensures { IfOk result (λ all. all ≡ joined_all P.joined first rest.items) }
 {

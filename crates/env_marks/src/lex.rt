@@ -16,7 +16,7 @@ use x12_segs::{find_byte, find_near, lead};
 /// How many bytes short segments have. Room for the marks of so many is taken at once; where there are more, more is taken.
 const SEGMENT: usize = 16;
 
-/// How many bytes most ids have at most, with the separator behind them.
+/// How many bytes most ids have at most, with the separator after them.
 const SHORT: usize = 4;
 
 /// How many bytes stand before the first element separator.
@@ -65,7 +65,7 @@ fn separator_at(bytes: &[u8], at: usize, element: u8) -> Option<usize>
     Some(at + len)
 }
 
-/// Where it has the first behind the CR and LF at its front.
+/// Where it has the first after the CR and LF at its front.
 fn id_end_at(bytes: &[u8], at: usize, element: u8) -> Option<usize>
     requires { at + length bytes.now < 2 ^ 64 }
     ensures { result ≡ id_stop element at bytes.now }
@@ -107,7 +107,7 @@ fn push_part(list: &mut Vec<Mark>, part: &[u8], at: usize, element: u8) -> Resul
     Ok(())
 }
 
-/// The segments from one offset, behind a terminator, up to another, and where what follows the last terminator begins.
+/// The segments from one offset, after a terminator, up to another, and where what follows the last terminator begins.
 fn list_marks(
     alloc: Global,
     text: &[u8],
@@ -133,7 +133,7 @@ fn list_marks(
 }
 
 /// The marks of a piece of a text, under a pair, whatever the text is divided by there (X12.6, segment and segment terminator).
-/// The only error is want of memory.
+/// The only error is out of memory.
 pub fn marks_of(alloc: Global, text: &[u8], piece: Piece, pair: Pair) -> Result<Marks, NoMemory>
     requires order { piece.from ≤ piece.to }
     requires within { piece.to ≤ length text.now }

@@ -1,9 +1,9 @@
-//! What the pieces of a text tell of its segments and headers, and how the values of neighbouring pieces are joined to the value
+//! What the pieces of a text say of its segments and headers, and how the values of neighbouring pieces are joined to the value
 //! of both, so that pieces can be looked at apart and in any order. A segment, an id or CR LF may lie across a cut.
 //!
 //! Proved:
-//! - `marks_of` tells of a piece, under an element separator and a segment terminator, where the segments between its
-//!   first terminator and its last start and end and where their ids end, and what of a segment stands in front and behind;
+//! - `marks_of` says of a piece, under an element separator and a segment terminator, where the segments between its
+//!   first terminator and its last start and end and where their ids end, and what of a segment stands before and after;
 //! - the value of an empty piece is a unit, joining is associative, and the values of two neighbours join to that of both
 //!   (`PieceLaws`), for marks under any pair, for headers, and for each further `Piecewise`;
 //! - `gather` makes of the values of all pieces, however a list was cut, the value of the whole list;
@@ -11,6 +11,8 @@
 //!   and none exactly where there is neither.
 //!
 //! X12.6, data segment, segment terminator and element separator; X12.5, interchange control header (ISA).
+//!
+//! Tests: `trial_texts`, `trial_workers`.
 #![tactic(auto)]
 
 mod frag;

@@ -7,7 +7,7 @@ use std::alloc::Global;
 use std::marker::Model;
 use x12_bytes::Pair;
 
-/// What a piece of a text tells of the text's segments under a pair: the stretches at its ends, and the segments between
+/// What a piece of a text says of the text's segments under a pair: the stretches at its ends, and the segments between
 /// (X12.6, segment and segment terminator).
 #[derive(Drop)]
 pub struct Marks {

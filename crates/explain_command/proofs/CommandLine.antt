@@ -1,4 +1,4 @@
--- What clap found in the words is what the definitions say of them.
+-- What clap found in the arguments is what the definitions say of them.
 use Rattle.std.proofs.Common.{◌≡◌, ◌∙◌, ℕ, List, Vec, true, codes, map, refl, String, sym, ap, subst}
 use Rattle.clap.specs.Words.{HasKind, HasMatchesOf, Text, fault_of, found_of, is_simple, is_simple_and_free, kind_of, takes}
 use Rattle.clap.specs.declared.error.Error.{Error}
@@ -29,7 +29,7 @@ asked words m (Explain paths) has given = record {
 }
 asked words m (Show text) has given = absurd given
 
--- where clap found no file, the words name none
+-- where clap found no file, the arguments name none
 pub none_named : (words : List Text) (m : ArgMatches) → HasMatchesOf explain_app words m → NamesNone (values_found (found_of m))
     → NamesNone (values_of words)
 none_named words m has none = sym (ap or_none (all_found explain_app simple words m (codes "file") has)) ∙ none
@@ -40,7 +40,7 @@ shown words e (Explain paths) kind passes is = absurd is
 shown words e (Show text) kind passes is =
     let both = asks_for_text explain_app words e kind passes is in record { asked = both.0; no_run = both.1 }
 
--- the files that are asked for are those that the words name
+-- the files that are asked for are those that the arguments name
 pub files_named : (words : List Text) (asked : Asked) (paths : Vec (Bor (List ℕ)) Global) → asked ≡ Explain paths → IsAsked words asked
     → NamesFiles words (map (λ (p : Bor (List ℕ)). p.now) paths.items)
 files_named words asked paths is by = subst (λ (a : Asked). IsAsked words a) is by

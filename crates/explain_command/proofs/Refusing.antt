@@ -1,4 +1,4 @@
--- What a text is refused by, a reader that told just this text is refused by.
+-- What a text is refused by, a reader that declared just this text is refused by.
 use Rattle.std.proofs.Common.{◌≡◌, ℕ, List, Option, None, Some, subst}
 use Rattle.std.specs.Prelude.{IfSome}
 use Rattle.explain_command.specs.Failure.{IsOfInput}

@@ -1,4 +1,4 @@
--- What is told of files one after another is what is told of all.
+-- What is reported of files one after another is what is reported of all.
 use Rattle.std.proofs.Common.{◌++◌, ◌∷◌, [], List}
 use Rattle.explain_command.specs.Reports.{AreTold, IsTold}
 use Rattle.explain_command.specs.declared.files.FileTold.{FileTold}

@@ -12,7 +12,7 @@ use Rattle.explain_command.specs.declared.command.Asked.TheVariants.{Explain, Sh
 abbrev pub file_rule : Rule
 file_rule = record (new_rule (codes "file")) { value_names = 1; required = true; action = Some Append }
 
--- its words have no program's name in front, and it has a version
+-- its arguments don't begin with a program's name, and it has a version
 abbrev pub program : App
 program =
     let bare = new_app (codes "nighthub_explain") in
@@ -21,7 +21,7 @@ program =
 abbrev pub explain_app : App
 explain_app = with_rule program file_rule
 
--- the values that the words give a name, in their order
+-- the values that the arguments give a name, in their order
 abbrev pub values_of : List Text → Text → Option (List Text)
 values_of words name = all_of name (matches_of explain_app words)
 
@@ -30,7 +30,7 @@ pub record AreFiles (values : Text → Option (List Text)) (paths : List (List �
   pub given : or_none (values (codes "file")) ≡ paths
   pub some : paths ≢ []
 
--- the words name these files, in their order
+-- the arguments name these files, in their order
 abbrev pub NamesFiles : List Text → (paths : List (List ℕ)) → Type 0
 NamesFiles words paths = AreFiles (values_of words) paths
 
@@ -38,17 +38,17 @@ NamesFiles words paths = AreFiles (values_of words) paths
 abbrev pub NamesNone : (values : Text → Option (List Text)) → Type 0
 NamesNone values = or_none (values (codes "file")) ≡ []
 
--- nothing is wrong with the words, and they name a file
+-- nothing is wrong with the arguments, and they name a file
 pub record IsCommandLine (words : List Text) : Type 0 where
   pub taken : takes explain_app words ≡ true
   pub named : NamesNone (values_of words) → ⊥
 
--- the words ask for help or for the version, and name no file
+-- the arguments ask for help or for the version, and name no file
 pub record AsksForText (words : List Text) : Type 0 where
   pub asked : IsAmong DisplayHelp (fault_of explain_app words) ⊎ IsAmong DisplayVersion (fault_of explain_app words)
   pub no_run : takes explain_app words ≡ true → ⊥
 
--- what the words ask for
+-- what the arguments ask for
 abbrev pub IsAsked : List Text → Asked → Type 0
 IsAsked words (Explain paths) = NamesFiles words (map (λ p. p.now) paths.items)
 IsAsked words (Show text) = AsksForText words

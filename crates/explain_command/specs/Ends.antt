@@ -11,12 +11,12 @@ use Rattle.ack_read.specs.Words.{first_delims}
 use Rattle.explain_command.specs.declared.ends.CutOff.{CutOff}
 use Rattle.explain_command.specs.declared.ends.CutOff.TheVariants as cut
 
--- some byte but CR and LF stands behind the last terminator; or so it does at the begin, and no terminator follows
+-- some byte but CR and LF stands after the last terminator; or so it does at the begin, and no terminator follows
 abbrev pub ends_open : (terminator : ℕ) → (is_open : Bool) → List ℕ → Bool
 ends_open terminator is_open [] = is_open
 ends_open terminator is_open (b ∷ bs) = ends_open terminator (not (b == terminator) && (is_open || not (is_line_end b))) bs
 
--- whether a set is begun behind a segment with this id
+-- whether a set is begun after a segment with this id
 abbrev pub stays_begun : (begun : Bool) → (id : List ℕ) → Bool
 stays_begun begun id = bytes_eq id (codes "ST") || (begun && not (bytes_eq id (codes "SE")))
 

@@ -27,7 +27,7 @@ subject_of failure.Memory = codes "memory"
 abbrev pub line_of : Failure → List ℕ
 line_of f = codes "nighthub_explain: " ++ (subject_of f ++ codes "\n")
 
--- behind the path of one of several files
+-- after the path of one of several files
 abbrev pub said_of : Failure → List ℕ
 said_of f = codes ": " ++ (subject_of f ++ codes "\n")
 
@@ -55,13 +55,13 @@ read_failure fault.NoHeader = failure.NoHeader
 read_failure fault.TellsNothing = failure.TellsNothing
 read_failure fault.NoMemory = failure.Memory
 
--- what reading the words may fail by
+-- what reading the arguments may fail by
 abbrev pub IsOfWords : Failure → Type 0
 IsOfWords failure.Usage = Unit {0}
 IsOfWords failure.Memory = Unit {0}
 IsOfWords _ = ⊥
 
--- what the bytes of a reader may fail by: those that it told of itself, where it told them, are no acknowledgments
+-- what the bytes of a reader may fail by: those that it declared of itself, where it declared them, are no acknowledgments
 abbrev pub IsOfInput : (told : Option (List ℕ)) → Failure → Type 0
 IsOfInput told failure.Input = Unit {0}
 IsOfInput told failure.NoHeader = IfSome told (λ text. IsRefused text fault.NoHeader)
@@ -70,7 +70,7 @@ IsOfInput told failure.Is997 = IfSome told (λ text. (is_head text 0 ≡ true) �
 IsOfInput told failure.Memory = Unit {0}
 IsOfInput told _ = ⊥
 
--- a fault of the system is want of memory, or stands for another failure
+-- a fault of the system is out of memory, or stands for another failure
 pub record IsMemoryOr (kind : ErrorKind) (other failed : Failure) : Type 0 where
   pub memory : kind ≡ OutOfMemory → failed ≡ failure.Memory
   pub other_fault : kind ≢ OutOfMemory → failed ≡ other

@@ -8,8 +8,8 @@ use Rattle.ack_lines.specs.Words.{explanation}
 use Rattle.explain_command.specs.Ends.{cut_of, is_997}
 use Rattle.explain_command.specs.declared.ends.CutOff.{CutOff}
 
--- these lines say in words what the acknowledgments of a text tell, and where it is cut off: a text without a byte is that of a partner
--- whom nobody answers; one that is cut off may tell nothing yet
+-- these lines say in words what the acknowledgments of a text report, and where it is cut off: a text without a byte is that of a partner
+-- whom nobody answers; one that is cut off may report nothing yet
 pub data IsSaidOf (text lines : List ℕ) (cut : Option CutOff) : Type 0 where
   Unanswered : text ≡ [] → lines ≡ codes "no acknowledgments\n" → cut ≡ None → IsSaidOf text lines cut
   Answered : (found : List Told) → AreToldBy text found → is_997 text ≡ false → lines ≡ explanation found → cut_of text ≡ cut
@@ -17,7 +17,7 @@ pub data IsSaidOf (text lines : List ℕ) (cut : Option CutOff) : Type 0 where
   Begun : IsRefused text fault.TellsNothing → is_997 text ≡ false → lines ≡ [] → cut_of text ≡ cut → cut ≢ None
       → IsSaidOf text lines cut
 
--- they are those of some text, which is all that a reader told, where it told it
+-- they are those of some text, which is all that a reader declared, where it declared it
 pub record IsExplanationOf (told : Option (List ℕ)) (lines : List ℕ) (cut : Option CutOff) : Type 0 where
   pub text : List ℕ
   pub told_all : IfSome told (λ xs. text ≡ xs)

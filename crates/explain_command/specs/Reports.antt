@@ -1,4 +1,4 @@
--- The program's results (own): what is printed of the files that the words name, and the status.
+-- The program's results (own): what is printed of the files that the arguments name, and the status.
 use Rattle.std.specs.Prelude.{ℕ, ◌≡◌, ◌≢◌, ◌⊎◌, ◌==◌, ⊤, Bool, true, List, [], ◌∷◌, ◌++◌, codes, length, map, nat_lt, Option, None, Some}
 use Rattle.std.specs.Prelude.{is_none, option_map, if◌then◌else◌}
 use Rattle.std.specs.List.{list_all}
@@ -76,14 +76,14 @@ pub record IsExplained (paths : List (List ℕ)) (status : ℕ) (was is : Option
   pub report : IsReport paths text status
   pub printed : Appends was is text
 
--- a text was shown that the words ask for
+-- a text was shown that the arguments ask for
 pub record IsShownText (words : List Text) (status : ℕ) (was is : Option (List ℕ)) : Type 0 where
   pub asked : AsksForText words
   pub text : List ℕ
   pub printed : Appends was is text
   pub own_status : status ≡ 0
 
--- the files that the words name were explained, or such a text was shown
+-- the files that the arguments name were explained, or such a text was shown
 abbrev pub IsRun : (words : List Text) → (status : ℕ) → (was is : Option (List ℕ)) → Type 0
 IsRun words status was is =
     ((paths : List (List ℕ)) × NamesFiles words paths × IsExplained paths status was is) ⊎ IsShownText words status was is

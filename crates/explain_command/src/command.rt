@@ -11,7 +11,7 @@ use night_ends::{texts_given, with_argument};
 use std::alloc::{AllocError, Global};
 use std::convert::AsStr;
 
-/// What stands behind the options in the text of `--help`.
+/// What stands after the options in the text of `--help`.
 const STATUSES: &str = "Status:
   0  the acknowledgments are explained
   2  usage
@@ -19,7 +19,7 @@ const STATUSES: &str = "Status:
   5  standard output
   6  no memory";
 
-/// What the words ask for.
+/// What the arguments ask for.
 #[derive(Debug, Drop)]
 pub enum Asked<'a> {
     /// To explain the acknowledgments in the files at these paths, in their order; there is one or more.
@@ -28,7 +28,7 @@ pub enum Asked<'a> {
     Show(String),
 }
 
-/// Reads the words, which are the program's arguments without its name.
+/// Reads the program's arguments without its name.
 pub fn read_words<'a, S: AsStr>(alloc: Global, words: &'a [S]) -> Result<Asked<'a>, Failure>
     ensures asked { IfOk result (IsAsked (map S.text words.now)) }
     ensures usage { IsErrOf result Failure.Usage → IsCommandLine (map S.text words.now) → ⊥ }
@@ -78,7 +78,7 @@ fn files_asked<'a>(alloc: Global, matches: &ArgMatches<'a>) -> Result<Asked<'a>,
     Ok(Asked::Explain(paths))
 }
 
-/// The text that is asked for, where the words have no mistake.
+/// The text that is asked for, where the arguments have no mistake.
 fn shown<'a>(alloc: Global, error: &Error) -> Result<Asked<'a>, Failure>
     ensures shown { IfOk result (IsShown (kind_of error.now)) }
     ensures usage { IsErrOf result Failure.Usage → kind_of error.now ≢ ErrorKind.OutOfMemory }

@@ -117,7 +117,7 @@ fn account_by(alloc: Global, text: &[u8], cut: Option<CutOff>) -> Result<Account
     }
 }
 
-/// Prints the lines on a text, and gives 0; behind them, where the text is cut off, the line that says so on `err`, and its status.
+/// Prints the lines on a text, and gives 0; after them, where the text is cut off, the line that says so on `err`, and its status.
 fn give<O: Write, E: Write>(account: &Account, out: &mut O, err: &mut E) -> u8
     ensures status { ((result ≡ 0) × (account.now.cut ≡ None)) ⊎ (((result ≡ 4) × (account.now.cut ≢ None)) ⊎ (result ≡ 5)) }
     ensures printed { result ≢ 5 → Appends (O.contents out.old) (O.contents out.new) account.now.lines.items }
@@ -134,7 +134,7 @@ fn give<O: Write, E: Write>(account: &Account, out: &mut O, err: &mut E) -> u8
     }
 }
 
-/// Prints a text on standard output, and nothing else, where the writer tells what it has. Gives 0, or the status of a failure of
+/// Prints a text on standard output, and nothing else, where the writer declares what it has. Gives 0, or the status of a failure of
 /// standard output.
 pub(crate) fn finish<O: Write, E: Write>(text: &[u8], out: &mut O, err: &mut E) -> u8
     ensures status { (result ≡ 0) ⊎ (result ≡ 5) }

@@ -13,13 +13,13 @@ use std::io::Write;
 /// Why a run failed.
 #[derive(Clone, Copy, Debug, PartialEq, Eq)]
 pub enum Failure {
-    /// The words are not those of the command line.
+    /// The arguments are not those of the command line.
     Usage,
     /// The file can't be read.
     Input,
     /// The file doesn't begin with the header of an interchange.
     NoHeader,
-    /// The file tells nothing: it has no TA1, and no IK5 or AK9 of a 999.
+    /// The file reports nothing: it has no TA1, and no IK5 or AK9 of a 999.
     TellsNothing,
     /// The file has the response to a set of a 997 (AK5).
     Is997,
@@ -32,7 +32,7 @@ pub enum Failure {
 }
 
 impl Failure {
-    /// The failure that a fault of the system stands for, where it isn't want of memory.
+    /// The failure that a fault of the system stands for, where it isn't out of memory.
     pub fn of_fault(error: io::Error, other: Failure) -> Failure
         ensures { IsMemoryOr (error_kind error) other result }
     {
@@ -61,7 +61,7 @@ impl Failure {
         self.print_subject(err)
     }
 
-    /// Writes the line of one of several files: its path stands in front of what failed.
+    /// Writes the line of one of several files: its path stands before what failed.
     pub fn print_of<E: Write>(self, path: &[u8], err: &mut E) -> io::Result<()>
         ensures { OnOk result (Appends (E.contents err.old) (E.contents err.new) (line_in path.now self)) }
     {

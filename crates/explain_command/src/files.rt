@@ -1,4 +1,4 @@
-//! What is told of files, one after another.
+//! What is reported of files, one after another.
 ghost use Rattle.std.specs.Prelude.{◌≡◌, ◌++◌, ◌∷◌, ◌⊎◌, [], true, map, is_none, if◌then◌else◌, IfOk, OnOk};
 ghost use Rattle.explain_command.specs.Reports as reports;
 
@@ -10,16 +10,16 @@ use std::fs;
 use std::io::Write;
 use std::rt::Files;
 
-/// What is told of a file.
+/// What is reported of a file.
 #[derive(Debug, Drop)]
 pub enum Told {
-    /// What its acknowledgments tell, in words.
+    /// What its acknowledgments report, in words.
     Explained(Account),
     /// Why it is refused.
     Refused(Failure),
 }
 
-/// A file, by its path, and what is told of it.
+/// A file, by its path, and what is reported of it.
 #[derive(Debug, Drop)]
 pub struct FileTold<'a> {
     pub path: &'a str,
@@ -51,7 +51,7 @@ impl Told {
     }
 }
 
-/// What is told of the file at a path. The only error is want of memory.
+/// What is reported of the file at a path. The only error is out of memory.
 fn tell_file<R: Files + AllocGlobal>(rt: &R, path: &str) -> Result<Told, NoMemory>
     ensures { IfOk result (λ told. reports.IsTold told) }
 {
@@ -70,7 +70,7 @@ fn told_at<'a, R: Files + AllocGlobal>(rt: &R, path: &'a str) -> Result<FileTold
     Ok(FileTold { path, told })
 }
 
-/// What is told of the files at these paths, in their order. The only error is want of memory.
+/// What is reported of the files at these paths, in their order. The only error is out of memory.
 pub fn tell_files<'a, R: Files + AllocGlobal>(
     rt: &R,
     paths: &[&'a str],

@@ -14,15 +14,15 @@ use std::convert::AsStr;
 use std::io::Write;
 use std::rt::Files;
 
-/// What is printed, and what is told of each file.
+/// What is printed, and what is reported of each file.
 #[derive(Drop)]
 struct Report<'a> {
     text: Vec<u8>,
     told: Vec<FileTold<'a>>,
 }
 
-/// Runs the program on these words, its arguments without its name, and gives its exit status: 0 where it has printed the lines on each
-/// file of acknowledgments, or a text that was asked for; 4 where a file is refused or cut off, behind the lines on what is there, with a
+/// Runs the program on its arguments, without its name, and gives its exit status: 0 where it has printed the lines on each
+/// file of acknowledgments, or a text that was asked for; 4 where a file is refused or cut off, after the lines on what is there, with a
 /// line on `err` for each such file; otherwise that of the failure whose line it has printed on `err`.
 pub fn explain_main<R, S, O, E>(rt: &R, words: &[S], out: &mut O, err: &mut E) -> u8
 where
@@ -62,7 +62,7 @@ where
     }
 }
 
-/// What is printed of the files at these paths. The only error is want of memory.
+/// What is printed of the files at these paths. The only error is out of memory.
 fn report_of<'a, R: Files + AllocGlobal>(rt: &R, paths: &[&'a str]) -> Result<Report<'a>, NoMemory>
     ensures { IfOk result (λ r. IsReport (map (λ p. p.now) paths.now) r.text.items (status_of r.told.items)) }
 {

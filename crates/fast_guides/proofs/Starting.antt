@@ -1,4 +1,4 @@
--- A guide that is looked for stands at or behind the first of its key.
+-- A guide that is looked for stands at or after the first of its key.
 use Rattle.std.proofs.Common.{◌≡◌, inl, inr, ℕ, zero, suc, ◌+◌, List, [], ◌∷◌, Bool, true, false, Option, Some, None}
 use Rattle.std.proofs.Common.{map, drop, refl, sym, ap, ◌∙◌, arith, find}
 use Rattle.std.specs.Prelude.{slice_get, ◌&&◌, if◌then◌else◌}

@@ -8,7 +8,7 @@ use Rattle.partner_setup.specs.Names.{place_of}
 use Rattle.partner_setup.specs.Tables.{KeepsPlaces}
 use Rattle.partner_setup.specs.declared.partner.Partner.{Partner}
 
--- GS01, GS08 and ST01, one behind the other
+-- GS01, GS08 and ST01, one after the other
 abbrev pub joined : (group version set : List ℕ) → List ℕ
 joined group version set = (group ++ version) ++ set
 
@@ -27,6 +27,6 @@ key_at guides place = key_by (slice_get guides place)
 abbrev pub KeepsGuides : List GuideRows → Partner → BTreeMap (Vec ℕ Global) ℕ → Type 0
 KeepsGuides guides p table = KeepsPlaces table 0 (map (key_at guides) p.guides)
 
--- in front of this number no key is this one; none is where there is no number
+-- before this number no key is this one; none is where there is no number
 abbrev pub IsStart : (keys : List (List ℕ)) → (key : List ℕ) → Option ℕ → Type 0
 IsStart keys key start = MatchOption start (place_of keys key ≡ None) (λ j. (j ≡ 0) ⊎ (place_of keys key ≡ Some j))

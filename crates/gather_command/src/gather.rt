@@ -171,7 +171,7 @@ fn folder_of(path: &str) -> &str {
     }
 }
 
-/// Prints a text on standard output, and nothing else, where the writer tells what it has. Gives the status, or that of a failure of
+/// Prints a text on standard output, and nothing else, where the writer declares what it has. Gives the status, or that of a failure of
 /// standard output.
 fn finish<O: Write, E: Write>(text: &[u8], status: u8, out: &mut O, err: &mut E) -> u8
     requires { status ≤ 1 }

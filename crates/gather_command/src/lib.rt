@@ -10,6 +10,8 @@
 //! Only tested: that the file is written beside its place, synced, and put there by one rename, or else taken away.
 //!
 //! Source: own.
+//!
+//! Tests: `.ci/gather`.
 #![tactic(auto)]
 
 mod all;

@@ -38,7 +38,7 @@ begun_passed first now was held begun head = record {
   stands = omega arith;
 }
 
--- what is told of the whole file is told by what is held of it
+-- what is reported of the whole file follows from what is held of it
 no_header_told : (first now : Option (List ℕ)) (held : HeldValue) → IsBegun first now held → is_head held.bytes 0 ≡ false
     → IfSome first (λ xs. is_head (led xs) 0 ≡ false)
 no_header_told None now held begun none = tt
@@ -89,7 +89,7 @@ pub set_aside : (first now was : Option (List ℕ)) (held : HeldValue) → IsBeg
 set_aside first now was held begun none =
     record { no_header = no_header_told first now held begun none; named = cause_told first now held begun; nothing = refl }
 
--- more is told than there is room for
+-- more is declared than there is room for
 pub passed_too_long : (first now was is : Option (List ℕ)) (held : HeldValue) (p : Passing) (most : ℕ)
     → IsPassed first now was is held p → IfSome now (λ xs. most < held.total + length xs) → IfSome first (λ xs. most < length xs)
 passed_too_long None now was is held p most passed long = tt

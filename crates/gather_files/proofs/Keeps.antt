@@ -101,7 +101,7 @@ module _ (read more : List ℕ) (head : is_head more 0 ≡ true) where
         (omega arith, λ q low lt. absurd (omega (arith, low, lt))),
       )
 
--- what keeps to itself in front of a header does so at the end
+-- what keeps to itself before a header does so at the end
 at_the_end : (read : List ℕ) (start n : ℕ) → is_head read start ≡ true
     → ((more : List ℕ) → is_head more 0 ≡ true → (xs : List Extent) × ChainUpTo (read ++ more) 0 (length read) xs × (length xs ≡ n))
     → (xs : List Extent) × ChainUpTo read 0 (length read) xs × (length xs ≡ n)

@@ -71,7 +71,7 @@ module _ (read : List ℕ) (d : Delims) (closed : (q : ℕ) → q < length read 
       none = none;
     }
 
-    -- behind its first byte, which is another
+    -- after its first byte, which is another
     module _ (lt : lead < length read) (inner : nat_eq (get_or read lead 0) t ≡ false) where
       other : is_line_end (get_or read lead 0) ≡ false
       other = lead_stops read t at lead le refl lt inner

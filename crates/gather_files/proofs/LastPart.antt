@@ -1,4 +1,4 @@
--- The last part of what is read of an interchange, and its terminator behind it.
+-- The last part of what is read of an interchange, and its terminator after it.
 use Rattle.std.proofs.Common.{◌≡◌, ◌∙◌, ℕ, ◌+◌, ◌-◌, ◌<◌, ◌≤◌, List, [], ◌∷◌, ◌++◌, true, false}
 use Rattle.std.proofs.Common.{nat_eq, Some, length, take, drop, get_or, sym, ap, subst, arith}
 use Rattle.std.proofs.lemmas.Bool.Decides.{Decides-eqb}
@@ -29,7 +29,7 @@ pub record IsLastPart (read : List ℕ) (t at lead : ℕ) : Type 0 where
   pub none : (k : ℕ) → k < length read - at → nat_eq (get_or (drop at read) k 0) t ≡ false
   pub inner : lead < length read → IsInner read lead
 
--- with its terminator behind it
+-- with its terminator after it
 module _ (read : List ℕ) (d : Delims) (at lead : ℕ) (p : IsLastPart read d.terminator at lead) where
   abbrev t : ℕ
   t = d.terminator

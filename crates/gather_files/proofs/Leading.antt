@@ -57,7 +57,7 @@ led_on first now later old read new n more bytes total is = record {
       omega (arith, total, more.total, is.total, more.count, length-append is.file more.more) in t);
 }
 
--- more is told than there is room for
+-- more is declared than there is room for
 pub led_too_long : (first now : Option (List ℕ)) (held : HeldValue) (most : ℕ) → IsLed first now held
     → IfSome now (λ xs. most < held.total + length xs) → IfSome first (λ xs. most < length xs)
 led_too_long None now held most is long = tt

@@ -32,7 +32,7 @@ use Rattle.gather_law.specs.Gathered.{IsClosed, IsClosedFile, IsWholeBefore, Sta
 use Rattle.gather_files.specs.Closing.{IsHeldApart}
 use Rattle.gather_files.proofs.LastFound.{no_end}
 
--- what is left behind the last terminator begins no later than at a byte that is no CR and no LF and behind which no terminator stands
+-- what is left after the last terminator begins no later than at a byte that is no CR and no LF and after which no terminator stands
 module _ (text : List ℕ) (t q : ℕ) (lt : q < length text) (other : is_line_end (get_or text q 0) ≡ false)
     (none : (k : ℕ) → q ≤ k → k < length text → nat_eq (get_or text k 0) t ≡ false) where
   no_more : (from : ℕ) → from ≤ q → IsFirstByte (is_byte t) (drop from text) None → (rest_from text t from).start ≤ q
@@ -148,7 +148,7 @@ outside_all held a advances none apart =
       | inl lt ↦ absurd (both_ways (may_begin held a.scout.at) (apart.ends a.scout.at lt) may)
     ]
 
--- an interchange that is open has nothing behind its last terminator but CR and LF
+-- an interchange that is open has nothing after its last terminator but CR and LF
 module _ (held : List ℕ) (a : Advanced) (advances : Advances held 0 a) (i : Inside) (some : a.scout.inside ≡ Some i)
     (apart : IsHeldApart held) where
   abbrev at : ℕ

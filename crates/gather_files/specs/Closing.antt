@@ -57,7 +57,7 @@ pub record IsHeldApart (held : List ℕ) : Type 0 where
 abbrev pub StaysApart : List ℕ → Closed → Type 0
 StaysApart held c = IsHeldApart held → (c.count ≡ 0) × IsUntouched c.end
 
--- it goes in so closed: as it is and with bytes behind it, or without its CR and LF and with more than nothing in their place, where a
+-- it goes in so closed: as it is and with bytes after it, or without its CR and LF and with more than nothing in their place, where a
 -- header stands before
 pub record IsClosedSo (held kept : List ℕ) (c : Closed) : Type 0 where
   pub holds : HoldsInterchanges c.bytes.items c.interchanges

@@ -44,7 +44,7 @@ pub record IsTaken (told was is : Option (List ℕ)) (taken : Taken) : Type 0 wh
   pub goes_in : GoesIn told closed taken
   pub written : Appends was is closed
 
--- a file isn't taken where no header begins behind the blanks at its front, for the cause that its first bytes name
+-- a file isn't taken where no header begins after the blanks at its front, for the cause that its first bytes name
 pub record IsSetAside (told was is : Option (List ℕ)) (cause : Cause) : Type 0 where
   pub no_header : IfSome told (λ xs. is_head (led xs) 0 ≡ false)
   pub named : IfSome told (λ xs. cause ≡ cause_of (led xs))

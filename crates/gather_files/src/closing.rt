@@ -147,7 +147,7 @@ fn is_ended(file: &[u8]) -> bool
     scout.inside.is_none() && scout.at == file.len()
 }
 
-/// A file with sixteen spaces after it, and behind them the terminator of its interchange, where one is open.
+/// A file with sixteen spaces after it, and after them the terminator of its interchange, where one is open.
 fn spaced(alloc: Global, file: &[u8], end: End) -> Result<Closed, NoMemory>
     requires { (end ≡ Whole) ⊎ (end ≡ Mended) → ⊥ }
     ensures { IfOk result (λ c. (kept : List ℕ) → IsClosedSo file.now kept c) }

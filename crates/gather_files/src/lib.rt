@@ -8,6 +8,8 @@
 //! - a file that isn't taken has the cause that is named, and nothing of it is written.
 //!
 //! Source: X12.5, interchange control header and trailer, and interchange. That files are gathered is own.
+//!
+//! Tests: `.ci/gather`.
 #![tactic(auto)]
 
 mod cause;

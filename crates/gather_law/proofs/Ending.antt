@@ -1,4 +1,4 @@
--- Behind the last byte nothing is open, where this is the terminator.
+-- After the last byte nothing is open, where this is the terminator.
 use Rattle.std.proofs.Common.{◌≡◌, ℕ, ◌+◌, ◌-◌, ◌<◌, ◌≤◌, List, [], ◌∷◌, nat_eq, Option, Some, None}
 use Rattle.std.proofs.Common.{length, take, drop, get_or, sym, ap, ◌∙◌, arith, inl, inr}
 use Rattle.std.specs.List.{prefix_len, All}

@@ -12,7 +12,7 @@ use Rattle.gather_law.specs.Gathered.{GoesUpTo, HoldsInterchanges, IsWholeBefore
 abbrev Has : (text : List ℕ) (to n : ℕ) → Type 0
 Has text to n = (xs : List Extent) × ChainUpTo text 0 to xs × (length xs ≡ n)
 
--- what is whole up to an offset of what is read goes on behind what is whole
+-- what is whole up to an offset of what is read goes on after what is whole
 goes_on : (front text : List ℕ) (at n m : ℕ) → Has (front ++ text) (length front) n → Has text at m
     → Has (front ++ text) (length front + at) (n + m)
 goes_on front text at n m whole more =

@@ -1,4 +1,4 @@
--- X12.5, interchange: files of a day, one behind another, so that none touches its neighbour (own).
+-- X12.5, interchange: files of a day, one after another, so that none touches its neighbour (own).
 use Rattle.std.specs.Prelude.{◌≡◌, ℕ, ◌+◌, ◌<◌, ◌⊎◌, true, false, List, [], ◌∷◌, ◌++◌, length, map}
 use Rattle.std.specs.List.{All}
 use Rattle.x12_bytes.specs.Header.{header_at, terminator_of}
@@ -15,11 +15,11 @@ pub record File : Type 0 where
   pub bytes : List ℕ
   pub index : IndexValue
 
--- where what stands behind the last terminator of an interchange begins, behind its CR and LF
+-- where what stands after the last terminator of an interchange begins, after its CR and LF
 abbrev pub open_from : List ℕ → ℕ → ℕ
 open_from bytes start = (rest_from bytes (terminator_of (header_at bytes start)) (start + HEADER_LEN)).start
 
--- an interchange that goes on to the end of the bytes has nothing but CR and LF behind its last terminator
+-- an interchange that goes on to the end of the bytes has nothing but CR and LF after its last terminator
 abbrev pub IsClosed : List ℕ → Extent → Type 0
 IsClosed bytes x = (x.end ≡ length bytes) → (open_from bytes x.start ≡ length bytes)
 
@@ -32,12 +32,12 @@ pub record IsFit (bytes : List ℕ) : Type 0 where
   pub begins : is_head bytes 0 ≡ true
   pub ends : (q : ℕ) → q < length bytes → may_begin bytes q ≡ false
 
--- a file that is closed and fit stands apart from what is put behind it
+-- a file that is closed and fit stands apart from what is put after it
 pub record StandsApart (bytes : List ℕ) : Type 0 where
   pub closed : IsClosedFile bytes
   pub fit : IsFit bytes
 
--- what may stand behind a file: nothing, or what begins with a header
+-- what may stand after a file: nothing, or what begins with a header
 abbrev pub MayFollow : List ℕ → Type 0
 MayFollow more = (more ≡ []) ⊎ (is_head more 0 ≡ true)
 
@@ -74,7 +74,7 @@ pub record IsFile (file : File) : Type 0 where
   pub read : IsIndex file.bytes file.index
   pub apart : StandsApart file.bytes
 
--- one behind another
+-- one after another
 abbrev pub gathered : List File → List ℕ
 gathered [] = []
 gathered (file ∷ files) = file.bytes ++ gathered files

@@ -7,18 +7,18 @@ ghost use Rattle.gather_law.specs.Closing.{blanked, terminated};
 ghost use Rattle.gather_law.specs.Gathered.{File, HoldsInterchanges, IsClosedFile, IsFile, IsKept, IsWholeBefore, KeepsToItself};
 ghost use Rattle.gather_law.specs.Gathered.{PassesInterchanges, gathered, gathered_index};
 
-/// A law, with nothing to run: the index of files that stand apart, one behind another, is the index of each file read alone, moved by
+/// A theorem, with nothing to run: the index of files that stand apart, one after another, is the index of each file read alone, moved by
 /// the bytes before it; and as many bytes stand outside of interchanges as outside of those of each file.
 pub fn files_stand_apart()
     ensures { (files : List File) → All IsFile files → IsIndex (gathered files) (gathered_index files) }
 {}
 
-/// A law, with nothing to run: the same of files that keep to themselves, however that is known.
+/// A theorem, with nothing to run: the same of files that keep to themselves, however that is known.
 pub fn files_that_keep_to_themselves_stand_apart()
     ensures { (files : List File) → All IsKept files → IsIndex (gathered files) (gathered_index files) }
 {}
 
-/// A law, with nothing to run: a file that is read part by part keeps to itself where what is held of it at its end does, and its
+/// A theorem, with nothing to run: a file that is read part by part keeps to itself where what is held of it at its end does, and its
 /// interchanges are those of its parts.
 pub fn parts_of_a_file_keep_on()
     ensures reads { (front held next : List ℕ) (n : ℕ) → IsWholeBefore front held n → IsWholeBefore front (held ++ next) n }
@@ -29,7 +29,7 @@ pub fn parts_of_a_file_keep_on()
     ensures keeps { (bytes : List ℕ) (n : ℕ) → HoldsInterchanges bytes n → KeepsToItself bytes }
 {}
 
-/// A law, with nothing to run: the terminator of its last interchange as its last byte closes a file.
+/// A theorem, with nothing to run: the terminator of its last interchange as its last byte closes a file.
 pub fn its_terminator_closes_a_file()
     ensures { (body : List ℕ) (t : ℕ)
         → ((xs : List Extent) → Chain (terminated body t) xs
@@ -37,7 +37,7 @@ pub fn its_terminator_closes_a_file()
         → IsClosedFile (terminated body t) }
 {}
 
-/// A law, with nothing to run: in front of sixteen spaces no header can turn out to begin, nor behind them where the letter I isn't
+/// A theorem, with nothing to run: before sixteen spaces no header can turn out to begin, nor after them where the letter I isn't
 /// there.
 pub fn spaces_end_a_file()
     ensures { (body tail : List ℕ) → ((k : ℕ) → k < length tail → (get_or tail k 0 == 73) ≡ false)

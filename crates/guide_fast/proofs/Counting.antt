@@ -1,4 +1,4 @@
--- The counts of needed nodes tell how many are told of where none comes.
+-- The counts of needed nodes say how many are reported where none comes.
 use Rattle.std.proofs.Common.{◌≡◌, ℕ, zero, suc, ◌+◌, ◌-◌, ◌<◌, ◌≤◌, List, [], ◌∷◌, Bool, true, false, length, get_or, take, drop}
 use Rattle.std.proofs.Common.{refl, sym, ap, ◌∙◌, arith}
 use Rattle.std.specs.Prelude.{if◌then◌else◌}
@@ -26,7 +26,7 @@ moved t n m = by (is_needed t) n m where
   by true n m = omega arith
   by false n m = refl
 
--- the count in front of a place
+-- the count before a place
 counted : (n : ℕ) (ns : List Node) (k d : ℕ) → k ≤ length ns → get_or (counts_from n ns) k d ≡ n + needed (nodes_view (take k ns))
 counted n [] zero d h = omega arith
 counted n [] (suc k) d h = absurd (omega (arith, h))

@@ -319,7 +319,7 @@ pub ended_nowhere : (ts : Trees) (p : Place) → children_of p ≡ [] → (at : 
 ended_nowhere ts [] q at o = refl
 ended_nowhere ts (a ∷ p) q at o = let k : a.child ∷ children_of p ≡ [] = q in cc
 
--- a place among the nodes: the turns inside the child, to it again, and to those behind it
+-- a place among the nodes: the turns inside the child, to it again, and to those after it
 pub among_adds : (n c : ℕ) (rest : List ℕ) (il : Bool) (ns : List Node) (node : Node) (silent enough : Bool)
     (old one two new : List KnownTurn) → c < length ns → node ≡ get_or ns c node
     → OnTrue silent (IsEnded (view node) rest) → OnTrue enough (IsEnough silent (view node))

@@ -85,7 +85,7 @@ shown s ns k end ks o l e =
     ap (λ (b : Bool). fit_listed s ns (cond b (k ∷ until end ks) [])) (lt-ltb k end l)
     ∙ ap (λ (c : Option Candidate). or_else c (fit_listed s ns (until end ks))) e
 
--- one node: whether an earlier element tells of it, whether this one does, and its start
+-- one node: whether an earlier element reports it, whether this one does, and its start
 one_told : (s : Segment) (ns : List Node) (k d end : ℕ) (a b : Bool) (o : Option Candidate) (ks : List ℕ) (r all : Option Candidate)
     → fit_child s ns k ≡ option_map (into (use_of k 0)) o → k + 1 ≤ child_or d r
     → (end ≤ k + 1 → until end ks ≡ [])

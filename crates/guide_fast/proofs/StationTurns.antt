@@ -54,7 +54,7 @@ adds_first path ns old new e a =
     (λ s p. fit_starts s 0 (nodes_view (drop 0 ns))) (λ s p. fit_behind s (nodes_view ns) p) old new a (begins ns) (λ p q. tt)
     (λ s p q. ap (fit_behind s (nodes_view ns)) (sym (none_there p q))))
 
--- behind a place
+-- after a place
 among_behind : (at : ℕ) (ts : Trees) (path : List ℕ) (p q : Place) → (path ≡ [] → ⊥) → children_of p ≡ path
     → step_faults at ts (last_of p) q ≡ stepped_among at [] ts p q
 among_behind at ts path [] q some e = absurd (some (sym e))

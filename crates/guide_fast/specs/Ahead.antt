@@ -67,7 +67,7 @@ pub record IsKnown (n : ℕ) (path : List ℕ) (S : (last next : Place) → Type
   pub numbered : k.number ≡ id_number k.slot.now.id
   pub quiet : (p : Place) → children_of p ≡ path → next_use n p k < k.quiet → S p (place_by n p k)
 
--- behind others there are turns, each of a kind; the first of them that a segment fits is that of a definition
+-- after others there are turns, each of a kind; the first of them that a segment fits is that of a definition
 pub record Adds (n : ℕ) (P : KnownTurn → Type 0) (Q : Place → Type 0) (F : Segment → Place → Option Candidate) (old new : List KnownTurn)
     : Type 0 where
   pub turns : List KnownTurn

@@ -17,7 +17,7 @@ abbrev pub fit_listed : Segment → List Node → (children : List ℕ) → Opti
 fit_listed s ns [] = None
 fit_listed s ns (k ∷ ks) = or_else (fit_child s ns k) (fit_listed s ns ks)
 
--- the children in front of the first that isn't below a place
+-- the children before the first that isn't below a place
 abbrev pub until : (end : ℕ) → (children : List ℕ) → List ℕ
 until end [] = []
 until end (k ∷ ks) = cond (nat_lt k end) (k ∷ until end ks) []

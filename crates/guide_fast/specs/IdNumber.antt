@@ -1,4 +1,4 @@
--- X12.6, segment id (own): a number of an id of one to three bytes, by which it is told from every other; of any other id 0.
+-- X12.6, segment id (own): a number of an id of one to three bytes, by which it is distinguished from every other; of any other id 0.
 use Rattle.std.specs.Prelude.{ℕ, ◌+◌, ◌*◌, ◌≡◌, Bool, ◌&&◌, nat_lt, if◌then◌else◌, List, [], ◌∷◌, map}
 use Rattle.guide_tree.specs.declared.node.Node.{Node}
 use Rattle.guide_tree.specs.Words.{Segment, id_of}

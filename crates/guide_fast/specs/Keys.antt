@@ -14,7 +14,7 @@ code_or id is_near [] = id
 code_or id is_near (c ∷ []) = cond is_near c id
 code_or id is_near (c ∷ d ∷ more) = id
 
--- the one code of the first pick, if this is of the id or one of the elements behind it
+-- the one code of the first pick, if this is of the id or one of the elements after it
 abbrev pub key_of : (id : List ℕ) → List Pick → List ℕ
 key_of id [] = id
 key_of id (p ∷ ps) = code_or id (nat_lt p.position POSITIONS) p.codes

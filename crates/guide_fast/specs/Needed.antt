@@ -13,7 +13,7 @@ abbrev pub needed : Trees → ℕ
 needed no_trees = 0
 needed (tree t ts) = with_needed t (needed ts)
 
--- the count in front of each node and behind the last, where n are needed before them
+-- the count before each node and after the last, where n are needed before them
 abbrev pub counts_from : (n : ℕ) → List Node → List ℕ
 counts_from n [] = n ∷ []
 counts_from n (m ∷ ms) = n ∷ counts_from (with_needed (view m) n) ms

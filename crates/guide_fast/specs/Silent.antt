@@ -1,4 +1,4 @@
--- 999 guide, IK304 (own): whether nothing is told.
+-- 999 guide, IK304 (own): whether nothing is reported.
 use Rattle.std.specs.Prelude.{List, [], ◌∷◌, Bool, true, false}
 use Rattle.hub_kinds.specs.declared.fault.Fault.{Fault}
 

@@ -34,7 +34,7 @@ impl<'g> NextPlace<'g> for FastGuide<'g> {
 }
 
 /// The place and the slot of each segment of a body, and exactly its structural faults, each once and in their order, by a
-/// compiled guide; the body's end is behind its last segment. The only error is want of memory.
+/// compiled guide; the body's end is after its last segment. The only error is out of memory.
 pub fn place_all_fast<'a, 'g: 'a>(
     alloc: Global,
     segs: &[SegView<'a>],

@@ -108,7 +108,7 @@ impl<'g> Children<'g> {
         self.numbers[child]
     }
 
-    /// How many of the nodes from `from` on up to `to` are needed: as many as are told of where none of them comes.
+    /// How many of the nodes from `from` on up to `to` are needed: as many as are reported where none of them comes.
     pub fn needed_between(&self, from: usize, to: usize) -> usize
         requires order { from ≤ to }
         requires bound { to ≤ length self.now }
@@ -144,7 +144,7 @@ impl<'g> Children<'g> {
         start_looked_up(nodes, picks, &self.index, self.reach, from, number, seg)
     }
 
-    /// The first child behind one on whose start the segment fits, as a turn.
+    /// The first child after one on whose start the segment fits, as a turn.
     pub fn start_behind(&self, child: usize, seg: &SegView) -> Option<Turn<'g>>
         requires { child < length self.now }
         ensures turn { option_map (turned []) result
@@ -240,7 +240,7 @@ fn turn_to<'g>(
     }
 }
 
-/// The first of some children whose start the segment fits, up to one in front of a place.
+/// The first of some children whose start the segment fits, up to one before a place.
 fn first_fitting<'g>(
     nodes: &'g [Node],
     picks: &[FirstPick],

@@ -56,7 +56,7 @@ impl<'g> FastGuide<'g> {
     ghost use Rattle.guide_fast.specs.Ahead.{IsStation, StandsAt};
     ghost use Rattle.std.specs.Bool.{OnTrue};
 
-    /// Of a guide. The only error is want of memory.
+    /// Of a guide. The only error is out of memory.
     pub fn of(alloc: Global, guide: &'g Guide) -> Result<FastGuide<'g>, NoMemory>
         ensures { IfOk result (λ f. f ≡ guide.now) }
     {
@@ -195,7 +195,7 @@ impl<'g> FastGuide<'g> {
         self.slots.flat_slot(slot)
     }
 
-    /// Whether nothing is told at a segment that is placed: nothing needed is passed over or left with too few uses, and no use is
+    /// Whether nothing is reported at a segment that is placed: nothing needed is passed over or left with too few uses, and no use is
     /// past the greatest. The last place has no step at the beginning.
     pub fn is_silent(&self, last: &[Step], next: &[Step]) -> bool
         requires { AllByRecursion (λ s. s.use_no + 1 < 2 ^ 64) last.now }
@@ -206,7 +206,7 @@ impl<'g> FastGuide<'g> {
         is_silent(self.tables.as_slice(), &self.tables[0], last, next)
     }
 
-    /// Whether nothing is told behind the body: nothing needed is left out or has too few uses. The last place has no step where no
+    /// Whether nothing is reported after the body: nothing needed is left out or has too few uses. The last place has no step where no
     /// segment has one.
     pub fn is_end_silent(&self, last: &[Step]) -> bool
         requires { AllByRecursion (λ s. s.use_no + 1 < 2 ^ 64) last.now }

@@ -17,7 +17,7 @@ fn packed(length: u8, a: u8, b: u8, c: u8) -> u32
         + (u32::from(c) * 0x0001_0000 + (u32::from(b) * 0x0100 + u32::from(a)))
 }
 
-/// The number of an id of one to three bytes, by which it is told from every other; of any other id 0.
+/// The number of an id of one to three bytes, by which it is distinguished from every other; of any other id 0.
 pub(crate) fn id_number(id: &[u8]) -> u32
     ensures { result ≡ id_number id.now }
 {

@@ -27,7 +27,7 @@ impl<'g> TextIndex<'g> {
         }
     }
 
-    /// Adds a text behind the others, of which there are `at`.
+    /// Adds a text after the others, of which there are `at`.
     pub fn add(&mut self, text: &'g [u8], at: usize) -> Result<(), NoMemory>
         ensures { OnOk result ((texts : List (List ℕ)) → length texts ≡ at → Knows self.old.places texts
             → Knows self.new.places (texts ++ text.entry.now ∷ [])) }
@@ -65,7 +65,7 @@ fn list_of(alloc: Global, found: Option<Vec<usize>>) -> Vec<usize>
     }
 }
 
-/// Those of a text's places that are at or behind a place.
+/// Those of a text's places that are at or after a place.
 pub fn places_from(all: &[usize], from: usize) -> &[usize]
     ensures { (text : List ℕ) (texts : List (List ℕ)) → from ≤ length texts → all.entry.now ≡ places_of text 0 texts
         → result.now ≡ places_of text from (drop from texts) }

@@ -52,14 +52,14 @@ fn quiet_uses(node: &Node, silent: bool) -> u64
     if silent { u64::from(max_of(node)) } else { 0 }
 }
 
-/// Whether nothing is reported up to behind a node that is passed over.
+/// Whether nothing is reported up to the place after a node that is passed over.
 fn is_passed(silent: bool, node: &Node) -> bool
     ensures { OnTrue result (IsTrue silent × ((at : ℕ) (o : List ℕ) → missing at o (view node.now) ≡ [])) }
 {
     silent && min_of(node) == 0
 }
 
-/// Whether nothing is reported up to behind a node that was used.
+/// Whether nothing is reported up to the place after a node that was used.
 fn is_enough(silent: bool, node: &Node) -> bool
     ensures { OnTrue result (IsTrue silent × ((u at : ℕ) (o : List ℕ) → too_few at o (u + 1) (view node.now) ≡ [])) }
 {

@@ -31,7 +31,7 @@ fn both(one: bool, other: bool) -> bool
     one && other
 }
 
-/// Whether nothing is told where none of the nodes from `from` on comes.
+/// Whether nothing is reported where none of the nodes from `from` on comes.
 fn is_unused_silent(here: &Children, from: usize) -> bool
     requires { from ≤ length here.now }
     ensures { (at : ℕ) (outer : List ℕ) → result ≡ are_none (unused at outer (nodes_view (drop from here.now))) }
@@ -39,7 +39,7 @@ fn is_unused_silent(here: &Children, from: usize) -> bool
     here.needed_between(from, here.nodes().len()) == 0
 }
 
-/// Whether nothing is told where the nodes from `from` on up to a child are passed over, and the child has a use.
+/// Whether nothing is reported where the nodes from `from` on up to a child are passed over, and the child has a use.
 fn is_entered_silent(here: &Children, from: usize, to: Step) -> bool
     requires order { from ≤ to.child }
     requires bound { from ≤ length here.now }
@@ -55,7 +55,7 @@ fn is_entered_silent(here: &Children, from: usize, to: Step) -> bool
     both(none, is_allowed(to.use_no, node))
 }
 
-/// Whether nothing is told where a child ends with these uses, and none behind it comes.
+/// Whether nothing is reported where a child ends with these uses, and none after it comes.
 fn is_left_silent(here: &Children, node: &Node, step: Step) -> bool
     requires room { step.use_no + 1 < 2 ^ 64 }
     requires bound { step.child < length here.now }
@@ -72,7 +72,7 @@ fn is_left_silent(here: &Children, node: &Node, step: Step) -> bool
     )
 }
 
-/// Whether nothing is told where the nodes in which a place stands end.
+/// Whether nothing is reported where the nodes in which a place stands end.
 fn is_ended_silent<'t, 'g>(
     tables: &'t [Children<'g>],
     here: &'t Children<'g>,
@@ -96,7 +96,7 @@ fn is_ended_silent<'t, 'g>(
     }
 }
 
-/// Whether nothing is told where a place inside a node ends.
+/// Whether nothing is reported where a place inside a node ends.
 fn is_ended_inside_silent<'t, 'g>(tables: &'t [Children<'g>], node: &Node, place: &[Step]) -> bool
     requires room { AllByRecursion (λ s. s.use_no + 1 < 2 ^ 64) place.now }
     requires tables { HasTablesIn (trees_in tables.now) (view node.now) }
@@ -108,7 +108,7 @@ fn is_ended_inside_silent<'t, 'g>(tables: &'t [Children<'g>], node: &Node, place
     }
 }
 
-/// Whether nothing is told from a place in a child to a later child.
+/// Whether nothing is reported from a place in a child to a later child.
 fn is_later_silent<'t, 'g>(
     tables: &'t [Children<'g>],
     here: &'t Children<'g>,
@@ -135,7 +135,7 @@ fn is_later_silent<'t, 'g>(
     )
 }
 
-/// Whether nothing is told from a place in a child to a further use of it.
+/// Whether nothing is reported from a place in a child to a further use of it.
 fn is_again_silent<'t, 'g>(
     tables: &'t [Children<'g>],
     node: &Node,
@@ -153,7 +153,7 @@ fn is_again_silent<'t, 'g>(
     )
 }
 
-/// Whether nothing is told from a place among the nodes of one parent to one that follows it.
+/// Whether nothing is reported from a place among the nodes of one parent to one that follows it.
 pub fn is_stepped_silent<'t, 'g>(
     tables: &'t [Children<'g>],
     here: &'t Children<'g>,
@@ -189,7 +189,7 @@ pub fn is_stepped_silent<'t, 'g>(
     }
 }
 
-/// Whether nothing is told at a segment that is placed, from the last place, or from the beginning where it has no step.
+/// Whether nothing is reported at a segment that is placed, from the last place, or from the beginning where it has no step.
 pub fn is_silent<'t, 'g>(
     tables: &'t [Children<'g>],
     top: &'t Children<'g>,
@@ -210,7 +210,7 @@ pub fn is_silent<'t, 'g>(
     is_stepped_silent(tables, top, last, next)
 }
 
-/// Whether nothing is told behind the body.
+/// Whether nothing is reported after the body.
 pub fn is_end_silent<'t, 'g>(
     tables: &'t [Children<'g>],
     top: &'t Children<'g>,

@@ -33,7 +33,7 @@ pub struct NextTurn<'g> {
     pub silent: bool,
 }
 
-/// How many turns there are at most from the places that lead by these children. It only tells which of them are kept.
+/// How many turns there are at most from the places that lead by these children. It only says which of them are kept.
 fn turn_count(nodes: &[Node], path: &[usize]) -> usize {
     if path.is_empty() {
         return nodes.len();
@@ -86,7 +86,7 @@ fn station_of<'g>(
     Ok(Some(Station { path: own, turns }))
 }
 
-/// Adds a station for each node, parents first; none of a loop. The path leads to the nodes, and is longer behind.
+/// Adds a station for each node, parents first; none of a loop. The path leads to the nodes, and is longer after.
 fn add_stations<'g>(
     alloc: Global,
     stations: &mut Vec<Option<Station<'g>>>,

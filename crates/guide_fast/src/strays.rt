@@ -19,7 +19,7 @@ use std::alloc::Global;
 use std::marker::Model;
 use x12_segs::SegView;
 
-/// The ids that a guide knows, by which it is told why a segment has no place. Contracts see the guide.
+/// The ids that a guide knows, by which it is said why a segment has no place. Contracts see the guide.
 #[derive(Drop)]
 pub struct Strays<'g> {
     guide: &'g Guide,

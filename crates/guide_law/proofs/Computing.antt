@@ -120,7 +120,7 @@ first_begun pre (Some q ∷ given) (suc i) h = elim (cases_Bool (begins pre q)) 
   )
 ]
 
--- where a child of a parent that is missing or short is reported: at the first place behind it, or at the end
+-- where a child of a parent that is missing or short is reported: at the first place after it, or at the end
 abbrev pub reported_at : List (Option Place) → (next end : ℕ) → (parent : Place) → (k : ℕ) → ℕ
 reported_at [] next end parent k = end
 reported_at (None ∷ given) next end parent k = reported_at given (suc next) end parent k

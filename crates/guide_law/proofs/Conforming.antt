@@ -1,4 +1,4 @@
--- The law between placing and grammar, in a guide that has no fault: by the pass, which meets the structural faults, and none
+-- The theorem between placing and grammar, in a guide that has no fault: by the pass, which meets the structural faults, and none
 -- where a body is derived.
 use Rattle.std.proofs.Common.{◌≡◌, ℕ, inl, List, [], ◌∷◌, map, Option, Some, None, refl, sym, ◌∙◌, ap, subst}
 use Rattle.hub_kinds.specs.declared.fault.Fault.{Fault}

@@ -1,4 +1,4 @@
--- The faults that remain behind the beginning are the structural faults.
+-- The faults that remain after the beginning are the structural faults.
 use Rattle.std.proofs.Common.{◌≡◌, ℕ, zero, suc, ◌+◌, ◌-◌, ◌⊎◌, inl, inr, List, [], ◌∷◌, Option, None, refl, sym, ◌∙◌}
 use Rattle.hub_kinds.specs.declared.fault.Fault.{Fault}
 use Rattle.hub_kinds.specs.declared.codes.SegmentCode.{SegmentCode}

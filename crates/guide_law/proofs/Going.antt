@@ -168,7 +168,7 @@ passed_by b q last child node code r =
     let c = ap (λ (i : Pair). i.child) r.begun.0 in let d = ap (λ (i : Pair). i.use_no) r.begun.0 in
     let l : max_of node ≤ r.use_no = r.past in (c, (omega arith), r.is)
 
--- the other way for a child that is come to, behind other children of the same nodes
+-- the other way for a child that is come to, after other children of the same nodes
 pub shows_entered : (nodes : Place → Option Tree) (ids : Place → List ℕ) (o : List ℕ) (at k m : ℕ) (us : Trees) (b : Pair) (x : Fault)
     (child : ℕ) (node : Tree) (code : SegmentCode) → Level nodes ids o k us → b.child ≡ k + m
     → nodes (use_of child 0 ∷ []) ≡ Some node → x ≡ fault_of at (ids []) code node

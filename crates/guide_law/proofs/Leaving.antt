@@ -179,7 +179,7 @@ few_shows nodes ids o at k a p next t us x v e n h =
       is = m.1 ∙ ap (λ (o : List ℕ). fault_of at o (few_code t) t) (sym v.outer);
     }
 
--- a child behind the last one's is missing
+-- a child after the last one's is missing
 pub lacks_shows : (nodes : Place → Option Tree) (ids : Place → List ℕ) (o : List ℕ) (at low : ℕ) (Upto : ℕ → Type 0)
     (last : Place) (next : Option Place) (x : Fault) → ids [] ≡ o → ((c : ℕ) → low ≤ c → IsBehind [] c last → ⊥)
     → ((c : ℕ) → low ≤ c → NoUse [] c last) → ((c : ℕ) → Upto c → NextBehind next [] c) → Lacks nodes o at low Upto x
@@ -200,7 +200,7 @@ lacks_shows nodes ids o at low Upto last next x e behind none left r = record {
   is = r.is ∙ ap (λ (o : List ℕ). fault_of at o ik304.RequiredSegmentMissing r.node) (sym e);
 }
 
--- a child of the nodes themselves that is left with too few uses is the last one's, or one behind it that is missing
+-- a child of the nodes themselves that is left with too few uses is the last one's, or one after it that is missing
 pub left_at : (a : Pair) (p : Place) (next : Option Place) (child : ℕ) (node : Tree) (code : SegmentCode)
     → ShortBy (a ∷ p) next [] child node code
     → ((child ≡ a.child) × (a.use_no + 1 < min_of node) × (code ≡ few_code node))

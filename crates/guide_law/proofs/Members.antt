@@ -17,7 +17,7 @@ use Rattle.guide_law.proofs.Arriving.{step_is, end_is}
 use Rattle.guide_law.proofs.Remaining.{ShortFrom, Short, From, Goes, goes, Step, first_cases, moved}
 use Rattle.guide_law.proofs.Remaining.{past_to, past_from, past_none, none_past, shown_past, short_to, short_from, shown_short}
 
--- a stray tells nothing of the uses
+-- a stray says nothing of the uses
 short_none : (ts : Trees) (at end : ℕ) (last : Place) (given : List (Option Place)) (x : Fault)
     → ShortFrom ts at end last (None ∷ given) x → ShortFrom ts (at + 1) end last given x
 short_none ts at end last given x r = record {
@@ -138,7 +138,7 @@ stray_later g at s body y given x r = record {
   is = stray_moved g (r.index + (at + 1)) (suc r.index + at) r.segment x r.is (omega arith);
 }
 
--- a stray at the front, or behind it
+-- a stray at the front, or after it
 stray_front : (g : GuideTree) (at : ℕ) (s : Segment) (body : List Segment) (y : Option Place) (given : List (Option Place)) (x : Fault)
     (i : ℕ) (t : Segment) → slice_get (s ∷ body) i ≡ Some t → slice_get (y ∷ given) i ≡ Some None → x ≡ stray_fault g (i + at) t
     → ((y ≡ None) × (x ≡ stray_fault g at s)) ⊎ StrayFrom g (at + 1) body given x

@@ -1,4 +1,4 @@
--- The faults of uses that are still to come behind a place: they show at the next place, or behind it, or at the end.
+-- The faults of uses that are still to come after a place: they show at the next place, or after it, or at the end.
 use Rattle.std.proofs.Common.{◌≡◌, ℕ, zero, suc, ◌+◌, ◌-◌, ◌<◌, ◌≤◌, ◌⊎◌, inl, inr, false, List, ◌∷◌, Option, Some, None}
 use Rattle.std.proofs.Common.{refl, ◌∙◌, ap, subst, arith}
 use Rattle.std.specs.Prelude.{IfSome, IsSomeAnd}
@@ -14,7 +14,7 @@ use Rattle.guide_law.proofs.Rising.{Rises, Later, last_place, may_rise, has_late
 use Rattle.guide_law.proofs.Rising.{behind_not_in, behind_parent, begins_or_behind, UseFrom, use_goes, one_use}
 use Rattle.guide_law.proofs.Showing.{ShortBy, PastBy, StepBy, Shows, NoUse, FewUses}
 
--- a use past the greatest that begins in the places that are given behind the last one
+-- a use past the greatest that begins in the places that are given after the last one
 pub record PastFrom (ts : Trees) (at : ℕ) (last : Place) (given : List (Option Place)) (x : Fault) : Type 0 where
   pub parent : Place
   pub child : ℕ
@@ -27,7 +27,7 @@ pub record PastFrom (ts : Trees) (at : ℕ) (last : Place) (given : List (Option
   pub first : IsFirstAt (Begins (use_in parent child use_no)) given index
   pub is : x ≡ fault_of (index + at) (loop_id_at ts parent) (past_code node) node
 
--- the child has a use with this number, up to the last place or behind it
+-- the child has a use with this number, up to the last place or after it
 abbrev pub HasUse : Place → List (Option Place) → Place → (child v : ℕ) → Type 0
 HasUse last given parent child v = UseFrom parent child v last ⊎ Has given (use_in parent child v)
 
@@ -59,7 +59,7 @@ pub record ShortFrom (ts : Trees) (at end : ℕ) (last : Place) (given : List (O
 abbrev pub From : Trees → (at end : ℕ) → Place → List (Option Place) → Fault → Type 0
 From ts at end last given x = PastFrom ts at last given x ⊎ ShortFrom ts at end last given x
 
--- what is known of the next place, and of those behind it
+-- what is known of the next place, and of those after it
 pub record Goes (last q : Place) (given : List (Option Place)) : Type 0 where
   pub rises : Rises last q
   pub has : (pre : Place) → Has given pre → Later q (Begins pre)
@@ -82,7 +82,7 @@ goes ts last s body q given pl = record {
   came = λ pre k u b. came_to ts last s body q given pre k u pl b;
 }
 
--- the first is at the front, or behind it
+-- the first is at the front, or after it
 abbrev FirstBehind : (Place → Type 0) → Option Place → List (Option Place) → ℕ → Type 0
 FirstBehind P x given i =
     (IsSomeAnd x P × (i ≡ 0)) ⊎ ((j : ℕ) × (i ≡ j + 1) × IfSome x (λ q. P q → ⊥) × IsFirstAt P given j)
@@ -210,7 +210,7 @@ pub short_cases : (last now : Place) (given rest : List (Option Place)) (parent 
 short_cases last now given rest parent child node code to back c =
     pick c (λ y. inl ((λ h. y.0 (back 0 h)), y.1)) (λ y. inr (to 0 y.0, (λ h. y.1 (back (min_of node - 1) h)), y.2))
 
--- behind the child there is no use of it
+-- after the child there is no use of it
 no_more : (last q : Place) (given : List (Option Place)) (parent : Place) (child v : ℕ) → Goes last q given
     → IsBehind parent child q → Has (Some q ∷ given) (use_in parent child v) → ⊥
 no_more last q given parent child v g h (inl b) = behind_not_in parent child v q h b
@@ -218,7 +218,7 @@ no_more last q given parent child v g h (inr b) =
     let l = g.has (use_in parent child v) b in
     behind_not_in parent child v l.place (behind_later parent child q l.place h l.rises) l.holds
 
--- what is short and isn't told at the next place is told behind it
+-- what is short and isn't reported at the next place is reported after it
 short_goes : (ts : Trees) (at end : ℕ) (last q : Place) (given : List (Option Place)) (x : Fault)
     (r : ShortFrom ts at end last (Some q ∷ given) x) → Goes last q given → (IsBehind r.parent r.child q → ⊥)
     → IsToldAt given (at + 1) end r.parent r.child r.position → ShortFrom ts (at + 1) end q given x

@@ -20,14 +20,14 @@ abbrev mutual
   AllTriggered (tree t ts) = Triggered t × AllTriggered ts
 
 abbrev mutual
-  -- the rest of one part of a tree, behind a place in it
+  -- the rest of one part of a tree, after a place in it
   pub AfterIn : Tree → Place → List Given → Type 0
   AfterIn (segment p) [] xs = xs ≡ []
   AfterIn (segment p) (a ∷ q) xs = ⊥
   AfterIn (loop l ts) [] xs = ⊥
   AfterIn (loop l ts) (a ∷ q) xs = After ts a.child a.use_no q xs
 
-  -- the rest of what the trees derive, behind a place in use number r of child n
+  -- the rest of what the trees derive, after a place in use number r of child n
   pub After : Trees → (n r : ℕ) → Place → List Given → Type 0
   After no_trees n r q xs = ⊥
   After (tree t ts) (suc n) r q xs = After ts n r q xs
@@ -62,7 +62,7 @@ abbrev mutual
   Closes (loop l ts) [] = ⊥
   Closes (loop l ts) (a ∷ q) = Ends ts a.child a.use_no q
 
-  -- behind this place nothing has to come
+  -- after this place nothing has to come
   pub Ends : Trees → (n r : ℕ) → Place → Type 0
   Ends no_trees n r q = ⊥
   Ends (tree t ts) (suc n) r q = Ends ts n r q

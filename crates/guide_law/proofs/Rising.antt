@@ -71,7 +71,7 @@ begins_between (x ∷ pre) (a ∷ p) (b ∷ q) (c ∷ w) h (inl l) (inr (f, s)) 
 begins_between (x ∷ pre) (a ∷ p) (b ∷ q) (c ∷ w) h (inl l) (inl m) g =
     absurd (before_back a c (sym h.0 ∙ g.0) (before_trans a b c l m))
 
--- what is behind a child stays behind it
+-- what is after a child stays after it
 pub behind_later : (parent : Place) (k : ℕ) (a b : Place) → IsBehind parent k a → Rises a b → IsBehind parent k b
 behind_later [] k [] b h r = absurd h
 behind_later [] k (a ∷ p) [] h r = absurd r
@@ -93,7 +93,7 @@ behind_not_in (x ∷ w) k u [] h b = h
 behind_not_in (x ∷ w) k u (a ∷ q) (inl l) b = before_back x a b.0 l
 behind_not_in (x ∷ w) k u (a ∷ q) (inr (e, h)) b = behind_not_in w k u q h b.1
 
--- what is behind a child and before a place of its parent is in the parent
+-- what is after a child and before a place of its parent is in the parent
 pub behind_parent : (parent : Place) (k : ℕ) (q w : Place) → IsBehind parent k q → Rises q w → Begins parent w
     → Begins parent q
 behind_parent [] k q w h r b = tt
@@ -104,7 +104,7 @@ behind_parent (x ∷ p) k (a ∷ q) (c ∷ w) (inl l) (inr (f, r)) b = absurd (b
 behind_parent (x ∷ p) k (a ∷ q) (c ∷ w) (inr (e, h)) (inl m) b = absurd (before_back a c (sym e ∙ b.0) m)
 behind_parent (x ∷ p) k (a ∷ q) (c ∷ w) (inr (e, h)) (inr (f, r)) b = (e, behind_parent p k q w h r b.1)
 
--- behind a place of a parent there are others of it, or what is behind each of its children
+-- after a place of a parent there are others of it, or what is after each of its children
 pub begins_or_behind : (parent : Place) (k : ℕ) (a b : Place) → Begins parent a → Rises a b
     → Begins parent b ⊎ IsBehind parent k b
 begins_or_behind [] k a b h r = inl tt
@@ -118,7 +118,7 @@ begins_or_behind (x ∷ w) k (a ∷ p) (b ∷ q) h (inr (e, r)) =
 abbrev pub UseFrom : Place → (k v : ℕ) → Place → Type 0
 UseFrom parent k v q = (u : ℕ) × (v ≤ u) × Begins (use_in parent k u) q
 
--- behind a use of a child there is that use, a later one, or what is behind the child
+-- after a use of a child there is that use, a later one, or what is after the child
 pub use_goes : (parent : Place) (k u : ℕ) (a b : Place) → Begins (use_in parent k u) a → Rises a b
     → IsBehind parent k b ⊎ UseFrom parent k u b
 use_goes [] k u [] b h r = absurd h
@@ -142,7 +142,7 @@ one_use [] k u v (a ∷ p) h g = ap (λ (x : Pair). x.use_no) (h.0 ∙ sym g.0)
 one_use (x ∷ w) k u v [] h g = absurd h
 one_use (x ∷ w) k u v (a ∷ p) h g = one_use w k u v p h.1 g.1
 
--- a place of the list of which P holds, behind v
+-- a place of the list of which P holds, after v
 pub record Later (v : Place) (P : Place → Type 0) : Type 0 where
   pub place : Place
   pub holds : P place

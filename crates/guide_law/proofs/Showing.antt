@@ -12,7 +12,7 @@ use Rattle.guide_law.proofs.Cases.{pick}
 use Rattle.guide_law.proofs.Gaps.{use_in}
 use Rattle.guide_law.proofs.Rising.{before_self}
 
--- the next place begins so, or is behind the child; at the end everything is left behind
+-- the next place begins so, or is after the child; at the end everything is left behind
 abbrev pub NextBegins : Option Place → Place → Type 0
 NextBegins None w = ⊥
 NextBegins (Some q) w = Begins w q

@@ -80,7 +80,7 @@ no_beg (inr (inr (inr (inl h)))) = other_child 0 0 2 2 (λ e. omega arith) h.0
 no_beg (inr (inr (inr (inr (inl h))))) = other_child 0 0 3 0 (λ e. omega arith) h.0
 no_beg (inr (inr (inr (inr (inr h))))) = h
 
--- BEG is missing, which is reported at the segment behind it, the second of the set
+-- BEG is missing, which is reported at the segment after it, the second of the set
 pub beg_is_missing : IsStructureFault order_guide broken broken_places 8
     (fault_at 2 (codes "BEG") [] ik304.RequiredSegmentMissing 1)
 beg_is_missing = inr (inl (record {
@@ -124,7 +124,7 @@ pub unknown_is_stray : IsStructureFault order_guide broken broken_places 8
 unknown_is_stray =
     inr (inr (record { index = 4; segment = alone (codes "Q9"); there = refl; unplaced = refl; is = refl }))
 
--- BEG alone: PO1 is missing, which is reported behind the body
+-- BEG alone: PO1 is missing, which is reported after the body
 abbrev short : List Segment
 short = alone (codes "BEG") ∷ []
 

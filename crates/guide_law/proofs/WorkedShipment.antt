@@ -117,7 +117,7 @@ no_other_ref = (refl, ((tt, (refl, (refl, ((tt, (refl, (refl, tt))), tt)))), (re
 no_q9 : EachNode (FitsNone (alone (codes "Q9"))) shipment
 no_q9 = (refl, ((tt, (refl, (refl, ((tt, (refl, (refl, tt))), tt)))), (refl, tt)))
 
--- a BSN fits the first slot alone, behind which the second HL is
+-- a BSN fits the first slot alone, after which the second HL is
 no_other_bsn : EachNode (FitsNone (alone (codes "BSN"))) (tree levels (tree (segment (slot 8 (codes "CTT") 0 1)) no_trees))
 no_other_bsn = ((tt, (refl, (refl, ((tt, (refl, (refl, tt))), tt)))), (refl, tt))
 
@@ -193,8 +193,8 @@ body_is_placed = (
   ),
 )
 
--- Where what is missing is reported, and nowhere else: REF of the first HL at N1; N1 of it behind its own places, at the next HL; N1 of
--- the second HL behind the strays, at the third; and what the third lacks at the end.
+-- Where what is missing is reported, and nowhere else: REF of the first HL at N1; N1 of it after its own places, at the next HL; N1 of
+-- the second HL after the strays, at the third; and what the third lacks at the end.
 abbrev IsAt : (parent : Place) → (child position : ℕ) → Type 0
 IsAt parent child position = IsReportedAt given 16 parent child position
     × ((other : ℕ) → IsReportedAt given 16 parent child other → other ≡ position)

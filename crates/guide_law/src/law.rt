@@ -5,7 +5,7 @@ ghost use Rattle.guide_law.specs.Law.{NextsAreExact, IsOnlyPlacing, PassIsGramma
 /// In a guide without fault a body is derived exactly where its placing has no stray and no structural fault, and
 /// then the derivation gives each segment the slot of its place; a derived body has a placing, a body has no two, and
 /// in each placing, strays or not, the uses of a child are numbered from 0 without gaps. It does nothing: its contract
-/// is the law.
+/// is the theorem.
 pub fn placing_is_grammar()
     ensures derived { (g : GuideTree) → IsWellFormed g → DerivedIsPlaced g }
     ensures placed { (g : GuideTree) → IsWellFormed g → PlacedIsDerived g }
@@ -17,7 +17,7 @@ pub fn placing_is_grammar()
 /// In a guide without fault the candidates of `nexts` are exactly the places that may follow and lead to a slot, each
 /// with its slot; the computed placing of a body is its one placing; the pass over it meets exactly its structural faults,
 /// and none exactly where the body is derived. With numbered slots two structural faults of a body that have one place in
-/// the order of faults are one. It does nothing: its contract is the law.
+/// the order of faults are one. It does nothing: its contract is the theorem.
 pub fn placing_is_computed()
     ensures nexts { (g : GuideTree) → IsWellFormed g → NextsAreExact g.nodes }
     ensures only { (g : GuideTree) → IsWellFormed g → IsOnlyPlacing g }

@@ -1,4 +1,4 @@
-//! The laws of guides: what the placing of a set's segments and its structural faults say of the grammar by which a
+//! The theorems of guides: what the placing of a set's segments and its structural faults say of the grammar by which a
 //! set meets a guide, and that the computed forms of places, placing and faults are those of the relations. The
 //! definitions stand in `guide_tree`; here they are joined, for the crates that check sets. Nothing here runs.
 //!
@@ -11,6 +11,8 @@
 //!   faults, and none exactly where the body is derived; two faults of one place in their order are one.
 //!
 //! Source: X12.6, transaction sets, loops and segments; the 999 guide (005010X231), IK304.
+//!
+//! Tests: `trial_guides`, `trial_nights`, `trial_sets`, `trial_tables`.
 #![tactic(auto)]
 
 mod law;

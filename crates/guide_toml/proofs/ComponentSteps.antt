@@ -35,7 +35,7 @@ first_group text from end rest group r e g =
     let p = first_part is_semicolon (drop from text) [] in
     p.is ∙ ap (λ (x : Tokens). x ∷ p.more) (cut_is text from end rest group r e g)
 
--- and the only one, where no semicolon stands behind it
+-- and the only one, where no semicolon stands after it
 pub only_group : (text : Tokens) (from end : ℕ) (rest group : Tokens) → rest ≡ drop from text
     → end ≡ position_or_len is_semicolon rest → group ≡ take end rest → end ≡ length rest
     → groups_of (drop from text) ≡ group ∷ []
@@ -45,7 +45,7 @@ only_group text from end rest group r e g l =
     ap (position_or_len is_semicolon) (sym r) ∙ sym e ∙ l ∙ ap length r in
     last_part is_semicolon (drop from text) all ∙ ap (λ (t : Tokens). t ∷ []) (sym whole)
 
--- else others follow behind that semicolon
+-- else others follow after that semicolon
 pub next_group : (text : Tokens) (from end : ℕ) (rest group : Tokens) → rest ≡ drop from text
     → end ≡ position_or_len is_semicolon rest → group ≡ take end rest → end < length rest
     → groups_of (drop from text) ≡ group ∷ groups_of (drop (from + (end + 1)) text)

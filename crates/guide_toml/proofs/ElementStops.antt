@@ -35,7 +35,7 @@ by_bool : {P : Type 0} (b : Bool) → (b ≡ true → P) → (b ≡ false → P)
 by_bool true when otherwise = when refl
 by_bool false when otherwise = otherwise refl
 
--- all tokens are codes, where nothing is behind the codes
+-- all tokens are codes, where nothing is after the codes
 all_codes : (ts : Tokens) → is_ok (stops.at_end wanted.UnusedCode (stops.behind_codes ts)) ≡ list_all is_code ts
 all_codes [] = refl
 all_codes (t ∷ ts) =
@@ -102,7 +102,7 @@ later_same n (Ok x) (Some c) later cs e k = k ∙ sym (mapped _ cs)
 later_same n (Err h) None later cs e k = refl
 later_same n (Err h) (Some c) later cs e k = cc
 
--- what the word behind the reference says, and what follows
+-- what the word after the reference says, and what follows
 behind_component_same : (reference word : List ℕ) (us : Tokens)
     → is_ok (stops.◌>>=◌ (stops.expected wanted.Requirement (word ∷ us)) (λ u. stops.behind_component (bytes_eq word (codes "N")) u))
     ≡ is_some (if bytes_eq word (codes "N") then no_more (component.NotUsed reference) us else used_component reference word us)
@@ -127,7 +127,7 @@ components_same n (g ∷ gs) =
     later_same n (stops.component_read g) (component_of g) (stops.components_stop (n + 1) gs) (components_of gs) (component_same g)
     (components_same (n + 1) gs)
 
--- only a composite has something behind a semicolon
+-- only a composite has something after a semicolon
 alone_same : (r : Result Tokens Halt) (o : Option Element) (behind : Tokens) → is_ok r ≡ is_some o
     → is_none (stops.head_stop (stops.then_components false r) behind) ≡ is_some (alone (behind_first behind) o)
 alone_same (Ok x) o [] e = e
@@ -157,7 +157,7 @@ simple_same reference r ts =
     (λ m us. row_same reference r m (take_repeat us).1
     ∙ sym (then_some (λ row. element.Simple row (take_repeat us).0) (row_of reference r m (take_repeat us).1)))
 
--- what is behind the requirement of an element that is used
+-- what is after the requirement of an element that is used
 used_same : (reference : List ℕ) (r : Requirement) (us behind : Tokens)
     → is_none (stops.head_stop (stops.behind_element false us) behind)
     ≡ is_some (next_token us ⊳ λ t. if bytes_eq t.0 (codes "C") then composite_of reference r t.1 (behind_first behind)

@@ -89,7 +89,7 @@ list_depth (array es) ds e = let f = ap items_depth (same_items ds es e) in omeg
   same_items a b f = cc
 list_depth (table ms) ds e = cc
 
--- trees in front of others
+-- trees before others
 abbrev pub front : List Tree → Trees → Trees
 front [] us = us
 front (t ∷ ts) us = tree t (front ts us)
@@ -106,7 +106,7 @@ more_read : (done : List Tree) (t : Tree) (r : Result Trees Refused)
 more_read done t (Ok us) = ap Ok (front_more done t us)
 more_read done t (Err e) = refl
 
--- a node, and those behind it
+-- a node, and those after it
 abbrev pub node_first : ℕ → Items → Result Tree Refused → Result Trees Refused
 node_first n ds r = r ⊳ λ t. nodes_in (behind n (count_in t)) ds ⊳ λ ts. Ok (tree t ts)
 

@@ -1,4 +1,4 @@
--- The first part of a list round separators, and the parts behind it.
+-- The first part of a list round separators, and the parts after it.
 use Rattle.std.proofs.Common.{◌≡◌, ℕ, zero, suc, ◌+◌, ◌<◌, ◌≤◌, ◌⊎◌, inl, inr, List, [], ◌∷◌, length, take, drop, refl, sym, ap}
 use Rattle.std.proofs.Common.{◌∙◌, arith, Bool}
 use Rattle.std.proofs.lemmas.List.{take_all}

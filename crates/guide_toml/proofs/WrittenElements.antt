@@ -86,7 +86,7 @@ no_semicolons (t ∷ ts) h =
     All-cons (λ t. is_semicolon t ≡ false) t ts
     (was_false (is_semicolon t) (and_both (is_solid t) (not (is_semicolon t)) both.0).1) (no_semicolons ts both.1)
 
--- the first semicolon stands behind sound tokens
+-- the first semicolon stands after sound tokens
 first_semicolon : (ts rest : read.Tokens) → list_all is_sound ts ≡ true → position_or_len is_semicolon rest ≡ 0
     → position_or_len is_semicolon (ts ++ rest) ≡ length ts
 first_semicolon [] rest h first = first

@@ -59,7 +59,7 @@ unfolding read.measure_of
 measure_back t lo hi rest p q r =
     rw (type_back t p, count_of-decimal lo (leb-true lo 4294967295 q), count_of-decimal hi (leb-true hi 4294967295 r)) refl
 
--- codes stand in front of what is none
+-- codes stand before what is none
 all_in_front : (cs : List (List ℕ)) (rest : read.Tokens) → list_all is_code cs ≡ true → prefix_len is_code rest ≡ 0
     → prefix_len is_code (cs ++ rest) ≡ length cs
 all_in_front [] rest h none = none
@@ -96,7 +96,7 @@ wide_back true c = refl
 wide_back false None = refl
 wide_back false (Some c) = refl
 
--- what stands behind the lengths of a row
+-- what stands after the lengths of a row
 abbrev pub behind : Bool → Option CodeList → read.Tokens
 behind w c = written.wide_tokens w ++ written.code_tokens c
 
@@ -133,7 +133,7 @@ repeat_by : (b : Bool) (n : ℕ) (rest : read.Tokens) → (n == 1) ≡ b → wri
 repeat_by true n rest e h o = o ∙ ap (λ m. (m, rest)) (sym (eqb-true n 1 e))
 repeat_by false n rest e h o = rw (count_of-decimal n (leb-true n 4294967295 h)) refl
 
--- how often, in front of what says nothing of it
+-- how often, before what says nothing of it
 pub repeat_back : (n : ℕ) (rest : read.Tokens) → written.is_count n ≡ true → read.take_repeat rest ≡ (1, rest)
     → read.take_repeat (written.repeat_tokens n ++ rest) ≡ (n, rest)
 repeat_back n rest h o = repeat_by (n == 1) n rest refl h o

@@ -44,7 +44,7 @@ abbrev pub halt : Tokens → Wanted → Halt
 halt [] w = record { token = None; wanted = w }
 halt (t ∷ ts) w = record { token = Some t; wanted = w }
 
--- the tokens behind one that has to be there
+-- the tokens after one that has to be there
 abbrev pub expected : Wanted → Tokens → Result Tokens Halt
 expected w [] = Err (halt [] w)
 expected w (t ∷ ts) = if is_wanted w t then Ok ts else Err (halt (t ∷ ts) w)
@@ -62,7 +62,7 @@ abbrev pub unused_read : Tokens → Result Tokens Halt
 unused_read [] = Ok []
 unused_read (t ∷ ts) = expected wanted.Code (t ∷ ts) >>= λ us. at_end wanted.UnusedCode (behind_codes us)
 
--- `=` and codes, and what is behind them; or nothing
+-- `=` and codes, and what is after them; or nothing
 abbrev pub codes_read : Tokens → Result Tokens Halt
 codes_read [] = Ok []
 codes_read (t ∷ ts) = expected wanted.Options (t ∷ ts) >>= λ us. unused_read (behind_codes us)
@@ -75,7 +75,7 @@ row_read ts = codes_read (take_wide ts).1
 abbrev pub measure_read : Wanted → Tokens → Result Tokens Halt
 measure_read kind ts = expected kind ts >>= λ a. expected wanted.Shortest a >>= λ b. expected wanted.Longest b
 
--- what is behind a component's requirement
+-- what is after a component's requirement
 abbrev pub behind_component : (is_unused : Bool) → Tokens → Result Tokens Halt
 behind_component true ts = at_end wanted.End ts
 behind_component false ts = measure_read wanted.ComponentType ts >>= row_read
@@ -84,16 +84,16 @@ abbrev pub component_read : Tokens → Result Tokens Halt
 component_read ts =
     expected wanted.Reference ts >>= λ r. expected wanted.Requirement r >>= λ u. behind_component (is_token (codes "N") r) u
 
--- whether components may stand behind it
+-- whether components may stand after it
 abbrev pub then_components : Bool → Result Tokens Halt → Result Bool Halt
 then_components composite read = read >>= λ rest. Ok composite
 
--- the type of a used element, and what is behind it
+-- the type of a used element, and what is after it
 abbrev pub behind_type : (is_composite : Bool) → Tokens → Result Bool Halt
 behind_type true ts = then_components true (at_end wanted.Components (take_repeat (drop 1 ts)).1)
 behind_type false ts = then_components false (measure_read wanted.ElementType ts >>= λ m. row_read (take_repeat m).1)
 
--- what is behind an element's requirement
+-- what is after an element's requirement
 abbrev pub behind_element : (is_unused : Bool) → Tokens → Result Bool Halt
 behind_element true ts = then_components false (at_end wanted.End ts)
 behind_element false ts = behind_type (is_token (codes "C") ts) ts
@@ -115,7 +115,7 @@ abbrev pub components_stop : (component : ℕ) → List Tokens → Option Elemen
 components_stop component [] = None
 components_stop component (g ∷ gs) = stop_or component (component_read g) (components_stop (component + 1) gs)
 
--- only a composite has something behind a semicolon
+-- only a composite has something after a semicolon
 abbrev pub behind_stop : (is_composite : Bool) → Tokens → Option ElementStop
 behind_stop composite [] = None
 behind_stop true (semicolon ∷ ts) = components_stop 1 (groups_of ts)

@@ -24,12 +24,12 @@ use Rattle.guide_toml.specs.Counts.{count_of}
 abbrev pub Tokens : Type 0
 Tokens = List (List ℕ)
 
--- the first token, and those behind it
+-- the first token, and those after it
 abbrev pub next_token : Tokens → Option (List ℕ × Tokens)
 next_token [] = None
 next_token (t ∷ ts) = Some (t, ts)
 
--- a reading of a token, and the tokens behind it
+-- a reading of a token, and the tokens after it
 abbrev pub with_rest : {A : Type 0} → Option A → Tokens → Option (A × Tokens)
 with_rest o rest = option_map (λ x. (x, rest)) o
 
@@ -75,7 +75,7 @@ abbrev pub take_wide : Tokens → Bool × Tokens
 take_wide [] = (false, [])
 take_wide (t ∷ ts) = if bytes_eq t (codes "wide") then (true, ts) else (false, t ∷ ts)
 
--- the codes that aren't used, behind those that are
+-- the codes that aren't used, after those that are
 abbrev pub unused_codes : Tokens → Tokens → Option CodeList
 unused_codes used [] = Some (record { used = used; unused = None })
 unused_codes used (t ∷ ts) = if bytes_eq t (codes "!") && list_all is_code ts then Some (record { used = used; unused = Some ts }) else None
@@ -83,7 +83,7 @@ unused_codes used (t ∷ ts) = if bytes_eq t (codes "!") && list_all is_code ts 
 abbrev pub code_list : Tokens → Option CodeList
 code_list ts = unused_codes (take (prefix_len is_code ts) ts) (drop (prefix_len is_code ts) ts)
 
--- `= CODES`, and behind them `! CODES`; or nothing
+-- `= CODES`, and after them `! CODES`; or nothing
 abbrev pub codes_of : Tokens → Option (Option CodeList)
 codes_of [] = Some None
 codes_of (t ∷ ts) = if bytes_eq t (codes "=") then option_map Some (code_list ts) else None
@@ -150,7 +150,7 @@ composite_of reference req ts behind = do
   components ← components_behind behind
   Some (element.Composite (record { reference = reference; requirement = req; repeat = count; components = components }))
 
--- only a composite has something behind a semicolon
+-- only a composite has something after a semicolon
 abbrev pub alone : Option Tokens → Option Element → Option Element
 alone None o = o
 alone (Some ts) o = None
@@ -161,7 +161,7 @@ used_element reference word ts behind = do
   t ← next_token ts
   if bytes_eq t.0 (codes "C") then composite_of reference req t.1 behind else alone behind (simple_of reference req ts)
 
--- the row, from what stands before the first semicolon and what stands behind it
+-- the row, from what stands before the first semicolon and what stands after it
 unfoldable pub element_in : Tokens → Option Tokens → Option Element
 element_in head behind = do
   r ← next_token head
@@ -169,7 +169,7 @@ element_in head behind = do
   u ← next_token r.1
   if bytes_eq u.0 (codes "N") then alone behind (no_more (element.NotUsed reference) u.1) else used_element reference u.0 u.1 behind
 
--- what stands behind the first semicolon
+-- what stands after the first semicolon
 abbrev pub behind_first : Tokens → Option Tokens
 behind_first [] = None
 behind_first (semicolon ∷ ts) = Some ts

@@ -21,7 +21,7 @@ use Rattle.guide_toml.specs.Tokens.{tokens_of, is_code}
 use Rattle.guide_toml.specs.Counts.{count_of}
 use Rattle.guide_toml.specs.ElementTexts.{Tokens, next_token}
 
--- a position, and the codes behind it
+-- a position, and the codes after it
 abbrev pub pick_codes : ℕ → Tokens → Option Pick
 pick_codes position ts = if list_all is_code ts then Some (record { position = position; codes = ts }) else None
 

@@ -28,7 +28,7 @@ use Rattle.guide_toml.specs.Values.{group_in, texts_in, dependency_kind_in}
 abbrev pub label_in : Data → Option (List ℕ)
 label_in d = word_in 1 20 d
 
--- a segment, behind the unknown keys of its table
+-- a segment, after the unknown keys of its table
 unfoldable pub segment_of : Members → Result Slot Refusal
 segment_of ms = do
   id ← required as_str (codes "seg") ms

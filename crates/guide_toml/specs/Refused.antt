@@ -17,6 +17,6 @@ abbrev pub at_slot : {A : Type 0} → (slot : ℕ) → Result A Refusal → Resu
 at_slot slot (Ok x) = Ok x
 at_slot slot (Err r) = Err (slot, r)
 
--- the number behind so many nodes, as far as 32 bits count
+-- the number after so many nodes, as far as 32 bits count
 abbrev pub behind : (first count : ℕ) → ℕ
 behind first count = min (first + count) GREATEST_NUMBER

@@ -42,12 +42,12 @@ abbrev pub wide_tokens : Bool → List (List ℕ)
 wide_tokens true = codes "wide" ∷ []
 wide_tokens false = []
 
--- the codes that aren't used, behind `!`
+-- the codes that aren't used, after `!`
 abbrev pub unused_tokens : Option (List (List ℕ)) → List (List ℕ)
 unused_tokens None = []
 unused_tokens (Some values) = codes "!" ∷ values
 
--- the codes that are used, behind `=`, and behind them those that aren't
+-- the codes that are used, after `=`, and after them those that aren't
 abbrev pub code_tokens : Option CodeList → List (List ℕ)
 code_tokens None = []
 code_tokens (Some c) = codes "=" ∷ (c.used ++ unused_tokens c.unused)
@@ -65,7 +65,7 @@ abbrev pub component_tokens : Component → List (List ℕ)
 component_tokens (component.NotUsed reference) = not_used_tokens reference
 component_tokens (component.Simple row) = row_tokens row 1
 
--- each component behind a semicolon
+-- each component after a semicolon
 abbrev pub components_tokens : List Component → List (List ℕ)
 components_tokens components = flat_map (λ c. codes ";" ∷ component_tokens c) components
 

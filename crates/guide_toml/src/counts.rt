@@ -3,7 +3,7 @@ ghost use Rattle.guide_toml.specs.Counts.{count_of};
 
 use toml_keys::GREATEST_NUMBER;
 
-/// The number that one or more digits write, at most `GREATEST_NUMBER`; zeros in front are allowed.
+/// The number that one or more digits write, at most `GREATEST_NUMBER`; leading zeros are allowed.
 pub fn count_of(digits: &[u8]) -> Option<u32>
     ensures { result ≡ count_of digits.now }
 {

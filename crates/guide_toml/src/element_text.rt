@@ -21,7 +21,7 @@ pub struct Measure {
     pub max: u32,
 }
 
-/// The first token, and those behind it.
+/// The first token, and those after it.
 pub fn next_token<'a, 't>(tokens: &'t [Lent<'a>]) -> Result<(&'a [u8], &'t [Lent<'a>]), TextFault>
     ensures { Reads (λ x. (x.0.now, x.1.now)) result (texts.next_token tokens.now) }
 {
@@ -93,7 +93,7 @@ fn repeat_of(token: &[u8]) -> Option<u32>
     }
 }
 
-/// How often an element may occur, and the tokens behind that.
+/// How often an element may occur, and the tokens after that.
 pub(crate) fn take_repeat<'a, 't>(tokens: &'t [Lent<'a>]) -> (u32, &'t [Lent<'a>])
     ensures number { result.0 ≡ (texts.take_repeat tokens.entry.now).0 }
     ensures rest { result.1.now ≡ (texts.take_repeat tokens.entry.now).1 }
@@ -125,7 +125,7 @@ pub fn codes_in(alloc: Global, tokens: &[Lent]) -> Result<Codes, TextFault>
     Codes::new(alloc, texts).map_err(|_| TextFault::NoMemory)
 }
 
-/// The codes that are used, and behind them those that aren't.
+/// The codes that are used, and after them those that aren't.
 fn code_list(alloc: Global, tokens: &[Lent]) -> Result<CodeList, TextFault>
     ensures { Reads (λ x. x) result (texts.code_list tokens.now) }
 {

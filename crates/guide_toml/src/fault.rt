@@ -2,7 +2,7 @@ use guide_tree::GuideFault;
 use thiserror::Error;
 use toml_keys::FileFault;
 
-/// Why a guide file isn't read. A key stands in a node, which is told by the slot number that it would have in the guide: from 1, a
+/// Why a guide file isn't read. A key stands in a node, which is named by the slot number that it would have in the guide: from 1, a
 /// loop before what is in it, up to 4,294,967,295; 0 stands for the top table, `hl` and `depends`.
 #[derive(Debug, Drop, Error)]
 pub enum GuideFileFault {

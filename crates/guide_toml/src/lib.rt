@@ -1,6 +1,6 @@
 //! Guide files: a partner's implementation guide, written in TOML, read exactly, or refused with its first fault.
 //!
-//! Proved: `read_guide` refuses bytes as no TOML exactly where `toml` reads no table from them, want of memory
+//! Proved: `read_guide` refuses bytes as no TOML exactly where `toml` reads no table from them, out of memory
 //! aside; else its answer is a function of the table, which the definitions give: the least key that a table may
 //! not have, then the first key that is missing or has another type or form, in the order of the tables and of
 //! their keys, with the number of the node in which it stands; then what the check of the guide refuses; else the guide

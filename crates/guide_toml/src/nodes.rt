@@ -159,7 +159,7 @@ fn loop_node(
     Ok(Node::Loop(head, nodes))
 }
 
-/// A node; `next` is its number, and then the number behind what is in it.
+/// A node; `next` is its number, and then the number after what is in it.
 #[cycle(nodes)]
 #[tactic(auto, using(crate::proofs::Placing::fails_at))]
 fn node_of(alloc: Global, table: &Table, next: &mut u32) -> Result<Node, GuideFileFault>
@@ -185,7 +185,7 @@ fn push_node(nodes: &mut Vec<Node>, node: Node) -> Result<(), GuideFileFault>
     }
 }
 
-/// The nodes of a list of tables; `next` is the number of the first, and then the number behind what is in the last.
+/// The nodes of a list of tables; `next` is the number of the first, and then the number after what is in the last.
 #[cycle(nodes)]
 pub fn nodes_of(
     alloc: Global,

@@ -28,7 +28,7 @@ pub enum Wanted {
     Options,
     /// A code, or `!`.
     Code,
-    /// A code, behind `!`.
+    /// A code, after `!`.
     UnusedCode,
     /// `xN`, or a semicolon and components.
     Components,
@@ -57,7 +57,7 @@ impl<'a> Halt<'a> {
     ghost use Rattle.std.specs.Prelude.{◌≡◌};
     ghost use Rattle.guide_toml.specs.ElementStops.{halt};
 
-    /// At the first of these tokens, or behind the last that there was.
+    /// At the first of these tokens, or after the last that there was.
     fn at(tokens: &[Lent<'a>], wanted: Wanted) -> Halt<'a>
         ensures { result ≡ halt tokens.now wanted }
     {
@@ -113,7 +113,7 @@ fn is_first(word: &[u8], tokens: &[Lent]) -> bool
     }
 }
 
-/// The tokens behind one that has to be there.
+/// The tokens after one that has to be there.
 fn expected<'a, 't>(wanted: Wanted, tokens: &'t [Lent<'a>]) -> Result<&'t [Lent<'a>], Halt<'a>>
     ensures { stops.Gives (λ rest. rest.now) result (stops.expected wanted tokens.entry.now) }
 {
@@ -168,7 +168,7 @@ fn row_read<'a, 't>(tokens: &'t [Lent<'a>]) -> Result<&'t [Lent<'a>], Halt<'a>>
     codes_read(rest)
 }
 
-/// What is behind the type, the shortest and the longest.
+/// What is after the type, the shortest and the longest.
 fn measure_read<'a, 't>(kind: Wanted, tokens: &'t [Lent<'a>]) -> Result<&'t [Lent<'a>], Halt<'a>>
     ensures { stops.Gives (λ rest. rest.now) result (stops.measure_read kind tokens.entry.now) }
 {
@@ -189,7 +189,7 @@ fn component_read<'a, 't>(tokens: &'t [Lent<'a>]) -> Result<&'t [Lent<'a>], Halt
     row_read(rest)
 }
 
-/// What is behind an element's type, and whether components may stand there.
+/// What is after an element's type, and whether components may stand there.
 fn behind_type<'a>(tokens: &[Lent<'a>]) -> Result<bool, Halt<'a>>
     ensures { result ≡ stops.behind_type (stops.is_token (codes "C") tokens.now) tokens.now }
 {
@@ -205,7 +205,7 @@ fn behind_type<'a>(tokens: &[Lent<'a>]) -> Result<bool, Halt<'a>>
     Ok(false)
 }
 
-/// Reads what stands before the first semicolon: whether components may stand behind it.
+/// Reads what stands before the first semicolon: whether components may stand after it.
 fn head_read<'a>(tokens: &[Lent<'a>]) -> Result<bool, Halt<'a>>
     ensures { result ≡ stops.head_read tokens.now }
 {
@@ -277,7 +277,7 @@ fn stop_of_tokens<'a>(tokens: &[Lent<'a>]) -> Option<ElementStop<'a>>
 }
 
 /// Where a text stops to be that of a data element's row: the first of its words that can't stand there, and what has to; none where
-/// it writes a row. The only error is want of memory.
+/// it writes a row. The only error is out of memory.
 #[tactic(auto, using(crate::proofs::ElementStops::stops_exactly))]
 pub fn element_stop(alloc: Global, text: &[u8]) -> Result<Option<ElementStop<'_>>, NoMemory>
     ensures stop { IfOk result (λ stop. stop ≡ stops.element_stop text.now) }

@@ -1,4 +1,4 @@
--- What is in a loop behind its first child.
+-- What is in a loop after its first child.
 use Rattle.std.proofs.Common.{◌≡◌, List, [], ◌∷◌, drop, refl, ap, ◌∙◌, rules, Option}
 use Rattle.std.specs.Prelude.{Vec}
 use Rattle.std.specs.declared.alloc.Global.{Global}

@@ -8,7 +8,7 @@ pub nodes_view-drop : (ns : List Node) (i : ℕ) (d : Node) → i < length ns
     → nodes_view (drop i ns) ≡ tree (view (get_or ns i d)) (nodes_view (drop (i + 1) ns))
 nodes_view-drop ns i d h = rw (add-one) (ap nodes_view (drop-cons ns i d h))
 
--- trees in front of others
+-- trees before others
 abbrev pub in_front : List Tree → Trees → Trees
 in_front [] us = us
 in_front (t ∷ ts) us = tree t (in_front ts us)

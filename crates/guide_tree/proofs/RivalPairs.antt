@@ -23,7 +23,7 @@ abbrev mutual
   Inside no_trees s = ⊥
   Inside (tree t ts) s = (entry t ≡ Some s) ⊎ (InsideIn t s ⊎ Inside ts s)
 
--- two slots of which the first stands in front of the second, or in a loop that the second begins
+-- two slots of which the first stands before the second, or in a loop that the second begins
 abbrev mutual
   pub PairedIn : Tree → Slot → Slot → Type 0
   PairedIn (segment x) s u = ⊥

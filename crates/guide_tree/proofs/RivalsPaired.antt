@@ -69,7 +69,7 @@ paired_nth (tree x us) zero t s u a p =
     inr (inr (inl (subst (λ (y : Tree). PairedIn y s u) (sym (same_tree x t a)) p)))
 paired_nth (tree x us) (suc n) t s u a p = inr (inr (inr (paired_nth us n t s u a p)))
 
--- paired among the nodes of a list; in a loop, behind its first child
+-- paired among the nodes of a list; in a loop, after its first child
 abbrev pub PairedAt : Bool → Trees → Slot → Slot → Type 0
 PairedAt false ts s u = Paired ts s u
 PairedAt true no_trees s u = ⊥

@@ -74,14 +74,14 @@ IsNowhere P (x ∷ given) = IfSome x (λ q. P q → ⊥) × IsNowhere P given
 abbrev pub IsBefore : Pair → Pair → Type 0
 IsBefore a b = (a.child < b.child) ⊎ ((a.child ≡ b.child) × (a.use_no < b.use_no))
 
--- the place is behind child k of the parent: it is greater than the child's places, and isn't in the child
+-- the place is after child k of the parent: it is greater than the child's places, and isn't in the child
 abbrev pub IsBehind : (parent : Place) → (k : ℕ) → Place → Type 0
 IsBehind [] k [] = ⊥
 IsBehind [] k (b ∷ q) = k < b.child
 IsBehind (a ∷ parent) k [] = ⊥
 IsBehind (a ∷ parent) k (b ∷ q) = IsBefore a b ⊎ ((a ≡ b) × IsBehind parent k q)
 
--- the position of the first segment that is placed behind the child, or the end
+-- the position of the first segment that is placed after the child, or the end
 abbrev pub IsReportedAt : (given : List (Option Place)) → (end : ℕ) → (parent : Place) → (k position : ℕ) → Type 0
 IsReportedAt given end parent k position =
     ((i : ℕ) × (IsFirstAt (IsBehind parent k) given i) × (position ≡ i + 2))
@@ -159,6 +159,6 @@ pub record IsStray (g : GuideTree) (body : List Segment) (given : List (Option P
   pub unplaced : slice_get given index ≡ Some None
   pub is : f ≡ record { position = index + 2; id = id_of segment; loop_id = []; code = stray_code g segment; slot = 0; elem = None }
 
--- the faults of a body under its placing; end is the position behind the body
+-- the faults of a body under its placing; end is the position after the body
 abbrev pub IsStructureFault : GuideTree → List Segment → List (Option Place) → (end : ℕ) → Fault → Type 0
 IsStructureFault g body given end f = IsPast g.nodes given f ⊎ (IsShort g.nodes given end f ⊎ IsStray g body given f)

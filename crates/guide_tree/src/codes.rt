@@ -33,7 +33,7 @@ impl Codes {
     ghost use Rattle.std.specs.Prelude.{◌≡◌, IfOk};
     ghost use Rattle.hub_kinds.specs.Words.{contains_text};
 
-    /// The codes of a list. The only error is want of memory.
+    /// The codes of a list. The only error is out of memory.
     pub fn new(alloc: Global, texts: Texts) -> Result<Codes, NoMemory>
         ensures { IfOk result (λ codes. codes ≡ texts) }
     {

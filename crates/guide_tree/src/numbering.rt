@@ -4,7 +4,7 @@ ghost use Rattle.guide_tree.specs.View.{view, nodes_view};
 
 use crate::node::Node;
 
-/// Numbers a node and what is in it, parents first, and gives the number behind the last one.
+/// Numbers a node and what is in it, parents first, and gives the number after the last one.
 #[cycle(numbering)]
 fn number_node(node: &mut Node, number: u32) -> u32
     requires { number + count_in (view node.old) < 2 ^ 32 }
@@ -23,7 +23,7 @@ fn number_node(node: &mut Node, number: u32) -> u32
     }
 }
 
-/// Numbers nodes and what is in them from `first` on, and gives the number behind the last one.
+/// Numbers nodes and what is in them from `first` on, and gives the number after the last one.
 #[cycle(numbering)]
 pub fn number_nodes(nodes: &mut Vec<Node>, first: u32) -> u32
     requires { first + node_count (nodes_view nodes.old.items) < 2 ^ 32 }

@@ -10,6 +10,8 @@
 //!
 //! Source: own; X12.5, interchange header, and the 999 guide (005010X231), IK304, for headers that are let through and for the dictionary;
 //! X12.6, code lists.
+//!
+//! Tests: `trial_check`.
 #![tactic(auto)]
 
 mod codes;

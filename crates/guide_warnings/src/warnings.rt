@@ -22,7 +22,7 @@ fn push_head(found: &mut Vec<Warning>, head: &GuideHead) -> Result<(), NoMemory>
     Ok(())
 }
 
-/// The warnings of a guide, in the guide's order. The only error is want of memory.
+/// The warnings of a guide, in the guide's order. The only error is out of memory.
 pub fn warnings_of(alloc: Global, guide: &Guide) -> Result<Vec<Warning>, NoMemory>
     ensures { IfOk result (λ found. found.items ≡ warnings.warnings_of (guide_of guide.now)) }
 {

@@ -34,7 +34,7 @@ is_placed ts body given k h e =
 abbrev code_at : ℕ → ElementCode
 code_at element = if element == 3 then ik403.CodeNotUsed else ik403.PatternFailure
 
--- each fault is told of one HL, by the element
+-- each fault is reported of one HL, by the element
 shape : (rule : HlRule) (d : Delims) (earlier : List PlacedSegment) (h : PlacedSegment) (later : List PlacedSegment) (f : Fault)
     → IsHlFault rule d earlier h later f → (element : ℕ) × (f ≡ hl_fault h element (code_at element))
 shape rule d earlier h later f wrong = elim wrong [

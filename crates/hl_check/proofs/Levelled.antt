@@ -146,7 +146,7 @@ first_later test zero (y ∷ ys) x e t =
     let same : y ≡ x = cc in ap (λ (b : Bool). b || list_any test ys) (ap test same ∙ t)
 first_later test (suc n) (y ∷ ys) x e t = first_later test n ys x e t
 
--- an HL that tells of no children is named by no later one
+-- an HL that announces no children is named by no later one
 not_named : (rule : HlRule) (d : Delims) (hls : List Segment) → length hls < 4294967296 → AreCounted hls
     → LooksWholeTo rule d hls (length hls) → (k : ℕ) (h : Segment) → slice_get hls k ≡ Some h → bytes_eq (child_of h) (codes "0") ≡ true
     → is_named d (drop (k + 1) hls) (number_of h) ≡ false

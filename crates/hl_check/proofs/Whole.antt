@@ -1,4 +1,4 @@
--- No fault of a hierarchy is told of a body exactly where the HLs that have places make a whole hierarchy.
+-- No fault of a hierarchy is reported of a body exactly where the HLs that have places make a whole hierarchy.
 use Rattle.std.proofs.Common.{◌≡◌, ◌↔◌, inl, inr, ℕ, ◌+◌, List, map}
 use Rattle.std.proofs.Common.{take, drop, refl, sym, ap, subst, ◌∙◌, true≢false, Option, Some, None}
 use Rattle.std.specs.Prelude.{option_map, IsSomeAnd}
@@ -44,7 +44,7 @@ views_by hls n s (Some x) e h =
     let same : x.segment ≡ s = cc in
     (x, e, same)
 
--- where no HL is told of, each one is whole
+-- where no HL is reported, each one is whole
 one_whole : (rule : HlRule) (d : Delims) (hls : List PlacedSegment) (n : ℕ) (h : PlacedSegment)
     → ((f : Fault) → IsFaultAmong rule d hls f → ⊥) → slice_get hls n ≡ Some h
     → IsHlWhole rule d (segments_of (take n hls)) h.segment (segments_of (drop (n + 1) hls))

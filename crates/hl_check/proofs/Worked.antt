@@ -141,13 +141,14 @@ clean = exactly refl
 without : Shows rows (Some (rule true)) [] []
 without = exactly refl
 
--- children that come untold, a parent that isn't there, a level that isn't listed below its parent's
+-- children that come unannounced, a parent that isn't there, a level that isn't listed below its parent's
 one_each : Shows rows (Some (rule true)) (codes "HL*1**S*0" ∷ codes "HL*2*3*O" ∷ codes "HL*3*1*I" ∷ [])
     (wrong_parent 4 (codes "3") ∷ wrong_level 5 (codes "I") ∷ wrong_child 3 (codes "0") ∷ [])
 unfolding digits
 one_each = exactly refl
 
--- children that are told of and don't come, and that come untold; one behind another that has the number; to an HL in front none comes
+-- children that are announced and don't come, and that come unannounced; one after another that has the number; to an HL in front none
+-- comes
 untold : Shows rows (Some (rule false)) (codes "HL*1**S*1" ∷ codes "HL*2*1*O*1" ∷ codes "HL*3*1*O*0" ∷ [])
     (wrong_child 4 (codes "1") ∷ [])
 untold = exactly refl
@@ -194,7 +195,7 @@ root_as_child = exactly refl
 empty_level : Shows rows (Some (rule false)) (codes "HL*1" ∷ codes "HL*2*1*O" ∷ []) (wrong_level 3 [] ∷ wrong_level 4 (codes "O") ∷ [])
 empty_level = exactly refl
 
--- separators alone are empty: no number that comes twice, no parent, no child; behind other bytes they are bytes as any
+-- separators alone are empty: no number that comes twice, no parent, no child; after other bytes they are bytes as any
 separators : Shows rows (Some (rule true)) (codes "HL*>^**S*1" ∷ codes "HL*>^*>*S" ∷ codes "HL*3*>^*S*0" ∷ [])
     (wrong_child 3 (codes "1") ∷ [])
 unfolding digits

@@ -7,7 +7,7 @@ use Rattle.guide_tree.specs.Words.{Segment}
 use Rattle.elem_rules.specs.Divided.{is_filled}
 use Rattle.hl_check.specs.Hierarchy.{number_of, parent_of, level_of, child_of, is_listed}
 
--- an earlier HL than the one with count k has the number that HL02 is, doesn't tell that it has no children, and is of a level below
+-- an earlier HL than the one with count k has the number that HL02 is, doesn't say that it has no children, and is of a level below
 -- which this one is listed
 pub record IsBelow (rule : HlRule) (delims : Delims) (hls : List Segment) (k : ℕ) (parent level : List ℕ) : Type 0 where
   pub place : ℕ
@@ -31,7 +31,7 @@ pub record IsNamedNext (delims : Delims) (hls : List Segment) (k : ℕ) (number 
   pub named : parent_of next ≡ number
   pub filled : IsTrue (is_filled delims (parent_of next))
 
--- HL04 doesn't tell of children, or the next HL is one
+-- HL04 doesn't announce children, or the next HL is one
 abbrev pub HasChildren : Delims → (hls : List Segment) → (k : ℕ) → (number child : List ℕ) → Type 0
 HasChildren delims hls k number child = IsFalse (bytes_eq child (codes "1")) ⊎ IsNamedNext delims hls k number
 

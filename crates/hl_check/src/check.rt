@@ -38,7 +38,7 @@ fn find_faults<'a>(
 
 /// Whether nothing is wrong with these HLs by a rule, where a set has no other, and all are read by the delimiters; in a body
 /// whose segments all have places there is then no fault of the hierarchy. Positions and loops aren't looked at. The only error is
-/// want of memory. X12.6, hierarchical level segment.
+/// out of memory. X12.6, hierarchical level segment.
 pub fn is_hierarchy_whole(
     alloc: Global,
     rule: &HlRule,
@@ -70,7 +70,7 @@ fn check_by_rule<'a>(
 
 /// Exactly the faults of the hierarchy of a body by the rule of its guide, under these places of its segments, where all
 /// segments are read by the same delimiters; each once, by position and element. A position is a segment's number in the
-/// set, ST being 1. Where the guide has no rule there is none. The only error is want of memory. X12.6, hierarchical level
+/// set, ST being 1. Where the guide has no rule there is none. The only error is out of memory. X12.6, hierarchical level
 /// segment; the 999 guide, IK4.
 pub fn check_hl<'a>(
     alloc: Global,

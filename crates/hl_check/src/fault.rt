@@ -7,7 +7,7 @@ use elem_rules::reference_at;
 use hub_kinds::{ElemFault, ElementCode, Fault, Lent, NO_NUMBER, NoMemory, SegmentCode};
 use loop_match::{PlacedSeg, text_at};
 
-/// What is told of an element of an HL.
+/// What is reported of an element of an HL.
 fn hl_fault<'a>(hl: &PlacedSeg<'_, 'a, 'a>, element: u32, code: ElementCode) -> Fault<'a>
     ensures { result ≡ hl_fault (placed_view hl.now) element code }
 {

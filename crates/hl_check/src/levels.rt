@@ -56,7 +56,7 @@ fn is_placed(
     is_listed(rule, Some(above.level()), level)
 }
 
-/// Whether an HL with this number surely has the children that it tells of.
+/// Whether an HL with this number surely has the children that it announces.
 fn has_children(
     delims: Delims,
     names: &[HlNames],
@@ -94,7 +94,7 @@ fn is_whole_at(rule: &HlRule, delims: Delims, names: &[HlNames], count: usize) -
 }
 
 /// Whether surely nothing is wrong with the HLs that have these names, first to last: each is numbered by its count, stands below an
-/// earlier one or is a root, and those that tell of children have one at once. Takes no memory. A whole hierarchy may be answered with
+/// earlier one or is a root, and those that announce children have one at once. Takes no memory. A whole hierarchy may be answered with
 /// `false`. X12.6, hierarchical level segment.
 pub fn look_whole(rule: &HlRule, delims: Delims, names: &[HlNames]) -> bool
     ensures { OnTrue result ((hls : List Segment) → AreNames names.now hls → IsHierarchyWhole (Some rule.now) delims hls) }

@@ -75,7 +75,7 @@ level_twice key found sorted moved up k d within level = true_from_ne_false (has
     ((on_texts key).antisymm _ _) level (up k d (omega arith) within) in
     true≢false (sym same ∙ other))
 
--- what a look at neighbours tells
+-- what a look at neighbours shows
 pub answered : {A : Type 0} (key : A → List ℕ) (found sorted : List A) → IsPermutation found sorted → IsSorted (order_by key) sorted
     → (answer : Bool) → IsAllAdjacentAnswer (λ x y b. b ≡ is_lt (order_by key x y)) sorted answer → not answer ≡ has_twice key found
 answered key found sorted moved up true all = sym (rising_distinct key found sorted moved (λ k d h. sym (all k d h)))

@@ -1,4 +1,4 @@
--- The faults of an interchange (own numbers): their order, their texts, and the notes that a TA1 tells them by (X12.5).
+-- The faults of an interchange (own numbers): their order, their texts, and the notes by which a TA1 reports them (X12.5).
 use Rattle.std.specs.Prelude.{ℕ, List, codes, Option, Some, None, if◌then◌else◌}
 use Rattle.std.specs.Str.{bytes_eq}
 use Rattle.hub_kinds.specs.declared.interchange.InterchangeFault.{InterchangeFault}

@@ -8,7 +8,7 @@ use Rattle.hub_kinds.specs.Rising.{order_by}
 abbrev pub has_same_key : {A : Type 0} → (A → List ℕ) → A → A → Bool
 has_same_key key x y = eq_by_cmp (order_by key) x y
 
--- some value's key is that of one behind it
+-- some value's key is that of one after it
 abbrev pub has_twice : {A : Type 0} → (A → List ℕ) → List A → Bool
 has_twice key [] = false
 has_twice key (x ∷ xs) = list_any (has_same_key key x) xs || has_twice key xs

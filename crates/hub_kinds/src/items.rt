@@ -45,7 +45,7 @@ impl<T> Items<T> {
     }
 }
 
-/// A text of these bytes. The only error is want of memory.
+/// A text of these bytes. The only error is out of memory.
 pub fn copy_text(alloc: Global, bytes: &[u8]) -> Result<Text, NoMemory>
     ensures { IfOk result (λ text. text ≡ bytes.now) }
 {

@@ -12,7 +12,7 @@
 //! - `within_limit` is the test of a text's length;
 //! - `read_number` reads exactly the numbers of 1 to so many digits; `is_alphanumeric` and
 //!   `is_segment_id` are exact;
-//! - `contains_text` tells exactly whether a text is one of a list;
+//! - `contains_text` says exactly whether a text is one of a list;
 //! - `Items` and `Lent` are the list and the bytes that they were made from, `copy_text` a copy of them.
 //!
 //! 999 guide (005010X231), the code lists of IK304, IK403, IK501, IK502, AK901 and AK905; X12.5,

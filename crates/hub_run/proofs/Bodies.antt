@@ -1,4 +1,4 @@
--- Texts that are made of the bytes of segments, each behind its terminator, read again.
+-- Texts that are made of the bytes of segments, each after its terminator, read again.
 use Rattle.std.proofs.Common.{◌≡◌, ℕ, ◌+◌, ◌<◌, Bool, true, false, List, [], ◌∷◌, ◌++◌, length, drop, map, refl, ap, ◌∙◌}
 use Rattle.std.proofs.Common.{arith, append_assoc, eq-eqb}
 use Rattle.std.specs.Prelude.{◌==◌, if◌then◌else◌}

@@ -172,7 +172,7 @@ module _ (setup : SetupValue) (p : Partner) (guides : ℕ) (hub_ids : are_ids se
       (All-from_recursion P (decimal groups ∷ padded_number 9 number ∷ [])
       (decimal-undivided d sound.divides groups, (padded_number-undivided d sound.divides 9 number, tt)))
 
-  -- a segment in front of sets, and one behind them
+  -- a segment before sets, and one after them
   around : (first last : Segment) (inner : List ℕ) (sets : List (List (List Said))) → IsMade d (segment_text d first.id first.elements) []
       → IsMade d (segment_text d last.id last.elements) [] → IsMade d inner sets
       → IsMade d (segment_text d first.id first.elements ++ inner ++ segment_text d last.id last.elements) sets

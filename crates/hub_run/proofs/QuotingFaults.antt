@@ -1,4 +1,4 @@
--- What is told of the faults of a set can be quoted, where the names of its guide hold no delimiter.
+-- What is reported of the faults of a set can be quoted, where the names of its guide hold no delimiter.
 use Rattle.std.proofs.Common.{◌≡◌, ℕ, zero, suc, ◌+◌, List, [], ◌∷◌, ◌++◌, take, drop, Option, Some, None, length, sym, subst}
 use Rattle.std.proofs.Common.{inl, inr}
 use Rattle.std.specs.Prelude.{IfSome, IsSomeAnd}

@@ -32,7 +32,7 @@ trimmed_at (x ∷ xs) (suc n) = front_at x (trimmed xs) (suc n) ∙ trimmed_at x
 abbrev pub response_of : SetAnswer → Response
 response_of s = record { identifier = s.identifier; control = s.control; code = verdict_text s.verdict }
 
--- the segments behind give these, whatever stood before
+-- the later segments give these, whatever stood before
 abbrev pub Gives : List (List (List ℕ)) → List Response → Type 0
 Gives ss rs = (i c : List ℕ) → responses_behind i c ss ≡ rs
 

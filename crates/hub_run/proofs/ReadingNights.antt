@@ -233,7 +233,7 @@ module _ (text : List ℕ) (setup : SetupValue) (at : List ℕ) (moment : IsMome
   abbrev sets_of_entry : IndexEntry → List SentSet
   sets_of_entry x = sets_in (sent_by text setup place x) (groups_told x)
 
-  -- the groups that are told of an interchange with this fault
+  -- the groups that are reported of an interchange with this fault
   abbrev told_by : Option InterchangeFault → IndexEntry → List GroupEntry
   told_by fault x = if is_none fault then x.interchange.content.groups else []
 
@@ -264,7 +264,7 @@ module _ (text : List ℕ) (setup : SetupValue) (at : List ℕ) (moment : IsMome
       (ta1_read x.sender x.entry.fault x.entry.interchange (acknowledgment_of x).note refl)
       (reports_here entry x.groups entry.fault refl read (answers_here text setup place entry x is told) quotable))
 
-  -- what is read of interchanges, in front of whose acknowledgments there are k others and g groups
+  -- what is read of interchanges, before whose acknowledgments there are k others and g groups
   abbrev AreRead : (k g : ℕ) → List IndexEntry → List CheckedInterchange → Type 0
   AreRead k g es xs =
       All Quotable (filter (is_told_to setup place) es)

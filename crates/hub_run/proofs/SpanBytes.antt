@@ -23,7 +23,7 @@ pub record IsRaw (t : ℕ) (bytes : List ℕ) : Type 0 where
   pub first : prefix_len is_line_end bytes ≡ 0
   pub lacks : Lacks t bytes
 
--- a part without the line ends in front of it, where a byte is left
+-- a part without the line ends before it, where a byte is left
 rest_raw : (t : ℕ) (part : List ℕ) → Lacks t part → (prefix_len is_line_end part == length part) ≡ false
     → IsRaw t (drop (prefix_len is_line_end part) part)
 rest_raw t [] lacks left = absurd (true≢false left)

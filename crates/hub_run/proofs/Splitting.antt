@@ -74,7 +74,7 @@ module _ (test was : ℕ → Bool) (change : ℕ → ℕ) where
       ∙ ap (λ (parts : List (List ℕ)). cond (was x) ([] ∷ parts) (onto (change x) parts)) (parts_changed text (All-tail P x text all))
       ∙ changed_onto (was x) x (slice_split was text)
 
--- tests that tell the same
+-- tests that say the same
 pub parts_by_same : (test was : ℕ → Bool) → ((b : ℕ) → test b ≡ was b) → (text : List ℕ) → slice_split test text ≡ slice_split was text
 parts_by_same test was same [] = refl
 parts_by_same test was same (x ∷ text) =

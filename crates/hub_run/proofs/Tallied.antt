@@ -63,7 +63,7 @@ keys_behind : (xs : List CheckedInterchange) (sets : List PlacedValue) → keys_
 keys_behind [] sets = keys_delivered sets
 keys_behind (x ∷ xs) sets = keys_behind xs sets
 
--- the next counters, told by keys, are those told by sets
+-- the next counters, counted by keys, are those counted by sets
 next_counted : (p : Partner) (acknowledgments groups : ℕ) (sets : List PlacedValue)
     → (numbers_behind p.counters p.cap acknowledgments groups (map key_of sets)).next
     ≡ counters_by p.counters p.cap acknowledgments groups (length sets) (group_total p.cap sets)

@@ -32,7 +32,7 @@ use Rattle.hub_run.proofs.Headers.{HasHeader, HaveHeaders, settled_headers}
 use Rattle.hub_run.proofs.Pairs.{no_pairs, pairs_cons, pairs_tail, pairs_weaker}
 use Rattle.hub_run.proofs.TellingGroups.{group_told}
 
--- a group behind some others is answered
+-- a group after some others is answered
 abbrev pub IsAnsweredGroup : SentValue → GroupEntry → Option AnsweredGroup → Type 0
 IsAnsweredGroup sent group answered = (before : List GroupEntry) × IsGroupAnswered sent before group answered
 
@@ -42,7 +42,7 @@ answered_anywhere sent groups answers are =
     pairs_weaker (λ n group answered. IsGroupAnswered sent (take n groups) group answered)
     (λ n group answered. IsAnsweredGroup sent group answered) groups answers (λ n group answered is. (take n groups, is)) are
 
--- a group behind these groups, by its place among those that follow
+-- a group after these groups, by its place among those that follow
 abbrev IsAnsweredBehind : SentValue → (before groups : List GroupEntry) → ℕ → GroupEntry → Option AnsweredGroup → Type 0
 IsAnsweredBehind sent before groups m group answered = IsGroupAnswered sent (before ++ take m groups) group answered
 
@@ -131,7 +131,7 @@ nobody true false = refl
 nobody false true = refl
 nobody false false = refl
 
--- an interchange is acknowledged to a partner as the index tells
+-- an interchange is acknowledged to a partner as the index says
 same_test : (text : List ℕ) (setup : SetupValue) (place : ℕ) (e : IndexEntry) (note : Option (List ℕ)) (sender : Option ℕ)
     (answers : List (Option AnsweredGroup)) → AreAnswersBy text setup e e.fault sender answers
     → is_partner place (if (is_some note || has_any (present answers)) then sender else None)
@@ -202,7 +202,7 @@ interchange_told text setup at place number control partner e x headers is told 
   each = each_told text setup place e partner.delims e.fault x.groups headers (answers_here text setup place e x is told);
 }
 
--- acknowledgments, in front of which there are k acknowledgments and g groups
+-- acknowledgments, before which there are k acknowledgments and g groups
 abbrev texts_from : SetupValue → Partner → (at : List ℕ) → (k g : ℕ) → List CheckedInterchange → List (List ℕ)
 texts_from setup partner at k g [] = []
 texts_from setup partner at k g (x ∷ xs) =
@@ -224,7 +224,7 @@ module _ (text : List ℕ) (setup : SetupValue) (at : List ℕ) (place : ℕ) (p
       IsInterchangeTold (envelope_to setup partner) at (num partner.counters.interchange number) (num partner.counters.group control)
       (option_map (ta1_text partner.delims e.interchange.header) (note_to setup e)) (sent_by text setup place e) (groups_told e) told
 
-  -- those of a list, behind k acknowledgments and g groups
+  -- those of a list, after k acknowledgments and g groups
   abbrev T : (k g : ℕ) → List IndexEntry → ℕ → IndexEntry → List ℕ → Type 0
   T k g es m e told = IsTold (k + m) (g + groups_behind (take m es)) e told
 

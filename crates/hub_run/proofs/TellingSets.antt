@@ -1,4 +1,4 @@
--- The bytes that tell of a set, and the 999 of a group.
+-- The bytes that report a set, and the 999 of a group.
 use Rattle.std.proofs.Common.{◌≡◌, ◌↔◌, ℕ, Bool, true, false, ◌&&◌, List, [], ◌∷◌, ◌++◌, Option, map}
 use Rattle.std.proofs.Common.{refl, sym, ap, ◌∙◌, arith, append-nil, true≢false}
 use Rattle.std.specs.Prelude.{codes, slice_index_or, if◌then◌else◌}

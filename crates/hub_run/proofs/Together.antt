@@ -26,7 +26,7 @@ together_pairs R [] (y ∷ ys) all = absurd all
 together_pairs R (x ∷ xs) [] all = absurd all
 together_pairs R (x ∷ xs) (y ∷ ys) all = pairs_cons (λ n x y. R x y) x y xs ys all.0 (together_pairs R xs ys all.1)
 
--- what each pair tells of its second item holds of all of these
+-- what each pair says of its second item holds of all of these
 pub pairs_all : {A B : Type 0} (R : ℕ → A → B → Type 0) (P : B → Type 0) (xs : List A) (ys : List B) → AreAllPairs R xs ys
     → ((n : ℕ) (x : A) (y : B) → slice_get xs n ≡ Some x → R n x y → P y) → All P ys
 pairs_all R P [] [] are tells = All-nil P

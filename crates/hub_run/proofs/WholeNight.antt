@@ -1,4 +1,4 @@
--- A night is whole: what is told and read of it follows from what it is.
+-- A night is whole: what is reported and read of it follows from what it is.
 use Rattle.std.proofs.Common.{ℕ, List}
 use Rattle.moment.specs.Moment.{IsMoment}
 use Rattle.partner_setup.specs.Setup.{SetupValue}

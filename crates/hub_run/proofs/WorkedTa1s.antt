@@ -7,7 +7,7 @@ use Rattle.hub_run.specs.Ta1sRead.{ta1s_by, ta1s_in}
 marks : Delims
 marks = record { element = 42; component = 62; repetition = Some 94; terminator = 126 }
 
--- one that is accepted, and one that is refused, each in front of its IEA
+-- one that is accepted, and one that is refused, each before its IEA
 two_are_read :
     ta1s_in marks (codes "TA1*000000007*260228*0900*A*000~GS*FA~IEA*1*000000001~TA1*000000008*260228*0915*R*023~IEA*0*000000002~")
     ≡ record { control = codes "000000007"; date = codes "260228"; time = codes "0900"; code = codes "A"; note = codes "000" }

@@ -23,14 +23,14 @@ pub record SentSet : Type 0 where
   pub before : List SetEnvelope
   pub set : SetEnvelope
 
--- the sets of a group behind these
+-- the sets of a group after these
 abbrev pub sets_behind : SentValue → (gs : SegValue) → (before : List SetEnvelope) → List SetEnvelope → List SentSet
 sets_behind sent gs before [] = []
 sets_behind sent gs before (set ∷ sets) =
     record { sent = sent; gs = gs; before = before; set = set } ∷ sets_behind sent gs (before ++ set ∷ []) sets
 
--- the sets that a partner is told of: of its interchanges that are acknowledged and not refused, in their order, the sets of the groups
--- that it has a guide for
+-- the sets that are reported to a partner: of its interchanges that are acknowledged and not refused, in their order, the sets of the
+-- groups that it has a guide for
 abbrev pub sets_in_group : SentValue → GroupEntry → List SentSet
 sets_in_group sent group = sets_behind sent group.header [] (told_sets sent group)
 

@@ -22,7 +22,7 @@ Segments = List (List (List ℕ))
 abbrev pub has_id : List (List ℕ) → (id : List ℕ) → Bool
 has_id segment id = bytes_eq (part_or_empty segment 0) id
 
--- the sets in segments, each from an ST to the SE behind it; an ST without SE is no set
+-- the sets in segments, each from an ST to the SE after it; an ST without SE is no set
 abbrev pub sets_behind : (begun : Option Segments) → Segments → List Segments
 sets_behind begun [] = []
 sets_behind None (s ∷ ss) = if has_id s (codes "ST") then sets_behind (Some (s ∷ [])) ss else sets_behind None ss

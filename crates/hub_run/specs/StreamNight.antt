@@ -1,4 +1,4 @@
--- The night of a stream (own): that of the bytes that were read, which are those that the reader told, where it told them.
+-- The night of a stream (own): that of the bytes that were read, which are those that the reader declared, where it declared them.
 use Rattle.std.specs.Prelude.{◌≡◌, ℕ, ◌≤◌, List, length, Option, IfSome}
 use Rattle.hub_kinds.specs.declared.limits.TheConstants.{LONGEST_TEXT}
 use Rattle.partner_setup.specs.Setup.{SetupValue}

@@ -47,7 +47,7 @@ night_numbers text setup known place partner =
     numbers_behind partner.counters partner.cap (length (acknowledged_to place known)) (groups_to (acknowledged_to place known))
     (map key_of (sets_to text setup known place))
 
--- of fewer than 2^64 entries of a partner, its tally among those of n partners tells its first numbers and its next counters
+-- of fewer than 2^64 entries of a partner, its tally among those of n partners gives its first numbers and its next counters
 abbrev pub AreNumbersTallied : Type 0
 AreNumbersTallied =
     (text : List ℕ) (setup : SetupValue) (known : List CheckedInterchange) (place : ℕ) (partner : Partner)

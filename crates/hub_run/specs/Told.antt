@@ -1,4 +1,4 @@
--- 999 guide (005010X231), AK2 and IK5: the bytes by which a partner's acknowledgments tell of each set that it sent, and that IK5 has the
+-- 999 guide (005010X231), AK2 and IK5: the bytes by which a partner's acknowledgments report each set that it sent, and that IK5 has the
 -- code A exactly where the set meets its guide.
 use Rattle.std.specs.Prelude.{◌≡◌, ◌↔◌, ℕ, ◌+◌, Bool, not, ◌&&◌, false, List, [], ◌∷◌, ◌++◌, map, take, filter, codes, decimal, is_none}
 use Rattle.std.specs.Prelude.{if◌then◌else◌, Option, is_some, option_map, ◌||◌}
@@ -51,7 +51,7 @@ accepted_closing d = codes "IK5" ++ d.element ∷ codes "A" ++ d.terminator ∷ 
 abbrev pub SaysAccepted : Delims → List ℕ → Type 0
 SaysAccepted d text = (rest : List ℕ) × (text ≡ codes "IK5" ++ d.element ∷ codes "A" ++ rest)
 
--- the AK2 loop of a set behind these sets of its group, by its answer: AK2, an IK3 or IK4 for each note on its faults, and IK5 with its
+-- the AK2 loop of a set after these sets of its group, by its answer: AK2, an IK3 or IK4 for each note on its faults, and IK5 with its
 -- verdict and codes (IK501 to IK506), which says A exactly where the set meets its guide; the loop is then AK2 and IK5 with A alone
 pub record IsSetTold (d : Delims) (sent : SentValue) (gs : SegValue) (before : List SetEnvelope) (set : SetEnvelope)
     (loop : List ℕ) : Type 0 where
@@ -84,7 +84,7 @@ is_served sent group = has_version sent.setup sent.sender (element_of group.head
 abbrev pub told_sets : SentValue → GroupEntry → List SetEnvelope
 told_sets sent group = if is_served sent group then group.sets else []
 
--- the n-th 999, of a group behind these groups of its interchange: ST and AK1, the AK2 loops of its sets in their order, AK9 and SE by
+-- the n-th 999, of a group after these groups of its interchange: ST and AK1, the AK2 loops of its sets in their order, AK9 and SE by
 -- its answer, and nothing else; no set of a group that isn't served meets its guide
 pub record IsGroupTold (d : Delims) (sent : SentValue) (n : ℕ) (before : List GroupEntry) (group : GroupEntry)
     (report : List ℕ) : Type 0 where
@@ -96,7 +96,7 @@ pub record IsGroupTold (d : Delims) (sent : SentValue) (n : ℕ) (before : List 
   pub each : AreAllPairs (λ k set loop. IsSetTold d sent group.header (take k group.sets) set loop) (told_sets sent group) loops
   pub others : is_served sent group ≡ false → (before : List SetEnvelope) (set : SetEnvelope) → Meets sent group.header before set → ⊥
 
--- the groups that acknowledge nothing themselves, each with the groups of its interchange in front of it
+-- the groups that acknowledge nothing themselves, each with the groups of its interchange before it
 pub record ToldGroup : Type 0 where
   pub before : List GroupEntry
   pub group : GroupEntry
@@ -142,7 +142,7 @@ abbrev pub groups_behind : List IndexEntry → ℕ
 groups_behind [] = 0
 groups_behind (e ∷ es) = groups_in e + groups_behind es
 
--- a partner's acknowledgments: one behind the other, one for each of its interchanges that are acknowledged, in their order, numbered on
+-- a partner's acknowledgments: one after the other, one for each of its interchanges that are acknowledged, in their order, numbered on
 -- from its counter, as their groups are from that of groups
 pub record IsPartnerTold (text : List ℕ) (setup : SetupValue) (at : List ℕ) (entries : List IndexEntry) (place : ℕ) (partner : Partner)
     (acknowledgments : List ℕ) : Type 0 where
@@ -154,7 +154,7 @@ pub record IsPartnerTold (text : List ℕ) (setup : SetupValue) (at : List ℕ) 
       (sent_by text setup place e) (groups_told e) acknowledgment)
       (filter (is_told_to setup place) entries) texts
 
--- the acknowledgments of each partner tell of each set of the text
+-- the acknowledgments of each partner report each set of the text
 pub record AreSetsTold (text : List ℕ) (setup : SetupValue) (at : List ℕ) (acknowledgments : List (List ℕ)) : Type 0 where
   pub index : IndexValue
   pub read : IsIndex text index

@@ -15,7 +15,7 @@ use partner_setup::Setup;
 use std::alloc::Global;
 
 /// The night of a text that is read front to back on one thread, by a setup and at a moment. A text of more than `LONGEST_TEXT`
-/// bytes is refused; the only other error is want of memory. The bytes of the acknowledgments tell of each set that it is accepted
+/// bytes is refused; the only other error is out of memory. The bytes of the acknowledgments say of each set that it is accepted
 /// (IK501 is A) exactly where it meets its guide, and a partner that reads its own finds just that of its sets, and one TA1 for each of
 /// its interchanges that is answered. In its mailbox it finds just the sets that are delivered to it, as their senders wrote them.
 /// X12.5, interchange and interchange acknowledgment; X12.6, functional group and transaction set; 999 guide (005010X231).

@@ -4,7 +4,7 @@ use night_stream::Stopped;
 use stream_read::StreamFault;
 use thiserror::Error;
 
-/// Why a run gives nothing; want of memory may come before the others.
+/// Why a run gives nothing; out of memory may come before the others.
 #[derive(Clone, Copy, Debug, PartialEq, Eq, Error)]
 pub enum RunFault {
     /// The text has more than 4,294,967,295 bytes.

@@ -20,10 +20,10 @@ use std::thread::Threads;
 use std::time::Clock;
 use worker_pool::Gate;
 
-/// The night of a text that is cut into pieces, anywhere, and shared among 1 to 64 workers, behind a gate: for every number of workers
+/// The night of a text that is cut into pieces, anywhere, and shared among 1 to 64 workers, after a gate: for every number of workers
 /// and every way of cutting, what the definitions give for the text read front to back, byte for byte. Each guide of the setup is
 /// compiled once, before the workers start. It waits for them. Errors: a text of more than `LONGEST_TEXT` bytes, exactly; a thread that
-/// the system doesn't start; want of memory. Then nothing is given.
+/// the system doesn't start; out of memory. Then nothing is given.
 /// X12.5, interchange and interchange acknowledgment; X12.6, functional group and transaction set; 999 guide (005010X231).
 pub fn run_night<G: Gate + Sync, R: Threads + Wait + Clock + Sync>(
     rt: &R,
@@ -48,7 +48,7 @@ pub fn run_night<G: Gate + Sync, R: Threads + Wait + Clock + Sync>(
     Ok(night)
 }
 
-/// The night of a text that isn't too long: all of it is found out by the workers, and written behind them.
+/// The night of a text that isn't too long: all of it is found out by the workers, and written after them.
 fn share_night<'a, G: Gate + Sync, R: Threads + Wait + Clock + Sync>(
     rt: &R,
     alloc: Global,

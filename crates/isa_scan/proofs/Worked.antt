@@ -28,7 +28,7 @@ bars = record { element = 124; terminator = 33 }
 length_of_one_order : length one_order ≡ 236
 length_of_one_order = refl
 
--- a header that begins in a stretch may end behind it
+-- a header that begins in a stretch may end after it
 cut_in_the_second_header : heads_in text 236 289 ≡ record { start = 236; pair = bars } ∷ []
 unfolding is_header has_fields
 cut_in_the_second_header = refl

@@ -41,7 +41,7 @@ impl PieceHeads {
         self.list.as_slice()
     }
 
-    /// The headers of this piece and of the one behind it. The only error is want of memory.
+    /// The headers of this piece and of the one after it. The only error is out of memory.
     pub fn append(self, other: PieceHeads) -> Result<PieceHeads, NoMemory>
         ensures { IfOk result (λ both. both ≡ self ++ other) }
     {

@@ -8,7 +8,7 @@ use memchr::memchr;
 use std::alloc::Global;
 use x12_bytes::{Pair, Piece, read_header};
 
-/// The headers that begin in a piece of a text; the last may end behind it (X12.5, ISA). The only error is want of memory.
+/// The headers that begin in a piece of a text; the last may end after it (X12.5, ISA). The only error is out of memory.
 pub fn scan_piece(alloc: Global, text: &[u8], piece: Piece) -> Result<PieceHeads, NoMemory>
     requires order { piece.from ≤ piece.to }
     requires within { piece.to ≤ length text.now }

@@ -8,7 +8,7 @@
 //! - the seat that the workers held together has got each job once;
 //! - each worker's own thing is handed back.
 //!
-//! It refuses for want of memory or of a thread, and then gives nothing. Own; no standard speaks of it. That a
+//! It refuses where memory or a thread is refused, and then gives nothing. Own; no standard speaks of it. That a
 //! thread gets on, or that two of them ran, isn't claimed.
 //!
 //! As its trial, the crate `trial_workers`, calls it:

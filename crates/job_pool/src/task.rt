@@ -40,7 +40,7 @@ pub trait Task {
 
     ghost number_of: { Self.Done → ℕ };
 
-    /// Does the job of a number. The only error is want of memory.
+    /// Does the job of a number. The only error is out of memory.
     fn run<R: Wait + Clock>(
         &self,
         rt: &R,

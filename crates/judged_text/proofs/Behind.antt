@@ -1,4 +1,4 @@
--- The segments behind the first one of a set's span, read alone.
+-- The segments after the first one of a set's span, read alone.
 use Rattle.std.proofs.Common.{◌≡◌, ℕ, ◌+◌, ◌<◌, ◌≤◌, ◌∙◌, inl, inr, List, [], ◌∷◌, length, take, drop, refl, sym, ap, subst, ◌-◌, arith}
 use Rattle.std.specs.Prelude.{map}
 use mathlib.Core.List.{map-map}
@@ -10,7 +10,7 @@ use Rattle.x12_segs.specs.declared.set_span.SetSpan.{SetSpan}
 use Rattle.x12_segs.proofs.CutLemmas.{segs_of-moved}
 use Rattle.x12_segs.proofs.FirstLemmas.{IsFirstSeg, first_seg}
 
--- the bytes of segments don't tell from where their offsets are counted
+-- the bytes of segments don't say from where their offsets are counted
 read_alone : (d : Delims) (place : ℕ) (ps : List (List ℕ))
     → map (λ (s : SegValue). s.bytes) (map (view_of d) (segs_of place ps))
     ≡ map (λ (s : SegValue). s.bytes) (map (view_of d) (segs_of 0 ps))
@@ -23,7 +23,7 @@ read_alone d place ps =
     ∙ map-map (λ (s : Seg). s.bytes) (moved_by place) (segs_of 0 ps)
     ∙ sym (map-map bytes (view_of d) (segs_of 0 ps))
 
--- where the segments behind the first one are read, and that they are all
+-- where the segments after the first one are read, and that they are all
 pub record AreBehind (text : List ℕ) (span : SetSpan) (seg : SegValue) : Type 0 where
   pub within : seg.start + length seg.bytes + 1 ≤ span.end
   pub segs : map (λ (s : SegValue). s.bytes) (drop 1 (span_views text span))

@@ -5,10 +5,12 @@
 //! - a `JudgedInterchange` gives back what it was made of, and its sets stand in their spans of the text;
 //! - a `PlacedSet`, made by the numbers of its group and of itself, is that set of its interchange, with the group, the standing and
 //!   the delimiters that it is read by; its segments are those of its span, and a byte that doesn't stand in `stretch` stands in none
-//!   of them, and `stretch_behind_header`, read alone, has those behind its ST;
+//!   of them, and `stretch_behind_header`, read alone, has those after its ST;
 //! - `is_fa` and `is_refused` are their definitions.
 //!
 //! Source: X12.5, interchange; X12.6, functional group and transaction set; 999 guide, AK9 and IK501. What is kept of them is own.
+//!
+//! Tests: `trial_nights`.
 #![tactic(auto)]
 
 mod answered;

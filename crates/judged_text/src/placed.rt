@@ -109,7 +109,7 @@ impl<'j, 'i, 'a> PlacedSet<'j, 'i, 'a> {
         self.group().set(self.set)
     }
 
-    /// The segments behind its ST, its SE among them.
+    /// The segments after its ST, its SE among them.
     pub fn behind_header(&self, set: &SetEnvelope<'a>) -> Segments<'a>
         requires { set.now ≡ self.now.set }
         ensures { result ≡ drop 1 (segments_in self.now) }
@@ -132,7 +132,7 @@ impl<'j, 'i, 'a> PlacedSet<'j, 'i, 'a> {
         stretch_in(self.interchange.text(), &span)
     }
 
-    /// The stretch of the text behind its ST: read alone, it has the segments behind its ST.
+    /// The stretch of the text after its ST: read alone, it has the segments after its ST.
     pub fn stretch_behind_header(&self, set: &SetEnvelope<'a>) -> &'a [u8]
         requires { set.now ≡ self.now.set }
         ensures { map (λ seg. seg.bytes) (drop 1 (segments_in self.now))
@@ -216,7 +216,7 @@ fn front_of(text: &[u8], end: usize) -> &[u8]
     &text[..end]
 }
 
-/// The bytes behind the first segment of a set's span.
+/// The bytes after the first segment of a set's span.
 fn behind_first<'a>(text: &'a [u8], span: &SetSpan) -> &'a [u8]
     requires { IsSetSpan text.now span.now }
     ensures { map (λ seg. seg.bytes) (drop 1 (span_views text.entry.now span.now))

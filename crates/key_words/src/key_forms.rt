@@ -111,7 +111,7 @@ fn is_group_id(value: &Value) -> bool
     }
 }
 
-/// Whether a value has a form. The only error is want of memory.
+/// Whether a value has a form. The only error is out of memory.
 pub fn stands(alloc: Global, form: ValueForm, value: &Value) -> Result<bool, NoMemory>
     ensures { IfOk result (λ yes. yes ≡ forms.stands form (view value.now)) }
 {

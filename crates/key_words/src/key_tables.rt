@@ -232,7 +232,7 @@ fn is_wrong(
     }
 }
 
-/// Whether the refusal of a key holds of a table. The only error is want of memory.
+/// Whether the refusal of a key holds of a table. The only error is out of memory.
 pub fn holds(
     alloc: Global,
     kind: KeyTable,

@@ -41,7 +41,7 @@ fn wanted_at(kind: KeyTable, key: &[u8]) -> &'static [u8]
     }
 }
 
-/// What is wrong at a key. The only error is want of memory.
+/// What is wrong at a key. The only error is out of memory.
 fn key_fault(
     alloc: Global,
     kind: KeyTable,
@@ -147,7 +147,7 @@ fn push_spots(alloc: Global, found: &mut Vec<Text>, spots: &[Spot<'_>]) -> Resul
     Ok(())
 }
 
-/// Adds what is wrong with the keys of a setup file's tables. The only error is want of memory.
+/// Adds what is wrong with the keys of a setup file's tables. The only error is out of memory.
 pub fn push_setup_keys_said(
     alloc: Global,
     found: &mut Vec<Text>,

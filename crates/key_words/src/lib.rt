@@ -12,6 +12,8 @@
 //! Only tested: that the place in UTF-8 that is no TOML is where its fault is, and that the cause is that of the fault.
 //!
 //! Source: own.
+//!
+//! Tests: `trial_check`.
 #![tactic(auto)]
 
 mod appended;

@@ -39,7 +39,7 @@ fn is_item(alloc: Global, kind: ListItem, value: &Value) -> Result<bool, NoMemor
     }
 }
 
-/// The first value that can't stand in a list. The only error is want of memory.
+/// The first value that can't stand in a list. The only error is out of memory.
 pub fn first_wrong<'v>(
     alloc: Global,
     kind: ListItem,

@@ -43,7 +43,7 @@ fn text_at(alloc: Global, bytes: &[u8], offset: usize, said: &[u8]) -> Result<Te
     Ok(Items::from_vec(text))
 }
 
-/// What is said of bytes that are no table. The only error is want of memory.
+/// What is said of bytes that are no table. The only error is out of memory.
 pub fn no_table_text(alloc: Global, bytes: &[u8]) -> Result<Text, NoMemory>
     ensures { IfOk result (IsNoTableSaid bytes.now) }
 {

@@ -103,7 +103,7 @@ fn append_setup_key(
     }
 }
 
-/// Adds what is wrong with a setup file that writes this table. Of want of memory it says so; that is no refusal of the file.
+/// Adds what is wrong with a setup file that writes this table. Where memory is refused it says so; that is no refusal of the file.
 pub fn append_setup_key_words(
     alloc: Global,
     out: &mut Vec<u8>,

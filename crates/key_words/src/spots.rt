@@ -78,7 +78,7 @@ fn push_nodes<'t>(spots: &mut Vec<Spot<'t>>, tables: &[&'t Table]) -> Result<(),
     Ok(())
 }
 
-/// The tables of a setup file. The only error is want of memory.
+/// The tables of a setup file. The only error is out of memory.
 pub fn setup_spots<'t>(alloc: Global, top: &'t Table) -> Result<Vec<Spot<'t>>, NoMemory>
     ensures { IfOk result (λ spots. map seen spots.items ≡ said.setup_spots (table_view top.entry.now)) }
 {

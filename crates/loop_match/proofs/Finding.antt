@@ -28,7 +28,7 @@ ended_outside at o ns place a rest f e h =
     sym (ap (λ (l : List Step). f ++ ended_among at o (nodes_view ns) (place_view l)) e
     ∙ ap (λ (l : List Fault). f ++ l) (ended_past at o ns a.child a.use_no (place_view rest) h) ∙ append-nil f)
 
--- three lists put behind a list, one after another
+-- three lists put after a list, one after another
 behind_three : (f g h i x y z : List Fault) → g ≡ f ++ x → h ≡ g ++ y → i ≡ h ++ z → i ≡ f ++ (x ++ (y ++ z))
 behind_three f g h i x y z a b c =
     c ∙ ap (λ (l : List Fault). l ++ z) (b ∙ ap (λ (l : List Fault). l ++ y) a)

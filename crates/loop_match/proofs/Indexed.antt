@@ -8,7 +8,7 @@ use Rattle.loop_match.specs.declared.next.Turn.{Turn}
 use Rattle.loop_match.specs.declared.next.Step.{Step}
 use Rattle.loop_match.specs.Steps.{turned, place_view, step_view, below_start}
 
--- what a node gives, and the nodes behind it
+-- what a node gives, and the nodes after it
 abbrev here : Segment → Bool → Tree → (rest : Trees) → Pair → Place → Option Candidate
 here s il t rest a q = or_else (option_map (into a) (fit_in s t q)) (or_else (fit_again s il a t) (fit_starts s (a.child + 1) rest))
 

@@ -6,7 +6,7 @@ use Rattle.guide_tree.specs.Words.{GuideTree, or_else, Segment, Place, place_of,
 use Rattle.loop_match.specs.declared.next.Step.{Step}
 use Rattle.loop_match.specs.Steps.{place_view, last_of, HasGone}
 
--- what the body adds behind a last place
+-- what the body adds after a last place
 abbrev pub left : GuideTree → (end at : ℕ) → Option Place → List Segment → List Fault
 left g end at last body = pass g end at last body (placing_from g.nodes last body)
 

@@ -34,7 +34,7 @@ pub within_push : (steps : List Step) (marks : List Mark) (m : Mark) → m.start
 within_push steps [] m l h = (l, tt)
 within_push steps (n ∷ marks) m l h = (h.0, within_push steps marks m l h.1)
 
--- steps behind those of a mark don't change what it says
+-- steps after those of a mark don't change what it says
 mark_more : (steps more : List Step) (m : Mark) → m.start + m.depth ≤ length steps → mark_view (steps ++ more) m ≡ mark_view steps m
 mark_more steps more m l =
     let d = length-drop m.start steps in

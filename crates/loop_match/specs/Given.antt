@@ -1,5 +1,5 @@
 -- X12.6, order of segments: the place and the slot that each segment of a body is given; with what is wrong with their order
--- and number, as the 999 guide, IK304, tells it.
+-- and number, as the 999 guide, IK304, reports it.
 use Rattle.std.specs.Prelude.{List, [], ◌∷◌, Option, None, option_map}
 use Rattle.guide_tree.specs.Words.{Trees, or_else, Segment, Place, Candidate, nexts, first_fit}
 use Rattle.guide_tree.specs.declared.slot.Slot.{Slot}
@@ -16,7 +16,7 @@ place_in c = option_map (λ c. c.place) c
 abbrev pub slot_in : Option Candidate → Option Slot
 slot_in c = option_map (λ c. c.slot) c
 
--- each segment has the first candidate behind the last place given that it fits, if there is one
+-- each segment has the first candidate after the last place given that it fits, if there is one
 abbrev pub given_from : Trees → (last : Option Place) → List Segment → List (Option Candidate)
 given_from ts last [] = []
 given_from ts last (s ∷ body) =

@@ -47,7 +47,7 @@ pub fn entered<'a>(
     Ok(())
 }
 
-/// Behind a place in a node its children end.
+/// After a place in a node its children end.
 #[cycle(ends)]
 pub fn ended_in<'a>(
     found: &mut Found<'a>,
@@ -64,7 +64,7 @@ pub fn ended_in<'a>(
     }
 }
 
-/// Behind a place the nodes in which it stands end.
+/// After a place the nodes in which it stands end.
 #[cycle(ends)]
 pub fn ended<'a>(
     found: &mut Found<'a>,

@@ -6,9 +6,11 @@
 //! is missing, what is used too few times, strays; each once, by position, code and slot. `placed_segments` gives the segments that
 //! have places, each with its position, its slot and the loop that it stands in: these and no other, in their order
 //! (`placed_segments_have_places`). `place_by` is `place_all` by whatever finds the next place (`NextPlace`). For a walk of another crate,
-//! `step`, `end` and `Found::stray` add to what was found (`Found`) what the one pass tells of a step, of the body's end and of a stray.
+//! `step`, `end` and `Found::stray` add to what was found (`Found`) what the one pass reports of a step, of the body's end and of a stray.
 //!
 //! Source: X12.6, order of segments in a transaction set; the 999 guide (005010X231), IK304.
+//!
+//! Tests: `trial_guides`, `trial_tables`.
 #![tactic(auto)]
 
 mod fit;

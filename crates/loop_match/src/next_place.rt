@@ -35,7 +35,7 @@ pub trait NextPlace<'g> {
     fn stray_code(&self, seg: &SegView) -> SegmentCode
         ensures { result ≡ stray_code (guide_of (guide self.now)) (elements_of seg.now) };
 
-    /// Whether surely nothing is told at a segment that is placed. The last place has no step at the beginning.
+    /// Whether surely nothing is reported at a segment that is placed. The last place has no step at the beginning.
     fn is_silent(&self, last: &[Step], next: &[Step]) -> bool
         requires { AllByRecursion (λ s. s.use_no + 1 < 2 ^ 64) last.now }
         ensures { OnTrue result ((at : ℕ)

@@ -63,7 +63,7 @@ fn pass_one<'a, 'g: 'a, N: NextPlace<'g>>(
     }
 }
 
-/// Finds what shows behind the body.
+/// Finds what shows after the body.
 fn pass_end<'a>(pass: &mut Pass<'a>, guide: &'a Guide, at: u64) -> Result<(), NoMemory>
     requires { AllByRecursion (λ s. s.use_no + 1 < 2 ^ 64) pass.old.walk.last.items }
     ensures accepted { IsAccepted guide.now }

@@ -60,7 +60,7 @@ fn add_some<'s, 'a, 'g>(
 }
 
 /// The segments of a body that have places which lead to slots of these nodes, in their order (X12.6; 999 guide, IK3). The
-/// only error is want of memory.
+/// only error is out of memory.
 pub fn placed_segments<'s, 'a, 'g>(
     alloc: Global,
     segs: &'s [SegView<'a>],

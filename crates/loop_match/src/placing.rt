@@ -86,7 +86,7 @@ impl<'a> Placing<'a> {
     }
 }
 
-/// What `place_all` gives, by what finds the next place. The only error is want of memory.
+/// What `place_all` gives, by what finds the next place. The only error is out of memory.
 pub fn place_by<'a, 'g: 'a, N: NextPlace<'g>>(
     alloc: Global,
     segs: &[SegView<'a>],
@@ -112,7 +112,7 @@ pub fn place_by<'a, 'g: 'a, N: NextPlace<'g>>(
 }
 
 /// The place and the slot of each segment of a body, and exactly its structural faults, each once and in their order;
-/// the body's end is behind its last segment. The only error is want of memory.
+/// the body's end is after its last segment. The only error is out of memory.
 pub fn place_all<'a>(
     alloc: Global,
     segs: &[SegView<'a>],

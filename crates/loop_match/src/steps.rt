@@ -51,7 +51,7 @@ pub fn step_by<'a, 'g: 'a, N: NextPlace<'g>>(
     step(found, at, by.guide().rows().nodes.as_slice(), last, next)
 }
 
-/// What shows behind the body.
+/// What shows after the body.
 pub fn end<'a>(
     found: &mut Found<'a>,
     at: u64,

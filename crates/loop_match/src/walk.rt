@@ -44,7 +44,7 @@ fn go(last: &mut Vec<Step>, turn: &Turn) -> Result<(), NoMemory>
     Ok(())
 }
 
-/// Gives the segment its place and its slot, and tells whether there is one.
+/// Gives the segment its place and its slot, and says whether there is one.
 pub fn place_one<'a, 'g: 'a, N: NextPlace<'g>>(
     walk: &mut Walk<'a>,
     next: &N,

@@ -1,4 +1,4 @@
--- A set that may be delivered is told of once for each receiver of its route.
+-- A set that may be delivered is reported once for each receiver of its route.
 use Rattle.std.proofs.Common.{◌≡◌, ◌≢◌, ◌<◌, ◌⊎◌, inl, inr, ◌==◌, ℕ, zero, suc, ◌+◌, Bool, true, false, cond, ◌||◌, List, [], ◌∷◌}
 use Rattle.std.proofs.Common.{◌++◌, Option, Some, None, length, map, All, refl, sym, ap, subst, ◌∙◌, arith, eq-eqb, eqb-true}
 use Rattle.std.specs.Prelude.{slice_get, count_by}
@@ -19,7 +19,7 @@ use Rattle.mailbox.specs.declared.outcome.Outcome.{Outcome}
 use Rattle.mailbox.specs.declared.outcome.Outcome.TheVariants.{DeliveredTo, HeldForDelimiter, HeldForRoute}
 use Rattle.mailbox.proofs.Replacing.{there_is}
 
--- how often outcomes tell a partner of a set
+-- how often outcomes report a set to a partner
 abbrev told : (p : PlacedValue) (q : ℕ) → List Outcome → ℕ
 told p q os = length (one_where (list_any (is_delivery_to q) os) p) + count_by (is_held_for q) os
 

@@ -37,7 +37,7 @@ first_box cap end xs e h some =
     ∙ ap (λ (ys : List RenderedValue). ys ∷ interchanges_of cap (drop cap xs)) (same_front cap end xs e)
     ∙ ap (λ (ys : List RenderedValue). take end xs ∷ interchanges_of cap ys) (same_behind cap end xs e)
 
--- the number that comes behind a number
+-- the number that comes after a number
 num_on : (start a k : ℕ) → num (num start a) k ≡ num start (a + k)
 num_on start a k = omega arith
 
@@ -46,7 +46,7 @@ pub some_left : (n : ℕ) → false ≡ (n == 0) → 0 < n
 some_left zero e = absurd (cc)
 some_left (suc n) e = omega arith
 
--- groups that are numbered from the number that comes g behind the partner's counter
+-- groups that are numbered from the number that comes g after the partner's counter
 groups_renumbered : (setup : SetupValue) (p : Partner) (at : List ℕ) (g k : ℕ) (groups : List (List RenderedValue))
     → groups_behind setup p at (num p.counters.group g) k groups ≡ groups_text setup p at (g + k) groups
 groups_renumbered setup p at g k [] = refl

@@ -26,11 +26,11 @@ onto_first x group groups b h = ap (λ (c : Bool). if c then (x ∷ group) ∷ g
 one_more : (n : ℕ) → suc n ≡ 1 + n
 one_more n = omega arith
 
--- the first n sets as a group, and the groups behind them
+-- the first n sets as a group, and the groups after them
 abbrev parted : (n : ℕ) → List RenderedValue → List (List RenderedValue)
 parted n xs = take n xs ∷ groups_of (drop n xs)
 
--- a set in front of the first group of the others
+-- a set before the first group of the others
 in_front : (x y : RenderedValue) (ys : List RenderedValue) (n m : ℕ) → groups_of (y ∷ ys) ≡ parted (suc m) (y ∷ ys)
     → run_len (y ∷ ys) ≡ suc m → run_len (x ∷ y ∷ ys) ≡ n → (b : Bool) → same_key x.key y.key ≡ b
     → groups_of (x ∷ y ∷ ys) ≡ parted n (x ∷ y ∷ ys)

@@ -36,7 +36,7 @@ grown_as f g a b same grown = record {
   each = λ q xs there. grown.each q xs there ∙ ap (λ (ys : List PlacedValue). Some (xs ++ ys)) (same q);
 }
 
--- one behind the other
+-- one after the other
 pub grown_twice : (f g : ℕ → List PlacedValue) (a b c : Lists) → HasGrown f a b → HasGrown g b c → HasGrown (λ q. f q ++ g q) a c
 grown_twice f g a b c first second = record {
   count = second.count ∙ first.count;

@@ -11,7 +11,7 @@ none_first : {X : Type 0} (p : List X → Bool) (list : List (List X)) → p [] 
 none_first p [] e h = e
 none_first p (x ∷ xs) e h = (neither (p x) (list_any p xs) h).0
 
--- the second of those behind the first is left out
+-- the second of those after the first is left out
 none_left : {X : Type 0} (p : X → Bool) (list : List X) → list_any p list ≡ false → list_any p (remove (drop 1 list) 1) ≡ false
 none_left p [] h = refl
 none_left p (x ∷ []) h = refl

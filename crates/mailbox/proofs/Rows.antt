@@ -86,7 +86,7 @@ module _ (old piece : List ℕ) where
           parts = omega (arith, from, to, size, whole, length-append id version, id_len, version_len);
         }) (All-nil (StandsIn new)))
 
--- a text behind another
+-- a text after another
 module _ (old more : List ℕ) where
   abbrev both : List ℕ
   both = old ++ more

@@ -41,7 +41,7 @@ run_with key sets = record { key = key; sets = sets }
 one_more : (n : ℕ) → together 1 (suc n) ≡ together 1 (together 1 n)
 one_more n = omega arith
 
--- a set in front of groups, as runs
+-- a set before groups, as runs
 by_key : (x y : NumberedValue) (ys : List NumberedValue) (groups : List (List NumberedValue)) (b : Bool)
     → runs_in (if b then (x ∷ y ∷ ys) ∷ groups else (x ∷ []) ∷ (y ∷ ys) ∷ groups)
     ≡ (if b then run_with (key_in x) (together 1 (together 1 (length ys))) ∷ runs_in groups

@@ -47,7 +47,7 @@ pub unchanged : (d : Delims) (segs : List SegValue) → flat_map (text_as_read d
 unchanged d segs =
     sym (same_bytes d (flat_map (text_as_read d) segs)) ∙ changed_together d d (same_byte d d.terminator) segs
 
--- what stands behind a place
+-- what stands after a place
 pub changed_behind : (f : List ℕ → List ℕ) (old mid new read written : List ℕ) (start : ℕ) → start ≡ length old → mid ≡ old ++ read
     → new ≡ take start mid ++ f (drop start mid) → f read ≡ written → new ≡ old ++ written
 changed_behind f old mid new read written start es em en e =

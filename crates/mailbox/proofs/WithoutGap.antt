@@ -16,7 +16,7 @@ use Rattle.x12_segs.proofs.SegLemmas.{part_at-some, segs_of-cons}
 use Rattle.mailbox.specs.Gapless.{AreWhole, is_gapless}
 use Rattle.mailbox.specs.Read.{text_as_read}
 
--- a segment's bytes and the terminator behind them
+-- a segment's bytes and the terminator after them
 abbrev closed : ℕ → List ℕ → List ℕ
 closed t bytes = bytes ++ t ∷ []
 
@@ -75,7 +75,7 @@ begun_more t before b begun h other plain = record {
   empty = other ∙ sym (pushed_some begun b);
 }
 
--- the same of what stands behind a byte
+-- the same of what stands after a byte
 abbrev IsShown : (t : ℕ) (front tail : List ℕ) → Type 0
 IsShown t front tail = (before place : ℕ) (begun : List ℕ) → IsBegun t before begun → is_gapless t before front ≡ true
     → AreInFront t begun front (bytes_of t place (begun ++ (front ++ tail)))

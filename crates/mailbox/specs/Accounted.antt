@@ -44,6 +44,6 @@ pub record AreAccounted (setup : SetupValue) : Type 0 where
   pub mailboxes : (partner : ℕ) (xs : List JudgedValue) → delivered_to setup partner xs
       ≡ flat_map (copies_for setup partner) (all_sets xs)
 
--- the law of deliveries: under a sound setup, as each is that is built
+-- the theorem of deliveries: under a sound setup, as each is that is built
 abbrev pub SetsAreAccounted : Type 0
 SetsAreAccounted = (setup : SetupValue) → IsSoundSetup setup → AreAccounted setup

@@ -7,7 +7,7 @@ use Rattle.mailbox.specs.Deliveries.{is_delivered_to, is_delivery_to, outcome_at
 use Rattle.judged_text.specs.Judged.{JudgedValue, PlacedValue, is_fa, is_refused}
 use Rattle.judged_text.specs.declared.standing.GroupStanding.{GroupStanding}
 
--- behind the list of each place these were added
+-- after the list of each place these were added
 pub record HasGrown (by : ℕ → List PlacedValue) (old new : List (List PlacedValue)) : Type 0 where
   pub count : length new ≡ length old
   pub each : (q : ℕ) (xs : List PlacedValue) → slice_get old q ≡ Some xs → slice_get new q ≡ Some (xs ++ by q)

@@ -1,4 +1,4 @@
--- Private. How written sets are kept: of each GS01, GS08 and its text, one behind the other in one text.
+-- Private. How written sets are kept: of each GS01, GS08 and its text, one after the other in one text.
 use Rattle.std.specs.Prelude.{◌≤◌, ℕ, ◌+◌, ◌-◌, List, take, drop, length, slice_range}
 use Rattle.mailbox.specs.Rendered.{RenderedValue}
 use Rattle.mailbox.specs.declared.kept.Kept.{Kept}
@@ -23,7 +23,7 @@ pub record StandsIn (text : List ℕ) (k : Kept) : Type 0 where
   pub within : k.to ≤ length text
   pub parts : k.id_len + k.version_len ≤ k.to - k.from
 
--- the same behind so many bytes
+-- the same after so many bytes
 abbrev pub kept_behind : (before : ℕ) → Kept → Kept
 kept_behind before k = record {
   from = before + k.from;

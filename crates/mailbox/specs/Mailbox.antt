@@ -33,7 +33,7 @@ mapped_byte from to b =
 abbrev pub mapped : Delims → Delims → List ℕ → List ℕ
 mapped from to bytes = map (mapped_byte from to) bytes
 
--- elements, each behind an element separator
+-- elements, each after an element separator
 abbrev pub mapped_elements : Delims → Delims → List (List ℕ) → List ℕ
 mapped_elements from to elements = elements_text to.element (map (mapped from to) elements)
 
@@ -59,7 +59,7 @@ set_text to p n =
     set_header_text (delims_in p) to p.set.header n ++ flat_map (inner_text (delims_in p) to) (inner_in p)
     ++ set_trailer_text to (length (inner_in p) + 2) n
 
--- the number of a delivered set: so many behind the partner's first
+-- the number of a delivered set: so many after the partner's first
 abbrev pub numbered_text : Partner → NumberedValue → List ℕ
 numbered_text partner x = set_text partner.delims x.set (num partner.counters.set x.place)
 
@@ -87,7 +87,7 @@ delivered_group_text setup partner at g [] = []
 delivered_group_text setup partner at g (x ∷ xs) =
     group_text partner.delims at (group_header_of setup partner g x.set) (map (numbered_text partner) (x ∷ xs))
 
--- groups, the first of them as number g of those that the partner is sent: GS06 and GE02 are the number so far behind its counter
+-- groups, the first of them as number g of those that the partner is sent: GS06 and GE02 are the number so far after its counter
 abbrev pub groups_text : SetupValue → Partner → (at : List ℕ) → (g : ℕ) → List (List NumberedValue) → List ℕ
 groups_text setup partner at g [] = []
 groups_text setup partner at g (group ∷ groups) =
@@ -100,14 +100,14 @@ delivered_text setup partner at number before sets =
     ++ groups_text setup partner at before (groups_of sets)
     ++ trailer_text partner.delims (length (groups_of sets)) number
 
--- delivered interchanges, the first of them as number k of those that the partner is sent, and its groups behind so many before
+-- delivered interchanges, the first of them as number k of those that the partner is sent, and its groups after so many before
 abbrev pub delivered_texts : SetupValue → Partner → (at : List ℕ) → (k before : ℕ) → List (List NumberedValue) → List ℕ
 delivered_texts setup partner at k before [] = []
 delivered_texts setup partner at k before (sets ∷ more) =
     delivered_text setup partner at (num partner.counters.interchange k) before sets
     ++ delivered_texts setup partner at (k + 1) (before + length (groups_of sets)) more
 
--- a partner's mailbox, behind so many acknowledgments, so many of them with a group: set k stands in interchange k / cap
+-- a partner's mailbox, after so many acknowledgments, so many of them with a group: set k stands in interchange k / cap
 abbrev pub box_text : SetupValue → Partner → (at : List ℕ) → (acknowledgments groups : ℕ) → List PlacedValue → List ℕ
 box_text setup partner at acknowledgments groups sets =
     delivered_texts setup partner at acknowledgments groups (interchanges_of partner.cap (numbered_from 0 sets))

@@ -27,7 +27,7 @@ key_of p = record {
   version = element_of p.group.header 8;
 }
 
--- whether a set goes into the group of the sets behind it
+-- whether a set goes into the group of the sets after it
 abbrev pub goes_with : NumberedValue → List NumberedValue → Bool
 goes_with x [] = false
 goes_with x (y ∷ ys) = same_key (key_of x.set) (key_of y.set)

@@ -5,7 +5,7 @@ use Rattle.judged_text.specs.Judged.{PlacedValue}
 use Rattle.mailbox.specs.Rendered.{RenderedValue, rendered_from}
 use Rattle.mailbox.specs.declared.parts.Part.{Part}
 
--- one behind the other, from one place of a list up to another
+-- one after the other, from one place of a list up to another
 abbrev pub AreParts : (from to : ℕ) → List Part → Type 0
 AreParts from to [] = from ≡ to
 AreParts from to (p ∷ ps) = (p.from ≡ from) × (from ≤ p.to) × AreParts p.to to ps

@@ -74,14 +74,14 @@ interchange_of setup partner at number before sets =
     ++ groups_text setup partner at before (groups_of sets)
     ++ trailer_text partner.delims (length (groups_of sets)) number
 
--- delivered interchanges, the first of them as number k of those that the partner is sent, and its groups behind so many before
+-- delivered interchanges, the first of them as number k of those that the partner is sent, and its groups after so many before
 abbrev pub interchanges_text : SetupValue → Partner → (at : List ℕ) → (k before : ℕ) → List (List RenderedValue) → List ℕ
 interchanges_text setup partner at k before [] = []
 interchanges_text setup partner at k before (sets ∷ more) =
     interchange_of setup partner at (num partner.counters.interchange k) before sets
     ++ interchanges_text setup partner at (k + 1) (before + length (groups_of sets)) more
 
--- a partner's mailbox, behind so many acknowledgments, so many of them with a group
+-- a partner's mailbox, after so many acknowledgments, so many of them with a group
 abbrev pub box_of_rendered : SetupValue → Partner → (at : List ℕ) → (acknowledgments groups : ℕ) → List RenderedValue → List ℕ
 box_of_rendered setup partner at acknowledgments groups sets =
     interchanges_text setup partner at acknowledgments groups (interchanges_of partner.cap sets)
@@ -102,7 +102,7 @@ BoxesAreRendered =
     ≡ box_of_rendered setup partner at acknowledgments groups (rendered_from partner 0 sets))
     × (group_total partner.cap sets ≡ groups_of_rendered partner.cap (rendered_from partner 0 sets))
 
--- for each partner the sets that are delivered to it were written behind the others, and numbered on
+-- for each partner the sets that are delivered to it were written after the others, and numbered on
 pub record HaveRendered (setup : SetupValue) (xs : List JudgedValue) (old new : List (List RenderedValue)) : Type 0 where
   pub count : length new ≡ length old
   pub each : (place : ℕ) (partner : Partner) (sets : List RenderedValue) → slice_get setup.partners place ≡ Some partner

@@ -5,7 +5,7 @@ use Rattle.partner_setup.specs.Setup.{SetupValue}
 use Rattle.judged_text.specs.Judged.{PlacedValue}
 use Rattle.mailbox.specs.Rendered.{RenderedValue, rendered_from}
 
--- for the partners before a place these sets were written behind the others; for those behind it nothing yet
+-- for the partners before a place these sets were written after the others; for those after it nothing yet
 pub record AreWritten (setup : SetupValue) (lists : List (List PlacedValue)) (before : ℕ) (old new : List (List RenderedValue))
     : Type 0 where
   pub count : length new ≡ length old

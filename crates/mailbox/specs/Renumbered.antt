@@ -12,7 +12,7 @@ use Rattle.mailbox.specs.Rendered.{RenderedValue, group_of, groups_of}
 abbrev pub IsNumber : ℕ → Type 0
 IsNumber n = (1 ≤ n) × (n ≤ 999999999)
 
--- groups, the first of them with the number k behind `first`
+-- groups, the first of them with the number k after `first`
 abbrev pub groups_behind : SetupValue → Partner → (at : List ℕ) → (first k : ℕ) → List (List RenderedValue) → List ℕ
 groups_behind setup partner at first k [] = []
 groups_behind setup partner at first k (group ∷ groups) =

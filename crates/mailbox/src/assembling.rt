@@ -24,7 +24,7 @@ use x12_write::{OutboundHeader, append_trailer};
 /// What a partner finds in its mailbox (X12.5).
 #[derive(Debug, Drop)]
 pub struct Mailbox {
-    /// Its text: interchanges, one behind the other.
+    /// Its text: interchanges, one after the other.
     pub text: Text,
     /// How many groups they have (X12.6, GS to GE).
     pub groups: u64,
@@ -95,7 +95,7 @@ fn append_delivered(
     Ok(groups)
 }
 
-/// The sets behind the first of them.
+/// The sets after the first of them.
 fn behind<'x, 'r>(sets: &'x [Rendered<'r>], end: usize) -> &'x [Rendered<'r>]
     requires { end ≤ length sets.now }
     ensures { result.now ≡ drop end sets.entry.now }
@@ -103,7 +103,7 @@ fn behind<'x, 'r>(sets: &'x [Rendered<'r>], end: usize) -> &'x [Rendered<'r>]
     &sets[end..]
 }
 
-/// Writes delivered interchanges behind so many acknowledgments, of which so many have a group, and answers how many groups they
+/// Writes delivered interchanges after so many acknowledgments, of which so many have a group, and answers how many groups they
 /// have.
 fn append_interchanges(
     out: &mut Vec<u8>,
@@ -142,9 +142,9 @@ fn append_interchanges(
 }
 
 /// What the partner at this place of the setup finds in its mailbox (X12.5, X12.6), by the sets that were written for it: in
-/// interchanges that hold as many as its cap says, numbered behind so many acknowledgments, and in each the longest groups of sets
-/// from one sender with one GS01 and GS08, whose control numbers (GS06) go on behind those of the groups of acknowledgments, so many.
-/// The only error is want of memory.
+/// interchanges that hold as many as its cap says, numbered after so many acknowledgments, and in each the longest groups of sets
+/// from one sender with one GS01 and GS08, whose control numbers (GS06) go on after those of the groups of acknowledgments, so many.
+/// The only error is out of memory.
 pub fn close(
     alloc: Global,
     setup: &Setup,
@@ -181,9 +181,9 @@ pub fn close(
 }
 
 /// What the partner at this place of the setup finds in its mailbox (X12.5, X12.6): its delivered sets in interchanges that hold
-/// as many as its cap says, numbered behind so many acknowledgments, and in each the longest groups of sets from one sender with
-/// one GS01 and GS08, whose control numbers (GS06) go on behind those of the groups of acknowledgments, so many. The only error is
-/// want of memory.
+/// as many as its cap says, numbered after so many acknowledgments, and in each the longest groups of sets from one sender with
+/// one GS01 and GS08, whose control numbers (GS06) go on after those of the groups of acknowledgments, so many. The only error is
+/// out of memory.
 pub fn assemble(
     alloc: Global,
     setup: &Setup,

@@ -33,7 +33,7 @@ impl<'j, 'i, 'a> Delivered<'j, 'i, 'a> {
         }
     }
 
-    /// Adds a set behind the others.
+    /// Adds a set after the others.
     pub(crate) fn add(&mut self, placed: &PlacedSet<'j, 'i, 'a>) -> Result<(), NoMemory>
         ensures { OnOk result (self.new ≡ self.old ++ placed.now ∷ []) }
     {

@@ -177,7 +177,7 @@ fn deliver_each<'j, 'i, 'a>(
 }
 
 /// For each partner of a setup, by its place, the sets that are delivered to it, front to back (X12.6; by GS03, the routes are
-/// own). The only error is want of memory.
+/// own). The only error is out of memory.
 pub fn deliver<'j, 'i: 'j, 'a: 'i>(
     alloc: Global,
     setup: &Setup,

@@ -17,7 +17,7 @@ fn is_line_end(byte: u8) -> bool
     (byte == b'\r') | (byte == b'\n')
 }
 
-/// Whether in a text no terminator stands at the front or right behind another one, no CR or LF stands, and the last byte is a terminator.
+/// Whether in a text no terminator stands at the front or right after another one, no CR or LF stands, and the last byte is a terminator.
 /// All bytes are looked at, which costs less than to stop.
 fn is_gapless(terminator: u8, text: &[u8]) -> bool
     ensures { result ≡ is_gapless terminator terminator text.now }
@@ -38,7 +38,7 @@ fn count_of(terminator: u8, text: &[u8]) -> usize
     memchr_iter(terminator, text).count()
 }
 
-/// Where the segments between ST and SE end in the stretch behind the ST.
+/// Where the segments between ST and SE end in the stretch after the ST.
 fn inner_end(set: &SetEnvelope<'_>, stretch: &[u8]) -> usize
     ensures { result ≤ length stretch.now }
 {

@@ -19,7 +19,7 @@ fn code_at(setup: &Setup, sender: usize) -> &[u8]
     }
 }
 
-/// Writes sets, one behind the other.
+/// Writes sets, one after the other.
 fn append_sets(out: &mut Vec<u8>, sets: &[Rendered<'_>]) -> Result<(), NoMemory>
     ensures { OnOk result (out.new.items ≡ out.old.items ++ texts_in_row (map text_in sets.now)) }
 {

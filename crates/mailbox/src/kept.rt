@@ -4,13 +4,13 @@ ghost use Rattle.mailbox.specs.Kept.{StandsIn, kept_in};
 use crate::rendered::Rendered;
 use hub_kinds::Lent;
 
-/// Where a written set stands in a text: from where to where, and of that how many bytes are GS01 and GS08 of its group, one behind the
+/// Where a written set stands in a text: from where to where, and of that how many bytes are GS01 and GS08 of its group, one after the
 /// other at its front; and the place in the setup of its sender.
 #[derive(Clone, Copy, Debug)]
 pub(crate) struct Kept {
     /// Its first byte.
     pub(crate) from: usize,
-    /// The byte behind its last.
+    /// The byte after its last.
     pub(crate) to: usize,
     /// How many bytes GS01 has.
     pub(crate) id_len: usize,

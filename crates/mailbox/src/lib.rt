@@ -8,13 +8,13 @@
 //!   and whether a byte that is kept of it is in the way;
 //! - `deliver` gives each partner exactly the sets that are delivered to it by the definition, front to back, in one pass over the
 //!   sets: those of its routes that may be delivered and aren't held;
-//! - `render_set` appends a set with ST02 and SE written anew and each delimiter changed to the receiver's; for want of memory it
-//!   leaves what was there, and a part behind it;
-//! - `render_deliveries` writes for each partner the sets that are delivered to it behind those that were written before, numbered on
+//! - `render_set` appends a set with ST02 and SE written anew and each delimiter changed to the receiver's; where memory is refused it
+//!   leaves what was there, and a part after it;
+//! - `render_deliveries` writes for each partner the sets that are delivered to it after those that were written before, numbered on
 //!   throughout, from `nothing_rendered` on;
 //! - `close` writes exactly the mailbox of the definition by written sets: interchanges that hold as many sets as the partner's cap
-//!   says, numbered behind its acknowledgments, in each the longest groups of sets of one sender, GS01 and GS08, and groups that are
-//!   numbered throughout, behind those of its acknowledgments; and it answers how many groups these are;
+//!   says, numbered after its acknowledgments, in each the longest groups of sets of one sender, GS01 and GS08, and groups that are
+//!   numbered throughout, after those of its acknowledgments; and it answers how many groups these are;
 //! - the mailbox by the sets that were written is the mailbox of the sets themselves (`boxes_by_rendered`), and `assemble` writes it;
 //! - the groups of a mailbox are the maximal runs that a tally counts, interchange by interchange, and as many in all
 //!   (`groups_are_runs`);
@@ -22,6 +22,8 @@
 //!   names it; without a route it is in one held line (`sets_are_accounted`).
 //!
 //! Source: X12.5, interchange; X12.6, functional group and transaction set; who is sent what, and how it is numbered, is own.
+//!
+//! Tests: `trial_nights`.
 #![tactic(auto)]
 
 mod assembling;

@@ -112,7 +112,7 @@ pub(crate) fn append_inner(
     Ok(())
 }
 
-/// Writes the first of the elements that are left, where there is one, behind an element separator, with the receiver's
+/// Writes the first of the elements that are left, where there is one, after an element separator, with the receiver's
 /// delimiters.
 pub(crate) fn append_next_element(
     out: &mut Vec<u8>,
@@ -131,7 +131,7 @@ pub(crate) fn append_next_element(
     Ok(())
 }
 
-/// Writes the elements that are left, each behind an element separator, with the receiver's delimiters.
+/// Writes the elements that are left, each after an element separator, with the receiver's delimiters.
 pub(crate) fn append_mapped_elements(
     out: &mut Vec<u8>,
     from: &Delims,

@@ -9,7 +9,7 @@ use std::alloc::Global;
 pub(crate) struct Part {
     /// The place of its first element.
     pub(crate) from: usize,
-    /// The place behind its last.
+    /// The place after its last.
     pub(crate) to: usize,
 }
 

@@ -111,8 +111,8 @@ pub(crate) fn append_set_of<'a>(
     append_set_trailer(out, to, u128::from(inner) + 2, number)
 }
 
-/// Writes a set as it is delivered, as set number `number`, behind what is there: with the receiver's delimiters, ST02 and SE
-/// written anew (X12.6, transaction set header and trailer). For want of memory a part of it may stand there.
+/// Writes a set as it is delivered, as set number `number`, after what is there: with the receiver's delimiters, ST02 and SE
+/// written anew (X12.6, transaction set header and trailer). Where memory is refused a part of it may stand there.
 pub fn render_set(
     out: &mut Vec<u8>,
     to: &Delims,

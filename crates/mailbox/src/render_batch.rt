@@ -12,7 +12,7 @@ use judged_text::JudgedInterchange;
 use partner_setup::Setup;
 use std::alloc::Global;
 
-/// For each partner of a setup, by its place, no written sets yet. The only error is want of memory.
+/// For each partner of a setup, by its place, no written sets yet. The only error is out of memory.
 pub fn nothing_rendered(alloc: Global, setup: &Setup) -> Result<Vec<RenderedSets>, NoMemory>
     ensures { IfOk result (λ boxes. boxes.items ≡ replicate (length setup.now.partners) []) }
 {
@@ -23,7 +23,7 @@ pub fn nothing_rendered(alloc: Global, setup: &Setup) -> Result<Vec<RenderedSets
     Ok(boxes)
 }
 
-/// Writes the sets that are delivered to the partner at this place behind those that were written before.
+/// Writes the sets that are delivered to the partner at this place after those that were written before.
 fn render_to<W: Writers>(
     alloc: Global,
     writers: &W,
@@ -43,7 +43,7 @@ fn render_to<W: Writers>(
     boxes[place].add_all(alloc, writers, partner, list.sets())
 }
 
-/// Writes the sets that are delivered to each partner behind those that were written before.
+/// Writes the sets that are delivered to each partner after those that were written before.
 fn render_each<W: Writers>(
     alloc: Global,
     writers: &W,
@@ -62,8 +62,8 @@ fn render_each<W: Writers>(
     Ok(())
 }
 
-/// Has the sets that are delivered of these interchanges written behind those that were written before for each partner, and numbers
-/// them on (X12.6, transaction set). The only error is want of memory.
+/// Has the sets that are delivered of these interchanges written after those that were written before for each partner, and numbers
+/// them on (X12.6, transaction set). The only error is out of memory.
 pub fn render_deliveries<W: Writers>(
     alloc: Global,
     writers: &W,

@@ -116,7 +116,7 @@ impl RenderedSets {
         Ok(lent)
     }
 
-    /// Adds sets behind the others, whose own text is given up.
+    /// Adds sets after the others, whose own text is given up.
     fn append(&mut self, alloc: Global, more: RenderedSets) -> Result<(), NoMemory>
         ensures { OnOk result (self.new ≡ self.old ++ more) }
     {
@@ -137,7 +137,7 @@ impl RenderedSets {
         Ok(())
     }
 
-    /// Writes sets behind the others, and numbers them on.
+    /// Writes sets after the others, and numbers them on.
     pub(crate) fn add_all<W: Writers>(
         &mut self,
         alloc: Global,

@@ -27,7 +27,7 @@ pub trait Writers {
     ghost is_ready: { Self → Type 0 };
 
     /// Writes sets that are delivered to a partner, before which `k` sets were delivered to it, front to back (X12.6, transaction
-    /// set): in parts, which are all of them one behind the other. The only error is want of memory.
+    /// set): in parts, which are all of them one after the other. The only error is out of memory.
     fn write_sets(
         &self,
         alloc: Global,

@@ -120,7 +120,7 @@ places_by_mask test text from at end mask noted h low are =
     ∙ sym (places_from-append test (drop from text) 0 (at - from) (end - at))
     ∙ ap (places_from test (drop from text) 0) sum
 
--- the lowest bit's place is written behind those that were noted
+-- the lowest bit's place is written after those that were noted
 pub lowest_noted : (items : List ℕ) (count b x : ℕ) → count < length items → x ≢ 0 → x < 2 ^ 64
     → take (count + 1) (set items count (b + count_trailing_zeros 64 x)) ++ set_bits 64 b (bit_and x (x - 1))
     ≡ take count items ++ set_bits 64 b x

@@ -47,7 +47,7 @@ chunk-later i n k xs le =
     ap (λ m. drop k (take m (drop i xs))) sum ∙ drop-take k (n - k) (drop i xs) ∙ ap (take (n - k)) (drop-drop k i xs)
 
 module _ (test : ℕ → Bool) (text : List ℕ) where
-  -- behind some of its bytes
+  -- after some of its bytes
   pub mask_later : (at end mask before place : ℕ) → IsMask test text at end mask → place ≡ at + before → place < end
       → IsMask test text (place + 1) end (mask / 2 ^ before / 2 ^ 1)
   mask_later at end mask before place h is high =

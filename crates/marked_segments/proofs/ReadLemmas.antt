@@ -34,7 +34,7 @@ pub places_passed : (test : ℕ → Bool) (text : List ℕ) (from at end : ℕ) 
 places_passed test text from at end low on none =
     places_from-further test (drop from text) (at - from) (end - from) (omega arith) (Nowhere-behind test text from at end low none)
 
--- the place is written behind the others
+-- the place is written after the others
 pub place_kept : (test : ℕ → Bool) (text : List ℕ) (from at end place count : ℕ) (items : List ℕ) → from ≤ at
     → NoneBefore (Passes test text) at end place → Passes test text place → count < length items
     → take count items ≡ places_from test (drop from text) 0 (at - from)

@@ -12,7 +12,7 @@ pub record IsStretch (text : List ℕ) (base : ℕ) (stretch : List ℕ) : Type 
   pub sized : base + length stretch < 2 ^ 64
   pub bytes : stretch ≡ slice_range text base (base + length stretch)
 
--- bit k of the mask tells whether the byte at `at + k` passes the test, up to `end`
+-- bit k of the mask says whether the byte at `at + k` passes the test, up to `end`
 pub record IsMask (test : ℕ → Bool) (text : List ℕ) (at end mask : ℕ) : Type 0 where
   pub order : at ≤ end
   pub within : end ≤ length text

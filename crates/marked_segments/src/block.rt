@@ -10,7 +10,7 @@ use x12_bytes::Delims;
 /// How many bytes are looked at together.
 const WIDTH: usize = 64;
 
-/// The bytes of a stretch from `at` up to `end`: bit k of a mask tells whether the byte at `at + k` is the terminator, the element
+/// The bytes of a stretch from `at` up to `end`: bit k of a mask says whether the byte at `at + k` is the terminator, the element
 /// separator, or odd.
 #[derive(Clone, Copy, Drop)]
 pub(crate) struct Block {
@@ -21,7 +21,7 @@ pub(crate) struct Block {
     pub(crate) odds: u64,
 }
 
-/// What of a block stands in front of its first terminator, or all of it.
+/// What of a block stands before its first terminator, or all of it.
 #[derive(Clone, Copy, Drop)]
 pub(crate) struct Front {
     pub(crate) end: usize,
@@ -92,7 +92,7 @@ pub(crate) fn block_at(text: &[u8], base: usize, stretch: &[u8], at: usize, deli
     }
 }
 
-/// What stands in front of a block's first terminator. Stretch and delimiters are for the contract alone.
+/// What stands before a block's first terminator. Stretch and delimiters are for the contract alone.
 #[inline(always)]
 pub(crate) fn front_of(stretch: &[u8], block: Block, delims: Delims) -> Front
     requires { IsBlock delims stretch.now block }
@@ -119,7 +119,7 @@ pub(crate) fn front_of(stretch: &[u8], block: Block, delims: Delims) -> Front
     }
 }
 
-/// What of a block lies behind one of its bytes.
+/// What of a block lies after one of its bytes.
 #[inline(always)]
 pub(crate) fn behind(stretch: &[u8], block: Block, place: usize, delims: Delims) -> Block
     requires block { IsBlock delims stretch.now block }

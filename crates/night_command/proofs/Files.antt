@@ -50,7 +50,7 @@ add_none (Some old) None xs first c kept = absurd first
 add_none (Some old) (Some mid) xs first None kept = absurd kept
 add_none (Some old) (Some mid) xs first (Some new) kept = kept ∙ first
 
--- two files behind others
+-- two files after others
 pub ending : (none first second third files : List File) (f g : File) → none ≡ [] → first ≡ none ++ files → second ≡ first ++ f ∷ []
     → third ≡ second ++ g ∷ [] → third ≡ files ++ f ∷ g ∷ []
 ending none first second third files f g empty one two three =
@@ -63,7 +63,7 @@ pub one_more : (files done left rest : List NamedText) (file : NamedText) → fi
 one_more files done left rest file whole is =
     whole ∙ ap (λ (xs : List NamedText). done ++ xs) is ∙ sym (append_assoc done (file ∷ []) rest)
 
--- these were put, and memory was wanting for the next one
+-- these were put, and memory was refused for the next one
 pub out_of_memory : (old now new : Option (List File)) (files done left : List NamedText) → AddsFiles old now (map file_of done)
     → KeepsFiles now new → files ≡ done ++ left → AddsSome old new (map file_of files) NoMemory
 out_of_memory old now new files done left added kept whole = record {
@@ -118,7 +118,7 @@ pub some_put : (told : Option (List ℕ)) (setup : SetupValue) (at : List ℕ) (
 some_put told setup at had has night fault is some =
     inr (record { night = night; by = is; fault = fault; some = some; told_as = refl })
 
--- what holds of the failure that a fault is told as
+-- what holds of the failure that a fault is reported as
 pub told_fault : {A : Type 0} (r : Result A Failure) (fault : PutFault) (P : Failure → Type 0)
     → IsErrAnd r (λ (failed : Failure). failed ≡ put_failure fault) → P (put_failure fault) → IfErr r P
 told_fault (Ok night) fault P told holds = tt

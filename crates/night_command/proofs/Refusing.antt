@@ -37,7 +37,7 @@ refused_behind : (fs rest : List GuideFile) (gs : List GuideRows) (f : GuideFile
 refused_behind fs rest gs f (failure.Guide path refusal) all is = first_refused fs rest gs f path.now refusal all is.0 is.1
 refused_behind fs rest gs f _ all is = absurd is
 
--- guides, and behind them one that is refused
+-- guides, and after them one that is refused
 pub stopped_at : (fs rest : List GuideFile) (gs : List GuideRows) (f : GuideFile) (failed : Failure) → AreGuidesOf fs gs
     → IsMemoryOrIs (IsOfGuide f) failed → IsMemoryOrIs (IsOfGuides (fs ++ f ∷ rest)) failed
 stopped_at fs rest gs f failed all (inl memory) = inl memory
@@ -74,7 +74,7 @@ setup_file_next : (files : SetupFiles) (gs : List GuideRows) (failed : Failure) 
 setup_file_next files gs (failure.SetupFile refusal) guides is = (gs, guides, is)
 setup_file_next files gs _ guides is = absurd is
 
--- the setup file behind its guides
+-- the setup file after its guides
 pub setup_fails : (files : SetupFiles) (gs : List GuideRows) (failed : Failure) → AreGuidesOf files.guides gs
     → IsMemoryOrIs (IsOfSetupFile files.setup) failed → IsMemoryOrIs (IsFirstRefusal files) failed
 setup_fails files gs failed guides (inl memory) = inl memory
@@ -85,7 +85,7 @@ counters_next : (files : SetupFiles) (gs : List GuideRows) (rows : SetupRows) (f
 counters_next files gs rows (failure.CountersFile refusal) guides setup is = (gs, rows, guides, setup, is)
 counters_next files gs rows _ guides setup is = absurd is
 
--- the counters file behind the setup file
+-- the counters file after the setup file
 pub counters_file_fails : (files : SetupFiles) (gs : List GuideRows) (rows : SetupRows) (failed : Failure) → AreGuidesOf files.guides gs
     → IsFileOf setup_of_table files.setup rows → IsMemoryOrIs (IsOfCounters files.counters) failed
     → IsMemoryOrIs (IsFirstRefusal files) failed

@@ -1,4 +1,4 @@
--- A night that the words ask for can be shared as they say.
+-- A night that the arguments ask for can be shared as they say.
 use Rattle.std.proofs.Common.{◌≡◌, ◌≤◌, ◌&&◌, ℕ, Bool, true, false, Option, Some, None, List, codes, if◌then◌else◌, refl, subst, arith}
 use Rattle.std.proofs.Common.{rules, tests}
 use Rattle.std.specs.Prelude.{nat_le}
@@ -37,7 +37,7 @@ options_share value values options are =
     let piece = given_within 1048576 4294967295 options.sharing.piece (value (codes "piece")) (omega arith) (omega arith) are.piece in
     record { some = workers.0; few = workers.1; piece = piece.0; short = piece.1 }
 
--- the options that the words ask for
+-- the options that the arguments ask for
 pub can_share : (words : List Text) (asked : Asked) (options : Options) → asked ≡ Run options → IsAsked words asked
     → CanShare options.sharing
 can_share words asked options is by =

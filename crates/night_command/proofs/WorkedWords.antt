@@ -1,11 +1,11 @@
--- The command line's definitions on words that are written out.
+-- The command line's definitions on arguments that are written out.
 use Rattle.std.proofs.Common.{◌≡◌, List, [], ◌∷◌, Some, None, true, false, codes, refl}
 use Rattle.clap.specs.Words.{Text, fault_of, takes}
 use Rattle.clap.specs.declared.error.kind.ErrorKind.TheVariants.{DisplayHelp, DisplayVersion}
 use Rattle.clap.proofs.OnLiterals.{clap_on_literals}
 use Rattle.night_command.specs.CommandLine.{hub_app, piece_given, value_of, values_of, workers_given}
 
--- all words but those that name guides
+-- all arguments but those that name guides
 abbrev others : List Text
 others = codes "--counters" ∷ codes "c" ∷ codes "--at" ∷ codes "202603011530" ∷ codes "--in" ∷ codes "i" ∷ codes "--out" ∷ codes "o"
     ∷ codes "--setup" ∷ codes "s" ∷ []

@@ -28,7 +28,7 @@ option_repeated name = record (option_named name) { action = Some Append }
 abbrev pub option_free : Text → Rule
 option_free name = record (option_named name) { required = false }
 
--- the program without its options: its words have no program's name in front, and it has a version
+-- the program without its options: its arguments don't begin with a program's name, and it has a version
 abbrev pub program : App
 program =
     let bare = new_app (codes "nighthub") in
@@ -69,7 +69,7 @@ workers_given text = number_given 4 64 text
 abbrev pub piece_given : Option Text → Option ℕ
 piece_given text = number_given 1048576 4294967295 text
 
--- the value that the words give an option
+-- the value that the arguments give an option
 abbrev pub value_of : List Text → Text → Option Text
 value_of words name = first_of name (matches_of hub_app words)
 
@@ -77,7 +77,7 @@ value_of words name = first_of name (matches_of hub_app words)
 abbrev pub values_of : List Text → Text → Option (List Text)
 values_of words name = all_of name (matches_of hub_app words)
 
--- the words ask for help or for the version, and are none to run by
+-- the arguments ask for help or for the version, and are none to run by
 pub record AsksForText (words : List Text) : Type 0 where
   pub asked : IsAmong DisplayHelp (fault_of hub_app words) ⊎ IsAmong DisplayVersion (fault_of hub_app words)
   pub no_run : takes hub_app words ≡ true → ⊥
@@ -117,17 +117,17 @@ pub record AreGiven (value : Text → Option Text) (values : Text → Option (Li
   pub piece : ℕ
   pub piece_named : piece_given (value (codes "piece")) ≡ Some piece
 
--- the words give each option that is wanted, and nothing is wrong with them
+-- the arguments give each option that is wanted, and nothing is wrong with them
 pub record IsCommandLine (words : List Text) : Type 0 where
   pub taken : takes hub_app words ≡ true
   pub given : AreGiven (value_of words) (values_of words)
 
--- the words name the files and the moment of a night
+-- the arguments name the files and the moment of a night
 pub record NamesNight (words : List Text) : Type 0 where
   pub options : Options
   pub named : AreOptions (value_of words) (values_of words) options
 
--- what the words ask for
+-- what the arguments ask for
 abbrev pub IsAsked : List Text → Asked → Type 0
 IsAsked words (Run options) = AreOptions (value_of words) (values_of words) options
 IsAsked words (Show text) = AsksForText words

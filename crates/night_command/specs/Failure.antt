@@ -42,7 +42,7 @@ name_of (failure.Guide path refusal) = path.now
 name_of (failure.Output name) = name
 name_of _ = []
 
--- a number behind a space
+-- a number after a space
 abbrev pub number_text : ℕ → List ℕ
 number_text n = codes " " ++ decimal n
 
@@ -55,7 +55,7 @@ abbrev pub guide_file_number : Option GuideFileFault → ℕ
 guide_file_number None = 0
 guide_file_number (Some refusal) = guide_file.refusal_number refusal
 
--- behind a point, the number of a guide's own fault
+-- after a point, the number of a guide's own fault
 abbrev pub own_number : Option GuideFileFault → List ℕ
 own_number (Some (fault.Guide refused)) = codes "." ++ decimal (guide.refusal_number refused)
 own_number _ = []
@@ -89,18 +89,18 @@ status_of failure.Stdout = 5
 status_of failure.Memory = 6
 status_of failure.Thread = 6
 
--- what reading the words may fail by
+-- what reading the arguments may fail by
 abbrev pub IsOfWords : Failure → Type 0
 IsOfWords failure.Usage = Unit {0}
 IsOfWords failure.Memory = Unit {0}
 IsOfWords _ = ⊥
 
--- what a run may fail by whose words are a command line
+-- what a run may fail by whose arguments are a command line
 abbrev pub IsOfRun : Failure → Type 0
 IsOfRun failure.Usage = ⊥
 IsOfRun _ = Unit {0}
 
--- what a refusal fails by: want of memory is never one of the file
+-- what a refusal fails by: out of memory is never one of the file
 abbrev pub own_failure : Bor (List ℕ) → GuideFault → Failure
 own_failure path own.NoMemory = failure.Memory
 own_failure path own.TooDeep = failure.Guide path (Some (fault.Guide own.TooDeep))
@@ -170,12 +170,12 @@ IsOfInput failure.InputTooLong = Unit {0}
 IsOfInput failure.Memory = Unit {0}
 IsOfInput _ = ⊥
 
--- a fault of the system is want of memory, or stands for another failure
+-- a fault of the system is out of memory, or stands for another failure
 pub record IsMemoryOr (kind : ErrorKind) (other failed : Failure) : Type 0 where
   pub memory : kind ≡ OutOfMemory → failed ≡ failure.Memory
   pub other_fault : kind ≢ OutOfMemory → failed ≡ other
 
--- a fault of the system is want of memory, or leaves a file without bytes
+-- a fault of the system is out of memory, or leaves a file without bytes
 pub record IsMissing {A E : Type 0} (kind : ErrorKind) (result : Result (Option A) E) : Type 0 where
   pub memory : kind ≡ OutOfMemory → IsErr result
   pub other_fault : kind ≢ OutOfMemory → result ≡ Ok None

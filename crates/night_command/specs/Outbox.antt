@@ -10,7 +10,7 @@ pub use Rattle.night_ends.specs.Outbox.{AddsFiles, File, KeepsFiles, PutsFile}
 abbrev pub file_of : NamedText → File
 file_of text = (text.name, text.bytes.now)
 
--- the first of the files that are left couldn't be put; or memory was wanting
+-- the first of the files that are left couldn't be put; or memory was refused
 abbrev pub IsAtFile : List File → PutFault → Type 0
 IsAtFile left NoMemory = ⊤
 IsAtFile left (Output name) = (file : File) × (more : List File) × (left ≡ file ∷ more) × (name ≡ file.0)

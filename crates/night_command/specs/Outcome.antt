@@ -54,8 +54,8 @@ pub record IsPrinted (options : Options) (status : ℕ) (was is : Option (List �
 abbrev pub IsQuotableOfFiles : (text : List ℕ) → SetupValue → Type 0
 IsQuotableOfFiles text setup = (paths : List (List ℕ)) → IsSetupAt paths setup → AreAllQuotable text setup
 
--- the whole night of the bytes that a source gave, no more than the limit, which are all that it told, where it told them; where files make
--- the setup, each partner reads its acknowledgments
+-- the whole night of the bytes that a source gave, no more than the limit, which are all that it declared, where it declared them; where
+-- files make the setup, each partner reads its acknowledgments
 pub record IsNightOfSource (told : Option (List ℕ)) (setup : SetupValue) (at : List ℕ) (night : Night) : Type 0 where
   pub text : List ℕ
   pub told_all : IfSome told (λ xs. xs ≡ text)
@@ -63,7 +63,7 @@ pub record IsNightOfSource (told : Option (List ℕ)) (setup : SetupValue) (at :
   pub whole : IsWholeNight text setup at night
   pub quotable : IsQuotableOfFiles text setup
 
--- a night is given: it is that of a source, a setup and a moment, its files are put behind what the outbox had, the last line of its report
+-- a night is given: it is that of a source, a setup and a moment, its files are put after what the outbox had, the last line of its report
 -- is printed, and the status is its own
 pub record IsGiven (told : Option (List ℕ)) (setup : SetupValue) (at : List ℕ) (status : ℕ) (had has : Option (List File))
     (was is : Option (List ℕ)) : Type 0 where
@@ -73,7 +73,7 @@ pub record IsGiven (told : Option (List ℕ)) (setup : SetupValue) (at : List �
   pub own_status : status ≡ status_of (Ran night)
   pub printed : Appends was is (text_of (Ran night))
 
--- what these words may have printed: a text where they ask for one, otherwise a night by the options that they give
+-- what these arguments may have printed: a text where they ask for one, otherwise a night by the options that they give
 abbrev pub IsOutcome : List Text → Outcome → Type 0
 IsOutcome words (Shown text) = AsksForText words
 IsOutcome words (Ran night) = (options : Options) × AreOptions (value_of words) (values_of words) options × IsNightBy options night

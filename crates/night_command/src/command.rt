@@ -14,7 +14,7 @@ use night_ends::{copied, with_argument};
 use std::alloc::{AllocError, Global};
 use std::convert::AsStr;
 
-/// What stands behind the options in the text of `--help`.
+/// What stands after the options in the text of `--help`.
 const FILES_AND_STATUSES: &str =
     "Files of DIR: NAME.ack and NAME.box for each partner, report.txt, counters.toml.
 
@@ -46,7 +46,7 @@ pub struct Options<'a> {
     pub sharing: Sharing,
 }
 
-/// What the words ask for.
+/// What the arguments ask for.
 #[derive(Debug, Drop)]
 pub enum Asked<'a> {
     /// To run a night.
@@ -55,7 +55,7 @@ pub enum Asked<'a> {
     Show(String),
 }
 
-/// Reads the words, which are the program's arguments without its name.
+/// Reads the program's arguments without its name.
 pub fn read_words<'a, S: AsStr>(alloc: Global, words: &'a [S]) -> Result<Asked<'a>, Failure<'a>>
     ensures asked { IfOk result (IsAsked (map S.text words.now)) }
     ensures usage { IsErrOf result Failure.Usage → IsCommandLine (map S.text words.now) → ⊥ }
@@ -149,7 +149,7 @@ fn run_asked<'a>(alloc: Global, matches: &ArgMatches<'a>) -> Result<Asked<'a>, F
     }))
 }
 
-/// The text that is asked for, where the words have no mistake.
+/// The text that is asked for, where the arguments have no mistake.
 pub fn text_asked<'a>(alloc: Global, error: &Error) -> Result<String, Failure<'a>>
     ensures shown { IfOk result (λ _. IsOfText (kind_of error.now)) }
     ensures usage { IsErrOf result Failure.Usage → kind_of error.now ≢ ErrorKind.OutOfMemory }

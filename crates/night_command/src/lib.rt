@@ -1,39 +1,39 @@
-//! The night of a hub, as its words name it: the words are read, then the files that they name; the night of what came in is
+//! The night of a hub, as its arguments name it: the arguments are read, then the files that they name; the night of what came in is
 //! run, read as a stream and shared among workers, its files are put into a folder, and the last line of its report is printed. A run that
 //! fails prints one line. The program `nighthub` is `night_main`, called on its arguments, standard output and standard error.
 //!
 //! Proved, where a call returns (it waits for its workers):
 //! - `night_main` is safe on every input, and its status is 0 to 6;
-//! - a run that doesn't fail has printed what its words ask for, and nothing else, where the writer tells what it has: help or
+//! - a run that doesn't fail has printed what its arguments ask for, and nothing else, where the writer declares what it has: help or
 //!   the version where they ask for that; otherwise the last line of the report of the whole night (`IsWholeNight` of `hub_run`) of
-//!   some text, no longer than the limit, at the moment that the words name, by a setup that the bytes of some files make, one guide
-//!   file for each guide that the words name; each partner can read its acknowledgments, and the status is 0 exactly where that
+//!   some text, no longer than the limit, at the moment that the arguments name, by a setup that the bytes of some files make, one guide
+//!   file for each guide that the arguments name; each partner can read its acknowledgments, and the status is 0 exactly where that
 //!   report is clean (`night_main`, `printed`);
-//! - how many workers share a night, and how long the pieces are that they take, is what the words say, from 1 to 64 and from 1 to
+//! - how many workers share a night, and how long the pieces are that they take, is what the arguments say, from 1 to 64 and from 1 to
 //!   4,294,967,295, or 4 and 1,048,576 (`AreOptions`); whatever these are, the night is the same;
 //! - the setup of files is what their bytes make, all of it, or their first refusal: of the guides in their order, of the
 //!   setup file, of the counters file, of what they make together, a file that can't be read being refused at its place;
-//!   files that make a setup have no refusal, and only want of memory comes before the first one (`setup_of`);
-//! - a night that is given is the whole night of the bytes that its source told, its setup and its moment; its files were put into the
-//!   outbox, behind what that had, where the outbox tells what it has; the last line of its report was printed, where the writer tells
+//!   files that make a setup have no refusal, and only out of memory comes before the first one (`setup_of`);
+//! - a night that is given is the whole night of the bytes that its source declared, its setup and its moment; its files were put into the
+//!   outbox, after what that had, where the outbox declares what it has; the last line of its report was printed, where the writer declares
 //!   what it has; and the status is 0 exactly where it is clean (`give_night`, `given`); each partner can read its acknowledgments,
 //!   by whatever guide files (`night_in`, `night`);
-//! - an input is told too long only where the source told more than the limit, and unreadable exactly where the source failed, or was
-//!   interrupted more than 1,000 times in a row (`night_in`, `long`, `unread`, `tried`); before it is read it is refused exactly where
-//!   opening it failed, or the system says that it is longer than the limit (`input_of`);
+//! - an input is reported as too long only where the source declared more than the limit, and unreadable exactly where the source failed,
+//!   or was interrupted more than 1,000 times in a row (`night_in`, `long`, `unread`, `tried`); before it is read it is refused exactly
+//!   where opening it failed, or the system says that it is longer than the limit (`input_of`);
 //! - a run that fails has put none of the files of a night, or a front part of them; one whose input is too long or can't be read leaves
 //!   the outbox as it was (`give_night`, `left`, `none`; `night_in`, `too_long`, `none`, `some`);
 //! - the files of a night are put into the outbox when all of it is known, those of each partner in the order of the setup,
 //!   then the report and the counters; where one can't be put it is named, exactly where a put failed in this call, and those before it
-//!   are there (`put_night`); a put failed for want of memory exactly where the error's kind says so (`PutFault::of_error`);
+//!   are there (`put_night`); a put failed out of memory exactly where the error's kind says so (`PutFault::of_error`);
 //! - a failed run leaves standard output as it was, unless standard output itself failed, and a run
 //!   that doesn't fail leaves standard error as it was; the line of a failure is what the definitions say (`Failure`);
-//! - a run says usage only where its words are no command line, and blames setup or input only where they name the files
-//!   and the moment of a night; which words do is said by clap's definitions.
+//! - a run says usage only where its arguments are no command line, and blames setup or input only where they name the files
+//!   and the moment of a night; which arguments do is said by clap's definitions.
 //!
-//! Only tested: that the bytes of a setup's files and of the input are those of the files at the paths that the words
+//! Only tested: that the bytes of a setup's files and of the input are those of the files at the paths that the arguments
 //! name, since no contract says what a file of the system holds; and that a folder of the system holds what is put there, and
-//! standard output what is printed, since neither tells what it has.
+//! standard output what is printed, since neither declares what it has.
 //!
 //! As its trials call it:
 //!
@@ -46,6 +46,8 @@
 //!
 //! Source: X12.5, interchange; X12.6, functional group and transaction set; the 999 guide (005010X231); the command line,
 //! the files and the statuses are this hub's own.
+//!
+//! Tests: `trial_command`, `trial_track`.
 #![tactic(auto)]
 
 mod command;

@@ -35,7 +35,7 @@ use std::time::Clock;
 /// How many bytes of the input are read at a time.
 const WINDOW: usize = 16_777_216;
 
-/// Runs the program on these words, its arguments without its name, and gives its exit status:
+/// Runs the program on its arguments, without its name, and gives its exit status:
 /// 0 or 1 where it has run a night or printed a text that was asked for, otherwise the status
 /// of the failure whose line it has printed on `err`.
 pub fn night_main<R, S, O, E>(rt: &R, words: &[S], out: &mut O, err: &mut E) -> u8

@@ -13,7 +13,7 @@ use std::alloc::Global;
 
 /// Puts the files of a night into an outbox: each partner's acknowledgments and mailbox in the order of the setup, then
 /// the report and the next counters; none is left out where it is empty. It stops at the first fault; the files before it are there.
-/// Errors: a file can't be put, exactly where that failed in this call; want of memory.
+/// Errors: a file can't be put, exactly where that failed in this call; out of memory.
 pub fn put_night<B: Outbox>(
     alloc: Global,
     night: &Night,

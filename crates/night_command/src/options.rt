@@ -65,7 +65,7 @@ pub fn option_repeated<'a>(alloc: Global, name: &'a str, value: &'a str, help: &
     option_named(alloc, name, value, help).action(ArgAction::Append)
 }
 
-/// The moment that the words name, if there is such a one.
+/// The moment that the arguments name, if there is such a one.
 pub fn moment_given(matches: &ArgMatches<'_>) -> Option<At>
     ensures some { IfSome result (λ at. first_value (found_of matches.now) (codes "at") ≡ Some at) }
     ensures none { IfNone result ((text : List ℕ) → first_value (found_of matches.now) (codes "at") ≡ Some text → IsMoment text → ⊥) }

@@ -11,7 +11,7 @@ use std::io::Write;
 use x12_bytes::Delims;
 use x12_segs::{Parts, components};
 
-/// What a run that didn't fail has to tell.
+/// What a run that didn't fail has to report.
 #[derive(Debug, Drop)]
 pub enum Outcome {
     /// A text that was asked for: help, or the version.
@@ -20,7 +20,7 @@ pub enum Outcome {
     Ran(Night),
 }
 
-/// Prints the outcome on standard output, and nothing else, where the writer tells what it has. Gives its status, or that of a
+/// Prints the outcome on standard output, and nothing else, where the writer declares what it has. Gives its status, or that of a
 /// failure of standard output.
 pub fn finish<O: Write, E: Write>(outcome: &Outcome, out: &mut O, err: &mut E) -> u8
     ensures status { (result ≡ status_of outcome.now) ⊎ (result ≡ 5) }
@@ -51,7 +51,7 @@ fn print_last_line<O: Write>(report: &[u8], out: &mut O) -> io::Result<()>
     out.write_all(b"\n")
 }
 
-/// The lines of a text, and what stands behind the last of them.
+/// The lines of a text, and what stands after the last of them.
 fn lines_of(text: &[u8]) -> Parts<'_>
     ensures { result ≡ parts 10 text.entry.now }
 {

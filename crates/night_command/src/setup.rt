@@ -32,7 +32,7 @@ pub fn setup_at<'a, R: Files + AllocGlobal>(
 }
 
 /// The setup that these files make, or their first refusal: of the guides in their order, of the setup file, of the
-/// counters file, of what they make together. Want of memory may come before any.
+/// counters file, of what they make together. Out of memory may come before any.
 pub fn setup_of<'a>(alloc: Global, files: &SetupFiles<'a>) -> Result<Setup, Failure<'a>>
     ensures made { IfOk result (IsSetupOf files.now) }
     ensures refused { IfErr result (IsMemoryOrIs (IsFirstRefusal files.now)) }
@@ -125,7 +125,7 @@ fn counter_rows_of<'a>(alloc: Global, file: &Option<Text>) -> Result<CounterRows
     }
 }
 
-/// Want of memory is never a refusal of the file.
+/// Out of memory is never a refusal of the file.
 fn of_guide<'a>(path: &'a str, fault: GuideFileFault) -> Failure<'a>
     ensures { result ≡ guide_failure path.entry fault }
 {

@@ -69,7 +69,7 @@ fn bytes_at<R: Files + AllocGlobal>(rt: &R, path: &str) -> io::Result<Vec<u8>> {
     read_whole(rt.alloc(), fs::open(rt, path)?)
 }
 
-/// None for a file that can't be read; want of memory says nothing of the file.
+/// None for a file that can't be read; out of memory says nothing of the file.
 fn bytes_or_none(read: io::Result<Vec<u8>>) -> Result<Option<Text>, NoMemory>
     ensures bytes { IfOk read (λ bytes. result ≡ Ok (Some bytes.items)) }
     ensures fault { IfErr read (λ error. IsMissing (error_kind error) result) }

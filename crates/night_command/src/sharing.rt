@@ -5,13 +5,13 @@ ghost use Rattle.night_command.specs.CommandLine.{IsShared, number_given, up_to_
 use clap::ArgMatches;
 use hub_kinds::{LONGEST_TEXT, read_number};
 
-/// How many workers share a night where the words don't say it.
+/// How many workers share a night where the arguments don't say it.
 const WORKERS: u64 = 4;
 /// How many may.
 const MOST_WORKERS: u64 = 64;
-/// How many bytes a piece has where the words don't say it.
+/// How many bytes a piece has where the arguments don't say it.
 const PIECE: u64 = 1_048_576;
-/// How many digits a number of the words has at most.
+/// How many digits a number of the arguments has at most.
 const MOST_DIGITS: usize = 10;
 
 /// How a night is shared.

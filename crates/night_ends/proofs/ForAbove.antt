@@ -31,7 +31,7 @@ no_memory : (kind : ErrorKind) → (kind ≡ DisplayHelp) ⊎ (kind ≡ DisplayV
 no_memory kind (inl help) memory = cc
 no_memory kind (inr version) memory = cc
 
--- words of which clap says that they ask for a text ask for it, and are none to run by
+-- arguments of which clap says that they ask for a text ask for it, and are none to run by
 pub asks_for_text : (app : App) (words : List Text) (e : Error) → HasKind (fault_of app words) e
     → (takes app words ≡ true → kind_of e ≡ OutOfMemory) → (kind_of e ≡ DisplayHelp) ⊎ (kind_of e ≡ DisplayVersion)
     → (IsAmong DisplayHelp (fault_of app words) ⊎ IsAmong DisplayVersion (fault_of app words)) × (takes app words ≡ true → ⊥)

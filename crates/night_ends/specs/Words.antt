@@ -1,4 +1,4 @@
--- What clap found in the words that a program is called with (own).
+-- What clap found in the arguments that a program is called with (own).
 use Rattle.std.specs.Prelude.{List, [], Option, Some, None, option_map}
 use Rattle.clap.specs.Words.{Text, matched_of, raw_values}
 use Rattle.clap.specs.declared.parser.matches.Found.{Found}

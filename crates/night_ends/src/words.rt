@@ -13,7 +13,7 @@ pub fn with_argument<'a>(command: Command<'a>, argument: Arg<'a>) -> Result<Comm
     command.arg(argument)
 }
 
-/// The texts that the words give an argument of this name, none where they don't give it.
+/// The texts that the command line gives an argument of this name, none where it doesn't give it.
 pub fn texts_given<'a>(
     alloc: Global,
     matches: &ArgMatches<'a>,

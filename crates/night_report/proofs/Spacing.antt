@@ -1,4 +1,4 @@
--- Words behind spaces, written in turn.
+-- Words after spaces, written in turn.
 use Rattle.std.proofs.Common.{ℕ, ◌≡◌, List, ◌∷◌, [], ◌++◌, ap, sym, ◌∙◌, append_assoc}
 use Rattle.std.proofs.lemmas.Grind.{flat_map-append}
 use Rattle.night_report.specs.Lines.{line, spaced}

@@ -111,7 +111,7 @@ behind_the_last_line :
     ++ codes "held set 1 route") ≡ true
 behind_the_last_line = refl
 
--- the last line alone tells what is outside
+-- the last line alone reports what is outside
 outside_in_front :
     is_clean (codes "total interchanges 1 refused 0 groups 1 sets 1 accepted 1 held 0 outside 3\n"
     ++ codes "total interchanges 1 refused 0 groups 1 sets 1 accepted 1 held 0 outside 0\n") ≡ true

@@ -177,7 +177,7 @@ asking = record {
   standings = order.standings;
 }
 
--- a group of acknowledgments, and one that no guide serves, behind a TA1
+-- a group of acknowledgments, and one that no guide serves, after a TA1
 abbrev mixed : JudgedValue
 mixed = record {
   text = [];
@@ -244,7 +244,7 @@ held_for_want_of_a_route :
 unfolding digits
 held_for_want_of_a_route = refl
 
--- of what is refused nothing more is told, and nothing is counted
+-- of what is refused nothing more is reported, and nothing is counted
 truncated_and_copied :
     report_text setup (refused None fault.TrailerMissing ∷ order ∷ refused (Some 0) fault.Duplicate ∷ []) 0
     ≡ codes "interchange 1 at 0 from ? control 000000007 refused 1\n"

@@ -25,7 +25,7 @@ together a b = record {
 abbrev pub shown_at : JudgedValue → ℕ → ShownGroup
 shown_at x n = record { interchange = x; group = group_at (groups_in x) n; standing = standing_at x.standings n }
 
--- behind what was counted before
+-- after what was counted before
 abbrev pub added : {A : Type 0} → (A → Totals) → Totals → List A → Totals
 added count before [] = before
 added count before (a ∷ more) = added count (together before (count a)) more

@@ -1,4 +1,4 @@
--- Private. Whether the lines that are left of a report are clean, behind this last one.
+-- Private. Whether the lines that are left of a report are clean, after this last one.
 use Rattle.std.specs.Prelude.{ℕ, Bool, not, ◌&&◌, List, [], ◌∷◌}
 use Rattle.night_report.specs.Clean.{tells_of_trouble, ends_in_nought}
 

@@ -1,4 +1,4 @@
--- The lines of a night's report (own): words, each but the first behind a space, and LF.
+-- The lines of a night's report (own): words, each but the first after a space, and LF.
 use Rattle.std.specs.Prelude.{ℕ, ◌==◌, Bool, ◌&&◌, List, [], ◌∷◌, ◌++◌, Option, Some, None, length, codes, decimal, if◌then◌else◌}
 use Rattle.std.specs.List.{flat_map}
 use Rattle.x12_bytes.specs.Header.{field_of}
@@ -8,7 +8,7 @@ use Rattle.hub_kinds.specs.declared.limits.TheConstants.{MOST_CONTROL_DIGITS}
 use Rattle.hub_kinds.specs.declared.set_codes.GroupVerdict.{GroupVerdict}
 use Rattle.night_report.specs.declared.totals.Totals.{Totals}
 
--- each word behind a space
+-- each word after a space
 abbrev pub spaced : List (List ℕ) → List ℕ
 spaced words = flat_map (λ word. 32 ∷ word) words
 

@@ -56,7 +56,7 @@ group_line group standing =
     else answered_line (element_of group.header 1) (element_of group.header 6) standing.verdict (length group.sets)
     standing.accepted
 
--- what becomes of set number so and so of a group, counted from 1, for a receiver: nothing is told of one that is delivered; what is
+-- what becomes of set number so and so of a group, counted from 1, for a receiver: nothing is reported of one that is delivered; what is
 -- held for a delimiter names the receiver
 abbrev pub outcome_line : SetupValue → (ordinal : ℕ) → Outcome → List ℕ
 outcome_line setup ordinal (DeliveredTo to) = []
@@ -66,7 +66,7 @@ outcome_line setup ordinal HeldForRoute = held_line ordinal (codes "route" ∷ [
 abbrev pub held_lines : SetupValue → PlacedValue → List ℕ
 held_lines setup p = flat_map (outcome_line setup (p.index + 1)) (outcomes setup p)
 
--- a group, and behind it its sets that are held
+-- a group, and after it its sets that are held
 abbrev pub group_lines : SetupValue → ShownGroup → List ℕ
 group_lines setup g = group_line g.group g.standing ++ flat_map (held_lines setup) (sets_in g)
 

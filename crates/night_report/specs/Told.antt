@@ -1,4 +1,4 @@
--- A report that goes on (own): the lines of the interchanges that were told so far, and what is counted of them.
+-- A report that goes on (own): the lines of the interchanges that were reported so far, and what is counted of them.
 use Rattle.std.specs.Prelude.{ℕ, ◌+◌, List, [], ◌++◌, length}
 use Rattle.judged_text.specs.Judged.{JudgedValue}
 use Rattle.partner_setup.specs.Setup.{SetupValue}
@@ -7,7 +7,7 @@ use Rattle.night_report.specs.Lines.{total_line}
 use Rattle.night_report.specs.Report.{all_lines, totals_of}
 use Rattle.night_report.specs.declared.totals.Totals.{Totals}
 
--- the lines, the totals, and how many interchanges were told
+-- the lines, the totals, and how many interchanges were reported
 pub record ToldValue : Type 0 where
   pub lines : List ℕ
   pub totals : Totals

@@ -145,7 +145,7 @@ fn append_group(
     Ok(group_totals(&group, interchange.standings(), n, held))
 }
 
-/// Writes the lines of an interchange's groups, and gives what is counted with them behind what was counted before.
+/// Writes the lines of an interchange's groups, and gives what is counted with them after what was counted before.
 pub(crate) fn append_groups(
     out: &mut Vec<u8>,
     setup: &Setup,

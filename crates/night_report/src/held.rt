@@ -24,7 +24,7 @@ fn held_by(outcome: Outcome) -> u128
     }
 }
 
-/// Writes what is told of an outcome.
+/// Writes what is reported of an outcome.
 fn append_outcome(
     out: &mut Vec<u8>,
     setup: &Setup,

@@ -35,7 +35,7 @@ fn append_end_words(out: &mut Vec<u8>, fault: Option<InterchangeFault>) -> Resul
     }
 }
 
-/// Writes the words behind the first of an interchange's line, up to the last ones.
+/// Writes the words after the first of an interchange's line, up to the last ones.
 fn append_interchange_words<'x>(
     out: &mut Vec<u8>,
     n: u64,

@@ -5,7 +5,7 @@ ghost use Rattle.x12_write.specs.Segment.{read};
 use hub_kinds::NoMemory;
 use itoa::Buffer;
 
-/// Writes a word behind a space.
+/// Writes a word after a space.
 pub(crate) fn append_word(out: &mut Vec<u8>, word: &[u8]) -> Result<(), NoMemory>
     ensures { OnOk result (out.new.items ≡ out.old.items ++ spaced (word.now ∷ [])) }
 {
@@ -14,7 +14,7 @@ pub(crate) fn append_word(out: &mut Vec<u8>, word: &[u8]) -> Result<(), NoMemory
     Ok(())
 }
 
-/// Writes each word behind a space.
+/// Writes each word after a space.
 pub(crate) fn append_words(out: &mut Vec<u8>, words: &[&[u8]]) -> Result<(), NoMemory>
     ensures { OnOk result (out.new.items ≡ out.old.items ++ spaced (read words.now)) }
 {
@@ -24,7 +24,7 @@ pub(crate) fn append_words(out: &mut Vec<u8>, words: &[&[u8]]) -> Result<(), NoM
     Ok(())
 }
 
-/// Writes a word and a number, each behind a space.
+/// Writes a word and a number, each after a space.
 pub(crate) fn append_count(out: &mut Vec<u8>, word: &[u8], count: u128) -> Result<(), NoMemory>
     ensures { OnOk result (out.new.items ≡ out.old.items ++ spaced (word.now ∷ decimal count ∷ [])) }
 {
@@ -32,7 +32,7 @@ pub(crate) fn append_count(out: &mut Vec<u8>, word: &[u8], count: u128) -> Resul
     append_words(out, &[word, digits.format(count).as_bytes()])
 }
 
-/// Writes a line: its first word, each other word behind a space, LF.
+/// Writes a line: its first word, each other word after a space, LF.
 pub(crate) fn append_line(out: &mut Vec<u8>, first: &[u8], words: &[&[u8]]) -> Result<(), NoMemory>
     ensures { OnOk result (out.new.items ≡ out.old.items ++ line first.now (read words.now)) }
 {

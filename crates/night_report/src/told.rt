@@ -7,8 +7,8 @@ use partner_setup::Setup;
 use std::alloc::Global;
 use std::marker::Model;
 
-/// A report that goes on: the lines of the interchanges that were told so far, and what is counted of them. The texts of a night may
-/// come one behind the other; offsets and numbers are those of the whole.
+/// A report that goes on: the lines of the interchanges that were reported so far, and what is counted of them. The texts of a night may
+/// come one after the other; offsets and numbers are those of the whole.
 #[derive(Debug, Drop)]
 pub struct ReportLines {
     text: Vec<u8>,
@@ -43,7 +43,7 @@ impl ReportLines {
         }
     }
 
-    /// How many interchanges were told.
+    /// How many interchanges were reported.
     pub fn count(&self) -> u64
         ensures { result ≡ self.now.count }
     {
@@ -51,7 +51,7 @@ impl ReportLines {
         *told
     }
 
-    /// Tells of more interchanges, those of a text that begins at the offset `base`. The only error is want of memory.
+    /// Reports more interchanges, those of a text that begins at the offset `base`. The only error is out of memory.
     pub fn append(
         self,
         setup: &Setup,

@@ -140,7 +140,7 @@ can_go_on setup at first now held r is =
       outside = few.1;
     })
 
--- the night so far, behind a batch
+-- the night so far, after a batch
 pub night_behind : (setup : SetupValue) (at : List ℕ) (base : ℕ) (batch : List ℕ) (old new : Carried) (n : NightSoFar)
     → old.writing ≡ n.writing → HaveSeen old.numbers (kept_keys setup n.entries) → (worked : HasWorked batch setup at base old new)
     → IsBatchOf batch setup at base n worked.index new.writing
@@ -181,7 +181,7 @@ read_batch setup at first now old new r next a is advances worked bytes total ba
       start = start;
     }
 
--- behind the last batch it can be closed
+-- after the last batch it can be closed
 pub can_close : (setup : SetupValue) (at : List ℕ) (first now : Option (List ℕ)) (held : HeldValue) (r : Reading) (last : Carried)
     → IsReadUpTo setup at first now held r → HasWorked held.bytes setup at r.base r.carried last
     → (length last.writing.files ≡ length setup.partners) × (length last.writing.boxes ≡ length setup.partners)
@@ -231,13 +231,13 @@ read_all setup at first now held r last night most is end worked by =
       is = closed is.text setup at (behind_batch r.base is.night worked.index written.known last.writing) night whole by;
     }
 
--- what was told is what was read
+-- what was declared is what was read
 pub not_too_long : (setup : SetupValue) (at : List ℕ) (first now : Option (List ℕ)) (held : HeldValue) (r : Reading) (most : ℕ)
     → IsReadUpTo setup at first now held r → IsAtEnd now → held.total ≤ most → IfSome first (λ xs. length xs ≤ most)
 not_too_long setup at first now held r most is end few =
     all_told first now is.text (λ xs. length xs ≤ most) is.consumed end (omega (arith, is.total, few))
 
--- more is told than there is room for
+-- more is declared than there is room for
 pub too_long : (setup : SetupValue) (at : List ℕ) (first now : Option (List ℕ)) (held : HeldValue) (r : Reading) (most : ℕ)
     → IsReadUpTo setup at first now held r → IfSome now (λ xs. most < held.total + length xs) → IfSome first (λ xs. most < length xs)
 too_long setup at None now held r most is long = tt

@@ -26,7 +26,7 @@ pub record IsReadUpTo (setup : SetupValue) (at : List ℕ) (first now : Option (
   pub stands : Stands held.bytes r.scout.at r.scout.inside
   pub start : r.scout.at ≡ 0
 
--- the night of the bytes that were read, which are those that the reader told, where it told them; they are no more than the limit
+-- the night of the bytes that were read, which are those that the reader declared, where it declared them; they are no more than the limit
 pub record IsNightOfStream (told : Option (List ℕ)) (setup : SetupValue) (at : List ℕ) (night : Night) : Type 0 where
   pub text : List ℕ
   pub told_all : IfSome told (λ xs. xs ≡ text)

@@ -70,7 +70,7 @@ fn add_little<'a>(
     Ok(Carried { numbers, writing })
 }
 
-/// Works on a batch with as many bytes as an interchange needs: all of it is found out by the workers, and written behind them.
+/// Works on a batch with as many bytes as an interchange needs: all of it is found out by the workers, and written after them.
 fn add_shared<'g: 'a, 'a, G: Gate + Sync, R: Threads + Wait + Clock + Sync>(
     crew: &Crew<'_, R, G>,
     alloc: Global,

@@ -1,9 +1,9 @@
-/// How a stream is worked on: in which pieces, by how many workers, and behind which gate.
+/// How a stream is worked on: in which pieces, by how many workers, and after which gate.
 #[derive(Drop)]
 pub struct Crew<'s, R, G> {
     /// What starts threads, waits and tells the time.
     pub rt: &'s R,
-    /// What each worker passes before and behind a job.
+    /// What each worker passes before and after a job.
     pub gate: &'s G,
     /// How many workers there are, 1 to 64.
     pub workers: u64,

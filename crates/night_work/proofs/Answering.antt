@@ -83,7 +83,7 @@ judges_at index n zero (suc zero) (e ∷ es) inside is = refl
 judges_at index n zero (suc (suc next)) (e ∷ es) inside is = absurd (omega (arith, is))
 judges_at index n (suc i) (suc next) (e ∷ es) inside is = judges_at index n i next es (omega (arith, inside)) (omega (arith, is))
 
--- behind the last interchange none is left to be judged
+-- after the last interchange none is left to be judged
 pub judges_all : (index : IndexValue) (es : List IndexEntry) (i : ℕ) (jobs : List JudgeJob) (all : List JudgeAsked)
     → length es ≤ i → map judge_asked jobs ++ judges_from index (i + 1) (drop i es) ≡ all → map judge_asked jobs ≡ all
 judges_all index es i jobs all end before =

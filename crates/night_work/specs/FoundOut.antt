@@ -17,7 +17,7 @@ pub record IsFoundOut (text : List ℕ) (setup : SetupValue) (out : FoundText) :
   pub index : out.index ≡ settled plain (settled_faults setup plain.entries)
   pub found : AllZip IsFound (asked_of text setup out.index.entries) out.findings.items
 
--- the same of a text behind interchanges of which these numbers were seen, and the numbers behind it
+-- the same of a text after interchanges of which these numbers were seen, and the numbers after it
 pub record IsFoundBehind (text : List ℕ) (setup : SetupValue) (old : Seen) (out : FoundBehind) : Type 0 where
   pub plain : IndexValue
   pub read : IsIndex text plain

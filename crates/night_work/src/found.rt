@@ -28,14 +28,14 @@ pub struct FoundText<'a> {
     pub findings: Vec<Finding<'a>>,
 }
 
-/// The same of a text that stands behind others.
+/// The same of a text that stands after others.
 #[derive(Drop)]
 pub struct FoundBehind<'a> {
     /// Its index, settled with the faults 1 to 9.
     pub index: Index<'a>,
     /// What was found out at each place of the interchanges that have none of the faults 1 to 8, in the order of places.
     pub findings: Vec<Finding<'a>>,
-    /// The numbers that are seen behind the text.
+    /// The numbers that are seen after the text.
     pub numbers: Seen,
 }
 
@@ -53,7 +53,7 @@ fn without_numbers<'a>(found: FoundBehind<'a>) -> FoundText<'a>
 
 /// Finds out by workers what is asked about a text of at most `LONGEST_TEXT` bytes before it is answered: its index, how each set is
 /// checked by its sender's compiled guide, and whether an earlier place has the number of a place. The text is cut into pieces as the cuts
-/// say; there are 1 to 64 workers; the gate is entered before each job and told of its answer behind it. Errors: memory or a thread is
+/// say; there are 1 to 64 workers; the gate is entered before each job and informed of its answer after it. Errors: memory or a thread is
 /// wanting. X12.5, interchange; X12.6, functional group and transaction set.
 pub fn find_out<'g: 'a, 'a, G: Gate + Sync, R: Threads + Wait + Clock + Sync>(
     rt: &R,
@@ -77,7 +77,7 @@ pub fn find_out<'g: 'a, 'a, G: Gate + Sync, R: Threads + Wait + Clock + Sync>(
 }
 
 /// The same of a text that interchanges come before, by the numbers of those of them that have none of the faults 1 to 8; and the numbers
-/// behind the text. An error leaves no numbers.
+/// after the text. An error leaves no numbers.
 pub fn find_out_behind<'g: 'a, 'a, G: Gate + Sync, R: Threads + Wait + Clock + Sync>(
     rt: &R,
     alloc: Global,

@@ -22,7 +22,7 @@ use std::thread::Threads;
 use std::time::Clock;
 use worker_pool::{CheckDone, Gate};
 
-/// Puts together what was done at the places of an index and what its register tells of their numbers.
+/// Puts together what was done at the places of an index and what its register says of their numbers.
 fn put_together<'a>(
     alloc: Global,
     index: &Index<'_>,

@@ -10,7 +10,7 @@ use Rattle.checked_text.proofs.Pairing.{no_pairs}
 use Rattle.checked_text.specs.CheckedText.{AreAcknowledgments, CheckedInterchange, IsCheckedAs}
 use Rattle.night_writing.specs.Writing.{IsBatchWritten, WritingValue, with_outside}
 
--- nothing is told of none
+-- nothing is reported of none
 told_same : (setup : SetupValue) (base : ℕ) (told : ToldValue) → told ≡ told_behind setup base told []
 told_same setup base told =
     ap (λ (l : List ℕ). let t : ToldValue = record { lines = l; totals = told.totals; count = told.count } in t)

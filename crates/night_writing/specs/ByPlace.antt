@@ -15,14 +15,14 @@ sent_at files place = slice_index_or files place nothing_sent
 abbrev pub sets_at : List (List RenderedValue) → (place : ℕ) → List RenderedValue
 sets_at boxes place = slice_index_or boxes place []
 
--- the mailbox behind these acknowledgments
+-- the mailbox after these acknowledgments
 abbrev pub box_behind : SetupValue → (at : List ℕ) → SentValues → List RenderedValue → Partner → List ℕ
 box_behind setup at sent sets partner = box_of_rendered setup partner at sent.count sent.groups sets
 
 abbrev pub box_by : SetupValue → (at : List ℕ) → List SentValues → List (List RenderedValue) → (place : ℕ) → Partner → List ℕ
 box_by setup at files boxes place partner = box_behind setup at (sent_at files place) (sets_at boxes place) partner
 
--- the counters behind these acknowledgments and sets
+-- the counters after these acknowledgments and sets
 abbrev pub next_behind : SentValues → List RenderedValue → Partner → Counters
 next_behind sent sets partner =
     counters_by partner.counters partner.cap sent.count sent.groups (length sets) (groups_of_rendered partner.cap sets)

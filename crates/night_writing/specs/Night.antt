@@ -36,7 +36,7 @@ sets_to text setup known place = delivered_to setup place (judgements text known
 abbrev pub acks_of : SetupValue → (at : List ℕ) → List CheckedInterchange → (place : ℕ) → Partner → List ℕ
 acks_of setup at known place partner = (acknowledgments_to setup at known place partner).text
 
--- its mailbox, whose interchanges and groups are numbered behind those of its acknowledgments
+-- its mailbox, whose interchanges and groups are numbered after those of its acknowledgments
 abbrev pub box_of : (text : List ℕ) → SetupValue → (at : List ℕ) → List CheckedInterchange → (place : ℕ) → Partner → List ℕ
 box_of text setup at known place partner =
     box_text setup partner at (length (acknowledged_to place known)) (groups_to (acknowledged_to place known))

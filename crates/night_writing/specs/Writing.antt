@@ -51,7 +51,7 @@ pub record IsWrittenOf (text : List ℕ) (setup : SetupValue) (at : List ℕ) (k
   pub told : AreTold setup (judgements text known) w.told
   pub boxes : AreRendered setup (judgements text known) w.boxes
 
--- there is room behind it for so many interchanges more, and so many bytes outside
+-- there is room after it for so many interchanges more, and so many bytes outside
 pub record HasRoomFor (setup : SetupValue) (at : List ℕ) (more others : ℕ) (w : WritingValue) : Type 0 where
   pub before : List CheckedInterchange
   pub files : AreAcknowledgments setup at before w.files
@@ -60,7 +60,7 @@ pub record HasRoomFor (setup : SetupValue) (at : List ℕ) (more others : ℕ) (
   pub few : length before + more < 2 ^ 64
   pub outside : w.outside + others < 2 ^ 64
 
--- behind the old, that of a text that begins at this offset of the whole one: of its settled entries, answered, and its bytes outside
+-- after the old, that of a text that begins at this offset of the whole one: of its settled entries, answered, and its bytes outside
 pub record IsBatchWritten (text : List ℕ) (setup : SetupValue) (at : List ℕ) (base : ℕ) (entries : List IndexEntry) (others : ℕ)
     (old new : WritingValue) : Type 0 where
   pub known : List CheckedInterchange

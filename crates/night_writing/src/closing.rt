@@ -28,7 +28,7 @@ pub(crate) struct AllClosed {
     pub(crate) next: Items<Counters>,
 }
 
-/// The counters behind so many acknowledgments, which have so many groups, and behind so many delivered sets, which have so many.
+/// The counters after so many acknowledgments, which have so many groups, and after so many delivered sets, which have so many.
 fn counters_by(
     now: Counters,
     cap: u32,

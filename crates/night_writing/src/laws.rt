@@ -5,7 +5,7 @@ ghost use Rattle.night_writing.specs.declared.night.Night.{Night};
 ghost use Rattle.night_writing.specs.Night.{IsNightOf};
 ghost use Rattle.night_writing.specs.Writing.{IsClosedBy, IsWrittenOf, WritingValue};
 
-/// A law, with nothing to run: what was written of the interchanges of a text, closed, is the night of these interchanges (X12.5,
+/// A theorem, with nothing to run: what was written of the interchanges of a text, closed, is the night of these interchanges (X12.5,
 /// interchange; 999 guide, 005010X231).
 pub fn writing_gives_the_night()
     ensures { (text : List ℕ) (setup : SetupValue) (at : List ℕ) (known : List CheckedInterchange) (w : WritingValue) (night : Night)

@@ -32,7 +32,7 @@ fn texts_of(alloc: Global, files: Vec<Acknowledgments>) -> Result<Texts, NoMemor
     Ok(Items::from_vec(texts))
 }
 
-/// The sets that were written for each partner, and behind them those that are delivered of these interchanges.
+/// The sets that were written for each partner, and after them those that are delivered of these interchanges.
 fn rendered_behind<W: Writers>(
     alloc: Global,
     writers: &W,
@@ -49,7 +49,7 @@ fn rendered_behind<W: Writers>(
     Ok(boxes)
 }
 
-/// The answers to a batch, behind what was sent before: by what was found out about its places, or else checked here.
+/// The answers to a batch, after what was sent before: by what was found out about its places, or else checked here.
 fn answered<'i, 'a>(
     alloc: Global,
     setup: &'a Setup,
@@ -96,7 +96,7 @@ impl Writing {
     ghost use Rattle.checked_text.specs.Asked.{IsFound, asked_of};
     ghost use Rattle.night_writing.specs.Writing.{HasRoomFor, IsBatchWritten, IsClosedBy, nothing_written, with_outside};
 
-    /// Of nothing. The only error is want of memory.
+    /// Of nothing. The only error is out of memory.
     pub fn new(alloc: Global, setup: &Setup) -> Result<Writing, NoMemory>
         ensures { IfOk result (λ w. w ≡ nothing_written setup.now) }
     {
@@ -123,7 +123,7 @@ impl Writing {
         }
     }
 
-    /// Adds interchanges behind those before, of which there may be none.
+    /// Adds interchanges after those before, of which there may be none.
     fn add_interchanges<'a, W: Writers>(
         self,
         alloc: Global,
@@ -182,9 +182,9 @@ impl Writing {
         self.add_interchanges(alloc, writers, setup, at, base, index, found)
     }
 
-    /// Adds a batch of interchanges, behind those before: each set is checked and answered, and written where it is delivered. They
+    /// Adds a batch of interchanges, after those before: each set is checked and answered, and written where it is delivered. They
     /// stand in a text of their own, which begins at the offset `base` of the whole one, and are settled. A batch without
-    /// interchanges adds its bytes outside alone, whatever the number of partners. The only error is want of memory; then what was
+    /// interchanges adds its bytes outside alone, whatever the number of partners. The only error is out of memory; then what was
     /// written before is given up.
     pub fn add_batch<'a>(
         self,
@@ -202,7 +202,7 @@ impl Writing {
     }
 
     /// The same of a batch of which all was found out before: of each place of its index whether its number is used earlier, and of each
-    /// set how it was checked; delivered sets are written by these writers. The only error is want of memory; then what was written before
+    /// set how it was checked; delivered sets are written by these writers. The only error is out of memory; then what was written before
     /// is given up.
     pub fn add_found<'a, W: Writers>(
         self,
@@ -223,7 +223,7 @@ impl Writing {
         self.add_answered(alloc, writers, setup, at, base, index, Some(found))
     }
 
-    /// The night, behind the last batch: each mailbox gets its envelopes, the report its total. The only error is want of memory.
+    /// The night, after the last batch: each mailbox gets its envelopes, the report its total. The only error is out of memory.
     pub fn close(self, alloc: Global, setup: &Setup, at: &At) -> Result<Night, NoMemory>
         requires files { length self.files ≡ length setup.now.partners }
         requires boxes { length self.boxes ≡ length setup.now.partners }

@@ -2,7 +2,7 @@
 //! standard output a line for each file, the guides in their order, then the setup, then the counters. Status 0 says that each is taken,
 //! 3 that one isn't; a run that fails prints one line on standard error and ends with 2, 5 or 6.
 //!
-//! Proved: the program is safe on every input, and ends. Where its arguments can't be had, that is told as usage or as want of memory,
+//! Proved: the program is safe on every input, and ends. Where its arguments can't be had, that is reported as usage or as out of memory,
 //! and as nothing else (`words`). All else of a run is `check_command::check_main`, called on the arguments without the program's name,
 //! and what is proved of it is said there.
 #![tactic(auto)]

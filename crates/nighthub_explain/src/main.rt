@@ -1,8 +1,8 @@
-//! `nighthub_explain NAME.ack` says in words what a partner's acknowledgments tell, read from the file that nighthub writes: on standard
+//! `nighthub_explain NAME.ack` says in words what a partner's acknowledgments report, read from the file that nighthub writes: on standard
 //! output a line for each TA1, for each group and set that isn't accepted a line for each fault, and a last line of totals. Status 0 says
 //! that this was printed; a run that fails prints one line on standard error and ends with 2, 4, 5 or 6 (docs/ERRORS.md).
 //!
-//! Proved: the program is safe on every input, and ends. Where its arguments can't be had, that is told as usage or as want of memory,
+//! Proved: the program is safe on every input, and ends. Where its arguments can't be had, that is reported as usage or as out of memory,
 //! and as nothing else (`words`). All else of a run is `explain_command::explain_main`, called on the arguments without the program's
 //! name, and what is proved of it is said there.
 #![tactic(auto)]

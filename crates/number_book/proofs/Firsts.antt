@@ -112,7 +112,7 @@ module _ {K : Type 0} where
       same : (k : K) → cmp k p ≡ cmp k q
       same k = total.antisymm k p ∙ ap ordering_reverse (total.congr p q k (from_test (cmp p q) e)) ∙ sym (total.antisymm k q)
 
-    -- what a map that gives each key its first position gives behind one more
+    -- what a map that gives each key its first position gives after one more
     pub noted : (keys more : List (Option K)) (at : ℕ) (key : K) (old new : K → Option ℕ)
         → ((test : K → Bool) → first_from test 0 more ≡ cond (test key) (lesser at (first_from test 0 keys)) (first_from test 0 keys))
         → ((q : K) → old q ≡ first_of cmp keys q)
@@ -145,7 +145,7 @@ module _ {K : Type 0} where
       step (inl e) = inl (ap suc e.0, e.1)
       step (inr e) = inr e
 
-    -- keys go on rising with one that is greater than those before it and less than those behind it
+    -- keys go on rising with one that is greater than those before it and less than those after it
     pub rising_more : (keys : List (Option K)) (at : ℕ) (key : K) → AreRising cmp keys → Follows cmp keys at key → Precedes cmp keys at key
         → AreRising cmp (slice_set keys at (Some key))
     rising_more keys at key rising follows precedes i j a b low is_a is_b =

@@ -32,7 +32,7 @@ AreRising {K} cmp keys = (i j : ℕ) (a b : K) → i < j → slice_get keys i �
 abbrev pub AreBelow : {K : Type 0} → ℕ → List (Option K) → Type 0
 AreBelow {K} end keys = (i : ℕ) (a : K) → slice_get keys i ≡ Some (Some a) → i < end
 
--- every key before a position is less than this one; this one is less than every key behind it
+-- every key before a position is less than this one; this one is less than every key after it
 abbrev pub Follows : {K : Type 0} → (K → K → Ordering) → List (Option K) → ℕ → K → Type 0
 Follows {K} cmp keys at key = (i : ℕ) (a : K) → i < at → slice_get keys i ≡ Some (Some a) → cmp a key ≡ Less
 

@@ -38,7 +38,7 @@ impl<K: Ord + Copy + Drop> Model for Book<K> {
 impl<K: Ord + Copy + Drop> Book<K> {
     ghost use Rattle.std.specs.Prelude.{replicate, is_some};
 
-    /// No key at each of so many positions. The only error is want of memory.
+    /// No key at each of so many positions. The only error is out of memory.
     pub fn new(alloc: Global, count: usize) -> Result<Book<K>, AllocError>
         ensures { IfOk result (λ b. b ≡ replicate count None) }
     {
@@ -70,7 +70,7 @@ impl<K: Ord + Copy + Drop> Book<K> {
         self.keys[at].is_some()
     }
 
-    /// Puts a key at a position that has none. The only error is want of memory, which leaves the book as it was.
+    /// Puts a key at a position that has none. The only error is out of memory, which leaves the book as it was.
     pub fn add(&mut self, at: usize, key: K) -> Result<(), AllocError>
         requires { slice_get self.old at ≡ Some None }
         ensures ok { OnOk result (self.new ≡ slice_set self.old at (Some key)) }
@@ -113,7 +113,7 @@ fn earlier_by<K: Ord + Copy + Drop>(
     if first < at { Some(first) } else { None }
 }
 
-/// Whether keys go on rising with this one, as far as its near neighbours tell.
+/// Whether keys go on rising with this one, as far as its near neighbours show.
 fn fits<K: Ord + Copy + Drop>(keys: &[Option<K>], end: usize, at: usize, key: K) -> bool
     requires end { AreBelow end keys.now }
     requires absent { slice_get keys.now at ≡ Some None }

@@ -23,7 +23,7 @@ impl<K: Ord + Copy + Drop> Model for Books<K> {
 }
 
 impl<K: Ord + Copy + Drop> Books<K> {
-    /// No book, and room for so many. The only error is want of memory.
+    /// No book, and room for so many. The only error is out of memory.
     pub fn new(alloc: Global, room: usize) -> Result<Books<K>, AllocError>
         ensures { IfOk result (λ b. b ≡ []) }
     {
@@ -31,7 +31,7 @@ impl<K: Ord + Copy + Drop> Books<K> {
         Ok(Books { alloc, books })
     }
 
-    /// One more book, which has no key at each of so many positions. The only error is want of memory, which leaves the books as
+    /// One more book, which has no key at each of so many positions. The only error is out of memory, which leaves the books as
     /// they were.
     pub fn push(&mut self, count: usize) -> Result<(), AllocError>
         ensures ok { OnOk result (self.new ≡ self.old ++ replicate count None ∷ []) }
@@ -50,7 +50,7 @@ impl<K: Ord + Copy + Drop> Books<K> {
         self.books[book].holds(at)
     }
 
-    /// Puts a key at a position of a book that has none there. The only error is want of memory, which leaves the books as they
+    /// Puts a key at a position of a book that has none there. The only error is out of memory, which leaves the books as they
     /// were.
     pub fn add(&mut self, book: usize, at: usize, key: K) -> Result<(), AllocError>
         requires { slice_get (book_at self.old book) at ≡ Some None }

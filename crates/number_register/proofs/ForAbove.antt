@@ -60,7 +60,7 @@ of_sets isa gs first (s ∷ sets) a h = elim (in_cons _ (sets_from isa gs (first
   }
 ]
 
--- numbered places of a list and what stands behind them
+-- numbered places of a list and what stands after them
 pub in_front : {A : Type 0} (x : A) (xs : List A) → Contains (x ∷ xs) x
 in_front x xs = Contains-append_left (x ∷ []) xs x (one_contains x)
 
@@ -121,7 +121,7 @@ of_groups isa first (g ∷ groups) a h =
       ]
     ]
 
--- what a group adds, in front of the groups behind it
+-- what a group adds, before the groups after it
 abbrev pub group_items : (isa gs : ℕ) → GroupEntry → List Numbered
 group_items isa gs g = group_item isa gs g ∷ sets_from isa gs 1 g.sets
 

@@ -1,5 +1,5 @@
 //! The register of control numbers: which places of a settled index were recorded, in whatever order they came, and
-//! behind them the first use of each place's number. A book has the numbers that can be compared with one another, by
+//! after them the first use of each place's number. A book has the numbers that can be compared with one another, by
 //! position: one for the interchanges of the text, one for the groups of each interchange, one for the sets of each group
 //! (`number_book`). While numbers rise with their places, as they mostly do, a record costs a look at its neighbours.
 //! Threads share a register's lock; a place's number is read before the lock is taken.
@@ -20,7 +20,7 @@
 //!   share by one; so `Register::open` gives as many records as the shares add up to.
 //!
 //! X12.5, interchange control number (ISA13) with sender and receiver (ISA05 to ISA08); X12.6, group control number
-//! (GS06) and transaction set control number (ST02). That numbers are told by first use is own. That a thread gets on
+//! (GS06) and transaction set control number (ST02). That numbers are reported by first use is own. That a thread gets on
 //! isn't claimed, nor that `record_locked` ever answers a fresh one: the trial sees that it does.
 //!
 //! As its trial, the crate `trial_workers`, calls it:

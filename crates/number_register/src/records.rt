@@ -85,7 +85,7 @@ impl<'i, 'a> Records<'i, 'a> {
         recorded.as_slice()
     }
 
-    /// Records a place of the index, at the end. Errors: it was recorded before; else memory is wanting. Both leave the records as
+    /// Records a place of the index, at the end. Errors: it was recorded before; else memory is refused. Both leave the records as
     /// they were.
     pub fn record(&mut self, place: Place) -> Result<(), RecordFault>
         requires { Contains (places_of self.old.index) place }

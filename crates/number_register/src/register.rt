@@ -131,7 +131,7 @@ impl<'i, 'a, J: Named> Locked<'i, 'a, J> {
 
 impl<'i, 'a, J: Named> RecordLock<'i, 'a, J> {
     /// Records a place of the register's index, which it names; waits for the lock. A fresh record raises the share by one, else it
-    /// stays. The number is read before the lock is taken. The only error is want of memory.
+    /// stays. The number is read before the lock is taken. The only error is out of memory.
     pub fn record_locked<R: Wait>(
         &self,
         rt: &R,
@@ -152,7 +152,7 @@ impl<'i, 'a, J: Named> RecordLock<'i, 'a, J> {
 
 impl<'i, 'a, J: Named> Register<'i, 'a, J> {
     /// A register of an index, in which nothing is recorded; its ledger has 65 parts, one for each share and one that stays. The
-    /// only error is want of memory.
+    /// only error is out of memory.
     pub fn new(
         alloc: Global,
         index: &'i Index<'a>,

@@ -34,8 +34,8 @@ fn record_all(records: &mut Records<'_, '_>, places: &[Place]) -> Result<(), NoM
     Ok(())
 }
 
-/// The records of all places of an index: those that are missing are recorded now, behind the others. The only error is want of
-/// memory.
+/// The records of all places of an index: those that are missing are recorded now, after the others. The only error is out
+/// of memory.
 pub fn finish_all<'i, 'a>(
     alloc: Global,
     records: Records<'i, 'a>,

@@ -42,7 +42,7 @@ found_from n (x ∷ xs) text =
 pub found_name : (names : List (List ℕ)) (text : List ℕ) → is_some (place_of names text) ≡ contains_text names text
 found_name names text = found_from 0 names text
 
--- what is added at the end, in front of what is still to come
+-- what is added at the end, before what is still to come
 pub some_between : {A : Type 0} (front new rest : List A) (o : Option A) → new ≡ front ++ and_some o []
     → new ++ rest ≡ front ++ and_some o rest
 some_between front new rest None e = ap (λ l. l ++ rest) (e ∙ append-nil front)

@@ -1,4 +1,4 @@
--- Texts behind their lengths are ordered by their lengths first, and then byte by byte.
+-- Texts after their lengths are ordered by their lengths first, and then byte by byte.
 use Rattle.std.proofs.Common.{◌≡◌, ℕ, Bool, ◌||◌, List, [], ◌∷◌, ◌++◌, length, map, inl, inr, refl, sym, ap, ◌∙◌, arith}
 use Rattle.std.specs.Cmp.{nat_cmp_is}
 use Rattle.std.proofs.lemmas.Bool.Decides.{leb_tells}

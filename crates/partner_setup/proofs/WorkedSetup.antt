@@ -278,14 +278,14 @@ this_version nodes = refl
 another_version : (nodes : Vec Node Global) → has_version (setup_of rows counters (guides nodes)) 1 (codes "PO") (codes "004010") ≡ false
 another_version nodes = refl
 
--- of rows that are given twice, the first one that stands again behind it
+-- of rows that are given twice, the first one that stands again after it
 second_route_given_twice : (nodes : Vec Node Global) → first_fault
     (rows_with (acme ∷ bolt ∷ [])
     (route (codes "AB") (codes "ACME") ∷ route (codes "AC") (codes "ACME") ∷ route (codes "AC") (codes "BOLT") ∷ [])) counters
     (guides nodes) ≡ Some (fault.BadRoute 1)
 second_route_given_twice nodes = refl
 
--- a wrong row before one that is given twice, and behind it
+-- a wrong row before one that is given twice, and after it
 wrong_route_first : (nodes : Vec Node Global) → first_fault
     (rows_with (acme ∷ bolt ∷ [])
     (route (codes "A") (codes "ACME") ∷ route (codes "AC") (codes "ACME") ∷ route (codes "AC") (codes "BOLT") ∷ [])) counters

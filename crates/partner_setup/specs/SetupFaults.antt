@@ -20,7 +20,7 @@ use Rattle.partner_setup.specs.declared.setup_fault.GuidesOwner.TheVariants as g
 use Rattle.partner_setup.specs.declared.setup_fault.SetupFault.{SetupFault}
 use Rattle.partner_setup.specs.declared.setup_fault.SetupFault.TheVariants as fault
 
--- a text behind its length, so that what follows can't be taken for a part of it
+-- a text after its length, so that what follows can't be taken for a part of it
 abbrev pub told : List ℕ → List ℕ → List ℕ
 told text behind = length text ∷ (text ++ behind)
 
@@ -35,7 +35,7 @@ by_name name = told_by name [] []
 abbrev pub first_row : {A : Type 0} → (A → Bool) → List A → Option ℕ
 first_row test rows = position_from test 0 rows
 
--- the first row whose key is that of one behind it, by its place; the first has this place
+-- the first row whose key is that of one after it, by its place; the first has this place
 abbrev pub twin_from : {A : Type 0} → (A → List ℕ) → ℕ → List A → Option ℕ
 twin_from key n [] = None
 twin_from key n (x ∷ xs) = if list_any (λ y. has_same_key key y x) xs then Some n else twin_from key (n + 1) xs

@@ -139,8 +139,8 @@ impl Setup {
     ghost use Rattle.partner_setup.specs.SetupFaults.{first_fault};
     ghost use Rattle.partner_setup.specs.declared.setup_fault.SetupFault.TheVariants as refusal;
 
-    /// The setup that rows, counters and guides make, or the first refusal, in the order of the refusals' numbers. Want of
-    /// memory may come before any.
+    /// The setup that rows, counters and guides make, or the first refusal, in the order of the refusals' numbers. Out
+    /// of memory may come before any.
     pub fn build(
         alloc: Global,
         rows: SetupRows,

@@ -58,7 +58,7 @@ impl Setup {
     ghost use Rattle.partner_setup.specs.CountersText as written;
 
     /// The counters file of the next night, in version 2: for each partner, in their order, the numbers from which it goes on.
-    /// The only error is want of memory.
+    /// The only error is out of memory.
     pub fn counters_text(&self, alloc: Global, next: &[Counters]) -> Result<Text, NoMemory>
         requires { length next.now ≡ length self.now.partners }
         ensures { IfOk result (λ text. text ≡ written.counters_text self.now next.now) }

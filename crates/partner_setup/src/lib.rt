@@ -2,7 +2,7 @@
 //! from night to night.
 //!
 //! Proved:
-//! - `read_setup` and `read_counters` refuse bytes as no TOML exactly where `toml` reads no table from them, want of memory
+//! - `read_setup` and `read_counters` refuse bytes as no TOML exactly where `toml` reads no table from them, out of memory
 //!   aside; else the answer is a function of the table: its first fault, or the rows that it writes;
 //! - `Setup::build` is the setup that rows, counters and guides make, exactly where nothing of them is refused, and else the
 //!   first refusal, in the order of the refusals' numbers, at the least row that is at fault;
@@ -17,6 +17,8 @@
 //! guides are gone over.
 //!
 //! Source: own; X12.5, interchange sender and receiver ids and delimiters; X12.6, functional group header.
+//!
+//! Tests: `trial_command`, `trial_nights`, `trial_track`.
 #![tactic(auto)]
 
 mod build;

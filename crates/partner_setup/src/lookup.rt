@@ -17,7 +17,7 @@ const QUALIFIER_LEN: usize = 2;
 /// The greatest length of an id.
 const ID_LEN: usize = 15;
 
-/// A qualifier, and an id behind it.
+/// A qualifier, and an id after it.
 fn key_of(qualifier: &[u8], id: &[u8]) -> [u8; 17]
     requires qualifier { length qualifier.now ≡ 2 }
     requires id { length id.now ≤ 15 }

@@ -85,7 +85,7 @@ impl Setup {
         }
     }
 
-    /// The first place of a partner with a qualifier and an id behind it.
+    /// The first place of a partner with a qualifier and an id after it.
     pub(crate) fn place_with_id(&self, key: &[u8]) -> Option<usize>
         ensures { result ≡ place_of (map sender_key self.now.partners) key.now }
     {

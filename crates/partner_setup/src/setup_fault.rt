@@ -15,12 +15,12 @@ pub enum GuidesOwner {
     Guide(usize),
 }
 
-/// Why rows, counters and guides make no setup, in the order in which it is judged; want of memory may come before
-/// any other. Each tells the least row that is at fault, by its place in its list, from 0 on. Of rows that are given twice that is the
-/// first one whose like stands behind it.
+/// Why rows, counters and guides make no setup, in the order in which it is judged; out of memory may come before
+/// any other. Each reports the least row that is at fault, by its place in its list, from 0 on. Of rows that are given twice that is the
+/// first one whose like stands after it.
 #[derive(Clone, Copy, Debug, PartialEq, Eq, Error)]
 pub enum SetupFault {
-    /// The name, or the qualifier and id, of the partner at this place are those of one behind it.
+    /// The name, or the qualifier and id, of the partner at this place are those of one after it.
     #[error("a partner is given twice")]
     SamePartner(usize),
     /// A delimiter of the partner at this place isn't one byte, isn't allowed, or stands for two of the four.
@@ -29,14 +29,14 @@ pub enum SetupFault {
     /// A name, qualifier, id or code hasn't its form.
     #[error("a name, qualifier, id or code without its form")]
     BadId(IdOwner),
-    /// A partner's guide that isn't there, two guides of a partner for the same sets; or the name of a guide that one behind it has.
+    /// A partner's guide that isn't there, two guides of a partner for the same sets; or the name of a guide that one after it has.
     #[error("guides that aren't there, or are there twice")]
     BadGuides(GuidesOwner),
-    /// The route at this place leads to no partner or to one twice, or its code has no form or is that of one behind it.
+    /// The route at this place leads to no partner or to one twice, or its code has no form or is that of one after it.
     #[error("a route that leads nowhere, or is given twice")]
     BadRoute(usize),
     /// The counters at this place in the counters file are out of 1 to 999,999,999, or of a partner that isn't there, or that one
-    /// behind them is of.
+    /// after them is of.
     #[error("a counter out of range, or of no partner")]
     BadCounter(usize),
     /// The cap of the partner at this place is out of 1 to 99,999.

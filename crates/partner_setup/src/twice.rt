@@ -13,10 +13,10 @@ use std::collections::BTreeSet;
 pub trait Tells {
     type Row;
 
-    /// What tells a row from others.
+    /// What distinguishes a row from others.
     ghost tells: { Self.Row → List ℕ };
 
-    /// What tells a row from others.
+    /// What distinguishes a row from others.
     fn tell<'a>(row: &'a Self::Row) -> Told<'a>
         ensures { faults.told_by result.first.now result.second.now result.third.now ≡ tells row.entry.now };
 }
@@ -120,7 +120,7 @@ pub fn given_twice<K: Tells>(alloc: Global, rows: &[K::Row]) -> Result<bool, NoM
     Ok(has_twice(told_apart::<K>(alloc, rows)?))
 }
 
-/// The place of the first row that can't be told from one behind it.
+/// The place of the first row that can't be distinguished from one after it.
 pub fn first_twin<'a, K: Tells>(
     alloc: Global,
     rows: &'a [K::Row],

@@ -44,7 +44,7 @@ pub entries_at : (text : List ℕ) (setup : SetupValue) (n i : ℕ) (es : List I
     → jobs_behind text setup n (drop i es) ≡ entry_jobs text setup n e ++ jobs_behind text setup (n + 1) (drop (i + 1) es)
 entries_at text setup n i es e is = ap (λ (l : List IndexEntry). jobs_behind text setup n l) (drop_at es i e is)
 
--- behind the last entry no job is left
+-- after the last entry no job is left
 pub jobs_all : (text : List ℕ) (setup : SetupValue) (es : List IndexEntry) (i : ℕ) (jobs : List CheckJob) (all : List JobValue)
     → length es ≤ i → map job_value jobs ++ jobs_behind text setup (i + 1) (drop i es) ≡ all → map job_value jobs ≡ all
 jobs_all text setup es i jobs all end before =

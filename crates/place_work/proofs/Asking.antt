@@ -202,7 +202,7 @@ to_eight text setup (e ∷ es) all =
     ∙ ap (λ (fs : List (Option InterchangeFault)). fault_or_unknown (fault_of e.interchange) (is_some sender) ∷ fs)
     (to_eight text setup es all.1)
 
--- one question at each place, told by the fault 9 or by the first use of the place's number
+-- one question at each place, answered by the fault 9 or by the first use of the place's number
 pub all_asked : (text : List ℕ) (setup : SetupValue) (es : List IndexEntry) (faults : List (Option InterchangeFault))
     → All (IsEntryOf text) es → AreSettledBy setup es faults
     → AllZip (IsAskedBy (places_behind 1 (entries_alone setup es)) faults) (places_behind 1 (entries_alone setup es))

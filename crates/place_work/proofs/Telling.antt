@@ -1,4 +1,4 @@
--- What the register says of a place's number is told.
+-- What the register says of a place's number is reported.
 use Rattle.std.proofs.Common.{Option, Some, None, refl, sym, true≢false}
 use Rattle.std.specs.Prelude.{is_some}
 use Rattle.hub_kinds.specs.declared.place.Place.{Place}

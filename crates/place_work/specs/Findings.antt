@@ -21,7 +21,7 @@ findings_of [] flags = []
 findings_of (d ∷ ds) [] = []
 findings_of (d ∷ ds) (flag ∷ flags) = finding_of d flag ∷ findings_of ds flags
 
--- with these faults 1 to 9 of its interchanges, each place of an index was done, and of each it was told whether an earlier one has its
+-- with these faults 1 to 9 of its interchanges, each place of an index was done, and of each it was said whether an earlier one has its
 -- number
 pub record AreWorkedOut (setup : SetupValue) (index : IndexValue) (faults : List (Option InterchangeFault)) (results : List DoneValue)
     (flags : List Bool) : Type 0 where

@@ -11,7 +11,7 @@ use partner_setup::Setup;
 use std::alloc::Global;
 
 /// The least of the faults 1 to 8 of each interchange of an index whose faults 1 to 7 are known: 8 where no partner of the setup is
-/// its sender (X12.5, interchange sender; the faults' numbers are own). The only error is want of memory.
+/// its sender (X12.5, interchange sender; the faults' numbers are own). The only error is out of memory.
 pub fn faults_alone(
     alloc: Global,
     setup: &Setup,

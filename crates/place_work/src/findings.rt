@@ -10,8 +10,8 @@ use std::alloc::Global;
 use worker_pool::CheckDone;
 
 /// What was found out at places: of each what was done there, of a set its check, and whether an earlier place has its number. Where that
-/// was worked out for all places of a text's index, it is all that is asked before the text is answered. The only error is want of
-/// memory.
+/// was worked out for all places of a text's index, it is all that is asked before the text is answered. The only error is out
+/// of memory.
 pub fn findings_of<'a>(
     alloc: Global,
     done: Vec<CheckDone<'a>>,

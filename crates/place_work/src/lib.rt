@@ -7,12 +7,14 @@
 //!   (`number_register::Seen`), and adds those of its interchange places;
 //! - `check_jobs` gives one job for each place of an index settled with the faults 1 to 8, in the order of places: at a set's place its
 //!   check, where it stands, by its sender's guide for its GS01, GS08 and ST01;
-//! - `flags_of` tells of each place whether an earlier one has its number: of a group and a set exactly where the first use of the
+//! - `flags_of` says of each place whether an earlier one has its number: of a group and a set exactly where the first use of the
 //!   number is an earlier place, of an interchange where it has the fault 9;
-//! - `findings_of` puts together what was done at the places and what is told of their numbers: where all jobs were done and all
-//!   flags told, it is just what is asked before the text is answered.
+//! - `findings_of` puts together what was done at the places and what is reported of their numbers: where all jobs were done and all
+//!   flags given, it is just what is asked before the text is answered.
 //!
 //! Source: X12.5, interchange; X12.6, functional group and transaction set. Places, jobs and first uses are own.
+//!
+//! Tests: `trial_nights`.
 #![tactic(auto)]
 
 mod alone;

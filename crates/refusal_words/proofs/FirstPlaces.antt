@@ -1,4 +1,4 @@
--- The first places of names with one more name behind them, and the warnings of the partners that are told of so far.
+-- The first places of names with one more name after them, and the warnings of the partners that are reported so far.
 use Rattle.std.proofs.Common.{◌≡◌, ◌<◌, ℕ, ◌+◌, suc, Bool, true, false, cond, List, [], ◌∷◌, ◌++◌, length, map, take, drop, get_or}
 use Rattle.std.proofs.Common.{Option, Some, None, refl, sym, ap, subst, ◌∙◌, append_assoc, arith}
 use Rattle.std.specs.Prelude.{is_some}

@@ -47,13 +47,13 @@ by ns i left x f h o e =
     ap (λ (ts : Trees). found ts left) (viewed ns i x h o)
     ∙ ap (λ (g : Found). or_in g (found (nodes_view (drop (i + 1) ns)))) e
 
--- behind a segment
+-- after a segment
 pub past_segment : (ns : List Node) (i left : ℕ) (x : Node) (s : Slot) → i < length ns → x ≡ get_or ns i x → left ≢ 0
     → view x ≡ segment s → found (nodes_view (drop (i + 1) ns)) (left - 1) ≡ found (nodes_view (drop i ns)) left
 past_segment ns i left x s h o e v =
     sym (by ns i left x (behind (left - 1)) h o (ap (λ (t : Tree). found_in t left) v ∙ behind_segment s left e))
 
--- in a loop, or behind it
+-- in a loop, or after it
 pub at_loop : (ns us : List Node) (i left : ℕ) (x : Node) (l : Loop) (f : Found) → i < length ns → x ≡ get_or ns i x → left ≢ 0
     → view x ≡ loop l (nodes_view us) → f ≡ found (nodes_view us) (left - 1)
     → or_in f (found (nodes_view (drop (i + 1) ns))) ≡ found (nodes_view (drop i ns)) left

@@ -16,7 +16,7 @@ mutual
   left_in (segment s) (suc n) m e = let same : n ≡ m = cc in omega arith
   left_in (loop l ts) (suc n) m e = let a = left_among ts n m e in omega arith
 
-  -- a place that isn't among nodes is as far behind them as it is told
+  -- a place that isn't among nodes is as far after them as is said
   left_among : (ts : Trees) (n m : ℕ) → found ts n ≡ behind m → n ≡ node_count ts + m
   left_among no_trees n m e = let same : n ≡ m = cc in omega arith
   left_among (tree t ts) n m e =

@@ -25,7 +25,7 @@ two_warned_of : alike_warnings partners
     ≡ alike_text partners 3 (called (codes "acme")) 0 ∷ alike_text partners 4 (called (codes "Acme")) 0 ∷ []
 two_warned_of = refl
 
--- Z and z are a letter, and the marks behind them are others
+-- Z and z are a letter, and the marks after them are others
 to_the_last_letter : alike_warnings (called (codes "AZ") ∷ called (codes "az") ∷ called (codes "A[") ∷ called (codes "a{") ∷ [])
     ≡ alike_text (called (codes "AZ") ∷ called (codes "az") ∷ called (codes "A[") ∷ called (codes "a{") ∷ []) 2 (called (codes "az")) 0 ∷ []
 to_the_last_letter = refl

@@ -23,11 +23,11 @@ is_named name rows text = list_any (λ r. bytes_eq (name r) text) rows
 abbrev pub first_unknown : {A : Type 0} → (A → List ℕ) → List A → List (List ℕ) → Option (List ℕ)
 first_unknown name rows texts = find (λ t. not (is_named name rows t)) texts
 
--- the number, from 1 on, of the first row behind this place that has the name
+-- the number, from 1 on, of the first row after this place that has the name
 abbrev pub next_named : {A : Type 0} → (A → List ℕ) → List A → (place : ℕ) → (text : List ℕ) → Option ℕ
 next_named name rows place text = position_from (λ r. bytes_eq (name r) text) (place + 2) (drop (place + 1) rows)
 
--- X12.5: the number of the first partner behind this place that has the qualifier and the id
+-- X12.5: the number of the first partner after this place that has the qualifier and the id
 abbrev pub next_sender : List PartnerRow → (place : ℕ) → (qualifier id : List ℕ) → Option ℕ
 next_sender rows place qualifier id =
     position_from (λ p. bytes_eq p.qualifier qualifier && bytes_eq p.id id) (place + 2) (drop (place + 1) rows)

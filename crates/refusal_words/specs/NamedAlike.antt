@@ -11,7 +11,7 @@ use Rattle.refusal_words.specs.SetupWords.{said_at}
 abbrev pub small_name : PartnerRow → List ℕ
 small_name p = map to_ascii_lowercase p.name
 
--- the place of the first of the partners in front of a place whose name is the same in small letters
+-- the place of the first of the partners before a place whose name is the same in small letters
 abbrev pub earlier_alike : List PartnerRow → (place : ℕ) → PartnerRow → Option ℕ
 earlier_alike partners place p = place_of (map small_name (take place partners)) (small_name p)
 

@@ -12,7 +12,7 @@ use Rattle.refusal_words.specs.Named.{counter_name, first_unknown, is_named, nex
 use Rattle.refusal_words.specs.Places.{key_text, one_number, quoted}
 use Rattle.refusal_words.specs.declared.kept_rows.KeptRows.{KeptRows}
 
--- the row behind that has the same, by its number from 1 on
+-- the later row that has the same, by its number from 1 on
 abbrev pub next_words : (kind said : List ℕ) → (next : Option ℕ) → (otherwise : List ℕ) → List ℕ
 next_words kind said next otherwise = option_map_or (λ n. one_number kind n said) next otherwise
 
@@ -52,7 +52,7 @@ guides_words kept p =
     unknown_words (codes " is no guide that is given") (first_unlisted kept.guides p.guides)
     (codes "two of its guides are for the same sets")
 
--- the first text that stands again behind itself
+-- the first text that stands again later
 abbrev pub first_again : List (List ℕ) → Option (List ℕ)
 first_again [] = None
 first_again (t ∷ ts) = if contains_text ts t then Some t else first_again ts

@@ -1,4 +1,4 @@
--- Own: the node at a place of nodes and of what is in them, a loop before what is in it, from 0 on; or how far the place is behind them
+-- Own: the node at a place of nodes and of what is in them, a loop before what is in it, from 0 on; or how far the place is after them
 -- (no public clause cites these).
 use denote.Bor.{Bor}
 use Rattle.std.specs.Prelude.{ℕ, zero, suc, Option, None, Some, option_map}

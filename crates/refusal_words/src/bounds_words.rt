@@ -98,6 +98,7 @@ fn kind_of(node: &Node) -> &'static [u8]
     }
 }
 
+/// Adds which bound this node doesn't keep, and the number of its slot. The only error is out of memory.
 pub fn append_node(out: &mut Vec<u8>, slot: u32, node: &Node) -> Result<(), NoMemory>
     ensures { OnOk result (out.new.items ≡ out.old.items ++ words.node_words slot (view node.now)) }
 {

@@ -7,6 +7,7 @@ use crate::delimiters::{Delimiter, DelimiterCause, delimiters_cause};
 use hub_kinds::NoMemory;
 use partner_setup::PartnerRow;
 
+/// The key of a delimiter in a setup file, in backticks.
 pub fn key_words(delimiter: Delimiter) -> &'static [u8]
     ensures { result.now ≡ words.key_words delimiter }
 {

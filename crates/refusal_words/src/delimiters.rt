@@ -44,6 +44,7 @@ fn may_be(delimiter: Delimiter, byte: u8) -> bool
     }
 }
 
+/// The byte of a text of one byte; none of any other.
 pub fn byte_of(text: &[u8]) -> Option<u8>
     ensures { result ≡ faults.byte_of text.now }
 {

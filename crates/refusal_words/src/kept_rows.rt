@@ -107,7 +107,7 @@ impl KeptRows {
     ghost use Rattle.std.specs.Prelude.{◌≡◌, IfOk};
     ghost use Rattle.refusal_words.specs.KeptRows.{kept_rows};
 
-    /// Copies of these rows. The only error is want of memory.
+    /// Copies of these rows. The only error is out of memory.
     pub fn of(
         alloc: Global,
         rows: &SetupRows,

@@ -7,6 +7,8 @@
 //!   (`append_guide_words`, `common_segment`).
 //!
 //! Source: own; X12.6, segment, for the segment that is shown.
+//!
+//! Tests: `trial_check`.
 #![tactic(auto)]
 
 mod appended;

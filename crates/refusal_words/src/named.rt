@@ -66,7 +66,7 @@ pub fn first_unknown<'a, T: Named>(rows: &[T], texts: &'a [Text]) -> Option<&'a 
     None
 }
 
-/// The number, from 1 on, of the first row behind this place that has the name.
+/// The number, from 1 on, of the first row after this place that has the name.
 pub fn next_named<T: Named>(rows: &[T], place: usize, text: &[u8]) -> Option<u64>
     requires { place < length rows.now }
     ensures { result ≡ names.next_named T.name rows.now place text.now }
@@ -79,7 +79,7 @@ pub fn next_named<T: Named>(rows: &[T], place: usize, text: &[u8]) -> Option<u64
     None
 }
 
-/// The number, from 1 on, of the first partner behind this place that has the qualifier and the id.
+/// The number, from 1 on, of the first partner after this place that has the qualifier and the id.
 pub fn next_sender(
     partners: &[PartnerRow],
     place: usize,

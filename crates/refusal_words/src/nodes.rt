@@ -10,7 +10,7 @@ use guide_tree::Node;
 enum Search<'a> {
     /// The node at the place.
     At(&'a Node),
-    /// The place is so far behind the nodes.
+    /// The place is so far after the nodes.
     Behind(u32),
 }
 

@@ -128,7 +128,7 @@ fn push_up_to(
     Ok(())
 }
 
-/// Adds what is wrong with each node of a guide, by their numbers. The only error is want of memory.
+/// Adds what is wrong with each node of a guide, by their numbers. The only error is out of memory.
 pub fn push_nodes_said(alloc: Global, found: &mut Vec<Text>, nodes: &[Node]) -> Result<(), NoMemory>
     ensures { OnOk result (found.new.items ≡ found.old.items ++ said.nodes_said (numbered 1 (nodes_view nodes.now))) }
 {

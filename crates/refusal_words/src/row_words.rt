@@ -9,7 +9,7 @@ use crate::named::{first_unknown, is_named, next_named, next_sender};
 use hub_kinds::{NoMemory, Text, contains_text};
 use partner_setup::{CounterRow, PartnerRow, RouteRow};
 
-/// Adds the row behind that has the same, or what else is wrong.
+/// Adds the later row that has the same, or what else is wrong.
 fn append_next(
     out: &mut Vec<u8>,
     kind: &[u8],
@@ -102,7 +102,7 @@ pub fn append_guides(
     append(out, b"two of its guides are for the same sets")
 }
 
-/// The first text that stands again behind itself.
+/// The first text that stands again later.
 pub fn first_again(texts: &[Text]) -> Option<&[u8]>
     ensures { option_map (λ t. t.now) result ≡ words.first_again texts.entry.now }
 {
@@ -150,12 +150,14 @@ pub fn append_route(
     append_code(out, route.code.as_slice())
 }
 
+/// Whether a number is a control number: 1 to 999,999,999 (X12.5, ISA13; X12.6, GS06).
 pub fn is_counter(number: u32) -> bool
     ensures { result ≡ faults.is_counter number }
 {
     1 <= number && number <= 999_999_999
 }
 
+/// Adds that the number at this key is out of 1 to 999,999,999. The only error is out of memory.
 pub fn append_number_of(out: &mut Vec<u8>, key: &[u8], number: u32) -> Result<(), NoMemory>
     ensures { OnOk result (out.new.items ≡ out.old.items ++ words.number_words key.now number) }
 {

@@ -195,7 +195,7 @@ fn hub_said(alloc: Global, rows: &SetupRows) -> Result<Vec<u8>, NoMemory>
     Ok(text)
 }
 
-/// Adds what is wrong with each row of a setup: the hub, then the partners, then the routes. The only error is want of memory.
+/// Adds what is wrong with each row of a setup: the hub, then the partners, then the routes. The only error is out of memory.
 pub fn push_setup_said(
     alloc: Global,
     found: &mut Vec<Text>,
@@ -302,7 +302,7 @@ fn push_counter(
     push_counter_lines(alloc, found, place.as_slice(), counter)
 }
 
-/// Adds what is wrong with each row of counters. The only error is want of memory.
+/// Adds what is wrong with each row of counters. The only error is out of memory.
 pub fn push_counters_said(
     alloc: Global,
     found: &mut Vec<Text>,

@@ -136,7 +136,7 @@ fn push_partners(
 
 /// The warnings of a setup of which these rows are kept, in words: the partners whose name differs from an earlier one's in case alone;
 /// those that no route leads to, or that receive by delimiters which texts often hold; then the guides that no partner names. The only
-/// error is want of memory.
+/// error is out of memory.
 pub fn setup_warning_texts(alloc: Global, kept: &KeptRows) -> Result<Texts, NoMemory>
     ensures { IfOk result (λ texts. texts ≡ warnings.setup_warnings kept.now) }
 {

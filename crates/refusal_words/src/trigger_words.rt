@@ -40,6 +40,7 @@ fn append_said(out: &mut Vec<u8>, node: &Node) -> Result<(), NoMemory>
     }
 }
 
+/// Adds why this node doesn't begin as a loop has to, and the number of its slot. The only error is out of memory.
 pub fn append_node(out: &mut Vec<u8>, slot: u32, node: &Node) -> Result<(), NoMemory>
     ensures { OnOk result (out.new.items ≡ out.old.items ++ words.node_words slot (view node.now)) }
 {

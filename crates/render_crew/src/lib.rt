@@ -4,6 +4,8 @@
 //! there are no more of them than workers.
 //!
 //! Source: own.
+//!
+//! Tests: `trial_nights`.
 #![tactic(auto)]
 
 mod crew;

@@ -101,7 +101,7 @@ kept : {X : Type 0} (p : X → Bool) (xs : List X) (x : X) → In (filter p xs) 
 kept p [] x = (λ h. absurd h, λ h. absurd h.0)
 kept p (y ∷ xs) x = kept_by p y xs x (p y) refl (kept p xs x)
 
--- these faults, and behind them those of the others whose key none of them has
+-- these faults, and after them those of the others whose key none of them has
 pub put_beside : (errors inside others kept_others all : List Fault) → ((f : Fault) → Contains inside f ↔ Contains errors f)
     → kept_others ≡ filter (λ f. not (has_key_among inside f)) others → all ≡ inside ++ kept_others
     → (f : Fault) → Contains all f ↔ IsBeside errors others f

@@ -1,4 +1,4 @@
--- The segments of a set's span: there is an ST, and an SE behind it where the set is closed.
+-- The segments of a set's span: there is an ST, and an SE after it where the set is closed.
 use Rattle.std.proofs.Common.{◌≡◌, ◌≤◌, ℕ, Bool, true, false, List, [], ◌∷◌, ◌++◌, length, map, refl, sym, ◌∙◌, ap, arith, subst}
 use Rattle.std.specs.List.{All}
 use Rattle.std.proofs.lemmas.List.{length-map}

@@ -24,7 +24,7 @@ envelope_part t o w s =
     code_if t code.TrailerMissing ++ code_if o code.ControlNumbersDiffer ++ code_if w code.SegmentCountWrong
     ++ code_if s code.ControlNumberInvalid
 
--- behind 5 and I5 comes 23 or a code before it, and neither tells of faults
+-- after 5 and I5 comes 23 or a code before it, and neither reports faults
 other_first : (k : ℕ) (g t o w s : Bool) (last : List SetCode) → list_all tells_of_faults
     (take (suc k) (code_if g code.NotSupported ++ envelope_part t o w s ++ (code.ControlNumberNotUnique ∷ []) ++ last)) ≡ false
 other_first k true t o w s last = refl

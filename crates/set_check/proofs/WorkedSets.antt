@@ -135,7 +135,7 @@ with_long_element = with_body (codes "BEG*ABCD" ∷ []) (codes "3")
 fails_by_element : MeetsAlone (Some guide) with_long_element → ⊥
 fails_by_element = fails_by_fault guide with_long_element _ _ sound (plain with_long_element) refl
 
--- what is missing at the end shows at SE, or without SE behind the last segment
+-- what is missing at the end shows at SE, or without SE after the last segment
 missing_before_trailer : all_faults guide (with_body [] (codes "2")) ≡ of_segment 2 (codes "BEG") [] 1 ik304.RequiredSegmentMissing ∷ []
 missing_before_trailer = refl
 

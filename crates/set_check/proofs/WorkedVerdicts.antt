@@ -54,7 +54,7 @@ nothing = refl
 nothing_unguided : verdict_on None [] [] ≡ Accepted
 nothing_unguided = refl
 
--- each code that doesn't tell of faults, alone
+-- each code that doesn't report faults, alone
 trailer_missing : verdict_on both [] (code.TrailerMissing ∷ []) ≡ Rejected
 trailer_missing = refl
 
@@ -113,7 +113,7 @@ element_list_of_segments = refl
 segment_code_of_an_element : verdict_on (tolerating (segment.ElementErrors ∷ []) []) (of_element element.TooLong ∷ []) five ≡ Rejected
 segment_code_of_an_element = refl
 
--- tolerated faults beside a code that doesn't tell of faults
+-- tolerated faults beside a code that doesn't report faults
 tolerated_with_another_code : verdict_on both (of_element element.TooLong ∷ [])
     (code.SegmentsInError ∷ code.ControlNumberNotUnique ∷ []) ≡ Rejected
 tolerated_with_another_code = refl

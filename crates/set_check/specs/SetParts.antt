@@ -49,6 +49,6 @@ segment_count parts = length parts.body + (1 + trailer_count parts.trailer) wher
   trailer_count None = 0
   trailer_count (Some trailer) = 1
 
--- the position behind the body: that of SE, or without SE the number of segments plus 1
+-- the position after the body: that of SE, or without SE the number of segments plus 1
 abbrev pub end_position : SetParts → ℕ
 end_position parts = length parts.body + 2

@@ -14,7 +14,7 @@ use Rattle.guide_tree.specs.Words.{GuideTree}
 use Rattle.set_check.specs.SetParts.{SetParts}
 use Rattle.set_check.specs.SetFaults.{codes_where}
 
--- 5 and I5 tell of faults in the segments, each other code of something else
+-- 5 and I5 report faults in the segments, each other code of something else
 abbrev pub tells_of_faults : SetCode → Bool
 tells_of_faults code.SegmentsInError = true
 tells_of_faults code.ImplementationSegmentsInError = true
@@ -48,7 +48,7 @@ is_without_fault [] [] = true
 is_without_fault [] (code ∷ codes) = false
 is_without_fault (fault ∷ faults) codes = false
 
--- accepted: no fault and no code; with errors noted: the codes tell of faults alone, each of which the guide tolerates
+-- accepted: no fault and no code; with errors noted: the codes report faults alone, each of which the guide tolerates
 abbrev pub verdict_on : Option GuideTree → List Fault → List SetCode → Verdict
 verdict_on guide faults codes =
     if is_without_fault faults codes then Accepted

@@ -23,7 +23,7 @@ pub const COUNT_DIGITS: usize = 10;
 
 /// The codes of a set, in their order, the first five (999 guide, IK502): by its faults, its guide
 /// if it has one, its ST, how many segments it has with ST and SE, its SE if it has one, and
-/// whether an earlier set of its group has its ST02. The only error is want of memory.
+/// whether an earlier set of its group has its ST02. The only error is out of memory.
 pub(crate) fn set_codes(
     alloc: Global,
     faults: &[Fault],

@@ -23,7 +23,7 @@ use x12_segs::{SegView, SetSpan};
 
 /// Checks a transaction set (X12.6) of a text by its compiled guide, if it has one, as `check_set` does by a guide: its faults
 /// (999 guide, IK3 and IK4), in their order, each once, and its codes (IK5) but for the one that an earlier set of its group
-/// gives. Without a guide its segments aren't checked. The only error is want of memory.
+/// gives. Without a guide its segments aren't checked. The only error is out of memory.
 pub fn check_set_fast<'a, 'g: 'a>(
     alloc: Global,
     text: &'a [u8],

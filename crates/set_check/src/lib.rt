@@ -9,14 +9,16 @@
 //! - a `CheckedSet` keeps that its faults and codes are those of its own span of its text by its own guide, and `is_clean`
 //!   answers whether it meets that guide;
 //! - `verdict` is accepted exactly where the set meets its guide and no earlier set of its group has its ST02, and accepted with
-//!   errors exactly where all codes tell of faults and the guide tolerates each fault; `into_answer` is what an acknowledgment
+//!   errors exactly where all codes report faults and the guide tolerates each fault; `into_answer` is what an acknowledgment
 //!   reads of the set;
-//! - `clean_sets_meet_their_guides` and `accepted_sets_meet_their_guides` are the laws of this by the definitions alone, and a set
+//! - `clean_sets_meet_their_guides` and `accepted_sets_meet_their_guides` are the theorems of this by the definitions alone, and a set
 //!   is checked in one way (`checks_are_one`).
 //!
 //! A set without a guide has code 1 and no fault: none of its segments is checked. The segments are found once.
 //!
 //! X12.6, transaction set, header (ST) and trailer (SE); 999 guide, IK3 to IK5.
+//!
+//! Tests: `trial_nights`, `trial_sets`.
 #![tactic(auto)]
 
 mod body;

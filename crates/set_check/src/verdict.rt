@@ -36,7 +36,7 @@ impl<'a> CheckedSet<'a> {
     }
 
     /// What an acknowledgment reads of it (999 guide, AK2 to IK5), by whether an earlier set of its group has its ST02. The only
-    /// error is want of memory.
+    /// error is out of memory.
     pub fn into_answer(self, alloc: Global, earlier: bool) -> Result<SetAnswer<'a>, NoMemory>
         ensures { IfOk result (λ answer. answer ≡ answer_to self.entry earlier) }
     {

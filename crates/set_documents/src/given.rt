@@ -81,7 +81,7 @@ fn documents_of<'a>(alloc: Global, texts: &[&'a str]) -> Result<Option<Vec<Docum
 }
 
 /// Which elements are shown where these texts are given, if any are: what they name, in their order, and after that the usual ones (the
-/// first for an ST01 counts); none where one of them names nothing. The only error is want of memory.
+/// first for an ST01 counts); none where one of them names nothing. The only error is out of memory.
 pub fn documents_given<'a>(
     alloc: Global,
     texts: Option<&[&'a str]>,

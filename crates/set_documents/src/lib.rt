@@ -5,6 +5,8 @@
 //! - `document_of` reads exactly the texts of the form `850=BEG03`, and `documents_given` has those that are given before the usual ones.
 //!
 //! Source: own; X12.6, transaction set header (ST01) and segment.
+//!
+//! Tests: `trial_track`.
 #![tactic(auto)]
 
 mod document;

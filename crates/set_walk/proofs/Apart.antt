@@ -1,4 +1,4 @@
--- The codes of structural faults are none of those by which elements and dependencies are told; and two faults of a segment's elements
+-- The codes of structural faults are none of those by which elements and dependencies are reported; and two faults of a segment's elements
 -- that have one place in the order of faults are one.
 use Rattle.std.proofs.Common.{◌≡◌, inl, inr, ℕ, Bool, true, false, List, Option, Some, sym, ◌∙◌, ap, if◌then◌else◌, ◌==◌, ◌||◌, get_or}
 use Rattle.std.specs.Str.{bytes_eq}

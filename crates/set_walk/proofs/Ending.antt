@@ -1,4 +1,4 @@
--- SE in a set: it stands behind all other segments, and there where the set is closed.
+-- SE in a set: it stands after all other segments, and there where the set is closed.
 use Rattle.std.proofs.Common.{◌≡◌, Bool, true, false, true≢false, List, [], ◌∷◌, ◌++◌, map, Option, Some, None, refl, sym, ap, ◌∙◌}
 use Rattle.std.proofs.Common.{if◌then◌else◌}
 use Rattle.std.specs.Prelude.{is_some}
@@ -42,7 +42,7 @@ passed : (x : SegValue) (xs : List SegValue) (k : Kind) → kind_of x ≡ k → 
 passed x xs k e h =
     ap (λ (b : Bool). if b then Some x else find is_trailer xs) (ap is_end e ∙ inner_is_none k h)
 
--- none stands in front of another segment
+-- none stands before another segment
 pub none_before : (xs : List SegValue) (y : SegValue) (ys : List SegValue) (inner : List Kind) (closed : Bool)
     → map kind_of (xs ++ y ∷ ys) ≡ inner ++ trailer_kinds closed → list_all is_inner inner ≡ true → find is_trailer xs ≡ None
 none_before [] y ys inner closed e h = refl

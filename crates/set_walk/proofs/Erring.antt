@@ -1,4 +1,4 @@
--- The element faults that a walk tells are those of the segments that have places, by the slots to which these lead.
+-- The element faults that a walk reports are those of the segments that have places, by the slots to which these lead.
 use Rattle.std.proofs.Common.{⊎_elim, ◌≡◌, ◌↔◌, ◌⊎◌, inl, inr, ℕ, zero, suc, ◌+◌, List, [], ◌∷◌, map, Option, Some, None, refl, sym, ap}
 use Rattle.std.proofs.Common.{subst, ◌∙◌, arith}
 use Rattle.std.specs.List.{Contains, slice_get}

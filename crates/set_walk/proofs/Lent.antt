@@ -5,7 +5,7 @@ use Rattle.std.specs.Prelude.{IfSome}
 use Rattle.x12_segs.specs.Words.{SegValue}
 use Rattle.marked_segments.specs.Marked.{IsPlain}
 
--- what is told of places holds of those that are lent
+-- what is reported of places holds of those that are lent
 pub plain_lent : (lent : Option (Bor (List ℕ))) (told : Option (List ℕ)) (seg : SegValue) → option_map (λ places. places.now) lent ≡ told
     → IfSome told (λ places. IsPlain places seg) → IfSome lent (λ places. IsPlain places.now seg)
 plain_lent None told seg is h = tt

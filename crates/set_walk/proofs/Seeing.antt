@@ -1,4 +1,4 @@
--- What was seen behind ST, with one segment more; and once all were seen.
+-- What was seen after ST, with one segment more; and once all were seen.
 use Rattle.std.proofs.Common.{⊎_elim, ◌≡◌, ◌↔◌, ◌⊎◌, inl, inr, ℕ, ◌+◌, ◌<◌, Bool, true, false, true≢false, List, [], ◌∷◌, ◌++◌}
 use Rattle.std.proofs.Common.{length, map, Option, Some, None, refl, sym, ap, subst, ◌∙◌, arith, if◌then◌else◌}
 use Rattle.std.specs.Prelude.{is_some, IfSome, nat_lt, not, ◌&&◌, ◌||◌}

@@ -1,4 +1,4 @@
--- The element faults that a segment tells are added to a list.
+-- The element faults that a segment reports are added to a list.
 use Rattle.std.proofs.Common.{⊎_elim, ◌≡◌, ◌↔◌, inl, inr, ℕ, List, ◌++◌, map, sym, subst}
 use Rattle.std.specs.List.{Contains}
 use Rattle.std.proofs.lemmas.List.Elements.{Contains-append_left, Contains-append_right, Contains-append_cases}

@@ -1,4 +1,4 @@
--- 999 guide, IK3 and IK4: the faults of a segment's elements, as the segment tells them; and how they are added to a list.
+-- 999 guide, IK3 and IK4: the faults of a segment's elements, as the segment reports them; and how they are added to a list.
 use Rattle.std.specs.Prelude.{ℕ, ◌≡◌, ◌↔◌, ◌⊎◌, List, Some}
 use Rattle.std.specs.List.{Contains}
 use Rattle.hub_kinds.specs.declared.fault.Fault.{Fault}
@@ -9,7 +9,7 @@ use Rattle.guide_tree.specs.declared.slot.Slot.{Slot}
 use Rattle.guide_tree.specs.Words.{Segment, id_of}
 use Rattle.elem_rules.specs.ElementFaults.{IsElementFault}
 
--- a fault of an element, as the segment at a position tells it
+-- a fault of an element, as the segment at a position reports it
 abbrev pub told_by : (position : ℕ) → Segment → (loop_id : List ℕ) → Slot → ElemFault → Fault
 told_by position s loop_id slot e = record {
   position = position;

@@ -40,11 +40,11 @@ is_end Other = false
 abbrev pub is_trailer : SegValue → Bool
 is_trailer seg = is_end (kind_of seg)
 
--- the place and the slot that a segment is given behind the last place
+-- the place and the slot that a segment is given after the last place
 abbrev pub next_for : Trees → (last : Option Place) → SegValue → Option Candidate
 next_for ts last seg = first_fit (elements_of seg) (nexts ts last)
 
--- the last place behind a segment that is given a place, or none
+-- the last place after a segment that is given a place, or none
 abbrev pub behind : Option Candidate → (last : Option Place) → Option Place
 behind next last = or_else (place_in next) last
 
@@ -103,7 +103,7 @@ goes_on s seg = not (is_some s.trailer) && (is_trailer seg || nat_lt s.walk.coun
 abbrev pub faults_of : GuideTree → (end : ℕ) → List SegValue → List Fault
 faults_of g end body = structure_faults g end (map elements_of body) (placing_of g.nodes (map elements_of body))
 
--- these segments were seen behind ST: a body, and SE if there is one; what will have been found is what the whole body has
+-- these segments were seen after ST: a body, and SE if there is one; what will have been found is what the whole body has
 pub record IsSeen (g : GuideTree) (s : Seen) (done : List SegValue) : Type 0 where
   pub body : List SegValue
   pub all : done ≡ body ++ trailer_list s.trailer

@@ -24,7 +24,7 @@ pub record IsElementFaultIn (ts : Trees) (first : ℕ) (body : List SegValue) (g
   pub leads : slot_at ts place ≡ Some slot
   pub told : IsTold (index + first) seg (loop_id_of ts place) slot f
 
--- a fault of the body's structure, or of an element; the first segment of a body is the set's second, and its end is behind its last
+-- a fault of the body's structure, or of an element; the first segment of a body is the set's second, and its end is after its last
 abbrev pub IsBodyFault : GuideTree → List SegValue → Fault → Type 0
 IsBodyFault g body f =
     IsStructureFault g (map elements_of body) (places_by g body) (length body + 2) f

@@ -15,7 +15,7 @@ trailer_list None = []
 trailer_list (Some trailer) = trailer ∷ []
 
 -- Its segments are ST, the body, and SE where it is closed. The list has exactly the faults of the body's structure and elements; nothing
--- is wrong with its hierarchy, read by the delimiters, nor with a dependency, wherever its end is told.
+-- is wrong with its hierarchy, read by the delimiters, nor with a dependency, wherever its end is reported.
 pub record IsWalkedSet (g : GuideTree) (d : Delims) (closed : Bool) (segs : List SegValue) (w : WalkedSet) : Type 0 where
   pub body : List SegValue
   pub segments : segs ≡ w.ends.header ∷ (body ++ trailer_list w.ends.trailer)

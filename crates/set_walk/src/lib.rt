@@ -8,9 +8,11 @@
 //! dependencies. `tell_elements` adds exactly the element faults of one segment.
 //!
 //! Of the segments only the HLs, with their elements HL01 to HL04, and those whose slots have labels are kept, which the rules over the
-//! whole set look at behind the walk.
+//! whole set look at after the walk.
 //!
 //! Source: X12.6, transaction set; the 999 guide (005010X231), IK3 and IK4. The walk is own.
+//!
+//! Tests: `trial_nights`, `trial_sets`.
 #![tactic(auto)]
 
 mod depends;

@@ -7,7 +7,7 @@ ghost use Rattle.marked_segments.specs.Marked.{IsPlain};
 use hl_check::HlNames;
 use x12_segs::SegView;
 
-/// The offset at an index, or `end` behind the last one.
+/// The offset at an index, or `end` after the last one.
 #[inline]
 fn offset_or(offsets: &[usize], index: usize, end: usize) -> usize
     ensures { result ≡ slice_index_or offsets.now index end }

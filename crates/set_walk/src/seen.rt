@@ -22,7 +22,7 @@ use x12_segs::{Kind, SegView, kind_of};
 /// How many segments of a body are gone over.
 pub const MOST_SEGMENTS: u64 = 0xFFFF_FFFF;
 
-/// What was seen behind a set's ST: the walk over the body, what it found and kept, and the SE.
+/// What was seen after a set's ST: the walk over the body, what it found and kept, and the SE.
 #[derive(Drop)]
 pub struct Seen<'a, 'g> {
     pub walk: Walk,
@@ -200,7 +200,7 @@ fn is_trailer(seg: &SegView) -> bool
     matches!(kind_of(seg), Kind::SetTrailer)
 }
 
-/// Sees the next segment, with the places of its element separators, if it is plain, and says whether the walk can go on: behind the
+/// Sees the next segment, with the places of its element separators, if it is plain, and says whether the walk can go on: after the
 /// SE there is none, and a body may have too many.
 pub fn see<'a, 'g: 'a>(
     alloc: Global,

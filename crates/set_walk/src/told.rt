@@ -18,7 +18,7 @@ use loop_match::{Step, loop_id_of};
 use std::alloc::Global;
 use x12_segs::SegView;
 
-/// Adds the faults of a segment's elements, as the segment tells them.
+/// Adds the faults of a segment's elements, as the segment reports them.
 fn tell<'a>(
     faults: &mut Vec<Fault<'a>>,
     position: u64,
@@ -83,7 +83,7 @@ pub(crate) fn tell_found<'a>(
 }
 
 /// Adds the faults of the elements of the segment at a position, which has this place and slot (999 guide, IK3 and IK4). The only error
-/// is want of memory.
+/// is out of memory.
 pub fn tell_elements<'a>(
     alloc: Global,
     faults: &mut Vec<Fault<'a>>,

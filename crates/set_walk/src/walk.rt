@@ -101,7 +101,7 @@ pub fn errors_of<'a>(
     element_faults(alloc, fast, seg, slot, plain)
 }
 
-/// Finds what shows at the next place behind the last one.
+/// Finds what shows at the next place after the last one.
 pub fn step_by<'a, 'g: 'a>(
     found: &mut Found<'a>,
     at: u64,
@@ -119,7 +119,7 @@ pub fn step_by<'a, 'g: 'a>(
     step(found, at, fast.guide().rows().nodes.as_slice(), last, next)
 }
 
-/// Finds what shows behind the body.
+/// Finds what shows after the body.
 pub fn end_by<'a, 'g: 'a>(
     found: &mut Found<'a>,
     at: u64,

@@ -28,7 +28,7 @@ fn count_with_ends(count: u64, closed: bool) -> u64
     if closed { count + 2 } else { count + 1 }
 }
 
-/// The faults of two lists; the fewer are moved behind the others, so that no list stands twice.
+/// The faults of two lists; the fewer are moved after the others, so that no list stands twice.
 fn faults_of_both<'a>(
     structure: Vec<Fault<'a>>,
     errors: Vec<Fault<'a>>,
@@ -44,7 +44,7 @@ fn faults_of_both<'a>(
     Ok(structure)
 }
 
-/// The structural faults with those that show behind the body, and the faults of elements.
+/// The structural faults with those that show after the body, and the faults of elements.
 fn body_faults<'a, 'g: 'a>(
     fast: &FastGuide<'g>,
     walk: &Walk,
@@ -115,7 +115,7 @@ fn with_order<'a>(walked: WalkedSet<'a>) -> WalkedSet<'a>
 /// Goes once over a set of a text by its compiled guide, with no list of its segments: the set's ends, and exactly the faults of its
 /// structure and of its elements (999 guide, IK3 and IK4), in their order, each once, where surely nothing is wrong with its hierarchy
 /// nor with a dependency; else none, and none by a guide with more than four dependencies. By a guide without such rules there is none
-/// only of a set with 4,294,967,296 segments or more. The only error is want of memory.
+/// only of a set with 4,294,967,296 segments or more. The only error is out of memory.
 pub fn walk_set<'a, 'g: 'a>(
     alloc: Global,
     text: &'a [u8],

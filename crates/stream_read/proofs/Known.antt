@@ -1,4 +1,4 @@
--- Bytes that a reader tells, over several reads.
+-- Bytes that a reader declares, over several reads.
 use Rattle.std.proofs.Common.{ℕ, List, ◌++◌, Option, Some, None, refl, sym, ap, ◌∙◌}
 use Rattle.std.proofs.lemmas.List.{append_assoc}
 use Rattle.std.specs.Io.KnownBytes.{Consumes, Keeps}

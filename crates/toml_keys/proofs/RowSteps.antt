@@ -9,11 +9,11 @@ use Rattle.toml_keys.specs.Meanings.{Meaning, refuses, no_memory, other, FailsAs
 use Rattle.toml_keys.specs.Refusals.{Refusal}
 use Rattle.toml_keys.specs.Tables.{◌>>=◌}
 
--- rows in front of those that are still to be read
+-- rows before those that are still to be read
 abbrev pub behind : {A : Type 0} → List A → Result (List A) Refusal → Result (List A) Refusal
 behind done rest = rest >>= λ xs. Ok (done ++ xs)
 
--- a row in front of the others
+-- a row before the others
 abbrev pub first : {A : Type 0} → Result A Refusal → Result (List A) Refusal → Result (List A) Refusal
 first row rest = row >>= λ x. rest >>= λ xs. Ok (x ∷ xs)
 

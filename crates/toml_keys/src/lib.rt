@@ -1,6 +1,6 @@
 //! The readers of keys of a TOML file, on which those of guide files and of setup files stand side by side.
 //!
-//! Proved, want of memory aside:
+//! Proved, out of memory aside:
 //! - `required` and `optional` give what stands at a key, as a `Reading` reads it, or refuse it as missing or as of another type
 //!   or form;
 //! - `tables_at`, `some_tables_at`, `table_at` and `some_table_at` lend the tables that stand at a key, or refuse it likewise;
@@ -8,7 +8,9 @@
 //! - `AnyText`, `Word`, `Count`, `ListOf` and `Present` read texts, words, numbers, lists and what may be absent;
 //! - each refusal has its number.
 //!
-//! Source: own; what a file's table holds is told by `toml`.
+//! Source: own; what a file's table holds is said by `toml`.
+//!
+//! Tests: `trial_check`, `trial_command`, `trial_guides`, `trial_nights`, `trial_sets`, `trial_tables`, `trial_track`, `trial_workers`.
 #![tactic(auto)]
 
 mod file_fault;

@@ -7,6 +7,8 @@
 //!
 //! Source: X12.5, interchange sender and interchange acknowledgment (TA1); X12.6, functional group and transaction set; 999 guide
 //! (005010X231).
+//!
+//! Tests: `trial_track`.
 #![tactic(auto)]
 
 mod noted;

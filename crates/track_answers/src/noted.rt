@@ -79,7 +79,7 @@ fn note_interchange<'i, 'a>(
 }
 
 /// Checks the sets of a text by the guides of their senders, answers them, and keeps of each interchange of the settled index what is
-/// asked of it later. X12.5, interchange; 999 guide (005010X231). The only error is want of memory.
+/// asked of it later. X12.5, interchange; 999 guide (005010X231). The only error is out of memory.
 pub fn note_text<'i, 'a>(
     alloc: Global,
     setup: &'a Setup,

@@ -1,4 +1,4 @@
--- What clap found in the words is what the definitions say of them.
+-- What clap found in the arguments is what the definitions say of them.
 use Rattle.std.proofs.Common.{◌≡◌, ◌∙◌, List, true, codes, refl, sym, ap}
 use Rattle.clap.specs.Words.{HasKind, HasMatchesOf, Text, fault_of, first_value, found_of, is_simple, is_simple_and_free, kind_of, takes}
 use Rattle.clap.specs.declared.error.Error.{Error}
@@ -41,7 +41,7 @@ pub asked : (words : List Text) (m : ArgMatches) (asked : Asked) → HasMatchesO
 asked words m (Run o) has given = options words m o has given
 asked words m (Show text) has given = absurd given
 
--- what the words give is found
+-- what the arguments give is found
 pub all_given : (words : List Text) (m : ArgMatches) → HasMatchesOf track_app words m → AreGiven (value_of words) (values_of words)
     → AreGiven (first_value (found_of m)) (values_found (found_of m))
 all_given words m has given = record {

@@ -13,7 +13,7 @@ use Rattle.track_command.specs.declared.command.Asked.{Asked}
 use Rattle.track_command.specs.declared.command.Asked.TheVariants.{Run, Show}
 use Rattle.track_command.specs.declared.command.Options.{Options}
 
--- the program without its options: its words have no program's name in front, and it has a version
+-- the program without its options: its arguments don't begin with a program's name, and it has a version
 abbrev pub program : App
 program =
     let bare = new_app (codes "nighthub_track") in
@@ -31,7 +31,7 @@ document_rule = record (option_repeated (codes "document")) { required = false }
 abbrev pub track_app : App
 track_app = with_rule (with_rule (with_rule night_app document_rule) (option_free (codes "workers"))) (option_free (codes "piece"))
 
--- the value that the words give an option
+-- the value that the arguments give an option
 abbrev pub value_of : List Text → Text → Option Text
 value_of words name = first_of name (matches_of track_app words)
 
@@ -39,7 +39,7 @@ value_of words name = first_of name (matches_of track_app words)
 abbrev pub values_of : List Text → Text → Option (List Text)
 values_of words name = all_of name (matches_of track_app words)
 
--- the words ask for help or for the version, and are none to run by
+-- the arguments ask for help or for the version, and are none to run by
 pub record AsksForText (words : List Text) : Type 0 where
   pub asked : IsAmong DisplayHelp (fault_of track_app words) ⊎ IsAmong DisplayVersion (fault_of track_app words)
   pub no_run : takes track_app words ≡ true → ⊥
@@ -82,17 +82,17 @@ pub record AreGiven (value : Text → Option Text) (values : Text → Option (Li
   pub piece : ℕ
   pub piece_named : piece_given (value (codes "piece")) ≡ Some piece
 
--- the words give each option that is wanted, and nothing is wrong with them
+-- the arguments give each option that is wanted, and nothing is wrong with them
 pub record IsCommandLine (words : List Text) : Type 0 where
   pub taken : takes track_app words ≡ true
   pub given : AreGiven (value_of words) (values_of words)
 
--- the words name the files and the moment of a night
+-- the arguments name the files and the moment of a night
 pub record NamesNight (words : List Text) : Type 0 where
   pub options : Options
   pub named : AreOptions (value_of words) (values_of words) options
 
--- what the words ask for
+-- what the arguments ask for
 abbrev pub IsAsked : List Text → Asked → Type 0
 IsAsked words (Run options) = AreOptions (value_of words) (values_of words) options
 IsAsked words (Show text) = AsksForText words

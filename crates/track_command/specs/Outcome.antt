@@ -16,14 +16,14 @@ use Rattle.track_command.specs.declared.command.Options.{Options}
 abbrev pub status_of : Track → ℕ
 status_of track = if track.clean then 0 else 1
 
--- the table of the bytes that a source gave, no more than the limit, which are all that it told, where it told them
+-- the table of the bytes that a source gave, no more than the limit, which are all that it declared, where it declared them
 pub record IsTrackOfSource (told : Option (List ℕ)) (setup : SetupValue) (documents : List DocumentValue) (track : Track) : Type 0 where
   pub text : List ℕ
   pub told_all : IfSome told (λ xs. xs ≡ text)
   pub within : length text ≤ LONGEST_TEXT
   pub is : IsTrack text setup documents track
 
--- a table is given: it is that of a source and a setup, it is put behind what the outbox had as the file of this name, and the status is
+-- a table is given: it is that of a source and a setup, it is put after what the outbox had as the file of this name, and the status is
 -- the night's
 pub record IsGiven (told : Option (List ℕ)) (setup : SetupValue) (documents : List DocumentValue) (name : List ℕ) (status : ℕ)
     (had has : Option (List File)) : Type 0 where
@@ -42,8 +42,8 @@ pub record IsTrackBy (options : Options) (status : ℕ) : Type 0 where
   pub is : IsTrack text setup options.documents.items track
   pub own_status : status ≡ status_of track
 
--- what a run of these words has done that didn't fail: printed a text where they ask for one; otherwise it has put a table by the options
--- that they give, and printed nothing
+-- what a run of these arguments has done that didn't fail: printed a text where they ask for one; otherwise it has put a table by the
+-- options that they give, and printed nothing
 pub data IsOutcome (words : List Text) (status : ℕ) (was is : Option (List ℕ)) : Type 0 where
   Shown : (asked : AsksForText words) (text : List ℕ) → Appends was is text → status ≡ 0 → IsOutcome words status was is
   Tracked : (options : Options) → AreOptions (value_of words) (values_of words) options → IsTrackBy options status → was ≡ is

@@ -15,7 +15,7 @@ use set_documents::{Document, documents_given};
 use std::alloc::{AllocError, Global};
 use std::convert::AsStr;
 
-/// What stands behind the options in the text of `--help`.
+/// What stands after the options in the text of `--help`.
 const COLUMNS_AND_STATUSES: &str =
     "FILE of --track: a row for each set and receiver, one for a set that nobody gets and one for
 each refused interchange, as comma-separated values (RFC 4180).
@@ -46,11 +46,11 @@ pub struct Options<'a> {
     pub output: &'a str,
     /// Which elements are shown as the numbers of documents: those that are given, then the usual ones.
     pub documents: Vec<Document<'a>>,
-    /// How a night of these words is shared, which changes nothing here.
+    /// How a night of these arguments is shared, which changes nothing here.
     pub sharing: Sharing,
 }
 
-/// What the words ask for.
+/// What the arguments ask for.
 #[derive(Debug, Drop)]
 pub enum Asked<'a> {
     /// To track a night.
@@ -59,7 +59,7 @@ pub enum Asked<'a> {
     Show(String),
 }
 
-/// Reads the words, which are the program's arguments without its name.
+/// Reads the program's arguments without its name.
 pub fn read_words<'a, S: AsStr>(alloc: Global, words: &'a [S]) -> Result<Asked<'a>, Failure<'a>>
     ensures asked { IfOk result (IsAsked (map S.text words.now)) }
     ensures usage { IsErrOf result Failure.Usage → IsCommandLine (map S.text words.now) → ⊥ }

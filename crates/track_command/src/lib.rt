@@ -1,18 +1,20 @@
-//! Where each set of a night is, as the words of a program name it: the words are read, then the files that they name; the night of what
-//! came in is worked out, and its table is put into a file. A run that fails prints one line. The program `nighthub_track` is
+//! Where each set of a night is, as the arguments of a program name it: the arguments are read, then the files that they name; the night of
+//! what came in is worked out, and its table is put into a file. A run that fails prints one line. The program `nighthub_track` is
 //! `track_main`, called on its arguments, standard output and standard error.
 //!
 //! Proved:
 //! - `track_main` is safe on every input, its status is 0 to 6, and it prints nothing where it wasn't asked for a text; where it doesn't
 //!   fail, it has put the table of the night of some text, by a setup that the bytes of some files make, one guide file for each guide
-//!   that the words name, and by the documents that they name;
-//! - a table that is given is that of the bytes that its source told; it was put into the outbox, where the outbox tells what it has; the
-//!   status is 0 exactly where the night's report is clean (`give_track`);
-//! - a run that fails has put nothing that an outbox tells (`left`); it fails by the failures of `nighthub`, in their order.
+//!   that the arguments name, and by the documents that they name;
+//! - a table that is given is that of the bytes that its source declared; it was put into the outbox, where the outbox declares what it
+//!   has; the status is 0 exactly where the night's report is clean (`give_track`);
+//! - a run that fails has put nothing that an outbox declares (`left`); it fails by the failures of `nighthub`, in their order.
 //!
 //! Only tested: that the file of the system holds what is put there.
 //!
 //! Source: RFC 4180; the command line and the statuses are own.
+//!
+//! Tests: `trial_track`.
 #![tactic(auto)]
 
 mod command;

@@ -26,7 +26,7 @@ use track_night::{Track, track_plain};
 /// More bytes than an input may have.
 const ALL: usize = 4_294_967_296;
 
-/// Runs the program on these words, its arguments without its name, and gives its exit status: 0 or 1 where it has put the table of a
+/// Runs the program on its arguments, without its name, and gives its exit status: 0 or 1 where it has put the table of a
 /// night or printed a text that was asked for, otherwise the status of the failure whose line it has printed on `err`.
 pub fn track_main<R, S, O, E>(rt: &R, words: &[S], out: &mut O, err: &mut E) -> u8
 where

@@ -128,7 +128,7 @@ module _ (setup : SetupValue) (p : Partner) (guides : ℕ) (hub_ids : are_ids se
       (gives_both d first (texts_in_row texts) i g i (decimal n) i (decimal n) [] numbers (gs_gives i g x n (All-head Sent x xs all))
       (sets_give i (decimal n) (x ∷ xs) all)) (ge_gives i (decimal n) (length texts) n))
 
-  -- what is read last behind groups
+  -- what is read last after groups
   abbrev last_group : (g : List ℕ) → (n : ℕ) → List (List NumberedValue) → List ℕ
   last_group g n [] = g
   last_group g n (group ∷ more) = last_group (decimal (num p.counters.group n)) (n + 1) more

@@ -1,4 +1,4 @@
--- Whose the rows of a table are (own; X12.5, interchange; X12.6, transaction set), and what a row tells of that.
+-- Whose the rows of a table are (own; X12.5, interchange; X12.6, transaction set), and what a row says of that.
 use Rattle.std.specs.Prelude.{◌≡◌, ◌⊎◌, ℕ, ◌+◌, List, [], ◌∷◌, ◌++◌, map, length, Option, Some, None, codes, decimal, slice_get}
 use Rattle.std.specs.Prelude.{slice_index_or, if◌then◌else◌}
 use Rattle.std.specs.List.{flat_map}

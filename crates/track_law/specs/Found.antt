@@ -15,7 +15,7 @@ pub record Found : Type 0 where
 abbrev pub read_or : (id : List ℕ) → (element : ℕ) → List (List ℕ) → (was : List ℕ) → List ℕ
 read_or id element segment was = if has_id segment id then part_or_empty segment element else was
 
--- the sets in segments, each from an ST to the SE behind it; no ISA or GS is looked for between these
+-- the sets in segments, each from an ST to the SE after it; no ISA or GS is looked for between these
 abbrev pub found_behind : (isa13 gs06 : List ℕ) → (begun : Option Segments) → Segments → List Found
 found_behind isa13 gs06 begun [] = []
 found_behind isa13 gs06 None (s ∷ ss) =

@@ -1,4 +1,4 @@
-//! What the table of a night tells of its sets, and where a receiver finds them. Theorems alone: none of these calls does anything.
+//! What the table of a night says of its sets, and where a receiver finds them. Theorems alone: none of these calls does anything.
 //!
 //! Proved:
 //! - a text has one table by a setup and by named documents (`track_is_one`);

@@ -50,7 +50,7 @@ fn track_index(
 }
 
 /// Where each set of the night of a text is, by a setup: as comma-separated values (RFC 4180), a row for each set and receiver. X12.5,
-/// interchange; X12.6, functional group and transaction set. The only error is want of memory.
+/// interchange; X12.6, functional group and transaction set. The only error is out of memory.
 pub fn track_plain(
     alloc: Global,
     text: &[u8],

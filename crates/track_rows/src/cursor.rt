@@ -134,7 +134,7 @@ impl<'a> Cursor<'a> {
         }
     }
 
-    /// The numbers of the next set, which has this key; the one after it is the next then. The only error is want of memory.
+    /// The numbers of the next set, which has this key; the one after it is the next then. The only error is out of memory.
     pub(crate) fn next(&mut self, key: GroupKey<'a>) -> Result<Mailed, NoMemory>
         ensures mailed { IfOk result (λ mailed. mailed ≡ mailed_next self.old key.entry) }
         ensures advanced { OnOk result (self.new ≡ advanced self.old key.entry) }

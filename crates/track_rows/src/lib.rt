@@ -8,6 +8,8 @@
 //! group a set stands in.
 //!
 //! Source: RFC 4180; X12.5, interchange control number (ISA13); X12.6, functional group and transaction set; which rows there are, is own.
+//!
+//! Tests: `trial_track`.
 #![tactic(auto)]
 
 mod cells;

@@ -51,7 +51,7 @@ fn append_names(out: &mut Vec<u8>) -> Result<(), NoMemory>
     append_end(out)
 }
 
-/// The table of a night, by its interchanges and what is kept of their answers. The only error is want of memory.
+/// The table of a night, by its interchanges and what is kept of their answers. The only error is out of memory.
 pub fn track_text(
     alloc: Global,
     setup: &Setup,

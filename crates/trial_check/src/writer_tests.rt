@@ -5,7 +5,7 @@ use std::io;
 use std::io::{ErrorKind, Write};
 use std::test::Fail;
 
-/// A writer that takes at most 50 bytes at once, and fails behind so many calls.
+/// A writer that takes at most 50 bytes at once, and fails after so many calls.
 #[derive(Drop)]
 struct Writer {
     taken: Vec<u8>,
@@ -32,7 +32,7 @@ impl Write for Writer {
     }
 }
 
-/// What is told of a file that isn't there.
+/// What is reported of a file that isn't there.
 const LINE: &[u8] = b"nowhere/setup.toml: it can't be read\n";
 
 #[test]

@@ -20,7 +20,7 @@ use std::time::Clock;
 use std::{fs, io};
 use trial_ends::drive::{Drive, Form, Log, Sheet, Step};
 
-/// A reader of bytes, at most seven at once, that fails behind so many reads.
+/// A reader of bytes, at most seven at once, that fails after so many reads.
 #[derive(Drop)]
 struct Slow {
     left: &'static [u8],
@@ -85,7 +85,7 @@ fn a_setup_that_fails_at_some_read_is_none(rt: HostRuntime) -> Result<(), Fail> 
     same(rt.alloc(), read.as_slice(), TWENTY)
 }
 
-/// A writer that takes at most five bytes at once, and fails behind so many calls.
+/// A writer that takes at most five bytes at once, and fails after so many calls.
 #[derive(Drop)]
 struct Writer {
     taken: Vec<u8>,
@@ -112,7 +112,7 @@ impl Write for Writer {
     }
 }
 
-/// A run in this folder, whose standard output fails behind so many calls.
+/// A run in this folder, whose standard output fails after so many calls.
 fn ran_until<R: Files + AllocGlobal + Threads + Wait + Clock + Sync>(
     rt: &R,
     folder: &str,
@@ -164,7 +164,7 @@ fn says_that_standard_output_failed(rt: HostRuntime) -> Result<(), Fail> {
     Ok(())
 }
 
-/// What a usage prints on a standard error that fails behind so many calls.
+/// What a usage prints on a standard error that fails after so many calls.
 const LINES: &[&[u8]] = &[
     b"",
     b"night",
@@ -174,7 +174,7 @@ const LINES: &[&[u8]] = &[
     b"nighthub: usage\n",
 ];
 
-/// A usage, whose standard error fails behind so many calls.
+/// A usage, whose standard error fails after so many calls.
 fn usage_until<R: Files + AllocGlobal + Threads + Wait + Clock + Sync>(
     rt: &R,
     calls: usize,
@@ -197,7 +197,7 @@ fn passes_over_a_fault_of_standard_error(rt: HostRuntime) -> Result<(), Fail> {
     Ok(())
 }
 
-/// An outbox that keeps the names of its files, a line each, and fails behind so many.
+/// An outbox that keeps the names of its files, a line each, and fails after so many.
 #[derive(Drop)]
 struct Names<'a> {
     names: Vec<u8>,

@@ -130,7 +130,7 @@ const NINE_DEEP: &str =
     {loop='D',min=0,max=1,nodes=[{loop='E',min=0,max=1,nodes=[{loop='F',min=0,max=1,nodes=[{loop='G',min=0,max=1,nodes=[\
     {loop='H',min=0,max=1,nodes=[{loop='I',min=0,max=1,nodes=[{seg='N1',min=1,max=1,elements=[]}]}]}]}]}]}]}]}]}]}";
 
-/// More than one is wrong, and the first is told.
+/// More than one is wrong, and the first is reported.
 const ORDER: &[Refused] = &[
     (
         "order_guides",

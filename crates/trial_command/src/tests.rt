@@ -38,7 +38,7 @@ const OPTIONS: &[(&str, &str)] = &[
     ("--out", "out"),
 ];
 
-/// The words of a night in this folder.
+/// The arguments of a night in this folder.
 pub(crate) fn words_in(alloc: Global, folder: &str) -> Result<Vec<String>, AllocError> {
     let mut words = Vec::new(alloc);
     words.push(String::from_str(alloc, "--at")?)?;
@@ -74,7 +74,7 @@ pub(crate) fn make_folder<R: Files + AllocGlobal + Threads + Wait + Clock + Sync
     write_files(rt, folder, FILES)
 }
 
-/// A run by the words of this folder.
+/// A run by the arguments of this folder.
 pub(crate) fn ran_in<R: Files + AllocGlobal + Threads + Wait + Clock + Sync>(
     rt: &R,
     folder: &str,

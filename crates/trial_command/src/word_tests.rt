@@ -1,4 +1,4 @@
-//! Words that are no command line, and words that ask for a text.
+//! Arguments that are no command line, and arguments that ask for a text.
 use crate::tests::{Answer, expect, same};
 use night_command::night_main;
 use std::alloc::{AllocError, Global};
@@ -10,7 +10,7 @@ use std::time::Clock;
 
 const USAGE: &[u8] = b"nighthub: usage\n";
 
-/// The words of a night, whose files aren't there.
+/// The arguments of a night, whose files aren't there.
 const WORDS: &[&str] = &[
     "--setup",
     "no_folder/s",
@@ -26,7 +26,7 @@ const WORDS: &[&str] = &[
     "no_folder",
 ];
 
-/// A run by these words.
+/// A run by these arguments.
 fn ran<R: Files + AllocGlobal + Threads + Wait + Clock + Sync>(rt: &R, words: &[&str]) -> Answer {
     let mut out = Vec::new(rt.alloc());
     let mut err = Vec::new(rt.alloc());
@@ -34,7 +34,7 @@ fn ran<R: Files + AllocGlobal + Threads + Wait + Clock + Sync>(rt: &R, words: &[
     (status, out, err)
 }
 
-/// The words of a night without an option and its value.
+/// The arguments of a night without an option and its value.
 fn without<'a>(
     alloc: Global,
     words: &[&'a str],
@@ -49,7 +49,7 @@ fn without<'a>(
     Ok(left)
 }
 
-/// The words of a night, and behind them these.
+/// The arguments of a night, and after them these.
 fn with<'a>(
     alloc: Global,
     words: &[&'a str],
@@ -83,7 +83,7 @@ fn wants_each_option(rt: HostRuntime) -> Result<(), Fail> {
     Ok(())
 }
 
-/// What stands behind the words of a night that makes them none.
+/// What stands after the arguments of a night that makes them none.
 const MORE: &[&[&str]] = &[
     &["--setup", "no_folder/s"],
     &["--counters", "no_folder/c"],

@@ -160,7 +160,7 @@ const HEADER: &str =
 
 const SET: &str = "interchange 1, group PO 12, 850 0001: rejected";
 
-/// Whether these segments are told by these lines, and by totals.
+/// Whether these segments are reported by these lines, and by totals.
 fn expect_lines(alloc: Global, segments: &str, lines: &str, totals: &str) -> Result<(), Fail> {
     let text = format!(in alloc; "{HEADER}{segments}")?;
     let wanted = format!(in alloc; "{lines}total {totals}\n")?;

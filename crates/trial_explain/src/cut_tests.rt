@@ -35,8 +35,8 @@ fn settled(lines: &[u8]) -> &[u8] {
     told
 }
 
-/// What is told of a front part is told of the whole, but for the totals and for a set whose group is cut off; a front part that
-/// tells nothing is refused, or cut off.
+/// What is reported of a front part is reported of the whole, but for the totals and for a set whose group is cut off; a front part that
+/// reports nothing is refused, or cut off.
 fn expect_front(alloc: Global, cut: usize) -> Result<(), Fail> {
     let answer = lines_on(alloc, TOLD.get(..cut).unwrap_or(TOLD));
     let holds = match &answer {
@@ -69,7 +69,7 @@ const HEADLESS: &[&[u8]] = &[
     b"ISA*00*          *00*          *ZZ*HUB            *01*ACME           *260301*1530*^*00501*000000001*0*P**~TA1*1~",
 ];
 
-/// Segments behind a header that tell nothing.
+/// Segments after a header that report nothing.
 const SILENT: &[&[u8]] = &[
     b"",
     b"IEA*0*000000001~",
@@ -152,7 +152,7 @@ fn takes_segments_of_other_hands(rt: HostRuntime) -> Result<(), Fail> {
     Ok(())
 }
 
-/// Segments behind a header, and where they are cut off.
+/// Segments after a header, and where they are cut off.
 const ENDS: &[(&[u8], Option<CutOff>)] = &[
     (b"IK5*R~", None),
     (b"IK5*R~\r\n", None),

@@ -29,7 +29,7 @@ fn a_file_that_fails_at_some_read_is_not_explained(rt: HostRuntime) -> Result<()
     }
 }
 
-/// A writer that takes at most 50 bytes at once, and fails behind so many calls.
+/// A writer that takes at most 50 bytes at once, and fails after so many calls.
 #[derive(Drop)]
 struct Writer {
     taken: Vec<u8>,
@@ -57,7 +57,7 @@ impl Write for Writer {
     }
 }
 
-/// A run whose standard output fails behind so many calls.
+/// A run whose standard output fails after so many calls.
 fn prints_until(alloc: Global, calls: usize) -> Result<(), Fail> {
     let mut out = Writer {
         taken: Vec::new(alloc),
@@ -87,7 +87,7 @@ fn says_that_standard_output_failed(rt: HostRuntime) -> Result<(), Fail> {
     Ok(())
 }
 
-/// What a usage prints on a standard error that takes ten bytes at once and fails behind so many calls.
+/// What a usage prints on a standard error that takes ten bytes at once and fails after so many calls.
 const USAGE: &[&[u8]] = &[
     b"",
     b"nighthub_e",

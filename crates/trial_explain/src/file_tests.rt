@@ -1,4 +1,4 @@
-//! Files and words.
+//! Files and arguments.
 use crate::examples::{LINES, TOLD};
 use crate::readers::same;
 use explain_command::explain_main;
@@ -79,7 +79,7 @@ fn named<R: Files + AllocGlobal>(rt: &R, name: &str, lines: &[u8]) -> Result<Vec
     Ok(text)
 }
 
-/// Several files, of which one is cut off and one isn't there: each is told, and the status is the worst of theirs.
+/// Several files, of which one is cut off and one isn't there: each is reported, and the status is the worst of theirs.
 #[test]
 fn explains_several_files(rt: HostRuntime) -> Result<(), Fail> {
     fs::write(&rt, "first.ack", TOLD)?;
@@ -102,7 +102,7 @@ fn explains_several_files(rt: HostRuntime) -> Result<(), Fail> {
     Ok(())
 }
 
-/// Words that are no command line.
+/// Arguments that are no command line.
 const NO_COMMAND_LINES: &[&[&str]] = &[&[], &["--in", "a.ack"], &["-x"], &["a.ack", "-x"]];
 
 #[test]

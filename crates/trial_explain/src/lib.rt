@@ -1,5 +1,5 @@
 //! Trials of `explain_command`: each code in its words; texts that are no acknowledgments, and acknowledgments cut at each byte; files and
-//! words; and readers and writers, failing at each call in turn.
+//! arguments; and readers and writers, failing at each call in turn.
 //!
 //! Nothing is proved here but that the trials are safe and end.
 #![tactic(auto)]

@@ -20,7 +20,7 @@ const CHECKED: &[(&[Row], Option<GuideFault>)] = &[
         &[Row::Segment("BEG", 1, 1), Row::Conditioned("REF")],
         Some(GuideFault::BadCondition(2)),
     ),
-    // a rival outside a loop, behind many repetitions
+    // a rival outside a loop, after many repetitions
     (
         &[
             Row::Segment("N1", 1, 1),

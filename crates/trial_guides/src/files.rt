@@ -22,7 +22,7 @@ fn written(alloc: Global, fault: &Option<GuideFileFault>) -> Result<String, Allo
     }
 }
 
-/// Whether it is the fault that is written so; if not, it is shown behind what it is told of.
+/// Whether it is the fault that is written so; if not, it is shown after what it is about.
 pub fn expect(
     alloc: Global,
     of: &[u8],
@@ -91,7 +91,7 @@ const NODES: &[[&str; 2]] = &[
     ["{seg=\"REF\",loop=\"REF\",z=1}", "Unknown(\"z\", 1)"],
     ["{seg=\"REF\",min=0}", "Missing(\"max\", 1)"],
     ["{loop=\"L\",min=0,nodes=[{}]}", "Missing(\"max\", 1)"],
-    // the node's number counts loops, and what is in them behind each
+    // the node's number counts loops, and what is in them after each
     [
         "{seg=\"BEG\",min=1,max=1,elements=[]},{seg=\"REF\",min=0,elements=[]}",
         "Missing(\"max\", 2)",

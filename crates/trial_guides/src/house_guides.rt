@@ -19,7 +19,7 @@ fn push_slot(out: &mut String, number: u32, kind: &str, id: &[u8]) -> Result<(),
     push_id(out, id)
 }
 
-/// The numbers and ids of slots, parents first; a loop's id stands behind `loop`.
+/// The numbers and ids of slots, parents first; a loop's id stands after `loop`.
 fn listed(nodes: &[Node], out: &mut String) -> Result<(), AllocError> {
     for node in nodes {
         match node {
@@ -179,7 +179,7 @@ fn house_order_begins_with_purpose(rt: HostRuntime) -> Result<(), Fail> {
     Ok(())
 }
 
-/// H850 with a second REF right behind its slot 2.
+/// H850 with a second REF right after its slot 2.
 fn with_rival(alloc: Global) -> Result<String, AllocError> {
     let behind = " {seg=\"DTM\"";
     match H850.split_once(behind) {

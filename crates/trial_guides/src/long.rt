@@ -9,11 +9,11 @@ use std::alloc::Global;
 use std::test::Fail;
 use x12_segs::{SegView, segments};
 
-/// A front, what is repeated behind it and how often, how many faults there are, and the position of the last.
+/// A front, what is repeated after it and how often, how many faults there are, and the position of the last.
 type Long = (&'static str, &'static str, u32, usize, u64);
 
 const LONG: &[Long] = &[
-    // strays alone; behind them all that is needed is missing
+    // strays alone; after them all that is needed is missing
     ("", "XYZ~", 20_000, 20_003, 20_002),
     // one segment under a maximum of 1; a loop and CTT are missing
     ("", "BSN~", 20_000, 20_001, 20_002),

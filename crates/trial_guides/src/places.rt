@@ -11,7 +11,7 @@ const BODIES: &[[&str; 2]] = &[
         "HL~HL~N1~N1~",
         "3:1.0/0.0;3:1.1/0.0;6:1.1/2.0/0.0;6:1.1/2.1/0.0;",
     ],
-    // past a maximum, and behind a stray
+    // past a maximum, and after a stray
     ["BSN~BSN~XYZ~BSN~", "1:0.0;1:0.1;-;1:0.2;"],
     // a stray changes nothing
     [

@@ -8,21 +8,21 @@ pub fn add_digits(out: &mut Vec<u8>, alloc: Global, number: u64) -> Result<(), F
     Ok(())
 }
 
-/// Adds a number and the byte behind it.
+/// Adds a number and the byte after it.
 pub fn add_number(out: &mut Vec<u8>, alloc: Global, number: u64, behind: u8) -> Result<(), Fail> {
     add_digits(out, alloc, number)?;
     out.push(behind)?;
     Ok(())
 }
 
-/// Adds a text and the byte behind it.
+/// Adds a text and the byte after it.
 pub fn add_text(out: &mut Vec<u8>, text: &[u8], behind: u8) -> Result<(), Fail> {
     out.extend_from_slice(text)?;
     out.push(behind)?;
     Ok(())
 }
 
-/// Refuses another text than the one that is wanted, and shows it behind what it is told of.
+/// Refuses another text than the one that is wanted, and shows it after what it is about.
 pub fn same(alloc: Global, of: &[u8], found: &[u8], wanted: &[u8]) -> Result<(), Fail> {
     if found == wanted {
         return Ok(());

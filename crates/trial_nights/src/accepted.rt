@@ -29,7 +29,7 @@ const ONE_ORDER: WorkedNight = WorkedNight {
     clean: true,
 };
 
-/// An order with CR LF behind each terminator.
+/// An order with CR LF after each terminator.
 const ORDER_WITH_CR_LF_BEHIND_EACH_TERMINATOR: WorkedNight = WorkedNight {
     starts: FIRST,
     text: &[

@@ -1,4 +1,4 @@
-//! Hostile bytes and reads: each run of a text gives what the run on one thread gives, byte for byte, and a source that fails is told.
+//! Hostile bytes and reads: each run of a text gives what the run on one thread gives, byte for byte, and a source that fails is reported.
 use super::pieces::{FROM_ACME, ORDER_IN_ITS_INTERCHANGE};
 use super::runs::{plain_night, shared_night, stream_night};
 use super::setups::{FIRST, two_partners};
@@ -107,7 +107,7 @@ fn the_first_word_of_a_header_100_000_times(rt: HostRuntime) -> Result<(), Fail>
     expect_one_night(&rt, &setup, text.as_slice(), 53)
 }
 
-/// Whether a source in windows of 53 bytes gives the night of the order, or is told to fail.
+/// Whether a source in windows of 53 bytes gives the night of the order, or is reported to fail.
 fn expect_read<S: Source, R: AllocGlobal + Threads + Wait + Clock + Sync>(
     rt: &R,
     source: &mut S,

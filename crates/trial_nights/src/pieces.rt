@@ -36,7 +36,7 @@ pub const ORDERS: &[u8] = b"GS*PO*ACME*BOLT*20260228*0900*12*X*005010~";
 /// An order.
 pub const ORDER: &[u8] = b"ST*850*0001~BEG*00*SA*PO100**20260228~PO1*1*5*EA*2.50~SE*4*0001~";
 
-/// The trailers behind one order.
+/// The trailers after one order.
 pub const ORDERS_END: &[u8] = b"GE*1*12~IEA*1*000000007~";
 
 /// The first acknowledgment to ACME up to its set's header.

@@ -27,7 +27,7 @@ fn is_there(answers: &[SetAnswer], control: &[u8]) -> bool {
     false
 }
 
-/// Adds the answer to a set that stands behind those that have these answers.
+/// Adds the answer to a set that stands after those that have these answers.
 fn add_answer<'a>(
     answers: &mut Vec<SetAnswer<'a>>,
     alloc: Global,
@@ -146,7 +146,7 @@ fn first_acknowledgment(alloc: Global, guide: &Guide, text: &[u8]) -> Result<Vec
     }
 }
 
-/// The acknowledgment of a group with this functional identifier code, whose segments behind GS are these, its sets checked by a
+/// The acknowledgment of a group with this functional identifier code, whose segments after GS are these, its sets checked by a
 /// guide.
 fn answered(alloc: Global, guide: &Guide, group: &str, body: &str) -> Result<Vec<u8>, Fail> {
     let text = interchange_of(alloc, group, body)?;
@@ -178,7 +178,7 @@ pub fn expect_answers(alloc: Global, guide: &str, group: &str, cases: Cases) -> 
     expect_each(alloc, &guide, group, cases)
 }
 
-/// Sets of an order and the GE behind them, and the 999 that answers them.
+/// Sets of an order and the GE after them, and the 999 that answers them.
 const ORDERS: Cases = &[
     // clean
     [

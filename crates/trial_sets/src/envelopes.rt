@@ -5,7 +5,7 @@ use guide_tree::Guide;
 use std::alloc::{AllocError, Global};
 use std::test::Fail;
 
-/// What stands before a clean body and behind it, and what is found.
+/// What stands before a clean body and after it, and what is found.
 const ORDERS: &[[&str; 3]] = &[
     ["ST*850*0001", "SE*4*0001~", " clean\n"],
     // SE01 is a number: zeros before it don't count, and it has 10 digits at most
@@ -59,7 +59,7 @@ const CONVENTIONS: Cases = &[
     ["", " clean\n"],
     ["*", " clean\n"],
     ["*HUB1", " clean\n"],
-    // separators alone are empty, and behind other bytes they are bytes as any
+    // separators alone are empty, and after other bytes they are bytes as any
     ["*>", " clean\n"],
     ["*^", " clean\n"],
     ["*^>>", " clean\n"],
@@ -93,7 +93,7 @@ fn conventions(rt: HostRuntime) -> Result<(), Fail> {
     expect_notices(rt.alloc(), &guide, CONVENTIONS)
 }
 
-/// Sets of one group, one behind the other, and what is found in each.
+/// Sets of one group, one after the other, and what is found in each.
 const GROUPS: Cases = &[
     // an open set ends before the next one; whether a number was seen before isn't asked
     [

@@ -6,7 +6,7 @@ use guide_tree::Guide;
 use std::alloc::{AllocError, Global};
 use std::test::Fail;
 
-/// What stands behind BSN in a shipment, its SE01, and what is found.
+/// What stands after BSN in a shipment, its SE01, and what is found.
 const SHIPMENTS: &[[&str; 3]] = &[
     ["", "3", " clean\n"],
     ["HL*1**S*1~HL*2*1*O*0~", "5", " clean\n"],
@@ -74,7 +74,7 @@ const SHIPMENTS: &[[&str; 3]] = &[
         "4 HL(HL) 8 3 3.0.0 I6 735 S; I5\n",
     ],
     ["HL*1**O~", "4", "3 HL(HL) 8 3 3.0.0 I6 735 O; I5\n"],
-    // children that come untold, at once and behind another level; and those that come as they are told of
+    // children that come unannounced, at once and after another level; and those that come as announced
     [
         "HL*1**S*0~HL*2*1*O~",
         "5",
@@ -106,7 +106,7 @@ const SHIPMENTS: &[[&str; 3]] = &[
     ["HL*1**S*1~MAN*GM*1~HL*2*1*O*0~", "6", " clean\n"],
     ["HL*1**S~MAN*UC*1~", "5", " clean\n"],
     ["HL*1**S~MAN*AA*1~", "5", " clean\n"],
-    // one that is banned and tells of children that don't come
+    // one that is banned and announces children that don't come
     [
         "HL*1**S*1~MAN*UC*1~",
         "5",
@@ -114,7 +114,7 @@ const SHIPMENTS: &[[&str; 3]] = &[
     ],
 ];
 
-/// A shipment with this behind its BSN, and this SE01.
+/// A shipment with this after its BSN, and this SE01.
 fn shipment(alloc: Global, body: &str, count: &str) -> Result<String, AllocError> {
     format!(in alloc; "ST*856*0001~BSN*00*SH1*20260228*0900~{body}SE*{count}*0001~")
 }
@@ -125,7 +125,7 @@ fn expect_shipment(alloc: Global, guide: &Guide, case: &[&str; 3]) -> Result<(),
     expect_told(alloc, Some(guide), set.as_str(), wanted)
 }
 
-/// Whether just this is found in a shipment with each of these behind its BSN.
+/// Whether just this is found in a shipment with each of these after its BSN.
 fn expect_shipments(alloc: Global, guide: &Guide, cases: &[[&str; 3]]) -> Result<(), Fail> {
     for case in cases {
         expect_shipment(alloc, guide, case)?;
@@ -139,7 +139,7 @@ fn shipments(rt: HostRuntime) -> Result<(), Fail> {
     expect_shipments(rt.alloc(), &guide, SHIPMENTS)
 }
 
-/// Shipments and the GE behind them, and the 999 that answers them.
+/// Shipments and the GE after them, and the 999 that answers them.
 const ANSWERS: Cases = &[
     [
         "ST*856*0001~BSN*00*SH1*20260228*0900~HL*1**S*0~HL*2*3*O~HL*3*1*I~SE*6*0001~GE*1*12~",

@@ -18,14 +18,14 @@ use x12_segs::SetSpan;
 const FRONT: &[u8] =
     b"ISA*00*          *00*          *01*ACME           *ZZ*HUB            *260228*0900*^*00501*000000007*0*P*>~";
 
-/// Adds a number and the byte behind it.
+/// Adds a number and the byte after it.
 fn add_number(out: &mut Vec<u8>, alloc: Global, number: u64, behind: u8) -> Result<(), Fail> {
     out.extend_from_slice(format!(in alloc; "{number}")?.as_bytes())?;
     out.push(behind)?;
     Ok(())
 }
 
-/// Adds a text and the byte behind it.
+/// Adds a text and the byte after it.
 fn add_text(out: &mut Vec<u8>, text: &[u8], behind: u8) -> Result<(), Fail> {
     out.extend_from_slice(text)?;
     out.push(behind)?;
@@ -161,7 +161,7 @@ fn add_interchange(
     Ok(())
 }
 
-/// An interchange of one group with this functional identifier code, whose segments behind GS are these.
+/// An interchange of one group with this functional identifier code, whose segments after GS are these.
 pub fn interchange_of(alloc: Global, group: &str, body: &str) -> Result<Vec<u8>, Fail> {
     let rest = format!(in alloc;
         "GS*{group}*ACME*BOLT*20260228*0900*12*X*005010~{body}IEA*1*000000007~"

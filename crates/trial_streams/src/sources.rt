@@ -48,7 +48,7 @@ pub struct Interrupted<'a> {
     memory: Memory<'a>,
     // before the next byte
     often: u32,
-    // before each byte behind it, which comes alone
+    // before each byte after it, which comes alone
     later: u32,
     // how often it was, in a row
     row: u32,
@@ -99,7 +99,7 @@ pub struct Failing<'a> {
 }
 
 impl<'a> Failing<'a> {
-    /// It fails behind so many reads.
+    /// It fails after so many reads.
     pub fn new(text: &'a [u8], reads: u32) -> Self {
         Failing {
             memory: Memory::new(text),

@@ -5,17 +5,17 @@ use std::alloc::Global;
 use std::test::Fail;
 use x12_bytes::{HEADER_LEN, read_header};
 
-/// Its segments stand on lines, and a line end stands behind it.
+/// Its segments stand on lines, and a line end stands after it.
 const LINES: &[u8] =
     b"ISA*00*          *00*          *01*ACME           *ZZ*HUB            *260228*0900*^*00501*000000007*0*P*>~\
       \r\nIEA*0*000000007~\r\n";
 
-/// Behind its header stands what is a header too, once `!` is read, by the element separator `~`; an IEA stands in its field 4.
+/// After its header stands what is a header too, once `!` is read, by the element separator `~`; an IEA stands in its field 4.
 const TRAILER_IN_A_HEADER: &[u8] =
     b"ISA*00*          *00*          *01*ACME           *ZZ*HUB            *260228*0900*^*00501*000000007*0*P*>~\
       ISA~00~          ~00~IEA*1*0007~01~ACME           ~01~HUB            ~260228~0900~^~00501~000000007~0~P~>!GS";
 
-/// The terminator behind the IEA falls into field 4, so that this is no header.
+/// The terminator after the IEA falls into field 4, so that this is no header.
 const TRAILER_IN_NO_HEADER: &[u8] =
     b"ISA*00*          *00*          *01*ACME           *ZZ*HUB            *260228*0900*^*00501*000000007*0*P*>~\
       ISA~00~          ~00~IEA*1*07~";

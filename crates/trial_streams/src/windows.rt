@@ -36,7 +36,7 @@ fn ends(alloc: Global, text: &[u8], window: usize) -> Result<Vec<usize>, Fail>
     Ok(ends)
 }
 
-/// Text outside of interchanges, in front of an order and behind it.
+/// Text outside of interchanges, before an order and after it.
 const BETWEEN: &[u8] = b"HI ISA\r\n\
       ISA*00*          *00*          *01*ACME           *ZZ*HUB            *260228*0900*^*00501*000000007*0*P*>~\
       GS*PO*ACME*BOLT*20260228*0900*12*X*005010~ST*850*0001~BEG*00*SA*PO100**20260228~PO1*1*5*EA*2.50~SE*4*0001~\

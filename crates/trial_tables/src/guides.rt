@@ -31,7 +31,7 @@ const BEGINS: &[Begin] = &[
     (b"", None),
 ];
 
-/// A segment without a place, and what is told of it.
+/// A segment without a place, and what is reported of it.
 const STRAYS: &[(&[u8], SegmentCode)] = &[
     (b"MSG*HI", SegmentCode::OutOfSequence),
     (b"CTT*1", SegmentCode::OutOfSequence),

@@ -1,4 +1,4 @@
-//! Trials of `guide_fast` and `marked_segments`: where segments begin by the compiled house guide of orders, what is told of those
+//! Trials of `guide_fast` and `marked_segments`: where segments begin by the compiled house guide of orders, what is reported of those
 //! without a place, how many nodes are needed, slots of one id that picks tell apart, the places of an order's segments, their turns by
 //! the number of any slot, and the segments of texts of all lengths with the places of their element separators.
 //!

@@ -29,7 +29,7 @@ fn body<'a>(alloc: Global) -> Result<Vec<SegView<'a>>, Fail> {
     Ok(segs)
 }
 
-/// Whether the one fault is that of the segment without a place, the seventh behind ST.
+/// Whether the one fault is that of the segment without a place, the seventh after ST.
 fn is_that_of_the_stray(faults: &[Fault]) -> bool {
     match faults {
         [fault] => fault.position == 8 && fault.code == SegmentCode::UnrecognizedSegment,

@@ -104,7 +104,7 @@ fn expect(alloc: Global, text: &[u8], wanted: &str) -> Result<(), Fail> {
     Ok(())
 }
 
-/// One separator or one odd byte behind so many bytes, before a segment that has neither, in texts of every length.
+/// One separator or one odd byte after so many bytes, before a segment that has neither, in texts of every length.
 #[test]
 fn a_separator_stands_anywhere(rt: HostRuntime) -> Result<(), Fail> {
     let alloc = rt.alloc();
@@ -122,7 +122,7 @@ fn a_separator_stands_anywhere(rt: HostRuntime) -> Result<(), Fail> {
     Ok(())
 }
 
-/// There is room for the places of 64 separators; a segment with more isn't told to be plain.
+/// There is room for the places of 64 separators; a segment with more isn't said to be plain.
 #[test]
 fn separators_are_few(rt: HostRuntime) -> Result<(), Fail> {
     let alloc = rt.alloc();

@@ -1,11 +1,11 @@
-//! The faults of interchanges: the least is told.
+//! The faults of interchanges: the least is reported.
 use crate::interchanges::{HEADER, LETTER_IN_CONTROL, joined, read};
 use env_index::judge_interchange;
 use hub_kinds::InterchangeFault;
 use std::alloc::Global;
 use std::test::Fail;
 
-/// A header, the segments behind it, and the least fault.
+/// A header, the segments after it, and the least fault.
 type Case = (&'static [u8], &'static [u8], Option<InterchangeFault>);
 
 const CASES: &[Case] = &[
@@ -71,7 +71,7 @@ const CASES: &[Case] = &[
     ),
 ];
 
-/// The least fault of the interchange that has these segments behind its header.
+/// The least fault of the interchange that has these segments after its header.
 fn fault(alloc: Global, header: &[u8], segments: &[u8]) -> Result<Option<InterchangeFault>, Fail> {
     let text = joined(alloc, header, segments)?;
     let found = read(alloc, &text, 0)?;

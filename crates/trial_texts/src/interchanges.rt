@@ -32,7 +32,7 @@ pub const HEADER_AS_A_SEGMENT: &[u8] =
       ISA|00|          |00|          |ZZ|BOLT           |ZZ|HUB            |260228|0915|U|00501|000000003|0|P|:!~\
       PO1*1*5*EA*2.50~SE*6*0001~GE*1*12~IEA*1*000000007~";
 
-/// The order without its IEA, and the order behind it.
+/// The order without its IEA, and the order after it.
 pub const ORDER_WITHOUT_TRAILER: &[u8] =
     b"ISA*00*          *00*          *01*ACME           *ZZ*HUB            *260228*0900*^*00501*000000007*0*P*>~\
       GS*PO*ACME*BOLT*20260228*0900*12*X*005010~ST*850*0001~BEG*00*SA*PO100**20260228~PO1*1*5*EA*2.50~SE*4*0001~\
@@ -50,7 +50,7 @@ pub const WITHOUT_TRAILERS: &[u8] =
     b"ISA*00*          *00*          *01*ACME           *ZZ*HUB            *260228*0900*^*00501*000000007*0*P*>~\
       GS*PO*1~ST*850*0001~BEG*00~ST*850*0002~GE*2*1~GS*PO*2~ST*850*0001~SE*2*0001~IEA*2*7~";
 
-/// A text with another behind it.
+/// A text with another after it.
 pub fn joined(alloc: Global, front: &[u8], behind: &[u8]) -> Result<Vec<u8>, NoMemory> {
     let mut text = Vec::from_slice(alloc, front)?;
     text.extend_from_slice(behind)?;

@@ -81,7 +81,7 @@ fn writes_codes_and_reads_them_back() -> Result<(), Fail> {
     holds(are_written && are_texts_of_verdicts(), "another text")
 }
 
-/// A fault of an interchange or none, and what a TA1 tells of it: TA104 and TA105; nothing of those that are never answered.
+/// A fault of an interchange or none, and what a TA1 reports of it: TA104 and TA105; nothing of those that are never answered.
 const NOTES: &[(Option<InterchangeFault>, Option<(&str, &str)>)] = &[
     (None, Some(("A", "000"))),
     (Some(InterchangeFault::TrailerMissing), Some(("R", "023"))),
@@ -101,7 +101,7 @@ const NOTES: &[(Option<InterchangeFault>, Option<(&str, &str)>)] = &[
     (Some(InterchangeFault::Duplicate), Some(("R", "025"))),
 ];
 
-/// Whether this is told of a fault, or of none.
+/// Whether this is reported of a fault, or of none.
 fn is_told(fault: Option<InterchangeFault>, wanted: Option<(&str, &str)>) -> bool {
     match (note_text(fault), wanted) {
         (None, None) => true,

@@ -20,7 +20,7 @@ const DELIMS: Delims = Delims {
     terminator: b'~',
 };
 
-/// The ids of the order's segments, and where they begin behind the header.
+/// The ids of the order's segments, and where they begin after the header.
 const IDS: &[(&[u8], usize)] = &[
     (b"GS", 0),
     (b"ST", 42),

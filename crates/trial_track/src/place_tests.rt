@@ -55,7 +55,7 @@ fn a_file_is_whole_or_not_at_all(rt: HostRuntime) {
     assert_eq!(rt; log.named.load(Ordering::SeqCst), 1);
 }
 
-/// What is told of a place on a drive with these files, where this call fails: 0 that it is free, 1 that a file is there, 2 else.
+/// What is reported of a place on a drive with these files, where this call fails: 0 that it is free, 1 that a file is there, 2 else.
 fn told(alloc: Global, place: u64, beside: u64, fails: Step) -> u8 {
     let log = Log::new();
     log.place.store(place, Ordering::SeqCst);

@@ -1,4 +1,4 @@
-//! Gates that make two workers meet, or one wait for the other, and what is recorded and checked behind them.
+//! Gates that make two workers meet, or one wait for the other, and what is recorded and checked after them.
 ghost use Rattle.std.specs.Prelude.{◌≡◌, ◌≤◌, length, map};
 ghost use Rattle.env_index.specs.Words.{places_of};
 ghost use Rattle.worker_pool.specs.Jobs.{place_of};
@@ -48,7 +48,7 @@ fn has_come<R: Wait + Clock>(rt: &R, count: &AtomicU64, wanted: u64) -> bool {
     false
 }
 
-/// Jobs 0 and 1 come together, in front and behind.
+/// Jobs 0 and 1 come together, before and after.
 #[derive(Drop)]
 struct Pairs {
     entered: AtomicU64,
@@ -120,7 +120,7 @@ impl Gate for Late {
     }
 }
 
-/// The places, in the order in which they were recorded behind a gate; each set is found to want its BEG.
+/// The places, in the order in which they were recorded after a gate; each set is found to want its BEG.
 fn recorded_behind<'f, 'a, G: Gate + Sync, R: Threads + Wait + Clock + Sync>(
     rt: &R,
     alloc: Global,

@@ -86,7 +86,7 @@ fn judge_jobs<'i, 'a>(alloc: Global, index: &'i Index<'a>) -> Result<Vec<JudgeJo
     Ok(jobs)
 }
 
-/// Behind a gate.
+/// After a gate.
 pub fn expect_heads<G: Gate + Sync, R: Threads + Wait + Clock + Sync>(
     rt: &R,
     alloc: Global,

@@ -81,7 +81,7 @@ fn take_shares<J: Named>(
     Ok(shares)
 }
 
-/// What each job told, and the records, opened behind the last worker.
+/// What each job reported, and the records, opened after the last worker.
 fn recorded_by<'i, 'a, J: Named + Send + Sync, R: Threads + Wait + Clock + Sync>(
     rt: &R,
     alloc: Global,

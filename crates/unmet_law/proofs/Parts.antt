@@ -1,4 +1,4 @@
--- A text that isn't empty has a part that isn't, among its first parts or behind them.
+-- A text that isn't empty has a part that isn't, among its first parts or after them.
 use Rattle.std.proofs.Common.{◌≡◌, ◌<◌, ◌⊎◌, inl, inr, ℕ, zero, suc, Bool, true, false, not, ◌&&◌, List, [], ◌∷◌, drop, refl, arith}
 use Rattle.std.specs.Prelude.{Option, Some, None, ◌==◌, ◌||◌}
 use Rattle.std.specs.List.{list_all, list_any, onto_first, slice_split}
@@ -77,7 +77,7 @@ pub filled_component : (delims : Delims) (text : List ℕ) → is_empty delims t
 filled_component delims text filled =
     split (is_inner_separator delims) (λ b. b == delims.component) (is_component delims) text filled
 
--- one of the first n is so, or one behind them
+-- one of the first n is so, or one after them
 pub record IsAt (test : List ℕ → Bool) (n : ℕ) (parts : List (List ℕ)) : Type 0 where
   pub k : ℕ
   pub few : k < n

@@ -1,4 +1,4 @@
-//! A guide that is warned of as one that no set can meet is met by none. Laws alone: none of these calls does anything.
+//! A guide that is warned of as one that no set can meet is met by none. Theorems alone: none of these calls does anything.
 //!
 //! Proved: where each set needs a segment position with a mandatory element whose type or lengths allow none of its codes, some segment of
 //! each body that the guide derives has an element at fault (`unmet_is_faulty`), so that no set meets the guide (`unmet_is_met_by_none`).

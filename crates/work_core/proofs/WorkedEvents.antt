@@ -36,7 +36,7 @@ absent = refl
 too_early : is_enabled start (Finish 0 0) ≡ false
 too_early = refl
 
--- behind it the job's own place, once, and nothing is finished before
+-- after it the job's own place, once, and nothing is finished before
 records : is_enabled claimed (Record 0 place) ≡ true
 records = refl
 

@@ -1,13 +1,13 @@
 //! The rule by which any number of workers do jobs: they claim them in order, record their index places and finish
-//! them, one event behind another. A job has at most one place. What an event needs and does is said of plain lists, so
+//! them, one event after another. A job has at most one place. What an event needs and does is said of plain lists, so
 //! it holds of whatever keeps them: a desk's word and a seat (`claim_desk`), a register behind a lock, each worker's own
 //! list of answers.
 //!
 //! Proved, for every list of events:
 //! - `CoreState::step` takes an event exactly where it is enabled, and then does what the rule says (`is_enabled`,
 //!   `after`); one that isn't enabled changes nothing, also one of a worker that isn't there, and neither does one for
-//!   which memory is wanting;
-//! - `run_events` gives the state behind all events of a list, in their order;
+//!   which memory is refused;
+//! - `run_events` gives the state after all events of a list, in their order;
 //! - `CoreState::is_complete` answers true exactly where all is done (`Complete`): each job is claimed once and finished
 //!   once, each job's place recorded once, and nothing else;
 //! - all such lists, of any workers in any order, leave the same places recorded and the same jobs finished

@@ -11,7 +11,7 @@ pub(crate) fn is_same_place(place: Place, other: Place) -> bool
     place.isa == other.isa && place.gs == other.gs && place.st == other.st
 }
 
-// A worker behind a claim: with the job of that number, or ended where none has it.
+// A worker after a claim: with the job of that number, or ended where none has it.
 pub(crate) fn claimed_by(next: u128, count: usize) -> Worker
     ensures { result ≡ claimed_at next count }
 {

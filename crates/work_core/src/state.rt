@@ -51,7 +51,7 @@ impl Model for CoreState {
 }
 
 impl CoreState {
-    /// Jobs, each with its place where it has one, and so many workers, who hold nothing. The only error is want of memory.
+    /// Jobs, each with its place where it has one, and so many workers, who hold nothing. The only error is out of memory.
     pub fn new(
         alloc: Global,
         jobs: Vec<Option<Place>>,
@@ -76,7 +76,7 @@ impl CoreState {
         })
     }
 
-    /// Takes one event, or answers that it wasn't enabled, which changes nothing. The only error is want of memory, which leaves
+    /// Takes one event, or answers that it wasn't enabled, which changes nothing. The only error is out of memory, which leaves
     /// the state as it was.
     pub fn step(&mut self, event: Event) -> Result<Stepped, NoMemory>
         ensures ok { IfOk result (λ s. (s ≡ told (is_enabled self.old event)) × (self.new ≡ stepped self.old event)) }
@@ -167,7 +167,7 @@ impl CoreState {
     }
 }
 
-/// Where jobs and workers stand behind some events, taken in their order. The only error is want of memory.
+/// Where jobs and workers stand after some events, taken in their order. The only error is out of memory.
 pub fn run_events(
     alloc: Global,
     jobs: Vec<Option<Place>>,

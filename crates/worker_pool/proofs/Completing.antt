@@ -13,7 +13,7 @@ use Rattle.worker_pool.specs.declared.job.CheckJob.{CheckJob}
 abbrev one_if : Bool → ℕ
 one_if b = if◌then◌else◌ {A = ℕ} b 1 0
 
--- numbers from a on: none below, each of so many once, none behind
+-- numbers from a on: none below, each of so many once, none above
 low : (x a k : ℕ) → x < a → times x (numbers_from a k) ≡ 0
 low x a zero h = refl
 low x a (suc k) h =

@@ -11,7 +11,7 @@ use claim_desk::Seat;
 use number_register::FullRegister;
 
 /// All is done, by the rule of any pool of workers: where the jobs are at the places of the register's index, each job was claimed
-/// once and finished once, and each place recorded once, and no other. A law of what `run_checks` and `FullRegister::recorded` give.
+/// once and finished once, and each place recorded once, and no other. A theorem of what `run_checks` and `FullRegister::recorded` give.
 pub fn checks_are_complete(
     full: &FullRegister<'_, '_>,
     jobs: &[CheckJob<'_, '_, '_>],

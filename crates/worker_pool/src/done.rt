@@ -101,7 +101,7 @@ fn boxed<'a>(
     }
 }
 
-/// Checks the set of a job whose place was recorded. The only error is want of memory.
+/// Checks the set of a job whose place was recorded. The only error is out of memory.
 pub fn run_check<'g: 'a, 'a>(
     alloc: Global,
     job: &CheckJob<'_, 'g, 'a>,

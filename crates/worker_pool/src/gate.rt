@@ -1,13 +1,13 @@
 use std::sync::Wait;
 use std::time::Clock;
 
-/// What a worker passes through in front of each job and behind it, where it may have to wait: so a run can be made to meet
+/// What a worker passes through before each job and after it, where it may have to wait: so a run can be made to meet
 /// itself, or to finish its jobs in another order. What a job answers doesn't depend on it.
 pub trait Gate {
-    /// In front of a job, by its number.
+    /// Before a job, by its number.
     fn enter<R: Wait + Clock>(&self, rt: &R, job: u64);
 
-    /// Behind a job, which lends what it answered.
+    /// After a job, which lends what it answered.
     fn answered<R: Wait + Clock, D>(&self, rt: &R, job: u64, done: &D);
 }
 

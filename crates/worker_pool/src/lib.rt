@@ -1,4 +1,4 @@
-//! The four phases of a text's work as jobs done by workers, behind a gate: the headers that begin in a piece of the text, the
+//! The four phases of a text's work as jobs done by workers, after a gate: the headers that begin in a piece of the text, the
 //! marks of a piece under a pair of delimiters, the judgement of an interchange of its index, and the check of the set at each place
 //! of a settled index, whose place is recorded first. An answer says by its type what it is the answer to, so that nothing is known
 //! of the workers, their order or their number (`job_pool`, `claim_desk`, `number_register`).
@@ -9,10 +9,10 @@
 //!   the least of its faults 1 to 7 (`JudgeDone::fault`);
 //! - `run_checks` gives one answer to each job, in the order of the jobs, the seat that claimed each once, and the records of the
 //!   register's index. The answer to a set is checked, by the guide of its job; an answer has a record of its job's place;
-//! - behind them all is done, by the rule of any pool of workers (`checks_are_complete`): each job claimed and finished once, each
+//! - after them all is done, by the rule of any pool of workers (`checks_are_complete`): each job claimed and finished once, each
 //!   place recorded once, and nothing else.
 //!
-//! A call refuses for want of memory or of a thread, and then gives nothing. That a thread gets on, or that two of them run, isn't
+//! A call refuses where memory or a thread is refused, and then gives nothing. That a thread gets on, or that two of them run, isn't
 //! claimed: the trial, `trial_workers`, makes them meet and wait for one another by gates.
 //!
 //! X12.5, interchange; X12.6, segment, functional group and transaction set. Workers and gates are own.

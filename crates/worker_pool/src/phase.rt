@@ -21,7 +21,7 @@ pub trait Job {
 
     ghost number_of: { Self.Done → ℕ };
 
-    /// Does the job, of a number. The only error is want of memory.
+    /// Does the job, of a number. The only error is out of memory.
     fn run(&self, alloc: Global, number: u64) -> Result<Self::Done, NoMemory>
         requires { is_ready self.now }
         ensures { IfOk result (λ d. (job_of d ≡ value self.now) × (number_of d ≡ number)) };
@@ -31,7 +31,7 @@ pub trait Job {
         ensures { result ≡ number_of done.now };
 }
 
-/// Does a job, of a number. The only error is want of memory.
+/// Does a job, of a number. The only error is out of memory.
 pub fn run_job<J: Job>(alloc: Global, job: &J, number: u64) -> Result<J::Done, NoMemory>
     requires { J.is_ready job.now }
     ensures { IfOk result (λ d. (J.job_of d ≡ J.value job.now) × (J.number_of d ≡ number)) }

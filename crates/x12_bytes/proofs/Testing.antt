@@ -1,4 +1,4 @@
--- The test of a header tells exactly where there is one.
+-- The test of a header says exactly where there is one.
 use Rattle.std.proofs.Common.{◌≡◌, ◌≢◌, ℕ, ◌+◌, ◌-◌, ◌≤◌, Bool, not, ◌&&◌, nat_eq, leb, List, length, take, All, IsTrue, inl, inr, refl}
 use Rattle.std.proofs.Common.{subst, arith}
 use Rattle.std.specs.Prelude.{slice_index, codes}

@@ -21,13 +21,13 @@ width_of k = slice_index widths (k - 1)
 abbrev pub separator_place : ℕ → ℕ
 separator_place k = slice_index separator_places (k - 1)
 
--- field k of a header: as many bytes behind its separator as it is wide
+-- field k of a header: as many bytes after its separator as it is wide
 abbrev pub field_of : List ℕ → ℕ → List ℕ
 field_of header k =
     let start = separator_place k + 1 in
     slice_range header start (start + width_of k)
 
--- the delimiters that a header names: behind ISA, as ISA16, and behind ISA16
+-- the delimiters that a header names: after ISA, as ISA16, and after ISA16
 abbrev pub element_of : List ℕ → ℕ
 element_of header = slice_index header 3
 
@@ -56,7 +56,7 @@ delims_of header = record {
 abbrev pub IsFieldByte : List ℕ → ℕ → Type 0
 IsFieldByte header b = (b ≢ element_of header) × (b ≢ terminator_of header)
 
--- a separator, and behind it field k, which holds neither it nor the terminator
+-- a separator, and after it field k, which holds neither it nor the terminator
 pub record IsFieldAt (header : List ℕ) (k : ℕ) : Type 0 where
   pub separator : slice_index header (separator_place k) ≡ element_of header
   pub bytes : All (IsFieldByte header) (field_of header k)

@@ -1,11 +1,11 @@
 //! The header of an X12 interchange, read in place: sixteen fields of fixed width, and the
-//! delimiters that everything behind the header is divided by. Nothing is copied and nothing
+//! delimiters that everything after the header is divided by. Nothing is copied and nothing
 //! allocated; a `Header` lends its bytes from the text.
 //!
 //! Proved:
 //! - `read_header` finds a header exactly where one begins, and lends exactly its 106 bytes; so does
 //!   `header_there`, without a test, where one is known to begin;
-//! - each field is the bytes behind its separator, and holds neither the separator nor the
+//! - each field is the bytes after its separator, and holds neither the separator nor the
 //!   terminator;
 //! - the delimiters are those that the header names, ISA11 only where it can separate;
 //! - an id is read without exactly the spaces at its end.

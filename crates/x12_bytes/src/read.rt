@@ -10,7 +10,7 @@ use crate::header::Header;
 use crate::layout::{self, COMPONENT, ELEMENT, HEADER_LEN, TERMINATOR};
 
 /// The header that begins at this offset of the text (X12.5, ISA), if one does. Any offset may be
-/// asked, also one behind the text's end.
+/// asked, also one after the text's end.
 pub fn read_header(text: &[u8], at: usize) -> Option<Header<'_>>
     ensures found { IsSome result ↔ Head text.now at }
     ensures test { is_some result ≡ is_head text.now at }
@@ -27,7 +27,7 @@ pub fn read_header(text: &[u8], at: usize) -> Option<Header<'_>>
     }
 }
 
-/// The test of a header, in definitions that go by cases, tells exactly where one begins.
+/// The test of a header, in definitions that go by cases, says exactly where one begins.
 pub fn head_is_tested()
     ensures { (text : List ℕ) (at : ℕ) → IsTrue (is_head text at) ↔ Head text at }
 {}
@@ -49,7 +49,7 @@ fn is_header(bytes: &[u8]) -> bool
         && has_fields(bytes)
 }
 
-/// Whether each field stands behind a separator and holds no delimiter. Written out, so that each place and each width is a constant:
+/// Whether each field stands after a separator and holds no delimiter. Written out, so that each place and each width is a constant:
 /// a header is tested wherever a letter I is met.
 fn has_fields(bytes: &[u8]) -> bool
     requires { length bytes.now ≡ HEADER_LEN }

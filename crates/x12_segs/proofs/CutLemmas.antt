@@ -1,4 +1,4 @@
--- A text that is cut behind a terminator: the segments before the cut, and those behind it.
+-- A text that is cut after a terminator: the segments before the cut, and those after it.
 use Rattle.std.proofs.Common.{ℕ, ◌≡◌, ◌<◌, ◌+◌, ◌-◌, Bool, true, false, cond, List, [], ◌∷◌, ◌++◌, length, map, take, drop, get_or}
 use Rattle.std.proofs.Common.{slice_range, refl, sym, ap, ◌∙◌, add-one, arith, drop-cons, nat_eq, rules}
 use Rattle.std.specs.List.{slice_split, onto_first, prefix_len}
@@ -24,7 +24,7 @@ split-append p (x ∷ xs) y ys h =
     ap (λ list. cond (p x) ([] ∷ list) (onto_first x list)) (split-append p xs y ys h)
     ∙ split-append_step (p x) x (slice_split p xs) (slice_split p ys) (omega (arith, length-slice_split p xs))
 
--- how many bytes parts take up, a separator behind each
+-- how many bytes parts take up, a separator after each
 abbrev pub span_of : List (List ℕ) → ℕ
 span_of [] = 0
 span_of (part ∷ more) = length part + 1 + span_of more
@@ -85,7 +85,7 @@ parts-append t xs ys = split-append (λ b. nat_eq b t) xs t ys (let yes : nat_eq
 round_element : (l : List ℕ) (n : ℕ) → n < length l → l ≡ take n l ++ get_or l n 0 ∷ drop (n + 1) l
 round_element l n lt = sym (take-append-drop n l) ∙ ap (λ (r : List ℕ). take n l ++ r) (rw add-one (drop-cons l n 0 lt))
 
--- a text that is cut behind a terminator
+-- a text that is cut after a terminator
 pub segs_from-cut : (text : List ℕ) (t s n : ℕ) → s + n < length text → get_or text (s + n) 0 ≡ t
     → segs_from text t s ≡ segs_of s (parts t (slice_range text s (s + n + 1))) ++ segs_from text t (s + n + 1)
 segs_from-cut text t s n below is =
@@ -121,7 +121,7 @@ rest_of-append place (part ∷ ps) qs some =
     rest_of-cons place part (ps ++ qs) (omega (arith, length-append ps qs))
     ∙ rest_of-append next ps qs some ∙ ap (λ n. rest_of n qs) ends
 
--- the rest of a text that is cut behind a terminator is that behind the cut
+-- the rest of a text that is cut after a terminator is that after the cut
 pub rest_from-cut : (text : List ℕ) (t s n : ℕ) → s + n < length text → get_or text (s + n) 0 ≡ t
     → rest_from text t s ≡ rest_from text t (s + n + 1)
 rest_from-cut text t s n below is =

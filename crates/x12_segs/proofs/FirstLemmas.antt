@@ -1,4 +1,4 @@
--- The first segment behind an offset.
+-- The first segment after an offset.
 use Rattle.std.proofs.Common.{ℕ, zero, suc, ◌≡◌, ◌≤◌, ◌<◌, ◌+◌, ◌-◌, Bool, true, false, List, [], ◌∷◌, ◌++◌, Option, Some, None, length}
 use Rattle.std.proofs.Common.{drop, get_or, slice_range, refl, sym, ap, subst, ◌∙◌, ◌⊎◌, inl, inr, arith, nat_eq}
 use Rattle.std.specs.List.{prefix_len, position_or_len}
@@ -62,7 +62,7 @@ first_byte-drop t xs k l le h =
       subst (λ b. nat_eq b t ≡ true) (sym (same (k - l) ∙ ap (λ n. get_or xs n 0) place)) h.1,
     )
 
--- the first segment behind an offset, and the segments behind it
+-- the first segment after an offset, and the segments after it
 pub record IsFirstSeg (text : List ℕ) (t from : ℕ) (seg : Seg) (more : List Seg) : Type 0 where
   pub start : from ≤ seg.start
   pub end : seg.start + length seg.bytes < length text
@@ -92,7 +92,7 @@ from_rest : (text : List ℕ) (t from : ℕ) (r : Option ℕ) → IsFirstByte (i
     → IsFirstByte (is_byte t) (slice_range text from (length text)) r
 from_rest text t from r h = subst (λ hay. IsFirstByte (is_byte t) hay r) (sym (take_rest text from)) h
 
--- a segment behind the CR and LF of a part
+-- a segment after the CR and LF of a part
 segs_from-inside : (text : List ℕ) (t from len : ℕ) → from ≤ length text → IsFirstByte (is_byte t) (drop from text) (Some len)
     → (lead : ℕ) → lead ≡ prefix_len is_line_end (slice_range text from (from + len)) → lead < len
     → segs_from text t (from + lead) ≡ seg_at text (from + lead) (from + len) ∷ segs_from text t (from + len + 1)

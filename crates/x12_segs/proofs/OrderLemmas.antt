@@ -1,4 +1,4 @@
--- The segments behind an offset stand one behind another, and the rest behind them, up to the text's end.
+-- The segments after an offset stand one after another, and the rest after them, up to the text's end.
 use Rattle.std.proofs.Common.{ℕ, ◌≡◌, ◌≤◌, ◌<◌, ◌+◌, ◌-◌, Bool, true, false, cond, List, [], ◌∷◌, ◌++◌, length, drop, arith, nat_eq}
 use Rattle.std.specs.List.{slice_split, prefix_len}
 use Rattle.std.proofs.lemmas.List.{length-drop}
@@ -8,7 +8,7 @@ use Rattle.x12_bytes.specs.Bytes.{is_line_end}
 use Rattle.x12_segs.specs.Segs.{Seg, without_line_ends, segs_of, rest_of, segs_from, rest_from}
 use Rattle.x12_segs.proofs.CutLemmas.{span_of, span-split}
 
--- each segment begins at or behind an offset, the next one behind its terminator, and the rest before the text's end
+-- each segment begins at or after an offset, the next one after its terminator, and the rest before the text's end
 abbrev pub StandInOrder : ℕ → List Seg → Seg → ℕ → Type 0
 StandInOrder from [] rest len = (from ≤ rest.start) × (rest.start ≤ len)
 StandInOrder from (seg ∷ segs) rest len = (from ≤ seg.start) × StandInOrder (seg.start + length seg.bytes + 1) segs rest len

@@ -32,7 +32,7 @@ parts-none t text h =
     (λ lt. absurd (omega (arith, lt))) in
     slice_split_none p text (λ k d high. fails_before_first p text k d (omega arith))
 
--- the same in one: where the first part ends, if a separator stands behind it
+-- the same in one: where the first part ends, if a separator stands after it
 pub parts_by-first : (separator : Option ℕ) (s : ℕ) (text : List ℕ) (r : Option ℕ) → separator ≡ Some s → IsFirstByte (is_byte s) text r
     → MatchOption r (parts_by separator text
     ≡ text ∷ []) (λ end. (end < length text) × (parts_by separator text ≡ take end text ∷ parts_by separator (drop (end + 1) text)))

@@ -8,7 +8,7 @@ use Rattle.x12_segs.specs.Runs.{StandsAlone, end_of}
 use Rattle.x12_segs.proofs.CutLemmas.{segs_from-cut, segs_of-moved}
 use Rattle.x12_segs.proofs.FirstLemmas.{IsFirstSeg, first_seg}
 
--- behind the segments before a run
+-- after the segments before a run
 skipped : (before run : List Seg) (text : List ℕ) (t from : ℕ) → from ≤ length text → segs_from text t from ≡ before ++ run
     → (next : ℕ) × (next ≤ length text) × (segs_from text t next ≡ run)
 skipped [] run text t from fits is = (from, fits, is)

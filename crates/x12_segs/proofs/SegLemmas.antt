@@ -1,4 +1,4 @@
--- The segments and the rest behind an offset, one part after another.
+-- The segments and the rest after an offset, one part after another.
 use Rattle.std.proofs.Common.{ℕ, ◌≡◌, ◌≤◌, ◌<◌, ◌+◌, ◌-◌, Bool, List, [], ◌∷◌, ◌++◌, Some, None, length, take, drop, slice_range, refl}
 use Rattle.std.proofs.Common.{ap, subst, ◌∙◌, arith, nat_eq}
 use Rattle.std.specs.List.{slice_split, prefix_len}
@@ -25,7 +25,7 @@ pub rest_of-cons : (place : ℕ) (part : List ℕ) (more : List (List ℕ)) → 
 rest_of-cons place part [] h = absurd (omega (arith, h))
 rest_of-cons place part (next ∷ more) h = refl
 
--- a terminator was found behind an offset: the part before it, and the parts behind it
+-- a terminator was found after an offset: the part before it, and the parts after it
 pub record IsCut (text : List ℕ) (t from len : ℕ) : Type 0 where
   pub below : from + len < length text
   pub divided : parts t (drop from text) ≡ slice_range text from (from + len) ∷ parts t (drop (from + len + 1) text)
@@ -67,7 +67,7 @@ rest_from-found text t from len cut =
     ap (rest_of from) cut.divided ∙ rest_of-cons from part more cut.more
     ∙ ap (λ n. rest_of (from + n + 1) more) cut.width
 
--- no terminator was found behind an offset
+-- no terminator was found after an offset
 pub parts-rest : (text : List ℕ) (t from : ℕ) → IsFirstByte (is_byte t) (slice_range text from (length text)) None
     → parts t (drop from text) ≡ drop from text ∷ []
 parts-rest text t from none =

@@ -96,7 +96,7 @@ pub next_header_taken : IsSetSpan two_cut (unclosed 0 14) → ⊥
 unfolding kind_of
 next_header_taken is = let n : 2 ≡ 1 = spans_outer two_cut (unclosed 0 14) is in omega (arith, n)
 
--- it begins in front of ST: with the segment before it, or with a line end
+-- it begins before ST: with the segment before it, or with a line end
 pub begins_at_group : IsSetSpan whole (closed 0 17) → ⊥
 unfolding kind_of
 begins_at_group is = let kinds = is.kinds in cc
@@ -104,7 +104,7 @@ begins_at_group is = let kinds = is.kinds in cc
 pub begins_at_line_end : IsSetSpan (10 ∷ codes "ST*1~SE*2~") (closed 0 11) → ⊥
 begins_at_line_end is = let n : 1 ≡ 0 = is.start in omega (arith, n)
 
--- it begins behind ST
+-- it begins after ST
 pub begins_inside : IsSetSpan whole (closed 8 17) → ⊥
 unfolding kind_of
 begins_inside is = let kinds = is.kinds in cc
@@ -145,7 +145,7 @@ pub interchange_trailer_inside : IsSetSpan (codes "ST*1~IEA~SE*2~") (closed 0 14
 unfolding kind_of
 interchange_trailer_inside is = let n : 3 ≡ 2 = spans_outer (codes "ST*1~IEA~SE*2~") (closed 0 14) is in omega (arith, n)
 
--- it ends in the middle of a segment, or behind a line end, or behind the text
+-- it ends in the middle of a segment, or after a line end, or after the text
 pub ends_inside_segment : IsSetSpan cut (unclosed 3 10) → ⊥
 ends_inside_segment is = let n : 8 ≡ 10 = is.end in omega (arith, n)
 

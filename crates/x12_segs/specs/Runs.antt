@@ -1,4 +1,5 @@
--- X12.6, segment and segment terminator: a run of a text's segments, cut out of the text from its first byte to behind its last terminator.
+-- X12.6, segment and segment terminator: a run of a text's segments, cut out of the text from its first byte to just after its last
+-- terminator.
 use Rattle.std.specs.Prelude.{ℕ, ◌≡◌, ◌+◌, ◌<◌, ◌≤◌, List, [], ◌∷◌, ◌++◌, length, map, slice_range}
 use Rattle.x12_segs.specs.Segs.{Seg, Segs, segs_from, segs_within}
 
@@ -7,7 +8,7 @@ abbrev pub start_of : List Seg → ℕ
 start_of [] = 0
 start_of (seg ∷ more) = seg.start
 
--- the offset behind the terminator of the last segment of a run
+-- the offset after the terminator of the last segment of a run
 abbrev pub end_of : List Seg → ℕ
 end_of [] = 0
 end_of (seg ∷ []) = seg.start + length seg.bytes + 1
@@ -23,7 +24,7 @@ pub record StandsAlone (text : List ℕ) (terminator : ℕ) (run : List Seg) : T
   pub segs : run ≡ map (moved_by (start_of run)) (Segs (slice_range text (start_of run) (end_of run)) terminator)
   pub stretch : run ≡ segs_within text terminator (start_of run) (end_of run)
 
--- each run of one or more of the segments behind an offset stands alone
+-- each run of one or more of the segments after an offset stands alone
 abbrev pub RunsStandAlone : List ℕ → ℕ → ℕ → Type 0
 RunsStandAlone text terminator from =
     (before run behind : List Seg) → segs_from text terminator from ≡ before ++ (run ++ behind) → 0 < length run

@@ -1,4 +1,4 @@
--- X12.6, transaction set: the stretch of a text that a set takes, from the first byte of its ST to behind its last terminator.
+-- X12.6, transaction set: the stretch of a text that a set takes, from the first byte of its ST to just after its last terminator.
 use Rattle.std.specs.Prelude.{ℕ, ◌≡◌, ◌≤◌, Bool, true, false, List, [], ◌∷◌, ◌++◌, length, map}
 use Rattle.std.specs.List.{list_all}
 use Rattle.x12_segs.specs.Segs.{Seg, segs_within}

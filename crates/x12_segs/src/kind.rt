@@ -26,7 +26,7 @@ pub enum Kind {
     Other,
 }
 
-/// A segment's kind, by its id alone, byte for byte. Most segments are told by their first letter.
+/// A segment's kind, by its id alone, byte for byte. Most segments are recognized by their first letter.
 pub fn kind_of(segment: &SegView<'_>) -> Kind
     ensures { result ≡ kind_of segment.now }
 {

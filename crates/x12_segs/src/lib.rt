@@ -1,5 +1,5 @@
 //! The segments of an X12 text and their data elements, lent from the text: nothing is copied and
-//! nothing allocated. A text is divided at each terminator, CR and LF in front of a segment are
+//! nothing allocated. A text is divided at each terminator, CR and LF before a segment are
 //! passed over, empty parts give no segment, and what follows the last terminator is the rest.
 //!
 //! Proved:
@@ -9,7 +9,7 @@
 //! - id, elements, occurrences and components are exactly the texts between the separators, one by
 //!   one and by number; one that isn't there is the empty text;
 //! - a run of segments, cut out of its text, reads as the same run;
-//! - `kind_of` tells a segment's kind by its id, and a span of the text lends just its segments;
+//! - `kind_of` finds a segment's kind by its id, and a span of the text lends just its segments;
 //! - `find_byte` and `find_near` give the first place of a byte, or none where it doesn't stand.
 //!
 //! X12.6, data segment, data element and their separators, control segments, transaction set; X12.5,

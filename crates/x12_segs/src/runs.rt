@@ -1,8 +1,8 @@
 ghost use Rattle.std.specs.Prelude.{◌≤◌, length};
 ghost use Rattle.x12_segs.specs.Runs.{RunsStandAlone};
 
-/// A law, with nothing to run: where a text has segments one behind another, the bytes from the
-/// first of them to behind the terminator of the last, read alone, have just these segments (X12.6,
+/// A theorem, with nothing to run: where a text has segments one after another, the bytes from the
+/// first of them to just after the terminator of the last, read alone, have just these segments (X12.6,
 /// segment terminator). So a set can be read again from its span.
 pub fn runs_stand_alone(text: &[u8], from: usize, terminator: u8)
     requires { from ≤ length text.now }

@@ -5,7 +5,7 @@ use crate::find::find_near;
 use crate::line_ends::lead;
 use crate::part::Part;
 
-/// The first part at or behind the offset `from`: a segment, or the rest where no segment follows.
+/// The first part at or after the offset `from`: a segment, or the rest where no segment follows.
 /// CR and LF at its front are passed over, and empty parts are left out (X12.6, segment
 /// terminator).
 pub fn next_part(text: &[u8], from: usize, terminator: u8) -> Part

@@ -6,7 +6,7 @@ use x12_bytes::Delims;
 pub struct SetSpan {
     /// The offset of the first byte of the set's ST.
     pub start: usize,
-    /// The offset behind the terminator of the set's last segment.
+    /// The offset after the terminator of the set's last segment.
     pub end: usize,
     /// The delimiters that the set is read by.
     pub delims: Delims,

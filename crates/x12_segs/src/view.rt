@@ -106,7 +106,7 @@ impl<'a> SegView<'a> {
         parts::part_or_empty(self.occurrence(k, n), Some(self.delims.component), m - 1)
     }
 
-    /// The elements behind the id, first to last.
+    /// The elements after the id, first to last.
     pub fn elements(&self) -> Parts<'a>
         ensures value { result ≡ drop 1 (elements_of self.now) }
         ensures len { length result ≤ length self.now.bytes }

@@ -1,4 +1,4 @@
--- A text that begins with a header still does with more behind it.
+-- A text that begins with a header still does with more after it.
 use Rattle.std.proofs.Common.{◌≡◌, ℕ, List, ◌++◌, sym, ap, subst, ◌∙◌, append_assoc}
 use Rattle.x12_write.specs.declared.envelope.Envelope.{Envelope}
 use Rattle.x12_write.specs.Sendable.{IsReadAs, BeginsWithHeader}

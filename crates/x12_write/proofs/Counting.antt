@@ -20,7 +20,7 @@ padded-nonempty least n fits =
     let long = length-append (replicate (least - length (decimal n)) 48) (decimal n) in
     omega (arith, some, long)
 
--- a count and a number, each behind a separator
+-- a count and a number, each after a separator
 pub counted-text : (s t count n least : ℕ) → count < 2 ^ 64 → n < 2 ^ 64
     → s ∷ (padded_number 1 count ++ (s ∷ (padded_number least n ++ t ∷ [])))
     ≡ flat_map (λ x. s ∷ x) (trimmed (decimal count ∷ padded_number least n ∷ [])) ++ t ∷ []

@@ -1,4 +1,4 @@
--- A header that is sent, in front of its number and behind it.
+-- A header that is sent, before its number and after it.
 use Rattle.std.proofs.Common.{◌≡◌, ◌++◌, [], ◌∷◌, List, ℕ, append_assoc}
 use Rattle.std.specs.Prelude.{codes}
 use Rattle.std.specs.List.{flat_map}
@@ -8,7 +8,7 @@ use Rattle.x12_write.specs.Header.{header_text, party_elements}
 use Rattle.x12_write.specs.Number.{padded_number}
 use Rattle.x12_write.specs.Outbound.{back_text, front_text, moment_elements}
 
--- the elements in front of one and behind it, with what stands around them
+-- the elements before one and after it, with what stands around them
 around : (s : ℕ) (id number end : List ℕ) (xs ys zs : List (List ℕ))
     → (id ++ (flat_map (λ x. s ∷ x) (xs ++ ys) ++ s ∷ [])) ++ (number ++ (flat_map (λ x. s ∷ x) zs ++ end))
     ≡ id ++ (flat_map (λ x. s ∷ x) (xs ++ (ys ++ number ∷ zs)) ++ end)
@@ -21,7 +21,7 @@ header-of_ends e at number =
     around e.delims.element (codes "ISA") (padded_number 9 number) (e.delims.terminator ∷ []) (party_elements e) (moment_elements e at)
     (codes "0" ∷ (e.usage ∷ []) ∷ (e.delims.component ∷ []) ∷ [])
 
--- a text behind another, by its parts
+-- a text after another, by its parts
 pub behind : (out mid new front number back back' : List ℕ) → mid ≡ out ++ front → back ≡ back' → new ≡ mid ++ (number ++ back)
     → new ≡ out ++ (front ++ (number ++ back'))
 behind out mid new front number back back' first same second = rw (second, first, same) (append_assoc out front (number ++ back'))

@@ -1,4 +1,4 @@
--- The fields of a header, each found behind what stands in front of it.
+-- The fields of a header, each found after what stands before it.
 use Rattle.std.proofs.Common.{◌≡◌, ℕ, ◌+◌, ◌-◌, ◌<◌, ◌≤◌, ◌⊎◌, List, [], ◌∷◌, ◌++◌, length, take, drop, get_or}
 use Rattle.std.proofs.Common.{refl, sym, ap, subst, ◌∙◌, arith}
 use Rattle.std.proofs.Common.{suc, append_assoc, length-append, eq-or-lt_of_le, inl, inr, get_or-append-add, get_or-drop, get_or-take}
@@ -8,7 +8,7 @@ use Rattle.std.proofs.lemmas.List.Prefix.{front_rest}
 use Rattle.x12_bytes.specs.Header.{element_of, separator_place, width_of, field_of, IsFieldByte, IsFieldAt}
 use Rattle.x12_write.specs.Segment.{elements_text}
 
--- a byte behind so many others
+-- a byte after so many others
 pub byte-behind : (front : List ℕ) (n b : ℕ) (rest : List ℕ) → length front ≡ n → slice_index (front ++ (b ∷ rest)) n ≡ b
 byte-behind front n b rest long =
     ap (slice_index (front ++ (b ∷ rest))) (let same : n ≡ length front + 0 = omega arith in same)
@@ -17,7 +17,7 @@ byte-behind front n b rest long =
 front-taken : (x rest : List ℕ) → take (length x) (x ++ rest) ≡ x
 front-taken x rest = take-append-le (length x) x rest (omega arith) ∙ take_all (length x) x (omega arith)
 
--- a text behind so many bytes
+-- a text after so many bytes
 pub text-behind : (front : List ℕ) (n : ℕ) (x rest : List ℕ) (end : ℕ) → length front ≡ n → n + length x ≡ end
     → slice_range (front ++ (x ++ rest)) n end ≡ x
 text-behind front n x rest end long wide =
@@ -38,7 +38,7 @@ byte-of header n b is =
     ∙ ap (λ (k : ℕ). get_or (take k (drop n header)) 0 0) (sym one)
     ∙ ap (λ (xs : List ℕ). get_or xs 0 0) is
 
--- elements that fill the fields from number k on, the first of them behind so many bytes
+-- elements that fill the fields from number k on, the first of them after so many bytes
 abbrev pub Fill : List ℕ → ℕ → ℕ → List (List ℕ) → Type 0
 Fill header k place [] = ⊤
 Fill header k place (x ∷ xs) =
@@ -89,7 +89,7 @@ fields-filled header front post e k (x ∷ xs) is same fill j from to =
         let one : j - k ≡ suc (j - (k + 1)) = omega (arith, later) in
         subst (λ (n : ℕ). IsFilled header j (slice_index_or (x ∷ xs) n [])) (sym one) (more later)
 
--- an element of its field's width, in front of those that fill the next fields
+-- an element of its field's width, before those that fill the next fields
 pub fill-next : (header : List ℕ) (k : ℕ) (x : List ℕ) (xs : List (List ℕ)) → length x ≡ width_of k → All (IsFieldByte header) x
     → Fill header (k + 1) (separator_place k + 1 + width_of k) xs → Fill header k (separator_place k) (x ∷ xs)
 fill-next header k x xs wide all rest =

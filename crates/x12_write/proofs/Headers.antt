@@ -106,7 +106,7 @@ length-time at moment =
     let four : min 4 (length (drop 8 at)) ≡ 4 = omega arith in
     long ∙ four
 
--- how long the header is in front of its terminator
+-- how long the header is before its terminator
 length-front : (e : Envelope) (at : List ℕ) (number : ℕ) → IsSendable e → IsMoment at → number ≤ 999999999
     → length (codes "ISA" ++ elements_text e.delims.element (header_elements e at number)) ≡ 105
 length-front e at number s moment nine =

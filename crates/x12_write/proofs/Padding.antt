@@ -5,14 +5,14 @@ use Rattle.std.proofs.lemmas.List.{append_assoc, take-append-drop, take-replicat
 use Rattle.std.proofs.lemmas.List.{length-replicate}
 use Rattle.x12_write.specs.Number.{padded_number}
 
--- so many zeros in front of a text, and some of them dropped
+-- so many zeros before a text, and some of them dropped
 drop-zeros : (zeros from : ℕ) (text : List ℕ) → from ≤ zeros → drop from (replicate zeros 48 ++ text) ≡ replicate (zeros - from) 48 ++ text
 drop-zeros zeros from text within =
     let width : length (replicate {A = ℕ} zeros 48) ≡ zeros = length-replicate zeros 48 in
     let below : from ≤ length (replicate {A = ℕ} zeros 48) = omega arith in
     drop-append-le from (replicate zeros 48) text below ∙ ap (λ (s : List ℕ). s ++ text) (drop-replicate from zeros 48)
 
--- a buffer that ends with a text behind zeros
+-- a buffer that ends with a text after zeros
 from_zeros : (start : ℕ) (buffer text : List ℕ) → start ≤ 10 → drop start buffer ≡ text → take start buffer ≡ take start (replicate 10 48)
     → buffer ≡ replicate start 48 ++ text
 from_zeros start buffer text within digits zeros =
@@ -30,7 +30,7 @@ padded_number-from_zeros least n start buffer least_fits place digits zeros =
     ∙ drop-zeros start (min start (10 - least)) (decimal n) (omega arith)
     ∙ ap (λ (k : ℕ). replicate k 48 ++ decimal n) left
 
--- digits in a buffer, read from so many zeros on, in front of what stands there
+-- digits in a buffer, read from so many zeros on, before what stands there
 before-rest : (start : ℕ) (buffer text : List ℕ) → drop start buffer ≡ text → take start buffer ≡ replicate start 48
     → buffer ≡ replicate start 48 ++ text
 before-rest start buffer text digits zeros =
@@ -38,7 +38,7 @@ before-rest start buffer text digits zeros =
     ∙ ap (λ (s : List ℕ). s ++ drop start buffer) zeros
     ∙ ap (λ (s : List ℕ). replicate start 48 ++ s) digits
 
--- the zeros in front of the digits are still there
+-- the zeros before the digits are still there
 still-zeros : (start end : ℕ) (buffer old : List ℕ) → start ≤ end → take start buffer ≡ take start old → take end old ≡ replicate end 48
     → take start buffer ≡ replicate start 48
 still-zeros start end buffer old within same zeros =
@@ -55,7 +55,7 @@ padded_number-before least n start end buffer old rest least_fits place digits s
     ∙ ap (λ (k : ℕ). replicate k 48 ++ (decimal n ++ rest)) left
     ∙ sym (append_assoc (replicate (least - length (decimal n)) 48) (decimal n) rest)
 
--- and in front of those that are shown there are zeros
+-- and before those that are shown there are zeros
 pub zeros-before : (least n start end : ℕ) (buffer old rest : List ℕ) → start + length (decimal n) ≡ end
     → drop start buffer ≡ decimal n ++ rest → take start buffer ≡ take start old → take end old ≡ replicate end 48
     → take (min start (end - least)) buffer ≡ replicate (min start (end - least)) 48

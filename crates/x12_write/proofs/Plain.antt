@@ -51,7 +51,7 @@ plain-either : (b : Bool) (xs ys : List ℕ) → is_plain xs ≡ true → is_pla
 plain-either true xs ys p q = p
 plain-either false xs ys p q = q
 
--- the digits of any number, in front of a plain text
+-- the digits of any number, before a plain text
 plain-onto : (k n : ℕ) (behind : List ℕ) → is_plain behind ≡ true → is_plain (digits_onto k 10 false n behind) ≡ true
 plain-onto zero n behind plain = plain
 plain-onto (suc k) n behind plain =

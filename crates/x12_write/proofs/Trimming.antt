@@ -14,7 +14,7 @@ pub before_rest-some : (x y : List ℕ) (ys : List (List ℕ)) → before_rest x
 before_rest-some [] y ys = refl
 before_rest-some (b ∷ bs) y ys = refl
 
--- in front of an element that isn't empty, nothing is left off
+-- before an element that isn't empty, nothing is left off
 pub trimmed-push_full : (elements : List (List ℕ)) (last : List ℕ) → 0 < length last
     → trimmed (elements ++ last ∷ []) ≡ elements ++ last ∷ []
 trimmed-push_full [] [] full = absurd (omega (arith, full))
@@ -23,7 +23,7 @@ trimmed-push_full (x ∷ []) last full = ap (before_rest x) (trimmed-push_full [
 trimmed-push_full (x ∷ y ∷ ys) last full = ap (before_rest x) (trimmed-push_full (y ∷ ys) last full)
     ∙ before_rest-some x y (ys ++ last ∷ [])
 
--- nor in front of codes, where there is one and each has a text
+-- nor before codes, where there is one and each has a text
 pub trimmed-append_codes : {C : Type 0} (text : C → List ℕ) (elements : List (List ℕ)) (codes : List C) → 0 < length codes
     → All (λ code. 0 < length (text code)) codes
     → trimmed (elements ++ map text codes) ≡ elements ++ map text codes
@@ -76,7 +76,7 @@ trimmed-take_full elements end d some within full =
     ∙ trimmed-push_full (take (end - 1) (read elements)) (get_or elements (end - 1) d).now full
     ∙ sym more ∙ ap (λ (k : ℕ). take k (read elements)) n
 
--- up to an element that isn't empty nothing is left off, whatever stands behind it
+-- up to an element that isn't empty nothing is left off, whatever stands after it
 pub trimmed-behind : (front : List (List ℕ)) (last : List ℕ) (rest : List (List ℕ)) → 0 < length last
     → trimmed (front ++ last ∷ rest) ≡ front ++ last ∷ trimmed rest
 trimmed-behind [] [] rest full = absurd (omega (arith, full))

@@ -16,7 +16,7 @@ group_header_text d at g =
 abbrev pub group_trailer_text : Delims → ℕ → ℕ → List ℕ
 group_trailer_text d sets control = segment_text d (codes "GE") (decimal sets ∷ decimal control ∷ [])
 
--- texts, one behind the other
+-- texts, one after the other
 abbrev pub texts_in_row : List (List ℕ) → List ℕ
 texts_in_row texts = flat_map (λ text. text) texts
 

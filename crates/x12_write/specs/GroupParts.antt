@@ -1,4 +1,4 @@
--- X12.6, functional group header (GS) of a group that is sent: its elements in front of the version, in two parts. Private.
+-- X12.6, functional group header (GS) of a group that is sent: its elements before the version, in two parts. Private.
 use Rattle.std.specs.Prelude.{ℕ, List, [], ◌∷◌, codes, decimal}
 use Rattle.moment.specs.Moment.{date_of, time_of}
 use Rattle.x12_write.specs.declared.group.GroupHeader.{GroupHeader}

@@ -1,10 +1,10 @@
 -- X12.6, data element types N0 and AN: a number in at least so many digits, a text in at least so many characters.
 use Rattle.std.specs.Prelude.{ℕ, ◌-◌, List, ◌++◌, length, decimal, replicate}
 
--- with zeros in front
+-- with leading zeros
 abbrev pub padded_number : ℕ → ℕ → List ℕ
 padded_number least n = replicate (least - length (decimal n)) 48 ++ decimal n
 
--- with spaces behind
+-- with trailing spaces
 abbrev pub padded_text : ℕ → List ℕ → List ℕ
 padded_text least text = text ++ replicate (least - length text) 32

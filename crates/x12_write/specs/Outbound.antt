@@ -1,5 +1,5 @@
--- X12.5, interchange control header (ISA) of an interchange that is sent, without its number (ISA13): what stands in front of that, and
--- what stands behind it.
+-- X12.5, interchange control header (ISA) of an interchange that is sent, without its number (ISA13): what stands before that, and
+-- what stands after it.
 use Rattle.std.specs.Prelude.{ℕ, ◌≡◌, List, [], ◌∷◌, ◌++◌, codes}
 use Rattle.moment.specs.Moment.{IsMoment, short_date_of, time_of}
 use Rattle.x12_write.specs.declared.envelope.Envelope.{Envelope}
@@ -29,12 +29,12 @@ no_information = codes "00" ∷ blank ∷ codes "00" ∷ blank ∷ []
 abbrev pub moment_elements : Envelope → (at : List ℕ) → List (List ℕ)
 moment_elements e at = short_date_of at ∷ time_of at ∷ (e.repetition ∷ []) ∷ codes "00501" ∷ []
 
--- in front of the number (private, as what it is made of): the id, ISA01 to ISA12, and the separator behind them
+-- before the number (private, as what it is made of): the id, ISA01 to ISA12, and the separator after them
 abbrev pub front_text : Envelope → (at : List ℕ) → List ℕ
 front_text e at =
     codes "ISA" ++ elements_text e.delims.element (party_elements e ++ moment_elements e at) ++ e.delims.element ∷ []
 
--- behind the number (private): ISA14 to ISA16, and the terminator
+-- after the number (private): ISA14 to ISA16, and the terminator
 abbrev pub back_text : Envelope → List ℕ
 back_text e =
     elements_text e.delims.element (codes "0" ∷ (e.usage ∷ []) ∷ (e.delims.component ∷ []) ∷ []) ++ e.delims.terminator ∷ []

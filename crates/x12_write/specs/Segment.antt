@@ -1,4 +1,4 @@
--- X12.6, segment: its id, its data elements, each behind an element separator, and the terminator.
+-- X12.6, segment: its id, its data elements, each after an element separator, and the terminator.
 use Rattle.std.specs.Prelude.{ℕ, List, [], ◌∷◌, ◌++◌, map}
 use Rattle.std.specs.List.{flat_map}
 use denote.Ref.{Bor}
@@ -16,7 +16,7 @@ pub record Segment : Type 0 where
 abbrev pub segment : List ℕ → List (List ℕ) → Segment
 segment id elements = record { id = id; elements = elements }
 
--- an element in front of others; left off where it and they are empty
+-- an element before others; left off where it and they are empty
 abbrev pub before_rest : List ℕ → List (List ℕ) → List (List ℕ)
 before_rest [] [] = []
 before_rest element rest = element ∷ rest
@@ -26,7 +26,7 @@ abbrev pub trimmed : List (List ℕ) → List (List ℕ)
 trimmed [] = []
 trimmed (element ∷ elements) = before_rest element (trimmed elements)
 
--- each element behind an element separator
+-- each element after an element separator
 abbrev pub elements_text : ℕ → List (List ℕ) → List ℕ
 elements_text separator elements = flat_map (λ element. separator ∷ element) elements
 

@@ -27,7 +27,7 @@ pub struct GroupHeader<'a> {
     pub version: Lent<'a>,
 }
 
-/// Writes a functional group of these transaction sets behind what is there.
+/// Writes a functional group of these transaction sets after what is there.
 pub fn append_group(
     out: &mut Vec<u8>,
     delims: &Delims,
@@ -44,7 +44,7 @@ pub fn append_group(
     append_group_trailer(out, delims, sets.len() as u64, header.control)
 }
 
-/// Writes GS behind what is there.
+/// Writes GS after what is there.
 pub fn append_group_header(
     out: &mut Vec<u8>,
     delims: &Delims,
@@ -87,7 +87,7 @@ fn append_stamp(out: &mut Vec<u8>, separator: u8, at: &At, control: u32) -> Resu
     Ok(())
 }
 
-/// GS04 and GS05, and the separator behind them.
+/// GS04 and GS05, and the separator after them.
 fn moment_of(separator: u8, at: &[u8]) -> [u8; 15]
     requires { length at.now ≡ 12 }
     ensures { result ≡ elements_text separator (date_of at.now ∷ time_of at.now ∷ []) ++ separator ∷ [] }
@@ -98,7 +98,7 @@ fn moment_of(separator: u8, at: &[u8]) -> [u8; 15]
     ]
 }
 
-/// Writes texts behind what is there, one behind the other.
+/// Writes texts after what is there, one after the other.
 fn append_texts(out: &mut Vec<u8>, texts: &[Text]) -> Result<(), NoMemory>
     ensures text { OnOk result (out.new.items ≡ out.old.items ++ texts_in_row texts.now) }
     ensures kept { Extends out.old.items out.new.items }
@@ -109,7 +109,7 @@ fn append_texts(out: &mut Vec<u8>, texts: &[Text]) -> Result<(), NoMemory>
     Ok(())
 }
 
-/// Writes GE behind what is there: of so many transaction sets, in the group of this number.
+/// Writes GE after what is there: of so many transaction sets, in the group of this number.
 pub fn append_group_trailer(
     out: &mut Vec<u8>,
     delims: &Delims,

@@ -11,7 +11,7 @@ use crate::number::PaddedNumber;
 use hub_kinds::NoMemory;
 use moment::At;
 
-/// Writes the header of interchange `number` behind what is there (X12.5, ISA): a header that is read again, where
+/// Writes the header of interchange `number` after what is there (X12.5, ISA): a header that is read again, where
 /// the envelope is fit to be sent and the number has at most nine digits.
 pub fn append_header(
     out: &mut Vec<u8>,
@@ -29,7 +29,7 @@ pub fn append_header(
     append_rest(out, number, &back_of(envelope))
 }
 
-/// Writes ISA13, and what stands behind it.
+/// Writes ISA13, and what stands after it.
 pub(crate) fn append_rest(out: &mut Vec<u8>, number: u32, back: &[u8]) -> Result<(), NoMemory>
     ensures text { OnOk result (out.new.items ≡ out.old.items ++ (padded_number 9 number ++ back.now)) }
     ensures kept { Extends out.old.items out.new.items }
@@ -40,7 +40,7 @@ pub(crate) fn append_rest(out: &mut Vec<u8>, number: u32, back: &[u8]) -> Result
     Ok(())
 }
 
-/// What stands behind ISA13.
+/// What stands after ISA13.
 pub(crate) fn back_of(envelope: &Envelope) -> [u8; 7]
     ensures { result ≡ back_text envelope.now }
 {

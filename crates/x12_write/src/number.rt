@@ -28,7 +28,7 @@ impl Model for PaddedNumber {
 }
 
 impl PaddedNumber {
-    /// The number with zeros in front, up to `least` digits.
+    /// The number with leading zeros, up to `least` digits.
     pub fn new(number: u32, least: usize) -> PaddedNumber
         requires { least ≤ 10 }
         ensures { result ≡ padded_number least number }
@@ -57,7 +57,7 @@ fn first_shown(start: usize, least: usize) -> usize
     start.min(MOST_DIGITS - least)
 }
 
-/// Writes a text behind what is there, with spaces behind it up to `least` bytes.
+/// Writes a text after what is there, with spaces after it up to `least` bytes.
 pub(crate) fn append_padded(out: &mut Vec<u8>, text: &[u8], least: usize) -> Result<(), NoMemory>
     requires { least ≤ 15 }
     ensures text { OnOk result (out.new.items ≡ out.old.items ++ padded_text least text.now) }

@@ -6,11 +6,11 @@ use moment::At;
 use std::alloc::Global;
 use std::marker::Model;
 
-/// How long what stands in front of ISA13 is, in a header of fixed width.
+/// How long what stands before ISA13 is, in a header of fixed width.
 const FRONT_LEN: usize = 90;
 
 /// The header of the interchanges that are sent in one envelope at one moment (X12.5, ISA), all but its number: made once, and
-/// written for each. Contracts see what stands in front of the number, and what stands behind it.
+/// written for each. Contracts see what stands before the number, and what stands after it.
 #[derive(Debug, Drop)]
 pub struct OutboundHeader {
     front: Vec<u8>,
@@ -32,7 +32,7 @@ impl OutboundHeader {
     ghost use Rattle.x12_write.specs.Outbound.{AreHeaderEnds, numbered_header};
     ghost use Rattle.x12_write.specs.Sendable.{BeginsWithHeader};
 
-    /// The header of an envelope and a moment. The only error is want of memory.
+    /// The header of an envelope and a moment. The only error is out of memory.
     pub fn new(alloc: Global, envelope: &Envelope, at: &At) -> Result<OutboundHeader, NoMemory>
         ensures { IfOk result (AreHeaderEnds envelope.now at.now) }
     {
@@ -44,7 +44,7 @@ impl OutboundHeader {
         })
     }
 
-    /// Writes the header of interchange `number` behind what is there: one that is read again, where the envelope is fit to be
+    /// Writes the header of interchange `number` after what is there: one that is read again, where the envelope is fit to be
     /// sent and the number has at most nine digits. The envelope isn't looked at again.
     pub fn append(&self, out: &mut Vec<u8>, number: u32) -> Result<(), NoMemory>
         ensures text { OnOk result (out.new.items ≡ out.old.items ++ numbered_header self.now number) }

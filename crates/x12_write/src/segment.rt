@@ -5,7 +5,7 @@ ghost use Rattle.x12_write.specs.Segment.{read, segment_text, end_text, elements
 use hub_kinds::{Code, NoMemory, code_text};
 use x12_bytes::Delims;
 
-/// Writes a segment behind what is there, without the empty elements at its end.
+/// Writes a segment after what is there, without the empty elements at its end.
 pub fn append_segment(
     out: &mut Vec<u8>,
     delims: &Delims,
@@ -20,7 +20,7 @@ pub fn append_segment(
     append_end(out, delims, elements)
 }
 
-/// Writes the last elements of a segment and its terminator behind what is there, without the empty elements
+/// Writes the last elements of a segment and its terminator after what is there, without the empty elements
 /// at the end.
 pub fn append_end(out: &mut Vec<u8>, delims: &Delims, elements: &[&[u8]]) -> Result<(), NoMemory>
     ensures text { OnOk result
@@ -32,7 +32,7 @@ pub fn append_end(out: &mut Vec<u8>, delims: &Delims, elements: &[&[u8]]) -> Res
     Ok(())
 }
 
-/// Writes each part behind a separator, without the empty ones at the end.
+/// Writes each part after a separator, without the empty ones at the end.
 pub fn append_used(out: &mut Vec<u8>, separator: u8, parts: &[&[u8]]) -> Result<(), NoMemory>
     ensures text { OnOk result
         (out.new.items ≡ out.old.items ++ elements_text separator (trimmed (read parts.now))) }
@@ -41,7 +41,7 @@ pub fn append_used(out: &mut Vec<u8>, separator: u8, parts: &[&[u8]]) -> Result<
     append_elements(out, separator, &parts[..used(parts)])
 }
 
-/// Writes each element behind a separator.
+/// Writes each element after a separator.
 pub fn append_elements(out: &mut Vec<u8>, separator: u8, elements: &[&[u8]]) -> Result<(), NoMemory>
     ensures text { OnOk result
         (out.new.items ≡ out.old.items ++ elements_text separator (read elements.now)) }
@@ -54,7 +54,7 @@ pub fn append_elements(out: &mut Vec<u8>, separator: u8, elements: &[&[u8]]) -> 
     Ok(())
 }
 
-/// Writes a segment whose last elements are codes, behind what is there.
+/// Writes a segment whose last elements are codes, after what is there.
 pub fn append_coded_segment<C: Code>(
     out: &mut Vec<u8>,
     delims: &Delims,

@@ -25,7 +25,7 @@ fn written(alloc: Global, fault: &Option<FileFault>) -> Result<String, AllocErro
     }
 }
 
-/// Whether it is the fault that is written so, behind its number; if not, it is shown.
+/// Whether it is the fault that is written so, after its number; if not, it is shown.
 fn expect(alloc: Global, fault: &Option<FileFault>, wanted: &str) -> Result<(), Fail> {
     let found = written(alloc, fault)?;
     if found.as_str() == wanted {
@@ -65,7 +65,7 @@ fn setup_files(rt: HostRuntime) -> Result<(), Fail> {
     expect_setups(rt.alloc(), SETUPS)
 }
 
-/// What stands behind the hub, and the fault of each file.
+/// What stands after the hub, and the fault of each file.
 const BEHIND: &[[&str; 2]] = &[
     ["[[partner]]\n", "2 Missing(\"name\")"],
     [

@@ -166,7 +166,7 @@ fn expect_acknowledgments(
     expect_bytes(bolt.text(), wanted_bolt.text())
 }
 
-/// Answers the text of a settled index by checking its sets, behind no acknowledgments.
+/// Answers the text of a settled index by checking its sets, after no acknowledgments.
 fn checked<'i, 'a>(
     alloc: Global,
     setup: &'a Setup,
@@ -180,7 +180,7 @@ fn checked<'i, 'a>(
     check_text(alloc, setup, at, index, none)
 }
 
-/// Answers it by what was found out about its places, behind no acknowledgments.
+/// Answers it by what was found out about its places, after no acknowledgments.
 fn answered<'i, 'a>(
     alloc: Global,
     setup: &'a Setup,

@@ -14,7 +14,7 @@ use partner_setup::Setup;
 use std::alloc::Global;
 use std::test::Fail;
 
-/// An order from ACME to BOLT, and behind it the same interchange again.
+/// An order from ACME to BOLT, and after it the same interchange again.
 const TWICE: &[u8] =
     b"ISA*00*          *00*          *01*ACME           *ZZ*HUB            *260228*0900*^*00501*000000007*0*P*>~\
     GS*PO*ACME*BOLT*20260228*0900*12*X*005010~ST*850*0001~BEG*00~SE*3*0001~GE*1*12~IEA*1*000000007~\
@@ -45,7 +45,7 @@ fn expect_bytes(found: &[u8], wanted: &[u8]) -> Result<(), Fail> {
     Ok(())
 }
 
-/// The mailbox of the second partner, with the first set of an interchange, behind no acknowledgment and two groups.
+/// The mailbox of the second partner, with the first set of an interchange, after no acknowledgment and two groups.
 fn delivered(
     alloc: Global,
     setup: &Setup,

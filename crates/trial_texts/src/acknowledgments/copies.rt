@@ -25,7 +25,7 @@ const COPIES: &[(&[u8], &[u8])] = &[
     (b"A\x1FB", b""),
 ];
 
-/// A byte behind 99 letters A, and what is shown of these 100 bytes.
+/// A byte after 99 letters A, and what is shown of these 100 bytes.
 const LAST_BYTES: &[(u8, &[u8])] = &[(b'B', LONG), (b'>', b"")];
 
 /// An element that is too long.
@@ -44,7 +44,7 @@ fn too_long(copy: &[u8]) -> FaultRow<'_> {
     }
 }
 
-/// What is told of an element that is too long, of which this is shown.
+/// What is reported of an element that is too long, of which this is shown.
 fn note_that_shows(alloc: Global, shown: &[u8]) -> Result<Vec<u8>, NoMemory> {
     let mut note = Vec::from_slice(alloc, b"IK3*REF*3**8~IK4*2*352*5")?;
     if !shown.is_empty() {

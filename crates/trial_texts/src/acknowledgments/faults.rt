@@ -1,4 +1,4 @@
-//! What is told of a set's faults.
+//! What is reported of a set's faults.
 use super::samples::{DELIMS, ElemRow, FaultRow, GroupRow, SetRow, acknowledgment, set};
 use super::texts::same;
 use ack_999::append_set;
@@ -114,7 +114,7 @@ const SEGMENT_FAULTS: &[FaultRow<'static>] = &[
     },
 ];
 
-/// The faults of a group's one set, its codes, the group's codes, and what is told behind AK1.
+/// The faults of a group's one set, its codes, the group's codes, and what is reported after AK1.
 type Answer = (
     &'static [FaultRow<'static>],
     &'static [SetCode],
@@ -149,7 +149,7 @@ const ANSWERS: &[Answer] = &[
     ),
 ];
 
-/// The faults of a set, and what is told of them.
+/// The faults of a set, and what is reported of them.
 type Note = (&'static [FaultRow<'static>], &'static [u8]);
 
 const NOTES: &[Note] = &[
@@ -189,7 +189,7 @@ const NOTES: &[Note] = &[
         ],
         b"IK3*BEG*2**8~IK4*1*353*1~IK3*BEG*3**8~IK4*1*353*1~IK4*2*353*1~",
     ),
-    // and behind a fault of the segment
+    // and after a fault of the segment
     (
         &[
             FaultRow {
@@ -209,7 +209,7 @@ const NOTES: &[Note] = &[
     ),
 ];
 
-/// The numbers of an element, a component and a repetition, and what is told of it.
+/// The numbers of an element, a component and a repetition, and what is reported of it.
 const POSITIONS: &[([u32; 3], &[u8])] = &[
     ([4, 0, 0], b"IK3*SV1*7*LX*8~IK4*4**7*X~"),
     ([4, 2, 0], b"IK3*SV1*7*LX*8~IK4*4>2**7*X~"),
@@ -218,7 +218,7 @@ const POSITIONS: &[([u32; 3], &[u8])] = &[
     ([14, 0, 10], b"IK3*SV1*7*LX*8~IK4*14>>10**7*X~"),
 ];
 
-/// A segment's id, and what is told of it.
+/// A segment's id, and what is reported of it.
 const IDS: &[(&[u8], &[u8])] = &[
     (b"", b"IK3*ZZZ*4**1~"),
     (b"Q", b"IK3*ZZZ*4**1~"),
@@ -267,7 +267,7 @@ pub fn tells(
     same(alloc, "a set", out.as_slice(), whole.as_slice())
 }
 
-/// The whole text of group 12, of this behind its AK1.
+/// The whole text of group 12, of this after its AK1.
 fn behind_the_head(alloc: Global, wanted: &[u8]) -> Result<Vec<u8>, NoMemory> {
     let mut whole = Vec::from_slice(alloc, b"ST*999*0001*005010X231~AK1*PO*12*005010~")?;
     whole.extend_from_slice(wanted)?;

@@ -42,7 +42,7 @@ const OTHER_DELIMS: Delims = Delims {
     terminator: b'!',
 };
 
-/// A note, the delimiters of who is told, and what is told of the interchange.
+/// A note, the delimiters of the receiver, and what is reported of the interchange.
 const NOTES: &[(&str, Delims, &[u8])] = &[
     ("000", DELIMS, b"TA1*000000007*260228*0900*A*000~"),
     ("001", DELIMS, b"TA1*000000007*260228*0900*R*001~"),
@@ -100,7 +100,7 @@ fn sends_an_acknowledgment_to_the_partner(rt: HostRuntime) -> Result<(), Fail> {
     same(rt.alloc(), "an interchange", bytes.as_slice(), SENT)
 }
 
-/// The TA1 stands in front of the group, and the group has a number of its own.
+/// The TA1 stands before the group, and the group has a number of its own.
 const WITH_A_TA1: &[u8] =
     b"ISA*00*          *00*          *ZZ*HUB            *01*ACME           *260301*1530*^*00501*000000007*0*P*>~\
       TA1*000000007*260228*0900*A*000~GS*FA*HUB*ACME*20260301*1530*999999999*X*005010X231~ST*999*0001*005010X231~\
@@ -149,7 +149,7 @@ fn sends_a_ta1_alone_in_no_group(rt: HostRuntime) -> Result<(), Fail> {
 const APPENDED: &[u8] =
     b"IEA*1*000000001~TA1*000000007*260228*0900*R*022~GS*FA*HUB*ACME*20260301*1530*12*X*005010X231~";
 
-/// A TA1 and the header of a group, behind the end of an interchange.
+/// A TA1 and the header of a group, after the end of an interchange.
 fn appended(alloc: Global, at: &At, header: &Header) -> Result<Vec<u8>, NoMemory> {
     let mut out = Vec::from_slice(alloc, b"IEA*1*000000001~")?;
     append_ta1(&mut out, &DELIMS, header, "022")?;

@@ -1,4 +1,4 @@
-//! Whole acknowledgments of groups whose sets have no faults, the header in front of one, and a delivered group.
+//! Whole acknowledgments of groups whose sets have no faults, the header before one, and a delivered group.
 use super::interchanges::{envelope, moment};
 use super::samples::{ACCEPTED_GROUP, ACCEPTED_SET, DELIMS, GroupRow, SetRow, acknowledgment};
 use super::texts::same;
@@ -125,7 +125,7 @@ fn writes_acknowledgments(rt: HostRuntime) -> Result<(), Fail> {
     writes_each(rt.alloc(), CASES)
 }
 
-/// A header behind a terminator.
+/// A header after a terminator.
 fn header(alloc: Global, at: &At) -> Result<Vec<u8>, NoMemory> {
     let mut out = Vec::from_slice(alloc, b"~")?;
     append_header(&mut out, &envelope(), at, 999_999_999)?;

@@ -2,7 +2,7 @@
 use std::alloc::Global;
 use std::test::Fail;
 
-/// Refuses another text than the one that is wanted, and shows it behind what it is told of.
+/// Refuses another text than the one that is wanted, and shows it after what it is about.
 pub fn same(alloc: Global, of: &str, found: &[u8], wanted: &[u8]) -> Result<(), Fail> {
     if found == wanted {
         return Ok(());

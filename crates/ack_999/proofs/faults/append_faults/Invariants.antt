@@ -3,7 +3,7 @@ use Rattle.x12_write.specs.Extends.{Extends}
 use Rattle.ack_999.specs.Faults.{notes, notes_behind, notes_text}
 use Rattle.ack_999.proofs.faults.append_faults.Given as goal
 
--- what is told so far, with what is told of the faults that are left, is what is told of all
+-- what is reported so far, with what is reported of the faults that are left, is what is reported of all
 abbrev pub invariant-loop-fault : goal.invariant-loop-fault
 invariant-loop-fault l = record {
   told : l.out.items ++ notes_text l.delims (notes_behind l.before (drop l.fault-index l.faults))

@@ -6,7 +6,7 @@ use Rattle.x12_write.specs.Segment.{before_rest}
 use Rattle.x12_write.proofs.Trimming.{before_rest-some}
 use Rattle.ack_999.proofs.report.append_set_header.Goals as goal
 
--- two elements and what stands behind them, without a break
+-- two elements and what stands after them, without a break
 in_row : (s : ℕ) (number version end : List ℕ)
     → s ∷ (number ++ (s ∷ (version ++ end))) ≡ flat_map (λ x. s ∷ x) (before_rest number (version ∷ [])) ++ end
 in_row s number version end =
@@ -14,7 +14,7 @@ in_row s number version end =
     (sym (ap (λ (t : List ℕ). s ∷ t)
     (append_assoc number (s ∷ (version ++ [])) end ∙ ap (λ (t : List ℕ). number ++ (s ∷ t)) (append_assoc version [] end))))
 
--- what three calls append, one behind the other
+-- what three calls append, one after the other
 appended : (s t : ℕ) (out out1 out2 out3 number version : List ℕ)
     → out1 ≡ out ++ (83 ∷ 84 ∷ s ∷ 57 ∷ 57 ∷ 57 ∷ s ∷ []) → out2 ≡ out1 ++ number → out3 ≡ out2 ++ (s ∷ (version ++ t ∷ []))
     → out3 ≡ out ++ ((83 ∷ 84 ∷ s ∷ 57 ∷ 57 ∷ 57 ∷ (flat_map (λ x. s ∷ x) (before_rest number (version ∷ [])) ++ t ∷ [])) ++ [])

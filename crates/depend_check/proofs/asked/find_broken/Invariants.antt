@@ -7,7 +7,7 @@ use Rattle.loop_match.specs.Viewed.{placed_views}
 use Rattle.depend_check.specs.Uses.{IsBrokenAmong, lent}
 use Rattle.depend_check.proofs.asked.find_broken.Given as goal
 
--- what is told of those so far, and the last of them
+-- what is reported of those so far, and the last of them
 abbrev pub invariant-loop-i : goal.invariant-loop-i
 invariant-loop-i l =
     record {

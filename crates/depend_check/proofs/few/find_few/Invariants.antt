@@ -6,7 +6,7 @@ use Rattle.loop_match.specs.Viewed.{placed_views}
 use Rattle.depend_check.specs.Uses.{IsFound}
 use Rattle.depend_check.proofs.few.find_few.Given as goal
 
--- what is told of those so far
+-- what is reported of those so far
 abbrev pub invariant-loop-i : goal.invariant-loop-i
 invariant-loop-i l = (f : Fault) → Contains l.faults.items f
     ↔ IsFound (nodes_view l.nodes) l.delims l.end (placed_views l.placed) (take l.i l.depends) f

@@ -30,7 +30,7 @@ loop-n-preserved c =
           n c.args.found.now c.loop-n.found _ _ c.loop-n.invariant.found c.in_ok-check_simple.ensures is;
     }
 
--- where no part is left, the occurrences behind are empty
+-- where no part is left, the later occurrences are empty
 pub returns-in_default : goal.returns-in_default
 returns-in_default c =
     let at = c.args.at.now in

@@ -5,7 +5,7 @@ use Rattle.loop_match.specs.Viewed.{placed_views}
 use Rattle.hl_check.specs.Known.{KnowsNamed}
 use Rattle.hl_check.proofs.backward.add_backward.Given as goal
 
--- what is told of those behind, and the numbers that they name
+-- what is reported of the later ones, and the numbers that they name
 abbrev pub invariant-loop-left : goal.invariant-loop-left
 invariant-loop-left l =
     record {

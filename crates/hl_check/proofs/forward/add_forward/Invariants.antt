@@ -5,7 +5,7 @@ use Rattle.loop_match.specs.Viewed.{placed_views}
 use Rattle.hl_check.specs.Known.{KnowsLevels}
 use Rattle.hl_check.proofs.forward.add_forward.Given as goal
 
--- the levels of those so far, and what is told of them
+-- the levels of those so far, and what is reported of them
 abbrev pub invariant-loop-i : goal.invariant-loop-i
 invariant-loop-i l =
     record {

@@ -3,7 +3,7 @@ use Rattle.partner_setup.specs.Known.{KnowsPlaces}
 use Rattle.refusal_words.specs.NamedAlike.{alike_from, alike_warnings}
 use Rattle.refusal_words.proofs.named_alike.push_known.Given as goal
 
--- the first places of the names so far, and what is told of them
+-- the first places of the names so far, and what is reported of them
 abbrev pub invariant-loop-i : goal.invariant-loop-i
 invariant-loop-i l =
     record {

@@ -7,7 +7,7 @@ use Rattle.x12_write.specs.Outbound.{front_text, moment_elements, no_information
 use Rattle.x12_write.specs.Segment.{elements_text}
 use Rattle.x12_write.proofs.front.append_front.Goals as goal
 
--- what four calls append, one behind the other
+-- what four calls append, one after the other
 appended : (s : ℕ) (out out1 out2 out3 out4 id : List ℕ) (ws xs ys zs : List (List ℕ))
     → out1 ≡ out ++ (id ++ flat_map (λ x. s ∷ x) ws) → out2 ≡ out1 ++ flat_map (λ x. s ∷ x) xs
     → out3 ≡ out2 ++ flat_map (λ x. s ∷ x) ys → out4 ≡ out3 ++ (flat_map (λ x. s ∷ x) zs ++ s ∷ [])

@@ -9,7 +9,7 @@ use Rattle.x12_write.specs.Segment.{end_text, trimmed}
 use Rattle.x12_write.proofs.Trimming.{trimmed-behind}
 use Rattle.x12_write.proofs.group.append_group_header.Goals as goal
 
--- what three calls append, one behind the other
+-- what three calls append, one after the other
 appended : (s : ℕ) (out out1 out2 out3 id end : List ℕ) (xs ys zs all : List (List ℕ))
     → all ≡ xs ++ (ys ++ zs)
     → out1 ≡ out ++ (id ++ flat_map (λ x. s ∷ x) xs) → out2 ≡ out1 ++ flat_map (λ x. s ∷ x) ys

@@ -3,7 +3,7 @@ use Rattle.x12_write.specs.Number.{padded_number}
 use Rattle.x12_write.proofs.Counting.{counted-text}
 use Rattle.x12_write.proofs.trailer.counted.Goals as goal
 
--- what five calls write, one in front of the other
+-- what five calls write, one before the other
 written : (s t : ℕ) (a b c d e f number count : List ℕ) → a ≡ [] → b ≡ t ∷ a → c ≡ number ++ b → d ≡ s ∷ c → e ≡ count ++ d → f ≡ s ∷ e
     → f ≡ s ∷ (count ++ (s ∷ (number ++ t ∷ [])))
 written s t a b c d e f number count p q r u v w = rw (w, v, u, r, q, p) refl
