@@ -1,14 +1,14 @@
 -- IK4, written one part after the other.
 use Rattle.std.proofs.Common.{◌≡◌, ℕ, ◌<◌, List, [], ◌∷◌, ◌++◌, length, sym, ap, ◌∙◌, arith, append_assoc}
 use Rattle.x12_bytes.specs.declared.delims.Delims.{Delims}
-use Rattle.hub_kinds.specs.Words.{element_text}
+use Rattle.hub_kinds.specs.Words.{element_code_text}
 use Rattle.hub_kinds.specs.declared.codes.ElementCode.{ElementCode}
 use Rattle.hub_kinds.specs.declared.codes.ElementCode.TheVariants as element
 use Rattle.x12_write.specs.Segment.{before_rest, trimmed, elements_text, end_text, segment_text}
 use Rattle.x12_write.proofs.Trimming.{before_rest-some}
 
 -- each code has a text
-element_text-some : (k : ElementCode) → 0 < length (element_text k)
+element_text-some : (k : ElementCode) → 0 < length (element_code_text k)
 element_text-some element.RequiredMissing = omega arith
 element_text-some element.ConditionalMissing = omega arith
 element_text-some element.TooManyElements = omega arith
@@ -39,13 +39,13 @@ trimmed-code position reference (b ∷ bs) rest some =
 
 -- the segment, by its position and its last three elements
 pub segment_text-code : (d : Delims) (id position reference copy : List ℕ) (k : ElementCode)
-    → segment_text d id (position ∷ reference ∷ element_text k ∷ copy ∷ [])
-    ≡ id ++ (d.element ∷ (position ++ end_text d (reference ∷ element_text k ∷ copy ∷ [])))
+    → segment_text d id (position ∷ reference ∷ element_code_text k ∷ copy ∷ [])
+    ≡ id ++ (d.element ∷ (position ++ end_text d (reference ∷ element_code_text k ∷ copy ∷ [])))
 segment_text-code d id position reference copy k =
-    let last : List (List ℕ) = reference ∷ element_text k ∷ copy ∷ [] in
+    let last : List (List ℕ) = reference ∷ element_code_text k ∷ copy ∷ [] in
     append_assoc id (elements_text d.element (trimmed (position ∷ last))) (d.terminator ∷ [])
     ∙ ap (λ (l : List (List ℕ)). id ++ (elements_text d.element l ++ d.terminator ∷ []))
-    (trimmed-code position reference (element_text k) (copy ∷ []) (element_text-some k))
+    (trimmed-code position reference (element_code_text k) (copy ∷ []) (element_text-some k))
     ∙ ap (λ (t : List ℕ). id ++ t) (append_assoc (d.element ∷ position) (elements_text d.element (trimmed last)) (d.terminator ∷ []))
 
 -- what four calls append, one after the other

@@ -8,7 +8,8 @@ use Rattle.hub_kinds.specs.declared.codes.SegmentCode.{SegmentCode}
 use Rattle.hub_kinds.specs.declared.codes.SegmentCode.TheVariants as segment
 use Rattle.hub_kinds.specs.declared.codes.ElementCode.{ElementCode}
 use Rattle.hub_kinds.specs.declared.codes.ElementCode.TheVariants as element
-use Rattle.hub_kinds.specs.Words.{segment_text, element_text, set_code_text, group_code_text, verdict_text, group_verdict_text, is_word}
+use Rattle.hub_kinds.specs.Words.{segment_code_text, element_code_text, set_code_text, group_code_text, verdict_text, group_verdict_text}
+use Rattle.hub_kinds.specs.Words.{is_word}
 use Rattle.hub_kinds.specs.Words.{is_segment_id, is_upper_or_digit}
 use Rattle.hub_kinds.specs.declared.set_codes.SetCode.{SetCode}
 use Rattle.hub_kinds.specs.declared.set_codes.SetCode.TheVariants as set
@@ -52,7 +53,7 @@ plain-group_verdict_text group_verdict.AcceptedWithErrors = refl
 plain-group_verdict_text group_verdict.PartlyAccepted = refl
 plain-group_verdict_text group_verdict.Rejected = refl
 
-pub plain-segment_text : (c : SegmentCode) → is_plain (segment_text c) ≡ true
+pub plain-segment_text : (c : SegmentCode) → is_plain (segment_code_text c) ≡ true
 plain-segment_text segment.UnrecognizedSegment = refl
 plain-segment_text segment.UnexpectedSegment = refl
 plain-segment_text segment.RequiredSegmentMissing = refl
@@ -67,7 +68,7 @@ plain-segment_text segment.LoopTooSeldom = refl
 plain-segment_text segment.SegmentTooSeldom = refl
 plain-segment_text segment.DependentNotUsedPresent = refl
 
-pub plain-element_text : (c : ElementCode) → is_plain (element_text c) ≡ true
+pub plain-element_text : (c : ElementCode) → is_plain (element_code_text c) ≡ true
 plain-element_text element.RequiredMissing = refl
 plain-element_text element.ConditionalMissing = refl
 plain-element_text element.TooManyElements = refl

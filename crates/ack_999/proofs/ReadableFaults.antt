@@ -86,13 +86,13 @@ readable-segment_note : (d : Delims) (f : Fault) → CanDivide d → IsQuotableF
     → IsReadable d (note_segment d (SegmentNote f))
 readable-segment_note d f can quotable =
     let P : List ℕ → Type 0 = IsUndivided d in
-    let ik3 : List (List ℕ) = id_text f.id ∷ decimal f.position ∷ f.loop_id ∷ code.segment_text (code_shown f) ∷ [] in
+    let ik3 : List (List ℕ) = id_text f.id ∷ decimal f.position ∷ f.loop_id ∷ code.segment_code_text (code_shown f) ∷ [] in
     readable d can (codes "IK3") ik3 (omega arith) refl refl
     (All-from_recursion P ik3 (
       plain-undivided d can (id_text f.id) (plain-id_text f.id),
       (
         decimal-undivided d can f.position,
-        (quotable.loop_id, (plain-undivided d can (code.segment_text (code_shown f)) (plain-segment_text (code_shown f)), tt)),
+        (quotable.loop_id, (plain-undivided d can (code.segment_code_text (code_shown f)) (plain-segment_text (code_shown f)), tt)),
       ),
     ))
 
@@ -100,13 +100,13 @@ readable-element_note : (d : Delims) (e : ElemFault) → CanDivide d → IsQuota
     → IsReadable d (note_segment d (ElementNote e))
 readable-element_note d e can quotable =
     let P : List ℕ → Type 0 = IsUndivided d in
-    let ik4 : List (List ℕ) = position_text d.component e ∷ e.reference ∷ code.element_text e.code ∷ copy_text d e.copy ∷ [] in
+    let ik4 : List (List ℕ) = position_text d.component e ∷ e.reference ∷ code.element_code_text e.code ∷ copy_text d e.copy ∷ [] in
     readable d can (codes "IK4") ik4 (omega arith) refl refl
     (All-from_recursion P ik4 (
       position_text-undivided d e can quotable.separator,
       (
         quotable.reference,
-        (plain-undivided d can (code.element_text e.code) (plain-element_text e.code), (copy_text-undivided d e.copy, tt)),
+        (plain-undivided d can (code.element_code_text e.code) (plain-element_text e.code), (copy_text-undivided d e.copy, tt)),
       ),
     ))
 

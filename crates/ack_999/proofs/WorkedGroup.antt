@@ -3,7 +3,7 @@ use Rattle.std.specs.Prelude.{ℕ, ◌≡◌, refl, true, false, List, [], ◌�
 use Rattle.hub_kinds.specs.declared.set_codes.GroupCode.TheVariants as code
 use Rattle.ack_999.specs.declared.support.GroupSupport.TheVariants.{Served, NotServed, VersionNotServed}
 use Rattle.ack_999.specs.declared.trailer.GroupTrailer.{GroupTrailer}
-use Rattle.ack_999.specs.Group.{group_codes_of, support_codes, earlier_codes}
+use Rattle.ack_999.specs.Group.{group_codes_of, support_codes, earlier_group_codes}
 
 abbrev trailer : List ℕ → List ℕ → GroupTrailer
 trailer listed control = record { listed = listed; control = control }
@@ -17,10 +17,10 @@ not_served = refl
 version_not_served : support_codes VersionNotServed ≡ code.VersionNotSupported ∷ []
 version_not_served = refl
 
-earlier_group : earlier_codes true ≡ code.ControlNumberNotUnique ∷ []
+earlier_group : earlier_group_codes true ≡ code.ControlNumberNotUnique ∷ []
 earlier_group = refl
 
-first_group : earlier_codes false ≡ []
+first_group : earlier_group_codes false ≡ []
 first_group = refl
 
 -- numbers are compared as numbers

@@ -42,9 +42,9 @@ pub data Note : Type 0 where
 
 abbrev pub note_segment : Delims → Note → Segment
 note_segment d (SegmentNote f) =
-    segment (codes "IK3") (id_text f.id ∷ decimal f.position ∷ f.loop_id ∷ code.segment_text (code_shown f) ∷ [])
+    segment (codes "IK3") (id_text f.id ∷ decimal f.position ∷ f.loop_id ∷ code.segment_code_text (code_shown f) ∷ [])
 note_segment d (ElementNote e) =
-    segment (codes "IK4") (position_text d.component e ∷ e.reference ∷ code.element_text e.code ∷ copy_text d e.copy ∷ [])
+    segment (codes "IK4") (position_text d.component e ∷ e.reference ∷ code.element_code_text e.code ∷ copy_text d e.copy ∷ [])
 
 -- the position of the segment of an element fault
 abbrev pub element_position : Fault → Option ℕ
@@ -76,8 +76,8 @@ abbrev pub fault_segments : Delims → List Fault → List Segment
 fault_segments d faults = map (note_segment d) (notes faults)
 
 -- notes as they are written
-abbrev pub note_text : Delims → Note → List ℕ
-note_text d note = segment_text d (note_segment d note).id (note_segment d note).elements
+abbrev pub written_note : Delims → Note → List ℕ
+written_note d note = segment_text d (note_segment d note).id (note_segment d note).elements
 
 abbrev pub notes_text : Delims → List Note → List ℕ
-notes_text d list = flat_map (note_text d) list
+notes_text d list = flat_map (written_note d) list

@@ -41,14 +41,14 @@ trailer_codes control (Some trailer) sets =
     ++ unless (agree (number_of MOST_COUNT_DIGITS trailer.listed) (Some sets)) code.SetCountWrong
 
 -- 19: an earlier group of the interchange has the same GS06 as a number
-abbrev pub earlier_codes : Bool → List GroupCode
-earlier_codes true = code.ControlNumberNotUnique ∷ []
-earlier_codes false = []
+abbrev pub earlier_group_codes : Bool → List GroupCode
+earlier_group_codes true = code.ControlNumberNotUnique ∷ []
+earlier_group_codes false = []
 
 -- the codes of a group, in their order
 abbrev pub group_codes_of : GroupSupport → List ℕ → Option GroupTrailer → ℕ → Bool → List GroupCode
 group_codes_of support control trailer sets earlier =
-    support_codes support ++ trailer_codes control trailer sets ++ earlier_codes earlier
+    support_codes support ++ trailer_codes control trailer sets ++ earlier_group_codes earlier
 
 abbrev pub is_accepted : Verdict → Bool
 is_accepted verdict.Accepted = true

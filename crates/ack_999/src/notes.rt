@@ -1,6 +1,6 @@
 ghost use Rattle.std.specs.Prelude.{◌≡◌, [], ◌∷◌, ◌++◌, OnOk};
 ghost use Rattle.hub_kinds.specs.declared.fault.Fault.{Fault};
-ghost use Rattle.ack_999.specs.Faults.{note_text, SegmentNote, ElementNote, id_text};
+ghost use Rattle.ack_999.specs.Faults.{written_note, SegmentNote, ElementNote, id_text};
 ghost use Rattle.ack_999.specs.Faults.{code_shown, position_text, number_text};
 ghost use Rattle.x12_write.specs.Segment.{segment_text, end_text};
 ghost use Rattle.x12_write.specs.Extends.{Extends};
@@ -17,7 +17,7 @@ pub fn append_segment_note(
     delims: &Delims,
     fault: &Fault,
 ) -> Result<(), NoMemory>
-    ensures text { OnOk result (out.new.items ≡ out.old.items ++ note_text delims.now (SegmentNote fault.now)) }
+    ensures text { OnOk result (out.new.items ≡ out.old.items ++ written_note delims.now (SegmentNote fault.now)) }
     ensures kept { Extends out.old.items out.new.items }
 {
     let mut position = Buffer::new();
@@ -74,7 +74,7 @@ pub fn append_element_note(
     delims: &Delims,
     elem: &ElemFault,
 ) -> Result<(), NoMemory>
-    ensures text { OnOk result (out.new.items ≡ out.old.items ++ note_text delims.now (ElementNote elem.now)) }
+    ensures text { OnOk result (out.new.items ≡ out.old.items ++ written_note delims.now (ElementNote elem.now)) }
     ensures kept { Extends out.old.items out.new.items }
 {
     out.extend_from_slice(b"IK4")?;

@@ -23,10 +23,10 @@ use Rattle.ack_lines.specs.declared.reported.Reported.TheVariants as reported
 
 -- the words of each code, by its text
 abbrev pub segment_said : (code : List ℕ) → List ℕ
-segment_said code = words_by segment_codes texts.segment_text segment_words code
+segment_said code = words_by segment_codes texts.segment_code_text segment_words code
 
 abbrev pub element_said : (code : List ℕ) → List ℕ
-element_said code = words_by element_codes texts.element_text element_words code
+element_said code = words_by element_codes texts.element_code_text element_words code
 
 abbrev pub set_said : (code : List ℕ) → List ℕ
 set_said code = words_by set_codes texts.set_code_text set_words code

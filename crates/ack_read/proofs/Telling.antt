@@ -11,7 +11,7 @@ use Rattle.ack_read.specs.declared.kind.AckKind.TheVariants as kind
 use Rattle.ack_read.specs.Reading.{response_by, responses_told, ta1_by, ta1s_told}
 use Rattle.ack_read.specs.Responses.{Response, responses_behind, responses_in}
 use Rattle.ack_read.specs.Ta1s.{Ta1, ta1s_among, ta1s_in, ta1s_of}
-use Rattle.ack_read.specs.Told.{Standing, at_begin, behind, behind_kind, told_behind, told_by, told_by_kind, told_in}
+use Rattle.ack_read.specs.Told.{Standing, at_begin, behind, behind_kind, told_behind, reports_of_segment, told_by_kind, told_in}
 
 -- the kind of an id, by what it is equal to
 abbrev kind_by : (set response ta1 segment element group verdict header : Bool) → AckKind
@@ -51,8 +51,8 @@ sets_behind : (d : Delims) (at : Standing) (ss : List (List (List ℕ)))
 sets_behind d at [] = refl
 sets_behind d at (s ∷ ss) =
     let id : List ℕ = part_or_empty s 0 in
-    flat_map-append response_by (told_by at s) (told_behind d (behind d at s) ss)
-    ∙ ap (λ (rs : List Response). flat_map response_by (told_by at s) ++ rs) (sets_behind d (behind d at s) ss)
+    flat_map-append response_by (reports_of_segment at s) (told_behind d (behind d at s) ss)
+    ∙ ap (λ (rs : List Response). flat_map response_by (reports_of_segment at s) ++ rs) (sets_behind d (behind d at s) ss)
     ∙ set_by d at s ss (bytes_eq id (codes "AK2")) (bytes_eq id (codes "IK5")) (bytes_eq id (codes "TA1")) (bytes_eq id (codes "IK3"))
     (bytes_eq id (codes "IK4")) (bytes_eq id (codes "AK1")) (bytes_eq id (codes "AK9")) (bytes_eq id (codes "ISA"))
 
@@ -90,7 +90,7 @@ ta1_by_kind at s false false false false false false true i x y = refl
 ta1_by_kind at s false false false false false false false true x y = refl
 ta1_by_kind at s false false false false false false false false x y = refl
 
-one_ta1 : (at : Standing) (s : List (List ℕ)) → flat_map ta1_by (told_by at s) ≡ ta1s_of s
+one_ta1 : (at : Standing) (s : List (List ℕ)) → flat_map ta1_by (reports_of_segment at s) ≡ ta1s_of s
 one_ta1 at s =
     let id : List ℕ = part_or_empty s 0 in
     ta1_by_kind at s (bytes_eq id (codes "AK2")) (bytes_eq id (codes "IK5")) (bytes_eq id (codes "TA1")) (bytes_eq id (codes "IK3"))
@@ -100,8 +100,8 @@ one_ta1 at s =
 ta1s_behind : (d : Delims) (at : Standing) (ss : List (List (List ℕ))) → ta1s_told (told_behind d at ss) ≡ ta1s_among ss
 ta1s_behind d at [] = refl
 ta1s_behind d at (s ∷ ss) =
-    flat_map-append ta1_by (told_by at s) (told_behind d (behind d at s) ss)
-    ∙ ap (λ (ts : List Ta1). flat_map ta1_by (told_by at s) ++ ts) (ta1s_behind d (behind d at s) ss)
+    flat_map-append ta1_by (reports_of_segment at s) (told_behind d (behind d at s) ss)
+    ∙ ap (λ (ts : List Ta1). flat_map ta1_by (reports_of_segment at s) ++ ts) (ta1s_behind d (behind d at s) ss)
     ∙ ap (λ (ts : List Ta1). ts ++ ta1s_among ss) (one_ta1 at s)
 
 -- the interchanges that are reported are the TA1s of the text

@@ -132,13 +132,13 @@ told_by_kind at s kind.SegmentNote = []
 told_by_kind at s kind.ElementNote = []
 told_by_kind at s kind.Other = []
 
-abbrev pub told_by : Standing → (segment : List (List ℕ)) → List Told
-told_by at s = told_by_kind at s (ack_kind (part_or_empty s 0))
+abbrev pub reports_of_segment : Standing → (segment : List (List ℕ)) → List Told
+reports_of_segment at s = told_by_kind at s (ack_kind (part_or_empty s 0))
 
 -- what segments report, the first of which stands here
 abbrev pub told_behind : Delims → Standing → (segments : List (List (List ℕ))) → List Told
 told_behind d at [] = []
-told_behind d at (s ∷ ss) = told_by at s ++ told_behind d (behind d at s) ss
+told_behind d at (s ∷ ss) = reports_of_segment at s ++ told_behind d (behind d at s) ss
 
 -- what a text reports, read by these delimiters
 abbrev pub told_in : Delims → (text : List ℕ) → List Told

@@ -69,7 +69,7 @@ impl<'a> Standing<'a> {
         found: &mut Vec<Told<'a>>,
     ) -> Result<(), NoMemory>
         requires { self.old.interchange < 18446744073709551615 }
-        ensures told { OnOk result (found.new.items ≡ found.old.items ++ told.told_by self.old (elements_of segment.now)) }
+        ensures told { OnOk result (found.new.items ≡ found.old.items ++ told.reports_of_segment self.old (elements_of segment.now)) }
         ensures behind { OnOk result (self.new ≡ told.behind delims self.old (elements_of segment.now)) }
     {
         match ack_kind(segment.id()) {

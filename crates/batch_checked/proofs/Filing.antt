@@ -12,7 +12,7 @@ use Rattle.partner_setup.specs.Envelopes.{envelope_to}
 use Rattle.partner_setup.specs.Setup.{SetupValue}
 use Rattle.judged_text.specs.Answered.{is_repeatable}
 use Rattle.batch_law.specs.Moved.{moved_group}
-use Rattle.checked_text.specs.Acknowledgments.{Acknowledgment, acknowledgment_text, groups_of}
+use Rattle.checked_text.specs.Acknowledgments.{Acknowledgment, acknowledgment_text, acknowledgment_group_count}
 use Rattle.checked_text.specs.CheckedText.{AreAcknowledgments, CheckedInterchange, SentValues, acknowledged_to, acknowledgment_of}
 use Rattle.checked_text.specs.CheckedText.{acknowledgments_from, acknowledgments_to, groups_to, is_acknowledged_to, is_partner}
 use Rattle.checked_text.specs.CheckedText.{recipient_by}
@@ -74,11 +74,11 @@ abbrev texts_from : SetupValue → Partner → (at : List ℕ) → (k g : ℕ) �
 texts_from setup partner at k g [] = []
 texts_from setup partner at k g (a ∷ more) =
     acknowledgment_text (envelope_to setup partner) at (num partner.counters.interchange k) (num partner.counters.group g) a
-    ++ texts_from setup partner at (k + 1) (g + groups_of a) more
+    ++ texts_from setup partner at (k + 1) (g + acknowledgment_group_count a) more
 
 abbrev groups_among : List Acknowledgment → ℕ
 groups_among [] = 0
-groups_among (a ∷ more) = groups_of a + groups_among more
+groups_among (a ∷ more) = acknowledgment_group_count a + groups_among more
 
 texts_told : (setup : SetupValue) (partner : Partner) (at : List ℕ) (k g : ℕ) (xs : List CheckedInterchange)
     → acknowledgments_from setup partner at k g xs ≡ texts_from setup partner at k g (map acknowledgment_of xs)
@@ -86,11 +86,11 @@ texts_told setup partner at k g [] = refl
 texts_told setup partner at k g (x ∷ xs) =
     ap (λ (t : List ℕ). acknowledgment_text (envelope_to setup partner) at (num partner.counters.interchange k)
     (num partner.counters.group g) (acknowledgment_of x) ++ t)
-    (texts_told setup partner at (k + 1) (g + groups_of (acknowledgment_of x)) xs)
+    (texts_told setup partner at (k + 1) (g + acknowledgment_group_count (acknowledgment_of x)) xs)
 
 groups_told : (xs : List CheckedInterchange) → groups_to xs ≡ groups_among (map acknowledgment_of xs)
 groups_told [] = refl
-groups_told (x ∷ xs) = ap (λ (n : ℕ). groups_of (acknowledgment_of x) + n) (groups_told xs)
+groups_told (x ∷ xs) = ap (λ (n : ℕ). acknowledgment_group_count (acknowledgment_of x) + n) (groups_told xs)
 
 module _ (setup : SetupValue) (at : List ℕ) (place : ℕ) (partner : Partner) where
   abbrev sent_by : List Acknowledgment → SentValues

@@ -7,7 +7,7 @@ use Rattle.env_index.specs.Words.{IndexEntry, with_fault, with_faults}
 use Rattle.partner_setup.specs.Setup.{SetupValue}
 use Rattle.batch_law.specs.Moved.{moved_entry}
 use Rattle.checked_text.specs.Seen.{is_among}
-use Rattle.checked_text.specs.Settled.{fault_alone, fault_behind, fault_if_earlier, faults_from, faults_with, kept_keys, key_of}
+use Rattle.checked_text.specs.Settled.{fault_alone, fault_behind, fault_if_earlier, faults_from, faults_with, kept_keys, interchange_key_of}
 use Rattle.checked_text.specs.Settled.{keys_with, settled_faults}
 use Rattle.checked_text.proofs.Numbered.{keys_joined}
 
@@ -19,17 +19,18 @@ module _ (setup : SetupValue) where
       → faults_with setup numbers (map (moved_entry by) es) ≡ faults_with setup numbers es
   faults_moved numbers by [] = refl
   faults_moved numbers by (e ∷ es) =
-      ap (λ (fs : List (Option InterchangeFault)). fault_if_earlier (fault_alone setup e) (is_among (key_of e) numbers) ∷ fs)
-      (faults_moved (keys_with numbers (fault_alone setup e) (key_of e)) by es)
+      ap (λ (fs : List (Option InterchangeFault)). fault_if_earlier (fault_alone setup e) (is_among (interchange_key_of e) numbers) ∷ fs)
+      (faults_moved (keys_with numbers (fault_alone setup e) (interchange_key_of e)) by es)
 
   keys_moved : (by : ℕ) (es : List IndexEntry) → kept_keys setup (map (moved_entry by) es) ≡ kept_keys setup es
   keys_moved by [] = refl
   keys_moved by (e ∷ es) = by_fault (kept e) (keys_moved by es)
     where
-      by_fault : (b : Bool) → map key_of (filter kept (map (moved_entry by) es)) ≡ map key_of (filter kept es)
-          → map key_of (cond b (moved_entry by e ∷ filter kept (map (moved_entry by) es)) (filter kept (map (moved_entry by) es)))
-          ≡ map key_of (cond b (e ∷ filter kept es) (filter kept es))
-      by_fault true more = ap (λ (ks : List (List ℕ)). key_of e ∷ ks) more
+      by_fault : (b : Bool) → map interchange_key_of (filter kept (map (moved_entry by) es)) ≡ map interchange_key_of (filter kept es)
+          → map interchange_key_of (cond b (moved_entry by e ∷ filter kept (map (moved_entry by) es)) (filter kept (map
+          (moved_entry by) es)))
+          ≡ map interchange_key_of (cond b (e ∷ filter kept es) (filter kept es))
+      by_fault true more = ap (λ (ks : List (List ℕ)). interchange_key_of e ∷ ks) more
       by_fault false more = more
 
   pub keys_behind : (by : ℕ) (before es : List IndexEntry)

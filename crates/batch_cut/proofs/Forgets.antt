@@ -3,7 +3,7 @@ use Rattle.std.proofs.Common.{◌≡◌, ℕ, ◌+◌, ◌-◌, ◌<◌, ◌≤�
 use Rattle.std.proofs.Common.{length, map, take, drop, get_or, refl, sym, ap, subst, ◌∙◌, arith}
 use Rattle.std.proofs.lemmas.List.{append_assoc, drop-drop, length-drop, length-take-le, take-append-drop}
 use Rattle.x12_bytes.specs.Bytes.{is_line_end}
-use Rattle.x12_bytes.specs.Header.{delims_of, header_at}
+use Rattle.x12_bytes.specs.Header.{header_delims, header_at}
 use Rattle.x12_bytes.specs.HeaderTest.{is_head}
 use Rattle.x12_bytes.specs.declared.delims.Delims.{Delims}
 use Rattle.x12_segs.specs.Words.{moved_by, Seg, rest_from, segs_from, SegValue, view_of, kind_of}
@@ -110,7 +110,7 @@ forgets read at i j delims at_is lead_is seen_is inside =
     record {
       head = sym (head_past before left 0) ∙ ap (λ (r : List ℕ). is_head r (length before + 0)) whole ∙ ap (is_head read) zero_at
           ∙ inside.head;
-      delims = delims ∙ inside.delims ∙ ap delims_of (sym header);
+      delims = delims ∙ inside.delims ∙ ap header_delims (sym header);
       behind = omega arith;
       goes_on = λ more.
           (let both : end_from (left ++ more) i.delims (0 + 106) ≡ end_from (left ++ more) i.delims j.part.at =

@@ -2,7 +2,7 @@
 use Rattle.std.proofs.Common.{◌≡◌, ℕ, ◌+◌, ◌<◌, ◌≤◌, List, [], ◌∷◌, ◌++◌, true, Option, Some, None, length}
 use Rattle.std.proofs.Common.{refl, sym, ap, ◌∙◌, arith}
 use Rattle.std.proofs.lemmas.List.{append-nil, length-append}
-use Rattle.x12_bytes.specs.Header.{delims_of, header_at}
+use Rattle.x12_bytes.specs.Header.{header_delims, header_at}
 use Rattle.x12_bytes.specs.HeaderTest.{is_head}
 use Rattle.env_index.specs.Words.{Extent, IsNextHead, reach_at}
 use Rattle.env_index.proofs.Surround.{head_within}
@@ -127,7 +127,7 @@ stops_inside read from at start inside count i part so_far enters waits =
     }
 
 -- an interchange that isn't looked at yet
-pub fresh_inside : (read : List ℕ) (start : ℕ) (i : Inside) → is_head read start ≡ true → i.delims ≡ delims_of (header_at read start)
+pub fresh_inside : (read : List ℕ) (start : ℕ) (i : Inside) → is_head read start ≡ true → i.delims ≡ header_delims (header_at read start)
     → i.part.at ≡ start + 106 → i.part.lead ≡ start + 106 → i.part.seen ≡ start + 106 → IsInside read start i
 fresh_inside read start i head delims at lead seen =
     let fits : start + 106 ≤ length read = head_within read start head in

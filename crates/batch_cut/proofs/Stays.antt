@@ -3,7 +3,7 @@ use Rattle.std.proofs.Common.{◌≡◌, ℕ, ◌+◌, ◌<◌, ◌≤◌, List,
 use Rattle.std.proofs.Common.{length, take, drop, get_or, nat_eq, sym, ap, refl, ◌∙◌, arith}
 use Rattle.std.proofs.lemmas.List.{append_assoc, get_or-drop, get_or_append_left, length-append, take_at}
 use Rattle.x12_bytes.specs.Bytes.{is_line_end}
-use Rattle.x12_bytes.specs.Header.{delims_of, header_at}
+use Rattle.x12_bytes.specs.Header.{header_delims, header_at}
 use Rattle.x12_bytes.specs.HeaderTest.{is_head}
 use Rattle.env_index.proofs.Surround.{head_within}
 use Rattle.batch_law.specs.Batches.{end_from}
@@ -28,7 +28,7 @@ inside_stays read more at i is =
     let inner : i.part.seen ≤ length read = o.within in
     record {
       head = sym (head_kept (read ++ more) (length read) within at fits) ∙ ap (λ (r : List ℕ). is_head r at) front ∙ is.head;
-      delims = is.delims ∙ ap delims_of (ap (λ (r : List ℕ). header_at r at) (sym front)
+      delims = is.delims ∙ ap header_delims (ap (λ (r : List ℕ). header_at r at) (sym front)
           ∙ header_kept (read ++ more) (length read) within at fits);
       behind = is.behind;
       goes_on = λ others. ap (λ (r : List ℕ). end_from r i.delims (at + 106)) (append_assoc read more others)

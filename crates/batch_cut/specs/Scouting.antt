@@ -1,6 +1,6 @@
 -- X12.5, interchange: up to where the interchanges are whole in what is read of a text.
 use Rattle.std.specs.Prelude.{◌≡◌, ℕ, ◌+◌, ◌≤◌, true, false, List, [], ◌++◌, length, Option, Some, None}
-use Rattle.x12_bytes.specs.Header.{delims_of, header_at}
+use Rattle.x12_bytes.specs.Header.{header_delims, header_at}
 use Rattle.x12_bytes.specs.HeaderTest.{is_head}
 use Rattle.x12_bytes.specs.declared.layout.TheConstants.{HEADER_LEN}
 use Rattle.env_index.specs.Words.{Extent}
@@ -14,7 +14,7 @@ use Rattle.batch_cut.specs.declared.scout.Inside.{Inside}
 -- an interchange begins there, and its end is asked from the part that is looked at on, whatever follows
 pub record IsInside (read : List ℕ) (at : ℕ) (i : Inside) : Type 0 where
   pub head : is_head read at ≡ true
-  pub delims : i.delims ≡ delims_of (header_at read at)
+  pub delims : i.delims ≡ header_delims (header_at read at)
   pub behind : at + HEADER_LEN ≤ i.part.at
   pub goes_on : GoesOn read i.delims (at + HEADER_LEN) i.part.at
   pub open_part : IsOpen read i.delims.terminator i.part.at i.part.lead i.part.seen

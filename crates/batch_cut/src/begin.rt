@@ -2,7 +2,7 @@ ghost use Rattle.std.specs.Prelude.{◌≡◌, ◌≤◌, ◌<◌, ◌||◌, ◌
 ghost use Rattle.std.specs.List.{list_all};
 ghost use Rattle.std.specs.Str.{bytes_eq};
 ghost use Rattle.x12_bytes.specs.Bytes.{is_letter_or_digit, is_line_end, may_separate};
-ghost use Rattle.x12_bytes.specs.Header.{element_of};
+ghost use Rattle.x12_bytes.specs.Header.{element_separator_of};
 ghost use Rattle.batch_law.specs.Begun.{are_delims_begun, are_fields_begun, is_begun, is_field_begun, may_begin};
 
 use crate::layout::{field_so_far, separator_place};

@@ -9,7 +9,7 @@ use Rattle.std.proofs.lemmas.Bool.{and_parts, and_from, cases_lt, eq-eqb, eqb-tr
 use Rattle.std.proofs.lemmas.Bool.{or_right}
 use Rattle.std.proofs.lemmas.List.{drop-take, drop_all, get_or-take, length-take, length-take-le, take-take}
 use Rattle.x12_bytes.specs.Bytes.{may_separate, may_terminate}
-use Rattle.x12_bytes.specs.Header.{element_of, component_of, terminator_of, field_of, separator_place, width_of}
+use Rattle.x12_bytes.specs.Header.{element_separator_of, component_separator_of, terminator_of, field_of, separator_place, width_of}
 use Rattle.x12_bytes.specs.HeaderTest.{is_field_byte, is_field_at, has_fields, has_delims, is_header}
 use Rattle.batch_law.specs.Begun.{is_field_begun, are_fields_begun, are_delims_begun, is_begun}
 
@@ -60,19 +60,19 @@ module _ (h : List ℕ) (n : ℕ) (size : length h ≡ 106) (short : n < 106) wh
       take_comm 3 n h ∙ ap (take n) text ∙ ap (λ (k : ℕ). take k (codes "ISA")) (sym long) in
       (bytes_decides (take 3 (take n h)) (take (length (take n h)) (codes "ISA"))).1 same
 
-  element_same : 3 < n → element_of (take n h) ≡ element_of h
+  element_same : 3 < n → element_separator_of (take n h) ≡ element_separator_of h
   element_same lt = same_byte 3 lt
 
-  delims_begun : 3 < n → may_separate (element_of h) ≡ true → may_separate (component_of h) ≡ true
+  delims_begun : 3 < n → may_separate (element_separator_of h) ≡ true → may_separate (component_separator_of h) ≡ true
       → are_delims_begun (take n h) ≡ true
   delims_begun lt element component =
-      and_from (may_separate (element_of (take n h)))
-      (leb (length (take n h)) 104 || may_separate (component_of (take n h)))
+      and_from (may_separate (element_separator_of (take n h)))
+      (leb (length (take n h)) 104 || may_separate (component_separator_of (take n h)))
       (ap may_separate (element_same lt) ∙ element)
       (elim (cases_lt 104 n) [
-        | inl far ↦ or_right (leb (length (take n h)) 104) (may_separate (component_of (take n h)))
+        | inl far ↦ or_right (leb (length (take n h)) 104) (may_separate (component_separator_of (take n h)))
             (ap may_separate (same_byte 104 far) ∙ component)
-        | inr near ↦ or_left (leb (length (take n h)) 104) (may_separate (component_of (take n h)))
+        | inr near ↦ or_left (leb (length (take n h)) 104) (may_separate (component_separator_of (take n h)))
             (le-leb (length (take n h)) 104 (omega (arith, long, near)))
       ])
 
@@ -80,26 +80,26 @@ module _ (h : List ℕ) (n : ℕ) (size : length h ≡ 106) (short : n < 106) wh
   field_begun lt k is =
       let place : ℕ = separator_place k in
       let b : List ℕ = take n h in
-      let parts = and_parts (nat_eq (slice_index h place) (element_of h)) (list_all (is_field_byte h) (field_of h k)) is in
-      let separator : slice_index h place ≡ element_of h = eqb-true (slice_index h place) (element_of h) parts.0 in
-      let bytes : list_all (λ x. not (nat_eq x (element_of b))) (field_of h k) ≡ true =
-      all_weaker (is_field_byte h) (λ x. not (nat_eq x (element_of b)))
+      let parts = and_parts (nat_eq (slice_index h place) (element_separator_of h)) (list_all (is_field_byte h) (field_of h k)) is in
+      let separator : slice_index h place ≡ element_separator_of h = eqb-true (slice_index h place) (element_separator_of h) parts.0 in
+      let bytes : list_all (λ x. not (nat_eq x (element_separator_of b))) (field_of h k) ≡ true =
+      all_weaker (is_field_byte h) (λ x. not (nat_eq x (element_separator_of b)))
       (λ x yes. ap (λ (e : ℕ). not (nat_eq x e)) (element_same lt)
-      ∙ (and_parts (not (nat_eq x (element_of h))) (not (nat_eq x (terminator_of h))) yes).0)
+      ∙ (and_parts (not (nat_eq x (element_separator_of h))) (not (nat_eq x (terminator_of h))) yes).0)
       (field_of h k) parts.1 in
       let w : ℕ = place + 1 + width_of k - (place + 1) in
       let field : field_of b k ≡ take (n - (place + 1)) (field_of h k) =
       ap (take w) (drop_read n (place + 1) h) ∙ take_comm w (n - (place + 1)) (drop (place + 1) h) in
-      and_from (leb (length b) place || nat_eq (slice_index b place) (element_of b))
-      (list_all (λ x. not (nat_eq x (element_of b))) (field_of b k))
+      and_from (leb (length b) place || nat_eq (slice_index b place) (element_separator_of b))
+      (list_all (λ x. not (nat_eq x (element_separator_of b))) (field_of b k))
       (elim (cases_lt place n) [
-        | inl there ↦ or_right (leb (length b) place) (nat_eq (slice_index b place) (element_of b))
-            (eq-eqb (slice_index b place) (element_of b) (same_byte place there ∙ separator ∙ sym (element_same lt)))
-        | inr past ↦ or_left (leb (length b) place) (nat_eq (slice_index b place) (element_of b))
+        | inl there ↦ or_right (leb (length b) place) (nat_eq (slice_index b place) (element_separator_of b))
+            (eq-eqb (slice_index b place) (element_separator_of b) (same_byte place there ∙ separator ∙ sym (element_same lt)))
+        | inr past ↦ or_left (leb (length b) place) (nat_eq (slice_index b place) (element_separator_of b))
             (le-leb (length b) place (omega (arith, long, past)))
       ])
-      (ap (list_all (λ x. not (nat_eq x (element_of b)))) field
-      ∙ all_taken (λ x. not (nat_eq x (element_of b))) (n - (place + 1)) (field_of h k) bytes)
+      (ap (list_all (λ x. not (nat_eq x (element_separator_of b)))) field
+      ∙ all_taken (λ x. not (nat_eq x (element_separator_of b))) (n - (place + 1)) (field_of h k) bytes)
 
   fields_begun : 3 < n → (k : ℕ) → has_fields h k ≡ true → are_fields_begun (take n h) k ≡ true
   unfolding has_fields are_fields_begun
@@ -118,8 +118,8 @@ header_begun h n short is =
     let second = and_parts isa rest first.1 in
     let third = and_parts (has_delims h) (has_fields h 16) second.1 in
     let size : length h ≡ 106 = eqb-true (length h) 106 first.0 in
-    let e : ℕ = element_of h in
-    let c : ℕ = component_of h in
+    let e : ℕ = element_separator_of h in
+    let c : ℕ = component_separator_of h in
     let t : ℕ = terminator_of h in
     let differ : Bool = not (nat_eq e c) && (not (nat_eq e t) && not (nat_eq c t)) in
     let ends : Bool = may_separate c && may_terminate t in
@@ -150,29 +150,29 @@ module _ (h : List ℕ) (n : ℕ) (le : n ≤ length h) (far : 3 < n) where
   field_cut k is =
       let place : ℕ = separator_place k in
       let b : List ℕ = take n h in
-      let parts = and_parts (leb (length h) place || nat_eq (slice_index h place) (element_of h))
-      (list_all (λ x. not (nat_eq x (element_of h))) (field_of h k)) is in
-      let element : element_of b ≡ element_of h = cut_byte 3 far in
-      let bytes : list_all (λ x. not (nat_eq x (element_of b))) (field_of h k) ≡ true =
-      all_weaker (λ x. not (nat_eq x (element_of h))) (λ x. not (nat_eq x (element_of b)))
+      let parts = and_parts (leb (length h) place || nat_eq (slice_index h place) (element_separator_of h))
+      (list_all (λ x. not (nat_eq x (element_separator_of h))) (field_of h k)) is in
+      let element : element_separator_of b ≡ element_separator_of h = cut_byte 3 far in
+      let bytes : list_all (λ x. not (nat_eq x (element_separator_of b))) (field_of h k) ≡ true =
+      all_weaker (λ x. not (nat_eq x (element_separator_of h))) (λ x. not (nat_eq x (element_separator_of b)))
       (λ x yes. ap (λ (e : ℕ). not (nat_eq x e)) element ∙ yes) (field_of h k) parts.1 in
       let w : ℕ = place + 1 + width_of k - (place + 1) in
       let field : field_of b k ≡ take (n - (place + 1)) (field_of h k) =
       ap (take w) (drop_read n (place + 1) h) ∙ take_comm w (n - (place + 1)) (drop (place + 1) h) in
-      and_from (leb (length b) place || nat_eq (slice_index b place) (element_of b))
-      (list_all (λ x. not (nat_eq x (element_of b))) (field_of b k))
+      and_from (leb (length b) place || nat_eq (slice_index b place) (element_separator_of b))
+      (list_all (λ x. not (nat_eq x (element_separator_of b))) (field_of b k))
       (elim (cases_lt place n) [
-        | inl there ↦ or_right (leb (length b) place) (nat_eq (slice_index b place) (element_of b))
-            (ap (λ (x : ℕ). nat_eq x (element_of b)) (cut_byte place there) ∙ ap (nat_eq (slice_index h place)) element
-            ∙ (elim (or_cases (leb (length h) place) (nat_eq (slice_index h place) (element_of h)) parts.0) [
+        | inl there ↦ or_right (leb (length b) place) (nat_eq (slice_index b place) (element_separator_of b))
+            (ap (λ (x : ℕ). nat_eq x (element_separator_of b)) (cut_byte place there) ∙ ap (nat_eq (slice_index h place)) element
+            ∙ (elim (or_cases (leb (length h) place) (nat_eq (slice_index h place) (element_separator_of h)) parts.0) [
               | inl short ↦ absurd (omega (arith, leb-true (length h) place short, there, le))
               | inr same ↦ same
             ]))
-        | inr past ↦ or_left (leb (length b) place) (nat_eq (slice_index b place) (element_of b))
+        | inr past ↦ or_left (leb (length b) place) (nat_eq (slice_index b place) (element_separator_of b))
             (le-leb (length b) place (omega (arith, cut_long, past)))
       ])
-      (ap (list_all (λ x. not (nat_eq x (element_of b)))) field
-      ∙ all_taken (λ x. not (nat_eq x (element_of b))) (n - (place + 1)) (field_of h k) bytes)
+      (ap (list_all (λ x. not (nat_eq x (element_separator_of b)))) field
+      ∙ all_taken (λ x. not (nat_eq x (element_separator_of b))) (n - (place + 1)) (field_of h k) bytes)
 
   fields_cut : (k : ℕ) → are_fields_begun h k ≡ true → are_fields_begun (take n h) k ≡ true
   unfolding are_fields_begun
@@ -183,18 +183,19 @@ module _ (h : List ℕ) (n : ℕ) (le : n ≤ length h) (far : 3 < n) where
 
   delims_cut : are_delims_begun h ≡ true → are_delims_begun (take n h) ≡ true
   delims_cut is =
-      let parts = and_parts (may_separate (element_of h)) (leb (length h) 104 || may_separate (component_of h)) is in
+      let parts = and_parts (may_separate (element_separator_of h)) (leb (length h) 104 || may_separate (component_separator_of h)) is in
       let b : List ℕ = take n h in
-      and_from (may_separate (element_of b)) (leb (length b) 104 || may_separate (component_of b))
+      and_from (may_separate (element_separator_of b)) (leb (length b) 104 || may_separate (component_separator_of b))
       (ap may_separate (cut_byte 3 far) ∙ parts.0)
       (elim (cases_lt 104 n) [
-        | inl there ↦ or_right (leb (length b) 104) (may_separate (component_of b))
+        | inl there ↦ or_right (leb (length b) 104) (may_separate (component_separator_of b))
             (ap may_separate (cut_byte 104 there)
-            ∙ (elim (or_cases (leb (length h) 104) (may_separate (component_of h)) parts.1) [
+            ∙ (elim (or_cases (leb (length h) 104) (may_separate (component_separator_of h)) parts.1) [
               | inl short ↦ absurd (omega (arith, leb-true (length h) 104 short, there, le))
               | inr allowed ↦ allowed
             ]))
-        | inr near ↦ or_left (leb (length b) 104) (may_separate (component_of b)) (le-leb (length b) 104 (omega (arith, cut_long, near)))
+        | inr near ↦ or_left (leb (length b) 104) (may_separate (component_separator_of b)) (le-leb (length b) 104 (omega
+            (arith, cut_long, near)))
       ])
 
 pub begun_cut : (h : List ℕ) (n : ℕ) → n ≤ length h → is_begun h ≡ true → is_begun (take n h) ≡ true

@@ -3,7 +3,7 @@ use Rattle.std.proofs.Common.{◌≡◌, ℕ, ◌+◌, ◌<◌, ◌≤◌, List,
 use Rattle.std.proofs.Common.{length, take, refl, sym, ap, subst, ◌∙◌, arith}
 use Rattle.std.proofs.lemmas.Bool.{both_ways, cases_lt, false_from_ne_true}
 use Rattle.std.proofs.lemmas.List.{length-append, length-take-le, take_at}
-use Rattle.x12_bytes.specs.Header.{header_at, delims_of}
+use Rattle.x12_bytes.specs.Header.{header_at, header_delims}
 use Rattle.x12_bytes.specs.HeaderTest.{is_head}
 use Rattle.x12_bytes.specs.declared.delims.Delims.{Delims}
 use Rattle.x12_segs.specs.Words.{segs_from, rest_from}
@@ -20,7 +20,7 @@ use Rattle.batch_law.proofs.Whole.{end_is}
 -- an interchange holds its header
 pub end_behind : (text : List ℕ) (start : ℕ) → is_head text start ≡ true → start + 106 ≤ (reach_at text start).end
 end_behind text start head =
-    let d : Delims = delims_of (header_at text start) in
+    let d : Delims = header_delims (header_at text start) in
     low_end text d (start + 106) (segs_from text d.terminator (start + 106)) (rest_from text d.terminator (start + 106))
     (segs_in_order text d.terminator (start + 106) (head_within text start head))
 
@@ -81,7 +81,7 @@ chain_ends text from (x ∷ xs) chain = (chain.0, chain.1, chain_ends text x.end
 
 pub end_within : (text : List ℕ) (start : ℕ) → is_head text start ≡ true → (reach_at text start).end ≤ length text
 end_within text start head =
-    (least_end text (delims_of (header_at text start)) (start + 106) (head_within text start head)).least (length text) (inr (inr refl))
+    (least_end text (header_delims (header_at text start)) (start + 106) (head_within text start head)).least (length text) (inr (inr refl))
 
 pub chain_up_to_end : (text : List ℕ) (from : ℕ) (xs : List Extent) → from ≤ length text → ChainFrom text from xs
     → ChainUpTo text from (length text) xs
@@ -111,11 +111,11 @@ module _ (text : List ℕ) (c : ℕ) (within : c ≤ length text) where
       let last : x.end ≤ c = chain_order text x.end c xs chain.2 in
       let fits : x.start + 106 ≤ c = omega (arith, chain.1, end_behind text x.start chain.0.head) in
       let header : header_at (take c text) x.start ≡ header_at text x.start = header_kept text c within x.start fits in
-      let d : Delims = delims_of (header_at text x.start) in
+      let d : Delims = header_delims (header_at text x.start) in
       let clear : Clears text c (reach_at text x.start).end = subst (Clears text c) chain.1 (clears x.end xs chain.2) in (
         head_kept text c within x.start fits ∙ chain.0.head,
         header,
-        ap (λ (h : List ℕ). reach_from (take c text) (delims_of h) (x.start + 106)) header
+        ap (λ (h : List ℕ). reach_from (take c text) (header_delims h) (x.start + 106)) header
             ∙ same_reach text c d (x.start + 106) within fits (omega (arith, last, chain.1)) clear,
       )
 
@@ -155,10 +155,10 @@ module _ (text : List ℕ) (c : ℕ) (within : c ≤ length text) where
   chain_whole from to (x ∷ xs) whole =
       let fits : x.start + 106 ≤ c = head_fits text c within x.start whole.0.head in
       let header : header_at (take c text) x.start ≡ header_at text x.start = header_kept text c within x.start fits in
-      let end : end_from (take c text) (delims_of (header_at text x.start)) (x.start + 106) ≡ Some x.end =
-      ap (λ (h : List ℕ). end_from (take c text) (delims_of h) (x.start + 106)) (sym header) ∙ whole.1 in (
+      let end : end_from (take c text) (header_delims (header_at text x.start)) (x.start + 106) ≡ Some x.end =
+      ap (λ (h : List ℕ). end_from (take c text) (header_delims h) (x.start + 106)) (sym header) ∙ whole.1 in (
         next_read from x.start whole.0,
-        sym (end_is text c within (delims_of (header_at text x.start)) (x.start + 106) x.end fits end),
+        sym (end_is text c within (header_delims (header_at text x.start)) (x.start + 106) x.end fits end),
         chain_whole x.end to xs whole.2,
       )
 
@@ -189,6 +189,6 @@ pub end_now : (read : List ℕ) (start end : ℕ) → is_head read start ≡ tru
     ≡ (reach_at read start).end
 end_now read start end head is =
     let all : take (length read) read ≡ read = Rattle.std.proofs.lemmas.List.take_all (length read) read (omega arith) in
-    let d : Delims = delims_of (header_at read start) in
+    let d : Delims = header_delims (header_at read start) in
     sym (end_is read (length read) (omega arith) d (start + 106) end (head_within read start head)
     (ap (λ (r : List ℕ). end_from r d (start + 106)) all ∙ is))

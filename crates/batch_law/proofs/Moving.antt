@@ -5,7 +5,7 @@ use Rattle.std.proofs.lemmas.Bool.{cases_lt, le-leb, lt-leb}
 use Rattle.std.proofs.lemmas.List.{drop-drop, drop_at, length-append}
 use Rattle.std.specs.List.{prefix_len}
 use Rattle.x12_bytes.specs.Bytes.{is_line_end}
-use Rattle.x12_bytes.specs.Header.{delims_of, header_at}
+use Rattle.x12_bytes.specs.Header.{header_delims, header_at}
 use Rattle.x12_bytes.specs.HeaderTest.{is_head, is_header}
 use Rattle.x12_bytes.specs.declared.delims.Delims.{Delims}
 use Rattle.x12_segs.specs.Kinds.{kind_of}
@@ -142,6 +142,6 @@ pub reach_at_past : (before text : List ℕ) (start : ℕ)
     → reach_at (before ++ text) (length before + start) ≡ moved_reach (length before) (reach_at text start)
 reach_at_past before text start =
     let sum : length before + start + 106 ≡ length before + (start + 106) = omega arith in
-    ap (λ (h : List ℕ). reach_from (before ++ text) (delims_of h) (length before + start + 106)) (header_past before text start)
-    ∙ ap (reach_from (before ++ text) (delims_of (header_at text start))) sum
-    ∙ reach_from_past before text (delims_of (header_at text start)) (start + 106)
+    ap (λ (h : List ℕ). reach_from (before ++ text) (header_delims h) (length before + start + 106)) (header_past before text start)
+    ∙ ap (reach_from (before ++ text) (header_delims (header_at text start))) sum
+    ∙ reach_from_past before text (header_delims (header_at text start)) (start + 106)

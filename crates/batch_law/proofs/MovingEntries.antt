@@ -5,10 +5,10 @@ use Rattle.std.specs.Prelude.{not}
 use Rattle.std.specs.List.{All, list_all}
 use Rattle.std.proofs.lemmas.List.{length-append, length-map, map-append}
 use Rattle.std.proofs.lemmas.List.Elements.{All-cons, All-head, All-nil, All-tail}
-use Rattle.x12_bytes.specs.Header.{delims_of, header_at}
+use Rattle.x12_bytes.specs.Header.{header_delims, header_at}
 use Rattle.x12_bytes.specs.HeaderTest.{is_head}
 use Rattle.x12_bytes.specs.declared.delims.Delims.{Delims}
-use Rattle.x12_segs.specs.Words.{end_of, moved_by, start_of, Seg, segs_from, IsSetSpan, span_segs, span_views, trailer_kinds, SegValue}
+use Rattle.x12_segs.specs.Words.{end_of, moved_by, start_offset, Seg, segs_from, IsSetSpan, span_segs, span_views, trailer_kinds, SegValue}
 use Rattle.x12_segs.specs.Words.{view_of, kind_of}
 use Rattle.x12_segs.specs.declared.kind.Kind.{Kind}
 use Rattle.x12_segs.specs.declared.kind.Kind.TheVariants.{SetHeader}
@@ -23,7 +23,7 @@ use Rattle.env_index.specs.Words.{InterchangeEntry, map_body, map_group, map_in_
 use Rattle.env_index.specs.Words.{span_of}
 use Rattle.hub_kinds.specs.declared.interchange.InterchangeFault.TheVariants.{ControlNumbersDiffer, GroupCountWrong, SegmentMisplaced}
 use Rattle.hub_kinds.specs.declared.interchange.InterchangeFault.TheVariants.{GroupHeaderInvalid, SetHeaderInvalid}
-use Rattle.env_index.specs.Summary.{GroupEntry, Summary, group_entry, groups_in, has_misplaced, has_misplaced_in_group, ta1s_in}
+use Rattle.env_index.specs.Summary.{GroupEntry, Summary, group_entry, groups_in, has_misplaced, has_misplaced_in_group, ta1_member_count}
 use Rattle.env_index.specs.Summary.{set_entry, sets_in, summary_of}
 use Rattle.env_index.proofs.Mapped.{derives_mapped}
 use Rattle.batch_law.specs.Batches.{ChainUpTo}
@@ -88,7 +88,7 @@ module _ (by : ℕ) where
       ∙ ap (λ (es : List GroupEntry). moved_group by (group_entry g) ∷ es) (groups_moved ms)
   groups_moved (OutOfBody x ∷ ms) = groups_moved ms
 
-  ta1s_moved : (ms : List (InBody SegValue)) → ta1s_in (map (map_in_body (moved_view by)) ms) ≡ ta1s_in ms
+  ta1s_moved : (ms : List (InBody SegValue)) → ta1_member_count (map (map_in_body (moved_view by)) ms) ≡ ta1_member_count ms
   ta1s_moved [] = refl
   ta1s_moved (ATa1 x ∷ ms) = ap (λ (n : ℕ). n + 1) (ta1s_moved ms)
   ta1s_moved (AGroup g ∷ ms) = ta1s_moved ms
@@ -113,9 +113,9 @@ module _ (by : ℕ) where
       let t : Option SegValue = option_map (moved_view by) b.trailer in
       let summary : List GroupEntry → ℕ → Bool → Summary = λ gs n m. record { groups = gs; ta1s = n; misplaced = m; trailer = t } in
       let ms : List (InBody SegValue) = map (map_in_body (moved_view by)) b.members in
-      ap (λ (gs : List GroupEntry). summary gs (ta1s_in ms) (has_misplaced ms)) (groups_moved b.members)
+      ap (λ (gs : List GroupEntry). summary gs (ta1_member_count ms) (has_misplaced ms)) (groups_moved b.members)
       ∙ ap (λ (n : ℕ). summary (map (moved_group by) (groups_in b.members)) n (has_misplaced ms)) (ta1s_moved b.members)
-      ∙ ap (summary (map (moved_group by) (groups_in b.members)) (ta1s_in b.members)) (misplaced_moved b.members)
+      ∙ ap (summary (map (moved_group by) (groups_in b.members)) (ta1_member_count b.members)) (misplaced_moved b.members)
 
   -- faults don't look at offsets
   trailers_moved : (p : SegValue → Bool) (gs : List GroupEntry) → ((x : SegValue) → p (moved_view by x) ≡ p x)
@@ -167,7 +167,7 @@ module _ (by : ℕ) where
 
 -- spans, further on
 first_moved : (by : ℕ) (k : Kind) (ks : List Kind) (segs : List Seg) (d : Delims) → map kind_of (map (view_of d) segs) ≡ k ∷ ks
-    → start_of (map (moved_by by) segs) ≡ by + start_of segs
+    → start_offset (map (moved_by by) segs) ≡ by + start_offset segs
 first_moved by k ks [] d is = (cc)
 first_moved by k ks (seg ∷ segs) d is = refl
 
@@ -207,7 +207,7 @@ span_past before text span is =
     let by : ℕ = length before in
     record {
       within = omega (arith, is.within, length-append before text);
-      start = ap start_of (span_segs_past before text span)
+      start = ap start_offset (span_segs_past before text span)
           ∙ first_moved by SetHeader (is.inner ++ trailer_kinds span.closed) (span_segs text span) span.delims is.kinds
           ∙ ap (λ (n : ℕ). by + n) is.start;
       end = ap end_of (span_segs_past before text span)
@@ -255,7 +255,7 @@ module _ (before text : List ℕ) (d : Delims) where
 
 pub spans_past : (before text : List ℕ) (x : InterchangeEntry) → HasSpans text x
     → HasSpans (before ++ text) (moved_interchange (length before) x)
-spans_past before text x all = groups_past before text (delims_of x.header) x.content.groups all
+spans_past before text x all = groups_past before text (header_delims x.header) x.content.groups all
 
 -- an interchange, further on
 pub read_past : (before text : List ℕ) (x : InterchangeEntry) → IsReadIn text x

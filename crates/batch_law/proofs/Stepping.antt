@@ -7,7 +7,7 @@ use Rattle.std.proofs.lemmas.List.{append_assoc, drop-drop, length-append, lengt
 use Rattle.std.proofs.lemmas.List.{take-take, take_all}
 use Rattle.std.proofs.lemmas.List.Sums.{sum_by-append}
 use Rattle.std.proofs.lemmas.List.Elements.{All-append, All-cons, All-head, All-nil, All-tail}
-use Rattle.x12_bytes.specs.Header.{delims_of, header_at}
+use Rattle.x12_bytes.specs.Header.{header_delims, header_at}
 use Rattle.x12_segs.specs.Words.{segs_from, IsSetSpan, kind_of}
 use Rattle.x12_segs.specs.declared.set_span.SetSpan.{SetSpan}
 use Rattle.env_index.specs.declared.entry.SetEnvelope.{SetEnvelope}
@@ -31,7 +31,7 @@ module _ (text : List ℕ) (c : ℕ) (within : c ≤ length text) where
       ap (λ (xs : List ℕ). segs_from xs span.delims.terminator span.start) (take-take span.end c text (omega (arith, is.within, size))) in
       record {
         within = omega (arith, is.within, size);
-        start = ap Rattle.x12_segs.specs.Runs.start_of (sym segs) ∙ is.start;
+        start = ap Rattle.x12_segs.specs.Runs.start_offset (sym segs) ∙ is.start;
         end = ap Rattle.x12_segs.specs.Runs.end_of (sym segs) ∙ is.end;
         inner = is.inner;
         kinds = ap (λ ss. map kind_of (map (Rattle.x12_segs.specs.View.view_of span.delims) ss)) (sym segs) ∙ is.kinds;
@@ -41,21 +41,22 @@ module _ (text : List ℕ) (c : ℕ) (within : c ≤ length text) where
   spans_more : (x : InterchangeEntry) → HasSpans (take c text) x → HasSpans text x
   spans_more x all = in_groups x.content.groups all
     where
-      in_sets : (sets : List SetEnvelope) → All (λ (set : SetEnvelope). IsSetSpan (take c text) (span_of (delims_of x.header) set)) sets
-          → All (λ (set : SetEnvelope). IsSetSpan text (span_of (delims_of x.header) set)) sets
-      in_sets [] all = All-nil (λ (set : SetEnvelope). IsSetSpan text (span_of (delims_of x.header) set))
+      in_sets : (sets : List SetEnvelope) → All (λ (set : SetEnvelope). IsSetSpan (take c text) (span_of (header_delims x.header) set)) sets
+          → All (λ (set : SetEnvelope). IsSetSpan text (span_of (header_delims x.header) set)) sets
+      in_sets [] all = All-nil (λ (set : SetEnvelope). IsSetSpan text (span_of (header_delims x.header) set))
       in_sets (set ∷ sets) all =
-          let P = λ (set : SetEnvelope). IsSetSpan (take c text) (span_of (delims_of x.header) set) in
-          All-cons (λ (set : SetEnvelope). IsSetSpan text (span_of (delims_of x.header) set)) set sets
-          (span_more (span_of (delims_of x.header) set) (All-head P set sets all)) (in_sets sets (All-tail P set sets all))
+          let P = λ (set : SetEnvelope). IsSetSpan (take c text) (span_of (header_delims x.header) set) in
+          All-cons (λ (set : SetEnvelope). IsSetSpan text (span_of (header_delims x.header) set)) set sets
+          (span_more (span_of (header_delims x.header) set) (All-head P set sets all)) (in_sets sets (All-tail P set sets all))
 
       in_groups : (gs : List GroupEntry)
-          → All (λ (g : GroupEntry). All (λ (set : SetEnvelope). IsSetSpan (take c text) (span_of (delims_of x.header) set)) g.sets) gs
-          → All (λ (g : GroupEntry). All (λ (set : SetEnvelope). IsSetSpan text (span_of (delims_of x.header) set)) g.sets) gs
-      in_groups [] all = All-nil (λ (g : GroupEntry). All (λ (set : SetEnvelope). IsSetSpan text (span_of (delims_of x.header) set)) g.sets)
+          → All (λ (g : GroupEntry). All (λ (set : SetEnvelope). IsSetSpan (take c text) (span_of (header_delims x.header) set)) g.sets) gs
+          → All (λ (g : GroupEntry). All (λ (set : SetEnvelope). IsSetSpan text (span_of (header_delims x.header) set)) g.sets) gs
+      in_groups [] all = All-nil (λ (g : GroupEntry). All (λ (set : SetEnvelope). IsSetSpan text (span_of
+          (header_delims x.header) set)) g.sets)
       in_groups (g ∷ gs) all =
-          let P = λ (g : GroupEntry). All (λ (set : SetEnvelope). IsSetSpan (take c text) (span_of (delims_of x.header) set)) g.sets in
-          All-cons (λ (g : GroupEntry). All (λ (set : SetEnvelope). IsSetSpan text (span_of (delims_of x.header) set)) g.sets) g gs
+          let P = λ (g : GroupEntry). All (λ (set : SetEnvelope). IsSetSpan (take c text) (span_of (header_delims x.header) set)) g.sets in
+          All-cons (λ (g : GroupEntry). All (λ (set : SetEnvelope). IsSetSpan text (span_of (header_delims x.header) set)) g.sets) g gs
           (in_sets g.sets (All-head P g gs all)) (in_groups gs (All-tail P g gs all))
 
   -- an interchange of what is read up to there is one of the text

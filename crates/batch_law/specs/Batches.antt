@@ -1,7 +1,7 @@
 -- X12.5, interchange: how the interchanges of a text go on where it is read in batches.
 use Rattle.std.specs.Prelude.{◌≡◌, ℕ, ◌+◌, ◌≤◌, ◌<◌, false, List, [], ◌∷◌, length, map}
 use Rattle.std.specs.Prelude.{Option, Some, None, if◌then◌else◌}
-use Rattle.x12_bytes.specs.Header.{header_at, delims_of}
+use Rattle.x12_bytes.specs.Header.{header_at, header_delims}
 use Rattle.x12_bytes.specs.HeaderTest.{is_head}
 use Rattle.x12_bytes.specs.declared.layout.TheConstants.{HEADER_LEN}
 use Rattle.x12_bytes.specs.declared.delims.Delims.{Delims}
@@ -25,7 +25,7 @@ end_from read delims from =
 
 -- the end of the interchange whose header begins at an offset of what is read; none where it isn't whole yet
 abbrev pub whole_end : List ℕ → ℕ → Option ℕ
-whole_end read start = end_from read (delims_of (header_at read start)) (start + HEADER_LEN)
+whole_end read start = end_from read (header_delims (header_at read start)) (start + HEADER_LEN)
 
 -- the interchanges of a text from an offset on, up to another at which none is open
 abbrev pub ChainUpTo : List ℕ → (from to : ℕ) → List Extent → Type 0

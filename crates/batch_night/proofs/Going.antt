@@ -11,7 +11,7 @@ use Rattle.partner_setup.specs.Setup.{SetupValue}
 use Rattle.mailbox.specs.Deliveries.{delivered_to}
 use Rattle.judged_text.specs.Judged.{JudgedValue, PlacedValue, all_sets}
 use Rattle.night_report.specs.Adding.{together}
-use Rattle.night_report.specs.Report.{all_lines, totals_of}
+use Rattle.night_report.specs.Report.{all_lines, report_totals}
 use Rattle.night_report.specs.Told.{ToldValue}
 use Rattle.night_report.specs.declared.totals.Totals.{Totals}
 use Rattle.checked_text.specs.CheckedText.{AreAcknowledgments, AreCheckedAs, IsCheckedAs}
@@ -164,13 +164,13 @@ module _ (before batch behind : List ℕ) (setup : SetupValue) (at : List ℕ) (
       ∙ sym (lines_joined setup 0 1 first (map (moved_judged before behind) second))
       ∙ ap (all_lines setup 0 1) (sym judged_on)
 
-  totals_on : new.writing.told.totals ≡ totals_of setup (judgements the_whole new.known)
+  totals_on : new.writing.told.totals ≡ report_totals setup (judgements the_whole new.known)
   totals_on =
       ap (λ (t : ToldValue). t.totals) done.written.told
-      ∙ ap (λ (t : Totals). together t (totals_of setup second)) so_far.written.told.totals
-      ∙ ap (together (totals_of setup first)) (sym (totals_moved setup before behind second within))
+      ∙ ap (λ (t : Totals). together t (report_totals setup second)) so_far.written.told.totals
+      ∙ ap (together (report_totals setup first)) (sym (totals_moved setup before behind second within))
       ∙ sym (totals_joined setup first (map (moved_judged before behind) second))
-      ∙ ap (totals_of setup) (sym judged_on)
+      ∙ ap (report_totals setup) (sym judged_on)
 
   count_on : new.writing.told.count ≡ length (judgements the_whole new.known)
   count_on =

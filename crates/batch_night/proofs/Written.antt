@@ -5,7 +5,7 @@ use Rattle.std.specs.List.{All}
 use Rattle.std.proofs.lemmas.List.{append_assoc}
 use Rattle.std.proofs.lemmas.List.Elements.{filter-append, All-append, All-cons, All-head, All-nil, All-tail}
 use Rattle.count_numbers.specs.Num.{num}
-use Rattle.x12_bytes.specs.Header.{delims_of}
+use Rattle.x12_bytes.specs.Header.{header_delims}
 use Rattle.x12_segs.specs.Words.{IsSetSpan}
 use Rattle.env_index.specs.declared.entry.SetEnvelope.{SetEnvelope}
 use Rattle.env_index.specs.Words.{GroupEntry, HasSpans, span_of}
@@ -13,8 +13,8 @@ use Rattle.partner_setup.specs.declared.partner.Partner.{Partner}
 use Rattle.partner_setup.specs.Setup.{SetupValue}
 use Rattle.judged_text.specs.declared.standing.GroupStanding.{GroupStanding}
 use Rattle.mailbox.specs.Deliveries.{delivered_to, is_delivered_to}
-use Rattle.judged_text.specs.Judged.{JudgedValue, PlacedValue, all_sets, groups_from, sets_from, sets_of, standing_at}
-use Rattle.mailbox.specs.Numbered.{key_of}
+use Rattle.judged_text.specs.Judged.{JudgedValue, PlacedValue, all_sets, sets_of_groups_from, sets_from, sets_of, standing_at}
+use Rattle.mailbox.specs.Numbered.{group_key_of}
 use Rattle.checked_text.specs.CheckedText.{CheckedInterchange, judged}
 use Rattle.batch_sets.specs.MovedSets.{moved_placed}
 use Rattle.mailbox.specs.Rendered.{RenderedValue, rendered, rendered_from}
@@ -33,7 +33,7 @@ pub rendered_moved : (before behind : List ℕ) (partner : Partner) (k : ℕ) (x
     → rendered_from partner k (map (moved_placed before behind) xs) ≡ rendered_from partner k xs
 rendered_moved before behind partner k [] all = refl
 rendered_moved before behind partner k (x ∷ xs) all =
-    ap (λ (t : List ℕ). (let r : RenderedValue = record { key = key_of x; text = t } in r)
+    ap (λ (t : List ℕ). (let r : RenderedValue = record { key = group_key_of x; text = t } in r)
     ∷ rendered_from partner (k + 1) (map (moved_placed before behind) xs))
     (text_moved before behind partner.delims x (num partner.counters.set k) (All-head IsWithinText x xs all))
     ∙ ap (λ (l : List RenderedValue). rendered partner k x ∷ l)
@@ -59,7 +59,7 @@ all_filtered P p (x ∷ xs) all = by_test (p x) (all_filtered P p xs (All-tail P
 -- sets that have spans stand in their text
 module _ (x : JudgedValue) where
   abbrev HasSpan : SetEnvelope → Type 0
-  HasSpan set = IsSetSpan x.text (span_of (delims_of x.interchange.header) set)
+  HasSpan set = IsSetSpan x.text (span_of (header_delims x.interchange.header) set)
 
   sets_within : (g : GroupEntry) (standing : GroupStanding) (n : ℕ) (sets : List SetEnvelope) → All HasSpan sets
       → All IsWithinText (sets_from x g standing n sets)
@@ -69,10 +69,10 @@ module _ (x : JudgedValue) where
       (n + 1) sets)
       (All-head HasSpan set sets all).within (sets_within g standing (n + 1) sets (All-tail HasSpan set sets all))
 
-  groups_within : (n : ℕ) (gs : List GroupEntry) → All (λ g. All HasSpan g.sets) gs → All IsWithinText (groups_from x n gs)
+  groups_within : (n : ℕ) (gs : List GroupEntry) → All (λ g. All HasSpan g.sets) gs → All IsWithinText (sets_of_groups_from x n gs)
   groups_within n [] all = All-nil IsWithinText
   groups_within n (g ∷ gs) all =
-      All-append IsWithinText (sets_from x g (standing_at x.standings n) 0 g.sets) (groups_from x (n + 1) gs)
+      All-append IsWithinText (sets_from x g (standing_at x.standings n) 0 g.sets) (sets_of_groups_from x (n + 1) gs)
       (sets_within g (standing_at x.standings n) 0 g.sets (All-head (λ g. All HasSpan g.sets) g gs all))
       (groups_within (n + 1) gs (All-tail (λ g. All HasSpan g.sets) g gs all))
 

@@ -14,7 +14,8 @@ use Rattle.hub_kinds.specs.Words.{note_text}
 use Rattle.partner_setup.specs.Setup.{SetupValue}
 use Rattle.judged_text.specs.declared.standing.GroupStanding.{GroupStanding}
 use Rattle.judged_text.specs.Answered.{is_repeatable, ta1_note}
-use Rattle.judged_text.specs.Judged.{JudgedValue, PlacedValue, all_sets, groups_from, is_fa, is_refused, sets_from, sets_of, standing_at}
+use Rattle.judged_text.specs.Judged.{JudgedValue, PlacedValue, all_sets, sets_of_groups_from, is_fa, is_refused, sets_from, sets_of}
+use Rattle.judged_text.specs.Judged.{standing_at}
 use Rattle.night_report.specs.Lines.{answered_line, control_shown, fa_line, interchange_line, ta1_line}
 use Rattle.night_report.specs.Report.{all_lines, answer_line, content_lines, first_line, group_line, group_lines, held_lines}
 use Rattle.night_report.specs.Report.{interchange_lines}
@@ -76,7 +77,7 @@ module _ (setup : SetupValue) (before behind : List ℕ) where
       (answered_line (element_of g.header 1)
       (element_of g.header 6) standing.verdict n standing.accepted)) (length-map g.sets (moved_set by))
 
-  groups_lines_moved : (x : JudgedValue) (n : ℕ) (gs : List GroupEntry) → All IsWithinText (groups_from x n gs)
+  groups_lines_moved : (x : JudgedValue) (n : ℕ) (gs : List GroupEntry) → All IsWithinText (sets_of_groups_from x n gs)
       → flat_map (group_lines setup) (shown_from (judged x) n (map (moved_group by) gs)) ≡ flat_map (group_lines setup) (shown_from x n gs)
   groups_lines_moved x n [] all = refl
   groups_lines_moved x n (g ∷ gs) all =
@@ -87,9 +88,9 @@ module _ (setup : SetupValue) (before behind : List ℕ) where
       (moved_set by) g.sets))) ++ rest)
       (line_moved g standing)
       ∙ ap (λ (t : List ℕ). (group_line g standing ++ t) ++ rest)
-      (sets_lines_moved x g standing 0 g.sets (all_before IsWithinText sets (groups_from x (n + 1) gs) all))
+      (sets_lines_moved x g standing 0 g.sets (all_before IsWithinText sets (sets_of_groups_from x (n + 1) gs) all))
       ∙ ap (λ (t : List ℕ). (group_line g standing ++ flat_map (held_lines setup) sets) ++ t)
-      (groups_lines_moved x (n + 1) gs (all_behind IsWithinText sets (groups_from x (n + 1) gs) all))
+      (groups_lines_moved x (n + 1) gs (all_behind IsWithinText sets (sets_of_groups_from x (n + 1) gs) all))
 
   content_moved : (x : JudgedValue) → All IsWithinText (sets_of x) → content_lines setup (judged x) ≡ content_lines setup x
   content_moved x all = by_test (is_refused x)

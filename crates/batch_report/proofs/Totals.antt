@@ -13,7 +13,7 @@ use Rattle.mailbox.specs.Deliveries.{is_held}
 use Rattle.judged_text.specs.Judged.{JudgedValue, PlacedValue, all_sets, is_refused, sets_of, standing_at}
 use Rattle.night_report.specs.Adding.{together}
 use Rattle.night_report.specs.Report.{ShownGroup, accepted_count, counted_groups, groups_shown, held_count, is_counted, set_count}
-use Rattle.night_report.specs.Report.{shown_from, totals_of}
+use Rattle.night_report.specs.Report.{shown_from, report_totals}
 use Rattle.night_report.specs.declared.totals.Totals.{Totals}
 use Rattle.batch_law.specs.Moved.{moved_group, moved_set}
 use Rattle.batch_sets.specs.MovedSets.{moved_judged, moved_placed}
@@ -32,7 +32,7 @@ counted_joined xs ys =
     ∙ filter-append is_counted (flat_map groups_shown xs) (flat_map groups_shown ys)
 
 pub totals_joined : (setup : SetupValue) (xs ys : List JudgedValue)
-    → totals_of setup (xs ++ ys) ≡ together (totals_of setup xs) (totals_of setup ys)
+    → report_totals setup (xs ++ ys) ≡ together (report_totals setup xs) (report_totals setup ys)
 totals_joined setup xs ys =
     let gs : List ShownGroup = counted_groups xs in
     let hs : List ShownGroup = counted_groups ys in
@@ -117,7 +117,7 @@ module _ (setup : SetupValue) (before behind : List ℕ) where
       (ap (count_by is_held) (outcomes_moved before behind setup p (All-head IsWithinText p ps all)))
       (held_each ps (All-tail IsWithinText p ps all))
 
-  pub totals_moved : (xs : List JudgedValue) → All IsWithinText (all_sets xs) → totals_of setup (map judged xs) ≡ totals_of setup xs
+  pub totals_moved : (xs : List JudgedValue) → All IsWithinText (all_sets xs) → report_totals setup (map judged xs) ≡ report_totals setup xs
   totals_moved xs all =
       let gs : List ShownGroup = counted_groups xs in
       let refused : count_by is_refused (map judged xs) ≡ count_by is_refused xs =

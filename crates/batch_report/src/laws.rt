@@ -3,7 +3,7 @@ ghost use Rattle.std.specs.List.{All};
 ghost use Rattle.partner_setup.specs.Setup.{SetupValue};
 ghost use Rattle.judged_text.specs.Judged.{JudgedValue, all_sets};
 ghost use Rattle.mailbox.specs.Deliveries.{delivered_to};
-ghost use Rattle.night_report.specs.Report.{all_lines, totals_of};
+ghost use Rattle.night_report.specs.Report.{all_lines, report_totals};
 ghost use Rattle.night_report.specs.Adding.{together};
 ghost use Rattle.batch_sets.specs.MovedSets.{moved_judged, moved_placed};
 ghost use Rattle.batch_sets.specs.Within.{IsWithinText};
@@ -16,9 +16,9 @@ pub fn reports_go_on()
     ensures lines { (setup : SetupValue) (base n : ℕ) (xs ys : List JudgedValue)
         → all_lines setup base n (xs ++ ys) ≡ all_lines setup base n xs ++ all_lines setup base (n + length xs) ys }
     ensures counted { (setup : SetupValue) (before behind : List ℕ) (xs : List JudgedValue) → All IsWithinText (all_sets xs)
-        → totals_of setup (map (moved_judged before behind) xs) ≡ totals_of setup xs }
+        → report_totals setup (map (moved_judged before behind) xs) ≡ report_totals setup xs }
     ensures totals { (setup : SetupValue) (xs ys : List JudgedValue)
-        → totals_of setup (xs ++ ys) ≡ together (totals_of setup xs) (totals_of setup ys) }
+        → report_totals setup (xs ++ ys) ≡ together (report_totals setup xs) (report_totals setup ys) }
     ensures delivered { (setup : SetupValue) (before behind : List ℕ) (partner : ℕ) (xs : List JudgedValue)
         → All IsWithinText (all_sets xs)
         → delivered_to setup partner (map (moved_judged before behind) xs)

@@ -17,7 +17,7 @@ use Rattle.mailbox.specs.declared.outcome.Outcome.TheVariants.{DeliveredTo, Held
 use Rattle.judged_text.specs.declared.standing.GroupStanding.{GroupStanding}
 use Rattle.mailbox.specs.Deliveries.{delivered_to, inner_count, inner_in, is_blocked, is_deliverable, is_delivered_to, is_delivery_to}
 use Rattle.mailbox.specs.Deliveries.{is_text_in_the_way, kept_parts, outcome_at, outcome_by, outcomes, outcomes_on}
-use Rattle.judged_text.specs.Judged.{JudgedValue, PlacedValue, all_sets, delims_in, groups_from, segments_in, sets_from, sets_of}
+use Rattle.judged_text.specs.Judged.{JudgedValue, PlacedValue, all_sets, delims_in, sets_of_groups_from, segments_in, sets_from, sets_of}
 use Rattle.judged_text.specs.Judged.{standing_at}
 use Rattle.mailbox.specs.Mailbox.{inner_text, set_header_text, set_text, set_trailer_text}
 use Rattle.batch_law.specs.Moved.{moved_group, moved_set, moved_view}
@@ -121,14 +121,14 @@ module _ (before behind : List ℕ) where
       (sets_from_moved x g standing (n + 1) sets)
 
   groups_from_moved : (x : JudgedValue) (n : ℕ) (gs : List GroupEntry)
-      → groups_from (judged x) n (map (moved_group by) gs) ≡ map moved (groups_from x n gs)
+      → sets_of_groups_from (judged x) n (map (moved_group by) gs) ≡ map moved (sets_of_groups_from x n gs)
   groups_from_moved x n [] = refl
   groups_from_moved x n (g ∷ gs) =
-      ap (λ (ps : List PlacedValue). ps ++ groups_from (judged x) (n + 1) (map (moved_group by) gs))
+      ap (λ (ps : List PlacedValue). ps ++ sets_of_groups_from (judged x) (n + 1) (map (moved_group by) gs))
       (sets_from_moved x g (standing_at x.standings n) 0 g.sets)
       ∙ ap (λ (ps : List PlacedValue). map moved (sets_from x g (standing_at x.standings n) 0 g.sets) ++ ps) (groups_from_moved x
       (n + 1) gs)
-      ∙ sym (map-append moved (sets_from x g (standing_at x.standings n) 0 g.sets) (groups_from x (n + 1) gs))
+      ∙ sym (map-append moved (sets_from x g (standing_at x.standings n) 0 g.sets) (sets_of_groups_from x (n + 1) gs))
 
   pub all_sets_moved : (xs : List JudgedValue) → all_sets (map judged xs) ≡ map moved (all_sets xs)
   all_sets_moved [] = refl

@@ -17,8 +17,8 @@ use Rattle.set_check.specs.Answer.{answer_to}
 use Rattle.set_check.specs.Codes.{control_of}
 use Rattle.set_check.specs.Verdict.{verdict_on}
 use Rattle.set_check.specs.Checked.{Checked, IsChecked, guide_in, parts_in}
-use Rattle.set_check.specs.SetFaults.{AreSetFaults, IsErrorIn, IsFaultUnder, codes_where, codes_with}
-use Rattle.set_check.specs.SetParts.{SetParts, before_trailer, inner_of, parts_of, set_parts, trailer_of}
+use Rattle.set_check.specs.SetFaults.{AreSetFaults, IsErrorIn, IsFaultUnder, set_codes_where, codes_with}
+use Rattle.set_check.specs.SetParts.{SetParts, before_trailer, inner_of, parts_of, set_parts, set_trailer_of}
 use Rattle.batch_law.specs.Moved.{moved_span, moved_view}
 use Rattle.batch_law.proofs.MovingEntries.{span_views_past}
 use Rattle.batch_sets.specs.MovedSets.{moved_checked, moved_parts}
@@ -61,8 +61,8 @@ module _ (by : ℕ) where
       ∙ ap (map elements_of) (range_moved xs 1 (before_trailer closed (length xs)))
       ∙ elements_moved (slice_range xs 1 (before_trailer closed (length xs)))
 
-  trailer_moved : (closed : Bool) (xs : List SegValue) → trailer_of closed (map (moved_view by) xs)
-      ≡ option_map (moved_view by) (trailer_of closed xs)
+  trailer_moved : (closed : Bool) (xs : List SegValue) → set_trailer_of closed (map (moved_view by) xs)
+      ≡ option_map (moved_view by) (set_trailer_of closed xs)
   trailer_moved true xs = ap (λ (n : ℕ). slice_get (map (moved_view by) xs) (n - 1)) (length-map xs (moved_view by))
       ∙ get_moved xs (length xs - 1)
   trailer_moved false xs = refl
@@ -72,7 +72,7 @@ module _ (by : ℕ) where
   parts_moved d closed x xs =
       let parts : List Segment → Option SegValue
       → SetParts = λ body t. record { delims = d; header = moved_view by x; body = body; trailer = t } in
-      ap (λ (body : List Segment). parts body (trailer_of closed (map (moved_view by) (x ∷ xs)))) (inner_moved closed (x ∷ xs))
+      ap (λ (body : List Segment). parts body (set_trailer_of closed (map (moved_view by) (x ∷ xs)))) (inner_moved closed (x ∷ xs))
       ∙ ap (parts (map elements_of (inner_of closed (x ∷ xs)))) (trailer_moved closed (x ∷ xs))
 
   -- what is wrong with a set doesn't depend on where it stands
@@ -127,18 +127,18 @@ module _ (by : ℕ) where
   )
 
   codes_moved : (guide : Option GuideTree) (p : SetParts) (fs : List Fault) (earlier : Bool)
-      → codes_where guide (moved_parts by p) fs earlier ≡ codes_where guide p fs earlier
+      → set_codes_where guide (moved_parts by p) fs earlier ≡ set_codes_where guide p fs earlier
   codes_moved guide p fs earlier = by_trailer p.trailer
     where
       with_trailer : Option SegValue → SetParts
       with_trailer t = record { delims = p.delims; header = p.header; body = p.body; trailer = t }
 
-      by_trailer : (t : Option SegValue) → codes_where guide (record {
+      by_trailer : (t : Option SegValue) → set_codes_where guide (record {
         delims = p.delims;
         header = moved_view by p.header;
         body = p.body;
         trailer = option_map (moved_view by) t;
-      }) fs earlier ≡ codes_where guide (record { delims = p.delims; header = p.header; body = p.body; trailer = t }) fs earlier
+      }) fs earlier ≡ set_codes_where guide (record { delims = p.delims; header = p.header; body = p.body; trailer = t }) fs earlier
       by_trailer None = refl
       by_trailer (Some x) = refl
 
@@ -185,5 +185,5 @@ answer_moved before behind c earlier span =
       codes = set_codes;
       verdict = verdict_on guide c.faults set_codes;
     } in
-    ap (λ (p : SetParts). answer p (codes_where guide p c.faults earlier)) same
+    ap (λ (p : SetParts). answer p (set_codes_where guide p c.faults earlier)) same
     ∙ ap (answer (parts_in c)) (codes_moved (length before) guide (parts_in c) c.faults earlier)

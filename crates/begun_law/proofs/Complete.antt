@@ -7,7 +7,7 @@ use Rattle.std.specs.Cmp.Lexicographic.{bytes_decides}
 use Rattle.std.proofs.lemmas.Bool.{and_from, and_parts, cases_lt, le-leb, leb-true, ltb-true, or_cases}
 use Rattle.std.proofs.lemmas.List.{append_assoc, drop-append-le, length-append, length-drop, take-append-drop, take_all, take-take}
 use Rattle.std.proofs.lemmas.List.Elements.{All-append, All-cons, All-drop, All-get_or, All-nil}
-use Rattle.x12_bytes.specs.Header.{element_of, header_at}
+use Rattle.x12_bytes.specs.Header.{element_separator_of, header_at}
 use Rattle.x12_bytes.specs.HeaderTest.{is_head, is_header}
 use Rattle.batch_law.specs.Begun.{are_fields_begun, are_delims_begun, is_begun, may_begin}
 use Rattle.begun_law.proofs.Absent.{IsAbsentFrom, one_is_absent}
@@ -67,11 +67,11 @@ far_done b bytes far begun =
     } in
     let ys : List ℕ = rest b t is_open in
     let joined : mixed b ys ≡ b ++ drop (length b) ys = mixed_is b ys in
-    let element : element_of b < 256 = All-get_or (λ x. x < 256) b 3 0 far bytes in (
+    let element : element_separator_of b < 256 = All-get_or (λ x. x < 256) b 3 0 far bytes in (
       drop (length b) ys,
       record {
-        bytes = All-drop (λ x. x < 256) (length b) ys (made_small (element_of b) (other_of (element_of b)) t element
-            (other_small (element_of b)) (omega arith));
+        bytes = All-drop (λ x. x < 256) (length b) ys (made_small (element_separator_of b) (other_of (element_separator_of b)) t element
+            (other_small (element_separator_of b)) (omega arith));
         header = sym (ap is_header joined) ∙ header_done b t is_open;
         size = sym (ap length joined) ∙ header_size b t is_open;
       },

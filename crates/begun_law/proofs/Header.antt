@@ -10,7 +10,7 @@ use Rattle.std.proofs.lemmas.Bool.{leb-true, ne_eqb, not-true, or_cases, true_fr
 use Rattle.std.proofs.lemmas.List.{drop_more}
 use Rattle.std.proofs.lemmas.List.Folds.{list_all_at}
 use Rattle.x12_bytes.specs.Bytes.{may_separate, may_terminate}
-use Rattle.x12_bytes.specs.Header.{element_of, component_of, terminator_of, field_of, separator_place, width_of}
+use Rattle.x12_bytes.specs.Header.{element_separator_of, component_separator_of, terminator_of, field_of, separator_place, width_of}
 use Rattle.x12_bytes.specs.HeaderTest.{is_field_byte, is_field_at, has_fields, has_delims, is_header}
 use Rattle.batch_law.specs.Begun.{is_field_begun, are_fields_begun, are_delims_begun}
 use Rattle.begun_law.proofs.Absent.{is_absent}
@@ -93,7 +93,7 @@ pub record IsOpen (b : List ℕ) (t : ℕ) : Type 0 where
 
 module _ (b : List ℕ) (t : ℕ) (is_open : IsOpen b t) where
   abbrev e : ℕ
-  e = element_of b
+  e = element_separator_of b
 
   abbrev c : ℕ
   c = other_of e
@@ -107,7 +107,7 @@ module _ (b : List ℕ) (t : ℕ) (is_open : IsOpen b t) where
   short : length b < 106
   short = is_open.short
 
-  element : element_of h ≡ e
+  element : element_separator_of h ≡ e
   element = mixed_first b rest 3 is_open.far
 
   terminator : terminator_of h ≡ t
@@ -117,10 +117,10 @@ module _ (b : List ℕ) (t : ℕ) (is_open : IsOpen b t) where
   element_ends = absent_at t b 3 is_open.far is_open.absent
 
   element_allowed : may_separate e ≡ true
-  element_allowed = (and_parts (may_separate e) (leb (length b) 104 || may_separate (component_of b)) is_open.delims).0
+  element_allowed = (and_parts (may_separate e) (leb (length b) 104 || may_separate (component_separator_of b)) is_open.delims).0
 
   -- a component separator that is there
-  there_differs : 104 < length b → nat_eq (component_of b) e ≡ false
+  there_differs : 104 < length b → nat_eq (component_separator_of b) e ≡ false
   unfolding are_fields_begun
   there_differs lt =
       let last = and_parts (is_field_begun b 16) (are_fields_begun b 15) is_open.fields in
@@ -128,17 +128,17 @@ module _ (b : List ℕ) (t : ℕ) (is_open : IsOpen b t) where
       (list_all (λ x. not (nat_eq x e)) (take 1 (drop 104 b))) last.0 in
       let shown : list_all (λ x. not (nat_eq x e)) (take 1 (get_or b 104 0 ∷ drop 105 b)) ≡ true =
       sym (ap (λ (l : List ℕ). list_all (λ x. not (nat_eq x e)) (take 1 l)) (drop_more b 104 0 lt)) ∙ bytes.1 in
-      not-true (nat_eq (component_of b) e) (and_parts (not (nat_eq (component_of b) e)) true shown).0
+      not-true (nat_eq (component_separator_of b) e) (and_parts (not (nat_eq (component_separator_of b) e)) true shown).0
 
-  there_allowed : 104 < length b → may_separate (component_of b) ≡ true
+  there_allowed : 104 < length b → may_separate (component_separator_of b) ≡ true
   there_allowed lt =
-      let allowed = and_parts (may_separate e) (leb (length b) 104 || may_separate (component_of b)) is_open.delims in
-      elim (or_cases (leb (length b) 104) (may_separate (component_of b)) allowed.1) [
+      let allowed = and_parts (may_separate e) (leb (length b) 104 || may_separate (component_separator_of b)) is_open.delims in
+      elim (or_cases (leb (length b) 104) (may_separate (component_separator_of b)) allowed.1) [
         | inl few ↦ absurd (omega (arith, leb-true (length b) 104 few, lt))
         | inr holds ↦ holds
       ]
 
-  beside : IsBeside e t (component_of h)
+  beside : IsBeside e t (component_separator_of h)
   beside = elim (cases_lt 104 (length b)) [
     | inl lt ↦ subst (IsBeside e t) (sym (mixed_first b rest 104 lt)) (record {
       element = there_differs lt;
@@ -150,9 +150,9 @@ module _ (b : List ℕ) (t : ℕ) (is_open : IsOpen b t) where
 
   delims_done : has_delims h ≡ true
   delims_done =
-      ap (λ (x : ℕ). delims_test x (component_of h) (terminator_of h)) element
-      ∙ ap (λ (x : ℕ). delims_test e (component_of h) x) terminator
-      ∙ delims_from e (component_of h) t beside element_ends element_allowed (high_terminates t is_open.low is_open.high)
+      ap (λ (x : ℕ). delims_test x (component_separator_of h) (terminator_of h)) element
+      ∙ ap (λ (x : ℕ). delims_test e (component_separator_of h) x) terminator
+      ∙ delims_from e (component_separator_of h) t beside element_ends element_allowed (high_terminates t is_open.low is_open.high)
 
   abbrev may_stand : ℕ → Bool
   may_stand x = not (nat_eq x e) && not (nat_eq x t)
@@ -170,7 +170,7 @@ module _ (b : List ℕ) (t : ℕ) (is_open : IsOpen b t) where
       and_from (not (nat_eq c e)) (not (nat_eq c t)) (ap not facts.element) (ap not facts.terminator)
 
   separator_done : (k : ℕ) → is_field_begun b k ≡ true → is_plain_field k ≡ true
-      → nat_eq (slice_index h (separator_place k)) (element_of h) ≡ true
+      → nat_eq (slice_index h (separator_place k)) (element_separator_of h) ≡ true
   separator_done k begun plain =
       let place : ℕ = separator_place k in
       let parts = and_parts (leb (length b) place || nat_eq (slice_index b place) e)
@@ -182,7 +182,7 @@ module _ (b : List ℕ) (t : ℕ) (is_open : IsOpen b t) where
         ])
         | inr ge ↦ mixed_second b rest place ge ∙ made_separator e c t k plain
       ] in
-      eq-eqb (slice_index h place) (element_of h) (is ∙ sym element)
+      eq-eqb (slice_index h place) (element_separator_of h) (is ∙ sym element)
 
   bytes_done : (k : ℕ) → is_field_begun b k ≡ true → is_plain_field k ≡ true → list_all (is_field_byte h) (field_of h k) ≡ true
   bytes_done k begun plain =
@@ -203,7 +203,8 @@ module _ (b : List ℕ) (t : ℕ) (is_open : IsOpen b t) where
       let begins = and_parts (is_field_begun b (k + 1)) (are_fields_begun b k) begun in
       let plains = and_parts (is_plain_field (k + 1)) (are_plain_fields k) plain in
       and_from (is_field_at h (k + 1)) (has_fields h k)
-      (and_from (nat_eq (slice_index h (separator_place (k + 1))) (element_of h)) (list_all (is_field_byte h) (field_of h (k + 1)))
+      (and_from (nat_eq (slice_index h (separator_place (k + 1))) (element_separator_of h)) (list_all (is_field_byte h) (field_of h
+      (k + 1)))
       (separator_done (k + 1) begins.0 plains.0) (bytes_done (k + 1) begins.0 plains.0))
       (fields_done k begins.1 plains.1)
 

@@ -11,7 +11,7 @@ use Rattle.clap.specs.declared.parser.matches.ArgMatches.{ArgMatches}
 use Rattle.clap.proofs.OnLiterals.{clap_on_literals}
 use Rattle.clap.proofs.WalkLemmas.{first_value-rows, raw_values-rows}
 use Rattle.check_command.specs.CommandLine.{AreNone, AreOptions, AsksForText, IsAsked, IsGiven, IsShown, check_app, names_none}
-use Rattle.check_command.specs.CommandLine.{is_all, or_none, value_of}
+use Rattle.check_command.specs.CommandLine.{is_all, or_none, option_value}
 use Rattle.check_command.specs.CommandLine.{values_found, values_of}
 use Rattle.check_command.specs.declared.command.Asked.{Asked}
 use Rattle.check_command.specs.declared.command.Asked.TheVariants.{Check, Show}
@@ -29,7 +29,7 @@ free = refl
 
 -- the value that clap found for an option
 found : (words : List Text) (m : ArgMatches) (name : Text) → HasMatchesOf check_app words m
-    → first_value (found_of m) name ≡ value_of words name
+    → first_value (found_of m) name ≡ option_value words name
 found words m name has = first_value-rows (found_of m) name ∙ ap (first_of name) (has simple).0
 
 -- the values that it found
@@ -92,7 +92,7 @@ none_given value values o none setup guides counters = record {
 
 -- and the arguments give them none
 pub none_valued : (words : List Text) (m : ArgMatches) → HasMatchesOf check_app words m
-    → AreNone (first_value (found_of m)) (values_found (found_of m)) → AreNone (value_of words) (values_of words)
+    → AreNone (first_value (found_of m)) (values_found (found_of m)) → AreNone (option_value words) (values_of words)
 none_valued words m has none = record {
   setup = sym (found words m (codes "setup") has) ∙ none.setup;
   guides = sym (ap or_none (all_found words m (codes "guide") has)) ∙ none.guides;
@@ -101,7 +101,7 @@ none_valued words m has none = record {
 
 -- arguments by which files are checked name them
 pub named : (words : List Text) (asked : Asked) (o : Options) → asked ≡ Check o → IsAsked words asked
-    → AreOptions (value_of words) (values_of words) o
+    → AreOptions (option_value words) (values_of words) o
 named words (Check p) o e is =
-    let same : p ≡ o = cc in subst (λ (x : Options). AreOptions (value_of words) (values_of words) x) same is
+    let same : p ≡ o = cc in subst (λ (x : Options). AreOptions (option_value words) (values_of words) x) same is
 named words (Show text) o e is = absurd (no_text text o e)

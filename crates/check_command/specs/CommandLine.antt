@@ -40,8 +40,8 @@ abbrev pub check_app : App
 check_app = with_rule files_app (option_flag (codes "all"))
 
 -- the value that the arguments give an option
-abbrev pub value_of : List Text → Text → Option Text
-value_of words name = first_of name (matches_of check_app words)
+abbrev pub option_value : List Text → Text → Option Text
+option_value words name = first_of name (matches_of check_app words)
 
 -- the values that they give an option, in their order
 abbrev pub values_of : List Text → Text → Option (List Text)
@@ -77,7 +77,7 @@ pub record AreNone (value : Text → Option Text) (values : Text → Option (Lis
 -- nothing is wrong with the arguments, and they name a file
 pub record IsCommandLine (words : List Text) : Type 0 where
   pub taken : takes check_app words ≡ true
-  pub named : AreNone (value_of words) (values_of words) → ⊥
+  pub named : AreNone (option_value words) (values_of words) → ⊥
 
 -- the arguments ask for help or for the version, and name no file to check
 pub record AsksForText (words : List Text) : Type 0 where
@@ -86,7 +86,7 @@ pub record AsksForText (words : List Text) : Type 0 where
 
 -- what the arguments ask for
 abbrev pub IsAsked : List Text → Asked → Type 0
-IsAsked words (Check options) = AreOptions (value_of words) (values_of words) options
+IsAsked words (Check options) = AreOptions (option_value words) (values_of words) options
 IsAsked words (Show text) = AsksForText words
 
 -- the same of what clap found, and of the kind of what it reports (no public clause cites these)

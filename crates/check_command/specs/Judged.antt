@@ -26,13 +26,13 @@ is_of_counters (refused.BadCap place) = false
 is_of_counters refused.NoMemory = false
 
 -- it is taken, with its warnings, where nothing is refused, and left open by a counter; else the words of the first refusal
-abbrev pub told_by : (partners : ℕ) → KeptRows → Option SetupFault → Told
-told_by partners kept None = told.Taken partners listed.Partners (setup_warnings kept)
-told_by partners kept (Some fault) = if is_of_counters fault then told.Open else told.Refused (setup_words kept fault)
+abbrev pub judgement_by : (partners : ℕ) → KeptRows → Option SetupFault → Told
+judgement_by partners kept None = told.Taken partners listed.Partners (setup_warnings kept)
+judgement_by partners kept (Some fault) = if is_of_counters fault then told.Open else told.Refused (setup_words kept fault)
 
 abbrev pub setup_told : SetupRows → List CounterRow → List GuideRows → Told
 setup_told rows counters guides =
-    told_by (length rows.partners) (kept_rows rows counters guides) (first_fault rows counters guides)
+    judgement_by (length rows.partners) (kept_rows rows counters guides) (first_fault rows counters guides)
 
 -- the counters are refused by the first refusal alone, and where it is of one of them
 abbrev pub counters_by : (count : ℕ) → KeptRows → Option SetupFault → Told

@@ -2,7 +2,7 @@
 use Rattle.std.specs.Prelude.{ℕ, ◌≡◌, ◌⊎◌, Bool, List, Option, IfSome, is_some}
 use Rattle.std.specs.Io.KnownBytes.{Appends}
 use Rattle.clap.specs.Words.{Text}
-use Rattle.check_command.specs.CommandLine.{AreOptions, AsksForText, value_of, values_of}
+use Rattle.check_command.specs.CommandLine.{AreOptions, AsksForText, option_value, values_of}
 use Rattle.check_command.specs.Files.{paths_in, paths_of}
 use Rattle.check_command.specs.Further.{AreSaid, Sentences}
 use Rattle.check_command.specs.Lines.{status_with, text_of}
@@ -33,5 +33,6 @@ pub record IsChecked (paths : List (List ℕ)) (all : Bool) (status : ℕ) (was 
 -- the files that the arguments name were checked, or a text was shown that they ask for
 abbrev pub IsPrinted : (words : List Text) → (status : ℕ) → (was is : Option (List ℕ)) → Type 0
 IsPrinted words status was is =
-    ((options : Options) × AreOptions (value_of words) (values_of words) options × IsChecked (paths_in options) options.all status was is)
+    ((options : Options) × AreOptions (option_value words) (values_of words) options × IsChecked
+    (paths_in options) options.all status was is)
     ⊎ (AsksForText words × (status ≡ 0))

@@ -8,7 +8,7 @@ use Rattle.hub_kinds.specs.declared.interchange.InterchangeFault.{InterchangeFau
 use Rattle.env_index.specs.Words.{IndexEntry}
 use Rattle.partner_setup.specs.Setup.{SetupValue}
 use Rattle.checked_text.specs.Seen.{is_among}
-use Rattle.checked_text.specs.Settled.{fault_alone, fault_behind, fault_if_earlier, faults_from, faults_with, kept_keys, key_of}
+use Rattle.checked_text.specs.Settled.{fault_alone, fault_behind, fault_if_earlier, faults_from, faults_with, kept_keys, interchange_key_of}
 use Rattle.checked_text.specs.Settled.{keys_with}
 use Rattle.checked_text.proofs.Growing.{take_one_more}
 use Rattle.checked_text.proofs.Taking.{drop_one_more}
@@ -16,20 +16,20 @@ use Rattle.checked_text.proofs.Taking.{drop_one_more}
 module _ (setup : SetupValue) where
   pub keys_joined : (es fs : List IndexEntry) → kept_keys setup (es ++ fs) ≡ kept_keys setup es ++ kept_keys setup fs
   keys_joined es fs =
-      ap (λ (l : List IndexEntry). map key_of l) (filter-append (λ e. is_none (fault_alone setup e)) es fs)
-      ∙ map-append key_of (filter (λ e. is_none (fault_alone setup e)) es) (filter (λ e. is_none (fault_alone setup e)) fs)
+      ap (λ (l : List IndexEntry). map interchange_key_of l) (filter-append (λ e. is_none (fault_alone setup e)) es fs)
+      ∙ map-append interchange_key_of (filter (λ e. is_none (fault_alone setup e)) es) (filter (λ e. is_none (fault_alone setup e)) fs)
 
   -- the numbers after one interchange more
   pub keys_more : (numbers : List (List ℕ)) (before : List IndexEntry) (e : IndexEntry)
       → numbers ++ kept_keys setup (before ++ e ∷ [])
-      ≡ keys_with (numbers ++ kept_keys setup before) (fault_alone setup e) (key_of e)
+      ≡ keys_with (numbers ++ kept_keys setup before) (fault_alone setup e) (interchange_key_of e)
   keys_more numbers before e =
       ap (λ (ks : List (List ℕ)). numbers ++ ks) (keys_joined before (e ∷ [])) ∙ by_fault (fault_alone setup e)
     where
       by_fault : (f : Option InterchangeFault)
-          → numbers ++ (kept_keys setup before ++ map key_of (cond (is_none f) (e ∷ []) []))
-          ≡ keys_with (numbers ++ kept_keys setup before) f (key_of e)
-      by_fault None = sym (append_assoc numbers (kept_keys setup before) (key_of e ∷ []))
+          → numbers ++ (kept_keys setup before ++ map interchange_key_of (cond (is_none f) (e ∷ []) []))
+          ≡ keys_with (numbers ++ kept_keys setup before) f (interchange_key_of e)
+      by_fault None = sym (append_assoc numbers (kept_keys setup before) (interchange_key_of e ∷ []))
       by_fault (Some f) = ap (λ (ks : List (List ℕ)). numbers ++ ks) (append-nil (kept_keys setup before))
 
   -- the interchanges before are needed by their numbers alone
@@ -41,7 +41,7 @@ module _ (setup : SetupValue) where
 
   -- one interchange more of a list
   module _ (numbers : List (List ℕ)) (es : List IndexEntry) (i : ℕ) (e : IndexEntry) (there : slice_get es i ≡ Some e)
-      (alone : Option InterchangeFault) (key : List ℕ) (is : alone ≡ fault_alone setup e) (named : key ≡ key_of e) where
+      (alone : Option InterchangeFault) (key : List ℕ) (is : alone ≡ fault_alone setup e) (named : key ≡ interchange_key_of e) where
     abbrev so_far : List (List ℕ)
     so_far = numbers ++ kept_keys setup (take i es)
 
@@ -62,14 +62,14 @@ module _ (setup : SetupValue) where
         ap (λ (f : Option InterchangeFault).
         f ∷ faults_with setup (numbers ++ kept_keys setup (take (i + 1) es)) (drop (i + 1) es)) first
         ∙ ap (λ (ks : List (List ℕ)).
-        fault_if_earlier (fault_alone setup e) (is_among (key_of e) so_far) ∷ faults_with setup ks (drop (i + 1) es)) rest
+        fault_if_earlier (fault_alone setup e) (is_among (interchange_key_of e) so_far) ∷ faults_with setup ks (drop (i + 1) es)) rest
         ∙ ap (λ (l : List IndexEntry). faults_with setup so_far l) (sym (drop_one_more es i e there))
         )
       where
-        first : fault ≡ fault_if_earlier (fault_alone setup e) (is_among (key_of e) so_far)
+        first : fault ≡ fault_if_earlier (fault_alone setup e) (is_among (interchange_key_of e) so_far)
         first = told ∙ ap (λ (f : Option InterchangeFault). fault_if_earlier f (is_among key so_far)) is
             ∙ ap (λ (k : List ℕ). fault_if_earlier (fault_alone setup e) (is_among k so_far)) named
 
-        rest : numbers ++ kept_keys setup (take (i + 1) es) ≡ keys_with so_far (fault_alone setup e) (key_of e)
+        rest : numbers ++ kept_keys setup (take (i + 1) es) ≡ keys_with so_far (fault_alone setup e) (interchange_key_of e)
         rest = ap (λ (l : List IndexEntry). numbers ++ kept_keys setup l) (take_one_more es i e there)
             ∙ keys_more numbers (take i es) e

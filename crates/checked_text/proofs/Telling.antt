@@ -9,8 +9,9 @@ use Rattle.hub_kinds.specs.declared.interchange.InterchangeFault.TheVariants.{Du
 use Rattle.hub_kinds.specs.declared.interchange.InterchangeFault.TheVariants.{ControlNumbersDiffer, GroupCountWrong, SegmentMisplaced}
 use Rattle.hub_kinds.specs.declared.interchange.InterchangeFault.TheVariants.{GroupHeaderInvalid, SetHeaderInvalid, SenderUnknown}
 use Rattle.x12_segs.specs.Words.{SegValue}
-use Rattle.env_index.specs.Words.{IndexEntry, IsEntryOf, groups_from, interchange_places, is_indexed, kept_places, place_at, places_from}
-use Rattle.env_index.specs.Words.{sets_from, with_fault, with_faults, GroupEntry}
+use Rattle.env_index.specs.Words.{IndexEntry, IsEntryOf, group_numbers_from, interchange_places, is_indexed, kept_places, place_at}
+use Rattle.env_index.specs.Words.{places_from}
+use Rattle.env_index.specs.Words.{set_numbers_from, with_fault, with_faults, GroupEntry}
 use Rattle.env_index.specs.declared.entry.SetEnvelope.{SetEnvelope}
 use Rattle.partner_setup.specs.Setup.{SetupValue, sender_of}
 use Rattle.set_check.specs.Codes.{control_of}
@@ -20,7 +21,8 @@ use Rattle.checked_text.specs.Asked.{is_duplicate, sets_asked}
 use Rattle.checked_text.specs.CheckedText.{sent_by}
 use Rattle.checked_text.specs.FirstUse.{AreNumbersByPlace, AreToldByFirstUse, IsUsedEarlier, knows}
 use Rattle.checked_text.specs.Seen.{is_among}
-use Rattle.checked_text.specs.Settled.{fault_alone, fault_behind, fault_if_earlier, fault_with_sender, faults_from, kept_keys, key_of}
+use Rattle.checked_text.specs.Settled.{fault_alone, fault_behind, fault_if_earlier, fault_with_sender, faults_from, kept_keys}
+use Rattle.checked_text.specs.Settled.{interchange_key_of}
 use Rattle.checked_text.proofs.Duplicates.{alone_is_indexed, by_differs, earlier_interchange, entry_is, sender_differs, told_by_first_use}
 use Rattle.checked_text.proofs.Growing.{length_snoc}
 
@@ -44,7 +46,7 @@ module _ (setup : SetupValue) (es : List IndexEntry) where
   sets_told : (isa gs : ℕ) (sent : SentValue) (header : SegValue) (all before sets : List SetEnvelope) (st : ℕ) → all ≡ before ++ sets
       → ((j : ℕ) (set : SetEnvelope) → slice_get all j ≡ Some set
       → (is_among (control_of set.header) (controls_of (take j all)) ≡ true) ↔ IsUsedEarlier setup es (place_at isa gs (1 + j)))
-      → st ≡ 1 + length before → AllZip (IsAskedAt setup es) (sets_from isa gs st sets) (sets_asked sent header before sets)
+      → st ≡ 1 + length before → AllZip (IsAskedAt setup es) (set_numbers_from isa gs st sets) (sets_asked sent header before sets)
   sets_told isa gs sent header all before [] st is told counted = tt
   sets_told isa gs sent header all before (set ∷ sets) st is told counted =
       let there : slice_get all (length before) ≡ Some set = ap (λ l. slice_get l (length before)) is ∙ at_end before sets set in
@@ -61,7 +63,7 @@ module _ (setup : SetupValue) (es : List IndexEntry) where
   -- the groups of an interchange that are left, after these
   groups_told : (n : ℕ) (sent : SentValue) (all before groups : List GroupEntry) (gs : ℕ) → all ≡ before ++ groups
       → AreNumbersByPlace setup es n all → gs ≡ 1 + length before
-      → AllZip (IsAskedAt setup es) (groups_from (1 + n) gs groups) (groups_asked sent before groups)
+      → AllZip (IsAskedAt setup es) (group_numbers_from (1 + n) gs groups) (groups_asked sent before groups)
   groups_told n sent all before [] gs is told counted = tt
   groups_told n sent all before (group ∷ groups) gs is told counted =
       let there : slice_get all (length before) ≡ Some group = ap (λ l. slice_get l (length before)) is ∙ at_end before groups group in
@@ -71,9 +73,9 @@ module _ (setup : SetupValue) (es : List IndexEntry) where
       let sets = sets_told (1 + n) (1 + length before) sent group.header group.sets [] group.sets 1 refl
       (λ j set at. told.sets_told (length before) group j set there at) refl in (
         subst (λ k. (has_number_among before group ≡ true) ↔ IsUsedEarlier setup es (place_at (1 + n) k 0)) (sym counted) here,
-        zip_append (IsAskedAt setup es) (sets_from (1 + n) gs 1 group.sets) (groups_from (1 + n) (gs + 1) groups)
+        zip_append (IsAskedAt setup es) (set_numbers_from (1 + n) gs 1 group.sets) (group_numbers_from (1 + n) (gs + 1) groups)
             (sets_asked sent group.header [] group.sets) (groups_asked sent (before ++ group ∷ []) groups)
-            (subst (λ k. AllZip (IsAskedAt setup es) (sets_from (1 + n) k 1 group.sets) (sets_asked sent group.header [] group.sets))
+            (subst (λ k. AllZip (IsAskedAt setup es) (set_numbers_from (1 + n) k 1 group.sets) (sets_asked sent group.header [] group.sets))
             (sym counted) sets)
             (groups_told n sent all (before ++ group ∷ []) groups (gs + 1) (is ∙ sym (append_assoc before (group ∷ []) groups)) told
             (omega (arith, counted, length_snoc before group))),
@@ -131,10 +133,11 @@ module _ (text : List ℕ) (setup : SetupValue) (es : List IndexEntry) (all : Al
     with_places none =
         let indexed : is_indexed (knows setup) e.interchange ≡ true = sym indexed_is ∙ ap is_none none in
         let known : is_some (sender_of setup e.interchange.header) ≡ true = known_by e.fault (sender_of setup e.interchange.header) none in
-        let earlier = is_among (key_of e) (kept_keys setup before) in
+        let earlier = is_among (interchange_key_of e) (kept_keys setup before) in
         let is : fault ≡ fault_if_earlier None earlier = ap (λ o. fault_if_earlier o earlier) none in
         let used = earlier_interchange text setup es n e all there indexed in
-        let own = subst (λ l. (is_among (key_of e) (kept_keys setup l) ≡ true) ↔ IsUsedEarlier setup es (place_at (1 + n) 0 0)) front used
+        let own = subst (λ l. (is_among (interchange_key_of e) (kept_keys setup l) ≡ true) ↔ IsUsedEarlier setup es (place_at
+        (1 + n) 0 0)) front used
         in
         let dup : is_duplicate fault ≡ earlier = ap is_duplicate is ∙ duplicate_is setup es earlier in
         let own' : (is_duplicate fault ≡ true) ↔ IsUsedEarlier setup es (place_at (1 + n) 0 0) =
@@ -150,7 +153,7 @@ module _ (text : List ℕ) (setup : SetupValue) (es : List IndexEntry) (all : Al
         → AllZip (IsAskedAt setup es) (interchange_places (knows setup) (1 + n) e.interchange) (entry_asked text setup (with_fault e fault))
     without_places f some =
         let indexed : is_indexed (knows setup) e.interchange ≡ false = sym indexed_is ∙ ap is_none some in
-        let earlier = is_among (key_of e) (kept_keys setup before) in
+        let earlier = is_among (interchange_key_of e) (kept_keys setup before) in
         let is : fault ≡ Some f = ap (λ o. fault_if_earlier o earlier) some in
         let differs : Some f ≡ Some Duplicate → ⊥ = λ d. sender_differs e.fault (sender_of setup e.interchange.header)
         (λ h. by_differs e.interchange e.interchange.content.trailer (sym (entry_is text es n e all there).fault ∙ h)) (some ∙ d) in

@@ -24,8 +24,8 @@ groups_in (Acknowledged has_group ∷ es) = groups_in_one has_group + groups_in 
 groups_in (Delivered key ∷ es) = groups_in es
 
 -- how many delivered sets there are
-abbrev pub sets_in : List Entry → ℕ
-sets_in es = length (keys_of es)
+abbrev pub delivered_set_count : List Entry → ℕ
+delivered_set_count es = length (keys_of es)
 
 -- a partner's numbers where so many acknowledgments are its, so many of them with a group, and the delivered sets with these keys
 abbrev pub numbers_behind : Counters → (cap acknowledgments groups : ℕ) → List RunKey → PartnerNumbers

@@ -15,7 +15,7 @@ use Rattle.hub_kinds.specs.declared.counters.Counters.{Counters}
 use Rattle.partner_setup.specs.Setup.{partner_of}
 use Rattle.partner_setup.specs.SetupFaults.{bad_counter, bad_delimiters, bad_guides, bad_id, by_name, counts_for}
 use Rattle.partner_setup.specs.SetupFaults.{fault_of_names}
-use Rattle.partner_setup.specs.SetupFaults.{are_counters, are_ids, first_fault, first_row, first_twin, has_ids, lesser, partner_name}
+use Rattle.partner_setup.specs.SetupFaults.{are_counters, are_ids, first_fault, first_row, first_twin, has_ids, lesser, name_of_row}
 use Rattle.partner_setup.specs.SetupFaults.{same_partner, twin_from}
 use Rattle.partner_setup.specs.Sound.{AreCounters}
 use Rattle.partner_setup.specs.declared.rows.CounterRow.{CounterRow}
@@ -94,7 +94,7 @@ no_twin n (p ∷ ps) (c ∷ next) none =
 -- each of the partners is one of all
 abbrev AreAmong : (all ps : List PartnerRow) → Type 0
 AreAmong all [] = Unit {0}
-AreAmong all (p ∷ ps) = (contains_text (map partner_name all) p.name ≡ true) × AreAmong all ps
+AreAmong all (p ∷ ps) = (contains_text (map name_of_row all) p.name ≡ true) × AreAmong all ps
 
 or_yes : (a b : Bool) → b ≡ true → (a || b) ≡ true
 or_yes true b e = refl
@@ -105,12 +105,12 @@ same_bytes [] = refl
 same_bytes (c ∷ s) = rw (eq-eqb c c refl) (same_bytes s)
 
 among : (all ps : List PartnerRow)
-    → ((name : List ℕ) → contains_text (map partner_name ps) name ≡ true → contains_text (map partner_name all) name ≡ true)
+    → ((name : List ℕ) → contains_text (map name_of_row ps) name ≡ true → contains_text (map name_of_row all) name ≡ true)
     → AreAmong all ps
 among all [] within = tt
 among all (p ∷ ps) within = (
   within p.name (rw (same_bytes p.name) refl),
-  among all ps (λ name h. within name (or_yes (bytes_eq p.name name) (contains_text (map partner_name ps) name) h)),
+  among all ps (λ name h. within name (or_yes (bytes_eq p.name name) (contains_text (map name_of_row ps) name) h)),
 )
 
 counted : (all ps : List PartnerRow) (next : List Counters) (i : ℕ) → AreAmong all ps → All AreCounters next

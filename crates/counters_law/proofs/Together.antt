@@ -3,7 +3,7 @@ use Rattle.std.proofs.Common.{◌≡◌, ◌∙◌, ℕ, List, [], ◌∷◌, �
 use Rattle.std.specs.Prelude.{All}
 use Rattle.guide_tree.specs.declared.rows.GuideRows.{GuideRows}
 use Rattle.hub_kinds.specs.declared.counters.Counters.{Counters}
-use Rattle.partner_setup.specs.CountersText.{all_lines, counter_lines, counters_text}
+use Rattle.partner_setup.specs.CountersText.{counters_lines, counter_lines, counters_text}
 use Rattle.partner_setup.specs.Setup.{setup_of}
 use Rattle.partner_setup.specs.SetupFaults.{first_fault}
 use Rattle.partner_setup.specs.Sound.{AreCounters}
@@ -16,7 +16,7 @@ use Rattle.counters_law.proofs.Bytes.{text_utf8}
 use Rattle.counters_law.proofs.Reading.{table_read, text_parsed}
 use Rattle.counters_law.proofs.Telling.{ArePlain, table_of, text_of}
 
-lines_are : (ps : List Partner) (next : List Counters) → text_of (rows_of ps next) ≡ all_lines ps next
+lines_are : (ps : List Partner) (next : List Counters) → text_of (rows_of ps next) ≡ counters_lines ps next
 lines_are [] next = refl
 lines_are (p ∷ ps) [] = refl
 lines_are (p ∷ ps) (c ∷ next) = ap (λ (text : List ℕ). counter_lines p.name c ++ text) (lines_are ps next)

@@ -14,7 +14,8 @@ use Rattle.hub_kinds.specs.declared.codes.ElementCode.{ElementCode}
 use Rattle.hub_kinds.specs.declared.codes.ElementCode.TheVariants as ik403
 use Rattle.hub_kinds.specs.declared.fault.ElemFault.{ElemFault}
 use Rattle.elem_rules.specs.Divided.{is_empty, has_more, occurrence_in, component_in}
-use Rattle.elem_rules.specs.Rows.{Usage, usage_of, simple_usage, composite_usage, nth, shown_component, shown_repetition, element_reference}
+use Rattle.elem_rules.specs.Rows.{Usage, use_of_element, simple_usage, composite_usage, nth, shown_component, shown_repetition}
+use Rattle.elem_rules.specs.Rows.{element_reference}
 use Rattle.elem_rules.specs.Rows.{component_reference, reference_in}
 use Rattle.elem_rules.specs.ElementFaults.{Wrong, wrong_at, copy_in, component_fault, whole_fault, IsWrongWhole, IsTooOften, IsTooWide}
 use Rattle.elem_rules.specs.ElementFaults.{IsWrongComponent, IsWrong}
@@ -193,7 +194,7 @@ whole_to delims k row text w h =
     (in_reported k 0 0 (element_reference row) text (whole_fault delims row text) h.code h.fault))
 
 use_from : (delims : Delims) (k : ℕ) (row : Element) (text : List ℕ) (f : ElemFault)
-    → Contains (option_map_or (usage_found delims k text) (usage_of row) []) f
+    → Contains (option_map_or (usage_found delims k text) (use_of_element row) []) f
     → (w : Wrong) × IsWrong delims row text w × (f ≡ shown delims k row text w)
 use_from delims k (element.NotUsed reference) text f h = absurd (no_member f h)
 use_from delims k (element.Simple row repeat) text f h = let a =
@@ -202,9 +203,9 @@ use_from delims k (element.Composite row) text f h = let a =
     usage_from delims k (element.Composite row) text (composite_usage row) (composite_shows row) f h in (a.0, inr a.1, a.2)
 
 use_to : (delims : Delims) (k : ℕ) (row : Element) (text : List ℕ) (w : Wrong)
-    → IsSomeAnd (usage_of row) (λ usage. IsTooOften delims usage text w
+    → IsSomeAnd (use_of_element row) (λ usage. IsTooOften delims usage text w
     ⊎ (IsTooWide delims usage text w ⊎ IsWrongComponent delims usage text w))
-    → Contains (option_map_or (usage_found delims k text) (usage_of row) []) (shown delims k row text w)
+    → Contains (option_map_or (usage_found delims k text) (use_of_element row) []) (shown delims k row text w)
 use_to delims k (element.NotUsed reference) text w h = absurd h
 use_to delims k (element.Simple row repeat) text w h =
     usage_to delims k (element.Simple row repeat) text (simple_usage row repeat) (simple_shows row repeat) w h
@@ -214,7 +215,7 @@ use_to delims k (element.Composite row) text w h =
 pub element_from : (delims : Delims) (k : ℕ) (row : Element) (text : List ℕ) (f : ElemFault) → Contains (element_found delims k row text) f
     → (w : Wrong) × IsWrong delims row text w × (f ≡ shown delims k row text w)
 element_from delims k row text f h =
-    elim (Contains-append_cases (whole_found delims k row text) (option_map_or (usage_found delims k text) (usage_of row) []) f h) [
+    elim (Contains-append_cases (whole_found delims k row text) (option_map_or (usage_found delims k text) (use_of_element row) []) f h) [
       | inl e ↦ let a = whole_from delims k row text f e in (a.0, inl a.1, a.2)
       | inr e ↦ use_from delims k row text f e
     ]
@@ -222,8 +223,8 @@ element_from delims k row text f h =
 pub element_to : (delims : Delims) (k : ℕ) (row : Element) (text : List ℕ) (w : Wrong) → IsWrong delims row text w
     → Contains (element_found delims k row text) (shown delims k row text w)
 element_to delims k row text w h = elim h [
-  | inl a ↦ Contains-append_left (whole_found delims k row text) (option_map_or (usage_found delims k text) (usage_of row) []) _
+  | inl a ↦ Contains-append_left (whole_found delims k row text) (option_map_or (usage_found delims k text) (use_of_element row) []) _
       (whole_to delims k row text w a)
-  | inr a ↦ Contains-append_right (whole_found delims k row text) (option_map_or (usage_found delims k text) (usage_of row) []) _
+  | inr a ↦ Contains-append_right (whole_found delims k row text) (option_map_or (usage_found delims k text) (use_of_element row) []) _
       (use_to delims k row text w a)
 ]

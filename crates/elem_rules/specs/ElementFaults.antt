@@ -19,7 +19,7 @@ use Rattle.hub_kinds.specs.declared.codes.ElementCode.TheVariants as ik403
 use Rattle.hub_kinds.specs.declared.fault.ElemFault.{ElemFault}
 use Rattle.elem_rules.specs.Conditions.{is_present, broken_at, condition_code}
 use Rattle.elem_rules.specs.Divided.{is_empty, has_more, occurrence_in, component_in}
-use Rattle.elem_rules.specs.Rows.{Usage, usage_of, nth, shown_repetition, shown_component, reference_in}
+use Rattle.elem_rules.specs.Rows.{Usage, use_of_element, nth, shown_repetition, shown_component, reference_in}
 use Rattle.elem_rules.specs.Values.{value_fault}
 
 -- What is shown of a fault, by its place and code. A place is the number of an element, of a component of it and of a
@@ -127,7 +127,7 @@ pub record IsWrongComponent (delims : Delims) (usage : Usage) (text : List ℕ) 
 abbrev pub IsWrong : Delims → Element → List ℕ → Wrong → Type 0
 IsWrong delims row text w =
     IsWrongWhole delims row text w
-    ⊎ IsSomeAnd (usage_of row)
+    ⊎ IsSomeAnd (use_of_element row)
     (λ usage. IsTooOften delims usage text w ⊎ (IsTooWide delims usage text w ⊎ IsWrongComponent delims usage text w))
 
 -- there are more elements than rows: one fault, at the first element without a row

@@ -17,7 +17,7 @@ use Rattle.hub_kinds.specs.declared.codes.ElementCode.TheVariants as ik403
 use Rattle.hub_kinds.specs.declared.fault.ElemFault.{ElemFault}
 use Rattle.elem_rules.specs.Conditions.{broken_at, condition_code}
 use Rattle.elem_rules.specs.Divided.{is_empty, is_filled, has_more, occurrence_in, component_in}
-use Rattle.elem_rules.specs.Rows.{Usage, usage_of, nth, shown_repetition, element_reference, component_reference, reference_at}
+use Rattle.elem_rules.specs.Rows.{Usage, use_of_element, nth, shown_repetition, element_reference, component_reference, reference_at}
 use Rattle.elem_rules.specs.ElementFaults.{component_fault, whole_fault}
 
 -- what f gives of the numbers from 1 to n, one after another
@@ -102,7 +102,7 @@ whole_found delims element row text = reported element 0 0 (element_reference ro
 
 abbrev pub element_found : Delims → (element : ℕ) → Element → (text : List ℕ) → List ElemFault
 element_found delims element row text =
-    whole_found delims element row text ++ option_map_or (usage_found delims element text) (usage_of row) []
+    whole_found delims element row text ++ option_map_or (usage_found delims element text) (use_of_element row) []
 
 -- the bytes of lent texts
 abbrev pub read : List (Bor (List ℕ)) → List (List ℕ)

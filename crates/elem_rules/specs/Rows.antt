@@ -35,10 +35,10 @@ composite_usage row = record {
   is_composite = true;
 }
 
-abbrev pub usage_of : Element → Option Usage
-usage_of (element.NotUsed reference) = None
-usage_of (element.Simple row repeat) = Some (simple_usage row repeat)
-usage_of (element.Composite row) = Some (composite_usage row)
+abbrev pub use_of_element : Element → Option Usage
+use_of_element (element.NotUsed reference) = None
+use_of_element (element.Simple row repeat) = Some (simple_usage row repeat)
+use_of_element (element.Composite row) = Some (composite_usage row)
 
 -- an element's repetitions are numbered where there may be more than one, a composite's components always
 abbrev pub shown_repetition : Usage → ℕ → ℕ

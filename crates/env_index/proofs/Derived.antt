@@ -2,7 +2,7 @@
 use Rattle.std.proofs.Common.{◌≡◌, ℕ, ◌+◌, List, [], ◌∷◌, ◌++◌, true, false, ◌||◌, ◌&&◌, Option, Some, None, length, refl, sym, ap, ◌∙◌}
 use Rattle.std.proofs.Common.{arith, append_assoc}
 use Rattle.std.specs.List.{flat_map, list_all}
-use Rattle.x12_segs.specs.Words.{SegValue, kind_of, is_inner}
+use Rattle.x12_segs.specs.Words.{SegValue, kind_of, may_stand_in_set}
 use Rattle.env_index.specs.Envelope.{Set, InGroup, ASet, OutOfGroup, Group, InBody, ATa1, AGroup, OutOfBody, Body, option_items}
 use Rattle.env_index.specs.Envelope.{set_items, in_group_items, group_items, in_body_items, ends_set, ends_group, is_out_of_group}
 use Rattle.env_index.specs.Envelope.{is_out_of_body, MayFollow, Closed, IsSet, AreMembers, IsGroup, AreBodyMembers, Derives}
@@ -53,7 +53,8 @@ told_set close rest items = record {
 }
 
 -- what an open set goes on with: segments inside it, and its SE where it has one
-in_open_set : (inner : List SegValue) (close : Option SegValue) (rest : List SegValue) → list_all (λ x. is_inner (kind_of x)) inner ≡ true
+in_open_set : (inner : List SegValue) (close : Option SegValue) (rest : List SegValue) → list_all (λ x. may_stand_in_set (kind_of x)) inner
+    ≡ true
     → Closed kind_of SetTrailer ends_set close rest
     → (tails (inner ++ (option_items close ++ rest))).in_set ≡ told_set close rest (inner ++ option_items close)
 in_open_set [] None rest all closed = closes_set rest closed
@@ -76,9 +77,9 @@ in_open_set (x ∷ xs) close rest all closed = by_kind (kind_of x) (λ others. i
           end = λ so_far. behind_last (behind x) (xs ++ option_items close);
         } in v)) n
 
-    by_kind : (k : Kind) → (list_all (λ x. is_inner (kind_of x)) xs ≡ true
+    by_kind : (k : Kind) → (list_all (λ x. may_stand_in_set (kind_of x)) xs ≡ true
         → (tails (xs ++ (option_items close ++ rest))).in_set ≡ told_set close rest (xs ++ option_items close))
-        → (is_inner k && list_all (λ x. is_inner (kind_of x)) xs) ≡ true
+        → (may_stand_in_set k && list_all (λ x. may_stand_in_set (kind_of x)) xs) ≡ true
         → onto_set k x (tails (xs ++ (option_items close ++ rest))) ≡ told_set close rest (x ∷ (xs ++ option_items close))
     by_kind InterchangeTrailer more all = cc
     by_kind GroupHeader more all = cc

@@ -2,7 +2,7 @@
 use Rattle.std.proofs.Common.{◌≡◌, List, [], ◌∷◌, ◌++◌, Bool, true, false, Option, Some, None, refl, ap, subst, ◌∙◌}
 use Rattle.std.specs.List.{flat_map, list_all}
 use Rattle.std.proofs.lemmas.Bool.{and_parts}
-use Rattle.x12_segs.specs.Words.{is_inner}
+use Rattle.x12_segs.specs.Words.{may_stand_in_set}
 use Rattle.x12_segs.specs.declared.kind.Kind.{Kind}
 use Rattle.x12_segs.specs.declared.kind.Kind.TheVariants.{InterchangeTrailer, GroupHeader, GroupTrailer, SetHeader, SetTrailer, Ta1}
 use Rattle.x12_segs.specs.declared.kind.Kind.TheVariants.{Other}
@@ -12,7 +12,7 @@ use Rattle.env_index.specs.Envelope.{is_out_of_body, Closed, IsSet, AreMembers, 
 use Rattle.env_index.specs.Extents.{ends_interchange}
 use Rattle.env_index.specs.Mapped.{EndsWithTrailer}
 
-inner_is_no_trailer : (k : Kind) → is_inner k ≡ true → ends_interchange k ≡ false
+inner_is_no_trailer : (k : Kind) → may_stand_in_set k ≡ true → ends_interchange k ≡ false
 inner_is_no_trailer InterchangeTrailer inner = cc
 inner_is_no_trailer GroupHeader inner = refl
 inner_is_no_trailer GroupTrailer inner = refl
@@ -49,10 +49,10 @@ module _ {X : Type 0} (kind : X → Kind) where
   both_without [] ys none more = more
   both_without (x ∷ xs) ys none more = (none.0, both_without xs ys none.1 more)
 
-  inner_without : (xs : List X) → list_all (λ x. is_inner (kind x)) xs ≡ true → NoTrailer xs
+  inner_without : (xs : List X) → list_all (λ x. may_stand_in_set (kind x)) xs ≡ true → NoTrailer xs
   inner_without [] all = tt
   inner_without (x ∷ xs) all =
-      let parts = and_parts (is_inner (kind x)) (list_all (λ x. is_inner (kind x)) xs) all in
+      let parts = and_parts (may_stand_in_set (kind x)) (list_all (λ x. may_stand_in_set (kind x)) xs) all in
       (inner_is_no_trailer (kind x) parts.0, inner_without xs parts.1)
 
   closing_without : (closing : Kind) (ends : Kind → Bool) (t : Option X) (rest : List X) → ends_interchange closing ≡ false

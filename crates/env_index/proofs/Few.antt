@@ -5,7 +5,7 @@ use Rattle.std.specs.List.{All, flat_map}
 use Rattle.std.proofs.lemmas.List.{length-append, length-map}
 use Rattle.std.proofs.lemmas.List.Elements.{All-cons}
 use Rattle.hub_kinds.specs.declared.limits.TheConstants.{LONGEST_TEXT}
-use Rattle.x12_bytes.specs.Header.{header_at, delims_of}
+use Rattle.x12_bytes.specs.Header.{header_at, header_delims}
 use Rattle.x12_bytes.specs.HeaderTest.{is_head}
 use Rattle.x12_bytes.specs.declared.layout.TheConstants.{HEADER_LEN}
 use Rattle.x12_segs.specs.Words.{Seg, segs_from, rest_from, SegValue, view_of, kind_of}
@@ -66,7 +66,7 @@ few_in_groups most (OutOfBody x ∷ ms) few = few_in_groups most ms (omega (arit
 few_segs : (text : List ℕ) (start : ℕ) → start + HEADER_LEN ≤ length text → length (reach_at text start).segs ≤ length text
 few_segs text start inside =
     let from : ℕ = start + HEADER_LEN in
-    let delims = delims_of (header_at text start) in
+    let delims = header_delims (header_at text start) in
     let segs : List Seg = segs_from text delims.terminator from in
     let rest : Seg = rest_from text delims.terminator from in
     omega (

@@ -3,7 +3,7 @@ use Rattle.std.proofs.Common.{◌≡◌, List, [], ◌∷◌, ◌++◌, Bool, fa
 use Rattle.std.proofs.Common.{◌∙◌}
 use Rattle.std.specs.List.{flat_map, list_all}
 use Rattle.std.proofs.lemmas.List.{map-append}
-use Rattle.x12_segs.specs.Words.{is_inner}
+use Rattle.x12_segs.specs.Words.{may_stand_in_set}
 use Rattle.x12_segs.specs.declared.kind.Kind.{Kind}
 use Rattle.env_index.specs.Envelope.{Set, InGroup, ASet, OutOfGroup, Group, InBody, ATa1, AGroup, OutOfBody, Body, option_items}
 use Rattle.env_index.specs.Envelope.{set_items, in_group_items, group_items, in_body_items, body_items, MayFollow, Closed, IsSet}
@@ -69,11 +69,11 @@ module _ {X Y : Type 0} (kind : X → Kind) (other : Y → Kind) (f : X → Y) (
   closed_mapped closing ends None rest closed = follows_mapped ends rest closed
   closed_mapped closing ends (Some x) rest closed = keeps x ∙ closed
 
-  inner_mapped : (xs : List X) → list_all (λ y. is_inner (other y)) (map f xs) ≡ list_all (λ x. is_inner (kind x)) xs
+  inner_mapped : (xs : List X) → list_all (λ y. may_stand_in_set (other y)) (map f xs) ≡ list_all (λ x. may_stand_in_set (kind x)) xs
   inner_mapped [] = refl
   inner_mapped (x ∷ xs) =
-      ap (λ (k : Kind). is_inner k && list_all (λ y. is_inner (other y)) (map f xs)) (keeps x)
-      ∙ ap (λ (b : Bool). is_inner (kind x) && b) (inner_mapped xs)
+      ap (λ (k : Kind). may_stand_in_set k && list_all (λ y. may_stand_in_set (other y)) (map f xs)) (keeps x)
+      ∙ ap (λ (b : Bool). may_stand_in_set (kind x) && b) (inner_mapped xs)
 
   set_is_mapped : (s : Set X) (rest : List X) → IsSet kind s rest → IsSet other (map_set f s) (map f rest)
   set_is_mapped s rest is = record {

@@ -3,7 +3,7 @@ use Rattle.std.proofs.Common.{◌≡◌, List, [], ◌∷◌, ◌++◌, Bool, tr
 use Rattle.std.proofs.Common.{◌⊎◌}
 use Rattle.std.specs.List.{flat_map, list_all}
 use Rattle.std.proofs.lemmas.Bool.{and_parts, both_ways}
-use Rattle.x12_segs.specs.Words.{is_inner}
+use Rattle.x12_segs.specs.Words.{may_stand_in_set}
 use Rattle.env_index.specs.Envelope.{Set, InGroup, ASet, OutOfGroup, Group, InBody, ATa1, AGroup, OutOfBody, Body, option_items}
 use Rattle.env_index.specs.Envelope.{set_items, in_group_items, group_items, in_body_items, ends_set, ends_group, is_out_of_group}
 use Rattle.env_index.specs.Envelope.{is_out_of_body, Closed, IsSet, AreMembers, IsGroup, AreBodyMembers, Derives}
@@ -17,7 +17,7 @@ module _ {X : Type 0} (kind : X → Kind) where
   apart test x y same passes fails = both_ways (test (kind y)) fails (sym (ap (λ (z : X). test (kind z)) same) ∙ passes)
 
   -- what goes on inside a set doesn't end it
-  inner_goes_on : (k : Kind) → is_inner k ≡ true → ends_set k ≡ false
+  inner_goes_on : (k : Kind) → may_stand_in_set k ≡ true → ends_set k ≡ false
   inner_goes_on InterchangeTrailer inner = cc
   inner_goes_on GroupHeader inner = cc
   inner_goes_on GroupTrailer inner = cc
@@ -41,27 +41,27 @@ module _ {X : Type 0} (kind : X → Kind) where
       (ap (λ z. Some z) same, rest)
 
   -- no segment inside a set begins its trailer, or what may follow without one
-  inner_first : (x : X) (xs : List X) (u : Option X) (s : List X) → is_inner (kind x) ≡ true
+  inner_first : (x : X) (xs : List X) (u : Option X) (s : List X) → may_stand_in_set (kind x) ≡ true
       → Closed kind SetTrailer ends_set u s → x ∷ xs ≡ option_items u ++ s → ⊥
   inner_first x xs None [] inner q e = cc
   inner_first x xs None (y ∷ s) inner q e = let same : y ≡ x = cc in apart ends_set y x same q (inner_goes_on (kind x) inner)
-  inner_first x xs (Some y) s inner q e = let same : x ≡ y = cc in apart is_inner x y same inner (ap is_inner q)
+  inner_first x xs (Some y) s inner q e = let same : x ≡ y = cc in apart may_stand_in_set x y same inner (ap may_stand_in_set q)
 
-  inner_is_one : (xs ys : List X) (t u : Option X) (r s : List X) → list_all (λ x. is_inner (kind x)) xs ≡ true
-      → list_all (λ x. is_inner (kind x)) ys ≡ true
+  inner_is_one : (xs ys : List X) (t u : Option X) (r s : List X) → list_all (λ x. may_stand_in_set (kind x)) xs ≡ true
+      → list_all (λ x. may_stand_in_set (kind x)) ys ≡ true
       → Closed kind SetTrailer ends_set t r → Closed kind SetTrailer ends_set u s
       → xs ++ (option_items t ++ r) ≡ ys ++ (option_items u ++ s)
       → (xs ≡ ys) × ((t ≡ u) × (r ≡ s))
   inner_is_one [] [] t u r s a b p q e = (refl, trailer_is_one SetTrailer ends_set refl t u r s p q e)
   inner_is_one (x ∷ xs) [] t u r s a b p q e =
-      let i = and_parts (is_inner (kind x)) (list_all (λ x. is_inner (kind x)) xs) a in
+      let i = and_parts (may_stand_in_set (kind x)) (list_all (λ x. may_stand_in_set (kind x)) xs) a in
       absurd (inner_first x (xs ++ (option_items t ++ r)) u s i.0 q e)
   inner_is_one [] (y ∷ ys) t u r s a b p q e =
-      let i = and_parts (is_inner (kind y)) (list_all (λ x. is_inner (kind x)) ys) b in
+      let i = and_parts (may_stand_in_set (kind y)) (list_all (λ x. may_stand_in_set (kind x)) ys) b in
       absurd (inner_first y (ys ++ (option_items u ++ s)) t r i.0 p (sym e))
   inner_is_one (x ∷ xs) (y ∷ ys) t u r s a b p q e =
-      let i = and_parts (is_inner (kind x)) (list_all (λ x. is_inner (kind x)) xs) a in
-      let j = and_parts (is_inner (kind y)) (list_all (λ x. is_inner (kind x)) ys) b in
+      let i = and_parts (may_stand_in_set (kind x)) (list_all (λ x. may_stand_in_set (kind x)) xs) a in
+      let j = and_parts (may_stand_in_set (kind y)) (list_all (λ x. may_stand_in_set (kind x)) ys) b in
       let same : x ≡ y = cc in
       let rest : xs ++ (option_items t ++ r) ≡ ys ++ (option_items u ++ s) = cc in
       let more = inner_is_one xs ys t u r s i.1 j.1 p q rest in

@@ -4,7 +4,7 @@ use Rattle.std.specs.Prelude.{slice_get}
 use Rattle.std.specs.List.{All}
 use Rattle.std.proofs.lemmas.List.Elements.{All-nil, All-cons, All-get_or}
 use Rattle.std.proofs.lemmas.Option.{get_or_from_slice_get, slice_get_within}
-use Rattle.x12_bytes.specs.Header.{delims_of, header_at}
+use Rattle.x12_bytes.specs.Header.{header_delims, header_at}
 use Rattle.x12_bytes.specs.HeaderTest.{is_head}
 use Rattle.x12_bytes.specs.declared.delims.Delims.{Delims}
 use Rattle.x12_segs.specs.Words.{SegValue, kind_of, IsSetSpan}
@@ -22,10 +22,10 @@ at_index P xs i x is all = subst P (get_or_from_slice_get xs i x x is) (All-get_
 
 -- the sets of the group at an index, read by the interchange's delimiters
 pub group_has_spans : (text : List ℕ) (x : InterchangeEntry) (i : ℕ) (group : GroupEntry) (d : Delims) → HasSpans text x
-    → slice_get x.content.groups i ≡ Some group → d ≡ delims_of x.header → All (λ set. IsSetSpan text (span_of d set)) group.sets
+    → slice_get x.content.groups i ≡ Some group → d ≡ header_delims x.header → All (λ set. IsSetSpan text (span_of d set)) group.sets
 group_has_spans text x i group d has is same =
     subst (λ (e : Delims). All (λ (set : SetEnvelope). IsSetSpan text (span_of e set)) group.sets) (sym same)
-    (at_index (λ (g : GroupEntry). All (λ (set : SetEnvelope). IsSetSpan text (span_of (delims_of x.header) set)) g.sets)
+    (at_index (λ (g : GroupEntry). All (λ (set : SetEnvelope). IsSetSpan text (span_of (header_delims x.header) set)) g.sets)
     x.content.groups i group is has)
 
 -- the sets of a tree of envelopes that stand alone
@@ -51,4 +51,4 @@ module _ (text : List ℕ) (d : Delims) where
 pub interchange_has_spans : (text : List ℕ) (start : ℕ) (tree : Body SegValue) → is_head text start ≡ true
     → Derives kind_of (reach_at text start).segs tree → HasSpans text (interchange_of text start tree)
 interchange_has_spans text start tree head derives =
-    spans_in text (delims_of (header_at text start)) tree.members (all_alone text start tree head derives)
+    spans_in text (header_delims (header_at text start)) tree.members (all_alone text start tree head derives)

@@ -3,11 +3,11 @@ use Rattle.std.proofs.Common.{◌≡◌, ℕ, ◌+◌, ◌≤◌, List, [], ◌�
 use Rattle.std.proofs.Common.{length, map, refl, sym, ap, subst, ◌∙◌, arith, append_assoc}
 use Rattle.std.specs.List.{flat_map, list_all}
 use Rattle.std.proofs.lemmas.List.{map-append}
-use Rattle.x12_bytes.specs.Header.{delims_of, header_at}
+use Rattle.x12_bytes.specs.Header.{header_delims, header_at}
 use Rattle.x12_bytes.specs.HeaderTest.{is_head}
 use Rattle.x12_bytes.specs.declared.delims.Delims.{Delims}
-use Rattle.x12_segs.specs.Words.{Seg, rest_from, segs_from, segs_within, SegValue, view_of, StandsAlone, start_of, end_of, span_segs}
-use Rattle.x12_segs.specs.Words.{span_views, trailer_kinds, kind_of, is_inner}
+use Rattle.x12_segs.specs.Words.{Seg, rest_from, segs_from, segs_within, SegValue, view_of, StandsAlone, start_offset, end_of, span_segs}
+use Rattle.x12_segs.specs.Words.{span_views, trailer_kinds, kind_of, may_stand_in_set}
 use Rattle.x12_segs.specs.declared.kind.Kind.{Kind}
 use Rattle.x12_segs.specs.declared.kind.Kind.TheVariants.{SetHeader, SetTrailer}
 use Rattle.x12_segs.specs.declared.set_span.SetSpan.{SetSpan}
@@ -113,9 +113,9 @@ end_behind : (x : SegValue) (xs : List SegValue) → end_of (map seg_of (x ∷ x
 end_behind x [] = refl
 end_behind x (y ∷ ys) = end_behind y ys
 
-inner_kinds : (xs : List SegValue) → list_all is_inner (map kind_of xs) ≡ list_all (λ x. is_inner (kind_of x)) xs
+inner_kinds : (xs : List SegValue) → list_all may_stand_in_set (map kind_of xs) ≡ list_all (λ x. may_stand_in_set (kind_of x)) xs
 inner_kinds [] = refl
-inner_kinds (x ∷ xs) = ap (λ (b : Bool). is_inner (kind_of x) && b) (inner_kinds xs)
+inner_kinds (x ∷ xs) = ap (λ (b : Bool). may_stand_in_set (kind_of x) && b) (inner_kinds xs)
 
 trailer_kind : (t : Option SegValue) (rest : List SegValue) → Closed kind_of SetTrailer ends_set t rest
     → map kind_of (option_items t) ≡ trailer_kinds (is_some t)
@@ -151,7 +151,7 @@ set_alone text d from before s behind rest fits split is =
     record {
       span = record {
         within = subst (λ (k : ℕ). k ≤ length text) end alone.within;
-        start = ap start_of same;
+        start = ap start_offset same;
         end = ap end_of same ∙ end;
         inner = map kind_of s.inner;
         kinds = ap (map kind_of) views ∙ set_kinds s rest is;
@@ -162,9 +162,9 @@ set_alone text d from before s behind rest fits split is =
 
 -- each set of the interchange whose header begins at an offset
 pub all_alone : (text : List ℕ) (start : ℕ) (tree : Body SegValue) → is_head text start ≡ true
-    → Derives kind_of (reach_at text start).segs tree → EachSetIn (SetStandsAlone text (delims_of (header_at text start))) tree.members
+    → Derives kind_of (reach_at text start).segs tree → EachSetIn (SetStandsAlone text (header_delims (header_at text start))) tree.members
 all_alone text start tree head derives =
-    let d : Delims = delims_of (header_at text start) in
+    let d : Delims = header_delims (header_at text start) in
     let from : ℕ = start + 106 in
     let views : List SegValue = map (view_of d) (segs_from text d.terminator from) in
     let first = reach-first text views (rest_from text d.terminator from) in

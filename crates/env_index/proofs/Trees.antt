@@ -1,7 +1,7 @@
 -- Segments among which an IEA is the last derive a tree.
 use Rattle.std.proofs.Common.{◌≡◌, List, [], ◌∷◌, ◌++◌, Bool, true, ◌&&◌, Option, Some, None, refl, sym, ap, subst, ◌∙◌, append_assoc}
 use Rattle.std.specs.List.{flat_map, list_all}
-use Rattle.x12_segs.specs.Words.{is_inner}
+use Rattle.x12_segs.specs.Words.{may_stand_in_set}
 use Rattle.env_index.specs.Extents.{ends_interchange}
 use Rattle.env_index.specs.Mapped.{EndsWithTrailer}
 use Rattle.env_index.specs.Envelope.{Set, InGroup, ASet, OutOfGroup, Group, ATa1, AGroup, OutOfBody, Body, option_items, set_items}
@@ -31,7 +31,7 @@ module _ {X : Type 0} (kind : X → Kind) where
     trailer : Option X
     behind : List X
     items : inner ++ (option_items trailer ++ behind) ≡ xs
-    all : list_all (λ x. is_inner (kind x)) inner ≡ true
+    all : list_all (λ x. may_stand_in_set (kind x)) inner ≡ true
     closed : Closed kind SetTrailer ends_set trailer behind
     rest : InGroupOf behind
 
@@ -135,13 +135,13 @@ module _ {X : Type 0} (kind : X → Kind) where
   set_trailer_first : (x : X) (xs : List X) → kind x ≡ SetTrailer → InGroupOf xs → InSetOf (x ∷ xs)
   set_trailer_first x xs is g = record { inner = []; trailer = Some x; behind = xs; items = refl; all = refl; closed = is; rest = g }
 
-  inner_first : (x : X) (xs : List X) → is_inner (kind x) ≡ true → InSetOf xs → InSetOf (x ∷ xs)
+  inner_first : (x : X) (xs : List X) → may_stand_in_set (kind x) ≡ true → InSetOf xs → InSetOf (x ∷ xs)
   inner_first x xs inner s = record {
     inner = x ∷ s.inner;
     trailer = s.trailer;
     behind = s.behind;
     items = ap (λ (ys : List X). x ∷ ys) s.items;
-    all = ap (λ (b : Bool). b && list_all (λ x. is_inner (kind x)) s.inner) inner ∙ s.all;
+    all = ap (λ (b : Bool). b && list_all (λ x. may_stand_in_set (kind x)) s.inner) inner ∙ s.all;
     closed = s.closed;
     rest = s.rest;
   }
@@ -176,12 +176,12 @@ module _ {X : Type 0} (kind : X → Kind) where
     in_body = out_of_body_first x xs (ap is_out_of_body is) t.in_body;
   }
   one_more Ta1 x xs is last t = record {
-    in_set = inner_first x xs (ap is_inner is) t.in_set;
+    in_set = inner_first x xs (ap may_stand_in_set is) t.in_set;
     in_group = out_of_group_first x xs (ap is_out_of_group is) t.in_group;
     in_body = ta1_first x xs is t.in_body;
   }
   one_more Other x xs is last t = record {
-    in_set = inner_first x xs (ap is_inner is) t.in_set;
+    in_set = inner_first x xs (ap may_stand_in_set is) t.in_set;
     in_group = out_of_group_first x xs (ap is_out_of_group is) t.in_group;
     in_body = out_of_body_first x xs (ap is_out_of_body is) t.in_body;
   }

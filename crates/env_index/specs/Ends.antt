@@ -1,6 +1,6 @@
 -- X12.5, interchange: its end in words of offsets, the least of three (own where the IEA is missing).
 use Rattle.std.specs.Prelude.{◌≡◌, ℕ, ◌+◌, ◌≤◌, ◌⊎◌, List, length, Contains, true}
-use Rattle.x12_bytes.specs.Header.{header_at, delims_of}
+use Rattle.x12_bytes.specs.Header.{header_at, header_delims}
 use Rattle.x12_bytes.specs.HeaderTest.{is_head}
 use Rattle.x12_bytes.specs.declared.layout.TheConstants.{HEADER_LEN}
 use Rattle.x12_bytes.specs.declared.delims.Delims.{Delims}
@@ -26,4 +26,4 @@ pub record IsLeastEnd (text : List ℕ) (delims : Delims) (from end : ℕ) : Typ
   pub least : (q : ℕ) → MayEnd text delims (segs_from text delims.terminator from) (rest_from text delims.terminator from) q → end ≤ q
 
 abbrev pub EndsLeast : List ℕ → ℕ → ℕ → Type 0
-EndsLeast text start end = IsLeastEnd text (delims_of (header_at text start)) (start + HEADER_LEN) end
+EndsLeast text start end = IsLeastEnd text (header_delims (header_at text start)) (start + HEADER_LEN) end

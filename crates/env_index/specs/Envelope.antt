@@ -3,7 +3,7 @@
 -- place, are own.
 use Rattle.std.specs.Prelude.{◌≡◌, List, [], ◌∷◌, ◌++◌, Bool, true, false, Option, Some, None}
 use Rattle.std.specs.List.{flat_map, list_all}
-use Rattle.x12_segs.specs.Words.{is_inner}
+use Rattle.x12_segs.specs.Words.{may_stand_in_set}
 use Rattle.x12_segs.specs.declared.kind.Kind.{Kind}
 use Rattle.x12_segs.specs.declared.kind.Kind.TheVariants.{InterchangeTrailer, GroupHeader, GroupTrailer, SetHeader, SetTrailer}
 use Rattle.x12_segs.specs.declared.kind.Kind.TheVariants.{Ta1, Other}
@@ -110,7 +110,7 @@ Closed kind closing ends None rest = MayFollow kind ends rest
 
 pub record IsSet {X : Type 0} (kind : X → Kind) (s : Set X) (rest : List X) : Type 0 where
   pub header : kind s.header ≡ SetHeader
-  pub inner : list_all (λ x. is_inner (kind x)) s.inner ≡ true
+  pub inner : list_all (λ x. may_stand_in_set (kind x)) s.inner ≡ true
   pub trailer : Closed kind SetTrailer ends_set s.trailer rest
 
 -- what stands in a group, with what follows it

@@ -32,17 +32,17 @@ interchange_number header =
     OfInterchange (field_of header 5 ∷ field_of header 6 ∷ field_of header 7 ∷ field_of header 8 ∷ field_of header 13 ∷ [])
 
 -- the sets of a group, this one being the next
-abbrev pub sets_from : (isa gs st : ℕ) → List SetEnvelope → List Numbered
-sets_from isa gs st [] = []
-sets_from isa gs st (set ∷ sets) =
-    record { place = place_at isa gs st; number = OfSet isa gs (element_of set.header 2) } ∷ sets_from isa gs (st + 1) sets
+abbrev pub set_numbers_from : (isa gs st : ℕ) → List SetEnvelope → List Numbered
+set_numbers_from isa gs st [] = []
+set_numbers_from isa gs st (set ∷ sets) =
+    record { place = place_at isa gs st; number = OfSet isa gs (element_of set.header 2) } ∷ set_numbers_from isa gs (st + 1) sets
 
 -- the groups of an interchange, each before its sets
-abbrev pub groups_from : (isa gs : ℕ) → List GroupEntry → List Numbered
-groups_from isa gs [] = []
-groups_from isa gs (group ∷ groups) =
+abbrev pub group_numbers_from : (isa gs : ℕ) → List GroupEntry → List Numbered
+group_numbers_from isa gs [] = []
+group_numbers_from isa gs (group ∷ groups) =
     record { place = place_at isa gs 0; number = OfGroup isa (number_of MOST_CONTROL_DIGITS (element_of group.header 6)) }
-    ∷ (sets_from isa gs 1 group.sets ++ groups_from isa (gs + 1) groups)
+    ∷ (set_numbers_from isa gs 1 group.sets ++ group_numbers_from isa (gs + 1) groups)
 
 -- an interchange has places where it has none of the faults 1 to 7 and its sender is known (fault 8)
 abbrev pub is_indexed : (List ℕ → Bool) → InterchangeEntry → Bool
@@ -52,7 +52,7 @@ is_indexed knows x = is_none (fault_of x) && knows x.header
 abbrev pub kept_places : Bool → ℕ → InterchangeEntry → List Numbered
 kept_places is_kept isa x =
     if is_kept
-    then record { place = place_at isa 0 0; number = interchange_number x.header } ∷ groups_from isa 1 x.content.groups
+    then record { place = place_at isa 0 0; number = interchange_number x.header } ∷ group_numbers_from isa 1 x.content.groups
     else []
 
 abbrev pub interchange_places : (List ℕ → Bool) → ℕ → InterchangeEntry → List Numbered

@@ -1,7 +1,7 @@
 -- X12.6, transaction set: where the sets of an interchange stand in the text.
 use Rattle.std.specs.Prelude.{◌≡◌, ℕ, List, [], ◌∷◌, is_some}
 use Rattle.std.specs.List.{All}
-use Rattle.x12_bytes.specs.Header.{delims_of}
+use Rattle.x12_bytes.specs.Header.{header_delims}
 use Rattle.x12_bytes.specs.declared.delims.Delims.{Delims}
 use Rattle.x12_segs.specs.declared.set_span.SetSpan.{SetSpan}
 use Rattle.x12_segs.specs.Words.{SegValue, IsSetSpan, span_views}
@@ -34,4 +34,4 @@ EachSetIn P (OutOfBody x ∷ ms) = EachSetIn P ms
 
 -- each set of an indexed interchange stands in a span of the text, read by the interchange's delimiters
 abbrev pub HasSpans : List ℕ → InterchangeEntry → Type 0
-HasSpans text x = All (λ group. All (λ set. IsSetSpan text (span_of (delims_of x.header) set)) group.sets) x.content.groups
+HasSpans text x = All (λ group. All (λ set. IsSetSpan text (span_of (header_delims x.header) set)) group.sets) x.content.groups

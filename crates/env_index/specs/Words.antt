@@ -16,9 +16,10 @@ pub use Rattle.env_index.specs.Known.{AreMarks, AreNext, IsDivided, no_mark}
 pub use Rattle.env_index.specs.Lone.{IsLone}
 pub use Rattle.env_index.specs.Mapped.{EndsWithTrailer, KeepsKinds, MapsTrees, MapsTreesBack, map_body, map_group, map_in_body}
 pub use Rattle.env_index.specs.Mapped.{map_in_group, map_set}
-pub use Rattle.env_index.specs.Numbers.{IsEarlier, IsFirstUse, Number, Numbered, OfGroup, OfInterchange, OfSet, groups_from, index_places}
+pub use Rattle.env_index.specs.Numbers.{IsEarlier, IsFirstUse, Number, Numbered, OfGroup, OfInterchange, OfSet, group_numbers_from}
+pub use Rattle.env_index.specs.Numbers.{index_places}
 pub use Rattle.env_index.specs.Numbers.{interchange_number, interchange_places, is_before, is_indexed, kept_places, place_at, places_from}
-pub use Rattle.env_index.specs.Numbers.{sets_from}
+pub use Rattle.env_index.specs.Numbers.{set_numbers_from}
 pub use Rattle.env_index.specs.Placed.{AreFew, place_in, places_behind, places_of}
 pub use Rattle.env_index.specs.Places.{body_in, group_in, seg_in, set_in, trailer_in}
 pub use Rattle.env_index.specs.Reading.{State, end_all, end_group, end_set, end_so_far, finished, misplace, nothing_read, state_of, step}

@@ -16,7 +16,7 @@ pub struct Interchange<'a> {
 }
 
 impl<'a> Model for Interchange<'a> {
-    ghost use Rattle.x12_bytes.specs.Header.{delims_of};
+    ghost use Rattle.x12_bytes.specs.Header.{header_delims};
     ghost use Rattle.env_index.specs.Interchange.{InterchangeEntry};
 
     ghost Value = { InterchangeEntry };
@@ -27,13 +27,13 @@ impl<'a> Model for Interchange<'a> {
       header = x.header;
       start = x.start;
       end = x.body.end;
-      content = body_in x.text.now (delims_of x.header) x.body;
+      content = body_in x.text.now (header_delims x.header) x.body;
     } };
 }
 
 impl<'a> Interchange<'a> {
     ghost use Rattle.std.specs.Prelude.{◌≡◌, ◌<◌, length, Some, slice_get};
-    ghost use Rattle.x12_bytes.specs.Header.{delims_of};
+    ghost use Rattle.x12_bytes.specs.Header.{header_delims};
     ghost use Rattle.env_index.specs.Places.{body_in};
 
     pub(crate) fn new(text: &'a [u8], header: Header<'a>, start: usize, body: BodyPlace) -> Self
@@ -42,7 +42,7 @@ impl<'a> Interchange<'a> {
               header = header.entry;
               start = start;
               end = body.end;
-              content = body_in text.entry.now (delims_of header.entry) body;
+              content = body_in text.entry.now (header_delims header.entry) body;
             } }
     {
         Interchange {

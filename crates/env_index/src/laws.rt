@@ -1,5 +1,5 @@
 ghost use Rattle.std.specs.Prelude.{◌≡◌, ℕ, Bool, List, true};
-ghost use Rattle.x12_bytes.specs.Header.{delims_of, header_at};
+ghost use Rattle.x12_bytes.specs.Header.{header_delims, header_at};
 ghost use Rattle.x12_bytes.specs.HeaderTest.{is_head};
 ghost use Rattle.x12_segs.specs.Words.{SegValue, kind_of};
 ghost use Rattle.env_index.specs.Envelope.{Body, Derives};
@@ -62,7 +62,7 @@ pub fn end_is_least()
 pub fn sets_stand_alone()
     ensures { (text : List ℕ) (start : ℕ) (tree : Body SegValue) → is_head text start ≡ true
         → Derives kind_of (reach_at text start).segs tree
-        → EachSetIn (SetStandsAlone text (delims_of (header_at text start))) tree.members }
+        → EachSetIn (SetStandsAlone text (header_delims (header_at text start))) tree.members }
 {}
 
 /// A theorem, with nothing to run: an index that was not judged, once each of its interchanges is given the least of its faults 1

@@ -1,7 +1,7 @@
 ghost use Rattle.std.specs.Prelude.{◌≡◌, ◌+◌, ◌≤◌, ◌<◌, ◌^◌, ◌++◌, ◌∷◌, [], map, is_none, length, IfOk, OnOk};
 ghost use Rattle.std.specs.List.{All};
 ghost use Rattle.hub_kinds.specs.declared.limits.TheConstants.{LONGEST_TEXT};
-ghost use Rattle.env_index.specs.Numbers.{groups_from, kept_places, place_at, sets_from};
+ghost use Rattle.env_index.specs.Numbers.{group_numbers_from, kept_places, place_at, set_numbers_from};
 ghost use Rattle.env_index.specs.Placed.{AreFew, place_in, places_of};
 
 use crate::index::{Index, IndexedInterchange};
@@ -17,7 +17,7 @@ fn add_sets(
     group: &GroupEnvelope<'_, '_>,
 ) -> Result<(), NoMemory>
     requires { length group.now.sets ≤ LONGEST_TEXT }
-    ensures { OnOk result (places.new.items ≡ places.old.items ++ map place_in (sets_from isa gs 1 group.now.sets)) }
+    ensures { OnOk result (places.new.items ≡ places.old.items ++ map place_in (set_numbers_from isa gs 1 group.now.sets)) }
 {
     for index in 0..group.set_count() {
         let st = index as u32 + 1;
@@ -34,7 +34,8 @@ fn add_group(
     group: &GroupEnvelope<'_, '_>,
 ) -> Result<(), NoMemory>
     requires { length group.now.sets ≤ LONGEST_TEXT }
-    ensures { OnOk result (places.new.items ≡ places.old.items ++ (place_at isa gs 0 ∷ map place_in (sets_from isa gs 1 group.now.sets))) }
+    ensures { OnOk result (places.new.items ≡ places.old.items
+        ++ (place_at isa gs 0 ∷ map place_in (set_numbers_from isa gs 1 group.now.sets))) }
 {
     places.push(Place { isa, gs, st: 0 })?;
     add_sets(places, isa, gs, group)
@@ -47,7 +48,7 @@ fn add_groups(
     interchange: &Interchange<'_>,
 ) -> Result<(), NoMemory>
     requires { AreFew interchange.now }
-    ensures { OnOk result (places.new.items ≡ places.old.items ++ map place_in (groups_from isa 1 interchange.now.content.groups)) }
+    ensures { OnOk result (places.new.items ≡ places.old.items ++ map place_in (group_numbers_from isa 1 interchange.now.content.groups)) }
 {
     for index in 0..interchange.group_count() {
         let gs = index as u32 + 1;

@@ -10,7 +10,7 @@ use Rattle.std.proofs.lemmas.List.Sums.{AllPass-from_list_all}
 use Rattle.hub_kinds.specs.Words.{is_word}
 use Rattle.hub_kinds.specs.declared.interchange.InterchangeFault.{InterchangeFault}
 use Rattle.x12_bytes.specs.Bytes.{is_letter_or_digit, is_line_end, may_separate, may_terminate}
-use Rattle.x12_bytes.specs.Header.{IsHeader, component_of, delims_of, element_of, header_at, terminator_of}
+use Rattle.x12_bytes.specs.Header.{IsHeader, component_separator_of, header_delims, element_separator_of, header_at, terminator_of}
 use Rattle.x12_bytes.specs.declared.delims.Delims.{Delims}
 use Rattle.x12_bytes.proofs.Testing.{decides_head}
 use Rattle.x12_segs.specs.Words.{SegValue}
@@ -82,29 +82,30 @@ shown_plain byte true false is b letter =
     false_from_ne_true (byte == b) (λ same. both_ways (is_ascii_alphanumeric byte) (separates_plain byte is)
     (ap is_ascii_alphanumeric (eqb-true byte b same) ∙ letter))
 
-header_plain : (h : List ℕ) → IsHeader h → ArePlain (delims_of h)
+header_plain : (h : List ℕ) → IsHeader h → ArePlain (header_delims h)
 header_plain h is =
     let byte : ℕ = slice_index h 82 in
     record {
-      element = separates_plain (element_of h) is.element_allowed;
-      component = separates_plain (component_of h) is.component_allowed;
+      element = separates_plain (element_separator_of h) is.element_allowed;
+      component = separates_plain (component_separator_of h) is.component_allowed;
       terminator = ends_plain (terminator_of h) is.terminator_allowed;
       repetition = λ b letter.
-          shown_plain byte (may_separate byte) (byte == element_of h || byte == component_of h || byte == terminator_of h) refl b letter;
+          shown_plain byte (may_separate byte) (byte == element_separator_of h || byte == component_separator_of h
+          || byte == terminator_of h) refl b letter;
     }
 
 abbrev pub HasPlain : IndexEntry → Type 0
-HasPlain e = ArePlain (delims_of e.interchange.header)
+HasPlain e = ArePlain (header_delims e.interchange.header)
 
 chain_plain : (text : List ℕ) (from : ℕ) (es : List IndexEntry) → ChainFrom text from (extents_of es) → All (IsEntryOf text) es
     → All HasPlain es
 chain_plain text from [] chain are = All-nil HasPlain
 chain_plain text from (e ∷ es) chain are =
     let read = (All-head (IsEntryOf text) e es are).read in
-    let header : ArePlain (delims_of (header_at text e.interchange.start)) =
+    let header : ArePlain (header_delims (header_at text e.interchange.start)) =
     header_plain (header_at text e.interchange.start) ((decides_head text e.interchange.start).0 chain.0.head).1 in
     let own : e.interchange.header ≡ header_at text e.interchange.start = ap (λ (x : InterchangeEntry). x.header) read.read in
-    All-cons HasPlain e es (subst (λ (h : List ℕ). ArePlain (delims_of h)) (sym own) header)
+    All-cons HasPlain e es (subst (λ (h : List ℕ). ArePlain (header_delims h)) (sym own) header)
     (chain_plain text e.interchange.end es chain.2 (All-tail (IsEntryOf text) e es are))
 
 plain_kept : (es : List IndexEntry) (faults : List (Option InterchangeFault)) → All HasPlain es → All HasPlain (with_faults es faults)

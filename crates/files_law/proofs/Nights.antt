@@ -20,7 +20,7 @@ use Rattle.hub_kinds.specs.declared.interchange.InterchangeFault.{InterchangeFau
 use Rattle.judged_text.specs.Judged.{responded_groups}
 use Rattle.ack_999.specs.Report.{text_999}
 use Rattle.checked_text.specs.declared.answered.AnsweredGroup.{AnsweredGroup}
-use Rattle.checked_text.specs.Acknowledgments.{acknowledgment_text, groups_of, present, reports_from, ta1_of}
+use Rattle.checked_text.specs.Acknowledgments.{acknowledgment_text, acknowledgment_group_count, present, reports_from, ta1_of}
 use Rattle.checked_text.specs.Answers.{SentValue}
 use Rattle.checked_text.specs.CheckedText.{AreAnswersBy, AreCheckedAs, CheckedInterchange, IsCheckedAs, acknowledged_to, acknowledgment_of}
 use Rattle.checked_text.specs.CheckedText.{acknowledgments_from, is_acknowledged_to, sent_by}
@@ -118,7 +118,7 @@ in_a_row setup partner at k g [] = refl
 in_a_row setup partner at k g (x ∷ xs) =
     ap (λ (t : List ℕ). acknowledgment_text (envelope_to setup partner) at (num partner.counters.interchange k)
     (num partner.counters.group g) (acknowledgment_of x) ++ t)
-    (in_a_row setup partner at (k + 1) (g + groups_of (acknowledgment_of x)) xs)
+    (in_a_row setup partner at (k + 1) (g + acknowledgment_group_count (acknowledgment_of x)) xs)
 
 module _ (text : List ℕ) (setup : SetupValue) (at : List ℕ) (moment : IsMoment at) (place : ℕ) (p : Partner) (count : ℕ)
     (hub_ids : are_ids setup.hub.qualifier setup.hub.id setup.hub.code ≡ true) (sound : IsSoundPartner count p) where
@@ -163,7 +163,8 @@ module _ (text : List ℕ) (setup : SetupValue) (at : List ℕ) (moment : IsMome
       All Quotable (filter (is_told_to setup place) es) → AllAsWritten (acknowledgment_texts setup p at k g (acknowledged_to place xs))
 
   one_in_front : (k g : ℕ) (entry : IndexEntry) (x : CheckedInterchange) (es : List IndexEntry) (xs : List CheckedInterchange)
-      → IsRead text entry → IsCheckedAs text setup entry x → AreAllWritten (k + 1) (g + groups_of (acknowledgment_of x)) es xs
+      → IsRead text entry → IsCheckedAs text setup entry x → AreAllWritten (k + 1) (g + acknowledgment_group_count
+      (acknowledgment_of x)) es xs
       → AreAllWritten k g es xs → (b : Bool) → is_acknowledged_to place x ≡ b → AreAllWritten k g (entry ∷ es) (x ∷ xs)
   one_in_front k g entry x es xs headers is next same true known = λ quotable.
       let rest : List IndexEntry = filter (is_told_to setup place) es in
@@ -176,7 +177,7 @@ module _ (text : List ℕ) (setup : SetupValue) (at : List ℕ) (moment : IsMome
       let control : ℕ = num p.counters.group g in
       subst (λ (ys : List CheckedInterchange). AllAsWritten (acknowledgment_texts setup p at k g ys)) (sym kept)
       (one_more (acknowledgment_text e at number control (acknowledgment_of x))
-      (acknowledgment_texts setup p at (k + 1) (g + groups_of (acknowledgment_of x)) here)
+      (acknowledgment_texts setup p at (k + 1) (g + acknowledgment_group_count (acknowledgment_of x)) here)
       (acknowledgment_written number control (num_small p.counters.interchange k) (num_small p.counters.group g) entry x headers is known
       (All-head Quotable entry rest quoted))
       (next (All-tail Quotable entry rest quoted)))
@@ -198,7 +199,7 @@ module _ (text : List ℕ) (setup : SetupValue) (at : List ℕ) (moment : IsMome
       let rest : AreCheckedAs text setup es xs = pairs_tail (λ n e x. IsCheckedAs text setup e x) entry x es xs are in
       let behind = All-tail (IsRead text) entry es headers in
       one_in_front k g entry x es xs (All-head (IsRead text) entry es headers) (are.each 0 entry x refl refl)
-      (all_written (k + 1) (g + groups_of (acknowledgment_of x)) es xs behind rest) (all_written k g es xs behind rest)
+      (all_written (k + 1) (g + acknowledgment_group_count (acknowledgment_of x)) es xs behind rest) (all_written k g es xs behind rest)
       (is_acknowledged_to place x) refl
 
   pub partner_reads : (es : List IndexEntry) (xs : List CheckedInterchange) → All (IsRead text) es → AreCheckedAs text setup es xs

@@ -4,7 +4,7 @@ use Rattle.std.specs.Prelude.{slice_get}
 use Rattle.std.specs.List.{All, list_all}
 use Rattle.std.proofs.lemmas.Bool.{and_parts}
 use Rattle.std.proofs.lemmas.List.Elements.{All-append, All-cons, All-head, All-nil, All-tail, All-weaker}
-use Rattle.x12_bytes.specs.Header.{delims_of}
+use Rattle.x12_bytes.specs.Header.{header_delims}
 use Rattle.x12_bytes.specs.declared.delims.Delims.{Delims}
 use Rattle.x12_write.specs.Undivided.{CanDivide}
 use Rattle.env_index.specs.declared.entry.SetEnvelope.{SetEnvelope}
@@ -13,7 +13,7 @@ use Rattle.partner_setup.specs.declared.partner.Partner.{Partner}
 use Rattle.partner_setup.specs.Setup.{SetupValue}
 use Rattle.partner_setup.specs.Sound.{IsSoundPartner, IsSoundSetup}
 use Rattle.judged_text.specs.declared.standing.GroupStanding.{GroupStanding}
-use Rattle.judged_text.specs.Judged.{JudgedValue, PlacedValue, all_sets, delims_in, groups_from, sets_from, sets_of, standing_at}
+use Rattle.judged_text.specs.Judged.{JudgedValue, PlacedValue, all_sets, delims_in, sets_of_groups_from, sets_from, sets_of, standing_at}
 use Rattle.mailbox.specs.Deliveries.{is_delivered_to}
 use Rattle.checked_text.specs.CheckedText.{CheckedInterchange, IsCheckedAs, judged}
 use Rattle.checked_text.specs.Settled.{settled_faults}
@@ -37,19 +37,19 @@ pub record IsPlaced (to : Delims) (text : List ℕ) (p : PlacedValue) : Type 0 w
   pub fine : p.interchange.fault ≡ None → AreFine to p.group p.set
 
 module _ (to : Delims) (text : List ℕ) (x : JudgedValue) (text_is : x.text ≡ text)
-    (apart : AreApart (delims_of x.interchange.header)) (plain : ArePlain (delims_of x.interchange.header)) where
+    (apart : AreApart (header_delims x.interchange.header)) (plain : ArePlain (header_delims x.interchange.header)) where
   abbrev there_in : GroupEntry → Type 0
-  there_in g = All (IsThere text (delims_of x.interchange.header)) g.sets
+  there_in g = All (IsThere text (header_delims x.interchange.header)) g.sets
 
   abbrev fine_in : GroupEntry → Type 0
   fine_in g = All (AreFine to g) g.sets
 
   sets_placed : (g : GroupEntry) (standing : GroupStanding) (n : ℕ) (sets : List SetEnvelope)
-      → All (IsThere text (delims_of x.interchange.header)) sets → (x.fault ≡ None → All (AreFine to g) sets)
+      → All (IsThere text (header_delims x.interchange.header)) sets → (x.fault ≡ None → All (AreFine to g) sets)
       → All (IsPlaced to text) (sets_from x g standing n sets)
   sets_placed g standing n [] there fine = All-nil (IsPlaced to text)
   sets_placed g standing n (set ∷ sets) there fine =
-      let T : SetEnvelope → Type 0 = IsThere text (delims_of x.interchange.header) in
+      let T : SetEnvelope → Type 0 = IsThere text (header_delims x.interchange.header) in
       All-cons (IsPlaced to text) (record { interchange = x; group = g; standing = standing; index = n; set = set })
       (sets_from x g standing (n + 1) sets)
       (record {
@@ -62,10 +62,10 @@ module _ (to : Delims) (text : List ℕ) (x : JudgedValue) (text_is : x.text ≡
       (sets_placed g standing (n + 1) sets (All-tail T set sets there) (λ none. All-tail (AreFine to g) set sets (fine none)))
 
   groups_placed : (n : ℕ) (gs : List GroupEntry) → All there_in gs → (x.fault ≡ None → All fine_in gs)
-      → All (IsPlaced to text) (groups_from x n gs)
+      → All (IsPlaced to text) (sets_of_groups_from x n gs)
   groups_placed n [] there fine = All-nil (IsPlaced to text)
   groups_placed n (g ∷ gs) there fine =
-      All-append (IsPlaced to text) (sets_from x g (standing_at x.standings n) 0 g.sets) (groups_from x (n + 1) gs)
+      All-append (IsPlaced to text) (sets_from x g (standing_at x.standings n) 0 g.sets) (sets_of_groups_from x (n + 1) gs)
       (sets_placed g (standing_at x.standings n) 0 g.sets (All-head there_in g gs there)
       (λ none. All-head fine_in g gs (fine none)))
       (groups_placed (n + 1) gs (All-tail there_in g gs there) (λ none. All-tail fine_in g gs (fine none)))
@@ -90,7 +90,7 @@ groups_fine to (g ∷ gs) undivided headers sets =
 
 -- an interchange that is known
 abbrev pub IsKnownSource : (text : List ℕ) → CheckedInterchange → Type 0
-IsKnownSource text x = (IsSource text x.entry.interchange × IsSettledSound x.entry) × ArePlain (delims_of x.entry.interchange.header)
+IsKnownSource text x = (IsSource text x.entry.interchange × IsSettledSound x.entry) × ArePlain (header_delims x.entry.interchange.header)
 
 known_placed : (to : Delims) → CanDivide to → (text : List ℕ) (known : List CheckedInterchange) → All (IsKnownSource text) known
     → All (IsPlaced to text) (all_sets (map (judged text) known))

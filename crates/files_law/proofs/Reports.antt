@@ -9,7 +9,7 @@ use Rattle.x12_bytes.specs.declared.delims.Delims.{Delims}
 use Rattle.hub_kinds.specs.Words.{is_word}
 use Rattle.hub_kinds.specs.declared.answers.GroupAnswer.{GroupAnswer}
 use Rattle.hub_kinds.specs.declared.answers.SetAnswer.{SetAnswer}
-use Rattle.x12_segs.specs.Words.{is_inner, kind_by_id, part_or_empty}
+use Rattle.x12_segs.specs.Words.{may_stand_in_set, kind_by_id, part_or_empty}
 use Rattle.x12_write.specs.Number.{padded_number}
 use Rattle.x12_write.specs.Segment.{Segment, segment}
 use Rattle.x12_write.specs.Undivided.{CanDivide}
@@ -27,7 +27,7 @@ use Rattle.files_law.proofs.Rows.{IsOther, IsRow, list_row}
 -- a segment that may stand between ST and SE
 pub record IsInner (s : Segment) : Type 0 where
   pub other : IsOther s
-  pub inner : is_inner (kind_by_id s.id) ≡ true
+  pub inner : may_stand_in_set (kind_by_id s.id) ≡ true
 
 note_inner : (d : Delims) (note : Note) → IsInner (note_segment d note)
 note_inner d (SegmentNote f) = record { other = record { long = omega arith; other = refl }; inner = refl }
@@ -55,10 +55,10 @@ loops_inner : (d : Delims) (sets : List SetAnswer) (b : Bool) → All IsInner (i
 loops_inner d sets true = sets_inner d sets
 loops_inner d sets false = All-nil IsInner
 
-kinds_inner : (segs : List Segment) → All IsInner segs → list_all (λ x. is_inner (kind_by x)) (map written_parts segs) ≡ true
+kinds_inner : (segs : List Segment) → All IsInner segs → list_all (λ x. may_stand_in_set (kind_by x)) (map written_parts segs) ≡ true
 kinds_inner [] all = refl
 kinds_inner (s ∷ segs) all =
-    and_from (is_inner (kind_by_id s.id)) (list_all (λ x. is_inner (kind_by x)) (map written_parts segs))
+    and_from (may_stand_in_set (kind_by_id s.id)) (list_all (λ x. may_stand_in_set (kind_by x)) (map written_parts segs))
     (All-head IsInner s segs all).inner
     (kinds_inner segs (All-tail IsInner s segs all))
 

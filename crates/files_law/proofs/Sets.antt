@@ -10,7 +10,7 @@ use Rattle.std.proofs.lemmas.List.Elements.{All-from_recursion, All-head, All-ta
 use Rattle.x12_bytes.specs.declared.delims.Delims.{Delims}
 use Rattle.hub_kinds.specs.Words.{is_word}
 use Rattle.x12_segs.specs.declared.kind.Kind.TheVariants.{InterchangeTrailer, GroupHeader, GroupTrailer, SetHeader, SetTrailer, Ta1, Other}
-use Rattle.x12_segs.specs.Words.{is_inner, kind_by_id, kind_of, parts, SegValue, elements_of, part_or_empty}
+use Rattle.x12_segs.specs.Words.{may_stand_in_set, kind_by_id, kind_of, parts, SegValue, elements_of, part_or_empty}
 use Rattle.x12_write.specs.Number.{padded_number}
 use Rattle.x12_write.specs.Undivided.{CanDivide}
 use Rattle.mailbox.specs.Deliveries.{inner_in}
@@ -25,7 +25,7 @@ use Rattle.files_law.proofs.Texts.{IsMadeOf}
 
 -- an id that is none of a control segment but TA1
 inner_kind : (a b c d e f : Bool) → a ≡ false → b ≡ false → c ≡ false → d ≡ false → e ≡ false
-    → is_inner (if a then InterchangeTrailer else if b then GroupHeader else if c then GroupTrailer else if d then SetHeader
+    → may_stand_in_set (if a then InterchangeTrailer else if b then GroupHeader else if c then GroupTrailer else if d then SetHeader
     else if e then SetTrailer else if f then Ta1 else Other) ≡ true
 inner_kind false false false false false true na nb nc nd ne = refl
 inner_kind false false false false false false na nb nc nd ne = refl
@@ -67,30 +67,31 @@ module _ (to : Delims) (marked : IsMarked to) (can : CanDivide to) (p : PlacedVa
   inner_all : All Inner inner
   inner_all = set.inner_all to marked can p fit n
 
-  inner_kinds : list_all (λ x. is_inner (kind_by x)) (map found_in inner) ≡ true
+  inner_kinds : list_all (λ x. may_stand_in_set (kind_by x)) (map found_in inner) ≡ true
   inner_kinds =
-      let Both : SegValue → Type 0 = λ seg. Inner seg × (is_inner (kind_of seg) ≡ true) in
+      let Both : SegValue → Type 0 = λ seg. Inner seg × (may_stand_in_set (kind_of seg) ≡ true) in
       let P : ℕ → Type 0 = λ b. is_ascii_alphanumeric b ≡ true in
       let iea : All P (codes "IEA") = All-from_recursion P (codes "IEA") (refl, (refl, (refl, tt))) in
       let gs : All P (codes "GS") = All-from_recursion P (codes "GS") (refl, (refl, tt)) in
       let ge : All P (codes "GE") = All-from_recursion P (codes "GE") (refl, (refl, tt)) in
       let st : All P (codes "ST") = All-from_recursion P (codes "ST") (refl, (refl, tt)) in
       let se : All P (codes "SE") = All-from_recursion P (codes "SE") (refl, (refl, tt)) in
-      kinds_all inner (All-weaker Both (λ seg. is_inner (kind_by (found_in seg)) ≡ true) (λ seg is.
+      kinds_all inner (All-weaker Both (λ seg. may_stand_in_set (kind_by (found_in seg)) ≡ true) (λ seg is.
       let id : List ℕ = part_or_empty (found_in seg) 0 in
-      let other : (word : List ℕ) → All P word → is_inner (kind_by_id word) ≡ false → has_id (found_in seg) word ≡ false =
+      let other : (word : List ℕ) → All P word → may_stand_in_set (kind_by_id word) ≡ false → has_id (found_in seg) word ≡ false =
       λ word letters control. inner_id from to marked can fit.apart seg word is.0.0 is.0.1 letters control is.1 in
       inner_kind (bytes_eq id (codes "IEA")) (bytes_eq id (codes "GS")) (bytes_eq id (codes "GE")) (bytes_eq id (codes "ST"))
       (bytes_eq id (codes "SE")) (bytes_eq id (codes "TA1")) (other (codes "IEA") iea refl) (other (codes "GS") gs refl)
       (other (codes "GE") ge refl) (other (codes "ST") st refl) (other (codes "SE") se refl)) inner
-      (all_both Inner (λ seg. is_inner (kind_of seg) ≡ true) inner inner_all fit.kinds))
+      (all_both Inner (λ seg. may_stand_in_set (kind_of seg) ≡ true) inner inner_all fit.kinds))
     where
-      kinds_all : (segs : List SegValue) → All (λ seg. is_inner (kind_by (found_in seg)) ≡ true) segs
-          → list_all (λ x. is_inner (kind_by x)) (map found_in segs) ≡ true
+      kinds_all : (segs : List SegValue) → All (λ seg. may_stand_in_set (kind_by (found_in seg)) ≡ true) segs
+          → list_all (λ x. may_stand_in_set (kind_by x)) (map found_in segs) ≡ true
       kinds_all [] all = refl
       kinds_all (seg ∷ segs) all =
-          let K : SegValue → Type 0 = λ seg. is_inner (kind_by (found_in seg)) ≡ true in
-          and_from (is_inner (kind_by (found_in seg))) (list_all (λ x. is_inner (kind_by x)) (map found_in segs)) (All-head K seg segs all)
+          let K : SegValue → Type 0 = λ seg. may_stand_in_set (kind_by (found_in seg)) ≡ true in
+          and_from (may_stand_in_set (kind_by (found_in seg))) (list_all (λ x. may_stand_in_set (kind_by x)) (map found_in segs))
+          (All-head K seg segs all)
           (kinds_all segs (All-tail K seg segs all))
 
   abbrev pub delivered_set : WholeSet

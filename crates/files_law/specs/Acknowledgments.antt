@@ -4,7 +4,7 @@ use Rattle.count_numbers.specs.Num.{num}
 use Rattle.partner_setup.specs.declared.partner.Partner.{Partner}
 use Rattle.partner_setup.specs.Envelopes.{envelope_to}
 use Rattle.partner_setup.specs.Setup.{SetupValue}
-use Rattle.checked_text.specs.Acknowledgments.{acknowledgment_text, groups_of}
+use Rattle.checked_text.specs.Acknowledgments.{acknowledgment_text, acknowledgment_group_count}
 use Rattle.checked_text.specs.CheckedText.{CheckedInterchange, acknowledged_to, acknowledgment_of}
 use Rattle.checked_text.specs.Pairs.{AreAllPairs}
 use Rattle.checked_text.specs.Settled.{settled_entries}
@@ -18,7 +18,7 @@ acknowledgment_texts setup partner at k g [] = []
 acknowledgment_texts setup partner at k g (x ∷ xs) =
     acknowledgment_text (envelope_to setup partner) at (num partner.counters.interchange k) (num partner.counters.group g)
     (acknowledgment_of x)
-    ∷ acknowledgment_texts setup partner at (k + 1) (g + groups_of (acknowledgment_of x)) xs
+    ∷ acknowledgment_texts setup partner at (k + 1) (g + acknowledgment_group_count (acknowledgment_of x)) xs
 
 -- a partner's acknowledgments have just those of its interchanges that are acknowledged
 abbrev pub HasAcknowledgments : SetupValue → (at : List ℕ) → List CheckedInterchange → (place : ℕ) → Partner → (file : List ℕ) → Type 0

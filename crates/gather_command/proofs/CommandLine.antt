@@ -9,7 +9,7 @@ use Rattle.std.specs.declared.alloc.Global.{Global}
 use Rattle.night_ends.specs.Words.{or_none, values_found}
 use Rattle.night_ends.proofs.ForAbove.{all_found, asks_for_text, found}
 use Rattle.gather_command.specs.declared.command.Job.{Job}
-use Rattle.gather_command.specs.CommandLine.{AsksForText, IsAsked, IsJob, IsGiven, IsShown, NamesNone, gather_app, value_of, values_of}
+use Rattle.gather_command.specs.CommandLine.{AsksForText, IsAsked, IsJob, IsGiven, IsShown, NamesNone, gather_app, option_value, values_of}
 use Rattle.gather_command.specs.declared.command.Asked.{Asked}
 use Rattle.gather_command.specs.declared.command.Asked.TheVariants.{Gather, Show}
 
@@ -31,7 +31,7 @@ asked words m (Show text) has given = absurd given
 
 -- where clap found no file to make, the arguments name none
 pub none_named : (words : List Text) (m : ArgMatches) → HasMatchesOf gather_app words m → NamesNone (first_value (found_of m))
-    → NamesNone (value_of words)
+    → NamesNone (option_value words)
 none_named words m has none = sym (found gather_app simple words m (codes "out") has) ∙ none
 
 pub shown : (words : List Text) (e : Error) (asked : Asked) → HasKind (fault_of gather_app words) e
@@ -42,7 +42,7 @@ shown words e (Show text) kind passes is =
 
 -- the job that is asked for is the one that the arguments name
 pub job_named : (words : List Text) (asked : Asked) (job : Job) → asked ≡ Gather job → IsAsked words asked
-    → IsJob (value_of words) (values_of words) job
+    → IsJob (option_value words) (values_of words) job
 job_named words asked job is by = subst (λ (a : Asked). IsAsked words a) is by
 
 -- the text that is asked for isn't shown in place of a job

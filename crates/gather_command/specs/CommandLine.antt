@@ -28,8 +28,8 @@ abbrev pub gather_app : App
 gather_app = with_rule (with_rule program out_rule) file_rule
 
 -- the value that the arguments give a name
-abbrev pub value_of : List Text → Text → Option Text
-value_of words name = first_of name (matches_of gather_app words)
+abbrev pub option_value : List Text → Text → Option Text
+option_value words name = first_of name (matches_of gather_app words)
 
 -- the values that they give it, in their order
 abbrev pub values_of : List Text → Text → Option (List Text)
@@ -47,7 +47,7 @@ NamesNone value = value (codes "out") ≡ None
 -- nothing is wrong with the arguments, and they name a file to make
 pub record IsCommandLine (words : List Text) : Type 0 where
   pub taken : takes gather_app words ≡ true
-  pub named : NamesNone (value_of words) → ⊥
+  pub named : NamesNone (option_value words) → ⊥
 
 -- the arguments ask for help or for the version, and name no files to gather
 pub record AsksForText (words : List Text) : Type 0 where
@@ -56,7 +56,7 @@ pub record AsksForText (words : List Text) : Type 0 where
 
 -- what the arguments ask for
 abbrev pub IsAsked : List Text → Asked → Type 0
-IsAsked words (Gather job) = IsJob (value_of words) (values_of words) job
+IsAsked words (Gather job) = IsJob (option_value words) (values_of words) job
 IsAsked words (Show text) = AsksForText words
 
 -- the same of what clap found, and of the kind of what it reports (no public clause cites these)

@@ -2,7 +2,7 @@
 use Rattle.std.specs.Prelude.{◌≡◌, ℕ, ◌==◌, ◌&&◌, List, ◌++◌, Option, Some, codes, map, if◌then◌else◌}
 use Rattle.std.specs.Io.KnownBytes.{Appends}
 use Rattle.clap.specs.Words.{Text}
-use Rattle.gather_command.specs.CommandLine.{AsksForText, IsJob, value_of, values_of}
+use Rattle.gather_command.specs.CommandLine.{AsksForText, IsJob, option_value, values_of}
 use Rattle.gather_command.specs.Members.{AreGathered, total_line}
 use Rattle.gather_command.specs.declared.all.Gathering.{Gathering}
 use Rattle.gather_command.specs.declared.command.Job.{Job}
@@ -40,11 +40,12 @@ pub record IsPrinted (paths : List (List ℕ)) (status : ℕ) (was is : Option (
 -- what these arguments may have printed: a text where they ask for one, otherwise the lines on the files that they name
 pub data IsOutcome (words : List Text) (status : ℕ) (was is : Option (List ℕ)) : Type 0 where
   Shown : (asked : AsksForText words) (text : List ℕ) → Appends was is text → status ≡ 0 → IsOutcome words status was is
-  Made : (job : Job) → IsJob (value_of words) (values_of words) job → IsPrinted (paths_of job) status was is → IsOutcome words status was is
+  Made : (job : Job) → IsJob (option_value words) (values_of words) job → IsPrinted (paths_of job) status was is
+      → IsOutcome words status was is
 
 -- the arguments name a file to make
 abbrev pub NamesOut : List Text → Type 0
-NamesOut words = (out : List ℕ) × (value_of words (codes "out") ≡ Some out)
+NamesOut words = (out : List ℕ) × (option_value words (codes "out") ≡ Some out)
 
 -- what making the file may fail by
 abbrev pub IsOfRun : Failure → Type 0

@@ -5,7 +5,7 @@ use Rattle.std.proofs.lemmas.Bool.{cases_lt}
 use Rattle.std.proofs.lemmas.List.{append-nil, get_or-drop, get_or_append_left, length-append, length-take-le}
 use Rattle.std.proofs.lemmas.List.{take_at, take-append-drop}
 use Rattle.x12_bytes.specs.Bytes.{is_line_end}
-use Rattle.x12_bytes.specs.Header.{header_at, delims_of}
+use Rattle.x12_bytes.specs.Header.{header_at, header_delims}
 use Rattle.x12_bytes.specs.HeaderTest.{is_head}
 use Rattle.x12_bytes.specs.declared.delims.Delims.{Delims}
 use Rattle.x12_segs.specs.Words.{Seg, segs_from, rest_from, view_of, kind_of}
@@ -84,7 +84,7 @@ module _ (read more : List ℕ) (head : is_head more 0 ≡ true) where
       let fits : start + 106 ≤ c = head_within read start is.head in
       let header : header_at read start ≡ header_at text start =
       ap (λ (xs : List ℕ). header_at xs start) (sym front) ∙ header_kept text c within start fits in
-      let d_is : d ≡ delims_of (header_at text start) = is.delims ∙ ap delims_of header in
+      let d_is : d ≡ header_delims (header_at text start) = is.delims ∙ ap header_delims header in
       let letter : nat_eq 73 t ≡ false =
       ap (λ (x : Delims). nat_eq 73 x.terminator) is.delims ∙ head_no_letter read start is.head in
       let there : is_head text start ≡ true =

@@ -7,7 +7,7 @@ use Rattle.std.proofs.lemmas.List.{append_assoc, get_or-drop, length-append}
 use Rattle.std.proofs.lemmas.List.{length-drop, take_at}
 use Rattle.std.proofs.lemmas.List.Sums.{prefix_len-le-length, prefix_len_passes, prefix_len_stops}
 use Rattle.x12_bytes.specs.Bytes.{is_line_end}
-use Rattle.x12_bytes.specs.Header.{delims_of, header_at}
+use Rattle.x12_bytes.specs.Header.{header_delims, header_at}
 use Rattle.x12_bytes.specs.HeaderTest.{is_head}
 use Rattle.x12_bytes.specs.declared.delims.Delims.{Delims}
 use Rattle.x12_segs.specs.Words.{seg_at, view_of, kind_of}
@@ -61,8 +61,8 @@ module _ (read : List ℕ) (start : ℕ) (whole : List Extent) (i : Inside) (cha
     head : is_head b start ≡ true
     head = head_more b n within start (ap (λ (xs : List ℕ). is_head xs start) front ∙ is.head)
 
-    delims : d ≡ delims_of (header_at b start)
-    delims = is.delims ∙ ap delims_of (ap (λ (xs : List ℕ). header_at xs start) (sym front) ∙ header_kept b n within start fits)
+    delims : d ≡ header_delims (header_at b start)
+    delims = is.delims ∙ ap header_delims (ap (λ (xs : List ℕ). header_at xs start) (sym front) ∙ header_kept b n within start fits)
 
     chain_on : (more : List ℕ) → ChainUpTo (b ++ more) 0 start whole
     chain_on more = subst (λ (xs : List ℕ). ChainUpTo xs 0 start whole) (sym (append_assoc read (t ∷ []) more)) (chain (t ∷ more))

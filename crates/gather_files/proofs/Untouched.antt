@@ -8,7 +8,7 @@ use Rattle.std.proofs.lemmas.List.Elements.{All-cons, All-head, All-nil, All-tai
 use Rattle.std.proofs.lemmas.List.Sums.{prefix_len_passes}
 use Rattle.memchr.specs.Find.{IsFirstByte, is_byte}
 use Rattle.x12_bytes.specs.Bytes.{is_line_end}
-use Rattle.x12_bytes.specs.Header.{delims_of, header_at, terminator_of}
+use Rattle.x12_bytes.specs.Header.{header_delims, header_at, terminator_of}
 use Rattle.x12_bytes.specs.HeaderTest.{is_head}
 use Rattle.x12_bytes.specs.declared.delims.Delims.{Delims}
 use Rattle.x12_segs.specs.Words.{Seg, SegValue, kind_of, rest_from, segs_from, view_of}
@@ -121,7 +121,7 @@ module _ (text : List ℕ) (clear : (q : ℕ) → q < length text → may_begin 
 goes_to_end : (text : List ℕ) → ((q : ℕ) → q < length text → may_begin text q ≡ false) → (start : ℕ) → is_head text start ≡ true
     → whole_end text start ≡ None → (reach_at text start).end ≡ length text
 goes_to_end text clear start head is =
-    let d : Delims = delims_of (header_at text start) in
+    let d : Delims = header_delims (header_at text start) in
     not_whole text clear d (segs_from text d.terminator (start + 106)) (rest_from text d.terminator (start + 106)) (start + 106)
     (segs_in_order text d.terminator (start + 106) (head_within text start head)) is
 

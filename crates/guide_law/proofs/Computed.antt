@@ -2,7 +2,7 @@
 use Rattle.std.proofs.Common.{◌≡◌, inl, inr, Bool, true, false, List, [], ◌∷◌, Option, Some, None, refl, ap, sym, subst}
 use Rattle.std.proofs.Common.{◌∙◌, if◌then◌else◌, option_map}
 use Rattle.guide_tree.specs.Words.{Trees, GuideTree, or_else, Segment, fits, Place, MayCome, FitsAt, IsPlacing, Candidate, nexts}
-use Rattle.guide_tree.specs.Words.{first_fit, place_of, placing_from, placing_of}
+use Rattle.guide_tree.specs.Words.{first_fit, next_place_of, placing_from, placing_of}
 use Rattle.guide_law.proofs.Residual.{AllTriggered}
 use Rattle.guide_law.specs.Law.{NextsAreExact, IsPlacedOneWay, IsOnlyPlacing}
 use Rattle.guide_law.proofs.Among.{in_contains, contains_in}
@@ -58,8 +58,8 @@ pub placing_goes : (ts : Trees) (last : Option Place) (body : List Segment) → 
     → IsPlacing ts last body (placing_from ts last body)
 placing_goes ts last [] t = tt
 placing_goes ts last (s ∷ body) t =
-    placed ts last s body (first_fit s (nexts ts last)) (placing_from ts (or_else (place_of ts last s) last) body) t
-    (first_found s (nexts ts last)) (placing_goes ts (or_else (place_of ts last s) last) body t)
+    placed ts last s body (first_fit s (nexts ts last)) (placing_from ts (or_else (next_place_of ts last s) last) body) t
+    (first_found s (nexts ts last)) (placing_goes ts (or_else (next_place_of ts last s) last) body t)
 
 pub is_placing : (ts : Trees) → AllTriggered ts → (body : List Segment) → IsPlacing ts None body (placing_of ts body)
 is_placing ts t body = placing_goes ts None body t

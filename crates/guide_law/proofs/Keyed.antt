@@ -6,7 +6,7 @@ use Rattle.hub_kinds.specs.declared.fault.Fault.{Fault}
 use Rattle.hub_kinds.specs.declared.codes.SegmentCode.{SegmentCode}
 use Rattle.hub_kinds.specs.declared.codes.SegmentCode.TheVariants as ik304
 use Rattle.hub_kinds.specs.Words.{segment_rank, key_of}
-use Rattle.guide_tree.specs.Words.{Tree, Trees, segment, loop, no_trees, tree, GuideTree, number_of, count_in, node_count, numbered_in}
+use Rattle.guide_tree.specs.Words.{Tree, Trees, segment, loop, no_trees, tree, GuideTree, node_number, count_in, node_count, numbered_in}
 use Rattle.guide_tree.specs.Words.{numbered, with_slot_numbers, Segment, id_of, Place, use_of, node_in, node_nth, node_at, loop_id_at}
 use Rattle.guide_tree.specs.Words.{first_id, past_code, stray_code, IsPast, IsShort, IsStray, IsStructureFault, loop_of}
 use Rattle.guide_law.specs.Law.{FaultsAreKeyed}
@@ -24,14 +24,14 @@ abbrev mutual
 
 mutual
   range_in : (n : ℕ) (t : Tree) (o : List ℕ) (x : Tree) (l : List ℕ) → IsNamedIn o (numbered_in n t) x l
-      → (n ≤ number_of x) × (number_of x < n + count_in t)
-  range_in n (segment s) o x l h = let e : number_of x ≡ n = ap number_of h.0 in ((omega arith), (omega arith))
-  range_in n (loop k ts) o x l (inl h) = let e : number_of x ≡ n = ap number_of h.0 in ((omega arith), (omega arith))
+      → (n ≤ node_number x) × (node_number x < n + count_in t)
+  range_in n (segment s) o x l h = let e : node_number x ≡ n = ap node_number h.0 in ((omega arith), (omega arith))
+  range_in n (loop k ts) o x l (inl h) = let e : node_number x ≡ n = ap node_number h.0 in ((omega arith), (omega arith))
   range_in n (loop k ts) o x l (inr h) =
       let r = range (n + 1) ts k.id x l h in let a = r.0 in let b = r.1 in ((omega arith), (omega arith))
 
   range : (n : ℕ) (ts : Trees) (o : List ℕ) (x : Tree) (l : List ℕ) → IsNamed o (numbered n ts) x l
-      → (n ≤ number_of x) × (number_of x < n + node_count ts)
+      → (n ≤ node_number x) × (node_number x < n + node_count ts)
   range n no_trees o x l h = absurd h
   range n (tree t ts) o x l (inl h) =
       let r = range_in n t o x l h in let a = r.0 in let b = r.1 in ((omega arith), (omega arith))
@@ -40,17 +40,17 @@ mutual
 
 mutual
   one_in : (n : ℕ) (t : Tree) (o : List ℕ) (x y : Tree) (l m : List ℕ) → IsNamedIn o (numbered_in n t) x l
-      → IsNamedIn o (numbered_in n t) y m → number_of x ≡ number_of y → (x ≡ y) × (l ≡ m)
+      → IsNamedIn o (numbered_in n t) y m → node_number x ≡ node_number y → (x ≡ y) × (l ≡ m)
   one_in n (segment s) o x y l m h g e = (h.0 ∙ sym g.0, h.1 ∙ sym g.1)
   one_in n (loop k ts) o x y l m (inl h) (inl g) e = (h.0 ∙ sym g.0, h.1 ∙ sym g.1)
   one_in n (loop k ts) o x y l m (inl h) (inr g) e =
-      let a : number_of x ≡ n = ap number_of h.0 in let b = (range (n + 1) ts k.id y m g).0 in absurd (omega arith)
+      let a : node_number x ≡ n = ap node_number h.0 in let b = (range (n + 1) ts k.id y m g).0 in absurd (omega arith)
   one_in n (loop k ts) o x y l m (inr h) (inl g) e =
-      let a : number_of y ≡ n = ap number_of g.0 in let b = (range (n + 1) ts k.id x l h).0 in absurd (omega arith)
+      let a : node_number y ≡ n = ap node_number g.0 in let b = (range (n + 1) ts k.id x l h).0 in absurd (omega arith)
   one_in n (loop k ts) o x y l m (inr h) (inr g) e = one_named (n + 1) ts k.id x y l m h g e
 
   pub one_named : (n : ℕ) (ts : Trees) (o : List ℕ) (x y : Tree) (l m : List ℕ) → IsNamed o (numbered n ts) x l
-      → IsNamed o (numbered n ts) y m → number_of x ≡ number_of y → (x ≡ y) × (l ≡ m)
+      → IsNamed o (numbered n ts) y m → node_number x ≡ node_number y → (x ≡ y) × (l ≡ m)
   one_named n no_trees o x y l m h g e = absurd h
   one_named n (tree t ts) o x y l m (inl h) (inl g) e = one_in n t o x y l m h g e
   one_named n (tree t ts) o x y l m (inl h) (inr g) e =
@@ -103,7 +103,7 @@ at_named ts (a ∷ w) c u x h =
     (nth_named [] ts a.child w c u x h)
 
 abbrev made : ℕ → SegmentCode → Tree → List ℕ → Fault
-made at code t l = record { position = at; id = first_id t; loop_id = l; code = code; slot = number_of t; elem = None }
+made at code t l = record { position = at; id = first_id t; loop_id = l; code = code; slot = node_number t; elem = None }
 
 -- a fault that speaks of a node
 record OfNode (ts : Trees) (f : Fault) : Type 0 where
@@ -192,7 +192,7 @@ apart : (g : GuideTree) (ts : Trees) (body : List Segment) (given : List (Option
     → IsStray g body given h → key_of f ≡ key_of h → ⊥
 apart g ts body given f h r s e =
     let k = sym (ap key_of r.is) ∙ e ∙ ap key_of s.is in
-    let z : number_of r.node ≡ 0 = ap (λ (l : List ℕ). get_or l 2 0) k in
+    let z : node_number r.node ≡ 0 = ap (λ (l : List ℕ). get_or l 2 0) k in
     let n = (range 1 ts [] r.node r.named r.there).0 in omega arith
 
 of_node : (g : GuideTree) (body : List Segment) (given : List (Option Place)) (end : ℕ) (f : Fault)

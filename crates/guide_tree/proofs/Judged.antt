@@ -8,7 +8,7 @@ use Rattle.guide_tree.specs.declared.limits.TheConstants.{MOST_NESTED}
 use Rattle.guide_tree.specs.declared.fault.GuideFault.{GuideFault}
 use Rattle.guide_tree.specs.declared.fault.GuideFault.TheVariants as fault
 use Rattle.guide_tree.specs.Tree.{Tree, Trees, segment, loop, no_trees, tree, GuideTree, numbered, nesting}
-use Rattle.guide_tree.specs.Tree.{node_count, number_of, AnyNode, EachIn, EachNode, or_else, with_slot_numbers}
+use Rattle.guide_tree.specs.Tree.{node_count, node_number, AnyNode, EachIn, EachNode, or_else, with_slot_numbers}
 use Rattle.guide_tree.specs.Bounds.{is_bounded}
 use Rattle.guide_tree.specs.Conditions.{is_triggered, is_conditioned, are_names_known}
 use Rattle.guide_tree.specs.Ambiguity.{IsAmbiguousAt}
@@ -139,7 +139,7 @@ rivals_first g (Some m) l = (
 
 mutual
   each_in_passes : (test : Tree → Bool) (t : Tree)
-      → ((k : ℕ) → AnyNode (λ u. (number_of u ≡ k) × (test u ≡ false)) (tree t no_trees) → ⊥)
+      → ((k : ℕ) → AnyNode (λ u. (node_number u ≡ k) × (test u ≡ false)) (tree t no_trees) → ⊥)
       → EachIn (λ u. test u ≡ true) t
   each_in_passes test (segment s) h = true_from_ne_false (test (segment s)) (λ e. h s.number (inl (refl, e)))
   each_in_passes test (loop l ts) h = (

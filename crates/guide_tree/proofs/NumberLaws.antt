@@ -2,7 +2,7 @@
 use Rattle.std.proofs.Common.{◌≡◌, ℕ, ◌+◌, ◌<◌, ◌≤◌, ◌⊎◌, inl, inr, max, Bool, true, false, cond, Option, Some, None}
 use Rattle.std.proofs.Common.{refl, ap, ◌∙◌, arith}
 use Rattle.guide_tree.specs.Tree.{Tree, Trees, segment, loop, no_trees, tree, count_in, node_count, nesting_in}
-use Rattle.guide_tree.specs.Tree.{nesting, numbered_in, numbered, number_of, AnyIn, AnyNode, or_else}
+use Rattle.guide_tree.specs.Tree.{nesting, numbered_in, numbered, node_number, AnyIn, AnyNode, or_else}
 use Rattle.guide_tree.specs.Faults.{FailsAt}
 use Rattle.guide_tree.specs.Rules.{first_failing_in, first_failing}
 
@@ -42,7 +42,7 @@ mutual
       ∙ ap (tree (numbered_in n t)) (numbered-again (n + count_in t) ts)
 
 abbrev Among : (Tree → Type 0) → ℕ → Tree → Type 0
-Among Q k t = (number_of t ≡ k) × Q t
+Among Q k t = (node_number t ≡ k) × Q t
 
 abbrev Between : ℕ → ℕ → ℕ → Type 0
 Between n size k = (n ≤ k) × (k < n + size)
@@ -57,7 +57,7 @@ mutual
 
   -- the numbers from n on, as many as there are nodes
   pub any_between : (Q : Tree → Type 0) (n k : ℕ) (ts : Trees)
-      → AnyNode (λ t. (number_of t ≡ k) × Q t) (numbered n ts) → (n ≤ k) × (k < n + node_count ts)
+      → AnyNode (λ t. (node_number t ≡ k) × Q t) (numbered n ts) → (n ≤ k) × (k < n + node_count ts)
   any_between Q n k no_trees h = absurd h
   any_between Q n k (tree t ts) (inl h) = let b = any_in_between Q n k t h in (b.0, omega (arith, b.1))
   any_between Q n k (tree t ts) (inr h) = let b = any_between Q (n + count_in t) k ts h in
@@ -100,7 +100,7 @@ least_above false n G r g y = (
 
 mutual
   first_failing_in_least : (test : Tree → Bool) (n : ℕ) (t : Tree)
-      → IsLeastOf (λ k. AnyIn (λ u. (number_of u ≡ k) × (test u ≡ false)) (numbered_in n t))
+      → IsLeastOf (λ k. AnyIn (λ u. (node_number u ≡ k) × (test u ≡ false)) (numbered_in n t))
       (first_failing_in test (numbered_in n t))
   first_failing_in_least test n (segment s) = least_alone (test (numbered_in n (segment s))) n
   first_failing_in_least test n (loop l ts) =
@@ -113,7 +113,7 @@ mutual
       → IsLeastOf (FailsAt test (numbered n ts)) (first_failing test (numbered n ts))
   first_failing_least test n no_trees = λ k h. h
   first_failing_least test n (tree t ts) = least_of_both
-      (λ k. AnyIn (λ u. (number_of u ≡ k) × (test u ≡ false)) (numbered_in n t))
+      (λ k. AnyIn (λ u. (node_number u ≡ k) × (test u ≡ false)) (numbered_in n t))
       (FailsAt test (numbered (n + count_in t) ts))
       (n + count_in t) (first_failing_in test (numbered_in n t)) (first_failing test (numbered (n + count_in t) ts))
       (λ k h. (any_in_between (λ u. test u ≡ false) n k t h).1)

@@ -5,7 +5,7 @@ use Rattle.std.proofs.lemmas.Bool.{and_parts, true_from_ne_false}
 use denote.Ref.{Bor}
 use Rattle.guide_tree.specs.declared.slot.Slot.{Slot}
 use Rattle.guide_tree.specs.declared.fault.GuideFault.TheVariants as fault
-use Rattle.guide_tree.specs.Tree.{Tree, Trees, segment, loop, no_trees, tree, GuideTree, number_of, find_slot}
+use Rattle.guide_tree.specs.Tree.{Tree, Trees, segment, loop, no_trees, tree, GuideTree, node_number, find_slot}
 use Rattle.guide_tree.specs.Tree.{find_slot_in, AnyIn, AnyNode, or_else}
 use Rattle.guide_tree.specs.Bounds.{is_bounded, is_slot_bounded}
 use Rattle.std.specs.List.{list_all}
@@ -42,11 +42,11 @@ pub sound : (g : GuideTree) (test : Slot → Bool) (s : Slot) → IsWellFormed g
     → IsSound s
 sound g test s clean e = record {
   bounded = true_from_ne_false (is_slot_bounded s) (λ no. clean (fault.BadBounds s.number)
-      (found (λ t. (number_of t ≡ s.number) × (is_bounded t ≡ false)) test g.nodes s e (refl, no)));
+      (found (λ t. (node_number t ≡ s.number) × (is_bounded t ≡ false)) test g.nodes s e (refl, no)));
   conditioned = (and_parts (list_all (is_condition_of s) s.conditions) (are_picks_of s s.picks)
       (and_parts (list_all (is_condition_of s) s.conditions && are_picks_of s s.picks) (is_label_new g.nodes s)
       (true_from_ne_false (is_slot_conditioned g.nodes s) (λ no. clean (fault.BadCondition s.number)
-      (inr (found (λ t. (number_of t ≡ s.number) × (is_conditioned g.nodes t ≡ false)) test g.nodes s e (refl, no)))))).0).0;
+      (inr (found (λ t. (node_number t ≡ s.number) × (is_conditioned g.nodes t ≡ false)) test g.nodes s e (refl, no)))))).0).0;
 }
 
 -- so is a slot that is lent

@@ -4,14 +4,14 @@ use Rattle.hub_kinds.specs.declared.limits.TheConstants.{MOST_NODES}
 use Rattle.guide_tree.specs.declared.limits.TheConstants.{MOST_NESTED}
 use Rattle.guide_tree.specs.declared.fault.GuideFault.{GuideFault}
 use Rattle.guide_tree.specs.declared.fault.GuideFault.TheVariants as fault
-use Rattle.guide_tree.specs.Tree.{Tree, Trees, number_of, AnyNode, nesting, node_count, GuideTree}
+use Rattle.guide_tree.specs.Tree.{Tree, Trees, node_number, AnyNode, nesting, node_count, GuideTree}
 use Rattle.guide_tree.specs.Bounds.{is_bounded}
 use Rattle.guide_tree.specs.Conditions.{is_triggered, is_conditioned, are_names_known}
 use Rattle.guide_tree.specs.Ambiguity.{IsAmbiguousAt}
 
 -- some node with this number fails the test
 abbrev pub FailsAt : (Tree → Bool) → Trees → ℕ → Type 0
-FailsAt test ts k = AnyNode (λ t. (number_of t ≡ k) × IsFalse (test t)) ts
+FailsAt test ts k = AnyNode (λ t. (node_number t ≡ k) × IsFalse (test t)) ts
 
 -- what each refusal says of a guide
 abbrev pub HasFault : GuideTree → GuideFault → Type 0

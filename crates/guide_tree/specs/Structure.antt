@@ -8,7 +8,7 @@ use Rattle.hub_kinds.specs.declared.fault.Fault.{Fault}
 use Rattle.hub_kinds.specs.declared.codes.SegmentCode.{SegmentCode}
 use Rattle.hub_kinds.specs.declared.codes.SegmentCode.TheVariants as ik304
 use Rattle.hub_kinds.specs.Words.{contains_text}
-use Rattle.guide_tree.specs.Tree.{Tree, Trees, segment, loop, no_trees, tree, GuideTree, number_of, min_of, max_of}
+use Rattle.guide_tree.specs.Tree.{Tree, Trees, segment, loop, no_trees, tree, GuideTree, node_number, min_of, max_of}
 use Rattle.guide_tree.specs.Tree.{any_slot}
 use Rattle.guide_tree.specs.Segments.{Segment, id_of, fits}
 use Rattle.guide_tree.specs.Places.{Pair, Place, use_of}
@@ -94,7 +94,7 @@ node_fault ts position code parent node = record {
   id = first_id node;
   loop_id = innermost ts parent node;
   code = code;
-  slot = number_of node;
+  slot = node_number node;
   elem = None;
 }
 

@@ -11,7 +11,8 @@ pub use Rattle.guide_tree.specs.Faults.{FailsAt, HasFault, IsBelow, IsFirstFault
 pub use Rattle.guide_tree.specs.Fits.{fit_again, fit_behind, fit_from, fit_in, fit_next, fit_start, fit_starts}
 pub use Rattle.guide_tree.specs.Grammar.{Derives, Given, IsDerived, IsPart, joined}
 pub use Rattle.guide_tree.specs.Judging.{between_slots, first_in_rows, first_in_size}
-pub use Rattle.guide_tree.specs.Nexts.{Candidate, again, first_fit, into, may_repeat, nexts, nexts_from, nexts_in, place_of, placing_from}
+pub use Rattle.guide_tree.specs.Nexts.{Candidate, again, first_fit, into, may_repeat, nexts, nexts_from, nexts_in, next_place_of}
+pub use Rattle.guide_tree.specs.Nexts.{placing_from}
 pub use Rattle.guide_tree.specs.Nexts.{placing_of, start_of, starts}
 pub use Rattle.guide_tree.specs.Pass.{end_faults, ended, ended_in, entered, fault_of, loop_of, missing, pass, past, step_faults, stepped}
 pub use Rattle.guide_tree.specs.Pass.{stepped_in, stray_fault, structure_faults, too_few, unused}
@@ -27,6 +28,6 @@ pub use Rattle.guide_tree.specs.Structure.{Begins, Has, IsBefore, IsBehind, IsFi
 pub use Rattle.guide_tree.specs.Structure.{IsStructureFault, IsThere, few_code, first_id, innermost, loop_id_at, node_at, node_fault}
 pub use Rattle.guide_tree.specs.Structure.{node_in, node_nth, past_code, stray_code}
 pub use Rattle.guide_tree.specs.Tree.{AnyIn, AnyNode, EachIn, EachNode, GuideTree, Tree, Trees, any_slot, count_in, find_slot}
-pub use Rattle.guide_tree.specs.Tree.{find_slot_in, loop, max_of, min_of, nesting, nesting_in, no_trees, node_count, number_of, numbered}
+pub use Rattle.guide_tree.specs.Tree.{find_slot_in, loop, max_of, min_of, nesting, nesting_in, no_trees, node_count, node_number, numbered}
 pub use Rattle.guide_tree.specs.Tree.{numbered_in, or_else, segment, tree, with_slot_numbers}
 pub use Rattle.guide_tree.specs.View.{guide_of, nodes_view, numbered_guide, view}

@@ -1,5 +1,5 @@
 ghost use Rattle.std.specs.Prelude.{◌≡◌};
-ghost use Rattle.guide_tree.specs.Tree.{number_of};
+ghost use Rattle.guide_tree.specs.Tree.{node_number};
 ghost use Rattle.guide_tree.specs.View.{view};
 
 use crate::slot::Slot;
@@ -28,7 +28,7 @@ pub enum Node {
 impl Node {
     /// The number of its slot, or of its loop.
     pub fn number(&self) -> u32
-        ensures { result ≡ number_of (view self.now) }
+        ensures { result ≡ node_number (view self.now) }
     {
         match self {
             Node::Segment(slot) => slot.number,

@@ -14,13 +14,13 @@ use Rattle.x12_bytes.specs.declared.delims.Delims.{Delims}
 use Rattle.hub_kinds.specs.Words.{by_text}
 use Rattle.elem_rules.specs.Divided.{is_filled}
 use Rattle.guide_tree.specs.Words.{Segment}
-use Rattle.hl_check.specs.Hierarchy.{numbered, number_of, parent_of, level_of, is_named}
+use Rattle.hl_check.specs.Hierarchy.{numbered, hierarchical_id_of, parent_id_of, level_of, is_named}
 use Rattle.hl_check.specs.Known.{KnowsLevels, KnowsNamed}
 use denote.Ref.{Bor}
 
 numbered_more : (q : List ℕ) (hls : List Segment) (h : Segment)
-    → numbered q (hls ++ h ∷ []) ≡ option_or (numbered q hls) (cond (bytes_eq (number_of h) q) (Some h) None)
-numbered_more q hls h = find-append (λ x. bytes_eq (number_of x) q) hls (h ∷ [])
+    → numbered q (hls ++ h ∷ []) ≡ option_or (numbered q hls) (cond (bytes_eq (hierarchical_id_of h) q) (Some h) None)
+numbered_more q hls h = find-append (λ x. bytes_eq (hierarchical_id_of x) q) hls (h ∷ [])
 
 abbrev level_in : Option (Bor (List ℕ)) → Option (List ℕ)
 level_in o = option_map (λ (l : Bor (List ℕ)). l.now) o
@@ -51,7 +51,7 @@ same_found levels hls number q knows e =
     sym (knows number ∙ ap (λ (n : List ℕ). option_map level_of (numbered n hls)) ((bytes_decides number.now q).0 e))
 
 pub level_more : (old new : BTreeMap (Bor (List ℕ)) (Bor (List ℕ))) (number level : Bor (List ℕ)) (hls : List Segment) (h : Segment)
-    → number_of h ≡ number.now → level_of h ≡ level.now → get by_text old number ≡ None
+    → hierarchical_id_of h ≡ number.now → level_of h ≡ level.now → get by_text old number ≡ None
     → ((q : Bor (List ℕ)) → get by_text new q ≡ cond (is_eq (by_text number q)) (Some level) (get by_text old q))
     → KnowsLevels old hls → KnowsLevels new (hls ++ h ∷ [])
 level_more old new number level hls h n l none added knows = λ q.
@@ -69,7 +69,7 @@ is_some_of None (Some l) e s = cc
 is_some_of None None e s = s
 
 pub level_kept : (levels : BTreeMap (Bor (List ℕ)) (Bor (List ℕ))) (number : Bor (List ℕ)) (hls : List Segment) (h : Segment)
-    → number_of h ≡ number.now → is_none (get by_text levels number) ≡ false
+    → hierarchical_id_of h ≡ number.now → is_none (get by_text levels number) ≡ false
     → KnowsLevels levels hls → KnowsLevels levels (hls ++ h ∷ [])
 level_kept levels number hls h n some knows = λ q.
     knows q
@@ -84,7 +84,7 @@ chosen false true c e = refl
 chosen b false c e = absurd (true≢false (sym e))
 
 pub named_more : (old new : BTreeSet (Bor (List ℕ))) (delims : Delims) (parent : Bor (List ℕ)) (hls : List Segment) (h : Segment)
-    → parent_of h ≡ parent.now → is_filled delims parent.now ≡ true
+    → parent_id_of h ≡ parent.now → is_filled delims parent.now ≡ true
     → ((q : Bor (List ℕ)) → contains by_text new q ≡ cond (is_eq (by_text parent q)) true (contains by_text old q))
     → KnowsNamed old delims hls → KnowsNamed new delims (h ∷ hls)
 named_more old new delims parent hls h p filled added knows = λ q.

@@ -14,7 +14,7 @@ use Rattle.x12_bytes.specs.declared.delims.Delims.{Delims}
 use Rattle.guide_tree.specs.declared.rows.HlRule.{HlRule}
 use Rattle.guide_tree.specs.Words.{Segment}
 use Rattle.elem_rules.specs.Divided.{is_filled}
-use Rattle.hl_check.specs.Hierarchy.{number_of, parent_of, level_of, child_of, numbered, is_parent_wrong, is_listed}
+use Rattle.hl_check.specs.Hierarchy.{hierarchical_id_of, parent_id_of, level_of, child_of, numbered, is_parent_wrong, is_listed}
 use Rattle.hl_check.specs.Hierarchy.{is_level_wrong, is_named, IsHierarchyWhole}
 use Rattle.hl_check.specs.Levels.{IsBelow, IsPlaced, HasChildren, LooksWhole, LooksWholeTo}
 
@@ -58,10 +58,10 @@ one_found test (z ∷ zs) (suc p) x e t one =
     ∙ one_found test zs p x e t (λ j y e2 t2. let w : suc j ≡ suc p = one (suc j) y e2 t2 in omega (arith, w))
 
 abbrev AreCounted : List Segment → Type 0
-AreCounted hls = (k : ℕ) (h : Segment) → slice_get hls k ≡ Some h → number_of h ≡ decimal (k + 1)
+AreCounted hls = (k : ℕ) (h : Segment) → slice_get hls k ≡ Some h → hierarchical_id_of h ≡ decimal (k + 1)
 
 one_number : (hls : List Segment) → length hls < 4294967296 → AreCounted hls → (j k : ℕ) (g h : Segment) → slice_get hls j ≡ Some g
-    → slice_get hls k ≡ Some h → number_of g ≡ number_of h → j ≡ k
+    → slice_get hls k ≡ Some h → hierarchical_id_of g ≡ hierarchical_id_of h → j ≡ k
 one_number hls few counted j k g h gj hk same =
     let lj : j < length hls = slice_get_within hls j g gj in
     let lk : k < length hls = slice_get_within hls k h hk in
@@ -72,12 +72,12 @@ one_number hls few counted j k g h gj hk same =
 
 -- no earlier HL has the number of a later one
 number_new : (hls : List Segment) → length hls < 4294967296 → AreCounted hls → (k : ℕ) (h : Segment) → slice_get hls k ≡ Some h
-    → numbered (number_of h) (take k hls) ≡ None
+    → numbered (hierarchical_id_of h) (take k hls) ≡ None
 number_new hls few counted k h hk =
-    none_found (λ g. bytes_eq (number_of g) (number_of h)) (take k hls) (λ j g e.
+    none_found (λ g. bytes_eq (hierarchical_id_of g) (hierarchical_id_of h)) (take k hls) (λ j g e.
     let r = in_take k hls j g e in
-    false_from_ne_true (bytes_eq (number_of g) (number_of h)) (λ t.
-    let s : j ≡ k = one_number hls few counted j k g h r.1 hk (same_text (number_of g) (number_of h) t) in
+    false_from_ne_true (bytes_eq (hierarchical_id_of g) (hierarchical_id_of h)) (λ t.
+    let s : j ≡ k = one_number hls few counted j k g h r.1 hk (same_text (hierarchical_id_of g) (hierarchical_id_of h) t) in
     absurd (omega (arith, s, r.0))))
 
 right_number : (s f : Bool) (o : Option Segment) (same : Bool) → o ≡ None → same ≡ true → (f && (is_some o || (s && not same))) ≡ false
@@ -92,34 +92,34 @@ right_number s f (Some x) same e t = cc
 parent_found : (rule : HlRule) (d : Delims) (hls : List Segment) → length hls < 4294967296 → AreCounted hls → (k : ℕ)
     (parent level : List ℕ) (b : IsBelow rule d hls k parent level) → numbered parent (take k hls) ≡ Some b.above
 parent_found rule d hls few counted k parent level b =
-    one_found (λ g. bytes_eq (number_of g) parent) (take k hls) b.place b.above (to_take k hls b.place b.above b.there b.earlier)
-    (own_text (number_of b.above) parent b.named) (λ j g e t.
+    one_found (λ g. bytes_eq (hierarchical_id_of g) parent) (take k hls) b.place b.above (to_take k hls b.place b.above b.there b.earlier)
+    (own_text (hierarchical_id_of b.above) parent b.named) (λ j g e t.
     one_number hls few counted j b.place g b.above (in_take k hls j g e).1 b.there
-    (same_text (number_of g) parent t ∙ sym b.named))
+    (same_text (hierarchical_id_of g) parent t ∙ sym b.named))
 
 empty_text : (d : Delims) (parent : List ℕ) → parent ≡ [] → is_filled d parent ≡ false
 empty_text d parent e = ap (is_filled d) e
 
 parent_right : (rule : HlRule) (d : Delims) (hls : List Segment) → length hls < 4294967296 → AreCounted hls → (k : ℕ) (h : Segment)
-    → IsPlaced rule d hls k (parent_of h) (level_of h) → is_parent_wrong d (take k hls) h ≡ false
+    → IsPlaced rule d hls k (parent_id_of h) (level_of h) → is_parent_wrong d (take k hls) h ≡ false
 parent_right rule d hls few counted k h (inl r) =
-    ap (λ (b : Bool). b && is_none (numbered (parent_of h) (take k hls))) (empty_text d (parent_of h) r.0)
+    ap (λ (b : Bool). b && is_none (numbered (parent_id_of h) (take k hls))) (empty_text d (parent_id_of h) r.0)
 parent_right rule d hls few counted k h (inr b) =
-    ap (λ (o : Option Segment). is_filled d (parent_of h) && is_none o)
-    (parent_found rule d hls few counted k (parent_of h) (level_of h) b)
+    ap (λ (o : Option Segment). is_filled d (parent_id_of h) && is_none o)
+    (parent_found rule d hls few counted k (parent_id_of h) (level_of h) b)
     ∙ ap (λ (c : Bool). c && false) b.filled
 
 level_right : (rule : HlRule) (d : Delims) (hls : List Segment) → length hls < 4294967296 → AreCounted hls → (k : ℕ) (h : Segment)
-    → IsPlaced rule d hls k (parent_of h) (level_of h) → is_level_wrong rule d (take k hls) h ≡ false
+    → IsPlaced rule d hls k (parent_id_of h) (level_of h) → is_level_wrong rule d (take k hls) h ≡ false
 level_right rule d hls few counted k h (inl r) =
-    let above = option_map_or (λ p. not (is_listed rule (Some (level_of p)) (level_of h))) (numbered (parent_of h) (take k hls)) false in
-    ap (λ (b : Bool). if b then above else not (is_listed rule None (level_of h))) (empty_text d (parent_of h) r.0)
+    let above = option_map_or (λ p. not (is_listed rule (Some (level_of p)) (level_of h))) (numbered (parent_id_of h) (take k hls)) false in
+    ap (λ (b : Bool). if b then above else not (is_listed rule None (level_of h))) (empty_text d (parent_id_of h) r.0)
     ∙ ap not r.1
 level_right rule d hls few counted k h (inr b) =
     let own = not (is_listed rule None (level_of h)) in
-    ap (λ (o : Option Segment). if is_filled d (parent_of h)
+    ap (λ (o : Option Segment). if is_filled d (parent_id_of h)
     then option_map_or (λ p. not (is_listed rule (Some (level_of p)) (level_of h))) o false else own)
-    (parent_found rule d hls few counted k (parent_of h) (level_of h) b)
+    (parent_found rule d hls few counted k (parent_id_of h) (level_of h) b)
     ∙ ap (λ (c : Bool). if c then not (is_listed rule (Some (level_of b.above)) (level_of h)) else own) b.filled
     ∙ ap not b.listed
 
@@ -149,17 +149,17 @@ first_later test (suc n) (y ∷ ys) x e t = first_later test n ys x e t
 -- an HL that announces no children is named by no later one
 not_named : (rule : HlRule) (d : Delims) (hls : List Segment) → length hls < 4294967296 → AreCounted hls
     → LooksWholeTo rule d hls (length hls) → (k : ℕ) (h : Segment) → slice_get hls k ≡ Some h → bytes_eq (child_of h) (codes "0") ≡ true
-    → is_named d (drop (k + 1) hls) (number_of h) ≡ false
+    → is_named d (drop (k + 1) hls) (hierarchical_id_of h) ≡ false
 not_named rule d hls few counted looks k h hk none =
-    false_from_ne_true (is_named d (drop (k + 1) hls) (number_of h)) (λ e.
-    let r = some_later (λ (g : Segment). is_filled d (parent_of g) && bytes_eq (parent_of g) (number_of h)) (k + 1) hls e in
-    let two = and_parts (is_filled d (parent_of r.1)) (bytes_eq (parent_of r.1) (number_of h)) r.4 in
-    by_place r.0 r.1 two.0 (same_text (parent_of r.1) (number_of h) two.1)
+    false_from_ne_true (is_named d (drop (k + 1) hls) (hierarchical_id_of h)) (λ e.
+    let r = some_later (λ (g : Segment). is_filled d (parent_id_of g) && bytes_eq (parent_id_of g) (hierarchical_id_of h)) (k + 1) hls e in
+    let two = and_parts (is_filled d (parent_id_of r.1)) (bytes_eq (parent_id_of r.1) (hierarchical_id_of h)) r.4 in
+    by_place r.0 r.1 two.0 (same_text (parent_id_of r.1) (hierarchical_id_of h) two.1)
     (looks r.0 r.1 (slice_get_within hls r.0 r.1 r.2) r.2).placed)
   where
-    by_place : (j : ℕ) (g : Segment) → is_filled d (parent_of g) ≡ true → parent_of g ≡ number_of h
-        → IsPlaced rule d hls j (parent_of g) (level_of g) → ⊥
-    by_place j g filled named (inl r) = true≢false (sym filled ∙ empty_text d (parent_of g) r.0)
+    by_place : (j : ℕ) (g : Segment) → is_filled d (parent_id_of g) ≡ true → parent_id_of g ≡ hierarchical_id_of h
+        → IsPlaced rule d hls j (parent_id_of g) (level_of g) → ⊥
+    by_place j g filled named (inl r) = true≢false (sym filled ∙ empty_text d (parent_id_of g) r.0)
     by_place j g filled named (inr b) =
         let same : b.place ≡ k = one_number hls few counted b.place k b.above h b.there hk (b.named ∙ named) in
         let at : slice_get hls b.place ≡ slice_get hls k = ap (slice_get hls) same in
@@ -176,12 +176,14 @@ children_right false true true a b = absurd (true≢false (b refl))
 children_right false false n a b = refl
 children_right false true false a b = refl
 
-named_next : (d : Delims) (hls : List Segment) (k : ℕ) (h : Segment) → HasChildren d hls k (number_of h) (child_of h)
-    → bytes_eq (child_of h) (codes "1") ≡ true → is_named d (drop (k + 1) hls) (number_of h) ≡ true
+named_next : (d : Delims) (hls : List Segment) (k : ℕ) (h : Segment) → HasChildren d hls k (hierarchical_id_of h) (child_of h)
+    → bytes_eq (child_of h) (codes "1") ≡ true → is_named d (drop (k + 1) hls) (hierarchical_id_of h) ≡ true
 named_next d hls k h (inl other) e = absurd (true≢false (sym e ∙ other))
 named_next d hls k h (inr n) e =
-    first_later (λ (g : Segment). is_filled d (parent_of g) && bytes_eq (parent_of g) (number_of h)) (k + 1) hls n.next n.there
-    (ap (λ (b : Bool). b && bytes_eq (parent_of n.next) (number_of h)) n.filled ∙ own_text (parent_of n.next) (number_of h) n.named)
+    first_later (λ (g : Segment). is_filled d (parent_id_of g) && bytes_eq (parent_id_of g) (hierarchical_id_of h))
+    (k + 1) hls n.next n.there
+    (ap (λ (b : Bool). b && bytes_eq (parent_id_of n.next) (hierarchical_id_of h)) n.filled ∙ own_text (parent_id_of n.next)
+    (hierarchical_id_of h) n.named)
 
 pub whole_if_looks : (rule : HlRule) (d : Delims) (hls : List Segment) → length hls < 4294967296
     → LooksWholeTo rule d hls (length hls) → IsHierarchyWhole (Some rule) d hls
@@ -190,14 +192,14 @@ whole_if_looks rule d hls few looks k h hk =
     let own : LooksWhole rule d hls k h = looks k h l hk in
     let counted : AreCounted hls = λ j g gj. (looks j g (slice_get_within hls j g gj) gj).number in
     let n : length (take k hls) ≡ k = length-take-le k hls (omega (arith, l)) in
-    let count : bytes_eq (number_of h) (decimal (length (take k hls) + 1)) ≡ true =
-    own_text (number_of h) (decimal (length (take k hls) + 1)) (own.number ∙ ap (λ (m : ℕ). decimal (m + 1)) (sym n)) in (
-      right_number rule.sequential (is_filled d (number_of h)) (numbered (number_of h) (take k hls)) _
+    let count : bytes_eq (hierarchical_id_of h) (decimal (length (take k hls) + 1)) ≡ true =
+    own_text (hierarchical_id_of h) (decimal (length (take k hls) + 1)) (own.number ∙ ap (λ (m : ℕ). decimal (m + 1)) (sym n)) in (
+      right_number rule.sequential (is_filled d (hierarchical_id_of h)) (numbered (hierarchical_id_of h) (take k hls)) _
           (number_new hls few counted k h hk) count,
       parent_right rule d hls few counted k h own.placed,
       level_right rule d hls few counted k h own.placed,
       children_right (bytes_eq (child_of h) (codes "1")) (bytes_eq (child_of h) (codes "0"))
-          (is_named d (drop (k + 1) hls) (number_of h)) (named_next d hls k h own.children)
+          (is_named d (drop (k + 1) hls) (hierarchical_id_of h)) (named_next d hls k h own.children)
           (not_named rule d hls few counted looks k h hk),
     )
 

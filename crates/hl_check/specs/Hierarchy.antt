@@ -22,11 +22,11 @@ abbrev pub is_hl : Segment → Bool
 is_hl s = bytes_eq (id_of s) (codes "HL")
 
 -- HL01, the segment's own number; HL02, its parent's; HL03, its level; HL04, whether it has children
-abbrev pub number_of : Segment → List ℕ
-number_of h = element_of h 1
+abbrev pub hierarchical_id_of : Segment → List ℕ
+hierarchical_id_of h = element_of h 1
 
-abbrev pub parent_of : Segment → List ℕ
-parent_of h = element_of h 2
+abbrev pub parent_id_of : Segment → List ℕ
+parent_id_of h = element_of h 2
 
 abbrev pub level_of : Segment → List ℕ
 level_of h = element_of h 3
@@ -38,18 +38,18 @@ child_of h = element_of h 4
 
 -- the first HL of some with a number
 abbrev pub numbered : (number : List ℕ) → List Segment → Option Segment
-numbered number hls = find (λ h. bytes_eq (number_of h) number) hls
+numbered number hls = find (λ h. bytes_eq (hierarchical_id_of h) number) hls
 
 -- HL01 isn't empty, and is that of an earlier HL, or isn't the count of HLs where the guide asks for it
 abbrev pub is_number_wrong : HlRule → Delims → (earlier : List Segment) → Segment → Bool
 is_number_wrong rule delims earlier h =
-    is_filled delims (number_of h)
-    && (is_some (numbered (number_of h) earlier)
-    || (rule.sequential && not (bytes_eq (number_of h) (decimal (length earlier + 1)))))
+    is_filled delims (hierarchical_id_of h)
+    && (is_some (numbered (hierarchical_id_of h) earlier)
+    || (rule.sequential && not (bytes_eq (hierarchical_id_of h) (decimal (length earlier + 1)))))
 
 -- HL02 isn't empty, and no earlier HL has it
 abbrev pub is_parent_wrong : Delims → (earlier : List Segment) → Segment → Bool
-is_parent_wrong delims earlier h = is_filled delims (parent_of h) && is_none (numbered (parent_of h) earlier)
+is_parent_wrong delims earlier h = is_filled delims (parent_id_of h) && is_none (numbered (parent_id_of h) earlier)
 
 -- a guide's pair of a level and the level of its parent; a root has no parent
 abbrev pub is_pair : (parent : Option (List ℕ)) → (child : List ℕ) → HlPair → Bool
@@ -63,19 +63,19 @@ is_listed rule parent child = list_any (is_pair parent child) rule.pairs
 -- Where HL02 names none it isn't judged.
 abbrev pub is_level_wrong : HlRule → Delims → (earlier : List Segment) → Segment → Bool
 is_level_wrong rule delims earlier h =
-    if is_filled delims (parent_of h)
-    then option_map_or (λ p. not (is_listed rule (Some (level_of p)) (level_of h))) (numbered (parent_of h) earlier) false
+    if is_filled delims (parent_id_of h)
+    then option_map_or (λ p. not (is_listed rule (Some (level_of p)) (level_of h))) (numbered (parent_id_of h) earlier) false
     else not (is_listed rule None (level_of h))
 
 -- some HL02 is this number; an empty one is none
 abbrev pub is_named : Delims → List Segment → (number : List ℕ) → Bool
-is_named delims hls number = list_any (λ h. is_filled delims (parent_of h) && bytes_eq (parent_of h) number) hls
+is_named delims hls number = list_any (λ h. is_filled delims (parent_id_of h) && bytes_eq (parent_id_of h) number) hls
 
 -- HL04 says that there are children and none comes later, or that there are none and one does
 abbrev pub is_child_wrong : Delims → Segment → (later : List Segment) → Bool
 is_child_wrong delims h later =
-    (bytes_eq (child_of h) (codes "1") && not (is_named delims later (number_of h)))
-    || (bytes_eq (child_of h) (codes "0") && is_named delims later (number_of h))
+    (bytes_eq (child_of h) (codes "1") && not (is_named delims later (hierarchical_id_of h)))
+    || (bytes_eq (child_of h) (codes "0") && is_named delims later (hierarchical_id_of h))
 
 -- the HL segments of a body, in their order
 abbrev pub hl_segments : List Segment → List Segment

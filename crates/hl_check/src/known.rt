@@ -1,7 +1,7 @@
 ghost use Rattle.std.specs.Prelude.{◌≡◌, ◌++◌, [], ◌∷◌, List, OnOk, option_map};
 ghost use Rattle.x12_bytes.specs.declared.delims.Delims.{Delims};
 ghost use Rattle.guide_tree.specs.Words.{Segment};
-ghost use Rattle.hl_check.specs.Hierarchy.{numbered, number_of, parent_of, level_of, is_named};
+ghost use Rattle.hl_check.specs.Hierarchy.{numbered, hierarchical_id_of, parent_id_of, level_of, is_named};
 ghost use Rattle.hl_check.specs.Known.{KnowsLevels, KnowsNamed};
 
 use crate::rules::is_filled;
@@ -23,7 +23,7 @@ pub fn add_level<'a>(
     number: &'a [u8],
     level: &'a [u8],
 ) -> Result<(), NoMemory>
-    ensures { OnOk result ((hls : List Segment) (h : Segment) → number_of h ≡ number.entry.now → level_of h ≡ level.entry.now
+    ensures { OnOk result ((hls : List Segment) (h : Segment) → hierarchical_id_of h ≡ number.entry.now → level_of h ≡ level.entry.now
         → KnowsLevels levels.old hls → KnowsLevels levels.new (hls ++ h ∷ [])) }
 {
     if levels.get(number).is_none() {
@@ -38,7 +38,7 @@ pub fn add_named<'a>(
     delims: Delims,
     parent: &'a [u8],
 ) -> Result<(), NoMemory>
-    ensures { OnOk result ((hls : List Segment) (h : Segment) → parent_of h ≡ parent.entry.now
+    ensures { OnOk result ((hls : List Segment) (h : Segment) → parent_id_of h ≡ parent.entry.now
         → KnowsNamed named.old delims hls → KnowsNamed named.new delims (h ∷ hls)) }
 {
     if is_filled(delims, parent) {

@@ -106,9 +106,9 @@ pub enum ElementCode {
 }
 
 impl Code for SegmentCode {
-    ghost use Rattle.hub_kinds.specs.Codes.{segment_text};
+    ghost use Rattle.hub_kinds.specs.Codes.{segment_code_text};
 
-    ghost text = { segment_text };
+    ghost text = { segment_code_text };
 
     fn text(self) -> &'static str {
         match self {
@@ -148,9 +148,9 @@ impl Code for SegmentCode {
 }
 
 impl Code for ElementCode {
-    ghost use Rattle.hub_kinds.specs.Codes.{element_text};
+    ghost use Rattle.hub_kinds.specs.Codes.{element_code_text};
 
-    ghost text = { element_text };
+    ghost text = { element_code_text };
 
     fn text(self) -> &'static str {
         match self {

@@ -11,7 +11,7 @@ use Rattle.x12_segs.specs.Words.{parts, components, occurrences}
 use Rattle.x12_write.specs.Delimiters.{is_delimiter, is_this}
 use Rattle.mailbox.specs.Deliveries.{is_in_the_way}
 use Rattle.mailbox.specs.Mailbox.{mapped, mapped_byte}
-use Rattle.hub_run.specs.SetsRead.{said_by, said_in}
+use Rattle.hub_run.specs.SetsRead.{values_of_segment, said_in}
 use Rattle.hub_run.proofs.Splitting.{all_both, map_as, map_none, parts_all, parts_by_same, parts_changed, parts_lack}
 
 -- delimiters that differ
@@ -231,7 +231,7 @@ module _ (from to : Delims) (r : ℕ) (has : to.repetition ≡ Some r) (apart_fr
       ∙ ap (map (components from)) (occurrences_are text)
 
   pub elements_kept : (elements : List (List ℕ)) → All (All InElement) elements
-      → said_by to (map (mapped from to) elements) ≡ said_by from elements
+      → values_of_segment to (map (mapped from to) elements) ≡ values_of_segment from elements
   elements_kept elements all = map_as (said_in to) (mapped from to) (said_in from) (All InElement) element_kept elements all
 
   -- a segment's
@@ -253,6 +253,6 @@ module _ (from to : Delims) (r : ℕ) (has : to.repetition ≡ Some r) (apart_fr
       (all_both (All InSegment) (All Le) each (parts_all InSegment fe text all) (parts_lack fe text))
 
   pub segment_kept : (text : List ℕ) → All InSegment text
-      → said_by to (parts to.element (mapped from to text)) ≡ said_by from (parts from.element text)
+      → values_of_segment to (parts to.element (mapped from to text)) ≡ values_of_segment from (parts from.element text)
   segment_kept text all =
-      ap (said_by to) (elements_changed text all) ∙ elements_kept (parts from.element text) (in_elements text all)
+      ap (values_of_segment to) (elements_changed text all) ∙ elements_kept (parts from.element text) (in_elements text all)

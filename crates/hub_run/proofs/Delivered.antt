@@ -5,9 +5,9 @@ use Rattle.std.specs.Prelude.{filter, is_none, slice_get, if◌then◌else◌}
 use Rattle.std.specs.List.{All, list_any}
 use Rattle.std.proofs.lemmas.Bool.{and_parts, false≢true, not-true}
 use Rattle.std.proofs.lemmas.List.Elements.{All-append, All-cons, All-head, All-nil, All-tail, All-weaker}
-use Rattle.x12_bytes.specs.Header.{delims_of}
+use Rattle.x12_bytes.specs.Header.{header_delims}
 use Rattle.x12_bytes.specs.declared.delims.Delims.{Delims}
-use Rattle.x12_segs.specs.Words.{is_inner, kind_of, element_of}
+use Rattle.x12_segs.specs.Words.{may_stand_in_set, kind_of, element_of}
 use Rattle.x12_write.specs.Undivided.{CanDivide, IsUndivided}
 use Rattle.moment.specs.Moment.{IsMoment}
 use Rattle.env_index.specs.declared.entry.SetEnvelope.{SetEnvelope}
@@ -21,8 +21,9 @@ use Rattle.mailbox.specs.declared.outcome.Outcome.TheVariants.{DeliveredTo, Held
 use Rattle.judged_text.specs.declared.standing.GroupStanding.{GroupStanding}
 use Rattle.mailbox.specs.Deliveries.{is_not_rejected, is_blocked, is_deliverable, is_delivered_to, is_delivery_to, outcome_at}
 use Rattle.mailbox.specs.Deliveries.{outcome_by, outcomes_on}
-use Rattle.judged_text.specs.Judged.{JudgedValue, PlacedValue, all_sets, delims_in, groups_from, is_fa, is_refused, sets_from, sets_of}
-use Rattle.judged_text.specs.Judged.{standing_at, verdict_on}
+use Rattle.judged_text.specs.Judged.{JudgedValue, PlacedValue, all_sets, delims_in, sets_of_groups_from, is_fa, is_refused, sets_from}
+use Rattle.judged_text.specs.Judged.{sets_of}
+use Rattle.judged_text.specs.Judged.{standing_at, verdict_by_standing}
 use Rattle.mailbox.specs.Mailbox.{code_by}
 use Rattle.mailbox.specs.Numbered.{sender_in}
 use Rattle.checked_text.specs.CheckedText.{CheckedInterchange, IsCheckedAs, acknowledged_to, groups_to, judged}
@@ -49,26 +50,26 @@ pub record IsPlaced (to : Delims) (text : List ℕ) (p : PlacedValue) : Type 0 w
   pub elements : p.interchange.fault ≡ None → AreElementsUndivided to p.group
 
 module _ (to : Delims) (text : List ℕ) (x : JudgedValue) (text_is : x.text ≡ text)
-    (apart : AreApart (delims_of x.interchange.header)) where
+    (apart : AreApart (header_delims x.interchange.header)) where
   abbrev there_in : GroupEntry → Type 0
-  there_in g = All (IsThere text (delims_of x.interchange.header)) g.sets
+  there_in g = All (IsThere text (header_delims x.interchange.header)) g.sets
 
   sets_placed : (g : GroupEntry) (standing : GroupStanding) (n : ℕ) (sets : List SetEnvelope)
-      → All (IsThere text (delims_of x.interchange.header)) sets → (x.fault ≡ None → AreElementsUndivided to g)
+      → All (IsThere text (header_delims x.interchange.header)) sets → (x.fault ≡ None → AreElementsUndivided to g)
       → All (IsPlaced to text) (sets_from x g standing n sets)
   sets_placed g standing n [] there elements = All-nil (IsPlaced to text)
   sets_placed g standing n (set ∷ sets) there elements =
-      let T : SetEnvelope → Type 0 = IsThere text (delims_of x.interchange.header) in
+      let T : SetEnvelope → Type 0 = IsThere text (header_delims x.interchange.header) in
       All-cons (IsPlaced to text) (record { interchange = x; group = g; standing = standing; index = n; set = set })
       (sets_from x g standing (n + 1) sets)
       (record { text_is = text_is; apart = apart; there = All-head T set sets there; elements = elements })
       (sets_placed g standing (n + 1) sets (All-tail T set sets there) elements)
 
   groups_placed : (n : ℕ) (gs : List GroupEntry) → All there_in gs → (x.fault ≡ None → All (AreElementsUndivided to) gs)
-      → All (IsPlaced to text) (groups_from x n gs)
+      → All (IsPlaced to text) (sets_of_groups_from x n gs)
   groups_placed n [] there elements = All-nil (IsPlaced to text)
   groups_placed n (g ∷ gs) there elements =
-      All-append (IsPlaced to text) (sets_from x g (standing_at x.standings n) 0 g.sets) (groups_from x (n + 1) gs)
+      All-append (IsPlaced to text) (sets_from x g (standing_at x.standings n) 0 g.sets) (sets_of_groups_from x (n + 1) gs)
       (sets_placed g (standing_at x.standings n) 0 g.sets (All-head there_in g gs there)
       (λ none. All-head (AreElementsUndivided to) g gs (elements none)))
       (groups_placed (n + 1) gs (All-tail there_in g gs there) (λ none. All-tail (AreElementsUndivided to) g gs (elements none)))
@@ -143,7 +144,8 @@ module _ (setup : SetupValue) (place : ℕ) (partner : Partner) (at_place : slic
 
   pub faultless : is_deliverable p ≡ true → p.interchange.fault ≡ None
   faultless deliverable =
-      let last = and_parts (is_not_rejected (verdict_on p) && p.standing.clear && not (is_fa p.group)) (not (is_refused p.interchange))
+      let last = and_parts (is_not_rejected (verdict_by_standing p) && p.standing.clear && not (is_fa p.group)) (not
+      (is_refused p.interchange))
       deliverable in
       let refused : is_refused p.interchange ≡ false = not-true (is_refused p.interchange) last.1 in
       none_is p.interchange.fault (was_true (is_none p.interchange.fault) refused)
@@ -176,7 +178,7 @@ is_ready setup place partner text p at_place sound own placed delivered =
         apart = placed.apart;
         header = header_raw text from p.set placed.there;
         inner = subst (All (IsRawView from)) (sym inner) (inner_raw text from p.set placed.there);
-        kinds = subst (All (λ seg. is_inner (kind_of seg) ≡ true)) (sym inner) (inner_kinds text from p.set placed.there);
+        kinds = subst (All (λ seg. may_stand_in_set (kind_of seg) ≡ true)) (sym inner) (inner_kinds text from p.set placed.there);
         free = free.1;
       };
       functional_id = elements.functional_id;

@@ -14,14 +14,14 @@ use Rattle.x12_segs.specs.Words.{parts}
 use Rattle.x12_write.specs.Segment.{Segment, segment_text, trimmed}
 use Rattle.x12_write.specs.Undivided.{IsUndivided}
 use Rattle.ack_999.proofs.ReadBack.{IsReadable, trimmed-all}
-use Rattle.hub_run.specs.SetsRead.{Said, Segments, has_id, said_by, sets_behind, sets_found}
+use Rattle.hub_run.specs.SetsRead.{Said, Segments, has_id, values_of_segment, sets_read, sets_found}
 use Rattle.hub_run.proofs.Bodies.{IsBody, Lacks, bodies_text, text_read}
 use Rattle.hub_run.proofs.Marked.{lacks_element, lacks_terminator}
 use Rattle.hub_run.proofs.SetTexts.{IsDivided, body_of, divided_body, divided_parts}
 
 -- what sets say
 abbrev pub all_said : Delims → List Segments → List (List (List Said))
-all_said d sets = map (map (said_by d)) sets
+all_said d sets = map (map (values_of_segment d)) sets
 
 -- a text is made of segments in which sets are found that say this, whatever follows
 pub record IsMade (d : Delims) (text : List ℕ) (said : List (List (List Said))) : Type 0 where
@@ -29,7 +29,7 @@ pub record IsMade (d : Delims) (text : List ℕ) (said : List (List (List Said))
   pub is : text ≡ bodies_text d bodies
   pub all : All (IsBody d) bodies
   pub gives : (ss : Segments)
-      → all_said d (sets_behind None (map (parts d.element) bodies ++ ss)) ≡ said ++ all_said d (sets_behind None ss)
+      → all_said d (sets_read None (map (parts d.element) bodies ++ ss)) ≡ said ++ all_said d (sets_read None ss)
 
 pub nothing_made : (d : Delims) → IsMade d [] []
 nothing_made d = record { bodies = []; is = refl; all = All-nil (IsBody d); gives = λ ss. refl }
@@ -42,12 +42,12 @@ made_behind d a b xs ys front back = record {
       ∙ sym (flat_map-append (λ (body : List ℕ). body ++ d.terminator ∷ []) front.bodies back.bodies);
   all = All-append (IsBody d) front.bodies back.bodies front.all back.all;
   gives = λ ss.
-      ap (λ (segs : Segments). all_said d (sets_behind None (segs ++ ss))) (map-append (parts d.element) front.bodies back.bodies)
-      ∙ ap (λ (segs : Segments). all_said d (sets_behind None segs))
+      ap (λ (segs : Segments). all_said d (sets_read None (segs ++ ss))) (map-append (parts d.element) front.bodies back.bodies)
+      ∙ ap (λ (segs : Segments). all_said d (sets_read None segs))
       (append_assoc (map (parts d.element) front.bodies) (map (parts d.element) back.bodies) ss)
       ∙ front.gives (map (parts d.element) back.bodies ++ ss)
       ∙ ap (λ (more : List (List (List Said))). xs ++ more) (back.gives ss)
-      ∙ sym (append_assoc xs ys (all_said d (sets_behind None ss)));
+      ∙ sym (append_assoc xs ys (all_said d (sets_read None ss)));
 }
 
 -- read by the receiver, just these sets are found
@@ -55,7 +55,7 @@ pub made_found : (d : Delims) (text : List ℕ) (said : List (List (List Said)))
 made_found d text said made =
     let segs : Segments = map (parts d.element) made.bodies in
     ap (λ (t : List ℕ). all_said d (sets_found d t)) made.is
-    ∙ ap (λ (s : Segments). all_said d (sets_behind None s)) (text_read d made.bodies made.all ∙ sym (append-nil segs))
+    ∙ ap (λ (s : Segments). all_said d (sets_read None s)) (text_read d made.bodies made.all ∙ sym (append-nil segs))
     ∙ made.gives []
     ∙ append-nil said
 
@@ -81,9 +81,9 @@ other_made d s other readable off = record {
   all = All-cons (IsBody d) (body_of d s.id (trimmed s.elements)) [] (divided_body d s.id (trimmed s.elements) other (divided d s readable))
       (All-nil (IsBody d));
   gives = λ ss.
-      ap (λ (seg : List (List ℕ)). all_said d (sets_behind None (seg ∷ ss)))
+      ap (λ (seg : List (List ℕ)). all_said d (sets_read None (seg ∷ ss)))
       (divided_parts d s.id (trimmed s.elements) (divided d s readable))
-      ∙ ap (λ (b : Bool). all_said d (cond b (sets_behind (Some ((s.id ∷ trimmed s.elements) ∷ [])) ss) (sets_behind None ss))) off;
+      ∙ ap (λ (b : Bool). all_said d (cond b (sets_read (Some ((s.id ∷ trimmed s.elements) ∷ [])) ss) (sets_read None ss))) off;
 }
 
 -- a set is found from its ST to its SE
@@ -91,25 +91,25 @@ abbrev pub IsBetween : List (List ℕ) → Type 0
 IsBetween s = (has_id s (codes "ST") ≡ false) × (has_id s (codes "SE") ≡ false)
 
 past_inner : (begun inner ss : Segments) → All IsBetween inner
-    → sets_behind (Some begun) (inner ++ ss) ≡ sets_behind (Some (begun ++ inner)) ss
-past_inner begun [] ss all = ap (λ (o : Segments). sets_behind (Some o) ss) (sym (append-nil begun))
+    → sets_read (Some begun) (inner ++ ss) ≡ sets_read (Some (begun ++ inner)) ss
+past_inner begun [] ss all = ap (λ (o : Segments). sets_read (Some o) ss) (sym (append-nil begun))
 past_inner begun (s ∷ inner) ss all =
     let here : IsBetween s = All-head IsBetween s inner all in
     let rest : Segments = inner ++ ss in
-    ap (λ (b : Bool). cond b (sets_behind (Some (s ∷ [])) rest) (cond (has_id s (codes "SE")) ((begun ++ s ∷ []) ∷ sets_behind None rest)
-    (sets_behind (Some (begun ++ s ∷ [])) rest))) here.0
-    ∙ ap (λ (b : Bool). cond b ((begun ++ s ∷ []) ∷ sets_behind None rest) (sets_behind (Some (begun ++ s ∷ [])) rest)) here.1
+    ap (λ (b : Bool). cond b (sets_read (Some (s ∷ [])) rest) (cond (has_id s (codes "SE")) ((begun ++ s ∷ []) ∷ sets_read None rest)
+    (sets_read (Some (begun ++ s ∷ [])) rest))) here.0
+    ∙ ap (λ (b : Bool). cond b ((begun ++ s ∷ []) ∷ sets_read None rest) (sets_read (Some (begun ++ s ∷ [])) rest)) here.1
     ∙ past_inner (begun ++ s ∷ []) inner ss (All-tail IsBetween s inner all)
-    ∙ ap (λ (o : Segments). sets_behind (Some o) ss) (append_assoc begun (s ∷ []) inner)
+    ∙ ap (λ (o : Segments). sets_read (Some o) ss) (append_assoc begun (s ∷ []) inner)
 
 pub one_found : (st se : List (List ℕ)) (inner ss : Segments) → has_id st (codes "ST") ≡ true → has_id se (codes "ST") ≡ false
     → has_id se (codes "SE") ≡ true → All IsBetween inner
-    → sets_behind None (st ∷ (inner ++ se ∷ ss)) ≡ (st ∷ (inner ++ se ∷ [])) ∷ sets_behind None ss
+    → sets_read None (st ∷ (inner ++ se ∷ ss)) ≡ (st ∷ (inner ++ se ∷ [])) ∷ sets_read None ss
 one_found st se inner ss begins goes_on ends all =
     let rest : Segments = inner ++ se ∷ ss in
     let begun : Segments = st ∷ inner in
-    ap (λ (b : Bool). cond b (sets_behind (Some (st ∷ [])) rest) (sets_behind None rest)) begins
+    ap (λ (b : Bool). cond b (sets_read (Some (st ∷ [])) rest) (sets_read None rest)) begins
     ∙ past_inner (st ∷ []) inner (se ∷ ss) all
-    ∙ ap (λ (b : Bool). cond b (sets_behind (Some (se ∷ [])) ss) (cond (has_id se (codes "SE")) ((begun ++ se ∷ []) ∷ sets_behind None ss)
-    (sets_behind (Some (begun ++ se ∷ [])) ss))) goes_on
-    ∙ ap (λ (b : Bool). cond b ((begun ++ se ∷ []) ∷ sets_behind None ss) (sets_behind (Some (begun ++ se ∷ [])) ss)) ends
+    ∙ ap (λ (b : Bool). cond b (sets_read (Some (se ∷ [])) ss) (cond (has_id se (codes "SE")) ((begun ++ se ∷ []) ∷ sets_read None ss)
+    (sets_read (Some (begun ++ se ∷ [])) ss))) goes_on
+    ∙ ap (λ (b : Bool). cond b ((begun ++ se ∷ []) ∷ sets_read None ss) (sets_read (Some (begun ++ se ∷ [])) ss)) ends

@@ -4,7 +4,7 @@ use Rattle.std.specs.Prelude.{slice_get, slice_index_or}
 use Rattle.std.specs.List.{All}
 use Rattle.std.proofs.lemmas.List.Elements.{All-cons, All-get_or, All-head, All-nil, All-tail}
 use Rattle.std.proofs.lemmas.Option.{get_or_from_slice_get, slice_get_within}
-use Rattle.x12_bytes.specs.Header.{delims_of, header_at}
+use Rattle.x12_bytes.specs.Header.{header_delims, header_at}
 use Rattle.x12_bytes.specs.HeaderTest.{is_head}
 use Rattle.x12_bytes.specs.declared.delims.Delims.{Delims}
 use Rattle.x12_segs.specs.Words.{SegValue}
@@ -22,7 +22,7 @@ HasHeader text d set = (set_parts text (span_of d set)).header ≡ set.header
 
 -- that is so of each set of an interchange
 abbrev pub HaveHeaders : (text : List ℕ) → InterchangeEntry → Type 0
-HaveHeaders text x = All (λ (group : GroupEntry). All (HasHeader text (delims_of x.header)) group.sets) x.content.groups
+HaveHeaders text x = All (λ (group : GroupEntry). All (HasHeader text (header_delims x.header)) group.sets) x.content.groups
 
 pub at_index : {A : Type 0} (P : A → Type 0) (xs : List A) (i : ℕ) (x : A) → slice_get xs i ≡ Some x → All P xs → P x
 at_index P xs i x is all = subst P (get_or_from_slice_get xs i x x is) (All-get_or P xs i x (slice_get_within xs i x is) all)
@@ -49,7 +49,7 @@ module _ (text : List ℕ) (d : Delims) where
 read_headers : (text : List ℕ) (x : InterchangeEntry) → is_head text x.start ≡ true → IsReadIn text x → HaveHeaders text x
 read_headers text x head is =
     subst (HaveHeaders text) (sym is.read)
-    (headers_in text (delims_of (header_at text x.start)) is.tree.members (all_alone text x.start is.tree head is.derived))
+    (headers_in text (header_delims (header_at text x.start)) is.tree.members (all_alone text x.start is.tree head is.derived))
 
 chain_headers : (text : List ℕ) (from : ℕ) (es : List IndexEntry) → ChainFrom text from (extents_of es) → All (IsEntryOf text) es
     → All (λ (e : IndexEntry). HaveHeaders text e.interchange) es

@@ -8,7 +8,7 @@ use Rattle.x12_write.specs.Undivided.{CanDivide, IsUndivided}
 use Rattle.guide_tree.specs.declared.fault.GuideFault.TheVariants as fault
 use Rattle.guide_tree.specs.declared.node.Loop.{Loop}
 use Rattle.guide_tree.specs.Words.{is_bounded, is_loop_id, is_use_range, IsWellFormed, AnyIn, AnyNode, EachIn, EachNode, GuideTree, Tree}
-use Rattle.guide_tree.specs.Words.{Trees, loop, no_trees, number_of, segment, tree}
+use Rattle.guide_tree.specs.Words.{Trees, loop, no_trees, node_number, segment, tree}
 use Rattle.hub_run.specs.Quotable.{IsGuideQuotable, IsNodeQuotable, IsRowQuotable}
 use Rattle.hub_run.proofs.QuotedElements.{word_undivided}
 
@@ -27,7 +27,7 @@ IsGuideNamed d g = AreNodesNamed d g.nodes
 
 -- a node fails the bounds
 abbrev Fails : ℕ → Tree → Type 0
-Fails k t = (number_of t ≡ k) × IsFalse (is_bounded t)
+Fails k t = (node_number t ≡ k) × IsFalse (is_bounded t)
 
 module _ (d : Delims) (can : CanDivide d) where
   loop_named : (l : Loop) (ts : Trees) → (Fails l.number (loop l ts) → ⊥) → IsUndivided d l.id

@@ -13,7 +13,7 @@ use Rattle.std.proofs.lemmas.List.Elements.{All-take}
 use Rattle.std.proofs.lemmas.List.Elements.{All-weaker}
 use Rattle.std.proofs.lemmas.List.Folds.{flat_map-map}
 use Rattle.x12_bytes.specs.declared.delims.Delims.{Delims}
-use Rattle.x12_segs.specs.Words.{is_inner, kind_of, parts, SegValue, elements_of, part_or_empty}
+use Rattle.x12_segs.specs.Words.{may_stand_in_set, kind_of, parts, SegValue, elements_of, part_or_empty}
 use Rattle.x12_write.specs.Number.{padded_number}
 use Rattle.x12_write.specs.Segment.{elements_text}
 use Rattle.x12_write.specs.Undivided.{CanDivide, IsUndivided}
@@ -22,7 +22,7 @@ use Rattle.x12_write.proofs.Trimming.{trimmed-push_full}
 use Rattle.mailbox.specs.Deliveries.{inner_in, is_blocked, is_in_the_way, is_text_in_the_way, kept_parts}
 use Rattle.judged_text.specs.Judged.{PlacedValue, delims_in}
 use Rattle.mailbox.specs.Mailbox.{inner_text, mapped, set_header_text, set_text, set_trailer_text}
-use Rattle.hub_run.specs.SetsRead.{Said, Segments, header_said, plainly, said_by, said_in, set_said, sets_behind}
+use Rattle.hub_run.specs.SetsRead.{Said, Segments, header_said, plainly, values_of_segment, said_in, set_said, sets_read}
 use Rattle.hub_run.specs.SetsRead.{trailer_said}
 use Rattle.hub_run.proofs.Bodies.{IsBody, Lacks, bodies_text}
 use Rattle.hub_run.proofs.Changing.{AreApart}
@@ -43,7 +43,7 @@ pub record IsFit (to : Delims) (p : PlacedValue) : Type 0 where
   pub apart : AreApart (delims_in p)
   pub header : IsRawView (delims_in p) p.set.header
   pub inner : All (IsRawView (delims_in p)) (inner_in p)
-  pub kinds : All (λ seg. is_inner (kind_of seg) ≡ true) (inner_in p)
+  pub kinds : All (λ seg. may_stand_in_set (kind_of seg) ≡ true) (inner_in p)
   pub free : is_blocked to p ≡ false
 
 all_back : {A : Type 0} (P : A → Type 0) (xs ys : List A) → All P (xs ++ ys) → All P ys
@@ -171,7 +171,7 @@ module _ (to : Delims) (marked : IsMarked to) (can : CanDivide to) (p : PlacedVa
   number_said : said_in to number ≡ plainly number
   number_said = said_plainly number (padded_number-undivided (inner_delims to marked.r) marked.inside 4 n)
 
-  st_said : said_by to (codes "ST" ∷ st_elements) ≡ header_said (said_by from es) n
+  st_said : values_of_segment to (codes "ST" ∷ st_elements) ≡ header_said (values_of_segment from es) n
   st_said =
       let id : List ℕ = codes "ST" in
       let f : List ℕ → Said = said_in to in
@@ -223,7 +223,7 @@ module _ (to : Delims) (marked : IsMarked to) (can : CanDivide to) (p : PlacedVa
       ap (λ (list : List (List ℕ)). body_of to (codes "SE") list ++ to.terminator ∷ [])
       (trimmed-push_full (decimal count ∷ []) number number_some)
 
-  se_said : said_by to (codes "SE" ∷ se_elements) ≡ trailer_said count n
+  se_said : values_of_segment to (codes "SE" ∷ se_elements) ≡ trailer_said count n
   se_said =
       let id : List ℕ = codes "SE" in
       let total : List ℕ = decimal count in
@@ -257,8 +257,9 @@ module _ (to : Delims) (marked : IsMarked to) (can : CanDivide to) (p : PlacedVa
   pub inner_found : map (parts to.element) inner_bodies ≡ map found_in inner
   inner_found = map_as (parts to.element) (λ (seg : SegValue). change seg.bytes) found_in Inner (λ seg is. refl) inner inner_all
 
-  all_inner_said : map (said_by to) (map found_in inner) ≡ map (λ (seg : SegValue). said_by from (elements_of seg)) inner
-  all_inner_said = map_as (said_by to) found_in (λ (seg : SegValue). said_by from (elements_of seg)) Inner
+  all_inner_said : map (values_of_segment to) (map found_in inner) ≡ map (λ (seg : SegValue). values_of_segment from
+      (elements_of seg)) inner
+  all_inner_said = map_as (values_of_segment to) found_in (λ (seg : SegValue). values_of_segment from (elements_of seg)) Inner
       (λ seg is. inner_said from to marked can fit.apart seg is.0 is.1) inner inner_all
 
   letters : (word : List ℕ) → Type 0
@@ -266,14 +267,14 @@ module _ (to : Delims) (marked : IsMarked to) (can : CanDivide to) (p : PlacedVa
 
   inner_between : All IsBetween (map found_in inner)
   inner_between =
-      let Both : SegValue → Type 0 = λ seg. Inner seg × (is_inner (kind_of seg) ≡ true) in
+      let Both : SegValue → Type 0 = λ seg. Inner seg × (may_stand_in_set (kind_of seg) ≡ true) in
       let P : ℕ → Type 0 = λ b. is_ascii_alphanumeric b ≡ true in
       let st : All P (codes "ST") = All-from_recursion P (codes "ST") (refl, (refl, tt)) in
       let se : All P (codes "SE") = All-from_recursion P (codes "SE") (refl, (refl, tt)) in
       All-map IsBetween found_in inner (All-weaker Both (λ seg. IsBetween (found_in seg)) (λ seg is. (
         inner_id from to marked can fit.apart seg (codes "ST") is.0.0 is.0.1 st refl is.1,
         inner_id from to marked can fit.apart seg (codes "SE") is.0.0 is.0.1 se refl is.1,
-      )) inner (all_both Inner (λ seg. is_inner (kind_of seg) ≡ true) inner inner_all fit.kinds))
+      )) inner (all_both Inner (λ seg. may_stand_in_set (kind_of seg) ≡ true) inner inner_all fit.kinds))
 
   -- the whole set
   abbrev pub set_bodies : List (List ℕ)
@@ -296,13 +297,13 @@ module _ (to : Delims) (marked : IsMarked to) (can : CanDivide to) (p : PlacedVa
       (All-append (IsBody to) inner_bodies (se_body ∷ []) inner_made (All-cons (IsBody to) se_body []
       (divided_body to (codes "SE") se_elements marked.apart.element_terminator se_divided) (All-nil (IsBody to))))
 
-  set_found : (ss : Segments) → all_said to (sets_behind None (map (parts to.element) set_bodies ++ ss))
-      ≡ set_said p n ∷ all_said to (sets_behind None ss)
+  set_found : (ss : Segments) → all_said to (sets_read None (map (parts to.element) set_bodies ++ ss))
+      ≡ set_said p n ∷ all_said to (sets_read None ss)
   set_found ss =
       let st : List (List ℕ) = codes "ST" ∷ st_elements in
       let se : List (List ℕ) = codes "SE" ∷ se_elements in
       let here : Segments = map found_in inner in
-      let f : Segments → List (List (List Said)) = λ segs. all_said to (sets_behind None segs) in
+      let f : Segments → List (List (List Said)) = λ segs. all_said to (sets_read None segs) in
       let behind : map (parts to.element) (inner_bodies ++ se_body ∷ []) ++ ss ≡ here ++ se ∷ ss =
       ap (λ (segs : Segments). segs ++ ss) (map-append (parts to.element) inner_bodies (se_body ∷ [])
       ∙ ap (λ (segs : Segments). segs ++ parts to.element se_body ∷ []) inner_found
@@ -313,10 +314,10 @@ module _ (to : Delims) (marked : IsMarked to) (can : CanDivide to) (p : PlacedVa
       ∙ ap (λ (segs : Segments). f (st ∷ segs)) behind
       ∙ ap (all_said to) (one_found st se here ss refl refl refl inner_between)
       ∙ ap (λ (one : List (List Said)). one ∷ f ss) (
-      ap (λ (s : List Said). s ∷ map (said_by to) (here ++ se ∷ [])) st_said
-      ∙ ap (λ (more : List (List Said)). header_said (said_by from es) n ∷ more) (map-append (said_by to) here (se ∷ [])
-      ∙ ap (λ (more : List (List Said)). more ++ said_by to se ∷ []) all_inner_said
-      ∙ ap (λ (s : List Said). map (λ (seg : SegValue). said_by from (elements_of seg)) inner ++ s ∷ []) se_said))
+      ap (λ (s : List Said). s ∷ map (values_of_segment to) (here ++ se ∷ [])) st_said
+      ∙ ap (λ (more : List (List Said)). header_said (values_of_segment from es) n ∷ more) (map-append (values_of_segment to) here (se ∷ [])
+      ∙ ap (λ (more : List (List Said)). more ++ values_of_segment to se ∷ []) all_inner_said
+      ∙ ap (λ (s : List Said). map (λ (seg : SegValue). values_of_segment from (elements_of seg)) inner ++ s ∷ []) se_said))
 
   pub set_made : IsMade to (set_text to p n) (set_said p n ∷ [])
   set_made = record { bodies = set_bodies; is = text_of_set; all = set_all; gives = set_found }

@@ -20,7 +20,7 @@ use Rattle.partner_setup.specs.declared.partner.Partner.{Partner}
 use Rattle.partner_setup.specs.Names.{and_some, those_at}
 use Rattle.partner_setup.specs.Setup.{SetupValue, guide_of, guides_of, is_for_set, places_of}
 use Rattle.partner_setup.specs.Sound.{IsSoundPartner, IsSoundSetup}
-use Rattle.set_check.specs.Checked.{said_by}
+use Rattle.set_check.specs.Checked.{guide_tree_of}
 use Rattle.checked_text.specs.Answers.{SentValue}
 use Rattle.checked_text.specs.CheckedText.{sent_by}
 use Rattle.checked_text.specs.Settled.{settled_faults}
@@ -72,13 +72,13 @@ module _ (d : Delims) (can : CanDivide d) where
     nodes_quoted no_trees plain = tt
     nodes_quoted (tree t ts) plain = (node_quoted t plain.0, nodes_quoted ts plain.1)
 
-  guide_quoted : (o : Option GuideRows) → IfSome o IsGuidePlain → IfSome (said_by o) (IsGuideQuotable d)
+  guide_quoted : (o : Option GuideRows) → IfSome o IsGuidePlain → IfSome (guide_tree_of o) (IsGuideQuotable d)
   guide_quoted None plain = tt
   guide_quoted (Some g) plain = nodes_quoted (view.guide_of g).nodes plain
 
   module _ (setup : SetupValue) (plain : All IsGuidePlain setup.guides) where
     found_quoted : (sender : ℕ) (group version set : List ℕ)
-        → IfSome (said_by (guide_of setup sender group version set)) (IsGuideQuotable d)
+        → IfSome (guide_tree_of (guide_of setup sender group version set)) (IsGuideQuotable d)
     found_quoted sender group version set =
         guide_quoted (guide_of setup sender group version set)
         (found_one IsGuidePlain (is_for_set group version set) (guides_of setup sender)
@@ -88,7 +88,7 @@ module _ (d : Delims) (can : CanDivide d) where
         → IsGroupQuotable d (sent_by text setup place e) group
     group_quoted text place e group =
         everywhere (λ (set : SetEnvelope). IfSome
-        (said_by (guide_of setup place (element_of group.header 1) (element_of group.header 8) (element_of set.header 1)))
+        (guide_tree_of (guide_of setup place (element_of group.header 1) (element_of group.header 8) (element_of set.header 1)))
         (IsGuideQuotable d)) (λ set. found_quoted place (element_of group.header 1) (element_of group.header 8) (element_of set.header 1))
         group.sets
 

@@ -24,7 +24,7 @@ use Rattle.loop_match.specs.LoopIds.{loop_id_of}
 use Rattle.loop_match.specs.PlacedSegments.{PlacedSegment, placed_segments}
 use Rattle.hl_check.specs.Hierarchy.{IsFaultAmong, IsHlFault, hl_fault, hls_of, is_hl}
 use Rattle.depend_check.specs.Dependencies.{IsTargetBroken, element_fault, unused_fault, use_fault}
-use Rattle.set_check.specs.SetFaults.{IsErrorIn, IsFaultUnder, IsRuleFault, IsSetFault, told_by}
+use Rattle.set_check.specs.SetFaults.{IsErrorIn, IsFaultUnder, IsRuleFault, IsSetFault, fault_of_element}
 use Rattle.set_check.specs.SetParts.{SetParts, end_position}
 use Rattle.ack_999.specs.ReadBack.{IsQuotableElement, IsQuotableFault}
 use Rattle.hub_run.specs.Quotable.{IsRowQuotable}
@@ -76,7 +76,7 @@ module _ (d : Delims) (separator : IsUndivided d (d.component ∷ [])) where
       → IsErrorIn ts parts given f → Q f
   of_error ts parts given f names error =
       let rows : All (IsRowQuotable d) error.slot.elements = rows_at d ts error.place error.slot error.leads names in
-      let own : Q (told_by (error.index + 2) error.segment (loop_id_of ts error.place) error.slot error.elem) = record {
+      let own : Q (fault_of_element (error.index + 2) error.segment (loop_id_of ts error.place) error.slot error.elem) = record {
         loop_id = loop_of d ts error.place names;
         elem = of_element parts.delims error.segment error.slot error.elem rows error.wrong;
       } in

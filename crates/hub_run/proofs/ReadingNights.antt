@@ -27,7 +27,7 @@ use Rattle.ack_999.specs.ReadBack.{written_parts}
 use Rattle.ack_999.proofs.ReadBack.{IsReadable}
 use Rattle.ack_999.specs.Report.{shows_sets, text_999}
 use Rattle.checked_text.specs.declared.answered.AnsweredGroup.{AnsweredGroup}
-use Rattle.checked_text.specs.Acknowledgments.{acknowledgment_text, groups_of, present, reports_from, ta1_of}
+use Rattle.checked_text.specs.Acknowledgments.{acknowledgment_text, acknowledgment_group_count, present, reports_from, ta1_of}
 use Rattle.checked_text.specs.Answers.{SentValue}
 use Rattle.checked_text.specs.CheckedText.{CheckedInterchange, AreCheckedAs, IsCheckedAs, acknowledged_to, acknowledgments_from}
 use Rattle.checked_text.specs.CheckedText.{AreAnswersBy, acknowledgment_of, is_acknowledged_to, sent_by}
@@ -37,7 +37,7 @@ use Rattle.night_writing.specs.declared.night.Night.{Night}
 use Rattle.night_writing.specs.Night.{IsNight, acks_of}
 use Rattle.hub_run.specs.Quotable.{IsGroupQuotable}
 use Rattle.hub_run.specs.ReadBack.{AreReadBack, IsReadBack, IsResponseTo, SentSet}
-use Rattle.hub_run.specs.ReadBack.{sets_in, sets_in_group, sets_told_to}
+use Rattle.hub_run.specs.ReadBack.{answered_sets_in, sets_in_group, sets_told_to}
 use Rattle.hub_run.specs.Responses.{Response, responses_behind}
 use Rattle.hub_run.specs.Ta1sRead.{AreTa1sReadBack, AreTa1sReadBackBy, Ta1, ta1s_by, ta1s_of, ta1s_to, ta1s_told_to}
 use Rattle.hub_run.specs.Told.{groups_told, has_responses, is_from, is_told_to, note_to}
@@ -96,7 +96,7 @@ reports_read : (d : Delims) → CanDivide d → IsUndivided d (d.component ∷ [
     (groups : List GroupEntry) (answers : List (Option AnsweredGroup))
     → All (IsGroupRead d sent) groups → All (IsGroupQuotable d sent) (responded_groups groups)
     → AreAllPairs (λ m group answered. IsAnsweredGroup sent group answered) groups answers
-    → AreResponses d (sets_in sent groups) [] (texts_in_row (reports_from d n (present answers)))
+    → AreResponses d (answered_sets_in sent groups) [] (texts_in_row (reports_from d n (present answers)))
 reports_read d can separator sent n [] [] headers quotable are = no_responses d
 reports_read d can separator sent n [] (a ∷ more) headers quotable are = absurd (omega (arith, are.count))
 reports_read d can separator sent n (g ∷ gs) [] headers quotable are = absurd (omega (arith, are.count))
@@ -231,7 +231,7 @@ module _ (text : List ℕ) (setup : SetupValue) (at : List ℕ) (moment : IsMome
   Quotable x = All (IsGroupQuotable d (sent_by text setup place x)) (responded_groups (groups_told x))
 
   abbrev sets_of_entry : IndexEntry → List SentSet
-  sets_of_entry x = sets_in (sent_by text setup place x) (groups_told x)
+  sets_of_entry x = answered_sets_in (sent_by text setup place x) (groups_told x)
 
   -- the groups that are reported of an interchange with this fault
   abbrev told_by : Option InterchangeFault → IndexEntry → List GroupEntry
@@ -240,7 +240,7 @@ module _ (text : List ℕ) (setup : SetupValue) (at : List ℕ) (moment : IsMome
   reports_here : (entry : IndexEntry) (answers : List (Option AnsweredGroup)) (fault : Option InterchangeFault) → entry.fault ≡ fault
       → IsRead text entry → AreAnswersBy text setup entry fault (Some place) answers
       → All (IsGroupQuotable d (sent_by text setup place entry)) (responded_groups (told_by fault entry))
-      → AreResponses d (sets_in (sent_by text setup place entry) (told_by fault entry)) []
+      → AreResponses d (answered_sets_in (sent_by text setup place entry) (told_by fault entry)) []
       (texts_in_row (reports_from d 1 (present answers)))
   reports_here entry answers (Some f) same read are quotable =
       subst (λ (given : List (Option AnsweredGroup)). AreResponses d [] [] (texts_in_row (reports_from d 1 (present given)))) (sym are)
@@ -272,7 +272,7 @@ module _ (text : List ℕ) (setup : SetupValue) (at : List ℕ) (moment : IsMome
       (acknowledgments_from setup p at k g (acknowledged_to place xs))
 
   one_in_front : (k g : ℕ) (entry : IndexEntry) (x : CheckedInterchange) (es : List IndexEntry) (xs : List CheckedInterchange)
-      → IsRead text entry → IsCheckedAs text setup entry x → AreRead (k + 1) (g + groups_of (acknowledgment_of x)) es xs
+      → IsRead text entry → IsCheckedAs text setup entry x → AreRead (k + 1) (g + acknowledgment_group_count (acknowledgment_of x)) es xs
       → AreRead k g es xs → (b : Bool) → is_acknowledged_to place x ≡ b → AreRead k g (entry ∷ es) (x ∷ xs)
   one_in_front k g entry x es xs headers is next same true known = λ quotable.
       let rest : List IndexEntry = filter (is_told_to setup place) es in
@@ -290,7 +290,7 @@ module _ (text : List ℕ) (setup : SetupValue) (at : List ℕ) (moment : IsMome
       (acknowledgments_from setup p at k g zs)) (sym kept)
       (both_read d (sets_of_entry entry) (flat_map sets_of_entry rest) (ta1s_to setup entry) (flat_map (ta1s_to setup) rest)
       (acknowledgment_text e at number control (acknowledgment_of x))
-      (acknowledgments_from setup p at (k + 1) (g + groups_of (acknowledgment_of x)) here)
+      (acknowledgments_from setup p at (k + 1) (g + acknowledgment_group_count (acknowledgment_of x)) here)
       (interchange_read number control entry x headers is known (All-head Quotable entry rest quoted))
       (next (All-tail Quotable entry rest quoted))))
   one_in_front k g entry x es xs headers is next same false known = λ quotable.
@@ -314,7 +314,8 @@ module _ (text : List ℕ) (setup : SetupValue) (at : List ℕ) (moment : IsMome
       let behind = All-tail H entry es headers in
       let rest : AreCheckedAs text setup es xs = pairs_tail (λ n e x. IsCheckedAs text setup e x) entry x es xs are in
       one_in_front k g entry x es xs (All-head H entry es headers) (are.each 0 entry x refl refl)
-      (interchanges_read (k + 1) (g + groups_of (acknowledgment_of x)) es xs behind rest) (interchanges_read k g es xs behind rest)
+      (interchanges_read (k + 1) (g + acknowledgment_group_count (acknowledgment_of x)) es xs behind rest)
+      (interchanges_read k g es xs behind rest)
       (is_acknowledged_to place x) refl
 
   partner_read : (es : List IndexEntry) (xs : List CheckedInterchange)

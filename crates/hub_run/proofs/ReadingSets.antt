@@ -15,7 +15,7 @@ use Rattle.hub_kinds.specs.declared.fault.Fault.{Fault}
 use Rattle.env_index.specs.Words.{span_of, GroupEntry}
 use Rattle.env_index.specs.declared.entry.SetEnvelope.{SetEnvelope}
 use Rattle.partner_setup.specs.Setup.{guide_of}
-use Rattle.set_check.specs.Checked.{Checked, guide_in, parts_in, said_by}
+use Rattle.set_check.specs.Checked.{Checked, guide_in, parts_in, guide_tree_of}
 use Rattle.set_check.specs.MeetsLaw.{IsWellGuided}
 use Rattle.set_check.specs.SetParts.{SetParts, set_parts}
 use Rattle.ack_999.specs.ReadBack.{IsQuotable, IsQuotableFault}
@@ -24,7 +24,7 @@ use Rattle.checked_text.specs.declared.answered.AnsweredGroup.{AnsweredGroup}
 use Rattle.checked_text.specs.Answers.{IsGroupAnswer, IsSetAnswer, SentValue, has_number_among}
 use Rattle.checked_text.proofs.Accepted.{accepted_as_it_meets}
 use Rattle.hub_run.specs.Quotable.{IsGroupQuotable, IsGuideQuotable}
-use Rattle.hub_run.specs.ReadBack.{IsResponseTo, sets_behind, sets_in_group}
+use Rattle.hub_run.specs.ReadBack.{IsResponseTo, sets_with_earlier, sets_in_group}
 use Rattle.hub_run.proofs.QuotedElements.{AreElementsUndivided}
 use Rattle.hub_run.proofs.QuotingFaults.{of_set}
 use Rattle.hub_run.specs.Told.{is_served}
@@ -69,12 +69,12 @@ module _ (sent : SentValue) (gs : SegValue) (before : List SetEnvelope) (set : S
   control_quoted d undivided = subst (IsUndivided d) (sym control) undivided
 
   pub faults_quoted : (d : Delims) → CanDivide d → IsUndivided d (d.component ∷ []) → IfSome
-      (said_by (guide_of sent.setup sent.sender (element_of gs 1) (element_of gs 8) (element_of set.header 1))) (IsGuideQuotable d)
+      (guide_tree_of (guide_of sent.setup sent.sender (element_of gs 1) (element_of gs 8) (element_of set.header 1))) (IsGuideQuotable d)
       → All (IsQuotableFault d) answer.faults
   faults_quoted d can separator names =
       let c : Checked = is.checked in
       let faults : c.faults ≡ answer.faults = sym (ap (λ (a : SetAnswer). a.faults) is.is) in
-      let guide = subst (λ g. IfSome g (IsGuideQuotable d)) (sym (ap said_by is.guide)) names in
+      let guide = subst (λ g. IfSome g (IsGuideQuotable d)) (sym (ap guide_tree_of is.guide)) names in
       let named = well_named d can (guide_in c) is.exact.well_guided guide in
       let one : (f : Fault) → Contains c.faults f → IsQuotableFault d f = λ f found.
       of_set d separator (guide_in c) (parts_in c) f named ((is.exact.faults f).0 found) in
@@ -87,7 +87,7 @@ sets_together : (sent : SentValue) (gs : SegValue) (before sets : List SetEnvelo
     → ((n : ℕ) (set : SetEnvelope) (answer : SetAnswer) → slice_get sets n ≡ Some set → slice_get answers n ≡ Some answer
     → IsSetAnswer sent gs (before ++ take n sets) set answer)
     → All (HasHeader sent.text sent.delims) sets
-    → Together IsResponseTo (sets_behind sent gs before sets) (map response_of answers)
+    → Together IsResponseTo (sets_with_earlier sent gs before sets) (map response_of answers)
 sets_together sent gs before [] [] count each headers = tt
 sets_together sent gs before [] (a ∷ more) count each headers = absurd (omega (arith, count))
 sets_together sent gs before (set ∷ sets) [] count each headers = absurd (omega (arith, count))
@@ -102,8 +102,8 @@ sets_together sent gs before (set ∷ sets) (a ∷ more) count each headers =
     )
 
 shown_together : (served : Bool) (sent : SentValue) (gs : SegValue) (sets : List SetEnvelope) (answers : List SetAnswer)
-    → Together IsResponseTo (sets_behind sent gs [] sets) (map response_of answers)
-    → Together IsResponseTo (sets_behind sent gs [] (if served then sets else [])) (shown_responses served answers)
+    → Together IsResponseTo (sets_with_earlier sent gs [] sets) (map response_of answers)
+    → Together IsResponseTo (sets_with_earlier sent gs [] (if served then sets else [])) (shown_responses served answers)
 shown_together true sent gs sets answers all = all
 shown_together false sent gs sets answers all = tt
 
@@ -130,7 +130,7 @@ module _ (sent : SentValue) (before : List GroupEntry) (group : GroupEntry) (ans
         control_quoted sent group.header (take n group.sets) set s one (header n set at_set) d (st n set at_set).1);
     faults = each (λ s. All (IsQuotableFault d) s.faults) (λ n set s at_set one.
         faults_quoted sent group.header (take n group.sets) set s one (header n set at_set) d can separator
-        (at_index (λ set. IfSome (said_by (guide_of sent.setup sent.sender (element_of group.header 1) (element_of group.header 8)
+        (at_index (λ set. IfSome (guide_tree_of (guide_of sent.setup sent.sender (element_of group.header 1) (element_of group.header 8)
         (element_of set.header 1))) (IsGuideQuotable d)) group.sets n set at_set quotable));
   }
     where

@@ -11,11 +11,11 @@ use Rattle.std.proofs.lemmas.Slice.Eq.{bytes_eq-Decides}
 use Rattle.x12_bytes.specs.Bytes.{is_line_end}
 use Rattle.x12_bytes.specs.declared.delims.Delims.{Delims}
 use Rattle.x12_segs.specs.Kinds.{kind_of}
-use Rattle.x12_segs.specs.Words.{is_inner, kind_by_id, parts, SegValue, elements_of, id_of, part_or_empty}
+use Rattle.x12_segs.specs.Words.{may_stand_in_set, kind_by_id, parts, SegValue, elements_of, id_of, part_or_empty}
 use Rattle.x12_write.specs.Segment.{elements_text}
 use Rattle.x12_write.specs.Undivided.{CanDivide}
 use Rattle.mailbox.specs.Mailbox.{mapped, mapped_byte}
-use Rattle.hub_run.specs.SetsRead.{has_id, said_by}
+use Rattle.hub_run.specs.SetsRead.{has_id, values_of_segment}
 use Rattle.hub_run.proofs.Bodies.{IsBody, Lacks}
 use Rattle.hub_run.proofs.Changing.{AreApart, changed, elements_kept, in_elements, segment_kept, to_element, to_terminator, with_r}
 use Rattle.hub_run.proofs.Changing as changing
@@ -139,10 +139,10 @@ module _ (from to : Delims) (is : IsMarked to) (can : CanDivide to) (apart : Are
   }
 
   pub inner_said : (seg : SegValue) → IsRawView from seg → All Free seg.bytes
-      → said_by to (parts to.element (mapped from to seg.bytes)) ≡ said_by from (elements_of seg)
+      → values_of_segment to (parts to.element (mapped from to seg.bytes)) ≡ values_of_segment from (elements_of seg)
   inner_said seg raw free =
       segment_kept from to is.r is.has apart is.apart seg.bytes (all_both Free Lt seg.bytes free raw.1.lacks)
-      ∙ ap (λ (d : Delims). said_by from (parts d.element seg.bytes)) (sym raw.0)
+      ∙ ap (λ (d : Delims). values_of_segment from (parts d.element seg.bytes)) (sym raw.0)
 
   -- its id names no ST and no SE
   not_letter : (x b : ℕ) → is_ascii_alphanumeric x ≡ false → is_ascii_alphanumeric b ≡ true → x ≢ b
@@ -167,7 +167,7 @@ module _ (from to : Delims) (is : IsMarked to) (can : CanDivide to) (apart : Are
       ∙ ap (λ (xs : List ℕ). w ∷ xs) (word_was bs ws (All-tail P w ws letters) tail)
 
   pub inner_id : (seg : SegValue) (word : List ℕ) → IsRawView from seg → All Free seg.bytes
-      → All (λ b. is_ascii_alphanumeric b ≡ true) word → is_inner (kind_by_id word) ≡ false → is_inner (kind_of seg) ≡ true
+      → All (λ b. is_ascii_alphanumeric b ≡ true) word → may_stand_in_set (kind_by_id word) ≡ false → may_stand_in_set (kind_of seg) ≡ true
       → has_id (parts to.element (mapped from to seg.bytes)) word ≡ false
   inner_id seg word raw free letters control kind =
       let id : List ℕ = part_or_empty (parts from.element seg.bytes) 0 in
@@ -180,8 +180,8 @@ module _ (from to : Delims) (is : IsMarked to) (can : CanDivide to) (apart : Are
       let same : part_or_empty (parts to.element (mapped from to seg.bytes)) 0 ≡ word =
       (bytes_eq-Decides (part_or_empty (parts to.element (mapped from to seg.bytes)) 0) word).0 on in
       let was : id ≡ word = word_was id word letters (sym split ∙ same) in
-      let bad = ap (λ (x : List ℕ). is_inner (kind_by_id x)) (own ∙ was) in
-      let good = ap is_inner (kind_is seg) in
+      let bad = ap (λ (x : List ℕ). may_stand_in_set (kind_by_id x)) (own ∙ was) in
+      let good = ap may_stand_in_set (kind_is seg) in
       cc)
 
   -- elements that are kept
@@ -200,5 +200,5 @@ module _ (from to : Delims) (is : IsMarked to) (can : CanDivide to) (apart : Are
   )
 
   pub kept_said : (elements : List (List ℕ)) → All (All InElement) elements
-      → said_by to (map (mapped from to) elements) ≡ said_by from elements
+      → values_of_segment to (map (mapped from to) elements) ≡ values_of_segment from elements
   kept_said elements all = elements_kept from to is.r is.has apart is.apart elements all

@@ -8,7 +8,8 @@ use Rattle.hub_kinds.specs.declared.interchange.InterchangeFault.{InterchangeFau
 use Rattle.env_index.specs.Words.{fault_of, IndexEntry, IndexValue, IsEntryOf, IsIndex, settled, with_faults}
 use Rattle.partner_setup.specs.Setup.{SetupValue, sender_of}
 use Rattle.checked_text.specs.Seen.{is_among}
-use Rattle.checked_text.specs.Settled.{fault_alone, fault_behind, fault_if_earlier, fault_with_sender, faults_from, kept_keys, key_of}
+use Rattle.checked_text.specs.Settled.{fault_alone, fault_behind, fault_if_earlier, fault_with_sender, faults_from, kept_keys}
+use Rattle.checked_text.specs.Settled.{interchange_key_of}
 use Rattle.checked_text.specs.Settled.{settled_faults}
 
 abbrev pub IsSettledSound : IndexEntry → Type 0
@@ -25,7 +26,8 @@ behind_none None earlier none = refl
 entry_sound : (text : List ℕ) (setup : SetupValue) (before : List IndexEntry) (e : IndexEntry) → IsEntryOf text e
     → fault_behind setup before e ≡ None → fault_of e.interchange ≡ None
 entry_sound text setup before e is none =
-    let alone : fault_alone setup e ≡ None = behind_none (fault_alone setup e) (is_among (key_of e) (kept_keys setup before)) none in
+    let alone : fault_alone setup e ≡ None = behind_none (fault_alone setup e) (is_among (interchange_key_of e)
+    (kept_keys setup before)) none in
     sym is.fault ∙ alone_none e.fault (sender_of setup e.interchange.header) alone
 
 entries_sound : (text : List ℕ) (setup : SetupValue) (before es : List IndexEntry) → All (IsEntryOf text) es

@@ -6,11 +6,12 @@ use Rattle.std.specs.List.{All, list_all}
 use Rattle.std.proofs.lemmas.Bool.{false_from_ne_true}
 use Rattle.std.proofs.lemmas.List.Elements.{All-cons, All-head, All-nil, All-tail}
 use Rattle.x12_bytes.specs.Bytes.{may_separate}
-use Rattle.x12_bytes.specs.Header.{IsHeader, component_of, delims_of, element_of, header_at, repetition_of, terminator_of}
+use Rattle.x12_bytes.specs.Header.{IsHeader, component_separator_of, header_delims, element_separator_of, header_at, repetition_of}
+use Rattle.x12_bytes.specs.Header.{terminator_of}
 use Rattle.x12_bytes.specs.HeaderTest.{is_head}
 use Rattle.x12_bytes.specs.declared.delims.Delims.{Delims}
 use Rattle.x12_bytes.proofs.Testing.{decides_head}
-use Rattle.x12_segs.specs.Words.{is_inner, kind_of, SegValue}
+use Rattle.x12_segs.specs.Words.{may_stand_in_set, kind_of, SegValue}
 use Rattle.x12_write.specs.Delimiters.{is_this}
 use Rattle.hub_kinds.specs.declared.interchange.InterchangeFault.{InterchangeFault}
 use Rattle.env_index.specs.declared.entry.SetEnvelope.{SetEnvelope}
@@ -26,14 +27,14 @@ pub record IsThere (text : List ℕ) (d : Delims) (set : SetEnvelope) : Type 0 w
   pub tree : Set SegValue
   pub is : set ≡ set_entry tree
   pub alone : SetStandsAlone text d tree
-  pub inner : list_all (λ x. is_inner (kind_of x)) tree.inner ≡ true
+  pub inner : list_all (λ x. may_stand_in_set (kind_of x)) tree.inner ≡ true
 
 abbrev pub AreThere : (text : List ℕ) → InterchangeEntry → Type 0
-AreThere text x = All (λ (g : GroupEntry). All (IsThere text (delims_of x.header)) g.sets) x.content.groups
+AreThere text x = All (λ (g : GroupEntry). All (IsThere text (header_delims x.header)) g.sets) x.content.groups
 
 -- an interchange's delimiters differ, and its sets are there
 abbrev pub IsSource : (text : List ℕ) → InterchangeEntry → Type 0
-IsSource text x = AreApart (delims_of x.header) × AreThere text x
+IsSource text x = AreApart (header_delims x.header) × AreThere text x
 
 module _ (text : List ℕ) (d : Delims) where
   there_in_group : (ms : List (InGroup SegValue)) (rest : List SegValue) → EachSet (SetStandsAlone text d) ms → AreMembers kind_of ms rest
@@ -77,10 +78,10 @@ or_third true b c is = refl
 or_third false true c is = refl
 or_third false false c is = is
 
-header_apart : (h : List ℕ) → IsHeader h → AreApart (delims_of h)
+header_apart : (h : List ℕ) → IsHeader h → AreApart (header_delims h)
 header_apart h is =
-    let e : ℕ = element_of h in
-    let c : ℕ = component_of h in
+    let e : ℕ = element_separator_of h in
+    let c : ℕ = component_separator_of h in
     let t : ℕ = terminator_of h in
     let byte : ℕ = slice_index h 82 in
     let at : ℕ → Type 0 = λ x. is_this (repetition_of h) x ≡ false in
@@ -98,7 +99,7 @@ header_apart h is =
 
 read_source : (text : List ℕ) (x : InterchangeEntry) → is_head text x.start ≡ true → IsReadIn text x → IsSource text x
 read_source text x head is =
-    let d : Delims = delims_of (header_at text x.start) in
+    let d : Delims = header_delims (header_at text x.start) in
     subst (IsSource text) (sym is.read) (
       header_apart (header_at text x.start) ((decides_head text x.start).0 head).1,
       there_in text d is.tree.members (option_items is.tree.trailer) (all_alone text x.start is.tree head is.derived) is.derived.1.members,

@@ -7,7 +7,8 @@ use Rattle.std.proofs.lemmas.Bool.{and_parts, eq-eqb, eqb-true, false_from_ne_tr
 use Rattle.std.proofs.lemmas.List.Elements.{All-append, All-cons, All-head, All-map, All-nil, All-tail}
 use Rattle.x12_bytes.specs.Bytes.{is_line_end}
 use Rattle.x12_bytes.specs.declared.delims.Delims.{Delims}
-use Rattle.x12_segs.specs.Words.{is_inner, kind_of, parts, Seg, part_at, segs_of, without_line_ends, span_segs, span_views, SegValue}
+use Rattle.x12_segs.specs.Words.{may_stand_in_set, kind_of, parts, Seg, part_at, segs_of, without_line_ends, span_segs, span_views}
+use Rattle.x12_segs.specs.Words.{SegValue}
 use Rattle.x12_segs.specs.Words.{view_of}
 use Rattle.x12_segs.specs.declared.set_span.SetSpan.{SetSpan}
 use Rattle.env_index.specs.declared.entry.SetEnvelope.{SetEnvelope}
@@ -104,8 +105,8 @@ module _ (text : List ℕ) (d : Delims) (set : SetEnvelope) (there : IsThere tex
       all_front (IsRawView d) there.tree.inner (option_items there.tree.trailer)
       (All-tail (IsRawView d) there.tree.header (there.tree.inner ++ option_items there.tree.trailer) items_raw)
 
-  pub inner_kinds : All (λ seg. is_inner (kind_of seg) ≡ true) there.tree.inner
-  inner_kinds = each_passes (λ seg. is_inner (kind_of seg)) there.tree.inner there.inner
+  pub inner_kinds : All (λ seg. may_stand_in_set (kind_of seg) ≡ true) there.tree.inner
+  inner_kinds = each_passes (λ seg. may_stand_in_set (kind_of seg)) there.tree.inner there.inner
 
 take_front : {A : Type 0} (xs ys : List A) → take (length xs) (xs ++ ys) ≡ xs
 take_front [] ys = refl

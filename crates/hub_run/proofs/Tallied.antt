@@ -19,7 +19,7 @@ use Rattle.count_numbers.specs.declared.numbering.PartnerNumbers.{PartnerNumbers
 use Rattle.count_numbers.proofs.Counts.{numbers_counted}
 use Rattle.judged_text.specs.Judged.{PlacedValue}
 use Rattle.mailbox.specs.Mailbox.{group_total}
-use Rattle.mailbox.specs.Numbered.{key_of}
+use Rattle.mailbox.specs.Numbered.{group_key_of}
 use Rattle.mailbox.proofs.Tallied.{groups_are_counted}
 use Rattle.partner_setup.specs.declared.partner.Partner.{Partner}
 use Rattle.checked_text.specs.Acknowledgments.{has_reports}
@@ -28,7 +28,7 @@ use Rattle.night_writing.specs.Night.{counters_by, sets_to}
 use Rattle.hub_run.specs.Tallied.{AreCountersTallied, AreNumbersTallied, entry_of, night_numbers}
 
 abbrev deliveries : List PlacedValue → List Entry
-deliveries sets = map (λ (set : PlacedValue). Delivered (key_of set)) sets
+deliveries sets = map (λ (set : PlacedValue). Delivered (group_key_of set)) sets
 
 abbrev entries : List CheckedInterchange → List PlacedValue → List Entry
 entries xs sets = map entry_of xs ++ deliveries sets
@@ -55,27 +55,27 @@ groups_counted (x ∷ xs) sets =
     ap (λ (n : ℕ). n + groups_in (entries xs sets)) (one_grouped (has_reports (acknowledgment_of x)))
     ∙ ap (λ (n : ℕ). (if has_reports (acknowledgment_of x) then 1 else 0) + n) (groups_counted xs sets)
 
-keys_delivered : (sets : List PlacedValue) → keys_of (deliveries sets) ≡ map key_of sets
+keys_delivered : (sets : List PlacedValue) → keys_of (deliveries sets) ≡ map group_key_of sets
 keys_delivered [] = refl
-keys_delivered (set ∷ sets) = ap (λ (keys : List RunKey). key_of set ∷ keys) (keys_delivered sets)
+keys_delivered (set ∷ sets) = ap (λ (keys : List RunKey). group_key_of set ∷ keys) (keys_delivered sets)
 
-keys_behind : (xs : List CheckedInterchange) (sets : List PlacedValue) → keys_of (entries xs sets) ≡ map key_of sets
+keys_behind : (xs : List CheckedInterchange) (sets : List PlacedValue) → keys_of (entries xs sets) ≡ map group_key_of sets
 keys_behind [] sets = keys_delivered sets
 keys_behind (x ∷ xs) sets = keys_behind xs sets
 
 -- the next counters, counted by keys, are those counted by sets
 next_counted : (p : Partner) (acknowledgments groups : ℕ) (sets : List PlacedValue)
-    → (numbers_behind p.counters p.cap acknowledgments groups (map key_of sets)).next
+    → (numbers_behind p.counters p.cap acknowledgments groups (map group_key_of sets)).next
     ≡ counters_by p.counters p.cap acknowledgments groups (length sets) (group_total p.cap sets)
 next_counted p acknowledgments groups sets =
-    ap (λ (n : ℕ). counters_by p.counters p.cap acknowledgments groups n (delivered_groups p.cap (map key_of sets)))
-    (length-map sets key_of)
+    ap (λ (n : ℕ). counters_by p.counters p.cap acknowledgments groups n (delivered_groups p.cap (map group_key_of sets)))
+    (length-map sets group_key_of)
     ∙ ap (counters_by p.counters p.cap acknowledgments groups (length sets)) (sym (groups_are_counted p.cap sets))
 
 -- a partner's numbers by the counts of its entries
 told : (es : List Entry) (p : Partner) (acknowledgments groups : ℕ) (sets : List PlacedValue) → 1 ≤ p.cap → length es < 2 ^ 64
-    → acknowledgments_in es ≡ acknowledgments → groups_in es ≡ groups → keys_of es ≡ map key_of sets
-    → numbers_of (tally_of es) p.counters p.cap ≡ numbers_behind p.counters p.cap acknowledgments groups (map key_of sets)
+    → acknowledgments_in es ≡ acknowledgments → groups_in es ≡ groups → keys_of es ≡ map group_key_of sets
+    → numbers_of (tally_of es) p.counters p.cap ≡ numbers_behind p.counters p.cap acknowledgments groups (map group_key_of sets)
 told es p acknowledgments groups sets some few as_many as_many_groups same =
     numbers_counted es few p.counters p.cap some
     ∙ ap (λ (a : ℕ). numbers_behind p.counters p.cap a (groups_in es) (keys_of es)) as_many

@@ -20,8 +20,8 @@ use Rattle.guide_tree.specs.declared.rows.GuideRows.{GuideRows}
 use Rattle.env_index.specs.Words.{GroupEntry}
 use Rattle.env_index.specs.declared.entry.SetEnvelope.{SetEnvelope}
 use Rattle.partner_setup.specs.Setup.{guide_of, guides_of, has_group, is_for_version}
-use Rattle.set_check.specs.Checked.{said_by}
-use Rattle.ack_999.specs.Group.{agree, earlier_codes, group_codes_of, totals_of, unless}
+use Rattle.set_check.specs.Checked.{guide_tree_of}
+use Rattle.ack_999.specs.Group.{agree, earlier_group_codes, group_codes_of, totals_of, unless}
 use Rattle.ack_999.specs.Report.{group_response, head_text, segment_count, set_text, sets_text, shows_sets, tail_text, text_999}
 use Rattle.ack_999.specs.declared.support.GroupSupport.{GroupSupport}
 use Rattle.ack_999.specs.declared.support.GroupSupport.TheVariants as support
@@ -45,7 +45,7 @@ shows support.VersionNotServed = false
 
 -- codes of trailers and numbers hide no set
 by_tests : (a b earlier : Bool)
-    → shows_sets ((unless a code.ControlNumbersDiffer ++ unless b code.SetCountWrong) ++ earlier_codes earlier) ≡ true
+    → shows_sets ((unless a code.ControlNumbersDiffer ++ unless b code.SetCountWrong) ++ earlier_group_codes earlier) ≡ true
 by_tests true true true = refl
 by_tests true true false = refl
 by_tests true false true = refl
@@ -113,7 +113,7 @@ others_fail sent group none before set meets =
     let no_guide : guide_of sent.setup sent.sender gs1 gs8 (element_of set.header 1) ≡ None =
     none_found (is_for_version gs1 gs8) (λ (g : GuideRows). bytes_eq g.head.set (element_of set.header 1))
     (guides_of sent.setup sent.sender) none in
-    let guided : None ≡ Some meets.alone.known = sym (ap said_by no_guide) ∙ meets.alone.guided in
+    let guided : None ≡ Some meets.alone.known = sym (ap guide_tree_of no_guide) ∙ meets.alone.guided in
     cc
 
 -- head, sets and tail, each with its parts

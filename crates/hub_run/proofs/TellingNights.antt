@@ -18,7 +18,8 @@ use Rattle.partner_setup.specs.Setup.{SetupValue}
 use Rattle.judged_text.specs.Answered.{ta1_note}
 use Rattle.judged_text.specs.Judged.{is_fa}
 use Rattle.checked_text.specs.declared.answered.AnsweredGroup.{AnsweredGroup}
-use Rattle.checked_text.specs.Acknowledgments.{acknowledgment_text, groups_of, has_any, is_there, present, reports_from, ta1_of}
+use Rattle.checked_text.specs.Acknowledgments.{acknowledgment_text, acknowledgment_group_count, has_any, is_there, present, reports_from}
+use Rattle.checked_text.specs.Acknowledgments.{ta1_of}
 use Rattle.checked_text.specs.Answers.{AreGroupAnswers, IsGroupAnswered, SentValue}
 use Rattle.checked_text.specs.CheckedText.{CheckedInterchange, AreCheckedAs, AreAnswersBy, IsCheckedAs, acknowledged_to}
 use Rattle.checked_text.specs.CheckedText.{acknowledgment_of, acknowledgments_from, is_acknowledged_to, is_partner, sent_by}
@@ -26,7 +27,7 @@ use Rattle.checked_text.specs.Pairs.{AreAllPairs}
 use Rattle.checked_text.specs.Settled.{settled_faults}
 use Rattle.night_writing.specs.declared.night.Night.{Night}
 use Rattle.night_writing.specs.Night.{IsNight, acks_of}
-use Rattle.hub_run.specs.Told.{AreSetsTold, IsGroupTold, IsInterchangeTold, IsPartnerTold, ToldGroup, groups_behind, groups_in}
+use Rattle.hub_run.specs.Told.{AreSetsTold, IsGroupTold, IsInterchangeTold, IsPartnerTold, ToldGroup, groups_behind, answered_group_count}
 use Rattle.hub_run.specs.Told.{groups_told, has_responses, is_told_to, note_to, told_groups}
 use Rattle.hub_run.proofs.Headers.{HasHeader, HaveHeaders, settled_headers}
 use Rattle.hub_run.proofs.Pairs.{no_pairs, pairs_cons, pairs_tail, pairs_weaker}
@@ -165,7 +166,8 @@ answers_here text setup place e x is told =
 
 -- it has a group where it is responded to
 pub groups_here : (text : List ℕ) (setup : SetupValue) (place : ℕ) (e : IndexEntry) (x : CheckedInterchange)
-    → IsCheckedAs text setup e x → is_acknowledged_to place x ≡ true → groups_of (acknowledgment_of x) ≡ groups_in e
+    → IsCheckedAs text setup e x → is_acknowledged_to place x ≡ true → acknowledgment_group_count (acknowledgment_of x)
+    ≡ answered_group_count e
 groups_here text setup place e x is told =
     ap (λ (b : Bool). if b then 1 else 0)
     (responses_are_there text setup e e.fault place x.groups (answers_here text setup place e x is told))
@@ -208,7 +210,7 @@ texts_from setup partner at k g [] = []
 texts_from setup partner at k g (x ∷ xs) =
     acknowledgment_text (envelope_to setup partner) at (num partner.counters.interchange k) (num partner.counters.group g)
     (acknowledgment_of x)
-    ∷ texts_from setup partner at (k + 1) (g + groups_of (acknowledgment_of x)) xs
+    ∷ texts_from setup partner at (k + 1) (g + acknowledgment_group_count (acknowledgment_of x)) xs
 
 in_a_row : (setup : SetupValue) (partner : Partner) (at : List ℕ) (k g : ℕ) (xs : List CheckedInterchange)
     → acknowledgments_from setup partner at k g xs ≡ texts_in_row (texts_from setup partner at k g xs)
@@ -216,7 +218,7 @@ in_a_row setup partner at k g [] = refl
 in_a_row setup partner at k g (x ∷ xs) =
     ap (λ (t : List ℕ). acknowledgment_text (envelope_to setup partner) at (num partner.counters.interchange k)
     (num partner.counters.group g) (acknowledgment_of x) ++ t)
-    (in_a_row setup partner at (k + 1) (g + groups_of (acknowledgment_of x)) xs)
+    (in_a_row setup partner at (k + 1) (g + acknowledgment_group_count (acknowledgment_of x)) xs)
 
 module _ (text : List ℕ) (setup : SetupValue) (at : List ℕ) (place : ℕ) (partner : Partner) where
   abbrev IsTold : (number control : ℕ) → IndexEntry → List ℕ → Type 0
@@ -230,26 +232,27 @@ module _ (text : List ℕ) (setup : SetupValue) (at : List ℕ) (place : ℕ) (p
 
   first_told : (k g : ℕ) (e : IndexEntry) (x : CheckedInterchange) (es : List IndexEntry) (xs : List CheckedInterchange)
       → HaveHeaders text e.interchange → IsCheckedAs text setup e x → is_acknowledged_to place x ≡ true
-      → AreAllPairs (T (k + 1) (g + groups_in e) es) es (texts_from setup partner at (k + 1) (g + groups_in e) xs)
+      → AreAllPairs (T (k + 1) (g + answered_group_count e) es) es (texts_from setup partner at (k + 1) (g + answered_group_count e) xs)
       → AreAllPairs (T k g (e ∷ es)) (e ∷ es) (texts_from setup partner at k g (x ∷ xs))
   first_told k g e x es xs headers is told rest =
       let here : List ℕ = acknowledgment_text (envelope_to setup partner) at (num partner.counters.interchange k)
       (num partner.counters.group g) (acknowledgment_of x) in
-      let same : groups_in e ≡ groups_of (acknowledgment_of x) = sym (groups_here text setup place e x is told) in
+      let same : answered_group_count e ≡ acknowledgment_group_count (acknowledgment_of x) = sym
+      (groups_here text setup place e x is told) in
       let one : IsTold k g e here = interchange_told text setup at place (num partner.counters.interchange k)
       (num partner.counters.group g) partner e x headers is told in
       subst (λ (n : ℕ). AreAllPairs (T k g (e ∷ es)) (e ∷ es) (here ∷ texts_from setup partner at (k + 1) (g + n) xs)) same
-      (pairs_cons (T k g (e ∷ es)) e here es (texts_from setup partner at (k + 1) (g + groups_in e) xs)
+      (pairs_cons (T k g (e ∷ es)) e here es (texts_from setup partner at (k + 1) (g + answered_group_count e) xs)
       (subst (λ (n : ℕ). IsTold n (g + 0) e here) (omega arith) (subst (λ (n : ℕ). IsTold k n e here) (omega arith) one))
-      (pairs_weaker (T (k + 1) (g + groups_in e) es) (λ m y told. T k g (e ∷ es) (suc m) y told) es
-      (texts_from setup partner at (k + 1) (g + groups_in e) xs)
-      (λ m y told is. subst (λ (n : ℕ). IsTold n (g + (groups_in e + groups_behind (take m es))) y told) (omega arith)
+      (pairs_weaker (T (k + 1) (g + answered_group_count e) es) (λ m y told. T k g (e ∷ es) (suc m) y told) es
+      (texts_from setup partner at (k + 1) (g + answered_group_count e) xs)
+      (λ m y told is. subst (λ (n : ℕ). IsTold n (g + (answered_group_count e + groups_behind (take m es))) y told) (omega arith)
       (subst (λ (n : ℕ). IsTold ((k + 1) + m) n y told) (omega arith) is)) rest))
 
   -- one interchange more in front, by whether it is acknowledged to the partner
   one_in_front : (k g : ℕ) (e : IndexEntry) (x : CheckedInterchange) (es : List IndexEntry) (xs : List CheckedInterchange)
       → HaveHeaders text e.interchange → IsCheckedAs text setup e x
-      → AreAllPairs (T (k + 1) (g + groups_in e) es) es (texts_from setup partner at (k + 1) (g + groups_in e) xs)
+      → AreAllPairs (T (k + 1) (g + answered_group_count e) es) es (texts_from setup partner at (k + 1) (g + answered_group_count e) xs)
       → AreAllPairs (T k g es) es (texts_from setup partner at k g xs)
       → (b : Bool) → is_acknowledged_to place x ≡ b
       → AreAllPairs (T k g (cond (is_told_to setup place e) (e ∷ es) es)) (cond (is_told_to setup place e) (e ∷ es) es)
@@ -284,7 +287,7 @@ module _ (text : List ℕ) (setup : SetupValue) (at : List ℕ) (place : ℕ) (p
       let behind = All-tail (λ (e : IndexEntry). HaveHeaders text e.interchange) e es headers in
       one_in_front k g e x (filter (is_told_to setup place) es) (acknowledged_to place xs)
       (All-head (λ (e : IndexEntry). HaveHeaders text e.interchange) e es headers) (are.each 0 e x refl refl)
-      (interchanges_told (k + 1) (g + groups_in e) es xs behind rest) (interchanges_told k g es xs behind rest)
+      (interchanges_told (k + 1) (g + answered_group_count e) es xs behind rest) (interchanges_told k g es xs behind rest)
       (is_acknowledged_to place x) refl
 
   partner_told : (es : List IndexEntry) (xs : List CheckedInterchange) → All (λ e. HaveHeaders text e.interchange) es

@@ -2,7 +2,7 @@
 use Rattle.std.proofs.Common.{◌≡◌, [], ◌∷◌, Some, refl}
 use Rattle.std.specs.Prelude.{codes}
 use Rattle.x12_bytes.specs.declared.delims.Delims.{Delims}
-use Rattle.hub_run.specs.SetsRead.{plainly, said_by, said_in, sets_found}
+use Rattle.hub_run.specs.SetsRead.{plainly, values_of_segment, said_in, sets_found}
 
 marks : Delims
 marks = record { element = 42; component = 62; repetition = Some 94; terminator = 126 }
@@ -24,7 +24,8 @@ unfolding marks
 unclosed_are_none = refl
 
 -- the same is said under other delimiters
-same_is_said : said_by marks (codes "PID" ∷ codes "A>B^C" ∷ codes "D" ∷ []) ≡ said_by others (codes "PID" ∷ codes "A:B+C" ∷ codes "D" ∷ [])
+same_is_said : values_of_segment marks (codes "PID" ∷ codes "A>B^C" ∷ codes "D" ∷ []) ≡ values_of_segment others
+    (codes "PID" ∷ codes "A:B+C" ∷ codes "D" ∷ [])
 unfolding marks others
 same_is_said = refl
 

@@ -24,22 +24,22 @@ pub record SentSet : Type 0 where
   pub set : SetEnvelope
 
 -- the sets of a group after these
-abbrev pub sets_behind : SentValue → (gs : SegValue) → (before : List SetEnvelope) → List SetEnvelope → List SentSet
-sets_behind sent gs before [] = []
-sets_behind sent gs before (set ∷ sets) =
-    record { sent = sent; gs = gs; before = before; set = set } ∷ sets_behind sent gs (before ++ set ∷ []) sets
+abbrev pub sets_with_earlier : SentValue → (gs : SegValue) → (before : List SetEnvelope) → List SetEnvelope → List SentSet
+sets_with_earlier sent gs before [] = []
+sets_with_earlier sent gs before (set ∷ sets) =
+    record { sent = sent; gs = gs; before = before; set = set } ∷ sets_with_earlier sent gs (before ++ set ∷ []) sets
 
 -- the sets that are reported to a partner: of its interchanges that are acknowledged and not refused, in their order, the sets of the
 -- groups that it has a guide for
 abbrev pub sets_in_group : SentValue → GroupEntry → List SentSet
-sets_in_group sent group = sets_behind sent group.header [] (told_sets sent group)
+sets_in_group sent group = sets_with_earlier sent group.header [] (told_sets sent group)
 
-abbrev pub sets_in : SentValue → List GroupEntry → List SentSet
-sets_in sent groups = flat_map (sets_in_group sent) (responded_groups groups)
+abbrev pub answered_sets_in : SentValue → List GroupEntry → List SentSet
+answered_sets_in sent groups = flat_map (sets_in_group sent) (responded_groups groups)
 
 abbrev pub sets_told_to : (text : List ℕ) → SetupValue → (place : ℕ) → List IndexEntry → List SentSet
 sets_told_to text setup place entries =
-    flat_map (λ e. sets_in (sent_by text setup place e) (groups_told e)) (filter (is_told_to setup place) entries)
+    flat_map (λ e. answered_sets_in (sent_by text setup place e) (groups_told e)) (filter (is_told_to setup place) entries)
 
 -- a response to a set: its ST01 and ST02, and A exactly where it meets its guide
 pub record IsResponseTo (s : SentSet) (response : Response) : Type 0 where

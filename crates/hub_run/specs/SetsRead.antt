@@ -23,16 +23,16 @@ abbrev pub has_id : List (List ℕ) → (id : List ℕ) → Bool
 has_id segment id = bytes_eq (part_or_empty segment 0) id
 
 -- the sets in segments, each from an ST to the SE after it; an ST without SE is no set
-abbrev pub sets_behind : (begun : Option Segments) → Segments → List Segments
-sets_behind begun [] = []
-sets_behind None (s ∷ ss) = if has_id s (codes "ST") then sets_behind (Some (s ∷ [])) ss else sets_behind None ss
-sets_behind (Some begun) (s ∷ ss) =
-    if has_id s (codes "ST") then sets_behind (Some (s ∷ [])) ss
-    else (if has_id s (codes "SE") then (begun ++ s ∷ []) ∷ sets_behind None ss else sets_behind (Some (begun ++ s ∷ [])) ss)
+abbrev pub sets_read : (begun : Option Segments) → Segments → List Segments
+sets_read begun [] = []
+sets_read None (s ∷ ss) = if has_id s (codes "ST") then sets_read (Some (s ∷ [])) ss else sets_read None ss
+sets_read (Some begun) (s ∷ ss) =
+    if has_id s (codes "ST") then sets_read (Some (s ∷ [])) ss
+    else (if has_id s (codes "SE") then (begun ++ s ∷ []) ∷ sets_read None ss else sets_read (Some (begun ++ s ∷ [])) ss)
 
 -- the sets in a text, read by these delimiters
 abbrev pub sets_found : Delims → (text : List ℕ) → List Segments
-sets_found d text = sets_behind None (map elements_of (views text d))
+sets_found d text = sets_read None (map elements_of (views text d))
 
 -- what an element says: the components of each of its occurrences
 abbrev pub Said : Type 0
@@ -42,8 +42,8 @@ abbrev pub said_in : Delims → (element : List ℕ) → Said
 said_in d element = map (components d) (occurrences d element)
 
 -- what a segment says: its id, and each of its elements
-abbrev pub said_by : Delims → List (List ℕ) → List Said
-said_by d segment = map (said_in d) segment
+abbrev pub values_of_segment : Delims → List (List ℕ) → List Said
+values_of_segment d segment = map (said_in d) segment
 
 -- an element of one component
 abbrev pub plainly : List ℕ → Said
@@ -60,13 +60,13 @@ trailer_said segments n = plainly (codes "SE") ∷ plainly (decimal segments) �
 -- what a set says as its sender wrote it, but for ST02 and SE, as set number n
 abbrev pub set_said : PlacedValue → (n : ℕ) → List (List Said)
 set_said p n =
-    header_said (said_by (delims_in p) (elements_of p.set.header)) n
-    ∷ (map (λ segment. said_by (delims_in p) (elements_of segment)) (inner_in p) ++ trailer_said (length (inner_in p) + 2) n ∷ [])
+    header_said (values_of_segment (delims_in p) (elements_of p.set.header)) n
+    ∷ (map (λ segment. values_of_segment (delims_in p) (elements_of segment)) (inner_in p) ++ trailer_said (length (inner_in p) + 2) n ∷ [])
 
 -- a partner finds these sets in a mailbox, in their order, and no other
 abbrev pub AreSetsFound : Partner → List PlacedValue → (box : List ℕ) → Type 0
 AreSetsFound partner sets box =
-    map (map (said_by partner.delims)) (sets_found partner.delims box)
+    map (map (values_of_segment partner.delims)) (sets_found partner.delims box)
     ≡ map (λ (x : NumberedValue). set_said x.set (num partner.counters.set x.place)) (numbered_from 0 sets)
 
 -- each partner finds just the sets that are delivered to it

@@ -9,7 +9,7 @@ use Rattle.count_numbers.specs.declared.entry.Entry.{Entry}
 use Rattle.count_numbers.specs.declared.entry.Entry.TheVariants.{Acknowledged, Delivered}
 use Rattle.count_numbers.specs.declared.entry.PartnerEntry.{PartnerEntry}
 use Rattle.count_numbers.specs.declared.numbering.PartnerNumbers.{PartnerNumbers}
-use Rattle.mailbox.specs.Numbered.{key_of}
+use Rattle.mailbox.specs.Numbered.{group_key_of}
 use Rattle.partner_setup.specs.declared.partner.Partner.{Partner}
 use Rattle.partner_setup.specs.Setup.{SetupValue}
 use Rattle.checked_text.specs.Acknowledgments.{has_reports}
@@ -23,7 +23,7 @@ entry_of x = Acknowledged (has_reports (acknowledgment_of x))
 -- what a night leaves to be numbered for a partner: its acknowledgments and its delivered sets
 abbrev pub entries_to : (text : List ℕ) → SetupValue → List CheckedInterchange → (place : ℕ) → List Entry
 entries_to text setup known place =
-    map entry_of (acknowledged_to place known) ++ map (λ set. Delivered (key_of set)) (sets_to text setup known place)
+    map entry_of (acknowledged_to place known) ++ map (λ set. Delivered (group_key_of set)) (sets_to text setup known place)
 
 -- fewer than 2^64 of them have a tally whose next counters are the partner's
 abbrev pub AreCountersTallied : Type 0
@@ -39,13 +39,13 @@ pub record AreEntriesTo (text : List ℕ) (setup : SetupValue) (known : List Che
     (es : List PartnerEntry) : Type 0 where
   pub acknowledgments : acknowledgments_in (entries_for place es) ≡ length (acknowledged_to place known)
   pub groups : groups_in (entries_for place es) ≡ groups_to (acknowledged_to place known)
-  pub keys : keys_of (entries_for place es) ≡ map key_of (sets_to text setup known place)
+  pub keys : keys_of (entries_for place es) ≡ map group_key_of (sets_to text setup known place)
 
 -- a partner's first numbers in a night, and its next counters
 abbrev pub night_numbers : (text : List ℕ) → SetupValue → List CheckedInterchange → (place : ℕ) → Partner → PartnerNumbers
 night_numbers text setup known place partner =
     numbers_behind partner.counters partner.cap (length (acknowledged_to place known)) (groups_to (acknowledged_to place known))
-    (map key_of (sets_to text setup known place))
+    (map group_key_of (sets_to text setup known place))
 
 -- of fewer than 2^64 entries of a partner, its tally among those of n partners gives its first numbers and its next counters
 abbrev pub AreNumbersTallied : Type 0

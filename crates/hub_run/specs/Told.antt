@@ -135,12 +135,12 @@ abbrev pub is_told_to : SetupValue → (place : ℕ) → IndexEntry → Bool
 is_told_to setup place e = (is_some (note_to setup e) || has_responses e) && is_from setup place e
 
 -- how many groups its acknowledgment has, and those of some
-abbrev pub groups_in : IndexEntry → ℕ
-groups_in e = if has_responses e then 1 else 0
+abbrev pub answered_group_count : IndexEntry → ℕ
+answered_group_count e = if has_responses e then 1 else 0
 
 abbrev pub groups_behind : List IndexEntry → ℕ
 groups_behind [] = 0
-groups_behind (e ∷ es) = groups_in e + groups_behind es
+groups_behind (e ∷ es) = answered_group_count e + groups_behind es
 
 -- a partner's acknowledgments: one after the other, one for each of its interchanges that are acknowledged, in their order, numbered on
 -- from its counter, as their groups are from that of groups

@@ -3,7 +3,7 @@
 use Rattle.std.specs.Prelude.{ℕ, ◌+◌, Bool, false, not, is_none, List, [], ◌∷◌, ◌++◌, Option, slice_index_or, codes, filter}
 use Rattle.std.specs.List.{flat_map}
 use Rattle.std.specs.Str.{bytes_eq}
-use Rattle.x12_bytes.specs.Header.{delims_of}
+use Rattle.x12_bytes.specs.Header.{header_delims}
 use Rattle.x12_bytes.specs.declared.delims.Delims.{Delims}
 use Rattle.x12_segs.specs.Words.{span_views, SegValue, element_of}
 use Rattle.hub_kinds.specs.declared.interchange.InterchangeFault.{InterchangeFault}
@@ -55,13 +55,13 @@ sets_from x group standing n (set ∷ sets) =
     record { interchange = x; group = group; standing = standing; index = n; set = set } ∷ sets_from x group standing (n + 1) sets
 
 -- the sets of groups, this one being the next
-abbrev pub groups_from : JudgedValue → ℕ → List GroupEntry → List PlacedValue
-groups_from x n [] = []
-groups_from x n (group ∷ groups) =
-    sets_from x group (standing_at x.standings n) 0 group.sets ++ groups_from x (n + 1) groups
+abbrev pub sets_of_groups_from : JudgedValue → ℕ → List GroupEntry → List PlacedValue
+sets_of_groups_from x n [] = []
+sets_of_groups_from x n (group ∷ groups) =
+    sets_from x group (standing_at x.standings n) 0 group.sets ++ sets_of_groups_from x (n + 1) groups
 
 abbrev pub sets_of : JudgedValue → List PlacedValue
-sets_of x = groups_from x 0 x.interchange.content.groups
+sets_of x = sets_of_groups_from x 0 x.interchange.content.groups
 
 -- all sets, front to back
 abbrev pub all_sets : List JudgedValue → List PlacedValue
@@ -69,12 +69,12 @@ all_sets xs = flat_map sets_of xs
 
 -- the delimiters that a set is read by
 abbrev pub delims_in : PlacedValue → Delims
-delims_in p = delims_of p.interchange.interchange.header
+delims_in p = header_delims p.interchange.interchange.header
 
 -- the segments of a set, ST and SE among them
 abbrev pub segments_in : PlacedValue → List SegValue
 segments_in p = span_views p.interchange.text (span_of (delims_in p) p.set)
 
 -- the verdict on a set
-abbrev pub verdict_on : PlacedValue → Verdict
-verdict_on p = slice_index_or p.standing.verdicts p.index verdict.Rejected
+abbrev pub verdict_by_standing : PlacedValue → Verdict
+verdict_by_standing p = slice_index_or p.standing.verdicts p.index verdict.Rejected

@@ -34,7 +34,7 @@ impl<'j, 'i, 'a> PlacedSet<'j, 'i, 'a> {
     ghost use Rattle.std.specs.List.{list_any};
     ghost use Rattle.env_index.specs.declared.entry.SetEnvelope.{SetEnvelope};
     ghost use Rattle.env_index.specs.Summary.{GroupEntry};
-    ghost use Rattle.judged_text.specs.Judged.{delims_in, segments_in, standing_at, verdict_on};
+    ghost use Rattle.judged_text.specs.Judged.{delims_in, segments_in, standing_at, verdict_by_standing};
     ghost use Rattle.judged_text.specs.Placed.{group_at, placed_at};
     ghost use Rattle.x12_segs.specs.Words.{views};
 
@@ -155,7 +155,7 @@ impl<'j, 'i, 'a> PlacedSet<'j, 'i, 'a> {
 
     /// The verdict on it (999 guide, IK501).
     pub fn verdict(&self) -> Verdict
-        ensures { result ≡ verdict_on self.now }
+        ensures { result ≡ verdict_by_standing self.now }
     {
         match self.interchange.standings().get(self.group) {
             Some(standing) => verdict_at(standing.verdicts.as_slice(), self.set),

@@ -3,7 +3,7 @@ use Rattle.std.proofs.Common.{◌≡◌, ℕ, ◌≤◌, List, [], ◌∷◌, �
 use Rattle.std.proofs.lemmas.List.{append-nil, drop_all}
 use Rattle.x12_segs.specs.Words.{SegValue, elements_of}
 use Rattle.guide_tree.specs.declared.slot.Slot.{Slot}
-use Rattle.guide_tree.specs.Words.{Trees, or_else, Segment, Place, slot_given, Candidate, nexts, first_fit, place_of, placing_from}
+use Rattle.guide_tree.specs.Words.{Trees, or_else, Segment, Place, slot_given, Candidate, nexts, first_fit, next_place_of, placing_from}
 use Rattle.guide_law.proofs.Computed.{Found, first_found}
 use Rattle.guide_law.proofs.Coming.{nexts_come}
 use Rattle.loop_match.specs.Given.{place_in, slot_in, given_from, given_of}
@@ -12,7 +12,7 @@ pub places_given : (ts : Trees) (last : Option Place) (body : List Segment)
     → map place_in (given_from ts last body) ≡ placing_from ts last body
 places_given ts last [] = refl
 places_given ts last (s ∷ body) =
-    ap (λ (l : List (Option Place)). place_of ts last s ∷ l) (places_given ts (or_else (place_of ts last s) last) body)
+    ap (λ (l : List (Option Place)). next_place_of ts last s ∷ l) (places_given ts (or_else (next_place_of ts last s) last) body)
 
 slot_there : (ts : Trees) (last : Option Place) (s : Segment) (x : Option Candidate) → Found s (nexts ts last) x
     → slot_in x ≡ slot_given ts (place_in x)
@@ -24,7 +24,7 @@ pub slots_given : (ts : Trees) (last : Option Place) (body : List Segment)
 slots_given ts last [] = refl
 slots_given ts last (s ∷ body) =
     let x = first_fit s (nexts ts last) in
-    let next = or_else (place_of ts last s) last in
+    let next = or_else (next_place_of ts last s) last in
     ap (λ (o : Option Slot). o ∷ map slot_in (given_from ts next body)) (slot_there ts last s x (first_found s (nexts ts last)))
     ∙ ap (λ (l : List (Option Slot)). slot_given ts (place_in x) ∷ l) (slots_given ts next body)
 

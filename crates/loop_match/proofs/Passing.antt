@@ -2,7 +2,7 @@
 use Rattle.std.proofs.Common.{◌≡◌, ℕ, ◌+◌, List, [], ◌∷◌, ◌++◌, Option, Some, None, true, false, sym, ap, ◌∙◌}
 use Rattle.std.proofs.lemmas.List.{append_assoc}
 use Rattle.hub_kinds.specs.declared.fault.Fault.{Fault}
-use Rattle.guide_tree.specs.Words.{GuideTree, or_else, Segment, Place, place_of, placing_from, pass, step_faults, stray_fault}
+use Rattle.guide_tree.specs.Words.{GuideTree, or_else, Segment, Place, next_place_of, placing_from, pass, step_faults, stray_fault}
 use Rattle.loop_match.specs.declared.next.Step.{Step}
 use Rattle.loop_match.specs.Steps.{place_view, last_of, HasGone}
 
@@ -11,7 +11,7 @@ abbrev pub left : GuideTree → (end at : ℕ) → Option Place → List Segment
 left g end at last body = pass g end at last body (placing_from g.nodes last body)
 
 found_more : (g : GuideTree) (end at : ℕ) (last next x : Option Place) (s : Segment) (body : List Segment) (f h fs : List Fault)
-    → place_of g.nodes last s ≡ x
+    → next_place_of g.nodes last s ≡ x
     → pass g end at last (s ∷ body) (x ∷ placing_from g.nodes (or_else x last) body) ≡ fs ++ left g end (at + 1) next body
     → h ≡ f ++ fs → h ++ left g end (at + 1) next body ≡ f ++ left g end at last (s ∷ body)
 found_more g end at last next x s body f h fs e c d =

@@ -2,7 +2,7 @@
 use Rattle.std.specs.Prelude.{ℕ, ◌+◌, ◌<◌, ◌≤◌, length, ◌++◌, List, [], ◌∷◌, map, take, drop, Option, Some, None, option_map}
 use Rattle.std.specs.Prelude.{Bool, true, false, if◌then◌else◌, ◌≡◌}
 use Rattle.std.specs.List.{AllByRecursion}
-use Rattle.guide_tree.specs.Words.{Trees, Segment, Pair, Place, use_of, Candidate, place_of}
+use Rattle.guide_tree.specs.Words.{Trees, Segment, Pair, Place, use_of, Candidate, next_place_of}
 use Rattle.loop_match.specs.Given.{given_from}
 use Rattle.loop_match.specs.declared.next.Step.{Step}
 use Rattle.loop_match.specs.declared.next.Start.{Start}
@@ -49,5 +49,5 @@ pub record IsWalk (w : Walk) (uses : ℕ) : Type 0 where
 -- a segment that has a place is the last one then; a stray changes nothing
 abbrev pub HasGone : Trees → (old new : List Step) → Segment → (placed : Bool) → Type 0
 HasGone ts old new s true =
-    (place_of ts (last_of (place_view old)) s ≡ Some (place_view new)) × (last_of (place_view new) ≡ Some (place_view new))
-HasGone ts old new s false = (place_of ts (last_of (place_view old)) s ≡ None) × (new ≡ old)
+    (next_place_of ts (last_of (place_view old)) s ≡ Some (place_view new)) × (last_of (place_view new) ≡ Some (place_view new))
+HasGone ts old new s false = (next_place_of ts (last_of (place_view old)) s ≡ None) × (new ≡ old)

@@ -14,8 +14,9 @@ use Rattle.partner_setup.specs.Setup.{SetupValue, route_of}
 use Rattle.judged_text.specs.declared.standing.GroupStanding.{GroupStanding}
 use Rattle.mailbox.specs.Deliveries.{AreDelivered, is_not_rejected, is_deliverable, is_delivered_to, is_delivery_to, outcomes_on}
 use Rattle.mailbox.specs.Delivering.{HasGrown, HasSent, HasTaken, is_sent_by, may_leave}
-use Rattle.judged_text.specs.Judged.{JudgedValue, PlacedValue, all_sets, groups_from, is_fa, is_refused, sets_from, sets_of, standing_at}
-use Rattle.judged_text.specs.Judged.{verdict_on}
+use Rattle.judged_text.specs.Judged.{JudgedValue, PlacedValue, all_sets, sets_of_groups_from, is_fa, is_refused, sets_from, sets_of}
+use Rattle.judged_text.specs.Judged.{standing_at}
+use Rattle.judged_text.specs.Judged.{verdict_by_standing}
 use Rattle.mailbox.proofs.Replacing.{get_replicated, take_one_more}
 
 abbrev pub Lists : Type 0
@@ -63,15 +64,15 @@ and_assoc : (a b c d : Bool) → (a && b && c && d) ≡ (a && (b && c && d))
 and_assoc true b c d = refl
 and_assoc false b c d = refl
 
-as_group : (p : PlacedValue) → is_deliverable p ≡ (is_not_rejected (verdict_on p) && may_leave p.interchange p.standing p.group)
-as_group p = and_assoc (is_not_rejected (verdict_on p)) p.standing.clear (not (is_fa p.group)) (not (is_refused p.interchange))
+as_group : (p : PlacedValue) → is_deliverable p ≡ (is_not_rejected (verdict_by_standing p) && may_leave p.interchange p.standing p.group)
+as_group p = and_assoc (is_not_rejected (verdict_by_standing p)) p.standing.clear (not (is_fa p.group)) (not (is_refused p.interchange))
 
 and_false : (b : Bool) → (b && false) ≡ false
 and_false true = refl
 and_false false = refl
 
 -- a set that isn't accepted
-pub taken_rejected : (setup : SetupValue) (p : PlacedValue) (lists : Lists) → is_not_rejected (verdict_on p) ≡ false
+pub taken_rejected : (setup : SetupValue) (p : PlacedValue) (lists : Lists) → is_not_rejected (verdict_by_standing p) ≡ false
     → HasTaken setup (p ∷ []) lists lists
 taken_rejected setup p lists is = grown_none _ lists (λ q.
     ap (λ (b : Bool). cond b (p ∷ []) []) (not_delivered setup q p
@@ -84,7 +85,7 @@ by_route setup q p (t ∷ ts) = refl
 
 -- a set that was sent to its route
 pub taken_sent : (setup : SetupValue) (p : PlacedValue) (route : List ℕ) (a b : Lists) → may_leave p.interchange p.standing p.group ≡ true
-    → is_not_rejected (verdict_on p) ≡ true → route ≡ route_of setup (element_of p.group.header 3)
+    → is_not_rejected (verdict_by_standing p) ≡ true → route ≡ route_of setup (element_of p.group.header 3)
     → HasSent setup p route a b → HasTaken setup (p ∷ []) a b
 taken_sent setup p route a b leaves accepted is sent =
     let deliverable : is_deliverable p ≡ true = as_group p
@@ -104,8 +105,8 @@ nothing_leaves setup q x g standing n (set ∷ sets) stay =
     let p : PlacedValue = record { interchange = x; group = g; standing = standing; index = n; set = set } in
     ap (λ (b : Bool). cond b (p ∷ filter (is_delivered_to setup q) (sets_from x g standing (n + 1) sets))
     (filter (is_delivered_to setup q) (sets_from x g standing (n + 1) sets)))
-    (not_delivered setup q p (as_group p ∙ ap (λ (b : Bool). is_not_rejected (verdict_on p) && b) stay
-    ∙ and_false (is_not_rejected (verdict_on p))))
+    (not_delivered setup q p (as_group p ∙ ap (λ (b : Bool). is_not_rejected (verdict_by_standing p) && b) stay
+    ∙ and_false (is_not_rejected (verdict_by_standing p))))
     ∙ nothing_leaves setup q x g standing (n + 1) sets stay
 
 pub taken_stayed : (setup : SetupValue) (x : JudgedValue) (g : GroupEntry) (standing : GroupStanding) (lists : Lists)
@@ -131,12 +132,12 @@ sets_snoc x g standing n m (s ∷ sets) set is = ap (λ (ps : List PlacedValue).
 } in p ∷ ps) (sets_snoc x g standing (n + 1) m sets set (omega (arith, is)))
 
 groups_snoc : (x : JudgedValue) (n m : ℕ) (groups : List GroupEntry) (g : GroupEntry) → n + length groups ≡ m
-    → groups_from x n (groups ++ g ∷ []) ≡ groups_from x n groups ++ sets_from x g (standing_at x.standings m) 0 g.sets
+    → sets_of_groups_from x n (groups ++ g ∷ []) ≡ sets_of_groups_from x n groups ++ sets_from x g (standing_at x.standings m) 0 g.sets
 groups_snoc x n m [] g is = append-nil _ ∙ ap (λ (k : ℕ). sets_from x g (standing_at x.standings k) 0 g.sets) (omega (arith, is))
 groups_snoc x n m (h ∷ groups) g is =
     ap (λ (ps : List PlacedValue). sets_from x h (standing_at x.standings n) 0 h.sets ++ ps)
     (groups_snoc x (n + 1) m groups g (omega (arith, is)))
-    ∙ sym (append_assoc (sets_from x h (standing_at x.standings n) 0 h.sets) (groups_from x (n + 1) groups)
+    ∙ sym (append_assoc (sets_from x h (standing_at x.standings n) 0 h.sets) (sets_of_groups_from x (n + 1) groups)
     (sets_from x g (standing_at x.standings m) 0 g.sets))
 
 length_take : {A : Type 0} (xs : List A) (i : ℕ) → i < length xs → length (take i xs) ≡ i
@@ -161,15 +162,15 @@ set_taken setup x g standing i set p a b c there is before next =
 -- one group more of an interchange
 pub group_taken : (setup : SetupValue) (x : JudgedValue) (i : ℕ) (g : GroupEntry) (a b c : Lists)
     → slice_get x.interchange.content.groups i ≡ Some g
-    → HasTaken setup (groups_from x 0 (take i x.interchange.content.groups)) a b
+    → HasTaken setup (sets_of_groups_from x 0 (take i x.interchange.content.groups)) a b
     → HasTaken setup (sets_from x g (standing_at x.standings i) 0 g.sets) b c
-    → HasTaken setup (groups_from x 0 (take (i + 1) x.interchange.content.groups)) a c
+    → HasTaken setup (sets_of_groups_from x 0 (take (i + 1) x.interchange.content.groups)) a c
 group_taken setup x i g a b c there before next =
     let groups : List GroupEntry = x.interchange.content.groups in
     taken_as setup _ _ a c
     (sym (groups_snoc x 0 i (take i groups) g (omega (arith, length_take groups i (slice_get_within groups i g there))))
-    ∙ ap (groups_from x 0) (sym (take_one_more groups i g there)))
-    (taken_more setup (groups_from x 0 (take i groups)) (sets_from x g (standing_at x.standings i) 0 g.sets) a b c before next)
+    ∙ ap (sets_of_groups_from x 0) (sym (take_one_more groups i g there)))
+    (taken_more setup (sets_of_groups_from x 0 (take i groups)) (sets_from x g (standing_at x.standings i) 0 g.sets) a b c before next)
 
 -- one interchange more
 pub interchange_taken : (setup : SetupValue) (xs : List JudgedValue) (i : ℕ) (x : JudgedValue) (a b c : Lists) → slice_get xs i ≡ Some x

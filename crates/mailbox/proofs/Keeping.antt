@@ -7,7 +7,7 @@ use Rattle.partner_setup.specs.declared.partner.Partner.{Partner}
 use Rattle.judged_text.specs.Judged.{PlacedValue}
 use Rattle.mailbox.specs.Kept.{kept_as}
 use Rattle.mailbox.specs.Mailbox.{set_text}
-use Rattle.mailbox.specs.Numbered.{key_of}
+use Rattle.mailbox.specs.Numbered.{group_key_of}
 use Rattle.mailbox.specs.Rendered.{RenderedValue, rendered}
 
 abbrev value : (sender : ℕ) (id version text : List ℕ) → RenderedValue
@@ -33,7 +33,7 @@ kept_parts sender id version text =
 
 pub kept_rendered : (partner : Partner) (k : ℕ) (p : PlacedValue) (bytes id version : List ℕ) (sender id_len version_len : ℕ)
     → bytes ≡ (id ++ version) ++ set_text partner.delims p (num partner.counters.set k)
-    → id ≡ (key_of p).functional_id → version ≡ (key_of p).version → sender ≡ (key_of p).sender
+    → id ≡ (group_key_of p).functional_id → version ≡ (group_key_of p).version → sender ≡ (group_key_of p).sender
     → id_len ≡ length id → version_len ≡ length version
     → kept_as bytes sender id_len version_len ≡ rendered partner k p
 kept_rendered partner k p bytes id version sender id_len version_len eb ei ev es el em =
@@ -43,8 +43,8 @@ kept_rendered partner k p bytes id version sender id_len version_len eb ei ev es
     ∙ ap (λ (n : ℕ). kept_as ((id ++ version) ++ text) sender (length id) n) em
     ∙ kept_parts sender id version text
     ∙ ap (λ (s : ℕ). value s id version text) es
-    ∙ ap (λ (a : List ℕ). value (key_of p).sender a version text) ei
-    ∙ ap (λ (b : List ℕ). value (key_of p).sender (key_of p).functional_id b text) ev
+    ∙ ap (λ (a : List ℕ). value (group_key_of p).sender a version text) ei
+    ∙ ap (λ (b : List ℕ). value (group_key_of p).sender (group_key_of p).functional_id b text) ev
 
 pub room_kept : (bytes id version text : List ℕ) (id_len version_len : ℕ) → bytes ≡ (id ++ version) ++ text → id_len ≡ length id
     → version_len ≡ length version → id_len + version_len ≤ length bytes

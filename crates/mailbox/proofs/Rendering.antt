@@ -14,7 +14,7 @@ use Rattle.x12_write.specs.Trailer.{trailer_text}
 use Rattle.judged_text.specs.Judged.{PlacedValue}
 use Rattle.mailbox.specs.Mailbox as box
 use Rattle.mailbox.specs.Numbered as plain
-use Rattle.mailbox.specs.Numbered.{NumberedValue, numbered_from, key_of}
+use Rattle.mailbox.specs.Numbered.{NumberedValue, numbered_from, group_key_of}
 use Rattle.mailbox.specs.Rendered.{RenderedValue, box_of_rendered, goes_with, group_of, groups_in, groups_of, groups_of_rendered}
 use Rattle.mailbox.specs.Rendered.{groups_text, header_of, interchange_of, interchanges_text, onto_groups, rendered, rendered_from}
 use Rattle.mailbox.specs.Rendered.{text_in, BoxesAreRendered}
@@ -60,7 +60,7 @@ module _ (setup : SetupValue) (partner : Partner) where
   group_same : (at : List ℕ) (g : ℕ) (xs : List NumberedValue)
       → group_of setup partner at g (map write xs) ≡ box.delivered_group_text setup partner at g xs
   group_same at g [] = refl
-  group_same at g (x ∷ xs) = ap (group_text partner.delims at (header_of setup partner g (key_of x.set))) (texts_same (x ∷ xs))
+  group_same at g (x ∷ xs) = ap (group_text partner.delims at (header_of setup partner g (group_key_of x.set))) (texts_same (x ∷ xs))
 
   all_groups_same : (at : List ℕ) (g : ℕ) (gs : List (List NumberedValue))
       → groups_text setup partner at g (map (map write) gs) ≡ box.groups_text setup partner at g gs

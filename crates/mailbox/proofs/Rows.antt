@@ -12,7 +12,7 @@ use Rattle.partner_setup.specs.declared.partner.Partner.{Partner}
 use Rattle.judged_text.specs.Judged.{PlacedValue}
 use Rattle.mailbox.specs.Kept.{StandsIn, kept_as, kept_behind, kept_in}
 use Rattle.mailbox.specs.Mailbox.{set_text}
-use Rattle.mailbox.specs.Numbered.{key_of}
+use Rattle.mailbox.specs.Numbered.{group_key_of}
 use Rattle.mailbox.specs.Rendered.{RenderedValue, rendered}
 use Rattle.mailbox.specs.declared.kept.Kept.{Kept}
 use Rattle.mailbox.proofs.Keeping.{kept_rendered}
@@ -56,7 +56,8 @@ module _ (old piece : List ℕ) where
   -- by a set
   module _ (partner : Partner) (n : ℕ) (p : PlacedValue) (id version : List ℕ) (k : Kept)
       (is : piece ≡ (id ++ version) ++ set_text partner.delims p (num partner.counters.set n))
-      (id_is : id ≡ (key_of p).functional_id) (version_is : version ≡ (key_of p).version) (sender_is : k.sender ≡ (key_of p).sender)
+      (id_is : id ≡ (group_key_of p).functional_id) (version_is : version ≡ (group_key_of p).version) (sender_is : k.sender ≡
+      (group_key_of p).sender)
       (id_len : k.id_len ≡ length id) (version_len : k.version_len ≡ length version)
       (from : k.from ≡ length old) (to : k.to ≡ length new) where
     its_bytes : slice_range new k.from k.to ≡ piece

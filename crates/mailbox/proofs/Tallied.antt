@@ -10,11 +10,11 @@ use Rattle.count_numbers.specs.Layout.{in_interchange, interchange_count, interc
 use Rattle.count_numbers.specs.Runs.{onto_runs, runs_of, same_key, single, together}
 use Rattle.judged_text.specs.Judged.{PlacedValue}
 use Rattle.mailbox.specs.Mailbox.{groups_within}
-use Rattle.mailbox.specs.Numbered.{NumberedValue, goes_with, groups_of, key_of, numbered_from, onto_groups}
+use Rattle.mailbox.specs.Numbered.{NumberedValue, goes_with, groups_of, group_key_of, numbered_from, onto_groups}
 use Rattle.mailbox.specs.Tallied.{GroupsAreCounted, GroupsAreLaidOut, GroupsAreRuns, run_of, runs_in}
 
 abbrev key_in : NumberedValue → RunKey
-key_in x = key_of x.set
+key_in x = group_key_of x.set
 
 -- a group that has a set stands in front
 abbrev IsHeaded : List (List NumberedValue) → Type 0
@@ -61,9 +61,9 @@ groups_are_runs (x ∷ xs) =
     onto_as_run x (groups_of xs) (groups_headed xs) ∙ ap (onto_runs (single (key_in x))) (groups_are_runs xs)
 
 -- the keys of numbered sets
-keys_numbered : (k : ℕ) (sets : List PlacedValue) → map key_in (numbered_from k sets) ≡ map key_of sets
+keys_numbered : (k : ℕ) (sets : List PlacedValue) → map key_in (numbered_from k sets) ≡ map group_key_of sets
 keys_numbered k [] = refl
-keys_numbered k (p ∷ ps) = ap (λ (keys : List RunKey). key_of p ∷ keys) (keys_numbered (k + 1) ps)
+keys_numbered k (p ∷ ps) = ap (λ (keys : List RunKey). group_key_of p ∷ keys) (keys_numbered (k + 1) ps)
 
 -- one interchange after the other
 each_laid_out : (cap : ℕ) (sets : List NumberedValue) (ms : List ℕ)

@@ -11,7 +11,7 @@ use Rattle.partner_setup.specs.declared.partner.Partner.{Partner}
 use Rattle.partner_setup.specs.Setup.{SetupValue, route_of}
 use Rattle.mailbox.specs.declared.outcome.Outcome.{Outcome}
 use Rattle.mailbox.specs.declared.outcome.Outcome.TheVariants.{DeliveredTo, HeldForDelimiter, HeldForRoute}
-use Rattle.judged_text.specs.Judged.{PlacedValue, JudgedValue, all_sets, delims_in, is_fa, is_refused, segments_in, verdict_on}
+use Rattle.judged_text.specs.Judged.{PlacedValue, JudgedValue, all_sets, delims_in, is_fa, is_refused, segments_in, verdict_by_standing}
 
 -- A or E
 abbrev pub is_not_rejected : Verdict → Bool
@@ -22,7 +22,7 @@ is_not_rejected verdict.Rejected = false
 -- verdict A or E; in a group without a code that isn't FA; in an interchange that isn't refused
 abbrev pub is_deliverable : PlacedValue → Bool
 is_deliverable p =
-    is_not_rejected (verdict_on p) && p.standing.clear && not (is_fa p.group) && not (is_refused p.interchange)
+    is_not_rejected (verdict_by_standing p) && p.standing.clear && not (is_fa p.group) && not (is_refused p.interchange)
 
 -- a byte that is no delimiter where it comes from, and one where it goes to
 abbrev pub is_in_the_way : Delims → Delims → ℕ → Bool

@@ -20,8 +20,8 @@ abbrev pub sender_in : PlacedValue → ℕ
 sender_in p = unwrap_or p.interchange.sender 0
 
 -- what the sets of one group have in common: the sender, GS01 and GS08
-abbrev pub key_of : PlacedValue → RunKey
-key_of p = record {
+abbrev pub group_key_of : PlacedValue → RunKey
+group_key_of p = record {
   sender = sender_in p;
   functional_id = element_of p.group.header 1;
   version = element_of p.group.header 8;
@@ -30,7 +30,7 @@ key_of p = record {
 -- whether a set goes into the group of the sets after it
 abbrev pub goes_with : NumberedValue → List NumberedValue → Bool
 goes_with x [] = false
-goes_with x (y ∷ ys) = same_key (key_of x.set) (key_of y.set)
+goes_with x (y ∷ ys) = same_key (group_key_of x.set) (group_key_of y.set)
 
 abbrev pub onto_groups : NumberedValue → List (List NumberedValue) → List (List NumberedValue)
 onto_groups x [] = (x ∷ []) ∷ []

@@ -15,7 +15,7 @@ use Rattle.x12_write.specs.Trailer.{trailer_text}
 use Rattle.judged_text.specs.Judged.{JudgedValue, PlacedValue}
 use Rattle.mailbox.specs.Deliveries.{delivered_to}
 use Rattle.mailbox.specs.Mailbox.{box_text, code_by, group_total, set_text}
-use Rattle.mailbox.specs.Numbered.{key_of}
+use Rattle.mailbox.specs.Numbered.{group_key_of}
 
 -- a delivered set as it was written, with its ST02, and what it has in common with the sets of its group
 pub record RenderedValue : Type 0 where
@@ -24,7 +24,7 @@ pub record RenderedValue : Type 0 where
 
 -- set number k of those that are delivered to a partner
 abbrev pub rendered : Partner → (k : ℕ) → PlacedValue → RenderedValue
-rendered partner k p = record { key = key_of p; text = set_text partner.delims p (num partner.counters.set k) }
+rendered partner k p = record { key = group_key_of p; text = set_text partner.delims p (num partner.counters.set k) }
 
 abbrev pub rendered_from : Partner → (k : ℕ) → List PlacedValue → List RenderedValue
 rendered_from partner k [] = []

@@ -7,7 +7,8 @@ use Rattle.clap.specs.declared.parser.matches.ArgMatches.{ArgMatches}
 use Rattle.clap.proofs.OnLiterals.{clap_on_literals}
 use Rattle.night_ends.specs.Words.{values_found}
 use Rattle.night_ends.proofs.ForAbove.{all_found, asks_for_text, found}
-use Rattle.night_command.specs.CommandLine.{AreGiven, AreOptions, AsksForText, IsAsked, IsGiven, IsOfText, hub_app, piece_given, value_of}
+use Rattle.night_command.specs.CommandLine.{AreGiven, AreOptions, AsksForText, IsAsked, IsGiven, IsOfText, hub_app, piece_given}
+use Rattle.night_command.specs.CommandLine.{option_value}
 use Rattle.night_command.specs.CommandLine.{values_of, workers_given}
 use Rattle.night_command.specs.declared.command.Asked.{Asked}
 use Rattle.night_command.specs.declared.command.Asked.TheVariants.{Run, Show}
@@ -22,7 +23,7 @@ unfolding clap_on_literals
 free = refl
 
 options : (words : List Text) (m : ArgMatches) (o : Options) → HasMatchesOf hub_app words m
-    → AreOptions (first_value (found_of m)) (values_found (found_of m)) o → AreOptions (value_of words) (values_of words) o
+    → AreOptions (first_value (found_of m)) (values_found (found_of m)) o → AreOptions (option_value words) (values_of words) o
 options words m o has given = record {
   setup = sym (found hub_app simple words m (codes "setup") has) ∙ given.setup;
   guides = sym (all_found hub_app simple words m (codes "guide") has) ∙ given.guides;
@@ -40,7 +41,7 @@ asked words m (Run o) has given = options words m o has given
 asked words m (Show text) has given = absurd given
 
 -- what the arguments give is found
-pub all_given : (words : List Text) (m : ArgMatches) → HasMatchesOf hub_app words m → AreGiven (value_of words) (values_of words)
+pub all_given : (words : List Text) (m : ArgMatches) → HasMatchesOf hub_app words m → AreGiven (option_value words) (values_of words)
     → AreGiven (first_value (found_of m)) (values_found (found_of m))
 all_given words m has given = record {
   setup = given.setup;

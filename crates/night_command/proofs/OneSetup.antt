@@ -23,7 +23,7 @@ use Rattle.partner_setup.specs.CountersFile.{counters_of_table}
 use Rattle.partner_setup.specs.Names.{and_some, places_of_texts, those_at}
 use Rattle.partner_setup.specs.Setup.{SetupValue}
 use Rattle.partner_setup.specs.SetupFaults.{bad_guides, by_name, first_fault, first_row, first_twin, guide_name, has_guides}
-use Rattle.partner_setup.specs.SetupFaults.{purpose_key, told_by, twin_from}
+use Rattle.partner_setup.specs.SetupFaults.{purpose_key, key_of_texts, twin_from}
 use Rattle.partner_setup.specs.SetupFile.{setup_of_table}
 use Rattle.toml_keys.specs.declared.file_fault.FileFault.{FileFault}
 use Rattle.toml_keys.specs.declared.file_fault.FileFault.TheVariants as file
@@ -136,7 +136,7 @@ abbrev name_in : GuideHead → List ℕ
 name_in h = h.name
 
 abbrev purpose_in : GuideHead → List ℕ
-purpose_in h = told_by h.group h.version h.set
+purpose_in h = key_of_texts h.group h.version h.set
 
 abbrev has_guides_by : List GuideHead → PartnerRow → Bool
 has_guides_by hs p =

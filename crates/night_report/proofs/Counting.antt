@@ -9,10 +9,11 @@ use Rattle.env_index.specs.Words.{GroupEntry}
 use Rattle.env_index.specs.declared.entry.SetEnvelope.{SetEnvelope}
 use Rattle.partner_setup.specs.Setup.{SetupValue}
 use Rattle.judged_text.specs.declared.standing.GroupStanding.{GroupStanding}
-use Rattle.judged_text.specs.Judged.{JudgedValue, PlacedValue, is_fa, is_refused, standing_at, sets_from, groups_from, sets_of, all_sets}
+use Rattle.judged_text.specs.Judged.{JudgedValue, PlacedValue, is_fa, is_refused, standing_at, sets_from, sets_of_groups_from, sets_of}
+use Rattle.judged_text.specs.Judged.{all_sets}
 use Rattle.night_report.specs.Adding.{added, none, together, group_totals, interchange_totals, held_in, accepted_one, refused_one}
 use Rattle.night_report.specs.Report.{ShownGroup, shown_from, groups_shown, counted_groups, is_counted}
-use Rattle.night_report.specs.Report.{set_count, accepted_count, held_count, totals_of}
+use Rattle.night_report.specs.Report.{set_count, accepted_count, held_count, report_totals}
 use Rattle.night_report.specs.declared.totals.Totals.{Totals}
 use Rattle.night_report.proofs.Adding.{same, sum_by-cons, added_is, added_to_none}
 
@@ -45,12 +46,12 @@ groups_of_totals setup before gs =
 
 -- the sets of a group, and of groups, that are held
 held_in_groups : (setup : SetupValue) (x : JudgedValue) (n : ℕ) (gs : List GroupEntry)
-    → sum_by (held_count setup) (groups_from x n gs) ≡ sum_by (held_in setup) (shown_from x n gs)
+    → sum_by (held_count setup) (sets_of_groups_from x n gs) ≡ sum_by (held_in setup) (shown_from x n gs)
 held_in_groups setup x n [] = refl
 held_in_groups setup x n (g ∷ gs) =
     let standing : GroupStanding = standing_at x.standings n in
     let shown : ShownGroup = record { interchange = x; group = g; standing = standing } in
-    sum_by-append (held_count setup) (sets_from x g standing 0 g.sets) (groups_from x (n + 1) gs)
+    sum_by-append (held_count setup) (sets_from x g standing 0 g.sets) (sets_of_groups_from x (n + 1) gs)
     ∙ ap (λ (k : ℕ). held_in setup shown + k) (held_in_groups setup x (n + 1) gs)
     ∙ sym (sum_by-cons (held_in setup) shown (shown_from x (n + 1) gs))
 
@@ -77,12 +78,12 @@ none_of_sets setup x g standing n (s ∷ sets) refused =
     sum_by-cons (held_count setup) p (sets_from x g standing (n + 1) sets) ∙ omega arith
 
 none_of_groups : (setup : SetupValue) (x : JudgedValue) (n : ℕ) (gs : List GroupEntry) → is_refused x ≡ true
-    → sum_by (held_count setup) (groups_from x n gs) ≡ 0
+    → sum_by (held_count setup) (sets_of_groups_from x n gs) ≡ 0
 none_of_groups setup x n [] refused = refl
 none_of_groups setup x n (g ∷ gs) refused =
     let first = none_of_sets setup x g (standing_at x.standings n) 0 g.sets refused in
     let rest = none_of_groups setup x (n + 1) gs refused in
-    sum_by-append (held_count setup) (sets_from x g (standing_at x.standings n) 0 g.sets) (groups_from x (n + 1) gs) ∙ omega arith
+    sum_by-append (held_count setup) (sets_from x g (standing_at x.standings n) 0 g.sets) (sets_of_groups_from x (n + 1) gs) ∙ omega arith
 
 -- what an interchange counts before its groups
 counted-cons : (x : JudgedValue) (more : List JudgedValue)
@@ -100,7 +101,7 @@ held_shown setup x false is =
 grow : (setup : SetupValue) (x : JudgedValue) (more : List JudgedValue) (one : Totals) → one.interchanges ≡ 1 → one.groups ≡ 0
     → one.sets ≡ 0 → one.accepted ≡ 0 → one.held ≡ 0 → one.refused ≡ cond (is_refused x) 1 0
     → interchange_totals setup x ≡ together one (groups_totals setup (groups_shown x))
-    → totals_of setup (x ∷ more) ≡ together (interchange_totals setup x) (totals_of setup more)
+    → report_totals setup (x ∷ more) ≡ together (interchange_totals setup x) (report_totals setup more)
 unfolding groups_totals
 grow setup x more one i g s a h r is =
     let shown : List ShownGroup = groups_shown x in
@@ -120,12 +121,12 @@ grow setup x more one i g s a h r is =
     ap (sum_by (held_count setup)) (flat_map-cons sets_of x more)
     ∙ sum_by-append (held_count setup) (sets_of x) (all_sets more)
     ∙ ap (λ (k : ℕ). k + sum_by (held_count setup) (all_sets more)) (held_shown setup x (is_refused x) refl) in
-    same (totals_of setup (x ∷ more)) (together (together one (groups_totals setup shown)) (totals_of setup more)) (omega arith)
+    same (report_totals setup (x ∷ more)) (together (together one (groups_totals setup shown)) (report_totals setup more)) (omega arith)
     (refused ∙ omega arith) (groups ∙ omega arith) (sets ∙ omega arith) (accepted ∙ omega arith) (held ∙ omega arith)
-    ∙ ap (λ (t : Totals). together t (totals_of setup more)) (sym is)
+    ∙ ap (λ (t : Totals). together t (report_totals setup more)) (sym is)
 
 one_more : (setup : SetupValue) (x : JudgedValue) (more : List JudgedValue) (refused : Bool) → is_refused x ≡ refused
-    → totals_of setup (x ∷ more) ≡ together (interchange_totals setup x) (totals_of setup more)
+    → report_totals setup (x ∷ more) ≡ together (interchange_totals setup x) (report_totals setup more)
 unfolding groups_totals
 one_more setup x more true is =
     grow setup x more refused_one refl refl refl refl refl (rw is refl) (rw is refl)
@@ -134,6 +135,6 @@ one_more setup x more false is =
     (rw is (groups_of_totals setup accepted_one (shown_from x 0 x.interchange.content.groups)))
 
 -- what is counted interchange by interchange, is counted of all
-pub totals_are_added : (setup : SetupValue) (xs : List JudgedValue) → added (interchange_totals setup) none xs ≡ totals_of setup xs
+pub totals_are_added : (setup : SetupValue) (xs : List JudgedValue) → added (interchange_totals setup) none xs ≡ report_totals setup xs
 totals_are_added setup xs =
-    added_to_none (interchange_totals setup) (totals_of setup) refl (λ x more. one_more setup x more (is_refused x) refl) xs
+    added_to_none (interchange_totals setup) (report_totals setup) refl (λ x more. one_more setup x more (is_refused x) refl) xs

@@ -5,7 +5,7 @@ use Rattle.partner_setup.specs.Setup.{SetupValue}
 use Rattle.judged_text.specs.Judged.{JudgedValue, is_fa, is_refused, standing_at}
 use Rattle.judged_text.specs.Placed.{group_at, groups_in}
 use Rattle.judged_text.specs.declared.standing.GroupStanding.{GroupStanding}
-use Rattle.night_report.specs.Report.{ShownGroup, groups_shown, sets_in, held_count}
+use Rattle.night_report.specs.Report.{ShownGroup, groups_shown, placed_sets_in, held_count}
 use Rattle.night_report.specs.declared.totals.Totals.{Totals}
 
 abbrev pub none : Totals
@@ -38,7 +38,7 @@ abbrev pub accepted_one : Totals
 accepted_one = record { interchanges = 1; refused = 0; groups = 0; sets = 0; accepted = 0; held = 0 }
 
 abbrev pub held_in : SetupValue → ShownGroup → ℕ
-held_in setup g = sum_by (held_count setup) (sets_in g)
+held_in setup g = sum_by (held_count setup) (placed_sets_in g)
 
 -- a group of whose sets so many are held
 abbrev pub totals_with : GroupEntry → GroupStanding → (held : ℕ) → Totals

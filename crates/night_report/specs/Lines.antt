@@ -16,12 +16,12 @@ abbrev pub line : (first : List ℕ) → List (List ℕ) → List ℕ
 line first words = first ++ spaced words ++ 10 ∷ []
 
 -- ISA13 is nine digits
-abbrev pub has_control : (header : List ℕ) → Bool
-has_control header = (length (field_of header 13) == 9) && is_number MOST_CONTROL_DIGITS (field_of header 13)
+abbrev pub has_nine_digits : (header : List ℕ) → Bool
+has_nine_digits header = (length (field_of header 13) == 9) && is_number MOST_CONTROL_DIGITS (field_of header 13)
 
 -- ISA13 where it is nine digits
 abbrev pub control_shown : (header : List ℕ) → List ℕ
-control_shown header = if has_control header then field_of header 13 else codes "?"
+control_shown header = if has_nine_digits header then field_of header 13 else codes "?"
 
 abbrev pub end_words : Option InterchangeFault → List (List ℕ)
 end_words None = codes "accepted" ∷ []

@@ -46,8 +46,8 @@ shown_from x n (group ∷ groups) =
 abbrev pub groups_shown : JudgedValue → List ShownGroup
 groups_shown x = if is_refused x then [] else shown_from x 0 x.interchange.content.groups
 
-abbrev pub sets_in : ShownGroup → List PlacedValue
-sets_in g = sets_from g.interchange g.group g.standing 0 g.group.sets
+abbrev pub placed_sets_in : ShownGroup → List PlacedValue
+placed_sets_in g = sets_from g.interchange g.group g.standing 0 g.group.sets
 
 -- a group of acknowledgments, or one that is answered
 abbrev pub group_line : GroupEntry → GroupStanding → List ℕ
@@ -68,7 +68,7 @@ held_lines setup p = flat_map (outcome_line setup (p.index + 1)) (outcomes setup
 
 -- a group, and after it its sets that are held
 abbrev pub group_lines : SetupValue → ShownGroup → List ℕ
-group_lines setup g = group_line g.group g.standing ++ flat_map (held_lines setup) (sets_in g)
+group_lines setup g = group_line g.group g.standing ++ flat_map (held_lines setup) (placed_sets_in g)
 
 -- its received TA1 and its groups, where an interchange isn't refused
 abbrev pub content_lines : SetupValue → JudgedValue → List ℕ
@@ -110,8 +110,8 @@ accepted_count g = g.standing.accepted
 abbrev pub held_count : SetupValue → PlacedValue → ℕ
 held_count setup p = count_by is_held (outcomes setup p)
 
-abbrev pub totals_of : SetupValue → List JudgedValue → Totals
-totals_of setup xs = record {
+abbrev pub report_totals : SetupValue → List JudgedValue → Totals
+report_totals setup xs = record {
   interchanges = length xs;
   refused = count_by is_refused xs;
   groups = length (counted_groups xs);
@@ -122,4 +122,4 @@ totals_of setup xs = record {
 
 -- the report: what is known of the interchanges of a text, front to back, and how many bytes stand outside of them
 abbrev pub report_text : SetupValue → List JudgedValue → (outside : ℕ) → List ℕ
-report_text setup xs outside = all_lines setup 0 1 xs ++ total_line (totals_of setup xs) outside
+report_text setup xs outside = all_lines setup 0 1 xs ++ total_line (report_totals setup xs) outside

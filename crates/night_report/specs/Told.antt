@@ -4,7 +4,7 @@ use Rattle.judged_text.specs.Judged.{JudgedValue}
 use Rattle.partner_setup.specs.Setup.{SetupValue}
 use Rattle.night_report.specs.Adding.{none, together}
 use Rattle.night_report.specs.Lines.{total_line}
-use Rattle.night_report.specs.Report.{all_lines, totals_of}
+use Rattle.night_report.specs.Report.{all_lines, report_totals}
 use Rattle.night_report.specs.declared.totals.Totals.{Totals}
 
 -- the lines, the totals, and how many interchanges were reported
@@ -20,7 +20,7 @@ nothing_told = record { lines = []; totals = none; count = 0 }
 abbrev pub told_behind : SetupValue → (base : ℕ) → ToldValue → List JudgedValue → ToldValue
 told_behind setup base told xs = record {
   lines = told.lines ++ all_lines setup base (told.count + 1) xs;
-  totals = together told.totals (totals_of setup xs);
+  totals = together told.totals (report_totals setup xs);
   count = told.count + length xs;
 }
 

@@ -81,7 +81,7 @@ fn append_held_of_group(
     requires sets { count ≡ length (adding.shown_at interchange.now n).group.sets }
     requires route { route.now ≡ route_of setup.now (element_of (adding.shown_at interchange.now n).group.header 3) }
     ensures text { OnOk result (out.new.items ≡ out.old.items
-        ++ flat_map (report.held_lines setup.now) (report.sets_in (adding.shown_at interchange.now n))) }
+        ++ flat_map (report.held_lines setup.now) (report.placed_sets_in (adding.shown_at interchange.now n))) }
     ensures held { IfOk result (λ held. held ≡ adding.held_in setup.now (adding.shown_at interchange.now n)) }
     ensures room { IfOk result (λ held. length out.old.items + held ≤ length out.new.items) }
 {

@@ -97,7 +97,7 @@ pub(crate) fn append_all(
 ) -> Result<Totals, NoMemory>
     requires { before + length interchanges.now < 2 ^ 64 }
     ensures text { OnOk result (out.new.items ≡ out.old.items ++ report.all_lines setup.now base (before + 1) interchanges.now) }
-    ensures totals { IfOk result (λ totals. totals ≡ report.totals_of setup.now interchanges.now) }
+    ensures totals { IfOk result (λ totals. totals ≡ report.report_totals setup.now interchanges.now) }
     ensures room { IfOk result (λ totals. HasRoom totals (length out.old.items) (length out.new.items)) }
     ensures of_those { IfOk result (λ totals. IsOfInterchanges totals (length interchanges.now)) }
 {

@@ -12,7 +12,7 @@ use Rattle.batch_law.specs.Batches.{ChainUpTo}
 use Rattle.batch_law.specs.Moved.{IsIndexUpTo, count_up_to}
 use Rattle.batch_law.proofs.Chains.{chain_up_to_end, end_behind}
 use Rattle.partner_setup.specs.Setup.{SetupValue}
-use Rattle.checked_text.specs.Settled.{fault_alone, faults_with, key_of, keys_with}
+use Rattle.checked_text.specs.Settled.{fault_alone, faults_with, interchange_key_of, keys_with}
 use Rattle.night_writing.specs.Writing.{HasRoomFor, WritingValue}
 use Rattle.night_stream.specs.Carried.{CanGoOn}
 
@@ -75,7 +75,7 @@ faulty_length (e ∷ es) (f ∷ fs) = ap suc (faulty_length es fs)
 pub faults_length : (setup : SetupValue) (numbers : List (List ℕ)) (es : List IndexEntry)
     → length (faults_with setup numbers es) ≡ length es
 faults_length setup numbers [] = refl
-faults_length setup numbers (e ∷ es) = ap suc (faults_length setup (keys_with numbers (fault_alone setup e) (key_of e)) es)
+faults_length setup numbers (e ∷ es) = ap suc (faults_length setup (keys_with numbers (fault_alone setup e) (interchange_key_of e)) es)
 
 -- there is room for a batch
 pub room_for : (setup : SetupValue) (at : List ℕ) (base : ℕ) (w : WritingValue) (batch : List ℕ) (index new : IndexValue)

@@ -4,19 +4,22 @@ use Rattle.hub_kinds.specs.declared.interchange.InterchangeFault.{InterchangeFau
 use Rattle.env_index.specs.Words.{IndexEntry, IndexValue, settled, with_fault, with_faults}
 use Rattle.partner_setup.specs.Setup.{SetupValue}
 use Rattle.checked_text.specs.Seen.{is_among}
-use Rattle.checked_text.specs.Settled.{faults_with, key_of, keys_with, fault_alone}
+use Rattle.checked_text.specs.Settled.{faults_with, interchange_key_of, keys_with, fault_alone}
 use Rattle.place_work.specs.Alone.{AreSettledBy, faults_alone, index_alone}
 
 pub settled_by_numbers : (setup : SetupValue) (numbers : List (List ℕ)) (es : List IndexEntry)
     → AreSettledBy setup es (faults_with setup numbers es)
 settled_by_numbers setup numbers [] = tt
-settled_by_numbers setup numbers (e ∷ es) =
-    ((is_among (key_of e) numbers, refl), settled_by_numbers setup (keys_with numbers (fault_alone setup e) (key_of e)) es)
+settled_by_numbers setup numbers (e ∷ es) = (
+  (is_among (interchange_key_of e) numbers, refl),
+  settled_by_numbers setup (keys_with numbers (fault_alone setup e)
+      (interchange_key_of e)) es,
+)
 
 pub with_long : (setup : SetupValue) (numbers : List (List ℕ)) (es : List IndexEntry) → length (faults_with setup numbers es) ≡ length es
 with_long setup numbers [] = refl
 with_long setup numbers (e ∷ es) =
-    let more = with_long setup (keys_with numbers (fault_alone setup e) (key_of e)) es in omega (arith, more)
+    let more = with_long setup (keys_with numbers (fault_alone setup e) (interchange_key_of e)) es in omega (arith, more)
 
 pub alone_long : (setup : SetupValue) (es : List IndexEntry) → length (faults_alone setup es) ≡ length es
 alone_long setup [] = refl

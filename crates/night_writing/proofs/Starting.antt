@@ -7,7 +7,7 @@ use Rattle.env_index.specs.Words.{IndexEntry}
 use Rattle.partner_setup.specs.Setup.{SetupValue}
 use Rattle.judged_text.specs.Judged.{JudgedValue}
 use Rattle.night_report.proofs.Adding.{none_with}
-use Rattle.night_report.specs.Report.{totals_of}
+use Rattle.night_report.specs.Report.{report_totals}
 use Rattle.night_report.specs.Told.{ToldValue, nothing_told, told_behind}
 use Rattle.checked_text.specs.CheckedText.{AreAcknowledgments, nothing_sent}
 use Rattle.night_writing.specs.Night.{judgements}
@@ -50,7 +50,7 @@ first_written text setup at entries others first w nothing batch =
           (nothing_acknowledged setup at));
       told = record {
         lines = ap (λ (t : ToldValue). t.lines) is_told;
-        totals = ap (λ (t : ToldValue). t.totals) is_told ∙ none_with (totals_of setup js);
+        totals = ap (λ (t : ToldValue). t.totals) is_told ∙ none_with (report_totals setup js);
         count = ap (λ (t : ToldValue). t.count) is_told ∙ (let z : 0 + length js ≡ length js = omega arith in z);
       };
       boxes = record {

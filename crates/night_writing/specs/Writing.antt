@@ -7,7 +7,7 @@ use Rattle.partner_setup.specs.Setup.{SetupValue}
 use Rattle.judged_text.specs.Judged.{JudgedValue}
 use Rattle.mailbox.specs.Deliveries.{delivered_to}
 use Rattle.mailbox.specs.Rendered.{HaveRendered, RenderedValue, rendered_from}
-use Rattle.night_report.specs.Report.{all_lines, totals_of}
+use Rattle.night_report.specs.Report.{all_lines, report_totals}
 use Rattle.night_report.specs.Told.{ToldValue, nothing_told, told_behind, told_text}
 use Rattle.checked_text.specs.CheckedText.{AreAcknowledgments, AreCheckedAs, CheckedInterchange, SentValues, nothing_sent}
 use Rattle.night_writing.specs.ByPlace.{box_by, next_by}
@@ -41,7 +41,7 @@ pub record AreRendered (setup : SetupValue) (xs : List JudgedValue) (boxes : Lis
 -- the report up to there
 pub record AreTold (setup : SetupValue) (xs : List JudgedValue) (told : ToldValue) : Type 0 where
   pub lines : told.lines ≡ all_lines setup 0 1 xs
-  pub totals : told.totals ≡ totals_of setup xs
+  pub totals : told.totals ≡ report_totals setup xs
   pub count : told.count ≡ length xs
 
 -- what is written is that of these interchanges of a text

@@ -5,7 +5,7 @@ use Rattle.std.specs.Prelude.{Contains, is_none, slice_get}
 use Rattle.std.proofs.lemmas.List.Elements.{Contains-append_cases}
 use Rattle.std.proofs.lemmas.Option.{slice_get_within}
 use Rattle.hub_kinds.specs.declared.place.Place.{Place}
-use Rattle.env_index.specs.Words.{IndexEntry, IndexValue, InterchangeEntry, Numbered, groups_from}
+use Rattle.env_index.specs.Words.{IndexEntry, IndexValue, InterchangeEntry, Numbered, group_numbers_from}
 use Rattle.env_index.specs.Words.{interchange_number, kept_places, place_at, place_in, places_behind, places_of, GroupEntry}
 use Rattle.env_index.specs.declared.entry.SetEnvelope.{SetEnvelope}
 use Rattle.number_register.specs.Placing.{IsPlaced}
@@ -23,7 +23,7 @@ pub record IsOfEntry (first : ℕ) (es : List IndexEntry) (a : Numbered) : Type 
       ⊎ IsOfGroup (first + n) 1 e.interchange.content.groups a
 
 from_kept : (b : Bool) (isa : ℕ) (x : InterchangeEntry) (a : Numbered) → Contains (kept_places b isa x) a
-    → (b ≡ true) × Contains (interchange_item isa x ∷ groups_from isa 1 x.content.groups) a
+    → (b ≡ true) × Contains (interchange_item isa x ∷ group_numbers_from isa 1 x.content.groups) a
 from_kept true isa x a h = (refl, h)
 from_kept false isa x a h = absurd (no_member a h)
 

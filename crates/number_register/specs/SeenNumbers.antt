@@ -14,12 +14,12 @@ use Rattle.number_register.specs.declared.seen.Seen.{Seen}
 abbrev pub number_key : (header : List ℕ) → List ℕ
 number_key header = field_of header 5 ++ (field_of header 6 ++ (field_of header 7 ++ (field_of header 8 ++ field_of header 13)))
 
-abbrev pub key_of : IndexEntry → List ℕ
-key_of e = number_key e.interchange.header
+abbrev pub interchange_key_of : IndexEntry → List ℕ
+interchange_key_of e = number_key e.interchange.header
 
 -- the numbers of the interchange places of a settled index
 abbrev pub interchange_keys : List IndexEntry → List (List ℕ)
-interchange_keys es = map key_of (filter (λ e. is_none e.fault) es)
+interchange_keys es = map interchange_key_of (filter (λ e. is_none e.fault) es)
 
 -- a number is among these
 abbrev pub is_among : List ℕ → List (List ℕ) → Bool

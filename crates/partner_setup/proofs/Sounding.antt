@@ -96,7 +96,7 @@ all_in_range c h =
 
 counted : (ps : List PartnerRow) (c : CounterRow) → faults.counts_for ps c ≡ true → AreCounters c.counters
 counted ps c h = all_in_range c.counters
-    (and_parts (faults.are_counters c.counters) (contains_text (map faults.partner_name ps) c.partner) h).0
+    (and_parts (faults.are_counters c.counters) (contains_text (map faults.name_of_row ps) c.partner) h).0
 
 counted_at : (ps : List PartnerRow) (cs : List CounterRow) (k : ℕ) (c : CounterRow) → list_all (faults.counts_for ps) cs ≡ true
     → slice_get cs k ≡ Some c → AreCounters c.counters
@@ -156,7 +156,7 @@ partners_sound ps cs gs (p ∷ rows) counts marks ids caps =
 -- routes
 route_sound : (count : ℕ) (ps : List PartnerRow) → count ≡ length ps → (r : RouteRow) → AreWithin count (route_by ps r).to
 route_sound count ps is r = subst (λ (n : ℕ). AreWithin n (route_by ps r).to) (sym is)
-    (places_within faults.partner_name ps r.to)
+    (places_within faults.name_of_row ps r.to)
 
 routes_sound : (count : ℕ) (ps : List PartnerRow) → count ≡ length ps → (rows : List RouteRow)
     → All (λ (r : Route). AreWithin count r.to) (map (route_by ps) rows)
@@ -166,7 +166,7 @@ routes_sound count ps is (r ∷ rows) = All-cons (λ (x : Route). AreWithin coun
 
 route_apart : (ps : List PartnerRow) (r : RouteRow) → faults.is_route ps r ≡ true → AreApart (route_by ps r).to
 route_apart ps r h =
-    let names = map faults.partner_name ps in
+    let names = map faults.name_of_row ps in
     let targets = (and_parts (faults.is_id 2 15 r.code) (faults.are_targets ps r.to) h).1 in
     let once = (and_parts (list_all (contains_text names) r.to) (not (has_twice faults.by_name r.to)) targets).1 in
     places_apart names r.to (not-true (has_twice faults.by_name r.to) once)

@@ -25,7 +25,7 @@ use Rattle.std.proofs.lemmas.Map.Text.{is_eq-slice_cmp}
 use Rattle.std.proofs.lemmas.Slice.Eq.{bytes_eq-Decides}
 use Rattle.partner_setup.specs.Names.{place_from, place_of}
 use Rattle.hub_kinds.specs.Words.{is_word}
-use Rattle.partner_setup.specs.Setup.{has_id, targets_in}
+use Rattle.partner_setup.specs.Setup.{has_qualifier_and_id, targets_in}
 use Rattle.partner_setup.specs.SetupFaults.{are_ids, is_id, is_inner, is_outer}
 use Rattle.partner_setup.specs.Sound.{IsSoundPartner}
 use Rattle.partner_setup.specs.Tables.{KeepsPlaces, by_bytes, route_key, sender_key}
@@ -144,23 +144,23 @@ fifteen p h =
     short p.id (and_parts (is_word 2 2 p.qualifier) (is_id 1 15 p.id) parts.0).1
 
 found_from : (n count : ℕ) (ps : List Partner) (qualifier id : List ℕ) → All (IsSoundPartner count) ps → length qualifier ≡ 2
-    → position_from (λ (p : Partner). has_id p qualifier id) n ps ≡ place_from n (map sender_key ps) (qualifier ++ id)
+    → position_from (λ (p : Partner). has_qualifier_and_id p qualifier id) n ps ≡ place_from n (map sender_key ps) (qualifier ++ id)
 found_from n count [] qualifier id h e = refl
 found_from n count (p ∷ ps) qualifier id h e =
     let l = two p (All-head (IsSoundPartner count) p ps h).ids in
-    ap (λ (b : Bool). cond b (Some n) (position_from (λ (x : Partner). has_id x qualifier id) (n + 1) ps))
+    ap (λ (b : Bool). cond b (Some n) (position_from (λ (x : Partner). has_qualifier_and_id x qualifier id) (n + 1) ps))
     (sym (key_parts p.qualifier qualifier p.id id (l ∙ sym e)))
     ∙ ap (cond (bytes_eq (sender_key p) (qualifier ++ id)) (Some n))
     (found_from (n + 1) count ps qualifier id (All-tail (IsSoundPartner count) p ps h) e)
 
 -- the first place of the key is that of the qualifier and the id
 pub sender_found : (count : ℕ) (ps : List Partner) (qualifier id : List ℕ) → All (IsSoundPartner count) ps → length qualifier ≡ 2
-    → place_of (map sender_key ps) (qualifier ++ id) ≡ position (λ (p : Partner). has_id p qualifier id) ps
+    → place_of (map sender_key ps) (qualifier ++ id) ≡ position (λ (p : Partner). has_qualifier_and_id p qualifier id) ps
 sender_found count ps qualifier id h e =
-    sym (position_from-zero (λ (p : Partner). has_id p qualifier id) ps ∙ found_from 0 count ps qualifier id h e)
+    sym (position_from-zero (λ (p : Partner). has_qualifier_and_id p qualifier id) ps ∙ found_from 0 count ps qualifier id h e)
 
 foreign : (p : Partner) (qualifier id : List ℕ) → are_ids p.qualifier p.id p.code ≡ true → (length qualifier ≢ 2) ⊎ (15 < length id)
-    → has_id p qualifier id ≡ true → ⊥
+    → has_qualifier_and_id p qualifier id ≡ true → ⊥
 foreign p qualifier id h (inl n) t =
     let q = (bytes_eq-Decides p.qualifier qualifier).0 (and_parts (bytes_eq p.qualifier qualifier) (bytes_eq p.id id) t).0 in
     n (sym (ap length q) ∙ two p h)
@@ -171,15 +171,15 @@ foreign p qualifier id h (inr n) t =
     omega (arith, i, l, n)
 
 none_from : (n count : ℕ) (ps : List Partner) (qualifier id : List ℕ) → All (IsSoundPartner count) ps
-    → (length qualifier ≢ 2) ⊎ (15 < length id) → position_from (λ (p : Partner). has_id p qualifier id) n ps ≡ None
+    → (length qualifier ≢ 2) ⊎ (15 < length id) → position_from (λ (p : Partner). has_qualifier_and_id p qualifier id) n ps ≡ None
 none_from n count [] qualifier id h e = refl
 none_from n count (p ∷ ps) qualifier id h e =
-    ap (λ (b : Bool). cond b (Some n) (position_from (λ (x : Partner). has_id x qualifier id) (n + 1) ps))
-    (false_from_ne_true (has_id p qualifier id) (foreign p qualifier id (All-head (IsSoundPartner count) p ps h).ids e))
+    ap (λ (b : Bool). cond b (Some n) (position_from (λ (x : Partner). has_qualifier_and_id x qualifier id) (n + 1) ps))
+    (false_from_ne_true (has_qualifier_and_id p qualifier id) (foreign p qualifier id (All-head (IsSoundPartner count) p ps h).ids e))
     ∙ none_from (n + 1) count ps qualifier id (All-tail (IsSoundPartner count) p ps h) e
 
 -- no partner's qualifier has another length, and no partner's id is longer
 pub none_found : (count : ℕ) (ps : List Partner) (qualifier id : List ℕ) → All (IsSoundPartner count) ps
-    → (length qualifier ≢ 2) ⊎ (15 < length id) → position (λ (p : Partner). has_id p qualifier id) ps ≡ None
+    → (length qualifier ≢ 2) ⊎ (15 < length id) → position (λ (p : Partner). has_qualifier_and_id p qualifier id) ps ≡ None
 none_found count ps qualifier id h e =
-    position_from-zero (λ (p : Partner). has_id p qualifier id) ps ∙ none_from 0 count ps qualifier id h e
+    position_from-zero (λ (p : Partner). has_qualifier_and_id p qualifier id) ps ∙ none_from 0 count ps qualifier id h e

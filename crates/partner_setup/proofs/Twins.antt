@@ -7,11 +7,11 @@ use Rattle.std.specs.Cmp.Lexicographic.{slice_cmp}
 use Rattle.std.specs.List.{list_any}
 use Rattle.std.proofs.lemmas.List.{drop_more}
 use Rattle.hub_kinds.specs.Words.{has_same_key, order_by}
-use Rattle.partner_setup.specs.SetupFaults.{told_by, twin_from}
+use Rattle.partner_setup.specs.SetupFaults.{key_of_texts, twin_from}
 use Rattle.partner_setup.specs.declared.told.Told.{Told}
 
 abbrev pub key_of : Told → List ℕ
-key_of t = told_by t.first.now t.second.now t.third.now
+key_of t = key_of_texts t.first.now t.second.now t.third.now
 
 -- what can't be distinguished from a row
 abbrev pub is_told : {A : Type 0} → (A → List ℕ) → Told → A → Bool

@@ -2,7 +2,7 @@
 use Rattle.std.specs.Prelude.{ℕ, ◌≡◌, List, [], ◌∷◌, codes, refl, true, false, Some, None}
 use Rattle.hub_kinds.specs.Words.{has_twice}
 use Rattle.partner_setup.specs.declared.rows.PartnerRow.{PartnerRow}
-use Rattle.partner_setup.specs.SetupFaults.{told_by, is_id, may_delimit, may_end, byte_of, are_ids, delims_of, is_cap, is_counter}
+use Rattle.partner_setup.specs.SetupFaults.{key_of_texts, is_id, may_delimit, may_end, byte_of, are_ids, delims_of, is_cap, is_counter}
 use Rattle.partner_setup.specs.Names.{place_of, places_of_texts, those_at}
 
 shortest_id : is_id 1 15 (codes "A") ≡ true
@@ -155,10 +155,11 @@ two_bytes_as_terminator : delims_of (with_delimiters (codes "*") (codes ">") (co
 two_bytes_as_terminator = refl
 
 -- what is told apart by two texts isn't told apart by what they are put together
-told_apart : has_twice (λ (s : List ℕ). s) (told_by (codes "1") (codes "2X") [] ∷ told_by (codes "12") (codes "X") [] ∷ []) ≡ false
+told_apart : has_twice (λ (s : List ℕ). s) (key_of_texts (codes "1") (codes "2X") [] ∷ key_of_texts (codes "12") (codes "X") [] ∷ [])
+    ≡ false
 told_apart = refl
 
-told_alike : has_twice (λ (s : List ℕ). s) (told_by (codes "12") (codes "X") [] ∷ told_by (codes "12") (codes "X") [] ∷ []) ≡ true
+told_alike : has_twice (λ (s : List ℕ). s) (key_of_texts (codes "12") (codes "X") [] ∷ key_of_texts (codes "12") (codes "X") [] ∷ []) ≡ true
 told_alike = refl
 
 third_given_twice : has_twice (λ (s : List ℕ). s) (codes "A" ∷ codes "B" ∷ codes "A" ∷ []) ≡ true

@@ -26,10 +26,10 @@ abbrev pub counter_lines : (name : List ℕ) → Counters → List ℕ
 counter_lines name c = name_lines name ++ number_lines c
 
 -- partner by partner
-abbrev pub all_lines : List Partner → List Counters → List ℕ
-all_lines [] next = []
-all_lines (p ∷ ps) [] = []
-all_lines (p ∷ ps) (c ∷ next) = counter_lines p.name c ++ all_lines ps next
+abbrev pub counters_lines : List Partner → List Counters → List ℕ
+counters_lines [] next = []
+counters_lines (p ∷ ps) [] = []
+counters_lines (p ∷ ps) (c ∷ next) = counter_lines p.name c ++ counters_lines ps next
 
 abbrev pub counters_text : SetupValue → List Counters → List ℕ
-counters_text setup next = codes "version = 2\n" ++ all_lines setup.partners next
+counters_text setup next = codes "version = 2\n" ++ counters_lines setup.partners next

@@ -17,7 +17,7 @@ use Rattle.partner_setup.specs.declared.rows.PartnerRow.{PartnerRow}
 use Rattle.partner_setup.specs.declared.rows.RouteRow.{RouteRow}
 use Rattle.partner_setup.specs.declared.rows.SetupRows.{SetupRows}
 use Rattle.partner_setup.specs.Names.{place_of, places_of_texts, those_at}
-use Rattle.partner_setup.specs.SetupFaults.{delims_of, guide_name, partner_name}
+use Rattle.partner_setup.specs.SetupFaults.{delims_of, guide_name, name_of_row}
 
 pub record SetupValue : Type 0 where
   pub hub : HubRow
@@ -54,7 +54,7 @@ partner_of counters guides row = record {
 }
 
 abbrev pub route_by : List PartnerRow → RouteRow → Route
-route_by partners row = record { code = row.code; to = places_of_texts (map partner_name partners) row.to }
+route_by partners row = record { code = row.code; to = places_of_texts (map name_of_row partners) row.to }
 
 -- the setup that rows, counters and guides make where nothing is refused
 abbrev pub setup_of : SetupRows → List CounterRow → List GuideRows → SetupValue
@@ -65,12 +65,13 @@ setup_of rows counters guides = record {
   guides = guides;
 }
 
-abbrev pub has_id : Partner → (qualifier id : List ℕ) → Bool
-has_id p qualifier id = bytes_eq p.qualifier qualifier && bytes_eq p.id id
+abbrev pub has_qualifier_and_id : Partner → (qualifier id : List ℕ) → Bool
+has_qualifier_and_id p qualifier id = bytes_eq p.qualifier qualifier && bytes_eq p.id id
 
 -- the sender: the partner with ISA05 as qualifier and ISA06 without its trailing spaces as id
 abbrev pub sender_of : SetupValue → (header : List ℕ) → Option ℕ
-sender_of setup header = position (λ p. has_id p (field_of header 5) (without_trailing_spaces (field_of header 6))) setup.partners
+sender_of setup header = position (λ p. has_qualifier_and_id p (field_of header 5) (without_trailing_spaces
+    (field_of header 6))) setup.partners
 
 abbrev pub has_code : (code : List ℕ) → Route → Bool
 has_code code route = bytes_eq route.code code

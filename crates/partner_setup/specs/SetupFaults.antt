@@ -25,11 +25,11 @@ abbrev pub told : List ℕ → List ℕ → List ℕ
 told text behind = length text ∷ (text ++ behind)
 
 -- what up to three texts tell apart
-abbrev pub told_by : (first second third : List ℕ) → List ℕ
-told_by first second third = told first (told second (told third []))
+abbrev pub key_of_texts : (first second third : List ℕ) → List ℕ
+key_of_texts first second third = told first (told second (told third []))
 
 abbrev pub by_name : (name : List ℕ) → List ℕ
-by_name name = told_by name [] []
+by_name name = key_of_texts name [] []
 
 -- the first row of which something is so, by its place
 abbrev pub first_row : {A : Type 0} → (A → Bool) → List A → Option ℕ
@@ -52,7 +52,7 @@ lesser (Some m) (Some n) = Some (min m n)
 -- 1: a name given twice, or a qualifier and id given twice
 abbrev pub same_partner : List PartnerRow → Option ℕ
 same_partner ps = lesser (first_twin (λ (p : PartnerRow). by_name p.name) ps)
-    (first_twin (λ (p : PartnerRow). told_by p.qualifier p.id []) ps)
+    (first_twin (λ (p : PartnerRow). key_of_texts p.qualifier p.id []) ps)
 
 -- the bytes that may delimit: 0x1C to 0x1F, and 0x21 to 0x7E but letters, digits, `-`, `.` and `_`; a terminator may be CR or LF too
 abbrev pub is_name_byte : ℕ → Bool
@@ -120,7 +120,7 @@ guide_name g = g.head.name
 
 -- what a guide is for: group, version and set
 abbrev pub purpose_key : GuideRows → List ℕ
-purpose_key g = told_by g.head.group g.head.version g.head.set
+purpose_key g = key_of_texts g.head.group g.head.version g.head.set
 
 -- the partner's guides are there, and no two of them are for the same
 abbrev pub guides_of : List GuideRows → PartnerRow → List GuideRows
@@ -134,12 +134,12 @@ abbrev pub bad_guides : List PartnerRow → List GuideRows → Option GuidesOwne
 bad_guides ps guides = option_or (option_map guided.Partner (first_row (λ p. not (has_guides guides p)) ps))
     (option_map guided.Guide (first_twin (λ g. by_name (guide_name g)) guides))
 
-abbrev pub partner_name : PartnerRow → List ℕ
-partner_name p = p.name
+abbrev pub name_of_row : PartnerRow → List ℕ
+name_of_row p = p.name
 
 -- each target is a partner, and none is named twice
 abbrev pub are_targets : List PartnerRow → (names : List (List ℕ)) → Bool
-are_targets ps names = list_all (contains_text (map partner_name ps)) names && not (has_twice by_name names)
+are_targets ps names = list_all (contains_text (map name_of_row ps)) names && not (has_twice by_name names)
 
 -- 5: a target that is no partner or is named twice in one list, a code that hasn't its form, or one given twice
 abbrev pub is_route : List PartnerRow → RouteRow → Bool
@@ -156,7 +156,7 @@ abbrev pub are_counters : Counters → Bool
 are_counters c = is_counter c.interchange && is_counter c.group && is_counter c.set
 
 abbrev pub counts_for : List PartnerRow → CounterRow → Bool
-counts_for ps c = are_counters c.counters && contains_text (map partner_name ps) c.partner
+counts_for ps c = are_counters c.counters && contains_text (map name_of_row ps) c.partner
 
 abbrev pub bad_counter : List PartnerRow → List CounterRow → Option ℕ
 bad_counter ps cs = lesser (first_row (λ c. not (counts_for ps c)) cs) (first_twin (λ (c : CounterRow). by_name c.partner) cs)

@@ -108,7 +108,7 @@ fn route_by(
     partners: &BTreeMap<&[u8], usize>,
     row: RouteRow,
 ) -> Result<Route, NoMemory>
-    ensures { IfOk result (λ route. (ps : List PartnerRow) → KnowsPlaces partners.now 0 (map faults.partner_name ps)
+    ensures { IfOk result (λ route. (ps : List PartnerRow) → KnowsPlaces partners.now 0 (map faults.name_of_row ps)
         → route ≡ setup.route_by ps row) }
 {
     let to = places_of(alloc, partners, row.to.as_slice())?;

@@ -45,7 +45,7 @@ fn append_counter(out: &mut Vec<u8>, name: &[u8], counters: &Counters) -> Result
 
 fn append_all(out: &mut Vec<u8>, partners: &[Partner], next: &[Counters]) -> Result<(), NoMemory>
     requires { length next.now ≡ length partners.now }
-    ensures { OnOk result (out.new.items ≡ out.old.items ++ written.all_lines partners.now next.now) }
+    ensures { OnOk result (out.new.items ≡ out.old.items ++ written.counters_lines partners.now next.now) }
 {
     for i in 0..partners.len() {
         append_counter(out, partners[i].name.as_slice(), &next[i])?;

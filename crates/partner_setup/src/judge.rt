@@ -78,7 +78,7 @@ pub fn places_of(
 }
 
 fn purpose_of(guide: &Guide) -> Told<'_>
-    ensures { faults.told_by result.first.now result.second.now result.third.now ≡ faults.purpose_key guide.entry.now }
+    ensures { faults.key_of_texts result.first.now result.second.now result.third.now ≡ faults.purpose_key guide.entry.now }
 {
     let head = &guide.rows().head;
     Told {
@@ -90,8 +90,8 @@ fn purpose_of(guide: &Guide) -> Told<'_>
 
 /// Adds what a guide is for, if there is one.
 fn push_purpose<'a>(told: &mut Vec<Told<'a>>, guide: Option<&'a Guide>) -> Result<(), NoMemory>
-    ensures { OnOk result (map (λ t. faults.told_by t.first.now t.second.now t.third.now) told.new.items
-        ≡ map (λ t. faults.told_by t.first.now t.second.now t.third.now) told.old.items
+    ensures { OnOk result (map (λ t. faults.key_of_texts t.first.now t.second.now t.third.now) told.new.items
+        ≡ map (λ t. faults.key_of_texts t.first.now t.second.now t.third.now) told.old.items
         ++ map faults.purpose_key (and_some (option_map (λ g. g.now) guide.entry) [])) }
 {
     if let Some(guide) = guide {
@@ -111,7 +111,7 @@ fn purposes_at<'a>(
     guides: &'a [Guide],
     places: &[usize],
 ) -> Result<Vec<Told<'a>>, NoMemory>
-    ensures { IfOk result (λ told. map (λ t. faults.told_by t.first.now t.second.now t.third.now) told.items
+    ensures { IfOk result (λ told. map (λ t. faults.key_of_texts t.first.now t.second.now t.third.now) told.items
         ≡ map faults.purpose_key (those_at guides.entry.now places.now)) }
 {
     let mut told = Vec::new(alloc);
@@ -179,7 +179,7 @@ fn are_targets(
     places: &BTreeMap<&[u8], usize>,
     names: &[Text],
 ) -> Result<bool, NoMemory>
-    ensures { IfOk result (λ are. (ps : List PartnerRow) → KnowsPlaces places.now 0 (map faults.partner_name ps)
+    ensures { IfOk result (λ are. (ps : List PartnerRow) → KnowsPlaces places.now 0 (map faults.name_of_row ps)
         → are ≡ faults.are_targets ps names.now) }
 {
     if !are_names(places, names) {
@@ -194,7 +194,7 @@ fn is_route(
     places: &BTreeMap<&[u8], usize>,
     route: &RouteRow,
 ) -> Result<bool, NoMemory>
-    ensures { IfOk result (λ is. (ps : List PartnerRow) → KnowsPlaces places.now 0 (map faults.partner_name ps)
+    ensures { IfOk result (λ is. (ps : List PartnerRow) → KnowsPlaces places.now 0 (map faults.name_of_row ps)
         → is ≡ faults.is_route ps route.now) }
 {
     if !is_id(route.code.as_slice(), 2, 15) {
@@ -208,7 +208,7 @@ fn wrong_route(
     places: &BTreeMap<&[u8], usize>,
     routes: &[RouteRow],
 ) -> Result<Option<usize>, NoMemory>
-    ensures { IfOk result (λ place. (ps : List PartnerRow) → KnowsPlaces places.now 0 (map faults.partner_name ps)
+    ensures { IfOk result (λ place. (ps : List PartnerRow) → KnowsPlaces places.now 0 (map faults.name_of_row ps)
         → place ≡ faults.first_row (λ r. not (faults.is_route ps r)) routes.now) }
 {
     for i in 0..routes.len() {
@@ -224,7 +224,7 @@ fn bad_route(
     places: &BTreeMap<&[u8], usize>,
     routes: &[RouteRow],
 ) -> Result<Option<usize>, NoMemory>
-    ensures { IfOk result (λ place. (ps : List PartnerRow) → KnowsPlaces places.now 0 (map faults.partner_name ps)
+    ensures { IfOk result (λ place. (ps : List PartnerRow) → KnowsPlaces places.now 0 (map faults.name_of_row ps)
         → place ≡ faults.bad_route ps routes.now) }
 {
     let wrong = wrong_route(alloc, places, routes)?;
@@ -245,13 +245,13 @@ fn are_counters(counters: &Counters) -> bool
 }
 
 fn counts_for(places: &BTreeMap<&[u8], usize>, row: &CounterRow) -> bool
-    ensures { (ps : List PartnerRow) → KnowsPlaces places.now 0 (map faults.partner_name ps) → result ≡ faults.counts_for ps row.now }
+    ensures { (ps : List PartnerRow) → KnowsPlaces places.now 0 (map faults.name_of_row ps) → result ≡ faults.counts_for ps row.now }
 {
     are_counters(&row.counters) && is_name(places, row.partner.as_slice())
 }
 
 fn wrong_counter(places: &BTreeMap<&[u8], usize>, rows: &[CounterRow]) -> Option<usize>
-    ensures { (ps : List PartnerRow) → KnowsPlaces places.now 0 (map faults.partner_name ps)
+    ensures { (ps : List PartnerRow) → KnowsPlaces places.now 0 (map faults.name_of_row ps)
         → result ≡ faults.first_row (λ c. not (faults.counts_for ps c)) rows.now }
 {
     for i in 0..rows.len() {
@@ -267,7 +267,7 @@ fn bad_counter(
     places: &BTreeMap<&[u8], usize>,
     rows: &[CounterRow],
 ) -> Result<Option<usize>, NoMemory>
-    ensures { IfOk result (λ place. (ps : List PartnerRow) → KnowsPlaces places.now 0 (map faults.partner_name ps)
+    ensures { IfOk result (λ place. (ps : List PartnerRow) → KnowsPlaces places.now 0 (map faults.name_of_row ps)
         → place ≡ faults.bad_counter ps rows.now) }
 {
     let wrong = wrong_counter(places, rows);

@@ -139,7 +139,7 @@ impl Setup {
     ghost use Rattle.partner_setup.specs.Sound.{AreApart, AreWithin};
 
     fn with_id(&self, qualifier: &[u8], id: &[u8]) -> Option<usize>
-        ensures { result ≡ position (λ p. setup.has_id p qualifier.now id.now) self.now.partners }
+        ensures { result ≡ position (λ p. setup.has_qualifier_and_id p qualifier.now id.now) self.now.partners }
     {
         let _ = self.partners();
         if qualifier.len() != QUALIFIER_LEN {

@@ -21,7 +21,7 @@ pub trait Named {
 }
 
 impl Named for PartnerRow {
-    ghost name = { faults.partner_name };
+    ghost name = { faults.name_of_row };
 
     fn name(&self) -> &[u8] {
         self.name.as_slice()

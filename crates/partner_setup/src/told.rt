@@ -5,7 +5,7 @@ ghost use Rattle.std.specs.Cmp.Lexicographic.{on_texts};
 ghost use Rattle.std.specs.Cmp.{eq_by_cmp_equiv, partial_equiv_from_equiv, partial_order_from_total};
 ghost use Rattle.std.specs.Ordering.{eq_by_cmp};
 ghost use Rattle.hub_kinds.specs.Words.{order_by};
-ghost use Rattle.partner_setup.specs.SetupFaults.{told, told_by};
+ghost use Rattle.partner_setup.specs.SetupFaults.{told, key_of_texts};
 
 use hub_kinds::Keyed;
 use std::cmp::Ordering;
@@ -39,7 +39,7 @@ fn order_text(a: &[u8], b: &[u8]) -> Ordering
 }
 
 impl<'a> Keyed for Told<'a> {
-    ghost key = { λ t. told_by t.first.now t.second.now t.third.now };
+    ghost key = { λ t. key_of_texts t.first.now t.second.now t.third.now };
 
     fn order(&self, other: &Told<'a>) -> Ordering {
         order_text(self.first, other.first)
@@ -49,9 +49,9 @@ impl<'a> Keyed for Told<'a> {
 }
 
 impl<'a> PartialEq for Told<'a> {
-    ghost eq = { eq_by_cmp (order_by (λ t. told_by t.first.now t.second.now t.third.now)) };
+    ghost eq = { eq_by_cmp (order_by (λ t. key_of_texts t.first.now t.second.now t.third.now)) };
 
-    ghost laws = { partial_equiv_from_equiv (eq_by_cmp_equiv (on_texts (λ t. told_by t.first.now t.second.now t.third.now))) };
+    ghost laws = { partial_equiv_from_equiv (eq_by_cmp_equiv (on_texts (λ t. key_of_texts t.first.now t.second.now t.third.now))) };
 
     fn eq(&self, other: &Told<'a>) -> bool {
         self.order(other).is_eq()
@@ -59,13 +59,13 @@ impl<'a> PartialEq for Told<'a> {
 }
 
 impl<'a> Eq for Told<'a> {
-    ghost laws = { eq_by_cmp_equiv (on_texts (λ t. told_by t.first.now t.second.now t.third.now)) };
+    ghost laws = { eq_by_cmp_equiv (on_texts (λ t. key_of_texts t.first.now t.second.now t.third.now)) };
 }
 
 impl<'a> PartialOrd for Told<'a> {
-    ghost partial_cmp = { λ a b. Some (order_by (λ t. told_by t.first.now t.second.now t.third.now) a b) };
+    ghost partial_cmp = { λ a b. Some (order_by (λ t. key_of_texts t.first.now t.second.now t.third.now) a b) };
 
-    ghost laws = { partial_order_from_total (on_texts (λ t. told_by t.first.now t.second.now t.third.now)) };
+    ghost laws = { partial_order_from_total (on_texts (λ t. key_of_texts t.first.now t.second.now t.third.now)) };
 
     fn partial_cmp(&self, other: &Told<'a>) -> Option<Ordering> {
         Some(self.order(other))
@@ -73,9 +73,9 @@ impl<'a> PartialOrd for Told<'a> {
 }
 
 impl<'a> Ord for Told<'a> {
-    ghost cmp = { order_by (λ t. told_by t.first.now t.second.now t.third.now) };
+    ghost cmp = { order_by (λ t. key_of_texts t.first.now t.second.now t.third.now) };
 
-    ghost total = { on_texts (λ t. told_by t.first.now t.second.now t.third.now) };
+    ghost total = { on_texts (λ t. key_of_texts t.first.now t.second.now t.third.now) };
 
     ghost matches_partial_cmp = { λ a b. refl };
 

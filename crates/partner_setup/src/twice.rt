@@ -18,7 +18,7 @@ pub trait Tells {
 
     /// What distinguishes a row from others.
     fn tell<'a>(row: &'a Self::Row) -> Told<'a>
-        ensures { faults.told_by result.first.now result.second.now result.third.now ≡ tells row.entry.now };
+        ensures { faults.key_of_texts result.first.now result.second.now result.third.now ≡ tells row.entry.now };
 }
 
 /// Partners by their names.
@@ -40,7 +40,7 @@ pub struct PartnerId;
 impl Tells for PartnerId {
     type Row = PartnerRow;
 
-    ghost tells = { λ p. faults.told_by p.qualifier p.id [] };
+    ghost tells = { λ p. faults.key_of_texts p.qualifier p.id [] };
 
     fn tell<'a>(row: &'a PartnerRow) -> Told<'a> {
         Told {
@@ -104,7 +104,8 @@ impl Tells for GuideName {
 }
 
 fn told_apart<'a, K: Tells>(alloc: Global, rows: &'a [K::Row]) -> Result<Vec<Told<'a>>, NoMemory>
-    ensures { IfOk result (λ told. map (λ t. faults.told_by t.first.now t.second.now t.third.now) told.items ≡ map K.tells rows.entry.now) }
+    ensures { IfOk result (λ told. map (λ t. faults.key_of_texts t.first.now t.second.now t.third.now) told.items
+        ≡ map K.tells rows.entry.now) }
 {
     let mut told = Vec::new(alloc);
     for i in 0..rows.len() {

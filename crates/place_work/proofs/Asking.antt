@@ -12,7 +12,8 @@ use Rattle.hub_kinds.specs.declared.interchange.InterchangeFault.TheVariants.{Gr
 use Rattle.hub_kinds.specs.declared.place.Place.{Place}
 use Rattle.x12_segs.specs.Words.{SegValue}
 use Rattle.env_index.specs.Words.{GroupEntry, IndexEntry, IsEntryOf, IsFirstUse, Numbered, fault_of, fault_or_unknown}
-use Rattle.env_index.specs.Words.{faults_to_eight, groups_from, index_places, interchanges_of, kept_places, places_behind, sets_from}
+use Rattle.env_index.specs.Words.{faults_to_eight, group_numbers_from, index_places, interchanges_of, kept_places, places_behind}
+use Rattle.env_index.specs.Words.{set_numbers_from}
 use Rattle.env_index.specs.Words.{with_fault, with_faults}
 use Rattle.env_index.specs.declared.entry.SetEnvelope.{SetEnvelope}
 use Rattle.env_index.proofs.IndexPlacing.{places_one}
@@ -23,7 +24,7 @@ use Rattle.checked_text.specs.Asked.{sets_asked}
 use Rattle.checked_text.specs.CheckedText.{sent_by}
 use Rattle.checked_text.specs.FirstUse.{knows}
 use Rattle.checked_text.specs.Seen.{is_among}
-use Rattle.checked_text.specs.Settled.{fault_if_earlier, fault_with_sender, faults_from, kept_keys, key_of}
+use Rattle.checked_text.specs.Settled.{fault_if_earlier, fault_with_sender, faults_from, kept_keys, interchange_key_of}
 use Rattle.checked_text.proofs.Duplicates.{by_differs}
 use Rattle.checked_text.proofs.Growing.{length_snoc}
 use Rattle.checked_text.proofs.Telling.{asked_told}
@@ -49,18 +50,18 @@ zip_split R (x ∷ xs) xs' (y ∷ ys) ys' same h =
     ((h.0, more.0), more.1)
 
 sets_long : (isa gs st : ℕ) (sent : SentValue) (header : SegValue) (before sets : List SetEnvelope)
-    → length (sets_from isa gs st sets) ≡ length (sets_asked sent header before sets)
+    → length (set_numbers_from isa gs st sets) ≡ length (sets_asked sent header before sets)
 sets_long isa gs st sent header before [] = refl
 sets_long isa gs st sent header before (set ∷ sets) =
     let more = sets_long isa gs (st + 1) sent header (before ++ set ∷ []) sets in omega (arith, more)
 
 groups_long : (isa gs : ℕ) (sent : SentValue) (before groups : List GroupEntry)
-    → length (groups_from isa gs groups) ≡ length (groups_asked sent before groups)
+    → length (group_numbers_from isa gs groups) ≡ length (groups_asked sent before groups)
 groups_long isa gs sent before [] = refl
 groups_long isa gs sent before (group ∷ groups) =
     let own = sets_long isa gs 1 sent group.header [] group.sets in
     let more = groups_long isa (gs + 1) sent (before ++ group ∷ []) groups in
-    let left = length-append (sets_from isa gs 1 group.sets) (groups_from isa (gs + 1) groups) in
+    let left = length-append (set_numbers_from isa gs 1 group.sets) (group_numbers_from isa (gs + 1) groups) in
     let right = length-append (sets_asked sent group.header [] group.sets) (groups_asked sent (before ++ group ∷ []) groups) in
     omega (arith, own, more, left, right)
 
@@ -71,15 +72,15 @@ within_append : (xs ys : List Numbered) → AllByRecursion IsWithin xs → AllBy
 within_append [] ys h k = k
 within_append (x ∷ xs) ys h k = (h.0, within_append xs ys h.1 k)
 
-sets_within : (isa gs st : ℕ) (sets : List SetEnvelope) → 1 ≤ gs → AllByRecursion IsWithin (sets_from isa gs st sets)
+sets_within : (isa gs st : ℕ) (sets : List SetEnvelope) → 1 ≤ gs → AllByRecursion IsWithin (set_numbers_from isa gs st sets)
 sets_within isa gs st [] h = tt
 sets_within isa gs st (set ∷ sets) h = (h, sets_within isa gs (st + 1) sets h)
 
-groups_within : (isa gs : ℕ) (groups : List GroupEntry) → 1 ≤ gs → AllByRecursion IsWithin (groups_from isa gs groups)
+groups_within : (isa gs : ℕ) (groups : List GroupEntry) → 1 ≤ gs → AllByRecursion IsWithin (group_numbers_from isa gs groups)
 groups_within isa gs [] h = tt
 groups_within isa gs (group ∷ groups) h = (
   h,
-  within_append (sets_from isa gs 1 group.sets) (groups_from isa (gs + 1) groups) (sets_within isa gs 1 group.sets h)
+  within_append (set_numbers_from isa gs 1 group.sets) (group_numbers_from isa (gs + 1) groups) (sets_within isa gs 1 group.sets h)
       (groups_within isa (gs + 1) groups (omega (arith, h))),
 )
 
@@ -136,11 +137,11 @@ module _ (text : List ℕ) (setup : SetupValue) (places : List Numbered) (faults
   entry_asks isa e None (Some s) f g told rest more more' go h =
       let groups : List GroupEntry = e.interchange.content.groups in
       let sent : SentValue = sent_by text setup s e in
-      let parts = zip_split (IsAskedIn places) (groups_from isa 1 groups) rest (groups_asked sent [] groups) more
+      let parts = zip_split (IsAskedIn places) (group_numbers_from isa 1 groups) rest (groups_asked sent [] groups) more
       (groups_long isa 1 sent [] groups) h.1 in (
         record { interchange = λ none. told; within = λ some. absurd (omega (arith, some)) },
-        zip_append (IsAskedBy places faults) (groups_from isa 1 groups) rest (groups_asked sent [] groups) more'
-            (by_first_use places faults (groups_from isa 1 groups) (groups_asked sent [] groups)
+        zip_append (IsAskedBy places faults) (group_numbers_from isa 1 groups) rest (groups_asked sent [] groups) more'
+            (by_first_use places faults (group_numbers_from isa 1 groups) (groups_asked sent [] groups)
             (groups_within isa 1 groups (omega arith)) parts.0)
             (go parts.1),
       )
@@ -185,7 +186,7 @@ module _ (text : List ℕ) (setup : SetupValue) (places : List Numbered) (faults
 settled_from : (setup : SetupValue) (before es : List IndexEntry) → AreSettledBy setup es (faults_from setup before es)
 settled_from setup before [] = tt
 settled_from setup before (e ∷ es) =
-    ((is_among (key_of e) (kept_keys setup before), refl), settled_from setup (before ++ e ∷ []) es)
+    ((is_among (interchange_key_of e) (kept_keys setup before), refl), settled_from setup (before ++ e ∷ []) es)
 
 alone_is : (fault : Option InterchangeFault) (sender : Option ℕ) → fault_with_sender fault sender ≡ fault_or_unknown fault (is_some sender)
 alone_is (Some f) sender = refl

@@ -6,10 +6,11 @@ use Rattle.std.proofs.lemmas.List.{map-append}
 use Rattle.std.proofs.lemmas.List.Elements.{All-from_recursion, recursion_from_All}
 use Rattle.hub_kinds.specs.declared.interchange.InterchangeFault.{InterchangeFault}
 use Rattle.hub_kinds.specs.declared.place.Place.{Place}
-use Rattle.x12_bytes.specs.Header.{delims_of}
+use Rattle.x12_bytes.specs.Header.{header_delims}
 use Rattle.x12_segs.specs.Words.{IsSetSpan, SegValue}
-use Rattle.env_index.specs.Words.{HasSpans, IndexEntry, IndexValue, GroupEntry, groups_from, kept_places, place_at, place_in, places_behind}
-use Rattle.env_index.specs.Words.{places_of, sets_from, span_of, with_fault}
+use Rattle.env_index.specs.Words.{HasSpans, IndexEntry, IndexValue, GroupEntry, group_numbers_from, kept_places, place_at, place_in}
+use Rattle.env_index.specs.Words.{places_behind}
+use Rattle.env_index.specs.Words.{places_of, set_numbers_from, span_of, with_fault}
 use Rattle.env_index.specs.declared.entry.SetEnvelope.{SetEnvelope}
 use Rattle.partner_setup.specs.Setup.{SetupValue, sender_of}
 use Rattle.checked_text.specs.Answers.{SentValue}
@@ -23,22 +24,22 @@ use Rattle.place_work.specs.Alone.{entries_alone}
 use Rattle.place_work.specs.Jobs.{entry_jobs, entry_jobs_by, group_jobs, job_place, jobs_behind, jobs_of, set_jobs}
 
 set_places : (sent : SentValue) (isa gs st : ℕ) (header : SegValue) (sets : List SetEnvelope)
-    → map job_place (set_jobs sent isa gs st header sets) ≡ map place_in (sets_from isa gs st sets)
+    → map job_place (set_jobs sent isa gs st header sets) ≡ map place_in (set_numbers_from isa gs st sets)
 set_places sent isa gs st header [] = refl
 set_places sent isa gs st header (set ∷ sets) =
     ap (λ (l : List Place). place_at isa gs st ∷ l) (set_places sent isa gs (st + 1) header sets)
 
 group_places : (sent : SentValue) (isa gs : ℕ) (groups : List GroupEntry)
-    → map job_place (group_jobs sent isa gs groups) ≡ map place_in (groups_from isa gs groups)
+    → map job_place (group_jobs sent isa gs groups) ≡ map place_in (group_numbers_from isa gs groups)
 group_places sent isa gs [] = refl
 group_places sent isa gs (group ∷ groups) =
     let sets = set_jobs sent isa gs 1 group.header group.sets in
     let more = group_jobs sent isa (gs + 1) groups in
-    let same : map job_place (sets ++ more) ≡ map place_in (sets_from isa gs 1 group.sets ++ groups_from isa (gs + 1) groups)
+    let same : map job_place (sets ++ more) ≡ map place_in (set_numbers_from isa gs 1 group.sets ++ group_numbers_from isa (gs + 1) groups)
     = map-append job_place sets more
     ∙ ap (λ (l : List Place). l ++ map job_place more) (set_places sent isa gs 1 group.header group.sets)
-    ∙ ap (λ (l : List Place). map place_in (sets_from isa gs 1 group.sets) ++ l) (group_places sent isa (gs + 1) groups)
-    ∙ sym (map-append place_in (sets_from isa gs 1 group.sets) (groups_from isa (gs + 1) groups)) in
+    ∙ ap (λ (l : List Place). map place_in (set_numbers_from isa gs 1 group.sets) ++ l) (group_places sent isa (gs + 1) groups)
+    ∙ sym (map-append place_in (set_numbers_from isa gs 1 group.sets) (group_numbers_from isa (gs + 1) groups)) in
     ap (λ (l : List Place). place_at isa gs 0 ∷ l) same
 
 -- where an interchange has none of the faults 1 to 8 its sender is known
@@ -116,7 +117,7 @@ entry_spans text setup n e None (Some sender) h = (
   tt,
   group_spans (sent_by text setup sender e) n 1 e.interchange.content.groups
       (recursion_from_All (λ (group : GroupEntry).
-      All (λ (set : SetEnvelope). IsSetSpan text (span_of (delims_of e.interchange.header) set)) group.sets)
+      All (λ (set : SetEnvelope). IsSetSpan text (span_of (header_delims e.interchange.header) set)) group.sets)
       e.interchange.content.groups h),
 )
 

@@ -3,13 +3,15 @@ use Rattle.std.proofs.Common.{◌≡◌, ℕ, List, [], ◌∷◌, Option, Some,
 use Rattle.hub_kinds.specs.declared.interchange.InterchangeFault.{InterchangeFault}
 use Rattle.env_index.specs.Words.{IndexEntry, with_fault}
 use Rattle.partner_setup.specs.Setup.{SetupValue}
-use Rattle.number_register.specs.SeenNumbers.{interchange_keys, key_of}
+use Rattle.number_register.specs.SeenNumbers.{interchange_keys, interchange_key_of}
 use Rattle.checked_text.specs.Settled.{fault_alone, kept_keys}
 use Rattle.place_work.specs.Alone.{entries_alone}
 
-kept_by : (fault : Option InterchangeFault) (e : IndexEntry) (xs ys : List IndexEntry) → map key_of xs ≡ map key_of ys
-    → map key_of (if is_none fault then with_fault e fault ∷ xs else xs) ≡ map key_of (if is_none fault then e ∷ ys else ys)
-kept_by None e xs ys same = ap (λ (keys : List (List ℕ)). key_of e ∷ keys) same
+kept_by : (fault : Option InterchangeFault) (e : IndexEntry) (xs ys : List IndexEntry) → map interchange_key_of xs
+    ≡ map interchange_key_of ys
+    → map interchange_key_of (if is_none fault then with_fault e fault ∷ xs else xs) ≡ map interchange_key_of
+    (if is_none fault then e ∷ ys else ys)
+kept_by None e xs ys same = ap (λ (keys : List (List ℕ)). interchange_key_of e ∷ keys) same
 kept_by (Some fault) e xs ys same = same
 
 pub alone_keys : (setup : SetupValue) (es : List IndexEntry) → interchange_keys (entries_alone setup es) ≡ kept_keys setup es

@@ -8,7 +8,7 @@ use Rattle.x12_bytes.specs.declared.delims.Delims.{Delims}
 use Rattle.x12_segs.specs.Words.{SegValue, elements_of}
 use Rattle.set_check.specs.declared.envelope.Envelope.{Envelope}
 use Rattle.set_check.specs.Envelope.{IsEnvelopeOf}
-use Rattle.set_check.specs.SetParts.{SetParts, before_trailer, inner_of, trailer_of, parts_of, no_segment, segment_count}
+use Rattle.set_check.specs.SetParts.{SetParts, before_trailer, inner_of, set_trailer_of, parts_of, no_segment, segments_of_set}
 
 abbrev set_of : Delims → SegValue → List SegValue → Option SegValue → SetParts
 set_of d header inner trailer = record { delims = d; header = header; body = map elements_of inner; trailer = trailer }
@@ -25,13 +25,13 @@ last_of segs some = ⊎_elim (λ a. (a.0, a.2)) (λ b. let past : length segs �
     (slice_get_cases segs (length segs - 1)).1
 
 pub count_of : (d : Delims) (closed : Bool) (segs : List SegValue) → 1 ≤ length segs → 1 ≤ before_trailer closed (length segs)
-    → length segs ≡ segment_count (parts_of d closed segs)
+    → length segs ≡ segments_of_set (parts_of d closed segs)
 count_of d true segs some room =
     let inner = inner_of true segs in
     let header = slice_index_or segs 0 (no_segment d) in
     let n : length (map elements_of inner) ≡ length segs - 1 - 1 = inner_length segs (length segs - 1) room (omega arith) in
     let k : length segs ≡ length (map elements_of inner) + 2 = omega arith in
-    k ∙ ap (λ (t : Option SegValue). segment_count (set_of d header inner t)) (sym (last_of segs some).1)
+    k ∙ ap (λ (t : Option SegValue). segments_of_set (set_of d header inner t)) (sym (last_of segs some).1)
 count_of d false segs some room =
     let n : length (map elements_of (inner_of false segs)) ≡ length segs - 1 = inner_length segs (length segs) some (omega arith) in
     omega arith
@@ -44,7 +44,7 @@ first_of (suc m) (s ∷ segs) header e h k is = is
 
 pub envelope_is : (d : Delims) (closed : Bool) (segs left : List SegValue) (e : Envelope) → 1 ≤ length segs
     → 1 ≤ before_trailer closed (length segs) → left ≡ take (before_trailer closed (length segs)) segs
-    → e.header ≡ slice_index_or left 0 e.header → e.segments ≡ length segs → e.trailer ≡ trailer_of closed segs
+    → e.header ≡ slice_index_or left 0 e.header → e.segments ≡ length segs → e.trailer ≡ set_trailer_of closed segs
     → IsEnvelopeOf (parts_of d closed segs) e
 envelope_is d closed segs left e some room l h n t = record {
   header = first_of (before_trailer closed (length segs)) segs e.header (no_segment d) room some

@@ -13,12 +13,12 @@ use Rattle.elem_rules.specs.ElementFaults.{IsElementFault}
 use Rattle.elem_rules.specs.Found.{found}
 use Rattle.elem_rules.proofs.Membership.{found_is, is_found}
 use Rattle.loop_match.specs.LoopIds.{loop_id_of}
-use Rattle.set_check.specs.SetFaults.{told_by}
+use Rattle.set_check.specs.SetFaults.{fault_of_element}
 use Rattle.set_check.specs.Adding.{AreSound}
 
 abbrev pub told : Trees → Delims → (at : ℕ) → Segment → Place → Option Slot → List Fault
 told ts d at s q None = []
-told ts d at s q (Some slot) = map (told_by at s (loop_id_of ts q) slot) (found d s slot)
+told ts d at s q (Some slot) = map (fault_of_element at s (loop_id_of ts q) slot) (found d s slot)
 
 -- of the segments from a position on
 abbrev pub errors_from : Trees → Delims → (at : ℕ) → List Segment → List (Option Place) → List Fault
@@ -37,13 +37,13 @@ pub record IsErrorFrom (ts : Trees) (d : Delims) (at : ℕ) (body : List Segment
   pub placed : slice_get given index ≡ Some (Some place)
   pub leads : slot_at ts place ≡ Some slot
   pub wrong : IsElementFault d segment slot elem
-  pub is : f ≡ told_by (at + index) segment (loop_id_of ts place) slot elem
+  pub is : f ≡ fault_of_element (at + index) segment (loop_id_of ts place) slot elem
 
 here : (ts : Trees) (d : Delims) (at : ℕ) (s : Segment) (body : List Segment) (q : Place) (given : List (Option Place)) (f : Fault)
     (o : Option Slot) → AreSound ts → slot_at ts q ≡ o → In (told ts d at s q o) f → IsErrorFrom ts d at (s ∷ body) (Some q ∷ given) f
 here ts d at s body q given f None ok e h = absurd h
 here ts d at s body q given f (Some slot) ok e h =
-    let m = in_mapped (told_by at s (loop_id_of ts q) slot) (found d s slot) f h in
+    let m = in_mapped (fault_of_element at s (loop_id_of ts q) slot) (found d s slot) f h in
     let k : at ≡ at + 0 = omega arith in
     record {
       index = 0;
@@ -55,7 +55,7 @@ here ts d at s body q given f (Some slot) ok e h =
       placed = refl;
       leads = e;
       wrong = found_is d s slot (ok q slot e).conditioned m.value (in_contains (found d s slot) m.value m.there);
-      is = sym m.is ∙ ap (λ (n : ℕ). told_by n s (loop_id_of ts q) slot m.value) k;
+      is = sym m.is ∙ ap (λ (n : ℕ). fault_of_element n s (loop_id_of ts q) slot m.value) k;
     }
 
 later : (ts : Trees) (d : Delims) (at : ℕ) (s : Segment) (body : List Segment) (x : Option Place) (given : List (Option Place)) (f : Fault)
@@ -72,7 +72,7 @@ later ts d at s body x given f r =
       placed = r.placed;
       leads = r.leads;
       wrong = r.wrong;
-      is = r.is ∙ ap (λ (n : ℕ). told_by n r.segment (loop_id_of ts r.place) r.slot r.elem) k;
+      is = r.is ∙ ap (λ (n : ℕ). fault_of_element n r.segment (loop_id_of ts r.place) r.slot r.elem) k;
     }
 
 pub is_error : (ts : Trees) (d : Delims) (at : ℕ) (body : List Segment) (given : List (Option Place)) (f : Fault) → AreSound ts
@@ -87,31 +87,31 @@ is_error ts d at (s ∷ body) (Some q ∷ given) f ok h =
 
 error_at : (ts : Trees) (d : Delims) (at : ℕ) (body : List Segment) (given : List (Option Place)) (i : ℕ) (s : Segment) (q : Place)
     (slot : Slot) (e : ElemFault) → slice_get body i ≡ Some s → slice_get given i ≡ Some (Some q) → slot_at ts q ≡ Some slot
-    → In (found d s slot) e → In (errors_from ts d at body given) (told_by (at + i) s (loop_id_of ts q) slot e)
+    → In (found d s slot) e → In (errors_from ts d at body given) (fault_of_element (at + i) s (loop_id_of ts q) slot e)
 error_at ts d at [] given i s q slot e b p l h = let k : None ≡ Some s = b in cc
 error_at ts d at (z ∷ body) [] i s q slot e b p l h = let k : None ≡ Some (Some q) = p in cc
 error_at ts d at (z ∷ body) (None ∷ given) zero s q slot e b p l h = cc
 error_at ts d at (z ∷ body) (None ∷ given) (suc i) s q slot e b p l h =
     let k : (at + 1) + i ≡ at + suc i = omega arith in
-    subst (λ (n : ℕ). In (errors_from ts d (at + 1) body given) (told_by n s (loop_id_of ts q) slot e)) k
+    subst (λ (n : ℕ). In (errors_from ts d (at + 1) body given) (fault_of_element n s (loop_id_of ts q) slot e)) k
     (error_at ts d (at + 1) body given i s q slot e b p l h)
 error_at ts d at (z ∷ body) (Some r ∷ given) zero s q slot e b p l h =
     let same : z ≡ s = cc in
     let there : r ≡ q = cc in
     let o : slot_at ts r ≡ Some slot = ap (slot_at ts) there ∙ l in
     let k : at ≡ at + 0 = omega arith in
-    let m : In (told ts d at s q (Some slot)) (told_by at s (loop_id_of ts q) slot e) =
-    in_map (told_by at s (loop_id_of ts q) slot) (found d s slot) e h in
-    let n : In (told ts d at z r (slot_at ts r)) (told_by at s (loop_id_of ts q) slot e) =
-    subst (λ (x : Option Slot). In (told ts d at z r x) (told_by at s (loop_id_of ts q) slot e)) (sym o)
-    (subst (λ (x : Place). In (told ts d at z x (Some slot)) (told_by at s (loop_id_of ts q) slot e)) (sym there)
-    (subst (λ (x : Segment). In (told ts d at x q (Some slot)) (told_by at s (loop_id_of ts q) slot e)) (sym same) m)) in
-    subst (λ (n : ℕ). In (errors_from ts d at (z ∷ body) (Some r ∷ given)) (told_by n s (loop_id_of ts q) slot e)) k
+    let m : In (told ts d at s q (Some slot)) (fault_of_element at s (loop_id_of ts q) slot e) =
+    in_map (fault_of_element at s (loop_id_of ts q) slot) (found d s slot) e h in
+    let n : In (told ts d at z r (slot_at ts r)) (fault_of_element at s (loop_id_of ts q) slot e) =
+    subst (λ (x : Option Slot). In (told ts d at z r x) (fault_of_element at s (loop_id_of ts q) slot e)) (sym o)
+    (subst (λ (x : Place). In (told ts d at z x (Some slot)) (fault_of_element at s (loop_id_of ts q) slot e)) (sym there)
+    (subst (λ (x : Segment). In (told ts d at x q (Some slot)) (fault_of_element at s (loop_id_of ts q) slot e)) (sym same) m)) in
+    subst (λ (n : ℕ). In (errors_from ts d at (z ∷ body) (Some r ∷ given)) (fault_of_element n s (loop_id_of ts q) slot e)) k
     (in_left (told ts d at z r (slot_at ts r)) (errors_from ts d (at + 1) body given) _ n)
 error_at ts d at (z ∷ body) (Some r ∷ given) (suc i) s q slot e b p l h =
     let k : (at + 1) + i ≡ at + suc i = omega arith in
     in_right (told ts d at z r (slot_at ts r)) (errors_from ts d (at + 1) body given) _
-    (subst (λ (n : ℕ). In (errors_from ts d (at + 1) body given) (told_by n s (loop_id_of ts q) slot e)) k
+    (subst (λ (n : ℕ). In (errors_from ts d (at + 1) body given) (fault_of_element n s (loop_id_of ts q) slot e)) k
     (error_at ts d (at + 1) body given i s q slot e b p l h))
 
 pub error_is : (ts : Trees) (d : Delims) (at : ℕ) (body : List Segment) (given : List (Option Place)) (f : Fault) → AreSound ts

@@ -21,7 +21,7 @@ use Rattle.loop_match.specs.PlacedSegments.{PlacedSegment, placed_segments}
 use Rattle.elem_rules.specs.ElementFaults.{IsElementFault}
 use Rattle.set_check.specs.SetParts.{SetParts, end_position}
 use Rattle.loop_match.specs.LoopIds.{loop_id_of}
-use Rattle.set_check.specs.SetFaults.{IsFaultUnder, IsErrorIn, IsRuleFault, HasKeyOfError, told_by}
+use Rattle.set_check.specs.SetFaults.{IsFaultUnder, IsErrorIn, IsRuleFault, HasKeyOfError, fault_of_element}
 use Rattle.set_check.specs.Adding.{AreSound}
 use Rattle.set_walk.proofs.Apart.{apart_at, same_apart, structure_is_not, one_elem}
 
@@ -32,7 +32,7 @@ IsErrorAt g parts given i s q slot e = (slice_get parts.body i ≡ Some s) × (s
 one_error : (g : GuideTree) (parts : SetParts) (given : List (Option Place)) (i : ℕ) (s t : Segment) (q r : Place) (a b : Slot)
     (e c : ElemFault) → AreSound g.nodes → IsErrorAt g parts given i s q a e → IsErrorAt g parts given i t r b c
     → elem_key (Some e) ≡ elem_key (Some c)
-    → told_by (i + 2) s (loop_id_of g.nodes q) a e ≡ told_by (i + 2) t (loop_id_of g.nodes r) b c
+    → fault_of_element (i + 2) s (loop_id_of g.nodes q) a e ≡ fault_of_element (i + 2) t (loop_id_of g.nodes r) b c
 one_error g parts given i s t q r a b e c ok h k m =
     let x : s ≡ t = (let z : Some s ≡ Some t = sym h.0 ∙ k.0 in cc) in
     let y : q ≡ r = (let z : Some (Some q) ≡ Some (Some r) = sym h.1 ∙ k.1 in cc) in
@@ -41,10 +41,10 @@ one_error g parts given i s t q r a b e c ok h k m =
     subst (λ (z : Segment). IsElementFault parts.delims z a c) (sym x)
     (subst (λ (z : Slot). IsElementFault parts.delims t z c) (sym w) k.3) in
     let u : e ≡ c = one_elem parts.delims s a e c (ok q a h.2) h.3 v m in
-    ap (λ (z : ElemFault). told_by (i + 2) s (loop_id_of g.nodes q) a z) u
-    ∙ ap (λ (z : Slot). told_by (i + 2) s (loop_id_of g.nodes q) z c) w
-    ∙ ap (λ (z : Place). told_by (i + 2) s (loop_id_of g.nodes z) b c) y
-    ∙ ap (λ (z : Segment). told_by (i + 2) z (loop_id_of g.nodes r) b c) x
+    ap (λ (z : ElemFault). fault_of_element (i + 2) s (loop_id_of g.nodes q) a z) u
+    ∙ ap (λ (z : Slot). fault_of_element (i + 2) s (loop_id_of g.nodes q) z c) w
+    ∙ ap (λ (z : Place). fault_of_element (i + 2) s (loop_id_of g.nodes z) b c) y
+    ∙ ap (λ (z : Segment). fault_of_element (i + 2) z (loop_id_of g.nodes r) b c) x
 
 pub errors_keyed : (g : GuideTree) (parts : SetParts) (given : List (Option Place)) (f h : Fault) → AreSound g.nodes
     → IsErrorIn g.nodes parts given f → IsErrorIn g.nodes parts given h → key_of f ≡ key_of h → f ≡ h
@@ -58,7 +58,7 @@ errors_keyed g parts given f h ok a b e =
     a.is
     ∙ one_error g parts given a.index a.segment b.segment a.place b.place a.slot b.slot a.elem b.elem ok
     (a.there, a.placed, a.leads, a.wrong) (there, placed, b.leads, b.wrong) m
-    ∙ ap (λ (n : ℕ). told_by (n + 2) b.segment (loop_id_of g.nodes b.place) b.slot b.elem) (sym i)
+    ∙ ap (λ (n : ℕ). fault_of_element (n + 2) b.segment (loop_id_of g.nodes b.place) b.slot b.elem) (sym i)
     ∙ sym b.is
 
 -- the element codes of hierarchies, which no dependency's fault has

@@ -15,7 +15,7 @@ use Rattle.elem_rules.specs.Divided.{is_empty}
 use Rattle.x12_segs.specs.Words.{SegValue, element_of}
 use Rattle.set_check.specs.Codes.{code_if, control_of, has_other_control, is_count, has_other_count, has_short_control}
 use Rattle.set_check.specs.Codes.{envelope_codes, is_other, first_five}
-use Rattle.set_check.specs.SetParts.{SetParts, segment_count}
+use Rattle.set_check.specs.SetParts.{SetParts, segments_of_set}
 use Rattle.set_check.specs.SetFaults.{codes_with}
 use Rattle.set_check.specs.Meets.{MeetsConvention}
 use Rattle.set_check.specs.declared.codes.TheConstants.{COUNT_DIGITS, LEAST_CONTROL}
@@ -24,7 +24,7 @@ use Rattle.set_check.specs.declared.codes.TheConstants.{COUNT_DIGITS, LEAST_CONT
 pub record Enveloped (g : GuideTree) (parts : SetParts) : Type 0 where
   pub trailer : SegValue
   pub closed : parts.trailer ≡ Some trailer
-  pub counted : number_of COUNT_DIGITS (element_of trailer 1) ≡ Some (segment_count parts)
+  pub counted : number_of COUNT_DIGITS (element_of trailer 1) ≡ Some (segments_of_set parts)
   pub same_control : element_of trailer 2 ≡ control_of parts.header
   pub long_control : LEAST_CONTROL ≤ length (control_of parts.header)
   pub convention : MeetsConvention parts.header.delims g.head.convention (element_of parts.header 3)
@@ -81,19 +81,19 @@ not_short least n h = grind (arith, nat_tests)
 
 -- by the SE, if there is one
 enveloped_by : (g : GuideTree) (parts : SetParts) (t : Option SegValue) → parts.trailer ≡ t
-    → envelope_codes parts.header (segment_count parts) t ≡ []
+    → envelope_codes parts.header (segments_of_set parts) t ≡ []
     → MeetsConvention parts.header.delims g.head.convention (element_of parts.header 3) → Enveloped g parts
 enveloped_by g parts None e h k = cc
 enveloped_by g parts (Some t) e h k =
     let a = code_if (has_other_control parts.header (Some t)) code.ControlNumbersDiffer in
-    let b = code_if (has_other_count (segment_count parts) (Some t)) code.SegmentCountWrong in
+    let b = code_if (has_other_count (segments_of_set parts) (Some t)) code.SegmentCountWrong in
     let c = code_if (has_short_control parts.header) code.ControlNumberInvalid in
     let ab : a ++ b ≡ [] = left_nil (a ++ b) c h in
     record {
       trailer = t;
       closed = e;
       counted =
-          same_number (segment_count parts) (number_of COUNT_DIGITS (element_of t 1))
+          same_number (segments_of_set parts) (number_of COUNT_DIGITS (element_of t 1))
           (not-false _ (no_code _ code.SegmentCountWrong (right_nil a b ab)));
       same_control =
           (bytes_eq-Decides (element_of t 2) (control_of parts.header)).0
@@ -105,7 +105,7 @@ enveloped_by g parts (Some t) e h k =
 
 pub codeless : (g : GuideTree) (parts : SetParts) → codes_with (Some g) parts [] ≡ [] → Enveloped g parts
 codeless g parts h =
-    let e = envelope_codes parts.header (segment_count parts) parts.trailer in
+    let e = envelope_codes parts.header (segments_of_set parts) parts.trailer in
     let i = code_if (is_other parts.header.delims g.head.convention (element_of parts.header 3)) code.ConventionNotSupported in
     let all : (e ++ []) ++ i ≡ [] = none_of_five ((e ++ []) ++ i) h in
     enveloped_by g parts parts.trailer refl (left_nil e [] (left_nil (e ++ []) i all))
@@ -116,13 +116,13 @@ pub guideless_has_a_code : (parts : SetParts) → codes_with None parts [] ≡ [
 guideless_has_a_code parts h = cc
 
 no_envelope_code : (g : GuideTree) (parts : SetParts) (v : Enveloped g parts)
-    → envelope_codes parts.header (segment_count parts) (Some v.trailer) ≡ []
+    → envelope_codes parts.header (segments_of_set parts) (Some v.trailer) ≡ []
 no_envelope_code g parts v =
     let control : has_other_control parts.header (Some v.trailer) ≡ false =
     ap not ((bytes_eq-Decides (element_of v.trailer 2) (control_of parts.header)).1 v.same_control) in
-    let count : has_other_count (segment_count parts) (Some v.trailer) ≡ false =
-    ap (λ (o : Option ℕ). not (is_count (segment_count parts) o)) v.counted
-    ∙ ap not ((Decides-eqb (segment_count parts) (segment_count parts)).1 refl) in
+    let count : has_other_count (segments_of_set parts) (Some v.trailer) ≡ false =
+    ap (λ (o : Option ℕ). not (is_count (segments_of_set parts) o)) v.counted
+    ∙ ap not ((Decides-eqb (segments_of_set parts) (segments_of_set parts)).1 refl) in
     let short : has_short_control parts.header ≡ false = not_short LEAST_CONTROL (length (control_of parts.header)) v.long_control in
     three_not _ _ _ control count short where
       three_not : (x y z : Bool) → x ≡ false → y ≡ false → z ≡ false
@@ -135,7 +135,7 @@ no_envelope_code g parts v =
 pub enveloped_codeless : (g : GuideTree) (parts : SetParts) → Enveloped g parts → codes_with (Some g) parts [] ≡ []
 enveloped_codeless g parts v =
     let i = code_if (is_other parts.header.delims g.head.convention (element_of parts.header 3)) code.ConventionNotSupported in
-    ap (λ (t : Option SegValue). first_five ((envelope_codes parts.header (segment_count parts) t ++ []) ++ i)) v.closed
+    ap (λ (t : Option SegValue). first_five ((envelope_codes parts.header (segments_of_set parts) t ++ []) ++ i)) v.closed
     ∙ ap (λ (l : List SetCode). first_five ((l ++ []) ++ i)) (no_envelope_code g parts v)
     ∙ ap (λ (b : Bool). first_five (code_if b code.ConventionNotSupported))
     (is_not_other parts.header.delims g.head.convention (element_of parts.header 3) v.convention)

@@ -16,7 +16,7 @@ use Rattle.hl_check.specs.Hierarchy.{IsHierarchyWhole, hl_segments}
 use Rattle.hl_check.proofs.Whole.{hierarchy_whole}
 use Rattle.depend_check.specs.Kept.{AreDependenciesKept}
 use Rattle.depend_check.proofs.Whole.{dependencies_kept}
-use Rattle.set_check.specs.SetFaults.{IsSetFault, IsErrorIn, IsRuleFault, told_by}
+use Rattle.set_check.specs.SetFaults.{IsSetFault, IsErrorIn, IsRuleFault, fault_of_element}
 
 -- a member stands at an index, and what stands at an index is a member
 pub index_of : {X : Type 0} (xs : List X) (x : X) → Contains xs x → (i : ℕ) × (slice_get xs i ≡ Some x)
@@ -91,7 +91,7 @@ error_at : (g : GuideTree) (parts : SetParts) (slots : List Given) → map (λ (
 error_at g parts slots b k x e h w =
     let i = index_of slots x h in
     let l = led g.nodes (placing_of g.nodes parts.body) slots i.0 x k i.1 in (
-      told_by (i.0 + 2) x.0 (loop_id_of g.nodes l.place) x.1 e,
+      fault_of_element (i.0 + 2) x.0 (loop_id_of g.nodes l.place) x.1 e,
       record {
         index = i.0;
         segment = x.0;

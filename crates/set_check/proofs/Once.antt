@@ -13,7 +13,7 @@ use Rattle.hub_kinds.specs.declared.set_codes.SetCode.{SetCode}
 use Rattle.x12_segs.specs.declared.set_span.SetSpan.{SetSpan}
 use Rattle.guide_tree.specs.declared.rows.GuideRows.{GuideRows}
 use Rattle.guide_tree.specs.Words.{GuideTree}
-use Rattle.set_check.specs.Checked.{Checked, IsChecked, guide_in, parts_in, said_by}
+use Rattle.set_check.specs.Checked.{Checked, IsChecked, guide_in, parts_in, guide_tree_of}
 use Rattle.set_check.specs.CheckedLaw.{IsOneCheck}
 use Rattle.set_check.specs.SetFaults.{AreSetFaults, IsSetFault, codes_with}
 use Rattle.set_check.specs.SetParts.{SetParts, set_parts}
@@ -83,7 +83,7 @@ alike c d text span guide faults codes =
 
 pub one_check : (c d : Checked) → IsChecked c → IsChecked d → IsOneCheck c d
 one_check c d is was text span guide =
-    let guides : guide_in c ≡ guide_in d = ap said_by guide in
+    let guides : guide_in c ≡ guide_in d = ap guide_tree_of guide in
     let parts : parts_in c ≡ parts_in d =
     ap (λ (t : List ℕ). set_parts t c.span) text ∙ ap (λ (s : SetSpan). set_parts d.text s) span in
     let other : AreSetFaults (guide_in c) (parts_in c) d.faults =

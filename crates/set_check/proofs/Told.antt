@@ -14,7 +14,7 @@ use Rattle.guide_law.proofs.Among.{in_left, in_right, in_cases, in_contains, con
 use Rattle.guide_law.proofs.Faulty.{members}
 use Rattle.set_check.specs.SetParts.{SetParts, end_position}
 use Rattle.loop_match.specs.LoopIds.{loop_id_of}
-use Rattle.set_check.specs.SetFaults.{IsErrorIn, IsRuleFault, IsSetFault, AreSetFaults, codes_with, told_by}
+use Rattle.set_check.specs.SetFaults.{IsErrorIn, IsRuleFault, IsSetFault, AreSetFaults, codes_with, fault_of_element}
 use Rattle.set_check.specs.Meets.{MeetsAlone}
 use Rattle.set_check.specs.MeetsLaw.{IsWellGuided}
 use Rattle.set_check.proofs.Errors.{errors_from, IsErrorFrom, is_error, error_is}
@@ -45,7 +45,7 @@ error_in g parts f r =
       placed = r.placed;
       leads = r.leads;
       wrong = r.wrong;
-      is = r.is ∙ ap (λ (n : ℕ). told_by n r.segment (loop_id_of g.nodes r.place) r.slot r.elem) k;
+      is = r.is ∙ ap (λ (n : ℕ). fault_of_element n r.segment (loop_id_of g.nodes r.place) r.slot r.elem) k;
     }
 
 pub error_out : (g : GuideTree) (parts : SetParts) (f : Fault) → IsErrorIn g.nodes parts (placing_of g.nodes parts.body) f
@@ -62,7 +62,7 @@ error_out g parts f r =
       placed = r.placed;
       leads = r.leads;
       wrong = r.wrong;
-      is = r.is ∙ ap (λ (n : ℕ). told_by n r.segment (loop_id_of g.nodes r.place) r.slot r.elem) k;
+      is = r.is ∙ ap (λ (n : ℕ). fault_of_element n r.segment (loop_id_of g.nodes r.place) r.slot r.elem) k;
     }
 
 abbrev pub IsOfRules : GuideTree → SetParts → Fault → Type 0

@@ -14,8 +14,8 @@ use Rattle.set_check.specs.Checked.{Checked, IsChecked, guide_in, parts_in}
 use Rattle.set_check.specs.Codes.{code_if, first_five, is_of_guides, reported, has_other_control, has_other_count}
 use Rattle.set_check.specs.Codes.{has_short_control, convention_codes}
 use Rattle.set_check.specs.Meets.{MeetsAlone}
-use Rattle.set_check.specs.SetFaults.{codes_where}
-use Rattle.set_check.specs.SetParts.{SetParts, segment_count}
+use Rattle.set_check.specs.SetFaults.{set_codes_where}
+use Rattle.set_check.specs.SetParts.{SetParts, segments_of_set}
 use Rattle.set_check.specs.Verdict.{tells_of_faults, tolerates, verdict_on, verdict_with}
 use Rattle.set_check.proofs.Clean.{clean_as_met}
 
@@ -43,12 +43,12 @@ other_among false true g t o w s last = other_first 3 g t o w s last
 other_among false false g t o w s last = other_first 4 g t o w s last
 
 not_of_faults : (guide : Option GuideTree) (parts : SetParts) (faults : List Fault)
-    → list_all tells_of_faults (codes_where guide parts faults true) ≡ false
+    → list_all tells_of_faults (set_codes_where guide parts faults true) ≡ false
 not_of_faults guide parts faults =
     other_among (list_any (λ f. option_map_or (λ c. not (is_of_guides c)) (reported f) false) faults)
     (list_any (λ f. option_map_or is_of_guides (reported f) false) faults)
     (is_none guide) (is_none parts.trailer) (has_other_control parts.header parts.trailer)
-    (has_other_count (segment_count parts) parts.trailer) (has_short_control parts.header)
+    (has_other_count (segments_of_set parts) parts.trailer) (has_short_control parts.header)
     (convention_codes guide parts.header)
 
 rejected_by : (guide : Option GuideTree) (faults : List Fault) (codes : List SetCode) → list_all tells_of_faults codes ≡ false
@@ -61,7 +61,7 @@ rejected_by guide (f ∷ faults) (c ∷ codes) h =
 
 earlier_rejects : (guide : Option GuideTree) (parts : SetParts) (faults : List Fault) → verdict_with guide parts faults true ≡ Rejected
 earlier_rejects guide parts faults =
-    rejected_by guide faults (codes_where guide parts faults true) (not_of_faults guide parts faults)
+    rejected_by guide faults (set_codes_where guide parts faults true) (not_of_faults guide parts faults)
 
 not_accepted : (b : Bool) → (if b then AcceptedWithErrors else Rejected) ≡ Accepted → ⊥
 not_accepted true h = cc
@@ -99,7 +99,7 @@ module _ (c : Checked) (k : IsChecked c) where
   )
   accepted_as_met false =
       let met = clean_as_met c k in
-      let found = accepted_by (guide_in c) c.faults (codes_where (guide_in c) (parts_in c) c.faults false) in (
+      let found = accepted_by (guide_in c) c.faults (set_codes_where (guide_in c) (parts_in c) c.faults false) in (
         λ h. (refl, met.0 ((found.0 h).0, k.codes ∙ (found.0 h).1)),
         λ h. found.1 ((met.1 h.1).0, sym k.codes ∙ (met.1 h.1).1),
       )

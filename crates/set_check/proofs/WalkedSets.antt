@@ -17,7 +17,7 @@ use Rattle.set_walk.specs.declared.walked.WalkedSet.{WalkedSet}
 use Rattle.set_check.specs.declared.envelope.Envelope.{Envelope}
 use Rattle.set_check.specs.Envelope.{IsEnvelopeOf}
 use Rattle.set_check.specs.SetFaults.{AreSetFaults, IsErrorIn, IsFaultUnder, IsRuleFault}
-use Rattle.set_check.specs.SetParts.{SetParts, before_trailer, inner_of, trailer_of, parts_of, end_position, no_segment}
+use Rattle.set_check.specs.SetParts.{SetParts, before_trailer, inner_of, set_trailer_of, parts_of, end_position, no_segment}
 use Rattle.set_check.proofs.Enveloping.{count_of}
 use Rattle.set_check.proofs.Whole.{at_end, below_of, error_of}
 
@@ -40,7 +40,7 @@ last_there [] x = refl
 last_there (b ∷ body) x = last_there body x
 
 trailer_is : (closed : Bool) (h : SegValue) (body : List SegValue) (t : Option SegValue) → is_some t ≡ closed
-    → t ≡ trailer_of closed (all_of h body t)
+    → t ≡ set_trailer_of closed (all_of h body t)
 trailer_is true h body None e = cc
 trailer_is false h body (Some x) e = cc
 trailer_is false h body None e = refl
@@ -150,5 +150,5 @@ walked_ends g d closed segs w v is h n t =
     record {
       header = h ∙ ap (λ (l : List SegValue). slice_index_or l 0 (no_segment d)) (sym is.segments);
       segments = n ∙ is.count ∙ count_of d closed segs some room;
-      trailer = t ∙ trailer_is closed e.header is.body e.trailer is.closed_is ∙ ap (trailer_of closed) (sym is.segments);
+      trailer = t ∙ trailer_is closed e.header is.body e.trailer is.closed_is ∙ ap (set_trailer_of closed) (sym is.segments);
     }

@@ -17,7 +17,7 @@ use Rattle.elem_rules.specs.ElementFaults.{IsElementFault}
 use Rattle.elem_rules.proofs.Members.{no_member}
 use Rattle.set_check.specs.SetParts.{SetParts, parts_of, inner_of, before_trailer, end_position}
 use Rattle.loop_match.specs.LoopIds.{loop_id_of}
-use Rattle.set_check.specs.SetFaults.{AreSetFaults, IsErrorIn, IsFaultUnder, IsRuleFault, HasKeyOfError, told_by}
+use Rattle.set_check.specs.SetFaults.{AreSetFaults, IsErrorIn, IsFaultUnder, IsRuleFault, HasKeyOfError, fault_of_element}
 use Rattle.set_walk.specs.Told.{Adds}
 use Rattle.set_check.specs.Adding.{HasKeyAmong, IsBeside, IsErrorBelow}
 use Rattle.hub_kinds.specs.Words.{AreRising, key_of, IsKeyedBy}
@@ -53,8 +53,8 @@ found_in : (xs : List SegValue) (i : ℕ) (s : Segment) → slice_get (map eleme
 found_in xs i s h = found_by xs i s (slice_get xs i) refl (sym (slice_get-map elements_of xs i) ∙ h)
 
 told_as : (ts : Trees) (i : ℕ) (q : Place) (slot : Slot) (e : ElemFault) (seg : SegValue) (s : Segment) → elements_of seg ≡ s
-    → told_by (i + 2) (elements_of seg) (loop_id_of ts q) slot e ≡ told_by (i + 2) s (loop_id_of ts q) slot e
-told_as ts i q slot e seg s is = ap (λ (z : Segment). told_by (i + 2) z (loop_id_of ts q) slot e) is
+    → fault_of_element (i + 2) (elements_of seg) (loop_id_of ts q) slot e ≡ fault_of_element (i + 2) s (loop_id_of ts q) slot e
+told_as ts i q slot e seg s is = ap (λ (z : Segment). fault_of_element (i + 2) z (loop_id_of ts q) slot e) is
 
 module _ (g : GuideTree) (d : Delims) (closed : Bool) (segs : List SegValue) (read : All (λ s. s.delims ≡ d) segs) where
   abbrev Body : List SegValue

@@ -4,7 +4,7 @@ use Rattle.hub_kinds.specs.declared.answers.SetAnswer.{SetAnswer}
 use Rattle.x12_segs.specs.Words.{element_of}
 use Rattle.set_check.specs.Codes.{control_of}
 use Rattle.set_check.specs.Checked.{Checked, guide_in, parts_in}
-use Rattle.set_check.specs.SetFaults.{codes_where}
+use Rattle.set_check.specs.SetFaults.{set_codes_where}
 use Rattle.set_check.specs.Verdict.{verdict_with}
 
 -- a checked set, whose ST02 an earlier set of its group may have: ST01, ST02 and ST03 as they stand, its faults, codes and verdict
@@ -14,6 +14,6 @@ answer_to c earlier = record {
   control = control_of (parts_in c).header;
   convention = element_of (parts_in c).header 3;
   faults = c.faults;
-  codes = codes_where (guide_in c) (parts_in c) c.faults earlier;
+  codes = set_codes_where (guide_in c) (parts_in c) c.faults earlier;
   verdict = verdict_with (guide_in c) (parts_in c) c.faults earlier;
 }

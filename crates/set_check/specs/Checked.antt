@@ -19,11 +19,11 @@ pub record Checked : Type 0 where
   pub codes : List SetCode
 
 -- what the rows of its guide say, if it has one
-abbrev pub said_by : Option GuideRows → Option GuideTree
-said_by rows = option_map guide_of rows
+abbrev pub guide_tree_of : Option GuideRows → Option GuideTree
+guide_tree_of rows = option_map guide_of rows
 
 abbrev pub guide_in : Checked → Option GuideTree
-guide_in c = said_by c.guide
+guide_in c = guide_tree_of c.guide
 
 abbrev pub parts_in : Checked → SetParts
 parts_in c = set_parts c.text c.span

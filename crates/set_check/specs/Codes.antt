@@ -4,7 +4,7 @@ use Rattle.std.specs.Prelude.{codes, if◌then◌else◌, length, take}
 use Rattle.std.specs.List.{list_any, starts_with}
 use Rattle.std.specs.Option.{option_map_or}
 use Rattle.std.specs.Str.{bytes_eq}
-use Rattle.hub_kinds.specs.Words.{segment_text, element_text, number_of}
+use Rattle.hub_kinds.specs.Words.{segment_code_text, element_code_text, number_of}
 use Rattle.hub_kinds.specs.declared.codes.SegmentCode.{SegmentCode}
 use Rattle.hub_kinds.specs.declared.fault.ElemFault.{ElemFault}
 use Rattle.hub_kinds.specs.declared.fault.Fault.{Fault}
@@ -23,8 +23,8 @@ code_if false code = []
 
 -- the code that a fault is reported by: IK403 of an element, else IK304; 8 alone reports none, since the faults of its elements do
 abbrev pub reported_by : SegmentCode → Option ElemFault → Option (List ℕ)
-reported_by seg None = if bytes_eq (segment_text seg) (codes "8") then None else Some (segment_text seg)
-reported_by seg (Some elem) = Some (element_text elem.code)
+reported_by seg None = if bytes_eq (segment_code_text seg) (codes "8") then None else Some (segment_code_text seg)
+reported_by seg (Some elem) = Some (element_code_text elem.code)
 
 abbrev pub reported : Fault → Option (List ℕ)
 reported f = reported_by f.code f.elem
@@ -75,8 +75,8 @@ envelope_codes header segments trailer =
     ++ code_if (has_short_control header) code.ControlNumberInvalid
 
 -- 23: an earlier set of the group has the same ST02
-abbrev pub earlier_codes : Bool → List SetCode
-earlier_codes earlier = code_if earlier code.ControlNumberNotUnique
+abbrev pub earlier_set_codes : Bool → List SetCode
+earlier_set_codes earlier = code_if earlier code.ControlNumberNotUnique
 
 -- ST03 isn't empty, and is another text than the convention
 abbrev pub is_other : Delims → Option (List ℕ) → List ℕ → Bool
@@ -94,7 +94,7 @@ convention_codes guide header = code_if (has_other_convention header.delims guid
 -- all of a set's codes, in their order
 abbrev pub all_codes : List Fault → Option GuideTree → SegValue → ℕ → Option SegValue → Bool → List SetCode
 all_codes faults guide header segments trailer earlier =
-    fault_codes faults ++ guide_codes guide ++ envelope_codes header segments trailer ++ earlier_codes earlier
+    fault_codes faults ++ guide_codes guide ++ envelope_codes header segments trailer ++ earlier_set_codes earlier
     ++ convention_codes guide header
 
 -- an IK5 has room for five

@@ -12,7 +12,7 @@ use Rattle.hl_check.specs.Hierarchy.{IsHierarchyWhole, hl_segments}
 use Rattle.depend_check.specs.Kept.{AreDependenciesKept}
 use Rattle.x12_segs.specs.Words.{SegValue, element_of}
 use Rattle.set_check.specs.Codes.{control_of}
-use Rattle.set_check.specs.SetParts.{SetParts, segment_count}
+use Rattle.set_check.specs.SetParts.{SetParts, segments_of_set}
 use Rattle.set_check.specs.declared.codes.TheConstants.{COUNT_DIGITS, LEAST_CONTROL}
 
 -- ST03 is empty or the guide's convention, where the guide has one
@@ -34,7 +34,7 @@ pub record MeetsAlone (guide : Option GuideTree) (parts : SetParts) : Type 0 whe
   pub dependencies : AreDependenciesKept known.depends parts.delims slots
   pub trailer : SegValue
   pub closed : parts.trailer ≡ Some trailer
-  pub counted : number_of COUNT_DIGITS (element_of trailer 1) ≡ Some (segment_count parts)
+  pub counted : number_of COUNT_DIGITS (element_of trailer 1) ≡ Some (segments_of_set parts)
   pub same_control : element_of trailer 2 ≡ control_of parts.header
   pub long_control : LEAST_CONTROL ≤ length (control_of parts.header)
   pub convention : MeetsConvention parts.header.delims known.head.convention (element_of parts.header 3)

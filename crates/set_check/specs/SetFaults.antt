@@ -15,11 +15,11 @@ use Rattle.loop_match.specs.LoopIds.{loop_id_of}
 use Rattle.hl_check.specs.Hierarchy.{IsHierarchyFault}
 use Rattle.depend_check.specs.Dependencies.{IsDependencyFault}
 use Rattle.set_check.specs.Codes.{set_codes_of}
-use Rattle.set_check.specs.SetParts.{SetParts, segment_count, end_position}
+use Rattle.set_check.specs.SetParts.{SetParts, segments_of_set, end_position}
 
 -- an element fault, as its segment shows it
-abbrev pub told_by : (position : ℕ) → Segment → (loop_id : List ℕ) → Slot → ElemFault → Fault
-told_by position s loop_id slot e = record {
+abbrev pub fault_of_element : (position : ℕ) → Segment → (loop_id : List ℕ) → Slot → ElemFault → Fault
+fault_of_element position s loop_id slot e = record {
   position = position;
   id = id_of s;
   loop_id = loop_id;
@@ -39,7 +39,7 @@ pub record IsErrorIn (ts : Trees) (parts : SetParts) (given : List (Option Place
   pub placed : slice_get given index ≡ Some (Some place)
   pub leads : slot_at ts place ≡ Some slot
   pub wrong : IsElementFault parts.delims segment slot elem
-  pub is : f ≡ told_by (index + 2) segment (loop_id_of ts place) slot elem
+  pub is : f ≡ fault_of_element (index + 2) segment (loop_id_of ts place) slot elem
 
 -- a fault of the hierarchy of HL segments, or of a dependency
 abbrev pub IsRuleFault : GuideTree → Delims → List Segment → List (Option Place) → (end : ℕ) → Fault → Type 0
@@ -67,10 +67,10 @@ abbrev pub AreSetFaults : Option GuideTree → SetParts → List Fault → Type 
 AreSetFaults guide parts faults = (f : Fault) → Contains faults f ↔ IsSetFault guide parts f
 
 -- the codes of a set that has these faults, and whose ST02 an earlier set of its group may have
-abbrev pub codes_where : Option GuideTree → SetParts → List Fault → (earlier : Bool) → List SetCode
-codes_where guide parts faults earlier =
-    set_codes_of faults guide parts.header (segment_count parts) parts.trailer earlier
+abbrev pub set_codes_where : Option GuideTree → SetParts → List Fault → (earlier : Bool) → List SetCode
+set_codes_where guide parts faults earlier =
+    set_codes_of faults guide parts.header (segments_of_set parts) parts.trailer earlier
 
 -- the same where that isn't asked
 abbrev pub codes_with : Option GuideTree → SetParts → List Fault → List SetCode
-codes_with guide parts faults = codes_where guide parts faults false
+codes_with guide parts faults = set_codes_where guide parts faults false

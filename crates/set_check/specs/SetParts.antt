@@ -26,16 +26,16 @@ abbrev pub inner_of : (closed : Bool) → List SegValue → List SegValue
 inner_of closed segments = slice_range segments 1 (before_trailer closed (length segments))
 
 -- the last segment of a set that has an SE
-abbrev pub trailer_of : (closed : Bool) → List SegValue → Option SegValue
-trailer_of true segments = slice_get segments (length segments - 1)
-trailer_of false segments = None
+abbrev pub set_trailer_of : (closed : Bool) → List SegValue → Option SegValue
+set_trailer_of true segments = slice_get segments (length segments - 1)
+set_trailer_of false segments = None
 
 abbrev pub parts_of : Delims → (closed : Bool) → List SegValue → SetParts
 parts_of delims closed segments = record {
   delims = delims;
   header = slice_index_or segments 0 (no_segment delims);
   body = map elements_of (inner_of closed segments);
-  trailer = trailer_of closed segments;
+  trailer = set_trailer_of closed segments;
 }
 
 -- the parts of the set that a span of a text is
@@ -43,8 +43,8 @@ abbrev pub set_parts : List ℕ → SetSpan → SetParts
 set_parts text span = parts_of span.delims span.closed (span_views text span)
 
 -- how many segments a set has, ST and SE among them
-abbrev pub segment_count : SetParts → ℕ
-segment_count parts = length parts.body + (1 + trailer_count parts.trailer) where
+abbrev pub segments_of_set : SetParts → ℕ
+segments_of_set parts = length parts.body + (1 + trailer_count parts.trailer) where
   trailer_count : Option SegValue → ℕ
   trailer_count None = 0
   trailer_count (Some trailer) = 1

@@ -12,7 +12,7 @@ use Rattle.hub_kinds.specs.declared.set_codes.Verdict.{Verdict}
 use Rattle.hub_kinds.specs.declared.set_codes.Verdict.TheVariants.{Accepted, AcceptedWithErrors, Rejected}
 use Rattle.guide_tree.specs.Words.{GuideTree}
 use Rattle.set_check.specs.SetParts.{SetParts}
-use Rattle.set_check.specs.SetFaults.{codes_where}
+use Rattle.set_check.specs.SetFaults.{set_codes_where}
 
 -- 5 and I5 report faults in the segments, each other code of something else
 abbrev pub tells_of_faults : SetCode → Bool
@@ -57,4 +57,4 @@ verdict_on guide faults codes =
 
 -- the verdict on a set with these faults, whose ST02 an earlier set of its group may have
 abbrev pub verdict_with : Option GuideTree → SetParts → List Fault → (earlier : Bool) → Verdict
-verdict_with guide parts faults earlier = verdict_on guide faults (codes_where guide parts faults earlier)
+verdict_with guide parts faults earlier = verdict_on guide faults (set_codes_where guide parts faults earlier)

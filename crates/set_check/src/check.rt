@@ -2,7 +2,7 @@ ghost use Rattle.std.specs.Prelude.{◌≡◌, ◌≤◌, ◌↔◌, [], length,
 ghost use Rattle.std.specs.List.{All};
 ghost use Rattle.std.specs.Option.{option_copied};
 ghost use Rattle.hub_kinds.specs.Words.{AreRising};
-ghost use Rattle.set_check.specs.Checked.{guide_in, parts_in, said_by};
+ghost use Rattle.set_check.specs.Checked.{guide_in, parts_in, guide_tree_of};
 ghost use Rattle.set_check.specs.Meets.{MeetsAlone};
 ghost use Rattle.set_check.specs.SetFaults.{AreSetFaults, codes_with};
 ghost use Rattle.set_check.specs.Envelope.{IsEnvelopeOf};
@@ -59,7 +59,7 @@ pub(crate) fn checked_by<'a>(
     faults: Vec<Fault<'a>>,
 ) -> Result<CheckedSet<'a>, NoMemory>
     requires envelope { IsEnvelopeOf (set_parts text.now set) envelope }
-    requires faults { AreSetFaults (said_by (option_copied guide)) (set_parts text.now set) faults.items }
+    requires faults { AreSetFaults (guide_tree_of (option_copied guide)) (set_parts text.now set) faults.items }
     requires rising { AreRising faults.items }
     ensures text { IfOk result (λ c. c.text ≡ text.entry.now) }
     ensures span { IfOk result (λ c. c.span ≡ set) }
@@ -99,7 +99,7 @@ fn set_faults<'a>(
     requires room { 1 ≤ before_trailer set.now.closed (length segs.now) }
     requires read { All (λ s. s.delims ≡ set.now.delims) segs.now }
     ensures exact { IfOk result (λ v.
-        AreSetFaults (said_by (option_copied guide.entry)) (parts_of set.now.delims set.now.closed segs.now) v.items) }
+        AreSetFaults (guide_tree_of (option_copied guide.entry)) (parts_of set.now.delims set.now.closed segs.now) v.items) }
     ensures rising { IfOk result (λ v. AreRising v.items) }
 {
     match guide {

@@ -3,7 +3,7 @@ ghost use Rattle.std.specs.Option.{option_copied};
 ghost use Rattle.hub_kinds.specs.declared.set_codes.SetCode.TheVariants.{ControlNumbersDiffer, SegmentCountWrong};
 ghost use Rattle.set_check.specs.Codes.{code_if, control_of, envelope_codes, fault_codes, has_other_control, has_other_count};
 ghost use Rattle.set_check.specs.Codes.{set_codes_of};
-ghost use Rattle.set_check.specs.Checked.{said_by};
+ghost use Rattle.set_check.specs.Checked.{guide_tree_of};
 ghost use Rattle.set_check.specs.MeetsLaw.{IsWellGuided};
 ghost use Rattle.x12_segs.specs.Words.{SegValue};
 
@@ -34,8 +34,8 @@ pub(crate) fn set_codes(
     earlier: bool,
 ) -> Result<Vec<SetCode>, NoMemory>
     ensures codes { IfOk result (λ codes. codes.items
-        ≡ set_codes_of faults.now (said_by (option_copied guide.entry)) header.now segments (option_copied trailer.entry) earlier) }
-    ensures sound { IfOk result (λ _. IsWellGuided (said_by (option_copied guide.entry))) }
+        ≡ set_codes_of faults.now (guide_tree_of (option_copied guide.entry)) header.now segments (option_copied trailer.entry) earlier) }
+    ensures sound { IfOk result (λ _. IsWellGuided (guide_tree_of (option_copied guide.entry))) }
 {
     let (_, control, convention) = header.first_elements();
     let mut codes = Vec::new(alloc);

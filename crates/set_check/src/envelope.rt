@@ -1,7 +1,7 @@
 ghost use Rattle.std.specs.Prelude.{◌≡◌, ◌≤◌, length, take};
 ghost use Rattle.x12_bytes.specs.declared.delims.Delims.{Delims};
 ghost use Rattle.set_check.specs.Envelope.{IsEnvelopeOf};
-ghost use Rattle.set_check.specs.SetParts.{before_trailer, parts_of, trailer_of};
+ghost use Rattle.set_check.specs.SetParts.{before_trailer, parts_of, set_trailer_of};
 
 use x12_segs::SegView;
 
@@ -19,7 +19,7 @@ pub(crate) struct Envelope<'a> {
 /// Takes the SE off the segments of a set, where it has one.
 fn take_trailer<'a>(closed: bool, segs: &mut Vec<SegView<'a>>) -> Option<SegView<'a>>
     requires { 1 ≤ length segs.old.items }
-    ensures value { result ≡ trailer_of closed segs.old.items }
+    ensures value { result ≡ set_trailer_of closed segs.old.items }
     ensures left { segs.new.items ≡ take (before_trailer closed (length segs.old.items)) segs.old.items }
 {
     if closed { segs.pop() } else { None }

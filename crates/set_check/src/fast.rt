@@ -2,7 +2,7 @@ ghost use Rattle.std.specs.Prelude.{◌≡◌, ◌≤◌, ◌↔◌, [], length,
 ghost use Rattle.std.specs.List.{All};
 ghost use Rattle.std.specs.Option.{option_copied};
 ghost use Rattle.hub_kinds.specs.Words.{AreRising};
-ghost use Rattle.set_check.specs.Checked.{guide_in, parts_in, said_by};
+ghost use Rattle.set_check.specs.Checked.{guide_in, parts_in, guide_tree_of};
 ghost use Rattle.set_check.specs.Meets.{MeetsAlone};
 ghost use Rattle.set_check.specs.SetFaults.{AreSetFaults, codes_with};
 ghost use Rattle.set_check.specs.Envelope.{IsEnvelopeOf};
@@ -67,7 +67,7 @@ fn walked_by<'a, 'g: 'a>(
     requires { IsSetSpan text.now set.now }
     ensures envelope { IfOk result (λ found. IfSome found (λ w. IsEnvelopeOf (set_parts text.entry.now set.now) w.envelope)) }
     ensures faults { IfOk result (λ found. IfSome found (λ w.
-        AreSetFaults (said_by (option_copied fast.entry)) (set_parts text.entry.now set.now) w.faults.items)) }
+        AreSetFaults (guide_tree_of (option_copied fast.entry)) (set_parts text.entry.now set.now) w.faults.items)) }
     ensures rising { IfOk result (λ found. IfSome found (λ w. AreRising w.faults.items)) }
 {
     let Some(fast) = fast else {
@@ -106,7 +106,7 @@ fn set_faults_fast<'a, 'g: 'a>(
     requires room { 1 ≤ before_trailer set.now.closed (length segs.now) }
     requires read { All (λ s. s.delims ≡ set.now.delims) segs.now }
     ensures exact { IfOk result (λ v.
-        AreSetFaults (said_by (option_copied fast.entry)) (parts_of set.now.delims set.now.closed segs.now) v.items) }
+        AreSetFaults (guide_tree_of (option_copied fast.entry)) (parts_of set.now.delims set.now.closed segs.now) v.items) }
     ensures rising { IfOk result (λ v. AreRising v.items) }
 {
     match fast {

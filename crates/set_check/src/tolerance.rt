@@ -2,7 +2,7 @@
 ghost use Rattle.std.specs.Prelude.{◌≡◌, ◌==◌};
 ghost use Rattle.std.specs.Option.{option_copied};
 ghost use Rattle.hub_kinds.specs.Words.{segment_rank, element_rank};
-ghost use Rattle.set_check.specs.Checked.{said_by};
+ghost use Rattle.set_check.specs.Checked.{guide_tree_of};
 ghost use Rattle.set_check.specs.Verdict.{lists_segment_code, lists_element_code, tolerates};
 
 use guide_tree::Guide;
@@ -10,7 +10,7 @@ use hub_kinds::{ElementCode, Fault, SegmentCode};
 
 /// Whether a guide tolerates a fault: by the code of the element where one is at fault, else by that of the segment.
 pub(crate) fn tolerates(guide: Option<&Guide>, fault: &Fault) -> bool
-    ensures { result ≡ tolerates (said_by (option_copied guide.entry)) fault.now }
+    ensures { result ≡ tolerates (guide_tree_of (option_copied guide.entry)) fault.now }
 {
     match guide {
         None => false,

@@ -3,7 +3,7 @@ ghost use Rattle.std.specs.Prelude.{◌≡◌, if◌then◌else◌};
 ghost use Rattle.std.specs.List.{list_all};
 ghost use Rattle.std.specs.Option.{option_copied};
 ghost use Rattle.hub_kinds.specs.declared.set_codes.Verdict.TheVariants.{Rejected};
-ghost use Rattle.set_check.specs.Checked.{said_by};
+ghost use Rattle.set_check.specs.Checked.{guide_tree_of};
 ghost use Rattle.set_check.specs.Verdict.{tells_of_faults, tolerates, verdict_on};
 
 use crate::checked::{CheckedSet, is_without_fault};
@@ -75,7 +75,7 @@ impl<'a> CheckedSet<'a> {
 
 /// The verdict by the faults, the codes where no earlier set is asked for, and whether there is one: it rejects the set.
 fn verdict_by(guide: Option<&Guide>, faults: &[Fault], codes: &[SetCode], earlier: bool) -> Verdict
-    ensures { result ≡ if earlier then Rejected else verdict_on (said_by (option_copied guide.entry)) faults.now codes.now }
+    ensures { result ≡ if earlier then Rejected else verdict_on (guide_tree_of (option_copied guide.entry)) faults.now codes.now }
 {
     if earlier {
         Verdict::Rejected
@@ -104,7 +104,7 @@ fn tells_of_faults(code: SetCode) -> bool
 }
 
 fn are_tolerated(guide: Option<&Guide>, faults: &[Fault]) -> bool
-    ensures { result ≡ list_all (tolerates (said_by (option_copied guide.entry))) faults.now }
+    ensures { result ≡ list_all (tolerates (guide_tree_of (option_copied guide.entry))) faults.now }
 {
     faults.iter().all(|fault| tolerates(guide, fault))
 }

@@ -12,7 +12,7 @@ use Rattle.loop_match.specs.Given.{place_in}
 use Rattle.loop_match.specs.LoopIds.{loop_id_of}
 use Rattle.set_walk.specs.Told.{IsTold, Adds}
 use Rattle.set_walk.specs.WalkedBody.{IsElementFaultIn}
-use Rattle.set_walk.specs.Walked.{next_for, behind, IsErrorAt, IsErrorFrom}
+use Rattle.set_walk.specs.Walked.{next_for, last_place_after, IsErrorAt, IsErrorFrom}
 
 -- a candidate that is found has the slot to which its place leads
 pub leads_to : (ts : Trees) (last : Option Place) (s : Segment) (c : Candidate) → first_fit s (nexts ts last) ≡ Some c
@@ -41,7 +41,7 @@ here ts at last s body f (Some c) e h =
     }
 
 later : (ts : Trees) (at : ℕ) (last next : Option Place) (s : SegValue) (body : List SegValue) (f : Fault)
-    → next ≡ behind (next_for ts last s) last → IsElementFaultIn ts (at + 1) body (places_from ts next body) f
+    → next ≡ last_place_after (next_for ts last s) last → IsElementFaultIn ts (at + 1) body (places_from ts next body) f
     → IsElementFaultIn ts at (s ∷ body) (places_from ts last (s ∷ body)) f
 later ts at last next s body f e r =
     let k : r.index + (at + 1) ≡ suc r.index + at = omega arith in
@@ -61,8 +61,8 @@ pub error_in : (ts : Trees) (at : ℕ) (last : Option Place) (body : List SegVal
 error_in ts at last [] f h = absurd h
 error_in ts at last (s ∷ body) f (inl h) = here ts at last s body f (next_for ts last s) refl h
 error_in ts at last (s ∷ body) f (inr h) =
-    later ts at last (behind (next_for ts last s) last) s body f refl
-    (error_in ts (at + 1) (behind (next_for ts last s) last) body f h)
+    later ts at last (last_place_after (next_for ts last s) last) s body f refl
+    (error_in ts (at + 1) (last_place_after (next_for ts last s) last) body f h)
 
 at_first : (ts : Trees) (at : ℕ) (last : Option Place) (s seg : SegValue) (place : Place) (slot : Slot) (f : Fault) (o : Option Candidate)
     → next_for ts last s ≡ o → s ≡ seg → place_in o ≡ Some place → slot_at ts place ≡ Some slot
@@ -89,7 +89,7 @@ error_at ts at last (s ∷ body) f zero seg place slot there placed leads told =
     (subst (λ (n : ℕ). IsTold n seg (loop_id_of ts place) slot f) k told))
 error_at ts at last (s ∷ body) f (suc i) seg place slot there placed leads told =
     let k : suc i + at ≡ i + (at + 1) = omega arith in
-    inr (error_at ts (at + 1) (behind (next_for ts last s) last) body f i seg place slot there placed leads
+    inr (error_at ts (at + 1) (last_place_after (next_for ts last s) last) body f i seg place slot there placed leads
     (subst (λ (n : ℕ). IsTold n seg (loop_id_of ts place) slot f) k told))
 
 pub error_from : (ts : Trees) (at : ℕ) (last : Option Place) (body : List SegValue) (f : Fault)
@@ -99,10 +99,10 @@ error_from ts at last body f r = error_at ts at last body f r.index r.seg r.plac
 -- the first segment's and the others'
 next_error : (ts : Trees) (at : ℕ) (last : Option Place) (s : SegValue) (rest : List SegValue) (f : Fault) (o : Option Candidate)
     → next_for ts last s ≡ o
-    → IsErrorFrom ts at last (s ∷ rest) f ↔ (IsErrorAt ts at s o f ⊎ IsErrorFrom ts (at + 1) (behind o last) rest f)
+    → IsErrorFrom ts at last (s ∷ rest) f ↔ (IsErrorAt ts at s o f ⊎ IsErrorFrom ts (at + 1) (last_place_after o last) rest f)
 next_error ts at last s rest f o e =
     subst (λ (x : Option Candidate). IsErrorFrom ts at last (s ∷ rest) f
-    ↔ (IsErrorAt ts at s x f ⊎ IsErrorFrom ts (at + 1) (behind x last) rest f)) e (λ h. h, λ h. h)
+    ↔ (IsErrorAt ts at s x f ⊎ IsErrorFrom ts (at + 1) (last_place_after x last) rest f)) e (λ h. h, λ h. h)
 
 -- what was found with one segment more that has a place
 pub errors_placed : (ts : Trees) (at : ℕ) (last next : Option Place) (s : SegValue) (c : Candidate) (old new : List Fault)

@@ -13,18 +13,18 @@ use Rattle.guide_law.proofs.Faulty.{members}
 use Rattle.elem_rules.specs.ElementFaults.{IsElementFault}
 use Rattle.loop_match.specs.LoopIds.{loop_id_of}
 use Rattle.loop_match.proofs.Numbered.{found_keyed}
-use Rattle.set_walk.specs.Told.{told_by}
+use Rattle.set_walk.specs.Told.{fault_of_element}
 use Rattle.set_walk.specs.WalkedBody.{IsBodyFault, IsElementFaultIn, places_by}
 use Rattle.set_walk.proofs.Apart.{apart_at, same_apart, structure_is_not, one_elem}
 use Rattle.set_walk.proofs.SoundPlaces.{sound_places}
 
 one_told : (ts : Trees) (at : ℕ) (s t : SegValue) (q r : Place) (a b : Slot) (e c : ElemFault) → s ≡ t → q ≡ r → a ≡ b → e ≡ c
-    → told_by at (elements_of s) (loop_id_of ts q) a e ≡ told_by at (elements_of t) (loop_id_of ts r) b c
+    → fault_of_element at (elements_of s) (loop_id_of ts q) a e ≡ fault_of_element at (elements_of t) (loop_id_of ts r) b c
 one_told ts at s t q r a b e c x y w u =
-    ap (λ (z : SegValue). told_by at (elements_of z) (loop_id_of ts q) a e) x
-    ∙ ap (λ (z : Place). told_by at (elements_of t) (loop_id_of ts z) a e) y
-    ∙ ap (λ (z : Slot). told_by at (elements_of t) (loop_id_of ts r) z e) w
-    ∙ ap (λ (z : ElemFault). told_by at (elements_of t) (loop_id_of ts r) b z) u
+    ap (λ (z : SegValue). fault_of_element at (elements_of z) (loop_id_of ts q) a e) x
+    ∙ ap (λ (z : Place). fault_of_element at (elements_of t) (loop_id_of ts z) a e) y
+    ∙ ap (λ (z : Slot). fault_of_element at (elements_of t) (loop_id_of ts r) z e) w
+    ∙ ap (λ (z : ElemFault). fault_of_element at (elements_of t) (loop_id_of ts r) b z) u
 
 errors_keyed : (ts : Trees) (first : ℕ) (body : List SegValue) (given : List (Option Place)) (f h : Fault)
     → ((q : Place) (slot : Slot) → slot_at ts q ≡ Some slot → IsSound slot) → IsElementFaultIn ts first body given f
@@ -45,7 +45,7 @@ errors_keyed ts first body given f h sound a b e =
     one_elem a.seg.delims (elements_of a.seg) a.slot a.told.elem b.told.elem (sound a.place a.slot a.leads) a.told.wrong v m in
     a.told.is
     ∙ one_told ts (a.index + first) a.seg b.seg a.place b.place a.slot b.slot a.told.elem b.told.elem x y w u
-    ∙ ap (λ (n : ℕ). told_by n (elements_of b.seg) (loop_id_of ts b.place) b.slot b.told.elem) p
+    ∙ ap (λ (n : ℕ). fault_of_element n (elements_of b.seg) (loop_id_of ts b.place) b.slot b.told.elem) p
     ∙ sym b.told.is
 
 module _ (rows : GuideRows) (accepted : IsAccepted rows) (body : List SegValue) where

@@ -9,7 +9,7 @@ use Rattle.std.proofs.lemmas.List.Elements.{Contains-append_left, Contains-appen
 use Rattle.x12_bytes.specs.declared.delims.Delims.{Delims}
 use Rattle.hub_kinds.specs.declared.fault.Fault.{Fault}
 use Rattle.x12_segs.specs.Words.{SegValue, elements_of, kind_of, trailer_kinds}
-use Rattle.x12_segs.specs.Kinds.{is_inner}
+use Rattle.x12_segs.specs.Kinds.{may_stand_in_set}
 use Rattle.x12_segs.specs.declared.kind.Kind.{Kind}
 use Rattle.x12_segs.specs.declared.kind.Kind.TheVariants.{SetHeader}
 use Rattle.guide_tree.specs.Words.{GuideTree, Segment, IsWellFormed, end_faults, IsStructureFault, pass, placing_from}
@@ -245,7 +245,7 @@ or_true false = refl
 
 pub has_room : (g : GuideTree) (s : Seen) (seg header : SegValue) (done left segs : List SegValue) (inner : List Kind) (closed : Bool)
     → IsSeen g s done → segs ≡ header ∷ (done ++ seg ∷ left) → map kind_of segs ≡ SetHeader ∷ (inner ++ trailer_kinds closed)
-    → list_all is_inner inner ≡ true → length segs < 4294967296 → goes_on s seg ≡ true
+    → list_all may_stand_in_set inner ≡ true → length segs < 4294967296 → goes_on s seg ≡ true
 has_room g s seg header done left segs inner closed seen are kinds plain few =
     let all : kind_of header ∷ map kind_of (done ++ seg ∷ left) ≡ SetHeader ∷ (inner ++ trailer_kinds closed) =
     sym (ap (map kind_of) are) ∙ kinds in
@@ -264,7 +264,7 @@ has_room g s seg header done left segs inner closed seen are kinds plain few =
 -- and where none is left, the SE was seen exactly where the set is closed
 pub has_end : (g : GuideTree) (s : Seen) (header : SegValue) (done segs : List SegValue) (inner : List Kind) (closed : Bool)
     → IsSeen g s done → segs ≡ header ∷ (done ++ []) → map kind_of segs ≡ SetHeader ∷ (inner ++ trailer_kinds closed)
-    → list_all is_inner inner ≡ true → is_some s.trailer ≡ closed
+    → list_all may_stand_in_set inner ≡ true → is_some s.trailer ≡ closed
 has_end g s header done segs inner closed seen are kinds plain =
     let all : kind_of header ∷ map kind_of (done ++ []) ≡ SetHeader ∷ (inner ++ trailer_kinds closed) =
     sym (ap (map kind_of) are) ∙ kinds in

@@ -8,7 +8,7 @@ use Rattle.loop_match.specs.PlacedSegments.{placed_segments, as_given}
 use Rattle.loop_match.proofs.Seated.{seated, seated_at, with_slot, placed_seated}
 use Rattle.set_walk.specs.Kept.{Slotted, given_by, segs_in}
 use Rattle.set_walk.specs.WalkedBody.{places_by}
-use Rattle.set_walk.specs.Walked.{next_for, behind, slotted_at, slotted_from}
+use Rattle.set_walk.specs.Walked.{next_for, last_place_after, slotted_at, slotted_from}
 use Rattle.set_walk.proofs.Erring.{leads_to}
 
 seated_here : (ts : Trees) (last : Option Place) (s : SegValue) (o : Option Candidate) → next_for ts last s ≡ o
@@ -21,10 +21,10 @@ seated_from : (ts : Trees) (last : Option Place) (body : List SegValue)
 seated_from ts last [] = refl
 seated_from ts last (s ∷ body) =
     let next : Option Candidate = next_for ts last s in
-    let rest : List Slotted = slotted_from ts (behind next last) body in
+    let rest : List Slotted = slotted_from ts (last_place_after next last) body in
     map-append given_by (slotted_at s next) rest
     ∙ ap (λ (l : List Given). l ++ map given_by rest) (seated_here ts last s next refl)
-    ∙ ap (λ (l : List Given). seated_at ts (elements_of s) (place_in next) ++ l) (seated_from ts (behind next last) body)
+    ∙ ap (λ (l : List Given). seated_at ts (elements_of s) (place_in next) ++ l) (seated_from ts (last_place_after next last) body)
 
 pub placed_are : (g : GuideTree) (body : List SegValue)
     → map as_given (placed_segments g.nodes (map elements_of body) (places_by g body)) ≡ map given_by (slotted_from g.nodes None body)
@@ -35,8 +35,8 @@ segments_are [] = refl
 segments_are (x ∷ xs) = ap (λ (l : List Segment). elements_of x.0 ∷ l) (segments_are xs)
 
 next_slotted : (ts : Trees) (last : Option Place) (s : SegValue) (rest : List SegValue) (o : Option Candidate) → next_for ts last s ≡ o
-    → slotted_from ts last (s ∷ rest) ≡ slotted_at s o ++ slotted_from ts (behind o last) rest
-next_slotted ts last s rest o e = ap (λ (x : Option Candidate). slotted_at s x ++ slotted_from ts (behind x last) rest) e
+    → slotted_from ts last (s ∷ rest) ≡ slotted_at s o ++ slotted_from ts (last_place_after o last) rest
+next_slotted ts last s rest o e = ap (λ (x : Option Candidate). slotted_at s x ++ slotted_from ts (last_place_after x last) rest) e
 
 -- what is given a slot, with one segment more that has a place
 pub slotted_placed : (ts : Trees) (last next : Option Place) (s : SegValue) (c : Candidate) → next_for ts last s ≡ Some c

@@ -4,7 +4,7 @@ use Rattle.std.specs.List.{list_all}
 use Rattle.std.proofs.lemmas.Bool.{and_parts, true_from_ne_false}
 use Rattle.guide_tree.specs.declared.slot.Slot.{Slot}
 use Rattle.guide_tree.specs.declared.fault.GuideFault.TheVariants as fault
-use Rattle.guide_tree.specs.Words.{Tree, Trees, segment, loop, no_trees, tree, GuideTree, number_of, AnyIn, AnyNode, is_bounded}
+use Rattle.guide_tree.specs.Words.{Tree, Trees, segment, loop, no_trees, tree, GuideTree, node_number, AnyIn, AnyNode, is_bounded}
 use Rattle.guide_tree.specs.Words.{is_slot_bounded, is_conditioned, is_slot_conditioned, is_condition_of, are_picks_of, is_label_new}
 use Rattle.guide_tree.specs.Words.{IsWellFormed, Place, slot_in, slot_nth, slot_at, IsSound}
 
@@ -27,9 +27,9 @@ leads P ts (a ∷ q) s e p = leads_nth P ts a.child q s e p
 pub sound_places : (g : GuideTree) → IsWellFormed g → (q : Place) (slot : Slot) → slot_at g.nodes q ≡ Some slot → IsSound slot
 sound_places g clean q s e = record {
   bounded = true_from_ne_false (is_slot_bounded s) (λ no. clean (fault.BadBounds s.number)
-      (leads (λ t. (number_of t ≡ s.number) × (is_bounded t ≡ false)) g.nodes q s e (refl, no)));
+      (leads (λ t. (node_number t ≡ s.number) × (is_bounded t ≡ false)) g.nodes q s e (refl, no)));
   conditioned = (and_parts (list_all (is_condition_of s) s.conditions) (are_picks_of s s.picks)
       (and_parts (list_all (is_condition_of s) s.conditions && are_picks_of s s.picks) (is_label_new g.nodes s)
       (true_from_ne_false (is_slot_conditioned g.nodes s) (λ no. clean (fault.BadCondition s.number)
-      (inr (leads (λ t. (number_of t ≡ s.number) × (is_conditioned g.nodes t ≡ false)) g.nodes q s e (refl, no)))))).0).0;
+      (inr (leads (λ t. (node_number t ≡ s.number) × (is_conditioned g.nodes t ≡ false)) g.nodes q s e (refl, no)))))).0).0;
 }

@@ -8,15 +8,15 @@ use Rattle.hub_kinds.specs.declared.fault.ElemFault.{ElemFault}
 use Rattle.guide_tree.specs.declared.slot.Slot.{Slot}
 use Rattle.guide_law.proofs.Among.{in_map, in_mapped, in_contains, contains_in}
 use Rattle.elem_rules.specs.ElementFaults.{IsElementFault}
-use Rattle.set_walk.specs.Told.{told_by, IsTold, Adds}
+use Rattle.set_walk.specs.Told.{fault_of_element, IsTold, Adds}
 use Rattle.set_walk.specs.Walked.{IsFaultless}
 
 pub told_adds : (old new : List Fault) (found : List ElemFault) (position : ℕ) (seg : SegValue) (loop_id : List ℕ) (slot : Slot)
-    → new ≡ old ++ map (told_by position (elements_of seg) loop_id slot) found
+    → new ≡ old ++ map (fault_of_element position (elements_of seg) loop_id slot) found
     → ((e : ElemFault) → Contains found e ↔ IsElementFault seg.delims (elements_of seg) slot e)
     → Adds old new (IsTold position seg loop_id slot)
 told_adds old new found position seg loop_id slot e exact f =
-    let tell = told_by position (elements_of seg) loop_id slot in (
+    let tell = fault_of_element position (elements_of seg) loop_id slot in (
       (λ h. ⊎_elim (λ a. inl a)
           (λ b. let m = in_mapped tell found f (contains_in (map tell found) f b) in
           inr (record { elem = m.value; wrong = (exact m.value).0 (in_contains found m.value m.there); is = sym m.is }))

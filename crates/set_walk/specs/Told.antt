@@ -10,8 +10,8 @@ use Rattle.guide_tree.specs.Words.{Segment, id_of}
 use Rattle.elem_rules.specs.ElementFaults.{IsElementFault}
 
 -- a fault of an element, as the segment at a position reports it
-abbrev pub told_by : (position : ℕ) → Segment → (loop_id : List ℕ) → Slot → ElemFault → Fault
-told_by position s loop_id slot e = record {
+abbrev pub fault_of_element : (position : ℕ) → Segment → (loop_id : List ℕ) → Slot → ElemFault → Fault
+fault_of_element position s loop_id slot e = record {
   position = position;
   id = id_of s;
   loop_id = loop_id;
@@ -24,7 +24,7 @@ told_by position s loop_id slot e = record {
 pub record IsTold (position : ℕ) (seg : SegValue) (loop_id : List ℕ) (slot : Slot) (f : Fault) : Type 0 where
   pub elem : ElemFault
   pub wrong : IsElementFault seg.delims (elements_of seg) slot elem
-  pub is : f ≡ told_by position (elements_of seg) loop_id slot elem
+  pub is : f ≡ fault_of_element position (elements_of seg) loop_id slot elem
 
 -- a list has what another has, and these
 abbrev pub Adds : (old new : List Fault) → (Fault → Type 0) → Type 0

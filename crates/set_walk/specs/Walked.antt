@@ -45,8 +45,8 @@ abbrev pub next_for : Trees → (last : Option Place) → SegValue → Option Ca
 next_for ts last seg = first_fit (elements_of seg) (nexts ts last)
 
 -- the last place after a segment that is given a place, or none
-abbrev pub behind : Option Candidate → (last : Option Place) → Option Place
-behind next last = or_else (place_in next) last
+abbrev pub last_place_after : Option Candidate → (last : Option Place) → Option Place
+last_place_after next last = or_else (place_in next) last
 
 -- an element fault of a segment that is given a place; a stray has none
 abbrev pub IsErrorAt : Trees → (at : ℕ) → SegValue → Option Candidate → Fault → Type 0
@@ -57,7 +57,7 @@ IsErrorAt ts at seg (Some c) f = IsTold at seg (loop_id_of ts c.place) c.slot f
 abbrev pub IsErrorFrom : Trees → (at : ℕ) → (last : Option Place) → List SegValue → Fault → Type 0
 IsErrorFrom ts at last [] f = ⊥
 IsErrorFrom ts at last (s ∷ rest) f =
-    IsErrorAt ts at s (next_for ts last s) f ⊎ IsErrorFrom ts (at + 1) (behind (next_for ts last s) last) rest f
+    IsErrorAt ts at s (next_for ts last s) f ⊎ IsErrorFrom ts (at + 1) (last_place_after (next_for ts last s) last) rest f
 
 abbrev pub slotted_at : SegValue → Option Candidate → List Slotted
 slotted_at seg None = []
@@ -66,7 +66,7 @@ slotted_at seg (Some c) = (seg, c.slot) ∷ []
 -- the segments that are given a place, with their slots
 abbrev pub slotted_from : Trees → (last : Option Place) → List SegValue → List Slotted
 slotted_from ts last [] = []
-slotted_from ts last (s ∷ rest) = slotted_at s (next_for ts last s) ++ slotted_from ts (behind (next_for ts last s) last) rest
+slotted_from ts last (s ∷ rest) = slotted_at s (next_for ts last s) ++ slotted_from ts (last_place_after (next_for ts last s) last) rest
 
 abbrev pub last_in : Walk → Option Place
 last_in w = last_of (place_view w.last.items)

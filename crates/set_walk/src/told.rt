@@ -8,7 +8,7 @@ ghost use Rattle.loop_match.specs.LoopIds.{loop_id_of};
 ghost use Rattle.elem_rules.specs.ElementFaults.{IsElementFault};
 ghost use Rattle.elem_rules.specs.NodeSlots.{IsSlotOf};
 ghost use Rattle.marked_segments.specs.Marked.{IsPlain};
-ghost use Rattle.set_walk.specs.Told.{told_by, IsTold, Adds};
+ghost use Rattle.set_walk.specs.Told.{fault_of_element, IsTold, Adds};
 
 use elem_rules::{check_segment, check_segment_at};
 use guide_fast::FastGuide;
@@ -28,7 +28,8 @@ fn tell<'a>(
     found: Vec<ElemFault<'a>>,
 ) -> Result<(), NoMemory>
     ensures { OnOk result
-        (faults.new.items ≡ faults.old.items ++ map (told_by position (elements_of seg.now) loop_id.now slot.now) found.entry.items) }
+        (faults.new.items ≡ faults.old.items
+        ++ map (fault_of_element position (elements_of seg.now) loop_id.now slot.now) found.entry.items) }
 {
     for elem in found {
         let fault = Fault {

@@ -33,15 +33,15 @@ abbrev pub optional : {A : Type 0} → A → (Data → Option A) → List ℕ �
 optional absent read key ms = optional_of absent read key (get_member key ms)
 
 -- what is there is something
-abbrev pub present : {A : Type 0} → (Data → Option A) → Data → Option (Option A)
-present read d = option_map Some (read d)
+abbrev pub value_present : {A : Type 0} → (Data → Option A) → Data → Option (Option A)
+value_present read d = option_map Some (read d)
 
 -- a text of so many to so many letters or digits
 abbrev pub word_in : ℕ → ℕ → Data → Option (List ℕ)
 word_in least most d = option_and_then (λ s. if is_word least most s then Some s else None) (as_str d)
 
 abbrev pub some_word_in : ℕ → ℕ → Data → Option (Option (List ℕ))
-some_word_in least most d = present (word_in least most) d
+some_word_in least most d = value_present (word_in least most) d
 
 -- 0 to 4,294,967,295
 abbrev pub count_of_integer : ℤ → Option ℕ

@@ -30,7 +30,7 @@ pub struct Present<R>(pub R);
 impl<R: Reading> Reading for Present<R> {
     type Read = Option<R::Read>;
 
-    ghost reading = { λ r d. tables.present (R.reading r.0) d };
+    ghost reading = { λ r d. tables.value_present (R.reading r.0) d };
 
     fn read(&self, alloc: Global, value: &Value) -> Result<Option<R::Read>, TextFault> {
         Ok(Some(self.0.read(alloc, value)?))

@@ -3,14 +3,14 @@ use Rattle.std.proofs.Common.{◌≡◌, ◌≢◌, ◌≤◌, ◌⊎◌, inl, i
 use Rattle.std.specs.declared.alloc.Global.{Global}
 use Rattle.std.specs.Io.KnownBytes.{Appends}
 use Rattle.clap.specs.Words.{Text}
-use Rattle.track_command.specs.CommandLine.{AreOptions, AsksForText, IsAsked, NamesNight, value_of, values_of}
+use Rattle.track_command.specs.CommandLine.{AreOptions, AsksForText, IsAsked, NamesNight, option_value, values_of}
 use Rattle.track_command.specs.Outcome.{IsOutcome, Shown}
 use Rattle.track_command.specs.declared.command.Asked.{Asked}
 use Rattle.track_command.specs.declared.command.Asked.TheVariants.{Run, Show}
 use Rattle.track_command.specs.declared.command.Options.{Options}
 
 pub options_named : (words : List Text) (asked : Asked) (options : Options) → asked ≡ Run options → IsAsked words asked
-    → AreOptions (value_of words) (values_of words) options
+    → AreOptions (option_value words) (values_of words) options
 options_named words asked options is by = subst (λ (a : Asked). IsAsked words a) is by
 
 -- arguments by which a night is tracked name it

@@ -9,7 +9,7 @@ use Rattle.night_ends.specs.Words.{values_found}
 use Rattle.night_ends.proofs.ForAbove.{all_found, asks_for_text, found}
 use Rattle.night_command.specs.CommandLine.{IsOfText, piece_given, workers_given}
 use Rattle.set_documents.specs.Given.{documents_given}
-use Rattle.track_command.specs.CommandLine.{AreGiven, AreOptions, AsksForText, IsAsked, IsGiven, track_app, value_of, values_of}
+use Rattle.track_command.specs.CommandLine.{AreGiven, AreOptions, AsksForText, IsAsked, IsGiven, track_app, option_value, values_of}
 use Rattle.track_command.specs.declared.command.Asked.{Asked}
 use Rattle.track_command.specs.declared.command.Asked.TheVariants.{Run, Show}
 use Rattle.track_command.specs.declared.command.Options.{Options}
@@ -23,7 +23,7 @@ unfolding clap_on_literals
 free = refl
 
 options : (words : List Text) (m : ArgMatches) (o : Options) → HasMatchesOf track_app words m
-    → AreOptions (first_value (found_of m)) (values_found (found_of m)) o → AreOptions (value_of words) (values_of words) o
+    → AreOptions (first_value (found_of m)) (values_found (found_of m)) o → AreOptions (option_value words) (values_of words) o
 options words m o has given = record {
   setup = sym (found track_app simple words m (codes "setup") has) ∙ given.setup;
   guides = sym (all_found track_app simple words m (codes "guide") has) ∙ given.guides;
@@ -42,7 +42,7 @@ asked words m (Run o) has given = options words m o has given
 asked words m (Show text) has given = absurd given
 
 -- what the arguments give is found
-pub all_given : (words : List Text) (m : ArgMatches) → HasMatchesOf track_app words m → AreGiven (value_of words) (values_of words)
+pub all_given : (words : List Text) (m : ArgMatches) → HasMatchesOf track_app words m → AreGiven (option_value words) (values_of words)
     → AreGiven (first_value (found_of m)) (values_found (found_of m))
 all_given words m has given = record {
   setup = given.setup;

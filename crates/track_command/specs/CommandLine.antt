@@ -32,8 +32,8 @@ abbrev pub track_app : App
 track_app = with_rule (with_rule (with_rule night_app document_rule) (option_free (codes "workers"))) (option_free (codes "piece"))
 
 -- the value that the arguments give an option
-abbrev pub value_of : List Text → Text → Option Text
-value_of words name = first_of name (matches_of track_app words)
+abbrev pub option_value : List Text → Text → Option Text
+option_value words name = first_of name (matches_of track_app words)
 
 -- the values that they give an option, in their order
 abbrev pub values_of : List Text → Text → Option (List Text)
@@ -85,16 +85,16 @@ pub record AreGiven (value : Text → Option Text) (values : Text → Option (Li
 -- the arguments give each option that is wanted, and nothing is wrong with them
 pub record IsCommandLine (words : List Text) : Type 0 where
   pub taken : takes track_app words ≡ true
-  pub given : AreGiven (value_of words) (values_of words)
+  pub given : AreGiven (option_value words) (values_of words)
 
 -- the arguments name the files and the moment of a night
 pub record NamesNight (words : List Text) : Type 0 where
   pub options : Options
-  pub named : AreOptions (value_of words) (values_of words) options
+  pub named : AreOptions (option_value words) (values_of words) options
 
 -- what the arguments ask for
 abbrev pub IsAsked : List Text → Asked → Type 0
-IsAsked words (Run options) = AreOptions (value_of words) (values_of words) options
+IsAsked words (Run options) = AreOptions (option_value words) (values_of words) options
 IsAsked words (Show text) = AsksForText words
 
 -- the same of what clap found (no public clause cites this)

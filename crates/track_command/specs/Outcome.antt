@@ -9,7 +9,7 @@ use Rattle.partner_setup.specs.Setup.{SetupValue}
 use Rattle.set_documents.specs.Documents.{DocumentValue}
 use Rattle.track_night.specs.Track.{IsTrack}
 use Rattle.track_night.specs.declared.track.Track.{Track}
-use Rattle.track_command.specs.CommandLine.{AreOptions, AsksForText, guide_paths, value_of, values_of}
+use Rattle.track_command.specs.CommandLine.{AreOptions, AsksForText, guide_paths, option_value, values_of}
 use Rattle.track_command.specs.declared.command.Options.{Options}
 
 -- 0 where the night is clean
@@ -46,5 +46,5 @@ pub record IsTrackBy (options : Options) (status : ℕ) : Type 0 where
 -- options that they give, and printed nothing
 pub data IsOutcome (words : List Text) (status : ℕ) (was is : Option (List ℕ)) : Type 0 where
   Shown : (asked : AsksForText words) (text : List ℕ) → Appends was is text → status ≡ 0 → IsOutcome words status was is
-  Tracked : (options : Options) → AreOptions (value_of words) (values_of words) options → IsTrackBy options status → was ≡ is
+  Tracked : (options : Options) → AreOptions (option_value words) (values_of words) options → IsTrackBy options status → was ≡ is
       → IsOutcome words status was is

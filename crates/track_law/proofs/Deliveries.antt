@@ -17,8 +17,9 @@ use Rattle.partner_setup.specs.Setup.{SetupValue, route_of}
 use Rattle.partner_setup.specs.Sound.{AreApart, AreWithin, IsSoundSetup}
 use Rattle.partner_setup.proofs.Sounding.{targets_apart, targets_within}
 use Rattle.judged_text.specs.declared.standing.GroupStanding.{GroupStanding}
-use Rattle.judged_text.specs.Judged.{JudgedValue, PlacedValue, all_sets, groups_from, is_fa, is_refused, sets_from, sets_of, standing_at}
-use Rattle.judged_text.specs.Judged.{verdict_on}
+use Rattle.judged_text.specs.Judged.{JudgedValue, PlacedValue, all_sets, sets_of_groups_from, is_fa, is_refused, sets_from, sets_of}
+use Rattle.judged_text.specs.Judged.{standing_at}
+use Rattle.judged_text.specs.Judged.{verdict_by_standing}
 use Rattle.mailbox.specs.declared.outcome.Outcome.{Outcome}
 use Rattle.mailbox.specs.declared.outcome.Outcome.TheVariants.{DeliveredTo, HeldForDelimiter}
 use Rattle.mailbox.specs.Deliveries.{is_blocked, is_deliverable, is_delivered_to, is_delivery_to, is_not_rejected, outcome_at}
@@ -91,8 +92,8 @@ and_false false = refl
 
 refused_stays : (p : PlacedValue) → is_refused p.interchange ≡ true → is_deliverable p ≡ false
 refused_stays p is =
-    ap (λ (b : Bool). is_not_rejected (verdict_on p) && p.standing.clear && not (is_fa p.group) && not b) is
-    ∙ and_false (is_not_rejected (verdict_on p) && p.standing.clear && not (is_fa p.group))
+    ap (λ (b : Bool). is_not_rejected (verdict_by_standing p) && p.standing.clear && not (is_fa p.group) && not b) is
+    ∙ and_false (is_not_rejected (verdict_by_standing p) && p.standing.clear && not (is_fa p.group))
 
 module _ (setup : SetupValue) (q : ℕ) (x : JudgedValue) (refused : is_refused x ≡ true) where
   sets_stay : (g : GroupEntry) (standing : GroupStanding) (n : ℕ) (sets : List SetEnvelope)
@@ -104,11 +105,11 @@ module _ (setup : SetupValue) (q : ℕ) (x : JudgedValue) (refused : is_refused 
       ap (λ (b : Bool). cond b (p ∷ more) more) (not_delivered setup p (refused_stays p refused) q)
       ∙ sets_stay g standing (n + 1) sets
 
-  groups_stay : (n : ℕ) (groups : List GroupEntry) → delivered_of setup q (groups_from x n groups) ≡ []
+  groups_stay : (n : ℕ) (groups : List GroupEntry) → delivered_of setup q (sets_of_groups_from x n groups) ≡ []
   groups_stay n [] = refl
   groups_stay n (g ∷ groups) =
-      filter-append (is_delivered_to setup q) (sets_from x g (standing_at x.standings n) 0 g.sets) (groups_from x (n + 1) groups)
-      ∙ ap (λ (ps : List PlacedValue). ps ++ delivered_of setup q (groups_from x (n + 1) groups))
+      filter-append (is_delivered_to setup q) (sets_from x g (standing_at x.standings n) 0 g.sets) (sets_of_groups_from x (n + 1) groups)
+      ∙ ap (λ (ps : List PlacedValue). ps ++ delivered_of setup q (sets_of_groups_from x (n + 1) groups))
       (sets_stay g (standing_at x.standings n) 0 g.sets)
       ∙ groups_stay (n + 1) groups
 
@@ -280,12 +281,12 @@ module _ (by : TrackedBy) (sound : IsSoundSetup by.setup) (place : ℕ) (partner
         ∙ ap (λ (ds : List Delivery). told_if (is_delivered_to by.setup place p) before p ++ ds) (of_sets (before ++ p ∷ []) notes ps)
 
     of_groups : (before : List PlacedValue) (x : JudgedValue) (notes : List GroupNotes) (k : ℕ) (groups : List GroupEntry)
-        → deliveries_to place (groups_rows by n before x notes k groups) (entries (groups_from x k groups))
-        ≡ all_told before (groups_from x k groups)
+        → deliveries_to place (groups_rows by n before x notes k groups) (entries (sets_of_groups_from x k groups))
+        ≡ all_told before (sets_of_groups_from x k groups)
     of_groups before x notes k [] = refl
     of_groups before x notes k (g ∷ groups) =
         let here : List PlacedValue = sets_at x k g in
-        let rest : List PlacedValue = groups_from x (k + 1) groups in
+        let rest : List PlacedValue = sets_of_groups_from x (k + 1) groups in
         ap (deliveries_to place (groups_rows by n before x notes k (g ∷ groups))) (flat_map-append (set_entries by.setup n) here rest)
         ∙ deliveries_append place by.setup (sets_rows by n before (notes_at notes k) here)
         (groups_rows by n (before ++ here) x notes (k + 1) groups) (entries here) (entries rest)

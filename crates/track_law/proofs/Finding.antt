@@ -9,9 +9,9 @@ use Rattle.std.proofs.lemmas.List.Elements.{All-cons, All-head, All-nil, All-tai
 use Rattle.x12_bytes.specs.declared.delims.Delims.{Delims}
 use Rattle.hub_kinds.specs.Words.{is_word}
 use Rattle.x12_segs.specs.declared.kind.Kind.TheVariants.{InterchangeTrailer, GroupHeader, GroupTrailer, SetHeader, SetTrailer, Ta1, Other}
-use Rattle.x12_segs.specs.Words.{elements_of, is_inner, part_or_empty, views}
+use Rattle.x12_segs.specs.Words.{elements_of, may_stand_in_set, part_or_empty, views}
 use Rattle.x12_write.specs.Segment.{segment}
-use Rattle.hub_run.specs.SetsRead.{Segments, has_id, sets_behind, sets_found}
+use Rattle.hub_run.specs.SetsRead.{Segments, has_id, sets_read, sets_found}
 use Rattle.hub_run.proofs.ForAbove.{IsBetween, text_read}
 use Rattle.written_law.specs.Whole.{Elements, WholeSet, kind_by, set_segments}
 use Rattle.files_law.proofs.Texts.{IsMadeOf, both_made, nothing_made}
@@ -19,34 +19,34 @@ use Rattle.track_law.specs.Found.{Found, found_behind, found_in, numbers_of, rea
 
 -- the sets that are found under their numbers are those that are found
 found_sets_behind : (i g : List ℕ) (begun : Option Segments) (ss : Segments)
-    → map (λ (f : Found). f.set) (found_behind i g begun ss) ≡ sets_behind begun ss
+    → map (λ (f : Found). f.set) (found_behind i g begun ss) ≡ sets_read begun ss
 found_sets_behind i g begun [] = refl
 found_sets_behind i g None (s ∷ ss) =
     by (found_sets_behind i g (Some (s ∷ [])) ss)
     (found_sets_behind (read_or (codes "ISA") 13 s i) (read_or (codes "GS") 6 s g) None ss) (has_id s (codes "ST"))
   where
-    by : map (λ (f : Found). f.set) (found_behind i g (Some (s ∷ [])) ss) ≡ sets_behind (Some (s ∷ [])) ss
+    by : map (λ (f : Found). f.set) (found_behind i g (Some (s ∷ [])) ss) ≡ sets_read (Some (s ∷ [])) ss
         → map (λ (f : Found). f.set) (found_behind (read_or (codes "ISA") 13 s i) (read_or (codes "GS") 6 s g) None ss)
-        ≡ sets_behind None ss
+        ≡ sets_read None ss
         → (b : Bool)
         → map (λ (f : Found). f.set) (if b then found_behind i g (Some (s ∷ [])) ss
         else found_behind (read_or (codes "ISA") 13 s i) (read_or (codes "GS") 6 s g) None ss)
-        ≡ (if b then sets_behind (Some (s ∷ [])) ss else sets_behind None ss)
+        ≡ (if b then sets_read (Some (s ∷ [])) ss else sets_read None ss)
     by one two true = one
     by one two false = two
 found_sets_behind i g (Some begun) (s ∷ ss) =
     by (found_sets_behind i g (Some (s ∷ [])) ss) (found_sets_behind i g None ss) (found_sets_behind i g (Some (begun ++ s ∷ [])) ss)
     (has_id s (codes "ST")) (has_id s (codes "SE"))
   where
-    by : map (λ (f : Found). f.set) (found_behind i g (Some (s ∷ [])) ss) ≡ sets_behind (Some (s ∷ [])) ss
-        → map (λ (f : Found). f.set) (found_behind i g None ss) ≡ sets_behind None ss
-        → map (λ (f : Found). f.set) (found_behind i g (Some (begun ++ s ∷ [])) ss) ≡ sets_behind (Some (begun ++ s ∷ [])) ss
+    by : map (λ (f : Found). f.set) (found_behind i g (Some (s ∷ [])) ss) ≡ sets_read (Some (s ∷ [])) ss
+        → map (λ (f : Found). f.set) (found_behind i g None ss) ≡ sets_read None ss
+        → map (λ (f : Found). f.set) (found_behind i g (Some (begun ++ s ∷ [])) ss) ≡ sets_read (Some (begun ++ s ∷ [])) ss
         → (b c : Bool)
         → map (λ (f : Found). f.set) (if b then found_behind i g (Some (s ∷ [])) ss
         else (if c then (let f : Found = record { isa13 = i; gs06 = g; set = begun ++ s ∷ [] } in f) ∷ found_behind i g None ss
         else found_behind i g (Some (begun ++ s ∷ [])) ss))
-        ≡ (if b then sets_behind (Some (s ∷ [])) ss else (if c then (begun ++ s ∷ []) ∷ sets_behind None ss
-        else sets_behind (Some (begun ++ s ∷ [])) ss))
+        ≡ (if b then sets_read (Some (s ∷ [])) ss else (if c then (begun ++ s ∷ []) ∷ sets_read None ss
+        else sets_read (Some (begun ++ s ∷ [])) ss))
     by one two three true c = one
     by one two three false true = ap (λ (sets : List Segments). (begun ++ s ∷ []) ∷ sets) two
     by one two three false false = three
@@ -70,7 +70,7 @@ past_inner i g begun (s ∷ inner) ss all =
 
 -- a segment that is no ST and no SE by its kind
 between_by : (a b c d e f : Bool)
-    → is_inner (if a then InterchangeTrailer else if b then GroupHeader else if c then GroupTrailer else if d then SetHeader
+    → may_stand_in_set (if a then InterchangeTrailer else if b then GroupHeader else if c then GroupTrailer else if d then SetHeader
     else if e then SetTrailer else if f then Ta1 else Other) ≡ true → (d ≡ false) × (e ≡ false)
 between_by true b c d e f is = cc
 between_by false true c d e f is = cc
@@ -79,10 +79,10 @@ between_by false false false true e f is = cc
 between_by false false false false true f is = cc
 between_by false false false false false f is = (refl, refl)
 
-pub all_between : (inner : List Elements) → list_all (λ x. is_inner (kind_by x)) inner ≡ true → All IsBetween inner
+pub all_between : (inner : List Elements) → list_all (λ x. may_stand_in_set (kind_by x)) inner ≡ true → All IsBetween inner
 all_between [] all = All-nil IsBetween
 all_between (x ∷ xs) all =
-    let both = and_parts (is_inner (kind_by x)) (list_all (λ x. is_inner (kind_by x)) xs) all in
+    let both = and_parts (may_stand_in_set (kind_by x)) (list_all (λ x. may_stand_in_set (kind_by x)) xs) all in
     let id : List ℕ = part_or_empty x 0 in
     All-cons IsBetween x xs (between_by (bytes_eq id (codes "IEA")) (bytes_eq id (codes "GS")) (bytes_eq id (codes "GE"))
     (bytes_eq id (codes "ST")) (bytes_eq id (codes "SE")) (bytes_eq id (codes "TA1")) both.0) (all_between xs both.1)

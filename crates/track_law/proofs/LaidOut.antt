@@ -15,7 +15,7 @@ use Rattle.count_numbers.proofs.Interchanges.{first_interchange, no_interchange,
 use Rattle.partner_setup.specs.declared.partner.Partner.{Partner}
 use Rattle.judged_text.specs.Judged.{PlacedValue}
 use Rattle.mailbox.specs.Mailbox.{group_total}
-use Rattle.mailbox.specs.Numbered.{NumberedValue, goes_with, groups_of, key_of, numbered_from, onto_groups}
+use Rattle.mailbox.specs.Numbered.{NumberedValue, goes_with, groups_of, group_key_of, numbered_from, onto_groups}
 use Rattle.track_rows.specs.Mailed.{mailed_behind}
 use Rattle.track_rows.specs.Walking.{last_key}
 use Rattle.track_rows.proofs.Chunks.{begins, group_total_snoc}
@@ -27,7 +27,7 @@ Numbers = List (List ℕ)
 abbrev pub step : Bool → ℕ
 step b = if b then 0 else 1
 
-last_snoc : (ps : List PlacedValue) (p : PlacedValue) → last_key (ps ++ p ∷ []) ≡ Some (key_of p)
+last_snoc : (ps : List PlacedValue) (p : PlacedValue) → last_key (ps ++ p ∷ []) ≡ Some (group_key_of p)
 last_snoc [] p = refl
 last_snoc (q ∷ []) p = refl
 last_snoc (q ∷ r ∷ ps) p = last_snoc (r ∷ ps) p
@@ -90,11 +90,11 @@ module _ (partner : Partner) (acknowledgments groups : ℕ) where
   -- the walk over the sets of one interchange
   abbrev walk : (isa13 : List ℕ) → (g k : ℕ) → PlacedValue → List PlacedValue → List Numbers
   walk i g k p [] = numbers_at i g k ∷ []
-  walk i g k p (q ∷ qs) = numbers_at i g k ∷ walk i (g + step (same_key (key_of p) (key_of q))) (k + 1) q qs
+  walk i g k p (q ∷ qs) = numbers_at i g k ∷ walk i (g + step (same_key (group_key_of p) (group_key_of q))) (k + 1) q qs
 
   abbrev count : PlacedValue → List PlacedValue → ℕ
   count p [] = 1
-  count p (q ∷ qs) = step (same_key (key_of p) (key_of q)) + count q qs
+  count p (q ∷ qs) = step (same_key (group_key_of p) (group_key_of q)) + count q qs
 
   module _ (i : List ℕ) where
     one_more : (x : NumberedValue) (group : List NumberedValue) (more : List (List NumberedValue)) (g : ℕ) (b : Bool)
@@ -107,21 +107,22 @@ module _ (partner : Partner) (acknowledgments groups : ℕ) where
     onto_by : (x y : NumberedValue) (group : List NumberedValue) (more : List (List NumberedValue)) (g : ℕ) (c : Bool)
         → in_groups i g (onto_groups x (if c then (y ∷ group) ∷ more else (y ∷ []) ∷ group ∷ more))
         ≡ numbers_at i g x.place
-        ∷ in_groups i (g + step (same_key (key_of x.set) (key_of y.set))) (if c then (y ∷ group) ∷ more else (y ∷ []) ∷ group ∷ more)
-    onto_by x y group more g true = one_more x (y ∷ group) more g (same_key (key_of x.set) (key_of y.set))
-    onto_by x y group more g false = one_more x (y ∷ []) (group ∷ more) g (same_key (key_of x.set) (key_of y.set))
+        ∷ in_groups i (g + step (same_key (group_key_of x.set) (group_key_of y.set))) (if c then (y ∷ group) ∷ more else
+        (y ∷ []) ∷ group ∷ more)
+    onto_by x y group more g true = one_more x (y ∷ group) more g (same_key (group_key_of x.set) (group_key_of y.set))
+    onto_by x y group more g false = one_more x (y ∷ []) (group ∷ more) g (same_key (group_key_of x.set) (group_key_of y.set))
 
     onto : (x y : NumberedValue) (some : List (List NumberedValue)) (g : ℕ)
         → in_groups i g (onto_groups x (onto_groups y some))
-        ≡ numbers_at i g x.place ∷ in_groups i (g + step (same_key (key_of x.set) (key_of y.set))) (onto_groups y some)
-    onto x y [] g = one_more x (y ∷ []) [] g (same_key (key_of x.set) (key_of y.set))
+        ≡ numbers_at i g x.place ∷ in_groups i (g + step (same_key (group_key_of x.set) (group_key_of y.set))) (onto_groups y some)
+    onto x y [] g = one_more x (y ∷ []) [] g (same_key (group_key_of x.set) (group_key_of y.set))
     onto x y (group ∷ more) g = onto_by x y group more g (goes_with y group)
 
     walked : (g k : ℕ) (p : PlacedValue) (ps : List PlacedValue) → in_groups i g (groups_of (numbered_from k (p ∷ ps))) ≡ walk i g k p ps
     walked g k p [] = refl
     walked g k p (q ∷ qs) =
         onto (record { place = k; set = p }) (record { place = k + 1; set = q }) (groups_of (numbered_from (k + 1 + 1) qs)) g
-        ∙ ap (λ (ns : List Numbers). numbers_at i g k ∷ ns) (walked (g + step (same_key (key_of p) (key_of q))) (k + 1) q qs)
+        ∙ ap (λ (ns : List Numbers). numbers_at i g k ∷ ns) (walked (g + step (same_key (group_key_of p) (group_key_of q))) (k + 1) q qs)
 
   length_more : (x : NumberedValue) (group : List NumberedValue) (more : List (List NumberedValue)) (b : Bool)
       → length (if b then (x ∷ group) ∷ more else (x ∷ []) ∷ group ∷ more) ≡ step b + length (group ∷ more)
@@ -130,20 +131,21 @@ module _ (partner : Partner) (acknowledgments groups : ℕ) where
 
   length_by : (x y : NumberedValue) (group : List NumberedValue) (more : List (List NumberedValue)) (c : Bool)
       → length (onto_groups x (if c then (y ∷ group) ∷ more else (y ∷ []) ∷ group ∷ more))
-      ≡ step (same_key (key_of x.set) (key_of y.set)) + length (if c then (y ∷ group) ∷ more else (y ∷ []) ∷ group ∷ more)
-  length_by x y group more true = length_more x (y ∷ group) more (same_key (key_of x.set) (key_of y.set))
-  length_by x y group more false = length_more x (y ∷ []) (group ∷ more) (same_key (key_of x.set) (key_of y.set))
+      ≡ step (same_key (group_key_of x.set) (group_key_of y.set)) + length (if c then (y ∷ group) ∷ more else (y ∷ []) ∷ group ∷ more)
+  length_by x y group more true = length_more x (y ∷ group) more (same_key (group_key_of x.set) (group_key_of y.set))
+  length_by x y group more false = length_more x (y ∷ []) (group ∷ more) (same_key (group_key_of x.set) (group_key_of y.set))
 
   length_onto : (x y : NumberedValue) (some : List (List NumberedValue))
-      → length (onto_groups x (onto_groups y some)) ≡ step (same_key (key_of x.set) (key_of y.set)) + length (onto_groups y some)
-  length_onto x y [] = length_more x (y ∷ []) [] (same_key (key_of x.set) (key_of y.set))
+      → length (onto_groups x (onto_groups y some)) ≡ step (same_key (group_key_of x.set) (group_key_of y.set)) + length
+      (onto_groups y some)
+  length_onto x y [] = length_more x (y ∷ []) [] (same_key (group_key_of x.set) (group_key_of y.set))
   length_onto x y (group ∷ more) = length_by x y group more (goes_with y group)
 
   counted : (k : ℕ) (p : PlacedValue) (ps : List PlacedValue) → length (groups_of (numbered_from k (p ∷ ps))) ≡ count p ps
   counted k p [] = refl
   counted k p (q ∷ qs) =
       length_onto (record { place = k; set = p }) (record { place = k + 1; set = q }) (groups_of (numbered_from (k + 1 + 1) qs))
-      ∙ ap (λ (n : ℕ). step (same_key (key_of p) (key_of q)) + n) (counted (k + 1) q qs)
+      ∙ ap (λ (n : ℕ). step (same_key (group_key_of p) (group_key_of q)) + n) (counted (k + 1) q qs)
 
   module _ (least : 1 ≤ partner.cap) where
     abbrev total : List PlacedValue → ℕ
@@ -151,16 +153,16 @@ module _ (partner : Partner) (acknowledgments groups : ℕ) where
 
     -- one set more inside an interchange
     total_inside : (m r : ℕ) (done : List PlacedValue) (p q : PlacedValue) → length done ≡ m * partner.cap + r → suc r < partner.cap
-        → total ((done ++ p ∷ []) ++ q ∷ []) ≡ total (done ++ p ∷ []) + step (same_key (key_of p) (key_of q))
+        → total ((done ++ p ∷ []) ++ q ∷ []) ≡ total (done ++ p ∷ []) + step (same_key (group_key_of p) (group_key_of q))
     total_inside m r done p q long inside =
         let longer : length (done ++ p ∷ []) ≡ m * partner.cap + suc r =
         length-append done (p ∷ []) ∙ ap (λ (n : ℕ). n + 1) long ∙ omega arith in
         let left : length (done ++ p ∷ []) % partner.cap ≡ suc r =
         ap (λ (n : ℕ). n % partner.cap) longer ∙ mul-add-mod_self_right m partner.cap (suc r) ∙ mod-eq_of_lt inside in
         group_total_snoc partner.cap (done ++ p ∷ []) q least
-        ∙ ap (λ (n : ℕ). total (done ++ p ∷ []) + begins n (last_key (done ++ p ∷ [])) (key_of q)) left
-        ∙ ap (λ (l : Option RunKey). total (done ++ p ∷ []) + begins (suc r) l (key_of q)) (last_snoc done p)
-        ∙ ap (λ (n : ℕ). total (done ++ p ∷ []) + n) (begins_inside r (key_of p) (key_of q))
+        ∙ ap (λ (n : ℕ). total (done ++ p ∷ []) + begins n (last_key (done ++ p ∷ [])) (group_key_of q)) left
+        ∙ ap (λ (l : Option RunKey). total (done ++ p ∷ []) + begins (suc r) l (group_key_of q)) (last_snoc done p)
+        ∙ ap (λ (n : ℕ). total (done ++ p ∷ []) + n) (begins_inside r (group_key_of p) (group_key_of q))
 
     -- the first set of an interchange
     total_first : (m : ℕ) (done : List PlacedValue) (p : PlacedValue) → length done ≡ m * partner.cap
@@ -169,7 +171,7 @@ module _ (partner : Partner) (acknowledgments groups : ℕ) where
         let whole : length done ≡ m * partner.cap + 0 = long ∙ omega arith in
         let left : length done % partner.cap ≡ 0 =
         ap (λ (n : ℕ). n % partner.cap) whole ∙ mul-add-mod_self_right m partner.cap 0 ∙ mod-eq_of_lt (omega (arith, least)) in
-        group_total_snoc partner.cap done p least ∙ ap (λ (n : ℕ). total done + begins n (last_key done) (key_of p)) left
+        group_total_snoc partner.cap done p least ∙ ap (λ (n : ℕ). total done + begins n (last_key done) (group_key_of p)) left
 
     -- one set of an interchange
     one_set : (m r g : ℕ) (done : List PlacedValue) (p : PlacedValue) → length done ≡ m * partner.cap + r → r < partner.cap
@@ -194,7 +196,7 @@ module _ (partner : Partner) (acknowledgments groups : ℕ) where
         (ap (λ (n : Numbers). n ∷ []) (one_set m r g done p long (omega (arith, few)) some is), is)
     one_by_one m r g done p (q ∷ qs) long few some is =
         let i : List ℕ = padded_number 9 (num partner.counters.interchange (acknowledgments + m)) in
-        let same : ℕ = step (same_key (key_of p) (key_of q)) in
+        let same : ℕ = step (same_key (group_key_of p) (group_key_of q)) in
         let more : total ((done ++ p ∷ []) ++ q ∷ []) ≡ total (done ++ p ∷ []) + same =
         total_inside m r done p q long (omega (arith, few)) in
         let longer : length (done ++ p ∷ []) ≡ m * partner.cap + (r + 1) =

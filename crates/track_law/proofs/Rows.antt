@@ -14,7 +14,8 @@ use Rattle.partner_setup.specs.declared.partner.Partner.{Partner}
 use Rattle.partner_setup.specs.Setup.{SetupValue, route_of}
 use Rattle.partner_setup.specs.Sound.{AreWithin, IsSoundSetup}
 use Rattle.partner_setup.proofs.Sounding.{targets_within}
-use Rattle.judged_text.specs.Judged.{JudgedValue, PlacedValue, groups_from, is_fa, is_refused, segments_in, sets_of, verdict_on}
+use Rattle.judged_text.specs.Judged.{JudgedValue, PlacedValue, sets_of_groups_from, is_fa, is_refused, segments_in, sets_of}
+use Rattle.judged_text.specs.Judged.{verdict_by_standing}
 use Rattle.mailbox.specs.declared.outcome.Outcome.{Outcome}
 use Rattle.mailbox.specs.declared.outcome.Outcome.TheVariants.{DeliveredTo, HeldForDelimiter}
 use Rattle.mailbox.specs.Deliveries.{is_blocked, is_deliverable, outcome_at, outcome_by, outcomes_on}
@@ -62,7 +63,7 @@ head_by setup documents n p notes listed =
     ++ element_of p.set.header 1 ∷ element_of p.set.header 2
     ∷ document_number documents (element_of p.set.header 1) (drop 1 (segments_in p))
     ∷ (if listed then [] ∷ [] ∷ [] ∷ []
-    else verdict_text (verdict_on p) ∷ spaced_words (map set_code_text (slice_index_or notes.sets p.index no_set_notes).codes)
+    else verdict_text (verdict_by_standing p) ∷ spaced_words (map set_code_text (slice_index_or notes.sets p.index no_set_notes).codes)
     ∷ decimal (slice_index_or notes.sets p.index no_set_notes).faults ∷ [])
 
 pub head_is : (setup : SetupValue) (documents : List DocumentValue) (n : ℕ) (p : PlacedValue) (notes : GroupNotes)
@@ -211,14 +212,14 @@ module _ (by : TrackedBy) (sound : IsSoundSetup by.setup) (n : ℕ) where
       (flat_map (set_entries by.setup n) ps) (rows_of_set by before p n notes sound) (sets_are (before ++ p ∷ []) notes ps)
 
   groups_are : (before : List PlacedValue) (x : JudgedValue) (notes : List GroupNotes) (k : ℕ) (groups : List GroupEntry)
-      → AreRowsOf by.setup (groups_rows by n before x notes k groups) (flat_map (set_entries by.setup n) (groups_from x k groups))
+      → AreRowsOf by.setup (groups_rows by n before x notes k groups) (flat_map (set_entries by.setup n) (sets_of_groups_from x k groups))
   groups_are before x notes k [] = tt
   groups_are before x notes k (g ∷ groups) =
       let here : List PlacedValue = sets_at x k g in
       subst (AreRowsOf by.setup (groups_rows by n before x notes k (g ∷ groups)))
-      (sym (flat_map-append (set_entries by.setup n) here (groups_from x (k + 1) groups)))
+      (sym (flat_map-append (set_entries by.setup n) here (sets_of_groups_from x (k + 1) groups)))
       (rows_append by.setup (sets_rows by n before (notes_at notes k) here) (groups_rows by n (before ++ here) x notes (k + 1) groups)
-      (flat_map (set_entries by.setup n) here) (flat_map (set_entries by.setup n) (groups_from x (k + 1) groups))
+      (flat_map (set_entries by.setup n) here) (flat_map (set_entries by.setup n) (sets_of_groups_from x (k + 1) groups))
       (sets_are before (notes_at notes k) here) (groups_are (before ++ here) x notes (k + 1) groups))
 
   pub interchange_are : (before : List PlacedValue) (x : JudgedValue) (notes : Notes)

@@ -6,7 +6,7 @@ use Rattle.count_numbers.specs.declared.run.RunKey.{RunKey}
 use Rattle.partner_setup.specs.declared.partner.Partner.{Partner}
 use Rattle.judged_text.specs.Judged.{PlacedValue}
 use Rattle.mailbox.specs.Mailbox.{group_total}
-use Rattle.mailbox.specs.Numbered.{key_of}
+use Rattle.mailbox.specs.Numbered.{group_key_of}
 use Rattle.track_rows.specs.Mailed.{mailed_behind}
 use Rattle.track_rows.specs.Walking.{CursorValue, IsBehind, advanced, begins_group, goes_with, groups_with, last_key}
 use Rattle.track_rows.specs.Walking.{mailed_next}
@@ -17,7 +17,7 @@ use Rattle.track_rows.proofs.Chunks.{begins, group_total_snoc}
 num_on : (start a k : ℕ) → num (num start a) k ≡ num start (a + k)
 num_on start a k = omega arith
 
-last_snoc : (ps : List PlacedValue) (p : PlacedValue) → last_key (ps ++ p ∷ []) ≡ Some (key_of p)
+last_snoc : (ps : List PlacedValue) (p : PlacedValue) → last_key (ps ++ p ∷ []) ≡ Some (group_key_of p)
 last_snoc [] p = refl
 last_snoc (q ∷ []) p = refl
 last_snoc (q ∷ r ∷ ps) p = last_snoc (r ∷ ps) p
@@ -28,20 +28,20 @@ count_by false n = omega arith
 
 module _ (partner : Partner) (acknowledgments groups : ℕ) (sets : List PlacedValue) (p : PlacedValue) (c : CursorValue)
     (behind : IsBehind partner acknowledgments groups sets c) where
-  begun : begins_group c (key_of p) ≡ (length sets % partner.cap == 0 || not (goes_with (last_key sets) (key_of p)))
+  begun : begins_group c (group_key_of p) ≡ (length sets % partner.cap == 0 || not (goes_with (last_key sets) (group_key_of p)))
   begun =
-      ap (λ (n : ℕ). n % c.cap == 0 || not (goes_with c.last (key_of p))) behind.set_count
-      ∙ ap (λ (n : ℕ). length sets % n == 0 || not (goes_with c.last (key_of p))) behind.cap
-      ∙ ap (λ (l : Option RunKey). length sets % partner.cap == 0 || not (goes_with l (key_of p))) behind.last
+      ap (λ (n : ℕ). n % c.cap == 0 || not (goes_with c.last (group_key_of p))) behind.set_count
+      ∙ ap (λ (n : ℕ). length sets % n == 0 || not (goes_with c.last (group_key_of p))) behind.cap
+      ∙ ap (λ (l : Option RunKey). length sets % partner.cap == 0 || not (goes_with l (group_key_of p))) behind.last
 
-  counted : groups_with c (key_of p) ≡ group_total partner.cap (sets ++ p ∷ [])
+  counted : groups_with c (group_key_of p) ≡ group_total partner.cap (sets ++ p ∷ [])
   counted =
       ap (λ (b : Bool). if b then c.groups + 1 else c.groups) begun
-      ∙ count_by (length sets % partner.cap == 0 || not (goes_with (last_key sets) (key_of p))) c.groups
-      ∙ ap (λ (n : ℕ). n + begins (length sets % partner.cap) (last_key sets) (key_of p)) behind.counted
+      ∙ count_by (length sets % partner.cap == 0 || not (goes_with (last_key sets) (group_key_of p))) c.groups
+      ∙ ap (λ (n : ℕ). n + begins (length sets % partner.cap) (last_key sets) (group_key_of p)) behind.counted
       ∙ sym (group_total_snoc partner.cap sets p behind.least)
 
-  pub behind_more : IsBehind partner acknowledgments groups (sets ++ p ∷ []) (advanced c (key_of p))
+  pub behind_more : IsBehind partner acknowledgments groups (sets ++ p ∷ []) (advanced c (group_key_of p))
   behind_more = record {
     interchange = behind.interchange;
     group = behind.group;
@@ -60,7 +60,7 @@ module _ (partner : Partner) (acknowledgments groups : ℕ) (sets : List PlacedV
       ∙ ap (λ (n : ℕ). num n (length sets / partner.cap)) behind.interchange
       ∙ num_on partner.counters.interchange acknowledgments (length sets / partner.cap)
 
-  group_is : num c.group (groups_with c (key_of p) - 1)
+  group_is : num c.group (groups_with c (group_key_of p) - 1)
       ≡ num partner.counters.group (groups + (group_total partner.cap (sets ++ p ∷ []) - 1))
   group_is =
       ap (λ (n : ℕ). num c.group (n - 1)) counted
@@ -73,9 +73,9 @@ module _ (partner : Partner) (acknowledgments groups : ℕ) (sets : List PlacedV
   abbrev mailed : (interchange group set : ℕ) → Mailed
   mailed interchange group set = record { interchange = interchange; group = group; set = set }
 
-  pub mailed_is : mailed_next c (key_of p) ≡ mailed_behind partner acknowledgments groups sets p
+  pub mailed_is : mailed_next c (group_key_of p) ≡ mailed_behind partner acknowledgments groups sets p
   mailed_is =
-      ap (λ (n : ℕ). mailed n (num c.group (groups_with c (key_of p) - 1)) (num c.set c.sets)) interchange_is
+      ap (λ (n : ℕ). mailed n (num c.group (groups_with c (group_key_of p) - 1)) (num c.set c.sets)) interchange_is
       ∙ ap (λ (n : ℕ). mailed (num partner.counters.interchange (acknowledgments + length sets / partner.cap)) n (num c.set c.sets))
       group_is
       ∙ ap (λ (n : ℕ). mailed (num partner.counters.interchange (acknowledgments + length sets / partner.cap))

@@ -11,12 +11,12 @@ use Rattle.count_numbers.specs.declared.run.RunKey.{RunKey}
 use Rattle.count_numbers.proofs.Interchanges.{first_interchange, no_interchange, not_none}
 use Rattle.judged_text.specs.Judged.{PlacedValue}
 use Rattle.mailbox.specs.Mailbox.{group_total, groups_within}
-use Rattle.mailbox.specs.Numbered.{NumberedValue, goes_with, groups_of, key_of, numbered_from, onto_groups}
+use Rattle.mailbox.specs.Numbered.{NumberedValue, goes_with, groups_of, group_key_of, numbered_from, onto_groups}
 use Rattle.track_rows.specs.Walking.{last_key}
 use Rattle.track_rows.specs.Walking as walking
 
 abbrev key_in : NumberedValue → RunKey
-key_in x = key_of x.set
+key_in x = group_key_of x.set
 
 -- one more, unless
 abbrev step : Bool → ℕ → ℕ
@@ -207,11 +207,11 @@ numbered_last k (p ∷ q ∷ ps) = numbered_last (k + 1) (q ∷ ps)
 
 -- a mailbox with one set more has one group more where that begins a group
 pub group_total_snoc : (cap : ℕ) (ps : List PlacedValue) (p : PlacedValue) → 1 ≤ cap
-    → group_total cap (ps ++ p ∷ []) ≡ group_total cap ps + begins (length ps % cap) (last_key ps) (key_of p)
+    → group_total cap (ps ++ p ∷ []) ≡ group_total cap ps + begins (length ps % cap) (last_key ps) (group_key_of p)
 group_total_snoc cap ps p h =
     let xs : List NumberedValue = numbered_from 0 ps in
     let x : NumberedValue = record { place = 0 + length ps; set = p } in
     ap (total cap) (numbered_snoc 0 ps p)
     ∙ total_snoc cap (length xs) xs x h (omega arith)
-    ∙ ap (λ (n : ℕ). total cap xs + begins (n % cap) (last_in xs) (key_of p)) (numbered_length 0 ps)
-    ∙ ap (λ (l : Option RunKey). total cap xs + begins (length ps % cap) l (key_of p)) (numbered_last 0 ps)
+    ∙ ap (λ (n : ℕ). total cap xs + begins (n % cap) (last_in xs) (group_key_of p)) (numbered_length 0 ps)
+    ∙ ap (λ (l : Option RunKey). total cap xs + begins (length ps % cap) l (group_key_of p)) (numbered_last 0 ps)

@@ -12,13 +12,14 @@ use Rattle.partner_setup.specs.declared.partner.Partner.{Partner}
 use Rattle.partner_setup.specs.Setup.{SetupValue, route_of}
 use Rattle.partner_setup.specs.Sound.{AreApart}
 use Rattle.judged_text.specs.declared.standing.GroupStanding.{GroupStanding}
-use Rattle.judged_text.specs.Judged.{JudgedValue, PlacedValue, groups_from, is_fa, is_refused, sets_from, sets_of, standing_at, verdict_on}
+use Rattle.judged_text.specs.Judged.{JudgedValue, PlacedValue, sets_of_groups_from, is_fa, is_refused, sets_from, sets_of, standing_at}
+use Rattle.judged_text.specs.Judged.{verdict_by_standing}
 use Rattle.mailbox.specs.declared.outcome.Outcome.{Outcome}
 use Rattle.mailbox.specs.declared.outcome.Outcome.TheVariants.{DeliveredTo, HeldForDelimiter}
 use Rattle.mailbox.specs.Deliveries.{is_blocked, is_deliverable, is_delivered_to, is_delivery_to, is_not_rejected, outcome_at, outcome_by}
 use Rattle.mailbox.specs.Deliveries.{outcomes, outcomes_on}
 use Rattle.mailbox.specs.Delivering.{is_sent_by, one_where}
-use Rattle.mailbox.specs.Numbered.{key_of}
+use Rattle.mailbox.specs.Numbered.{group_key_of}
 use Rattle.mailbox.proofs.Replacing.{length_set, set_here, set_there}
 use Rattle.track_rows.specs.Cells.{plain_end}
 use Rattle.track_rows.specs.Rows.{TrackedBy, delivered_of, ends_of, other_end, outcome_cells}
@@ -138,9 +139,9 @@ module _ (by : TrackedBy) (before : List PlacedValue) (p : PlacedValue) where
   pub amid_delivered : (ts : List ℕ) (t to : ℕ) (partner : Partner) (c : CursorValue) (cs ds : List CursorValue)
       → list_any (λ (s : ℕ). s == t) ts ≡ false → outcome_at by.setup p t ≡ DeliveredTo to
       → slice_get by.setup.partners t ≡ Some partner → slice_get cs t ≡ Some c
-      → ds ≡ slice_set cs t (advanced c (key_of p)) → AreAmid by before p ts cs → AreAmid by before p (ts ++ t ∷ []) ds
+      → ds ≡ slice_set cs t (advanced c (group_key_of p)) → AreAmid by before p ts cs → AreAmid by before p (ts ++ t ∷ []) ds
   amid_delivered ts t to partner c cs ds none outcome at_t at_c set amid = record {
-    count = ap (λ (es : List CursorValue). length es) set ∙ length_set cs t (advanced c (key_of p)) ∙ amid.count;
+    count = ap (λ (es : List CursorValue). length es) set ∙ length_set cs t (advanced c (group_key_of p)) ∙ amid.count;
     each = λ q other e at_q at_e. by_place q other e at_q at_e (t == q) refl;
   }
     where
@@ -156,30 +157,30 @@ module _ (by : TrackedBy) (before : List PlacedValue) (p : PlacedValue) where
           let now : is_sent_by by.setup p q (ts ++ t ∷ []) ≡ true = sent_snoc by.setup p q ts t
           ∙ ap (λ (b : Bool). b || is_delivery_to q (outcome_at by.setup p t)) first ∙ delivery q ∙ same in
           let partner_is : Some partner ≡ Some other = sym at_t ∙ ap (slice_get by.setup.partners) q_is ∙ at_q in
-          let cursor_is : Some (advanced c (key_of p)) ≡ Some e =
-          sym (ap (λ (es : List CursorValue). slice_get es t) set ∙ set_here cs t c (advanced c (key_of p)) at_c)
+          let cursor_is : Some (advanced c (group_key_of p)) ≡ Some e =
+          sym (ap (λ (es : List CursorValue). slice_get es t) set ∙ set_here cs t c (advanced c (group_key_of p)) at_c)
           ∙ ap (slice_get ds) q_is ∙ at_e in
           let partner_same : partner ≡ other = cc in
-          let cursor_same : advanced c (key_of p) ≡ e = cc in
-          let more : Behind t partner (had t ++ p ∷ []) (advanced c (key_of p)) =
+          let cursor_same : advanced c (group_key_of p) ≡ e = cc in
+          let more : Behind t partner (had t ++ p ∷ []) (advanced c (group_key_of p)) =
           behind_more partner (acknowledgments_to t by.night) (groups_to t by.night) (had t) p c
           (amid_here ts t partner c cs none at_t at_c amid) in
           subst (λ (b : Bool). Behind q other (had q ++ one_where b p) e) (sym now)
           (subst (λ (d : CursorValue). Behind q other (had q ++ p ∷ []) d) cursor_same
-          (subst (λ (r : Partner). Behind q r (had q ++ p ∷ []) (advanced c (key_of p))) partner_same
-          (subst (λ (n : ℕ). Behind n partner (had n ++ p ∷ []) (advanced c (key_of p))) q_is more)))
+          (subst (λ (r : Partner). Behind q r (had q ++ p ∷ []) (advanced c (group_key_of p))) partner_same
+          (subst (λ (n : ℕ). Behind n partner (had n ++ p ∷ []) (advanced c (group_key_of p))) q_is more)))
       by_place q other e at_q at_e false apart =
           let now : is_sent_by by.setup p q (ts ++ t ∷ []) ≡ is_sent_by by.setup p q ts = sent_snoc by.setup p q ts t
           ∙ ap (λ (b : Bool). is_sent_by by.setup p q ts || b) (delivery q ∙ apart) ∙ or_false (is_sent_by by.setup p q ts) in
           let old : slice_get cs q ≡ Some e =
           sym (ap (λ (es : List CursorValue). slice_get es q) set
-          ∙ set_there cs t q (advanced c (key_of p)) (λ e. true≢false (sym (eq-eqb t q e) ∙ apart))) ∙ at_e in
+          ∙ set_there cs t q (advanced c (group_key_of p)) (λ e. true≢false (sym (eq-eqb t q e) ∙ apart))) ∙ at_e in
           subst (λ (b : Bool). Behind q other (had q ++ one_where b p) e) (sym now) (amid.each q other e at_q old)
 
   -- the numbers that a set is delivered under
   pub mailed_here : (ts : List ℕ) (t : ℕ) (partner : Partner) (c : CursorValue) (cs : List CursorValue) (mailed : Mailed)
       → list_any (λ (s : ℕ). s == t) ts ≡ false → slice_get by.setup.partners t ≡ Some partner → slice_get cs t ≡ Some c
-      → mailed ≡ mailed_next c (key_of p) → AreAmid by before p ts cs
+      → mailed ≡ mailed_next c (group_key_of p) → AreAmid by before p ts cs
       → mailed ≡ mailed_behind partner (acknowledgments_to t by.night) (groups_to t by.night) (had t) p
   mailed_here ts t partner c cs mailed none at_t at_c is amid =
       is ∙ mailed_is partner (acknowledgments_to t by.night) (groups_to t by.night) (had t) p c
@@ -233,8 +234,8 @@ and_false false = refl
 
 refused_stays : (p : PlacedValue) → is_refused p.interchange ≡ true → is_deliverable p ≡ false
 refused_stays p is =
-    ap (λ (b : Bool). is_not_rejected (verdict_on p) && p.standing.clear && not (is_fa p.group) && not b) is
-    ∙ and_false (is_not_rejected (verdict_on p) && p.standing.clear && not (is_fa p.group))
+    ap (λ (b : Bool). is_not_rejected (verdict_by_standing p) && p.standing.clear && not (is_fa p.group) && not b) is
+    ∙ and_false (is_not_rejected (verdict_by_standing p) && p.standing.clear && not (is_fa p.group))
 
 module _ (setup : SetupValue) (q : ℕ) (x : JudgedValue) (refused : is_refused x ≡ true) where
   sets_stay : (g : GroupEntry) (standing : GroupStanding) (n : ℕ) (sets : List SetEnvelope)
@@ -246,11 +247,11 @@ module _ (setup : SetupValue) (q : ℕ) (x : JudgedValue) (refused : is_refused 
       ap (λ (b : Bool). cond b (p ∷ more) more) (not_delivered setup p (refused_stays p refused) q)
       ∙ sets_stay g standing (n + 1) sets
 
-  groups_stay : (n : ℕ) (groups : List GroupEntry) → delivered_of setup q (groups_from x n groups) ≡ []
+  groups_stay : (n : ℕ) (groups : List GroupEntry) → delivered_of setup q (sets_of_groups_from x n groups) ≡ []
   groups_stay n [] = refl
   groups_stay n (g ∷ groups) =
-      filter-append (is_delivered_to setup q) (sets_from x g (standing_at x.standings n) 0 g.sets) (groups_from x (n + 1) groups)
-      ∙ ap (λ (ps : List PlacedValue). ps ++ delivered_of setup q (groups_from x (n + 1) groups))
+      filter-append (is_delivered_to setup q) (sets_from x g (standing_at x.standings n) 0 g.sets) (sets_of_groups_from x (n + 1) groups)
+      ∙ ap (λ (ps : List PlacedValue). ps ++ delivered_of setup q (sets_of_groups_from x (n + 1) groups))
       (sets_stay g (standing_at x.standings n) 0 g.sets)
       ∙ groups_stay (n + 1) groups
 

@@ -9,7 +9,7 @@ use Rattle.env_index.specs.declared.entry.SetEnvelope.{SetEnvelope}
 use Rattle.env_index.specs.Words.{GroupEntry}
 use Rattle.partner_setup.specs.Setup.{SetupValue}
 use Rattle.judged_text.specs.declared.standing.GroupStanding.{GroupStanding}
-use Rattle.judged_text.specs.Judged.{JudgedValue, PlacedValue, all_sets, groups_from, sets_from, sets_of}
+use Rattle.judged_text.specs.Judged.{JudgedValue, PlacedValue, all_sets, sets_of_groups_from, sets_from, sets_of}
 use Rattle.mailbox.proofs.Replacing.{take_one_more}
 use Rattle.track_notes.specs.declared.notes.GroupNotes.{GroupNotes}
 use Rattle.track_notes.specs.declared.notes.Notes.{Notes}
@@ -85,11 +85,11 @@ sets_snoc x g standing n m (s ∷ sets) set is = ap (λ (ps : List PlacedValue).
 } in p ∷ ps) (sets_snoc x g standing (n + 1) m sets set (omega (arith, is)))
 
 groups_snoc : (x : JudgedValue) (n m : ℕ) (groups : List GroupEntry) (g : GroupEntry) → n + length groups ≡ m
-    → groups_from x n (groups ++ g ∷ []) ≡ groups_from x n groups ++ sets_at x m g
+    → sets_of_groups_from x n (groups ++ g ∷ []) ≡ sets_of_groups_from x n groups ++ sets_at x m g
 groups_snoc x n m [] g is = append-nil _ ∙ ap (λ (k : ℕ). sets_at x k g) (omega (arith, is))
 groups_snoc x n m (h ∷ groups) g is =
     ap (λ (ps : List PlacedValue). sets_at x n h ++ ps) (groups_snoc x (n + 1) m groups g (omega (arith, is)))
-    ∙ sym (append_assoc (sets_at x n h) (groups_from x (n + 1) groups) (sets_at x m g))
+    ∙ sym (append_assoc (sets_at x n h) (sets_of_groups_from x (n + 1) groups) (sets_at x m g))
 
 length_take : {A : Type 0} (xs : List A) (i : ℕ) → i < length xs → length (take i xs) ≡ i
 length_take [] i within = absurd (omega (arith, within))
@@ -118,7 +118,8 @@ set_rows_more by head notes x g standing i set p a b c cs ds es there is before 
 groups_rows_snoc : (by : TrackedBy) (n : ℕ) (before : List PlacedValue) (x : JudgedValue) (notes : List GroupNotes) (k m : ℕ)
     (groups : List GroupEntry) (g : GroupEntry) → k + length groups ≡ m
     → groups_rows by n before x notes k (groups ++ g ∷ [])
-    ≡ groups_rows by n before x notes k groups ++ sets_rows by n (before ++ groups_from x k groups) (notes_at notes m) (sets_at x m g)
+    ≡ groups_rows by n before x notes k groups ++ sets_rows by n (before ++ sets_of_groups_from x k groups) (notes_at notes m)
+    (sets_at x m g)
 groups_rows_snoc by n before x notes k m [] g is =
     append-nil (sets_rows by n before (notes_at notes k) (sets_at x k g))
     ∙ ap (λ (j : ℕ). sets_rows by n before (notes_at notes j) (sets_at x j g)) (omega (arith, is))
@@ -129,18 +130,18 @@ groups_rows_snoc by n before x notes k m (h ∷ groups) g is =
     ap (λ (r : List (List (List ℕ))). here ++ r)
     (groups_rows_snoc by n (before ++ sets_at x k h) x notes (k + 1) m groups g (omega (arith, is)))
     ∙ ap (λ (b : List PlacedValue). here ++ (rest ++ sets_rows by n b (notes_at notes m) (sets_at x m g)))
-    (append_assoc before (sets_at x k h) (groups_from x (k + 1) groups))
-    ∙ sym (append_assoc here rest (sets_rows by n (before ++ (sets_at x k h ++ groups_from x (k + 1) groups)) (notes_at notes m)
+    (append_assoc before (sets_at x k h) (sets_of_groups_from x (k + 1) groups))
+    ∙ sym (append_assoc here rest (sets_rows by n (before ++ (sets_at x k h ++ sets_of_groups_from x (k + 1) groups)) (notes_at notes m)
     (sets_at x m g)))
 
 -- one group more of an interchange
 pub group_rows_more : (by : TrackedBy) (n : ℕ) (x : JudgedValue) (notes : List GroupNotes) (i : ℕ) (g : GroupEntry) (a b c : List ℕ)
     (cs ds es : List CursorValue) → slice_get x.interchange.content.groups i ≡ Some g
     → HasRows by (λ before. table_text (groups_rows by n before x notes 0 (take i x.interchange.content.groups)))
-    (groups_from x 0 (take i x.interchange.content.groups)) a b cs ds
+    (sets_of_groups_from x 0 (take i x.interchange.content.groups)) a b cs ds
     → HasRows by (λ before. table_text (sets_rows by n before (notes_at notes i) (sets_at x i g))) (sets_at x i g) b c ds es
     → HasRows by (λ before. table_text (groups_rows by n before x notes 0 (take (i + 1) x.interchange.content.groups)))
-    (groups_from x 0 (take (i + 1) x.interchange.content.groups)) a c cs es
+    (sets_of_groups_from x 0 (take (i + 1) x.interchange.content.groups)) a c cs es
 group_rows_more by n x notes i g a b c cs ds es there before next =
     let groups : List GroupEntry = x.interchange.content.groups in
     let front : List GroupEntry = take i groups in
@@ -148,11 +149,11 @@ group_rows_more by n x notes i g a b c cs ds es there before next =
     let more : front ++ g ∷ [] ≡ take (i + 1) groups = sym (take_one_more groups i g there) in
     rows_as by _ _ _ _ a c cs es
     (λ bs. sym (flat_map-append record_text (groups_rows by n bs x notes 0 front)
-    (sets_rows by n (bs ++ groups_from x 0 front) (notes_at notes i) (sets_at x i g)))
+    (sets_rows by n (bs ++ sets_of_groups_from x 0 front) (notes_at notes i) (sets_at x i g)))
     ∙ ap table_text (sym (groups_rows_snoc by n bs x notes 0 i front g long) ∙ ap (groups_rows by n bs x notes 0) more))
-    (sym (groups_snoc x 0 i front g long) ∙ ap (groups_from x 0) more)
+    (sym (groups_snoc x 0 i front g long) ∙ ap (sets_of_groups_from x 0) more)
     (rows_then by (λ bs. table_text (groups_rows by n bs x notes 0 front))
-    (λ bs. table_text (sets_rows by n bs (notes_at notes i) (sets_at x i g))) (groups_from x 0 front) (sets_at x i g) a b c cs ds es
+    (λ bs. table_text (sets_rows by n bs (notes_at notes i) (sets_at x i g))) (sets_of_groups_from x 0 front) (sets_at x i g) a b c cs ds es
     before next)
 
 rows_snoc : (by : TrackedBy) (n k : ℕ) (before : List PlacedValue) (xs : List JudgedValue) (ms : List Notes) (x : JudgedValue) (m : Notes)

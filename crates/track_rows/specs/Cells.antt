@@ -13,7 +13,7 @@ use Rattle.env_index.specs.Words.{GroupEntry}
 use Rattle.partner_setup.specs.declared.partner.Partner.{Partner}
 use Rattle.partner_setup.specs.Setup.{SetupValue}
 use Rattle.judged_text.specs.Answered.{ta1_note}
-use Rattle.judged_text.specs.Judged.{JudgedValue, PlacedValue, is_fa, segments_in, verdict_on}
+use Rattle.judged_text.specs.Judged.{JudgedValue, PlacedValue, is_fa, segments_in, verdict_by_standing}
 use Rattle.track_notes.specs.declared.notes.GroupNotes.{GroupNotes}
 use Rattle.track_notes.specs.declared.notes.SetNotes.{SetNotes}
 use Rattle.set_documents.specs.Documents.{DocumentValue, document_number}
@@ -72,7 +72,7 @@ no_set_notes = record { codes = []; faults = 0 }
 abbrev pub answer_cells : PlacedValue → SetNotes → List (List ℕ)
 answer_cells p notes =
     if is_fa p.group then [] ∷ [] ∷ [] ∷ []
-    else verdict_text (verdict_on p) ∷ spaced_words (map set_code_text notes.codes) ∷ decimal notes.faults ∷ []
+    else verdict_text (verdict_by_standing p) ∷ spaced_words (map set_code_text notes.codes) ∷ decimal notes.faults ∷ []
 
 -- ST01, ST02 and the number of its document, and what is answered to it
 abbrev pub set_cells : List DocumentValue → PlacedValue → SetNotes → List (List ℕ)

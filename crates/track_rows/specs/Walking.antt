@@ -9,7 +9,7 @@ use Rattle.partner_setup.specs.declared.partner.Partner.{Partner}
 use Rattle.judged_text.specs.Judged.{PlacedValue}
 use Rattle.mailbox.specs.Delivering.{is_sent_by, one_where}
 use Rattle.mailbox.specs.Mailbox.{group_total}
-use Rattle.mailbox.specs.Numbered.{key_of}
+use Rattle.mailbox.specs.Numbered.{group_key_of}
 use Rattle.mailbox.specs.Numbers.{HasCap, HasCounters}
 use Rattle.track_notes.specs.declared.notes.Notes.{Notes}
 use Rattle.track_rows.specs.Mailed.{acknowledgments_to, groups_to}
@@ -72,7 +72,7 @@ advanced c key = record c { sets = c.sets + 1; groups = groups_with c key; last 
 
 abbrev pub last_key : List PlacedValue → Option RunKey
 last_key [] = None
-last_key (p ∷ []) = Some (key_of p)
+last_key (p ∷ []) = Some (group_key_of p)
 last_key (p ∷ q ∷ ps) = last_key (q ∷ ps)
 
 -- the numbers have come after these sets of a partner, before whose mailbox so many acknowledgments with so many groups stand

@@ -1,5 +1,5 @@
 ghost use Rattle.std.specs.Prelude.{◌≡◌, ◌+◌, ◌≤◌, IfOk};
-ghost use Rattle.mailbox.specs.Numbered.{key_of};
+ghost use Rattle.mailbox.specs.Numbered.{group_key_of};
 ghost use Rattle.track_rows.specs.Walking.{goes_with};
 
 use crate::mailed::Mailed;
@@ -26,7 +26,7 @@ impl<'a> Model for GroupKey<'a> {
 
 /// The key of a set.
 pub(crate) fn key_of<'a>(placed: &PlacedSet<'_, '_, 'a>) -> GroupKey<'a>
-    ensures { result ≡ key_of placed.now }
+    ensures { result ≡ group_key_of placed.now }
 {
     let sender = match placed.interchange().sender() {
         None => 0,

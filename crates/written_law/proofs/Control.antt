@@ -7,7 +7,7 @@ use Rattle.std.specs.Str.{bytes_eq}
 use Rattle.std.proofs.lemmas.List.{length-take, take-take}
 use Rattle.std.proofs.lemmas.Slice.Eq.{bytes_eq-Decides}
 use Rattle.x12_segs.specs.declared.kind.Kind.TheVariants.{GroupHeader, GroupTrailer, InterchangeTrailer, Other, SetHeader, SetTrailer, Ta1}
-use Rattle.x12_segs.specs.Words.{is_inner, part_or_empty, parts}
+use Rattle.x12_segs.specs.Words.{may_stand_in_set, part_or_empty, parts}
 use Rattle.written_law.specs.Whole.{kind_by}
 use Rattle.written_law.specs.Written.{BeginsOtherwise}
 
@@ -51,7 +51,7 @@ begins_as e bytes word is long other =
     }
 
 -- a segment that may not stand between ST and SE has one of five ids
-one_of : (a b c d e f : Bool) → is_inner (if a then InterchangeTrailer else if b then GroupHeader else if c then GroupTrailer
+one_of : (a b c d e f : Bool) → may_stand_in_set (if a then InterchangeTrailer else if b then GroupHeader else if c then GroupTrailer
     else if d then SetHeader else if e then SetTrailer else if f then Ta1 else Other) ≡ false
     → (a ≡ true) ⊎ ((b ≡ true) ⊎ ((c ≡ true) ⊎ ((d ≡ true) ⊎ (e ≡ true))))
 one_of true b c d e f is = inl refl
@@ -62,7 +62,7 @@ one_of false false false false true f is = inr (inr (inr (inr refl)))
 one_of false false false false false true is = cc
 one_of false false false false false false is = cc
 
-pub control_otherwise : (e : ℕ) (bytes : List ℕ) → is_inner (kind_by (parts e bytes)) ≡ false → BeginsOtherwise bytes
+pub control_otherwise : (e : ℕ) (bytes : List ℕ) → may_stand_in_set (kind_by (parts e bytes)) ≡ false → BeginsOtherwise bytes
 control_otherwise e bytes is =
     let id : List ℕ = part_or_empty (parts e bytes) 0 in
     elim (one_of (bytes_eq id (codes "IEA")) (bytes_eq id (codes "GS")) (bytes_eq id (codes "GE")) (bytes_eq id (codes "ST"))

@@ -5,7 +5,7 @@ use Rattle.std.specs.List.{All}
 use Rattle.std.proofs.lemmas.List.Elements.{All-head, All-tail}
 use Rattle.x12_bytes.specs.HeaderTest.{is_head}
 use Rattle.x12_bytes.specs.declared.delims.Delims.{Delims}
-use Rattle.x12_segs.specs.Words.{Seg, is_inner, kind_of, parts, segs_from, segs_within, view_of}
+use Rattle.x12_segs.specs.Words.{Seg, may_stand_in_set, kind_of, parts, segs_from, segs_within, view_of}
 use Rattle.written_law.specs.Whole.{kind_by}
 use Rattle.x12_write.specs.Group.{texts_in_row}
 use Rattle.x12_write.specs.Header.{header_text}
@@ -22,15 +22,15 @@ taken_front [] ys = refl
 taken_front (x ∷ xs) ys = ap (λ (zs : List ℕ). x ∷ zs) (taken_front xs ys)
 
 abbrev IsClearSeg : Delims → List ℕ → Seg → Type 0
-IsClearSeg d file seg = is_inner (kind_of (view_of d seg)) ≡ true → is_head file seg.start ≡ false
+IsClearSeg d file seg = may_stand_in_set (kind_of (view_of d seg)) ≡ true → is_head file seg.start ≡ false
 
 -- a segment that may stand between ST and SE, or that begins otherwise than a header
 seg_clear : (d : Delims) (file : List ℕ) (place : ℕ) (bytes behind : List ℕ) → drop place file ≡ bytes ++ behind
     → IsClearSeg d file (record { start = place; bytes = bytes }) → is_head file place ≡ false
-seg_clear d file place bytes behind is clear = by (is_inner (kind_by (parts d.element bytes))) refl
+seg_clear d file place bytes behind is clear = by (may_stand_in_set (kind_by (parts d.element bytes))) refl
   where
-    by : (b : Bool) → is_inner (kind_by (parts d.element bytes)) ≡ b → is_head file place ≡ false
-    by true inner = clear (ap is_inner (sym (kind_is (seg_in d place bytes))) ∙ inner)
+    by : (b : Bool) → may_stand_in_set (kind_by (parts d.element bytes)) ≡ b → is_head file place ≡ false
+    by true inner = clear (ap may_stand_in_set (sym (kind_is (seg_in d place bytes))) ∙ inner)
     by false control = no_head file place bytes behind is (control_otherwise d.element bytes control)
 
 rows_clear : (file read : List ℕ) (d : Delims) (place : ℕ) (segments : List (List ℕ)) (behind : List ℕ)

@@ -5,7 +5,7 @@ use Rattle.std.specs.List.{All, flat_map, list_all}
 use Rattle.std.specs.Char.{is_ascii_uppercase}
 use Rattle.hub_kinds.specs.Words.{is_number, is_word}
 use Rattle.hub_kinds.specs.declared.limits.TheConstants.{MOST_CONTROL_DIGITS}
-use Rattle.x12_segs.specs.Words.{is_inner, kind_by_id, part_or_empty}
+use Rattle.x12_segs.specs.Words.{may_stand_in_set, kind_by_id, part_or_empty}
 use Rattle.x12_segs.specs.declared.kind.Kind.{Kind}
 use Rattle.x12_segs.specs.declared.kind.Kind.TheVariants.{InterchangeTrailer, GroupHeader, GroupTrailer, SetHeader, SetTrailer, Ta1}
 use Rattle.x12_write.specs.Number.{padded_number}
@@ -58,7 +58,7 @@ is_st st = is_word 3 3 (part_or_empty st 1) && is_word 1 9 (part_or_empty st 2)
 pub record IsWholeSet (s : WholeSet) : Type 0 where
   pub kind : kind_by s.header ≡ SetHeader
   pub header : is_st s.header ≡ true
-  pub inner : list_all (λ x. is_inner (kind_by x)) s.inner ≡ true
+  pub inner : list_all (λ x. may_stand_in_set (kind_by x)) s.inner ≡ true
   pub trailer : kind_by s.trailer ≡ SetTrailer
 
 -- GS in its form

@@ -6,7 +6,7 @@ use Rattle.x12_bytes.specs.Bytes.{is_line_end}
 use Rattle.x12_bytes.specs.HeaderTest.{is_head}
 use Rattle.x12_bytes.specs.declared.delims.Delims.{Delims}
 use Rattle.x12_bytes.specs.declared.layout.TheConstants.{HEADER_LEN}
-use Rattle.x12_segs.specs.Words.{Seg, is_inner, kind_of, parts, segs_within, view_of}
+use Rattle.x12_segs.specs.Words.{Seg, may_stand_in_set, kind_of, parts, segs_within, view_of}
 use Rattle.moment.specs.Moment.{IsMoment}
 use Rattle.x12_write.specs.declared.envelope.Envelope.{Envelope}
 use Rattle.x12_write.specs.Header.{header_text}
@@ -61,7 +61,7 @@ AreClear file from (w ∷ ws) = NoHeads file (from + HEADER_LEN) w.segments × A
 abbrev pub NoInnerHeads : Delims → (file : List ℕ) → (from : ℕ) → List (List ℕ) → Type 0
 NoInnerHeads d file from [] = Unit {0}
 NoInnerHeads d file from (text ∷ texts) =
-    All (λ (seg : Seg). is_inner (kind_of (view_of d seg)) ≡ true → is_head file seg.start ≡ false)
+    All (λ (seg : Seg). may_stand_in_set (kind_of (view_of d seg)) ≡ true → is_head file seg.start ≡ false)
     (segs_within file d.terminator (from + HEADER_LEN) (from + length text))
     × NoInnerHeads d file (from + length text) texts
 

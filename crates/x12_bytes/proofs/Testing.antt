@@ -9,14 +9,16 @@ use Rattle.std.specs.Cmp.Lexicographic.{bytes_decides}
 use Rattle.std.proofs.lemmas.Bool.Decides.{Decides-eqb, Decides-not, Decides-and, Decides-like, Decides-by_and, Decides-below_and}
 use Rattle.std.proofs.lemmas.Bool.Decides.{leb_tells}
 use Rattle.x12_bytes.specs.Bytes.{may_terminate, may_separate}
-use Rattle.x12_bytes.specs.Header.{element_of, component_of, terminator_of, field_of, separator_place, header_at, IsFieldByte, IsFieldAt}
+use Rattle.x12_bytes.specs.Header.{element_separator_of, component_separator_of, terminator_of, field_of, separator_place, header_at}
+use Rattle.x12_bytes.specs.Header.{IsFieldByte}
+use Rattle.x12_bytes.specs.Header.{IsFieldAt}
 use Rattle.x12_bytes.specs.Header.{HasFields, IsHeader, Head}
 use Rattle.x12_bytes.specs.HeaderTest.{is_field_byte, is_field_at, has_fields, has_delims, is_header, is_head}
 
 decides_field_byte : (h : List ℕ) (b : ℕ) → Decides (is_field_byte h b) (IsFieldByte h b)
 decides_field_byte h b =
-    Decides-and (not (nat_eq b (element_of h))) (not (nat_eq b (terminator_of h)))
-    (Decides-not (nat_eq b (element_of h)) (Decides-eqb b (element_of h)))
+    Decides-and (not (nat_eq b (element_separator_of h))) (not (nat_eq b (terminator_of h)))
+    (Decides-not (nat_eq b (element_separator_of h)) (Decides-eqb b (element_separator_of h)))
     (Decides-not (nat_eq b (terminator_of h)) (Decides-eqb b (terminator_of h)))
 
 pub decides_field_bytes : (h bytes : List ℕ) → Decides (list_all (is_field_byte h) bytes) (All (IsFieldByte h) bytes)
@@ -25,10 +27,11 @@ decides_field_bytes h bytes = Decides-by_and (is_field_byte h) (IsFieldByte h) (
 
 decides_field_at : (h : List ℕ) (k : ℕ) → Decides (is_field_at h k) (IsFieldAt h k)
 decides_field_at h k =
-    let separator : Bool = nat_eq (slice_index h (separator_place k)) (element_of h) in
+    let separator : Bool = nat_eq (slice_index h (separator_place k)) (element_separator_of h) in
     let bytes : Bool = list_all (is_field_byte h) (field_of h k) in
     Decides-like (is_field_at h k) (λ p. record { separator = p.0; bytes = p.1 }) (λ f. (f.separator, f.bytes))
-    (Decides-and separator bytes (Decides-eqb (slice_index h (separator_place k)) (element_of h)) (decides_field_bytes h (field_of h k)))
+    (Decides-and separator bytes (Decides-eqb (slice_index h (separator_place k)) (element_separator_of h)) (decides_field_bytes h
+    (field_of h k)))
 
 decides_fields : (h : List ℕ) → Decides (has_fields h 16) (HasFields h)
 unfolding has_fields
@@ -48,17 +51,17 @@ decides_test b = (λ yes. yes, λ yes. yes)
 
 -- what the delimiters' test says
 record HasDelims (h : List ℕ) : Type 0 where
-  element_not_component : element_of h ≢ component_of h
-  element_not_terminator : element_of h ≢ terminator_of h
-  component_not_terminator : component_of h ≢ terminator_of h
-  element_allowed : IsTrue (may_separate (element_of h))
-  component_allowed : IsTrue (may_separate (component_of h))
+  element_not_component : element_separator_of h ≢ component_separator_of h
+  element_not_terminator : element_separator_of h ≢ terminator_of h
+  component_not_terminator : component_separator_of h ≢ terminator_of h
+  element_allowed : IsTrue (may_separate (element_separator_of h))
+  component_allowed : IsTrue (may_separate (component_separator_of h))
   terminator_allowed : IsTrue (may_terminate (terminator_of h))
 
 decides_delims : (h : List ℕ) → Decides (has_delims h) (HasDelims h)
 decides_delims h =
-    let e : ℕ = element_of h in
-    let c : ℕ = component_of h in
+    let e : ℕ = element_separator_of h in
+    let c : ℕ = component_separator_of h in
     let t : ℕ = terminator_of h in
     let two : Bool = not (nat_eq e t) && not (nat_eq c t) in
     let three : Bool = not (nat_eq e c) && two in

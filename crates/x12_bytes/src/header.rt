@@ -1,5 +1,5 @@
 ghost use Rattle.std.specs.Prelude.{◌≡◌, ◌≤◌, ℕ, List, length};
-ghost use Rattle.x12_bytes.specs.Header.{IsHeader, delims_of, field_of, width_of};
+ghost use Rattle.x12_bytes.specs.Header.{IsHeader, header_delims, field_of, width_of};
 
 use crate::bytes;
 use crate::delims::Delims;
@@ -42,7 +42,7 @@ impl<'a> Header<'a> {
     /// The delimiters that the header names.
     pub fn delims(&self) -> Delims
         ensures header { IsHeader self.now }
-        ensures value { result ≡ delims_of self.now }
+        ensures value { result ≡ header_delims self.now }
     {
         let element = self.bytes[ELEMENT];
         let component = self.bytes[COMPONENT];

@@ -3,7 +3,7 @@ use Rattle.std.proofs.Common.{◌≡◌, ℕ, ◌+◌, ◌≤◌, Bool, true, fa
 use Rattle.std.proofs.Common.{◌∙◌, arith, lit≤, add_assoc, zero-add}
 use Rattle.std.specs.List.{list_all}
 use Rattle.x12_bytes.specs.declared.delims.Delims.{Delims}
-use Rattle.x12_segs.specs.Kinds.{kind_of, is_inner}
+use Rattle.x12_segs.specs.Kinds.{kind_of, may_stand_in_set}
 use Rattle.x12_segs.specs.Spans.{IsSetSpan, span_views, trailer_kinds}
 use Rattle.x12_segs.specs.declared.kind.Kind.{Kind}
 use Rattle.x12_segs.specs.declared.kind.Kind.TheVariants.{Ta1, Other}
@@ -51,22 +51,22 @@ header_is_span = record { within = lit≤ tt; start = refl; end = refl; inner = 
 -- how many are none that stand inside a set
 abbrev outer : List Kind → ℕ
 outer [] = 0
-outer (kind ∷ kinds) = cond (is_inner kind) (outer kinds) (1 + outer kinds)
+outer (kind ∷ kinds) = cond (may_stand_in_set kind) (outer kinds) (1 + outer kinds)
 
 outer-append : (xs ys : List Kind) → outer (xs ++ ys) ≡ outer xs + outer ys
 outer-append [] ys = sym (zero-add (outer ys))
-outer-append (x ∷ xs) ys = by_test (is_inner x) (outer-append xs ys)
+outer-append (x ∷ xs) ys = by_test (may_stand_in_set x) (outer-append xs ys)
   where
     by_test : (b : Bool) → outer (xs ++ ys) ≡ outer xs + outer ys
         → cond b (outer (xs ++ ys)) (1 + outer (xs ++ ys)) ≡ cond b (outer xs) (1 + outer xs) + outer ys
     by_test true more = more
     by_test false more = ap (λ n. 1 + n) more ∙ sym (add_assoc 1 (outer xs) (outer ys))
 
-inner_none : (xs : List Kind) → list_all is_inner xs ≡ true → outer xs ≡ 0
+inner_none : (xs : List Kind) → list_all may_stand_in_set xs ≡ true → outer xs ≡ 0
 inner_none [] all = refl
-inner_none (x ∷ xs) all = by_test (is_inner x) (inner_none xs) all
+inner_none (x ∷ xs) all = by_test (may_stand_in_set x) (inner_none xs) all
   where
-    by_test : (b : Bool) → (list_all is_inner xs ≡ true → outer xs ≡ 0) → (b && list_all is_inner xs) ≡ true
+    by_test : (b : Bool) → (list_all may_stand_in_set xs ≡ true → outer xs ≡ 0) → (b && list_all may_stand_in_set xs) ≡ true
         → cond b (outer xs) (1 + outer xs) ≡ 0
     by_test true more all = more all
     by_test false more all = cc

@@ -4,9 +4,9 @@ use Rattle.std.specs.Prelude.{ℕ, ◌≡◌, ◌+◌, ◌<◌, ◌≤◌, List,
 use Rattle.x12_segs.specs.Segs.{Seg, Segs, segs_from, segs_within}
 
 -- where the first segment of a run begins
-abbrev pub start_of : List Seg → ℕ
-start_of [] = 0
-start_of (seg ∷ more) = seg.start
+abbrev pub start_offset : List Seg → ℕ
+start_offset [] = 0
+start_offset (seg ∷ more) = seg.start
 
 -- the offset after the terminator of the last segment of a run
 abbrev pub end_of : List Seg → ℕ
@@ -21,8 +21,8 @@ moved_by place seg = record { start = place + seg.start; bytes = seg.bytes }
 -- read alone, what a run was cut out as gives the same segments; so does its stretch of the text
 pub record StandsAlone (text : List ℕ) (terminator : ℕ) (run : List Seg) : Type 0 where
   pub within : end_of run ≤ length text
-  pub segs : run ≡ map (moved_by (start_of run)) (Segs (slice_range text (start_of run) (end_of run)) terminator)
-  pub stretch : run ≡ segs_within text terminator (start_of run) (end_of run)
+  pub segs : run ≡ map (moved_by (start_offset run)) (Segs (slice_range text (start_offset run) (end_of run)) terminator)
+  pub stretch : run ≡ segs_within text terminator (start_offset run) (end_of run)
 
 -- each run of one or more of the segments after an offset stands alone
 abbrev pub RunsStandAlone : List ℕ → ℕ → ℕ → Type 0

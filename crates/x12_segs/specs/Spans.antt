@@ -3,8 +3,8 @@ use Rattle.std.specs.Prelude.{ℕ, ◌≡◌, ◌≤◌, Bool, true, false, List
 use Rattle.std.specs.List.{list_all}
 use Rattle.x12_segs.specs.Segs.{Seg, segs_within}
 use Rattle.x12_segs.specs.View.{SegValue, view_of}
-use Rattle.x12_segs.specs.Runs.{start_of, end_of}
-use Rattle.x12_segs.specs.Kinds.{kind_of, is_inner}
+use Rattle.x12_segs.specs.Runs.{start_offset, end_of}
+use Rattle.x12_segs.specs.Kinds.{kind_of, may_stand_in_set}
 use Rattle.x12_segs.specs.declared.kind.Kind.{Kind}
 use Rattle.x12_segs.specs.declared.kind.Kind.TheVariants.{SetHeader, SetTrailer}
 use Rattle.x12_segs.specs.declared.set_span.SetSpan.{SetSpan}
@@ -25,8 +25,8 @@ trailer_kinds false = []
 -- ST, SE, GE, GS or IEA
 pub record IsSetSpan (text : List ℕ) (span : SetSpan) : Type 0 where
   pub within : span.end ≤ length text
-  pub start : start_of (span_segs text span) ≡ span.start
+  pub start : start_offset (span_segs text span) ≡ span.start
   pub end : end_of (span_segs text span) ≡ span.end
   pub inner : List Kind
   pub kinds : map kind_of (span_views text span) ≡ SetHeader ∷ (inner ++ trailer_kinds span.closed)
-  pub plain : list_all is_inner inner ≡ true
+  pub plain : list_all may_stand_in_set inner ≡ true

@@ -5,7 +5,7 @@ use Rattle.std.proofs.Common.{suc, append_assoc, length-append, eq-or-lt_of_le, 
 use Rattle.std.specs.Prelude.{All, slice_index, slice_range, slice_index_or, ⊤}
 use Rattle.std.proofs.lemmas.List.{take-append-le, take_all}
 use Rattle.std.proofs.lemmas.List.Prefix.{front_rest}
-use Rattle.x12_bytes.specs.Header.{element_of, separator_place, width_of, field_of, IsFieldByte, IsFieldAt}
+use Rattle.x12_bytes.specs.Header.{element_separator_of, separator_place, width_of, field_of, IsFieldByte, IsFieldAt}
 use Rattle.x12_write.specs.Segment.{elements_text}
 
 -- a byte after so many others
@@ -48,7 +48,7 @@ Fill header k place (x ∷ xs) =
 abbrev pub IsFilled : List ℕ → ℕ → List ℕ → Type 0
 IsFilled header j x = IsFieldAt header j × (field_of header j ≡ x)
 
-filled : (header front x rest : List ℕ) (e k : ℕ) → header ≡ front ++ (e ∷ (x ++ rest)) → e ≡ element_of header
+filled : (header front x rest : List ℕ) (e k : ℕ) → header ≡ front ++ (e ∷ (x ++ rest)) → e ≡ element_separator_of header
     → length front ≡ separator_place k → length x ≡ width_of k → All (IsFieldByte header) x → IsFilled header k x
 filled header front x rest e k is same place wide all =
     let start : ℕ = separator_place k + 1 in
@@ -63,7 +63,7 @@ filled header front x rest e k is same place wide all =
 
 -- so are all of them
 pub fields-filled : (header front post : List ℕ) (e k : ℕ) (xs : List (List ℕ)) → header ≡ front ++ (elements_text e xs ++ post)
-    → e ≡ element_of header → Fill header k (length front) xs
+    → e ≡ element_separator_of header → Fill header k (length front) xs
     → (j : ℕ) → k ≤ j → j < k + length xs → IsFilled header j (slice_index_or xs (j - k) [])
 fields-filled header front post e k [] is same fill j from to = absurd (omega (arith, from, to))
 fields-filled header front post e k (x ∷ xs) is same fill j from to =

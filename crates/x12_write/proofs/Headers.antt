@@ -8,7 +8,9 @@ use Rattle.std.proofs.lemmas.Fmt.{length-decimal-le}
 use Rattle.std.proofs.lemmas.List.{length-replicate}
 use Rattle.std.proofs.lemmas.List.Elements.{All-nil, All-cons, All-append, All-replicate, All-take, All-drop, All-weaker}
 use Rattle.x12_bytes.specs.Bytes.{is_line_end, may_separate, may_terminate}
-use Rattle.x12_bytes.specs.Header.{IsHeader, header_at, IsFieldByte, element_of, component_of, terminator_of, repetition_of, delims_of}
+use Rattle.x12_bytes.specs.Header.{IsHeader, header_at, IsFieldByte, element_separator_of, component_separator_of, terminator_of}
+use Rattle.x12_bytes.specs.Header.{repetition_of}
+use Rattle.x12_bytes.specs.Header.{header_delims}
 use Rattle.x12_bytes.specs.Header.{field_of}
 use Rattle.x12_bytes.specs.declared.delims.Delims.{Delims}
 use Rattle.moment.specs.Moment.{IsMoment, short_date_of, time_of}
@@ -85,10 +87,10 @@ digits-undivided d text can all =
     plain b digit = search (rules, tests)
 
 -- bytes that are neither delimiter may stand in a field
-field-bytes : (header : List ℕ) (d : Delims) (x : List ℕ) → element_of header ≡ d.element → terminator_of header ≡ d.terminator
+field-bytes : (header : List ℕ) (d : Delims) (x : List ℕ) → element_separator_of header ≡ d.element → terminator_of header ≡ d.terminator
     → IsUndivided d x → All (IsFieldByte header) x
 field-bytes header d x element terminator all =
-    subst (λ (t : ℕ). All (λ b. (b ≢ element_of header) × (b ≢ t)) x) (sym terminator)
+    subst (λ (t : ℕ). All (λ b. (b ≢ element_separator_of header) × (b ≢ t)) x) (sym terminator)
     (subst (λ (s : ℕ). All (λ b. (b ≢ s) × (b ≢ d.terminator)) x) (sym element) all)
 
 -- the date and the time
@@ -128,7 +130,8 @@ length-front e at number s moment nine =
 
 -- its elements fill its fields
 fill : (e : Envelope) (at : List ℕ) (number : ℕ) → IsSendable e → IsMoment at → number ≤ 999999999
-    → (h : List ℕ) → element_of h ≡ e.delims.element → terminator_of h ≡ e.delims.terminator → Fill h 1 3 (header_elements e at number)
+    → (h : List ℕ) → element_separator_of h ≡ e.delims.element → terminator_of h ≡ e.delims.terminator → Fill h 1 3
+    (header_elements e at number)
 fill e at number s moment nine h element terminator =
     let d : Delims = e.delims in
     let can = divides e s in
@@ -169,7 +172,7 @@ delims-same d a c t r element component repetition terminator = rw (element, com
 -- the header is one
 header-is : (e : Envelope) (at : List ℕ) (number : ℕ) → IsSendable e → IsMoment at → number ≤ 999999999
     → (let h : List ℕ = header_text e at number in
-    IsHeader h × ((delims_of h ≡ e.delims)
+    IsHeader h × ((header_delims h ≡ e.delims)
     × ((k : ℕ) → 1 ≤ k → k ≤ 16 → field_of h k ≡ slice_index_or (header_elements e at number) (k - 1) [])))
 header-is e at number s moment nine =
     let d : Delims = e.delims in
@@ -177,12 +180,12 @@ header-is e at number s moment nine =
     let front : List ℕ = codes "ISA" ++ elements_text d.element els in
     let h : List ℕ = header_text e at number in
     let long : length front ≡ 105 = length-front e at number s moment nine in
-    let element : element_of h ≡ d.element = refl in
+    let element : element_separator_of h ≡ d.element = refl in
     let terminator : terminator_of h ≡ d.terminator = byte-behind front 105 d.terminator [] long in
     let fields : (k : ℕ) → 1 ≤ k → k ≤ 16 → IsFilled h k (slice_index_or els (k - 1) []) = λ k from to.
     fields-filled h (codes "ISA") (d.terminator ∷ []) d.element 1 els refl refl (fill e at number s moment nine h element terminator)
     k from (omega (arith, to)) in
-    let component : component_of h ≡ d.component = byte-of h 104 d.component (fields 16 (omega arith) (omega arith)).1 in
+    let component : component_separator_of h ≡ d.component = byte-of h 104 d.component (fields 16 (omega arith) (omega arith)).1 in
     let byte : slice_index h 82 ≡ e.repetition = byte-of h 82 e.repetition (fields 11 (omega arith) (omega arith)).1 in
     let shown : repetition_of h ≡ repetition_shown e = rw (byte, component, terminator) refl in
     let whole : length h ≡ 106 = length-append front (d.terminator ∷ []) ∙ ap (λ (n : ℕ). n + 1) long in (
@@ -198,7 +201,7 @@ header-is e at number s moment nine =
         fields = λ k from to. (fields k from to).0;
       },
       (
-        delims-same d (element_of h) (component_of h) (terminator_of h) (repetition_of h) element component
+        delims-same d (element_separator_of h) (component_separator_of h) (terminator_of h) (repetition_of h) element component
             (shown ∙ sym s.repetition_separates) terminator,
         λ k from to. (fields k from to).1,
       ),
@@ -220,6 +223,6 @@ header-read e at number text before is moment s nine behind =
     let second = length-append h behind in
     record {
       head = (omega arith, subst IsHeader (sym there) known.0);
-      delims = ap delims_of there ∙ known.1.0;
+      delims = ap header_delims there ∙ known.1.0;
       fields = λ k from to. ap (λ (x : List ℕ). field_of x k) there ∙ known.1.1 k from to;
     }

@@ -2,7 +2,7 @@
 use Rattle.std.specs.Prelude.{ℕ, ◌≡◌, ◌≢◌, ◌-◌, ◌≤◌, ◌==◌, not, ◌&&◌, ◌||◌, if◌then◌else◌, IsTrue, Option, Some, None}
 use Rattle.std.specs.Prelude.{List, [], ◌∷◌, ◌++◌, length, slice_index_or}
 use Rattle.x12_bytes.specs.Bytes.{may_separate, may_terminate}
-use Rattle.x12_bytes.specs.Header.{Head, header_at, field_of, delims_of}
+use Rattle.x12_bytes.specs.Header.{Head, header_at, field_of, header_delims}
 use Rattle.x12_write.specs.declared.envelope.Envelope.{Envelope}
 use Rattle.x12_write.specs.Header.{header_elements}
 use Rattle.x12_write.specs.Undivided.{IsUndivided}
@@ -38,7 +38,7 @@ pub record IsSendable (e : Envelope) : Type 0 where
 -- at this place of a text a header begins that names these delimiters, and whose fields are the elements that were written
 pub record IsReadAs (e : Envelope) (at : List ℕ) (number : ℕ) (text : List ℕ) (place : ℕ) : Type 0 where
   pub head : Head text place
-  pub delims : delims_of (header_at text place) ≡ e.delims
+  pub delims : header_delims (header_at text place) ≡ e.delims
   pub fields : (k : ℕ) → 1 ≤ k → k ≤ 16 → field_of (header_at text place) k ≡ slice_index_or (header_elements e at number) (k - 1) []
 
 -- so does what begins with the header of a sendable envelope, whatever stands after it, where its number has up to nine digits

@@ -1,7 +1,7 @@
 use Rattle.std.proofs.Common.{◌≡◌, ◌++◌, List, ℕ, [], ◌∷◌, sym, ap, ◌∙◌}
 use Rattle.std.specs.Prelude.{codes}
 use Rattle.std.proofs.lemmas.Result.{on_ok_weaker}
-use Rattle.hub_kinds.specs.Words.{element_text}
+use Rattle.hub_kinds.specs.Words.{element_code_text}
 use Rattle.ack_999.specs.Copy.{copy_text}
 use Rattle.ack_999.specs.Faults.{position_text}
 use Rattle.x12_write.specs.Segment.{end_text}
@@ -14,7 +14,7 @@ returns-clause-text c =
     let e = c.args.elem.now in
     let out : List ℕ = c.args.out.now.items in
     let position : List ℕ = position_text d.component e in
-    let last : List (List ℕ) = e.reference ∷ element_text e.code ∷ copy_text d e.copy ∷ [] in
+    let last : List (List ℕ) = e.reference ∷ element_code_text e.code ∷ copy_text d e.copy ∷ [] in
     let same : c.bytes.result.now ∷ c.as_bytes.result.now ∷ c.copied.result.now ∷ [] ≡ last =
     cc (c.bytes.ensures, c.as_bytes.ensures.value, c.code_text.ensures, c.copied.ensures, c.bytes-2.ensures) in
     on_ok_weaker c.append_last_three.result

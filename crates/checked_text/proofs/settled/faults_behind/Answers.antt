@@ -6,7 +6,7 @@ use Rattle.std.proofs.lemmas.Option.{slice_get_read}
 use Rattle.hub_kinds.specs.declared.interchange.InterchangeFault.{InterchangeFault}
 use Rattle.env_index.specs.Words.{IndexEntry, InterchangeEntry}
 use Rattle.checked_text.specs.Known.{Knows}
-use Rattle.checked_text.specs.Settled.{fault_alone, faults_with, kept_keys, key_of, number_key}
+use Rattle.checked_text.specs.Settled.{fault_alone, faults_with, kept_keys, interchange_key_of, number_key}
 use Rattle.checked_text.proofs.Numbered.{faults_step, keys_step}
 use Rattle.checked_text.proofs.settled.faults_behind.Goals as goal
 
@@ -19,7 +19,7 @@ loop-i-preserved c =
     slice_get_read entries _ i e refl c.loop-i-test.true c.index-entries-i.is in
     let alone : Option InterchangeFault = c.fault_alone-alone.result in
     let key : List ℕ = number_key c.interchange-interchange.result.now.header in
-    let named : key ≡ key_of e = ap (λ (x : InterchangeEntry). number_key x.header) c.interchange-interchange.ensures.value in
+    let named : key ≡ interchange_key_of e = ap (λ (x : InterchangeEntry). number_key x.header) c.interchange-interchange.ensures.value in
     let by_entry : alone ≡ fault_alone c.args.setup.now e = c.fault_alone-alone.ensures in
     let known = c.loop-i.invariant.1 in (
       λ before seen.

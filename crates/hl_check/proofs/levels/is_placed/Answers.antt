@@ -1,7 +1,7 @@
 use Rattle.std.proofs.Common.{ap, inr, sym, ◌∙◌, ◌≡◌, arith, codes, Some, List, ℕ}
 use Rattle.std.specs.Str.{bytes_eq}
 use Rattle.std.proofs.lemmas.Bool.{OnTrue_from, not-false}
-use Rattle.hl_check.specs.Hierarchy.{is_listed, number_of, level_of, child_of}
+use Rattle.hl_check.specs.Hierarchy.{is_listed, hierarchical_id_of, level_of, child_of}
 use Rattle.hl_check.specs.Names.{Names}
 use Rattle.hl_check.proofs.Levelled.{same_text}
 use Rattle.hl_check.proofs.Naming.{named_there}
@@ -14,7 +14,7 @@ returns c =
     let above = c.index-names-place.result in
     OnTrue_from c.is_listed-2.result _ (λ h hls are.
     let n = named_there c.args.names.now hls are c.place_of-place.result above c.index-names-place.is (omega (arith, early, l)) in
-    let number : number_of n.hl ≡ c.number.result.now = ap (λ (x : Names). x.number) n.names ∙ sym c.number.ensures in
+    let number : hierarchical_id_of n.hl ≡ c.number.result.now = ap (λ (x : Names). x.number) n.names ∙ sym c.number.ensures in
     let level : level_of n.hl ≡ c.level.result.now = ap (λ (x : Names). x.level) n.names ∙ sym c.level.ensures in
     let child : child_of n.hl ≡ c.child.result.now = ap (λ (x : Names). x.child) n.names ∙ sym c.child.ensures in
     inr (record {

@@ -1,7 +1,7 @@
 use Rattle.std.proofs.Common.{sym, ap, subst, ◌∙◌, ◌+◌, decimal, Some, List, ℕ, ◌≡◌}
 use Rattle.std.proofs.lemmas.Bool.{OnTrue_from, OnTrue_at}
 use Rattle.guide_tree.specs.Words.{Segment}
-use Rattle.hl_check.specs.Hierarchy.{number_of, parent_of, level_of, child_of}
+use Rattle.hl_check.specs.Hierarchy.{hierarchical_id_of, parent_id_of, level_of, child_of}
 use Rattle.hl_check.specs.Levels.{IsPlaced, HasChildren, LooksWhole}
 use Rattle.hl_check.specs.Names.{Names}
 use Rattle.hl_check.proofs.Levelled.{same_text}
@@ -19,9 +19,9 @@ returns c =
     let at : Some n.hl ≡ Some s = sym n.there ∙ there in
     let is : n.hl ≡ s = cc in
     let own : Segment = n.hl in
-    let number : c.number.result.now ≡ number_of own = c.number.ensures ∙ sym (ap (λ (x : Names). x.number) n.names) in
-    let again : c.number-2.result.now ≡ number_of own = c.number-2.ensures ∙ sym (ap (λ (x : Names). x.number) n.names) in
-    let parent : c.parent.result.now ≡ parent_of own = c.parent.ensures ∙ sym (ap (λ (x : Names). x.parent) n.names) in
+    let number : c.number.result.now ≡ hierarchical_id_of own = c.number.ensures ∙ sym (ap (λ (x : Names). x.number) n.names) in
+    let again : c.number-2.result.now ≡ hierarchical_id_of own = c.number-2.ensures ∙ sym (ap (λ (x : Names). x.number) n.names) in
+    let parent : c.parent.result.now ≡ parent_id_of own = c.parent.ensures ∙ sym (ap (λ (x : Names). x.parent) n.names) in
     let level : c.level.result.now ≡ level_of own = c.level.ensures ∙ sym (ap (λ (x : Names). x.level) n.names) in
     let child : c.child.result.now ≡ child_of own = c.child.ensures ∙ sym (ap (λ (x : Names). x.child) n.names) in
     subst (LooksWhole rule d hls k) is (record {

@@ -1,7 +1,7 @@
 use Rattle.std.proofs.Common.{◌≡◌, ◌++◌, ◌∷◌, [], ℕ, List, Option, ◌∙◌, ap, sym, true}
 use Rattle.std.specs.Prelude.{is_some}
 use Rattle.x12_bytes.specs.HeaderTest.{is_head}
-use Rattle.x12_bytes.specs.Header.{delims_of}
+use Rattle.x12_bytes.specs.Header.{header_delims}
 use Rattle.x12_bytes.specs.declared.delims.Delims.{Delims}
 use Rattle.isa_scan.specs.declared.heads.HeadAt.{HeadAt}
 use Rattle.isa_scan.proofs.HeadLemmas.{head_one}
@@ -16,5 +16,5 @@ returns c =
     ∙ ap (λ (l : List HeadAt). c.args.list.now.items ++ l)
     (ap (λ (d : Delims). (let h : HeadAt
     = record { start = start; pair = record { element = d.element; terminator = d.terminator } } in h) ∷ [])
-    (c.delims-delims.ensures.value ∙ ap delims_of (c.in-Some.ensures.lent)))
+    (c.delims-delims.ensures.value ∙ ap header_delims (c.in-Some.ensures.lent)))
     ∙ ap (λ (l : List HeadAt). c.args.list.now.items ++ l) (sym (head_one text start head))

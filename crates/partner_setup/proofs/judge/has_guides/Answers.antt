@@ -2,7 +2,7 @@ use Rattle.std.proofs.Common.{◌≡◌, Bool, true, not, ◌&&◌, List, ℕ, m
 use Rattle.std.specs.List.{list_all}
 use Rattle.hub_kinds.specs.Words.{has_twice, contains_text}
 use Rattle.partner_setup.specs.Names.{places_of_texts, those_at}
-use Rattle.partner_setup.specs.SetupFaults.{guide_name, guides_of, purpose_key, told_by}
+use Rattle.partner_setup.specs.SetupFaults.{guide_name, guides_of, purpose_key, key_of_texts}
 use Rattle.partner_setup.specs.declared.told.Told.{Told}
 use Rattle.partner_setup.proofs.Telling.{twice_alike}
 use Rattle.partner_setup.proofs.judge.has_guides.Goals as goal
@@ -18,6 +18,6 @@ returns c =
     let places = c.as_slice.ensures.value ∙ c.in_ok-found.ensures names c.requires
     ∙ ap (λ (l : List (List ℕ)). places_of_texts names l) c.as_slice-names.ensures in
     let twice : c.has_twice.result ≡ has_twice purpose_key (guides_of guides p) = c.has_twice.ensures
-    ∙ twice_alike (λ (t : Told). told_by t.first.now t.second.now t.third.now) purpose_key _ _ c.in_ok-purposes_at.ensures
+    ∙ twice_alike (λ (t : Told). key_of_texts t.first.now t.second.now t.third.now) purpose_key _ _ c.in_ok-purposes_at.ensures
     ∙ ap (λ (l : List ℕ). has_twice purpose_key (those_at guides l)) places in
     ap (λ (b : Bool). not b) twice ∙ ap (λ (b : Bool). b && not (has_twice purpose_key (guides_of guides p))) (sym there)

@@ -3,14 +3,14 @@ use Rattle.std.specs.Prelude.{option_map, slice_get}
 use Rattle.std.proofs.lemmas.List.{drop_more}
 use Rattle.guide_tree.specs.declared.rows.GuideRows.{GuideRows}
 use Rattle.partner_setup.specs.Names.{and_some, those_at}
-use Rattle.partner_setup.specs.SetupFaults.{purpose_key, told_by}
+use Rattle.partner_setup.specs.SetupFaults.{purpose_key, key_of_texts}
 use Rattle.partner_setup.specs.declared.told.Told.{Told}
 use Rattle.partner_setup.proofs.Naming.{keys_between}
 use denote.Ref.{Bor}
 use Rattle.partner_setup.proofs.judge.purposes_at.Goals as goal
 
 abbrev keys : List Told → List (List ℕ)
-keys ts = map (λ (t : Told). told_by t.first.now t.second.now t.third.now) ts
+keys ts = map (λ (t : Told). key_of_texts t.first.now t.second.now t.third.now) ts
 
 pub loop-place-preserved : goal.loop-place-preserved
 loop-place-preserved c =

@@ -5,7 +5,7 @@ use Rattle.x12_segs.specs.Words.{SegValue}
 use Rattle.set_check.specs.Envelope.{IsEnvelopeOf}
 use Rattle.set_check.specs.SetFaults.{AreSetFaults}
 use Rattle.set_check.specs.SetParts.{parts_of}
-use Rattle.set_check.specs.Checked.{said_by}
+use Rattle.set_check.specs.Checked.{guide_tree_of}
 use Rattle.set_check.proofs.Spans.{read_of}
 use Rattle.set_check.proofs.check.check_set.Goals as goal
 
@@ -16,7 +16,7 @@ set_faults-requires-clause-read c =
 
 pub checked_by-requires-clause-faults : goal.checked_by-requires-clause-faults
 checked_by-requires-clause-faults c =
-    subst (λ (x : List SegValue). AreSetFaults (said_by (option_copied c.args.guide)) (parts_of c.args.set.delims c.args.set.closed x)
+    subst (λ (x : List SegValue). AreSetFaults (guide_tree_of (option_copied c.args.guide)) (parts_of c.args.set.delims c.args.set.closed x)
     c.in_ok-faults.faults.items)
     (c.as_slice.ensures.value ∙ c.in_ok-segs.ensures) c.in_ok-faults.ensures.exact
 

@@ -3,7 +3,7 @@ use Rattle.std.specs.Option.{option_copied}
 use Rattle.hub_kinds.specs.Words.{AreRising, key_of}
 use Rattle.hub_kinds.proofs.Once.{none_rises}
 use Rattle.guide_tree.specs.declared.guide.Guide.{Guide}
-use Rattle.set_check.specs.Checked.{said_by}
+use Rattle.set_check.specs.Checked.{guide_tree_of}
 use Rattle.set_check.specs.SetFaults.{AreSetFaults}
 use Rattle.set_check.specs.SetParts.{parts_of}
 use Rattle.set_check.proofs.check.set_faults.Goals as goal
@@ -13,5 +13,5 @@ returns-in-None-clause-rising c = subst AreRising (sym c.new.ensures.items) (non
 
 pub returns-in-Some-clause-exact : goal.returns-in-Some-clause-exact
 returns-in-Some-clause-exact c =
-    subst (λ (o : Option (Bor Guide)). IfOk c.body_faults.result (λ v. AreSetFaults (said_by (option_copied o))
+    subst (λ (o : Option (Bor Guide)). IfOk c.body_faults.result (λ v. AreSetFaults (guide_tree_of (option_copied o))
     (parts_of c.args.set.now.delims c.args.set.now.closed c.args.segs.now) v.items)) (sym c.in-Some.is) c.body_faults.ensures.exact

@@ -1,7 +1,8 @@
 use Rattle.std.proofs.Common.{◌≡◌, ◌++◌, map}
 use Rattle.x12_segs.specs.Words.{elements_of}
-use Rattle.set_walk.specs.Told.{told_by}
+use Rattle.set_walk.specs.Told.{fault_of_element}
 use Rattle.set_walk.proofs.told.tell.Given as goal
 
 abbrev pub invariant-loop-elem : goal.invariant-loop-elem
-invariant-loop-elem l = l.faults.items ≡ l.initial.faults.items ++ map (told_by l.position (elements_of l.seg) l.loop_id l.slot) l.yielded
+invariant-loop-elem l = l.faults.items ≡ l.initial.faults.items ++ map (fault_of_element l.position
+    (elements_of l.seg) l.loop_id l.slot) l.yielded

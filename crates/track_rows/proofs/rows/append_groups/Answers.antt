@@ -1,7 +1,7 @@
 use Rattle.std.proofs.Common.{◌≡◌, ◌<◌, List, length, take, refl, ap, ◌∙◌, arith}
 use Rattle.std.proofs.lemmas.List.{take_all}
 use Rattle.env_index.specs.Words.{InterchangeEntry, GroupEntry}
-use Rattle.judged_text.specs.Judged.{groups_from}
+use Rattle.judged_text.specs.Judged.{sets_of_groups_from}
 use Rattle.mailbox.proofs.Replacing.{there_is}
 use Rattle.csv_fields.specs.Csv.{table_text}
 use Rattle.track_rows.specs.Rows.{groups_rows}
@@ -40,4 +40,4 @@ returns-clause-rows c =
     take_all c.loop-k.k groups (omega (arith, c.loop-k-test.false, c.group_count-k-end.ensures, count)) in
     rows_as c.args.by.now _ _ _ _ _ _ _ _
     (λ before. ap (λ (gs : List GroupEntry). table_text (groups_rows c.args.by.now c.args.n before x c.args.notes.now 0 gs)) all)
-    (ap (groups_from x 0) all) c.loop-k.invariant.rows
+    (ap (sets_of_groups_from x 0) all) c.loop-k.invariant.rows

@@ -5,7 +5,7 @@ use Rattle.std.proofs.lemmas.Option.{same_Some, slice_get_read}
 use Rattle.std.specs.Prelude.{is_some, slice_get}
 use Rattle.std.specs.List.{All, AllZip}
 use Rattle.guide_tree.specs.declared.rows.GuideRows.{GuideRows}
-use Rattle.x12_bytes.specs.Header.{delims_of}
+use Rattle.x12_bytes.specs.Header.{header_delims}
 use Rattle.x12_segs.specs.Words.{IsSetSpan, SegValue, element_of}
 use Rattle.x12_segs.specs.declared.set_span.SetSpan.{SetSpan}
 use Rattle.env_index.specs.Words.{IndexEntry, InterchangeEntry, HasSpans, span_of, GroupEntry}
@@ -54,13 +54,13 @@ guide_alike setup sender a a' b b' c c' id version set =
 -- a set of an index stands in its span
 stands : (text : List ℕ) (es : List IndexEntry) (e : IndexEntry) (x : InterchangeEntry) (g : GroupEntry) (s : SetEnvelope) (k : ℕ)
     → All (λ e. HasSpans text e.interchange) es → es ≡ e ∷ [] → x ≡ e.interchange → slice_get x.content.groups 0 ≡ Some g
-    → slice_get g.sets k ≡ Some s → IsSetSpan text (span_of (delims_of x.header) s)
+    → slice_get g.sets k ≡ Some s → IsSetSpan text (span_of (header_delims x.header) s)
 stands text es e x g s k all single same group set =
     let first : slice_get es 0 ≡ Some e = ap (λ (l : List IndexEntry). slice_get l 0) single in
     let there : HasSpans text x = subst (λ (x : InterchangeEntry). HasSpans text x) (sym same)
     (at_index (λ (e : IndexEntry). HasSpans text e.interchange) es 0 e first all) in
-    at_index (λ (s : SetEnvelope). IsSetSpan text (span_of (delims_of x.header) s)) g.sets k s set
-    (at_index (λ (g : GroupEntry). All (λ s. IsSetSpan text (span_of (delims_of x.header) s)) g.sets) x.content.groups 0 g group there)
+    at_index (λ (s : SetEnvelope). IsSetSpan text (span_of (header_delims x.header) s)) g.sets k s set
+    (at_index (λ (g : GroupEntry). All (λ s. IsSetSpan text (span_of (header_delims x.header) s)) g.sets) x.content.groups 0 g group there)
 
 abbrev asked_with : (earlier : Bool) → (text : List ℕ) → SetSpan → Option GuideRows → Asked
 asked_with earlier text span guide = record { earlier = earlier; set = Some (record { text = text; span = span; guide = guide }) }
@@ -144,8 +144,8 @@ returns c =
     let sets : g.sets ≡ c.set-first.result ∷ c.set-second.result ∷ [] =
     two_items g.sets c.set-first.result c.set-second.result (sym c.set_count.ensures ∙ c.if-set_count-ne2.false) c.set-first.ensures
     c.set-second.ensures in
-    let delims : c.delims-delims.result ≡ delims_of e.interchange.header =
-    c.delims-delims.ensures.value ∙ ap delims_of (c.header-2.ensures ∙ ap (λ (x : InterchangeEntry). x.header) same) in
+    let delims : c.delims-delims.result ≡ header_delims e.interchange.header =
+    c.delims-delims.ensures.value ∙ ap header_delims (c.header-2.ensures ∙ ap (λ (x : InterchangeEntry). x.header) same) in
     let id : c.element-id.result.now ≡ element_of g.header 1 =
     c.element-id.ensures.value ∙ ap (λ h. element_of h 1) c.header-header.ensures in
     let version : c.element-version.result.now ≡ element_of g.header 8 =
