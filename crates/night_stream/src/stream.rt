@@ -114,26 +114,27 @@ fn go_on<G: Gate + Sync, R: Threads + Wait + Clock + Sync>(
     })
 }
 
-/// Works on all that is held, after which nothing comes, and closes the night.
+/// Works on all that is held, after which nothing comes, gives it up, and closes the night.
 fn finish<G: Gate + Sync, R: Threads + Wait + Clock + Sync>(
     crew: &Crew<'_, R, G>,
     alloc: Global,
     setup: &Setup,
     guides: &FastGuides<'_>,
     at: &At,
-    held: &Held,
+    held: Held,
     reading: Reading,
 ) -> Result<Night, Stopped>
     requires crew { IsReady crew.now }
     requires guides { guides.now ≡ setup.now }
-    requires few { held.now.total ≤ LONGEST_TEXT }
-    requires read { (first : Option (List ℕ)) × (now : Option (List ℕ)) × IsReadUpTo setup.now at.now first now held.now reading }
-    ensures night { IfOk result (λ night. (first now : Option (List ℕ)) → IsReadUpTo setup.now at.now first now held.now reading
+    requires few { held.total ≤ LONGEST_TEXT }
+    requires read { (first : Option (List ℕ)) × (now : Option (List ℕ)) × IsReadUpTo setup.now at.now first now held reading }
+    ensures night { IfOk result (λ night. (first now : Option (List ℕ)) → IsReadUpTo setup.now at.now first now held reading
         → IsAtEnd now → IsNightOfStream first setup.now at.now night) }
     ensures pool { IfErr result IsOfPool }
 {
     let Reading { base, carried, .. } = reading;
     let all = add_batch(crew, alloc, setup, guides, at, base, carried, held.bytes())?;
+    drop(held);
     let Carried { writing, .. } = all;
     let night = writing.close(alloc, setup, at)?;
     Ok(night)
@@ -170,6 +171,6 @@ pub fn stream_night<S: Source, G: Gate + Sync, R: Threads + Wait + Clock + Sync>
     while read_on(&mut held, source, window)? {
         reading = go_on(crew, alloc, setup, &guides, at, &mut held, reading)?;
     }
-    let night = finish(crew, alloc, setup, &guides, at, &held, reading)?;
+    let night = finish(crew, alloc, setup, &guides, at, held, reading)?;
     Ok(night)
 }
