@@ -13,7 +13,7 @@ use Rattle.mailbox.specs.Numbered.{NumberedValue, groups_of, numbered_from}
 use Rattle.checked_text.specs.CheckedText.{acknowledged_to, groups_to}
 use Rattle.night_writing.specs.declared.night.Night.{Night}
 use Rattle.night_writing.specs.Night.{IsNight, box_of, sets_to}
-use Rattle.hub_run.proofs.ForAbove.{at_index, pairs_weaker_at}
+use Rattle.night_law.proofs.ForAbove.{at_index, pairs_weaker_at}
 use Rattle.written_law.specs.Files.{HasInterchanges}
 use Rattle.written_law.specs.Written.{NoInnerHeads, texts_of}
 use Rattle.written_law.proofs.Interchanges.{interchanges_read}

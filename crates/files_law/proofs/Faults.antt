@@ -21,7 +21,7 @@ use Rattle.env_index.specs.Words.{extents_of, fault_by, fault_of, fault_of_heade
 use Rattle.env_index.specs.Words.{is_group_header}
 use Rattle.env_index.specs.Words.{settled, with_faults}
 use Rattle.mailbox.specs.Mailbox.{mapped, mapped_byte}
-use Rattle.hub_run.proofs.ForAbove.{map_none}
+use Rattle.night_law.proofs.ForAbove.{map_none}
 
 abbrev Have : InterchangeEntry → Type 0
 Have x =

@@ -25,8 +25,8 @@ use Rattle.partner_setup.specs.Sound.{IsSoundPartner}
 use Rattle.judged_text.specs.Judged.{PlacedValue, delims_in}
 use Rattle.mailbox.specs.Mailbox.{delivered_group_text, delivered_text, groups_text, numbered_text}
 use Rattle.mailbox.specs.Numbered.{NumberedValue, goes_with, groups_of, numbered_from, onto_groups}
-use Rattle.hub_run.proofs.ForAbove as box
-use Rattle.hub_run.proofs.ForAbove.{IsMarked, chunks_all, everywhere, groups_all, marked, numbered_all, trimmed_at}
+use Rattle.night_law.proofs.ForAbove as box
+use Rattle.night_law.proofs.ForAbove.{IsMarked, chunks_all, everywhere, groups_all, marked, numbered_all, trimmed_at}
 use Rattle.hub_kinds.specs.Words.{is_number, is_word}
 use Rattle.x12_write.specs.Header.{header_text}
 use Rattle.ack_999.specs.ReadBack.{written_parts}

@@ -28,11 +28,11 @@ use Rattle.checked_text.specs.Pairs.{AreAllPairs}
 use Rattle.checked_text.specs.Settled.{settled_faults}
 use Rattle.night_writing.specs.declared.night.Night.{Night}
 use Rattle.night_writing.specs.Night.{IsNight, acks_of}
-use Rattle.hub_run.specs.Quotable.{IsGroupQuotable}
-use Rattle.hub_run.specs.Told.{groups_told, is_told_to}
-use Rattle.hub_run.proofs.ForAbove.{IsAnsweredGroup, IsGroupRead, IsRead, acknowledged_as_told, all_read, answered_anywhere, answers_here}
-use Rattle.hub_run.proofs.ForAbove.{at_index, component, elements_undivided, group_quoted, groups_read, pairs_tail, pairs_weaker_at}
-use Rattle.hub_run.proofs.ForAbove.{settled_headers, settled_sound}
+use Rattle.night_law.specs.Quotable.{IsGroupQuotable}
+use Rattle.night_law.specs.Told.{groups_told, is_told_to}
+use Rattle.night_law.proofs.ForAbove.{IsAnsweredGroup, IsGroupRead, IsRead, acknowledged_as_told, all_read, answered_anywhere, answers_here}
+use Rattle.night_law.proofs.ForAbove.{at_index, component, elements_undivided, group_quoted, groups_read, pairs_tail, pairs_weaker_at}
+use Rattle.night_law.proofs.ForAbove.{settled_headers, settled_sound}
 use Rattle.written_law.specs.Files.{HasInterchanges}
 use Rattle.written_law.specs.Whole.{IsWholeSet, WholeSet, set_segments}
 use Rattle.written_law.specs.Written.{BeginsOtherwise, IsWritten, Written, texts_of}

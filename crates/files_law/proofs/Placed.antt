@@ -18,8 +18,8 @@ use Rattle.mailbox.specs.Deliveries.{is_delivered_to}
 use Rattle.checked_text.specs.CheckedText.{CheckedInterchange, IsCheckedAs, judged}
 use Rattle.checked_text.specs.Settled.{settled_faults}
 use Rattle.night_writing.specs.Night.{IsKnown, sets_to}
-use Rattle.hub_run.proofs.ForAbove.{AreApart, AreElementsUndivided, IsReady, IsSettledSound, IsSource, IsThere, at_index, delivered_free}
-use Rattle.hub_run.proofs.ForAbove.{elements_undivided, faultless, is_ready, pairs_all, passing, settled_sound, settled_sources}
+use Rattle.night_law.proofs.ForAbove.{AreApart, AreElementsUndivided, IsReady, IsSettledSound, IsSource, IsThere, at_index, delivered_free}
+use Rattle.night_law.proofs.ForAbove.{elements_undivided, faultless, is_ready, pairs_all, passing, settled_sound, settled_sources}
 use Rattle.files_law.proofs.Faults.{ArePlain, HasPlain, have_headers, settled_plain}
 
 -- GS and ST have their form, and what is repeated of them is undivided

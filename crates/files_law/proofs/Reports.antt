@@ -19,7 +19,7 @@ use Rattle.ack_999.specs.ReadBack.{IsQuotable, written_parts}
 use Rattle.ack_999.specs.Report.{group_response, head_segments, segments_999, set_loops, set_response, set_trailer, shows_sets, text_999}
 use Rattle.ack_999.specs.Report as report
 use Rattle.ack_999.proofs.Readable.{readable-999}
-use Rattle.hub_run.proofs.ForAbove.{trimmed_at}
+use Rattle.night_law.proofs.ForAbove.{trimmed_at}
 use Rattle.written_law.specs.Whole.{Elements, IsWholeSet, WholeSet, kind_by, is_st, set_segments}
 use Rattle.written_law.proofs.Numbers.{padded_word}
 use Rattle.files_law.proofs.Rows.{IsOther, IsRow, list_row}

@@ -14,7 +14,7 @@ use Rattle.x12_write.specs.Segment.{Segment, elements_text, segment_text, segmen
 use Rattle.x12_write.specs.Undivided.{CanDivide}
 use Rattle.ack_999.specs.ReadBack.{written_parts}
 use Rattle.ack_999.proofs.ReadBack.{IsReadable}
-use Rattle.hub_run.proofs.ForAbove.{IsBody, IsDivided, body_of, divided, divided_body, divided_parts}
+use Rattle.night_law.proofs.ForAbove.{IsBody, IsDivided, body_of, divided, divided_body, divided_parts}
 use Rattle.written_law.specs.Whole.{Elements}
 use Rattle.written_law.specs.Written.{BeginsOtherwise, IsOneSegment, segments_in_row}
 

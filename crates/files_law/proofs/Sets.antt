@@ -16,9 +16,9 @@ use Rattle.x12_write.specs.Undivided.{CanDivide}
 use Rattle.mailbox.specs.Deliveries.{inner_in}
 use Rattle.judged_text.specs.Judged.{PlacedValue, delims_in}
 use Rattle.mailbox.specs.Mailbox.{mapped, set_text}
-use Rattle.hub_run.specs.SetsRead.{has_id}
-use Rattle.hub_run.proofs.ForAbove as set
-use Rattle.hub_run.proofs.ForAbove.{IsFit, IsMarked, all_both, divided_parts, inner_id}
+use Rattle.night_law.specs.SetsRead.{has_id}
+use Rattle.night_law.proofs.ForAbove as set
+use Rattle.night_law.proofs.ForAbove.{IsFit, IsMarked, all_both, divided_parts, inner_id}
 use Rattle.written_law.specs.Whole.{Elements, IsWholeSet, WholeSet, is_st, kind_by, set_segments}
 use Rattle.written_law.proofs.Numbers.{padded_word}
 use Rattle.files_law.proofs.Texts.{IsMadeOf}

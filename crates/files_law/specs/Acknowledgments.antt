@@ -9,7 +9,7 @@ use Rattle.checked_text.specs.CheckedText.{CheckedInterchange, acknowledged_to, 
 use Rattle.checked_text.specs.Pairs.{AreAllPairs}
 use Rattle.checked_text.specs.Settled.{settled_entries}
 use Rattle.night_writing.specs.Night.{IsKnown}
-use Rattle.hub_run.specs.Quotable.{AreQuotable}
+use Rattle.night_law.specs.Quotable.{AreQuotable}
 use Rattle.written_law.specs.Files.{HasInterchanges}
 
 -- the acknowledgments of some interchanges, each for itself, before which the partner is sent k acknowledgments and g groups

@@ -1,10 +1,2 @@
-pub mod Quotable
-pub mod ReadBack
 pub mod Refusals
-pub mod Responses
-pub mod SetsRead
 pub mod StreamNight
-pub mod Ta1sRead
-pub mod Tallied
-pub mod Told
-pub mod WholeNight

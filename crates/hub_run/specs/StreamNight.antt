@@ -3,7 +3,7 @@ use Rattle.std.specs.Prelude.{◌≡◌, ℕ, ◌≤◌, List, length, Option, I
 use Rattle.hub_kinds.specs.declared.limits.TheConstants.{LONGEST_TEXT}
 use Rattle.partner_setup.specs.Setup.{SetupValue}
 use Rattle.night_writing.specs.declared.night.Night.{Night}
-use Rattle.hub_run.specs.WholeNight.{IsWholeNight}
+use Rattle.night_law.specs.WholeNight.{IsWholeNight}
 
 -- no more bytes than the limit, and their whole night
 pub record IsNightRead (told : Option (List ℕ)) (setup : SetupValue) (at : List ℕ) (night : Night) : Type 0 where

@@ -2,7 +2,7 @@ ghost use Rattle.std.specs.Prelude.{◌↔◌, ◌<◌, ◌≤◌, length, IfOk,
 ghost use Rattle.moment.specs.Moment.{IsMoment};
 ghost use Rattle.partner_setup.specs.Sound.{IsSoundSetup};
 ghost use Rattle.night_writing.specs.Night.{IsNight};
-ghost use Rattle.hub_run.specs.WholeNight.{IsWholeNight};
+ghost use Rattle.night_law.specs.WholeNight.{IsWholeNight};
 
 use crate::run_fault::RunFault;
 use crate::writing::write_night;

@@ -1,7 +1,7 @@
 ghost use Rattle.std.specs.Prelude.{◌≡◌, ◌↔◌, ◌<◌, ◌≤◌, length, IfOk, IsErrOf};
 ghost use Rattle.moment.specs.Moment.{IsMoment};
 ghost use Rattle.night_writing.specs.Night.{IsNight};
-ghost use Rattle.hub_run.specs.WholeNight.{IsWholeNight};
+ghost use Rattle.night_law.specs.WholeNight.{IsWholeNight};
 
 use crate::plain::are_sound;
 use crate::run_fault::RunFault;

@@ -14,7 +14,7 @@ use Rattle.guide_tree.specs.Words.{EachIn, EachNode, Tree, Trees, loop, no_trees
 use Rattle.elem_rules.specs.Rows.{component_reference}
 use Rattle.guide_toml.specs.References.{HasReference, HasReferences, HasReferencesIn, IsReference, WritesReferences}
 use Rattle.partner_setup.specs.Setup.{SetupValue}
-use Rattle.hub_run.specs.Quotable.{IsGuidePlain, IsNodePlain, IsPlainReference, IsRowPlain}
+use Rattle.night_law.specs.Quotable.{IsGuidePlain, IsNodePlain, IsPlainReference, IsRowPlain}
 use Rattle.night_command.specs.SetupFiles.{AreGuidesOf, IsGuideOf, IsSetupAt, IsSetupOf}
 use Rattle.night_command.specs.declared.setup_files.GuideFile.{GuideFile}
 

@@ -2,8 +2,8 @@
 use Rattle.std.specs.Prelude.{◌≡◌, ◌≤◌, ◌⊎◌, ℕ, if◌then◌else◌, List, ◌++◌, Option, IfSome, codes, length, string_bytes}
 use Rattle.std.specs.Io.KnownBytes.{Appends}
 use Rattle.hub_kinds.specs.declared.limits.TheConstants.{LONGEST_TEXT}
-use Rattle.hub_run.specs.Quotable.{AreAllQuotable}
-use Rattle.hub_run.specs.WholeNight.{IsWholeNight}
+use Rattle.night_law.specs.Quotable.{AreAllQuotable}
+use Rattle.night_law.specs.WholeNight.{IsWholeNight}
 use Rattle.night_writing.specs.declared.night.Night.{Night}
 use Rattle.night_report.specs.Clean.{is_clean, last_of, lines_of}
 use Rattle.partner_setup.specs.Setup.{SetupValue}

@@ -5,7 +5,7 @@
 //! Proved, where a call returns (it waits for its workers):
 //! - `night_main` is safe on every input, and its status is 0 to 6;
 //! - a run that doesn't fail has printed what its arguments ask for, and nothing else, where the writer declares what it has: help or
-//!   the version where they ask for that; otherwise the last line of the report of the whole night (`IsWholeNight` of `hub_run`) of
+//!   the version where they ask for that; otherwise the last line of the report of the whole night (`IsWholeNight` of `night_law`) of
 //!   some text, no longer than the limit, at the moment that the arguments name, by a setup that the bytes of some files make, one guide
 //!   file for each guide that the arguments name; each partner can read its acknowledgments, and the status is 0 exactly where that
 //!   report is clean (`night_main`, `printed`);

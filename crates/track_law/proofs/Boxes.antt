@@ -27,9 +27,9 @@ use Rattle.partner_setup.specs.Sound.{IsSoundPartner}
 use Rattle.judged_text.specs.Judged.{PlacedValue, delims_in}
 use Rattle.mailbox.specs.Mailbox.{box_text, delivered_group_text, delivered_text, delivered_texts, groups_text, numbered_text}
 use Rattle.mailbox.specs.Numbered.{NumberedValue, groups_of, numbered_from}
-use Rattle.hub_run.proofs.ForAbove as box
-use Rattle.hub_run.proofs.ForAbove.{IsBody, IsMarked, body_of, divided, divided_body, divided_parts, groups_all, iea, isa, isa_text, marked}
-use Rattle.hub_run.proofs.ForAbove.{readable_iea, readable_isa, trimmed_at}
+use Rattle.night_law.proofs.ForAbove as box
+use Rattle.night_law.proofs.ForAbove.{IsBody, IsMarked, body_of, divided, divided_body, divided_parts, groups_all, iea, isa, isa_text}
+use Rattle.night_law.proofs.ForAbove.{marked, readable_iea, readable_isa, trimmed_at}
 use Rattle.written_law.specs.Whole.{Elements, IsWholeSet, WholeSet, set_segments}
 use Rattle.files_law.proofs.Faults.{kept_word}
 use Rattle.files_law.proofs.Mailboxes.{IsSome, groups_some}

@@ -11,8 +11,8 @@ use Rattle.hub_kinds.specs.Words.{is_word}
 use Rattle.x12_segs.specs.declared.kind.Kind.TheVariants.{InterchangeTrailer, GroupHeader, GroupTrailer, SetHeader, SetTrailer, Ta1, Other}
 use Rattle.x12_segs.specs.Words.{elements_of, may_stand_in_set, part_or_empty, views}
 use Rattle.x12_write.specs.Segment.{segment}
-use Rattle.hub_run.specs.SetsRead.{Segments, has_id, sets_read, sets_found}
-use Rattle.hub_run.proofs.ForAbove.{IsBetween, text_read}
+use Rattle.night_law.specs.SetsRead.{Segments, has_id, sets_read, sets_found}
+use Rattle.night_law.proofs.ForAbove.{IsBetween, text_read}
 use Rattle.written_law.specs.Whole.{Elements, WholeSet, kind_by, set_segments}
 use Rattle.files_law.proofs.Texts.{IsMadeOf, both_made, nothing_made}
 use Rattle.track_law.specs.Found.{Found, found_behind, found_in, numbers_of, read_or}

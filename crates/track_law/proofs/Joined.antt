@@ -19,7 +19,7 @@ use Rattle.checked_text.specs.CheckedText as checked
 use Rattle.checked_text.specs.Acknowledgments.{has_reports}
 use Rattle.night_writing.specs.declared.night.Night.{Night}
 use Rattle.night_writing.specs.Night.{IsNight, box_of, judgements, sets_to}
-use Rattle.hub_run.proofs.ForAbove.{at_index, chunks_all, known_once, numbered_all, pairs_weaker_at}
+use Rattle.night_law.proofs.ForAbove.{at_index, chunks_all, known_once, numbered_all, pairs_weaker_at}
 use Rattle.files_law.proofs.Placed.{IsSent, sets_sent, sources_known}
 use Rattle.set_documents.specs.Documents.{DocumentValue}
 use Rattle.track_notes.specs.declared.notes.Notes.{Notes}

@@ -5,7 +5,7 @@ use Rattle.checked_text.specs.CheckedText.{CheckedInterchange}
 use Rattle.night_writing.specs.Night.{judgements}
 use Rattle.night_report.specs.Clean.{is_clean}
 use Rattle.night_report.specs.Report.{report_text}
-use Rattle.hub_run.proofs.ForAbove.{known_once}
+use Rattle.night_law.proofs.ForAbove.{known_once}
 use Rattle.set_documents.specs.Documents.{DocumentValue}
 use Rattle.track_rows.specs.Rows.{track_text}
 use Rattle.track_night.specs.Track.{IsTrack, tracked_by}

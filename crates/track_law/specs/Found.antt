@@ -3,7 +3,7 @@
 use Rattle.std.specs.Prelude.{ℕ, List, [], ◌∷◌, ◌++◌, map, Option, Some, None, codes, slice_index_or, if◌then◌else◌}
 use Rattle.x12_bytes.specs.declared.delims.Delims.{Delims}
 use Rattle.x12_segs.specs.Words.{elements_of, part_or_empty, views}
-use Rattle.hub_run.specs.SetsRead.{Segments, has_id}
+use Rattle.night_law.specs.SetsRead.{Segments, has_id}
 
 -- a set, and ISA13 and GS06 as they were read last before it
 pub record Found : Type 0 where

@@ -5,7 +5,7 @@ ghost use Rattle.partner_setup.specs.Setup.{SetupValue};
 ghost use Rattle.partner_setup.specs.Sound.{IsSoundSetup};
 ghost use Rattle.night_writing.specs.declared.night.Night.{Night};
 ghost use Rattle.night_writing.specs.Night.{IsNight};
-ghost use Rattle.hub_run.specs.SetsRead.{sets_found};
+ghost use Rattle.night_law.specs.SetsRead.{sets_found};
 ghost use Rattle.set_documents.specs.Documents.{DocumentValue};
 ghost use Rattle.track_night.specs.Track.{IsTrack};
 ghost use Rattle.track_night.specs.declared.track.Track.{Track};

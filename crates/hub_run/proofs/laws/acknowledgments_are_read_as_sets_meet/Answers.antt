@@ -1,5 +1,0 @@
-use Rattle.hub_run.proofs.ReadingNights.{read_by_night}
-use Rattle.hub_run.proofs.laws.acknowledgments_are_read_as_sets_meet.Goals as goal
-
-pub returns : goal.returns
-returns c text setup at night sound moment is = read_by_night text setup at night sound moment is

@@ -1,5 +1,0 @@
-use Rattle.hub_run.proofs.Delivered.{boxes_read_by_night}
-use Rattle.hub_run.proofs.laws.mailboxes_are_read_as_sets.Goals as goal
-
-pub returns : goal.returns
-returns c = boxes_read_by_night

@@ -1,5 +1,0 @@
-use Rattle.hub_run.proofs.TellingNights.{told_by_night}
-use Rattle.hub_run.proofs.laws.sets_are_told_as_they_meet.Goals as goal
-
-pub returns : goal.returns
-returns c = told_by_night
