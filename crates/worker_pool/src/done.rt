@@ -10,26 +10,24 @@ use set_check::{CheckedSet, check_set_fast};
 use std::alloc::Global;
 use std::marker::Model;
 
-/// A place that was recorded, and its set, which was checked. Only a job makes it. The set stands by itself, since lists of these are
-/// joined and put in order.
+/// A place that was recorded, and its set, which was checked. Only a job makes it.
 #[derive(Drop)]
 pub struct CheckDone<'a> {
     number: u64,
     recorded: Recorded,
-    checked: Option<Box<CheckedSet<'a>>>,
+    checked: Option<CheckedSet<'a>>,
 }
 
 impl<'a> Model for CheckDone<'a> {
     ghost use Rattle.guide_tree.specs.contracts.node.Node as node;
     ghost use Rattle.std.specs.Coded.{codes as known_codes};
     ghost use Rattle.worker_pool.specs.Jobs.{DoneValue};
-    ghost use Rattle.std.specs.Prelude.{option_map};
 
     ghost Value = { DoneValue };
 
     ghost coded = { Prim.hlevel (known_codes, node.the_row.coded) };
 
-    ghost view = { λ d. record { number = d.number; place = d.recorded.place; checked = option_map (λ b. b.value) d.checked } };
+    ghost view = { λ d. record { number = d.number; place = d.recorded.place; checked = d.checked } };
 }
 
 impl<'a> CheckDone<'a> {
@@ -53,10 +51,7 @@ impl<'a> CheckDone<'a> {
     pub fn into_checked(self) -> Option<CheckedSet<'a>>
         ensures { result ≡ self.entry.checked }
     {
-        match self.checked {
-            None => None,
-            Some(checked) => Some(Box::into_inner(checked)),
-        }
+        self.checked
     }
 }
 
@@ -86,21 +81,6 @@ fn checked_at<'g: 'a, 'a>(
     }
 }
 
-fn boxed<'a>(
-    alloc: Global,
-    checked: Option<CheckedSet<'a>>,
-) -> Result<Option<Box<CheckedSet<'a>>>, NoMemory>
-    ensures { IfOk result (λ boxed. option_map (λ b. b.value) boxed ≡ checked.entry) }
-{
-    match checked {
-        None => Ok(None),
-        Some(checked) => match Box::new(alloc, checked) {
-            Ok(set) => Ok(Some(set)),
-            Err(_) => Err(NoMemory),
-        },
-    }
-}
-
 /// Checks the set of a job whose place was recorded. The only error is out of memory.
 pub fn run_check<'g: 'a, 'a>(
     alloc: Global,
@@ -113,7 +93,7 @@ pub fn run_check<'g: 'a, 'a>(
     ensures job { IfOk result (λ d. job_of d ≡ job_value job.now) }
     ensures number { IfOk result (λ d. d.number ≡ number) }
 {
-    let checked = boxed(alloc, checked_at(alloc, job)?)?;
+    let checked = checked_at(alloc, job)?;
     Ok(CheckDone {
         number,
         recorded,
