@@ -10,11 +10,9 @@
 //!   acknowledgments that stood before;
 //! - `answers_to` answers the groups of one interchange, and `judge` gives it the standings that these answers leave;
 //! - the acknowledgment of an interchange has a TA1 where it is answered with one, and a 999 for each group but those of acknowledgments;
-//!   it takes its partner's next interchange number, and its group, where it has 999s, the next group number;
-//! - the interchanges of a text are answered in one way (`answers_are_one`), and the answer to a set says that it is accepted
-//!   exactly where the set meets its guide and no earlier set of its group has its ST02 (`accepted_as_it_meets`);
-//! - a duplicate, a group's code 19 and a set's code 23 are reported exactly where the first use of the number, by the order of places, is
-//!   an earlier place (`numbers_told_by_first_use`).
+//!   it takes its partner's next interchange number, and its group, where it has 999s, the next group number.
+//!
+//! The theorems of these answers, such as that a set is reported as accepted exactly where it meets its guide, are in `night_law`.
 //!
 //! Numbers are looked up in ordered sets, so that the cost follows the bytes but for a logarithm, whatever numbers somebody
 //! chooses. The answers to one interchange are held at a time.
@@ -34,7 +32,6 @@ mod finding;
 mod found;
 mod groups;
 mod headers;
-mod laws;
 mod numbers;
 mod seen;
 mod sending;
@@ -50,9 +47,6 @@ mod walk;
 pub use answered::AnsweredGroup;
 pub use files::Acknowledgments;
 pub use finding::Finding;
-pub use laws::{
-    accepted_as_it_meets, answers_are_one, asked_by_first_use, numbers_told_by_first_use,
-};
 pub use settled::{fault_alone, faults_behind, settled_faults};
 pub use spot::answers_to;
 pub use walk::{CheckedText, answer_found, check_text, judge, no_acknowledgments};

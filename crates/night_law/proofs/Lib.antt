@@ -1,3 +1,4 @@
+pub mod Accepted
 pub mod Bodies
 pub mod Changing
 pub mod Delivered
@@ -8,6 +9,7 @@ pub mod Headers
 pub mod Mailboxes
 pub mod Marked
 pub mod Naming
+pub mod Once
 pub mod OneNight
 pub mod OneSet
 pub mod Pairs

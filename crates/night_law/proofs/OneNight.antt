@@ -7,9 +7,9 @@ use Rattle.partner_setup.specs.declared.partner.Partner.{Partner}
 use Rattle.partner_setup.specs.Setup.{SetupValue}
 use Rattle.checked_text.specs.CheckedText.{CheckedInterchange, AreCheckedAs}
 use Rattle.checked_text.specs.Settled.{settled_faults}
-use Rattle.checked_text.proofs.Once.{checked_once, pairs_once}
 use Rattle.night_writing.specs.declared.night.Night.{Night}
 use Rattle.night_writing.specs.Night.{AreForPartners, IsKnown, IsNight, IsNightOf, acks_of, box_of, next_of}
+use Rattle.night_law.proofs.Once.{checked_once, pairs_once}
 
 for_partners_once : {A : Type 0} (setup : SetupValue) (f : ℕ → Partner → A) (xs ys : List A)
     → AreForPartners setup f xs → AreForPartners setup f ys → xs ≡ ys

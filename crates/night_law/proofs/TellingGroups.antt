@@ -30,8 +30,8 @@ use Rattle.ack_999.proofs.Parts.{text_999-parts}
 use Rattle.checked_text.specs.declared.answered.AnsweredGroup.{AnsweredGroup}
 use Rattle.checked_text.specs.Answers.{AreSetAnswers, IsGroupAnswer, IsSetAnswer, SentValue, answer_by, codes_where, has_number_among}
 use Rattle.checked_text.specs.Answers.{support_of, trailer_of}
-use Rattle.checked_text.specs.Meets.{Meets}
 use Rattle.checked_text.specs.Pairs.{AreAllPairs}
+use Rattle.night_law.specs.Meets.{Meets}
 use Rattle.night_law.specs.Told.{IsGroupTold, IsSetTold, is_served}
 use Rattle.night_law.proofs.Headers.{HasHeader, at_index}
 use Rattle.night_law.proofs.Pairs.{no_pairs, pairs_map}

@@ -1,3 +1,4 @@
+pub mod Meets
 pub mod Quotable
 pub mod ReadBack
 pub mod Responses

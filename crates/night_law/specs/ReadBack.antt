@@ -9,9 +9,9 @@ use Rattle.partner_setup.specs.Setup.{SetupValue}
 use Rattle.judged_text.specs.Judged.{responded_groups}
 use Rattle.checked_text.specs.Answers.{SentValue}
 use Rattle.checked_text.specs.CheckedText.{sent_by}
-use Rattle.checked_text.specs.Meets.{Meets}
 use Rattle.checked_text.specs.Pairs.{AreAllPairs}
 use Rattle.checked_text.specs.Settled.{settled_entries}
+use Rattle.night_law.specs.Meets.{Meets}
 use Rattle.night_law.specs.Quotable.{AreQuotable}
 use Rattle.night_law.specs.Responses.{Response, responses_in}
 use Rattle.night_law.specs.Told.{groups_told, is_told_to, told_sets}

@@ -31,9 +31,9 @@ use Rattle.judged_text.specs.Judged.{is_fa}
 use Rattle.checked_text.specs.declared.answered.AnsweredGroup.{AnsweredGroup}
 use Rattle.checked_text.specs.Answers.{IsGroupAnswer, IsSetAnswer, SentValue}
 use Rattle.checked_text.specs.CheckedText.{is_partner, sent_by}
-use Rattle.checked_text.specs.Meets.{Meets}
 use Rattle.checked_text.specs.Pairs.{AreAllPairs}
 use Rattle.checked_text.specs.Settled.{settled_entries}
+use Rattle.night_law.specs.Meets.{Meets}
 
 -- AK2 of a set with this ST: ST01, ST02, and ST03 where it is the name of a convention
 abbrev pub set_opening : Delims → (st : SegValue) → List ℕ

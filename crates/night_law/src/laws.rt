@@ -1,16 +1,47 @@
 ghost use Rattle.std.specs.Prelude.{◌≡◌, ℕ, List};
 ghost use Rattle.std.specs.List.{All};
 ghost use Rattle.moment.specs.Moment.{IsMoment};
+ghost use Rattle.env_index.specs.Words.{IndexEntry, IndexValue, IsIndex};
 ghost use Rattle.partner_setup.specs.Setup.{SetupValue};
 ghost use Rattle.partner_setup.specs.Sound.{IsSoundSetup};
+ghost use Rattle.checked_text.specs.Answers.{IsSetAnswer, SentValue};
+ghost use Rattle.checked_text.specs.Asked.{AreAskedByFirstUse};
+ghost use Rattle.checked_text.specs.CheckedText.{CheckedInterchange, AreCheckedAs};
+ghost use Rattle.checked_text.specs.FirstUse.{AreToldByFirstUse};
 ghost use Rattle.night_writing.specs.declared.night.Night.{Night};
 ghost use Rattle.night_writing.specs.Night.{IsNight};
+ghost use Rattle.night_law.specs.Meets.{IsAcceptedAsItMeets};
 ghost use Rattle.night_law.specs.Quotable.{AreAllQuotable, IsGuidePlain};
 ghost use Rattle.night_law.specs.ReadBack.{AreReadBack};
 ghost use Rattle.night_law.specs.SetsRead.{AreBoxesRead};
 ghost use Rattle.night_law.specs.Ta1sRead.{AreTa1sReadBack};
 ghost use Rattle.night_law.specs.Tallied.{AreCountersTallied, AreNumbersTallied};
 ghost use Rattle.night_law.specs.Told.{AreSetsTold};
+
+/// The interchanges of a text are answered in one way. It does nothing: its contract is the theorem.
+pub fn answers_are_one()
+    ensures { (text : List ℕ) (setup : SetupValue) (entries : List IndexEntry) (a b : List CheckedInterchange)
+        → AreCheckedAs text setup entries a → AreCheckedAs text setup entries b → a ≡ b }
+{}
+
+/// The answer to a set says that it is accepted (999 guide, IK501 is A) exactly where the set meets its guide and no earlier set
+/// of its group has its ST02. It does nothing: its contract is the theorem.
+pub fn accepted_as_it_meets()
+    ensures { IsAcceptedAsItMeets }
+{}
+
+/// What is reported of earlier numbers (an interchange is a duplicate; AK905 19; IK502 23) is reported exactly where the first use of the
+/// number, by the order of places in the text, is an earlier place. It does nothing: its contract is the theorem.
+pub fn numbers_told_by_first_use()
+    ensures { (text : List ℕ) (setup : SetupValue) (index : IndexValue) → IsIndex text index → AreToldByFirstUse setup index.entries }
+{}
+
+/// What is asked of the places of an index before a text is answered is one question at each of its places, in their order, and that an
+/// earlier place has a number is asked exactly where the number's first use is an earlier place. It does nothing: its contract is the
+/// theorem.
+pub fn asked_by_first_use()
+    ensures { (text : List ℕ) (setup : SetupValue) (index : IndexValue) → IsIndex text index → AreAskedByFirstUse text setup index.entries }
+{}
 
 /// A text has one night by a setup and at a moment. It does nothing: its contract is the theorem.
 pub fn night_is_one()

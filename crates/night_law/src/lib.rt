@@ -1,7 +1,14 @@
-//! The theorems of a night: what its acknowledgments and mailboxes say, and how partners read them. Theorems alone: none of these calls
-//! does anything. A run promises all of it as one record of the whole night (`IsWholeNight`).
+//! The theorems of a checked text and of a night: when a set is accepted and a number is told as used, what acknowledgments and mailboxes
+//! say, and how partners read them. Theorems alone: none of these calls does anything. A run promises all that is said of its night as one
+//! record of the whole night (`IsWholeNight`).
 //!
-//! Proved:
+//! Proved of a checked text:
+//! - its interchanges are answered in one way (`answers_are_one`), and the answer to a set says that it is accepted exactly where the set
+//!   meets its guide and no earlier set of its group has its ST02 (`accepted_as_it_meets`);
+//! - a duplicate, a group's code 19 and a set's code 23 are reported exactly where the first use of the number, by the order of places, is
+//!   an earlier place (`numbers_told_by_first_use`), and so it is asked before a text is answered (`asked_by_first_use`).
+//!
+//! Proved of a night:
 //! - a text, a setup and a moment have one night (`night_is_one`);
 //! - the bytes of its acknowledgments are, one after the other, those of the interchanges that are answered, with a 999 for each
 //!   group and an AK2 loop for each set; the loop ends with an IK5 whose code is A exactly where the set meets its guide and no
@@ -23,7 +30,8 @@
 mod laws;
 
 pub use laws::{
-    acknowledgments_are_read_as_sets_meet, counters_are_tallied, mailboxes_are_read_as_sets,
-    night_is_one, plain_references_are_quoted, sets_are_told_as_they_meet,
+    accepted_as_it_meets, acknowledgments_are_read_as_sets_meet, answers_are_one,
+    asked_by_first_use, counters_are_tallied, mailboxes_are_read_as_sets, night_is_one,
+    numbers_told_by_first_use, plain_references_are_quoted, sets_are_told_as_they_meet,
     ta1s_are_read_as_interchanges_are_answered,
 };

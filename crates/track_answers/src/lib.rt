@@ -3,7 +3,7 @@
 //! themselves those of one interchange are held at a time.
 //!
 //! Proved:
-//! - `note_text` keeps of each interchange just that of its one answer, as `checked_text` defines it (`answers_are_one`).
+//! - `note_text` keeps of each interchange just that of its one answer, as `checked_text` defines it (`night_law::answers_are_one`).
 //!
 //! Source: X12.5, interchange sender and interchange acknowledgment (TA1); X12.6, functional group and transaction set; 999 guide
 //! (005010X231).
