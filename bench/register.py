@@ -16,7 +16,7 @@ import tempfile
 
 TOP = os.path.join(os.path.dirname(os.path.abspath(__file__)), '..')
 CRATES = ('hub_kinds', 'x12_bytes', 'x12_segs', 'isa_scan', 'cut_plan', 'env_marks', 'env_index', 'claim_desk', 'job_pool',
-          'number_book', 'work_core', 'number_register')
+          'work_core', 'number_register')
 PROGRAM = 'register_timer: job_pool number_register env_index hub_kinds\n'
 HEADER = (b'ISA*00*          *00*          *01*ACME           *ZZ*HUB            '
           b'*260228*0900*^*00501*000000007*0*P*>~')

@@ -4,10 +4,10 @@ use Rattle.std.specs.Prelude.{ℕ, Bool, true, false, not, ◌==◌, ◌&&◌, L
 use Rattle.std.specs.List.{count_by, flat_map}
 use Rattle.std.specs.Str.{bytes_eq}
 use Rattle.hub_kinds.specs.Words as texts
-use Rattle.code_words.specs.Words.{element_codes, element_words, group_codes, group_verdict_words, group_verdicts, group_words}
-use Rattle.code_words.specs.Words.{interchange_verdict_text, interchange_verdicts, interchange_words}
-use Rattle.code_words.specs.Words.{note_code_text, note_codes, note_words}
-use Rattle.code_words.specs.Words.{segment_codes, segment_words, set_codes, set_verdict_words, set_verdicts, set_words, words_by}
+use Rattle.ack_lines.specs.CodeWords.{element_codes, element_words, group_codes, group_verdict_words, group_verdicts, group_words}
+use Rattle.ack_lines.specs.CodeWords.{interchange_verdict_text, interchange_verdicts, interchange_words}
+use Rattle.ack_lines.specs.CodeWords.{note_code_text, note_codes, note_words}
+use Rattle.ack_lines.specs.CodeWords.{segment_codes, segment_words, set_codes, set_verdict_words, set_verdicts, set_words, words_by}
 use Rattle.ack_read.specs.declared.told.ElementTold.{ElementTold}
 use Rattle.ack_read.specs.declared.told.GroupTold.{GroupTold}
 use Rattle.ack_read.specs.declared.told.NoteTold.{NoteTold}

@@ -1,9 +1,10 @@
 ghost use Rattle.std.specs.Prelude.{◌≡◌, ◌++◌, OnOk, codes};
 ghost use Rattle.ack_lines.specs.Lines as lines;
 
+use crate::interchanges::{InterchangeVerdict, NoteCode};
 use crate::shown::{append_coded, append_if, append_number, append_shown, append_text};
+use crate::worded::words_of;
 use ack_read::{ElementTold, SegmentTold, SetTold, Ta1Told};
-use code_words::{InterchangeVerdict, NoteCode, words_of};
 use hub_kinds::NoMemory;
 
 /// Writes in which interchange something is reported.

@@ -1,14 +1,14 @@
 ghost use Rattle.std.specs.Prelude.{◌≡◌, ◌++◌, OnOk, IfOk, codes, List, ℕ};
 ghost use Rattle.std.specs.List.{flat_map};
-ghost use Rattle.code_words.specs.Words.{words_by};
+ghost use Rattle.ack_lines.specs.CodeWords.{words_by};
 ghost use Rattle.ack_lines.specs.Lines as lines;
 
 use crate::heads::{append_group_head, append_set_head, append_ta1_line};
 use crate::notes::append_note_lines;
 use crate::reported::{Reported, is_rejected};
 use crate::shown::{append_coded, append_text};
+use crate::worded::{Worded, words_of};
 use ack_read::{GroupTold, SetTold};
-use code_words::{Worded, words_of};
 use hub_kinds::{GroupCode, GroupVerdict, Lent, NoMemory, SetCode, Verdict};
 use std::alloc::Global;
 

@@ -4,8 +4,8 @@ ghost use Rattle.ack_lines.specs.Lines as lines;
 
 use crate::heads::{append_element_place, append_segment_place, append_segment_subject};
 use crate::shown::{append_coded, append_if, append_text};
+use crate::worded::words_of;
 use ack_read::{ElementTold, NoteTold, SegmentTold};
-use code_words::words_of;
 use hub_kinds::{ElementCode, NoMemory, SegmentCode};
 
 /// Writes what an IK3 says.

@@ -21,17 +21,17 @@ use Rattle.checked_text.proofs.Numbered.{by_numbers}
 use Rattle.batch_law.specs.Batches.{ChainUpTo}
 use Rattle.batch_law.specs.Moved.{IsIndexUpTo, moved_entry}
 use Rattle.batch_law.proofs.Stepping.{ends, starts, steps}
-use Rattle.batch_sets.specs.MovedSets.{moved_judged, moved_placed}
+use Rattle.batch_night.specs.MovedSets.{moved_judged, moved_placed}
 use Rattle.mailbox.specs.Rendered.{RenderedValue, rendered_from}
-use Rattle.batch_sets.proofs.Placed.{delivered_moved}
-use Rattle.batch_sets.specs.Within.{IsWithinText}
-use Rattle.batch_report.proofs.Lines.{lines_joined, lines_moved}
-use Rattle.batch_report.proofs.Totals.{totals_joined, totals_moved}
-use Rattle.batch_checked.specs.MovedAnswers.{moved_answered}
-use Rattle.batch_checked.proofs.Answering.{all_moved, judged_moved}
-use Rattle.batch_checked.proofs.Filing.{filed_moved}
-use Rattle.batch_checked.proofs.Numbering.{faults_moved, settled_joined}
-use Rattle.batch_checked.proofs.Pairs.{pairs_joined}
+use Rattle.batch_night.proofs.Placed.{delivered_moved}
+use Rattle.batch_night.specs.Within.{IsWithinText}
+use Rattle.batch_night.proofs.Lines.{lines_joined, lines_moved}
+use Rattle.batch_night.proofs.Totals.{totals_joined, totals_moved}
+use Rattle.batch_night.specs.MovedAnswers.{moved_answered}
+use Rattle.batch_night.proofs.Answering.{all_moved, judged_moved}
+use Rattle.batch_night.proofs.Filing.{filed_moved}
+use Rattle.batch_night.proofs.Numbering.{faults_moved, settled_joined}
+use Rattle.batch_night.proofs.Pairs.{pairs_joined}
 use Rattle.batch_night.specs.UpTo as up
 use Rattle.night_writing.proofs.Joining.{rendered_length}
 use Rattle.night_writing.proofs.Starting.{nothing_is_written}

@@ -1,4 +1,12 @@
+pub mod Answering
 pub mod Closed
+pub mod Filing
 pub mod Going
+pub mod Lines
+pub mod Numbering
+pub mod Pairs
+pub mod Placed
+pub mod Sets
 pub mod Shown
+pub mod Totals
 pub mod Written

@@ -16,10 +16,10 @@ use Rattle.mailbox.specs.Deliveries.{delivered_to, is_delivered_to}
 use Rattle.judged_text.specs.Judged.{JudgedValue, PlacedValue, all_sets, sets_of_groups_from, sets_from, sets_of, standing_at}
 use Rattle.mailbox.specs.Numbered.{group_key_of}
 use Rattle.checked_text.specs.CheckedText.{CheckedInterchange, judged}
-use Rattle.batch_sets.specs.MovedSets.{moved_placed}
+use Rattle.batch_night.specs.MovedSets.{moved_placed}
 use Rattle.mailbox.specs.Rendered.{RenderedValue, rendered, rendered_from}
-use Rattle.batch_sets.proofs.Placed.{text_moved}
-use Rattle.batch_sets.specs.Within.{IsWithinText}
+use Rattle.batch_night.proofs.Placed.{text_moved}
+use Rattle.batch_night.specs.Within.{IsWithinText}
 
 pub rendered_joined : (partner : Partner) (k : ℕ) (xs ys : List PlacedValue)
     → rendered_from partner k (xs ++ ys) ≡ rendered_from partner k xs ++ rendered_from partner (k + length xs) ys

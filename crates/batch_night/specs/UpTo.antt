@@ -6,7 +6,7 @@ use Rattle.partner_setup.specs.Setup.{SetupValue}
 use Rattle.checked_text.specs.CheckedText.{AreCheckedAs, CheckedInterchange}
 use Rattle.checked_text.specs.Settled.{faults_with, kept_keys, settled_entries}
 use Rattle.batch_law.specs.Moved.{IsIndexUpTo, moved_entry}
-use Rattle.batch_checked.specs.MovedAnswers.{moved_answered}
+use Rattle.batch_night.specs.MovedAnswers.{moved_answered}
 use Rattle.night_writing.specs.Writing.{IsBatchWritten, IsWrittenOf, WritingValue, nothing_written}
 
 -- what is carried from batch to batch. The entries and the answers are named by contracts alone: of them the code keeps their number

@@ -28,7 +28,7 @@
 //!
 //! Source: X12.6, order of segments in a transaction set; the 999 guide (005010X231), IK304. The tables are own.
 //!
-//! Tests: `trial_sets`, `trial_tables`, `trial_workers`.
+//! Tests: `trial_sets`, `trial_workers`.
 #![tactic(auto)]
 
 mod by_table;

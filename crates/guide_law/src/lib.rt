@@ -12,7 +12,7 @@
 //!
 //! Source: X12.6, transaction sets, loops and segments; the 999 guide (005010X231), IK304.
 //!
-//! Tests: `trial_guides`, `trial_nights`, `trial_sets`, `trial_tables`.
+//! Tests: `trial_guides`, `trial_nights`, `trial_sets`.
 #![tactic(auto)]
 
 mod law;

@@ -7,8 +7,8 @@ use Rattle.checked_text.proofs.Settling.{settled_spans}
 use Rattle.checked_text.specs.Asked.{IsFound, asked_of}
 use Rattle.checked_text.specs.CheckedText.{AreCheckedAs}
 use Rattle.checked_text.specs.Settled.{settled_faults}
-use Rattle.night_work.specs.FoundOut.{IsFoundOut}
-use Rattle.night_work.specs.declared.found.FoundText.{FoundText}
+use Rattle.night_findings.specs.FoundOut.{IsFoundOut}
+use Rattle.night_findings.specs.declared.found.FoundText.{FoundText}
 use Rattle.night_writing.specs.Night.{IsNight, IsNightIn, IsNightOf}
 use Rattle.night_writing.specs.declared.night.Night.{Night}
 

@@ -10,7 +10,7 @@
 //!
 //! Source: X12.6, order of segments in a transaction set; the 999 guide (005010X231), IK304.
 //!
-//! Tests: `trial_guides`, `trial_tables`.
+//! Tests: `trial_guides`, `trial_sets`.
 #![tactic(auto)]
 
 mod fit;

@@ -14,10 +14,10 @@ use crate::rendered_sets::RenderedSets;
 use crate::room::room_for;
 use count_numbers::num;
 use hub_kinds::{Items, NoMemory, Text};
+use job_pool::OneThread;
 use judged_text::PlacedSet;
 use moment::At;
 use partner_setup::{Partner, Setup};
-use render_crew::OneThread;
 use std::alloc::Global;
 use x12_write::{OutboundHeader, append_trailer};
 

@@ -11,10 +11,10 @@ use crate::parts::{Part, parts_of};
 use crate::rendered_sets::RenderedSets;
 use crate::row::write_row;
 use hub_kinds::NoMemory;
+use job_pool::{ManyThreads, OneThread};
 use judged_text::PlacedSet;
 use partner_setup::Partner;
 use rayon::prelude::*;
-use render_crew::{ManyThreads, OneThread};
 use std::alloc::Global;
 use std::thread::Threads;
 

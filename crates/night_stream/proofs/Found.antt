@@ -9,8 +9,8 @@ use Rattle.checked_text.specs.Asked.{IsFound, asked_of}
 use Rattle.number_register.specs.SeenNumbers.{HaveSeen}
 use Rattle.checked_text.specs.Settled.{faults_with}
 use Rattle.number_register.specs.declared.seen.Seen.{Seen}
-use Rattle.night_work.specs.FoundOut.{IsFoundBehind}
-use Rattle.night_work.specs.declared.found.FoundBehind.{FoundBehind}
+use Rattle.night_findings.specs.FoundOut.{IsFoundBehind}
+use Rattle.night_findings.specs.declared.found.FoundBehind.{FoundBehind}
 use Rattle.night_writing.specs.Writing.{HasRoomFor, IsBatchWritten, WritingValue}
 use Rattle.night_stream.proofs.Bounds.{room_for}
 use Rattle.night_stream.specs.Carried.{CanGoOn}

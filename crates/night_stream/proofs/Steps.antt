@@ -14,7 +14,7 @@ use Rattle.number_register.specs.SeenNumbers.{HaveSeen}
 use Rattle.checked_text.specs.Settled.{faults_with, kept_keys, settled_faults}
 use Rattle.batch_law.specs.Batches.{ChainUpTo}
 use Rattle.batch_law.proofs.Chains.{chain_up_to_end}
-use Rattle.batch_checked.proofs.Numbering.{keys_behind}
+use Rattle.batch_night.proofs.Numbering.{keys_behind}
 use Rattle.batch_cut.proofs.Stays.{stands_on}
 use Rattle.batch_cut.specs.Scouting.{Advances, Stands}
 use Rattle.batch_cut.specs.declared.scout.Advanced.{Advanced}

@@ -12,12 +12,12 @@ use checked_text::{
 };
 use env_index::Index;
 use hub_kinds::{Items, NoMemory, Texts};
+use job_pool::OneThread;
 use judged_text::JudgedInterchange;
 use mailbox::{RenderedSets, Writers, nothing_rendered, render_deliveries};
 use moment::At;
 use night_report::ReportLines;
 use partner_setup::Setup;
-use render_crew::OneThread;
 use std::alloc::Global;
 use std::marker::Model;
 

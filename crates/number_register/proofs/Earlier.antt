@@ -8,8 +8,8 @@ use Rattle.std.proofs.lemmas.Bool.{ltb-true}
 use Rattle.std.proofs.lemmas.Option.{none-some}
 use Rattle.hub_kinds.specs.Words.{by_text}
 use Rattle.hub_kinds.specs.declared.place.Place.{Place}
-use Rattle.number_book.specs.Books.{book_at}
-use Rattle.number_book.specs.First.{first_of, where_before}
+use Rattle.number_register.specs.Books.{book_at}
+use Rattle.number_register.specs.First.{first_of, where_before}
 use Rattle.work_core.specs.Core.{was_recorded}
 use Rattle.env_index.specs.Words.{IndexValue, OfInterchange, OfGroup, OfSet, places_of}
 use Rattle.number_register.specs.Recording.{IsEarlierIn}

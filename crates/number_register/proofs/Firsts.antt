@@ -7,7 +7,7 @@ use Rattle.std.specs.declared.cmp.Ordering.{Ordering}
 use Rattle.std.proofs.lemmas.Bool.{ltb-true, ltb-false}
 use Rattle.std.proofs.lemmas.Option.{none-some, slice_get-get_or, slice_get_within}
 use Rattle.hub_kinds.specs.declared.place.Place.{Place}
-use Rattle.number_book.specs.First.{first_from, first_of, where_before}
+use Rattle.number_register.specs.First.{first_from, first_of, where_before}
 use Rattle.work_core.specs.Core.{was_recorded}
 use Rattle.number_register.specs.Slots.{AreSlots, slot}
 

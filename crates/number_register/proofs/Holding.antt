@@ -6,7 +6,7 @@ use Rattle.std.proofs.lemmas.Bool.{cases_eq}
 use Rattle.std.proofs.lemmas.List.{get_or-set_same, get_or-set_other}
 use Rattle.std.proofs.lemmas.Option.{none-some, slice_get-get_or}
 use Rattle.hub_kinds.specs.declared.place.Place.{Place}
-use Rattle.number_book.specs.Books.{book_at}
+use Rattle.number_register.specs.Books.{book_at}
 use Rattle.work_core.specs.Core.{was_recorded}
 use Rattle.env_index.specs.Words.{IndexEntry, GroupEntry}
 use Rattle.number_register.specs.Fresh.{fresh_books, fresh_groups, fresh_sets}

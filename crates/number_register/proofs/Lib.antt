@@ -2,6 +2,7 @@ mod Comparing
 mod Earlier
 mod Families
 mod Fill
+pub mod FirstKeys
 mod Firsts
 pub mod ForAbove
 mod Fullness

@@ -2,7 +2,7 @@
 use Rattle.std.proofs.Common.{◌≡◌, ℕ, ◌-◌, ◌≤◌, false, List, [], ◌∷◌, ◌++◌, map, get_or, Option, Some, None, sym, ap, subst, ◌∙◌}
 use Rattle.std.specs.Prelude.{slice_get, slice_set}
 use Rattle.hub_kinds.specs.declared.place.Place.{Place}
-use Rattle.number_book.specs.Books.{book_at}
+use Rattle.number_register.specs.Books.{book_at}
 use Rattle.work_core.specs.Core.{was_recorded}
 use Rattle.env_index.specs.Words.{IndexEntry}
 use Rattle.number_register.specs.Slots.{AreHeld, fields_of, group_code, groups_of, set_control, sets_of, texts_of}

@@ -5,7 +5,7 @@ use Rattle.std.specs.Prelude.{is_some, slice_get}
 use Rattle.std.proofs.lemmas.List.{length-map}
 use Rattle.std.proofs.lemmas.Option.{get_or_from_slice_get, slice_get-get_or}
 use Rattle.hub_kinds.specs.declared.place.Place.{Place}
-use Rattle.number_book.specs.Books.{book_at}
+use Rattle.number_register.specs.Books.{book_at}
 use Rattle.work_core.specs.Core.{was_recorded}
 use Rattle.env_index.specs.Words.{IndexEntry, place_at}
 use Rattle.number_register.specs.Placing.{IsPlaced}

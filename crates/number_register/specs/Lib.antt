@@ -1,5 +1,8 @@
+pub mod Books
+pub mod First
 pub mod Fresh
 pub mod Inside
+pub mod Known
 pub mod NoIndex
 pub mod Placing
 pub mod Recording

@@ -7,7 +7,7 @@ use Rattle.x12_bytes.specs.Header.{field_of}
 use Rattle.x12_segs.specs.Words.{element_of}
 use Rattle.env_index.specs.Words.{IndexEntry, place_at, GroupEntry}
 use Rattle.env_index.specs.declared.entry.SetEnvelope.{SetEnvelope}
-use Rattle.number_book.specs.Books.{book_at}
+use Rattle.number_register.specs.Books.{book_at}
 use Rattle.work_core.specs.Core.{was_recorded}
 use denote.Ref.{Bor}
 

@@ -50,6 +50,6 @@ impl<'i, 'a> FullRegister<'i, 'a> {
         requires { Contains (places_of self.now.index) place }
         ensures { IsEarlierIn self.now.index place result }
     {
-        self.records.earlier(place)
+        self.records.earlier_use(place)
     }
 }

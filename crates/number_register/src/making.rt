@@ -2,9 +2,9 @@
 ghost use Rattle.std.specs.Prelude.{◌≡◌, IfOk, map};
 ghost use Rattle.number_register.specs.Fresh.{fresh_books, fresh_groups, fresh_sets};
 
+use crate::books::Books;
 use env_index::{IndexedInterchange, Interchange};
 use hub_kinds::NoMemory;
-use number_book::Books;
 use std::alloc::Global;
 
 pub(crate) fn group_books(

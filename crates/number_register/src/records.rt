@@ -7,6 +7,8 @@ ghost use Rattle.number_register.specs.Placing.{IsKeyAt, IsPlaced};
 ghost use Rattle.number_register.specs.Recording.{IsEarlierIn, IsFull, IsRefused, IsShort};
 ghost use Rattle.number_register.specs.declared.key.Key.TheVariants.{OfGroup, OfInterchange, OfSet};
 
+use crate::book::Book;
+use crate::books::Books;
 use crate::fault::RecordFault;
 use crate::full::{FullRegister, Short};
 use crate::key::{Key, key_at};
@@ -14,7 +16,6 @@ use crate::making::{group_books, set_books};
 use crate::reading::interchange_key;
 use env_index::Index;
 use hub_kinds::{Items, NoMemory, Place};
-use number_book::{Book, Books};
 use std::alloc::Global;
 use std::marker::Model;
 
@@ -216,7 +217,7 @@ impl<'i, 'a> Records<'i, 'a> {
     }
 
     /// The first use of a place's number, where that is an earlier place.
-    pub(crate) fn earlier(&self, place: Place) -> Option<Place>
+    pub(crate) fn earlier_use(&self, place: Place) -> Option<Place>
         requires place { Contains (places_of self.now.index) place }
         requires full { IsFull self.now }
         ensures { IsEarlierIn self.now.index place result }

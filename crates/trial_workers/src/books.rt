@@ -1,5 +1,5 @@
 //! Keys by position, in whatever order they come.
-use number_book::Book;
+use number_register::Book;
 use std::alloc::Global;
 use std::test::Fail;
 

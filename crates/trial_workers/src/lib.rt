@@ -1,5 +1,5 @@
 //! The trial of what workers share: the desk (claim_desk) by two threads, jobs done by up to 64 workers (job_pool), keys by position
-//! (number_book), the rule of claims, records and finishes (work_core), the register of control numbers (number_register) by one
+//! (number_register), the rule of claims, records and finishes (work_core), the register of control numbers (number_register) by one
 //! thread and by four, over the index of a text, and the phases of a text's work (worker_pool) by up to 64 workers and after gates
 //! that make two workers meet, or one wait for the other. It has no code of the program.
 //!

@@ -1,6 +1,6 @@
 use Rattle.std.proofs.Common.{◌≡◌, ◌++◌, take}
 use Rattle.std.specs.List.{flat_map}
-use Rattle.code_words.specs.Words.{words_by}
+use Rattle.ack_lines.specs.CodeWords.{words_by}
 use Rattle.ack_lines.specs.Lines.{code_line}
 use Rattle.ack_lines.proofs.lines.append_each_code.Given as goal
 

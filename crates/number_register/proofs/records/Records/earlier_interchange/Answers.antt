@@ -3,7 +3,7 @@ use Rattle.std.specs.Prelude.{Contains, option_map, slice_get}
 use Rattle.std.specs.Cmp.Lexicographic.{slice_cmp}
 use Rattle.std.proofs.lemmas.Option.{slice_get_within}
 use Rattle.env_index.specs.Words.{places_of}
-use Rattle.number_book.specs.First.{first_of, where_before}
+use Rattle.number_register.specs.First.{first_of, where_before}
 use Rattle.number_register.specs.Recording.{IsEarlierIn, IsFull, Recording}
 use Rattle.number_register.specs.Slots.{interchange_place}
 use Rattle.hub_kinds.specs.Words.{by_text}

@@ -2,8 +2,8 @@ use Rattle.std.proofs.Common.{◌≡◌, ℕ, ◌+◌, ◌-◌, ◌<◌, [], get
 use Rattle.std.specs.Prelude.{Contains, option_map, slice_get, vec_len}
 use Rattle.std.proofs.lemmas.Option.{slice_get_within}
 use Rattle.env_index.specs.Words.{places_of, place_at}
-use Rattle.number_book.specs.Books.{book_at}
-use Rattle.number_book.specs.First.{first_of, where_before}
+use Rattle.number_register.specs.Books.{book_at}
+use Rattle.number_register.specs.First.{first_of, where_before}
 use Rattle.number_register.specs.Recording.{IsEarlierIn, IsFull, Recording}
 use Rattle.number_register.specs.Slots.{set_place}
 use Rattle.hub_kinds.specs.Words.{by_text}

@@ -7,7 +7,7 @@ use Rattle.env_index.specs.Words.{places_of}
 use Rattle.number_register.specs.Placing.{IsKeyAt}
 use Rattle.number_register.specs.Recording.{Recording}
 use Rattle.number_register.specs.Slots.{AreHeld}
-use Rattle.number_book.specs.Books.{book_at}
+use Rattle.number_register.specs.Books.{book_at}
 use Rattle.number_register.specs.declared.key.Key.TheVariants.{OfGroup}
 use Rattle.number_register.proofs.Once.{once_more}
 use Rattle.number_register.proofs.Slotting.{listed_more}

@@ -1,2 +1,0 @@
-pub mod MovedSets
-pub mod Within

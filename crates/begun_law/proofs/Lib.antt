@@ -1,5 +1,0 @@
-mod Absent
-mod Complete
-mod Header
-mod Mixed
-mod Sample

@@ -1,2 +1,0 @@
-pub mod FoundOut
-pub mod Pieces

@@ -1,7 +1,0 @@
-use Rattle.std.proofs.Common.{◌≡◌, map, Bool}
-use Rattle.worker_pool.specs.Jobs.{DoneValue}
-use Rattle.place_work.specs.Findings.{finding_of}
-use Rattle.place_work.proofs.findings.findings_of.Given as goal
-
-abbrev pub invariant-loop-done : goal.invariant-loop-done
-invariant-loop-done l = l.findings.items ≡ map (λ (p : DoneValue × Bool). finding_of p.0 p.1) l.yielded

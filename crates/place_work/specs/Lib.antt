@@ -1,4 +1,0 @@
-pub mod Alone
-pub mod Findings
-pub mod Flags
-pub mod Jobs
