@@ -1,4 +1,5 @@
 mod WorkedGroup
+pub mod ForAbove
 pub mod Noting
 pub mod Verdicts
 pub mod Parts

@@ -5,7 +5,7 @@ use Rattle.hub_kinds.specs.Words.{element_code_text}
 use Rattle.hub_kinds.specs.declared.codes.ElementCode.{ElementCode}
 use Rattle.hub_kinds.specs.declared.codes.ElementCode.TheVariants as element
 use Rattle.x12_write.specs.Segment.{before_rest, trimmed, elements_text, end_text, segment_text}
-use Rattle.x12_write.proofs.Trimming.{before_rest-some}
+use Rattle.x12_write.proofs.ForAbove.{before_rest-some}
 
 -- each code has a text
 element_text-some : (k : ElementCode) → 0 < length (element_code_text k)

@@ -10,7 +10,7 @@ use Rattle.x12_bytes.specs.declared.delims.Delims.{Delims}
 use Rattle.hub_kinds.specs.declared.answers.GroupAnswer.{GroupAnswer}
 use Rattle.hub_kinds.specs.declared.answers.SetAnswer.{SetAnswer}
 use Rattle.ack_999.specs.declared.totals.Totals.{Totals}
-use Rattle.x12_write.specs.Segment.{Segment, segment, segment_text, segments_text}
+use Rattle.x12_write.specs.Segment.{WrittenSegment, segment, segment_text, segments_text}
 use Rattle.ack_999.specs.Faults.{notes, note_segment, fault_segments}
 use Rattle.ack_999.specs.Group.{totals_of, set_segment_count}
 use Rattle.ack_999.specs.Report.{head_segments, convention_text, set_response, set_segments, set_loops, shows_sets, group_response}
@@ -23,7 +23,7 @@ framed first last inner = let long = length-append inner (last ∷ []) in omega 
 -- a set has two segments, and those of its faults
 length-set_segments-one : (d : Delims) (s : SetAnswer) → length (set_segments d s) ≡ 2 + length (notes s.faults)
 length-set_segments-one d s =
-    let first : Segment = segment (codes "AK2") (s.identifier ∷ s.control ∷ convention_text s.convention ∷ []) in
+    let first : WrittenSegment = segment (codes "AK2") (s.identifier ∷ s.control ∷ convention_text s.convention ∷ []) in
     framed first (set_response s) (fault_segments d s.faults)
     ∙ ap (λ (n : ℕ). 2 + n) (length-map (notes s.faults) (note_segment d))
 
@@ -57,12 +57,12 @@ shown-count d sets true =
 shown-count d sets false = refl
 
 -- texts in a row
-joined : (f : Segment → List ℕ) (head loops : List Segment) (response trailer : Segment)
+joined : (f : WrittenSegment → List ℕ) (head loops : List WrittenSegment) (response trailer : WrittenSegment)
     → flat_map f head ++ flat_map f loops ++ flat_map f (response ∷ trailer ∷ [])
     ≡ flat_map f (head ++ loops ++ response ∷ [] ++ trailer ∷ [])
 joined f head loops response trailer = simp (flat_map-append, append_assoc)
 
-four : (first second last : Segment) (loops : List Segment)
+four : (first second last : WrittenSegment) (loops : List WrittenSegment)
     → length loops + 4 ≡ length ((first ∷ second ∷ []) ++ loops ++ last ∷ []) + 1
 four first second last loops = let long = length-append loops (last ∷ []) in omega arith
 
@@ -70,7 +70,7 @@ four first second last loops = let long = length-append loops (last ∷ []) in o
 pub counted : (d : Delims) (g : GroupAnswer) (sets : List SetAnswer) (n : ℕ)
     → segment_count g (totals_of sets) ≡ length (head_segments g n ++ set_loops d g sets ++ group_response g (totals_of sets) ∷ []) + 1
 counted d g sets n =
-    let last : Segment = group_response g (totals_of sets) in
+    let last : WrittenSegment = group_response g (totals_of sets) in
     sym (shown-count d sets (shows_sets g.codes)) ∙ four last last last (set_loops d g sets)
 
 -- head, sets and tail are the acknowledgment
@@ -78,7 +78,7 @@ pub text_999-parts : (d : Delims) (g : GroupAnswer) (sets : List SetAnswer) (n :
     → head_text d g n ++ sets_text d g sets ++ tail_text d g (totals_of sets) n ≡ text_999 d g sets n
 text_999-parts d g sets n =
     let t : Totals = totals_of sets in
-    let inner : List Segment = head_segments g n ++ set_loops d g sets ++ group_response g t ∷ [] in
+    let inner : List WrittenSegment = head_segments g n ++ set_loops d g sets ++ group_response g t ∷ [] in
     ap (λ (s : List ℕ). head_text d g n ++ s ++ tail_text d g t n) (sym (shown-text d sets (shows_sets g.codes)))
     ∙ joined (λ s. segment_text d s.id s.elements) (head_segments g n) (set_loops d g sets) (group_response g t)
     (set_trailer (segment_count g t) n)

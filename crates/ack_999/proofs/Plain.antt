@@ -20,7 +20,7 @@ use Rattle.hub_kinds.specs.declared.set_codes.Verdict.TheVariants as verdict
 use Rattle.hub_kinds.specs.declared.set_codes.GroupVerdict.{GroupVerdict}
 use Rattle.hub_kinds.specs.declared.set_codes.GroupVerdict.TheVariants as group_verdict
 use Rattle.ack_999.specs.Faults.{id_text}
-use Rattle.x12_write.proofs.Plain.{is_plain, both}
+use Rattle.x12_write.proofs.ForAbove.{is_plain, both}
 use Rattle.ack_999.specs.Report.{convention_text}
 
 pub plain-set_code_text : (c : SetCode) → is_plain (set_code_text c) ≡ true

@@ -10,12 +10,12 @@ use Rattle.std.proofs.lemmas.Bool.{false_from_ne_true, eqb-true}
 use Rattle.x12_bytes.specs.Bytes.{is_line_end}
 use Rattle.x12_bytes.specs.declared.delims.Delims.{Delims}
 use Rattle.x12_segs.specs.Words.{parts, Seg, Segs, segs_of, part_at, views, view_of, elements_of}
-use Rattle.x12_write.specs.Segment.{Segment, trimmed, before_rest, elements_text, segment_text, segments_text}
+use Rattle.x12_write.specs.Segment.{WrittenSegment, trimmed, before_rest, elements_text, segment_text, segments_text}
 use Rattle.ack_999.specs.ReadBack.{written_parts}
 use Rattle.x12_write.specs.Undivided.{IsUndivided}
 
 -- nothing in a segment is taken for a delimiter, or passed over before it
-pub record IsReadable (d : Delims) (s : Segment) : Type 0 where
+pub record IsReadable (d : Delims) (s : WrittenSegment) : Type 0 where
   pub some : 0 < length s.id
   pub first : prefix_len is_line_end s.id ≡ 0
   pub id : IsUndivided d s.id
@@ -96,7 +96,7 @@ some-parts : (c : ℕ) (text : List ℕ) → 0 < length (parts c text)
 some-parts c text = omega (arith, length-slice_split (λ b. b == c) text)
 
 -- one written segment before other text is read first
-read-first : (d : Delims) (s : Segment) (place : ℕ) (text : List ℕ) → d.element ≢ d.terminator → IsReadable d s
+read-first : (d : Delims) (s : WrittenSegment) (place : ℕ) (text : List ℕ) → d.element ≢ d.terminator → IsReadable d s
     → (next : ℕ) × (map (λ seg. parts d.element seg.bytes) (segs_of place (parts d.terminator (segment_text d s.id s.elements ++ text)))
     ≡ written_parts s ∷ map (λ seg. parts d.element seg.bytes) (segs_of next (parts d.terminator text)))
 read-first d s place text other readable =
@@ -127,7 +127,7 @@ read-first d s place text other readable =
     )
 
 -- all segments are read
-read-all : (d : Delims) (segments : List Segment) (place : ℕ) → d.element ≢ d.terminator → All (IsReadable d) segments
+read-all : (d : Delims) (segments : List WrittenSegment) (place : ℕ) → d.element ≢ d.terminator → All (IsReadable d) segments
     → map (λ seg. parts d.element seg.bytes) (segs_of place (parts d.terminator (segments_text d segments))) ≡ map written_parts segments
 read-all d [] place other readable = refl
 read-all d (s ∷ segments) place other readable =
@@ -140,7 +140,7 @@ elements_of-views d [] = refl
 elements_of-views d (seg ∷ segs) = ap (λ (list : List (List (List ℕ))). parts d.element seg.bytes ∷ list) (elements_of-views d segs)
 
 -- written segments are read as they were written
-pub segments_text-reads_back : (d : Delims) (segments : List Segment) → d.element ≢ d.terminator → All (IsReadable d) segments
+pub segments_text-reads_back : (d : Delims) (segments : List WrittenSegment) → d.element ≢ d.terminator → All (IsReadable d) segments
     → map elements_of (views (segments_text d segments) d) ≡ map written_parts segments
 segments_text-reads_back d segments other readable =
     elements_of-views d (Segs (segments_text d segments) d.terminator) ∙ read-all d segments 0 other readable

@@ -15,9 +15,9 @@ use Rattle.ack_999.specs.ReadBack.{IsQuotable, IsQuotableFault}
 use Rattle.x12_write.specs.Undivided.{CanDivide, IsUndivided}
 use Rattle.ack_999.specs.Report.{head_segments, convention_text, set_segments, shows_sets, set_loops, listed_sets, accepted_sets}
 use Rattle.ack_999.specs.Report.{group_response, set_trailer, segments_999}
-use Rattle.x12_write.specs.Segment.{Segment, segment}
+use Rattle.x12_write.specs.Segment.{WrittenSegment, segment}
 use Rattle.ack_999.proofs.Plain.{plain-set_code_text}
-use Rattle.x12_write.proofs.Plain.{is_plain, plain-undivided, decimal-undivided, padded_number-undivided}
+use Rattle.x12_write.proofs.ForAbove.{is_plain, plain-undivided, decimal-undivided, padded_number-undivided}
 use Rattle.ack_999.proofs.Plain.{plain-group_code_text, plain-verdict_text, plain-group_verdict_text, plain-convention_text}
 use Rattle.ack_999.proofs.ReadBack.{IsReadable}
 use Rattle.ack_999.proofs.ReadableFaults.{readable, readable-faults}
@@ -57,7 +57,7 @@ readable-set d s can identifier control faults =
     All-cons P (verdict_text s.verdict) (map set_code_text s.codes)
     (plain-undivided d can (verdict_text s.verdict) (plain-verdict_text s.verdict))
     (undivided-codes d can set_code_text plain-set_code_text s.codes) in
-    let last : List Segment = segment (codes "IK5") ik5 ∷ [] in
+    let last : List WrittenSegment = segment (codes "IK5") ik5 ∷ [] in
     let last_all : All (IsReadable d) last =
     All-from_recursion (IsReadable d) last (readable d can (codes "IK5") ik5 (omega arith) refl refl ik5_all, tt) in
     All-cons (IsReadable d) (segment (codes "AK2") ak2) (fault_segments d s.faults ++ last)
@@ -113,7 +113,7 @@ pub readable-999 : (d : Delims) (g : GroupAnswer) (sets : List SetAnswer) (n : �
     → All (IsReadable d) (segments_999 d g sets n)
 readable-999 d g sets n can quotable =
     let t : Totals = totals_of sets in
-    let inner : List Segment = head_segments g n ++ set_loops d g sets ++ group_response g t ∷ [] in
+    let inner : List WrittenSegment = head_segments g n ++ set_loops d g sets ++ group_response g t ∷ [] in
     let loops = readable-loops d sets (shows_sets g.codes)
     (readable-sets d sets can quotable.identifiers quotable.controls quotable.faults) in
     let front =

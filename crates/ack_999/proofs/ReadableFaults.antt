@@ -16,7 +16,7 @@ use Rattle.ack_999.specs.ReadBack.{IsQuotableElement, IsQuotableFault}
 use Rattle.x12_write.specs.Undivided.{CanDivide, IsUndivided}
 use Rattle.x12_write.specs.Segment.{segment, elements_text, trimmed}
 use Rattle.ack_999.proofs.Plain.{plain-id_text, plain-segment_text, plain-element_text}
-use Rattle.x12_write.proofs.Plain.{is_plain, both, plain-undivided, decimal-undivided}
+use Rattle.x12_write.proofs.ForAbove.{is_plain, both, plain-undivided, decimal-undivided}
 use Rattle.ack_999.proofs.ReadBack.{IsReadable, trimmed-all}
 
 -- a segment with elements that hold no delimiter

@@ -12,7 +12,7 @@ use Rattle.hub_kinds.specs.Codes as code
 use Rattle.hub_kinds.specs.Words.{is_segment_id}
 use Rattle.ack_999.specs.Copy.{copy_text}
 use Rattle.x12_write.specs.Delimiters.{is_this}
-use Rattle.x12_write.specs.Segment.{Segment, segment, segment_text, elements_text, trimmed}
+use Rattle.x12_write.specs.Segment.{WrittenSegment, segment, segment_text, elements_text, trimmed}
 
 -- IK301: an id of 2 or 3 upper-case letters or digits stands, any other is written ZZZ (own)
 abbrev pub id_text : List ℕ → List ℕ
@@ -40,7 +40,7 @@ pub data Note : Type 0 where
   SegmentNote : (fault : Fault) → Note
   ElementNote : (elem : ElemFault) → Note
 
-abbrev pub note_segment : Delims → Note → Segment
+abbrev pub note_segment : Delims → Note → WrittenSegment
 note_segment d (SegmentNote f) =
     segment (codes "IK3") (id_text f.id ∷ decimal f.position ∷ f.loop_id ∷ code.segment_code_text (code_shown f) ∷ [])
 note_segment d (ElementNote e) =
@@ -72,7 +72,7 @@ abbrev pub notes : List Fault → List Note
 notes faults = notes_behind None faults
 
 -- the segments between AK2 and IK5
-abbrev pub fault_segments : Delims → List Fault → List Segment
+abbrev pub fault_segments : Delims → List Fault → List WrittenSegment
 fault_segments d faults = map (note_segment d) (notes faults)
 
 -- notes as they are written

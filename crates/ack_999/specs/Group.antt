@@ -18,9 +18,9 @@ use Rattle.ack_999.specs.declared.totals.Totals.{Totals}
 use Rattle.ack_999.specs.Faults.{notes}
 
 -- two control numbers, read as numbers, are the same
-abbrev pub agree : Option ℕ → Option ℕ → Bool
-agree (Some a) (Some b) = a == b
-agree _ _ = false
+abbrev pub are_same_number : Option ℕ → Option ℕ → Bool
+are_same_number (Some a) (Some b) = a == b
+are_same_number _ _ = false
 
 -- a code where a test fails
 abbrev pub unless : Bool → GroupCode → List GroupCode
@@ -37,8 +37,9 @@ support_codes support.VersionNotServed = code.VersionNotSupported ∷ []
 abbrev pub trailer_codes : List ℕ → Option GroupTrailer → ℕ → List GroupCode
 trailer_codes control None sets = code.TrailerMissing ∷ []
 trailer_codes control (Some trailer) sets =
-    unless (agree (number_of MOST_CONTROL_DIGITS trailer.control) (number_of MOST_CONTROL_DIGITS control)) code.ControlNumbersDiffer
-    ++ unless (agree (number_of MOST_COUNT_DIGITS trailer.listed) (Some sets)) code.SetCountWrong
+    unless (are_same_number (number_of MOST_CONTROL_DIGITS trailer.control)
+    (number_of MOST_CONTROL_DIGITS control)) code.ControlNumbersDiffer
+    ++ unless (are_same_number (number_of MOST_COUNT_DIGITS trailer.listed) (Some sets)) code.SetCountWrong
 
 -- 19: an earlier group of the interchange has the same GS06 as a number
 abbrev pub earlier_group_codes : Bool → List GroupCode

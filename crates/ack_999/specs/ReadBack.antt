@@ -6,7 +6,7 @@ use Rattle.hub_kinds.specs.declared.answers.GroupAnswer.{GroupAnswer}
 use Rattle.hub_kinds.specs.declared.answers.SetAnswer.{SetAnswer}
 use Rattle.hub_kinds.specs.declared.fault.Fault.{Fault}
 use Rattle.hub_kinds.specs.declared.fault.ElemFault.{ElemFault}
-use Rattle.x12_write.specs.Segment.{Segment, trimmed}
+use Rattle.x12_write.specs.Segment.{WrittenSegment, trimmed}
 use Rattle.x12_write.specs.Undivided.{CanDivide, IsUndivided}
 use Rattle.ack_999.specs.Report.{segments_999}
 
@@ -31,7 +31,7 @@ pub record IsQuotable (d : Delims) (g : GroupAnswer) (sets : List SetAnswer) : T
   pub faults : All (λ s. All (IsQuotableFault d) s.faults) sets
 
 -- what stands between the separators of a segment that is written
-abbrev pub written_parts : Segment → List (List ℕ)
+abbrev pub written_parts : WrittenSegment → List (List ℕ)
 written_parts s = s.id ∷ trimmed s.elements
 
 -- a text whose segments, read again, are those of the acknowledgment

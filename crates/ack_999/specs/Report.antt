@@ -10,13 +10,13 @@ use Rattle.hub_kinds.specs.declared.set_codes.GroupCode.{GroupCode}
 use Rattle.hub_kinds.specs.declared.set_codes.GroupCode.TheVariants as code
 use Rattle.hub_kinds.specs.Words.{set_code_text, group_code_text, verdict_text, group_verdict_text, number_of, is_word}
 use Rattle.ack_999.specs.declared.totals.Totals.{Totals}
-use Rattle.x12_write.specs.Segment.{Segment, segment, segments_text}
+use Rattle.x12_write.specs.Segment.{WrittenSegment, segment, segments_text}
 use Rattle.x12_write.specs.Number.{padded_number}
 use Rattle.ack_999.specs.Faults.{fault_segments}
 use Rattle.ack_999.specs.Group.{totals_of, received_sets, set_segment_count}
 
 -- ST and AK1
-abbrev pub head_segments : GroupAnswer → ℕ → List Segment
+abbrev pub head_segments : GroupAnswer → ℕ → List WrittenSegment
 head_segments g n =
     segment (codes "ST") (codes "999" ∷ padded_number 4 n ∷ codes "005010X231" ∷ [])
     ∷ segment (codes "AK1") (g.functional_id ∷ g.control ∷ g.version ∷ [])
@@ -26,11 +26,11 @@ head_segments g n =
 abbrev pub convention_text : List ℕ → List ℕ
 convention_text convention = if is_word 1 35 convention then convention else []
 
-abbrev pub set_response : SetAnswer → Segment
+abbrev pub set_response : SetAnswer → WrittenSegment
 set_response s = segment (codes "IK5") (verdict_text s.verdict ∷ map set_code_text s.codes)
 
 -- AK2, the set's faults, IK5
-abbrev pub set_segments : Delims → SetAnswer → List Segment
+abbrev pub set_segments : Delims → SetAnswer → List WrittenSegment
 set_segments d s =
     segment (codes "AK2") (s.identifier ∷ s.control ∷ convention_text s.convention ∷ [])
     ∷ fault_segments d s.faults
@@ -48,7 +48,7 @@ hides_sets code.ControlNumberNotUnique = false
 abbrev pub shows_sets : List GroupCode → Bool
 shows_sets group_codes = not (list_any hides_sets group_codes)
 
-abbrev pub set_loops : Delims → GroupAnswer → List SetAnswer → List Segment
+abbrev pub set_loops : Delims → GroupAnswer → List SetAnswer → List WrittenSegment
 set_loops d g sets = if shows_sets g.codes then flat_map (set_segments d) sets else []
 
 -- AK902: GE01 as a number where it is 1 to 6 digits, otherwise the number of sets
@@ -60,18 +60,18 @@ abbrev pub accepted_sets : List GroupCode → Totals → ℕ
 accepted_sets [] t = t.accepted + t.accepted_with_errors
 accepted_sets (_ ∷ _) t = 0
 
-abbrev pub group_response : GroupAnswer → Totals → Segment
+abbrev pub group_response : GroupAnswer → Totals → WrittenSegment
 group_response g t =
     segment (codes "AK9")
     (group_verdict_text g.verdict
     ∷ decimal (listed_sets g.listed t) ∷ decimal (received_sets t) ∷ decimal (accepted_sets g.codes t)
     ∷ map group_code_text g.codes)
 
-abbrev pub set_trailer : ℕ → ℕ → Segment
+abbrev pub set_trailer : ℕ → ℕ → WrittenSegment
 set_trailer count n = segment (codes "SE") (decimal count ∷ padded_number 4 n ∷ [])
 
 -- the segments of the acknowledgment of a group; SE01 is how many they are, from ST to SE
-abbrev pub segments_999 : Delims → GroupAnswer → List SetAnswer → ℕ → List Segment
+abbrev pub segments_999 : Delims → GroupAnswer → List SetAnswer → ℕ → List WrittenSegment
 segments_999 d g sets n =
     let inner = head_segments g n ++ set_loops d g sets ++ group_response g (totals_of sets) ∷ [] in
     inner ++ set_trailer (length inner + 1) n ∷ []

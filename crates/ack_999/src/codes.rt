@@ -1,6 +1,6 @@
 ghost use Rattle.std.specs.Prelude.{◌≡◌, ◌++◌, ℕ, List, IfOk, OnOk};
 ghost use Rattle.std.specs.Option.{option_copied};
-ghost use Rattle.ack_999.specs.Group.{agree, group_codes_of, support_codes, trailer_codes};
+ghost use Rattle.ack_999.specs.Group.{are_same_number, group_codes_of, support_codes, trailer_codes};
 
 use crate::support::GroupSupport;
 use crate::trailer::GroupTrailer;
@@ -74,7 +74,7 @@ fn add_trailer_codes(
 
 /// Whether both are numbers, and the same.
 fn agree(a: Option<u64>, b: Option<u64>) -> bool
-    ensures { result ≡ agree a b }
+    ensures { result ≡ are_same_number a b }
 {
     match (a, b) {
         (Some(a), Some(b)) => a == b,

@@ -14,12 +14,11 @@ use Rattle.x12_segs.specs.Words.{SegValue, id_of, part_or_empty, parts, seg_at, 
 use Rattle.x12_segs.specs.Kinds.{kind_of}
 use Rattle.x12_segs.specs.declared.kind.Kind.TheVariants.{InterchangeTrailer, GroupHeader, GroupTrailer, SetHeader, SetTrailer, Ta1}
 use Rattle.x12_segs.specs.declared.kind.Kind.TheVariants.{Other}
-use Rattle.x12_segs.proofs.PartLemmas.{parts-none}
-use Rattle.x12_segs.proofs.ShortIds.{id_found}
+use Rattle.x12_segs.proofs.ForAbove.{parts-none, id_found}
 use Rattle.env_index.specs.Words.{ends_interchange}
-use Rattle.env_index.proofs.Surround.{head_within}
+use Rattle.env_index.proofs.ForAbove.{head_within}
 use Rattle.batch_law.specs.Begun.{are_delims_begun, are_fields_begun, is_begun, may_begin}
-use Rattle.batch_law.proofs.Split.{first_byte}
+use Rattle.batch_law.proofs.ForAbove.{first_byte}
 
 -- these letters stand at an offset
 stands : (read letters : List ℕ) (n q : ℕ) → length letters ≡ n → q + n ≤ length read → take n (drop q read) ≡ letters

@@ -9,8 +9,7 @@ use Rattle.std.proofs.lemmas.List.{get_or-drop, get_or-take, length-drop, take_r
 use Rattle.memchr.specs.Find.{Nowhere, Passes, is_byte}
 use Rattle.x12_bytes.specs.HeaderTest.{is_head}
 use Rattle.env_index.specs.Words.{IsNextHead}
-use Rattle.env_index.proofs.Nexting.{no_head_ahead}
-use Rattle.env_index.proofs.Surround.{head_within}
+use Rattle.env_index.proofs.ForAbove.{no_head_ahead, head_within}
 use Rattle.batch_law.specs.Begun.{are_delims_begun, are_fields_begun, is_begun, may_begin}
 use Rattle.batch_law.specs.Batches.{WholeUpTo}
 use Rattle.batch_cut.specs.Seeking.{NoneRead}

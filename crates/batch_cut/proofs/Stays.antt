@@ -5,9 +5,9 @@ use Rattle.std.proofs.lemmas.List.{append_assoc, get_or-drop, get_or_append_left
 use Rattle.x12_bytes.specs.Bytes.{is_line_end}
 use Rattle.x12_bytes.specs.Header.{header_delims, header_at}
 use Rattle.x12_bytes.specs.HeaderTest.{is_head}
-use Rattle.env_index.proofs.Surround.{head_within}
+use Rattle.env_index.proofs.ForAbove.{head_within}
 use Rattle.batch_law.specs.Batches.{end_from}
-use Rattle.batch_law.proofs.Heads.{head_kept, header_kept}
+use Rattle.batch_law.proofs.ForAbove.{head_kept, header_kept}
 use Rattle.batch_cut.specs.Open.{IsOpen}
 use Rattle.batch_cut.specs.Scouting.{IsInside, Stands}
 use Rattle.batch_cut.specs.declared.scout.Inside.{Inside}

@@ -7,10 +7,9 @@ use Rattle.x12_bytes.specs.Header.{header_at, header_delims}
 use Rattle.x12_bytes.specs.HeaderTest.{is_head}
 use Rattle.x12_bytes.specs.declared.delims.Delims.{Delims}
 use Rattle.x12_segs.specs.Words.{segs_from, rest_from}
-use Rattle.x12_segs.proofs.OrderLemmas.{segs_in_order}
+use Rattle.x12_segs.proofs.ForAbove.{segs_in_order}
 use Rattle.env_index.specs.Words.{Extent, IsNextHead, ChainFrom, Reach, reach_at, reach_from}
-use Rattle.env_index.proofs.LeastEnd.{least_end}
-use Rattle.env_index.proofs.Surround.{head_within, no_head_past}
+use Rattle.env_index.proofs.ForAbove.{least_end, head_within, no_head_past}
 use Rattle.batch_law.specs.Begun.{may_begin}
 use Rattle.batch_law.specs.Batches.{ChainUpTo, WholeUpTo, end_from, whole_end}
 use Rattle.batch_law.proofs.Heads.{head_fits, head_kept, head_more, header_kept, none_begins, none_more}

@@ -5,7 +5,7 @@ use Rattle.std.proofs.lemmas.Bool.{and_parts, both_ways, cases_lt, false_from_ne
 use Rattle.std.proofs.lemmas.List.{length-take-le, take-take}
 use Rattle.x12_bytes.specs.Header.{header_at}
 use Rattle.x12_bytes.specs.HeaderTest.{is_head, is_header}
-use Rattle.env_index.proofs.Surround.{head_within}
+use Rattle.env_index.proofs.ForAbove.{head_within}
 use Rattle.batch_law.specs.Begun.{is_begun, may_begin}
 use Rattle.batch_law.proofs.Begin.{header_begun}
 use Rattle.batch_law.proofs.Split.{read_range, read_rest}

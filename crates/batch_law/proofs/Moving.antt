@@ -10,7 +10,7 @@ use Rattle.x12_bytes.specs.HeaderTest.{is_head, is_header}
 use Rattle.x12_bytes.specs.declared.delims.Delims.{Delims}
 use Rattle.x12_segs.specs.Kinds.{kind_of}
 use Rattle.x12_segs.specs.Words.{parts, moved_by, Seg, rest_from, rest_of, segs_from, without_line_ends, SegValue, view_of}
-use Rattle.x12_segs.proofs.CutLemmas.{segs_of-moved}
+use Rattle.x12_segs.proofs.ForAbove.{segs_of-moved}
 use Rattle.env_index.specs.Words.{Reach, behind, ends_interchange, onto_reach, reach_at, reach_from, reach_of}
 use Rattle.batch_law.specs.Moved.{moved_view}
 

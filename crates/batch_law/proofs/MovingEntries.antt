@@ -15,7 +15,8 @@ use Rattle.x12_segs.specs.declared.kind.Kind.TheVariants.{SetHeader}
 use Rattle.x12_segs.specs.declared.set_span.SetSpan.{SetSpan}
 use Rattle.hub_kinds.specs.declared.interchange.InterchangeFault.{InterchangeFault}
 use Rattle.env_index.specs.declared.entry.SetEnvelope.{SetEnvelope}
-use Rattle.env_index.specs.Words.{Set, InGroup, ASet, OutOfGroup, Group, InBody, ATa1, AGroup, OutOfBody, Body, Derives, option_items}
+use Rattle.env_index.specs.Words.{Set, InGroup, ASet, OutOfGroup, Group, InBody, ATa1, AGroup, OutOfBody, Body, DerivesInterchange}
+use Rattle.env_index.specs.Words.{option_items}
 use Rattle.env_index.specs.Words.{set_items, Extent, Reach, behind, behind_last, reach_at, control_number}
 use Rattle.env_index.specs.Words.{counts_groups, has_control, fault_of, fault_of_headers, fault_with, fault_by, has_set_headers}
 use Rattle.env_index.specs.Words.{is_group_header, is_set_header, IndexEntry, IsEntryOf, IsReadIn, extent_of, extents_of}
@@ -25,7 +26,7 @@ use Rattle.hub_kinds.specs.declared.interchange.InterchangeFault.TheVariants.{Co
 use Rattle.hub_kinds.specs.declared.interchange.InterchangeFault.TheVariants.{GroupHeaderInvalid, SetHeaderInvalid}
 use Rattle.env_index.specs.Summary.{GroupEntry, Summary, group_entry, groups_in, has_misplaced, has_misplaced_in_group, ta1_member_count}
 use Rattle.env_index.specs.Summary.{set_entry, sets_in, summary_of}
-use Rattle.env_index.proofs.Mapped.{derives_mapped}
+use Rattle.env_index.proofs.ForAbove.{derives_mapped}
 use Rattle.batch_law.specs.Batches.{ChainUpTo}
 use Rattle.batch_law.specs.Moved.{moved_entry, moved_extent, moved_group, moved_interchange, moved_set, moved_span, moved_summary}
 use Rattle.batch_law.specs.Moved.{moved_view}
@@ -267,7 +268,7 @@ read_past before text x is =
     let entry : List ℕ → ℕ → ℕ → Summary → InterchangeEntry = λ h s e c. record { header = h; start = s; end = e; content = c } in
     record {
       tree = tree;
-      derived = subst (λ (r : Reach). Derives kind_of r.segs tree) (sym reach)
+      derived = subst (λ (r : Reach). DerivesInterchange kind_of r.segs tree) (sym reach)
           (derives_mapped kind_of kind_of (moved_view by) (kind_moved by) (reach_at text x.start).segs is.tree is.derived);
       read = ap (moved_interchange by) is.read
           ∙ ap (λ (h : List ℕ). entry h (by + x.start) (by + (reach_at text x.start).end) (moved_summary by (summary_of is.tree)))

@@ -7,7 +7,7 @@ use Rattle.std.proofs.lemmas.List.{drop-take, get_or-drop, get_or-take, length-d
 use Rattle.std.proofs.lemmas.List.Sums.{fails_before_first, passes_at_first}
 use Rattle.memchr.specs.Find.{IsFirstByte, is_byte}
 use Rattle.x12_segs.specs.Words.{Seg, part_at, segs_from, rest_from, without_line_ends}
-use Rattle.x12_segs.proofs.SegLemmas.{IsCut, cut_found, segs_from-found, rest_from-found, segs_from-none, rest_from-none}
+use Rattle.x12_segs.proofs.ForAbove.{IsCut, cut_found, segs_from-found, rest_from-found, segs_from-none, rest_from-none}
 
 -- the search that always has an answer
 pub first_byte : (t : ℕ) (xs : List ℕ) → (r : Option ℕ) × IsFirstByte (is_byte t) xs r

@@ -11,10 +11,10 @@ use Rattle.x12_bytes.specs.Header.{header_delims, header_at}
 use Rattle.x12_segs.specs.Words.{segs_from, IsSetSpan, kind_of}
 use Rattle.x12_segs.specs.declared.set_span.SetSpan.{SetSpan}
 use Rattle.env_index.specs.declared.entry.SetEnvelope.{SetEnvelope}
-use Rattle.env_index.specs.Words.{Derives, Extent, Reach, count_outside, is_filler, reach_at, IndexEntry, IndexValue}
+use Rattle.env_index.specs.Words.{DerivesInterchange, Extent, Reach, count_outside, is_filler, reach_at, IndexEntry, IndexValue}
 use Rattle.env_index.specs.Words.{IsEntryOf, IsIndex, extent_of, extents_of, InterchangeEntry, HasSpans, span_of, GroupEntry}
 use Rattle.env_index.specs.Words.{Summary, summary_of}
-use Rattle.env_index.proofs.OneChain.{chain_from_is_one}
+use Rattle.env_index.proofs.ForAbove.{chain_from_is_one}
 use Rattle.batch_law.specs.Batches.{ChainUpTo}
 use Rattle.batch_law.specs.Moved.{IsIndexUpTo, count_up_to, moved_entry, moved_extent}
 use Rattle.batch_law.proofs.Chains.{chain_ends, chain_joined, chain_order, chain_read, reach_kept}
@@ -69,7 +69,7 @@ module _ (text : List ℕ) (c : ℕ) (within : c ≤ length text) where
       record {
         read = record {
           tree = is.read.tree;
-          derived = subst (λ (r : Reach). Derives kind_of r.segs is.read.tree) kept.2 is.read.derived;
+          derived = subst (λ (r : Reach). DerivesInterchange kind_of r.segs is.read.tree) kept.2 is.read.derived;
           read = is.read.read
               ∙ ap (λ (h : List ℕ). entry h (reach_at (take c text) x.start).end (summary_of is.read.tree)) kept.1
               ∙ ap (λ (r : Reach). entry (header_at text x.start) r.end (summary_of is.read.tree)) kept.2;

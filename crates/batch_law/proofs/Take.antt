@@ -10,10 +10,9 @@ use Rattle.x12_bytes.specs.Bytes.{is_line_end}
 use Rattle.x12_bytes.specs.HeaderTest.{is_head}
 use Rattle.x12_bytes.specs.declared.delims.Delims.{Delims}
 use Rattle.x12_segs.specs.Words.{Seg, segs_from, rest_from, without_line_ends, view_of, kind_of}
-use Rattle.x12_segs.proofs.FirstLemmas.{IsFirstSeg, first_seg}
-use Rattle.x12_segs.proofs.OrderLemmas.{StandInOrder, segs_in_order}
+use Rattle.x12_segs.proofs.ForAbove.{IsFirstSeg, first_seg, StandInOrder, segs_in_order}
 use Rattle.env_index.specs.Words.{Reach, behind, ends_interchange, onto_reach, reach_of, reach_from}
-use Rattle.env_index.proofs.Surround.{head_letter, no_head_past}
+use Rattle.env_index.proofs.ForAbove.{head_letter, no_head_past}
 use Rattle.batch_law.proofs.First.{first_is, first_start, leads_to_head, reach_at_first}
 use Rattle.batch_law.proofs.Heads.{head_kept, none_more}
 use Rattle.batch_law.proofs.Split.{IsSplit, first_byte, split_at}

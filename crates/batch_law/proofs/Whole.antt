@@ -7,7 +7,7 @@ use Rattle.x12_bytes.specs.Bytes.{is_line_end}
 use Rattle.x12_bytes.specs.HeaderTest.{is_head}
 use Rattle.x12_bytes.specs.declared.delims.Delims.{Delims}
 use Rattle.x12_segs.specs.Words.{Seg, segs_from, rest_from, SegValue, view_of, kind_of}
-use Rattle.x12_segs.proofs.OrderLemmas.{StandInOrder, segs_in_order}
+use Rattle.x12_segs.proofs.ForAbove.{StandInOrder, segs_in_order}
 use Rattle.env_index.specs.Words.{Reach, behind, ends_interchange, onto_reach, reach_of, reach_from}
 use Rattle.batch_law.specs.Begun.{may_begin}
 use Rattle.batch_law.specs.Batches.{end_by, end_from}

@@ -14,9 +14,9 @@ use Rattle.partner_setup.specs.Setup.{SetupValue}
 use Rattle.set_check.specs.Answer.{answer_to}
 use Rattle.set_check.specs.Checked.{Checked}
 use Rattle.set_check.specs.Codes.{control_of}
-use Rattle.ack_999.specs.Group.{agree, group_codes_of, group_verdict_of, verdicts_of}
+use Rattle.ack_999.specs.Group.{are_same_number, group_codes_of, group_verdict_of, verdicts_of}
 use Rattle.batch_law.specs.Moved.{moved_entry, moved_group, moved_set, moved_span, moved_view}
-use Rattle.batch_law.proofs.MovingEntries.{span_of_moved}
+use Rattle.batch_law.proofs.ForAbove.{span_of_moved}
 use Rattle.batch_night.specs.MovedSets.{moved_checked, moved_judged}
 use Rattle.batch_night.proofs.Sets.{answer_moved, checked_moved}
 use Rattle.checked_text.specs.declared.answered.AnsweredGroup.{AnsweredGroup}
@@ -24,7 +24,7 @@ use Rattle.checked_text.specs.Answers.{AreGroupAnswers, AreSetAnswers, IsGroupAn
 use Rattle.checked_text.specs.Answers.{controls_of, group_number, has_number_among, listed_by, support_of, trailer_of}
 use Rattle.checked_text.specs.CheckedText.{AreAnswersBy, AreCheckedAs, CheckedInterchange, IsCheckedAs, judged, sent_by}
 use Rattle.checked_text.specs.Seen.{is_among}
-use Rattle.checked_text.proofs.Growing.{at_index}
+use Rattle.checked_text.proofs.ForAbove.{at_index}
 use Rattle.batch_night.specs.MovedAnswers.{moved_answered}
 use Rattle.batch_night.proofs.Pairs.{pairs_first_mapped, pairs_mapped, take_mapped}
 
@@ -75,7 +75,7 @@ module _ (before behind : List ℕ) (sent : SentValue) where
   numbers_moved : (earlier : List GroupEntry) (group : GroupEntry)
       → has_number_among (map (moved_group by) earlier) (moved_group by group) ≡ has_number_among earlier group
   numbers_moved [] group = refl
-  numbers_moved (g ∷ gs) group = ap (λ (b : Bool). agree (group_number group) (group_number g) || b) (numbers_moved gs group)
+  numbers_moved (g ∷ gs) group = ap (λ (b : Bool). are_same_number (group_number group) (group_number g) || b) (numbers_moved gs group)
 
   codes_moved : (earlier : Bool) (group : GroupEntry) → codes_where whole earlier (moved_group by group) ≡ codes_where sent earlier group
   codes_moved earlier group = by_trailer group.trailer

@@ -3,7 +3,7 @@ use Rattle.std.proofs.Common.{ℕ, List, length}
 use Rattle.partner_setup.specs.Setup.{SetupValue}
 use Rattle.batch_night.specs.UpTo.{IsNightUpTo, IsWhole, NightSoFar}
 use Rattle.batch_night.proofs.Going.{night_ends}
-use Rattle.night_writing.proofs.Joining.{night_of_written}
+use Rattle.night_writing.proofs.ForAbove.{night_of_written}
 use Rattle.night_writing.specs.Night.{IsNight}
 use Rattle.night_writing.specs.Writing.{IsClosedBy}
 use Rattle.night_writing.specs.declared.night.Night.{Night}

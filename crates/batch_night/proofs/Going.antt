@@ -17,10 +17,10 @@ use Rattle.night_report.specs.declared.totals.Totals.{Totals}
 use Rattle.checked_text.specs.CheckedText.{AreAcknowledgments, AreCheckedAs, IsCheckedAs}
 use Rattle.checked_text.specs.CheckedText.{judged}
 use Rattle.checked_text.specs.Settled.{faults_from, faults_with, kept_keys, settled_faults}
-use Rattle.checked_text.proofs.Numbered.{by_numbers}
+use Rattle.checked_text.proofs.ForAbove.{by_numbers}
 use Rattle.batch_law.specs.Batches.{ChainUpTo}
 use Rattle.batch_law.specs.Moved.{IsIndexUpTo, moved_entry}
-use Rattle.batch_law.proofs.Stepping.{ends, starts, steps}
+use Rattle.batch_law.proofs.ForAbove.{ends, starts, steps}
 use Rattle.batch_night.specs.MovedSets.{moved_judged, moved_placed}
 use Rattle.mailbox.specs.Rendered.{RenderedValue, rendered_from}
 use Rattle.batch_night.proofs.Placed.{delivered_moved}
@@ -33,8 +33,7 @@ use Rattle.batch_night.proofs.Filing.{filed_moved}
 use Rattle.batch_night.proofs.Numbering.{faults_moved, settled_joined}
 use Rattle.batch_night.proofs.Pairs.{pairs_joined}
 use Rattle.batch_night.specs.UpTo as up
-use Rattle.night_writing.proofs.Joining.{rendered_length}
-use Rattle.night_writing.proofs.Starting.{nothing_is_written}
+use Rattle.night_writing.proofs.ForAbove.{rendered_length, nothing_is_written}
 use Rattle.night_writing.specs.Night.{judgements}
 use Rattle.night_writing.specs.Writing.{AreRendered}
 use Rattle.batch_night.specs.UpTo.{IsBatchDone, IsNightUpTo, IsWhole, NightSoFar}

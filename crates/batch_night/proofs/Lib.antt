@@ -1,6 +1,7 @@
 pub mod Answering
 pub mod Closed
 pub mod Filing
+pub mod ForAbove
 pub mod Going
 pub mod Lines
 pub mod Numbering

@@ -9,7 +9,7 @@ use Rattle.batch_law.specs.Moved.{moved_entry}
 use Rattle.checked_text.specs.Seen.{is_among}
 use Rattle.checked_text.specs.Settled.{fault_alone, fault_behind, fault_if_earlier, faults_from, faults_with, kept_keys, interchange_key_of}
 use Rattle.checked_text.specs.Settled.{keys_with, settled_faults}
-use Rattle.checked_text.proofs.Numbered.{keys_joined}
+use Rattle.checked_text.proofs.ForAbove.{keys_joined}
 
 module _ (setup : SetupValue) where
   abbrev kept : IndexEntry → Bool

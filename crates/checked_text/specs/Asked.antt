@@ -13,7 +13,7 @@ use Rattle.set_check.specs.Checked.{Checked}
 use Rattle.set_check.specs.Codes.{control_of}
 use Rattle.env_index.specs.Words.{IndexEntry, Numbered, index_places, span_of, GroupEntry}
 use Rattle.env_index.specs.declared.entry.SetEnvelope.{SetEnvelope}
-use Rattle.partner_setup.specs.Setup.{SetupValue, guide_of, sender_of}
+use Rattle.partner_setup.specs.Setup.{SetupValue, guide_for_set, sender_of}
 use Rattle.checked_text.specs.Answers.{SentValue, controls_of, has_number_among}
 use Rattle.checked_text.specs.CheckedText.{sent_by}
 use Rattle.checked_text.specs.FirstUse.{IsUsedEarlier, knows}
@@ -39,7 +39,7 @@ set_asked sent gs before set = record {
   set = Some (record {
     text = sent.text;
     span = span_of sent.delims set;
-    guide = guide_of sent.setup sent.sender (element_of gs 1) (element_of gs 8) (element_of set.header 1);
+    guide = guide_for_set sent.setup sent.sender (element_of gs 1) (element_of gs 8) (element_of set.header 1);
   });
 }
 

@@ -1,6 +1,7 @@
 pub mod Counting
 pub mod Counts
 pub mod Expanding
+pub mod ForAbove
 pub mod Grouping
 pub mod Interchanges
 pub mod Pushing

@@ -15,7 +15,7 @@ use Rattle.hub_kinds.specs.declared.counters.Counters.{Counters}
 use Rattle.partner_setup.specs.Setup.{partner_of}
 use Rattle.partner_setup.specs.SetupFaults.{bad_counter, bad_delimiters, bad_guides, bad_id, by_name, counts_for}
 use Rattle.partner_setup.specs.SetupFaults.{fault_of_names}
-use Rattle.partner_setup.specs.SetupFaults.{are_counters, are_ids, first_fault, first_row, first_twin, has_ids, lesser, name_of_row}
+use Rattle.partner_setup.specs.SetupFaults.{are_counters, are_ids, first_fault, first_row, first_twin, has_ids, lesser_place, name_of_row}
 use Rattle.partner_setup.specs.SetupFaults.{same_partner, twin_from}
 use Rattle.partner_setup.specs.Sound.{AreCounters}
 use Rattle.partner_setup.specs.declared.rows.CounterRow.{CounterRow}
@@ -50,7 +50,7 @@ map_none : {A B : Type 0} (f : A → B) (a : Option A) → option_map f a ≡ No
 map_none f None e = refl
 map_none f (Some x) e = cc
 
-lesser_parts : (a b : Option ℕ) → lesser a b ≡ None → (a ≡ None) × (b ≡ None)
+lesser_parts : (a b : Option ℕ) → lesser_place a b ≡ None → (a ≡ None) × (b ≡ None)
 lesser_parts None b e = (refl, e)
 lesser_parts (Some m) None e = cc
 lesser_parts (Some m) (Some n) e = cc

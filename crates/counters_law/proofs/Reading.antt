@@ -10,7 +10,7 @@ use Rattle.toml.specs.Tables.{Document, close, no_nodes}
 use Rattle.toml.proofs.ReadLines.{read_lines, run}
 use Rattle.toml.proofs.Turns.{document_some}
 use Rattle.toml_keys.specs.Tables.{are_tables, count_of_integer}
-use Rattle.partner_setup.specs.CountersFile.{counter_in, counters_of_table, second_counter_of, top_of}
+use Rattle.partner_setup.specs.CountersFile.{counter_in, counters_of_table, second_counter_of, counters_top}
 use Rattle.partner_setup.specs.SetupFile.{rows_in}
 use Rattle.partner_setup.specs.declared.rows.CounterRow.{CounterRow}
 use Rattle.partner_setup.specs.declared.values.Version.TheVariants as versions
@@ -37,7 +37,7 @@ rows_read (r ∷ rs) plain = rw (row_read r plain.0, rows_read rs plain.1) refl
 
 -- the rows of the table
 pub table_read : (rs : List CounterRow) → ArePlain rs → counters_of_table (table_of rs) ≡ Ok rs
-unfolding counters_of_table top_of
+unfolding counters_of_table counters_top
 table_read [] plain = refl
 table_read (r ∷ rs) plain = rw (tables (r ∷ rs), rows_read (r ∷ rs) plain) refl
 

@@ -1,3 +1,4 @@
+pub mod ForAbove
 pub mod Pieces
 pub mod Steps
 pub mod Whole

@@ -1,7 +1,7 @@
 -- What is reported of dependencies by the uses of their slots is what is reported of them by all placed segments.
 use Rattle.std.proofs.Common.{◌≡◌, ◌↔◌, ◌⊎◌, inl, inr, refl, ℕ, zero, suc, true, List, [], ◌∷◌, ◌++◌, sym, ap, subst, ◌∙◌}
 use Rattle.std.proofs.Common.{Option, Some, None, true≢false}
-use Rattle.elem_rules.proofs.Members.{no_member}
+use Rattle.elem_rules.proofs.ForAbove.{no_member}
 use Rattle.std.specs.Prelude.{IfSome, IsSomeAnd, IsTrue, Bool, false, ◌&&◌, is_some}
 use Rattle.std.specs.List.{Contains, list_any, flat_map, filter}
 use Rattle.std.specs.Option.{option_map_or}
@@ -15,9 +15,9 @@ use Rattle.hub_kinds.specs.Words.{contains_text}
 use Rattle.guide_tree.specs.declared.rows.Dependency.{Dependency}
 use Rattle.guide_tree.specs.declared.rows.DependencyKind.{DependencyKind}
 use Rattle.guide_tree.specs.declared.rows.DependencyKind.TheVariants as kind
-use Rattle.guide_tree.specs.Words.{element_of, Trees}
+use Rattle.guide_tree.specs.Words.{element_at, Trees}
 use Rattle.loop_match.specs.PlacedSegments.{PlacedSegment}
-use Rattle.depend_check.specs.Dependencies.{is_use, is_trigger, is_triggered, IsBroken, IsTargetBroken}
+use Rattle.depend_check.specs.Dependencies.{is_use, is_trigger, is_dependency_triggered, IsBroken, IsTargetBroken}
 use Rattle.depend_check.specs.Found.{faults_of_use, faults_of_slot, faults_of_target}
 use Rattle.depend_check.specs.Uses.{is_labelled, HaveSameUses, HaveSameTarget, IsBrokenAmong, IsFound, IsFoundBy}
 use Rattle.depend_check.proofs.Lists.{any_with, of_filter, with_any, same_truth}
@@ -113,19 +113,19 @@ both_of P Q (Some x) p q = (x, p, q)
 
 -- dependencies that are triggered, and broken, are found
 pub among_found : (ts : Trees) (d : Delims) (end : ℕ) (ps : List PlacedSegment) (depends asked : List Dependency) (f : Fault)
-    → ((x : Dependency) → Contains asked x ↔ (Contains depends x × IsTrue (is_triggered x ps)))
+    → ((x : Dependency) → Contains asked x ↔ (Contains depends x × IsTrue (is_dependency_triggered x ps)))
     → IsBrokenAmong ts d end ps asked f ↔ IsFound ts d end ps depends f
 among_found ts d end ps depends asked f same = (
   λ r. let w = (same r.0).0 r.1 in record { dependency = r.0; listed = w.0; triggered = w.1; broken = r.2 },
   λ r. (r.dependency, (same r.dependency).1 (r.listed, r.triggered), r.broken),
 )
 
-triggered_too : (x : Dependency) (xs ys : List PlacedSegment) → HaveSameUses x.slot xs ys → is_triggered x xs ≡ true
-    → is_triggered x ys ≡ true
+triggered_too : (x : Dependency) (xs ys : List PlacedSegment) → HaveSameUses x.slot xs ys → is_dependency_triggered x xs ≡ true
+    → is_dependency_triggered x ys ≡ true
 triggered_too x xs ys same h =
     let p = with_any (is_trigger x) xs h in
     any_with (is_trigger x) ys p.0
-    ((same p.0 (first_holds (is_use x.slot p.0) (contains_text x.codes (element_of p.0.segment x.at)) p.2)).0 p.1)
+    ((same p.0 (first_holds (is_use x.slot p.0) (contains_text x.codes (element_at p.0.segment x.at)) p.2)).0 p.1)
     p.2
 
 -- other segments than uses, and the order of these, are all the same
@@ -198,13 +198,13 @@ same_uses label ps p used = (λ c. c, λ c. c)
 
 -- a dependency that isn't triggered adds nothing
 pub not_found_by : (ts : Trees) (d : Delims) (end : ℕ) (ps : List PlacedSegment) (x : Dependency) (old : List Fault)
-    → is_triggered x ps ≡ false → (f : Fault) → Contains old f ↔ (Contains old f ⊎ IsFoundBy ts d end ps x f)
+    → is_dependency_triggered x ps ≡ false → (f : Fault) → Contains old f ↔ (Contains old f ⊎ IsFoundBy ts d end ps x f)
 not_found_by ts d end ps x old none f =
     (λ c. inl c, λ h. elim h [ inl c ↦ c | inr b ↦ absurd (true≢false (sym b.0 ∙ none)) ])
 
 -- one that is adds what breaks it
 pub found_by_broken : (ts : Trees) (d : Delims) (end : ℕ) (ps : List PlacedSegment) (x : Dependency) (old new : List Fault)
-    → is_triggered x ps ≡ true → ((f : Fault) → Contains new f ↔ (Contains old f ⊎ IsBroken ts d end ps x f))
+    → is_dependency_triggered x ps ≡ true → ((f : Fault) → Contains new f ↔ (Contains old f ⊎ IsBroken ts d end ps x f))
     → (f : Fault) → Contains new f ↔ (Contains old f ⊎ IsFoundBy ts d end ps x f)
 found_by_broken ts d end ps x old new is added f = (
   λ c. elim ((added f).0 c) [ inl w ↦ inl w | inr b ↦ inr (is, b) ],

@@ -11,9 +11,9 @@ use Rattle.hub_kinds.specs.Words.{element_rank, key_of, AreRising, IsKeyedBy}
 use Rattle.guide_tree.specs.declared.rows.Dependency.{Dependency}
 use Rattle.guide_tree.specs.declared.rows.DependencyKind.{DependencyKind}
 use Rattle.guide_tree.specs.declared.rows.DependencyKind.TheVariants as kind
-use Rattle.guide_tree.specs.Words.{Trees, numbered, Segment, element_of, Place}
+use Rattle.guide_tree.specs.Words.{Trees, numbered, Segment, element_at, Place}
 use Rattle.loop_match.specs.PlacedSegments.{PlacedSegment, placed_segments}
-use Rattle.loop_match.proofs.Standing.{one_placed}
+use Rattle.loop_match.proofs.ForAbove.{one_placed}
 use Rattle.depend_check.specs.Dependencies.{Seat, seat_of, unused_fault, use_fault, element_fault, IsTargetBroken}
 use Rattle.depend_check.specs.Uses.{IsFound}
 use Rattle.depend_check.proofs.Seats.{one_seat}
@@ -27,7 +27,7 @@ IsTold kind.Ban e = Unit {0}
 abbrev told : DependencyKind → ℕ → PlacedSegment → Fault
 told kind.Need e p = element_fault p e ik403.DependentMissing []
 told kind.Ban zero p = use_fault p ik304.DependentNotUsedPresent None
-told kind.Ban (suc e) p = element_fault p (suc e) ik403.DependentNotUsedPresent (element_of p.segment (suc e))
+told kind.Ban (suc e) p = element_fault p (suc e) ik403.DependentNotUsedPresent (element_at p.segment (suc e))
 
 position_key : (k : DependencyKind) (e : ℕ) (p : PlacedSegment) → get_or (key_of (told k e p)) 0 0 ≡ p.position
 position_key kind.Need e p = refl

@@ -6,6 +6,7 @@ mod Asking
 mod Seats
 mod Loops
 mod Keyed
+pub mod ForAbove
 pub mod Whole
 mod Worked
 mod WorkedKept

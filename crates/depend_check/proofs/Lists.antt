@@ -8,7 +8,7 @@ use Rattle.std.proofs.lemmas.List.Elements.{Contains-append_left, Contains-appen
 use Rattle.std.proofs.lemmas.List.Elements.{All-contains, All-filter, All-contains_itself, filter_passes, filter_more}
 use Rattle.std.proofs.lemmas.List.Sorted.{IsPermutation-map, IsPermutation-sym, Contains-permutation}
 use Rattle.std.proofs.lemmas.List as texts
-use Rattle.elem_rules.proofs.Members.{no_member, contains_one, one_contains}
+use Rattle.elem_rules.proofs.ForAbove.{no_member, contains_one, one_contains}
 use Rattle.std.proofs.lemmas.List.Folds.{flat_map-map, list_any_at, Any-from_list_any}
 use Rattle.std.proofs.lemmas.Grind.{flat_map-append}
 

@@ -3,7 +3,7 @@ use Rattle.std.proofs.Common.{◌≡◌, ◌↔◌, inl, inr, ℕ, zero, suc, Li
 use Rattle.std.proofs.lemmas.Bool.{eqb-true}
 use Rattle.std.proofs.Common.{refl, sym, ap, subst, arith, Some, None, if◌then◌else◌}
 use Rattle.hub_kinds.specs.declared.codes.ElementCode.TheVariants as ik403
-use Rattle.guide_tree.specs.Words.{element_of, Trees}
+use Rattle.guide_tree.specs.Words.{element_at, Trees}
 use Rattle.std.specs.List.{Contains, list_any, flat_map}
 use Rattle.std.specs.Option.{option_map_or}
 use Rattle.std.specs.Cmp.Derive.{both_true}
@@ -15,10 +15,10 @@ use Rattle.hub_kinds.specs.declared.codes.SegmentCode.TheVariants as ik304
 use Rattle.guide_tree.specs.declared.rows.Dependency.{Dependency}
 use Rattle.guide_tree.specs.declared.rows.DependencyKind.{DependencyKind}
 use Rattle.guide_tree.specs.declared.rows.DependencyKind.TheVariants as kind
-use Rattle.elem_rules.proofs.Members.{no_member, contains_one, one_contains, from_if, in_then, from_option, in_option}
-use Rattle.elem_rules.proofs.Members.{from_flat_map, in_flat_map}
+use Rattle.elem_rules.proofs.ForAbove.{no_member, contains_one, one_contains, from_if, in_then, from_option, in_option, from_flat_map}
+use Rattle.elem_rules.proofs.ForAbove.{in_flat_map}
 use Rattle.loop_match.specs.PlacedSegments.{PlacedSegment}
-use Rattle.depend_check.specs.Dependencies.{Seat, is_use, is_triggered, has_element, seat_of, unused_fault, IsTargetBroken}
+use Rattle.depend_check.specs.Dependencies.{Seat, is_use, is_dependency_triggered, has_element, seat_of, unused_fault, IsTargetBroken}
 use Rattle.depend_check.specs.Dependencies.{use_fault, element_fault}
 use Rattle.depend_check.specs.Found.{is_broken_by, told_of, faults_of_use, is_left_out, faults_of_slot, faults_of_target, faults_of}
 use Rattle.depend_check.specs.Found.{found_faults}
@@ -45,7 +45,7 @@ never e = not_zero e (suc e == 0) refl
 abbrev banned : Bool → (e : ℕ) → PlacedSegment → Fault
 banned whole e p =
     if whole then use_fault p ik304.DependentNotUsedPresent None
-    else element_fault p e ik403.DependentNotUsedPresent (element_of p.segment e)
+    else element_fault p e ik403.DependentNotUsedPresent (element_at p.segment e)
 
 -- the use breaks the dependency
 broken_use : (ts : Trees) (d : Delims) (end : ℕ) (placed : List PlacedSegment) (label : List ℕ) (k : DependencyKind) (e : ℕ)
@@ -138,7 +138,7 @@ from_found : (ts : Trees) (d : Delims) (end : ℕ) (placed : List PlacedSegment)
 from_found ts d end placed depends f h =
     let r = from_flat_map (faults_of ts d end placed) depends f h in
     let x = r.0 in
-    elim (from_if (is_triggered x placed) (faults_of_target ts d end placed x.target x.kind x.element) [] f r.2) [
+    elim (from_if (is_dependency_triggered x placed) (faults_of_target ts d end placed x.target x.kind x.element) [] f r.2) [
       | inl w ↦ record {
         dependency = x;
         listed = r.1;
@@ -153,7 +153,7 @@ in_found : (ts : Trees) (d : Delims) (end : ℕ) (placed : List PlacedSegment) (
 in_found ts d end placed depends f r =
     let x = r.dependency in
     in_flat_map (faults_of ts d end placed) depends x f r.listed
-    (in_then (is_triggered x placed) (faults_of_target ts d end placed x.target x.kind x.element) [] f r.triggered
+    (in_then (is_dependency_triggered x placed) (faults_of_target ts d end placed x.target x.kind x.element) [] f r.triggered
     (in_target ts d end placed x.target x.kind x.element f r.broken))
 
 pub members : (ts : Trees) (d : Delims) (end : ℕ) (placed : List PlacedSegment) (depends : List Dependency) (f : Fault)

@@ -3,7 +3,7 @@ use Rattle.std.proofs.Common.{◌≡◌, ℕ, ◌⊎◌, inl, inr, List, [], Boo
 use Rattle.std.proofs.Common.{ap, ◌∙◌, Option, Some, None}
 use Rattle.guide_tree.specs.declared.slot.Slot.{Slot}
 use Rattle.guide_tree.specs.Words.{Tree, Trees, segment, loop, no_trees, tree, numbered, or_else, has_label}
-use Rattle.guide_law.proofs.Keyed.{IsNamedIn, IsNamed, one_named}
+use Rattle.guide_law.proofs.ForAbove.{IsNamedIn, IsNamed, one_named}
 use Rattle.depend_check.specs.Dependencies.{Seat, seat_in, seat_among, seat_of}
 
 abbrev pub seated : List ℕ → Slot → Seat

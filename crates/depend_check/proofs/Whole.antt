@@ -19,9 +19,9 @@ use Rattle.guide_tree.specs.declared.rows.DependencyKind.TheVariants as kind
 use Rattle.guide_tree.specs.declared.slot.Slot.{Slot}
 use Rattle.guide_tree.specs.Words.{Tree, Trees, segment, loop, no_trees, tree, GuideTree, or_else, find_slot_in, has_label, has_row}
 use Rattle.guide_tree.specs.Words.{labelled, is_dependency_of, is_hierarchy_of, are_names_known, IsWellFormed, Given, Place, slot_given}
-use Rattle.guide_tree.specs.Words.{Segment, element_of}
+use Rattle.guide_tree.specs.Words.{Segment, element_at}
 use Rattle.loop_match.specs.PlacedSegments.{PlacedSegment, placed_segments, as_given}
-use Rattle.loop_match.proofs.Leading.{placed_given}
+use Rattle.loop_match.proofs.ForAbove.{placed_given}
 use Rattle.depend_check.specs.Dependencies.{is_use, is_trigger, Seat, seat_in, seat_among}
 use Rattle.depend_check.specs.Dependencies.{seat_of, unused_fault, use_fault, element_fault, IsTargetBroken, IsDependencyFault}
 use Rattle.depend_check.specs.Kept.{IsTargetKept, AreDependenciesKept}
@@ -106,7 +106,7 @@ target_kept ts d end ps label kind.Need (suc e) seat none = λ x c u.
 target_kept ts d end ps label kind.Ban (suc e) seat none = λ x c u.
     let r = from_map as_given ps x c in
     false_from_ne_true (fills d (suc e) x)
-    (λ h. none (element_fault r.0 (suc e) ik403.DependentNotUsedPresent (element_of r.0.segment (suc e))) (
+    (λ h. none (element_fault r.0 (suc e) ik403.DependentNotUsedPresent (element_at r.0.segment (suc e))) (
       r.0,
       record {
         listed = r.1;

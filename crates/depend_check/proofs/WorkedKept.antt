@@ -9,7 +9,7 @@ use Rattle.x12_segs.specs.Words.{parts}
 use Rattle.guide_tree.specs.declared.rows.Dependency.{Dependency}
 use Rattle.guide_tree.specs.declared.rows.DependencyKind.TheVariants as kind
 use Rattle.guide_tree.specs.Words.{Given}
-use Rattle.elem_rules.proofs.Members.{contains_one}
+use Rattle.elem_rules.proofs.ForAbove.{contains_one}
 use Rattle.depend_check.specs.Kept.{IsTargetKept, AreDependenciesKept}
 use Rattle.depend_check.specs.Standing.{stands_at, fills, triggers}
 use Rattle.depend_check.proofs.Worked.{slot, man, man_rows, delims, where_packed}

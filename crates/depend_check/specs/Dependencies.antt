@@ -13,7 +13,8 @@ use Rattle.guide_tree.specs.declared.rows.Dependency.{Dependency}
 use Rattle.guide_tree.specs.declared.rows.DependencyKind.{DependencyKind}
 use Rattle.guide_tree.specs.declared.rows.DependencyKind.TheVariants as kind
 use Rattle.guide_tree.specs.declared.slot.Slot.{Slot}
-use Rattle.guide_tree.specs.Words.{Tree, Trees, segment, loop, no_trees, tree, GuideTree, or_else, Segment, element_of, id_of, has_label}
+use Rattle.guide_tree.specs.Words.{Tree, Trees, segment, loop, no_trees, tree, GuideTree, or_else, Segment, element_at, segment_id}
+use Rattle.guide_tree.specs.Words.{has_label}
 use Rattle.guide_tree.specs.Words.{Place}
 use Rattle.elem_rules.specs.Rows.{reference_at}
 use Rattle.loop_match.specs.PlacedSegments.{PlacedSegment, placed_segments, as_given}
@@ -28,8 +29,8 @@ abbrev pub is_trigger : Dependency → PlacedSegment → Bool
 is_trigger d p = triggers d (as_given p)
 
 -- there is one somewhere in the set
-abbrev pub is_triggered : Dependency → List PlacedSegment → Bool
-is_triggered d placed = list_any (is_trigger d) placed
+abbrev pub is_dependency_triggered : Dependency → List PlacedSegment → Bool
+is_dependency_triggered d placed = list_any (is_trigger d) placed
 
 -- a slot of a guide, and the id of the innermost loop round it
 pub record Seat : Type 0 where
@@ -63,7 +64,7 @@ unused_fault end seat = record {
 abbrev pub use_fault : PlacedSegment → SegmentCode → Option ElemFault → Fault
 use_fault p code elem = record {
   position = p.position;
-  id = id_of p.segment;
+  id = segment_id p.segment;
   loop_id = p.loop_id;
   code = code;
   slot = p.slot.number;
@@ -105,7 +106,7 @@ IsTargetBroken ts delims end placed label kind.Need (suc e) f =
     × (f ≡ element_fault p (suc e) ik403.DependentMissing [])
 IsTargetBroken ts delims end placed label kind.Ban (suc e) f =
     (p : PlacedSegment) × IsUseWith delims placed label (suc e) true p
-    × (f ≡ element_fault p (suc e) ik403.DependentNotUsedPresent (element_of p.segment (suc e)))
+    × (f ≡ element_fault p (suc e) ik403.DependentNotUsedPresent (element_at p.segment (suc e)))
 
 -- the same of a dependency
 abbrev pub IsBroken : Trees → Delims → (end : ℕ) → List PlacedSegment → Dependency → Fault → Type 0
@@ -116,5 +117,5 @@ pub record IsDependencyFault (g : GuideTree) (delims : Delims) (body : List Segm
     : Type 0 where
   pub dependency : Dependency
   pub listed : Contains g.depends dependency
-  pub triggered : IsTrue (is_triggered dependency (placed_segments g.nodes body given))
+  pub triggered : IsTrue (is_dependency_triggered dependency (placed_segments g.nodes body given))
   pub broken : IsBroken g.nodes delims end (placed_segments g.nodes body given) dependency f

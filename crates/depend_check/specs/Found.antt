@@ -9,9 +9,9 @@ use Rattle.hub_kinds.specs.declared.fault.Fault.{Fault}
 use Rattle.guide_tree.specs.declared.rows.Dependency.{Dependency}
 use Rattle.guide_tree.specs.declared.rows.DependencyKind.{DependencyKind}
 use Rattle.guide_tree.specs.declared.rows.DependencyKind.TheVariants as kind
-use Rattle.guide_tree.specs.Words.{Trees, element_of}
+use Rattle.guide_tree.specs.Words.{Trees, element_at}
 use Rattle.loop_match.specs.PlacedSegments.{PlacedSegment}
-use Rattle.depend_check.specs.Dependencies.{is_use, is_triggered, has_element, seat_of}
+use Rattle.depend_check.specs.Dependencies.{is_use, is_dependency_triggered, has_element, seat_of}
 use Rattle.depend_check.specs.Dependencies.{unused_fault, use_fault, element_fault}
 
 -- a use of the target breaks a triggered dependency
@@ -23,7 +23,7 @@ abbrev pub told_of : DependencyKind → (element : ℕ) → PlacedSegment → Fa
 told_of kind.Need element p = element_fault p element ik403.DependentMissing []
 told_of kind.Ban element p =
     if element == 0 then use_fault p ik304.DependentNotUsedPresent None
-    else element_fault p element ik403.DependentNotUsedPresent (element_of p.segment element)
+    else element_fault p element ik403.DependentNotUsedPresent (element_at p.segment element)
 
 abbrev pub faults_of_use : Delims → (label : List ℕ) → DependencyKind → (element : ℕ) → PlacedSegment → List Fault
 faults_of_use delims label kind element p =
@@ -47,7 +47,7 @@ faults_of_target ts delims end placed label kind element =
 
 abbrev pub faults_of : Trees → Delims → (end : ℕ) → List PlacedSegment → Dependency → List Fault
 faults_of ts delims end placed d =
-    if is_triggered d placed then faults_of_target ts delims end placed d.target d.kind d.element else []
+    if is_dependency_triggered d placed then faults_of_target ts delims end placed d.target d.kind d.element else []
 
 abbrev pub found_faults : Trees → Delims → (end : ℕ) → List PlacedSegment → List Dependency → List Fault
 found_faults ts delims end placed depends = flat_map (faults_of ts delims end placed) depends

@@ -11,10 +11,10 @@ use Rattle.x12_bytes.specs.declared.delims.Delims.{Delims}
 use Rattle.hub_kinds.specs.declared.fault.Fault.{Fault}
 use Rattle.guide_tree.specs.declared.rows.Dependency.{Dependency}
 use Rattle.guide_tree.specs.declared.slot.Slot.{Slot}
-use Rattle.guide_tree.specs.Words.{element_of, Trees}
+use Rattle.guide_tree.specs.Words.{element_at, Trees}
 use Rattle.loop_match.specs.declared.placed.PlacedSeg.{PlacedSeg}
 use Rattle.loop_match.specs.PlacedSegments.{PlacedSegment}
-use Rattle.depend_check.specs.Dependencies.{is_use, is_triggered, IsBroken}
+use Rattle.depend_check.specs.Dependencies.{is_use, is_dependency_triggered, IsBroken}
 use denote.Ref.{Bor}
 
 abbrev pub label_of : Slot → List ℕ
@@ -41,7 +41,7 @@ has texts text = contains_by (λ own. slice_cmp nat_cmp text own.now) texts
 
 -- a use of the slot with a label has a text in an element
 abbrev pub has_text : (label : List ℕ) → (at : ℕ) → (text : List ℕ) → PlacedSegment → Bool
-has_text label at text p = is_use label p && bytes_eq (element_of p.segment at) text
+has_text label at text p = is_use label p && bytes_eq (element_at p.segment at) text
 
 -- the set has exactly the texts that the uses of a slot have in an element
 abbrev pub KnowsTexts : BTreeSet (Bor (List ℕ)) → (label : List ℕ) → (at : ℕ) → List PlacedSegment → Type 0
@@ -61,7 +61,7 @@ pub record IsFound (ts : Trees) (delims : Delims) (end : ℕ) (placed : List Pla
     : Type 0 where
   pub dependency : Dependency
   pub listed : Contains depends dependency
-  pub triggered : IsTrue (is_triggered dependency placed)
+  pub triggered : IsTrue (is_dependency_triggered dependency placed)
   pub broken : IsBroken ts delims end placed dependency f
 
 -- two dependencies ask the same of the same slot
@@ -72,4 +72,4 @@ pub record HaveSameTarget (d e : Dependency) : Type 0 where
 
 -- a dependency is triggered by placed segments, and broken
 abbrev pub IsFoundBy : Trees → Delims → (end : ℕ) → List PlacedSegment → Dependency → Fault → Type 0
-IsFoundBy ts delims end placed d f = IsTrue (is_triggered d placed) × IsBroken ts delims end placed d f
+IsFoundBy ts delims end placed d f = IsTrue (is_dependency_triggered d placed) × IsBroken ts delims end placed d f

@@ -4,7 +4,7 @@ ghost use Rattle.guide_tree.specs.declared.rows.Dependency.{Dependency};
 ghost use Rattle.guide_tree.specs.Words.{nodes_view};
 ghost use Rattle.hub_kinds.specs.declared.fault.Fault.{Fault};
 ghost use Rattle.loop_match.specs.Viewed.{placed_views};
-ghost use Rattle.depend_check.specs.Dependencies.{is_triggered, IsBroken};
+ghost use Rattle.depend_check.specs.Dependencies.{is_dependency_triggered, IsBroken};
 ghost use Rattle.depend_check.specs.Found.{faults_of_slot};
 ghost use Rattle.depend_check.specs.Uses.{AreByLabel, HaveSameTarget, IsBrokenAmong, IsFound, lent};
 
@@ -44,7 +44,7 @@ fn in_target_order<'d>(
 ) -> Result<Vec<&'d Dependency>, NoMemory>
     requires { AreByLabel placed.now }
     ensures { IfOk result (λ v. (d : Dependency) → Contains (lent v.items) d
-        ↔ (Contains depends.entry.now d × IsTrue (is_triggered d (placed_views placed.now)))) }
+        ↔ (Contains depends.entry.now d × IsTrue (is_dependency_triggered d (placed_views placed.now)))) }
 {
     let mut asked = triggered(alloc, placed, depends)?;
     asked.sort_unstable_by(|a, b| by_target(a, b));

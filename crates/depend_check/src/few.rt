@@ -1,11 +1,11 @@
 ghost use Rattle.std.specs.Prelude.{◌≡◌, ◌↔◌, ◌⊎◌, IfOk, OnOk};
 ghost use Rattle.std.specs.List.{Contains, list_any};
 ghost use Rattle.x12_segs.specs.Words.{elements_of};
-ghost use Rattle.guide_tree.specs.Words.{element_of, nodes_view};
+ghost use Rattle.guide_tree.specs.Words.{element_at, nodes_view};
 ghost use Rattle.hub_kinds.specs.declared.fault.Fault.{Fault};
 ghost use Rattle.hub_kinds.specs.Words.{contains_text};
 ghost use Rattle.loop_match.specs.Viewed.{placed_view, placed_views};
-ghost use Rattle.depend_check.specs.Dependencies.{is_trigger, is_triggered, IsBroken};
+ghost use Rattle.depend_check.specs.Dependencies.{is_trigger, is_dependency_triggered, IsBroken};
 ghost use Rattle.depend_check.specs.Uses.{IsFound, IsFoundBy};
 
 use crate::asked::add_left_out;
@@ -23,7 +23,7 @@ fn is_trigger(dependency: &Dependency, placed: &PlacedSeg) -> bool
 }
 
 fn has_code(dependency: &Dependency, placed: &PlacedSeg) -> bool
-    ensures { result ≡ contains_text dependency.now.codes (element_of (elements_of placed.now.seg.now) dependency.now.at) }
+    ensures { result ≡ contains_text dependency.now.codes (element_at (elements_of placed.now.seg.now) dependency.now.at) }
 {
     dependency
         .codes
@@ -37,7 +37,7 @@ fn has_trigger(dependency: &Dependency, placed: &[PlacedSeg]) -> bool
 }
 
 fn is_triggered(dependency: &Dependency, placed: &[PlacedSeg]) -> bool
-    ensures { result ≡ is_triggered dependency.now (placed_views placed.now) }
+    ensures { result ≡ is_dependency_triggered dependency.now (placed_views placed.now) }
 {
     has_trigger(dependency, placed)
 }

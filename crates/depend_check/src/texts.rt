@@ -3,7 +3,7 @@ ghost use Rattle.std.specs.List.{list_any};
 ghost use Rattle.hub_kinds.specs.Words.{contains_text};
 ghost use Rattle.loop_match.specs.PlacedSegments.{PlacedSegment};
 ghost use Rattle.loop_match.specs.Viewed.{placed_view, placed_views};
-ghost use Rattle.depend_check.specs.Dependencies.{is_triggered};
+ghost use Rattle.depend_check.specs.Dependencies.{is_dependency_triggered};
 ghost use Rattle.depend_check.specs.Uses.{AreByLabel, KnowsTexts, has};
 
 use crate::groups::uses_of;
@@ -92,7 +92,7 @@ fn share(texts: &BTreeSet<&[u8]>, codes: &Codes) -> bool
 /// Whether one of a dependency's codes is among the texts that trigger it.
 pub fn has_code(dependency: &Dependency, texts: &BTreeSet<&[u8]>) -> bool
     ensures { (ps : List PlacedSegment) → KnowsTexts texts.now dependency.now.slot dependency.now.at ps
-        → result ≡ is_triggered dependency.now ps }
+        → result ≡ is_dependency_triggered dependency.now ps }
 {
     share(texts, &dependency.codes)
 }

@@ -3,7 +3,7 @@ ghost use Rattle.std.specs.List.{Contains};
 ghost use Rattle.guide_tree.specs.declared.rows.Dependency.{Dependency};
 ghost use Rattle.loop_match.specs.PlacedSegments.{PlacedSegment};
 ghost use Rattle.loop_match.specs.Viewed.{placed_views};
-ghost use Rattle.depend_check.specs.Dependencies.{is_triggered};
+ghost use Rattle.depend_check.specs.Dependencies.{is_dependency_triggered};
 ghost use Rattle.depend_check.specs.Uses.{AreByLabel, KnowsTexts, lent};
 
 use crate::texts::{has_code, texts_of};
@@ -81,7 +81,7 @@ fn add_triggered<'d>(
 ) -> Result<(), NoMemory>
     ensures { OnOk result ((ps : List PlacedSegment) → KnowsTexts texts.now dependency.entry.now.slot dependency.entry.now.at ps
         → lent found.new.items
-        ≡ lent found.old.items ++ (if is_triggered dependency.entry.now ps then dependency.entry.now ∷ [] else [])) }
+        ≡ lent found.old.items ++ (if is_dependency_triggered dependency.entry.now ps then dependency.entry.now ∷ [] else [])) }
 {
     if has_code(dependency, texts) {
         found.push(dependency)?;
@@ -97,7 +97,7 @@ pub fn triggered<'d>(
 ) -> Result<Vec<&'d Dependency>, NoMemory>
     requires { AreByLabel placed.now }
     ensures { IfOk result (λ v. (d : Dependency) → Contains (lent v.items) d
-        ↔ (Contains depends.entry.now d × IsTrue (is_triggered d (placed_views placed.now)))) }
+        ↔ (Contains depends.entry.now d × IsTrue (is_dependency_triggered d (placed_views placed.now)))) }
 {
     let all = in_trigger_order(alloc, depends)?;
     let mut found = Vec::new(alloc);

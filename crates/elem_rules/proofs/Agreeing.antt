@@ -14,14 +14,14 @@ use Rattle.guide_tree.specs.declared.slot.Slot.{Slot}
 use Rattle.guide_tree.specs.declared.slot.Condition.{Condition}
 use Rattle.guide_tree.specs.declared.slot.Relation.{Relation}
 use Rattle.guide_tree.specs.declared.slot.Relation.TheVariants as relation
-use Rattle.guide_tree.specs.Words.{is_condition_of, is_distinct, has_row, Segment, element_of}
+use Rattle.guide_tree.specs.Words.{is_condition_of, is_distinct, has_row, Segment, element_at}
 use Rattle.elem_rules.specs.Divided.{is_filled}
 use Rattle.elem_rules.specs.Conditions.{is_present, absent, broken_at}
 use Rattle.elem_rules.specs.Found.{text_at, texts_of, is_present_in}
-use Rattle.moment.proofs.Both.{both}
+use Rattle.moment.proofs.ForAbove.{both}
 
 pub text_of_row : (slot : Slot) (s : Segment) (position : ℕ) → 1 ≤ position → position ≤ length slot.elements
-    → text_at (texts_of slot s) position ≡ element_of s position
+    → text_at (texts_of slot s) position ≡ element_at s position
 text_of_row slot s zero from to = absurd (omega arith)
 text_of_row slot s (suc n) from to =
     let next : 1 + n ≡ suc n = omega arith in

@@ -6,10 +6,10 @@ use mathlib.Core.Logic.{inl, inr}
 use Rattle.std.proofs.lemmas.Bool.{cases_eq, cases_lt}
 use Rattle.std.proofs.lemmas.Option.{none-some, same_Some}
 use Rattle.guide_tree.specs.declared.element.Element.{Element}
-use Rattle.guide_tree.specs.Words.{Segment, element_of}
+use Rattle.guide_tree.specs.Words.{Segment, element_at}
 use Rattle.elem_rules.specs.Rows.{nth}
 use Rattle.elem_rules.specs.Clean.{fits, fits_empty, marked, bits_to}
-use Rattle.moment.proofs.Both.{both}
+use Rattle.moment.proofs.ForAbove.{both}
 
 -- an item after the first n
 all_past : {X : Type 0} (p : X → Bool) (xs : List X) (n k : ℕ) (x : X) → list_all p (drop n xs) ≡ true → n < k → nth xs k ≡ Some x
@@ -23,9 +23,9 @@ all_past p (y ∷ xs) (suc n) (suc (suc k)) x h lt e = all_past p xs n (suc k) x
 
 -- each row fits: those of the elements that are there, and those after them, which may be empty
 pub fit_all : (rows : List Element) (s : Segment) (n : ℕ)
-    → ((k : ℕ) (row : Element) → k ≤ n → nth rows k ≡ Some row → IsTrue (fits row (element_of s k)))
-    → list_all fits_empty (drop n rows) ≡ true → ((k : ℕ) → n < k → element_of s k ≡ []) → (k : ℕ) (row : Element)
-    → nth rows k ≡ Some row → IsTrue (fits row (element_of s k))
+    → ((k : ℕ) (row : Element) → k ≤ n → nth rows k ≡ Some row → IsTrue (fits row (element_at s k)))
+    → list_all fits_empty (drop n rows) ≡ true → ((k : ℕ) → n < k → element_at s k ≡ []) → (k : ℕ) (row : Element)
+    → nth rows k ≡ Some row → IsTrue (fits row (element_at s k))
 fit_all rows s n there empty none k row at = elim (cases_lt n k) [
   | inl lt ↦ subst (λ t. IsTrue (fits row t)) (sym (none k lt)) (all_past fits_empty rows n k row empty lt at)
   | inr le ↦ there k row le at

@@ -6,7 +6,7 @@ use Rattle.std.proofs.lemmas.Bool.{leb-true}
 use Rattle.std.proofs.lemmas.Bool.Decides.{Decides-by_and}
 use Rattle.guide_tree.specs.declared.slot.Slot.{Slot}
 use Rattle.guide_tree.specs.Words.{is_slot_bounded, is_element_bounded, is_use_range, is_slot_id}
-use Rattle.moment.proofs.Both.{both}
+use Rattle.moment.proofs.ForAbove.{both}
 
 pub rows_few : (s : Slot) → IsTrue (is_slot_bounded s) → length s.elements ≤ 40
 rows_few s h =

@@ -8,7 +8,7 @@ use Rattle.memchr.specs.Find.{is_byte, places}
 use Rattle.x12_bytes.specs.declared.delims.Delims.{Delims}
 use Rattle.x12_segs.specs.Words.{parts}
 use Rattle.guide_tree.specs.declared.element.Element.{Element}
-use Rattle.guide_tree.specs.Words.{Segment, element_of, is_element_bounded}
+use Rattle.guide_tree.specs.Words.{Segment, element_at, is_element_bounded}
 use Rattle.hub_kinds.specs.declared.fault.ElemFault.{ElemFault}
 use Rattle.elem_rules.specs.Divided.{is_filled, has_more}
 use Rattle.elem_rules.specs.Clean.{fits}
@@ -36,7 +36,7 @@ pub filled_by_length : (delims : Delims) (text : List ℕ) (empty : Bool) → Is
 filled_by_length delims text empty plain is = filled_as delims text plain ∙ sym (has_length text) ∙ sym (ap not is)
 
 -- one more element is empty
-pub extra_more : (delims : Delims) (s : Segment) (n k : ℕ) (text : List ℕ) → k < length (drop 1 s) → text ≡ element_of s (k + 1)
+pub extra_more : (delims : Delims) (s : Segment) (n k : ℕ) (text : List ℕ) → k < length (drop 1 s) → text ≡ element_at s (k + 1)
     → is_filled delims text ≡ false → has_more delims n (drop 1 s) ≡ has_more delims k (drop 1 s)
     → has_more delims n (drop 1 s) ≡ has_more delims (k + 1) (drop 1 s)
 extra_more delims s n k text within at none so_far =
@@ -46,7 +46,7 @@ extra_more delims s n k text within at none so_far =
     ∙ ap (λ b. b || list_any (is_filled delims) (drop (k + 1) (drop 1 s))) (ap (is_filled delims) is ∙ none)
 
 -- one more element isn't
-pub extra_here : (delims : Delims) (s : Segment) (n k : ℕ) (text : List ℕ) → k < length (drop 1 s) → text ≡ element_of s (k + 1)
+pub extra_here : (delims : Delims) (s : Segment) (n k : ℕ) (text : List ℕ) → k < length (drop 1 s) → text ≡ element_at s (k + 1)
     → is_filled delims text ≡ true → has_more delims n (drop 1 s) ≡ has_more delims k (drop 1 s)
     → has_more delims n (drop 1 s) ≡ true
 extra_here delims s n k text within at some so_far =

@@ -18,7 +18,7 @@ use Rattle.guide_tree.specs.declared.element.ElementType.{ElementType}
 use Rattle.guide_tree.specs.declared.element.ElementType.TheVariants.{Text, Identifier, Number, Decimal, Date, Time}
 use Rattle.guide_tree.specs.declared.element.SimpleRow.{SimpleRow}
 use Rattle.moment.specs.Calendar.{is_date, is_time}
-use Rattle.moment.proofs.Both.{both}
+use Rattle.moment.proofs.ForAbove.{both}
 use Rattle.elem_rules.specs.declared.flat_row.FlatKind.TheVariants as kind
 use Rattle.elem_rules.specs.declared.flat_row.FlatRow.{FlatRow}
 use Rattle.elem_rules.specs.Clean.{has_plain_form, has_used_code, is_plain_value, is_strange}

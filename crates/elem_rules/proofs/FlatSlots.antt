@@ -13,11 +13,11 @@ use Rattle.std.proofs.lemmas.Option.{get_or_from_slice_get, none-some, same_Some
 use Rattle.guide_tree.specs.declared.slot.Condition.{Condition}
 use Rattle.guide_tree.specs.declared.slot.Slot.{Slot}
 use Rattle.guide_tree.specs.Words.{has_row, is_condition_of, is_distinct}
-use Rattle.moment.proofs.Both.{both}
+use Rattle.moment.proofs.ForAbove.{both}
 use Rattle.elem_rules.specs.declared.flat_condition.FlatCondition.{FlatCondition}
 use Rattle.elem_rules.proofs.Agreeing.{conditions_hold}
 use Rattle.guide_tree.specs.declared.element.Element.{Element}
-use Rattle.guide_tree.specs.Words.{Segment, element_of}
+use Rattle.guide_tree.specs.Words.{Segment, element_at}
 use Rattle.elem_rules.specs.Rows.{nth}
 use Rattle.std.proofs.Common.{◌++◌}
 use Rattle.std.specs.Prelude.{Option, is_none, not, nat_le, ◌&&◌}
@@ -39,14 +39,14 @@ pub nth_at : {X : Type 0} (xs : List X) (k : ℕ) (x : X) → k < length xs → 
 nth_at xs k x within is = nth-more xs k ∙ slice_get-get_or xs k x within ∙ ap Some (sym is)
 
 pub filled_more : (rows : List Element) (s : Segment) (k : ℕ) (x : Element) (text : List ℕ) → k < length rows → x ≡ get_or rows k x
-    → text ≡ element_of s (k + 1) → (IsTrue (has_bytes text) → IsTrue (fits x text))
-    → ((i : ℕ) (row : Element) → i ≤ k → nth rows i ≡ Some row → IsTrue (has_bytes (element_of s i)) → IsTrue (fits row (element_of s i)))
-    → (i : ℕ) (row : Element) → i ≤ k + 1 → nth rows i ≡ Some row → IsTrue (has_bytes (element_of s i)) → IsTrue (fits row (element_of s i))
+    → text ≡ element_at s (k + 1) → (IsTrue (has_bytes text) → IsTrue (fits x text))
+    → ((i : ℕ) (row : Element) → i ≤ k → nth rows i ≡ Some row → IsTrue (has_bytes (element_at s i)) → IsTrue (fits row (element_at s i)))
+    → (i : ℕ) (row : Element) → i ≤ k + 1 → nth rows i ≡ Some row → IsTrue (has_bytes (element_at s i)) → IsTrue (fits row (element_at s i))
 filled_more rows s k x text within is at fit before i row to there = elim (cases_eq i (k + 1)) [
   | inl e ↦
       let same : x ≡ row = same_Some x row (sym (nth_at rows k x within is) ∙ (ap (λ i. nth rows i) (sym e) ∙ there)) in
-      subst (λ row. IsTrue (has_bytes (element_of s i)) → IsTrue (fits row (element_of s i))) same
-      (subst (λ i. IsTrue (has_bytes (element_of s i)) → IsTrue (fits x (element_of s i))) (sym e)
+      subst (λ row. IsTrue (has_bytes (element_at s i)) → IsTrue (fits row (element_at s i))) same
+      (subst (λ i. IsTrue (has_bytes (element_at s i)) → IsTrue (fits x (element_at s i))) (sym e)
       (subst (λ t. IsTrue (has_bytes t) → IsTrue (fits x t)) at fit))
   | inr e ↦ before i row (omega (arith, e)) there
 ]
@@ -57,25 +57,25 @@ empty_of (byte ∷ bytes) h = cc
 
 -- each row fits: filled elements by their values, and empty ones because no mandatory row is without its bit
 pub fit_each : (rows : List Element) (s : Segment) (n must bits : ℕ) → n < 64
-    → ((k : ℕ) (row : Element) → k ≤ n → nth rows k ≡ Some row → IsTrue (has_bytes (element_of s k)) → IsTrue (fits row (element_of s k)))
-    → ((k : ℕ) → n < k → element_of s k ≡ []) → bits ≡ bits_to (λ k. has_bytes (element_of s k)) n → bit_and bits must ≡ must
+    → ((k : ℕ) (row : Element) → k ≤ n → nth rows k ≡ Some row → IsTrue (has_bytes (element_at s k)) → IsTrue (fits row (element_at s k)))
+    → ((k : ℕ) → n < k → element_at s k ≡ []) → bits ≡ bits_to (λ k. has_bytes (element_at s k)) n → bit_and bits must ≡ must
     → ((k : ℕ) (row : Element) → nth rows k ≡ Some row → is_set must k ≡ false → IsTrue (fits_empty row)) → (k : ℕ) (row : Element)
-    → nth rows k ≡ Some row → IsTrue (fits row (element_of s k))
-fit_each rows s n must bits small filled past are subset needed k row there = elim (cases_Bool (has_bytes (element_of s k))) [
+    → nth rows k ≡ Some row → IsTrue (fits row (element_at s k))
+fit_each rows s n must bits small filled past are subset needed k row there = elim (cases_Bool (has_bytes (element_at s k))) [
   | inl some ↦ elim (cases_lt n k) [
     | inl lt ↦ absurd (false≢true (sym (ap has_bytes (past k lt)) ∙ some))
     | inr le ↦ filled k row le there some
   ]
   | inr none ↦
       let unset : is_set bits k ≡ false = ap (λ b. is_set b k) are ∙ elim (cases_lt n k) [
-        | inl lt ↦ is_set_past (λ k. has_bytes (element_of s k)) n k small lt
-        | inr le ↦ is_set_to (λ k. has_bytes (element_of s k)) n k (nth_within rows k row there).0 le small ∙ none
+        | inl lt ↦ is_set_past (λ k. has_bytes (element_at s k)) n k small lt
+        | inr le ↦ is_set_to (λ k. has_bytes (element_at s k)) n k (nth_within rows k row there).0 le small ∙ none
       ] in
       let free : is_set must k ≡ false = elim (cases_Bool (is_set must k)) [
         | inl set ↦ absurd (false≢true (sym unset ∙ set_within bits must subset k set))
         | inr not_set ↦ not_set
       ] in
-      subst (λ t. IsTrue (fits row t)) (sym (empty_of (element_of s k) none)) (needed k row there free)
+      subst (λ t. IsTrue (fits row t)) (sym (empty_of (element_at s k) none)) (needed k row there free)
 ]
 
 -- a simple row's element

@@ -6,6 +6,7 @@ pub mod Examples
 pub mod FlatExamples
 pub mod FlatRows
 pub mod FlatSlots
+pub mod ForAbove
 pub mod Keys
 pub mod Looks
 pub mod Marks

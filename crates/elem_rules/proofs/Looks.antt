@@ -13,7 +13,7 @@ use Rattle.memchr.specs.Find.{IsFirstByte, is_byte, is_byte2}
 use Rattle.x12_bytes.specs.declared.delims.Delims.{Delims}
 use Rattle.guide_tree.specs.declared.element.Element.{Element}
 use Rattle.guide_tree.specs.declared.slot.Condition.{Condition}
-use Rattle.guide_tree.specs.Words.{Segment, element_of}
+use Rattle.guide_tree.specs.Words.{Segment, element_at}
 use Rattle.elem_rules.specs.Rows.{nth}
 use Rattle.elem_rules.specs.Clean.{fits, holds, marked, bits_to, has_bytes}
 use Rattle.std.proofs.Common.{◌++◌, take}
@@ -46,21 +46,21 @@ plain_by_two delims text separator None true is e h = plain_two delims text sepa
 
 -- the next part is the next element
 pub element_next : (s : Segment) (parts : List (List ℕ)) (text : List ℕ) (k : ℕ) → parts ≡ drop k (drop 1 s) → text ≡ get_or parts 0 []
-    → text ≡ element_of s (k + 1)
+    → text ≡ element_at s (k + 1)
 element_next s parts text k so_far is =
     let same : 1 + (k + 0) ≡ k + 1 = omega arith in
     is ∙ ap (λ l. get_or l 0 []) so_far ∙ get_or-drop k (drop 1 s) 0 [] ∙ get_or-drop 1 s (k + 0) [] ∙ ap (λ i. get_or s i []) same
 
 pub fit_more : (rows : List Element) (s : Segment) (k : ℕ) (x : Element) (text : List ℕ) → k < length rows → x ≡ get_or rows k x
-    → text ≡ element_of s (k + 1) → fits x text ≡ true
-    → ((i : ℕ) (row : Element) → i ≤ k → nth rows i ≡ Some row → IsTrue (fits row (element_of s i))) → (i : ℕ) (row : Element) → i ≤ k + 1
-    → nth rows i ≡ Some row → IsTrue (fits row (element_of s i))
+    → text ≡ element_at s (k + 1) → fits x text ≡ true
+    → ((i : ℕ) (row : Element) → i ≤ k → nth rows i ≡ Some row → IsTrue (fits row (element_at s i))) → (i : ℕ) (row : Element) → i ≤ k + 1
+    → nth rows i ≡ Some row → IsTrue (fits row (element_at s i))
 fit_more rows s k x text within is at fit before i row to there = elim (cases_eq i (k + 1)) [
   | inl e ↦
       let same : x ≡ row = same_Some x row (sym (nth-more rows k ∙ slice_get-get_or rows k x within ∙ ap Some (sym is))
       ∙ (ap (λ i. nth rows i) (sym e) ∙ there)) in
-      subst (λ row. IsTrue (fits row (element_of s i))) same
-      (subst (λ i. IsTrue (fits x (element_of s i))) (sym e) (subst (λ t. IsTrue (fits x t)) at fit))
+      subst (λ row. IsTrue (fits row (element_at s i))) same
+      (subst (λ i. IsTrue (fits x (element_at s i))) (sym e) (subst (λ t. IsTrue (fits x t)) at fit))
   | inr e ↦ before i row (omega (arith, e)) there
 ]
 
@@ -73,12 +73,12 @@ has_length (byte ∷ bytes) =
 pub bits_next : (present : ℕ → Bool) (k : ℕ) → marked (bits_to present k) (k + 1) (present (k + 1)) ≡ bits_to present (k + 1)
 bits_next present k = rw add-one refl
 
-pub bits_more : (s : Segment) (k bits : ℕ) (text : List ℕ) (empty : Bool) (next : ℕ) → text ≡ element_of s (k + 1)
-    → bits ≡ bits_to (λ k. has_bytes (element_of s k)) k → empty ≡ (length text == 0) → next ≡ marked bits (k + 1) (not empty)
-    → next ≡ bits_to (λ k. has_bytes (element_of s k)) (k + 1)
+pub bits_more : (s : Segment) (k bits : ℕ) (text : List ℕ) (empty : Bool) (next : ℕ) → text ≡ element_at s (k + 1)
+    → bits ≡ bits_to (λ k. has_bytes (element_at s k)) k → empty ≡ (length text == 0) → next ≡ marked bits (k + 1) (not empty)
+    → next ≡ bits_to (λ k. has_bytes (element_at s k)) (k + 1)
 bits_more s k bits text empty next at so_far is step =
     step ∙ ap (λ b. marked bits (k + 1) (not b)) is ∙ ap (λ b. marked bits (k + 1) b) (has_length text ∙ ap has_bytes at)
-    ∙ ap (λ n. marked n (k + 1) (has_bytes (element_of s (k + 1)))) so_far ∙ bits_next (λ k. has_bytes (element_of s k)) k
+    ∙ ap (λ n. marked n (k + 1) (has_bytes (element_at s (k + 1)))) so_far ∙ bits_next (λ k. has_bytes (element_at s k)) k
 
 pub all_hold : (present : ℕ → Bool) (conditions : List Condition)
     → IsTrue (list_all (λ c. holds present c.relation c.positions) conditions)

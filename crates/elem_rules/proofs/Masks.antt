@@ -14,7 +14,7 @@ use Rattle.std.proofs.lemmas.List.Elements.{Contains-append_cases}
 use Rattle.guide_tree.specs.Words.{is_distinct}
 use Rattle.guide_tree.specs.declared.slot.Relation.{Relation}
 use Rattle.guide_tree.specs.declared.slot.Relation.TheVariants as relation
-use Rattle.moment.proofs.Both.{both}
+use Rattle.moment.proofs.ForAbove.{both}
 use Rattle.elem_rules.specs.Clean.{is_set, holds}
 use Rattle.elem_rules.specs.Flat.{is_single, holds_by}
 use Rattle.elem_rules.specs.Marks.{AreBits}

@@ -10,7 +10,7 @@ use Rattle.guide_tree.specs.declared.element.ElementType.{ElementType}
 use Rattle.guide_tree.specs.declared.element.ElementType.TheVariants.{Number}
 use Rattle.elem_rules.specs.Values.{without_sign, is_whole, is_point, is_decimal, is_form, value_length}
 use Rattle.moment.specs.Calendar.{is_digits}
-use Rattle.moment.proofs.Both.{both}
+use Rattle.moment.proofs.ForAbove.{both}
 
 -- digits alone are all counted
 all_digits : (text : List ℕ) → is_digits text ≡ true → length (filter is_ascii_digit text) ≡ length text

@@ -10,7 +10,7 @@ use Rattle.guide_tree.specs.declared.element.Element.{Element}
 use Rattle.guide_tree.specs.declared.slot.Slot.{Slot}
 use Rattle.guide_tree.specs.declared.slot.Relation.{Relation}
 use Rattle.guide_tree.specs.declared.slot.Relation.TheVariants as relation
-use Rattle.guide_tree.specs.Words.{is_condition_of, Segment, element_of}
+use Rattle.guide_tree.specs.Words.{is_condition_of, Segment, element_at}
 use Rattle.hub_kinds.specs.declared.codes.ElementCode.{ElementCode}
 use Rattle.hub_kinds.specs.declared.codes.ElementCode.TheVariants as ik403
 use Rattle.hub_kinds.specs.declared.fault.ElemFault.{ElemFault}
@@ -30,9 +30,9 @@ use Rattle.elem_rules.proofs.Keys.{same_place}
 module _ (delims : Delims) (s : Segment) (slot : Slot) where
   -- what is wrong in an element with a row is shown with that row's numbers
   row_shown : (k : ℕ) (row : Element) (w : Wrong) → nth slot.elements k ≡ Some row
-      → shown delims k row (element_of s k) w ≡ fault_at delims s slot k w.component w.repetition w.code
+      → shown delims k row (element_at s k) w ≡ fault_at delims s slot k w.component w.repetition w.code
   row_shown k row w there = ap (λ o. fault k w.component w.repetition w.code (option_map_or (λ row. reference_in row w.component) o [])
-      (copy_in delims (element_of s k) w.component w.repetition w.code)) (sym there)
+      (copy_in delims (element_at s k) w.component w.repetition w.code)) (sym there)
 
   abbrev one_row : List (List ℕ) → ℕ → List ElemFault
   one_row texts k = option_map_or (λ row. element_found delims k row (text_at texts k)) (nth slot.elements k) []
@@ -42,7 +42,7 @@ module _ (delims : Delims) (s : Segment) (slot : Slot) where
       let a = from_up_to (one_row (texts_of slot s)) (length slot.elements) f h in
       let k = a.0 in
       let b = from_option (λ row. element_found delims k row (text_at (texts_of slot s) k)) (nth slot.elements k) f a.3 in
-      let c = element_from delims k b.0 (element_of s k) f
+      let c = element_from delims k b.0 (element_at s k) f
       (subst (λ text. Contains (element_found delims k b.0 text) f) (text_of_row slot s k a.1 a.2) b.2) in
       record { position = k; row = b.0; there = b.1; w = c.0; wrong = c.1; is = c.2 ∙ row_shown k b.0 c.0 b.1 }
 
@@ -50,17 +50,17 @@ module _ (delims : Delims) (s : Segment) (slot : Slot) where
   row_to f h =
       let k = h.position in
       let within = nth_within slot.elements k h.row h.there in
-      let a = element_to delims k h.row (element_of s k) h.w h.wrong in
-      let b = subst (λ text. Contains (element_found delims k h.row text) (shown delims k h.row (element_of s k) h.w))
+      let a = element_to delims k h.row (element_at s k) h.w h.wrong in
+      let b = subst (λ text. Contains (element_found delims k h.row text) (shown delims k h.row (element_at s k) h.w))
       (sym (text_of_row slot s k within.0 within.1)) a in
       let c = in_option (λ row. element_found delims k row (text_at (texts_of slot s) k)) (nth slot.elements k) h.row _ h.there b in
       subst (λ f. Contains (rows_found delims slot.elements (texts_of slot s)) f) (row_shown k h.row h.w h.there ∙ sym h.is)
       (in_up_to (one_row (texts_of slot s)) (length slot.elements) k _ within.0 within.1 c)
 
   extra_shown : fault (length slot.elements + 1) 0 0 ik403.TooManyElements []
-      (element_of s (length slot.elements + 1)) ≡ fault_at delims s slot (length slot.elements + 1) 0 0 ik403.TooManyElements
+      (element_at s (length slot.elements + 1)) ≡ fault_at delims s slot (length slot.elements + 1) 0 0 ik403.TooManyElements
   extra_shown = ap (λ o. fault (length slot.elements + 1) 0 0 ik403.TooManyElements (option_map_or (λ row. reference_in row 0) o [])
-      (element_of s (length slot.elements + 1))) (sym (nth_past slot.elements))
+      (element_at s (length slot.elements + 1))) (sym (nth_past slot.elements))
 
   extra_from : (f : ElemFault) → Contains (extra_found delims slot s) f → IsExtraElement delims s slot f
   extra_from f h = elim (from_if (has_more delims (length slot.elements) (drop 1 s)) _ _ f h) [
@@ -83,7 +83,7 @@ module _ (delims : Delims) (s : Segment) (slot : Slot) where
       → fault p 0 0 (condition_code r) (reference_at slot.elements p)
       (condition_copy (condition_code r) (text_at (texts_of slot s) p)) ≡ fault_at delims s slot p 0 0 (condition_code r)
   broken_shown r p from to = ap (λ copy. fault p 0 0 (condition_code r) (reference_at slot.elements p) copy)
-      (ap (condition_copy (condition_code r)) (text_of_row slot s p from to) ∙ copy_same r (element_of s p))
+      (ap (condition_copy (condition_code r)) (text_of_row slot s p from to) ∙ copy_same r (element_at s p))
 
   at_place : (f : ElemFault) (e c r : ℕ) (code : ElementCode) → f ≡ fault_at delims s slot e c r code
       → f ≡ fault_at delims s slot f.element f.component f.repetition f.code

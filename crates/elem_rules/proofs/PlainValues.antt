@@ -14,7 +14,7 @@ use Rattle.elem_rules.specs.Clean.{has_plain_form, has_used_code, is_plain_value
 use Rattle.elem_rules.specs.Values.{calendar_fault, code_fault, is_character, is_form, value_fault, value_length}
 use Rattle.moment.specs.Moment.{pair_at}
 use Rattle.moment.specs.Calendar.{is_digits, is_date, is_time, is_long_date, is_short_date}
-use Rattle.moment.proofs.Both.{both}
+use Rattle.moment.proofs.ForAbove.{both}
 use Rattle.elem_rules.proofs.Measures.{decimal_unsigned, whole_length, whole_unsigned}
 use Rattle.elem_rules.proofs.Plain.{narrow_characters}
 

@@ -7,7 +7,7 @@ use Rattle.std.specs.List.{All, Contains, list_any, list_all, filter, flat_map}
 use Rattle.std.proofs.lemmas.Bool.{leb-true}
 use Rattle.x12_bytes.specs.declared.delims.Delims.{Delims}
 use Rattle.x12_segs.specs.Words.{occurrences, components}
-use Rattle.guide_tree.specs.Words.{is_element_bounded, is_row_bounded, is_component_bounded, is_condition_of, Segment, element_of}
+use Rattle.guide_tree.specs.Words.{is_element_bounded, is_row_bounded, is_component_bounded, is_condition_of, Segment, element_at}
 use Rattle.guide_tree.specs.declared.element.Requirement.{Requirement}
 use Rattle.guide_tree.specs.declared.element.Requirement.TheVariants.{Mandatory, Optional}
 use Rattle.guide_tree.specs.declared.element.SimpleRow.{SimpleRow}
@@ -44,7 +44,7 @@ use Rattle.elem_rules.proofs.Membership.{is_found}
 use Rattle.elem_rules.proofs.Agreeing.{text_of_row, broken_agrees, positions_have_rows, conditions_hold}
 use Rattle.std.proofs.lemmas.List.Elements.{All-weaker, All-head, All-tail, All-nil, All-cons}
 use Rattle.elem_rules.specs.Clean.{is_set, marked, bits_to, has_bytes, is_optional, fits_empty, fits_value, fits, holds}
-use Rattle.moment.proofs.Both.{both}
+use Rattle.moment.proofs.ForAbove.{both}
 use Rattle.elem_rules.proofs.Plain.{IsPlain, one_component, one_occurrence, filled_plain}
 
 pub drop_nil : {A : Type 0} (n : ℕ) (xs : List A) → xs ≡ [] → drop n xs ≡ []
@@ -291,22 +291,22 @@ pub record LooksClean (delims : Delims) (s : Segment) (slot : Slot) : Type 0 whe
   pub bounded : All (λ row. IsTrue (is_element_bounded row)) slot.elements
   pub sound : IsTrue (list_all (is_condition_of slot) slot.conditions)
   pub few : length slot.elements ≤ 40
-  pub plain : (k : ℕ) → IsPlain delims (element_of s k)
-  pub fit : (k : ℕ) (row : Element) → nth slot.elements k ≡ Some row → IsTrue (fits row (element_of s k))
+  pub plain : (k : ℕ) → IsPlain delims (element_at s k)
+  pub fit : (k : ℕ) (row : Element) → nth slot.elements k ≡ Some row → IsTrue (fits row (element_at s k))
   pub no_more : drop (length slot.elements) (drop 1 s) ≡ []
-  pub hold : All (λ c. IsTrue (holds (is_set (bits_to (λ k. has_bytes (element_of s k)) (length slot.elements))) c.relation c.positions))
+  pub hold : All (λ c. IsTrue (holds (is_set (bits_to (λ k. has_bytes (element_at s k)) (length slot.elements))) c.relation c.positions))
       slot.conditions
 
 -- conditions that hold, by the bits of the elements that aren't empty, find nothing
 module _ (delims : Delims) (s : Segment) (slot : Slot) (few : length slot.elements ≤ 40)
-    (plain : (k : ℕ) → IsPlain delims (element_of s k)) where
+    (plain : (k : ℕ) → IsPlain delims (element_at s k)) where
   abbrev bits : ℕ
-  bits = bits_to (λ k. has_bytes (element_of s k)) (length slot.elements)
+  bits = bits_to (λ k. has_bytes (element_at s k)) (length slot.elements)
 
   set_as : (p : ℕ) → 1 ≤ p → p ≤ length slot.elements → is_present_in delims (texts_of slot s) p ≡ is_set bits p
   set_as p from to =
-      ap (is_filled delims) (text_of_row slot s p from to) ∙ filled_as delims (element_of s p) (plain p)
-      ∙ sym (is_set_to (λ k. has_bytes (element_of s k)) (length slot.elements) p from to (omega arith))
+      ap (is_filled delims) (text_of_row slot s p from to) ∙ filled_as delims (element_at s p) (plain p)
+      ∙ sym (is_set_to (λ k. has_bytes (element_at s k)) (length slot.elements) p from to (omega arith))
 
   condition_clean : (c : Condition) → IsTrue (is_condition_of slot c) → IsTrue (holds (is_set bits) c.relation c.positions)
       → condition_found delims slot.elements (texts_of slot s) c ≡ []
@@ -328,9 +328,9 @@ module _ (delims : Delims) (s : Segment) (slot : Slot) (few : length slot.elemen
 
 module _ (delims : Delims) (s : Segment) (slot : Slot) (g : LooksClean delims s slot) where
   one_clean : (k : ℕ) (o : Option Element) → nth slot.elements k ≡ o
-      → option_map_or (λ row. element_found delims k row (element_of s k)) o [] ≡ []
+      → option_map_or (λ row. element_found delims k row (element_at s k)) o [] ≡ []
   one_clean k None e = refl
-  one_clean k (Some row) e = fits_clean delims k row (element_of s k)
+  one_clean k (Some row) e = fits_clean delims k row (element_at s k)
       (all_nth (λ row. IsTrue (is_element_bounded row)) slot.elements k row g.bounded e) (g.plain k) (g.fit k row e)
 
   rows_clean : rows_found delims slot.elements (texts_of slot s) ≡ []
@@ -343,7 +343,7 @@ module _ (delims : Delims) (s : Segment) (slot : Slot) (g : LooksClean delims s 
   extra_clean : extra_found delims slot s ≡ []
   extra_clean =
       ap (λ b. if b then fault (length slot.elements + 1) 0 0 ik403.TooManyElements []
-      (element_of s (length slot.elements + 1)) ∷ [] else [])
+      (element_at s (length slot.elements + 1)) ∷ [] else [])
       (ap (list_any (is_filled delims)) g.no_more)
 
   found_clean : found delims s slot ≡ []

@@ -7,7 +7,7 @@ use Rattle.std.proofs.lemmas.Bool.{and_parts}
 use Rattle.std.proofs.lemmas.List.{length-append, append_assoc, append-nil}
 use Rattle.std.proofs.lemmas.List.Elements.{All-append, All-cons, All-nil}
 use Rattle.std.proofs.lemmas.Option.{same_Some, slice_get-get_or, slice_get_within}
-use Rattle.guide_tree.proofs.Judged.{each_passes}
+use Rattle.guide_tree.proofs.ForAbove.{each_passes}
 use Rattle.guide_tree.specs.declared.fault.GuideFault.TheVariants as fault
 use Rattle.guide_tree.specs.declared.rows.GuideRows.{GuideRows}
 use Rattle.guide_tree.specs.declared.slot.Slot.{Slot}

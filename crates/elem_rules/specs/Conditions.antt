@@ -3,7 +3,7 @@ use Rattle.std.specs.Prelude.{ℕ, List, [], take, drop, Bool, not, if◌then◌
 use Rattle.std.specs.List.{list_any, filter}
 use Rattle.guide_tree.specs.declared.slot.Relation.{Relation}
 use Rattle.guide_tree.specs.declared.slot.Relation.TheVariants.{Paired, Required, Exclusion, Conditional, ListConditional}
-use Rattle.guide_tree.specs.Words.{Segment, element_of}
+use Rattle.guide_tree.specs.Words.{Segment, element_at}
 use Rattle.hub_kinds.specs.declared.codes.ElementCode.{ElementCode}
 use Rattle.hub_kinds.specs.declared.codes.ElementCode.TheVariants as ik403
 use Rattle.x12_bytes.specs.declared.delims.Delims.{Delims}
@@ -11,7 +11,7 @@ use Rattle.elem_rules.specs.Divided.{is_filled}
 
 -- an element is present where it isn't empty
 abbrev pub is_present : Delims → Segment → ℕ → Bool
-is_present delims s position = is_filled delims (element_of s position)
+is_present delims s position = is_filled delims (element_at s position)
 
 abbrev pub absent : (ℕ → Bool) → List ℕ → List ℕ
 absent present positions = filter (λ position. not (present position)) positions

@@ -13,7 +13,7 @@ use Rattle.guide_tree.specs.declared.element.Element.{Element}
 use Rattle.guide_tree.specs.declared.element.Element.TheVariants as element
 use Rattle.guide_tree.specs.declared.slot.Slot.{Slot}
 use Rattle.guide_tree.specs.declared.slot.Condition.{Condition}
-use Rattle.guide_tree.specs.Words.{Segment, element_of}
+use Rattle.guide_tree.specs.Words.{Segment, element_at}
 use Rattle.hub_kinds.specs.declared.codes.ElementCode.{ElementCode}
 use Rattle.hub_kinds.specs.declared.codes.ElementCode.TheVariants as ik403
 use Rattle.hub_kinds.specs.declared.fault.ElemFault.{ElemFault}
@@ -26,27 +26,27 @@ use Rattle.elem_rules.specs.Values.{value_fault}
 -- repetition of it; the last two are 0 where they aren't shown.
 
 -- a component of an occurrence of an element
-abbrev pub part_at : Delims → List ℕ → (component repetition : ℕ) → List ℕ
-part_at delims element component repetition = component_in delims (occurrence_in delims element repetition) component
+abbrev pub component_at : Delims → List ℕ → (component repetition : ℕ) → List ℕ
+component_at delims element component repetition = component_in delims (occurrence_in delims element repetition) component
 
 -- the text that a code speaks of: nothing that is missing; the whole element; an occurrence; else a component
 abbrev pub copy_in : Delims → List ℕ → (component repetition : ℕ) → ElementCode → List ℕ
 copy_in delims element component repetition ik403.RequiredMissing = []
 copy_in delims element component repetition ik403.ConditionalMissing = []
 copy_in delims element component repetition ik403.TooManyElements = element
-copy_in delims element component repetition ik403.TooShort = part_at delims element component repetition
-copy_in delims element component repetition ik403.TooLong = part_at delims element component repetition
-copy_in delims element component repetition ik403.InvalidCharacter = part_at delims element component repetition
-copy_in delims element component repetition ik403.InvalidCode = part_at delims element component repetition
-copy_in delims element component repetition ik403.InvalidDate = part_at delims element component repetition
-copy_in delims element component repetition ik403.InvalidTime = part_at delims element component repetition
+copy_in delims element component repetition ik403.TooShort = component_at delims element component repetition
+copy_in delims element component repetition ik403.TooLong = component_at delims element component repetition
+copy_in delims element component repetition ik403.InvalidCharacter = component_at delims element component repetition
+copy_in delims element component repetition ik403.InvalidCode = component_at delims element component repetition
+copy_in delims element component repetition ik403.InvalidDate = component_at delims element component repetition
+copy_in delims element component repetition ik403.InvalidTime = component_at delims element component repetition
 copy_in delims element component repetition ik403.ExclusionViolated = element
 copy_in delims element component repetition ik403.TooManyRepetitions = occurrence_in delims element repetition
-copy_in delims element component repetition ik403.TooManyComponents = part_at delims element component repetition
-copy_in delims element component repetition ik403.CodeNotUsed = part_at delims element component repetition
+copy_in delims element component repetition ik403.TooManyComponents = component_at delims element component repetition
+copy_in delims element component repetition ik403.CodeNotUsed = component_at delims element component repetition
 copy_in delims element component repetition ik403.DependentMissing = []
 copy_in delims element component repetition ik403.NotUsedPresent =
-    if component == 0 then element else part_at delims element component repetition
+    if component == 0 then element else component_at delims element component repetition
 copy_in delims element component repetition ik403.PatternFailure = element
 copy_in delims element component repetition ik403.DependentNotUsedPresent = element
 
@@ -62,7 +62,7 @@ fault_at delims s slot element component repetition code = record {
   repetition = repetition;
   code = code;
   reference = option_map_or (λ row. reference_in row component) (nth slot.elements element) [];
-  copy = copy_in delims (element_of s element) component repetition code;
+  copy = copy_in delims (element_at s element) component repetition code;
 }
 
 -- a mandatory element or component that is empty
@@ -141,7 +141,7 @@ pub record IsRowFault (delims : Delims) (s : Segment) (slot : Slot) (f : ElemFau
   pub row : Element
   pub there : nth slot.elements position ≡ Some row
   pub w : Wrong
-  pub wrong : IsWrong delims row (element_of s position) w
+  pub wrong : IsWrong delims row (element_at s position) w
   pub is : f ≡ fault_at delims s slot position w.component w.repetition w.code
 
 -- a relational condition is broken at an element

@@ -11,7 +11,7 @@ use Rattle.guide_tree.specs.declared.element.Component.{Component}
 use Rattle.guide_tree.specs.declared.element.Element.{Element}
 use Rattle.guide_tree.specs.declared.slot.Slot.{Slot}
 use Rattle.guide_tree.specs.declared.slot.Condition.{Condition}
-use Rattle.guide_tree.specs.Words.{Segment, element_of}
+use Rattle.guide_tree.specs.Words.{Segment, element_at}
 use Rattle.hub_kinds.specs.declared.codes.ElementCode.{ElementCode}
 use Rattle.hub_kinds.specs.declared.codes.ElementCode.TheVariants as ik403
 use Rattle.hub_kinds.specs.declared.fault.ElemFault.{ElemFault}
@@ -119,7 +119,7 @@ rows_found delims rows texts =
 abbrev pub extra_found : Delims → Slot → Segment → List ElemFault
 extra_found delims slot s =
     if has_more delims (length slot.elements) (drop 1 s)
-    then fault (length slot.elements + 1) 0 0 ik403.TooManyElements [] (element_of s (length slot.elements + 1)) ∷ []
+    then fault (length slot.elements + 1) 0 0 ik403.TooManyElements [] (element_at s (length slot.elements + 1)) ∷ []
     else []
 
 -- what a broken condition copies: an element that is too much

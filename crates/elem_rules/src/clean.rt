@@ -2,7 +2,7 @@ ghost use Rattle.std.specs.Prelude.{◌≡◌, ◌≤◌, ◌<◌, ℕ, IsTrue, 
 ghost use Rattle.std.specs.Bool.{OnTrue};
 ghost use Rattle.std.specs.List.{list_any, list_all, filter};
 ghost use Rattle.guide_tree.specs.declared.element.Element.{Element as Row};
-ghost use Rattle.guide_tree.specs.Words.{is_slot_bounded, is_condition_of, element_of};
+ghost use Rattle.guide_tree.specs.Words.{is_slot_bounded, is_condition_of, element_at};
 ghost use Rattle.hub_kinds.specs.declared.fault.ElemFault.{ElemFault};
 ghost use Rattle.x12_segs.specs.Words.{elements_of};
 ghost use Rattle.elem_rules.specs.Divided.{is_inner_separator};
@@ -176,9 +176,9 @@ fn look(delims: Delims, text: &[u8]) -> Option<bool>
 fn present_if_fit(seg: &SegView, rows: &[Element], narrow: bool) -> Option<u64>
     requires few { length rows.now ≤ 40 }
     requires narrow { OnTrue narrow (list_any is_strange seg.now.bytes ≡ false) }
-    ensures bits { IfSome result (λ bits. bits ≡ bits_to (λ k. has_bytes (element_of (elements_of seg.now) k)) (length rows.now)) }
+    ensures bits { IfSome result (λ bits. bits ≡ bits_to (λ k. has_bytes (element_at (elements_of seg.now) k)) (length rows.now)) }
     ensures fit { IfSome result
-        (λ _. (k : ℕ) (row : Row) → nth rows.now k ≡ Some row → IsTrue (fits row (element_of (elements_of seg.now) k))) }
+        (λ _. (k : ℕ) (row : Row) → nth rows.now k ≡ Some row → IsTrue (fits row (element_at (elements_of seg.now) k))) }
     ensures no_more { IfSome result (λ _. drop (length rows.now) (drop 1 (elements_of seg.now)) ≡ []) }
 {
     let mut parts = seg.elements();

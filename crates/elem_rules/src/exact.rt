@@ -3,7 +3,7 @@ ghost use Rattle.std.specs.List.{Contains, list_any, list_all};
 ghost use Rattle.memchr.specs.Find.{is_byte, places};
 ghost use Rattle.hub_kinds.specs.declared.fault.ElemFault.{ElemFault};
 ghost use Rattle.x12_segs.specs.Words.{elements_of};
-ghost use Rattle.guide_tree.specs.Words.{is_slot_bounded, is_element_bounded, is_condition_of, element_of};
+ghost use Rattle.guide_tree.specs.Words.{is_slot_bounded, is_element_bounded, is_condition_of, element_at};
 ghost use Rattle.hub_kinds.specs.Words.{AreElementsRising, element_key_of, IsKeyedBy};
 ghost use Rattle.elem_rules.specs.ElementFaults.{IsElementFault};
 ghost use Rattle.elem_rules.specs.Divided.{has_more};
@@ -27,7 +27,7 @@ use x12_segs::SegView;
 /// The element at an index, from 0; the empty text where it isn't there.
 fn element_or_empty<'a>(seg: &SegView<'a>, separators: &[usize], k: usize) -> &'a [u8]
     requires places { separators.now ≡ places (is_byte seg.now.delims.element) seg.now.bytes }
-    ensures { result.now ≡ element_of (elements_of seg.now) (k + 1) }
+    ensures { result.now ≡ element_at (elements_of seg.now) (k + 1) }
 {
     if k < separators.len() {
         return element_behind(seg, separators, k);
@@ -51,7 +51,7 @@ fn check_row<'a>(
     requires places { separators.now ≡ places (is_byte seg.now.delims.element) seg.now.bytes }
     requires plain { list_any (is_odd seg.now.delims) seg.now.bytes ≡ false }
     ensures { OnOk result
-        (found.new ≡ found.old ++ element_found seg.now.delims (k + 1) row.now (element_of (elements_of seg.now) (k + 1))) }
+        (found.new ≡ found.old ++ element_found seg.now.delims (k + 1) row.now (element_at (elements_of seg.now) (k + 1))) }
 {
     let text = element_or_empty(seg, separators, k);
     if fits_flat(flat, numbers, row, text) {
@@ -137,7 +137,7 @@ fn check_extra<'a>(
 fn present_to(seg: &SegView, separators: &[usize], n: usize) -> u64
     requires few { n ≤ 40 }
     requires places { separators.now ≡ places (is_byte seg.now.delims.element) seg.now.bytes }
-    ensures { result ≡ bits_to (λ k. has_bytes (element_of (elements_of seg.now) k)) n }
+    ensures { result ≡ bits_to (λ k. has_bytes (element_at (elements_of seg.now) k)) n }
 {
     let mut present = 0;
     for k in 0..n {

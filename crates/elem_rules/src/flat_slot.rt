@@ -3,7 +3,7 @@ ghost use Rattle.std.specs.Bool.{OnTrue};
 ghost use Rattle.std.specs.List.{list_any, list_all};
 ghost use Rattle.memchr.specs.Find.{is_byte, places};
 ghost use Rattle.guide_tree.specs.declared.element.Element.{Element as Row};
-ghost use Rattle.guide_tree.specs.Words.{IsSound, is_slot_bounded, is_condition_of, is_distinct, element_of};
+ghost use Rattle.guide_tree.specs.Words.{IsSound, is_slot_bounded, is_condition_of, is_distinct, element_at};
 ghost use Rattle.hub_kinds.specs.declared.fault.ElemFault.{ElemFault};
 ghost use Rattle.x12_segs.specs.Words.{elements_of};
 ghost use Rattle.elem_rules.specs.Rows.{nth};
@@ -166,9 +166,9 @@ fn present_if_sure(
     requires places { separators.now ≡ places (is_byte seg.now.delims.element) seg.now.bytes }
     requires narrow { list_any is_strange seg.now.bytes ≡ false }
     ensures bits { IfSome result
-        (λ bits. bits ≡ bits_to (λ k. has_bytes (element_of (elements_of seg.now) k)) (length separators.now)) }
+        (λ bits. bits ≡ bits_to (λ k. has_bytes (element_at (elements_of seg.now) k)) (length separators.now)) }
     ensures fit { IfSome result (λ _. (k : ℕ) (row : Row) → k ≤ length separators.now → nth rows.now k ≡ Some row
-        → IsTrue (has_bytes (element_of (elements_of seg.now) k)) → IsTrue (fits row (element_of (elements_of seg.now) k))) }
+        → IsTrue (has_bytes (element_at (elements_of seg.now) k)) → IsTrue (fits row (element_at (elements_of seg.now) k))) }
 {
     let mut present = 0;
     for k in 0..separators.len() {

@@ -3,7 +3,7 @@ ghost use Rattle.std.specs.Bool.{OnTrue};
 ghost use Rattle.std.specs.List.{list_any, list_all};
 ghost use Rattle.memchr.specs.Find.{is_byte, places};
 ghost use Rattle.guide_tree.specs.declared.element.Element.{Element as Row};
-ghost use Rattle.guide_tree.specs.Words.{is_slot_bounded, is_condition_of, element_of};
+ghost use Rattle.guide_tree.specs.Words.{is_slot_bounded, is_condition_of, element_at};
 ghost use Rattle.hub_kinds.specs.declared.fault.ElemFault.{ElemFault};
 ghost use Rattle.x12_segs.specs.Words.{elements_of};
 ghost use Rattle.elem_rules.specs.Rows.{nth};
@@ -31,7 +31,7 @@ fn offset_or(offsets: &[usize], index: usize, end: usize) -> usize
 pub(crate) fn element_behind<'a>(seg: &SegView<'a>, separators: &[usize], k: usize) -> &'a [u8]
     requires places { separators.now ≡ places (is_byte seg.now.delims.element) seg.now.bytes }
     requires within { k < length separators.now }
-    ensures { result.now ≡ element_of (elements_of seg.now) (k + 1) }
+    ensures { result.now ≡ element_at (elements_of seg.now) (k + 1) }
 {
     let bytes = seg.bytes();
     let from = separators[k] + 1;
@@ -45,7 +45,7 @@ fn fit_there(seg: &SegView, rows: &[Element], separators: &[usize]) -> bool
     requires places { separators.now ≡ places (is_byte seg.now.delims.element) seg.now.bytes }
     requires narrow { list_any is_strange seg.now.bytes ≡ false }
     ensures { OnTrue result ((k : ℕ) (row : Row) → k ≤ length separators.now → nth rows.now k ≡ Some row
-        → IsTrue (fits row (element_of (elements_of seg.now) k))) }
+        → IsTrue (fits row (element_at (elements_of seg.now) k))) }
 {
     for k in 0..separators.len() {
         if !fits(&rows[k], element_behind(seg, separators, k), true) {
@@ -66,7 +66,7 @@ fn may_be_empty(rows: &[Element]) -> bool
 fn present_behind(seg: &SegView, separators: &[usize]) -> u64
     requires few { length separators.now ≤ 40 }
     requires places { separators.now ≡ places (is_byte seg.now.delims.element) seg.now.bytes }
-    ensures { result ≡ bits_to (λ k. has_bytes (element_of (elements_of seg.now) k)) (length separators.now) }
+    ensures { result ≡ bits_to (λ k. has_bytes (element_at (elements_of seg.now) k)) (length separators.now) }
 {
     let mut present = 0;
     for k in 0..separators.len() {
@@ -82,7 +82,7 @@ fn hold_there(seg: &SegView, conditions: &[Condition], separators: &[usize]) -> 
     requires few { length separators.now ≤ 40 }
     requires places { separators.now ≡ places (is_byte seg.now.delims.element) seg.now.bytes }
     ensures { result ≡ list_all
-        (λ c. holds (is_set (bits_to (λ k. has_bytes (element_of (elements_of seg.now) k)) (length separators.now))) c.relation c.positions)
+        (λ c. holds (is_set (bits_to (λ k. has_bytes (element_at (elements_of seg.now) k)) (length separators.now))) c.relation c.positions)
         conditions.now }
 {
     match conditions {

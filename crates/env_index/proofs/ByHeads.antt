@@ -10,7 +10,7 @@ use Rattle.std.proofs.lemmas.List.Elements.{All-nil, All-cons, All-head, All-tai
 use Rattle.x12_bytes.specs.HeaderTest.{is_head}
 use Rattle.isa_scan.specs.Heads.{heads_in, head_at}
 use Rattle.isa_scan.specs.declared.heads.HeadAt.{HeadAt}
-use Rattle.isa_scan.proofs.HeadLemmas.{heads_both, head_one, head_none, no_heads}
+use Rattle.isa_scan.proofs.ForAbove.{heads_both, head_one, head_none, no_heads}
 use Rattle.env_index.specs.Extents.{Extent}
 use Rattle.env_index.specs.Faults.{fault_of}
 use Rattle.env_index.specs.Index.{IndexEntry, IsEntryOf, extents_of, extent_of}

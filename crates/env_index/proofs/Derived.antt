@@ -5,7 +5,7 @@ use Rattle.std.specs.List.{flat_map, list_all}
 use Rattle.x12_segs.specs.Words.{SegValue, kind_of, may_stand_in_set}
 use Rattle.env_index.specs.Envelope.{Set, InGroup, ASet, OutOfGroup, Group, InBody, ATa1, AGroup, OutOfBody, Body, option_items}
 use Rattle.env_index.specs.Envelope.{set_items, in_group_items, group_items, in_body_items, ends_set, ends_group, is_out_of_group}
-use Rattle.env_index.specs.Envelope.{is_out_of_body, MayFollow, Closed, IsSet, AreMembers, IsGroup, AreBodyMembers, Derives}
+use Rattle.env_index.specs.Envelope.{is_out_of_body, MayFollow, Closed, IsSet, AreMembers, IsGroup, AreBodyMembers, DerivesInterchange}
 use Rattle.x12_segs.specs.declared.kind.Kind.{Kind}
 use Rattle.x12_segs.specs.declared.kind.Kind.TheVariants.{InterchangeTrailer, GroupHeader, GroupTrailer, SetHeader, SetTrailer, Ta1}
 use Rattle.x12_segs.specs.declared.kind.Kind.TheVariants.{Other}
@@ -246,7 +246,7 @@ body_ends (Some x) closed = by_kind (kind_of x) closed
     by_kind k is = rw is refl
 
 -- segments that derive a tree sum up to its summary
-pub derived_sums : (segs : List SegValue) (b : Body SegValue) → Derives kind_of segs b → summed segs ≡ summary_of b
+pub derived_sums : (segs : List SegValue) (b : Body SegValue) → DerivesInterchange kind_of segs b → summed segs ≡ summary_of b
 derived_sums segs b derives =
     ap (λ (xs : List SegValue). (tails xs).in_body) (sym derives.0)
     ∙ body_in_front b.members (option_items b.trailer) derives.1.members

@@ -8,7 +8,7 @@ use Rattle.x12_segs.specs.declared.kind.Kind.TheVariants.{InterchangeTrailer, Gr
 use Rattle.x12_segs.specs.declared.kind.Kind.TheVariants.{Other}
 use Rattle.env_index.specs.Envelope.{Set, InGroup, ASet, OutOfGroup, Group, InBody, ATa1, AGroup, OutOfBody, Body, option_items}
 use Rattle.env_index.specs.Envelope.{set_items, in_group_items, group_items, in_body_items, ends_set, ends_group, is_out_of_group}
-use Rattle.env_index.specs.Envelope.{is_out_of_body, Closed, IsSet, AreMembers, IsGroup, AreBodyMembers, Derives}
+use Rattle.env_index.specs.Envelope.{is_out_of_body, Closed, IsSet, AreMembers, IsGroup, AreBodyMembers, DerivesInterchange}
 use Rattle.env_index.specs.Extents.{ends_interchange}
 use Rattle.env_index.specs.Mapped.{EndsWithTrailer}
 
@@ -99,7 +99,7 @@ module _ {X : Type 0} (kind : X → Kind) where
   ends_behind (x ∷ xs) ys none ends = let no : ends_interchange (kind x) ≡ false = none.0 in
       ((λ trailer. cc), ends_behind xs ys none.1 ends)
 
-  pub derived_ends : (segs : List X) (b : Body X) → Derives kind segs b → EndsWithTrailer kind segs
+  pub derived_ends : (segs : List X) (b : Body X) → DerivesInterchange kind segs b → EndsWithTrailer kind segs
   derived_ends segs b derives =
       subst (EndsWithTrailer kind) derives.0
       (ends_behind (flat_map in_body_items b.members) (option_items b.trailer)

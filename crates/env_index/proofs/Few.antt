@@ -9,7 +9,7 @@ use Rattle.x12_bytes.specs.Header.{header_at, header_delims}
 use Rattle.x12_bytes.specs.HeaderTest.{is_head}
 use Rattle.x12_bytes.specs.declared.layout.TheConstants.{HEADER_LEN}
 use Rattle.x12_segs.specs.Words.{Seg, segs_from, rest_from, SegValue, view_of, kind_of}
-use Rattle.x12_segs.proofs.OrderLemmas.{StandInOrder, segs_in_order}
+use Rattle.x12_segs.proofs.ForAbove.{StandInOrder, segs_in_order}
 use Rattle.env_index.specs.Envelope.{InGroup, ASet, OutOfGroup, InBody, ATa1, AGroup, OutOfBody}
 use Rattle.env_index.specs.Envelope.{option_items, set_items, in_group_items, group_items, in_body_items}
 use Rattle.env_index.specs.Extents.{Reach, behind, onto_reach, ends_interchange, reach_of, reach_at}

@@ -9,7 +9,7 @@ use Rattle.hub_kinds.specs.declared.memory.NoMemory.{NoMemory}
 use Rattle.x12_segs.specs.declared.kind.Kind.{Kind}
 use Rattle.x12_segs.specs.declared.kind.Kind.TheVariants.{InterchangeTrailer}
 use Rattle.env_index.specs.declared.places.BodyPlace.{BodyPlace}
-use Rattle.env_index.specs.Envelope.{Body, Derives}
+use Rattle.env_index.specs.Envelope.{Body, DerivesInterchange}
 use Rattle.env_index.specs.Extents.{Reach, onto_reach, ends_interchange}
 use Rattle.env_index.specs.Source.{TakesPart, reach_over}
 use Rattle.env_index.specs.Places.{body_in}
@@ -23,7 +23,7 @@ use Rattle.env_index.proofs.Walking.{segment_at, reach_at_head, reach_at_trailer
 -- what was read ends with the segments that come
 pub told : (segs whole : List SegValue) (state : State) (trailer : Option SegValue) (body : Summary) (tree : Body SegValue)
     → resume state (tails segs) ≡ summed whole → tails segs ≡ last_tails trailer
-    → body ≡ finished trailer (end_all state) → Derives kind_of whole tree → body ≡ summary_of tree
+    → body ≡ finished trailer (end_all state) → DerivesInterchange kind_of whole tree → body ≡ summary_of tree
 told segs whole state trailer body tree read last is derives =
     is ∙ finish trailer state ∙ ap (resume state) (sym last) ∙ read ∙ derived_sums whole tree derives
 
@@ -32,10 +32,11 @@ pub told_ok : (text : List ℕ) (delims : Delims) (r : Result BodyPlace NoMemory
     → State) (trailer : List ℕ → Delims → Option SegValue)
     → resume (state text delims) (tails segs) ≡ summed whole → tails segs ≡ last_tails (trailer text delims)
     → IfOk r (λ body. (t : List ℕ) (d : Delims) → body_in t d body ≡ finished (trailer t d) (end_all (state t d)))
-    → IfOk r (λ body. (tree : Body SegValue) → Derives kind_of whole tree → body_in text delims body ≡ summary_of tree)
+    → IfOk r (λ body. (tree : Body SegValue) → DerivesInterchange kind_of whole tree → body_in text delims body ≡ summary_of tree)
 told_ok text delims r segs whole state trailer read last is =
     IfOk-weaker r (λ body. (t : List ℕ) (d : Delims)
-    → body_in t d body ≡ finished (trailer t d) (end_all (state t d))) (λ body. (tree : Body SegValue) → Derives kind_of whole tree
+    → body_in t d body ≡ finished (trailer t d) (end_all (state t d))) (λ body. (tree : Body SegValue)
+    → DerivesInterchange kind_of whole tree
     → body_in text delims body ≡ summary_of tree)
     (λ body eq tree derives. told segs whole (state text delims) (trailer text delims) (body_in text delims body) tree read last
     (eq text delims) derives) is

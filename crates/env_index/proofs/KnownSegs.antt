@@ -10,14 +10,12 @@ use Rattle.std.proofs.Math.Logic.{∥∥₁_elim, ∥∥₁_map}
 use Rattle.memchr.specs.Find.{IsFirstByte, is_byte}
 use Rattle.x12_segs.specs.Words.{parts, Seg, seg_at, segs_of, segs_from, rest_from, segs_within, IsNextPart, LiesIn}
 use Rattle.x12_segs.specs.declared.part.Part.TheVariants.{Segment}
-use Rattle.x12_segs.proofs.CutLemmas.{segs_from-cut, rest_from-cut, span_of, span-split}
-use Rattle.x12_segs.proofs.FirstLemmas.{IsFirstSeg, first_seg, first_byte}
-use Rattle.x12_segs.proofs.OrderLemmas.{StandInOrder, segs_in_order}
-use Rattle.x12_segs.proofs.PartLemmas.{parts-none}
+use Rattle.x12_segs.proofs.ForAbove.{segs_from-cut, rest_from-cut, span_of, span-split, IsFirstSeg, first_seg, first_byte, StandInOrder}
+use Rattle.x12_segs.proofs.ForAbove.{segs_in_order, parts-none}
 use Rattle.env_marks.specs.declared.frag.Mark.{Mark}
 use Rattle.env_marks.specs.Marking.{Marking, MarksValue, mark_of, last_of, marking_of}
 use Rattle.env_marks.specs.Shown.{first_shown, end_shown, list_shown}
-use Rattle.env_marks.proofs.PartSteps.{IsPartCut, part_found, marking_found}
+use Rattle.env_marks.proofs.ForAbove.{IsPartCut, part_found, marking_found}
 use Rattle.env_index.specs.Known.{AreMarks, AreNext, IsDivided, no_mark}
 
 -- a text cut off at an offset

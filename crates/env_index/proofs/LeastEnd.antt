@@ -9,7 +9,7 @@ use Rattle.x12_segs.specs.Words.{Seg, segs_from, rest_from, view_of, kind_of}
 use Rattle.x12_segs.specs.declared.kind.Kind.{Kind}
 use Rattle.x12_segs.specs.declared.kind.Kind.TheVariants.{InterchangeTrailer, GroupHeader, GroupTrailer, SetHeader, SetTrailer, Ta1}
 use Rattle.x12_segs.specs.declared.kind.Kind.TheVariants.{Other}
-use Rattle.x12_segs.proofs.OrderLemmas.{StandInOrder, segs_in_order}
+use Rattle.x12_segs.proofs.ForAbove.{StandInOrder, segs_in_order}
 use Rattle.env_index.specs.Ends.{MayEnd, IsLeastEnd}
 use Rattle.env_index.specs.Extents.{Reach, behind, onto_reach, ends_interchange, reach_of, reach_from}
 

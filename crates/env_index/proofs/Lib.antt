@@ -4,6 +4,7 @@ pub mod Each
 pub mod EndingTrees
 pub mod Few
 pub mod Finishing
+pub mod ForAbove
 pub mod IndexPlacing
 pub mod Indexing
 pub mod KnownSegs

@@ -7,7 +7,7 @@ use Rattle.x12_segs.specs.Words.{may_stand_in_set}
 use Rattle.x12_segs.specs.declared.kind.Kind.{Kind}
 use Rattle.env_index.specs.Envelope.{Set, InGroup, ASet, OutOfGroup, Group, InBody, ATa1, AGroup, OutOfBody, Body, option_items}
 use Rattle.env_index.specs.Envelope.{set_items, in_group_items, group_items, in_body_items, body_items, MayFollow, Closed, IsSet}
-use Rattle.env_index.specs.Envelope.{AreMembers, IsGroup, AreBodyMembers, Derives, ends_set, ends_group, is_out_of_group}
+use Rattle.env_index.specs.Envelope.{AreMembers, IsGroup, AreBodyMembers, DerivesInterchange, ends_set, ends_group, is_out_of_group}
 use Rattle.env_index.specs.Envelope.{is_out_of_body}
 use Rattle.x12_segs.specs.declared.kind.Kind.TheVariants.{InterchangeTrailer, GroupTrailer, SetTrailer}
 use Rattle.env_index.specs.Extents.{ends_interchange}
@@ -112,7 +112,7 @@ module _ {X Y : Type 0} (kind : X → Kind) (other : Y → Kind) (f : X → Y) (
   )
   body_members_are_mapped (OutOfBody x ∷ ms) rest are = (ap is_out_of_body (keeps x) ∙ are.0, body_members_are_mapped ms rest are.1)
 
-  pub derives_mapped : (segs : List X) (b : Body X) → Derives kind segs b → Derives other (map f segs) (map_body f b)
+  pub derives_mapped : (segs : List X) (b : Body X) → DerivesInterchange kind segs b → DerivesInterchange other (map f segs) (map_body f b)
   derives_mapped segs b derives = (
     sym (body_mapped b) ∙ ap (map f) derives.0,
     record {
@@ -131,8 +131,8 @@ module _ {X Y : Type 0} (kind : X → Kind) (other : Y → Kind) (f : X → Y) (
   ends_before (x ∷ xs) ends =
       ((λ trailer. none_mapped xs (ends.0 (ap ends_interchange (keeps x) ∙ trailer))), ends_before xs ends.1)
 
-  pub derives_before : (segs : List X) (c : Body Y) → Derives other (map f segs) c
-      → (b : Body X) × Derives kind segs b × (map_body f b ≡ c)
+  pub derives_before : (segs : List X) (c : Body Y) → DerivesInterchange other (map f segs) c
+      → (b : Body X) × DerivesInterchange kind segs b × (map_body f b ≡ c)
   derives_before segs c derives =
       let tree = a_tree kind segs (ends_before segs (derived_ends other (map f segs) c derives)) in
       (tree.0, tree.1, tree_is_one other (map f segs) (map_body f tree.0) c (derives_mapped segs tree.0 tree.1) derives)

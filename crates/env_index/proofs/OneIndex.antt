@@ -4,7 +4,7 @@ use Rattle.std.specs.List.{All}
 use Rattle.std.proofs.lemmas.List.Elements.{All-head, All-tail}
 use Rattle.hub_kinds.specs.declared.interchange.InterchangeFault.{InterchangeFault}
 use Rattle.x12_segs.specs.Words.{kind_of}
-use Rattle.env_index.specs.Envelope.{Derives}
+use Rattle.env_index.specs.Envelope.{DerivesInterchange}
 use Rattle.env_index.specs.Extents.{Extent, reach_at, count_outside}
 use Rattle.env_index.specs.Faults.{fault_of}
 use Rattle.env_index.specs.Index.{IndexEntry, IndexValue, IsEntryOf, IsIndex, extent_of, extents_of}
@@ -18,7 +18,7 @@ entry_with x fault = record { interchange = x; fault = fault }
 entry_is_one : (text : List ℕ) (a b : IndexEntry) → IsEntryOf text a → IsEntryOf text b → extent_of a ≡ extent_of b → a ≡ b
 entry_is_one text a b p q e =
     let start : a.interchange.start ≡ b.interchange.start = ap (λ (x : Extent). x.start) e in
-    let derived = subst (λ (n : ℕ). Derives kind_of (reach_at text n).segs p.read.tree) start p.read.derived in
+    let derived = subst (λ (n : ℕ). DerivesInterchange kind_of (reach_at text n).segs p.read.tree) start p.read.derived in
     let trees : p.read.tree ≡ q.read.tree = tree_is_one kind_of (reach_at text b.interchange.start).segs p.read.tree q.read.tree derived
     q.read.derived in
     let same : a.interchange ≡ b.interchange = p.read.read ∙ ap (λ (n : ℕ). interchange_of text n p.read.tree) start

@@ -6,7 +6,7 @@ use Rattle.std.proofs.lemmas.Bool.{and_parts, both_ways}
 use Rattle.x12_segs.specs.Words.{may_stand_in_set}
 use Rattle.env_index.specs.Envelope.{Set, InGroup, ASet, OutOfGroup, Group, InBody, ATa1, AGroup, OutOfBody, Body, option_items}
 use Rattle.env_index.specs.Envelope.{set_items, in_group_items, group_items, in_body_items, ends_set, ends_group, is_out_of_group}
-use Rattle.env_index.specs.Envelope.{is_out_of_body, Closed, IsSet, AreMembers, IsGroup, AreBodyMembers, Derives}
+use Rattle.env_index.specs.Envelope.{is_out_of_body, Closed, IsSet, AreMembers, IsGroup, AreBodyMembers, DerivesInterchange}
 use Rattle.x12_segs.specs.declared.kind.Kind.{Kind}
 use Rattle.x12_segs.specs.declared.kind.Kind.TheVariants.{InterchangeTrailer, GroupHeader, GroupTrailer, SetHeader, SetTrailer, Ta1}
 use Rattle.x12_segs.specs.declared.kind.Kind.TheVariants.{Other}
@@ -232,7 +232,7 @@ module _ {X : Type 0} (kind : X → Kind) where
   body_with : List (InBody X) → Option X → Body X
   body_with m t = record { members = m; trailer = t }
 
-  pub tree_is_one : (segs : List X) (a b : Body X) → Derives kind segs a → Derives kind segs b → a ≡ b
+  pub tree_is_one : (segs : List X) (a b : Body X) → DerivesInterchange kind segs a → DerivesInterchange kind segs b → a ≡ b
   unfolding body_with
   tree_is_one segs a b p q =
       let more = body_members_is_one a.members b.members a.trailer b.trailer p.1.members q.1.members p.1.trailer q.1.trailer (p.0

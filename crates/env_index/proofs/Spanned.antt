@@ -9,7 +9,7 @@ use Rattle.x12_bytes.specs.HeaderTest.{is_head}
 use Rattle.x12_bytes.specs.declared.delims.Delims.{Delims}
 use Rattle.x12_segs.specs.Words.{SegValue, kind_of, IsSetSpan}
 use Rattle.env_index.specs.declared.entry.SetEnvelope.{SetEnvelope}
-use Rattle.env_index.specs.Envelope.{InGroup, ASet, OutOfGroup, InBody, ATa1, AGroup, OutOfBody, Body, Derives}
+use Rattle.env_index.specs.Envelope.{InGroup, ASet, OutOfGroup, InBody, ATa1, AGroup, OutOfBody, Body, DerivesInterchange}
 use Rattle.env_index.specs.Extents.{reach_at}
 use Rattle.env_index.specs.Interchange.{InterchangeEntry, interchange_of}
 use Rattle.env_index.specs.Spans.{SetStandsAlone, EachSet, EachSetIn, HasSpans, span_of}
@@ -49,6 +49,6 @@ module _ (text : List ℕ) (d : Delims) where
 
 -- so the sets of an interchange have spans
 pub interchange_has_spans : (text : List ℕ) (start : ℕ) (tree : Body SegValue) → is_head text start ≡ true
-    → Derives kind_of (reach_at text start).segs tree → HasSpans text (interchange_of text start tree)
+    → DerivesInterchange kind_of (reach_at text start).segs tree → HasSpans text (interchange_of text start tree)
 interchange_has_spans text start tree head derives =
     spans_in text (header_delims (header_at text start)) tree.members (all_alone text start tree head derives)

@@ -11,10 +11,10 @@ use Rattle.x12_segs.specs.Words.{span_views, trailer_kinds, kind_of, may_stand_i
 use Rattle.x12_segs.specs.declared.kind.Kind.{Kind}
 use Rattle.x12_segs.specs.declared.kind.Kind.TheVariants.{SetHeader, SetTrailer}
 use Rattle.x12_segs.specs.declared.set_span.SetSpan.{SetSpan}
-use Rattle.x12_segs.proofs.RunLemmas.{stands_alone}
+use Rattle.x12_segs.proofs.ForAbove.{stands_alone}
 use Rattle.env_index.specs.Envelope.{Set, InGroup, ASet, OutOfGroup, InBody, ATa1, AGroup, OutOfBody, Body, option_items, set_items}
 use Rattle.env_index.specs.Envelope.{in_group_items, group_items, in_body_items, ends_set, Closed, IsSet, AreMembers, AreBodyMembers}
-use Rattle.env_index.specs.Envelope.{Derives}
+use Rattle.env_index.specs.Envelope.{DerivesInterchange}
 use Rattle.env_index.specs.Extents.{Reach, behind, behind_last, onto_reach, ends_interchange, reach_at, reach_of}
 use Rattle.env_index.specs.Spans.{SetStandsAlone, EachSet, EachSetIn, span_of}
 use Rattle.env_index.specs.Summary.{set_entry}
@@ -162,7 +162,8 @@ set_alone text d from before s behind rest fits split is =
 
 -- each set of the interchange whose header begins at an offset
 pub all_alone : (text : List ℕ) (start : ℕ) (tree : Body SegValue) → is_head text start ≡ true
-    → Derives kind_of (reach_at text start).segs tree → EachSetIn (SetStandsAlone text (header_delims (header_at text start))) tree.members
+    → DerivesInterchange kind_of (reach_at text start).segs tree → EachSetIn (SetStandsAlone text (header_delims
+    (header_at text start))) tree.members
 all_alone text start tree head derives =
     let d : Delims = header_delims (header_at text start) in
     let from : ℕ = start + 106 in

@@ -6,7 +6,7 @@ use Rattle.env_index.specs.Extents.{ends_interchange}
 use Rattle.env_index.specs.Mapped.{EndsWithTrailer}
 use Rattle.env_index.specs.Envelope.{Set, InGroup, ASet, OutOfGroup, Group, ATa1, AGroup, OutOfBody, Body, option_items, set_items}
 use Rattle.env_index.specs.Envelope.{in_group_items, group_items, in_body_items, body_items, ends_set, ends_group, is_out_of_group}
-use Rattle.env_index.specs.Envelope.{is_out_of_body, MayFollow, Closed, IsSet, AreMembers, IsGroup, IsBody, Derives}
+use Rattle.env_index.specs.Envelope.{is_out_of_body, MayFollow, Closed, IsSet, AreMembers, IsGroup, IsBody, DerivesInterchange}
 use Rattle.x12_segs.specs.declared.kind.Kind.{Kind}
 use Rattle.x12_segs.specs.declared.kind.Kind.TheVariants.{InterchangeTrailer, GroupHeader, GroupTrailer, SetHeader, SetTrailer, Ta1}
 use Rattle.x12_segs.specs.declared.kind.Kind.TheVariants.{Other}
@@ -191,5 +191,5 @@ module _ {X : Type 0} (kind : X → Kind) where
   trees (x ∷ xs) last = one_more (kind x) x xs refl last.0 (trees xs last.1)
 
   -- there is a tree
-  pub a_tree : (xs : List X) → EndsWithTrailer kind xs → (b : Body X) × Derives kind xs b
+  pub a_tree : (xs : List X) → EndsWithTrailer kind xs → (b : Body X) × DerivesInterchange kind xs b
   a_tree xs last = let t : InBodyOf xs = (trees xs last).in_body in (t.body, (t.items, t.is))

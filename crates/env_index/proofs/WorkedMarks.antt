@@ -1,7 +1,7 @@
 -- Marks of a piece of a text, under its own pair and under another header's.
 use Rattle.std.proofs.Common.{refl, arith}
 use Rattle.env_marks.specs.Marking.{marks_of}
-use Rattle.isa_scan.proofs.Worked.{one_order, stars, bars}
+use Rattle.isa_scan.proofs.ForAbove.{one_order, stars, bars}
 use Rattle.env_index.specs.Known.{AreMarks}
 
 under_its_pair : AreMarks one_order (marks_of stars one_order 100 150)

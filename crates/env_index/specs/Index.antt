@@ -3,7 +3,7 @@ use Rattle.std.specs.Prelude.{◌≡◌, ℕ, List, map, Option}
 use Rattle.std.specs.List.{All}
 use Rattle.hub_kinds.specs.declared.interchange.InterchangeFault.{InterchangeFault}
 use Rattle.x12_segs.specs.Words.{SegValue, kind_of}
-use Rattle.env_index.specs.Envelope.{Body, Derives}
+use Rattle.env_index.specs.Envelope.{Body, DerivesInterchange}
 use Rattle.env_index.specs.Extents.{Extent, Chain, IsNextHead, count_outside, reach_at}
 use Rattle.env_index.specs.Faults.{fault_of}
 use Rattle.env_index.specs.Interchange.{InterchangeEntry, interchange_of}
@@ -29,7 +29,7 @@ extents_of es = map extent_of es
 -- what stands in a text at an interchange's start is this interchange, and its sets stand in their spans
 pub record IsReadIn (text : List ℕ) (x : InterchangeEntry) : Type 0 where
   pub tree : Body SegValue
-  pub derived : Derives kind_of (reach_at text x.start).segs tree
+  pub derived : DerivesInterchange kind_of (reach_at text x.start).segs tree
   pub read : x ≡ interchange_of text x.start tree
   pub spans : HasSpans text x
 

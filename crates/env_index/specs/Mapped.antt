@@ -1,7 +1,7 @@
 -- X12.5, interchange, and X12.6, functional group and transaction set: trees of envelopes over segments that are held in two ways.
 use Rattle.std.specs.Prelude.{◌≡◌, List, [], ◌∷◌, map, option_map, true}
 use Rattle.x12_segs.specs.declared.kind.Kind.{Kind}
-use Rattle.env_index.specs.Envelope.{Set, InGroup, ASet, OutOfGroup, Group, InBody, ATa1, AGroup, OutOfBody, Body, Derives}
+use Rattle.env_index.specs.Envelope.{Set, InGroup, ASet, OutOfGroup, Group, InBody, ATa1, AGroup, OutOfBody, Body, DerivesInterchange}
 use Rattle.env_index.specs.Extents.{ends_interchange}
 
 -- no segment stands after an IEA
@@ -34,9 +34,11 @@ KeepsKinds {X} kind other f = (x : X) → other (f x) ≡ kind x
 
 -- then trees go over from one way to the other
 abbrev pub MapsTrees : {X Y : Type 0} → (X → Kind) → (Y → Kind) → (X → Y) → Type 0
-MapsTrees {X} kind other f = (segs : List X) (b : Body X) → Derives kind segs b → Derives other (map f segs) (map_body f b)
+MapsTrees {X} kind other f = (segs : List X) (b : Body X) → DerivesInterchange kind segs b → DerivesInterchange other (map f segs)
+    (map_body f b)
 
 -- and back, and nothing else derives there
 abbrev pub MapsTreesBack : {X Y : Type 0} → (X → Kind) → (Y → Kind) → (X → Y) → Type 0
 MapsTreesBack {X} {Y} kind other f =
-    (segs : List X) (c : Body Y) → Derives other (map f segs) c → (b : Body X) × Derives kind segs b × (map_body f b ≡ c)
+    (segs : List X) (c : Body Y) → DerivesInterchange other (map f segs) c → (b : Body X) × DerivesInterchange kind segs b × (map_body f b
+    ≡ c)

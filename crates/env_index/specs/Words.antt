@@ -1,6 +1,7 @@
 -- The words of clauses of env_index: what its definitions are called, in one place.
 pub use Rattle.env_index.specs.Ends.{EndsLeast, IsLeastEnd, MayEnd}
-pub use Rattle.env_index.specs.Envelope.{AGroup, ASet, ATa1, AreBodyMembers, AreMembers, Body, Closed, Derives, Group, InBody, InGroup}
+pub use Rattle.env_index.specs.Envelope.{AGroup, ASet, ATa1, AreBodyMembers, AreMembers, Body, Closed, DerivesInterchange, Group, InBody}
+pub use Rattle.env_index.specs.Envelope.{InGroup}
 pub use Rattle.env_index.specs.Envelope.{IsBody, IsGroup, IsSet, MayFollow, OutOfBody, OutOfGroup, Set, body_items, ends_group, ends_set}
 pub use Rattle.env_index.specs.Envelope.{group_items, in_body_items, in_group_items, is_out_of_body, is_out_of_group, option_items}
 pub use Rattle.env_index.specs.Envelope.{set_items}

@@ -2,7 +2,7 @@ ghost use Rattle.std.specs.Prelude.{◌≡◌, ℕ, Bool, List, true};
 ghost use Rattle.x12_bytes.specs.Header.{header_delims, header_at};
 ghost use Rattle.x12_bytes.specs.HeaderTest.{is_head};
 ghost use Rattle.x12_segs.specs.Words.{SegValue, kind_of};
-ghost use Rattle.env_index.specs.Envelope.{Body, Derives};
+ghost use Rattle.env_index.specs.Envelope.{Body, DerivesInterchange};
 ghost use Rattle.x12_segs.specs.declared.kind.Kind.{Kind};
 ghost use Rattle.env_index.specs.Mapped.{EndsWithTrailer, KeepsKinds, MapsTrees, MapsTreesBack};
 ghost use Rattle.env_index.specs.Ends.{EndsLeast};
@@ -15,21 +15,22 @@ ghost use Rattle.env_index.specs.Spans.{SetStandsAlone, EachSetIn};
 /// A theorem, with nothing to run: the segments of an interchange derive at most one tree of envelopes
 /// (X12.5, interchange; X12.6, functional group and transaction set).
 pub fn envelope_is_one()
-    ensures { (segs : List SegValue) (a b : Body SegValue) → Derives kind_of segs a → Derives kind_of segs b → a ≡ b }
+    ensures { (segs : List SegValue) (a b : Body SegValue) → DerivesInterchange kind_of segs a → DerivesInterchange kind_of segs b → a ≡ b }
 {}
 
 /// A theorem, with nothing to run: whatever stands after a header, its segments up to the interchange's
 /// end derive a tree of envelopes.
 pub fn envelope_is_there()
-    ensures { (text : List ℕ) (start : ℕ) → (tree : Body SegValue) × Derives kind_of (reach_at text start).segs tree }
+    ensures { (text : List ℕ) (start : ℕ) → (tree : Body SegValue) × DerivesInterchange kind_of (reach_at text start).segs tree }
 {}
 
 /// A theorem, with nothing to run: whatever segments are held as, they derive at most one tree of envelopes,
 /// and they derive one exactly where no segment stands after an IEA (X12.5, interchange).
 pub fn envelope_is_of_kinds<X>()
-    ensures one { (kind : X → Kind) (segs : List X) (a b : Body X) → Derives kind segs a → Derives kind segs b → a ≡ b }
-    ensures there { (kind : X → Kind) (segs : List X) → EndsWithTrailer kind segs → (tree : Body X) × Derives kind segs tree }
-    ensures ends { (kind : X → Kind) (segs : List X) (tree : Body X) → Derives kind segs tree → EndsWithTrailer kind segs }
+    ensures one { (kind : X → Kind) (segs : List X) (a b : Body X) → DerivesInterchange kind segs a → DerivesInterchange kind segs b → a
+        ≡ b }
+    ensures there { (kind : X → Kind) (segs : List X) → EndsWithTrailer kind segs → (tree : Body X) × DerivesInterchange kind segs tree }
+    ensures ends { (kind : X → Kind) (segs : List X) (tree : Body X) → DerivesInterchange kind segs tree → EndsWithTrailer kind segs }
 {}
 
 /// A theorem, with nothing to run: where segments are held in another way that keeps their kinds, they
@@ -61,7 +62,7 @@ pub fn end_is_least()
 /// set's segments (X12.6, transaction set). So a set can be checked in its span.
 pub fn sets_stand_alone()
     ensures { (text : List ℕ) (start : ℕ) (tree : Body SegValue) → is_head text start ≡ true
-        → Derives kind_of (reach_at text start).segs tree
+        → DerivesInterchange kind_of (reach_at text start).segs tree
         → EachSetIn (SetStandsAlone text (header_delims (header_at text start))) tree.members }
 {}
 

@@ -2,7 +2,7 @@ ghost use Rattle.std.specs.Prelude.{◌≡◌, ◌≤◌, IfOk, IfSome, MatchOpt
 ghost use Rattle.std.specs.List.{prefix_len};
 ghost use Rattle.hub_kinds.specs.declared.limits.TheConstants.{LONGEST_TEXT};
 ghost use Rattle.x12_segs.specs.Words.{SegValue, kind_of};
-ghost use Rattle.env_index.specs.Envelope.{Body, Derives};
+ghost use Rattle.env_index.specs.Envelope.{Body, DerivesInterchange};
 ghost use Rattle.env_index.specs.Extents.{Extent, is_filler, reach_at};
 ghost use Rattle.env_index.specs.Interchange.{interchange_of};
 ghost use Rattle.env_index.specs.Lone.{IsLone};
@@ -28,11 +28,11 @@ pub fn read_lone<'a>(alloc: Global, text: &'a [u8]) -> Result<Option<Interchange
         (λ x. (e : Extent) → IsLone text.entry.now e → e ≡ record { start = x.start; end = x.end })) }
     ensures tree { IfOk result
         (λ found. IfSome found
-        (λ x. (tree : Body SegValue) × Derives kind_of (reach_at text.entry.now x.start).segs tree
+        (λ x. (tree : Body SegValue) × DerivesInterchange kind_of (reach_at text.entry.now x.start).segs tree
         × (x ≡ interchange_of text.entry.now x.start tree))) }
     ensures only { IfOk result
         (λ found. IfSome found
-        (λ x. (tree : Body SegValue) → Derives kind_of (reach_at text.entry.now x.start).segs tree
+        (λ x. (tree : Body SegValue) → DerivesInterchange kind_of (reach_at text.entry.now x.start).segs tree
         → x ≡ interchange_of text.entry.now x.start tree)) }
     ensures spans { IfOk result (λ found. IfSome found (λ x. HasSpans text.entry.now x)) }
 {

@@ -3,7 +3,7 @@ ghost use Rattle.hub_kinds.specs.declared.limits.TheConstants.{LONGEST_TEXT};
 ghost use Rattle.x12_bytes.specs.declared.layout.TheConstants.{HEADER_LEN};
 ghost use Rattle.x12_bytes.specs.HeaderTest.{is_head};
 ghost use Rattle.x12_segs.specs.Words.{SegValue, kind_of};
-ghost use Rattle.env_index.specs.Envelope.{Body, Derives};
+ghost use Rattle.env_index.specs.Envelope.{Body, DerivesInterchange};
 ghost use Rattle.env_index.specs.Extents.{reach_at};
 ghost use Rattle.env_index.specs.Interchange.{interchange_of};
 ghost use Rattle.env_index.specs.Spans.{HasSpans};
@@ -32,11 +32,11 @@ pub fn read_interchange<'a>(
     ensures behind { IfOk result (λ found. IfSome found (λ x. start + HEADER_LEN ≤ x.end)) }
     ensures tree { IfOk result
         (λ found. IfSome found
-        (λ x. (tree : Body SegValue) × Derives kind_of (reach_at text.entry.now start).segs tree
+        (λ x. (tree : Body SegValue) × DerivesInterchange kind_of (reach_at text.entry.now start).segs tree
         × (x ≡ interchange_of text.entry.now start tree))) }
     ensures only { IfOk result
         (λ found. IfSome found
-        (λ x. (tree : Body SegValue) → Derives kind_of (reach_at text.entry.now start).segs tree
+        (λ x. (tree : Body SegValue) → DerivesInterchange kind_of (reach_at text.entry.now start).segs tree
         → x ≡ interchange_of text.entry.now start tree)) }
     ensures spans { IfOk result (λ found. IfSome found (λ x. HasSpans text.entry.now x)) }
 {

@@ -3,7 +3,7 @@ ghost use Rattle.hub_kinds.specs.declared.limits.TheConstants.{LONGEST_TEXT};
 ghost use Rattle.x12_bytes.specs.declared.layout.TheConstants.{HEADER_LEN};
 ghost use Rattle.x12_bytes.specs.HeaderTest.{is_head};
 ghost use Rattle.x12_segs.specs.Words.{SegValue, kind_of, is_control_letter};
-ghost use Rattle.env_index.specs.Envelope.{Body, Derives};
+ghost use Rattle.env_index.specs.Envelope.{Body, DerivesInterchange};
 ghost use Rattle.env_index.specs.Source.{reach_over};
 ghost use Rattle.env_index.specs.Places.{body_in};
 ghost use Rattle.env_index.specs.Summary.{summary_of};
@@ -31,7 +31,7 @@ pub(crate) fn read_body<P: PartSource + Drop>(
     ensures within { IfOk result (λ body. body.end ≤ length text.now) }
     ensures end { IfOk result (λ body. body.end ≡ (reach_over text.now delims (P.segs parts) (P.rest parts)).end) }
     ensures only { IfOk result
-        (λ body. (tree : Body SegValue) → Derives kind_of (reach_over text.now delims (P.segs parts) (P.rest parts)).segs tree
+        (λ body. (tree : Body SegValue) → DerivesInterchange kind_of (reach_over text.now delims (P.segs parts) (P.rest parts)).segs tree
         → body_in text.now delims body ≡ summary_of tree) }
 {
     let mut builder = Builder::new(alloc);

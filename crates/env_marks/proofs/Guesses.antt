@@ -9,7 +9,7 @@ use Rattle.x12_bytes.specs.declared.pair.Pair.{Pair}
 use Rattle.x12_bytes.specs.declared.piece.Piece.{Piece}
 use Rattle.isa_scan.specs.Heads.{heads_in, head_at}
 use Rattle.isa_scan.specs.declared.heads.HeadAt.{HeadAt}
-use Rattle.isa_scan.proofs.HeadLemmas.{heads_both, head_one, head_none, no_heads, head_within, heads_none}
+use Rattle.isa_scan.proofs.ForAbove.{heads_both, head_one, head_none, no_heads, head_within, heads_none}
 use Rattle.env_marks.specs.Guess.{AreDivided, last_pair, first_pair, guess_in, no_head_at, pair_before}
 
 -- the headers of a stretch begin in it

@@ -1,3 +1,4 @@
+pub mod ForAbove
 pub mod IdLens
 pub mod Gathered
 pub mod PartSteps

@@ -6,8 +6,7 @@ use Rattle.std.proofs.lemmas.List.{take-take, length-take, length-take-le, map-a
 use Rattle.std.proofs.lemmas.List.Splits.{length-slice_split}
 use Rattle.memchr.specs.Find.{IsFirstByte, is_byte}
 use Rattle.x12_segs.specs.Words.{parts, part_at, segs_of}
-use Rattle.x12_segs.proofs.PartLemmas.{parts-found}
-use Rattle.x12_segs.proofs.SegLemmas.{segs_of-cons, drop-slice_range}
+use Rattle.x12_segs.proofs.ForAbove.{parts-found, segs_of-cons, drop-slice_range}
 use Rattle.env_marks.specs.Frags.{frag_of}
 use Rattle.env_marks.specs.Marking.{Cut, mark_of, last_of, marking_of}
 

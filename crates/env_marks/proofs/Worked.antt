@@ -3,7 +3,7 @@ use Rattle.std.specs.Prelude.{◌≡◌, ℕ, ◌++◌, List, [], ◌∷◌, Som
 use Rattle.x12_bytes.specs.HeaderTest.{is_header, has_fields}
 use Rattle.x12_bytes.specs.declared.pair.Pair.{Pair}
 use Rattle.x12_bytes.specs.declared.piece.Piece.{Piece}
-use Rattle.isa_scan.proofs.Worked.{one_order, text, stars, bars}
+use Rattle.isa_scan.proofs.ForAbove.{one_order, text, stars, bars}
 use Rattle.env_marks.specs.declared.frag.Frag.{Frag}
 use Rattle.env_marks.specs.declared.frag.Mark.{Mark}
 use Rattle.env_marks.specs.Guess.{guess_in}

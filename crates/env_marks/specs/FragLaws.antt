@@ -6,7 +6,7 @@ use Rattle.std.specs.List.{prefix_len}
 use Rattle.std.proofs.Common.{◌≤◌, ◌<◌, ◌-◌, arith, ap, sym, refl, ◌∙◌, cond, length-append, inl, inr}
 use Rattle.std.proofs.lemmas.Bool.{cases_lt}
 use Rattle.std.proofs.lemmas.List.{length-drop}
-use Rattle.x12_segs.proofs.SegLemmas.{part_at-some, part_at-none}
+use Rattle.x12_segs.proofs.ForAbove.{part_at-some, part_at-none}
 use Rattle.x12_bytes.specs.Bytes.{is_line_end}
 use Rattle.x12_segs.specs.Words.{Seg, part_at}
 use Rattle.env_marks.specs.declared.frag.Frag.{Frag}

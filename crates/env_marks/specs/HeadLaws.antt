@@ -3,7 +3,7 @@ use Rattle.std.specs.Prelude.{ℕ, List, ◌++◌}
 use Rattle.std.proofs.Common.{append_assoc, append-nil, ap, sym, ◌∙◌}
 use Rattle.isa_scan.specs.Heads.{heads_in}
 use Rattle.isa_scan.specs.declared.heads.HeadAt.{HeadAt}
-use Rattle.isa_scan.proofs.HeadLemmas.{no_heads, heads_both}
+use Rattle.isa_scan.proofs.ForAbove.{no_heads, heads_both}
 use Rattle.env_marks.specs.Laws.{PieceLaws}
 
 abbrev pub heads_under : Unit {0} → List ℕ → ℕ → ℕ → List HeadAt

@@ -1,6 +1,6 @@
 -- X12.6, segment: the marks of pieces keep the laws: the parts of a text that is cut are those of both pieces, the last of the first
 -- and the first of the second being one.
-pub use Rattle.cut_plan.proofs.Whole.{range-split}
+pub use Rattle.cut_plan.proofs.ForAbove.{range-split}
 use Rattle.std.specs.Prelude.{◌≡◌, ℕ, ◌+◌, ◌-◌, ◌≤◌, ◌<◌, List, [], ◌∷◌, ◌++◌, length, Bool, true, false, map, slice_range, drop}
 use Rattle.std.specs.List.{slice_split, onto_first}
 use Rattle.std.proofs.Common.{append_assoc, arith, ap, sym, refl, ◌∙◌, cond, nat_eq}
@@ -8,8 +8,7 @@ use Rattle.std.proofs.lemmas.List.{map-append, length-append, length-take-le, le
 use Rattle.std.proofs.lemmas.List.Splits.{length-slice_split}
 use Rattle.x12_bytes.specs.declared.pair.Pair.{Pair}
 use Rattle.x12_segs.specs.Words.{parts, Seg, part_at, segs_of}
-use Rattle.x12_segs.proofs.CutLemmas.{span_of, span-split}
-use Rattle.x12_segs.proofs.SegLemmas.{segs_of-cons}
+use Rattle.x12_segs.proofs.ForAbove.{span_of, span-split, segs_of-cons}
 use Rattle.env_marks.specs.declared.frag.Mark.{Mark}
 use Rattle.env_marks.specs.Frags.{frag_of, both_frags, marks_in}
 use Rattle.env_marks.specs.FragLaws.{frag_of-append, both_frags-assoc, marks_in-part}

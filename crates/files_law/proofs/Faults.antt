@@ -12,7 +12,7 @@ use Rattle.hub_kinds.specs.declared.interchange.InterchangeFault.{InterchangeFau
 use Rattle.x12_bytes.specs.Bytes.{is_letter_or_digit, is_line_end, may_separate, may_terminate}
 use Rattle.x12_bytes.specs.Header.{IsHeader, component_separator_of, header_delims, element_separator_of, header_at, terminator_of}
 use Rattle.x12_bytes.specs.declared.delims.Delims.{Delims}
-use Rattle.x12_bytes.proofs.Testing.{decides_head}
+use Rattle.x12_bytes.proofs.ForAbove.{decides_head}
 use Rattle.x12_segs.specs.Words.{SegValue}
 use Rattle.x12_write.specs.Delimiters.{is_this}
 use Rattle.env_index.specs.Words.{ChainFrom, GroupEntry, IndexEntry, IndexValue, InterchangeEntry, IsEntryOf, IsIndex, control_number}

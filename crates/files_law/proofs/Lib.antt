@@ -1,6 +1,7 @@
 pub mod Acknowledgments
 pub mod Boxes
 pub mod Faults
+pub mod ForAbove
 pub mod Mailboxes
 pub mod Nights
 pub mod Numbers

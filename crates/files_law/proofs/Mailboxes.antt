@@ -13,7 +13,7 @@ use Rattle.x12_segs.specs.Words.{element_of, part_or_empty}
 use Rattle.moment.specs.Moment.{IsMoment}
 use Rattle.x12_write.specs.Group.{texts_in_row}
 use Rattle.x12_write.specs.Number.{padded_number}
-use Rattle.x12_write.specs.Segment.{Segment, segment, segment_text}
+use Rattle.x12_write.specs.Segment.{WrittenSegment, segment, segment_text}
 use Rattle.x12_write.specs.declared.envelope.Envelope.{Envelope}
 use Rattle.count_numbers.specs.Layout.{in_interchange, interchange_count, interchanges_of}
 use Rattle.count_numbers.specs.Num.{num}
@@ -30,13 +30,13 @@ use Rattle.night_law.proofs.ForAbove.{IsMarked, chunks_all, everywhere, groups_a
 use Rattle.hub_kinds.specs.Words.{is_number, is_word}
 use Rattle.x12_write.specs.Header.{header_text}
 use Rattle.ack_999.specs.ReadBack.{written_parts}
-use Rattle.partner_setup.proofs.Sending.{sendable}
+use Rattle.partner_setup.proofs.ForAbove.{sendable}
 use Rattle.written_law.specs.Whole.{Elements, IsWholeGroup, IsWholeSet, Whole, WholeGroup, WholeSet, group_segments, is_gs, set_segments}
 use Rattle.written_law.specs.Whole.{kind_by, whole_segments}
 use Rattle.x12_segs.specs.declared.kind.Kind.TheVariants.{Ta1}
 use Rattle.files_law.specs.Mailboxes.{mailbox_texts}
 use Rattle.written_law.specs.Written.{IsWritten, Written, written_text}
-use Rattle.written_law.proofs.Numbers.{decimal_read}
+use Rattle.written_law.proofs.ForAbove.{decimal_read}
 use Rattle.files_law.proofs.Acknowledgments.{iea_row}
 use Rattle.files_law.proofs.Faults.{kept_word}
 use Rattle.files_law.proofs.Numbers.{num_small}
@@ -120,10 +120,10 @@ module _ (setup : SetupValue) (p : Partner) (guides : ℕ) (hub_ids : are_ids se
   abbrev Sent : NumberedValue → Type 0
   Sent x = IsSent d setup x.set
 
-  abbrev gs_of : NumberedValue → (g : ℕ) → Segment
+  abbrev gs_of : NumberedValue → (g : ℕ) → WrittenSegment
   gs_of x g = box.gs_of setup p guides hub_ids sound at moment x g
 
-  abbrev ge_of : (sets g : ℕ) → Segment
+  abbrev ge_of : (sets g : ℕ) → WrittenSegment
   ge_of sets g = box.ge_of setup p guides hub_ids sound at moment sets g
 
   first_word : (x : NumberedValue) → Sent x → is_word 3 3 (element_of x.set.set.header 1) ≡ true
@@ -171,8 +171,8 @@ module _ (setup : SetupValue) (p : Partner) (guides : ℕ) (hub_ids : are_ids se
       let texts : List (List ℕ) = map (numbered_text p) (x ∷ xs) in
       let sent : Sent x = All-head Sent x xs all in
       let sets : AreWhole p (x ∷ xs) = sets_whole (x ∷ xs) all in
-      let gs : Segment = gs_of x g in
-      let ge : Segment = ge_of (length texts) g in
+      let gs : WrittenSegment = gs_of x g in
+      let ge : WrittenSegment = ge_of (length texts) g in
       let first : List ℕ = segment_text d gs.id gs.elements in
       let last : List ℕ = segment_text d ge.id ge.elements in
       let inner : List Elements = flat_map set_segments sets.sets in
@@ -212,7 +212,7 @@ module _ (setup : SetupValue) (p : Partner) (guides : ℕ) (hub_ids : are_ids se
       let n : ℕ = length groups in
       let made : AreGroups setup p at before groups = groups_whole before groups (groups_all Sent sets all) (groups_some sets) in
       let els : List (List ℕ) = decimal n ∷ padded_number 9 number ∷ [] in
-      let iea : Segment = segment (codes "IEA") els in
+      let iea : WrittenSegment = segment (codes "IEA") els in
       let end : List ℕ = segment_text d iea.id iea.elements in
       let head : List ℕ = header_text e at number in
       let inner : List ℕ = groups_text setup p at before groups in

@@ -36,8 +36,7 @@ use Rattle.night_law.proofs.ForAbove.{settled_headers, settled_sound}
 use Rattle.written_law.specs.Files.{HasInterchanges}
 use Rattle.written_law.specs.Whole.{IsWholeSet, WholeSet, set_segments}
 use Rattle.written_law.specs.Written.{BeginsOtherwise, IsWritten, Written, texts_of}
-use Rattle.written_law.proofs.Clear.{otherwise_clear}
-use Rattle.written_law.proofs.Interchanges.{interchanges_read}
+use Rattle.written_law.proofs.ForAbove.{otherwise_clear, interchanges_read}
 use Rattle.files_law.specs.Acknowledgments.{AreAcknowledgmentsRead, HasAcknowledgments, acknowledgment_texts}
 use Rattle.files_law.proofs.Acknowledgments.{AreReports, AsWritten, interchange_written, ta1_row}
 use Rattle.files_law.proofs.Numbers.{few_groups, num_small}

@@ -11,21 +11,21 @@ use Rattle.hub_kinds.specs.declared.answers.GroupAnswer.{GroupAnswer}
 use Rattle.hub_kinds.specs.declared.answers.SetAnswer.{SetAnswer}
 use Rattle.x12_segs.specs.Words.{may_stand_in_set, kind_by_id, part_or_empty}
 use Rattle.x12_write.specs.Number.{padded_number}
-use Rattle.x12_write.specs.Segment.{Segment, segment}
+use Rattle.x12_write.specs.Segment.{WrittenSegment, segment}
 use Rattle.x12_write.specs.Undivided.{CanDivide}
 use Rattle.ack_999.specs.Faults.{ElementNote, Note, SegmentNote, fault_segments, note_segment, notes}
 use Rattle.ack_999.specs.Group.{totals_of}
 use Rattle.ack_999.specs.ReadBack.{IsQuotable, written_parts}
 use Rattle.ack_999.specs.Report.{group_response, head_segments, segments_999, set_loops, set_response, set_trailer, shows_sets, text_999}
 use Rattle.ack_999.specs.Report as report
-use Rattle.ack_999.proofs.Readable.{readable-999}
+use Rattle.ack_999.proofs.ForAbove.{readable-999}
 use Rattle.night_law.proofs.ForAbove.{trimmed_at}
 use Rattle.written_law.specs.Whole.{Elements, IsWholeSet, WholeSet, kind_by, is_st, set_segments}
-use Rattle.written_law.proofs.Numbers.{padded_word}
+use Rattle.written_law.proofs.ForAbove.{padded_word}
 use Rattle.files_law.proofs.Rows.{IsOther, IsRow, list_row}
 
 -- a segment that may stand between ST and SE
-pub record IsInner (s : Segment) : Type 0 where
+pub record IsInner (s : WrittenSegment) : Type 0 where
   pub other : IsOther s
   pub inner : may_stand_in_set (kind_by_id s.id) ≡ true
 
@@ -39,9 +39,9 @@ notes_inner d (note ∷ list) = All-cons IsInner (note_segment d note) (map (not
 
 set_inner : (d : Delims) (s : SetAnswer) → All IsInner (report.set_segments d s)
 set_inner d s =
-    let last : List Segment = set_response s ∷ [] in
-    let faults : List Segment = fault_segments d s.faults in
-    let ak2 : Segment = segment (codes "AK2") (s.identifier ∷ s.control ∷ report.convention_text s.convention ∷ []) in
+    let last : List WrittenSegment = set_response s ∷ [] in
+    let faults : List WrittenSegment = fault_segments d s.faults in
+    let ak2 : WrittenSegment = segment (codes "AK2") (s.identifier ∷ s.control ∷ report.convention_text s.convention ∷ []) in
     All-cons IsInner ak2 (faults ++ last) (record { other = record { long = omega arith; other = refl }; inner = refl })
     (All-append IsInner faults last (notes_inner d (notes s.faults))
     (All-cons IsInner (set_response s) [] (record { other = record { long = omega arith; other = refl }; inner = refl }) (All-nil IsInner)))
@@ -55,7 +55,7 @@ loops_inner : (d : Delims) (sets : List SetAnswer) (b : Bool) → All IsInner (i
 loops_inner d sets true = sets_inner d sets
 loops_inner d sets false = All-nil IsInner
 
-kinds_inner : (segs : List Segment) → All IsInner segs → list_all (λ x. may_stand_in_set (kind_by x)) (map written_parts segs) ≡ true
+kinds_inner : (segs : List WrittenSegment) → All IsInner segs → list_all (λ x. may_stand_in_set (kind_by x)) (map written_parts segs) ≡ true
 kinds_inner [] all = refl
 kinds_inner (s ∷ segs) all =
     and_from (may_stand_in_set (kind_by_id s.id)) (list_all (λ x. may_stand_in_set (kind_by x)) (map written_parts segs))
@@ -66,21 +66,21 @@ module _ (d : Delims) (g : GroupAnswer) (sets : List SetAnswer) (n : ℕ) where
   abbrev st_elements : List (List ℕ)
   st_elements = codes "999" ∷ padded_number 4 n ∷ codes "005010X231" ∷ []
 
-  abbrev st : Segment
+  abbrev st : WrittenSegment
   st = segment (codes "ST") st_elements
 
-  abbrev ak1 : Segment
+  abbrev ak1 : WrittenSegment
   ak1 = segment (codes "AK1") (g.functional_id ∷ g.control ∷ g.version ∷ [])
 
-  abbrev middle : List Segment
+  abbrev middle : List WrittenSegment
   middle = ak1 ∷ (set_loops d g sets ++ group_response g (totals_of sets) ∷ [])
 
-  abbrev se : Segment
+  abbrev se : WrittenSegment
   se = set_trailer (length (head_segments g n ++ set_loops d g sets ++ group_response g (totals_of sets) ∷ []) + 1) n
 
   middle_inner : All IsInner middle
   middle_inner =
-      let response : Segment = group_response g (totals_of sets) in
+      let response : WrittenSegment = group_response g (totals_of sets) in
       All-cons IsInner ak1 (set_loops d g sets ++ response ∷ [])
       (record { other = record { long = omega arith; other = refl }; inner = refl })
       (All-append IsInner (set_loops d g sets) (response ∷ []) (loops_inner d sets (shows_sets g.codes))

@@ -10,10 +10,10 @@ use Rattle.std.proofs.lemmas.List.Elements.{All-append, All-cons, All-head, All-
 use Rattle.std.proofs.lemmas.List.Concat.{flat_map-append}
 use Rattle.x12_bytes.specs.declared.delims.Delims.{Delims}
 use Rattle.x12_segs.specs.Words.{parts}
-use Rattle.x12_write.specs.Segment.{Segment, elements_text, segment_text, segments_text, trimmed}
+use Rattle.x12_write.specs.Segment.{WrittenSegment, elements_text, segment_text, segments_text, trimmed}
 use Rattle.x12_write.specs.Undivided.{CanDivide}
 use Rattle.ack_999.specs.ReadBack.{written_parts}
-use Rattle.ack_999.proofs.ReadBack.{IsReadable}
+use Rattle.ack_999.proofs.ForAbove.{IsReadable}
 use Rattle.night_law.proofs.ForAbove.{IsBody, IsDivided, body_of, divided, divided_body, divided_parts}
 use Rattle.written_law.specs.Whole.{Elements}
 use Rattle.written_law.specs.Written.{BeginsOtherwise, IsOneSegment, segments_in_row}
@@ -27,7 +27,7 @@ pub record IsRow (d : Delims) (text : List ℕ) (es : List Elements) : Type 0 wh
   pub elements : map (parts d.element) segments ≡ es
 
 -- a segment's id doesn't begin as that of a header
-pub record IsOther (s : Segment) : Type 0 where
+pub record IsOther (s : WrittenSegment) : Type 0 where
   pub long : 2 ≤ length s.id
   pub other : bytes_eq (take 2 s.id) (codes "IS") ≡ false
 
@@ -53,7 +53,7 @@ begins d id elements long other = record {
   other = ap (λ (t : List ℕ). bytes_eq t (codes "IS")) (take-append-le 2 id (elements_text d.element elements) long) ∙ other;
 }
 
-pub one_row : (d : Delims) (s : Segment) → CanDivide d → IsReadable d s → IsOther s
+pub one_row : (d : Delims) (s : WrittenSegment) → CanDivide d → IsReadable d s → IsOther s
     → IsRow d (segment_text d s.id s.elements) (written_parts s ∷ [])
 one_row d s can readable other =
     let is : IsDivided d s.id (trimmed s.elements) = divided d s readable in
@@ -69,7 +69,7 @@ one_row d s can readable other =
       elements = ap (λ (es : Elements). es ∷ []) (divided_parts d s.id (trimmed s.elements) is);
     }
 
-pub list_row : (d : Delims) (segs : List Segment) → CanDivide d → All (IsReadable d) segs → All IsOther segs
+pub list_row : (d : Delims) (segs : List WrittenSegment) → CanDivide d → All (IsReadable d) segs → All IsOther segs
     → IsRow d (segments_text d segs) (map written_parts segs)
 list_row d [] can readable other = no_row d
 list_row d (s ∷ segs) can readable other =

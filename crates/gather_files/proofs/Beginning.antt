@@ -6,7 +6,7 @@ use Rattle.std.proofs.lemmas.List.{append-nil, length-append, take-append-le, ta
 use Rattle.std.proofs.lemmas.List.Elements.{All-nil}
 use Rattle.x12_bytes.specs.Bytes.{is_line_end}
 use Rattle.x12_bytes.specs.HeaderTest.{is_head}
-use Rattle.batch_law.proofs.Heads.{head_kept}
+use Rattle.batch_law.proofs.ForAbove.{head_kept}
 use Rattle.stream_read.specs.Held.{HeldValue}
 use Rattle.gather_files.specs.Causes.{cause_by, cause_of}
 use Rattle.gather_files.specs.Gathering.{IsBegun, IsPassed, IsSetAside, nothing_passed}

@@ -6,8 +6,8 @@ use Rattle.std.proofs.lemmas.List.{append_assoc, append-nil, length-append, take
 use Rattle.std.proofs.lemmas.List.Elements.{All-append, All-cons, All-head, All-nil, All-tail}
 use Rattle.x12_bytes.specs.Header.{header_at, terminator_of}
 use Rattle.x12_bytes.specs.HeaderTest.{is_head}
-use Rattle.env_index.proofs.Surround.{head_within}
-use Rattle.batch_law.proofs.Heads.{head_more, header_kept}
+use Rattle.env_index.proofs.ForAbove.{head_within}
+use Rattle.batch_law.proofs.ForAbove.{head_more, header_kept}
 use Rattle.batch_cut.specs.Scouting.{IsInside}
 use Rattle.batch_cut.specs.declared.scout.Inside.{Inside}
 use Rattle.gather_law.specs.Closing.{blanks}

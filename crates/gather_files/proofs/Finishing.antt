@@ -8,12 +8,11 @@ use Rattle.std.proofs.lemmas.List.Elements.{All-cons, All-head, All-nil, All-tai
 use Rattle.x12_bytes.specs.Bytes.{is_line_end}
 use Rattle.x12_bytes.specs.Header.{terminator_of}
 use Rattle.x12_bytes.specs.HeaderTest.{is_head}
-use Rattle.env_index.proofs.Surround.{head_within}
-use Rattle.batch_law.proofs.Heads.{head_kept, head_more}
-use Rattle.batch_law.proofs.Moving.{head_past, header_past}
+use Rattle.env_index.proofs.ForAbove.{head_within}
+use Rattle.batch_law.proofs.ForAbove.{head_kept, head_more, head_past, header_past}
 use Rattle.stream_read.specs.Held.{HeldValue}
 use Rattle.gather_law.specs.Gathered.{HoldsInterchanges, IsWholeBefore, StandsApart}
-use Rattle.gather_law.proofs.Parts.{goes_up, holds_on, keeps, reads_on}
+use Rattle.gather_law.proofs.ForAbove.{goes_up, holds_on, keeps, reads_on}
 use Rattle.gather_files.specs.Closing.{IsClosedSo, IsOwnTerminator, PutsBehind, PutsInPlace, StaysApart}
 use Rattle.gather_files.specs.Gathering.{AreEnds, IsPassed, IsTaken}
 use Rattle.gather_files.specs.Lead.{led}

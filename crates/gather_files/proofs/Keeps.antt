@@ -10,19 +10,16 @@ use Rattle.x12_bytes.specs.HeaderTest.{is_head}
 use Rattle.x12_bytes.specs.declared.delims.Delims.{Delims}
 use Rattle.x12_segs.specs.Words.{Seg, segs_from, rest_from, view_of, kind_of}
 use Rattle.env_index.specs.Words.{Extent, ChainFrom, ends_interchange, reach_at}
-use Rattle.env_index.proofs.Surround.{head_letter, head_within}
+use Rattle.env_index.proofs.ForAbove.{head_letter, head_within}
 use Rattle.batch_law.specs.Begun.{may_begin}
 use Rattle.batch_law.specs.Batches.{ChainUpTo, end_by, end_from, whole_end}
-use Rattle.batch_law.proofs.Chains.{chain_joined, chain_read, chain_up_to_end, end_now}
-use Rattle.batch_law.proofs.First.{Leads, first_is, first_start}
-use Rattle.batch_law.proofs.Heads.{head_more, header_kept}
-use Rattle.batch_law.proofs.Moving.{head_past}
-use Rattle.batch_law.proofs.Split.{first_byte}
+use Rattle.batch_law.proofs.ForAbove.{chain_joined, chain_read, chain_up_to_end, end_now, Leads, first_is, first_start, head_more}
+use Rattle.batch_law.proofs.ForAbove.{header_kept, head_past, first_byte}
 use Rattle.batch_cut.specs.Open.{IsOpen}
 use Rattle.batch_cut.specs.Scouting.{IsInside}
 use Rattle.batch_cut.specs.declared.scout.Inside.{Inside}
 use Rattle.gather_law.specs.Gathered.{HoldsInterchanges, MayFollow}
-use Rattle.gather_law.proofs.Apart.{head_no_letter}
+use Rattle.gather_law.proofs.ForAbove.{head_no_letter}
 
 -- the end of an interchange is known where the first of what is to come begins at a header
 known_at_head : (text : List ℕ) (d : Delims) (segs : List Seg) (rest : Seg) (f : ℕ) → is_head text f ≡ true

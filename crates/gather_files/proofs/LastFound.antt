@@ -11,10 +11,10 @@ use Rattle.x12_segs.specs.Words.{seg_at, view_of, kind_of}
 use Rattle.env_index.specs.Words.{ends_interchange}
 use Rattle.batch_law.specs.Begun.{may_begin}
 use Rattle.batch_law.specs.Batches.{end_from}
-use Rattle.batch_law.proofs.Split.{first_byte}
+use Rattle.batch_law.proofs.ForAbove.{first_byte}
 use Rattle.batch_cut.specs.Open.{GoesOn, IsOpen}
 use Rattle.batch_cut.specs.Steps.{Waits}
-use Rattle.batch_cut.proofs.Looks.{ends_here, goes_now, lead_found, lead_stops, on_empty, passes_on, waits_unended}
+use Rattle.batch_cut.proofs.ForAbove.{ends_here, goes_now, lead_found, lead_stops, on_empty, passes_on, waits_unended}
 
 -- where an interchange's last part begins, if no header can turn out to begin in what is read
 pub record HasLast (read : List ℕ) (d : Delims) (at : ℕ) : Type 0 where

@@ -11,9 +11,9 @@ use Rattle.x12_segs.specs.Words.{Seg, seg_at, view_of, kind_of}
 use Rattle.env_index.specs.Words.{ends_interchange}
 use Rattle.batch_law.specs.Begun.{may_begin}
 use Rattle.batch_law.specs.Batches.{end_from}
-use Rattle.batch_law.proofs.Chains.{none_behind}
+use Rattle.batch_law.proofs.ForAbove.{none_behind}
 use Rattle.batch_cut.specs.Open.{GoesOn}
-use Rattle.batch_cut.proofs.Parts.{IsPart, closed_stays, end_at_segment, part_stays, passes_empty}
+use Rattle.batch_cut.proofs.ForAbove.{IsPart, closed_stays, end_at_segment, part_stays, passes_empty}
 
 -- no header begins at a place, nor can one turn out to, and it holds no CR and no LF
 pub record IsInner (read : List ℕ) (lead : ℕ) : Type 0 where

@@ -5,7 +5,7 @@ use Rattle.std.proofs.lemmas.List.{length-append}
 use Rattle.std.specs.List.{prefix_len}
 use Rattle.std.specs.Io.KnownBytes.{Consumes}
 use Rattle.stream_read.specs.Held.{HasRead, HeldValue}
-use Rattle.stream_read.proofs.Known.{consumes_on}
+use Rattle.stream_read.proofs.ForAbove.{consumes_on}
 use Rattle.gather_files.specs.Gathering.{IsLed}
 use Rattle.gather_files.specs.Lead.{is_blank, led}
 

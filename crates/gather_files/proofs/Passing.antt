@@ -5,17 +5,17 @@ use Rattle.std.specs.Io.KnownBytes.{Appends}
 use Rattle.std.proofs.lemmas.List.{append_assoc, drop-drop, drop-take, length-append, length-drop, length-take-le, take-append-drop}
 use Rattle.std.proofs.lemmas.List.{take-append-le, take-take, take_all, take_at}
 use Rattle.x12_bytes.specs.HeaderTest.{is_head}
-use Rattle.env_index.proofs.Surround.{head_within}
+use Rattle.env_index.proofs.ForAbove.{head_within}
 use Rattle.batch_law.specs.Batches.{ChainUpTo}
-use Rattle.batch_law.proofs.Heads.{head_more}
-use Rattle.batch_cut.proofs.Stays.{stands_on}
+use Rattle.batch_law.proofs.ForAbove.{head_more}
+use Rattle.batch_cut.proofs.ForAbove.{stands_on}
 use Rattle.batch_cut.specs.Scouting.{Advances, Stands}
 use Rattle.batch_cut.specs.declared.scout.Advanced.{Advanced}
 use Rattle.batch_cut.specs.declared.scout.Inside.{Inside}
 use Rattle.stream_read.specs.Held.{HasRead, HeldValue}
-use Rattle.stream_read.proofs.Known.{consumes_on}
+use Rattle.stream_read.proofs.ForAbove.{consumes_on}
 use Rattle.gather_law.specs.Gathered.{IsWholeBefore, PassesInterchanges}
-use Rattle.gather_law.proofs.Parts.{gives_up, reads_on}
+use Rattle.gather_law.proofs.ForAbove.{gives_up, reads_on}
 use Rattle.gather_files.specs.Gathering.{AreEnds, IsPassed, kept_of}
 use Rattle.gather_files.specs.Lead.{led}
 use Rattle.gather_files.specs.declared.gather.Passing.{Passing}

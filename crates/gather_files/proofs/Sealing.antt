@@ -12,18 +12,14 @@ use Rattle.x12_bytes.specs.HeaderTest.{is_head}
 use Rattle.x12_bytes.specs.declared.delims.Delims.{Delims}
 use Rattle.x12_segs.specs.Words.{seg_at, view_of, kind_of}
 use Rattle.env_index.specs.Words.{Extent, ends_interchange}
-use Rattle.env_index.proofs.Surround.{head_within}
+use Rattle.env_index.proofs.ForAbove.{head_within}
 use Rattle.batch_law.specs.Begun.{may_begin}
 use Rattle.batch_law.specs.Batches.{ChainUpTo, end_from, whole_end}
-use Rattle.batch_law.proofs.Chains.{chain_joined, chain_waits, none_behind}
-use Rattle.batch_law.proofs.First.{Leads}
-use Rattle.batch_law.proofs.Heads.{head_more, header_kept}
+use Rattle.batch_law.proofs.ForAbove.{chain_joined, chain_waits, none_behind, Leads, head_more, header_kept}
 use Rattle.batch_cut.specs.Open.{GoesOn}
 use Rattle.batch_cut.specs.Scouting.{IsInside}
 use Rattle.batch_cut.specs.declared.scout.Inside.{Inside}
-use Rattle.batch_cut.proofs.Looks.{goes_now}
-use Rattle.batch_cut.proofs.Parts.{ends_at_head}
-use Rattle.batch_cut.proofs.Scouts.{one_whole}
+use Rattle.batch_cut.proofs.ForAbove.{goes_now, ends_at_head, one_whole}
 use Rattle.gather_law.specs.Gathered.{HoldsInterchanges}
 use Rattle.gather_files.specs.Closing.{IsLastSegment}
 use Rattle.gather_files.proofs.Keeps.{holds_inside}

@@ -12,18 +12,14 @@ use Rattle.x12_bytes.specs.Header.{header_delims, header_at, terminator_of}
 use Rattle.x12_bytes.specs.HeaderTest.{is_head}
 use Rattle.x12_bytes.specs.declared.delims.Delims.{Delims}
 use Rattle.x12_segs.specs.Words.{Seg, SegValue, kind_of, rest_from, segs_from, view_of}
-use Rattle.x12_segs.proofs.OrderLemmas.{StandInOrder, segs_in_order}
-use Rattle.x12_segs.proofs.SegLemmas.{IsCut, cut_found, rest_from-found, rest_from-none}
+use Rattle.x12_segs.proofs.ForAbove.{StandInOrder, segs_in_order, IsCut, cut_found, rest_from-found, rest_from-none}
 use Rattle.env_index.specs.Words.{Chain, Extent, Reach, behind, ends_interchange, reach_at, reach_of}
-use Rattle.env_index.proofs.Surround.{head_within, no_head_past}
+use Rattle.env_index.proofs.ForAbove.{head_within, no_head_past}
 use Rattle.batch_law.specs.Begun.{is_begun, may_begin}
 use Rattle.batch_law.specs.Batches.{ChainUpTo, end_by, whole_end}
 use Rattle.batch_law.specs.Moved.{moved_extent}
-use Rattle.batch_law.proofs.Chains.{chain_ends, chain_joined, chain_on, chain_up_to_end}
-use Rattle.batch_law.proofs.Moving.{drop_past, header_past, rest_past}
-use Rattle.batch_law.proofs.MovingEntries.{chain_past}
-use Rattle.batch_law.proofs.Split.{first_byte, from_rest}
-use Rattle.batch_law.proofs.Whole.{low_within, reach_goes_on}
+use Rattle.batch_law.proofs.ForAbove.{chain_ends, chain_joined, chain_on, chain_up_to_end, drop_past, header_past, rest_past, chain_past}
+use Rattle.batch_law.proofs.ForAbove.{first_byte, from_rest, low_within, reach_goes_on}
 use Rattle.batch_cut.specs.Open.{IsAsFar, IsShort}
 use Rattle.batch_cut.specs.Scouting.{Advances, IsFarthest, IsInside, IsLeft, Stands}
 use Rattle.batch_cut.specs.declared.scout.Advanced.{Advanced}

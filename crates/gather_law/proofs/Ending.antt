@@ -9,10 +9,10 @@ use Rattle.memchr.specs.Find.{IsFirstByte, is_byte}
 use Rattle.x12_bytes.specs.Bytes.{is_line_end}
 use Rattle.x12_bytes.specs.Header.{header_at, terminator_of}
 use Rattle.x12_segs.specs.Words.{Seg, rest_from}
-use Rattle.x12_segs.proofs.SegLemmas.{IsCut, cut_found, rest_from-found, rest_from-none}
+use Rattle.x12_segs.proofs.ForAbove.{IsCut, cut_found, rest_from-found, rest_from-none}
 use Rattle.env_index.specs.Words.{Chain, ChainFrom, Extent}
-use Rattle.env_index.proofs.Surround.{head_within}
-use Rattle.batch_law.proofs.Split.{IsSplit, first_byte, from_rest, split_at}
+use Rattle.env_index.proofs.ForAbove.{head_within}
+use Rattle.batch_law.proofs.ForAbove.{IsSplit, first_byte, from_rest, split_at}
 use Rattle.gather_law.specs.Gathered.{IsClosed, IsClosedFile}
 use Rattle.gather_law.specs.Closing.{terminated}
 

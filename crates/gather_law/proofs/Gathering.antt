@@ -8,9 +8,7 @@ use Rattle.x12_bytes.specs.HeaderTest.{is_head}
 use Rattle.env_index.specs.Words.{Chain, ChainFrom, Extent, IndexEntry, IsIndex, extents_of}
 use Rattle.batch_law.specs.Begun.{may_begin}
 use Rattle.batch_law.specs.Moved.{IsIndexUpTo, moved_entry}
-use Rattle.batch_law.proofs.Heads.{head_more}
-use Rattle.batch_law.proofs.Moving.{head_past}
-use Rattle.batch_law.proofs.Stepping.{ends, starts, steps}
+use Rattle.batch_law.proofs.ForAbove.{head_more, head_past, ends, starts, steps}
 use Rattle.gather_law.specs.Gathered.{File, IsClosed, IsFile, IsKept, KeepsToItself, MayFollow, StandsApart, entries_behind}
 use Rattle.gather_law.specs.Gathered.{gathered, gathered_index, outside_of}
 use Rattle.gather_law.proofs.Apart.{chain_apart}

@@ -4,8 +4,7 @@ use Rattle.std.proofs.lemmas.List.{append_assoc, length-append, length-map, leng
 use Rattle.env_index.specs.Words.{Extent}
 use Rattle.batch_law.specs.Batches.{ChainUpTo}
 use Rattle.batch_law.specs.Moved.{moved_extent}
-use Rattle.batch_law.proofs.Chains.{chain_joined}
-use Rattle.batch_law.proofs.MovingEntries.{chain_past}
+use Rattle.batch_law.proofs.ForAbove.{chain_joined, chain_past}
 use Rattle.gather_law.specs.Gathered.{GoesUpTo, HoldsInterchanges, IsWholeBefore, KeepsToItself, PassesInterchanges}
 
 -- so many interchanges up to an offset

@@ -7,7 +7,7 @@ use Rattle.std.specs.Cmp.Lexicographic.{bytes_decides}
 use Rattle.hub_kinds.specs.Words.{contains_text}
 use Rattle.guide_tree.specs.declared.slot.Slot.{Slot}
 use Rattle.guide_tree.specs.declared.slot.Pick.{Pick}
-use Rattle.guide_tree.specs.Words.{Tree, segment, loop, no_trees, tree, Segment, Place, element_of, fits, fit_start, id_of, use_of}
+use Rattle.guide_tree.specs.Words.{Tree, segment, loop, no_trees, tree, Segment, Place, element_at, fits, fit_start, segment_id, use_of}
 use Rattle.guide_tree.specs.Fits.{fit_slot}
 use Rattle.guide_fast.specs.IdNumber.{id_number}
 use Rattle.guide_fast.specs.FirstPick.{code_number, first_pick, slot_pick, tree_pick, may_pick}
@@ -29,10 +29,10 @@ no_code (c ∷ []) text e =
 no_code (c ∷ d ∷ more) text e = absurd (false≢true (sym e))
 
 none_picked : (s : Segment) (ps : List Pick) → may_pick s (first_pick ps) ≡ false
-    → list_all (λ p. contains_text p.codes (element_of s p.position)) ps ≡ false
+    → list_all (λ p. contains_text p.codes (element_at s p.position)) ps ≡ false
 none_picked s [] e = absurd (false≢true (sym e))
 none_picked s (p ∷ ps) e =
-    ap (λ b. b && list_all (λ q. contains_text q.codes (element_of s q.position)) ps) (no_code p.codes (element_of s p.position) e)
+    ap (λ b. b && list_all (λ q. contains_text q.codes (element_at s q.position)) ps) (no_code p.codes (element_at s p.position) e)
 
 pub and_false : (b : Bool) → (b && false) ≡ false
 and_false true = refl
@@ -40,7 +40,7 @@ and_false false = refl
 
 pub no_fit : (s : Segment) (x : Slot) → may_pick s (slot_pick x) ≡ false → fits x s ≡ false
 no_fit s x e =
-    ap (λ b. bytes_eq x.id (id_of s) && b) (none_picked s x.picks e) ∙ and_false (bytes_eq x.id (id_of s))
+    ap (λ b. bytes_eq x.id (segment_id s) && b) (none_picked s x.picks e) ∙ and_false (bytes_eq x.id (segment_id s))
 
 pub no_slot_fit : (s : Segment) (q : Place) (x : Slot) → fits x s ≡ false → fit_slot s q x ≡ None
 no_slot_fit s q x e = rw e refl

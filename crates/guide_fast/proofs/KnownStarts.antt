@@ -10,7 +10,7 @@ use Rattle.hub_kinds.specs.declared.fault.Fault.{Fault}
 use Rattle.guide_tree.specs.declared.node.Node.{Node}
 use Rattle.guide_tree.specs.Words.{Tree, Trees, tree, Segment, Place, Pair, Candidate, use_of, fits, view, nodes_view, into, or_else}
 use Rattle.guide_tree.specs.Words.{fit_start, fit_starts, missing, unused, entered, past}
-use Rattle.guide_tree.proofs.NodeViews.{nodes_view-drop}
+use Rattle.guide_tree.proofs.ForAbove.{nodes_view-drop}
 use Rattle.loop_match.specs.declared.next.Start.{Start}
 use Rattle.loop_match.specs.Steps.{below_start}
 use Rattle.guide_fast.specs.IdNumber.{id_number}

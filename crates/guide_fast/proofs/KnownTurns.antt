@@ -14,7 +14,7 @@ use Rattle.guide_tree.specs.Words.{fit_starts, fit_again, fit_in, fit_from, fit_
 use Rattle.guide_tree.specs.Words.{or_else, ended_in, stepped_in}
 use Rattle.loop_match.specs.Leaving.{ended_among, stepped_among}
 use Rattle.loop_match.specs.Steps.{below_start}
-use Rattle.loop_match.proofs.Finding.{ended_at, ended_past, stepped_same, stepped_on}
+use Rattle.loop_match.proofs.ForAbove.{ended_at, ended_past, stepped_same, stepped_on}
 use Rattle.guide_fast.specs.declared.known.KnownTurn.{KnownTurn}
 use Rattle.guide_fast.specs.Ahead.{children_of, use_at, next_use, place_by, led, first_led, IsTurnTo, IsStart, IsKnown, Adds, Any}
 use Rattle.guide_fast.specs.Ahead.{StandsAt, once_more, AmongSilent, InSilent}

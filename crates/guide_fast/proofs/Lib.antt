@@ -12,6 +12,7 @@ mod Tabled
 mod Straying
 mod Strayed
 mod Counting
+pub mod ForAbove
 pub mod Silencing
 mod Stepping
 mod KnownTurns

@@ -6,7 +6,7 @@ use Rattle.std.specs.Str.{bytes_eq}
 use Rattle.std.proofs.lemmas.Bool.{lt-ltb, le-ltb}
 use Rattle.std.proofs.lemmas.List.{drop-map, length-drop}
 use Rattle.guide_tree.specs.declared.node.Node.{Node}
-use Rattle.guide_tree.specs.Words.{Segment, Candidate, Place, or_else, into, use_of, fit_start, fit_starts, view, nodes_view, element_of}
+use Rattle.guide_tree.specs.Words.{Segment, Candidate, Place, or_else, into, use_of, fit_start, fit_starts, view, nodes_view, element_at}
 use Rattle.loop_match.specs.declared.next.Turn.{Turn}
 use Rattle.loop_match.specs.Steps.{turned, below_start}
 use Rattle.guide_fast.specs.Listed.{places_of}
@@ -108,19 +108,19 @@ one_told s ns k d end false false (Some c) ks r all at low none more e = more e
 
 told_more : (s : Segment) (ns : List Node) (n k d end : ℕ) (ms : List Node) → drop k ns ≡ ms → k + length ms ≤ d
     → end ≡ child_or d (fit_told s n k ms)
-    → or_else (fit_listed s ns (until end (places_of (element_of s n) k (begin_keys ms)))) (fit_told s n k ms) ≡ fit_told s (suc n) k ms
+    → or_else (fit_listed s ns (until end (places_of (element_at s n) k (begin_keys ms)))) (fit_told s n k ms) ≡ fit_told s (suc n) k ms
 told_more s ns n k d end [] at h e = refl
 told_more s ns n k d end (m ∷ ms) at h e =
     let next : drop (k + 1) ns ≡ ms = rest ns k m ms at in
     let room : (k + 1) + length ms ≤ d = omega (arith, h) in
-    one_told s ns k d end (is_told s n (begin_key m)) (bytes_eq (begin_key m) (element_of s n)) (fit_start s (view m))
-    (places_of (element_of s n) (k + 1) (begin_keys ms)) (fit_told s n (k + 1) ms) (fit_told s (suc n) (k + 1) ms)
+    one_told s ns k d end (is_told s n (begin_key m)) (bytes_eq (begin_key m) (element_at s n)) (fit_start s (view m))
+    (places_of (element_at s n) (k + 1) (begin_keys ms)) (fit_told s n (k + 1) ms) (fit_told s (suc n) (k + 1) ms)
     (ap (λ (o : Option Node). option_map (into (use_of k 0)) (fit_node s o)) (got ns k m ms at))
-    (from_here s n (k + 1) d ms room) (past (element_of s n) (k + 1) end (begin_keys ms))
+    (from_here s n (k + 1) d ms room) (past (element_at s n) (k + 1) end (begin_keys ms))
     (told_more s ns n (k + 1) d end ms next room) e
 
 -- one position more
-pub one_more : (s : Segment) (ns : List Node) (n from end : ℕ) (text ks : List ℕ) → from ≤ length ns → text ≡ element_of s n
+pub one_more : (s : Segment) (ns : List Node) (n from end : ℕ) (text ks : List ℕ) → from ≤ length ns → text ≡ element_at s n
     → ks ≡ places_of text from (drop from (begin_keys ns)) → end ≡ child_or (length ns) (fit_told s n from (drop from ns))
     → or_else (fit_listed s ns (until end ks)) (fit_told s n from (drop from ns)) ≡ fit_told s (n + 1) from (drop from ns)
 one_more s ns n from end text ks h t e f =
@@ -128,7 +128,7 @@ one_more s ns n from end text ks h t e f =
     let next : suc n ≡ n + 1 = omega arith in
     ap (λ (l : List ℕ). or_else (fit_listed s ns (until end l)) (fit_told s n from (drop from ns)))
     (e ∙ ap (λ (x : List ℕ). places_of x from (drop from (begin_keys ns))) t
-    ∙ ap (places_of (element_of s n) from) (drop-map begin_key from ns))
+    ∙ ap (places_of (element_at s n) from) (drop-map begin_key from ns))
     ∙ told_more s ns n from (length ns) end (drop from ns) refl (omega (arith, long, h)) f
     ∙ ap (λ (m : ℕ). fit_told s m from (drop from ns)) next
 

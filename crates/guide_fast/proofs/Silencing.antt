@@ -13,7 +13,7 @@ use Rattle.guide_tree.specs.Words.{ended_in, end_faults}
 use Rattle.loop_match.specs.declared.next.Step.{Step}
 use Rattle.loop_match.specs.Leaving.{ended_among}
 use Rattle.loop_match.specs.Steps.{place_view, last_of}
-use Rattle.loop_match.proofs.Finding.{ended_past, ended_at}
+use Rattle.loop_match.proofs.ForAbove.{ended_past, ended_at}
 use Rattle.guide_fast.specs.Silent.{are_none}
 
 and_assoc : (a b c : Bool) → ((a && b) && c) ≡ (a && (b && c))

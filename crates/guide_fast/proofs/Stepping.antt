@@ -11,7 +11,7 @@ use Rattle.guide_tree.specs.Words.{stepped, stepped_in, step_faults}
 use Rattle.loop_match.specs.declared.next.Step.{Step}
 use Rattle.loop_match.specs.Leaving.{stepped_among}
 use Rattle.loop_match.specs.Steps.{place_view, last_of}
-use Rattle.loop_match.proofs.Finding.{stepped_past, stepped_back, stepped_same, stepped_on}
+use Rattle.loop_match.proofs.ForAbove.{stepped_past, stepped_back, stepped_same, stepped_on}
 use Rattle.guide_fast.specs.Silent.{are_none}
 use Rattle.guide_fast.proofs.Silencing.{both}
 

@@ -5,7 +5,7 @@ use Rattle.std.specs.Prelude.{slice_get}
 use Rattle.std.specs.Str.{bytes_eq}
 use Rattle.std.specs.List.{list_any}
 use Rattle.guide_tree.specs.declared.slot.Slot.{Slot}
-use Rattle.guide_tree.specs.Words.{Segment, element_of, fits}
+use Rattle.guide_tree.specs.Words.{Segment, element_at, fits}
 use Rattle.guide_fast.specs.Keys.{slot_key, slot_keys, lent_reach, Reaches}
 use Rattle.guide_fast.specs.Listed.{places_of}
 use Rattle.guide_fast.specs.Slots.{fits_it, any_listed, lent_slots}
@@ -43,11 +43,11 @@ listed_any s ns text k (m ∷ ms) e =
     (list_any (λ x. bytes_eq (slot_key x) text && fits x s) ms) (got ns k m ms e)
     (listed_any s ns text (k + 1) ms (rest ns k m ms e))
 
-found : (s : Segment) (slots : List Slot) (n : ℕ) (text ks : List ℕ) → text ≡ element_of s n → ks ≡ places_of text 0 (slot_keys slots)
-    → any_listed s slots ks ≡ list_any (λ x. bytes_eq (slot_key x) (element_of s n) && fits x s) slots
+found : (s : Segment) (slots : List Slot) (n : ℕ) (text ks : List ℕ) → text ≡ element_at s n → ks ≡ places_of text 0 (slot_keys slots)
+    → any_listed s slots ks ≡ list_any (λ x. bytes_eq (slot_key x) (element_at s n) && fits x s) slots
 found s slots n text ks t e =
     ap (any_listed s slots) (e ∙ ap (λ (u : List ℕ). places_of u 0 (slot_keys slots)) t)
-    ∙ listed_any s slots (element_of s n) 0 slots refl
+    ∙ listed_any s slots (element_at s n) 0 slots refl
 
 mixed : (a b f x y : Bool) → (((a || b) && f) || (x || y)) ≡ (((a && f) || x) || ((b && f) || y))
 mixed true b true x y = refl
@@ -59,21 +59,21 @@ mixed false true false x y = refl
 mixed false false f x y = refl
 
 any_more : (s : Segment) (n : ℕ) (slots : List Slot) → any_told s (suc n) slots
-    ≡ (any_told s n slots || list_any (λ x. bytes_eq (slot_key x) (element_of s n) && fits x s) slots)
+    ≡ (any_told s n slots || list_any (λ x. bytes_eq (slot_key x) (element_at s n) && fits x s) slots)
 any_more s n [] = refl
 any_more s n (x ∷ xs) =
     let a : Bool = is_told s n (slot_key x) in
-    let b : Bool = bytes_eq (slot_key x) (element_of s n) in
+    let b : Bool = bytes_eq (slot_key x) (element_at s n) in
     ap (λ (c : Bool). ((a || b) && fits x s) || c) (any_more s n xs)
-    ∙ mixed a b (fits x s) (any_told s n xs) (list_any (λ y. bytes_eq (slot_key y) (element_of s n) && fits y s) xs)
+    ∙ mixed a b (fits x s) (any_told s n xs) (list_any (λ y. bytes_eq (slot_key y) (element_at s n) && fits y s) xs)
 
-pub none_more : (s : Segment) (slots : List Slot) (n : ℕ) (text ks : List ℕ) → text ≡ element_of s n
+pub none_more : (s : Segment) (slots : List Slot) (n : ℕ) (text ks : List ℕ) → text ≡ element_at s n
     → ks ≡ places_of text 0 (slot_keys slots) → any_told s n slots ≡ false → any_listed s slots ks ≡ false
     → any_told s (n + 1) slots ≡ false
 none_more s slots n text ks t e before here =
     let next : n + 1 ≡ suc n = omega arith in
     ap (λ (m : ℕ). any_told s m slots) next ∙ any_more s n slots
-    ∙ ap (λ (b : Bool). b || list_any (λ x. bytes_eq (slot_key x) (element_of s n) && fits x s) slots) before
+    ∙ ap (λ (b : Bool). b || list_any (λ x. bytes_eq (slot_key x) (element_at s n) && fits x s) slots) before
     ∙ sym (found s slots n text ks t e) ∙ here
 
 weaker : (p q : Slot → Bool) (xs : List Slot) → list_any (λ x. p x && q x) xs ≡ true → true ≡ list_any q xs
@@ -84,10 +84,10 @@ weaker p q (x ∷ xs) e = by (p x) (q x) (list_any (λ y. p y && q y) xs) (list_
   by true false c d e h = h e
   by false false c d e h = h e
 
-pub some_found : (s : Segment) (slots : List Slot) (n : ℕ) (text ks : List ℕ) → text ≡ element_of s n
+pub some_found : (s : Segment) (slots : List Slot) (n : ℕ) (text ks : List ℕ) → text ≡ element_at s n
     → ks ≡ places_of text 0 (slot_keys slots) → any_listed s slots ks ≡ true → true ≡ list_any (λ x. fits x s) slots
 some_found s slots n text ks t e here =
-    weaker (λ x. bytes_eq (slot_key x) (element_of s n)) (λ x. fits x s) slots (sym (found s slots n text ks t e) ∙ here)
+    weaker (λ x. bytes_eq (slot_key x) (element_at s n)) (λ x. fits x s) slots (sym (found s slots n text ks t e) ∙ here)
 
 pub none_told : (s : Segment) (slots : List Slot) → any_told s 0 slots ≡ false
 none_told s [] = refl

@@ -12,7 +12,7 @@ use Rattle.guide_tree.specs.declared.rows.GuideRows.{GuideRows}
 use Rattle.guide_tree.specs.declared.slot.Slot.{Slot}
 use Rattle.guide_tree.specs.Words.{Tree, Trees, segment, loop, view, nodes_view, Segment, Place, fit_in, fit_next, guide_of}
 use Rattle.guide_tree.specs.Words.{numbered_guide, numbered, GuideTree}
-use Rattle.guide_tree.proofs.Behind.{view_loop}
+use Rattle.guide_tree.proofs.ForAbove.{view_loop}
 use Rattle.guide_fast.specs.Tables.{trees_in, tables_of, HasTables, HasTablesIn}
 use Rattle.guide_fast.proofs.Numbering.{has_tables}
 use denote.Ref.{Bor}

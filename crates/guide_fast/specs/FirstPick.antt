@@ -3,7 +3,7 @@ use Rattle.std.specs.Prelude.{ℕ, ◌≡◌, ◌==◌, Bool, ◌||◌, List, []
 use Rattle.guide_tree.specs.declared.node.Node.{Node}
 use Rattle.guide_tree.specs.declared.slot.Slot.{Slot}
 use Rattle.guide_tree.specs.declared.slot.Pick.{Pick}
-use Rattle.guide_tree.specs.Words.{Tree, segment, loop, no_trees, tree, Segment, element_of, view}
+use Rattle.guide_tree.specs.Words.{Tree, segment, loop, no_trees, tree, Segment, element_at, view}
 use Rattle.guide_fast.specs.IdNumber.{id_number}
 use Rattle.guide_fast.specs.declared.first_pick.FirstPick.{FirstPick}
 use Rattle.guide_fast.specs.declared.first_pick.Asked.{Asked}
@@ -42,8 +42,8 @@ slot_picks slots = map slot_pick slots
 
 -- the number of the element is that of the one code, or no number is known
 abbrev pub may_pick : Segment → FirstPick → Bool
-may_pick s p = (p.value == 0) || (p.value == id_number (element_of s p.position))
+may_pick s p = (p.value == 0) || (p.value == id_number (element_at s p.position))
 
 -- the number of the element at a position
 abbrev pub HasValue : Segment → Asked → Type 0
-HasValue s a = a.value ≡ id_number (element_of s a.position)
+HasValue s a = a.value ≡ id_number (element_at s a.position)

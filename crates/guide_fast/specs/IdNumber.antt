@@ -1,7 +1,7 @@
 -- X12.6, segment id (own): a number of an id of one to three bytes, by which it is distinguished from every other; of any other id 0.
 use Rattle.std.specs.Prelude.{ℕ, ◌+◌, ◌*◌, ◌≡◌, Bool, ◌&&◌, nat_lt, if◌then◌else◌, List, [], ◌∷◌, map}
 use Rattle.guide_tree.specs.declared.node.Node.{Node}
-use Rattle.guide_tree.specs.Words.{Segment, id_of}
+use Rattle.guide_tree.specs.Words.{Segment, segment_id}
 use Rattle.guide_fast.specs.Children.{begin_id}
 
 abbrev pub are_bytes : (a b c : ℕ) → Bool
@@ -23,7 +23,7 @@ id_number (a ∷ b ∷ c ∷ d ∷ rest) = 0
 
 -- the number of a segment's id
 abbrev pub HasNumber : Segment → ℕ → Type 0
-HasNumber s n = n ≡ id_number (id_of s)
+HasNumber s n = n ≡ id_number (segment_id s)
 
 -- the number of the id that a node begins with
 abbrev pub begin_number : Node → ℕ

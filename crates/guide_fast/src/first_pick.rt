@@ -1,6 +1,6 @@
 ghost use Rattle.std.specs.Prelude.{◌≡◌, IfOk};
 ghost use Rattle.x12_segs.specs.Words.{elements_of};
-ghost use Rattle.guide_tree.specs.Words.{element_of};
+ghost use Rattle.guide_tree.specs.Words.{element_at};
 ghost use Rattle.guide_fast.specs.IdNumber.{id_number, HasNumber};
 ghost use Rattle.guide_fast.specs.FirstPick.{code_number, slot_pick, begin_pick, begin_picks, may_pick, HasValue};
 
@@ -95,7 +95,7 @@ pub(crate) fn asked_id(number: u32, seg: &SegView) -> Asked
 fn value_at(asked: &mut Asked, position: u32, seg: &SegView) -> u32
     requires { HasValue (elements_of seg.now) asked.old }
     ensures asked { HasValue (elements_of seg.now) asked.new }
-    ensures value { result ≡ id_number (element_of (elements_of seg.now) position) }
+    ensures value { result ≡ id_number (element_at (elements_of seg.now) position) }
 {
     if asked.position == position {
         return asked.value;

@@ -3,7 +3,7 @@ use Rattle.std.proofs.Common.{⊎_elim, ◌≡◌, ℕ, zero, suc, ◌<◌, ◌�
 use Rattle.std.specs.List.{Contains}
 use Rattle.std.proofs.lemmas.List.Elements.{Contains-append_right}
 use Rattle.std.specs.Prelude.{length, slice_index_or}
-use Rattle.guide_tree.proofs.Among.{In}
+use Rattle.guide_tree.proofs.ForAbove.{In}
 
 pub in_left : {X : Type 0} (xs ys : List X) (q : X) → In xs q → In (xs ++ ys) q
 in_left [] ys q h = absurd h

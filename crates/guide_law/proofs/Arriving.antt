@@ -10,7 +10,7 @@ use Rattle.guide_tree.specs.declared.slot.Slot.{Slot}
 use Rattle.guide_tree.specs.Words.{Tree, Trees, segment, loop, no_trees, tree, Pair, Place, IsFirst, Follows, MayCome, slot_in, slot_nth}
 use Rattle.guide_tree.specs.Words.{IsPlaceOrBeginning, node_nth, node_at, loop_id_at, IsBefore, past_code, fault_of, past, too_few}
 use Rattle.guide_tree.specs.Words.{unused, entered, ended_in, stepped_in, stepped, step_faults, end_faults}
-use Rattle.guide_tree.proofs.Among.{In}
+use Rattle.guide_tree.proofs.ForAbove.{In}
 use Rattle.guide_law.proofs.Cases.{pick}
 use Rattle.guide_law.proofs.Among.{in_left, in_right}
 use Rattle.guide_law.proofs.Residual.{AllTriggered, Triggered}

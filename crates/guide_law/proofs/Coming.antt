@@ -12,9 +12,7 @@ use Rattle.guide_law.proofs.Among.{in_left, in_right, in_cases, in_map, in_mappe
 use Rattle.guide_law.proofs.Starting.{slot_by, start_first, candidate, start_there}
 use Rattle.guide_law.proofs.Starting.{Begun, starts_there, starts_begin}
 use Rattle.guide_law.proofs.Cases.{pick}
-use Rattle.guide_tree.proofs.Pairs.{pair_is}
-use Rattle.guide_tree.proofs.Among.{In}
-use Rattle.guide_tree.proofs.RivalPlaces.{Stand, stand_all, stand_next}
+use Rattle.guide_tree.proofs.ForAbove.{pair_is, In, Stand, stand_all, stand_next}
 
 -- a candidate may follow, and leads to its slot
 pub record Comes (il : Bool) (f : ℕ → Place → Option Slot) (a : Pair) (p : Place) (c : Candidate) : Type 0 where

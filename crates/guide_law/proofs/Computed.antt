@@ -8,7 +8,7 @@ use Rattle.guide_law.specs.Law.{NextsAreExact, IsPlacedOneWay, IsOnlyPlacing}
 use Rattle.guide_law.proofs.Among.{in_contains, contains_in}
 use Rattle.guide_law.proofs.Starting.{candidate}
 use Rattle.guide_law.proofs.Coming.{nexts_come, come_in_nexts}
-use Rattle.guide_tree.proofs.Among.{In}
+use Rattle.guide_tree.proofs.ForAbove.{In}
 
 pub exact : (ts : Trees) → AllTriggered ts → NextsAreExact ts
 exact ts t last c = (

@@ -5,7 +5,7 @@ use Rattle.std.specs.Prelude.{◌==◌, ◌&&◌, ◌||◌, nat_lt, if◌then◌
 use Rattle.std.specs.Cmp.Derive.{both_true}
 use Rattle.std.proofs.lemmas.Bool.{and_parts, or_left, or_right, eq-eqb, or_cases, cases_Bool, eqb-true, ltb-true, lt-ltb, false≢true}
 use Rattle.guide_tree.specs.Words.{Pair, Place, Begins, Has, IsFirstAt, IsNowhere, IsBefore, IsBehind, IsReportedAt}
-use Rattle.guide_tree.proofs.Pairs.{pair_is}
+use Rattle.guide_tree.proofs.ForAbove.{pair_is}
 
 abbrev pub same : Pair → Pair → Bool
 same a b = (a.child == b.child) && (a.use_no == b.use_no)

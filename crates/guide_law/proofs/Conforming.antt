@@ -5,7 +5,7 @@ use Rattle.hub_kinds.specs.declared.fault.Fault.{Fault}
 use Rattle.guide_tree.specs.declared.slot.Slot.{Slot}
 use Rattle.guide_tree.specs.Words.{Trees, GuideTree, Segment, IsWellFormed, Place, slot_at, slot_given, IsPlacing, IsStructureFault}
 use Rattle.guide_tree.specs.Words.{Given, placing_of, structure_faults}
-use Rattle.guide_tree.proofs.Among.{In}
+use Rattle.guide_tree.proofs.ForAbove.{In}
 use Rattle.guide_law.specs.Law.{DerivedIsPlaced, PlacedIsDerived, DerivedHasPlacing}
 use Rattle.guide_law.proofs.Among.{in_contains, contains_in}
 use Rattle.guide_law.proofs.Placed.{triggers, no_rivals, placed_one_way}

@@ -4,7 +4,7 @@ use Rattle.std.proofs.Common.{refl, ap}
 use Rattle.std.proofs.lemmas.Bool.{cases_eq}
 use Rattle.guide_tree.specs.Words.{Pair, Place, use_of}
 use Rattle.guide_law.proofs.Cases.{pick}
-use Rattle.guide_tree.proofs.Pairs.{pair_is}
+use Rattle.guide_tree.proofs.ForAbove.{pair_is}
 
 pair_same : (a b : Pair) → (a ≡ b) ⊎ (a ≢ b)
 pair_same a b =

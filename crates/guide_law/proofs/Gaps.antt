@@ -5,7 +5,7 @@ use Rattle.std.proofs.lemmas.Bool.{cases_lt}
 use Rattle.std.specs.List.{AllByRecursion}
 use Rattle.guide_tree.specs.Words.{Trees, Segment, Pair, Place, use_of, IsFirst, IsNext, Follows, IsPlacing, Begins, Has}
 use Rattle.guide_law.proofs.Cases.{pick}
-use Rattle.guide_tree.proofs.Pairs.{pair_is}
+use Rattle.guide_tree.proofs.ForAbove.{pair_is}
 
 -- a use of a child in a repetition of its parent
 abbrev pub use_in : Place → ℕ → ℕ → Place

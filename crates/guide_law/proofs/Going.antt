@@ -10,8 +10,7 @@ use Rattle.guide_tree.specs.declared.slot.Slot.{Slot}
 use Rattle.guide_tree.specs.Words.{Tree, Trees, segment, loop, no_trees, tree, min_of, max_of, Pair, Place, use_of, IsFirst, Follows}
 use Rattle.guide_tree.specs.Words.{slot_in, slot_nth, node_in, node_nth, Begins, IsBehind, past_code, fault_of, too_few, past, entered}
 use Rattle.guide_tree.specs.Words.{ended_in, stepped_in, stepped}
-use Rattle.guide_tree.proofs.Among.{In}
-use Rattle.guide_tree.proofs.Pairs.{pair_is}
+use Rattle.guide_tree.proofs.ForAbove.{In, pair_is}
 use Rattle.guide_law.proofs.Cases.{pick}
 use Rattle.guide_law.proofs.Among.{in_cases}
 use Rattle.guide_law.proofs.Residual.{Triggered, AllTriggered}

@@ -7,7 +7,7 @@ use Rattle.hub_kinds.specs.declared.codes.SegmentCode.{SegmentCode}
 use Rattle.hub_kinds.specs.declared.codes.SegmentCode.TheVariants as ik304
 use Rattle.hub_kinds.specs.Words.{segment_rank, key_of}
 use Rattle.guide_tree.specs.Words.{Tree, Trees, segment, loop, no_trees, tree, GuideTree, node_number, count_in, node_count, numbered_in}
-use Rattle.guide_tree.specs.Words.{numbered, with_slot_numbers, Segment, id_of, Place, use_of, node_in, node_nth, node_at, loop_id_at}
+use Rattle.guide_tree.specs.Words.{numbered, with_slot_numbers, Segment, segment_id, Place, use_of, node_in, node_nth, node_at, loop_id_at}
 use Rattle.guide_tree.specs.Words.{first_id, past_code, stray_code, IsPast, IsShort, IsStray, IsStructureFault, loop_of}
 use Rattle.guide_law.specs.Law.{FaultsAreKeyed}
 use Rattle.guide_law.proofs.Faulty.{fault_is}
@@ -174,7 +174,7 @@ same_node ts f h r s e =
     ∙ sym s.is
 
 abbrev stray_made : (g : GuideTree) → ℕ → Segment → Fault
-stray_made g i s = record { position = i + 2; id = id_of s; loop_id = []; code = stray_code g s; slot = 0; elem = None }
+stray_made g i s = record { position = i + 2; id = segment_id s; loop_id = []; code = stray_code g s; slot = 0; elem = None }
 
 same_segment : (body : List Segment) (i j : ℕ) (s t : Segment) → slice_get body i ≡ Some s → slice_get body j ≡ Some t → i ≡ j → s ≡ t
 same_segment body i j s t e f h = let k : Some s ≡ Some t = sym e ∙ ap (slice_get body) h ∙ f in cc

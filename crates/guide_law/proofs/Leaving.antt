@@ -8,8 +8,7 @@ use Rattle.hub_kinds.specs.declared.codes.SegmentCode.TheVariants as ik304
 use Rattle.guide_tree.specs.declared.slot.Slot.{Slot}
 use Rattle.guide_tree.specs.Words.{Tree, Trees, segment, loop, no_trees, tree, min_of, max_of, Pair, Place, use_of, slot_in, slot_nth}
 use Rattle.guide_tree.specs.Words.{IsBehind, past_code, few_code, fault_of, missing, too_few, past, unused, entered, ended_in, ended}
-use Rattle.guide_tree.proofs.Among.{In}
-use Rattle.guide_tree.proofs.Pairs.{pair_is}
+use Rattle.guide_tree.proofs.ForAbove.{In, pair_is}
 use Rattle.guide_law.proofs.Cases.{pick}
 use Rattle.guide_law.proofs.Among.{in_left, in_right, in_cases}
 use Rattle.guide_law.proofs.Gaps.{use_in}

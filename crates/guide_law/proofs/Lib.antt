@@ -1,4 +1,5 @@
 pub mod Cases
+pub mod ForAbove
 pub mod Residual
 mod Entering
 mod Stepping

@@ -5,8 +5,7 @@ use Rattle.guide_tree.specs.declared.slot.Slot.{Slot}
 use Rattle.guide_tree.specs.Words.{Segment, fits, Trees, Given, Derives, Place, use_of, slot_at, Follows, MayCome, FitsAt, IsPlacing}
 use Rattle.guide_tree.specs.Words.{IsPlaceOrBeginning, IsAmbiguousAt, numbers_of}
 use Rattle.guide_law.proofs.Residual.{AllTriggered, After, IsMetFrom, IsMet}
-use Rattle.guide_tree.proofs.Ambiguous.{ordered}
-use Rattle.guide_tree.proofs.FitBoth.{fits_both}
+use Rattle.guide_tree.proofs.ForAbove.{ordered, fits_both}
 use Rattle.guide_law.proofs.Deciding.{place_same}
 use Rattle.guide_law.proofs.Entering.{derived_begins}
 use Rattle.guide_law.proofs.Stepping.{empty_derived, nothing_after, after_goes}

@@ -7,7 +7,7 @@ use Rattle.hub_kinds.specs.declared.codes.SegmentCode.{SegmentCode}
 use Rattle.hub_kinds.specs.declared.codes.SegmentCode.TheVariants as ik304
 use Rattle.guide_tree.specs.Words.{Tree, Trees, GuideTree, min_of, Segment, IsPlaceOrBeginning, Place, IsPlacing, node_at, loop_id_at}
 use Rattle.guide_tree.specs.Words.{IsBehind, few_code, step_faults, stray_fault, pass}
-use Rattle.guide_tree.proofs.Among.{In}
+use Rattle.guide_tree.proofs.ForAbove.{In}
 use Rattle.guide_law.proofs.Cases.{pick}
 use Rattle.guide_law.proofs.Among.{in_left, in_right, in_cases}
 use Rattle.guide_law.proofs.Residual.{AllTriggered}

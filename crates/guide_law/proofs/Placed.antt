@@ -7,7 +7,7 @@ use Rattle.guide_tree.specs.declared.slot.Slot.{Slot}
 use Rattle.guide_tree.specs.Words.{Tree, Trees, segment, loop, no_trees, tree, GuideTree, EachIn, EachNode, is_once, has_trigger}
 use Rattle.guide_tree.specs.Words.{is_triggered, IsWellFormed, IsPlaceOrBeginning, Segment, Place, IsPlacing}
 use Rattle.guide_law.specs.Law.{IsPlacedOneWay}
-use Rattle.guide_tree.proofs.Judged.{each_passes}
+use Rattle.guide_tree.proofs.ForAbove.{each_passes}
 use Rattle.guide_law.proofs.Residual.{HasTrigger, Triggered, AllTriggered}
 use Rattle.guide_law.proofs.Meeting.{HasNoRivals, one_place}
 

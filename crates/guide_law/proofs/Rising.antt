@@ -4,7 +4,7 @@ use Rattle.std.proofs.Common.{◌≡◌, ℕ, zero, suc, ◌+◌, ◌<◌, ◌�
 use Rattle.std.proofs.Common.{refl, sym, ap, ◌∙◌, subst, arith}
 use Rattle.guide_tree.specs.Words.{Trees, Segment, Pair, Place, use_of, IsNext, Follows, MayCome, IsPlacing, Begins, Has, IsFirstAt}
 use Rattle.guide_tree.specs.Words.{IsBefore, IsBehind}
-use Rattle.guide_tree.proofs.Pairs.{pair_is}
+use Rattle.guide_tree.proofs.ForAbove.{pair_is}
 use Rattle.guide_law.proofs.Cases.{pick}
 use Rattle.guide_law.proofs.Gaps.{use_in}
 

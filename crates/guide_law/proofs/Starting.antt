@@ -8,9 +8,7 @@ use Rattle.guide_tree.specs.Words.{into, start_of, starts}
 use Rattle.guide_law.proofs.Residual.{Triggered, AllTriggered}
 use Rattle.guide_law.proofs.Among.{in_left, in_right, in_cases, in_map, in_mapped}
 use Rattle.guide_law.proofs.Cases.{pick}
-use Rattle.guide_tree.proofs.Pairs.{pair_is}
-use Rattle.guide_tree.proofs.Among.{In}
-use Rattle.guide_tree.proofs.RivalPlaces.{Stand, stand_next}
+use Rattle.guide_tree.proofs.ForAbove.{pair_is, In, Stand, stand_next}
 
 -- the slot of a place, of which f gives those of the children
 abbrev pub slot_by : (ℕ → Place → Option Slot) → Place → Option Slot

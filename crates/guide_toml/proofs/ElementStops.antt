@@ -17,13 +17,13 @@ use Rattle.guide_toml.specs.declared.stops.Halt.{Halt}
 use Rattle.guide_toml.specs.declared.stops.Wanted.{Wanted}
 use Rattle.guide_toml.specs.declared.stops.Wanted.TheVariants as wanted
 use Rattle.guide_toml.specs.declared.element_text.Measure.{Measure}
-use Rattle.guide_toml.specs.Tokens.{groups_of, is_code, is_semicolon, tokens_of}
+use Rattle.guide_toml.specs.Tokens.{token_groups, is_code, is_semicolon, tokens_of}
 use Rattle.guide_toml.specs.Counts.{count_of}
-use Rattle.guide_toml.specs.ElementTexts.{Tokens, codes_of, code_list, component_of, components_of, element_in, element_of}
+use Rattle.guide_toml.specs.ElementTexts.{Tokens, codes_of, code_list, component_of, components_of_tokens, element_in, element_of_text}
 use Rattle.guide_toml.specs.ElementTexts.{element_of_tokens}
 use Rattle.guide_toml.specs.ElementTexts.{behind_first, components_behind, composite_of, measure_of, next_token}
 use Rattle.guide_toml.specs.ElementTexts.{no_more, reference_of, requirement_of}
-use Rattle.guide_toml.specs.ElementTexts.{row_of, simple_of, take_repeat, take_wide, type_of, unused_codes}
+use Rattle.guide_toml.specs.ElementTexts.{row_of_tokens, simple_of, take_repeat, take_wide, type_of, unused_codes}
 use Rattle.guide_toml.specs.ElementTexts.{used_component, used_element, alone}
 use Rattle.guide_toml.specs.ElementStops as stops
 
@@ -68,7 +68,7 @@ codes_same (t ∷ ts) =
     (λ h. rw h refl)
 
 row_same : (reference : List ℕ) (r : Requirement) (m : Measure) (ts : Tokens)
-    → is_ok (stops.row_read ts) ≡ is_some (row_of reference r m ts)
+    → is_ok (stops.row_read ts) ≡ is_some (row_of_tokens reference r m ts)
 row_same reference r m ts = codes_same (take_wide ts).1 ∙ sym (mapped _ (codes_of (take_wide ts).1))
 
 -- type, shortest and longest, and what follows
@@ -112,7 +112,7 @@ behind_component_same reference word us =
     (λ h. rw h (end_same (component.NotUsed reference) us))
     (λ h. by_option (requirement_of word) (λ n. rw (h, n) refl)
     (λ r s. rw (h, s) (measure_same wanted.ComponentType us stops.row_read _ (λ t. refl)
-    (λ m vs. row_same reference r m vs ∙ sym (then_some component.Simple (row_of reference r m vs))))))
+    (λ m vs. row_same reference r m vs ∙ sym (then_some component.Simple (row_of_tokens reference r m vs))))))
 
 component_same : (ts : Tokens) → is_ok (stops.component_read ts) ≡ is_some (component_of ts)
 unfolding component_of
@@ -121,10 +121,10 @@ component_same (t ∷ []) = by_option (reference_of t) (λ n. rw n refl) (λ x s
 component_same (t ∷ word ∷ us) =
     by_option (reference_of t) (λ n. rw n refl) (λ x s. rw s (behind_component_same x word us))
 
-components_same : (n : ℕ) (gs : List Tokens) → is_none (stops.components_stop n gs) ≡ is_some (components_of gs)
+components_same : (n : ℕ) (gs : List Tokens) → is_none (stops.components_stop n gs) ≡ is_some (components_of_tokens gs)
 components_same n [] = refl
 components_same n (g ∷ gs) =
-    later_same n (stops.component_read g) (component_of g) (stops.components_stop (n + 1) gs) (components_of gs) (component_same g)
+    later_same n (stops.component_read g) (component_of g) (stops.components_stop (n + 1) gs) (components_of_tokens gs) (component_same g)
     (components_same (n + 1) gs)
 
 -- only a composite has something after a semicolon
@@ -139,7 +139,7 @@ composite_by : (f : ℕ → List Component → Element) (n : ℕ) (ts behind : T
     → is_none (stops.head_stop (stops.then_components true (stops.at_end wanted.Components ts)) behind)
     ≡ is_some (no_more n ts ⊳ λ count. components_behind (behind_first behind) ⊳ λ cs. Some (f count cs))
 composite_by f n [] [] = refl
-composite_by f n [] (s ∷ ts) = components_same 1 (groups_of ts) ∙ sym (then_some (f n) (components_of (groups_of ts)))
+composite_by f n [] (s ∷ ts) = components_same 1 (token_groups ts) ∙ sym (then_some (f n) (components_of_tokens (token_groups ts)))
 composite_by f n (t ∷ ts) behind = refl
 
 composite_same : (reference : List ℕ) (r : Requirement) (ks behind : Tokens)
@@ -155,7 +155,7 @@ unfolding simple_of
 simple_same reference r ts =
     measure_same wanted.ElementType ts (λ m. stops.row_read (take_repeat m).1) _ (λ t. refl)
     (λ m us. row_same reference r m (take_repeat us).1
-    ∙ sym (then_some (λ row. element.Simple row (take_repeat us).0) (row_of reference r m (take_repeat us).1)))
+    ∙ sym (then_some (λ row. element.Simple row (take_repeat us).0) (row_of_tokens reference r m (take_repeat us).1)))
 
 -- what is after the requirement of an element that is used
 used_same : (reference : List ℕ) (r : Requirement) (us behind : Tokens)
@@ -180,7 +180,7 @@ element_same (t ∷ word ∷ us) behind =
     (end_same (element.NotUsed x) us)))
     (λ h. by_option (requirement_of word) (λ n. rw (h, n) refl) (λ r q. rw (h, q) (used_same x r us behind)))))
 
-pub stops_exactly : (text : List ℕ) → is_none (stops.element_stop text) ≡ is_some (element_of text)
+pub stops_exactly : (text : List ℕ) → is_none (stops.element_stop text) ≡ is_some (element_of_text text)
 stops_exactly text =
     let ts = tokens_of text in
     element_same (take (position_or_len is_semicolon ts) ts) (drop (position_or_len is_semicolon ts) ts)

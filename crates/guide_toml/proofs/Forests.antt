@@ -15,26 +15,26 @@ use Rattle.guide_tree.specs.declared.node.Node.{Node}
 use Rattle.std.specs.Prelude.{string_bytes}
 use Rattle.toml_keys.specs.Refusals.{missing, unknown, wrong_kind}
 use Rattle.guide_toml.specs.Answers.{FailsAt}
-use Rattle.guide_toml.specs.Guides.{nodes_in, node_in, inner_in, list_in}
-use Rattle.guide_toml.specs.Refused.{Refused, ◌⊳◌, behind}
+use Rattle.guide_toml.specs.Guides.{nodes_in, node_by_table, inner_nodes, node_list}
+use Rattle.guide_toml.specs.Refused.{Refused, ◌⊳◌, number_after}
 use Rattle.guide_toml.specs.declared.fault.GuideFileFault.{GuideFileFault}
 use Rattle.guide_toml.specs.declared.fault.GuideFileFault.TheVariants as fault
 
 abbrev pub list_at : (first : ℕ) → Option Data → Result Trees Refused
 list_at first None = Ok no_trees
-list_at first (Some d) = list_in first d
+list_at first (Some d) = node_list first d
 
 at_key : (first : ℕ) (o : Ordering) (r : Result Trees Refused) (a : Option Data) (d : Data) → r ≡ list_at first a
-    → match_ordering o r (list_in first d) r ≡ list_at first (match_ordering o a (Some d) a)
+    → match_ordering o r (node_list first d) r ≡ list_at first (match_ordering o a (Some d) a)
 at_key first Less r a d e = e
 at_key first Equal r a d e = refl
 at_key first Greater r a d e = e
 
 -- what stands at `nodes` is what is read
-pub inner_is : (first : ℕ) (ms : Members) → inner_in first ms ≡ list_at first (get_member (codes "nodes") ms)
+pub inner_is : (first : ℕ) (ms : Members) → inner_nodes first ms ≡ list_at first (get_member (codes "nodes") ms)
 inner_is first no_members = refl
 inner_is first (member k d ms) =
-    at_key first (slice_cmp nat_cmp (codes "nodes") k) (inner_in first ms) (get_member (codes "nodes") ms) d (inner_is first ms)
+    at_key first (slice_cmp nat_cmp (codes "nodes") k) (inner_nodes first ms) (get_member (codes "nodes") ms) d (inner_is first ms)
 
 abbrev pub depth_at : Option Data → ℕ
 depth_at None = 0
@@ -58,7 +58,7 @@ item_depth [] i d h = absurd (omega arith)
 item_depth (v ∷ vs) zero d h = omega arith
 item_depth (v ∷ vs) (suc i) d h = let r = item_depth vs i d (omega arith) in omega arith
 
-pub no_list : (first : ℕ) (d : Data) → None ≡ as_array d → list_in first d ≡ Ok no_trees
+pub no_list : (first : ℕ) (d : Data) → None ≡ as_array d → node_list first d ≡ Ok no_trees
 no_list first (string s) e = refl
 no_list first (integer z) e = refl
 no_list first (float x) e = refl
@@ -67,7 +67,7 @@ no_list first (datetime t) e = refl
 no_list first (array ds) e = cc
 no_list first (table ms) e = refl
 
-pub that_list : (first : ℕ) (d : Data) (ds : Items) → Some ds ≡ as_array d → nodes_in first ds ≡ list_in first d
+pub that_list : (first : ℕ) (d : Data) (ds : Items) → Some ds ≡ as_array d → nodes_in first ds ≡ node_list first d
 that_list first (string s) ds e = cc
 that_list first (integer z) ds e = cc
 that_list first (float x) ds e = cc
@@ -108,23 +108,23 @@ more_read done t (Err e) = refl
 
 -- a node, and those after it
 abbrev pub node_first : ℕ → Items → Result Tree Refused → Result Trees Refused
-node_first n ds r = r ⊳ λ t. nodes_in (behind n (count_in t)) ds ⊳ λ ts. Ok (tree t ts)
+node_first n ds r = r ⊳ λ t. nodes_in (number_after n (count_in t)) ds ⊳ λ ts. Ok (tree t ts)
 
 -- one node more
 pub node_added : (n : ℕ) (done : List Tree) (t : Tree) (d : Data) (ds : Items) (all : Result Trees Refused)
-    → node_in n d ≡ Ok t → with_front done (nodes_in n (item d ds)) ≡ all
-    → with_front (done ++ t ∷ []) (nodes_in (behind n (count_in t)) ds) ≡ all
+    → node_by_table n d ≡ Ok t → with_front done (nodes_in n (item d ds)) ≡ all
+    → with_front (done ++ t ∷ []) (nodes_in (number_after n (count_in t)) ds) ≡ all
 node_added n done t d ds all e a =
-    more_read done t (nodes_in (behind n (count_in t)) ds)
+    more_read done t (nodes_in (number_after n (count_in t)) ds)
     ∙ sym (ap (λ (r : Result Tree Refused). with_front done (node_first n ds r)) e) ∙ a
 
 -- one that isn't read
 pub node_fails : (n : ℕ) (done : List Tree) (f : Refused) (d : Data) (ds : Items) (all : Result Trees Refused)
-    → node_in n d ≡ Err f → with_front done (nodes_in n (item d ds)) ≡ all → all ≡ Err f
+    → node_by_table n d ≡ Err f → with_front done (nodes_in n (item d ds)) ≡ all → all ≡ Err f
 node_fails n done f d ds all e a = sym a ∙ ap (λ (r : Result Tree Refused). with_front done (node_first n ds r)) e
 
 pub fault_stays : (n : ℕ) (done : List Tree) (f : GuideFileFault) (d : Data) (ds : Items) (all : Result Trees Refused)
-    → FailsAt f (node_in n d) → with_front done (nodes_in n (item d ds)) ≡ all → FailsAt f all
+    → FailsAt f (node_by_table n d) → with_front done (nodes_in n (item d ds)) ≡ all → FailsAt f all
 fault_stays n done fault.NotToml d ds all h a = h
 fault_stays n done (fault.Missing k slot) d ds all h a = node_fails n done (slot, missing k.now) d ds all h a
 fault_stays n done (fault.WrongKind k slot) d ds all h a = node_fails n done (slot, wrong_kind k.now) d ds all h a
@@ -132,7 +132,7 @@ fault_stays n done (fault.Unknown k slot) d ds all h a = node_fails n done (slot
 fault_stays n done (fault.Guide g) d ds all h a = h
 fault_stays n done fault.NoMemory d ds all h a = h
 
-pub no_table : (n : ℕ) (d : Data) → None ≡ as_table d → node_in n d ≡ Err (n, wrong_kind (codes "nodes"))
+pub no_table : (n : ℕ) (d : Data) → None ≡ as_table d → node_by_table n d ≡ Err (n, wrong_kind (codes "nodes"))
 no_table n (string s) e = refl
 no_table n (integer z) e = refl
 no_table n (float x) e = refl
@@ -165,12 +165,12 @@ map_push [] n = refl
 map_push (m ∷ ns) n = ap (λ (ts : List Tree). tree_view m ∷ ts) (map_push ns n)
 
 pub read_step : (done : List Node) (vs : List Value) (i k : ℕ) (v : Value) (n : Node) (new : List Node) (all : Result Trees Refused)
-    → i < length vs → v ≡ get_or vs i v → node_in k (view v) ≡ Ok (tree_view n) → new ≡ done ++ n ∷ []
+    → i < length vs → v ≡ get_or vs i v → node_by_table k (view v) ≡ Ok (tree_view n) → new ≡ done ++ n ∷ []
     → with_front (map tree_view done) (nodes_in k (items_view (drop i vs))) ≡ all
-    → with_front (map tree_view new) (nodes_in (behind k (count_in (tree_view n))) (items_view (drop (i + 1) vs))) ≡ all
+    → with_front (map tree_view new) (nodes_in (number_after k (count_in (tree_view n))) (items_view (drop (i + 1) vs))) ≡ all
 read_step done vs i k v n new all h e r p a =
     let rest = items_view (drop (i + 1) vs) in
-    let next = behind k (count_in (tree_view n)) in
+    let next = number_after k (count_in (tree_view n)) in
     let here : items_view (drop i vs) ≡ item (view v) rest =
     items_view-drop vs i v h ∙ ap (λ (x : Value). item (view x) rest) (sym e) in
     ap (λ (ns : List Node). with_front (map tree_view ns) (nodes_in next rest)) p
@@ -189,7 +189,7 @@ pub count_push : (ns : List Node) (n : Node) → node_count (nodes_view (ns ++ n
 count_push [] n = omega arith
 count_push (m ∷ ns) n = let e = count_push ns n in omega (arith, e)
 
-pub behind_more : (first a b : ℕ) → behind (behind first a) b ≡ behind first (a + b)
+pub behind_more : (first a b : ℕ) → number_after (number_after first a) b ≡ number_after first (a + b)
 behind_more first a b = omega arith
 
 pub none_read : (r : Result Trees Refused) → with_front [] r ≡ r

@@ -3,7 +3,7 @@ use Rattle.std.proofs.Common.{◌≡◌, ℕ, ◌+◌, ◌<◌, ◌≤◌, List,
 use Rattle.std.proofs.Common.{option_map, sym, ap, ◌∙◌, arith}
 use Rattle.std.proofs.lemmas.List.{drop_more, drop_all}
 use Rattle.guide_toml.specs.Entries.{position_of, positions_of}
-use Rattle.toml_keys.proofs.ReadSteps.{adds}
+use Rattle.toml_keys.proofs.ForAbove.{adds}
 
 two_digits : (ds : List ℕ) (from : ℕ) → from + 1 < length ds
     → drop from ds ≡ get_or ds from 0 ∷ get_or ds (from + 1) 0 ∷ drop (from + 2) ds

@@ -27,21 +27,23 @@ use Rattle.guide_toml.specs.declared.keys.TableKind.TheVariants as kind
 use Rattle.guide_toml.specs.declared.nodes.NodeKind.{NodeKind}
 use Rattle.guide_toml.specs.declared.nodes.NodeKind.TheVariants as node
 use Rattle.guide_toml.specs.Answers.{Answers}
-use Rattle.guide_toml.specs.ElementTexts.{Tokens, alone, component_of, components_behind, components_of, composite_of, element_in}
-use Rattle.guide_toml.specs.ElementTexts.{element_of, measure_of, next_token, no_more, reference_of, requirement_of, row_of}
+use Rattle.guide_toml.specs.ElementTexts.{Tokens, alone, component_of, components_behind, components_of_tokens, composite_of, element_in}
+use Rattle.guide_toml.specs.ElementTexts.{element_of_text, measure_of, next_token, no_more, reference_of, requirement_of, row_of_tokens}
 use Rattle.guide_toml.specs.ElementTexts.{simple_of, take_repeat, used_component, used_element}
 use Rattle.guide_toml.specs.Entries.{condition_of, pick_of}
-use Rattle.guide_toml.specs.Guides.{guide_of_table, inner_in, known, list_in, loop_of, node_by, node_in, node_kind, nodes_in}
-use Rattle.guide_toml.specs.Guides.{segment_of, top_of}
+use Rattle.guide_toml.specs.Guides.{guide_of_table, inner_nodes, known_keys, node_list, loop_of, node_by, node_by_table, node_kind}
+use Rattle.guide_toml.specs.Guides.{nodes_in}
+use Rattle.guide_toml.specs.Guides.{segment_of, guide_top}
 use Rattle.guide_toml.specs.Keys.{keys_of}
-use Rattle.guide_toml.specs.Refused.{Refused, ◌⊳◌ as ◌▷◌, at_slot, behind}
+use Rattle.guide_toml.specs.Refused.{Refused, ◌⊳◌ as ◌▷◌, at_slot, number_after}
 use Rattle.toml_keys.specs.Keys.{if_known, least_unknown}
 use Rattle.toml_keys.specs.Reads.{◌>>=◌}
 use Rattle.toml_keys.specs.Refusals.{Refusal, unknown, wrong_kind}
 use Rattle.guide_toml.specs.References.{HasReference, HasReferences, HasReferencesIn, IsReference, WritesReferences}
-use Rattle.toml_keys.specs.Tables.{◌>>=◌ as ◌⊳◌, asked, count_in as number_in, each_item, optional, required, required_of, some_word_in}
+use Rattle.toml_keys.specs.Tables.{◌>>=◌ as ◌⊳◌, asked, count_of_data as number_in, each_item, optional, required, required_of}
+use Rattle.toml_keys.specs.Tables.{some_word_in}
 use Rattle.guide_toml.specs.Values.{text_item, texts_in}
-use Rattle.guide_toml.specs.Tokens.{groups_of}
+use Rattle.guide_toml.specs.Tokens.{token_groups}
 
 abbrev ok : {A : Type 0} → A → Result A Refusal
 ok x = Ok x
@@ -81,11 +83,13 @@ reference_by false false t reference h e = let no : None ≡ Some reference = e 
 has_reference : (t reference : List ℕ) → reference_of t ≡ Some reference → IsReference reference
 has_reference t reference e = reference_by (bytes_eq t (codes "-")) (is_number 4 t) t reference refl e
 
-same_row : (reference : List ℕ) (req : Requirement) (m : Measure) (ts : Tokens) (row : SimpleRow) → row_of reference req m ts ≡ Some row
+same_row : (reference : List ℕ) (req : Requirement) (m : Measure) (ts : Tokens) (row : SimpleRow) → row_of_tokens reference req m ts
+    ≡ Some row
     → reference ≡ row.reference
 same_row reference req m ts row e = of_map _ _ row e (λ c is same. ap (λ (r : SimpleRow). r.reference) same)
 
-row_has : (reference : List ℕ) (req : Requirement) (m : Measure) (ts : Tokens) (row : SimpleRow) → row_of reference req m ts ≡ Some row
+row_has : (reference : List ℕ) (req : Requirement) (m : Measure) (ts : Tokens) (row : SimpleRow) → row_of_tokens reference req m ts
+    ≡ Some row
     → IsReference reference → IsReference row.reference
 row_has reference req m ts row e has = subst IsReference (same_row reference req m ts row e) has
 
@@ -104,7 +108,7 @@ used_component_has : (reference word : List ℕ) (ts : Tokens) (c : Component) �
 unfolding used_component
 used_component_has reference word ts c e has =
     of_step _ (requirement_of word) c e (λ req is_req e1. of_step _ (measure_of ts) c e1 (λ (m : Measure × Tokens) is_m e2.
-    of_step _ (row_of reference req m.0 m.1) c e2 (λ row is_row e3.
+    of_step _ (row_of_tokens reference req m.0 m.1) c e2 (λ row is_row e3.
     component_is (component.Simple row) c e3 (row_has reference req m.0 m.1 row is_row has))))
 
 component_by : (b : Bool) (reference word : List ℕ) (ts : Tokens) (c : Component)
@@ -124,18 +128,18 @@ component_has ts c e =
 none_of_any : {A : Type 0} (P : A → Type 0) (xs : List A) → Some [] ≡ Some xs → All P xs
 none_of_any P xs e = let same : [] ≡ xs = cc in subst (All P) same (All-nil P)
 
-components_have : (gs : List Tokens) (cs : List Component) → components_of gs ≡ Some cs → All HasReference cs
+components_have : (gs : List Tokens) (cs : List Component) → components_of_tokens gs ≡ Some cs → All HasReference cs
 components_have [] cs e = none_of_any HasReference cs e
 components_have (g ∷ gs) cs e =
     of_step _ (component_of g) cs e (λ c is_c e1.
-    of_map (λ (more : List Component). c ∷ more) (components_of gs) cs e1 (λ more is_more same.
+    of_map (λ (more : List Component). c ∷ more) (components_of_tokens gs) cs e1 (λ more is_more same.
     subst (All HasReference) same (All-cons HasReference c more (component_has g c is_c) (components_have gs more is_more))))
 
-behind_have : (behind : Option Tokens) (cs : List Component) → components_behind behind ≡ Some cs → All HasReference cs
+behind_have : (later : Option Tokens) (cs : List Component) → components_behind later ≡ Some cs → All HasReference cs
 behind_have None cs e = none_of_any HasReference cs e
-behind_have (Some ts) cs e = components_have (groups_of ts) cs e
+behind_have (Some ts) cs e = components_have (token_groups ts) cs e
 
-alone_is : (behind : Option Tokens) (o : Option Element) (x : Element) → alone behind o ≡ Some x → o ≡ Some x
+alone_is : (later : Option Tokens) (o : Option Element) (x : Element) → alone later o ≡ Some x → o ≡ Some x
 alone_is None o x e = e
 alone_is (Some ts) o x e = let no : None ≡ Some x = e in cc
 
@@ -144,64 +148,65 @@ simple_has : (reference : List ℕ) (req : Requirement) (ts : Tokens) (x : Eleme
 unfolding simple_of
 simple_has reference req ts x e has =
     of_step _ (measure_of ts) x e (λ (m : Measure × Tokens) is_m e1.
-    of_step _ (row_of reference req m.0 (take_repeat m.1).1) x e1 (λ row is_row e2.
+    of_step _ (row_of_tokens reference req m.0 (take_repeat m.1).1) x e1 (λ row is_row e2.
     element_is (element.Simple row (take_repeat m.1).0) x e2 (row_has reference req m.0 (take_repeat m.1).1 row is_row has)))
 
-composite_has : (reference : List ℕ) (req : Requirement) (ts : Tokens) (behind : Option Tokens) (x : Element)
-    → composite_of reference req ts behind ≡ Some x → IsReference reference → HasReferences x
+composite_has : (reference : List ℕ) (req : Requirement) (ts : Tokens) (later : Option Tokens) (x : Element)
+    → composite_of reference req ts later ≡ Some x → IsReference reference → HasReferences x
 unfolding composite_of
-composite_has reference req ts behind x e has =
+composite_has reference req ts later x e has =
     of_step _ (no_more (take_repeat ts).0 (take_repeat ts).1) x e (λ count is_count e1.
-    of_step _ (components_behind behind) x e1 (λ components is_components e2.
+    of_step _ (components_behind later) x e1 (λ components is_components e2.
     element_is (element.Composite (record { reference = reference; requirement = req; repeat = count; components = components })) x e2
-    (has, behind_have behind components is_components)))
+    (has, behind_have later components is_components)))
 
-used_by : (b : Bool) (reference : List ℕ) (req : Requirement) (ts all : Tokens) (behind : Option Tokens) (x : Element)
-    → (if b then composite_of reference req ts behind else alone behind (simple_of reference req all)) ≡ Some x → IsReference reference
+used_by : (b : Bool) (reference : List ℕ) (req : Requirement) (ts all : Tokens) (later : Option Tokens) (x : Element)
+    → (if b then composite_of reference req ts later else alone later (simple_of reference req all)) ≡ Some x → IsReference reference
     → HasReferences x
-used_by true reference req ts all behind x e has = composite_has reference req ts behind x e has
-used_by false reference req ts all behind x e has =
-    simple_has reference req all x (alone_is behind (simple_of reference req all) x e) has
+used_by true reference req ts all later x e has = composite_has reference req ts later x e has
+used_by false reference req ts all later x e has =
+    simple_has reference req all x (alone_is later (simple_of reference req all) x e) has
 
-used_has : (reference word : List ℕ) (ts : Tokens) (behind : Option Tokens) (x : Element) → used_element reference word ts behind ≡ Some x
+used_has : (reference word : List ℕ) (ts : Tokens) (later : Option Tokens) (x : Element) → used_element reference word ts later ≡ Some x
     → IsReference reference → HasReferences x
 unfolding used_element
-used_has reference word ts behind x e has =
+used_has reference word ts later x e has =
     of_step _ (requirement_of word) x e (λ req is_req e1. of_step _ (next_token ts) x e1 (λ (t : List ℕ × Tokens) is_t e2.
-    used_by (bytes_eq t.0 (codes "C")) reference req t.1 ts behind x e2 has))
+    used_by (bytes_eq t.0 (codes "C")) reference req t.1 ts later x e2 has))
 
-element_by : (b : Bool) (reference word : List ℕ) (ts : Tokens) (behind : Option Tokens) (x : Element)
-    → (if b then alone behind (no_more (element.NotUsed reference) ts) else used_element reference word ts behind) ≡ Some x
+element_by : (b : Bool) (reference word : List ℕ) (ts : Tokens) (later : Option Tokens) (x : Element)
+    → (if b then alone later (no_more (element.NotUsed reference) ts) else used_element reference word ts later) ≡ Some x
     → IsReference reference → HasReferences x
-element_by true reference word ts behind x e has =
-    element_is (element.NotUsed reference) x (no_more_is (element.NotUsed reference) x ts (alone_is behind _ x e)) has
-element_by false reference word ts behind x e has = used_has reference word ts behind x e has
+element_by true reference word ts later x e has =
+    element_is (element.NotUsed reference) x (no_more_is (element.NotUsed reference) x ts (alone_is later _ x e)) has
+element_by false reference word ts later x e has = used_has reference word ts later x e has
 
-element_in_has : (head : Tokens) (behind : Option Tokens) (x : Element) → element_in head behind ≡ Some x → HasReferences x
+element_in_has : (head : Tokens) (later : Option Tokens) (x : Element) → element_in head later ≡ Some x → HasReferences x
 unfolding element_in
-element_in_has head behind x e =
+element_in_has head later x e =
     of_step _ (next_token head) x e (λ (r : List ℕ × Tokens) is_r e1. of_step _ (reference_of r.0) x e1 (λ reference is_reference e2.
     of_step _ (next_token r.1) x e2 (λ (u : List ℕ × Tokens) is_u e3.
-    element_by (bytes_eq u.0 (codes "N")) reference u.0 u.1 behind x e3 (has_reference r.0 reference is_reference))))
+    element_by (bytes_eq u.0 (codes "N")) reference u.0 u.1 number_after x e3 (has_reference r.0 reference is_reference))))
 
-each_has : (ds : Items) (xs : List Element) → each_item (text_item element_of) ds ≡ Some xs → All HasReferences xs
+each_has : (ds : Items) (xs : List Element) → each_item (text_item element_of_text) ds ≡ Some xs → All HasReferences xs
 each_has no_items xs e = none_of_any HasReferences xs e
 each_has (item d ds) xs e =
-    option_and_then_some _ (text_item element_of d) xs e (λ x is_x e1.
-    of_map (λ (more : List Element). x ∷ more) (each_item (text_item element_of) ds) xs e1 (λ more is_more same.
-    option_and_then_some element_of (as_str d) x is_x (λ text is_text e2.
+    option_and_then_some _ (text_item element_of_text d) xs e (λ x is_x e1.
+    of_map (λ (more : List Element). x ∷ more) (each_item (text_item element_of_text) ds) xs e1 (λ more is_more same.
+    option_and_then_some element_of_text (as_str d) x is_x (λ text is_text e2.
     subst (All HasReferences) same (All-cons HasReferences x more (element_in_has _ _ x e2) (each_has ds more is_more)))))
 
-list_has : (d : Data) (xs : List Element) → texts_in element_of d ≡ Some xs → All HasReferences xs
+list_has : (d : Data) (xs : List Element) → texts_in element_of_text d ≡ Some xs → All HasReferences xs
 list_has d xs e = option_and_then_some _ (as_array d) xs e (λ ds is_ds e1. each_has ds xs e1)
 
 asked_has : (key : List ℕ) (o : Option (List Element)) (xs : List Element) → asked key o ≡ Ok xs → o ≡ Some xs
 asked_has key None xs e = let no : asked key None ≡ Ok xs = e in cc
 asked_has key (Some ys) xs e = let is : Ok ys ≡ Ok xs = e in cc
 
-required_has : (key : List ℕ) (o : Option Data) (xs : List Element) → required_of (texts_in element_of) key o ≡ Ok xs → All HasReferences xs
-required_has key None xs e = let no : required_of (texts_in element_of) key None ≡ Ok xs = e in cc
-required_has key (Some d) xs e = list_has d xs (asked_has key (texts_in element_of d) xs e)
+required_has : (key : List ℕ) (o : Option Data) (xs : List Element) → required_of (texts_in element_of_text) key o ≡ Ok xs
+    → All HasReferences xs
+required_has key None xs e = let no : required_of (texts_in element_of_text) key None ≡ Ok xs = e in cc
+required_has key (Some d) xs e = list_has d xs (asked_has key (texts_in element_of_text d) xs e)
 
 segment_has : (ms : Members) (s : Slot) → segment_of ms ≡ Ok s → All HasReferences s.elements
 unfolding segment_of
@@ -210,7 +215,7 @@ segment_has ms s e =
     of_ok _ (required number_in (codes "max") ms) s e2 (λ most is_most e3.
     of_ok _ (optional None (some_word_in 1 20) (codes "label") ms) s e3 (λ label is_label e4.
     of_ok _ (optional [] (texts_in pick_of) (codes "pick") ms) s e4 (λ picks is_picks e5.
-    of_ok _ (required (texts_in element_of) (codes "elements") ms) s e5 (λ elements is_elements e6.
+    of_ok _ (required (texts_in element_of_text) (codes "elements") ms) s e5 (λ elements is_elements e6.
     of_ok _ (optional [] (texts_in condition_of) (codes "conditions") ms) s e6 (λ conditions is_conditions e7.
     let same : elements ≡ s.elements = ap (λ (x : Slot). x.elements) (of_result _ s e7) in
     subst (All HasReferences) same (required_has (codes "elements") (get_member (codes "elements") ms) elements is_elements))))))))
@@ -250,7 +255,7 @@ by_kind : (k : NodeKind) (slot : ℕ) (ms : Members) (inner : Result Trees Refus
 by_kind node.Segment slot ms inner t within e =
     segment_node_has ms t (known_is (least_unknown (keys_of kind.Segment) ms) _ t (own_table slot _ t e))
 by_kind node.Loop slot ms inner t within e =
-    of_placed _ (at_slot slot (known kind.Loop ms (loop_of ms))) t e (λ l is_l e1.
+    of_placed _ (at_slot slot (known_keys kind.Loop ms (loop_of ms))) t e (λ l is_l e1.
     of_placed _ inner t e1 (λ ts is_ts e2. placed_tree (loop l ts) t e2 (tt, within ts is_ts)))
 by_kind node.Unclear slot ms inner t within e =
     let no : Err (wrong_kind (codes "seg")) ≡ Ok t = known_is (least_unknown (keys_of kind.Unclear) ms) _ t (own_table slot _ t e) in cc
@@ -268,12 +273,12 @@ mutual
   nodes_have : (n : ℕ) (ds : Items) (ts : Trees) → nodes_in n ds ≡ Ok ts → EachNode HasReferencesIn ts
   nodes_have n no_items ts e = placed_trees no_trees ts e tt
   nodes_have n (item d ds) ts e =
-      of_placed _ (node_in n d) ts e (λ t is_t e1. of_placed _ (nodes_in (behind n (count_in t)) ds) ts e1 (λ more is_more e2.
-      placed_trees (tree t more) ts e2 (node_has n d t is_t, nodes_have (behind n (count_in t)) ds more is_more)))
+      of_placed _ (node_by_table n d) ts e (λ t is_t e1. of_placed _ (nodes_in (number_after n (count_in t)) ds) ts e1 (λ more is_more e2.
+      placed_trees (tree t more) ts e2 (node_has n d t is_t, nodes_have (number_after n (count_in t)) ds more is_more)))
 
-  node_has : (n : ℕ) (d : Data) (t : Tree) → node_in n d ≡ Ok t → EachIn HasReferencesIn t
+  node_has : (n : ℕ) (d : Data) (t : Tree) → node_by_table n d ≡ Ok t → EachIn HasReferencesIn t
   node_has n (table ms) t e =
-      by_kind (node_kind ms) n ms (inner_in (behind n 1) ms) t (λ ts h. inner_has (behind n 1) ms ts h) e
+      by_kind (node_kind ms) n ms (inner_nodes (number_after n 1) ms) t (λ ts h. inner_has (number_after n 1) ms ts h) e
   node_has n (string s) t e = no_node n t e
   node_has n (integer z) t e = no_node n t e
   node_has n (float x) t e = no_node n t e
@@ -281,15 +286,15 @@ mutual
   node_has n (datetime x) t e = no_node n t e
   node_has n (array ds) t e = no_node n t e
 
-  inner_has : (n : ℕ) (ms : Members) (ts : Trees) → inner_in n ms ≡ Ok ts → EachNode HasReferencesIn ts
+  inner_has : (n : ℕ) (ms : Members) (ts : Trees) → inner_nodes n ms ≡ Ok ts → EachNode HasReferencesIn ts
   inner_has n no_members ts e = placed_trees no_trees ts e tt
   inner_has n (member key d ms) ts e =
-      elim (by_order (slice_cmp nat_cmp (codes "nodes") key) (inner_in n ms) (list_in n d) ts e) [
+      elim (by_order (slice_cmp nat_cmp (codes "nodes") key) (inner_nodes n ms) (node_list n d) ts e) [
         | inl h ↦ inner_has n ms ts h
         | inr h ↦ list_in_has n d ts h
       ]
 
-  list_in_has : (n : ℕ) (d : Data) (ts : Trees) → list_in n d ≡ Ok ts → EachNode HasReferencesIn ts
+  list_in_has : (n : ℕ) (d : Data) (ts : Trees) → node_list n d ≡ Ok ts → EachNode HasReferencesIn ts
   list_in_has n (array ds) ts e = nodes_have n ds ts e
   list_in_has n (table ms) ts e = placed_trees no_trees ts e tt
   list_in_has n (string s) ts e = placed_trees no_trees ts e tt
@@ -310,7 +315,7 @@ mutual
 
 guide_has : (ms : Members) (g : GuideTree) → guide_of_table ms ≡ Ok g → EachNode HasReferencesIn g.nodes
 guide_has ms g e =
-    of_placed _ (at_slot 0 (top_of ms)) g e (λ top is_top e1. of_placed _ (nodes_in 1 top.3) g e1 (λ trees is_trees e2.
+    of_placed _ (at_slot 0 (guide_top ms)) g e (λ top is_top e1. of_placed _ (nodes_in 1 top.3) g e1 (λ trees is_trees e2.
     let same : trees ≡ g.nodes = ap (λ (x : GuideTree). x.nodes) (of_placed_result _ g e2) in
     subst (EachNode HasReferencesIn) same (nodes_have 1 top.3 trees is_trees)))
 

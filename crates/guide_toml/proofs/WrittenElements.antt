@@ -17,7 +17,7 @@ use Rattle.guide_tree.specs.declared.element.Component.{Component}
 use Rattle.guide_tree.specs.declared.element.Component.TheVariants as component
 use Rattle.guide_tree.specs.declared.element.Element.{Element}
 use Rattle.guide_tree.specs.declared.element.Element.TheVariants as element
-use Rattle.guide_toml.specs.Tokens.{is_semicolon, is_code, groups_of}
+use Rattle.guide_toml.specs.Tokens.{is_semicolon, is_code, token_groups}
 use Rattle.guide_toml.specs.ElementTexts as read
 use Rattle.guide_toml.specs.Written as written
 use Rattle.guide_toml.proofs.WrittenRows.{and_both, row_parts, reference_back, requirement_back, measure_back, behind, row_back}
@@ -109,9 +109,9 @@ uncut ts h = ap read.element_of_tokens (sym (append-nil ts)) ∙ cut_there ts []
 
 -- the tokens of each component
 groups_back : (c : Component) (cs : List Component) → written.is_component c ≡ true → list_all written.is_component cs ≡ true
-    → groups_of (written.component_tokens c ++ written.components_tokens cs) ≡ map written.component_tokens (c ∷ cs)
+    → token_groups (written.component_tokens c ++ written.components_tokens cs) ≡ map written.component_tokens (c ∷ cs)
 groups_back c [] h hs =
-    ap groups_of (append-nil (written.component_tokens c))
+    ap token_groups (append-nil (written.component_tokens c))
     ∙ slice_split_none is_semicolon (written.component_tokens c) (no_semicolons (written.component_tokens c) (component_sound c h))
 groups_back c (d ∷ cs) h hs =
     let both = and_both (written.is_component d) (list_all written.is_component cs) hs in
@@ -120,7 +120,7 @@ groups_back c (d ∷ cs) h hs =
     ∙ ap (λ gs. written.component_tokens c ∷ gs) (groups_back d cs both.0 both.1)
 
 components_back : (cs : List Component) → list_all written.is_component cs ≡ true
-    → read.components_of (map written.component_tokens cs) ≡ Some cs
+    → read.components_of_tokens (map written.component_tokens cs) ≡ Some cs
 components_back [] h = refl
 components_back (c ∷ cs) h =
     let both = and_both (written.is_component c) (list_all written.is_component cs) h in
@@ -131,7 +131,7 @@ behind_back : (cs : List Component) → list_all written.is_component cs ≡ tru
 behind_back [] h = refl
 behind_back (c ∷ cs) h =
     let both = and_both (written.is_component c) (list_all written.is_component cs) h in
-    ap read.components_of (groups_back c cs both.0 both.1) ∙ components_back (c ∷ cs) h
+    ap read.components_of_tokens (groups_back c cs both.0 both.1) ∙ components_back (c ∷ cs) h
 
 begins_there : (cs : List Component) → position_or_len is_semicolon (written.components_tokens cs) ≡ 0
 begins_there [] = refl
@@ -186,10 +186,10 @@ solid_components (c ∷ cs) h =
     (solid_of (written.component_tokens c) (component_sound c both.0)) (solid_components cs both.1)
 
 read_tokens : (ts : read.Tokens) (e : Element) → 0 < length ts → list_all is_solid ts ≡ true → read.element_of_tokens ts ≡ Some e
-    → read.element_of (join_with_byte 32 ts) ≡ Some e
+    → read.element_of_text (join_with_byte 32 ts) ≡ Some e
 read_tokens ts e some solid is = ap read.element_of_tokens (tokens_back ts some solid) ∙ is
 
-pub element_back : (e : Element) → written.is_writable e ≡ true → read.element_of (written.element_text e) ≡ Some e
+pub element_back : (e : Element) → written.is_writable e ≡ true → read.element_of_text (written.element_text e) ≡ Some e
 element_back (element.NotUsed r) h =
     let sound = not_used_sound r h in
     read_tokens (written.not_used_tokens r) (element.NotUsed r) (omega arith) (solid_of (written.not_used_tokens r) sound)

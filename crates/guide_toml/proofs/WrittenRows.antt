@@ -101,7 +101,7 @@ abbrev pub behind : Bool → Option CodeList → read.Tokens
 behind w c = written.wide_tokens w ++ written.code_tokens c
 
 pub row_back : (row : SimpleRow) → written.are_listed_codes row.codes ≡ true
-    → read.row_of row.reference row.requirement (record { data_type = row.data_type; min = row.min; max = row.max })
+    → read.row_of_tokens row.reference row.requirement (record { data_type = row.data_type; min = row.min; max = row.max })
     (behind row.wide row.codes) ≡ Some row
 row_back row h =
     ap (λ w. option_map (λ c. record {

@@ -7,7 +7,7 @@ use Rattle.guide_toml.specs.declared.stops.ElementStop.{ElementStop}
 use Rattle.guide_toml.specs.declared.stops.Halt.{Halt}
 use Rattle.guide_toml.specs.declared.stops.Wanted.{Wanted}
 use Rattle.guide_toml.specs.declared.stops.Wanted.TheVariants as wanted
-use Rattle.guide_toml.specs.Tokens.{tokens_of, groups_of, is_code, is_semicolon}
+use Rattle.guide_toml.specs.Tokens.{tokens_of, token_groups, is_code, is_semicolon}
 use Rattle.guide_toml.specs.Counts.{count_of}
 use Rattle.guide_toml.specs.ElementTexts.{Tokens, reference_of, requirement_of, take_repeat, take_wide, type_of}
 
@@ -118,7 +118,7 @@ components_stop component (g ∷ gs) = stop_or component (component_read g) (com
 -- only a composite has something after a semicolon
 abbrev pub behind_stop : (is_composite : Bool) → Tokens → Option ElementStop
 behind_stop composite [] = None
-behind_stop true (semicolon ∷ ts) = components_stop 1 (groups_of ts)
+behind_stop true (semicolon ∷ ts) = components_stop 1 (token_groups ts)
 behind_stop false (semicolon ∷ ts) = stop_in 0 (halt (semicolon ∷ ts) wanted.End)
 
 abbrev pub head_stop : Result Bool Halt → Tokens → Option ElementStop

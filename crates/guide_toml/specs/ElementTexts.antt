@@ -18,7 +18,7 @@ use Rattle.guide_tree.specs.declared.element.Element.{Element}
 use Rattle.guide_tree.specs.declared.element.Element.TheVariants as element
 use Rattle.guide_toml.specs.declared.element_text.Measure.{Measure}
 use Rattle.toml_keys.specs.Reads.{◌>>=◌}
-use Rattle.guide_toml.specs.Tokens.{tokens_of, groups_of, is_code, is_semicolon}
+use Rattle.guide_toml.specs.Tokens.{tokens_of, token_groups, is_code, is_semicolon}
 use Rattle.guide_toml.specs.Counts.{count_of}
 
 abbrev pub Tokens : Type 0
@@ -100,8 +100,8 @@ measure_of ts = do
   Some (record { data_type = data_type; min = least; max = most }, b.1)
 
 -- `wide` and the codes
-abbrev pub row_of : List ℕ → Requirement → Measure → Tokens → Option SimpleRow
-row_of reference req m ts = option_map (λ c. record {
+abbrev pub row_of_tokens : List ℕ → Requirement → Measure → Tokens → Option SimpleRow
+row_of_tokens reference req m ts = option_map (λ c. record {
   reference = reference;
   requirement = req;
   data_type = m.data_type;
@@ -119,7 +119,7 @@ unfoldable pub used_component : List ℕ → List ℕ → Tokens → Option Comp
 used_component reference word ts = do
   req ← requirement_of word
   m ← measure_of ts
-  row ← row_of reference req m.0 m.1
+  row ← row_of_tokens reference req m.0 m.1
   Some (component.Simple row)
 
 unfoldable pub component_of : Tokens → Option Component
@@ -129,19 +129,19 @@ component_of ts = do
   u ← next_token r.1
   if bytes_eq u.0 (codes "N") then no_more (component.NotUsed reference) u.1 else used_component reference u.0 u.1
 
-abbrev pub components_of : List Tokens → Option (List Component)
-components_of [] = Some []
-components_of (g ∷ gs) = component_of g >>= λ c. option_map (λ cs. c ∷ cs) (components_of gs)
+abbrev pub components_of_tokens : List Tokens → Option (List Component)
+components_of_tokens [] = Some []
+components_of_tokens (g ∷ gs) = component_of g >>= λ c. option_map (λ cs. c ∷ cs) (components_of_tokens gs)
 
 -- a component between each two semicolons, where there is one
 abbrev pub components_behind : Option Tokens → Option (List Component)
 components_behind None = Some []
-components_behind (Some ts) = components_of (groups_of ts)
+components_behind (Some ts) = components_of_tokens (token_groups ts)
 
 unfoldable pub simple_of : List ℕ → Requirement → Tokens → Option Element
 simple_of reference req ts = do
   m ← measure_of ts
-  row ← row_of reference req m.0 (take_repeat m.1).1
+  row ← row_of_tokens reference req m.0 (take_repeat m.1).1
   Some (element.Simple row (take_repeat m.1).0)
 
 unfoldable pub composite_of : List ℕ → Requirement → Tokens → Option Tokens → Option Element
@@ -178,5 +178,5 @@ abbrev pub element_of_tokens : Tokens → Option Element
 element_of_tokens ts = element_in (take (position_or_len is_semicolon ts) ts) (behind_first (drop (position_or_len is_semicolon ts) ts))
 
 -- the row that a text writes
-abbrev pub element_of : List ℕ → Option Element
-element_of text = element_of_tokens (tokens_of text)
+abbrev pub element_of_text : List ℕ → Option Element
+element_of_text text = element_of_tokens (tokens_of text)

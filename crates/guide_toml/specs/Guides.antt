@@ -13,16 +13,16 @@ use Rattle.guide_tree.specs.declared.rows.Dependency.{Dependency}
 use Rattle.guide_tree.specs.Words.{Tree, Trees, segment, loop, no_trees, tree, GuideTree, count_in as size_of}
 use Rattle.toml_keys.specs.Refusals.{Refusal, wrong_kind}
 use Rattle.toml_keys.specs.Keys.{least_unknown, if_known}
-use Rattle.toml_keys.specs.Tables.{◌>>=◌, required, optional, word_in, some_word_in, count_in, tables_in, some_table}
+use Rattle.toml_keys.specs.Tables.{◌>>=◌, required, optional, word_in, some_word_in, count_of_data, tables_in, some_table}
 use Rattle.guide_toml.specs.declared.entry.Form.TheVariants as form
 use Rattle.guide_toml.specs.declared.keys.TableKind.{TableKind}
 use Rattle.guide_toml.specs.declared.keys.TableKind.TheVariants as kind
 use Rattle.guide_toml.specs.declared.nodes.NodeKind.{NodeKind}
 use Rattle.guide_toml.specs.declared.nodes.NodeKind.TheVariants as node
-use Rattle.guide_toml.specs.ElementTexts.{element_of}
+use Rattle.guide_toml.specs.ElementTexts.{element_of_text}
 use Rattle.guide_toml.specs.Entries.{pick_of, condition_of, pair_of, formed, segment_code_of, element_code_of}
 use Rattle.guide_toml.specs.Keys.{keys_of}
-use Rattle.guide_toml.specs.Refused.{Refused, ◌⊳◌, at_slot, behind}
+use Rattle.guide_toml.specs.Refused.{Refused, ◌⊳◌, at_slot, number_after}
 use Rattle.guide_toml.specs.Values.{group_in, texts_in, dependency_kind_in}
 
 abbrev pub label_in : Data → Option (List ℕ)
@@ -32,11 +32,11 @@ label_in d = word_in 1 20 d
 unfoldable pub segment_of : Members → Result Slot Refusal
 segment_of ms = do
   id ← required as_str (codes "seg") ms
-  least ← required count_in (codes "min") ms
-  most ← required count_in (codes "max") ms
+  least ← required count_of_data (codes "min") ms
+  most ← required count_of_data (codes "max") ms
   label ← optional None (some_word_in 1 20) (codes "label") ms
   picks ← optional [] (texts_in pick_of) (codes "pick") ms
-  elements ← required (texts_in element_of) (codes "elements") ms
+  elements ← required (texts_in element_of_text) (codes "elements") ms
   conditions ← optional [] (texts_in condition_of) (codes "conditions") ms
   Ok (record { number = 0; id = id; label = label; min = least; max = most; picks = picks; elements = elements; conditions = conditions })
 
@@ -44,8 +44,8 @@ segment_of ms = do
 unfoldable pub loop_of : Members → Result Loop Refusal
 loop_of ms = do
   id ← required (word_in 1 4) (codes "loop") ms
-  least ← required count_in (codes "min") ms
-  most ← required count_in (codes "max") ms
+  least ← required count_of_data (codes "min") ms
+  most ← required count_of_data (codes "max") ms
   nodes ← required tables_in (codes "nodes") ms
   Ok (record { number = 0; id = id; min = least; max = most })
 
@@ -57,18 +57,18 @@ node_kind ms = if has (codes "seg") ms
     then (if has (codes "loop") ms then node.Unclear else node.Segment)
     else (if has (codes "loop") ms then node.Loop else node.Unclear)
 
-abbrev pub known : {A : Type 0} → TableKind → Members → Result A Refusal → Result A Refusal
-known k ms read = if_known (least_unknown (keys_of k) ms) read
+abbrev pub known_keys : {A : Type 0} → TableKind → Members → Result A Refusal → Result A Refusal
+known_keys k ms read = if_known (least_unknown (keys_of k) ms) read
 
 abbrev pub segment_node : Members → Result Tree Refusal
-segment_node ms = known kind.Segment ms (segment_of ms >>= λ s. Ok (segment s))
+segment_node ms = known_keys kind.Segment ms (segment_of ms >>= λ s. Ok (segment s))
 
 -- a loop's own keys are judged before its nodes
 abbrev pub loop_node : (slot : ℕ) → Members → Result Trees Refused → Result Tree Refused
-loop_node slot ms inner = at_slot slot (known kind.Loop ms (loop_of ms)) ⊳ λ l. inner ⊳ λ ts. Ok (loop l ts)
+loop_node slot ms inner = at_slot slot (known_keys kind.Loop ms (loop_of ms)) ⊳ λ l. inner ⊳ λ ts. Ok (loop l ts)
 
 abbrev pub unclear_node : Members → Result Tree Refusal
-unclear_node ms = known kind.Unclear ms (Err (wrong_kind (codes "seg")))
+unclear_node ms = known_keys kind.Unclear ms (Err (wrong_kind (codes "seg")))
 
 abbrev pub node_by : NodeKind → (slot : ℕ) → Members → Result Trees Refused → Result Tree Refused
 node_by node.Segment slot ms inner = at_slot slot (segment_node ms)
@@ -79,21 +79,21 @@ abbrev mutual
   -- the nodes of a list of tables, numbered from the first on, each before what is in it
   pub nodes_in : (first : ℕ) → Items → Result Trees Refused
   nodes_in first no_items = Ok no_trees
-  nodes_in first (item d ds) = node_in first d ⊳ λ t. nodes_in (behind first (size_of t)) ds ⊳ λ ts. Ok (tree t ts)
+  nodes_in first (item d ds) = node_by_table first d ⊳ λ t. nodes_in (number_after first (size_of t)) ds ⊳ λ ts. Ok (tree t ts)
 
-  pub node_in : (slot : ℕ) → Data → Result Tree Refused
-  node_in slot (table ms) = node_by (node_kind ms) slot ms (inner_in (behind slot 1) ms)
-  node_in slot _ = Err (slot, wrong_kind (codes "nodes"))
+  pub node_by_table : (slot : ℕ) → Data → Result Tree Refused
+  node_by_table slot (table ms) = node_by (node_kind ms) slot ms (inner_nodes (number_after slot 1) ms)
+  node_by_table slot _ = Err (slot, wrong_kind (codes "nodes"))
 
   -- the nodes at the key `nodes`, once it is seen that they are tables
-  pub inner_in : (first : ℕ) → Members → Result Trees Refused
-  inner_in first no_members = Ok no_trees
-  inner_in first (member key d ms) =
-      match_ordering (slice_cmp nat_cmp (codes "nodes") key) (inner_in first ms) (list_in first d) (inner_in first ms)
+  pub inner_nodes : (first : ℕ) → Members → Result Trees Refused
+  inner_nodes first no_members = Ok no_trees
+  inner_nodes first (member key d ms) =
+      match_ordering (slice_cmp nat_cmp (codes "nodes") key) (inner_nodes first ms) (node_list first d) (inner_nodes first ms)
 
-  pub list_in : (first : ℕ) → Data → Result Trees Refused
-  list_in first (array ds) = nodes_in first ds
-  list_in first _ = Ok no_trees
+  pub node_list : (first : ℕ) → Data → Result Trees Refused
+  node_list first (array ds) = nodes_in first ds
+  node_list first _ = Ok no_trees
 
 unfoldable pub hl_of : Members → Result HlRule Refusal
 hl_of ms = do
@@ -105,14 +105,14 @@ unfoldable pub dependency_of : Members → Result Dependency Refusal
 dependency_of ms = do
   k ← required dependency_kind_in (codes "kind") ms
   slot ← required label_in (codes "slot") ms
-  position ← required count_in (codes "at") ms
+  position ← required count_of_data (codes "at") ms
   values ← required (texts_in (formed form.Code)) (codes "codes") ms
   target ← required label_in (codes "target") ms
-  element ← required count_in (codes "element") ms
+  element ← required count_of_data (codes "element") ms
   Ok (record { kind = k; slot = slot; at = position; codes = values; target = target; element = element })
 
 abbrev pub dependency_in : Data → Result Dependency Refusal
-dependency_in (table ms) = known kind.Dependency ms (dependency_of ms)
+dependency_in (table ms) = known_keys kind.Dependency ms (dependency_of ms)
 dependency_in _ = Err (wrong_kind (codes "depends"))
 
 abbrev pub dependencies_in : Items → Result (List Dependency) Refusal
@@ -143,12 +143,12 @@ head_of ms = do
 -- where `hl` is, its table
 abbrev pub hl_in : Option Members → Result (Option HlRule) Refusal
 hl_in None = Ok None
-hl_in (Some ms) = known kind.Hierarchy ms (hl_of ms) >>= λ rule. Ok (Some rule)
+hl_in (Some ms) = known_keys kind.Hierarchy ms (hl_of ms) >>= λ rule. Ok (Some rule)
 
 -- the top table's own keys, and then `hl` and `depends`; and the tables of the nodes
-unfoldable pub top_of : Members → Result (GuideHead × Option HlRule × List Dependency × Items) Refusal
-top_of ms = do
-  head ← known kind.Guide ms (head_of ms)
+unfoldable pub guide_top : Members → Result (GuideHead × Option HlRule × List Dependency × Items) Refusal
+guide_top ms = do
+  head ← known_keys kind.Guide ms (head_of ms)
   rule ← optional None some_table (codes "hl") ms
   rows ← optional no_items tables_in (codes "depends") ms
   nodes ← required tables_in (codes "nodes") ms
@@ -159,5 +159,5 @@ top_of ms = do
 -- the guide: the top table, `hl` and `depends`, and then the nodes, numbered from 1 on
 abbrev pub guide_of_table : Members → Result GuideTree Refused
 guide_of_table ms =
-    at_slot 0 (top_of ms) ⊳ λ top. nodes_in 1 top.3 ⊳ λ trees.
+    at_slot 0 (guide_top ms) ⊳ λ top. nodes_in 1 top.3 ⊳ λ trees.
     Ok (record { head = top.0; hl = top.1; depends = top.2; nodes = trees })

@@ -18,5 +18,5 @@ at_slot slot (Ok x) = Ok x
 at_slot slot (Err r) = Err (slot, r)
 
 -- the number after so many nodes, as far as 32 bits count
-abbrev pub behind : (first count : ℕ) → ℕ
-behind first count = min (first + count) GREATEST_NUMBER
+abbrev pub number_after : (first count : ℕ) → ℕ
+number_after first count = min (first + count) GREATEST_NUMBER

@@ -13,8 +13,8 @@ abbrev pub is_semicolon : List ℕ → Bool
 is_semicolon token = bytes_eq token (codes ";")
 
 -- the tokens between semicolons
-abbrev pub groups_of : List (List ℕ) → List (List (List ℕ))
-groups_of tokens = slice_split is_semicolon tokens
+abbrev pub token_groups : List (List ℕ) → List (List (List ℕ))
+token_groups tokens = slice_split is_semicolon tokens
 
 -- 0x21 to 0x7E but for `=`, `!` and `;`
 abbrev pub is_code_byte : ℕ → Bool

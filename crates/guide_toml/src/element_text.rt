@@ -1,7 +1,7 @@
 ghost use Rattle.std.specs.Prelude.{◌≡◌, Some, option_map};
 ghost use Rattle.toml_keys.specs.Reads.{Reads};
 ghost use Rattle.guide_toml.specs.Counts.{count_of};
-ghost use Rattle.guide_toml.specs.Tokens.{groups_of, tokens_of};
+ghost use Rattle.guide_toml.specs.Tokens.{token_groups, tokens_of};
 ghost use Rattle.guide_toml.specs.ElementTexts as texts;
 
 use crate::counts::count_of;
@@ -206,7 +206,7 @@ fn row_of(
     measure: Measure,
     tokens: &[Lent],
 ) -> Result<SimpleRow, TextFault>
-    ensures { Reads (λ x. x) result (texts.row_of reference requirement measure tokens.now) }
+    ensures { Reads (λ x. x) result (texts.row_of_tokens reference requirement measure tokens.now) }
 {
     let (wide, rest) = take_wide(tokens);
     let codes = codes_of(alloc, rest)?;
@@ -263,7 +263,7 @@ fn component_of(alloc: Global, tokens: &[Lent]) -> Result<Component, TextFault>
 
 /// The components that tokens write between semicolons.
 fn components_of(alloc: Global, tokens: &[Lent]) -> Result<Items<Component>, TextFault>
-    ensures { Reads (λ x. x) result (texts.components_of (groups_of tokens.now)) }
+    ensures { Reads (λ x. x) result (texts.components_of_tokens (token_groups tokens.now)) }
 {
     let mut components = Vec::new(alloc);
     let mut from = 0;
@@ -386,7 +386,7 @@ pub fn tokens_in(alloc: Global, text: &[u8]) -> Result<Vec<Lent<'_>>, TextFault>
 
 /// The row that a text writes.
 pub fn element_of(alloc: Global, text: &[u8]) -> Result<Element, TextFault>
-    ensures { Reads (λ x. x) result (texts.element_of text.now) }
+    ensures { Reads (λ x. x) result (texts.element_of_text text.now) }
 {
     let tokens = tokens_in(alloc, text)?;
     element_of_tokens(alloc, &tokens)

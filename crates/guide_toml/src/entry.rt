@@ -194,9 +194,9 @@ impl Entry for HlPair {
 }
 
 impl Entry for Element {
-    ghost use Rattle.guide_toml.specs.ElementTexts.{element_of};
+    ghost use Rattle.guide_toml.specs.ElementTexts.{element_of_text};
 
-    ghost reading = { element_of };
+    ghost reading = { element_of_text };
 
     fn read(alloc: Global, text: &[u8]) -> Result<Element, TextFault> {
         element_of(alloc, text)

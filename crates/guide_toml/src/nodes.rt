@@ -3,7 +3,7 @@ ghost use Rattle.toml.specs.Data.{table as table_data, items_depth, members_dept
 ghost use Rattle.toml.specs.View.{table_view, view, items_view};
 ghost use Rattle.guide_tree.specs.Words.{view as tree_view, nodes_view, count_in, node_count};
 ghost use Rattle.guide_toml.specs.Answers.{Gives, GivesAt, meaning_of};
-ghost use Rattle.guide_toml.specs.Refused.{at_slot, behind};
+ghost use Rattle.guide_toml.specs.Refused.{at_slot, number_after};
 ghost use Rattle.toml_keys.specs.Meanings.{FailsAs};
 ghost use Rattle.toml_keys.specs.Tables as tables;
 ghost use Rattle.guide_toml.specs.Guides as guides;
@@ -89,7 +89,7 @@ fn node_kind(table: &Table) -> NodeKind
 
 /// The list at `nodes`; an empty one where there is none.
 fn inner_of(table: &Table) -> &[Value]
-    ensures same { (first : ℕ) → guides.nodes_in first (items_view result.now) ≡ guides.inner_in first (table_view table.entry.now) }
+    ensures same { (first : ℕ) → guides.nodes_in first (items_view result.now) ≡ guides.inner_nodes first (table_view table.entry.now) }
     ensures smaller { items_depth (items_view result.now) ≤ members_depth (table_view table.entry.now) }
 {
     match value_at(table, "nodes") {
@@ -122,7 +122,7 @@ fn segment_at(alloc: Global, table: &Table, slot: u32) -> Result<Node, GuideFile
 }
 
 fn known_loop(alloc: Global, table: &Table) -> Result<Loop, GuideFileFault>
-    ensures { Gives (λ x. x) result (guides.known TableKind.Loop (table_view table.now) (guides.loop_of (table_view table.now))) }
+    ensures { Gives (λ x. x) result (guides.known_keys TableKind.Loop (table_view table.now) (guides.loop_of (table_view table.now))) }
 {
     refuse_unlisted(alloc, table, TableKind::Loop)?;
     loop_of(alloc, table)
@@ -146,10 +146,10 @@ fn loop_node(
     slot: u32,
     next: &mut u32,
 ) -> Result<Node, GuideFileFault>
-    requires { next.old ≡ behind slot 1 }
+    requires { next.old ≡ number_after slot 1 }
     ensures read { GivesAt tree_view result
-        (guides.loop_node slot (table_view table.now) (guides.inner_in (behind slot 1) (table_view table.now))) }
-    ensures next { IfOk result (λ node. next.new ≡ behind slot (count_in (tree_view node))) }
+        (guides.loop_node slot (table_view table.now) (guides.inner_nodes (number_after slot 1) (table_view table.now))) }
+    ensures next { IfOk result (λ node. next.new ≡ number_after slot (count_in (tree_view node))) }
 {
     let head = match known_loop(alloc, table) {
         Ok(head) => head,
@@ -163,8 +163,8 @@ fn loop_node(
 #[cycle(nodes)]
 #[tactic(auto, using(crate::proofs::Placing::fails_at))]
 fn node_of(alloc: Global, table: &Table, next: &mut u32) -> Result<Node, GuideFileFault>
-    ensures read { GivesAt tree_view result (guides.node_in next.old (table_data (table_view table.now))) }
-    ensures next { IfOk result (λ node. next.new ≡ behind next.old (count_in (tree_view node))) }
+    ensures read { GivesAt tree_view result (guides.node_by_table next.old (table_data (table_view table.now))) }
+    ensures next { IfOk result (λ node. next.new ≡ number_after next.old (count_in (tree_view node))) }
 {
     let slot = *next;
     *next = slot.saturating_add(1);
@@ -193,7 +193,7 @@ pub fn nodes_of(
     next: &mut u32,
 ) -> Result<Vec<Node>, GuideFileFault>
     ensures read { GivesAt (λ v. nodes_view v.items) result (guides.nodes_in next.old (items_view values.now)) }
-    ensures next { IfOk result (λ v. next.new ≡ behind next.old (node_count (nodes_view v.items))) }
+    ensures next { IfOk result (λ v. next.new ≡ number_after next.old (node_count (nodes_view v.items))) }
 {
     // read, its range is known
     let _first = *next;

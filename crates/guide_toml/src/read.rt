@@ -141,7 +141,7 @@ fn head_of(alloc: Global, table: &Table) -> Result<GuideHead, GuideFileFault>
 }
 
 fn known_head(alloc: Global, table: &Table) -> Result<GuideHead, GuideFileFault>
-    ensures { Gives (λ x. x) result (guides.known TableKind.Guide (table_view table.now) (guides.head_of (table_view table.now))) }
+    ensures { Gives (λ x. x) result (guides.known_keys TableKind.Guide (table_view table.now) (guides.head_of (table_view table.now))) }
 {
     refuse_unlisted(alloc, table, TableKind::Guide)?;
     head_of(alloc, table)
@@ -157,7 +157,7 @@ fn hl_of(alloc: Global, table: &Table) -> Result<HlRule, GuideFileFault>
 }
 
 fn known_hl(alloc: Global, table: &Table) -> Result<HlRule, GuideFileFault>
-    ensures { Gives (λ x. x) result (guides.known TableKind.Hierarchy (table_view table.now) (guides.hl_of (table_view table.now))) }
+    ensures { Gives (λ x. x) result (guides.known_keys TableKind.Hierarchy (table_view table.now) (guides.hl_of (table_view table.now))) }
 {
     refuse_unlisted(alloc, table, TableKind::Hierarchy)?;
     hl_of(alloc, table)
@@ -194,7 +194,7 @@ fn dependency_of(alloc: Global, table: &Table) -> Result<Dependency, GuideFileFa
 
 fn known_dependency(alloc: Global, table: &Table) -> Result<Dependency, GuideFileFault>
     ensures { Gives (λ x. x) result
-        (guides.known TableKind.Dependency (table_view table.now) (guides.dependency_of (table_view table.now))) }
+        (guides.known_keys TableKind.Dependency (table_view table.now) (guides.dependency_of (table_view table.now))) }
 {
     refuse_unlisted(alloc, table, TableKind::Dependency)?;
     dependency_of(alloc, table)
@@ -243,7 +243,7 @@ struct Top<'a> {
 
 #[tactic(auto, unfolding(crate::specs::Guides::top_of))]
 fn top_of<'a>(alloc: Global, table: &'a Table) -> Result<Top<'a>, GuideFileFault>
-    ensures { Gives (λ t. (t.head, t.hl, t.depends, items_view t.nodes.now)) result (guides.top_of (table_view table.entry.now)) }
+    ensures { Gives (λ t. (t.head, t.hl, t.depends, items_view t.nodes.now)) result (guides.guide_top (table_view table.entry.now)) }
 {
     let head = known_head(alloc, table)?;
     let rule = some_table_at(table, "hl")?;

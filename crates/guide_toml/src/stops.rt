@@ -1,7 +1,7 @@
 ghost use Rattle.std.specs.Prelude.{◌≡◌, Ok, Err, IfOk, [], codes, is_none, is_some, map};
 ghost use Rattle.guide_toml.specs.ElementTexts as texts;
 ghost use Rattle.guide_toml.specs.ElementStops as stops;
-ghost use Rattle.guide_toml.specs.Tokens.{groups_of};
+ghost use Rattle.guide_toml.specs.Tokens.{token_groups};
 
 use crate::counts::count_of;
 use crate::element_text::{take_repeat, take_wide, type_of};
@@ -230,7 +230,7 @@ fn stop_in<'a>(component: usize, halt: Halt<'a>) -> Option<ElementStop<'a>>
 
 /// The first component that stops, of those that tokens write between semicolons.
 fn components_stop<'a>(tokens: &[Lent<'a>]) -> Option<ElementStop<'a>>
-    ensures { result ≡ stops.components_stop 1 (groups_of tokens.now) }
+    ensures { result ≡ stops.components_stop 1 (token_groups tokens.now) }
 {
     let mut component = 1usize;
     let mut from = 0;
@@ -281,7 +281,7 @@ fn stop_of_tokens<'a>(tokens: &[Lent<'a>]) -> Option<ElementStop<'a>>
 #[tactic(auto, using(crate::proofs::ElementStops::stops_exactly))]
 pub fn element_stop(alloc: Global, text: &[u8]) -> Result<Option<ElementStop<'_>>, NoMemory>
     ensures stop { IfOk result (λ stop. stop ≡ stops.element_stop text.now) }
-    ensures read { IfOk result (λ stop. is_none stop ≡ is_some (texts.element_of text.now)) }
+    ensures read { IfOk result (λ stop. is_none stop ≡ is_some (texts.element_of_text text.now)) }
 {
     let tokens = tokens_of(alloc, text)?;
     Ok(stop_of_tokens(&tokens))

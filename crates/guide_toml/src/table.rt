@@ -69,7 +69,7 @@ pub fn text_at(alloc: Global, table: &Table, key: &'static str) -> Result<Text, 
 
 /// A number of 0 to 4,294,967,295.
 pub fn count_at(alloc: Global, table: &Table, key: &'static str) -> Result<u32, GuideFileFault>
-    ensures { Gives (λ x. x) result (tables.required tables.count_in key.now (table_view table.now)) }
+    ensures { Gives (λ x. x) result (tables.required tables.count_of_data key.now (table_view table.now)) }
 {
     Ok(required(alloc, table, key, &Count)?)
 }

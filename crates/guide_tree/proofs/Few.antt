@@ -7,8 +7,8 @@ use Rattle.std.proofs.lemmas.Bool.{and_parts, or_cases, or_parts, not-true, not_
 use Rattle.std.proofs.lemmas.Map.Steps.{length-le_from_distinct_below}
 use Rattle.guide_tree.specs.declared.slot.Slot.{Slot}
 use Rattle.guide_tree.specs.declared.slot.Pick.{Pick}
-use Rattle.guide_tree.specs.Bounds.{is_within, is_filled}
-use Rattle.guide_tree.specs.Conditions.{is_distinct, has_row, is_pick_of, position_of}
+use Rattle.guide_tree.specs.Bounds.{is_within, has_codes}
+use Rattle.guide_tree.specs.Conditions.{is_distinct, has_row, is_pick_of, pick_position}
 
 apart : (x : ℕ) (xs : List ℕ) → not (list_any (λ y. x == y) xs) ≡ true → AllByRecursion (λ y. (x == y) ≡ false) xs
 apart x [] h = tt
@@ -58,9 +58,9 @@ pub not_distinct : (s : Slot) (xs : List ℕ) → list_all (has_row s) xs ≡ tr
 not_distinct s xs h many = distinct_or_not xs (length s.elements) (is_distinct xs) refl h many
 
 pub picks_have_rows : (s : Slot) (picks : List Pick) → list_all (is_pick_of s) picks ≡ true
-    → list_all (has_row s) (map position_of picks) ≡ true
+    → list_all (has_row s) (map pick_position picks) ≡ true
 picks_have_rows s [] h = refl
 picks_have_rows s (p ∷ picks) h =
     let a = and_parts (is_pick_of s p) (list_all (is_pick_of s) picks) h in
-    let b = and_parts (has_row s p.position) (is_filled p.codes) a.0 in
-    ap (λ c. c && list_all (has_row s) (map position_of picks)) b.0 ∙ picks_have_rows s picks a.1
+    let b = and_parts (has_row s p.position) (has_codes p.codes) a.0 in
+    ap (λ c. c && list_all (has_row s) (map pick_position picks)) b.0 ∙ picks_have_rows s picks a.1

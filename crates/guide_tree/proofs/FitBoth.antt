@@ -9,7 +9,7 @@ use Rattle.std.specs.Str.{bytes_eq}
 use Rattle.guide_tree.specs.declared.slot.Slot.{Slot}
 use Rattle.guide_tree.specs.declared.slot.Pick.{Pick}
 use Rattle.hub_kinds.specs.Words.{contains_text}
-use Rattle.guide_tree.specs.Segments.{Segment, element_of, id_of, fits, share_text, agree, can_fit_both}
+use Rattle.guide_tree.specs.Segments.{Segment, element_at, segment_id, fits, share_text, agree, can_fit_both}
 use Rattle.guide_tree.proofs.Among.{any_found, found_any, all_at, each_all}
 
 bytes_eq-comm : (x y : List ℕ) → bytes_eq x y ≡ true → bytes_eq y x ≡ true
@@ -41,14 +41,14 @@ can_fit_both-comm s t h =
 
 -- a segment that two picks let through has an element by which they agree
 both_agree : (p q : Pick) (s : Segment) (t : Bool) → eqb p.position q.position ≡ t
-    → contains_text p.codes (element_of s p.position) ≡ true
-    → contains_text q.codes (element_of s q.position) ≡ true → agree p q ≡ true
+    → contains_text p.codes (element_at s p.position) ≡ true
+    → contains_text q.codes (element_at s q.position) ≡ true → agree p q ≡ true
 both_agree p q s false e h k = or_left (not (eqb p.position q.position)) (share_text p.codes q.codes) (ap not e)
 both_agree p q s true e h k =
     let same : p.position ≡ q.position = grind (arith, nat_tests) in
-    let y = any_found (λ t. bytes_eq t (element_of s q.position)) q.codes k in
-    let is : element_of s p.position ≡ y.one =
-    ap (element_of s) same ∙ sym ((bytes_eq-Decides y.one (element_of s q.position)).0 y.passes) in
+    let y = any_found (λ t. bytes_eq t (element_at s q.position)) q.codes k in
+    let is : element_at s p.position ≡ y.one =
+    ap (element_at s) same ∙ sym ((bytes_eq-Decides y.one (element_at s q.position)).0 y.passes) in
     or_right (not (eqb p.position q.position)) (share_text p.codes q.codes)
     (found_any (contains_text p.codes) q.codes y.one y.among (ap (contains_text p.codes) (sym is) ∙ h))
 
@@ -56,13 +56,13 @@ both_agree p q s true e h k =
 pub fits_both : (x y : Slot) (s : Segment) → fits x s ≡ true → fits y s ≡ true → can_fit_both x y ≡ true
 fits_both x y s f g =
     let a =
-    and_parts (bytes_eq x.id (id_of s)) (list_all (λ p. contains_text p.codes (element_of s p.position)) x.picks) f in
+    and_parts (bytes_eq x.id (segment_id s)) (list_all (λ p. contains_text p.codes (element_at s p.position)) x.picks) f in
     let b =
-    and_parts (bytes_eq y.id (id_of s)) (list_all (λ p. contains_text p.codes (element_of s p.position)) y.picks) g in
+    and_parts (bytes_eq y.id (segment_id s)) (list_all (λ p. contains_text p.codes (element_at s p.position)) y.picks) g in
     and_from (bytes_eq x.id y.id) (list_all (λ p. list_all (agree p) y.picks) x.picks)
-    ((bytes_eq-Decides x.id y.id).1 ((bytes_eq-Decides x.id (id_of s)).0 a.0
-    ∙ sym ((bytes_eq-Decides y.id (id_of s)).0 b.0)))
+    ((bytes_eq-Decides x.id y.id).1 ((bytes_eq-Decides x.id (segment_id s)).0 a.0
+    ∙ sym ((bytes_eq-Decides y.id (segment_id s)).0 b.0)))
     (each_all (λ p. list_all (agree p) y.picks) x.picks (λ p i. each_all (agree p) y.picks (λ q j.
     both_agree p q s (eqb p.position q.position) refl
-    (all_at (λ z. contains_text z.codes (element_of s z.position)) x.picks p a.1 i)
-    (all_at (λ z. contains_text z.codes (element_of s z.position)) y.picks q b.1 j))))
+    (all_at (λ z. contains_text z.codes (element_at s z.position)) x.picks p a.1 i)
+    (all_at (λ z. contains_text z.codes (element_at s z.position)) y.picks q b.1 j))))

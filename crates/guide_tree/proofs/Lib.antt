@@ -1,3 +1,4 @@
+pub mod ForAbove
 pub mod NodeViews
 pub mod NumberStep
 pub mod Behind

@@ -40,11 +40,11 @@ abbrev pub is_loop_id : List ℕ → Bool
 is_loop_id id = is_word 1 4 id
 
 -- some codes
-abbrev pub is_filled : List (List ℕ) → Bool
-is_filled texts = nat_le 1 (length texts)
+abbrev pub has_codes : List (List ℕ) → Bool
+has_codes texts = nat_le 1 (length texts)
 
 abbrev pub are_codes_bounded : CodeList → Bool
-are_codes_bounded c = is_filled c.used && option_map_or is_filled c.unused true
+are_codes_bounded c = has_codes c.used && option_map_or has_codes c.unused true
 
 abbrev pub is_row_bounded : SimpleRow → Bool
 is_row_bounded r = is_length_range r.min r.max && option_map_or are_codes_bounded r.codes true

@@ -11,7 +11,7 @@ use Rattle.guide_tree.specs.declared.slot.Pick.{Pick}
 use Rattle.guide_tree.specs.declared.rows.Dependency.{Dependency}
 use Rattle.guide_tree.specs.declared.rows.HlRule.{HlRule}
 use Rattle.guide_tree.specs.Tree.{Tree, Trees, segment, loop, no_trees, tree, find_slot, any_slot, GuideTree}
-use Rattle.guide_tree.specs.Bounds.{is_within, is_filled}
+use Rattle.guide_tree.specs.Bounds.{is_within, has_codes}
 
 -- stands there exactly once
 abbrev pub is_once : Slot → Bool
@@ -42,13 +42,13 @@ is_condition_of s c = nat_le 2 (length c.positions) && is_distinct c.positions &
 
 -- a position with a row, and some code
 abbrev pub is_pick_of : Slot → Pick → Bool
-is_pick_of s p = has_row s p.position && is_filled p.codes
+is_pick_of s p = has_row s p.position && has_codes p.codes
 
-abbrev pub position_of : Pick → ℕ
-position_of p = p.position
+abbrev pub pick_position : Pick → ℕ
+pick_position p = p.position
 
 abbrev pub are_picks_of : Slot → List Pick → Bool
-are_picks_of s picks = is_distinct (map position_of picks) && list_all (is_pick_of s) picks
+are_picks_of s picks = is_distinct (map pick_position picks) && list_all (is_pick_of s) picks
 
 abbrev pub has_label : List ℕ → Slot → Bool
 has_label label s = option_map_or (λ l. bytes_eq l label) s.label false

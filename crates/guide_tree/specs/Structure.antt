@@ -10,7 +10,7 @@ use Rattle.hub_kinds.specs.declared.codes.SegmentCode.TheVariants as ik304
 use Rattle.hub_kinds.specs.Words.{contains_text}
 use Rattle.guide_tree.specs.Tree.{Tree, Trees, segment, loop, no_trees, tree, GuideTree, node_number, min_of, max_of}
 use Rattle.guide_tree.specs.Tree.{any_slot}
-use Rattle.guide_tree.specs.Segments.{Segment, id_of, fits}
+use Rattle.guide_tree.specs.Segments.{Segment, segment_id, fits}
 use Rattle.guide_tree.specs.Places.{Pair, Place, use_of}
 
 -- the node that a place leads to
@@ -147,9 +147,9 @@ pub record IsShort (ts : Trees) (given : List (Option Place)) (end : ℕ) (f : F
 -- picks it, or it stands where none may
 abbrev pub stray_code : GuideTree → Segment → SegmentCode
 stray_code g s =
-    if any_slot (λ slot. bytes_eq slot.id (id_of s)) g.nodes
+    if any_slot (λ slot. bytes_eq slot.id (segment_id s)) g.nodes
     then (if any_slot (λ slot. fits slot s) g.nodes then ik304.OutOfSequence else ik304.UnexpectedSegment)
-    else (if contains_text g.head.dictionary (id_of s) then ik304.NotInSet else ik304.UnrecognizedSegment)
+    else (if contains_text g.head.dictionary (segment_id s) then ik304.NotInSet else ik304.UnrecognizedSegment)
 
 -- a segment that has no place
 pub record IsStray (g : GuideTree) (body : List Segment) (given : List (Option Place)) (f : Fault) : Type 0 where
@@ -157,7 +157,7 @@ pub record IsStray (g : GuideTree) (body : List Segment) (given : List (Option P
   pub segment : Segment
   pub there : slice_get body index ≡ Some segment
   pub unplaced : slice_get given index ≡ Some None
-  pub is : f ≡ record { position = index + 2; id = id_of segment; loop_id = []; code = stray_code g segment; slot = 0; elem = None }
+  pub is : f ≡ record { position = index + 2; id = segment_id segment; loop_id = []; code = stray_code g segment; slot = 0; elem = None }
 
 -- the faults of a body under its placing; end is the position after the body
 abbrev pub IsStructureFault : GuideTree → List Segment → List (Option Place) → (end : ℕ) → Fault → Type 0

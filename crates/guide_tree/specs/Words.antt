@@ -1,12 +1,12 @@
 -- The words of clauses of guide_tree: what its definitions are called, in one place.
 pub use Rattle.guide_tree.specs.Accepted.{IsAccepted}
 pub use Rattle.guide_tree.specs.Ambiguity.{AreRivals, IsAmbiguousAt, IsPlaceOrBeginning}
-pub use Rattle.guide_tree.specs.Bounds.{are_codes_bounded, envelope_ids, is_bounded, is_component_bounded, is_element_bounded, is_filled}
+pub use Rattle.guide_tree.specs.Bounds.{are_codes_bounded, envelope_ids, is_bounded, is_component_bounded, is_element_bounded, has_codes}
 pub use Rattle.guide_tree.specs.Bounds.{is_length_range, is_loop_bounded, is_loop_id, is_repeat, is_row_bounded, is_slot_bounded}
 pub use Rattle.guide_tree.specs.Bounds.{is_slot_id, is_use_range, is_within}
 pub use Rattle.guide_tree.specs.Conditions.{are_names_known, are_picks_of, has_label, has_row, has_trigger, is_condition_of}
 pub use Rattle.guide_tree.specs.Conditions.{is_conditioned, is_dependency_of, is_distinct, is_hierarchy_of, is_hierarchy_slot}
-pub use Rattle.guide_tree.specs.Conditions.{is_label_new, is_once, is_pick_of, is_slot_conditioned, is_triggered, labelled, position_of}
+pub use Rattle.guide_tree.specs.Conditions.{is_label_new, is_once, is_pick_of, is_slot_conditioned, is_triggered, labelled, pick_position}
 pub use Rattle.guide_tree.specs.Faults.{FailsAt, HasFault, IsBelow, IsFirstFault, IsWellFormed, order_of}
 pub use Rattle.guide_tree.specs.Fits.{fit_again, fit_behind, fit_from, fit_in, fit_next, fit_start, fit_starts}
 pub use Rattle.guide_tree.specs.Grammar.{Derives, Given, IsDerived, IsPart, joined}
@@ -22,7 +22,7 @@ pub use Rattle.guide_tree.specs.Rivals.{Numbers, against, against_each, against_
 pub use Rattle.guide_tree.specs.Rivals.{numbers_of, within, within_in}
 pub use Rattle.guide_tree.specs.Room.{room_left}
 pub use Rattle.guide_tree.specs.Rules.{first_failing, first_failing_in, keeps}
-pub use Rattle.guide_tree.specs.Segments.{Segment, agree, can_fit_both, element_of, fits, id_of, share_text}
+pub use Rattle.guide_tree.specs.Segments.{Segment, agree, can_fit_both, element_at, fits, segment_id, share_text}
 pub use Rattle.guide_tree.specs.Slots.{IsSound, has_slot_number, slot_numbered}
 pub use Rattle.guide_tree.specs.Structure.{Begins, Has, IsBefore, IsBehind, IsFirstAt, IsNowhere, IsPast, IsReportedAt, IsShort, IsStray}
 pub use Rattle.guide_tree.specs.Structure.{IsStructureFault, IsThere, few_code, first_id, innermost, loop_id_at, node_at, node_fault}

@@ -2,7 +2,7 @@ ghost use Rattle.std.specs.Prelude.{◌≡◌};
 ghost use Rattle.std.specs.List.{list_all};
 ghost use Rattle.hub_kinds.specs.Words.{contains_text};
 ghost use Rattle.guide_tree.specs.Bounds.{is_within, is_use_range, is_length_range, envelope_ids};
-ghost use Rattle.guide_tree.specs.Bounds.{is_slot_id, is_loop_id, is_filled, are_codes_bounded, is_row_bounded};
+ghost use Rattle.guide_tree.specs.Bounds.{is_slot_id, is_loop_id, has_codes, are_codes_bounded, is_row_bounded};
 ghost use Rattle.guide_tree.specs.Bounds.{is_component_bounded, is_element_bounded, is_repeat, is_slot_bounded};
 ghost use Rattle.guide_tree.specs.Bounds.{is_loop_bounded, is_bounded};
 ghost use Rattle.guide_tree.specs.View.{view};
@@ -59,7 +59,7 @@ fn is_loop_id(id: &[u8]) -> bool
 
 /// Whether there is some text.
 pub fn is_filled(texts: &[Text]) -> bool
-    ensures { result ≡ is_filled texts.now }
+    ensures { result ≡ has_codes texts.now }
 {
     1 <= texts.len()
 }

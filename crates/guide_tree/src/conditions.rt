@@ -1,7 +1,7 @@
 ghost use Rattle.std.specs.Prelude.{◌≡◌, ◌==◌, ◌&&◌, map};
 ghost use Rattle.std.specs.List.{list_all, list_any};
 ghost use Rattle.guide_tree.specs.Conditions.{is_once, has_trigger, is_triggered, is_distinct, has_row};
-ghost use Rattle.guide_tree.specs.Conditions.{is_condition_of, is_pick_of, position_of, are_picks_of};
+ghost use Rattle.guide_tree.specs.Conditions.{is_condition_of, is_pick_of, pick_position, are_picks_of};
 ghost use Rattle.guide_tree.specs.View.{view, nodes_view};
 
 use crate::bounds::is_filled;
@@ -91,7 +91,7 @@ fn is_pick_of(slot: &Slot, pick: &Pick) -> bool
 }
 
 fn has_position(picks: &[Pick], position: u32) -> bool
-    ensures { result ≡ list_any (λ other. position == other) (map position_of picks.now) }
+    ensures { result ≡ list_any (λ other. position == other) (map pick_position picks.now) }
 {
     for pick in picks {
         if position == pick.position {
@@ -102,7 +102,7 @@ fn has_position(picks: &[Pick], position: u32) -> bool
 }
 
 fn are_positions_distinct(picks: &[Pick]) -> bool
-    ensures { result ≡ is_distinct (map position_of picks.now) }
+    ensures { result ≡ is_distinct (map pick_position picks.now) }
 {
     for i in 0..picks.len() {
         if has_position(&picks[i + 1..], picks[i].position) {

@@ -10,7 +10,7 @@ use Rattle.hub_kinds.specs.declared.fault.Fault.{Fault}
 use Rattle.hub_kinds.specs.declared.codes.ElementCode.{ElementCode}
 use Rattle.hub_kinds.specs.declared.codes.ElementCode.TheVariants as ik403
 use Rattle.guide_tree.specs.declared.rows.HlRule.{HlRule}
-use Rattle.elem_rules.proofs.Members.{no_member, contains_one, one_contains}
+use Rattle.elem_rules.proofs.ForAbove.{no_member, contains_one, one_contains}
 use Rattle.loop_match.specs.PlacedSegments.{PlacedSegment}
 use Rattle.hl_check.specs.Hierarchy.{segments_of, hl_fault, IsHlFault, IsFaultAmong}
 use Rattle.hl_check.specs.Hierarchy.{is_number_wrong, is_parent_wrong, is_level_wrong, is_child_wrong}

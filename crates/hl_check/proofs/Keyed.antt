@@ -13,7 +13,7 @@ use Rattle.hub_kinds.specs.Words.{key_of, AreRising, IsKeyedBy}
 use Rattle.guide_tree.specs.declared.rows.HlRule.{HlRule}
 use Rattle.guide_tree.specs.Words.{Trees, Segment, Place}
 use Rattle.loop_match.specs.PlacedSegments.{PlacedSegment, placed_segments}
-use Rattle.loop_match.proofs.Standing.{one_placed}
+use Rattle.loop_match.proofs.ForAbove.{one_placed}
 use Rattle.hl_check.specs.Hierarchy.{is_hl, hls_of, hl_fault, IsHlFault, IsFaultAmong}
 use Rattle.hl_check.specs.Found.{found_faults}
 use Rattle.hl_check.proofs.Faulty.{members}

@@ -14,12 +14,12 @@ use Rattle.x12_bytes.specs.declared.delims.Delims.{Delims}
 use Rattle.hub_kinds.specs.Words.{by_text}
 use Rattle.elem_rules.specs.Divided.{is_filled}
 use Rattle.guide_tree.specs.Words.{Segment}
-use Rattle.hl_check.specs.Hierarchy.{numbered, hierarchical_id_of, parent_id_of, level_of, is_named}
+use Rattle.hl_check.specs.Hierarchy.{first_numbered, hierarchical_id_of, parent_id_of, level_of, is_named}
 use Rattle.hl_check.specs.Known.{KnowsLevels, KnowsNamed}
 use denote.Ref.{Bor}
 
 numbered_more : (q : List ℕ) (hls : List Segment) (h : Segment)
-    → numbered q (hls ++ h ∷ []) ≡ option_or (numbered q hls) (cond (bytes_eq (hierarchical_id_of h) q) (Some h) None)
+    → first_numbered q (hls ++ h ∷ []) ≡ option_or (first_numbered q hls) (cond (bytes_eq (hierarchical_id_of h) q) (Some h) None)
 numbered_more q hls h = find-append (λ x. bytes_eq (hierarchical_id_of x) q) hls (h ∷ [])
 
 abbrev level_in : Option (Bor (List ℕ)) → Option (List ℕ)
@@ -46,9 +46,9 @@ kept false None h some = refl
 -- where a number is this one, the map knows what it knows of this one
 same_found : (levels : BTreeMap (Bor (List ℕ)) (Bor (List ℕ))) (hls : List Segment) (number : Bor (List ℕ)) (q : List ℕ)
     → KnowsLevels levels hls → bytes_eq number.now q ≡ true
-    → option_map level_of (numbered q hls) ≡ level_in (get by_text levels number)
+    → option_map level_of (first_numbered q hls) ≡ level_in (get by_text levels number)
 same_found levels hls number q knows e =
-    sym (knows number ∙ ap (λ (n : List ℕ). option_map level_of (numbered n hls)) ((bytes_decides number.now q).0 e))
+    sym (knows number ∙ ap (λ (n : List ℕ). option_map level_of (first_numbered n hls)) ((bytes_decides number.now q).0 e))
 
 pub level_more : (old new : BTreeMap (Bor (List ℕ)) (Bor (List ℕ))) (number level : Bor (List ℕ)) (hls : List Segment) (h : Segment)
     → hierarchical_id_of h ≡ number.now → level_of h ≡ level.now → get by_text old number ≡ None
@@ -57,9 +57,9 @@ pub level_more : (old new : BTreeMap (Bor (List ℕ)) (Bor (List ℕ))) (number 
 level_more old new number level hls h n l none added knows = λ q.
     let is : Bool = bytes_eq number.now q.now in
     ap level_in (added q ∙ ap (λ (b : Bool). cond b (Some level) (get by_text old q)) (is_eq-slice_cmp number.now q.now))
-    ∙ put is (get by_text old q) level (numbered q.now hls) h
-    (λ e. no_level (numbered q.now hls) (same_found old hls number q.now knows e ∙ ap level_in none)) l (knows q)
-    ∙ ap (λ (m : List ℕ). option_map level_of (option_or (numbered q.now hls) (cond (bytes_eq m q.now) (Some h) None))) (sym n)
+    ∙ put is (get by_text old q) level (first_numbered q.now hls) h
+    (λ e. no_level (first_numbered q.now hls) (same_found old hls number q.now knows e ∙ ap level_in none)) l (knows q)
+    ∙ ap (λ (m : List ℕ). option_map level_of (option_or (first_numbered q.now hls) (cond (bytes_eq m q.now) (Some h) None))) (sym n)
     ∙ ap (option_map level_of) (sym (numbered_more q.now hls h))
 
 is_some_of : (o : Option Segment) (p : Option (Bor (List ℕ))) → option_map level_of o ≡ level_in p → is_none p ≡ false
@@ -73,9 +73,9 @@ pub level_kept : (levels : BTreeMap (Bor (List ℕ)) (Bor (List ℕ))) (number :
     → KnowsLevels levels hls → KnowsLevels levels (hls ++ h ∷ [])
 level_kept levels number hls h n some knows = λ q.
     knows q
-    ∙ ap (option_map level_of) (kept (bytes_eq number.now q.now) (numbered q.now hls) h
-    (λ e. is_some_of (numbered q.now hls) (get by_text levels number) (same_found levels hls number q.now knows e) some))
-    ∙ ap (λ (m : List ℕ). option_map level_of (option_or (numbered q.now hls) (cond (bytes_eq m q.now) (Some h) None))) (sym n)
+    ∙ ap (option_map level_of) (kept (bytes_eq number.now q.now) (first_numbered q.now hls) h
+    (λ e. is_some_of (first_numbered q.now hls) (get by_text levels number) (same_found levels hls number q.now knows e) some))
+    ∙ ap (λ (m : List ℕ). option_map level_of (option_or (first_numbered q.now hls) (cond (bytes_eq m q.now) (Some h) None))) (sym n)
     ∙ ap (option_map level_of) (sym (numbered_more q.now hls h))
 
 chosen : (b f c : Bool) → f ≡ true → cond b true c ≡ ((f && b) || c)

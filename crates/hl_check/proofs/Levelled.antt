@@ -14,7 +14,7 @@ use Rattle.x12_bytes.specs.declared.delims.Delims.{Delims}
 use Rattle.guide_tree.specs.declared.rows.HlRule.{HlRule}
 use Rattle.guide_tree.specs.Words.{Segment}
 use Rattle.elem_rules.specs.Divided.{is_filled}
-use Rattle.hl_check.specs.Hierarchy.{hierarchical_id_of, parent_id_of, level_of, child_of, numbered, is_parent_wrong, is_listed}
+use Rattle.hl_check.specs.Hierarchy.{hierarchical_id_of, parent_id_of, level_of, child_of, first_numbered, is_parent_wrong, is_listed}
 use Rattle.hl_check.specs.Hierarchy.{is_level_wrong, is_named, IsHierarchyWhole}
 use Rattle.hl_check.specs.Levels.{IsBelow, IsPlaced, HasChildren, LooksWhole, LooksWholeTo}
 
@@ -72,7 +72,7 @@ one_number hls few counted j k g h gj hk same =
 
 -- no earlier HL has the number of a later one
 number_new : (hls : List Segment) → length hls < 4294967296 → AreCounted hls → (k : ℕ) (h : Segment) → slice_get hls k ≡ Some h
-    → numbered (hierarchical_id_of h) (take k hls) ≡ None
+    → first_numbered (hierarchical_id_of h) (take k hls) ≡ None
 number_new hls few counted k h hk =
     none_found (λ g. bytes_eq (hierarchical_id_of g) (hierarchical_id_of h)) (take k hls) (λ j g e.
     let r = in_take k hls j g e in
@@ -90,7 +90,7 @@ right_number s f (Some x) same e t = cc
 
 -- the HL that an HL02 names is the first with that number
 parent_found : (rule : HlRule) (d : Delims) (hls : List Segment) → length hls < 4294967296 → AreCounted hls → (k : ℕ)
-    (parent level : List ℕ) (b : IsBelow rule d hls k parent level) → numbered parent (take k hls) ≡ Some b.above
+    (parent level : List ℕ) (b : IsBelow rule d hls k parent level) → first_numbered parent (take k hls) ≡ Some b.above
 parent_found rule d hls few counted k parent level b =
     one_found (λ g. bytes_eq (hierarchical_id_of g) parent) (take k hls) b.place b.above (to_take k hls b.place b.above b.there b.earlier)
     (own_text (hierarchical_id_of b.above) parent b.named) (λ j g e t.
@@ -103,7 +103,7 @@ empty_text d parent e = ap (is_filled d) e
 parent_right : (rule : HlRule) (d : Delims) (hls : List Segment) → length hls < 4294967296 → AreCounted hls → (k : ℕ) (h : Segment)
     → IsPlaced rule d hls k (parent_id_of h) (level_of h) → is_parent_wrong d (take k hls) h ≡ false
 parent_right rule d hls few counted k h (inl r) =
-    ap (λ (b : Bool). b && is_none (numbered (parent_id_of h) (take k hls))) (empty_text d (parent_id_of h) r.0)
+    ap (λ (b : Bool). b && is_none (first_numbered (parent_id_of h) (take k hls))) (empty_text d (parent_id_of h) r.0)
 parent_right rule d hls few counted k h (inr b) =
     ap (λ (o : Option Segment). is_filled d (parent_id_of h) && is_none o)
     (parent_found rule d hls few counted k (parent_id_of h) (level_of h) b)
@@ -112,7 +112,8 @@ parent_right rule d hls few counted k h (inr b) =
 level_right : (rule : HlRule) (d : Delims) (hls : List Segment) → length hls < 4294967296 → AreCounted hls → (k : ℕ) (h : Segment)
     → IsPlaced rule d hls k (parent_id_of h) (level_of h) → is_level_wrong rule d (take k hls) h ≡ false
 level_right rule d hls few counted k h (inl r) =
-    let above = option_map_or (λ p. not (is_listed rule (Some (level_of p)) (level_of h))) (numbered (parent_id_of h) (take k hls)) false in
+    let above = option_map_or (λ p. not (is_listed rule (Some (level_of p)) (level_of h))) (first_numbered (parent_id_of h)
+    (take k hls)) false in
     ap (λ (b : Bool). if b then above else not (is_listed rule None (level_of h))) (empty_text d (parent_id_of h) r.0)
     ∙ ap not r.1
 level_right rule d hls few counted k h (inr b) =
@@ -194,7 +195,7 @@ whole_if_looks rule d hls few looks k h hk =
     let n : length (take k hls) ≡ k = length-take-le k hls (omega (arith, l)) in
     let count : bytes_eq (hierarchical_id_of h) (decimal (length (take k hls) + 1)) ≡ true =
     own_text (hierarchical_id_of h) (decimal (length (take k hls) + 1)) (own.number ∙ ap (λ (m : ℕ). decimal (m + 1)) (sym n)) in (
-      right_number rule.sequential (is_filled d (hierarchical_id_of h)) (numbered (hierarchical_id_of h) (take k hls)) _
+      right_number rule.sequential (is_filled d (hierarchical_id_of h)) (first_numbered (hierarchical_id_of h) (take k hls)) _
           (number_new hls few counted k h hk) count,
       parent_right rule d hls few counted k h own.placed,
       level_right rule d hls few counted k h own.placed,

@@ -3,6 +3,7 @@ mod Viewing
 mod Walking
 mod Faulty
 mod Keyed
+pub mod ForAbove
 pub mod Whole
 mod NoneFound
 mod Worked

@@ -6,7 +6,7 @@ use Rattle.std.proofs.lemmas.Bool.{OnTrue_from, ne_eqb}
 use Rattle.x12_bytes.specs.declared.delims.Delims.{Delims}
 use Rattle.hub_kinds.specs.declared.fault.Fault.{Fault}
 use Rattle.guide_tree.specs.declared.rows.HlRule.{HlRule}
-use Rattle.elem_rules.proofs.Members.{no_member}
+use Rattle.elem_rules.proofs.ForAbove.{no_member}
 use Rattle.loop_match.specs.PlacedSegments.{PlacedSegment}
 use Rattle.hl_check.specs.Hierarchy.{segments_of, IsHierarchyWhole}
 use Rattle.hl_check.specs.Found.{found_faults}

@@ -13,7 +13,7 @@ use Rattle.hub_kinds.specs.declared.codes.ElementCode.TheVariants as ik403
 use Rattle.guide_tree.specs.declared.rows.HlRule.{HlRule}
 use Rattle.guide_tree.specs.Words.{Trees, GuideTree, Segment, Given, Place, slot_given}
 use Rattle.loop_match.specs.PlacedSegments.{PlacedSegment, placed_segments, as_given}
-use Rattle.loop_match.proofs.Leading.{placed_given}
+use Rattle.loop_match.proofs.ForAbove.{placed_given}
 use Rattle.hl_check.specs.Hierarchy.{is_hl, segments_of, hl_segments, hls_of, hl_fault}
 use Rattle.hl_check.specs.Hierarchy.{IsFaultAmong, IsHierarchyFault, IsHlWhole, IsHierarchyWhole}
 use Rattle.hl_check.proofs.Viewing.{filter_view}

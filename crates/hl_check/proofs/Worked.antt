@@ -18,7 +18,7 @@ use Rattle.guide_tree.specs.declared.node.Loop.{Loop}
 use Rattle.guide_tree.specs.declared.rows.HlPair.{HlPair}
 use Rattle.guide_tree.specs.declared.rows.HlRule.{HlRule}
 use Rattle.guide_tree.specs.Words.{Trees, segment, loop, no_trees, tree, GuideTree, placing_of, Segment}
-use Rattle.elem_rules.proofs.Members.{no_member}
+use Rattle.elem_rules.proofs.ForAbove.{no_member}
 use Rattle.loop_match.specs.PlacedSegments.{PlacedSegment}
 use Rattle.hl_check.specs.Hierarchy.{segments_of, hl_segments, hls_of, IsHierarchyFault, IsHierarchyWhole}
 use Rattle.hl_check.specs.Found.{found_faults}

@@ -13,43 +13,43 @@ use Rattle.hub_kinds.specs.declared.codes.ElementCode.TheVariants as ik403
 use Rattle.hub_kinds.specs.declared.fault.Fault.{Fault}
 use Rattle.guide_tree.specs.declared.rows.HlRule.{HlRule}
 use Rattle.guide_tree.specs.declared.rows.HlPair.{HlPair}
-use Rattle.guide_tree.specs.Words.{Trees, GuideTree, Segment, element_of, id_of, Place}
+use Rattle.guide_tree.specs.Words.{Trees, GuideTree, Segment, element_at, segment_id, Place}
 use Rattle.elem_rules.specs.Divided.{is_filled}
 use Rattle.elem_rules.specs.Rows.{reference_at}
 use Rattle.loop_match.specs.PlacedSegments.{PlacedSegment, placed_segments}
 
 abbrev pub is_hl : Segment → Bool
-is_hl s = bytes_eq (id_of s) (codes "HL")
+is_hl s = bytes_eq (segment_id s) (codes "HL")
 
 -- HL01, the segment's own number; HL02, its parent's; HL03, its level; HL04, whether it has children
 abbrev pub hierarchical_id_of : Segment → List ℕ
-hierarchical_id_of h = element_of h 1
+hierarchical_id_of h = element_at h 1
 
 abbrev pub parent_id_of : Segment → List ℕ
-parent_id_of h = element_of h 2
+parent_id_of h = element_at h 2
 
 abbrev pub level_of : Segment → List ℕ
-level_of h = element_of h 3
+level_of h = element_at h 3
 
 abbrev pub child_of : Segment → List ℕ
-child_of h = element_of h 4
+child_of h = element_at h 4
 
 -- Values are compared byte by byte. Empty is what has no byte but component and repetition separators.
 
 -- the first HL of some with a number
-abbrev pub numbered : (number : List ℕ) → List Segment → Option Segment
-numbered number hls = find (λ h. bytes_eq (hierarchical_id_of h) number) hls
+abbrev pub first_numbered : (number : List ℕ) → List Segment → Option Segment
+first_numbered number hls = find (λ h. bytes_eq (hierarchical_id_of h) number) hls
 
 -- HL01 isn't empty, and is that of an earlier HL, or isn't the count of HLs where the guide asks for it
 abbrev pub is_number_wrong : HlRule → Delims → (earlier : List Segment) → Segment → Bool
 is_number_wrong rule delims earlier h =
     is_filled delims (hierarchical_id_of h)
-    && (is_some (numbered (hierarchical_id_of h) earlier)
+    && (is_some (first_numbered (hierarchical_id_of h) earlier)
     || (rule.sequential && not (bytes_eq (hierarchical_id_of h) (decimal (length earlier + 1)))))
 
 -- HL02 isn't empty, and no earlier HL has it
 abbrev pub is_parent_wrong : Delims → (earlier : List Segment) → Segment → Bool
-is_parent_wrong delims earlier h = is_filled delims (parent_id_of h) && is_none (numbered (parent_id_of h) earlier)
+is_parent_wrong delims earlier h = is_filled delims (parent_id_of h) && is_none (first_numbered (parent_id_of h) earlier)
 
 -- a guide's pair of a level and the level of its parent; a root has no parent
 abbrev pub is_pair : (parent : Option (List ℕ)) → (child : List ℕ) → HlPair → Bool
@@ -64,7 +64,7 @@ is_listed rule parent child = list_any (is_pair parent child) rule.pairs
 abbrev pub is_level_wrong : HlRule → Delims → (earlier : List Segment) → Segment → Bool
 is_level_wrong rule delims earlier h =
     if is_filled delims (parent_id_of h)
-    then option_map_or (λ p. not (is_listed rule (Some (level_of p)) (level_of h))) (numbered (parent_id_of h) earlier) false
+    then option_map_or (λ p. not (is_listed rule (Some (level_of p)) (level_of h))) (first_numbered (parent_id_of h) earlier) false
     else not (is_listed rule None (level_of h))
 
 -- some HL02 is this number; an empty one is none
@@ -106,7 +106,7 @@ hls_of ts body given = filter (λ h. is_hl h.segment) (placed_segments ts body g
 abbrev pub hl_fault : PlacedSegment → (element : ℕ) → ElementCode → Fault
 hl_fault h element code = record {
   position = h.position;
-  id = id_of h.segment;
+  id = segment_id h.segment;
   loop_id = h.loop_id;
   code = ik304.ElementErrors;
   slot = h.slot.number;
@@ -116,7 +116,7 @@ hl_fault h element code = record {
     repetition = 0;
     code = code;
     reference = reference_at h.slot.elements element;
-    copy = element_of h.segment element;
+    copy = element_at h.segment element;
   });
 }
 

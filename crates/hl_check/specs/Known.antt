@@ -6,12 +6,13 @@ use Rattle.std.specs.BTreeSet.{BTreeSet, contains}
 use Rattle.x12_bytes.specs.declared.delims.Delims.{Delims}
 use Rattle.hub_kinds.specs.Words.{by_text}
 use Rattle.guide_tree.specs.Words.{Segment}
-use Rattle.hl_check.specs.Hierarchy.{numbered, level_of, is_named}
+use Rattle.hl_check.specs.Hierarchy.{first_numbered, level_of, is_named}
 use denote.Ref.{Bor}
 
 -- the map has the level of the first HL with each number
 abbrev pub KnowsLevels : BTreeMap (Bor (List ℕ)) (Bor (List ℕ)) → List Segment → Type 0
-KnowsLevels levels hls = (q : Bor (List ℕ)) → option_map (λ l. l.now) (get by_text levels q) ≡ option_map level_of (numbered q.now hls)
+KnowsLevels levels hls = (q : Bor (List ℕ)) → option_map (λ l. l.now) (get by_text levels q) ≡ option_map level_of
+    (first_numbered q.now hls)
 
 -- the set has exactly the numbers that some HL02 is
 abbrev pub KnowsNamed : BTreeSet (Bor (List ℕ)) → Delims → List Segment → Type 0

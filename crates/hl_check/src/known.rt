@@ -1,7 +1,7 @@
 ghost use Rattle.std.specs.Prelude.{◌≡◌, ◌++◌, [], ◌∷◌, List, OnOk, option_map};
 ghost use Rattle.x12_bytes.specs.declared.delims.Delims.{Delims};
 ghost use Rattle.guide_tree.specs.Words.{Segment};
-ghost use Rattle.hl_check.specs.Hierarchy.{numbered, hierarchical_id_of, parent_id_of, level_of, is_named};
+ghost use Rattle.hl_check.specs.Hierarchy.{first_numbered, hierarchical_id_of, parent_id_of, level_of, is_named};
 ghost use Rattle.hl_check.specs.Known.{KnowsLevels, KnowsNamed};
 
 use crate::rules::is_filled;
@@ -12,7 +12,7 @@ use x12_bytes::Delims;
 /// The level of the first HL with a number.
 pub fn level_with<'a>(levels: &BTreeMap<&'a [u8], &'a [u8]>, number: &[u8]) -> Option<&'a [u8]>
     ensures { (hls : List Segment) → KnowsLevels levels.now hls
-        → option_map (λ l. l.now) result ≡ option_map level_of (numbered number.now hls) }
+        → option_map (λ l. l.now) result ≡ option_map level_of (first_numbered number.now hls) }
 {
     levels.get(number).copied()
 }

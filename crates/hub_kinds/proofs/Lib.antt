@@ -1,3 +1,4 @@
+pub mod ForAbove
 pub mod Powers
 pub mod Once
 pub mod Reading

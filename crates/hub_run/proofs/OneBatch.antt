@@ -3,8 +3,7 @@ use Rattle.std.proofs.Common.{◌≡◌, ℕ, ◌+◌, ◌<◌, ◌^◌, List, [
 use Rattle.std.proofs.lemmas.List.{length-replicate}
 use Rattle.partner_setup.specs.Setup.{SetupValue}
 use Rattle.env_index.specs.Words.{IndexEntry}
-use Rattle.night_writing.proofs.Joining.{night_of_written}
-use Rattle.night_writing.proofs.Starting.{first_written, nothing_acknowledged}
+use Rattle.night_writing.proofs.ForAbove.{night_of_written, first_written, nothing_acknowledged}
 use Rattle.night_writing.specs.Night.{IsNightOf}
 use Rattle.night_writing.specs.Writing.{HasRoomFor, IsBatchWritten, IsClosedBy, IsWrittenOf, WritingValue, nothing_written}
 use Rattle.night_writing.specs.declared.night.Night.{Night}

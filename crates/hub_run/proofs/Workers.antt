@@ -3,7 +3,7 @@ use Rattle.std.proofs.Common.{◌∙◌, ℕ, List, ap, refl, subst, sym}
 use Rattle.std.specs.List.{All, AllZip}
 use Rattle.env_index.specs.Words.{HasSpans, IndexEntry, IndexValue, settled}
 use Rattle.partner_setup.specs.Setup.{SetupValue}
-use Rattle.checked_text.proofs.Settling.{settled_spans}
+use Rattle.checked_text.proofs.ForAbove.{settled_spans}
 use Rattle.checked_text.specs.Asked.{IsFound, asked_of}
 use Rattle.checked_text.specs.CheckedText.{AreCheckedAs}
 use Rattle.checked_text.specs.Settled.{settled_faults}

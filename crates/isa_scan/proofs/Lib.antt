@@ -1,2 +1,3 @@
+pub mod ForAbove
 pub mod HeadLemmas
 pub mod Worked

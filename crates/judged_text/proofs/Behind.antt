@@ -7,8 +7,7 @@ use Rattle.std.proofs.lemmas.List.{drop_all, length-take-le}
 use Rattle.x12_bytes.specs.declared.delims.Delims.{Delims}
 use Rattle.x12_segs.specs.Words.{Seg, SegValue, moved_by, parts, segs_from, segs_of, span_segs, span_views, view_of, views}
 use Rattle.x12_segs.specs.declared.set_span.SetSpan.{SetSpan}
-use Rattle.x12_segs.proofs.CutLemmas.{segs_of-moved}
-use Rattle.x12_segs.proofs.FirstLemmas.{IsFirstSeg, first_seg}
+use Rattle.x12_segs.proofs.ForAbove.{segs_of-moved, IsFirstSeg, first_seg}
 
 -- the bytes of segments don't say from where their offsets are counted
 read_alone : (d : Delims) (place : ℕ) (ps : List (List ℕ))

@@ -1,4 +1,5 @@
 pub mod Behind
+pub mod ForAbove
 pub mod InSpans
 pub mod Stretch
 mod WorkedAnswers

@@ -5,7 +5,7 @@ use Rattle.std.specs.Option.{option_map_or}
 use Rattle.std.specs.Str.{bytes_eq}
 use Rattle.hub_kinds.specs.Words.{contains_text}
 use Rattle.toml.specs.Data.{Data, Members, as_array, as_bool, as_str, as_table, get_member}
-use Rattle.toml_keys.specs.Tables.{are_tables, count_in, word_in}
+use Rattle.toml_keys.specs.Tables.{are_tables, count_of_data, word_in}
 use Rattle.guide_toml.specs.Keys.{keys_of as guide_keys_of}
 use Rattle.guide_toml.specs.Values.{group_in}
 use Rattle.guide_toml.specs.declared.keys.TableKind.TheVariants as guide
@@ -27,13 +27,13 @@ abbrev pub is_usage : Data → Bool
 is_usage d = option_map_or (λ s. bytes_eq s (codes "P") || bytes_eq s (codes "T")) (as_str d) false
 
 abbrev pub is_version : Data → Bool
-is_version d = option_map_or (λ n. (n == 1) || (n == 2)) (count_in d) false
+is_version d = option_map_or (λ n. (n == 1) || (n == 2)) (count_of_data d) false
 
 -- whether a value has a form
 abbrev pub stands : ValueForm → Data → Bool
 stands form.Text d = is_some (as_str d)
 stands (form.Word least most) d = is_some (word_in least most d)
-stands form.Number d = is_some (count_in d)
+stands form.Number d = is_some (count_of_data d)
 stands form.Flag d = is_some (as_bool d)
 stands form.Table d = is_some (as_table d)
 stands form.Rows d = option_map_or are_tables (as_array d) false

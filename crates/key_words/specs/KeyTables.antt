@@ -5,7 +5,7 @@ use Rattle.std.specs.Option.{option_map_or}
 use Rattle.std.specs.Str.{bytes_eq}
 use Rattle.hub_kinds.specs.Words.{contains_text}
 use Rattle.toml.specs.Data.{Data, Members, as_str, get_member}
-use Rattle.toml_keys.specs.Tables.{count_in, list_in, word_in}
+use Rattle.toml_keys.specs.Tables.{count_of_data, list_in, word_in}
 use Rattle.guide_toml.specs.Keys.{keys_of as guide_keys_of}
 use Rattle.guide_toml.specs.declared.keys.TableKind.TheVariants as guide
 use Rattle.guide_toml.specs.declared.listed_text.ListedText.TheVariants as text
@@ -38,7 +38,7 @@ is_dependency_kind d = option_map_or (λ s. bytes_eq s (codes "need") || bytes_e
 
 abbrev pub partner_fits : (key : List ℕ) → Data → Bool
 partner_fits key d =
-    if bytes_eq key (codes "cap") then is_some (count_in d)
+    if bytes_eq key (codes "cap") then is_some (count_of_data d)
     else (if bytes_eq key (codes "guides") then is_some (list_in as_str d) else is_some (as_str d))
 
 abbrev pub dependency_fits : (key : List ℕ) → Data → Bool
@@ -46,14 +46,14 @@ dependency_fits key d =
     if bytes_eq key (codes "kind") then is_dependency_kind d
     else (if bytes_eq key (codes "codes") then are_listed text.Code d
     else (if bytes_eq key (codes "slot") then is_some (word_in 1 20 d)
-    else (if bytes_eq key (codes "target") then is_some (word_in 1 20 d) else is_some (count_in d))))
+    else (if bytes_eq key (codes "target") then is_some (word_in 1 20 d) else is_some (count_of_data d))))
 
 -- whether a value may stand at a key of such a table; where no other table of the file has the key, no value is looked at
 abbrev pub fits : KeyTable → (key : List ℕ) → Data → Bool
 fits table.Hub key d = not (bytes_eq key (codes "usage")) && is_some (as_str d)
 fits table.Partner key d = partner_fits key d
 fits table.Route key d = if bytes_eq key (codes "to") then is_some (receivers_in d) else is_some (as_str d)
-fits table.Counter key d = if bytes_eq key (codes "partner") then is_some (as_str d) else is_some (count_in d)
+fits table.Counter key d = if bytes_eq key (codes "partner") then is_some (as_str d) else is_some (count_of_data d)
 fits table.Dependency key d = dependency_fits key d
 fits _ key d = false
 

@@ -4,8 +4,7 @@ use Rattle.std.proofs.lemmas.List.{append-nil, drop_all}
 use Rattle.x12_segs.specs.Words.{SegValue, elements_of}
 use Rattle.guide_tree.specs.declared.slot.Slot.{Slot}
 use Rattle.guide_tree.specs.Words.{Trees, or_else, Segment, Place, slot_given, Candidate, nexts, first_fit, next_place_of, placing_from}
-use Rattle.guide_law.proofs.Computed.{Found, first_found}
-use Rattle.guide_law.proofs.Coming.{nexts_come}
+use Rattle.guide_law.proofs.ForAbove.{Found, first_found, nexts_come}
 use Rattle.loop_match.specs.Given.{place_in, slot_in, given_from, given_of}
 
 pub places_given : (ts : Trees) (last : Option Place) (body : List Segment)

@@ -1,3 +1,4 @@
+pub mod ForAbove
 pub mod Indexed
 pub mod Fitting
 pub mod Walking

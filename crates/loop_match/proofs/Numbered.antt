@@ -5,8 +5,7 @@ use Rattle.hub_kinds.specs.Words.{key_of, IsKeyedBy}
 use Rattle.hub_kinds.specs.declared.fault.Fault.{Fault}
 use Rattle.guide_tree.specs.declared.rows.GuideRows.{GuideRows}
 use Rattle.guide_tree.specs.Words.{IsAccepted, GuideTree, Segment, placing_of, structure_faults, IsStructureFault, guide_of}
-use Rattle.guide_law.proofs.Faulty.{members}
-use Rattle.guide_law.proofs.Keyed.{keyed}
+use Rattle.guide_law.proofs.ForAbove.{members, keyed}
 
 pub found_keyed : (rows : GuideRows) (body : List Segment) (end : ℕ) (faults : List Fault) → IsAccepted rows
     → faults ≡ structure_faults (guide_of rows) end body (placing_of (guide_of rows).nodes body) → IsKeyedBy key_of faults

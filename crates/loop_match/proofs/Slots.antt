@@ -9,7 +9,7 @@ use Rattle.guide_tree.specs.declared.slot.Slot.{Slot}
 use Rattle.guide_tree.specs.declared.node.Node as node
 use Rattle.guide_tree.specs.declared.node.Loop.{Loop}
 use Rattle.guide_tree.specs.Words.{Tree, segment, loop, view, nodes_view, Place, slot_in, slot_nth, slot_at}
-use Rattle.guide_tree.proofs.Behind.{view_loop}
+use Rattle.guide_tree.proofs.ForAbove.{view_loop}
 use Rattle.loop_match.specs.declared.next.Step.{Step}
 use Rattle.loop_match.specs.Steps.{place_view}
 use Rattle.loop_match.proofs.Rounds.{no_step, steps_left}

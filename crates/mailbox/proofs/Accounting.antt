@@ -8,7 +8,7 @@ use Rattle.std.proofs.lemmas.List.Sums.{sum_by-cons}
 use Rattle.judged_text.specs.Judged.{PlacedValue, all_sets}
 use Rattle.partner_setup.specs.Setup.{SetupValue}
 use Rattle.partner_setup.specs.Sound.{AreApart, AreWithin}
-use Rattle.partner_setup.proofs.Sounding.{targets_apart, targets_within}
+use Rattle.partner_setup.proofs.ForAbove.{targets_apart, targets_within}
 use Rattle.partner_setup.specs.declared.partner.Partner.{Partner}
 use Rattle.x12_segs.specs.Words.{element_of}
 use Rattle.mailbox.specs.Accounted.{IsAccounted, SetsAreAccounted, is_held_for, receivers_of}

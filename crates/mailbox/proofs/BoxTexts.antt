@@ -5,7 +5,7 @@ use Rattle.std.proofs.lemmas.Bool.{cases_lt}
 use Rattle.std.proofs.lemmas.List.{take_all, drop_all}
 use Rattle.count_numbers.specs.Layout.{interchanges_of}
 use Rattle.count_numbers.specs.Num.{num}
-use Rattle.count_numbers.proofs.Interchanges.{first_interchange}
+use Rattle.count_numbers.proofs.ForAbove.{first_interchange}
 use Rattle.partner_setup.specs.Envelopes.{envelope_to}
 use Rattle.partner_setup.specs.Setup.{SetupValue}
 use Rattle.partner_setup.specs.declared.partner.Partner.{Partner}

@@ -1,6 +1,7 @@
 pub mod Accounting
 pub mod BoxTexts
 pub mod Clear
+pub mod ForAbove
 pub mod GroupTexts
 pub mod Groups
 pub mod Growing

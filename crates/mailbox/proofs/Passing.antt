@@ -11,7 +11,7 @@ use Rattle.x12_bytes.specs.declared.delims.Delims.{Delims}
 use Rattle.x12_write.specs.Delimiters.{is_delimiter, is_this}
 use Rattle.mailbox.specs.Blocking.{is_foreign, is_foreign_if}
 use Rattle.mailbox.specs.Deliveries.{is_in_the_way, is_text_in_the_way}
-use Rattle.judged_text.proofs.Stretch.{neither, nor}
+use Rattle.judged_text.proofs.ForAbove.{neither, nor}
 
 clear : (own e c t r : Bool) → (not own && e) ≡ false → (not own && c) ≡ false → (not own && t) ≡ false → (not own && r) ≡ false
     → (not own && (e || c || t || r)) ≡ false

@@ -6,7 +6,7 @@ use Rattle.std.proofs.lemmas.List.{append-nil, drop-drop, drop-take, length-drop
 use Rattle.std.proofs.lemmas.List.Elements.{All-cons, All-nil}
 use Rattle.std.specs.List.{All, AllZip, flat_map, range_with_len}
 use Rattle.std.specs.Prelude.{slice_get, slice_range}
-use Rattle.job_pool.proofs.Gathered.{gathered, numbered}
+use Rattle.job_pool.proofs.ForAbove.{gathered, numbered}
 use Rattle.partner_setup.specs.declared.partner.Partner.{Partner}
 use Rattle.judged_text.specs.Judged.{PlacedValue}
 use Rattle.mailbox.specs.Parts.{AreParts, rendered_part}

@@ -12,7 +12,7 @@ use Rattle.memchr.specs.Find.{is_byte}
 use Rattle.x12_bytes.specs.Bytes.{is_line_end}
 use Rattle.x12_bytes.specs.declared.delims.Delims.{Delims}
 use Rattle.x12_segs.specs.Words.{Seg, SegValue, parts, segs_of, view_of, views}
-use Rattle.x12_segs.proofs.SegLemmas.{part_at-some, segs_of-cons}
+use Rattle.x12_segs.proofs.ForAbove.{part_at-some, segs_of-cons}
 use Rattle.mailbox.specs.Gapless.{AreWhole, is_gapless}
 use Rattle.mailbox.specs.Read.{text_as_read}
 

@@ -16,7 +16,7 @@ use Rattle.env_index.specs.Words.{faults_to_eight, group_numbers_from, index_pla
 use Rattle.env_index.specs.Words.{set_numbers_from}
 use Rattle.env_index.specs.Words.{with_fault, with_faults}
 use Rattle.env_index.specs.declared.entry.SetEnvelope.{SetEnvelope}
-use Rattle.env_index.proofs.IndexPlacing.{places_one}
+use Rattle.env_index.proofs.ForAbove.{places_one}
 use Rattle.partner_setup.specs.Setup.{SetupValue, sender_of}
 use Rattle.checked_text.specs.Answers.{SentValue}
 use Rattle.checked_text.specs.Asked.{Asked, asked_of, entry_asked_by, groups_asked, has_places, is_duplicate}
@@ -25,9 +25,7 @@ use Rattle.checked_text.specs.CheckedText.{sent_by}
 use Rattle.checked_text.specs.FirstUse.{knows}
 use Rattle.checked_text.specs.Seen.{is_among}
 use Rattle.checked_text.specs.Settled.{fault_if_earlier, fault_with_sender, faults_from, kept_keys, interchange_key_of}
-use Rattle.checked_text.proofs.Duplicates.{by_differs}
-use Rattle.checked_text.proofs.Growing.{length_snoc}
-use Rattle.checked_text.proofs.Telling.{asked_told}
+use Rattle.checked_text.proofs.ForAbove.{by_differs, length_snoc, asked_told}
 use Rattle.night_findings.specs.Alone.{AreSettledBy, entries_alone, faults_alone}
 use Rattle.night_findings.specs.Flags.{has_fault, has_some}
 use Rattle.night_findings.proofs.Zipped.{zip_append}

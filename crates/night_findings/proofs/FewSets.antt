@@ -4,7 +4,7 @@ use Rattle.std.specs.List.{All, AllByRecursion}
 use Rattle.std.proofs.lemmas.List.Elements.{All-from_recursion, recursion_from_All}
 use Rattle.hub_kinds.specs.declared.limits.TheConstants.{LONGEST_TEXT}
 use Rattle.env_index.specs.Words.{ChainFrom, GroupEntry, HasSpans, IndexEntry, IndexValue, IsEntryOf, IsIndex, extents_of}
-use Rattle.env_index.proofs.Few.{are_few}
+use Rattle.env_index.proofs.ForAbove.{are_few}
 use Rattle.partner_setup.specs.Setup.{SetupValue}
 use Rattle.night_findings.specs.Alone.{entries_alone}
 

@@ -2,6 +2,7 @@ pub mod Adding
 pub mod Answering
 pub mod Asking
 pub mod FewSets
+pub mod ForAbove
 pub mod Placing
 pub mod Same
 pub mod Seeing

@@ -12,7 +12,7 @@ use Rattle.std.specs.declared.cmp.Ordering.{Ordering}
 use Rattle.std.proofs.lemmas.List.{get_or_default}
 use Rattle.std.proofs.lemmas.Option.{none-some}
 use Rattle.guide_tree.specs.declared.rows.GuideRows.{GuideRows}
-use Rattle.partner_setup.proofs.Tabling.{more_kept}
+use Rattle.partner_setup.proofs.ForAbove.{more_kept}
 use Rattle.partner_setup.specs.Setup.{SetupValue, places_of}
 use Rattle.partner_setup.specs.Tables.{KeepsPlaces}
 use Rattle.partner_setup.specs.declared.partner.Partner.{Partner}

@@ -6,7 +6,7 @@ use Rattle.hub_kinds.specs.declared.place.Place.{Place}
 use Rattle.x12_segs.specs.Words.{SegValue, element_of}
 use Rattle.env_index.specs.Words.{IndexEntry, span_of, place_at, GroupEntry}
 use Rattle.env_index.specs.declared.entry.SetEnvelope.{SetEnvelope}
-use Rattle.partner_setup.specs.Setup.{SetupValue, guide_of, sender_of}
+use Rattle.partner_setup.specs.Setup.{SetupValue, guide_for_set, sender_of}
 use Rattle.checked_text.specs.Answers.{SentValue}
 use Rattle.checked_text.specs.CheckedText.{sent_by}
 use Rattle.worker_pool.specs.Jobs.{JobValue}
@@ -22,7 +22,7 @@ set_job sent place group version set = record {
   set = Some (record {
     text = sent.text;
     span = span_of sent.delims set;
-    guide = guide_of sent.setup sent.sender group version (element_of set.header 1);
+    guide = guide_for_set sent.setup sent.sender group version (element_of set.header 1);
   });
 }
 

@@ -91,7 +91,7 @@ impl<'a> FastGuides<'a> {
         version: &[u8],
         set: &[u8],
     ) -> Option<&FastGuide<'a>>
-        ensures { option_map (λ g. g.now) result ≡ setup.guide_of self.now partner group.now version.now set.now }
+        ensures { option_map (λ g. g.now) result ≡ setup.guide_for_set self.now partner group.now version.now set.now }
     {
         let places = self.places_of(partner);
         match self.table_of(partner) {

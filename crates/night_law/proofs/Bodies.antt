@@ -10,7 +10,7 @@ use Rattle.std.proofs.lemmas.Bool.{false_from_ne_true, eqb-true}
 use Rattle.x12_bytes.specs.Bytes.{is_line_end}
 use Rattle.x12_bytes.specs.declared.delims.Delims.{Delims}
 use Rattle.x12_segs.specs.Words.{parts, Seg, Segs, part_at, segs_of, elements_of, view_of, views}
-use Rattle.x12_segs.proofs.SegLemmas.{segs_of-cons}
+use Rattle.x12_segs.proofs.ForAbove.{segs_of-cons}
 
 -- no byte of a text is this one
 abbrev pub Lacks : ℕ → List ℕ → Type 0

@@ -12,29 +12,26 @@ use Rattle.std.proofs.lemmas.List.Elements.{All-replicate, All-take, All-weaker}
 use Rattle.x12_bytes.specs.declared.delims.Delims.{Delims}
 use Rattle.x12_bytes.specs.Header.{field_of}
 use Rattle.moment.specs.Calendar.{is_digits}
-use Rattle.moment.proofs.Moments.{digits_decided}
+use Rattle.moment.proofs.ForAbove.{digits_decided}
 use Rattle.hub_kinds.specs.Words.{acknowledgment_code, is_word}
 use Rattle.moment.specs.Moment.{IsMoment, date_of, short_date_of, time_of}
 use Rattle.x12_write.specs.declared.envelope.Envelope.{Envelope}
 use Rattle.x12_write.specs.Header.{blank, control_elements, header_elements, header_text, party_elements}
 use Rattle.x12_write.specs.Number.{padded_number, padded_text}
-use Rattle.x12_write.specs.Segment.{Segment, full_segment_text, segment, segment_text}
+use Rattle.x12_write.specs.Segment.{WrittenSegment, full_segment_text, segment, segment_text}
 use Rattle.x12_write.specs.Sendable.{IsSendable}
 use Rattle.x12_write.specs.Undivided.{CanDivide, IsUndivided}
-use Rattle.x12_write.proofs.Plain.{decimal-undivided, is_plain, padded_number-undivided, plain-undivided}
-use Rattle.x12_write.proofs.Trimming.{trimmed-push_full}
-use Rattle.ack_999.proofs.ReadBack.{IsReadable}
-use Rattle.ack_999.proofs.ReadableFaults.{readable}
+use Rattle.x12_write.proofs.ForAbove.{decimal-undivided, is_plain, padded_number-undivided, plain-undivided, trimmed-push_full}
+use Rattle.ack_999.proofs.ForAbove.{IsReadable, readable}
 use Rattle.partner_setup.specs.declared.partner.Partner.{Partner}
 use Rattle.partner_setup.specs.Envelopes.{envelope_to}
 use Rattle.partner_setup.specs.Setup.{SetupValue}
 use Rattle.partner_setup.specs.Sound.{IsSoundPartner}
 use Rattle.partner_setup.specs.SetupFaults.{are_delimiters, are_ids, is_id, is_inner, is_outer, may_end}
-use Rattle.partner_setup.proofs.Marks.{ends, four, undivided}
-use Rattle.partner_setup.proofs.Sending.{sendable}
+use Rattle.partner_setup.proofs.ForAbove.{ends, four, undivided, sendable}
 
 -- the ISA as a segment
-abbrev pub isa : Envelope → (at : List ℕ) → (number : ℕ) → Segment
+abbrev pub isa : Envelope → (at : List ℕ) → (number : ℕ) → WrittenSegment
 isa e at number = segment (codes "ISA") (header_elements e at number)
 
 -- the GS, the GE and the IEA
@@ -42,20 +39,20 @@ abbrev pub gs_elements : Envelope → (at : List ℕ) → (control : ℕ) → Li
 gs_elements e at control =
     codes "FA" ∷ e.hub_code ∷ e.partner_code ∷ date_of at ∷ time_of at ∷ decimal control ∷ codes "X" ∷ codes "005010X231" ∷ []
 
-abbrev pub gs : Envelope → (at : List ℕ) → (control : ℕ) → Segment
+abbrev pub gs : Envelope → (at : List ℕ) → (control : ℕ) → WrittenSegment
 gs e at control = segment (codes "GS") (gs_elements e at control)
 
-abbrev pub ge : (reports control : ℕ) → Segment
+abbrev pub ge : (reports control : ℕ) → WrittenSegment
 ge reports control = segment (codes "GE") (decimal reports ∷ decimal control ∷ [])
 
-abbrev pub iea : (groups number : ℕ) → Segment
+abbrev pub iea : (groups number : ℕ) → WrittenSegment
 iea groups number = segment (codes "IEA") (decimal groups ∷ padded_number 9 number ∷ [])
 
 -- the TA1
 abbrev pub ta1_elements : (header note : List ℕ) → List (List ℕ)
 ta1_elements header note = field_of header 13 ∷ field_of header 9 ∷ field_of header 10 ∷ acknowledgment_code note ∷ note ∷ []
 
-abbrev pub ta1 : (header note : List ℕ) → Segment
+abbrev pub ta1 : (header note : List ℕ) → WrittenSegment
 ta1 header note = segment (codes "TA1") (ta1_elements header note)
 
 -- nothing is left off at the end of the ISA

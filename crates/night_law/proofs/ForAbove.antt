@@ -24,3 +24,4 @@ pub use Rattle.night_law.proofs.Sources.{IsSource, IsThere, settled_sources}
 pub use Rattle.night_law.proofs.Splitting.{all_both, map_none}
 pub use Rattle.night_law.proofs.TellingNights.{IsAnsweredGroup, acknowledged_as_told, answered_anywhere, answers_here}
 pub use Rattle.night_law.proofs.Together.{pairs_all}
+pub use Rattle.night_law.proofs.WholeNight.{whole_night}

@@ -11,9 +11,9 @@ use Rattle.std.proofs.lemmas.List.Elements.{All-append, All-cons, All-head, All-
 use Rattle.std.proofs.lemmas.List.Elements.{All-weaker}
 use Rattle.x12_bytes.specs.declared.delims.Delims.{Delims}
 use Rattle.x12_segs.specs.Words.{parts}
-use Rattle.x12_write.specs.Segment.{Segment, segment_text, trimmed}
+use Rattle.x12_write.specs.Segment.{WrittenSegment, segment_text, trimmed}
 use Rattle.x12_write.specs.Undivided.{IsUndivided}
-use Rattle.ack_999.proofs.ReadBack.{IsReadable, trimmed-all}
+use Rattle.ack_999.proofs.ForAbove.{IsReadable, trimmed-all}
 use Rattle.night_law.specs.SetsRead.{Said, Segments, has_id, values_of_segment, sets_read, sets_found}
 use Rattle.night_law.proofs.Bodies.{IsBody, Lacks, bodies_text, text_read}
 use Rattle.night_law.proofs.Marked.{lacks_element, lacks_terminator}
@@ -60,7 +60,7 @@ made_found d text said made =
     ∙ append-nil said
 
 -- a written segment
-pub divided : (d : Delims) (s : Segment) → IsReadable d s → IsDivided d s.id (trimmed s.elements)
+pub divided : (d : Delims) (s : WrittenSegment) → IsReadable d s → IsDivided d s.id (trimmed s.elements)
 divided d s readable =
     let all : All (IsUndivided d) (trimmed s.elements) = trimmed-all (IsUndivided d) s.elements readable.elements in
     record {
@@ -73,7 +73,8 @@ divided d s readable =
     }
 
 -- one that is no ST, around sets
-pub other_made : (d : Delims) (s : Segment) → (d.element == d.terminator) ≡ false → IsReadable d s → bytes_eq s.id (codes "ST") ≡ false
+pub other_made : (d : Delims) (s : WrittenSegment) → (d.element == d.terminator) ≡ false → IsReadable d s → bytes_eq s.id (codes "ST")
+    ≡ false
     → IsMade d (segment_text d s.id s.elements) []
 other_made d s other readable off = record {
   bodies = body_of d s.id (trimmed s.elements) ∷ [];

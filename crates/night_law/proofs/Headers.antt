@@ -13,7 +13,7 @@ use Rattle.env_index.specs.declared.entry.SetEnvelope.{SetEnvelope}
 use Rattle.env_index.specs.Words.{InGroup, ASet, OutOfGroup, InBody, ATa1, AGroup, OutOfBody, Set, ChainFrom, IndexEntry, IndexValue}
 use Rattle.env_index.specs.Words.{IsEntryOf, IsIndex, IsReadIn, extents_of, InterchangeEntry, settled, with_faults, EachSet, EachSetIn}
 use Rattle.env_index.specs.Words.{SetStandsAlone, span_of, GroupEntry, group_entry, groups_in, set_entry, sets_in}
-use Rattle.env_index.proofs.Standing.{all_alone}
+use Rattle.env_index.proofs.ForAbove.{all_alone}
 use Rattle.set_check.specs.SetParts.{no_segment, set_parts}
 
 -- the ST that is read in the span of a set is its ST

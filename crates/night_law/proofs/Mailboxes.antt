@@ -12,12 +12,11 @@ use Rattle.x12_segs.specs.Words.{element_of}
 use Rattle.moment.specs.Moment.{IsMoment, date_of, time_of}
 use Rattle.x12_write.specs.Group.{texts_in_row}
 use Rattle.x12_write.specs.Number.{padded_number}
-use Rattle.x12_write.specs.Segment.{Segment, segment, segment_text}
+use Rattle.x12_write.specs.Segment.{WrittenSegment, segment, segment_text}
 use Rattle.x12_write.specs.Undivided.{IsUndivided}
 use Rattle.x12_write.specs.declared.envelope.Envelope.{Envelope}
-use Rattle.x12_write.proofs.Plain.{decimal-undivided, padded_number-undivided}
-use Rattle.ack_999.proofs.ReadBack.{IsReadable}
-use Rattle.ack_999.proofs.ReadableFaults.{readable}
+use Rattle.x12_write.proofs.ForAbove.{decimal-undivided, padded_number-undivided}
+use Rattle.ack_999.proofs.ForAbove.{IsReadable, readable}
 use Rattle.count_numbers.specs.Layout.{in_interchange, interchange_count, interchanges_of}
 use Rattle.count_numbers.specs.Num.{num}
 use Rattle.partner_setup.specs.declared.partner.Partner.{Partner}
@@ -28,7 +27,7 @@ use Rattle.partner_setup.specs.Sound.{IsSoundPartner}
 use Rattle.judged_text.specs.Judged.{PlacedValue}
 use Rattle.mailbox.specs.Mailbox.{box_text, delivered_group_text, delivered_text, delivered_texts, groups_text, numbered_text, sender_code}
 use Rattle.mailbox.specs.Numbered.{NumberedValue, goes_with, groups_of, numbered_from, onto_groups}
-use Rattle.count_numbers.proofs.Interchanges.{first_interchange, no_interchange}
+use Rattle.count_numbers.proofs.ForAbove.{first_interchange, no_interchange}
 use Rattle.night_law.specs.SetsRead.{AreSetsFound, Said, set_said}
 use Rattle.night_law.proofs.Enveloping.{code_inside, date, inside, isa, isa_text, plain, readable_isa, time}
 use Rattle.night_law.proofs.Found.{IsMade, made_behind, made_found, nothing_made, other_made}
@@ -124,7 +123,7 @@ module _ (setup : SetupValue) (p : Partner) (guides : ℕ) (hub_ids : are_ids se
       (set_made d marks sound.divides x.set (All-head Ready x xs all).fit (num p.counters.set x.place))
       (row_made xs (All-tail Ready x xs all))
 
-  abbrev pub gs_of : NumberedValue → (g : ℕ) → Segment
+  abbrev pub gs_of : NumberedValue → (g : ℕ) → WrittenSegment
   gs_of x g = segment (codes "GS")
       (element_of x.set.group.header 1 ∷ sender_code setup x.set ∷ p.code ∷ date_of at ∷ time_of at ∷ decimal g ∷ codes "X"
       ∷ element_of x.set.group.header 8 ∷ [])
@@ -152,7 +151,7 @@ module _ (setup : SetupValue) (p : Partner) (guides : ℕ) (hub_ids : are_ids se
         ),
       ))
 
-  abbrev pub ge_of : (sets g : ℕ) → Segment
+  abbrev pub ge_of : (sets g : ℕ) → WrittenSegment
   ge_of sets g = segment (codes "GE") (decimal sets ∷ decimal g ∷ [])
 
   pub readable_ge_of : (sets g : ℕ) → IsReadable d (ge_of sets g)
@@ -162,7 +161,7 @@ module _ (setup : SetupValue) (p : Partner) (guides : ℕ) (hub_ids : are_ids se
       (All-from_recursion P (decimal sets ∷ decimal g ∷ [])
       (decimal-undivided d sound.divides sets, (decimal-undivided d sound.divides g, tt)))
 
-  abbrev iea_of : (groups number : ℕ) → Segment
+  abbrev iea_of : (groups number : ℕ) → WrittenSegment
   iea_of groups number = segment (codes "IEA") (decimal groups ∷ padded_number 9 number ∷ [])
 
   readable_iea_of : (groups number : ℕ) → IsReadable d (iea_of groups number)
@@ -173,7 +172,8 @@ module _ (setup : SetupValue) (p : Partner) (guides : ℕ) (hub_ids : are_ids se
       (decimal-undivided d sound.divides groups, (padded_number-undivided d sound.divides 9 number, tt)))
 
   -- a segment before sets, and one after them
-  around : (first last : Segment) (inner : List ℕ) (sets : List (List (List Said))) → IsMade d (segment_text d first.id first.elements) []
+  around : (first last : WrittenSegment) (inner : List ℕ) (sets : List (List (List Said))) → IsMade d
+      (segment_text d first.id first.elements) []
       → IsMade d (segment_text d last.id last.elements) [] → IsMade d inner sets
       → IsMade d (segment_text d first.id first.elements ++ inner ++ segment_text d last.id last.elements) sets
   around first last inner sets front back made =

@@ -12,7 +12,7 @@ use Rattle.x12_write.specs.Delimiters.{is_this}
 use Rattle.x12_write.specs.Undivided.{CanDivide, IsUndivided}
 use Rattle.partner_setup.specs.Sound.{has_delimiters}
 use Rattle.partner_setup.specs.SetupFaults.{are_delimiters, is_name_byte, may_delimit}
-use Rattle.partner_setup.proofs.Marks.{Four, ends, four, no_letter}
+use Rattle.partner_setup.proofs.ForAbove.{Four, ends, four, no_letter}
 use Rattle.night_law.specs.SetsRead.{plainly, said_in}
 use Rattle.night_law.proofs.Bodies.{Lacks}
 use Rattle.night_law.proofs.Changing.{AreApart, flipped}

@@ -2,7 +2,7 @@
 use Rattle.std.proofs.Common.{◌≡◌, ℕ, List, sym, ap, subst, ◌∙◌}
 use Rattle.hub_kinds.specs.declared.counters.Counters.{Counters}
 use Rattle.env_index.specs.Words.{IndexValue, settled}
-use Rattle.env_index.proofs.OneIndex.{index_is_one}
+use Rattle.env_index.proofs.ForAbove.{index_is_one}
 use Rattle.partner_setup.specs.declared.partner.Partner.{Partner}
 use Rattle.partner_setup.specs.Setup.{SetupValue}
 use Rattle.checked_text.specs.CheckedText.{CheckedInterchange, AreCheckedAs}

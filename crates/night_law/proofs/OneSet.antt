@@ -17,8 +17,7 @@ use Rattle.x12_segs.specs.Words.{may_stand_in_set, kind_of, parts, SegValue, ele
 use Rattle.x12_write.specs.Number.{padded_number}
 use Rattle.x12_write.specs.Segment.{elements_text}
 use Rattle.x12_write.specs.Undivided.{CanDivide, IsUndivided}
-use Rattle.x12_write.proofs.Plain.{decimal-undivided, padded_number-undivided, plain-undivided}
-use Rattle.x12_write.proofs.Trimming.{trimmed-push_full}
+use Rattle.x12_write.proofs.ForAbove.{decimal-undivided, padded_number-undivided, plain-undivided, trimmed-push_full}
 use Rattle.mailbox.specs.Deliveries.{inner_in, is_blocked, is_in_the_way, is_text_in_the_way, kept_parts}
 use Rattle.judged_text.specs.Judged.{PlacedValue, delims_in}
 use Rattle.mailbox.specs.Mailbox.{inner_text, mapped, set_header_text, set_text, set_trailer_text}

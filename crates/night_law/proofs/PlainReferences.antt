@@ -6,7 +6,7 @@ use Rattle.std.proofs.lemmas.List.Elements.{All-cons, All-head, All-nil, All-tai
 use Rattle.x12_bytes.specs.declared.delims.Delims.{Delims}
 use Rattle.x12_segs.specs.Words.{element_of}
 use Rattle.x12_write.specs.Undivided.{CanDivide, IsUndivided}
-use Rattle.x12_write.proofs.Plain.{plain-undivided}
+use Rattle.x12_write.proofs.ForAbove.{plain-undivided}
 use Rattle.guide_tree.specs.declared.element.Component.{Component}
 use Rattle.guide_tree.specs.declared.element.Element.{Element}
 use Rattle.guide_tree.specs.declared.rows.GuideRows.{GuideRows}
@@ -18,7 +18,7 @@ use Rattle.env_index.specs.declared.entry.SetEnvelope.{SetEnvelope}
 use Rattle.judged_text.specs.Judged.{responded_groups}
 use Rattle.partner_setup.specs.declared.partner.Partner.{Partner}
 use Rattle.partner_setup.specs.Names.{and_some, those_at}
-use Rattle.partner_setup.specs.Setup.{SetupValue, guide_of, guides_of, is_for_set, places_of}
+use Rattle.partner_setup.specs.Setup.{SetupValue, guide_for_set, guides_of, is_for_set, places_of}
 use Rattle.partner_setup.specs.Sound.{IsSoundPartner, IsSoundSetup}
 use Rattle.set_check.specs.Checked.{guide_tree_of}
 use Rattle.checked_text.specs.Answers.{SentValue}
@@ -79,9 +79,9 @@ module _ (d : Delims) (can : CanDivide d) where
 
   module _ (setup : SetupValue) (plain : All IsGuidePlain setup.guides) where
     found_quoted : (sender : ℕ) (group version set : List ℕ)
-        → IfSome (guide_tree_of (guide_of setup sender group version set)) (IsGuideQuotable d)
+        → IfSome (guide_tree_of (guide_for_set setup sender group version set)) (IsGuideQuotable d)
     found_quoted sender group version set =
-        guide_quoted (guide_of setup sender group version set)
+        guide_quoted (guide_for_set setup sender group version set)
         (found_one IsGuidePlain (is_for_set group version set) (guides_of setup sender)
         (at_places IsGuidePlain setup.guides plain (places_of setup sender)))
 
@@ -89,7 +89,7 @@ module _ (d : Delims) (can : CanDivide d) where
         → IsGroupQuotable d (sent_by text setup place e) group
     group_quoted text place e group =
         everywhere (λ (set : SetEnvelope). IfSome
-        (guide_tree_of (guide_of setup place (element_of group.header 1) (element_of group.header 8) (element_of set.header 1)))
+        (guide_tree_of (guide_for_set setup place (element_of group.header 1) (element_of group.header 8) (element_of set.header 1)))
         (IsGuideQuotable d)) (λ set. found_quoted place (element_of group.header 1) (element_of group.header 8) (element_of set.header 1))
         group.sets
 

@@ -11,7 +11,7 @@ use Rattle.std.proofs.lemmas.Option.{none-some}
 use Rattle.x12_bytes.specs.declared.delims.Delims.{Delims}
 use Rattle.x12_segs.specs.Words.{SegValue, element_of}
 use Rattle.x12_write.specs.Undivided.{CanDivide, IsUndivided}
-use Rattle.x12_write.proofs.Plain.{plain-undivided}
+use Rattle.x12_write.proofs.ForAbove.{plain-undivided}
 use Rattle.hub_kinds.specs.Words.{is_number, is_word}
 use Rattle.hub_kinds.specs.declared.interchange.InterchangeFault.{InterchangeFault}
 use Rattle.env_index.specs.declared.entry.SetEnvelope.{SetEnvelope}

@@ -16,7 +16,7 @@ use Rattle.guide_tree.specs.declared.rows.DependencyKind.{DependencyKind}
 use Rattle.guide_tree.specs.declared.rows.DependencyKind.TheVariants as kind
 use Rattle.guide_tree.specs.declared.rows.HlRule.{HlRule}
 use Rattle.guide_tree.specs.declared.slot.Slot.{Slot}
-use Rattle.guide_tree.specs.Words.{placing_of, Place, use_of, Segment, element_of, IsStructureFault, node_at, node_fault, past_code}
+use Rattle.guide_tree.specs.Words.{placing_of, Place, use_of, Segment, element_at, IsStructureFault, node_at, node_fault, past_code}
 use Rattle.guide_tree.specs.Words.{GuideTree, Tree, Trees}
 use Rattle.elem_rules.specs.Conditions.{condition_code}
 use Rattle.elem_rules.specs.ElementFaults.{IsElementFault, fault_at}
@@ -56,9 +56,9 @@ module _ (d : Delims) (separator : IsUndivided d (d.component ∷ [])) where
   of_structure g body given end f names (inr (inr stray)) = subst Q (sym stray.is) (record { loop_id = nothing d; elem = tt })
 
   -- a fault of an element
-  element_at : (delims : Delims) (s : Segment) (slot : Slot) (element component repetition : ℕ) (code : ElementCode) (e : ElemFault)
+  element_told : (delims : Delims) (s : Segment) (slot : Slot) (element component repetition : ℕ) (code : ElementCode) (e : ElemFault)
       → All (IsRowQuotable d) slot.elements → e ≡ fault_at delims s slot element component repetition code → IsQuotableElement d e
-  element_at delims s slot element component repetition code e rows is =
+  element_told delims s slot element component repetition code e rows is =
       let own : IsQuotableElement d (fault_at delims s slot element component repetition code) =
       record { reference = reference d slot.elements element component rows; separator = separator } in
       subst (IsQuotableElement d) (sym is) own
@@ -66,11 +66,11 @@ module _ (d : Delims) (separator : IsUndivided d (d.component ∷ [])) where
   of_element : (delims : Delims) (s : Segment) (slot : Slot) (e : ElemFault) → All (IsRowQuotable d) slot.elements
       → IsElementFault delims s slot e → IsQuotableElement d e
   of_element delims s slot e rows (inl extra) =
-      element_at delims s slot (length slot.elements + 1) 0 0 ik403.TooManyElements e rows extra.is
+      element_told delims s slot (length slot.elements + 1) 0 0 ik403.TooManyElements e rows extra.is
   of_element delims s slot e rows (inr (inl row)) =
-      element_at delims s slot row.position row.w.component row.w.repetition row.w.code e rows row.is
+      element_told delims s slot row.position row.w.component row.w.repetition row.w.code e rows row.is
   of_element delims s slot e rows (inr (inr broken)) =
-      element_at delims s slot broken.position 0 0 (condition_code broken.condition.relation) e rows broken.is
+      element_told delims s slot broken.position 0 0 (condition_code broken.condition.relation) e rows broken.is
 
   of_error : (ts : Trees) (parts : SetParts) (given : List (Option Place)) (f : Fault) → AreNodesNamed d ts
       → IsErrorIn ts parts given f → Q f
@@ -127,7 +127,7 @@ module _ (d : Delims) (separator : IsUndivided d (d.component ∷ [])) where
   of_broken ts delims end placed label kind.Need (suc e) f names all broken =
       of_use broken.0 (suc e) ik403.DependentMissing [] f (All-contains (IsPlacedQuotable d) placed broken.0 all broken.1.listed) broken.2
   of_broken ts delims end placed label kind.Ban (suc e) f names all broken =
-      of_use broken.0 (suc e) ik403.DependentNotUsedPresent (element_of broken.0.segment (suc e)) f
+      of_use broken.0 (suc e) ik403.DependentNotUsedPresent (element_at broken.0.segment (suc e)) f
       (All-contains (IsPlacedQuotable d) placed broken.0 all broken.1.listed) broken.2
 
   under : (g : GuideTree) (parts : SetParts) (given : List (Option Place)) (f : Fault) → IsGuideNamed d g

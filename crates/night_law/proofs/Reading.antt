@@ -5,7 +5,7 @@ use Rattle.std.specs.Prelude.{codes, slice_index_or, if◌then◌else◌}
 use Rattle.std.specs.List.{flat_map}
 use Rattle.std.proofs.lemmas.List.{map-append}
 use Rattle.x12_bytes.specs.declared.delims.Delims.{Delims}
-use Rattle.x12_write.specs.Segment.{Segment, before_rest, segment, trimmed}
+use Rattle.x12_write.specs.Segment.{WrittenSegment, before_rest, segment, trimmed}
 use Rattle.hub_kinds.specs.Words.{set_code_text, verdict_text}
 use Rattle.hub_kinds.specs.declared.answers.GroupAnswer.{GroupAnswer}
 use Rattle.hub_kinds.specs.declared.answers.SetAnswer.{SetAnswer}
@@ -53,7 +53,7 @@ one_read : (d : Delims) (s : SetAnswer) (ss : List (List (List ℕ))) (rs : List
 one_read d s ss rs gives i c =
     let ak2 : List (List ℕ) = s.identifier ∷ s.control ∷ convention_text s.convention ∷ [] in
     let ik5 : List (List ℕ) = verdict_text s.verdict ∷ map set_code_text s.codes in
-    let first : Segment = segment (codes "AK2") ak2 in
+    let first : WrittenSegment = segment (codes "AK2") ak2 in
     let faults : List (List (List ℕ)) = map written_parts (fault_segments d s.faults) in
     let last : List (List ℕ) = written_parts (set_response s) in
     let one : List ℕ = slice_index_or (trimmed ak2) 0 [] in
@@ -95,11 +95,11 @@ pub report_read : (d : Delims) (g : GroupAnswer) (sets : List SetAnswer) (n : �
     → Gives ss rs
     → Gives (map written_parts (segments_999 d g sets n) ++ ss) (shown_responses (shows_sets g.codes) sets ++ rs)
 report_read d g sets n ss rs gives = λ i c.
-    let loops : List Segment = set_loops d g sets in
-    let response : Segment = group_response g (totals_of sets) in
-    let inner : List Segment = head_segments g n ++ loops ++ response ∷ [] in
-    let trailer : Segment = set_trailer (length inner + 1) n in
-    let w : List Segment → List (List (List ℕ)) = map written_parts in
+    let loops : List WrittenSegment = set_loops d g sets in
+    let response : WrittenSegment = group_response g (totals_of sets) in
+    let inner : List WrittenSegment = head_segments g n ++ loops ++ response ∷ [] in
+    let trailer : WrittenSegment = set_trailer (length inner + 1) n in
+    let w : List WrittenSegment → List (List (List ℕ)) = map written_parts in
     let split : w (segments_999 d g sets n) ++ ss
     ≡ w (head_segments g n) ++ (w loops ++ (written_parts response ∷ (written_parts trailer ∷ ss))) =
     ap (λ (xs : List (List (List ℕ))). xs ++ ss) (map-append written_parts inner (trailer ∷ [])

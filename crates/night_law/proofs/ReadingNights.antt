@@ -8,7 +8,7 @@ use Rattle.x12_bytes.specs.declared.delims.Delims.{Delims}
 use Rattle.x12_write.specs.declared.envelope.Envelope.{Envelope}
 use Rattle.x12_write.specs.Group.{texts_in_row}
 use Rattle.x12_write.specs.Header.{header_text}
-use Rattle.x12_write.specs.Segment.{Segment, segment_text}
+use Rattle.x12_write.specs.Segment.{WrittenSegment, segment_text}
 use Rattle.x12_write.specs.Undivided.{CanDivide, IsUndivided}
 use Rattle.moment.specs.Moment.{IsMoment}
 use Rattle.env_index.specs.Words.{IndexEntry, IndexValue, settled, GroupEntry, InterchangeEntry}
@@ -24,7 +24,7 @@ use Rattle.judged_text.specs.Judged.{responded_groups}
 use Rattle.ack_999.specs.Interchange.{group_count, group_part, interchange_text, ta1_part}
 use Rattle.ack_999.specs.Ta1.{ta1_text}
 use Rattle.ack_999.specs.ReadBack.{written_parts}
-use Rattle.ack_999.proofs.ReadBack.{IsReadable}
+use Rattle.ack_999.proofs.ForAbove.{IsReadable}
 use Rattle.ack_999.specs.Report.{shows_sets, text_999}
 use Rattle.checked_text.specs.declared.answered.AnsweredGroup.{AnsweredGroup}
 use Rattle.checked_text.specs.Acknowledgments.{acknowledgment_text, acknowledgment_group_count, present, reports_from, ta1_of}
@@ -168,7 +168,7 @@ module _ (text : List ℕ) (setup : SetupValue) (at : List ℕ) (moment : IsMome
   e = envelope_to setup p
 
   -- a segment around acknowledgments has no response
-  silent : (s : Segment) (ts : List Ta1) → IsReadable d s
+  silent : (s : WrittenSegment) (ts : List Ta1) → IsReadable d s
       → ((i c : List ℕ) (ss : List (List (List ℕ))) → responses_behind i c (written_parts s ∷ ss) ≡ responses_behind i c ss)
       → ta1s_of (written_parts s) ≡ ts → AreResponses d [] ts (segment_text d s.id s.elements)
   silent s ts readable past same = record { responses = []; written = other_written d s ts readable past same; together = tt }

@@ -14,7 +14,7 @@ use Rattle.hub_kinds.specs.declared.answers.SetAnswer.{SetAnswer}
 use Rattle.hub_kinds.specs.declared.fault.Fault.{Fault}
 use Rattle.env_index.specs.Words.{span_of, GroupEntry}
 use Rattle.env_index.specs.declared.entry.SetEnvelope.{SetEnvelope}
-use Rattle.partner_setup.specs.Setup.{guide_of}
+use Rattle.partner_setup.specs.Setup.{guide_for_set}
 use Rattle.set_check.specs.Checked.{Checked, guide_in, parts_in, guide_tree_of}
 use Rattle.set_check.specs.MeetsLaw.{IsWellGuided}
 use Rattle.set_check.specs.SetParts.{SetParts, set_parts}
@@ -69,7 +69,8 @@ module _ (sent : SentValue) (gs : SegValue) (before : List SetEnvelope) (set : S
   control_quoted d undivided = subst (IsUndivided d) (sym control) undivided
 
   pub faults_quoted : (d : Delims) → CanDivide d → IsUndivided d (d.component ∷ []) → IfSome
-      (guide_tree_of (guide_of sent.setup sent.sender (element_of gs 1) (element_of gs 8) (element_of set.header 1))) (IsGuideQuotable d)
+      (guide_tree_of (guide_for_set sent.setup sent.sender (element_of gs 1) (element_of gs 8) (element_of set.header 1)))
+      (IsGuideQuotable d)
       → All (IsQuotableFault d) answer.faults
   faults_quoted d can separator names =
       let c : Checked = is.checked in
@@ -130,7 +131,8 @@ module _ (sent : SentValue) (before : List GroupEntry) (group : GroupEntry) (ans
         control_quoted sent group.header (take n group.sets) set s one (header n set at_set) d (st n set at_set).1);
     faults = each (λ s. All (IsQuotableFault d) s.faults) (λ n set s at_set one.
         faults_quoted sent group.header (take n group.sets) set s one (header n set at_set) d can separator
-        (at_index (λ set. IfSome (guide_tree_of (guide_of sent.setup sent.sender (element_of group.header 1) (element_of group.header 8)
+        (at_index (λ set. IfSome (guide_tree_of (guide_for_set sent.setup sent.sender (element_of group.header 1)
+        (element_of group.header 8)
         (element_of set.header 1))) (IsGuideQuotable d)) group.sets n set at_set quotable));
   }
     where

@@ -6,7 +6,7 @@ use Rattle.std.proofs.lemmas.List.{map-append}
 use Rattle.std.proofs.lemmas.List.Concat.{flat_map-append}
 use Rattle.x12_bytes.specs.Header.{field_of}
 use Rattle.x12_bytes.specs.declared.delims.Delims.{Delims}
-use Rattle.x12_write.specs.Segment.{Segment, trimmed}
+use Rattle.x12_write.specs.Segment.{WrittenSegment, trimmed}
 use Rattle.hub_kinds.specs.Words.{acknowledgment_code}
 use Rattle.hub_kinds.specs.declared.answers.GroupAnswer.{GroupAnswer}
 use Rattle.hub_kinds.specs.declared.answers.SetAnswer.{SetAnswer}
@@ -19,10 +19,10 @@ use Rattle.night_law.proofs.Enveloping.{ta1, ta1_elements}
 use Rattle.night_law.proofs.Reading.{trimmed_at}
 
 -- these segments have no TA1
-abbrev IsSilent : List Segment → Type 0
+abbrev IsSilent : List WrittenSegment → Type 0
 IsSilent segs = ta1s_among (map written_parts segs) ≡ []
 
-both_silent : (xs ys : List Segment) → IsSilent xs → IsSilent ys → IsSilent (xs ++ ys)
+both_silent : (xs ys : List WrittenSegment) → IsSilent xs → IsSilent ys → IsSilent (xs ++ ys)
 both_silent xs ys front back =
     ap ta1s_among (map-append written_parts xs ys)
     ∙ flat_map-append ta1s_of (map written_parts xs) (map written_parts ys)
@@ -52,8 +52,8 @@ loops_silent false d sets = refl
 
 pub report_silent : (d : Delims) (g : GroupAnswer) (sets : List SetAnswer) (n : ℕ) → IsSilent (segments_999 d g sets n)
 report_silent d g sets n =
-    let loops : List Segment = set_loops d g sets in
-    let response : List Segment = group_response g (totals_of sets) ∷ [] in
+    let loops : List WrittenSegment = set_loops d g sets in
+    let response : List WrittenSegment = group_response g (totals_of sets) ∷ [] in
     both_silent (head_segments g n ++ loops ++ response) _
     (both_silent (head_segments g n ++ loops) response
     (both_silent (head_segments g n) loops refl (loops_silent (shows_sets g.codes) d sets)) refl) refl

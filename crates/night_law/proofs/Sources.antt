@@ -10,7 +10,7 @@ use Rattle.x12_bytes.specs.Header.{IsHeader, component_separator_of, header_deli
 use Rattle.x12_bytes.specs.Header.{terminator_of}
 use Rattle.x12_bytes.specs.HeaderTest.{is_head}
 use Rattle.x12_bytes.specs.declared.delims.Delims.{Delims}
-use Rattle.x12_bytes.proofs.Testing.{decides_head}
+use Rattle.x12_bytes.proofs.ForAbove.{decides_head}
 use Rattle.x12_segs.specs.Words.{may_stand_in_set, kind_of, SegValue}
 use Rattle.x12_write.specs.Delimiters.{is_this}
 use Rattle.hub_kinds.specs.declared.interchange.InterchangeFault.{InterchangeFault}
@@ -19,7 +19,7 @@ use Rattle.env_index.specs.Words.{AGroup, ATa1, ASet, AreBodyMembers, AreMembers
 use Rattle.env_index.specs.Words.{option_items, ChainFrom, IndexEntry, IndexValue, IsEntryOf, IsIndex, IsReadIn, extents_of}
 use Rattle.env_index.specs.Words.{InterchangeEntry, settled, with_faults, EachSet, EachSetIn, SetStandsAlone, GroupEntry, group_entry}
 use Rattle.env_index.specs.Words.{groups_in, set_entry, sets_in}
-use Rattle.env_index.proofs.Standing.{all_alone}
+use Rattle.env_index.proofs.ForAbove.{all_alone}
 use Rattle.night_law.proofs.Changing.{AreApart}
 
 -- a set as it stands in the text

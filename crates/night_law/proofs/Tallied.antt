@@ -16,11 +16,11 @@ use Rattle.count_numbers.specs.declared.entry.Entry.{Entry}
 use Rattle.count_numbers.specs.declared.entry.Entry.TheVariants.{Delivered}
 use Rattle.count_numbers.specs.declared.entry.PartnerEntry.{PartnerEntry}
 use Rattle.count_numbers.specs.declared.numbering.PartnerNumbers.{PartnerNumbers}
-use Rattle.count_numbers.proofs.Counts.{numbers_counted}
+use Rattle.count_numbers.proofs.ForAbove.{numbers_counted}
 use Rattle.judged_text.specs.Judged.{PlacedValue}
 use Rattle.mailbox.specs.Mailbox.{group_total}
 use Rattle.mailbox.specs.Numbered.{group_key_of}
-use Rattle.mailbox.proofs.Tallied.{groups_are_counted}
+use Rattle.mailbox.proofs.ForAbove.{groups_are_counted}
 use Rattle.partner_setup.specs.declared.partner.Partner.{Partner}
 use Rattle.checked_text.specs.Acknowledgments.{has_reports}
 use Rattle.checked_text.specs.CheckedText.{CheckedInterchange, acknowledged_to, acknowledgment_of, groups_to}

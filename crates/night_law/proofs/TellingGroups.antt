@@ -10,7 +10,7 @@ use Rattle.x12_bytes.specs.declared.delims.Delims.{Delims}
 use Rattle.x12_segs.specs.Words.{SegValue, element_of}
 use Rattle.x12_write.specs.Group.{texts_in_row}
 use Rattle.x12_write.specs.Number.{padded_number}
-use Rattle.x12_write.specs.Segment.{Segment, segment_text}
+use Rattle.x12_write.specs.Segment.{WrittenSegment, segment_text}
 use Rattle.hub_kinds.specs.Words.{number_of}
 use Rattle.hub_kinds.specs.declared.answers.GroupAnswer.{GroupAnswer}
 use Rattle.hub_kinds.specs.declared.answers.SetAnswer.{SetAnswer}
@@ -19,14 +19,14 @@ use Rattle.hub_kinds.specs.declared.set_codes.GroupCode.TheVariants as code
 use Rattle.guide_tree.specs.declared.rows.GuideRows.{GuideRows}
 use Rattle.env_index.specs.Words.{GroupEntry}
 use Rattle.env_index.specs.declared.entry.SetEnvelope.{SetEnvelope}
-use Rattle.partner_setup.specs.Setup.{guide_of, guides_of, has_group, is_for_version}
+use Rattle.partner_setup.specs.Setup.{guide_for_set, guides_of, has_group, is_for_version}
 use Rattle.set_check.specs.Checked.{guide_tree_of}
-use Rattle.ack_999.specs.Group.{agree, earlier_group_codes, group_codes_of, totals_of, unless}
+use Rattle.ack_999.specs.Group.{are_same_number, earlier_group_codes, group_codes_of, totals_of, unless}
 use Rattle.ack_999.specs.Report.{group_response, head_text, segment_count, set_text, sets_text, shows_sets, tail_text, text_999}
 use Rattle.ack_999.specs.declared.support.GroupSupport.{GroupSupport}
 use Rattle.ack_999.specs.declared.support.GroupSupport.TheVariants as support
 use Rattle.ack_999.specs.declared.trailer.GroupTrailer.{GroupTrailer}
-use Rattle.ack_999.proofs.Parts.{text_999-parts}
+use Rattle.ack_999.proofs.ForAbove.{text_999-parts}
 use Rattle.checked_text.specs.declared.answered.AnsweredGroup.{AnsweredGroup}
 use Rattle.checked_text.specs.Answers.{AreSetAnswers, IsGroupAnswer, IsSetAnswer, SentValue, answer_by, codes_where, has_number_among}
 use Rattle.checked_text.specs.Answers.{support_of, trailer_of}
@@ -60,8 +60,8 @@ codes_show : (served : GroupSupport) (control : List ℕ) (trailer : Option Grou
 codes_show support.Served control None sets true = refl
 codes_show support.Served control None sets false = refl
 codes_show support.Served control (Some trailer) sets earlier =
-    by_tests (agree (number_of MOST_CONTROL_DIGITS trailer.control) (number_of MOST_CONTROL_DIGITS control))
-    (agree (number_of MOST_COUNT_DIGITS trailer.listed) (Some sets)) earlier
+    by_tests (are_same_number (number_of MOST_CONTROL_DIGITS trailer.control) (number_of MOST_CONTROL_DIGITS control))
+    (are_same_number (number_of MOST_COUNT_DIGITS trailer.listed) (Some sets)) earlier
 codes_show support.NotServed control trailer sets earlier = refl
 codes_show support.VersionNotServed control trailer sets earlier = refl
 
@@ -110,7 +110,7 @@ others_fail : (sent : SentValue) (group : GroupEntry) → is_served sent group �
 others_fail sent group none before set meets =
     let gs1 : List ℕ = element_of group.header 1 in
     let gs8 : List ℕ = element_of group.header 8 in
-    let no_guide : guide_of sent.setup sent.sender gs1 gs8 (element_of set.header 1) ≡ None =
+    let no_guide : guide_for_set sent.setup sent.sender gs1 gs8 (element_of set.header 1) ≡ None =
     none_found (is_for_version gs1 gs8) (λ (g : GuideRows). bytes_eq g.head.set (element_of set.header 1))
     (guides_of sent.setup sent.sender) none in
     let guided : None ≡ Some meets.alone.known = sym (ap guide_tree_of no_guide) ∙ meets.alone.guided in
@@ -129,7 +129,7 @@ group_told d sent n before group answered headers is =
     let g : GroupAnswer = answered.answer in
     let sets : List SetAnswer = answered.sets in
     let earlier : Bool = has_number_among before group in
-    let response : Segment = group_response g (totals_of sets) in
+    let response : WrittenSegment = group_response g (totals_of sets) in
     let segments : ℕ = segment_count g (totals_of sets) in
     let served : shows_sets g.codes ≡ is_served sent group =
     ap (λ (a : GroupAnswer). shows_sets a.codes) is.is ∙ shown_as_served sent earlier group in

@@ -9,7 +9,7 @@ use Rattle.std.proofs.lemmas.List.Folds.{flat_map-map}
 use Rattle.x12_bytes.specs.declared.delims.Delims.{Delims}
 use Rattle.x12_segs.specs.Words.{SegValue}
 use Rattle.x12_segs.specs.declared.set_span.SetSpan.{SetSpan}
-use Rattle.x12_write.specs.Segment.{Segment, elements_text, segment, segment_text, trimmed}
+use Rattle.x12_write.specs.Segment.{WrittenSegment, elements_text, segment, segment_text, trimmed}
 use Rattle.hub_kinds.specs.Words.{set_code_text, verdict_text}
 use Rattle.hub_kinds.specs.declared.answers.SetAnswer.{SetAnswer}
 use Rattle.hub_kinds.specs.declared.fault.Fault.{Fault}
@@ -35,8 +35,8 @@ loop_parts : (d : Delims) (s : SetAnswer)
     → set_text d s ≡ segment_text d (codes "AK2") (s.identifier ∷ s.control ∷ convention_text s.convention ∷ [])
     ++ notes_text d (notes s.faults) ++ set_closing d s.verdict s.codes
 loop_parts d s =
-    let f : Segment → List ℕ = λ s. segment_text d s.id s.elements in
-    let first : Segment = segment (codes "AK2") (s.identifier ∷ s.control ∷ convention_text s.convention ∷ []) in
+    let f : WrittenSegment → List ℕ = λ s. segment_text d s.id s.elements in
+    let first : WrittenSegment = segment (codes "AK2") (s.identifier ∷ s.control ∷ convention_text s.convention ∷ []) in
     flat_map-append f (first ∷ fault_segments d s.faults) (set_response s ∷ [])
     ∙ ap (λ (t : List ℕ). (f first ++ flat_map f (fault_segments d s.faults)) ++ t) (append-nil (set_closing d s.verdict s.codes))
     ∙ ap (λ (t : List ℕ). (f first ++ t) ++ set_closing d s.verdict s.codes) (flat_map-map f (note_segment d) (notes s.faults))

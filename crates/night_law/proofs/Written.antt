@@ -5,14 +5,13 @@ use Rattle.std.proofs.lemmas.List.{map-append}
 use Rattle.std.proofs.lemmas.List.Concat.{flat_map-append}
 use Rattle.std.proofs.lemmas.List.Elements.{All-append, All-cons, All-nil}
 use Rattle.x12_bytes.specs.declared.delims.Delims.{Delims}
-use Rattle.x12_write.specs.Segment.{Segment, segment_text, segments_text}
+use Rattle.x12_write.specs.Segment.{WrittenSegment, segment_text, segments_text}
 use Rattle.x12_write.specs.Undivided.{CanDivide}
 use Rattle.hub_kinds.specs.declared.answers.GroupAnswer.{GroupAnswer}
 use Rattle.hub_kinds.specs.declared.answers.SetAnswer.{SetAnswer}
 use Rattle.ack_999.specs.ReadBack.{IsQuotable, written_parts}
 use Rattle.ack_999.specs.Report.{segments_999, shows_sets, text_999}
-use Rattle.ack_999.proofs.ReadBack.{IsReadable, segments_text-reads_back}
-use Rattle.ack_999.proofs.Readable.{readable-999}
+use Rattle.ack_999.proofs.ForAbove.{IsReadable, segments_text-reads_back, readable-999}
 use Rattle.night_law.specs.Responses.{Response, responses_behind, responses_in}
 use Rattle.night_law.specs.Ta1sRead.{Ta1, ta1s_among, ta1s_in, ta1s_of}
 use Rattle.night_law.proofs.Reading.{Gives, report_read, shown_responses}
@@ -20,7 +19,7 @@ use Rattle.night_law.proofs.Silent.{report_silent}
 
 -- a text is made of segments that are read again, with these responses and TA1s
 pub record IsWritten (d : Delims) (text : List ℕ) (rs : List Response) (ts : List Ta1) : Type 0 where
-  pub segs : List Segment
+  pub segs : List WrittenSegment
   pub is : text ≡ segments_text d segs
   pub readable : All (IsReadable d) segs
   pub gives : (ss : List (List (List ℕ))) (more : List Response) → Gives ss more → Gives (map written_parts segs ++ ss) (rs ++ more)
@@ -40,7 +39,7 @@ pub one_behind : (d : Delims) (a b : List ℕ) (rs us : List Response) (ts vs : 
 one_behind d a b rs us ts vs front back = record {
   segs = front.segs ++ back.segs;
   is = ap (λ (t : List ℕ). t ++ b) front.is ∙ ap (λ (t : List ℕ). segments_text d front.segs ++ t) back.is
-      ∙ sym (flat_map-append (λ (s : Segment). segment_text d s.id s.elements) front.segs back.segs);
+      ∙ sym (flat_map-append (λ (s : WrittenSegment). segment_text d s.id s.elements) front.segs back.segs);
   readable = All-append (IsReadable d) front.segs back.segs front.readable back.readable;
   gives = λ ss more gives i c.
       ap (λ (xs : List (List (List ℕ))). responses_behind i c (xs ++ ss)) (map-append written_parts front.segs back.segs)
@@ -54,7 +53,7 @@ one_behind d a b rs us ts vs front back = record {
 }
 
 -- a segment that is neither AK2 nor IK5
-pub other_written : (d : Delims) (s : Segment) (ts : List Ta1) → IsReadable d s
+pub other_written : (d : Delims) (s : WrittenSegment) (ts : List Ta1) → IsReadable d s
     → ((i c : List ℕ) (ss : List (List (List ℕ))) → responses_behind i c (written_parts s ∷ ss) ≡ responses_behind i c ss)
     → ta1s_of (written_parts s) ≡ ts → IsWritten d (segment_text d s.id s.elements) [] ts
 other_written d s ts readable past same = record {

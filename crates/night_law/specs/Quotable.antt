@@ -13,7 +13,7 @@ use Rattle.guide_tree.specs.View as view
 use Rattle.elem_rules.specs.Rows.{component_reference, components_of, element_reference}
 use Rattle.env_index.specs.Words.{GroupEntry, IndexEntry, IndexValue, IsIndex}
 use Rattle.partner_setup.specs.declared.partner.Partner.{Partner}
-use Rattle.partner_setup.specs.Setup.{SetupValue, guide_of}
+use Rattle.partner_setup.specs.Setup.{SetupValue, guide_for_set}
 use Rattle.set_check.specs.Checked.{guide_tree_of}
 use Rattle.judged_text.specs.Judged.{responded_groups}
 use Rattle.checked_text.specs.Answers.{SentValue}
@@ -38,7 +38,7 @@ IsGuideQuotable d g = EachNode (IsNodeQuotable d) g.nodes
 abbrev pub IsGroupQuotable : Delims → SentValue → GroupEntry → Type 0
 IsGroupQuotable d sent group =
     All (λ set. IfSome
-    (guide_tree_of (guide_of sent.setup sent.sender (element_of group.header 1) (element_of group.header 8) (element_of set.header 1)))
+    (guide_tree_of (guide_for_set sent.setup sent.sender (element_of group.header 1) (element_of group.header 8) (element_of set.header 1)))
     (IsGuideQuotable d)) group.sets
 
 -- of each group that is responded to of each interchange that is acknowledged to a partner

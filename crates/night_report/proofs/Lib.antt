@@ -1,4 +1,5 @@
 pub mod Adding
+pub mod ForAbove
 mod Counting
 mod Ending
 mod Spacing

@@ -4,7 +4,7 @@ use Rattle.std.specs.List.{All, AllZip}
 use Rattle.hub_kinds.specs.declared.limits.TheConstants.{LONGEST_TEXT}
 use Rattle.env_index.specs.Words.{HasSpans, IndexEntry, IndexValue, with_faults}
 use Rattle.partner_setup.specs.Setup.{SetupValue}
-use Rattle.checked_text.proofs.Settling.{settled_spans}
+use Rattle.checked_text.proofs.ForAbove.{settled_spans}
 use Rattle.checked_text.specs.Asked.{IsFound, asked_of}
 use Rattle.number_register.specs.SeenNumbers.{HaveSeen}
 use Rattle.checked_text.specs.Settled.{faults_with}

@@ -7,26 +7,23 @@ use Rattle.std.specs.Io.KnownBytes.{Consumes, IsAtEnd}
 use Rattle.hub_kinds.specs.declared.limits.TheConstants.{LONGEST_TEXT}
 use Rattle.env_index.specs.Words.{Extent, IndexValue, IsIndex, with_faults}
 use Rattle.env_index.specs.Index.{extents_of}
-use Rattle.env_index.proofs.Surround.{head_within}
+use Rattle.env_index.proofs.ForAbove.{head_within}
 use Rattle.partner_setup.specs.Setup.{SetupValue}
 use Rattle.checked_text.specs.CheckedText.{judged}
 use Rattle.number_register.specs.SeenNumbers.{HaveSeen}
 use Rattle.checked_text.specs.Settled.{faults_with, kept_keys, settled_faults}
 use Rattle.batch_law.specs.Batches.{ChainUpTo}
-use Rattle.batch_law.proofs.Chains.{chain_up_to_end}
-use Rattle.batch_night.proofs.Numbering.{keys_behind}
-use Rattle.batch_cut.proofs.Stays.{stands_on}
+use Rattle.batch_law.proofs.ForAbove.{chain_up_to_end}
+use Rattle.batch_night.proofs.ForAbove.{keys_behind, closed, night_starts, night_steps, batch_shown}
+use Rattle.batch_cut.proofs.ForAbove.{stands_on}
 use Rattle.batch_cut.specs.Scouting.{Advances, Stands}
 use Rattle.batch_cut.specs.declared.scout.Advanced.{Advanced}
 use Rattle.batch_cut.specs.declared.scout.Inside.{Inside}
-use Rattle.batch_night.proofs.Closed.{closed}
-use Rattle.batch_night.proofs.Going.{night_starts, night_steps}
-use Rattle.batch_night.proofs.Shown.{batch_shown}
 use Rattle.batch_night.specs.UpTo.{IsBatchOf, IsNightUpTo, NightSoFar, behind_batch, none_yet}
 use Rattle.night_writing.specs.Writing.{IsBatchWritten, IsClosedBy, WritingValue, nothing_written}
 use Rattle.night_writing.specs.declared.night.Night.{Night}
 use Rattle.stream_read.specs.Held.{HasRead, HeldValue}
-use Rattle.stream_read.proofs.Known.{consumes_on}
+use Rattle.stream_read.proofs.ForAbove.{consumes_on}
 use Rattle.night_stream.proofs.Bounds.{faulty_length, few_up_to}
 use Rattle.night_stream.specs.Carried.{CanGoOn, HasWorked}
 use Rattle.night_stream.specs.Reading.{IsNightOfStream, IsReadUpTo}

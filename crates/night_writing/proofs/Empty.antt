@@ -3,10 +3,10 @@ use Rattle.std.proofs.Common.{◌≡◌, ℕ, ◌+◌, List, [], ◌∷◌, ◌+
 use Rattle.env_index.specs.Words.{IndexEntry}
 use Rattle.partner_setup.specs.Setup.{SetupValue}
 use Rattle.mailbox.specs.Rendered.{RenderedValue}
-use Rattle.night_report.proofs.Adding.{with_none}
+use Rattle.night_report.proofs.ForAbove.{with_none}
 use Rattle.night_report.specs.Told.{ToldValue, told_behind}
 use Rattle.night_report.specs.declared.totals.Totals.{Totals}
-use Rattle.checked_text.proofs.Pairing.{no_pairs}
+use Rattle.checked_text.proofs.ForAbove.{no_pairs}
 use Rattle.checked_text.specs.CheckedText.{AreAcknowledgments, CheckedInterchange, IsCheckedAs}
 use Rattle.night_writing.specs.Writing.{IsBatchWritten, WritingValue, with_outside}
 

@@ -7,14 +7,14 @@ use Rattle.partner_setup.specs.declared.partner.Partner.{Partner}
 use Rattle.partner_setup.specs.Setup.{SetupValue}
 use Rattle.mailbox.specs.Deliveries.{delivered_to}
 use Rattle.mailbox.specs.Rendered.{RenderedValue, groups_of_rendered, rendered_from}
-use Rattle.mailbox.proofs.Rendering.{boxes_rendered}
+use Rattle.mailbox.proofs.ForAbove.{boxes_rendered}
 use Rattle.judged_text.specs.Judged.{JudgedValue, PlacedValue}
 use Rattle.night_report.specs.Lines.{total_line}
 use Rattle.night_report.specs.Report.{all_lines}
 use Rattle.night_report.specs.declared.totals.Totals.{Totals}
 use Rattle.checked_text.specs.CheckedText.{CheckedInterchange, AreAcknowledgments, SentValues, acknowledgments_to, nothing_sent}
 use Rattle.checked_text.specs.Pairs.{ArePairs}
-use Rattle.checked_text.proofs.Pairing.{pairs_more}
+use Rattle.checked_text.proofs.ForAbove.{pairs_more}
 use Rattle.night_writing.specs.declared.night.Night.{Night}
 use Rattle.night_writing.specs.ByPlace.{box_behind, box_by, next_behind, next_by, sent_at, sets_at}
 use Rattle.night_writing.specs.Night.{AreForPartners, IsNightOf, acks_of, box_of, counters_by, judgements, next_of}

@@ -1,3 +1,4 @@
 pub mod Empty
+pub mod ForAbove
 pub mod Joining
 pub mod Starting

@@ -6,7 +6,7 @@ use Rattle.std.proofs.lemmas.Option.{slice_get_within}
 use Rattle.env_index.specs.Words.{IndexEntry}
 use Rattle.partner_setup.specs.Setup.{SetupValue}
 use Rattle.judged_text.specs.Judged.{JudgedValue}
-use Rattle.night_report.proofs.Adding.{none_with}
+use Rattle.night_report.proofs.ForAbove.{none_with}
 use Rattle.night_report.specs.Report.{report_totals}
 use Rattle.night_report.specs.Told.{ToldValue, nothing_told, told_behind}
 use Rattle.checked_text.specs.CheckedText.{AreAcknowledgments, nothing_sent}

@@ -1,5 +1,6 @@
 pub mod Apart
 pub mod FirstRow
+pub mod ForAbove
 pub mod Lines
 pub mod Marks
 pub mod Naming

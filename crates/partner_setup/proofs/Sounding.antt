@@ -188,7 +188,7 @@ last_unrefused : {A : Type 0} (f : A → SetupFault) (place : Option A) → opti
 last_unrefused f None e = refl
 last_unrefused f (Some x) e = absurd cc
 
-neither : (a b : Option ℕ) → faults.lesser a b ≡ None → (a ≡ None) × (b ≡ None)
+neither : (a b : Option ℕ) → faults.lesser_place a b ≡ None → (a ≡ None) × (b ≡ None)
 neither None b e = (refl, e)
 neither (Some m) None e = absurd cc
 neither (Some m) (Some n) e = absurd cc

@@ -2,7 +2,7 @@
 use Rattle.std.specs.Prelude.{ℕ, zero, suc, ◌≡◌, true, pos, negsuc, List, [], ◌∷◌, codes, refl, Some, None, Ok, Err}
 use Rattle.toml.specs.Data.{Data, string, integer, boolean, array, table, Items, no_items, item, Members, no_members, member}
 use Rattle.toml_keys.specs.Refusals.{missing, wrong_kind, unknown}
-use Rattle.partner_setup.specs.CountersFile.{counter_in, counters_of_table, first_counter_of, second_counter_of, top_of, version_in}
+use Rattle.partner_setup.specs.CountersFile.{counter_in, counters_of_table, first_counter_of, second_counter_of, counters_top, version_in}
 use Rattle.partner_setup.specs.SetupFile.{receivers_in, route_in, route_of}
 use Rattle.partner_setup.specs.declared.receivers.TheConstants.{MOST_RECEIVERS}
 use Rattle.partner_setup.specs.declared.values.Version.TheVariants as versions
@@ -139,19 +139,19 @@ file_of version counter = member (codes "counter") (array (item counter no_items
 
 file_of_version_one : counters_of_table (file_of (integer (pos 1)) without_group)
     ≡ Ok (record { partner = codes "ACME"; counters = record { interchange = 2; group = 1; set = 4 } } ∷ [])
-unfolding counters_of_table top_of first_counter_of
+unfolding counters_of_table counters_top first_counter_of
 file_of_version_one = refl
 
 file_of_version_two : counters_of_table (file_of (integer (pos 2)) with_group)
     ≡ Ok (record { partner = codes "ACME"; counters = record { interchange = 2; group = 3; set = 4 } } ∷ [])
-unfolding counters_of_table top_of second_counter_of
+unfolding counters_of_table counters_top second_counter_of
 file_of_version_two = refl
 
 -- the version is judged before the counters
 file_of_version_three : counters_of_table (file_of (integer (pos 3)) (boolean true)) ≡ Err (wrong_kind (codes "version"))
-unfolding counters_of_table top_of
+unfolding counters_of_table counters_top
 file_of_version_three = refl
 
 file_without_counters : counters_of_table (member (codes "version") (integer (pos 2)) no_members) ≡ Ok []
-unfolding counters_of_table top_of
+unfolding counters_of_table counters_top
 file_without_counters = refl

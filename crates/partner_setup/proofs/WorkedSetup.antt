@@ -16,7 +16,7 @@ use Rattle.partner_setup.specs.declared.setup_fault.GuidesOwner.TheVariants as g
 use Rattle.partner_setup.specs.declared.setup_fault.IdOwner.TheVariants as owner
 use Rattle.partner_setup.specs.declared.setup_fault.SetupFault.TheVariants as fault
 use Rattle.partner_setup.specs.SetupFaults.{first_fault}
-use Rattle.partner_setup.specs.Setup.{counters_of, setup_of, route_of, has_group, has_version, guide_of}
+use Rattle.partner_setup.specs.Setup.{counters_of, setup_of, route_of, has_group, has_version, guide_for_set}
 use Rattle.partner_setup.specs.CountersText.{counters_text, counter_lines, name_lines, number_line, line_end}
 
 abbrev pub guide : (name group set version : List ℕ) → Vec Node Global → GuideRows
@@ -312,11 +312,11 @@ counter_of_the_second_row : (nodes : Vec Node Global) → first_fault rows (coun
 counter_of_the_second_row nodes = refl
 
 guide_of_orders : (nodes : Vec Node Global) →
-    guide_of (setup_of rows counters (guides nodes)) 1 (codes "PO") (codes "005010") (codes "850") ≡ Some (orders nodes)
+    guide_for_set (setup_of rows counters (guides nodes)) 1 (codes "PO") (codes "005010") (codes "850") ≡ Some (orders nodes)
 guide_of_orders nodes = refl
 
 no_guide_of_a_set : (nodes : Vec Node Global) →
-    guide_of (setup_of rows counters (guides nodes)) 1 (codes "PO") (codes "005010") (codes "860") ≡ None
+    guide_for_set (setup_of rows counters (guides nodes)) 1 (codes "PO") (codes "005010") (codes "860") ≡ None
 no_guide_of_a_set nodes = refl
 
 -- the numbers of the next night, partner by partner

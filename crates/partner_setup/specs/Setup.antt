@@ -108,5 +108,5 @@ abbrev pub has_version : SetupValue → (partner : ℕ) → (group version : Lis
 has_version setup partner group version = list_any (is_for_version group version) (guides_of setup partner)
 
 -- the partner's guide for a GS01, GS08 and ST01
-abbrev pub guide_of : SetupValue → (partner : ℕ) → (group version set : List ℕ) → Option GuideRows
-guide_of setup partner group version set = find (is_for_set group version set) (guides_of setup partner)
+abbrev pub guide_for_set : SetupValue → (partner : ℕ) → (group version set : List ℕ) → Option GuideRows
+guide_for_set setup partner group version set = find (is_for_set group version set) (guides_of setup partner)

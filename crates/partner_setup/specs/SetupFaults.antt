@@ -44,14 +44,14 @@ abbrev pub first_twin : {A : Type 0} → (A → List ℕ) → List A → Option 
 first_twin key rows = twin_from key 0 rows
 
 -- the lesser of two places
-abbrev pub lesser : Option ℕ → Option ℕ → Option ℕ
-lesser None b = b
-lesser (Some m) None = Some m
-lesser (Some m) (Some n) = Some (min m n)
+abbrev pub lesser_place : Option ℕ → Option ℕ → Option ℕ
+lesser_place None b = b
+lesser_place (Some m) None = Some m
+lesser_place (Some m) (Some n) = Some (min m n)
 
 -- 1: a name given twice, or a qualifier and id given twice
 abbrev pub same_partner : List PartnerRow → Option ℕ
-same_partner ps = lesser (first_twin (λ (p : PartnerRow). by_name p.name) ps)
+same_partner ps = lesser_place (first_twin (λ (p : PartnerRow). by_name p.name) ps)
     (first_twin (λ (p : PartnerRow). key_of_texts p.qualifier p.id []) ps)
 
 -- the bytes that may delimit: 0x1C to 0x1F, and 0x21 to 0x7E but letters, digits, `-`, `.` and `_`; a terminator may be CR or LF too
@@ -146,7 +146,7 @@ abbrev pub is_route : List PartnerRow → RouteRow → Bool
 is_route ps r = is_id 2 15 r.code && are_targets ps r.to
 
 abbrev pub bad_route : List PartnerRow → List RouteRow → Option ℕ
-bad_route ps routes = lesser (first_row (λ r. not (is_route ps r)) routes) (first_twin (λ (r : RouteRow). by_name r.code) routes)
+bad_route ps routes = lesser_place (first_row (λ r. not (is_route ps r)) routes) (first_twin (λ (r : RouteRow). by_name r.code) routes)
 
 -- 6: a number out of 1 to 999,999,999, a partner that isn't there, or one given twice
 abbrev pub is_counter : ℕ → Bool
@@ -159,7 +159,7 @@ abbrev pub counts_for : List PartnerRow → CounterRow → Bool
 counts_for ps c = are_counters c.counters && contains_text (map name_of_row ps) c.partner
 
 abbrev pub bad_counter : List PartnerRow → List CounterRow → Option ℕ
-bad_counter ps cs = lesser (first_row (λ c. not (counts_for ps c)) cs) (first_twin (λ (c : CounterRow). by_name c.partner) cs)
+bad_counter ps cs = lesser_place (first_row (λ c. not (counts_for ps c)) cs) (first_twin (λ (c : CounterRow). by_name c.partner) cs)
 
 -- 7: a cap out of 1 to 99,999
 abbrev pub is_cap : ℕ → Bool

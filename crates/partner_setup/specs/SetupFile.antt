@@ -5,7 +5,7 @@ use Rattle.std.specs.Str.{bytes_eq}
 use Rattle.toml.specs.Data.{Data, table, Items, no_items, item, Members, as_str, as_table}
 use Rattle.toml_keys.specs.Refusals.{Refusal, wrong_kind}
 use Rattle.toml_keys.specs.Keys.{least_unknown, if_known}
-use Rattle.toml_keys.specs.Tables.{◌>>=◌, required, optional, count_in, list_in, tables_in}
+use Rattle.toml_keys.specs.Tables.{◌>>=◌, required, optional, count_of_data, list_in, tables_in}
 use Rattle.partner_setup.specs.declared.rows.HubRow.{HubRow}
 use Rattle.partner_setup.specs.declared.rows.PartnerRow.{PartnerRow}
 use Rattle.partner_setup.specs.declared.rows.RouteRow.{RouteRow}
@@ -73,7 +73,7 @@ partner_of ms = do
   component ← required as_str (codes "component") ms
   repetition ← required as_str (codes "repetition") ms
   terminator ← required as_str (codes "terminator") ms
-  cap ← required count_in (codes "cap") ms
+  cap ← required count_of_data (codes "cap") ms
   guides ← required (list_in as_str) (codes "guides") ms
   Ok (record {
     name = name;

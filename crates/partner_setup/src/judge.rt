@@ -23,7 +23,7 @@ use std::collections::BTreeMap;
 
 /// The lesser of two places.
 fn lesser(a: Option<usize>, b: Option<usize>) -> Option<usize>
-    ensures { result ≡ faults.lesser a b }
+    ensures { result ≡ faults.lesser_place a b }
 {
     match (a, b) {
         (None, b) => b,

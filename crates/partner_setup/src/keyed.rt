@@ -18,7 +18,7 @@ pub fn text_at(alloc: Global, table: &Table, key: &'static str) -> Result<Text, 
 
 /// The number of 0 to 4,294,967,295 at a key.
 pub fn count_at(alloc: Global, table: &Table, key: &'static str) -> Result<u32, FileFault>
-    ensures { Gives result (tables.required tables.count_in key.now (table_view table.now)) }
+    ensures { Gives result (tables.required tables.count_of_data key.now (table_view table.now)) }
 {
     required(alloc, table, key, &Count)
 }

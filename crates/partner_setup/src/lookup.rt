@@ -203,7 +203,7 @@ impl Setup {
         version: &[u8],
         set: &[u8],
     ) -> Option<&Guide>
-        ensures { option_map (λ g. g.now) result ≡ setup.guide_of self.now partner group.now version.now set.now }
+        ensures { option_map (λ g. g.now) result ≡ setup.guide_for_set self.now partner group.now version.now set.now }
     {
         first_for_set(self.guides(), self.places_of(partner), group, version, set)
     }

@@ -163,7 +163,7 @@ fn named_partner(alloc: Global, table: &Table, names: Names) -> Result<PartnerRo
         tables.required as_str (codes "component") (table_view table.now) ⊳ λ component.
         tables.required as_str (codes "repetition") (table_view table.now) ⊳ λ repetition.
         tables.required as_str (codes "terminator") (table_view table.now) ⊳ λ terminator.
-        tables.required tables.count_in (codes "cap") (table_view table.now) ⊳ λ cap.
+        tables.required tables.count_of_data (codes "cap") (table_view table.now) ⊳ λ cap.
         tables.required (tables.list_in as_str) (codes "guides") (table_view table.now) ⊳ λ guides.
         Ok (record {
           name = names.name;

@@ -4,7 +4,7 @@ use Rattle.std.specs.Prelude.{option_and_then}
 use Rattle.std.specs.Option.{option_map_or}
 use Rattle.hub_kinds.specs.declared.limits.TheConstants.{MOST_COMPONENTS, MOST_ELEMENTS}
 use Rattle.guide_tree.specs.Words as guide
-use Rattle.guide_tree.specs.Words.{Tree, is_filled, is_loop_id, is_slot_id, loop, or_else, segment}
+use Rattle.guide_tree.specs.Words.{Tree, has_codes, is_loop_id, is_slot_id, loop, or_else, segment}
 use Rattle.guide_tree.specs.declared.limits.TheConstants.{LONGEST_ELEMENT, MOST_USES}
 use Rattle.guide_tree.specs.declared.element.CodeList.{CodeList}
 use Rattle.guide_tree.specs.declared.element.Component.{Component}
@@ -29,8 +29,8 @@ use_cause least most =
 
 abbrev pub codes_cause : CodeList → Option RowCause
 codes_cause c =
-    if not (is_filled c.used) then Some in_row.NoCode
-    else (if option_map_or (λ unused. not (is_filled unused)) c.unused false then Some in_row.NoUnusedCode else None)
+    if not (has_codes c.used) then Some in_row.NoCode
+    else (if option_map_or (λ unused. not (has_codes unused)) c.unused false then Some in_row.NoUnusedCode else None)
 
 abbrev pub row_cause : SimpleRow → Option RowCause
 row_cause r =

@@ -1,7 +1,7 @@
 -- X12.6, relational conditions; picks are own: what of a segment position's conditions and picks can't be.
 use Rattle.std.specs.Prelude.{ℕ, Bool, nat_lt, not, List, [], ◌∷◌, length, Option, Some, None, if◌then◌else◌, option_map}
 use Rattle.std.specs.List.{find, list_any}
-use Rattle.guide_tree.specs.Words.{has_row, is_filled, or_else}
+use Rattle.guide_tree.specs.Words.{has_row, has_codes, or_else}
 use Rattle.guide_tree.specs.declared.slot.Condition.{Condition}
 use Rattle.guide_tree.specs.declared.slot.Pick.{Pick}
 use Rattle.guide_tree.specs.declared.slot.Slot.{Slot}
@@ -22,7 +22,7 @@ are_few c = nat_lt (length c.positions) 2
 abbrev pub pick_cause : Slot → Pick → Option ConditionCause
 pick_cause s p =
     if not (has_row s p.position) then Some (cause.PickNoRow p.position)
-    else (if not (is_filled p.codes) then Some (cause.PickNoCode p.position) else None)
+    else (if not (has_codes p.codes) then Some (cause.PickNoCode p.position) else None)
 
 abbrev pub picks_cause : Slot → List Pick → Option ConditionCause
 picks_cause s [] = None

@@ -1,7 +1,7 @@
 ghost use Rattle.std.specs.Prelude.{◌≡◌, true, IfOk, IfSome};
 ghost use Rattle.std.specs.List.{list_all};
 ghost use Rattle.hub_kinds.specs.Words.{contains_text};
-ghost use Rattle.guide_tree.specs.Words.{element_of, fits};
+ghost use Rattle.guide_tree.specs.Words.{element_at, fits};
 
 use guide_tree::{Pick, Slot};
 use hub_kinds::{Items, NoMemory, Text, Texts, copy_text};
@@ -9,7 +9,7 @@ use std::alloc::Global;
 
 /// An element of a segment, or at 0 its id; one that isn't there is empty.
 fn element(segment: &[Text], number: u32) -> &[u8]
-    ensures { result.now ≡ element_of segment.entry.now number }
+    ensures { result.now ≡ element_at segment.entry.now number }
 {
     match segment.get(number as usize) {
         None => &[],
@@ -18,13 +18,13 @@ fn element(segment: &[Text], number: u32) -> &[u8]
 }
 
 fn is_picked(pick: &Pick, segment: &[Text]) -> bool
-    ensures { result ≡ contains_text pick.now.codes (element_of segment.now pick.now.position) }
+    ensures { result ≡ contains_text pick.now.codes (element_at segment.now pick.now.position) }
 {
     pick.codes.contains(element(segment, pick.position))
 }
 
 fn are_picked(picks: &[Pick], segment: &[Text]) -> bool
-    ensures { result ≡ list_all (λ p. contains_text p.codes (element_of segment.now p.position)) picks.now }
+    ensures { result ≡ list_all (λ p. contains_text p.codes (element_at segment.now p.position)) picks.now }
 {
     picks.iter().all(|pick| is_picked(pick, segment))
 }

@@ -3,8 +3,8 @@ use Rattle.std.proofs.Common.{◌≡◌, ◌↔◌, ◌∙◌, ap, sym, subst, r
 use Rattle.std.specs.List.{Contains}
 use Rattle.hub_kinds.specs.declared.fault.Fault.{Fault}
 use Rattle.hub_kinds.specs.declared.set_codes.SetCode.{SetCode}
-use Rattle.guide_law.proofs.Among.{in_contains}
-use Rattle.elem_rules.proofs.Members.{no_member}
+use Rattle.guide_law.proofs.ForAbove.{in_contains}
+use Rattle.elem_rules.proofs.ForAbove.{no_member}
 use Rattle.set_check.specs.Checked.{Checked, IsChecked, guide_in, parts_in}
 use Rattle.set_check.specs.Meets.{MeetsAlone}
 use Rattle.set_check.specs.SetParts.{SetParts}

@@ -7,11 +7,11 @@ use Rattle.hub_kinds.specs.declared.fault.Fault.{Fault}
 use Rattle.hub_kinds.specs.declared.fault.ElemFault.{ElemFault}
 use Rattle.guide_tree.specs.declared.slot.Slot.{Slot}
 use Rattle.guide_tree.specs.Words.{Trees, Segment, Place, slot_at}
-use Rattle.guide_tree.proofs.Among.{In}
-use Rattle.guide_law.proofs.Among.{in_left, in_right, in_cases, in_map, in_mapped, in_contains, contains_in}
+use Rattle.guide_tree.proofs.ForAbove.{In}
+use Rattle.guide_law.proofs.ForAbove.{in_left, in_right, in_cases, in_map, in_mapped, in_contains, contains_in}
 use Rattle.elem_rules.specs.ElementFaults.{IsElementFault}
 use Rattle.elem_rules.specs.Found.{found}
-use Rattle.elem_rules.proofs.Membership.{found_is, is_found}
+use Rattle.elem_rules.proofs.ForAbove.{found_is, is_found}
 use Rattle.loop_match.specs.LoopIds.{loop_id_of}
 use Rattle.set_check.specs.SetFaults.{fault_of_element}
 use Rattle.set_check.specs.Adding.{AreSound}

@@ -23,7 +23,7 @@ use Rattle.set_check.specs.SetParts.{SetParts, end_position}
 use Rattle.loop_match.specs.LoopIds.{loop_id_of}
 use Rattle.set_check.specs.SetFaults.{IsFaultUnder, IsErrorIn, IsRuleFault, HasKeyOfError, fault_of_element}
 use Rattle.set_check.specs.Adding.{AreSound}
-use Rattle.set_walk.proofs.Apart.{apart_at, same_apart, structure_is_not, one_elem}
+use Rattle.set_walk.proofs.ForAbove.{apart_at, same_apart, structure_is_not, one_elem}
 
 abbrev IsErrorAt : GuideTree → SetParts → List (Option Place) → (i : ℕ) → Segment → Place → Slot → ElemFault → Type 0
 IsErrorAt g parts given i s q slot e = (slice_get parts.body i ≡ Some s) × (slice_get given i ≡ Some (Some q))

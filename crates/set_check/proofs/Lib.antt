@@ -9,6 +9,7 @@ mod Keyed
 mod Meeting
 mod NoCodes
 mod NoFaults
+pub mod ForAbove
 pub mod Once
 mod Rising
 mod Spans

@@ -1,9 +1,7 @@
 -- No fault and no code is the same as meeting the guide.
 use Rattle.std.proofs.Common.{◌≡◌, Option, Some, None, refl, subst}
 use Rattle.guide_tree.specs.Words.{GuideTree, IsWellFormed}
-use Rattle.guide_law.proofs.Placed.{triggers, placed_one_way}
-use Rattle.guide_law.proofs.Computed.{only_placing}
-use Rattle.guide_law.proofs.Conforming.{derived_is_placed, placed_is_derived}
+use Rattle.guide_law.proofs.ForAbove.{triggers, placed_one_way, only_placing, derived_is_placed, placed_is_derived}
 use Rattle.guide_law.specs.Law.{IsOnlyPlacing, DerivedIsPlaced, PlacedIsDerived}
 use Rattle.set_check.specs.SetParts.{SetParts}
 use Rattle.set_check.specs.Meets.{MeetsAlone}

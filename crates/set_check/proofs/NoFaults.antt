@@ -13,9 +13,9 @@ use Rattle.elem_rules.specs.ElementFaults.{IsElementFault}
 use Rattle.set_check.specs.SetParts.{SetParts, end_position}
 use Rattle.loop_match.specs.LoopIds.{loop_id_of}
 use Rattle.hl_check.specs.Hierarchy.{IsHierarchyWhole, hl_segments}
-use Rattle.hl_check.proofs.Whole.{hierarchy_whole}
+use Rattle.hl_check.proofs.ForAbove.{hierarchy_whole}
 use Rattle.depend_check.specs.Kept.{AreDependenciesKept}
-use Rattle.depend_check.proofs.Whole.{dependencies_kept}
+use Rattle.depend_check.proofs.ForAbove.{dependencies_kept}
 use Rattle.set_check.specs.SetFaults.{IsSetFault, IsErrorIn, IsRuleFault, fault_of_element}
 
 -- a member stands at an index, and what stands at an index is a member

@@ -17,8 +17,8 @@ use Rattle.set_check.specs.Checked.{Checked, IsChecked, guide_in, parts_in, guid
 use Rattle.set_check.specs.CheckedLaw.{IsOneCheck}
 use Rattle.set_check.specs.SetFaults.{AreSetFaults, IsSetFault, codes_with}
 use Rattle.set_check.specs.SetParts.{SetParts, set_parts}
-use Rattle.guide_tree.proofs.Among.{In}
-use Rattle.guide_law.proofs.Among.{in_contains, contains_in}
+use Rattle.guide_tree.proofs.ForAbove.{In}
+use Rattle.guide_law.proofs.ForAbove.{in_contains, contains_in}
 
 abbrev order : Fault → Fault → Ordering
 order = order_by key_of

@@ -20,8 +20,8 @@ use Rattle.std.proofs.lemmas.Map.Views.{tells_apart}
 use Rattle.std.proofs.lemmas.Map.Lookups.{exact_bytes}
 use Rattle.hub_kinds.specs.declared.fault.Fault.{Fault}
 use Rattle.hub_kinds.specs.Words.{AreRising, key_of, order_by, IsKeyedBy}
-use Rattle.guide_tree.proofs.Among.{In}
-use Rattle.guide_law.proofs.Among.{in_contains, contains_in}
+use Rattle.guide_tree.proofs.ForAbove.{In}
+use Rattle.guide_law.proofs.ForAbove.{in_contains, contains_in}
 use Rattle.set_check.specs.Adding.{HasKeyAmong, IsBeside, has_key_among}
 
 abbrev order : Fault → Fault → Ordering

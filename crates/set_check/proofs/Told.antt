@@ -7,18 +7,17 @@ use Rattle.hub_kinds.specs.declared.set_codes.SetCode.{SetCode}
 use Rattle.guide_tree.specs.declared.rows.Dependency.{Dependency}
 use Rattle.guide_tree.specs.declared.rows.HlRule.{HlRule}
 use Rattle.guide_tree.specs.Words.{IsStructureFault, GuideTree, IsWellFormed, placing_of, structure_faults}
-use Rattle.elem_rules.proofs.Members.{no_member}
+use Rattle.elem_rules.proofs.ForAbove.{no_member}
 use Rattle.hl_check.specs.Hierarchy.{IsFaultAmong, hls_of}
-use Rattle.guide_tree.proofs.Among.{In}
-use Rattle.guide_law.proofs.Among.{in_left, in_right, in_cases, in_contains, contains_in}
-use Rattle.guide_law.proofs.Faulty.{members}
+use Rattle.guide_tree.proofs.ForAbove.{In}
+use Rattle.guide_law.proofs.ForAbove.{in_left, in_right, in_cases, in_contains, contains_in, members}
 use Rattle.set_check.specs.SetParts.{SetParts, end_position}
 use Rattle.loop_match.specs.LoopIds.{loop_id_of}
 use Rattle.set_check.specs.SetFaults.{IsErrorIn, IsRuleFault, IsSetFault, AreSetFaults, codes_with, fault_of_element}
 use Rattle.set_check.specs.Meets.{MeetsAlone}
 use Rattle.set_check.specs.MeetsLaw.{IsWellGuided}
 use Rattle.set_check.proofs.Errors.{errors_from, IsErrorFrom, is_error, error_is}
-use Rattle.set_walk.proofs.SoundPlaces.{sound_places}
+use Rattle.set_walk.proofs.ForAbove.{sound_places}
 use Rattle.set_check.proofs.Meeting.{clean_as_it_meets}
 
 abbrev pub structure : GuideTree → SetParts → List Fault

@@ -14,7 +14,7 @@ use Rattle.hub_kinds.specs.declared.fault.ElemFault.{ElemFault}
 use Rattle.guide_tree.specs.declared.slot.Slot.{Slot}
 use Rattle.guide_tree.specs.Words.{Trees, GuideTree, Segment, Place, placing_of, IsStructureFault, IsWellFormed}
 use Rattle.elem_rules.specs.ElementFaults.{IsElementFault}
-use Rattle.elem_rules.proofs.Members.{no_member}
+use Rattle.elem_rules.proofs.ForAbove.{no_member}
 use Rattle.set_check.specs.SetParts.{SetParts, parts_of, inner_of, before_trailer, end_position}
 use Rattle.loop_match.specs.LoopIds.{loop_id_of}
 use Rattle.set_check.specs.SetFaults.{AreSetFaults, IsErrorIn, IsFaultUnder, IsRuleFault, HasKeyOfError, fault_of_element}
@@ -23,7 +23,7 @@ use Rattle.set_check.specs.Adding.{HasKeyAmong, IsBeside, IsErrorBelow}
 use Rattle.hub_kinds.specs.Words.{AreRising, key_of, IsKeyedBy}
 use Rattle.set_check.proofs.Keyed.{errors_keyed, set_keyed}
 use Rattle.set_check.proofs.Rising.{rising_keyed}
-use Rattle.set_walk.proofs.SoundPlaces.{sound_places}
+use Rattle.set_walk.proofs.ForAbove.{sound_places}
 use Rattle.set_check.proofs.NoFaults.{member_at}
 
 -- the segments of the body are read by the set's delimiters

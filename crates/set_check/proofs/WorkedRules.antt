@@ -20,14 +20,13 @@ use Rattle.guide_tree.specs.declared.rows.Dependency.{Dependency}
 use Rattle.guide_tree.specs.declared.rows.DependencyKind.TheVariants as kind
 use Rattle.guide_tree.specs.declared.rows.HlRule.{HlRule}
 use Rattle.guide_tree.specs.Words.{segment, no_trees, tree, GuideTree, Given, placing_of, slot_given, Segment, IsWellFormed}
-use Rattle.guide_tree.proofs.Among.{In}
-use Rattle.guide_tree.proofs.Judged.{accepted}
-use Rattle.elem_rules.proofs.Members.{contains_one, one_contains}
+use Rattle.guide_tree.proofs.ForAbove.{In, accepted}
+use Rattle.elem_rules.proofs.ForAbove.{contains_one, one_contains}
 use Rattle.hl_check.specs.Hierarchy.{IsHierarchyWhole, IsHlWhole, hl_segments}
-use Rattle.hl_check.proofs.Whole.{hierarchy_whole}
+use Rattle.hl_check.proofs.ForAbove.{hierarchy_whole}
 use Rattle.depend_check.specs.Kept.{AreDependenciesKept, IsTargetKept}
 use Rattle.depend_check.specs.Standing.{triggers}
-use Rattle.depend_check.proofs.Whole.{dependencies_kept}
+use Rattle.depend_check.proofs.ForAbove.{dependencies_kept}
 use Rattle.set_check.specs.SetParts.{SetParts, parts_of, end_position}
 use Rattle.set_check.specs.SetFaults.{IsSetFault, IsErrorIn}
 use Rattle.set_check.specs.Meets.{MeetsAlone}

@@ -14,7 +14,7 @@ use Rattle.guide_tree.specs.declared.element.Element.TheVariants as element
 use Rattle.guide_tree.specs.declared.slot.Slot.{Slot}
 use Rattle.guide_tree.specs.declared.node.Loop.{Loop}
 use Rattle.guide_tree.specs.Words.{Trees, segment, loop, no_trees, tree, GuideTree, IsWellFormed}
-use Rattle.guide_tree.proofs.Judged.{accepted}
+use Rattle.guide_tree.proofs.ForAbove.{accepted}
 use Rattle.set_check.specs.SetParts.{SetParts, parts_of}
 use Rattle.set_check.specs.Meets.{MeetsAlone}
 use Rattle.set_check.proofs.Told.{IsOfRules, all_faults, none_of_rules, meets_by, fails_by_fault, fails_by_code}

@@ -9,7 +9,7 @@ use Rattle.hub_kinds.specs.declared.codes.SegmentCode.TheVariants as ik304
 use Rattle.hub_kinds.specs.declared.set_codes.SetCode.{SetCode}
 use Rattle.hub_kinds.specs.Words.{key_of}
 use Rattle.guide_tree.specs.declared.slot.Slot.{Slot}
-use Rattle.guide_tree.specs.Words.{Trees, GuideTree, Segment, id_of, Place, slot_at, placing_of, IsStructureFault}
+use Rattle.guide_tree.specs.Words.{Trees, GuideTree, Segment, segment_id, Place, slot_at, placing_of, IsStructureFault}
 use Rattle.elem_rules.specs.ElementFaults.{IsElementFault}
 use Rattle.loop_match.specs.LoopIds.{loop_id_of}
 use Rattle.hl_check.specs.Hierarchy.{IsHierarchyFault}
@@ -21,7 +21,7 @@ use Rattle.set_check.specs.SetParts.{SetParts, segments_of_set, end_position}
 abbrev pub fault_of_element : (position : ℕ) → Segment → (loop_id : List ℕ) → Slot → ElemFault → Fault
 fault_of_element position s loop_id slot e = record {
   position = position;
-  id = id_of s;
+  id = segment_id s;
   loop_id = loop_id;
   code = ik304.ElementErrors;
   slot = slot.number;

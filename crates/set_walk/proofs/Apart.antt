@@ -10,10 +10,10 @@ use Rattle.hub_kinds.specs.declared.codes.SegmentCode.TheVariants as ik304
 use Rattle.hub_kinds.specs.Words.{segment_rank, key_of, elem_key, contains_text}
 use Rattle.x12_bytes.specs.declared.delims.Delims.{Delims}
 use Rattle.guide_tree.specs.declared.slot.Slot.{Slot}
-use Rattle.guide_tree.specs.Words.{Tree, segment, loop, GuideTree, any_slot, Segment, id_of, fits, Place, IsSound}
+use Rattle.guide_tree.specs.Words.{Tree, segment, loop, GuideTree, any_slot, Segment, segment_id, fits, Place, IsSound}
 use Rattle.guide_tree.specs.Words.{past_code, few_code, stray_code, IsStructureFault}
 use Rattle.elem_rules.specs.ElementFaults.{IsElementFault}
-use Rattle.elem_rules.proofs.Membership.{is_found, keyed}
+use Rattle.elem_rules.proofs.ForAbove.{is_found, keyed}
 
 -- the codes of element errors and of dependencies, which no structural fault has
 abbrev is_apart : (rank : ℕ) → Bool
@@ -36,9 +36,9 @@ few_is_not (loop l ts) h = false≢true h
 
 stray_is_not : (g : GuideTree) (s : Segment) → IsApart (stray_code g s) → ⊥
 stray_is_not g s h =
-    let known = any_slot (λ slot. bytes_eq slot.id (id_of s)) g.nodes in
+    let known = any_slot (λ slot. bytes_eq slot.id (segment_id s)) g.nodes in
     let fit = any_slot (λ slot. fits slot s) g.nodes in
-    let listed = contains_text g.head.dictionary (id_of s) in
+    let listed = contains_text g.head.dictionary (segment_id s) in
     either known (if fit then ik304.OutOfSequence else ik304.UnexpectedSegment)
     (if listed then ik304.NotInSet else ik304.UnrecognizedSegment)
     (either fit ik304.OutOfSequence ik304.UnexpectedSegment false≢true false≢true)

@@ -6,8 +6,7 @@ use Rattle.hub_kinds.specs.declared.fault.Fault.{Fault}
 use Rattle.x12_segs.specs.Words.{SegValue, elements_of}
 use Rattle.guide_tree.specs.declared.slot.Slot.{Slot}
 use Rattle.guide_tree.specs.Words.{Trees, Segment, Place, Candidate, slot_at, nexts, first_fit, placing_from}
-use Rattle.guide_law.proofs.Computed.{Found, first_found}
-use Rattle.guide_law.proofs.Coming.{nexts_come}
+use Rattle.guide_law.proofs.ForAbove.{Found, first_found, nexts_come}
 use Rattle.loop_match.specs.Given.{place_in}
 use Rattle.loop_match.specs.LoopIds.{loop_id_of}
 use Rattle.set_walk.specs.Told.{IsTold, Adds}

@@ -19,7 +19,7 @@ use Rattle.guide_tree.specs.declared.rows.Dependency.{Dependency}
 use Rattle.guide_tree.specs.declared.rows.DependencyKind.{DependencyKind}
 use Rattle.guide_tree.specs.declared.rows.DependencyKind.TheVariants as kind
 use Rattle.guide_tree.specs.declared.slot.Slot.{Slot}
-use Rattle.guide_tree.specs.Words.{GuideTree, Given, Segment, id_of}
+use Rattle.guide_tree.specs.Words.{GuideTree, Given, Segment, segment_id}
 use Rattle.hl_check.specs.Hierarchy.{is_hl, hl_segments, IsHierarchyWhole}
 use Rattle.hl_check.specs.Names.{Names, names_of}
 use Rattle.depend_check.specs.Standing.{stands_at, fills, triggers}
@@ -145,10 +145,10 @@ more_filtered v test old new xs y b e was more =
     more ∙ ap (λ (l : List _). l ++ (if b then y ∷ [] else [])) was
     ∙ ap (λ (l : List _). filter test xs ++ l) (sym (one_if test y b e)) ∙ sym (filter-append test xs (y ∷ []))
 
-pub same_id : (slot : Slot) (seg : SegValue) → bytes_eq slot.id (id_of (elements_of seg)) ≡ true
+pub same_id : (slot : Slot) (seg : SegValue) → bytes_eq slot.id (segment_id (elements_of seg)) ≡ true
     → is_hl (elements_of seg) ≡ bytes_eq slot.id (codes "HL")
 same_id slot seg e =
-    ap (λ (l : List ℕ). bytes_eq l (codes "HL")) (sym ((bytes_eq-Decides slot.id (id_of (elements_of seg))).0 e))
+    ap (λ (l : List ℕ). bytes_eq l (codes "HL")) (sym ((bytes_eq-Decides slot.id (segment_id (elements_of seg))).0 e))
 
 abbrev named : Slotted → Names
 named x = names_of (elements_of x.0)
@@ -174,7 +174,7 @@ names_more old new seg slot hl hls names was =
     ∙ sym (ap (map named) hls) ∙ sym (named_hls new.hls.items)
 
 pub kept_more : (old new : Kept) (xs : List Slotted) (seg : SegValue) (slot : Slot) (hl label : Bool)
-    → bytes_eq slot.id (id_of (elements_of seg)) ≡ true → hl ≡ bytes_eq slot.id (codes "HL") → label ≡ is_some slot.label
+    → bytes_eq slot.id (segment_id (elements_of seg)) ≡ true → hl ≡ bytes_eq slot.id (codes "HL") → label ≡ is_some slot.label
     → map slotted_view new.hls.items ≡ map slotted_view old.hls.items ++ (if hl then (seg, slot) ∷ [] else [])
     → new.names.items ≡ old.names.items ++ (if hl then names_of (elements_of seg) ∷ [] else [])
     → map slotted_view new.labelled.items ≡ map slotted_view old.labelled.items ++ (if label then (seg, slot) ∷ [] else [])

@@ -9,10 +9,10 @@ use Rattle.guide_tree.specs.declared.rows.GuideRows.{GuideRows}
 use Rattle.guide_tree.specs.declared.slot.Slot.{Slot}
 use Rattle.guide_tree.specs.Words.{Trees, GuideTree, Segment, Place, slot_at, IsSound, IsAccepted, IsStructureFault, guide_of}
 use Rattle.guide_tree.specs.Words.{structure_faults}
-use Rattle.guide_law.proofs.Faulty.{members}
+use Rattle.guide_law.proofs.ForAbove.{members}
 use Rattle.elem_rules.specs.ElementFaults.{IsElementFault}
 use Rattle.loop_match.specs.LoopIds.{loop_id_of}
-use Rattle.loop_match.proofs.Numbered.{found_keyed}
+use Rattle.loop_match.proofs.ForAbove.{found_keyed}
 use Rattle.set_walk.specs.Told.{fault_of_element}
 use Rattle.set_walk.specs.WalkedBody.{IsBodyFault, IsElementFaultIn, places_by}
 use Rattle.set_walk.proofs.Apart.{apart_at, same_apart, structure_is_not, one_elem}

@@ -1,3 +1,4 @@
+pub mod ForAbove
 pub mod SoundPlaces
 mod Keeping
 mod Lent

@@ -13,14 +13,14 @@ use Rattle.x12_segs.specs.Kinds.{may_stand_in_set}
 use Rattle.x12_segs.specs.declared.kind.Kind.{Kind}
 use Rattle.x12_segs.specs.declared.kind.Kind.TheVariants.{SetHeader}
 use Rattle.guide_tree.specs.Words.{GuideTree, Segment, IsWellFormed, end_faults, IsStructureFault, pass, placing_from}
-use Rattle.guide_law.proofs.Faulty.{members}
-use Rattle.elem_rules.proofs.Members.{no_member}
+use Rattle.guide_law.proofs.ForAbove.{members}
+use Rattle.elem_rules.proofs.ForAbove.{no_member}
 use Rattle.loop_match.specs.declared.next.Step.{Step}
 use Rattle.loop_match.specs.Steps.{place_view, last_of}
 use Rattle.hl_check.specs.Hierarchy.{hl_segments, IsHierarchyWhole, IsHierarchyFault}
-use Rattle.hl_check.proofs.Whole.{hierarchy_of_placed}
+use Rattle.hl_check.proofs.ForAbove.{hierarchy_of_placed}
 use Rattle.depend_check.specs.Dependencies.{IsDependencyFault}
-use Rattle.depend_check.proofs.Whole.{dependencies_of_placed}
+use Rattle.depend_check.proofs.ForAbove.{dependencies_of_placed}
 use Rattle.set_walk.specs.Depends.{AreRulesKept}
 use Rattle.hl_check.specs.Names.{names_of}
 use Rattle.set_walk.specs.Kept.{Slotted, slotted_view, segment_in, given_by, IsKept}

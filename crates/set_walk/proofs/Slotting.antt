@@ -5,7 +5,7 @@ use Rattle.x12_segs.specs.Words.{SegValue, elements_of}
 use Rattle.guide_tree.specs.Words.{Trees, GuideTree, Segment, Given, Place, Candidate, placing_from}
 use Rattle.loop_match.specs.Given.{place_in}
 use Rattle.loop_match.specs.PlacedSegments.{placed_segments, as_given}
-use Rattle.loop_match.proofs.Seated.{seated, seated_at, with_slot, placed_seated}
+use Rattle.loop_match.proofs.ForAbove.{seated, seated_at, with_slot, placed_seated}
 use Rattle.set_walk.specs.Kept.{Slotted, given_by, segs_in}
 use Rattle.set_walk.specs.WalkedBody.{places_by}
 use Rattle.set_walk.specs.Walked.{next_for, last_place_after, slotted_at, slotted_from}

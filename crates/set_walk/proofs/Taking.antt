@@ -6,16 +6,14 @@ use Rattle.std.specs.Str.{bytes_eq}
 use Rattle.std.proofs.lemmas.Bool.{and_parts}
 use Rattle.hub_kinds.specs.declared.fault.Fault.{Fault}
 use Rattle.x12_segs.specs.Words.{SegValue, elements_of}
-use Rattle.guide_tree.specs.Words.{GuideTree, Segment, Place, Candidate, fit_behind, step_faults, stray_fault, id_of, nexts}
+use Rattle.guide_tree.specs.Words.{GuideTree, Segment, Place, Candidate, fit_behind, step_faults, stray_fault, segment_id, nexts}
 use Rattle.guide_tree.specs.Words.{IsSound, IsWellFormed}
-use Rattle.guide_law.proofs.Computed.{Found, first_found}
+use Rattle.guide_law.proofs.ForAbove.{Found, first_found}
 use Rattle.loop_match.specs.declared.next.Step.{Step}
 use Rattle.loop_match.specs.declared.next.Turn.{Turn}
 use Rattle.loop_match.specs.LoopIds.{loop_id_of}
 use Rattle.loop_match.specs.Steps.{place_view, last_of, turned, HasGone}
-use Rattle.loop_match.proofs.Fitting.{behind_is}
-use Rattle.loop_match.proofs.Passing.{left, found_step, found_stray}
-use Rattle.loop_match.proofs.Walking.{all_wider, gone_stray, gone_turn, room_more}
+use Rattle.loop_match.proofs.ForAbove.{behind_is, left, found_step, found_stray, all_wider, gone_stray, gone_turn, room_more}
 use Rattle.elem_rules.specs.NodeSlots.{IsSlotOf}
 use Rattle.set_walk.specs.Told.{IsTold, Adds}
 use Rattle.set_walk.specs.Kept.{Slotted, IsKept}
@@ -47,12 +45,12 @@ slot_turn g last t seg e = (
 
 -- a segment has the id of the slot that it is given
 pub own_id : (g : GuideTree) (last : List Step) (t : Turn) (seg : SegValue) → Leads g last t seg
-    → bytes_eq t.slot.now.id (id_of (elements_of seg)) ≡ true
+    → bytes_eq t.slot.now.id (segment_id (elements_of seg)) ≡ true
 own_id g last t seg e =
     let ss : Segment = elements_of seg in
     let cs : List Candidate = nexts g.nodes (last_of (place_view last)) in
     let f : Found ss cs (Some (turned (place_view last) t)) = subst (Found ss cs) (found g last t seg e) (first_found ss cs) in
-    (and_parts (bytes_eq t.slot.now.id (id_of ss)) _ f.1).0
+    (and_parts (bytes_eq t.slot.now.id (segment_id ss)) _ f.1).0
 
 pub roomy : (n : ℕ) (ls : List Step) → n < 4294967296 → AllByRecursion (λ (s : Step). s.use_no < n) ls
     → AllByRecursion (λ (s : Step). s.use_no + 1 < 18446744073709551616) ls

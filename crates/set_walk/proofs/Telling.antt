@@ -6,7 +6,7 @@ use Rattle.x12_segs.specs.Words.{SegValue, elements_of}
 use Rattle.hub_kinds.specs.declared.fault.Fault.{Fault}
 use Rattle.hub_kinds.specs.declared.fault.ElemFault.{ElemFault}
 use Rattle.guide_tree.specs.declared.slot.Slot.{Slot}
-use Rattle.guide_law.proofs.Among.{in_map, in_mapped, in_contains, contains_in}
+use Rattle.guide_law.proofs.ForAbove.{in_map, in_mapped, in_contains, contains_in}
 use Rattle.elem_rules.specs.ElementFaults.{IsElementFault}
 use Rattle.set_walk.specs.Told.{fault_of_element, IsTold, Adds}
 use Rattle.set_walk.specs.Walked.{IsFaultless}

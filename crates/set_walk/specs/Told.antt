@@ -6,14 +6,14 @@ use Rattle.hub_kinds.specs.declared.fault.ElemFault.{ElemFault}
 use Rattle.hub_kinds.specs.declared.codes.SegmentCode.TheVariants as ik304
 use Rattle.x12_segs.specs.Words.{SegValue, elements_of}
 use Rattle.guide_tree.specs.declared.slot.Slot.{Slot}
-use Rattle.guide_tree.specs.Words.{Segment, id_of}
+use Rattle.guide_tree.specs.Words.{Segment, segment_id}
 use Rattle.elem_rules.specs.ElementFaults.{IsElementFault}
 
 -- a fault of an element, as the segment at a position reports it
 abbrev pub fault_of_element : (position : ℕ) → Segment → (loop_id : List ℕ) → Slot → ElemFault → Fault
 fault_of_element position s loop_id slot e = record {
   position = position;
-  id = id_of s;
+  id = segment_id s;
   loop_id = loop_id;
   code = ik304.ElementErrors;
   slot = slot.number;

@@ -1,7 +1,7 @@
 ghost use Rattle.std.specs.Prelude.{◌≡◌, length, nat_le};
 ghost use Rattle.std.specs.List.{list_any, list_all};
 ghost use Rattle.x12_segs.specs.Words.{elements_of};
-ghost use Rattle.guide_tree.specs.Words.{element_of};
+ghost use Rattle.guide_tree.specs.Words.{element_at};
 ghost use Rattle.hub_kinds.specs.Words.{contains_text};
 ghost use Rattle.depend_check.specs.Standing.{stands_at, fills, triggers};
 ghost use Rattle.set_walk.specs.Kept.{given_in};
@@ -36,7 +36,7 @@ fn is_used(label: &[u8], labelled: &[SlottedSeg]) -> bool
 }
 
 fn has_code(dependency: &Dependency, one: &SlottedSeg) -> bool
-    ensures { result ≡ contains_text dependency.now.codes (element_of (elements_of one.now.seg) dependency.now.at) }
+    ensures { result ≡ contains_text dependency.now.codes (element_at (elements_of one.now.seg) dependency.now.at) }
 {
     dependency
         .codes

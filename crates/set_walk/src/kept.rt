@@ -1,7 +1,7 @@
 ghost use Rattle.std.specs.Prelude.{◌≡◌, ◌++◌, ◌∷◌, [], List, map, codes, IsTrue, IfSome, OnOk, if◌then◌else◌};
 ghost use Rattle.std.specs.Str.{bytes_eq};
 ghost use Rattle.x12_segs.specs.Words.{elements_of};
-ghost use Rattle.guide_tree.specs.Words.{id_of};
+ghost use Rattle.guide_tree.specs.Words.{segment_id};
 ghost use Rattle.hl_check.specs.Names.{names_of};
 ghost use Rattle.marked_segments.specs.Marked.{IsPlain};
 ghost use Rattle.set_walk.specs.Kept.{Slotted, IsKept, slotted_view};
@@ -104,7 +104,7 @@ pub fn keep<'a, 'g>(
     plain: Option<&[usize]>,
     slot: &'g Slot,
 ) -> Result<(), NoMemory>
-    requires id { IsTrue (bytes_eq slot.now.id (id_of (elements_of seg.now))) }
+    requires id { IsTrue (bytes_eq slot.now.id (segment_id (elements_of seg.now))) }
     requires plain { IfSome plain (λ separators. IsPlain separators.now seg.now) }
     ensures { OnOk result ((xs : List Slotted) → IsKept kept.old xs → IsKept kept.new (xs ++ (seg.now, slot.entry.now) ∷ [])) }
 {

@@ -1,6 +1,6 @@
 ghost use Rattle.std.specs.Prelude.{◌≡◌, ◌+◌, IfSome, slice_index_or};
 ghost use Rattle.x12_segs.specs.Words.{elements_of};
-ghost use Rattle.guide_tree.specs.Words.{element_of};
+ghost use Rattle.guide_tree.specs.Words.{element_at};
 ghost use Rattle.hl_check.specs.Names.{names_of};
 ghost use Rattle.marked_segments.specs.Marked.{IsPlain};
 
@@ -23,7 +23,7 @@ fn offset_or(offsets: &[usize], index: usize, end: usize) -> usize
 #[inline]
 fn element_at<'a>(seg: &SegView<'a>, separators: &[usize], k: usize) -> &'a [u8]
     requires { IsPlain separators.now seg.now }
-    ensures { result.now ≡ element_of (elements_of seg.now) (k + 1) }
+    ensures { result.now ≡ element_at (elements_of seg.now) (k + 1) }
 {
     if k >= separators.len() {
         return b"";

@@ -1,3 +1,4 @@
+pub mod ForAbove
 pub mod LeastKey
 pub mod ReadSteps
 pub mod RowSteps

@@ -48,8 +48,8 @@ abbrev pub count_of_integer : ℤ → Option ℕ
 count_of_integer (pos n) = if nat_le n GREATEST_NUMBER then Some n else None
 count_of_integer (negsuc n) = None
 
-abbrev pub count_in : Data → Option ℕ
-count_in d = option_and_then count_of_integer (as_integer d)
+abbrev pub count_of_data : Data → Option ℕ
+count_of_data d = option_and_then count_of_integer (as_integer d)
 
 -- each item of a list
 abbrev pub each_item : {A : Type 0} → (Data → Option A) → Items → Option (List A)

@@ -69,7 +69,7 @@ pub struct Count;
 impl Reading for Count {
     type Read = u32;
 
-    ghost reading = { λ _. tables.count_in };
+    ghost reading = { λ _. tables.count_of_data };
 
     fn read(&self, _alloc: Global, value: &Value) -> Result<u32, TextFault> {
         match count_in(value) {
@@ -80,7 +80,7 @@ impl Reading for Count {
 }
 
 fn count_in(value: &Value) -> Option<u32>
-    ensures { result ≡ tables.count_in (view value.now) }
+    ensures { result ≡ tables.count_of_data (view value.now) }
 {
     match value.as_integer() {
         None => None,

@@ -13,10 +13,9 @@ use Rattle.x12_write.specs.declared.envelope.Envelope.{Envelope}
 use Rattle.x12_write.specs.Group.{texts_in_row}
 use Rattle.x12_write.specs.Header.{header_text}
 use Rattle.x12_write.specs.Number.{padded_number}
-use Rattle.x12_write.specs.Segment.{Segment, segment_text, trimmed}
+use Rattle.x12_write.specs.Segment.{WrittenSegment, segment_text, trimmed}
 use Rattle.ack_999.specs.ReadBack.{written_parts}
-use Rattle.ack_999.proofs.ReadBack.{IsReadable}
-use Rattle.ack_999.proofs.ReadableFaults.{readable}
+use Rattle.ack_999.proofs.ForAbove.{IsReadable, readable}
 use Rattle.count_numbers.specs.Layout.{interchanges_of}
 use Rattle.count_numbers.specs.Num.{num}
 use Rattle.partner_setup.specs.declared.partner.Partner.{Partner}
@@ -31,13 +30,8 @@ use Rattle.night_law.proofs.ForAbove as box
 use Rattle.night_law.proofs.ForAbove.{IsBody, IsMarked, body_of, divided, divided_body, divided_parts, groups_all, iea, isa, isa_text}
 use Rattle.night_law.proofs.ForAbove.{marked, readable_iea, readable_isa, trimmed_at}
 use Rattle.written_law.specs.Whole.{Elements, IsWholeSet, WholeSet, set_segments}
-use Rattle.files_law.proofs.Faults.{kept_word}
-use Rattle.files_law.proofs.Mailboxes.{IsSome, groups_some}
-use Rattle.files_law.proofs.Numbers.{num_small}
-use Rattle.files_law.proofs.Placed.{IsSent}
-use Rattle.files_law.proofs.Rows.{IsOther, one_row}
-use Rattle.files_law.proofs.Sets.{delivered_row, delivered_set, delivered_whole}
-use Rattle.files_law.proofs.Texts.{IsMadeOf, row_made}
+use Rattle.files_law.proofs.ForAbove.{kept_word, IsSome, groups_some, num_small, IsSent, IsOther, one_row, delivered_row, delivered_set}
+use Rattle.files_law.proofs.ForAbove.{delivered_whole, IsMadeOf, row_made}
 use Rattle.track_law.specs.Found.{found_behind, found_in, numbers_of}
 use Rattle.track_law.proofs.LaidOut.{in_group, in_groups, in_interchanges}
 use Rattle.track_law.proofs.Finding.{Gives, all_between, found_by, gives_both, gives_nothing, one_set, second}
@@ -56,13 +50,13 @@ module _ (setup : SetupValue) (p : Partner) (guides : ℕ) (hub_ids : are_ids se
   abbrev Sent : NumberedValue → Type 0
   Sent x = IsSent d setup x.set
 
-  abbrev gs_of : NumberedValue → (g : ℕ) → Segment
+  abbrev gs_of : NumberedValue → (g : ℕ) → WrittenSegment
   gs_of x g = box.gs_of setup p guides hub_ids sound at moment x g
 
-  abbrev ge_of : (sets g : ℕ) → Segment
+  abbrev ge_of : (sets g : ℕ) → WrittenSegment
   ge_of sets g = box.ge_of setup p guides hub_ids sound at moment sets g
 
-  row_of : (s : Segment) → IsReadable d s → IsOther s → IsMadeOf d (segment_text d s.id s.elements) (written_parts s ∷ [])
+  row_of : (s : WrittenSegment) → IsReadable d s → IsOther s → IsMadeOf d (segment_text d s.id s.elements) (written_parts s ∷ [])
   row_of s readable other = row_made d (segment_text d s.id s.elements) (written_parts s ∷ []) (one_row d s sound.divides readable other)
 
   -- one set
@@ -118,8 +112,8 @@ module _ (setup : SetupValue) (p : Partner) (guides : ℕ) (hub_ids : are_ids se
       (map (λ (x : NumberedValue). i ∷ decimal n ∷ padded_number 4 (num p.counters.set x.place) ∷ []) (x ∷ xs)) i (decimal n)
   group_gives i g n x xs all =
       let texts : List (List ℕ) = map (numbered_text p) (x ∷ xs) in
-      let gs : Segment = gs_of x n in
-      let ge : Segment = ge_of (length texts) n in
+      let gs : WrittenSegment = gs_of x n in
+      let ge : WrittenSegment = ge_of (length texts) n in
       let first : List ℕ = segment_text d gs.id gs.elements in
       let last : List ℕ = segment_text d ge.id ge.elements in
       let numbers = map (λ (x : NumberedValue). i ∷ decimal n ∷ padded_number 4 (num p.counters.set x.place) ∷ []) (x ∷ xs) in
@@ -149,7 +143,7 @@ module _ (setup : SetupValue) (p : Partner) (guides : ℕ) (hub_ids : are_ids se
   -- one interchange
   isa_gives : (i g : List ℕ) (n : ℕ) → Gives d (header_text e at n) i g [] (padded_number 9 n) g
   isa_gives i g n =
-      let s : Segment = isa e at n in
+      let s : WrittenSegment = isa e at n in
       let readable : IsReadable d s = readable_isa setup p guides hub_ids sound at moment n in
       let is = divided d s readable in
       let body : List ℕ = body_of d s.id (trimmed s.elements) in
@@ -184,7 +178,7 @@ module _ (setup : SetupValue) (p : Partner) (guides : ℕ) (hub_ids : are_ids se
       let list : List (List NumberedValue) = groups_of sets in
       let head : List ℕ = header_text e at n in
       let inner : List ℕ = groups_text setup p at before list in
-      let end : Segment = iea (length list) n in
+      let end : WrittenSegment = iea (length list) n in
       let numbers = in_groups p acknowledgments groups j before list in
       subst (λ (ns : List (List (List ℕ))). Gives d (head ++ inner ++ segment_text d end.id end.elements) i g ns j
       (last_here g before sets))

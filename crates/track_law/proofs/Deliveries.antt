@@ -15,7 +15,7 @@ use Rattle.env_index.specs.Words.{GroupEntry}
 use Rattle.partner_setup.specs.declared.partner.Partner.{Partner}
 use Rattle.partner_setup.specs.Setup.{SetupValue, route_of}
 use Rattle.partner_setup.specs.Sound.{AreApart, AreWithin, IsSoundSetup}
-use Rattle.partner_setup.proofs.Sounding.{targets_apart, targets_within}
+use Rattle.partner_setup.proofs.ForAbove.{targets_apart, targets_within}
 use Rattle.judged_text.specs.declared.standing.GroupStanding.{GroupStanding}
 use Rattle.judged_text.specs.Judged.{JudgedValue, PlacedValue, all_sets, sets_of_groups_from, is_fa, is_refused, sets_from, sets_of}
 use Rattle.judged_text.specs.Judged.{standing_at}
@@ -24,7 +24,7 @@ use Rattle.mailbox.specs.declared.outcome.Outcome.{Outcome}
 use Rattle.mailbox.specs.declared.outcome.Outcome.TheVariants.{DeliveredTo, HeldForDelimiter}
 use Rattle.mailbox.specs.Deliveries.{is_blocked, is_deliverable, is_delivered_to, is_delivery_to, is_not_rejected, outcome_at}
 use Rattle.mailbox.specs.Deliveries.{outcome_by, outcomes_on}
-use Rattle.mailbox.proofs.Replacing.{there_is}
+use Rattle.mailbox.proofs.ForAbove.{there_is}
 use Rattle.track_notes.specs.declared.notes.GroupNotes.{GroupNotes}
 use Rattle.track_notes.specs.declared.notes.Notes.{Notes}
 use Rattle.track_rows.specs.Cells.{delivered_end, head_cells, held_end, plain_end}
@@ -33,7 +33,7 @@ use Rattle.track_rows.specs.declared.mailed.Mailed.{Mailed}
 use Rattle.track_rows.specs.Rows.{TrackedBy, delivered_of, groups_rows, interchange_rows, notes_at, other_end, outcome_cells, refused_row}
 use Rattle.track_rows.specs.Rows.{rows_from, set_rows, sets_at, sets_rows}
 use Rattle.track_rows.specs.Mailed.{acknowledgments_to, groups_to, mailed_behind}
-use Rattle.track_rows.proofs.Targets.{not_delivered}
+use Rattle.track_rows.proofs.ForAbove.{not_delivered}
 use Rattle.track_law.specs.Entries.{AreRowsOf, Entry, OfRefused, OfSet, Row, each_or_nobody, entries_from, field, interchange_entries}
 use Rattle.track_law.specs.Entries.{set_entries}
 use Rattle.track_law.specs.Named.{Delivery, deliveries_to, delivery_of, is_place}

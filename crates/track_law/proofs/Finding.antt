@@ -14,7 +14,7 @@ use Rattle.x12_write.specs.Segment.{segment}
 use Rattle.night_law.specs.SetsRead.{Segments, has_id, sets_read, sets_found}
 use Rattle.night_law.proofs.ForAbove.{IsBetween, text_read}
 use Rattle.written_law.specs.Whole.{Elements, WholeSet, kind_by, set_segments}
-use Rattle.files_law.proofs.Texts.{IsMadeOf, both_made, nothing_made}
+use Rattle.files_law.proofs.ForAbove.{IsMadeOf, both_made, nothing_made}
 use Rattle.track_law.specs.Found.{Found, found_behind, found_in, numbers_of, read_or}
 
 -- the sets that are found under their numbers are those that are found

@@ -6,7 +6,7 @@ use Rattle.std.proofs.Math.Nat.{zero-mul}
 use Rattle.std.proofs.lemmas.List.Sums.{sum_by-cons}
 use Rattle.moment.specs.Moment.{IsMoment}
 use Rattle.count_numbers.specs.Layout.{interchanges_of}
-use Rattle.count_numbers.proofs.Interchanges.{no_interchange}
+use Rattle.count_numbers.proofs.ForAbove.{no_interchange}
 use Rattle.partner_setup.specs.declared.partner.Partner.{Partner}
 use Rattle.partner_setup.specs.Setup.{SetupValue}
 use Rattle.partner_setup.specs.Sound.{IsSoundPartner, IsSoundSetup}
@@ -20,7 +20,7 @@ use Rattle.checked_text.specs.Acknowledgments.{has_reports}
 use Rattle.night_writing.specs.declared.night.Night.{Night}
 use Rattle.night_writing.specs.Night.{IsNight, box_of, judgements, sets_to}
 use Rattle.night_law.proofs.ForAbove.{at_index, chunks_all, known_once, numbered_all, pairs_weaker_at}
-use Rattle.files_law.proofs.Placed.{IsSent, sets_sent, sources_known}
+use Rattle.files_law.proofs.ForAbove.{IsSent, sets_sent, sources_known}
 use Rattle.set_documents.specs.Documents.{DocumentValue}
 use Rattle.track_notes.specs.declared.notes.Notes.{Notes}
 use Rattle.track_answers.specs.Noted.{notes_of}

@@ -11,14 +11,14 @@ use Rattle.count_numbers.specs.Layout.{interchanges_of}
 use Rattle.count_numbers.specs.Num.{num}
 use Rattle.count_numbers.specs.Runs.{same_key}
 use Rattle.count_numbers.specs.declared.run.RunKey.{RunKey}
-use Rattle.count_numbers.proofs.Interchanges.{first_interchange, no_interchange, not_none}
+use Rattle.count_numbers.proofs.ForAbove.{first_interchange, no_interchange, not_none}
 use Rattle.partner_setup.specs.declared.partner.Partner.{Partner}
 use Rattle.judged_text.specs.Judged.{PlacedValue}
 use Rattle.mailbox.specs.Mailbox.{group_total}
 use Rattle.mailbox.specs.Numbered.{NumberedValue, goes_with, groups_of, group_key_of, numbered_from, onto_groups}
 use Rattle.track_rows.specs.Mailed.{mailed_behind}
 use Rattle.track_rows.specs.Walking.{last_key}
-use Rattle.track_rows.proofs.Chunks.{begins, group_total_snoc}
+use Rattle.track_rows.proofs.ForAbove.{begins, group_total_snoc}
 use Rattle.track_law.proofs.Told.{numbers_told}
 
 abbrev Numbers : Type 0

@@ -4,7 +4,7 @@ use Rattle.std.proofs.Common.{refl, sym, ap, subst, ◌∙◌, arith, All, lengt
 use Rattle.std.proofs.lemmas.List.Elements.{All-get_or}
 use Rattle.std.proofs.lemmas.Option.{get_or_from_slice_get}
 use Rattle.partner_setup.specs.Sound.{IsSoundPartner}
-use Rattle.mailbox.proofs.Replacing.{there_is}
+use Rattle.mailbox.proofs.ForAbove.{there_is}
 use Rattle.track_rows.proofs.Chunks.{total_none}
 use Rattle.track_rows.specs.Rows.{TrackedBy}
 use Rattle.std.specs.Prelude.{slice_get}

@@ -1,6 +1,7 @@
 pub mod Behind
 pub mod Chunks
 pub mod First
+pub mod ForAbove
 pub mod Hindering
 pub mod Sending
 pub mod Targets

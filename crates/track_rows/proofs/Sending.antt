@@ -6,7 +6,7 @@ use Rattle.std.specs.List.{count_by}
 use Rattle.std.proofs.Common.{cond}
 use Rattle.std.proofs.lemmas.List.Sums.{sum_by-append}
 use Rattle.std.proofs.lemmas.Option.{slice_get_within}
-use Rattle.mailbox.proofs.Replacing.{length_set, set_here, set_there}
+use Rattle.mailbox.proofs.ForAbove.{length_set, set_here, set_there}
 use Rattle.track_notes.specs.declared.notes.Notes.{Notes}
 use Rattle.track_rows.specs.Mailed.{acknowledgments_to, groups_to, is_to}
 use Rattle.track_rows.specs.Walking.{AreSent, with_one}

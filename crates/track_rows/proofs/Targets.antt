@@ -20,7 +20,7 @@ use Rattle.mailbox.specs.Deliveries.{is_blocked, is_deliverable, is_delivered_to
 use Rattle.mailbox.specs.Deliveries.{outcomes, outcomes_on}
 use Rattle.mailbox.specs.Delivering.{is_sent_by, one_where}
 use Rattle.mailbox.specs.Numbered.{group_key_of}
-use Rattle.mailbox.proofs.Replacing.{length_set, set_here, set_there}
+use Rattle.mailbox.proofs.ForAbove.{length_set, set_here, set_there}
 use Rattle.track_rows.specs.Cells.{plain_end}
 use Rattle.track_rows.specs.Rows.{TrackedBy, delivered_of, ends_of, other_end, outcome_cells}
 use Rattle.track_rows.specs.Mailed.{acknowledgments_to, groups_to, mailed_behind}

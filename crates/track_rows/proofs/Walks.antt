@@ -10,7 +10,7 @@ use Rattle.env_index.specs.Words.{GroupEntry}
 use Rattle.partner_setup.specs.Setup.{SetupValue}
 use Rattle.judged_text.specs.declared.standing.GroupStanding.{GroupStanding}
 use Rattle.judged_text.specs.Judged.{JudgedValue, PlacedValue, all_sets, sets_of_groups_from, sets_from, sets_of}
-use Rattle.mailbox.proofs.Replacing.{take_one_more}
+use Rattle.mailbox.proofs.ForAbove.{take_one_more}
 use Rattle.track_notes.specs.declared.notes.GroupNotes.{GroupNotes}
 use Rattle.track_notes.specs.declared.notes.Notes.{Notes}
 use Rattle.x12_bytes.specs.Header.{field_of}

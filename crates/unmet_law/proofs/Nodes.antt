@@ -11,7 +11,7 @@ use Rattle.guide_tree.specs.declared.element.Element.{Element}
 use Rattle.guide_tree.specs.declared.element.Element.TheVariants as element
 use Rattle.guide_tree.specs.declared.element.SimpleRow.{SimpleRow}
 use Rattle.guide_tree.specs.declared.slot.Slot.{Slot}
-use Rattle.guide_tree.specs.Words.{Derives, Given, IsPart, Segment, Tree, Trees, element_of, joined, loop, min_of, no_trees, segment, tree}
+use Rattle.guide_tree.specs.Words.{Derives, Given, IsPart, Segment, Tree, Trees, element_at, joined, loop, min_of, no_trees, segment, tree}
 use Rattle.elem_rules.specs.ElementFaults.{IsElementFault, fault_at}
 use Rattle.elem_rules.specs.Rows.{nth}
 use Rattle.guide_warnings.specs.Unmet.{is_unmet_element, is_unmet_row, unmet_node, unmet_nodes, unmet_slot, unmet_warning}
@@ -57,7 +57,7 @@ slot_by s (Some place) found some =
 slot_fault : (delims : Delims) (s : Slot) (seg : Segment) → unmet_slot s ≢ [] → HasElementFault delims ((seg, s) ∷ [])
 slot_fault delims s seg some =
     let at = slot_by s (position_from is_unmet_element 1 s.elements) refl some in
-    let wrong = at_fault delims at.row at.repeat (element_of seg (suc at.k)) at.unmet in
+    let wrong = at_fault delims at.row at.repeat (element_at seg (suc at.k)) at.unmet in
     record {
       given = (seg, s);
       among = (0, omega arith, refl);

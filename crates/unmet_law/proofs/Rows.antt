@@ -12,7 +12,7 @@ use Rattle.hub_kinds.specs.declared.codes.ElementCode.{ElementCode}
 use Rattle.hub_kinds.specs.declared.codes.ElementCode.TheVariants as ik403
 use Rattle.x12_bytes.specs.declared.delims.Delims.{Delims}
 use Rattle.x12_segs.specs.Words.{components, occurrences, part_or_empty}
-use Rattle.guide_tree.proofs.Among.{all_at, any_found}
+use Rattle.guide_tree.proofs.ForAbove.{all_at, any_found}
 use Rattle.guide_tree.specs.declared.element.CodeList.{CodeList}
 use Rattle.guide_tree.specs.declared.element.Component.TheVariants as component
 use Rattle.guide_tree.specs.declared.element.Element.TheVariants as element

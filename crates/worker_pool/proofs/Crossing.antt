@@ -1,7 +1,7 @@
 -- The jobs at places may be shared between threads: in one step for the types that hold them.
 use denote.Ref.{NamedLft}
 use denote.Param.Send.{IsSync, recorded_sync, sendable}
-use Rattle.guide_fast.proofs.Crossing.{fast_sync}
+use Rattle.guide_fast.proofs.ForAbove.{fast_sync}
 use Rattle.std.proofs.Crossing.{crosses}
 use Rattle.worker_pool.specs.contracts.job.CheckJob as job
 use Rattle.worker_pool.specs.contracts.job.SetJob as set_job

@@ -1,3 +1,4 @@
+pub mod ForAbove
 pub mod Naming
 pub mod Completing
 pub mod Placing

@@ -10,7 +10,7 @@ use Rattle.std.proofs.lemmas.List.Elements.{All-head, All-tail}
 use Rattle.std.proofs.lemmas.Slice.Eq.{bytes_eq-Decides}
 use Rattle.x12_bytes.specs.HeaderTest.{is_head}
 use Rattle.x12_bytes.specs.declared.delims.Delims.{Delims}
-use Rattle.x12_bytes.proofs.Testing.{decides_head}
+use Rattle.x12_bytes.proofs.ForAbove.{decides_head}
 use Rattle.x12_write.specs.Group.{texts_in_row}
 use Rattle.written_law.specs.Written.{AreClear, BeginsOtherwise, IsWritten, NoHeads, Written, segments_in_row, texts_of, written_text}
 use Rattle.written_law.proofs.Interchanges.{left}

@@ -8,19 +8,17 @@ use Rattle.std.proofs.lemmas.Bool.{false_from_ne_true}
 use Rattle.std.proofs.lemmas.List.Elements.{All-cons, All-head, All-nil, All-tail}
 use Rattle.x12_bytes.specs.HeaderTest.{is_head}
 use Rattle.x12_bytes.specs.declared.delims.Delims.{Delims}
-use Rattle.x12_bytes.proofs.Testing.{decides_head}
+use Rattle.x12_bytes.proofs.ForAbove.{decides_head}
 use Rattle.x12_segs.specs.Words.{SegValue, elements_of, kind_of, parts}
 use Rattle.x12_write.specs.Group.{texts_in_row}
 use Rattle.x12_write.specs.Header.{header_text}
 use Rattle.x12_write.specs.Sendable.{IsReadAs}
-use Rattle.x12_write.proofs.Headers.{header-read}
-use Rattle.env_index.specs.Words.{Body, ChainFrom, Derives, EndsWithTrailer, Extent, IndexEntry, IndexValue, IsEntryOf, IsNextHead}
+use Rattle.x12_write.proofs.ForAbove.{header-read}
+use Rattle.env_index.specs.Words.{Body, ChainFrom, DerivesInterchange, EndsWithTrailer, Extent, IndexEntry, IndexValue, IsEntryOf}
+use Rattle.env_index.specs.Words.{IsNextHead}
 use Rattle.env_index.specs.Words.{Reach, count_outside, ends_interchange, extent_of, extents_of, fault_of, interchange_of, is_filler}
 use Rattle.env_index.specs.Words.{map_body, reach_at, reach_from}
-use Rattle.env_index.proofs.EndingTrees.{derived_ends}
-use Rattle.env_index.proofs.Mapped.{derives_before}
-use Rattle.env_index.proofs.Spanned.{interchange_has_spans}
-use Rattle.env_index.proofs.Surround.{no_head_past, nothing_counted}
+use Rattle.env_index.proofs.ForAbove.{derived_ends, derives_before, interchange_has_spans, no_head_past, nothing_counted}
 use Rattle.written_law.specs.Files.{HasInterchanges, extents_in_row}
 use Rattle.written_law.specs.Whole.{Elements, IsWhole, Whole, group_segments, kind_by, whole_segments}
 use Rattle.written_law.specs.Written.{AreClear, IsWritten, NoHeads, Written, segments_in_row, texts_of, written_text}
@@ -108,10 +106,11 @@ module _ (file before behind : List ℕ) (w : Written) (is : file ≡ before ++ 
   elements : Clear → map elements_of (reach_at file start).segs ≡ whole_segments w.whole
   elements clear = ap (λ (r : Reach). map elements_of r.segs) (reached clear) ∙ row_elements d (start + 106) w.segments ∙ written.elements
 
-  derived : Clear → (b : Body SegValue) × Derives kind_of (reach_at file start).segs b × (map_body elements_of b ≡ tree_of w.whole)
+  derived : Clear → (b : Body SegValue) × DerivesInterchange kind_of (reach_at file start).segs b × (map_body elements_of b
+      ≡ tree_of w.whole)
   derived clear =
       derives_before kind_of kind_by elements_of kind_is (reach_at file start).segs (tree_of w.whole)
-      (subst (λ (es : List Elements). Derives kind_by es (tree_of w.whole)) (sym (elements clear))
+      (subst (λ (es : List Elements). DerivesInterchange kind_by es (tree_of w.whole)) (sym (elements clear))
       (whole_derives w.number w.whole written.whole))
 
   far : Clear → (reach_at file start).end ≡ start + length (written_text w)

@@ -1,6 +1,7 @@
 pub mod Clear
 pub mod Control
 pub mod Faultless
+pub mod ForAbove
 pub mod Interchanges
 pub mod Lone
 pub mod Numbers

@@ -11,7 +11,7 @@ use Rattle.x12_bytes.specs.HeaderTest.{is_head}
 use Rattle.x12_bytes.specs.declared.delims.Delims.{Delims}
 use Rattle.x12_segs.specs.Kinds.{kind_of}
 use Rattle.x12_segs.specs.Words.{parts, Seg, SegValue, part_at, segs_from, rest_from, segs_of, rest_of, elements_of, view_of}
-use Rattle.x12_segs.proofs.SegLemmas.{segs_of-cons, rest_of-cons, part_at-some}
+use Rattle.x12_segs.proofs.ForAbove.{segs_of-cons, rest_of-cons, part_at-some}
 use Rattle.env_index.specs.Words.{Reach, ends_interchange, onto_reach, reach_from, reach_of}
 use Rattle.written_law.specs.Whole.{kind_by}
 use Rattle.written_law.specs.Written.{IsOneSegment, NoHeads, segments_in_row}

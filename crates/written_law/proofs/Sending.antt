@@ -8,7 +8,7 @@ use Rattle.x12_write.specs.Header.{header_elements, header_text}
 use Rattle.x12_write.specs.Number.{padded_number, padded_text}
 use Rattle.x12_write.specs.Segment.{elements_text}
 use Rattle.x12_write.specs.Sendable.{IsSendable}
-use Rattle.x12_write.proofs.Fields.{length-elements_text}
+use Rattle.x12_write.proofs.ForAbove.{length-elements_text}
 use Rattle.written_law.proofs.Numbers.{nine_read}
 
 pub dropped_front : (xs ys : List ℕ) → drop (length xs) (xs ++ ys) ≡ ys

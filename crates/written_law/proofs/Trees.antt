@@ -6,7 +6,8 @@ use Rattle.std.proofs.lemmas.Bool.{and_from, or_from}
 use Rattle.std.proofs.lemmas.List.Elements.{All-head, All-tail}
 use Rattle.x12_segs.specs.Words.{SegValue, elements_of}
 use Rattle.x12_segs.specs.declared.kind.Kind.TheVariants.{Ta1}
-use Rattle.env_index.specs.Words.{AGroup, ASet, ATa1, AreBodyMembers, AreMembers, Body, Derives, Group, GroupEntry, InBody, InGroup}
+use Rattle.env_index.specs.Words.{AGroup, ASet, ATa1, AreBodyMembers, AreMembers, Body, DerivesInterchange, Group, GroupEntry, InBody}
+use Rattle.env_index.specs.Words.{InGroup}
 use Rattle.env_index.specs.Words.{IsGroup, IsSet, OutOfBody, OutOfGroup, Set, body_items, group_items, in_body_items}
 use Rattle.env_index.specs.Words.{in_group_items, groups_in, has_misplaced_in_group, has_set_headers, is_group_header, is_set_header}
 use Rattle.env_index.specs.Words.{map_in_body, map_in_group, sets_in, group_entry}
@@ -92,7 +93,7 @@ members_are number w is [] all = groups_are w.groups (w.trailer ∷ []) is.group
 members_are number w is (x ∷ ta1s) all =
     (All-head (λ y. kind_by y ≡ Ta1) x ta1s all, members_are number w is ta1s (All-tail (λ y. kind_by y ≡ Ta1) x ta1s all))
 
-pub whole_derives : (number : ℕ) (w : Whole) → IsWhole number w → Derives kind_by (whole_segments w) (tree_of w)
+pub whole_derives : (number : ℕ) (w : Whole) → IsWhole number w → DerivesInterchange kind_by (whole_segments w) (tree_of w)
 whole_derives number w is = (tree_items w, record { members = members_are number w is w.ta1s is.ta1s; trailer = is.kind })
 
 -- headers in their form, and nothing out of place

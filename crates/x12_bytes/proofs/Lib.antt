@@ -1,3 +1,4 @@
 mod Rows
+pub mod ForAbove
 pub mod Testing
 mod WorkedLayout

@@ -1,5 +1,6 @@
 pub mod CutLemmas
 pub mod FirstLemmas
+pub mod ForAbove
 pub mod KindLemmas
 pub mod OrderLemmas
 pub mod PartLemmas

@@ -1,3 +1,4 @@
+pub mod ForAbove
 pub mod Trimming
 pub mod Padding
 pub mod Plain

@@ -9,11 +9,11 @@ abbrev pub read : List (Bor (List ℕ)) → List (List ℕ)
 read elements = map (λ element. element.now) elements
 
 -- a segment that is to be written
-pub record Segment : Type 0 where
+pub record WrittenSegment : Type 0 where
   pub id : List ℕ
   pub elements : List (List ℕ)
 
-abbrev pub segment : List ℕ → List (List ℕ) → Segment
+abbrev pub segment : List ℕ → List (List ℕ) → WrittenSegment
 segment id elements = record { id = id; elements = elements }
 
 -- an element before others; left off where it and they are empty
@@ -43,5 +43,5 @@ abbrev pub segment_text : Delims → List ℕ → List (List ℕ) → List ℕ
 segment_text d id elements = full_segment_text d id (trimmed elements)
 
 -- segments as they are written, with no byte between them
-abbrev pub segments_text : Delims → List Segment → List ℕ
+abbrev pub segments_text : Delims → List WrittenSegment → List ℕ
 segments_text d segments = flat_map (λ s. segment_text d s.id s.elements) segments

@@ -1,6 +1,6 @@
 use Rattle.std.proofs.Common.{ℕ, List, length, ap, subst}
 use Rattle.x12_write.specs.Sendable.{BeginsWithHeader}
-use Rattle.x12_write.proofs.Begins.{begins-longer}
+use Rattle.x12_write.proofs.ForAbove.{begins-longer}
 use Rattle.ack_999.proofs.interchange.write_ack_interchange.Goals as goal
 
 pub returns-clause-header : goal.returns-clause-header

@@ -3,7 +3,7 @@ use Rattle.std.specs.List.{flat_map}
 use Rattle.std.specs.Prelude.{codes}
 use Rattle.x12_write.specs.Number.{padded_number}
 use Rattle.x12_write.specs.Segment.{before_rest}
-use Rattle.x12_write.proofs.Trimming.{before_rest-some}
+use Rattle.x12_write.proofs.ForAbove.{before_rest-some}
 use Rattle.ack_999.proofs.report.append_set_header.Goals as goal
 
 -- two elements and what stands after them, without a break

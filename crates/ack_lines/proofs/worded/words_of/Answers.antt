@@ -1,6 +1,6 @@
 use Rattle.std.proofs.Common.{◌≡◌, ℕ, ◌+◌, List, Some, None, drop, cond, find, bytes_eq, refl, sym, ap, ◌∙◌}
 use Rattle.std.proofs.lemmas.List.{at_drop_all}
-use Rattle.hub_kinds.proofs.Reading.{find-at}
+use Rattle.hub_kinds.proofs.ForAbove.{find-at}
 use Rattle.ack_lines.specs.Worded.{code_by, words_by, words_or_unknown}
 use Rattle.ack_lines.proofs.worded.words_of.Goals as goal
 

@@ -1,4 +1,4 @@
-use Rattle.checked_text.proofs.Numbered.{by_numbers}
+use Rattle.checked_text.proofs.ForAbove.{by_numbers}
 use Rattle.batch_night.proofs.Numbering.{faults_moved, keys_behind, settled_joined}
 use Rattle.batch_night.proofs.answer_laws.faults_go_on.Goals as goal
 

@@ -2,7 +2,7 @@ use Rattle.std.proofs.Common.{◌≡◌, take}
 use Rattle.std.specs.Prelude.{IfSome}
 use Rattle.std.specs.List.{filter}
 use Rattle.loop_match.specs.Viewed.{placed_views}
-use Rattle.depend_check.specs.Dependencies.{is_triggered}
+use Rattle.depend_check.specs.Dependencies.{is_dependency_triggered}
 use Rattle.depend_check.specs.Uses.{KnowsTexts, lent}
 use Rattle.depend_check.proofs.triggered.triggered.Given as goal
 
@@ -11,5 +11,5 @@ abbrev pub invariant-loop-i : goal.invariant-loop-i
 invariant-loop-i l =
     record {
       known : IfSome l.known (λ t. KnowsTexts t.texts t.slot.now t.at (placed_views l.placed));
-      found : lent l.found.items ≡ filter (λ d. is_triggered d (placed_views l.placed)) (take l.i (lent l.all.items));
+      found : lent l.found.items ≡ filter (λ d. is_dependency_triggered d (placed_views l.placed)) (take l.i (lent l.all.items));
     }

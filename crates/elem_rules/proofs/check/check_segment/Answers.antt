@@ -2,7 +2,7 @@ use Rattle.std.proofs.Common.{List, sym, subst}
 use Rattle.std.specs.List.{Contains}
 use Rattle.hub_kinds.specs.declared.fault.ElemFault.{ElemFault}
 use Rattle.hub_kinds.specs.Words.{AreElementsRising, element_key_of, IsKeyedBy}
-use Rattle.hub_kinds.proofs.Once.{none_rises}
+use Rattle.hub_kinds.proofs.ForAbove.{none_rises}
 use Rattle.elem_rules.proofs.Members.{no_member}
 use Rattle.elem_rules.proofs.Looks.{on_true}
 use Rattle.elem_rules.proofs.check.check_segment.Goals as goal

@@ -1,6 +1,6 @@
 use Rattle.std.proofs.Common.{refl, ap, ◌∙◌}
 use Rattle.std.proofs.lemmas.Iterator.Consumers.{nth_from_yields_List, YieldsList-from_first}
-use Rattle.x12_segs.proofs.PartLemmas.{now_or_empty}
+use Rattle.x12_segs.proofs.ForAbove.{now_or_empty}
 use Rattle.elem_rules.proofs.divided.part_at.Goals as goal
 
 pub returns : goal.returns

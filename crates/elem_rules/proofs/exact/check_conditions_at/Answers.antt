@@ -3,7 +3,7 @@ use Rattle.std.specs.Prelude.{IsTrue}
 use Rattle.std.specs.List.{All, Contains, list_all}
 use mathlib.Core.Logic.{◌⊎◌, inl, inr}
 use Rattle.guide_tree.specs.declared.element.Element.{Element}
-use Rattle.guide_tree.specs.Words.{element_of}
+use Rattle.guide_tree.specs.Words.{element_at}
 use Rattle.hub_kinds.specs.declared.fault.ElemFault.{ElemFault}
 use Rattle.x12_segs.specs.Words.{elements_of}
 use Rattle.elem_rules.specs.Clean.{is_set, holds, bits_to, has_bytes}
@@ -27,7 +27,7 @@ returns-then-all_hold c f =
     let seg = c.args.seg.now in
     let slot = c.args.slot.now in
     let s = elements_of seg in
-    let present : ℕ → Bool = λ k. has_bytes (element_of s k) in
+    let present : ℕ → Bool = λ k. has_bytes (element_at s k) in
     let bits = c.present_to-present.result in
     let below : bits < 2 ^ 64 = omega arith in
     let are : bits ≡ bits_to present (length slot.elements) =

@@ -2,7 +2,7 @@ use Rattle.std.proofs.Common.{◌≡◌, ◌≤◌, ◌<◌, ◌^◌, ℕ, Bool,
 use Rattle.std.specs.Prelude.{Some, IsTrue}
 use Rattle.std.specs.List.{All, list_all}
 use Rattle.guide_tree.specs.declared.element.Element.{Element}
-use Rattle.guide_tree.specs.Words.{element_of}
+use Rattle.guide_tree.specs.Words.{element_at}
 use Rattle.x12_segs.specs.Words.{elements_of}
 use Rattle.elem_rules.specs.Rows.{nth}
 use Rattle.elem_rules.specs.Clean.{fits, is_set, holds, bits_to, has_bytes}
@@ -40,15 +40,15 @@ returns c =
     let bits = c.in-Some.present in
     let few : n ≤ length slot.elements = subst (λ (rows : List Element). n ≤ length rows) rows c.if-separators-rows.false in
     let small : n < 64 = omega (arith, few, rows_few slot c.requires.bounded) in
-    let present : ℕ → Bool = λ k. has_bytes (element_of s k) in
-    let past : (k : ℕ) → n < k → element_of s k ≡ [] =
+    let present : ℕ → Bool = λ k. has_bytes (element_at s k) in
+    let past : (k : ℕ) → n < k → element_at s k ≡ [] =
     λ k lt. part_past seg.delims.element seg.bytes c.args.separators.now k c.requires.places lt in
     let all : bits ≡ bits_to present (length slot.elements) =
     c.in-Some.ensures.bits ∙ sym (bits_rest present n (length slot.elements) few (λ k lt. ap has_bytes (past k lt))) in
-    let filled : (k : ℕ) (row : Element) → k ≤ n → nth slot.elements k ≡ Some row → IsTrue (has_bytes (element_of s k))
-    → IsTrue (fits row (element_of s k)) =
-    subst (λ (rows : List Element). (k : ℕ) (row : Element) → k ≤ n → nth rows k ≡ Some row → IsTrue (has_bytes (element_of s k))
-    → IsTrue (fits row (element_of s k))) rows c.in-Some.ensures.fit in
+    let filled : (k : ℕ) (row : Element) → k ≤ n → nth slot.elements k ≡ Some row → IsTrue (has_bytes (element_at s k))
+    → IsTrue (fits row (element_at s k)) =
+    subst (λ (rows : List Element). (k : ℕ) (row : Element) → k ≤ n → nth rows k ≡ Some row → IsTrue (has_bytes (element_at s k))
+    → IsTrue (fits row (element_at s k))) rows c.in-Some.ensures.fit in
     let below : bits < 2 ^ 64 = omega arith in
     to_on_true c.all_hold.result (λ held. no_fault seg.delims s slot (record {
       bounded = rows_bounded slot c.requires.bounded;

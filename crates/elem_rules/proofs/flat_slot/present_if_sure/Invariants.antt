@@ -1,7 +1,7 @@
 use Rattle.std.proofs.Common.{◌≡◌, ℕ, ◌≤◌}
 use Rattle.std.specs.Prelude.{Some, IsTrue}
 use Rattle.guide_tree.specs.declared.element.Element.{Element}
-use Rattle.guide_tree.specs.Words.{element_of}
+use Rattle.guide_tree.specs.Words.{element_at}
 use Rattle.x12_segs.specs.Words.{elements_of}
 use Rattle.elem_rules.specs.Rows.{nth}
 use Rattle.elem_rules.specs.Clean.{fits, bits_to, has_bytes}
@@ -9,7 +9,7 @@ use Rattle.elem_rules.proofs.flat_slot.present_if_sure.Given as goal
 
 abbrev pub invariant-loop-k : goal.invariant-loop-k
 invariant-loop-k l = record {
-  fit : (k : ℕ) (row : Element) → k ≤ l.k → nth l.rows k ≡ Some row → IsTrue (has_bytes (element_of (elements_of l.seg) k))
-      → IsTrue (fits row (element_of (elements_of l.seg) k));
-  bits : l.present ≡ bits_to (λ k. has_bytes (element_of (elements_of l.seg) k)) l.k;
+  fit : (k : ℕ) (row : Element) → k ≤ l.k → nth l.rows k ≡ Some row → IsTrue (has_bytes (element_at (elements_of l.seg) k))
+      → IsTrue (fits row (element_at (elements_of l.seg) k));
+  bits : l.present ≡ bits_to (λ k. has_bytes (element_at (elements_of l.seg) k)) l.k;
 }

@@ -4,7 +4,7 @@ use Rattle.std.specs.List.{All, list_all}
 use Rattle.std.proofs.lemmas.List.{take_rest}
 use Rattle.guide_tree.specs.declared.element.Element.{Element}
 use Rattle.guide_tree.specs.declared.slot.Condition.{Condition}
-use Rattle.guide_tree.specs.Words.{element_of}
+use Rattle.guide_tree.specs.Words.{element_at}
 use Rattle.x12_segs.specs.Words.{elements_of}
 use Rattle.elem_rules.specs.Rows.{nth}
 use Rattle.elem_rules.specs.Clean.{fits, fits_empty, is_set, holds, bits_to, has_bytes}
@@ -31,12 +31,12 @@ returns c =
     let n = length c.args.separators.now in
     let rows = c.as_slice-rows.ensures in
     let few : n ≤ length slot.elements = subst (λ (rows : List Element). n ≤ length rows) rows c.if-separators-rows.false in
-    let present : ℕ → Bool = λ k. has_bytes (element_of s k) in
-    let past : (k : ℕ) → n < k → element_of s k ≡ [] =
+    let present : ℕ → Bool = λ k. has_bytes (element_at s k) in
+    let past : (k : ℕ) → n < k → element_at s k ≡ [] =
     λ k lt. part_past seg.delims.element seg.bytes c.args.separators.now k c.requires.places lt in
     let bits : bits_to present (length slot.elements) ≡ bits_to present n =
     bits_rest present n (length slot.elements) few (λ k lt. ap has_bytes (past k lt)) in
-    let fit : (k : ℕ) (row : Element) → nth c.as_slice-rows.result.now k ≡ Some row → IsTrue (fits row (element_of s k)) =
+    let fit : (k : ℕ) (row : Element) → nth c.as_slice-rows.result.now k ≡ Some row → IsTrue (fits row (element_at s k)) =
     fit_all c.as_slice-rows.result.now s n (on_true c.fit_there.result c.if-not-fit_there.false c.fit_there.ensures)
     (sym (ap (list_all fits_empty) (take_rest c.as_slice-rows.result.now n)) ∙ sym c.may_be_empty.ensures ∙ c.if-not-may_be_empty.false)
     past in
@@ -46,7 +46,7 @@ returns c =
       few = rows_few slot c.requires.bounded;
       plain = λ k. plain_part seg.delims seg.delims.element seg.bytes k (neither_found seg.delims seg.bytes c.requires.plain).0;
       fit = subst (λ (rows : List Element). (k : ℕ) (row : Element) → nth rows k ≡ Some row
-          → IsTrue (fits row (element_of s k))) rows fit;
+          → IsTrue (fits row (element_at s k))) rows fit;
       no_more = parts_up_to seg.delims.element seg.bytes c.args.separators.now (length slot.elements) c.requires.places few;
       hold = subst (λ m. All (λ x. IsTrue (holds (is_set m) x.relation x.positions)) slot.conditions) (sym bits)
           (subst (λ (conditions : List Condition). All (λ x. IsTrue (holds (is_set (bits_to present n)) x.relation x.positions)) conditions)

@@ -4,7 +4,7 @@ use Rattle.std.specs.declared.alloc.Global.{Global}
 use Rattle.guide_tree.specs.declared.slot.Slot.{Slot}
 use Rattle.guide_tree.specs.declared.node.Node.{Node}
 use Rattle.guide_tree.specs.Words.{loop, nodes_view}
-use Rattle.guide_tree.proofs.Behind.{view_loop}
+use Rattle.guide_tree.proofs.ForAbove.{view_loop}
 use Rattle.elem_rules.specs.NodeSlots.{lent_slots}
 use Rattle.elem_rules.proofs.NodeLists.{view_segment, segment_more, loop_more}
 use Rattle.elem_rules.proofs.slot_tables.+add_slots.Goals as goal

@@ -2,7 +2,7 @@ use Rattle.std.proofs.Common.{◌≡◌, ◌<◌, ◌+◌, ◌-◌, ℕ, List, O
 use Rattle.std.specs.Prelude.{is_some}
 use Rattle.x12_segs.specs.Words.{kind_of}
 use Rattle.x12_bytes.specs.HeaderTest.{is_head}
-use Rattle.env_index.specs.Envelope.{Derives}
+use Rattle.env_index.specs.Envelope.{DerivesInterchange}
 use Rattle.env_index.specs.Extents.{reach_at}
 use Rattle.env_index.specs.Interchange.{InterchangeEntry, interchange_of}
 use Rattle.std.specs.Prelude.{slice_range}
@@ -31,7 +31,7 @@ returns-in-Some-2-clause-next c =
       };
       read = record {
         tree = t.0;
-        derived = subst (λ (s : ℕ). Derives kind_of (reach_at text s).segs t.0) (sym start) t.1;
+        derived = subst (λ (s : ℕ). DerivesInterchange kind_of (reach_at text s).segs t.0) (sym start) t.1;
         read = subst (λ (s : ℕ). x ≡ interchange_of text s t.0) (sym start) t.2;
         spans = rw c.in-Some-2.is at c.in_ok-interchange.ensures.spans;
       };

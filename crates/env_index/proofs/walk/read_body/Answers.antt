@@ -6,7 +6,7 @@ use Rattle.std.specs.Prelude.{slice_range}
 use Rattle.std.proofs.lemmas.Bool.{both_ways, false_from_ne_true}
 use Rattle.std.proofs.lemmas.List.{get_or-take, get_or-drop, length-take-le, length-drop}
 use Rattle.x12_bytes.specs.declared.delims.Delims.{Delims}
-use Rattle.x12_segs.proofs.KindLemmas.{other_segment}
+use Rattle.x12_segs.proofs.ForAbove.{other_segment}
 use Rattle.env_index.proofs.Surround.{head_letter}
 use Rattle.x12_segs.specs.declared.part.Part.TheVariants.{Segment, Rest}
 use Rattle.x12_segs.specs.declared.kind.Kind.{Kind}

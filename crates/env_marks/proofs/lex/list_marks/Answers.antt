@@ -1,7 +1,7 @@
 use Rattle.std.proofs.Common.{◌≡◌, ℕ, ◌+◌, List, [], ◌∷◌, ◌++◌, map, sym, ap, ◌∙◌, arith, append_assoc, append-nil}
 use Rattle.std.specs.Prelude.{slice_range}
 use Rattle.x12_segs.specs.Words.{parts, part_at, segs_of}
-use Rattle.x12_segs.proofs.PartLemmas.{parts-none}
+use Rattle.x12_segs.proofs.ForAbove.{parts-none}
 use Rattle.env_marks.specs.declared.frag.Mark.{Mark}
 use Rattle.env_marks.specs.Marking.{mark_of, last_of}
 use Rattle.env_marks.proofs.PartSteps.{IsPartCut, part_found, marks_found, last_found}

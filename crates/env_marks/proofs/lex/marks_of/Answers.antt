@@ -1,7 +1,7 @@
 use Rattle.std.proofs.Common.{◌≡◌, ℕ, ◌+◌, List, [], ◌∷◌, map, sym, ap, ◌∙◌}
 use Rattle.std.specs.Prelude.{slice_range}
 use Rattle.x12_segs.specs.Words.{parts, segs_of}
-use Rattle.x12_segs.proofs.PartLemmas.{parts-none}
+use Rattle.x12_segs.proofs.ForAbove.{parts-none}
 use Rattle.env_marks.specs.declared.frag.Mark.{Mark}
 use Rattle.env_marks.specs.Frags.{frag_of}
 use Rattle.env_marks.specs.Marking.{Marking, MarksValue, Uncut, Cut, mark_of, marking_of}

@@ -2,7 +2,7 @@ use Rattle.std.proofs.Common.{◌≡◌, ◌∙◌, ◌+◌, ◌<◌, ◌≤◌,
 use Rattle.std.proofs.Common.{length, sym, ap, subst, arith, inl, inr}
 use Rattle.std.proofs.lemmas.List.{append-nil, length-append}
 use Rattle.x12_bytes.specs.HeaderTest.{is_head}
-use Rattle.env_index.proofs.Surround.{head_within}
+use Rattle.env_index.proofs.ForAbove.{head_within}
 use Rattle.batch_law.specs.Batches.{whole_end}
 use Rattle.batch_law.specs.Begun.{may_begin}
 use Rattle.batch_cut.specs.Scouting.{Advances, IsInside, IsLeft, Stands}
@@ -10,7 +10,7 @@ use Rattle.batch_cut.specs.declared.scout.Advanced.{Advanced}
 use Rattle.batch_cut.specs.declared.scout.Inside.{Inside}
 use Rattle.gather_law.specs.Closing.{blanks}
 use Rattle.gather_law.specs.Gathered.{HoldsInterchanges}
-use Rattle.gather_law.proofs.Blanks.{blanks_break}
+use Rattle.gather_law.proofs.ForAbove.{blanks_break}
 use Rattle.gather_files.specs.Closing.{PutsBehind}
 use Rattle.gather_files.proofs.Behind.{blanks_behind, inside_own, one_more}
 use Rattle.gather_files.proofs.Sealing.{none_open, seals}

@@ -1,6 +1,6 @@
 use Rattle.std.proofs.Common.{◌≡◌, ◌∙◌, ◌⊎◌, ◌++◌, ◌∷◌, [], ◌≤◌, ℕ, List, length, sym, ap, subst, arith, inl, inr}
 use Rattle.std.proofs.lemmas.List.{length-append}
-use Rattle.env_index.proofs.Surround.{head_within}
+use Rattle.env_index.proofs.ForAbove.{head_within}
 use Rattle.gather_law.specs.Gathered.{GoesUpTo, HoldsInterchanges}
 use Rattle.gather_files.specs.Closing.{PutsBehind}
 use Rattle.gather_files.specs.declared.gather.End.{End}

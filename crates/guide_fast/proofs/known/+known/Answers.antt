@@ -3,7 +3,7 @@ use Rattle.std.proofs.lemmas.Result.{IfOk-weaker}
 use Rattle.std.specs.Bool.{OnTrue}
 use Rattle.guide_tree.specs.declared.node.Node.{Node}
 use Rattle.guide_tree.specs.Words.{view, nodes_view, loop, fit_in, fit_next, fit_starts, unused, Place}
-use Rattle.guide_tree.proofs.Behind.{view_loop}
+use Rattle.guide_tree.proofs.ForAbove.{view_loop}
 use Rattle.loop_match.specs.Leaving.{ended_among}
 use Rattle.guide_fast.specs.Ahead.{Adds, Any, IsKnown, IsStart, StandsAt, InSilent, AmongSilent, children_of}
 use Rattle.guide_fast.proofs.KnownTurns.{IsEnded, loop_adds, loop_ends, adds_none, next_past, ended_outside, among_adds, ended_after}

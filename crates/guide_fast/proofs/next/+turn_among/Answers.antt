@@ -1,7 +1,7 @@
 use Rattle.std.proofs.Common.{◌≡◌, None, option_map, sym, ap, ◌∙◌, rules}
 use Rattle.x12_segs.specs.Words.{elements_of}
 use Rattle.loop_match.specs.Steps.{place_view, turned}
-use Rattle.loop_match.proofs.Indexed.{next_outside, next_inside, next_here}
+use Rattle.loop_match.proofs.ForAbove.{next_outside, next_inside, next_here}
 use Rattle.guide_fast.proofs.next.+turn_among.Goals as goal
 
 pub returns-in_err-node-clause-turn : goal.returns-in_err-node-clause-turn

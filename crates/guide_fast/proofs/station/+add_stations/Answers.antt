@@ -1,7 +1,7 @@
 use Rattle.std.proofs.Common.{◌<◌, sym, subst, List, ℕ, None}
 use Rattle.guide_tree.specs.declared.node.Node.{Node}
 use Rattle.guide_tree.specs.Words.{nodes_view, node_count}
-use Rattle.guide_tree.proofs.Behind.{view_loop}
+use Rattle.guide_tree.proofs.ForAbove.{view_loop}
 use Rattle.guide_fast.specs.Ahead.{AreStations}
 use Rattle.guide_fast.proofs.StationTurns.{fewer, more_stations}
 use Rattle.guide_fast.proofs.station.+add_stations.Goals as goal

@@ -1,7 +1,7 @@
 use Rattle.std.proofs.Common.{◌+◌, ◌<◌, ◌++◌, List, length, drop, option_map, Some, sym, ap, ◌∙◌, arith}
 use Rattle.guide_tree.specs.declared.element.Component.{Component}
-use Rattle.guide_toml.specs.Tokens.{groups_of}
-use Rattle.guide_toml.specs.ElementTexts.{components_of}
+use Rattle.guide_toml.specs.Tokens.{token_groups}
+use Rattle.guide_toml.specs.ElementTexts.{components_of_tokens}
 use Rattle.guide_toml.proofs.ComponentSteps.{fails_here, ends_here, goes_on}
 use Rattle.guide_toml.proofs.element_text.components_of.Goals as goal
 
@@ -41,7 +41,7 @@ loop-component-preserved c =
       within = omega arith;
       rest =
           ap (λ (done : List Component). option_map (λ cs. done ++ cs)
-          (components_of (groups_of (drop (c.loop-component.from + (c.first_semicolon-end.result + 1))
+          (components_of_tokens (token_groups (drop (c.loop-component.from + (c.first_semicolon-end.result + 1))
           c.args.tokens.now)))) c.in_ok-push-in-Ok.ensures.items
           ∙ goes_on c.loop-component.components.items c.args.tokens.now c.loop-component.from
           c.first_semicolon-end.result c.split_at.result.1.now c.split_at-in-loop-component.result.0.now

@@ -3,8 +3,8 @@ use Rattle.toml.specs.Data.{depth}
 use Rattle.toml.specs.View.{table_view, view, items_view}
 use Rattle.guide_tree.specs.Words.{view as tree_view, nodes_view, node_count, count_in}
 use Rattle.guide_tree.specs.declared.node.Node.{Node}
-use Rattle.guide_toml.specs.Guides.{node_in, nodes_in}
-use Rattle.guide_toml.specs.Refused.{behind}
+use Rattle.guide_toml.specs.Guides.{node_by_table, nodes_in}
+use Rattle.guide_toml.specs.Refused.{number_after}
 use Rattle.guide_toml.proofs.Forests.{behind_more, count_push, item_depth, none_read, read_all, read_step, that_table, with_front}
 use Rattle.guide_toml.proofs.nodes.+nodes.Goals as goal
 
@@ -42,13 +42,13 @@ nodes_of-loop-value-preserved t c =
       read =
           ap (λ (n : ℕ). with_front (map tree_view new) (nodes_in n (items_view (drop (i + 1) vs)))) c.in-Ok.ensures.next
           ∙ read_step old vs i first v c.in-Ok.node new _ (omega arith) c.value-item.is
-          (ap (node_in first) (that_table (view v) (table_view c.in-Some.table.now) c.in-Some.ensures) ∙ c.in-Ok.ensures.read)
+          (ap (node_by_table first) (that_table (view v) (table_view c.in-Some.table.now) c.in-Some.ensures) ∙ c.in-Ok.ensures.read)
           c.in_ok-push_node-in-Ok.ensures.ok c.loop-value.invariant.read;
       next =
           c.in-Ok.ensures.next
-          ∙ ap (λ (n : ℕ). behind n size) c.loop-value.invariant.next
+          ∙ ap (λ (n : ℕ). number_after n size) c.loop-value.invariant.next
           ∙ behind_more start read size
-          ∙ ap (behind start) (sym counted);
+          ∙ ap (number_after start) (sym counted);
     }
 
 pub nodes_of-returns-clause-read : goal.nodes_of-returns-clause-read

@@ -2,7 +2,7 @@ use Rattle.std.proofs.Common.{◌+◌, drop, refl, arith}
 use Rattle.toml.specs.View.{view, items_view}
 use Rattle.guide_toml.specs.Answers.{meaning_of}
 use Rattle.guide_toml.specs.Guides.{dependency_in, dependencies_in}
-use Rattle.toml_keys.proofs.RowSteps.{row_added, row_fails, next_row}
+use Rattle.toml_keys.proofs.ForAbove.{row_added, row_fails, next_row}
 use Rattle.guide_toml.proofs.read.dependencies_in.Goals as goal
 
 pub returns-in-Err : goal.returns-in-Err

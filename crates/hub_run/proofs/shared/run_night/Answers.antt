@@ -1,4 +1,4 @@
-use Rattle.night_law.proofs.WholeNight.{whole_night}
+use Rattle.night_law.proofs.ForAbove.{whole_night}
 use Rattle.hub_run.proofs.shared.run_night.Goals as goal
 
 pub returns-clause-night : goal.returns-clause-night

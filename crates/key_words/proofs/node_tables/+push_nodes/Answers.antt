@@ -1,7 +1,7 @@
 use Rattle.std.proofs.Common.{ap, arith}
 use Rattle.toml.specs.Data.{depth}
 use Rattle.toml.specs.View.{view}
-use Rattle.guide_toml.proofs.Forests.{item_depth}
+use Rattle.guide_toml.proofs.ForAbove.{item_depth}
 use Rattle.key_words.proofs.node_tables.+push_nodes.Goals as goal
 
 pub push_nodes-push_node-requires : goal.push_nodes-push_node-requires

@@ -1,7 +1,7 @@
 use Rattle.std.proofs.Common.{sym, ap, ◌∙◌, arith, codes}
 use Rattle.toml.specs.Data.{items_depth}
 use Rattle.toml.specs.View.{table_view, view, items_view}
-use Rattle.guide_toml.proofs.Forests.{depth_at, list_depth, member_depth}
+use Rattle.guide_toml.proofs.ForAbove.{depth_at, list_depth, member_depth}
 use Rattle.key_words.specs.NodeTables.{tables_in}
 use Rattle.key_words.proofs.NodeTables.{inner_is, list_at, no_list, that_list}
 use Rattle.key_words.proofs.node_tables.inner_of.Goals as goal

@@ -3,9 +3,7 @@ use Rattle.std.specs.List.{Contains}
 use Rattle.hub_kinds.specs.declared.fault.Fault.{Fault}
 use Rattle.x12_segs.specs.Words.{elements_of}
 use Rattle.guide_tree.specs.Words.{guide_of, nodes_view, IsPlacing}
-use Rattle.guide_law.proofs.Computed.{is_placing}
-use Rattle.guide_law.proofs.Faulty.{members}
-use Rattle.guide_law.proofs.Placed.{triggers}
+use Rattle.guide_law.proofs.ForAbove.{is_placing, members, triggers}
 use Rattle.loop_match.specs.Given.{place_in, slot_in}
 use Rattle.loop_match.proofs.Numbered.{found_keyed}
 use Rattle.loop_match.proofs.Giving.{places_given, slots_given}

@@ -4,7 +4,7 @@ use Rattle.std.proofs.lemmas.Bool.{OnTrue_at}
 use Rattle.x12_segs.specs.Words.{SegValue}
 use Rattle.mailbox.specs.Deliveries.{inner_count, is_in_the_way, is_text_in_the_way}
 use Rattle.judged_text.specs.Judged.{segments_in}
-use Rattle.judged_text.proofs.Stretch.{none_dropped, none_taken}
+use Rattle.judged_text.proofs.ForAbove.{none_dropped, none_taken}
 use Rattle.mailbox.proofs.blocking.is_inner_blocked.Goals as goal
 
 pub returns-then-is_clear : goal.returns-then-is_clear

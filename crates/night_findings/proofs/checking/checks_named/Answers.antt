@@ -1,6 +1,6 @@
 use Rattle.std.proofs.Common.{ap, ◌∙◌}
 use Rattle.env_index.specs.Words.{places_of}
-use Rattle.worker_pool.proofs.Placing.{placed_by}
+use Rattle.worker_pool.proofs.ForAbove.{placed_by}
 use Rattle.night_findings.proofs.checking.checks_named.Goals as goal
 
 pub run_checks-requires-clause-places : goal.run_checks-requires-clause-places

@@ -3,7 +3,7 @@ use Rattle.std.specs.List.{AllZip}
 use Rattle.env_index.specs.Words.{IndexValue, settled}
 use Rattle.checked_text.specs.Asked.{IsFound, asked_of}
 use Rattle.checked_text.specs.declared.finding.Finding.{Finding}
-use Rattle.checked_text.proofs.Numbered.{by_numbers}
+use Rattle.checked_text.proofs.ForAbove.{by_numbers}
 use Rattle.night_findings.proofs.found.find_out.Goals as goal
 
 pub returns : goal.returns

@@ -1,7 +1,7 @@
 use Rattle.std.proofs.Common.{◌≡◌, ℕ, List, map, ap, subst, ◌∙◌, arith}
 use Rattle.std.proofs.lemmas.List.{length-map}
 use Rattle.cut_plan.specs.Plan.{pieces}
-use Rattle.cut_plan.proofs.Pieces.{length-pieces}
+use Rattle.cut_plan.proofs.ForAbove.{length-pieces}
 use Rattle.env_marks.specs.HeadLaws.{heads_under}
 use Rattle.env_marks.specs.Laws.{values}
 use Rattle.isa_scan.specs.Heads.{heads_in}

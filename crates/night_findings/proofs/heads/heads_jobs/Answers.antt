@@ -3,7 +3,7 @@ use Rattle.std.specs.List.{All}
 use Rattle.std.proofs.lemmas.List.{take_all}
 use Rattle.std.proofs.lemmas.List.Elements.{All-push}
 use Rattle.cut_plan.specs.Plan.{pieces}
-use Rattle.cut_plan.proofs.Pieces.{length-pieces}
+use Rattle.cut_plan.proofs.ForAbove.{length-pieces}
 use Rattle.worker_pool.specs.Asked.{IsHeadsJob, heads_asked}
 use Rattle.worker_pool.specs.declared.heads.HeadsAsked.{HeadsAsked}
 use Rattle.worker_pool.specs.declared.heads.HeadsJob.{HeadsJob}

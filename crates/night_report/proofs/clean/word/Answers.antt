@@ -1,6 +1,6 @@
 use Rattle.std.proofs.Common.{◌-◌, refl, ap, ◌∙◌}
 use Rattle.std.proofs.lemmas.Iterator.Consumers.{nth_from_yields_List, YieldsList-from_first}
-use Rattle.x12_segs.proofs.PartLemmas.{now_or_empty}
+use Rattle.x12_segs.proofs.ForAbove.{now_or_empty}
 use Rattle.night_report.specs.Clean.{words_of}
 use Rattle.night_report.proofs.clean.word.Goals as goal
 

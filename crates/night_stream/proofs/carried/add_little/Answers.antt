@@ -3,9 +3,9 @@ use Rattle.hub_kinds.specs.declared.interchange.InterchangeFault.{InterchangeFau
 use Rattle.env_index.specs.Words.{IndexValue, settled, with_faults}
 use Rattle.partner_setup.specs.Setup.{SetupValue}
 use Rattle.checked_text.specs.Settled.{faults_with}
-use Rattle.checked_text.proofs.Settling.{settled_spans}
+use Rattle.checked_text.proofs.ForAbove.{settled_spans}
 use Rattle.night_findings.specs.Alone.{faults_alone, index_alone}
-use Rattle.night_findings.proofs.Settling.{alone_long, settled_long, settled_twice, with_long}
+use Rattle.night_findings.proofs.ForAbove.{alone_long, settled_long, settled_twice, with_long}
 use Rattle.night_stream.proofs.Bounds.{room_for}
 use Rattle.night_writing.specs.Writing.{IsBatchWritten}
 use Rattle.night_stream.proofs.carried.add_little.Goals as goal

@@ -5,7 +5,7 @@ use Rattle.hub_kinds.specs.declared.counters.Counters.{Counters}
 use Rattle.mailbox.specs.Rendered.{RenderedValue}
 use Rattle.checked_text.specs.CheckedText.{SentValues, nothing_sent}
 use Rattle.checked_text.specs.Pairs.{ArePairs}
-use Rattle.checked_text.proofs.Acknowledging.{there_is}
+use Rattle.checked_text.proofs.ForAbove.{there_is}
 use Rattle.night_writing.specs.ByPlace.{box_behind, box_by, next_behind, next_by, sent_at}
 use Rattle.night_writing.proofs.Joining.{one_more, read_at}
 use Rattle.night_writing.proofs.closing.close_all.Goals as goal

@@ -2,7 +2,7 @@ use Rattle.std.proofs.Common.{◌+◌, drop, refl, arith}
 use Rattle.toml.specs.View.{view, items_view}
 use Rattle.toml_keys.specs.Answers.{meaning_of}
 use Rattle.partner_setup.specs.SetupFile.{rows_in}
-use Rattle.toml_keys.proofs.RowSteps.{row_added, row_fails, next_row}
+use Rattle.toml_keys.proofs.ForAbove.{row_added, row_fails, next_row}
 use Rattle.partner_setup.proofs.row.rows_in.Goals as goal
 
 pub returns-in-Err : goal.returns-in-Err

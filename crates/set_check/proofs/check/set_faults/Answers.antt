@@ -1,7 +1,7 @@
 use Rattle.std.proofs.Common.{Option, Bor, IfOk, sym, subst}
 use Rattle.std.specs.Option.{option_copied}
 use Rattle.hub_kinds.specs.Words.{AreRising, key_of}
-use Rattle.hub_kinds.proofs.Once.{none_rises}
+use Rattle.hub_kinds.proofs.ForAbove.{none_rises}
 use Rattle.guide_tree.specs.declared.guide.Guide.{Guide}
 use Rattle.set_check.specs.Checked.{guide_tree_of}
 use Rattle.set_check.specs.SetFaults.{AreSetFaults}

@@ -6,7 +6,7 @@ use Rattle.guide_tree.specs.Words.{slot_given, guide_of, nodes_view}
 use Rattle.loop_match.specs.Given.{place_in, slot_in}
 use Rattle.set_walk.specs.Told.{Adds}
 use Rattle.set_check.specs.Adding.{AreSound, IsErrorBelow}
-use Rattle.set_walk.proofs.SoundPlaces.{sound_places}
+use Rattle.set_walk.proofs.ForAbove.{sound_places}
 use Rattle.set_check.proofs.elements.element_faults.Goals as goal
 
 pub add_elements-requires-clause-sound : goal.add_elements-requires-clause-sound

@@ -1,6 +1,6 @@
 use Rattle.std.proofs.Common.{◌+◌, ◌<◌, ◌≤◌, ℕ, List, length, get_or, slice_range, arith, sym, ap, ◌∙◌}
 use Rattle.x12_segs.specs.Words.{SegValue}
-use Rattle.elem_rules.proofs.Places.{part_between, part_past, place_below, place_within}
+use Rattle.elem_rules.proofs.ForAbove.{part_between, part_past, place_below, place_within}
 use Rattle.marked_segments.specs.Marked.{IsPlain}
 use Rattle.set_walk.proofs.named.element_at.Goals as goal
 

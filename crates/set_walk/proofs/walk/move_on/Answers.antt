@@ -3,7 +3,7 @@ use Rattle.std.proofs.lemmas.List.{append_assoc}
 use Rattle.guide_tree.specs.Words.{use_of}
 use Rattle.loop_match.specs.declared.next.Step.{Step}
 use Rattle.loop_match.specs.Steps.{place_view, below_start}
-use Rattle.loop_match.proofs.Walking.{went, step_of}
+use Rattle.loop_match.proofs.ForAbove.{went, step_of}
 use Rattle.set_walk.proofs.walk.move_on.Goals as goal
 
 pub returns-in_ok-push-2 : goal.returns-in_ok-push-2

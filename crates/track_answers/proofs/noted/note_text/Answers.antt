@@ -4,8 +4,7 @@ use Rattle.std.proofs.lemmas.Option.{slice_get_read}
 use Rattle.env_index.specs.Words.{IndexEntry, HasSpans}
 use Rattle.judged_text.specs.Judged.{JudgedValue}
 use Rattle.checked_text.specs.CheckedText.{CheckedInterchange, IsCheckedAs, judged}
-use Rattle.checked_text.proofs.Growing.{at_index, map_snoc}
-use Rattle.checked_text.proofs.Pairing.{no_pairs, pairs_more}
+use Rattle.checked_text.proofs.ForAbove.{at_index, map_snoc, no_pairs, pairs_more}
 use Rattle.track_answers.specs.Noted.{notes_of}
 use Rattle.track_notes.specs.declared.notes.Notes.{Notes}
 use Rattle.track_answers.proofs.noted.note_text.Goals as goal

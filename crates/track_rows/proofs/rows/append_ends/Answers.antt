@@ -1,6 +1,6 @@
 use Rattle.std.proofs.Common.{length, sym, ◌∙◌, eqb-true}
 use Rattle.std.proofs.lemmas.Result.{on_ok_weaker}
-use Rattle.mailbox.proofs.BoxTexts.{some_left}
+use Rattle.mailbox.proofs.ForAbove.{some_left}
 use Rattle.track_rows.specs.Cells.{plain_end}
 use Rattle.track_rows.proofs.Targets.{other_rows, routed_rows, unrouted_rows}
 use Rattle.track_rows.proofs.rows.append_ends.Goals as goal

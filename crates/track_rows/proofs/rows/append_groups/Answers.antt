@@ -2,7 +2,7 @@ use Rattle.std.proofs.Common.{◌≡◌, ◌<◌, List, length, take, refl, ap, 
 use Rattle.std.proofs.lemmas.List.{take_all}
 use Rattle.env_index.specs.Words.{InterchangeEntry, GroupEntry}
 use Rattle.judged_text.specs.Judged.{sets_of_groups_from}
-use Rattle.mailbox.proofs.Replacing.{there_is}
+use Rattle.mailbox.proofs.ForAbove.{there_is}
 use Rattle.csv_fields.specs.Csv.{table_text}
 use Rattle.track_rows.specs.Rows.{groups_rows}
 use Rattle.track_rows.proofs.Walks.{group_rows_more, rows_as, rows_none}

@@ -7,7 +7,7 @@ use Rattle.env_index.specs.declared.entry.SetEnvelope.{SetEnvelope}
 use Rattle.partner_setup.specs.Setup.{route_of}
 use Rattle.partner_setup.specs.Sound.{AreWithin}
 use Rattle.judged_text.specs.Judged.{PlacedValue, sets_from, standing_at}
-use Rattle.mailbox.proofs.Replacing.{there_is}
+use Rattle.mailbox.proofs.ForAbove.{there_is}
 use Rattle.track_rows.specs.Rows.{TrackedBy}
 use Rattle.track_rows.specs.Walking.{sets_text}
 use Rattle.track_rows.proofs.Walks.{rows_as, rows_none, set_rows_more}

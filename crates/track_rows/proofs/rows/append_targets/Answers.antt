@@ -1,7 +1,7 @@
 use Rattle.std.proofs.Common.{◌≡◌, ℕ, ◌+◌, List, [], ◌∷◌, ◌++◌, take, refl, sym, ap, subst, ◌∙◌, append_assoc, append-nil, arith}
 use Rattle.std.proofs.lemmas.List.{take_all}
 use Rattle.std.proofs.lemmas.Option.{get_or_from_slice_get}
-use Rattle.mailbox.proofs.Replacing.{take_one_more}
+use Rattle.mailbox.proofs.ForAbove.{take_one_more}
 use Rattle.std.proofs.lemmas.List.Concat.{flat_map-append}
 use Rattle.mailbox.specs.Deliveries.{outcome_at}
 use Rattle.track_rows.specs.Rows.{outcome_cells}

@@ -1,7 +1,7 @@
 use Rattle.std.proofs.Common.{List, sym, subst, refl, take, arith}
 use Rattle.std.proofs.lemmas.List.{take_all}
 use Rattle.std.proofs.lemmas.Option.{slice_get_read}
-use Rattle.mailbox.proofs.Replacing.{take_one_more}
+use Rattle.mailbox.proofs.ForAbove.{take_one_more}
 use Rattle.track_notes.specs.declared.notes.Notes.{Notes}
 use Rattle.track_rows.specs.Walking.{AreSent}
 use Rattle.track_rows.proofs.sent.count_all.Goals as goal

@@ -1,7 +1,7 @@
 use Rattle.std.proofs.Common.{◌≡◌, ℕ, List, subst, arith}
 use Rattle.std.specs.Prelude.{IfOk}
 use Rattle.std.proofs.lemmas.List.{length-map}
-use Rattle.cut_plan.proofs.Pieces.{length-pieces}
+use Rattle.cut_plan.proofs.ForAbove.{length-pieces}
 use Rattle.env_marks.specs.Marking.{marks_of}
 use Rattle.trial_cuts.proofs.pieces.gathered_marks.Goals as goal
 

@@ -2,7 +2,7 @@ use Rattle.std.proofs.Common.{◌≡◌, ℕ, List, subst, arith}
 use Rattle.std.specs.Prelude.{IfOk}
 use Rattle.std.proofs.lemmas.List.{length-map}
 use Rattle.isa_scan.specs.Heads.{heads_in}
-use Rattle.cut_plan.proofs.Pieces.{length-pieces}
+use Rattle.cut_plan.proofs.ForAbove.{length-pieces}
 use Rattle.trial_cuts.proofs.pieces.heads_of_pieces.Goals as goal
 
 pub gather-requires : goal.gather-requires

@@ -3,8 +3,8 @@ use Rattle.std.proofs.lemmas.List.{take_all}
 use Rattle.cut_plan.specs.Plan.{pieces}
 use Rattle.env_marks.specs.Laws.{values}
 use Rattle.env_marks.specs.Marking.{MarksValue, marks_of}
-use Rattle.env_marks.proofs.Gathered.{values-more}
-use Rattle.cut_plan.proofs.Pieces.{length-pieces}
+use Rattle.env_marks.proofs.ForAbove.{values-more}
+use Rattle.cut_plan.proofs.ForAbove.{length-pieces}
 use Rattle.trial_cuts.proofs.pieces.mark_pieces.Goals as goal
 
 pub loop-i-preserved : goal.loop-i-preserved

@@ -5,8 +5,8 @@ use Rattle.isa_scan.specs.Heads.{heads_in}
 use Rattle.isa_scan.specs.declared.heads.HeadAt.{HeadAt}
 use Rattle.env_marks.specs.Laws.{values}
 use Rattle.env_marks.specs.HeadLaws.{heads_under}
-use Rattle.env_marks.proofs.Gathered.{values-more}
-use Rattle.cut_plan.proofs.Pieces.{length-pieces}
+use Rattle.env_marks.proofs.ForAbove.{values-more}
+use Rattle.cut_plan.proofs.ForAbove.{length-pieces}
 use Rattle.trial_cuts.proofs.pieces.scan_pieces.Goals as goal
 
 pub loop-i-preserved : goal.loop-i-preserved

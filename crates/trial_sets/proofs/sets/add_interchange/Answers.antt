@@ -1,6 +1,6 @@
 use Rattle.std.proofs.Common.{ap, ◌∙◌}
 use Rattle.x12_bytes.specs.Header.{header_delims}
-use Rattle.env_index.proofs.Spanned.{group_has_spans}
+use Rattle.env_index.proofs.ForAbove.{group_has_spans}
 use Rattle.trial_sets.proofs.sets.add_interchange.Goals as goal
 
 pub add_group-requires : goal.add_group-requires

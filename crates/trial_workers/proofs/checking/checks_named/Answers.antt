@@ -1,4 +1,4 @@
-use Rattle.worker_pool.proofs.Placing.{placed_by}
+use Rattle.worker_pool.proofs.ForAbove.{placed_by}
 use Rattle.trial_workers.proofs.checking.checks_named.Goals as goal
 
 pub run_checks-requires-clause-places : goal.run_checks-requires-clause-places

@@ -1,5 +1,5 @@
 use denote.Param.Send.{sendable}
-use Rattle.set_check.proofs.Crossing.{checked_send}
+use Rattle.set_check.proofs.ForAbove.{checked_send}
 use Rattle.std.proofs.Crossing.{crosses}
 use Rattle.worker_pool.proofs.Crossing.{job_row_sync}
 use Rattle.worker_pool.proofs.checks.run_checks.Goals as goal

@@ -10,7 +10,7 @@ use Rattle.x12_segs.specs.Words.{IsSetSpan, SegValue, element_of}
 use Rattle.x12_segs.specs.declared.set_span.SetSpan.{SetSpan}
 use Rattle.env_index.specs.Words.{IndexEntry, InterchangeEntry, HasSpans, span_of, GroupEntry}
 use Rattle.env_index.specs.declared.entry.SetEnvelope.{SetEnvelope}
-use Rattle.partner_setup.specs.Setup.{SetupValue, guide_of, sender_of}
+use Rattle.partner_setup.specs.Setup.{SetupValue, guide_for_set, sender_of}
 use Rattle.set_check.specs.Codes.{control_of}
 use Rattle.checked_text.specs.Answers.{SentValue, controls_of}
 use Rattle.checked_text.specs.Asked.{Asked, IsFound, asked_of, entry_asked, entry_asked_by, group_asked, groups_asked, has_places}
@@ -18,7 +18,7 @@ use Rattle.checked_text.specs.Asked.{interchange_asked, is_duplicate, set_asked,
 use Rattle.checked_text.specs.CheckedText.{sent_by}
 use Rattle.checked_text.specs.Seen.{is_among}
 use Rattle.checked_text.specs.declared.finding.Finding.{Finding}
-use Rattle.checked_text.proofs.Growing.{at_index}
+use Rattle.checked_text.proofs.ForAbove.{at_index}
 use Rattle.trial_nights.proofs.setup.found.findings.Goals as goal
 
 one_item : {A : Type 0} (xs : List A) (x : A) → length xs ≡ 1 → slice_get xs 0 ≡ Some x → xs ≡ x ∷ []
@@ -46,10 +46,10 @@ or_false true = refl
 or_false false = refl
 
 guide_alike : (setup : SetupValue) (sender : ℕ) (a a' b b' c c' : List ℕ) → a ≡ a' → b ≡ b' → c ≡ c'
-    → guide_of setup sender a b c ≡ guide_of setup sender a' b' c'
+    → guide_for_set setup sender a b c ≡ guide_for_set setup sender a' b' c'
 guide_alike setup sender a a' b b' c c' id version set =
-    ap (λ (t : List ℕ). guide_of setup sender t b c) id ∙ ap (λ (t : List ℕ). guide_of setup sender a' t c) version
-    ∙ ap (guide_of setup sender a' b') set
+    ap (λ (t : List ℕ). guide_for_set setup sender t b c) id ∙ ap (λ (t : List ℕ). guide_for_set setup sender a' t c) version
+    ∙ ap (guide_for_set setup sender a' b') set
 
 -- a set of an index stands in its span
 stands : (text : List ℕ) (es : List IndexEntry) (e : IndexEntry) (x : InterchangeEntry) (g : GroupEntry) (s : SetEnvelope) (k : ℕ)
@@ -68,7 +68,7 @@ asked_with earlier text span guide = record { earlier = earlier; set = Some (rec
 -- what was found out about a set is what is asked of it
 as_asked : (sent : SentValue) (gs : SegValue) (before : List SetEnvelope) (s : SetEnvelope) (earlier : Bool) (text : List ℕ)
     (span : SetSpan) (guide : Option GuideRows) (found : Finding) → text ≡ sent.text → span ≡ span_of sent.delims s
-    → guide ≡ guide_of sent.setup sent.sender (element_of gs 1) (element_of gs 8) (element_of s.header 1)
+    → guide ≡ guide_for_set sent.setup sent.sender (element_of gs 1) (element_of gs 8) (element_of s.header 1)
     → earlier ≡ is_among (control_of s.header) (controls_of before) → IsFound (asked_with earlier text span guide) found
     → IsFound (set_asked sent gs before s) found
 as_asked sent gs before s earlier text span guide found same at by was is =

@@ -1,0 +1,2 @@
+-- The lemmas of this crate on which those above it stand.
+pub use Rattle.depend_check.proofs.Whole.{dependencies_kept, dependencies_of_placed}

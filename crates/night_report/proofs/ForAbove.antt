@@ -1,0 +1,2 @@
+-- The lemmas of this crate on which those above it stand.
+pub use Rattle.night_report.proofs.Adding.{none_with, with_none}

@@ -1,0 +1,3 @@
+-- The lemmas of this crate on which those above it stand.
+pub use Rattle.track_rows.proofs.Chunks.{begins, group_total_snoc}
+pub use Rattle.track_rows.proofs.Targets.{not_delivered}
