@@ -241,7 +241,7 @@ struct Top<'a> {
     nodes: &'a [Value],
 }
 
-#[tactic(auto, unfolding(crate::specs::Guides::top_of))]
+#[tactic(auto, unfolding(crate::specs::Guides::guide_top))]
 fn top_of<'a>(alloc: Global, table: &'a Table) -> Result<Top<'a>, GuideFileFault>
     ensures { Gives (λ t. (t.head, t.hl, t.depends, items_view t.nodes.now)) result (guides.guide_top (table_view table.entry.now)) }
 {

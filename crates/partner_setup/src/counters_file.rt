@@ -103,7 +103,7 @@ impl RowReading for CounterReading {
     }
 }
 
-#[tactic(auto, unfolding(crate::specs::CountersFile::counters_of_table, crate::specs::CountersFile::top_of))]
+#[tactic(auto, unfolding(crate::specs::CountersFile::counters_of_table, crate::specs::CountersFile::counters_top))]
 fn rows_of(alloc: Global, table: &Table) -> Result<CounterRows, FileFault>
     ensures { Gives result (file.counters_of_table (table_view table.now)) }
 {
