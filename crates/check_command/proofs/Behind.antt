@@ -19,7 +19,7 @@ use Rattle.check_command.specs.Further.{AreNodesSaid, AreSaid, AreSaidOfGuides, 
 use Rattle.check_command.specs.Further.{IsSaidOfFile, IsSaidOfGuide, IsSaidOfSetup, IsSomeSaid, Sentences}
 use Rattle.check_command.specs.declared.files.Given.{Given}
 use Rattle.check_command.specs.declared.files.GivenFiles.{GivenFiles}
-use Rattle.check_command.proofs.Reading.{SaysNone, SaysOf, fault_is, guide_fault_is, guide_is, has_table, one_or_none, rows_are}
+use Rattle.guide_toml.proofs.ForAbove.{SaysNone, SaysOf, fault_is, guide_fault_is, guide_is, has_table, one_or_none, rows_are}
 
 pub guide_taken : (from : Option (List ℕ)) (bytes : List ℕ) (g : GuideRows) (said : Sentences) → Some bytes ≡ from
     → SaysOf bytes (λ t. Answers (Ok g) (guide_of_table t)) → SaysNone GuideRows GuideFileFault bytes fault.NotToml fault.NoMemory (Ok g)
