@@ -1,5 +1,5 @@
 -- What is said further of a file is what its bytes say, and of all files what is said of each.
-use Rattle.std.proofs.Common.{◌≡◌, ◌≢◌, ◌<◌, ◌+◌, ◌++◌, ◌∷◌, ◌∙◌, [], inl, inr, ℕ, List, Option, None, Some, Result, Ok, Err}
+use Rattle.std.proofs.Common.{◌≡◌, ◌≢◌, ◌<◌, ◌+◌, ◌++◌, ◌∷◌, ◌∙◌, [], inl, inr, ℕ, List, Option, Some, Result, Ok, Err}
 use Rattle.std.proofs.Common.{ap, append_assoc, get_or, length, refl, subst, sym, take}
 use Rattle.std.proofs.lemmas.List.{take_more}
 use Rattle.toml.specs.Data.{Members}
@@ -19,7 +19,7 @@ use Rattle.check_command.specs.Further.{AreNodesSaid, AreSaid, AreSaidOfGuides, 
 use Rattle.check_command.specs.Further.{IsSaidOfFile, IsSaidOfGuide, IsSaidOfSetup, IsSomeSaid, Sentences}
 use Rattle.check_command.specs.declared.files.Given.{Given}
 use Rattle.check_command.specs.declared.files.GivenFiles.{GivenFiles}
-use Rattle.check_command.proofs.Reading.{SaysNone, SaysOf, fault_is, guide_fault_is, guide_is, has_table, one_or_none, rows_are}
+use Rattle.guide_toml.proofs.ForAbove.{SaysNone, SaysOf, fault_is, guide_fault_is, guide_is, has_table, one_or_none, rows_are}
 
 pub guide_taken : (from : Option (List ℕ)) (bytes : List ℕ) (g : GuideRows) (said : Sentences) → Some bytes ≡ from
     → SaysOf bytes (λ t. Answers (Ok g) (guide_of_table t)) → SaysNone GuideRows GuideFileFault bytes fault.NotToml fault.NoMemory (Ok g)

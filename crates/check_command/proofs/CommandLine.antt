@@ -1,18 +1,17 @@
 -- What clap found in the arguments is what the definitions say of them.
-use Rattle.std.proofs.Common.{◌≡◌, ◌⊎◌, ◌∙◌, ℕ, List, [], ◌∷◌, length, map, Option, None, Some, option_map, true, false, codes, inl, inr}
+use Rattle.std.proofs.Common.{◌≡◌, ◌∙◌, ℕ, List, [], ◌∷◌, length, map, Option, None, Some, option_map, true, false, codes}
 use Rattle.std.proofs.Common.{ap, arith, is_some, refl, subst, sym}
 use Rattle.std.specs.Borrow.{Bor}
-use Rattle.clap.specs.Words.{HasKind, HasMatchesOf, IsAmong, Text, all_of, fault_of, first_of, first_value, found_of}
+use Rattle.clap.specs.Words.{HasKind, HasMatchesOf, Text, fault_of, first_value, found_of}
 use Rattle.clap.specs.Words.{is_simple, is_simple_and_free, kind_of, takes}
 use Rattle.clap.specs.declared.error.Error.{Error}
-use Rattle.clap.specs.declared.error.kind.ErrorKind.{ErrorKind}
-use Rattle.clap.specs.declared.error.kind.ErrorKind.TheVariants.{DisplayHelp, DisplayVersion, OutOfMemory}
+use Rattle.clap.specs.declared.error.kind.ErrorKind.TheVariants.{OutOfMemory}
 use Rattle.clap.specs.declared.parser.matches.ArgMatches.{ArgMatches}
 use Rattle.clap.proofs.OnLiterals.{clap_on_literals}
-use Rattle.clap.proofs.WalkLemmas.{first_value-rows, raw_values-rows}
+use Rattle.night_ends.specs.Words.{or_none, values_found}
+use Rattle.night_ends.proofs.ForAbove.{all_found, asks_for_text, found}
 use Rattle.check_command.specs.CommandLine.{AreNone, AreOptions, AsksForText, IsAsked, IsGiven, IsShown, check_app, names_none}
-use Rattle.check_command.specs.CommandLine.{is_all, or_none, option_value}
-use Rattle.check_command.specs.CommandLine.{values_found, values_of}
+use Rattle.check_command.specs.CommandLine.{is_all, option_value, values_of}
 use Rattle.check_command.specs.declared.command.Asked.{Asked}
 use Rattle.check_command.specs.declared.command.Asked.TheVariants.{Check, Show}
 use Rattle.check_command.specs.declared.command.Options.{Options}
@@ -27,43 +26,22 @@ pub free : is_simple_and_free check_app ≡ true
 unfolding clap_on_literals
 free = refl
 
--- the value that clap found for an option
-found : (words : List Text) (m : ArgMatches) (name : Text) → HasMatchesOf check_app words m
-    → first_value (found_of m) name ≡ option_value words name
-found words m name has = first_value-rows (found_of m) name ∙ ap (first_of name) (has simple).0
-
--- the values that it found
-all_found : (words : List Text) (m : ArgMatches) (name : Text) → HasMatchesOf check_app words m
-    → values_found (found_of m) name ≡ values_of words name
-all_found words m name has = raw_values-rows (found_of m) name ∙ ap (all_of name) (has simple).0
-
 pub asked : (words : List Text) (m : ArgMatches) (asked : Asked) → HasMatchesOf check_app words m
     → IsGiven (first_value (found_of m)) (values_found (found_of m)) asked → IsAsked words asked
 asked words m (Check o) has given = record {
-  setup = sym (found words m (codes "setup") has) ∙ given.setup;
-  guides = sym (ap or_none (all_found words m (codes "guide") has)) ∙ given.guides;
-  counters = sym (found words m (codes "counters") has) ∙ given.counters;
-  all = sym (ap is_all (found words m (codes "all") has)) ∙ given.all;
+  setup = sym (found check_app simple words m (codes "setup") has) ∙ given.setup;
+  guides = sym (ap or_none (all_found check_app simple words m (codes "guide") has)) ∙ given.guides;
+  counters = sym (found check_app simple words m (codes "counters") has) ∙ given.counters;
+  all = sym (ap is_all (found check_app simple words m (codes "all") has)) ∙ given.all;
   some = given.some;
 }
 asked words m (Show text) has given = absurd given
-
-asked_by : (words : List Text) (e : Error) → HasKind (fault_of check_app words) e → (kind_of e ≡ DisplayHelp) ⊎ (kind_of e ≡ DisplayVersion)
-    → IsAmong DisplayHelp (fault_of check_app words) ⊎ IsAmong DisplayVersion (fault_of check_app words)
-asked_by words e (inl memory) (inl help) = cc
-asked_by words e (inl memory) (inr version) = cc
-asked_by words e (inr among) (inl help) = inl (subst (λ (k : ErrorKind). IsAmong k (fault_of check_app words)) help among)
-asked_by words e (inr among) (inr version) = inr (subst (λ (k : ErrorKind). IsAmong k (fault_of check_app words)) version among)
-
-no_memory : (kind : ErrorKind) → (kind ≡ DisplayHelp) ⊎ (kind ≡ DisplayVersion) → kind ≡ OutOfMemory → ⊥
-no_memory kind (inl help) memory = cc
-no_memory kind (inr version) memory = cc
 
 pub shown : (words : List Text) (e : Error) (asked : Asked) → HasKind (fault_of check_app words) e
     → (takes check_app words ≡ true → kind_of e ≡ OutOfMemory) → IsShown (kind_of e) asked → IsAsked words asked
 shown words e (Check o) kind passes is = absurd is
 shown words e (Show text) kind passes is =
-    record { asked = asked_by words e kind is; no_run = λ taken. no_memory (kind_of e) is (passes taken) }
+    let asks = asks_for_text check_app words e kind passes is in record { asked = asks.0; no_run = asks.1 }
 
 no_text : (text : String Global) (o : Options) → Show text ≡ Check o → ⊥
 no_text text o e = cc
@@ -94,9 +72,9 @@ none_given value values o none setup guides counters = record {
 pub none_valued : (words : List Text) (m : ArgMatches) → HasMatchesOf check_app words m
     → AreNone (first_value (found_of m)) (values_found (found_of m)) → AreNone (option_value words) (values_of words)
 none_valued words m has none = record {
-  setup = sym (found words m (codes "setup") has) ∙ none.setup;
-  guides = sym (ap or_none (all_found words m (codes "guide") has)) ∙ none.guides;
-  counters = sym (found words m (codes "counters") has) ∙ none.counters;
+  setup = sym (found check_app simple words m (codes "setup") has) ∙ none.setup;
+  guides = sym (ap or_none (all_found check_app simple words m (codes "guide") has)) ∙ none.guides;
+  counters = sym (found check_app simple words m (codes "counters") has) ∙ none.counters;
 }
 
 -- arguments by which files are checked name them

@@ -8,7 +8,8 @@ use Rattle.partner_setup.specs.declared.rows.SetupRows.{SetupRows}
 use Rattle.check_command.specs.Files.{listed, path_of, paths_of, paths_told}
 use Rattle.check_command.specs.Judgements.{AreCountersFound, AreGuidesFound, IsGuideFound, IsToldBeside, told_beside, with_guide}
 use Rattle.check_command.specs.Judgements.{AreCountedAlone, AreCountedBeside, IsCountedAlone, with_told}
-use Rattle.check_command.specs.SetupFiles.{AreGuidesOf, IsGuideOf, IsGuideRefused, IsSomeRefused}
+use Rattle.guide_toml.specs.FileBytes.{IsGuideOf}
+use Rattle.check_command.specs.SetupFiles.{AreGuidesOf, IsGuideRefused, IsSomeRefused}
 use Rattle.check_command.specs.Tellings.{AreGuidesTold, AreTold, IsCountersTold, IsFileTold, IsGuideTold, IsJudged, IsSetupTold, IsSomeTold}
 use Rattle.check_command.specs.declared.files.Given.{Given}
 use Rattle.check_command.specs.declared.files.GivenFiles.{GivenFiles}

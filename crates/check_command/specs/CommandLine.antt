@@ -2,12 +2,12 @@
 use Rattle.std.specs.Prelude.{◌≡◌, ◌⊎◌, ◌&&◌, ◌==◌, Bool, List, [], length, map, not, Option, Some, None, true, false, codes, is_some}
 use Rattle.std.specs.Prelude.{option_map}
 use Rattle.std.specs.Str.{bytes_eq}
-use Rattle.clap.specs.Words.{App, Rule, Text, IsAmong, all_of, fault_of, first_of, matched_of, matches_of, new_app, new_rule, takes}
-use Rattle.clap.specs.Words.{raw_values, with_rule}
+use Rattle.clap.specs.Words.{App, Rule, Text, IsAmong, all_of, fault_of, first_of, matches_of, new_app, new_rule, takes}
+use Rattle.clap.specs.Words.{with_rule}
 use Rattle.clap.specs.declared.builder.action.ArgAction.TheVariants.{Append, Set, SetTrue}
 use Rattle.clap.specs.declared.error.kind.ErrorKind.{ErrorKind}
 use Rattle.clap.specs.declared.error.kind.ErrorKind.TheVariants.{DisplayHelp, DisplayVersion}
-use Rattle.clap.specs.declared.parser.matches.Found.{Found}
+use Rattle.night_ends.specs.Words.{or_none}
 use Rattle.check_command.specs.declared.command.Asked.{Asked}
 use Rattle.check_command.specs.declared.command.Asked.TheVariants.{Check, Show}
 use Rattle.check_command.specs.declared.command.Options.{Options}
@@ -46,10 +46,6 @@ option_value words name = first_of name (matches_of check_app words)
 -- the values that they give an option, in their order
 abbrev pub values_of : List Text → Text → Option (List Text)
 values_of words name = all_of name (matches_of check_app words)
-
-abbrev pub or_none : Option (List Text) → List Text
-or_none None = []
-or_none (Some texts) = texts
 
 -- no file is named
 abbrev pub names_none : Options → Bool
@@ -90,9 +86,6 @@ IsAsked words (Check options) = AreOptions (option_value words) (values_of words
 IsAsked words (Show text) = AsksForText words
 
 -- the same of what clap found, and of the kind of what it reports (no public clause cites these)
-abbrev pub values_found : Found → Text → Option (List Text)
-values_found found name = option_map raw_values (matched_of found name)
-
 abbrev pub IsGiven : (value : Text → Option Text) → (values : Text → Option (List Text)) → Asked → Type 0
 IsGiven value values (Check options) = AreOptions value values options
 IsGiven value values (Show text) = ⊥

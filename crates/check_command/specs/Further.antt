@@ -15,7 +15,7 @@ use Rattle.key_words.specs.KeysSaid.{counters_keys_said, guide_keys_said, setup_
 use Rattle.refusal_words.specs.NodesSaid.{nodes_said}
 use Rattle.refusal_words.specs.RowsSaid.{counters_said, setup_said}
 use Rattle.check_command.specs.Files.{in_order}
-use Rattle.check_command.specs.SetupFiles.{HasTable, IsFaultOf, IsFileOf, IsGuideFaultOf, IsGuideOf}
+use Rattle.guide_toml.specs.FileBytes.{HasTable, IsFaultOf, IsFileOf, IsGuideFaultOf, IsGuideOf}
 use Rattle.check_command.specs.declared.files.Given.{Given}
 use Rattle.check_command.specs.declared.files.GivenFiles.{GivenFiles}
 

@@ -11,7 +11,8 @@ use Rattle.refusal_words.specs.WarningWords.{warning_words}
 use Rattle.key_words.specs.KeySentences.{counters_key_words, setup_key_words}
 use Rattle.check_command.specs.Files.{in_order, path_of}
 use Rattle.check_command.specs.Judged.{counters_told, setup_told}
-use Rattle.check_command.specs.SetupFiles.{AreCountersOf, AreCountersRefused, AreGuidesOf, IsFileOf, IsFileRefused, IsGuideOf}
+use Rattle.guide_toml.specs.FileBytes.{IsFileOf, IsGuideOf}
+use Rattle.check_command.specs.SetupFiles.{AreCountersOf, AreCountersRefused, AreGuidesOf, IsFileRefused}
 use Rattle.check_command.specs.SetupFiles.{IsGuideRefused}
 use Rattle.check_command.specs.SetupFiles.{IsSomeRefused}
 use Rattle.check_command.specs.declared.files.Given.{Given}

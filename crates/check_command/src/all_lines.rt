@@ -3,9 +3,10 @@ ghost use Rattle.std.specs.Prelude.{◌≡◌, ◌++◌, ◌⊎◌, IfOk, OnOk};
 ghost use Rattle.std.specs.List.{list_all};
 ghost use Rattle.check_command.specs.Lines as lines;
 
-use crate::lines::{append, append_line, append_lines, are_taken};
+use crate::lines::{append_line, append_lines, are_taken};
 use crate::told::{FileTold, Told};
 use hub_kinds::{NoMemory, Text, Texts};
+use refusal_words::append;
 use std::alloc::Global;
 
 fn append_said(out: &mut Vec<u8>, path: &[u8], text: &[u8]) -> Result<(), NoMemory>

@@ -1,12 +1,14 @@
 ghost use Rattle.std.specs.Prelude.{◌≡◌, ◌≢◌, codes, false, map, option_map, IfOk, IfErr, IsErrOf};
-ghost use Rattle.clap.specs.Words.{app_of, first_value, found_of, kind_of, rule_of, with_rule};
+ghost use Rattle.clap.specs.Words.{app_of, first_value, found_of, kind_of, rule_of};
+ghost use Rattle.night_ends.specs.Words.{values_found};
 ghost use Rattle.check_command.specs.CommandLine.{AreNone, IsAsked, IsCommandLine, IsGiven, IsShown, check_app, files_app, is_all};
-ghost use Rattle.check_command.specs.CommandLine.{option_flag, option_free, option_repeated, or_none, values_found};
+ghost use Rattle.check_command.specs.CommandLine.{option_flag, option_free, option_repeated};
 ghost use Rattle.check_command.specs.Failure.{IsOfWords};
 
 use crate::failure::Failure;
 use clap::error::ErrorKind;
 use clap::{Arg, ArgAction, ArgMatches, Command, Error};
+use night_ends::{texts_given, with_argument};
 use std::alloc::{AllocError, Global};
 use std::convert::AsStr;
 
@@ -69,7 +71,7 @@ fn command<'a>(alloc: Global) -> Result<Command<'a>, AllocError>
     ensures { IfOk result (λ command. app_of command ≡ check_app) }
 {
     let command = files_command(alloc)?;
-    with_option(command, flag(alloc))
+    with_argument(command, flag(alloc))
 }
 
 /// The program with the options that name files.
@@ -82,18 +84,11 @@ fn files_command<'a>(alloc: Global) -> Result<Command<'a>, AllocError>
         .after_help(STATUSES)
         .no_binary_name(true);
     let setup = option(alloc, "setup", "The partners and routes");
-    let command = with_option(command, setup)?;
+    let command = with_argument(command, setup)?;
     let guide = repeated(alloc, "guide", "A guide, given once for each");
-    let command = with_option(command, guide)?;
+    let command = with_argument(command, guide)?;
     let counters = option(alloc, "counters", "The numbers to go on from");
-    with_option(command, counters)
-}
-
-fn with_option<'a>(command: Command<'a>, option: Arg<'a>) -> Result<Command<'a>, AllocError>
-    requires { option.global ≡ false }
-    ensures { IfOk result (λ more. app_of more ≡ with_rule (app_of command.entry) (rule_of option.entry)) }
-{
-    command.arg(option)
+    with_argument(command, counters)
 }
 
 /// An option of this name that takes one file, and may be left out.
@@ -135,7 +130,7 @@ fn options_given<'a>(alloc: Global, matches: &ArgMatches<'a>) -> Result<Asked<'a
 {
     let options = Options {
         setup: matches.get_str("setup"),
-        guides: guides_given(alloc, matches)?,
+        guides: texts_given(alloc, matches, "guide")?,
         counters: matches.get_str("counters"),
         all: is_all(matches.get_str("all")),
     };
@@ -153,23 +148,6 @@ fn is_all(value: Option<&str>) -> bool
         None => false,
         Some(text) => text.as_bytes() == b"true".as_slice(),
     }
-}
-
-fn guides_given<'a>(alloc: Global, matches: &ArgMatches<'a>) -> Result<Vec<&'a str>, AllocError>
-    ensures { IfOk result (λ guides. or_none (values_found (found_of matches.now) (codes "guide")) ≡ map (λ g. g.now) guides.items) }
-{
-    match matches.get_strs("guide") {
-        None => Ok(Vec::new(alloc)),
-        Some(guides) => copied(alloc, guides),
-    }
-}
-
-fn copied<'a>(alloc: Global, texts: &[&'a str]) -> Result<Vec<&'a str>, AllocError>
-    ensures { IfOk result (λ copy. copy.items ≡ texts.now) }
-{
-    let mut copy = Vec::new(alloc);
-    copy.extend_from_slice(texts)?;
-    Ok(copy)
 }
 
 /// The text that is asked for, where the arguments have no mistake.

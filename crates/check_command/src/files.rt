@@ -3,8 +3,8 @@ ghost use Rattle.check_command.specs.Files as files;
 
 use crate::command::Options;
 use hub_kinds::{Items, NoMemory, Text};
+use night_ends::read_whole;
 use std::alloc::Global;
-use std::io::Read;
 use std::rt::Files;
 use std::{fs, io};
 
@@ -75,10 +75,7 @@ fn read_file<'a, R: Files + AllocGlobal>(rt: &R, path: &'a str) -> Result<Given<
 
 /// The bytes of a file.
 fn bytes_at<R: Files + AllocGlobal>(rt: &R, path: &str) -> io::Result<Vec<u8>> {
-    let mut file = fs::open(rt, path)?;
-    let mut bytes = Vec::new(rt.alloc());
-    file.read_to_end(&mut bytes)?;
-    Ok(bytes)
+    read_whole(rt.alloc(), fs::open(rt, path)?)
 }
 
 /// None for a file that can't be read; out of memory says nothing of the file.

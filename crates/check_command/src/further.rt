@@ -4,7 +4,7 @@ ghost use Rattle.guide_tree.specs.Words.{nodes_view, numbered};
 ghost use Rattle.key_words.specs.KeysSaid.{counters_keys_said, guide_keys_said, setup_keys_said};
 ghost use Rattle.check_command.specs.Files.{listed};
 ghost use Rattle.check_command.specs.Further as further;
-ghost use Rattle.check_command.specs.SetupFiles.{HasTable};
+ghost use Rattle.guide_toml.specs.FileBytes.{HasTable};
 ghost use Rattle.refusal_words.specs.NodesSaid.{nodes_said};
 ghost use Rattle.refusal_words.specs.RowsSaid.{counters_said, setup_said};
 ghost use Rattle.toml.specs.View.{table_view};

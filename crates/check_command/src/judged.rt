@@ -5,6 +5,7 @@ ghost use Rattle.partner_setup.specs.SetupFile.{setup_of_table};
 ghost use Rattle.key_words.specs.KeySentences.{counters_key_words, guide_key_words, setup_key_words};
 ghost use Rattle.check_command.specs.Judgements.{IsFileJudged, IsGuideJudged};
 ghost use Rattle.check_command.specs.SetupFiles as files;
+ghost use Rattle.guide_toml.specs.FileBytes.{HasTable, table_of};
 ghost use Rattle.guide_tree.specs.Words.{nodes_view, numbered};
 ghost use Rattle.refusal_words.specs.GuideWords.{IsGuideSaid};
 
@@ -56,7 +57,7 @@ fn guide_words(alloc: Global, bytes: &[u8], fault: &GuideFault) -> Result<Text, 
 
 /// The table that bytes write, which are known to write one: the only error is out of memory.
 pub fn table_of(alloc: Global, bytes: &[u8]) -> Result<Table, NoMemory>
-    ensures { IfOk result (λ table. files.table_of bytes.now ≡ Some (table_view table)) }
+    ensures { IfOk result (λ table. table_of bytes.now ≡ Some (table_view table)) }
 {
     match std::str::from_utf8(bytes) {
         Err(_) => Err(NoMemory),
@@ -77,7 +78,7 @@ fn guide_key_text(alloc: Global, top: &Table, fault: &GuideFileFault) -> Result<
 
 /// What is wrong with a key of a guide file.
 fn key_words(alloc: Global, bytes: &[u8], fault: &GuideFileFault) -> Result<Text, NoMemory>
-    ensures { IfOk result (λ text. files.HasTable bytes.now (λ t. text ≡ guide_key_words t fault.now)) }
+    ensures { IfOk result (λ text. HasTable bytes.now (λ t. text ≡ guide_key_words t fault.now)) }
 {
     let top = table_of(alloc, bytes)?;
     guide_key_text(alloc, &top, fault)
@@ -119,7 +120,7 @@ fn setup_key_text(alloc: Global, top: &Table, fault: &FileFault) -> Result<Text,
 
 /// What is wrong with a key of a setup file.
 fn setup_text(alloc: Global, bytes: &[u8], fault: &FileFault) -> Result<Text, NoMemory>
-    ensures { IfOk result (λ text. files.HasTable bytes.now (λ t. text ≡ setup_key_words t fault.now)) }
+    ensures { IfOk result (λ text. HasTable bytes.now (λ t. text ≡ setup_key_words t fault.now)) }
 {
     let top = table_of(alloc, bytes)?;
     setup_key_text(alloc, &top, fault)
@@ -147,7 +148,7 @@ fn counters_key_text(alloc: Global, top: &Table, fault: &FileFault) -> Result<Te
 
 /// What is wrong with a key of a counters file.
 fn counters_text(alloc: Global, bytes: &[u8], fault: &FileFault) -> Result<Text, NoMemory>
-    ensures { IfOk result (λ text. files.HasTable bytes.now (λ t. text ≡ counters_key_words t fault.now)) }
+    ensures { IfOk result (λ text. HasTable bytes.now (λ t. text ≡ counters_key_words t fault.now)) }
 {
     let top = table_of(alloc, bytes)?;
     counters_key_text(alloc, &top, fault)

@@ -4,15 +4,8 @@ ghost use Rattle.check_command.specs.Lines as lines;
 
 use crate::told::{FileTold, Listed, Told};
 use hub_kinds::{NoMemory, Text};
-use itoa::Buffer;
+use refusal_words::{append, append_number};
 use std::alloc::Global;
-
-pub(crate) fn append(out: &mut Vec<u8>, text: &[u8]) -> Result<(), NoMemory>
-    ensures { OnOk result (out.new.items ≡ out.old.items ++ text.now) }
-{
-    out.extend_from_slice(text)?;
-    Ok(())
-}
 
 fn noun_of(what: Listed) -> &'static [u8]
     ensures { result.now ≡ lines.noun_of what }
@@ -27,9 +20,8 @@ fn noun_of(what: Listed) -> &'static [u8]
 fn append_count(out: &mut Vec<u8>, count: u64, what: Listed) -> Result<(), NoMemory>
     ensures { OnOk result (out.new.items ≡ out.old.items ++ lines.taken_text count what) }
 {
-    let mut digits = Buffer::new();
     append(out, b"ok, ")?;
-    append(out, digits.format(count).as_bytes())?;
+    append_number(out, count)?;
     append(out, noun_of(what))
 }
 

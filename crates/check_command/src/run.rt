@@ -1,4 +1,4 @@
-ghost use Rattle.std.specs.Prelude.{◌≡◌, ◌≢◌, ◌≤◌, ◌⊎◌, IfOk, OnOk, map};
+ghost use Rattle.std.specs.Prelude.{◌≡◌, ◌≢◌, ◌≤◌, ◌⊎◌, IfOk, map};
 ghost use Rattle.std.specs.Io.KnownBytes.{Appends};
 ghost use Rattle.check_command.specs.CommandLine.{IsCommandLine};
 ghost use Rattle.check_command.specs.Files.{paths_in};
@@ -14,9 +14,9 @@ use crate::judge::tell_files;
 use crate::lines::{lines_of, status_of};
 use crate::told::FileTold;
 use hub_kinds::{Items, NoMemory, Texts};
+use night_ends::print_text;
 use std::alloc::Global;
 use std::convert::AsStr;
-use std::io;
 use std::io::Write;
 use std::rt::Files;
 
@@ -110,15 +110,8 @@ fn finish<O: Write, E: Write>(text: &[u8], status: u8, out: &mut O, err: &mut E)
     ensures status { result ≢ 5 → result ≡ status }
     ensures quiet { result ≢ 5 → err.new ≡ err.old }
 {
-    if print(text, out).is_err() {
+    if print_text(text, out).is_err() {
         return Failure::Stdout.report(err);
     }
     status
-}
-
-fn print<O: Write>(text: &[u8], out: &mut O) -> io::Result<()>
-    ensures { OnOk result (Appends (O.contents out.old) (O.contents out.new) text.now) }
-{
-    out.write_all(text)?;
-    out.flush()
 }

@@ -1,4 +1,5 @@
 pub mod Cuts
+pub mod FileBytes
 pub mod ForAbove
 pub mod Groups
 pub mod ComponentSteps

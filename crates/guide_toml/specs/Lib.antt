@@ -3,6 +3,7 @@ pub mod Counts
 pub mod ElementStops
 pub mod ElementTexts
 pub mod Entries
+pub mod FileBytes
 pub mod Guides
 pub mod Keys
 pub mod ListedTexts

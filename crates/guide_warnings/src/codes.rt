@@ -117,7 +117,7 @@ fn is_unused(row: &SimpleRow, code: &[u8]) -> bool
 }
 
 /// Whether a row has a list of codes, and not this one.
-pub fn is_not_listed(row: &SimpleRow, code: &[u8]) -> bool
+fn is_not_listed(row: &SimpleRow, code: &[u8]) -> bool
     ensures { result ≡ codes.is_not_listed row.now code.now }
 {
     match &row.codes {
@@ -139,7 +139,7 @@ fn is_doubtful(doubt: CodeDoubt, row: &SimpleRow, code: &[u8]) -> bool
 }
 
 /// The first code of a list that a doubt is of.
-fn first_doubtful<'a>(doubt: CodeDoubt, row: &SimpleRow, listed: &'a [Text]) -> Option<&'a Text>
+pub fn first_doubtful<'a>(doubt: CodeDoubt, row: &SimpleRow, listed: &'a [Text]) -> Option<&'a Text>
     ensures { option_map (λ code. code.now) result ≡ find (codes.is_doubtful doubt row.now) listed.entry.now }
 {
     for i in 0..listed.len() {

@@ -4,24 +4,12 @@ ghost use Rattle.guide_tree.specs.Words.{nodes_view};
 ghost use Rattle.guide_warnings.specs.Codes as codes;
 ghost use Rattle.guide_warnings.specs.Dependencies as dependencies;
 
-use crate::codes::is_not_listed;
+use crate::codes::first_doubtful;
 use crate::rows::row_at;
-use crate::warning::{DependencyWarning, Warning};
+use crate::warning::{CodeDoubt, DependencyWarning, Warning};
 use guide_tree::{Dependency, Guide, SimpleRow, Slot};
-use hub_kinds::{NoMemory, Text, copy_text};
+use hub_kinds::{NoMemory, copy_text};
 use std::alloc::Global;
-
-/// The first code that a row's list doesn't have.
-fn first_unlisted<'a>(row: &SimpleRow, listed: &'a [Text]) -> Option<&'a Text>
-    ensures { option_map (λ code. code.now) result ≡ find (codes.is_not_listed row.now) listed.entry.now }
-{
-    for i in 0..listed.len() {
-        if is_not_listed(row, listed[i].as_slice()) {
-            return Some(&listed[i]);
-        }
-    }
-    None
-}
 
 fn push_row(
     alloc: Global,
@@ -34,7 +22,7 @@ fn push_row(
     ensures { OnOk result (found.new.items ≡ found.old.items
         ++ dependencies.code_warning number dependency.now slot.now (find (codes.is_not_listed row.now) dependency.now.codes)) }
 {
-    let Some(code) = first_unlisted(row, dependency.codes.as_slice()) else {
+    let Some(code) = first_doubtful(CodeDoubt::NotListed, row, dependency.codes.as_slice()) else {
         return Ok(());
     };
     found.push(Warning::CodeOfDependency(DependencyWarning {

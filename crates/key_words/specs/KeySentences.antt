@@ -12,7 +12,7 @@ use Rattle.guide_toml.specs.declared.fault.GuideFileFault.{GuideFileFault}
 use Rattle.guide_toml.specs.declared.fault.GuideFileFault.TheVariants as guide
 use Rattle.guide_toml.specs.declared.stops.ElementStop.{ElementStop}
 use Rattle.guide_toml.specs.declared.listed_text.ListedText.TheVariants as text
-use Rattle.key_words.specs.Places.{in_place, key_text, two_texts}
+use Rattle.refusal_words.specs.Places.{in_place, key_text, two_texts}
 use Rattle.key_words.specs.Wanted.{guide_wanted, setup_wanted}
 use Rattle.key_words.specs.ListItems.{first_wrong, items_at}
 use Rattle.key_words.specs.Shown.{is_seen, shown}

@@ -5,7 +5,6 @@ pub mod KeysSaid
 pub mod ListItems
 pub mod NoTables
 pub mod NodeTables
-pub mod Places
 pub mod Seen
 pub mod Shown
 pub mod Spots

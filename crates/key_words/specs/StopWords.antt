@@ -3,7 +3,7 @@ use Rattle.std.specs.Prelude.{ℕ, ◌==◌, List, [], ◌∷◌, ◌++◌, code
 use Rattle.guide_toml.specs.declared.stops.ElementStop.{ElementStop}
 use Rattle.guide_toml.specs.declared.stops.Wanted.{Wanted}
 use Rattle.guide_toml.specs.declared.stops.Wanted.TheVariants as wanted
-use Rattle.key_words.specs.Places.{two_texts}
+use Rattle.refusal_words.specs.Places.{two_texts}
 use Rattle.key_words.specs.Shown.{shown_text}
 
 -- what may stand there

@@ -1,14 +1,14 @@
 ghost use Rattle.std.specs.Prelude.{◌≡◌, ◌++◌, IfOk, OnOk, option_map};
 ghost use Rattle.toml.specs.View.{view};
-ghost use Rattle.key_words.specs.Places.{key_text};
+ghost use Rattle.refusal_words.specs.Places.{key_text};
 ghost use Rattle.key_words.specs.KeySentences as words;
 
-use crate::appended::{append, append_number, append_texts};
 use crate::list_items::{ListItem, WrongItem, first_wrong, items_at};
 use crate::shown::append_shown;
 use crate::stop_words::append_stop;
 use guide_toml::{ElementStop, ListedText, element_stop};
 use hub_kinds::NoMemory;
+use refusal_words::{append, append_number, append_texts};
 use std::alloc::Global;
 use toml::Value;
 

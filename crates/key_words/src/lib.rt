@@ -16,7 +16,6 @@
 //! Tests: `trial_check`.
 #![tactic(auto)]
 
-mod appended;
 mod guide_spot;
 mod items_words;
 mod key_forms;

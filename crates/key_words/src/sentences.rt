@@ -3,7 +3,6 @@ ghost use Rattle.toml.specs.View.{table_view, view};
 ghost use Rattle.key_words.specs.KeySentences as words;
 ghost use Rattle.key_words.specs.Seen.{seen};
 
-use crate::appended::append;
 use crate::guide_spot::guide_spot;
 use crate::items_words::{append_key, append_value};
 use crate::key_tables::KeyFault;
@@ -13,6 +12,7 @@ use crate::table_words::append_table;
 use crate::wanted::{guide_wanted, setup_wanted};
 use guide_toml::GuideFileFault;
 use hub_kinds::NoMemory;
+use refusal_words::append;
 use std::alloc::Global;
 use toml::{Table, Value};
 use toml_keys::{FileFault, value_at};

@@ -2,9 +2,9 @@ ghost use Rattle.std.specs.Prelude.{◌≡◌, ◌<◌, ◌++◌, OnOk, length};
 ghost use Rattle.toml.specs.View.{items_view, view};
 ghost use Rattle.key_words.specs.Shown as shown;
 
-use crate::appended::{append, append_number};
 use hub_kinds::NoMemory;
 use itoa::Buffer;
+use refusal_words::{append, append_number};
 use toml::Value;
 
 /// A digit of the base 16.

@@ -1,10 +1,10 @@
 ghost use Rattle.std.specs.Prelude.{◌≡◌, ◌++◌, OnOk};
 ghost use Rattle.key_words.specs.StopWords as words;
 
-use crate::appended::{append, append_one, append_texts};
 use crate::shown::append_shown_text;
 use guide_toml::{ElementStop, Wanted};
 use hub_kinds::{Lent, NoMemory};
+use refusal_words::{append, append_one, append_texts};
 
 /// What may stand there.
 fn wanted_words(wanted: Wanted) -> &'static [u8]

@@ -5,11 +5,11 @@ ghost use Rattle.toml.specs.View.{table_view};
 ghost use Rattle.key_words.specs.KeySentences as words;
 ghost use Rattle.key_words.specs.Shown as shown;
 
-use crate::appended::{append, append_in_place};
 use crate::key_tables::KeyTable;
 use crate::shown::is_control;
 use crate::spot::Spot;
 use hub_kinds::{NoMemory, is_alphanumeric};
+use refusal_words::{append, append_in_place};
 use toml::Table;
 use toml_keys::value_at;
 

@@ -3,9 +3,9 @@ ghost use Rattle.std.specs.Prelude.{◌≡◌, ◌≤◌, ◌<◌, ◌++◌, dec
 ghost use Rattle.std.specs.List.{count_by, flat_map, take_while};
 ghost use Rattle.key_words.specs.TextPlaces as places;
 
-use crate::appended::{append, append_number};
 use crate::shown::digit;
 use hub_kinds::NoMemory;
+use refusal_words::{append, append_number};
 
 /// So many bytes of a line are shown at most.
 const MOST_SHOWN: usize = 40;

@@ -1,9 +1,10 @@
 -- The lists of delivered sets, with a receiver, a set, a group and an interchange more.
-use Rattle.std.proofs.Common.{◌≡◌, ◌<◌, ℕ, zero, suc, ◌+◌, Bool, true, false, cond, not, ◌&&◌, List, [], ◌∷◌, ◌++◌, Some, length}
+use Rattle.std.proofs.Common.{◌≡◌, ℕ, ◌+◌, Bool, true, false, cond, not, ◌&&◌, List, [], ◌∷◌, ◌++◌, Some, length}
 use Rattle.std.proofs.Common.{replicate, take, refl, sym, ap, subst, ◌∙◌, arith, append_assoc, append-nil}
 use Rattle.std.specs.Prelude.{slice_get}
 use Rattle.std.specs.List.{filter, list_any}
-use Rattle.std.proofs.lemmas.List.{length-replicate}
+use Rattle.std.proofs.Math.Bool.{and-false}
+use Rattle.std.proofs.lemmas.List.{length-replicate, length-take-le}
 use Rattle.std.proofs.lemmas.List.Concat.{flat_map-append}
 use Rattle.std.proofs.lemmas.List.Elements.{filter-append}
 use Rattle.std.proofs.lemmas.Option.{slice_get_within}
@@ -56,7 +57,7 @@ taken_more setup ps qs a b c first second =
 taken_as : (setup : SetupValue) (ps qs : List PlacedValue) (a b : Lists) → ps ≡ qs → HasTaken setup ps a b → HasTaken setup qs a b
 taken_as setup ps qs a b same taken = subst (λ (xs : List PlacedValue). HasTaken setup xs a b) same taken
 
-not_delivered : (setup : SetupValue) (q : ℕ) (p : PlacedValue) → is_deliverable p ≡ false → is_delivered_to setup q p ≡ false
+pub not_delivered : (setup : SetupValue) (q : ℕ) (p : PlacedValue) → is_deliverable p ≡ false → is_delivered_to setup q p ≡ false
 not_delivered setup q p is =
     ap (λ (b : Bool). list_any (is_delivery_to q) (cond b (outcomes_on setup p (route_of setup (element_of p.group.header 3))) [])) is
 
@@ -67,10 +68,6 @@ and_assoc false b c d = refl
 as_group : (p : PlacedValue) → is_deliverable p ≡ (is_not_rejected (verdict_by_standing p) && may_leave p.interchange p.standing p.group)
 as_group p = and_assoc (is_not_rejected (verdict_by_standing p)) p.standing.clear (not (is_fa p.group)) (not (is_refused p.interchange))
 
-and_false : (b : Bool) → (b && false) ≡ false
-and_false true = refl
-and_false false = refl
-
 -- a set that isn't accepted
 pub taken_rejected : (setup : SetupValue) (p : PlacedValue) (lists : Lists) → is_not_rejected (verdict_by_standing p) ≡ false
     → HasTaken setup (p ∷ []) lists lists
@@ -78,7 +75,7 @@ taken_rejected setup p lists is = grown_none _ lists (λ q.
     ap (λ (b : Bool). cond b (p ∷ []) []) (not_delivered setup q p
     (as_group p ∙ ap (λ (b : Bool). b && may_leave p.interchange p.standing p.group) is)))
 
-by_route : (setup : SetupValue) (q : ℕ) (p : PlacedValue) (route : List ℕ)
+pub by_route : (setup : SetupValue) (q : ℕ) (p : PlacedValue) (route : List ℕ)
     → is_sent_by setup p q route ≡ list_any (is_delivery_to q) (outcomes_on setup p route)
 by_route setup q p [] = refl
 by_route setup q p (t ∷ ts) = refl
@@ -97,7 +94,7 @@ taken_sent setup p route a b leaves accepted is sent =
     sent
 
 -- a set of a group that no set may leave
-nothing_leaves : (setup : SetupValue) (q : ℕ) (x : JudgedValue) (g : GroupEntry) (standing : GroupStanding) (n : ℕ)
+pub nothing_leaves : (setup : SetupValue) (q : ℕ) (x : JudgedValue) (g : GroupEntry) (standing : GroupStanding) (n : ℕ)
     (sets : List SetEnvelope)
     → may_leave x standing g ≡ false → filter (is_delivered_to setup q) (sets_from x g standing n sets) ≡ []
 nothing_leaves setup q x g standing n [] stay = refl
@@ -106,14 +103,14 @@ nothing_leaves setup q x g standing n (set ∷ sets) stay =
     ap (λ (b : Bool). cond b (p ∷ filter (is_delivered_to setup q) (sets_from x g standing (n + 1) sets))
     (filter (is_delivered_to setup q) (sets_from x g standing (n + 1) sets)))
     (not_delivered setup q p (as_group p ∙ ap (λ (b : Bool). is_not_rejected (verdict_by_standing p) && b) stay
-    ∙ and_false (is_not_rejected (verdict_by_standing p))))
+    ∙ and-false (is_not_rejected (verdict_by_standing p))))
     ∙ nothing_leaves setup q x g standing (n + 1) sets stay
 
 pub taken_stayed : (setup : SetupValue) (x : JudgedValue) (g : GroupEntry) (standing : GroupStanding) (lists : Lists)
     → may_leave x standing g ≡ false → HasTaken setup (sets_from x g standing 0 g.sets) lists lists
 taken_stayed setup x g standing lists stay = grown_none _ lists (λ q. nothing_leaves setup q x g standing 0 g.sets stay)
 
-sets_snoc : (x : JudgedValue) (g : GroupEntry) (standing : GroupStanding) (n m : ℕ) (sets : List SetEnvelope) (set : SetEnvelope)
+pub sets_snoc : (x : JudgedValue) (g : GroupEntry) (standing : GroupStanding) (n m : ℕ) (sets : List SetEnvelope) (set : SetEnvelope)
     → n + length sets ≡ m → sets_from x g standing n (sets ++ set ∷ [])
     ≡ sets_from x g standing n sets ++ (record { interchange = x; group = g; standing = standing; index = m; set = set }) ∷ []
 sets_snoc x g standing n m [] set is = ap (λ (k : ℕ). let p : PlacedValue = record {
@@ -131,7 +128,7 @@ sets_snoc x g standing n m (s ∷ sets) set is = ap (λ (ps : List PlacedValue).
   set = s;
 } in p ∷ ps) (sets_snoc x g standing (n + 1) m sets set (omega (arith, is)))
 
-groups_snoc : (x : JudgedValue) (n m : ℕ) (groups : List GroupEntry) (g : GroupEntry) → n + length groups ≡ m
+pub groups_snoc : (x : JudgedValue) (n m : ℕ) (groups : List GroupEntry) (g : GroupEntry) → n + length groups ≡ m
     → sets_of_groups_from x n (groups ++ g ∷ []) ≡ sets_of_groups_from x n groups ++ sets_from x g (standing_at x.standings m) 0 g.sets
 groups_snoc x n m [] g is = append-nil _ ∙ ap (λ (k : ℕ). sets_from x g (standing_at x.standings k) 0 g.sets) (omega (arith, is))
 groups_snoc x n m (h ∷ groups) g is =
@@ -139,11 +136,6 @@ groups_snoc x n m (h ∷ groups) g is =
     (groups_snoc x (n + 1) m groups g (omega (arith, is)))
     ∙ sym (append_assoc (sets_from x h (standing_at x.standings n) 0 h.sets) (sets_of_groups_from x (n + 1) groups)
     (sets_from x g (standing_at x.standings m) 0 g.sets))
-
-length_take : {A : Type 0} (xs : List A) (i : ℕ) → i < length xs → length (take i xs) ≡ i
-length_take [] i within = absurd (omega (arith, within))
-length_take (x ∷ xs) zero within = refl
-length_take (x ∷ xs) (suc i) within = ap suc (length_take xs i (omega (arith, within)))
 
 -- one set more of a group
 pub set_taken : (setup : SetupValue) (x : JudgedValue) (g : GroupEntry) (standing : GroupStanding) (i : ℕ) (set : SetEnvelope)
@@ -155,7 +147,8 @@ pub set_taken : (setup : SetupValue) (x : JudgedValue) (g : GroupEntry) (standin
 set_taken setup x g standing i set p a b c there is before next =
     taken_as setup _ _ a c
     (ap (λ (q : PlacedValue). sets_from x g standing 0 (take i g.sets) ++ q ∷ []) is
-    ∙ sym (sets_snoc x g standing 0 i (take i g.sets) set (omega (arith, length_take g.sets i (slice_get_within g.sets i set there))))
+    ∙ sym (sets_snoc x g standing 0 i (take i g.sets) set
+    (omega (arith, length-take-le i g.sets (omega (arith, slice_get_within g.sets i set there)))))
     ∙ ap (sets_from x g standing 0) (sym (take_one_more g.sets i set there)))
     (taken_more setup (sets_from x g standing 0 (take i g.sets)) (p ∷ []) a b c before next)
 
@@ -168,7 +161,7 @@ pub group_taken : (setup : SetupValue) (x : JudgedValue) (i : ℕ) (g : GroupEnt
 group_taken setup x i g a b c there before next =
     let groups : List GroupEntry = x.interchange.content.groups in
     taken_as setup _ _ a c
-    (sym (groups_snoc x 0 i (take i groups) g (omega (arith, length_take groups i (slice_get_within groups i g there))))
+    (sym (groups_snoc x 0 i (take i groups) g (omega (arith, length-take-le i groups (omega (arith, slice_get_within groups i g there)))))
     ∙ ap (sets_of_groups_from x 0) (sym (take_one_more groups i g there)))
     (taken_more setup (sets_of_groups_from x 0 (take i groups)) (sets_from x g (standing_at x.standings i) 0 g.sets) a b c before next)
 

@@ -4,6 +4,7 @@ use Rattle.std.proofs.Common.{length, get_or, refl, ap, sym, inl, inr, arith}
 use Rattle.std.specs.Prelude.{◌==◌, not, Option, Some, None, is_some}
 use Rattle.std.specs.Bool.{OnTrue}
 use Rattle.std.specs.List.{list_any}
+use Rattle.std.proofs.Math.Bool.{and-false}
 use Rattle.std.proofs.lemmas.Bool.{eq-eqb, eqb-true, false_from_ne_true}
 use Rattle.std.proofs.lemmas.Bool.Decides.{eqb_tells}
 use Rattle.memchr.specs.Find.{IsFirstByte, is_byte}
@@ -31,15 +32,11 @@ all_clear from to (b ∷ text) he hc ht hr =
     (clear (is_delimiter from b) (b == to.element) (b == to.component) (b == to.terminator) (is_this to.repetition b) e.0 c.0 t.0 r.0)
     (all_clear from to text e.1 c.1 t.1 r.1)
 
-and_false : (a : Bool) → (a && false) ≡ false
-and_false true = refl
-and_false false = refl
-
 -- a delimiter of the source is never foreign there
 own_byte : (from : Delims) (byte b : ℕ) → is_delimiter from byte ≡ true → is_foreign from byte b ≡ false
 own_byte from byte b h = elim (eqb_tells b byte) [
   | inl (e, same) ↦ ap (λ (d : Bool). not d && b == byte) (ap (is_delimiter from) same ∙ h)
-  | inr (e, other) ↦ ap (λ (v : Bool). not (is_delimiter from b) && v) e ∙ and_false (not (is_delimiter from b))
+  | inr (e, other) ↦ ap (λ (v : Bool). not (is_delimiter from b) && v) e ∙ and-false (not (is_delimiter from b))
 ]
 
 pub own_passed : (from : Delims) (byte : ℕ) (text : List ℕ) → is_delimiter from byte ≡ true → list_any (is_foreign from byte) text ≡ false
@@ -54,7 +51,7 @@ absent from byte [] h = refl
 absent from byte (b ∷ text) h =
     nor (is_foreign from byte b) (list_any (is_foreign from byte) text)
     (ap (λ (v : Bool). not (is_delimiter from b) && v) (false_from_ne_true (b == byte) (h 0 (omega arith)))
-    ∙ and_false (not (is_delimiter from b)))
+    ∙ and-false (not (is_delimiter from b)))
     (absent from byte text (λ j lt. h (suc j) (omega arith)))
 
 pub absent_passed : (from : Delims) (byte : ℕ) (text : List ℕ) (found : Option ℕ) (b : Bool) → is_some found ≡ not b
@@ -81,4 +78,4 @@ passed_if from byte (b ∷ text) h =
 pub none_if : (from : Delims) (text : List ℕ) → list_any (is_foreign_if from None) text ≡ false
 none_if from [] = refl
 none_if from (b ∷ text) =
-    nor (is_foreign_if from None b) (list_any (is_foreign_if from None) text) (and_false (not (is_delimiter from b))) (none_if from text)
+    nor (is_foreign_if from None b) (list_any (is_foreign_if from None) text) (and-false (not (is_delimiter from b))) (none_if from text)

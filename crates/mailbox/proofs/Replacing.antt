@@ -1,5 +1,6 @@
 -- An item of a list is replaced, and one item more is looked at.
-use Rattle.std.proofs.Common.{◌≡◌, ◌≢◌, ◌<◌, ℕ, zero, suc, ◌+◌, List, [], ◌∷◌, ◌++◌, Some, length, replicate, take, refl, ap, ◌∙◌, arith}
+use Rattle.std.proofs.Common.{◌≡◌, ◌≢◌, ◌<◌, ℕ, zero, suc, ◌+◌, List, [], ◌∷◌, ◌++◌, Some}
+use Rattle.std.proofs.Common.{length, replicate, take, refl, sym, ap, ◌∙◌, arith}
 use Rattle.std.specs.Prelude.{slice_get, slice_set}
 use Rattle.std.proofs.lemmas.List.{take_more}
 use Rattle.std.proofs.lemmas.Option.{get_or_from_slice_get, slice_get_within}
@@ -25,6 +26,12 @@ pub there_is : {A : Type 0} (xs : List A) (i : ℕ) → i < length xs → (x : A
 there_is [] i within = absurd (omega (arith, within))
 there_is (x ∷ xs) zero within = (x, refl)
 there_is (x ∷ xs) (suc i) within = there_is xs i (omega (arith, within))
+
+-- what stands at a place of the same list
+pub same_at : {A : Type 0} (xs ys : List A) (i : ℕ) (x y : A) → ys ≡ xs → slice_get ys i ≡ Some x → slice_get xs i ≡ Some y → x ≡ y
+same_at {A} xs ys i x y same at_x at_y =
+    let some : Some x ≡ Some y = sym at_x ∙ ap (λ (zs : List A). slice_get zs i) same ∙ at_y in
+    cc
 
 pub get_replicated : {A : Type 0} (n i : ℕ) (x : A) → i < n → slice_get (replicate n x) i ≡ Some x
 get_replicated zero i x within = absurd (omega (arith, within))

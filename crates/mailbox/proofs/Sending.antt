@@ -3,6 +3,7 @@ use Rattle.std.proofs.Common.{◌≡◌, ◌<◌, ℕ, ◌==◌, Bool, true, fal
 use Rattle.std.proofs.Common.{sym, ap, subst, ◌∙◌, append-nil, eqb-true, eq-eqb, true≢false}
 use Rattle.std.specs.Prelude.{slice_get, slice_set}
 use Rattle.std.specs.List.{list_any}
+use Rattle.std.proofs.Math.Bool.{or-false, or-true, or_assoc}
 use Rattle.partner_setup.specs.declared.partner.Partner.{Partner}
 use Rattle.partner_setup.specs.Setup.{SetupValue}
 use Rattle.mailbox.specs.declared.outcome.Outcome.{Outcome}
@@ -15,22 +16,14 @@ use Rattle.mailbox.proofs.Replacing.{length_set, set_here, set_there, there_is}
 abbrev pub Lists : Type 0
 Lists = List (List PlacedValue)
 
-or_assoc : (a b c : Bool) → (a || (b || c)) ≡ ((a || b) || c)
-or_assoc true b c = refl
-or_assoc false b c = refl
-
-or_false : (a : Bool) → (a || false) ≡ a
-or_false true = refl
-or_false false = refl
-
-sent_snoc : (setup : SetupValue) (p : PlacedValue) (q : ℕ) (ts : List ℕ) (t : ℕ)
+pub sent_snoc : (setup : SetupValue) (p : PlacedValue) (q : ℕ) (ts : List ℕ) (t : ℕ)
     → is_sent_by setup p q (ts ++ t ∷ []) ≡ (is_sent_by setup p q ts || is_delivery_to q (outcome_at setup p t))
-sent_snoc setup p q [] t = or_false (is_delivery_to q (outcome_at setup p t))
+sent_snoc setup p q [] t = or-false (is_delivery_to q (outcome_at setup p t))
 sent_snoc setup p q (s ∷ ts) t = ap (λ (b : Bool). is_delivery_to q (outcome_at setup p s) || b) (sent_snoc setup p q ts t)
-    ∙ or_assoc (is_delivery_to q (outcome_at setup p s)) (is_sent_by setup p q ts) (is_delivery_to q (outcome_at setup p t))
+    ∙ sym (or_assoc (is_delivery_to q (outcome_at setup p s)) (is_sent_by setup p q ts) (is_delivery_to q (outcome_at setup p t)))
 
 -- an outcome for a target is no delivery to another
-to_target : (setup : SetupValue) (p : PlacedValue) (q t : ℕ) → is_delivery_to q (outcome_at setup p t) ≡ true → t ≡ q
+pub to_target : (setup : SetupValue) (p : PlacedValue) (q t : ℕ) → is_delivery_to q (outcome_at setup p t) ≡ true → t ≡ q
 to_target setup p q t is = by_partner (slice_get setup.partners t) is
   where
     by_block : (partner : Partner) (b : Bool) → is_delivery_to q (cond b (HeldForDelimiter t) (DeliveredTo t)) ≡ true → t ≡ q
@@ -40,10 +33,6 @@ to_target setup p q t is = by_partner (slice_get setup.partners t) is
     by_partner : (partner : Option Partner) → is_delivery_to q (outcome_by partner p t) ≡ true → t ≡ q
     by_partner None is = cc
     by_partner (Some partner) is = by_block partner (is_blocked partner.delims p) is
-
-or_true : (b : Bool) → (b || true) ≡ true
-or_true true = refl
-or_true false = refl
 
 -- what isn't the first is among the others
 among_others : (s t : ℕ) (ts : List ℕ) (b c : Bool) → (s == t) ≡ b → list_any (λ (n : ℕ). n == t) (s ∷ ts) ≡ c → b ≡ false
@@ -61,10 +50,10 @@ sent_before setup p q (s ∷ ts) t among is =
     by true same rest = ap (λ (b : Bool). b || is_sent_by setup p q ts)
         (subst (λ (n : ℕ). is_delivery_to q (outcome_at setup p n) ≡ true) (sym (eqb-true s t same)) is)
     by false other rest = ap (λ (b : Bool). is_delivery_to q (outcome_at setup p s) || b) (rest other)
-        ∙ or_true (is_delivery_to q (outcome_at setup p s))
+        ∙ or-true (is_delivery_to q (outcome_at setup p s))
 
 -- who is no target yet has nothing
-not_sent : (setup : SetupValue) (p : PlacedValue) (ts : List ℕ) (t : ℕ) → list_any (λ (s : ℕ). s == t) ts ≡ false
+pub not_sent : (setup : SetupValue) (p : PlacedValue) (ts : List ℕ) (t : ℕ) → list_any (λ (s : ℕ). s == t) ts ≡ false
     → is_sent_by setup p t ts ≡ false
 not_sent setup p [] t none = refl
 not_sent setup p (s ∷ ts) t none =
@@ -97,26 +86,25 @@ sent_again setup p ts t a b among sent = sent_as setup p ts t a b (λ q. by q (i
         → is_sent_by setup p q ts ≡ (is_sent_by setup p q ts || is_delivery_to q (outcome_at setup p t))
     by q true is = let had : is_sent_by setup p q ts ≡ true = sent_before setup p q ts t among is in
         had ∙ sym (ap (λ (b : Bool). b || is_delivery_to q (outcome_at setup p t)) had)
-    by q false is = sym (or_false (is_sent_by setup p q ts)) ∙ ap (λ (b : Bool). is_sent_by setup p q ts || b) (sym is)
+    by q false is = sym (or-false (is_sent_by setup p q ts)) ∙ ap (λ (b : Bool). is_sent_by setup p q ts || b) (sym is)
 
 -- held for a target
 pub sent_held : (setup : SetupValue) (p : PlacedValue) (ts : List ℕ) (t : ℕ) (outcome : Outcome) (a b : Lists)
     → outcome ≡ outcome_at setup p t
     → ((q : ℕ) → is_delivery_to q outcome ≡ false) → HasSent setup p ts a b → HasSent setup p (ts ++ t ∷ []) a b
 sent_held setup p ts t outcome a b is held sent = sent_as setup p ts t a b (λ q.
-    sym (or_false (is_sent_by setup p q ts))
+    sym (or-false (is_sent_by setup p q ts))
     ∙ ap (λ (b : Bool). is_sent_by setup p q ts || b) (sym (held q) ∙ ap (is_delivery_to q) is)) sent
 
-delivered_here : (setup : SetupValue) (p : PlacedValue) (t to : ℕ) → outcome_at setup p t ≡ DeliveredTo to
-    → outcome_at setup p t ≡ DeliveredTo t
+-- what is delivered at a target is delivered to it
+pub delivered_here : (setup : SetupValue) (p : PlacedValue) (t to : ℕ) → outcome_at setup p t ≡ DeliveredTo to → to ≡ t
 delivered_here setup p t to is = by_partner (slice_get setup.partners t) is
   where
-    by_block : (partner : Partner) (b : Bool) → cond b (HeldForDelimiter t) (DeliveredTo t) ≡ DeliveredTo to
-        → cond b (HeldForDelimiter t) (DeliveredTo t) ≡ DeliveredTo t
+    by_block : (partner : Partner) (b : Bool) → cond b (HeldForDelimiter t) (DeliveredTo t) ≡ DeliveredTo to → to ≡ t
     by_block partner true is = cc
-    by_block partner false is = refl
+    by_block partner false is = cc
 
-    by_partner : (partner : Option Partner) → outcome_by partner p t ≡ DeliveredTo to → outcome_by partner p t ≡ DeliveredTo t
+    by_partner : (partner : Option Partner) → outcome_by partner p t ≡ DeliveredTo to → to ≡ t
     by_partner None is = cc
     by_partner (Some partner) is = by_block partner (is_blocked partner.delims p) is
 
@@ -137,7 +125,7 @@ sent_to setup p ts t to first a b within none outcome made sent = record {
     set = made had.0 had.1
 
     delivery : (q : ℕ) → is_delivery_to q (outcome_at setup p t) ≡ (t == q)
-    delivery q = ap (is_delivery_to q) (delivered_here setup p t to outcome)
+    delivery q = ap (is_delivery_to q) outcome ∙ ap (λ (n : ℕ). n == q) (delivered_here setup p t to outcome)
 
     by : (q : ℕ) (xs : List PlacedValue) → slice_get first q ≡ Some xs → (c : Bool) → (t == q) ≡ c
         → slice_get b q ≡ Some (xs ++ one_where (is_sent_by setup p q (ts ++ t ∷ [])) p)
@@ -155,7 +143,7 @@ sent_to setup p ts t to first a b within none outcome made sent = record {
         ∙ ap (λ (c : Bool). Some (xs ++ one_where c p)) (sym now)
     by q xs there false other =
         let now : is_sent_by setup p q (ts ++ t ∷ []) ≡ is_sent_by setup p q ts = sent_snoc setup p q ts t
-        ∙ ap (λ (c : Bool). is_sent_by setup p q ts || c) (delivery q ∙ other) ∙ or_false (is_sent_by setup p q ts) in
+        ∙ ap (λ (c : Bool). is_sent_by setup p q ts || c) (delivery q ∙ other) ∙ or-false (is_sent_by setup p q ts) in
         ap (λ (ls : Lists). slice_get ls q) set
         ∙ set_there a t q (had.0 ++ p ∷ []) (λ e. true≢false (sym (eq-eqb t q e) ∙ other))
         ∙ sent.each q xs there ∙ ap (λ (c : Bool). Some (xs ++ one_where c p)) (sym now)

@@ -33,7 +33,8 @@ use Rattle.partner_setup.specs.declared.rows.SetupRows.{SetupRows}
 use Rattle.partner_setup.specs.declared.setup_fault.GuidesOwner.{GuidesOwner}
 use Rattle.partner_setup.specs.declared.setup_fault.GuidesOwner.TheVariants as guided
 use Rattle.partner_setup.specs.declared.setup_fault.SetupFault.{SetupFault}
-use Rattle.night_command.specs.SetupFiles.{AreGuidesOf, HasTable, IsFileOf, IsFileRefused, IsFirstGuideRefused, IsFirstRefusal, IsGuideOf}
+use Rattle.guide_toml.specs.FileBytes.{HasTable, IsFileOf, IsGuideOf}
+use Rattle.night_command.specs.SetupFiles.{AreGuidesOf, IsFileRefused, IsFirstGuideRefused, IsFirstRefusal}
 use Rattle.night_command.specs.SetupFiles.{IsGuideRefused, IsSetupOf}
 use Rattle.night_command.specs.declared.failure.Failure.{Failure}
 use Rattle.night_command.specs.declared.failure.Failure.TheVariants as failure

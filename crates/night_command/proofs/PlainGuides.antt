@@ -15,7 +15,8 @@ use Rattle.elem_rules.specs.Rows.{component_reference}
 use Rattle.guide_toml.specs.References.{HasReference, HasReferences, HasReferencesIn, IsReference, WritesReferences}
 use Rattle.partner_setup.specs.Setup.{SetupValue}
 use Rattle.night_law.specs.Quotable.{IsGuidePlain, IsNodePlain, IsPlainReference, IsRowPlain}
-use Rattle.night_command.specs.SetupFiles.{AreGuidesOf, IsGuideOf, IsSetupAt, IsSetupOf}
+use Rattle.guide_toml.specs.FileBytes.{IsGuideOf}
+use Rattle.night_command.specs.SetupFiles.{AreGuidesOf, IsSetupAt, IsSetupOf}
 use Rattle.night_command.specs.declared.setup_files.GuideFile.{GuideFile}
 
 digit_or_letter : (b : ℕ) → is_ascii_digit b ≡ true → is_ascii_alphanumeric b ≡ true

@@ -11,7 +11,8 @@ use Rattle.partner_setup.specs.declared.rows.SetupRows.{SetupRows}
 use Rattle.partner_setup.specs.declared.setup_fault.SetupFault.{SetupFault}
 use Rattle.partner_setup.specs.declared.setup_fault.SetupFault.TheVariants as setup
 use Rattle.night_command.specs.Failure.{setup_failure}
-use Rattle.night_command.specs.SetupFiles.{AreGuidesOf, AreRead, IsFileOf, IsFirstGuideRefused, IsFirstRefusal, IsGuideOf, IsGuideRefused}
+use Rattle.guide_toml.specs.FileBytes.{IsFileOf, IsGuideOf}
+use Rattle.night_command.specs.SetupFiles.{AreGuidesOf, AreRead, IsFirstGuideRefused, IsFirstRefusal, IsGuideRefused}
 use Rattle.night_command.specs.SetupFiles.{IsMemoryOrIs, IsOfCounters, IsOfGuide, IsOfGuides, IsOfSetupFile, path_of}
 use Rattle.night_command.specs.declared.setup_files.SetupFiles.{SetupFiles}
 use Rattle.night_command.specs.declared.failure.Failure.{Failure}

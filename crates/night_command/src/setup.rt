@@ -3,7 +3,8 @@ ghost use Rattle.partner_setup.specs.CountersFile.{counters_of_table};
 ghost use Rattle.partner_setup.specs.Setup.{SetupValue};
 ghost use Rattle.partner_setup.specs.SetupFile.{setup_of_table};
 ghost use Rattle.night_command.specs.Failure.{counters_failure, guide_failure, setup_failure, setup_file_failure};
-ghost use Rattle.night_command.specs.SetupFiles.{AreGuidesOf, IsFileOf, IsFirstRefusal, IsGuideOf, IsMemoryOrIs, IsOfCounters, IsOfGuide};
+ghost use Rattle.guide_toml.specs.FileBytes.{IsFileOf, IsGuideOf};
+ghost use Rattle.night_command.specs.SetupFiles.{AreGuidesOf, IsFirstRefusal, IsMemoryOrIs, IsOfCounters, IsOfGuide};
 ghost use Rattle.night_command.specs.SetupFiles.{IsOfGuides, IsOfSetupFile, IsRefusedAt, IsSetupAt, IsSetupOf};
 
 use crate::failure::Failure;

@@ -35,6 +35,7 @@ mod setup_words;
 mod trigger_words;
 mod warning_words;
 
+pub use appended::{append, append_in_place, append_number, append_one, append_texts};
 pub use common::common_segment;
 pub use guide_words::append_guide_words;
 pub use kept_rows::KeptRows;

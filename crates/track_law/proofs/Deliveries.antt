@@ -1,42 +1,38 @@
 -- What rows say is delivered to a partner, in their order.
-use Rattle.std.proofs.Common.{◌≡◌, ◌≢◌, ◌<◌, ℕ, zero, suc, ◌+◌, ◌-◌, ◌/◌, ◌==◌, Bool, true, false, cond, not, ◌&&◌, ◌||◌, List, [], ◌∷◌}
+use Rattle.std.proofs.Common.{◌≡◌, ℕ, suc, ◌+◌, ◌-◌, ◌==◌, Bool, true, false, cond, ◌&&◌, ◌||◌, List, [], ◌∷◌}
 use Rattle.std.proofs.Common.{◌++◌}
 use Rattle.std.proofs.Common.{Option, Some, None, length, map, refl, sym, ap, subst, ◌∙◌, arith, append_assoc, append-nil, eqb-true, eq-eqb}
-use Rattle.std.specs.Prelude.{codes, decimal, drop, slice_get, slice_index_or, if◌then◌else◌}
+use Rattle.std.specs.Prelude.{codes, drop, slice_get, slice_index_or, if◌then◌else◌}
 use Rattle.std.specs.Str.{bytes_eq}
 use Rattle.std.specs.List.{filter, flat_map, list_any}
+use Rattle.std.proofs.Math.Bool.{or-false}
+use Rattle.std.proofs.Math.Seq.{take-length}
 use Rattle.std.proofs.lemmas.Bool.{false≢true}
 use Rattle.std.proofs.lemmas.List.Concat.{flat_map-append}
 use Rattle.std.proofs.lemmas.List.Elements.{filter-append}
 use Rattle.x12_segs.specs.Words.{element_of}
-use Rattle.x12_write.specs.Number.{padded_number}
-use Rattle.env_index.specs.declared.entry.SetEnvelope.{SetEnvelope}
 use Rattle.env_index.specs.Words.{GroupEntry}
 use Rattle.partner_setup.specs.declared.partner.Partner.{Partner}
 use Rattle.partner_setup.specs.Setup.{SetupValue, route_of}
-use Rattle.partner_setup.specs.Sound.{AreApart, AreWithin, IsSoundSetup}
-use Rattle.partner_setup.proofs.ForAbove.{targets_apart, targets_within}
-use Rattle.judged_text.specs.declared.standing.GroupStanding.{GroupStanding}
-use Rattle.judged_text.specs.Judged.{JudgedValue, PlacedValue, all_sets, sets_of_groups_from, is_fa, is_refused, sets_from, sets_of}
-use Rattle.judged_text.specs.Judged.{standing_at}
-use Rattle.judged_text.specs.Judged.{verdict_by_standing}
-use Rattle.mailbox.specs.declared.outcome.Outcome.{Outcome}
+use Rattle.partner_setup.specs.Sound.{AreApart, IsSoundSetup}
+use Rattle.partner_setup.proofs.ForAbove.{targets_apart}
+use Rattle.judged_text.specs.Judged.{JudgedValue, PlacedValue, all_sets, sets_of_groups_from, is_refused, sets_of}
 use Rattle.mailbox.specs.declared.outcome.Outcome.TheVariants.{DeliveredTo, HeldForDelimiter}
-use Rattle.mailbox.specs.Deliveries.{is_blocked, is_deliverable, is_delivered_to, is_delivery_to, is_not_rejected, outcome_at}
+use Rattle.mailbox.specs.Deliveries.{is_blocked, is_deliverable, is_delivered_to, is_delivery_to, outcome_at}
+use Rattle.mailbox.specs.Delivering.{is_sent_by}
 use Rattle.mailbox.specs.Deliveries.{outcome_by, outcomes_on}
-use Rattle.mailbox.proofs.ForAbove.{there_is}
+use Rattle.mailbox.proofs.ForAbove.{not_sent, to_target}
 use Rattle.track_notes.specs.declared.notes.GroupNotes.{GroupNotes}
 use Rattle.track_notes.specs.declared.notes.Notes.{Notes}
-use Rattle.track_rows.specs.Cells.{delivered_end, head_cells, held_end, plain_end}
+use Rattle.track_rows.specs.Cells.{delivered_end, head_cells, held_end}
 use Rattle.track_rows.specs.Hindrance.{hindrance_to}
-use Rattle.track_rows.specs.declared.mailed.Mailed.{Mailed}
 use Rattle.track_rows.specs.Rows.{TrackedBy, delivered_of, groups_rows, interchange_rows, notes_at, other_end, outcome_cells, refused_row}
 use Rattle.track_rows.specs.Rows.{rows_from, set_rows, sets_at, sets_rows}
 use Rattle.track_rows.specs.Mailed.{acknowledgments_to, groups_to, mailed_behind}
-use Rattle.track_rows.proofs.ForAbove.{not_delivered}
-use Rattle.track_law.specs.Entries.{AreRowsOf, Entry, OfRefused, OfSet, Row, each_or_nobody, entries_from, field, interchange_entries}
+use Rattle.track_rows.proofs.ForAbove.{apart_from, groups_stay}
+use Rattle.track_law.specs.Entries.{AreRowsOf, Entry, OfRefused, OfSet, Row, each_or_nobody, entries_from, interchange_entries}
 use Rattle.track_law.specs.Entries.{set_entries}
-use Rattle.track_law.specs.Named.{Delivery, deliveries_to, delivery_of, is_place}
+use Rattle.track_law.specs.Named.{Delivery, deliveries_to, delivery_of}
 use Rattle.track_law.proofs.Told.{numbers_told}
 use Rattle.track_law.proofs.Rows.{IsHead, IsHeldEnd, end_is, end_to, head_is, held_is, interchange_are, mailed_to, rows_of_set}
 use Rattle.track_law.proofs.Rows.{sets_are}
@@ -50,68 +46,14 @@ deliveries_append place setup (r ∷ rs) qs (e ∷ es) fs are =
     ap (λ (ds : List Delivery). delivery_of place r e ++ ds) (deliveries_append place setup rs qs es fs are.1)
     ∙ sym (append_assoc (delivery_of place r e) (deliveries_to place rs es) (deliveries_to place qs fs))
 
--- an outcome for a target is no delivery to another
-to_target : (setup : SetupValue) (p : PlacedValue) (q t : ℕ) → is_delivery_to q (outcome_at setup p t) ≡ true → t ≡ q
-to_target setup p q t is = by_partner (slice_get setup.partners t) is
-  where
-    by_block : (partner : Partner) (b : Bool) → is_delivery_to q (cond b (HeldForDelimiter t) (DeliveredTo t)) ≡ true → t ≡ q
-    by_block partner true is = cc
-    by_block partner false is = eqb-true t q is
-
-    by_partner : (partner : Option Partner) → is_delivery_to q (outcome_by partner p t) ≡ true → t ≡ q
-    by_partner None is = cc
-    by_partner (Some partner) is = by_block partner (is_blocked partner.delims p) is
-
--- none of these targets is this place
-abbrev IsNone : (place : ℕ) → List ℕ → Type 0
-IsNone place ts = (i : ℕ) (d : ℕ) → i < length ts → slice_index_or ts i d ≢ place
-
-none_sent : (setup : SetupValue) (p : PlacedValue) (place : ℕ) (ts : List ℕ) → IsNone place ts
-    → list_any (is_delivery_to place) (map (outcome_at setup p) ts) ≡ false
-none_sent setup p place [] none = refl
-none_sent setup p place (t ∷ ts) none =
-    by (none_sent setup p place ts (λ i d within. none (suc i) d (omega (arith, within))))
-    (is_delivery_to place (outcome_at setup p t)) refl
-  where
-    by : list_any (is_delivery_to place) (map (outcome_at setup p) ts) ≡ false → (b : Bool)
-        → is_delivery_to place (outcome_at setup p t) ≡ b
-        → (b || list_any (is_delivery_to place) (map (outcome_at setup p) ts)) ≡ false
-    by rest true is = absurd (none 0 t (omega arith) (to_target setup p place t is))
-    by rest false is = rest
-
 apart_tail : (t : ℕ) (ts : List ℕ) → AreApart (t ∷ ts) → AreApart ts
 apart_tail t ts apart i j d before within = apart (suc i) (suc j) d (omega (arith, before)) (omega (arith, within))
 
-apart_head : (t : ℕ) (ts : List ℕ) → AreApart (t ∷ ts) → IsNone t ts
-apart_head t ts apart i d within same = apart 0 (suc i) d (omega arith) (omega (arith, within)) (sym same)
-
--- no set of a refused interchange is delivered
-and_false : (b : Bool) → (b && false) ≡ false
-and_false true = refl
-and_false false = refl
-
-refused_stays : (p : PlacedValue) → is_refused p.interchange ≡ true → is_deliverable p ≡ false
-refused_stays p is =
-    ap (λ (b : Bool). is_not_rejected (verdict_by_standing p) && p.standing.clear && not (is_fa p.group) && not b) is
-    ∙ and_false (is_not_rejected (verdict_by_standing p) && p.standing.clear && not (is_fa p.group))
-
-module _ (setup : SetupValue) (q : ℕ) (x : JudgedValue) (refused : is_refused x ≡ true) where
-  sets_stay : (g : GroupEntry) (standing : GroupStanding) (n : ℕ) (sets : List SetEnvelope)
-      → delivered_of setup q (sets_from x g standing n sets) ≡ []
-  sets_stay g standing n [] = refl
-  sets_stay g standing n (set ∷ sets) =
-      let p : PlacedValue = record { interchange = x; group = g; standing = standing; index = n; set = set } in
-      let more : List PlacedValue = delivered_of setup q (sets_from x g standing (n + 1) sets) in
-      ap (λ (b : Bool). cond b (p ∷ more) more) (not_delivered setup p (refused_stays p refused) q)
-      ∙ sets_stay g standing (n + 1) sets
-
-  groups_stay : (n : ℕ) (groups : List GroupEntry) → delivered_of setup q (sets_of_groups_from x n groups) ≡ []
-  groups_stay n [] = refl
-  groups_stay n (g ∷ groups) =
-      filter-append (is_delivered_to setup q) (sets_from x g (standing_at x.standings n) 0 g.sets) (sets_of_groups_from x (n + 1) groups)
-      ∙ ap (λ (ps : List PlacedValue). ps ++ delivered_of setup q (sets_of_groups_from x (n + 1) groups))
-      (sets_stay g (standing_at x.standings n) 0 g.sets)
-      ∙ groups_stay (n + 1) groups
+-- the first of these targets is none of the others
+apart_head : (t : ℕ) (ts : List ℕ) → AreApart (t ∷ ts) → list_any (λ (s : ℕ). s == t) ts ≡ false
+apart_head t ts apart =
+    subst (λ (rest : List ℕ). list_any (λ (s : ℕ). s == t) rest ≡ false) (take-length ts)
+    (apart_from ts (length ts) t (λ i before within same. apart 0 (suc i) t (omega arith) (omega (arith, within)) (sym same)))
 
 module _ (by : TrackedBy) (sound : IsSoundSetup by.setup) (place : ℕ) (partner : Partner)
     (at_place : slice_get by.setup.partners place ≡ Some partner) where
@@ -192,11 +134,7 @@ module _ (by : TrackedBy) (sound : IsSoundSetup by.setup) (place : ℕ) (partner
             → told_if b before p ++ told_if (any_for ts) before p ≡ told_if (b || any_for ts) before p
         none_then b none =
             ap (λ (c : Bool). told_if b before p ++ told_if c before p) none ∙ append-nil (told_if b before p)
-            ∙ ap (λ (c : Bool). told_if c before p) (sym (ap (λ (c : Bool). b || c) none ∙ or_false b))
-          where
-            or_false : (a : Bool) → (a || false) ≡ a
-            or_false true = refl
-            or_false false = refl
+            ∙ ap (λ (c : Bool). told_if c before p) (sym (ap (λ (c : Bool). b || c) none ∙ or-false b))
 
         by_place : all_for ts ≡ told_if (any_for ts) before p → (b : Bool) → (t == place) ≡ b
             → one t ++ all_for ts ≡ told_if (is_delivery_to place (outcome_at by.setup p t) || any_for ts) before p
@@ -206,7 +144,7 @@ module _ (by : TrackedBy) (sound : IsSoundSetup by.setup) (place : ℕ) (partner
             subst (λ (s : ℕ). one s ≡ told_if (is_delivery_to place (outcome_at by.setup p s)) before p) (sym is)
             (here (is_blocked partner.delims p) refl) in
             let none : any_for ts ≡ false =
-            none_sent by.setup p place ts (subst (λ (s : ℕ). IsNone s ts) is (apart_head t ts apart)) in
+            subst (λ (s : ℕ). is_sent_by by.setup p s ts ≡ false) is (not_sent by.setup p ts t (apart_head t ts apart)) in
             ap (λ (ds : List Delivery). ds ++ all_for ts) first
             ∙ ap (λ (ds : List Delivery). told_if (is_delivery_to place (outcome_at by.setup p t)) before p ++ ds) rest
             ∙ none_then (is_delivery_to place (outcome_at by.setup p t)) none

@@ -1,6 +1,6 @@
 -- The numbers of the sets of a mailbox, by its interchanges and groups, are those that each set has after the sets before it.
-use Rattle.std.proofs.Common.{◌≡◌, ◌<◌, ◌≤◌, ℕ, zero, suc, ◌+◌, ◌-◌, ◌*◌, ◌/◌, ◌%◌, ◌==◌, Bool, true, false, not, ◌||◌, if◌then◌else◌}
-use Rattle.std.proofs.Common.{List, [], ◌∷◌, ◌++◌, Option, Some, take, drop, length, map, refl, sym, ap, subst, ◌∙◌, arith, length-append}
+use Rattle.std.proofs.Common.{◌≡◌, ◌<◌, ◌≤◌, ℕ, zero, suc, ◌+◌, ◌-◌, ◌*◌, ◌/◌, ◌%◌, Bool, true, false, not, ◌||◌, if◌then◌else◌}
+use Rattle.std.proofs.Common.{List, [], ◌∷◌, ◌++◌, Option, Some, take, drop, length, map, refl, sym, ap, ◌∙◌, arith, length-append}
 use Rattle.std.proofs.Common.{append-nil, append_assoc, length-drop}
 use Rattle.std.specs.Prelude.{decimal}
 use Rattle.std.proofs.Math.Nat.{mul-add-mod_self_right, mod-eq_of_lt}
@@ -18,7 +18,7 @@ use Rattle.mailbox.specs.Mailbox.{group_total}
 use Rattle.mailbox.specs.Numbered.{NumberedValue, goes_with, groups_of, group_key_of, numbered_from, onto_groups}
 use Rattle.track_rows.specs.Mailed.{mailed_behind}
 use Rattle.track_rows.specs.Walking.{last_key}
-use Rattle.track_rows.proofs.ForAbove.{begins, group_total_snoc}
+use Rattle.track_rows.proofs.ForAbove.{begins, group_total_snoc, last_snoc}
 use Rattle.track_law.proofs.Told.{numbers_told}
 
 abbrev Numbers : Type 0
@@ -26,11 +26,6 @@ Numbers = List (List ℕ)
 
 abbrev pub step : Bool → ℕ
 step b = if b then 0 else 1
-
-last_snoc : (ps : List PlacedValue) (p : PlacedValue) → last_key (ps ++ p ∷ []) ≡ Some (group_key_of p)
-last_snoc [] p = refl
-last_snoc (q ∷ []) p = refl
-last_snoc (q ∷ r ∷ ps) p = last_snoc (r ∷ ps) p
 
 take_some : (n : ℕ) (p : PlacedValue) (ps : List PlacedValue) → 1 ≤ n → take n (p ∷ ps) ≡ p ∷ take (n - 1) ps
 take_some zero p ps some = absurd (omega (arith, some))

@@ -1,12 +1,11 @@
 -- The rows of a table are those of the sets of its night.
-use Rattle.std.proofs.Common.{◌≡◌, ◌⊎◌, inl, inr, ◌<◌, ℕ, suc, ◌+◌, Bool, true, false, cond, List, [], ◌∷◌, ◌++◌, Option, Some, None}
-use Rattle.std.proofs.Common.{length, map, All, refl, sym, ap, subst, ◌∙◌, arith}
+use Rattle.std.proofs.Common.{◌≡◌, ◌⊎◌, inl, inr, ◌<◌, ℕ, ◌+◌, Bool, true, false, cond, List, [], ◌∷◌, ◌++◌, Option, Some, None}
+use Rattle.std.proofs.Common.{length, map, refl, sym, ap, subst, ◌∙◌, arith}
 use Rattle.std.specs.Prelude.{codes, decimal, drop, slice_get, slice_index_or, if◌then◌else◌}
 use Rattle.std.specs.List.{flat_map}
 use Rattle.std.proofs.lemmas.List.{length-map}
 use Rattle.std.proofs.lemmas.List.Concat.{flat_map-append}
 use Rattle.std.proofs.lemmas.List.Elements.{All-head, All-tail}
-use Rattle.x12_bytes.specs.Header.{field_of}
 use Rattle.x12_segs.specs.Words.{element_of}
 use Rattle.hub_kinds.specs.Words.{group_code_text, group_verdict_text, set_code_text, verdict_text}
 use Rattle.env_index.specs.Words.{GroupEntry}
@@ -16,7 +15,6 @@ use Rattle.partner_setup.specs.Sound.{AreWithin, IsSoundSetup}
 use Rattle.partner_setup.proofs.ForAbove.{targets_within}
 use Rattle.judged_text.specs.Judged.{JudgedValue, PlacedValue, sets_of_groups_from, is_fa, is_refused, segments_in, sets_of}
 use Rattle.judged_text.specs.Judged.{verdict_by_standing}
-use Rattle.mailbox.specs.declared.outcome.Outcome.{Outcome}
 use Rattle.mailbox.specs.declared.outcome.Outcome.TheVariants.{DeliveredTo, HeldForDelimiter}
 use Rattle.mailbox.specs.Deliveries.{is_blocked, is_deliverable, outcome_at, outcome_by, outcomes_on}
 use Rattle.mailbox.proofs.ForAbove.{there_is}
@@ -25,9 +23,8 @@ use Rattle.night_writing.specs.Night.{judgements}
 use Rattle.set_documents.specs.Documents.{DocumentValue, document_number}
 use Rattle.track_notes.specs.declared.notes.GroupNotes.{GroupNotes}
 use Rattle.track_notes.specs.declared.notes.Notes.{Notes}
-use Rattle.track_notes.specs.declared.notes.SetNotes.{SetNotes}
 use Rattle.track_answers.specs.Noted.{notes_of}
-use Rattle.track_rows.specs.Cells.{delivered_end, head_cells, held_end, hindrance_cells, interchange_cells, no_set_notes, plain_end}
+use Rattle.track_rows.specs.Cells.{delivered_end, head_cells, held_end, interchange_cells, no_set_notes, plain_end}
 use Rattle.track_rows.specs.Cells.{shown, spaced_words}
 use Rattle.track_rows.specs.Hindrance.{hindrance_to}
 use Rattle.track_rows.specs.declared.hindrance.Hindrance.{Hindrance}

@@ -17,7 +17,7 @@ use Rattle.track_rows.proofs.Chunks.{begins, group_total_snoc}
 num_on : (start a k : ℕ) → num (num start a) k ≡ num start (a + k)
 num_on start a k = omega arith
 
-last_snoc : (ps : List PlacedValue) (p : PlacedValue) → last_key (ps ++ p ∷ []) ≡ Some (group_key_of p)
+pub last_snoc : (ps : List PlacedValue) (p : PlacedValue) → last_key (ps ++ p ∷ []) ≡ Some (group_key_of p)
 last_snoc [] p = refl
 last_snoc (q ∷ []) p = refl
 last_snoc (q ∷ r ∷ ps) p = last_snoc (r ∷ ps) p

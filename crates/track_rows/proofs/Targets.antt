@@ -4,23 +4,23 @@ use Rattle.std.proofs.Common.{Option, Some, None, get_or, length, map, take, ref
 use Rattle.std.proofs.Common.{append-nil, eqb-true, eq-eqb, true≢false}
 use Rattle.std.specs.Prelude.{codes, slice_get, slice_set}
 use Rattle.std.specs.List.{flat_map, list_any}
+use Rattle.std.proofs.Math.Bool.{and-false, or-false}
 use Rattle.std.proofs.lemmas.List.Elements.{filter-append}
 use Rattle.x12_segs.specs.Words.{element_of}
-use Rattle.env_index.specs.declared.entry.SetEnvelope.{SetEnvelope}
 use Rattle.env_index.specs.Words.{GroupEntry}
 use Rattle.partner_setup.specs.declared.partner.Partner.{Partner}
 use Rattle.partner_setup.specs.Setup.{SetupValue, route_of}
 use Rattle.partner_setup.specs.Sound.{AreApart}
 use Rattle.judged_text.specs.declared.standing.GroupStanding.{GroupStanding}
 use Rattle.judged_text.specs.Judged.{JudgedValue, PlacedValue, sets_of_groups_from, is_fa, is_refused, sets_from, sets_of, standing_at}
-use Rattle.judged_text.specs.Judged.{verdict_by_standing}
 use Rattle.mailbox.specs.declared.outcome.Outcome.{Outcome}
 use Rattle.mailbox.specs.declared.outcome.Outcome.TheVariants.{DeliveredTo, HeldForDelimiter}
-use Rattle.mailbox.specs.Deliveries.{is_blocked, is_deliverable, is_delivered_to, is_delivery_to, is_not_rejected, outcome_at, outcome_by}
+use Rattle.mailbox.specs.Deliveries.{is_blocked, is_deliverable, is_delivered_to, is_delivery_to, outcome_at, outcome_by}
 use Rattle.mailbox.specs.Deliveries.{outcomes, outcomes_on}
 use Rattle.mailbox.specs.Delivering.{is_sent_by, one_where}
 use Rattle.mailbox.specs.Numbered.{group_key_of}
-use Rattle.mailbox.proofs.ForAbove.{length_set, set_here, set_there}
+use Rattle.mailbox.proofs.ForAbove.{by_route, delivered_here, length_set, not_delivered, not_sent, nothing_leaves, sent_snoc, set_here}
+use Rattle.mailbox.proofs.ForAbove.{set_there}
 use Rattle.track_rows.specs.Cells.{plain_end}
 use Rattle.track_rows.specs.Rows.{TrackedBy, delivered_of, ends_of, other_end, outcome_cells}
 use Rattle.track_rows.specs.Mailed.{acknowledgments_to, groups_to, mailed_behind}
@@ -28,65 +28,6 @@ use Rattle.track_rows.specs.Walking.{AreAmid, AreBehind, CursorValue, HasRows, I
 use Rattle.track_rows.specs.Walking.{row_text}
 use Rattle.track_rows.specs.declared.mailed.Mailed.{Mailed}
 use Rattle.track_rows.proofs.Behind.{behind_more, mailed_is}
-
-or_false : (a : Bool) → (a || false) ≡ a
-or_false true = refl
-or_false false = refl
-
-or_assoc : (a b c : Bool) → (a || (b || c)) ≡ ((a || b) || c)
-or_assoc true b c = refl
-or_assoc false b c = refl
-
-sent_snoc : (setup : SetupValue) (p : PlacedValue) (q : ℕ) (ts : List ℕ) (t : ℕ)
-    → is_sent_by setup p q (ts ++ t ∷ []) ≡ (is_sent_by setup p q ts || is_delivery_to q (outcome_at setup p t))
-sent_snoc setup p q [] t = or_false (is_delivery_to q (outcome_at setup p t))
-sent_snoc setup p q (s ∷ ts) t = ap (λ (b : Bool). is_delivery_to q (outcome_at setup p s) || b) (sent_snoc setup p q ts t)
-    ∙ or_assoc (is_delivery_to q (outcome_at setup p s)) (is_sent_by setup p q ts) (is_delivery_to q (outcome_at setup p t))
-
--- an outcome for a target is no delivery to another
-to_target : (setup : SetupValue) (p : PlacedValue) (q t : ℕ) → is_delivery_to q (outcome_at setup p t) ≡ true → t ≡ q
-to_target setup p q t is = by_partner (slice_get setup.partners t) is
-  where
-    by_block : (partner : Partner) (b : Bool) → is_delivery_to q (cond b (HeldForDelimiter t) (DeliveredTo t)) ≡ true → t ≡ q
-    by_block partner true is = cc
-    by_block partner false is = eqb-true t q is
-
-    by_partner : (partner : Option Partner) → is_delivery_to q (outcome_by partner p t) ≡ true → t ≡ q
-    by_partner None is = cc
-    by_partner (Some partner) is = by_block partner (is_blocked partner.delims p) is
-
--- what isn't the first is among the others
-among_others : (s t : ℕ) (ts : List ℕ) (b c : Bool) → (s == t) ≡ b → list_any (λ (n : ℕ). n == t) (s ∷ ts) ≡ c → b ≡ false
-    → list_any (λ (n : ℕ). n == t) ts ≡ c
-among_others s t ts b c is any other = sym (ap (λ (d : Bool). d || list_any (λ (n : ℕ). n == t) ts) (is ∙ other)) ∙ any
-
--- who is no target yet has nothing
-not_sent : (setup : SetupValue) (p : PlacedValue) (ts : List ℕ) (t : ℕ) → list_any (λ (s : ℕ). s == t) ts ≡ false
-    → is_sent_by setup p t ts ≡ false
-not_sent setup p [] t none = refl
-not_sent setup p (s ∷ ts) t none =
-    by (s == t) refl (λ other. not_sent setup p ts t (among_others s t ts (s == t) false refl none other))
-  where
-    by_delivery : (s == t) ≡ false → is_sent_by setup p t ts ≡ false → (b : Bool) → is_delivery_to t (outcome_at setup p s) ≡ b
-        → is_sent_by setup p t (s ∷ ts) ≡ false
-    by_delivery other rest true is = absurd (true≢false (sym (eq-eqb s t (to_target setup p t s is)) ∙ other))
-    by_delivery other rest false is = ap (λ (b : Bool). b || is_sent_by setup p t ts) is ∙ rest
-
-    by : (b : Bool) → (s == t) ≡ b → ((s == t) ≡ false → is_sent_by setup p t ts ≡ false) → is_sent_by setup p t (s ∷ ts) ≡ false
-    by true same rest = absurd (true≢false (sym (ap (λ (b : Bool). b || list_any (λ (n : ℕ). n == t) ts) same) ∙ none))
-    by false other rest = by_delivery other (rest other) (is_delivery_to t (outcome_at setup p s)) refl
-
--- what is delivered at a target is delivered to it
-pub delivered_here : (setup : SetupValue) (p : PlacedValue) (t to : ℕ) → outcome_at setup p t ≡ DeliveredTo to → to ≡ t
-delivered_here setup p t to is = by_partner (slice_get setup.partners t) is
-  where
-    by_block : (partner : Partner) (b : Bool) → cond b (HeldForDelimiter t) (DeliveredTo t) ≡ DeliveredTo to → to ≡ t
-    by_block partner true is = cc
-    by_block partner false is = cc
-
-    by_partner : (partner : Option Partner) → outcome_by partner p t ≡ DeliveredTo to → to ≡ t
-    by_partner None is = cc
-    by_partner (Some partner) is = by_block partner (is_blocked partner.delims p) is
 
 pub held_here : (setup : SetupValue) (p : PlacedValue) (t to : ℕ) → outcome_at setup p t ≡ HeldForDelimiter to → to ≡ t
 held_here setup p t to is = by_partner (slice_get setup.partners t) is
@@ -120,7 +61,7 @@ module _ (by : TrackedBy) (before : List PlacedValue) (p : PlacedValue) where
   amid_held ts t cs held amid = record {
     count = amid.count;
     each = λ q partner c at_q at_c. subst (λ (b : Bool). Behind q partner (had q ++ one_where b p) c)
-        (sym (or_false (is_sent_by by.setup p q ts))
+        (sym (or-false (is_sent_by by.setup p q ts))
         ∙ ap (λ (b : Bool). is_sent_by by.setup p q ts || b) (sym (held q))
         ∙ sym (sent_snoc by.setup p q ts t))
         (amid.each q partner c at_q at_c);
@@ -171,7 +112,7 @@ module _ (by : TrackedBy) (before : List PlacedValue) (p : PlacedValue) where
           (subst (λ (n : ℕ). Behind n partner (had n ++ p ∷ []) (advanced c (group_key_of p))) q_is more)))
       by_place q other e at_q at_e false apart =
           let now : is_sent_by by.setup p q (ts ++ t ∷ []) ≡ is_sent_by by.setup p q ts = sent_snoc by.setup p q ts t
-          ∙ ap (λ (b : Bool). is_sent_by by.setup p q ts || b) (delivery q ∙ apart) ∙ or_false (is_sent_by by.setup p q ts) in
+          ∙ ap (λ (b : Bool). is_sent_by by.setup p q ts || b) (delivery q ∙ apart) ∙ or-false (is_sent_by by.setup p q ts) in
           let old : slice_get cs q ≡ Some e =
           sym (ap (λ (es : List CursorValue). slice_get es q) set
           ∙ set_there cs t q (advanced c (group_key_of p)) (λ e. true≢false (sym (eq-eqb t q e) ∙ apart))) ∙ at_e in
@@ -208,52 +149,27 @@ module _ (by : TrackedBy) (before : List PlacedValue) (p : PlacedValue) where
       → AreBehind by (before ++ p ∷ []) cs
   behind_other cs none behind = behind_all [] cs none (amid_none cs behind)
 
-pub not_delivered : (setup : SetupValue) (p : PlacedValue) → is_deliverable p ≡ false → (q : ℕ) → is_delivered_to setup q p ≡ false
-not_delivered setup p is q =
-    ap (λ (b : Bool). list_any (is_delivery_to q) (cond b (outcomes_on setup p (route_of setup (element_of p.group.header 3))) [])) is
-
 pub routed : (setup : SetupValue) (p : PlacedValue) (route : List ℕ) → is_deliverable p ≡ true
     → route ≡ route_of setup (element_of p.group.header 3) → outcomes setup p ≡ outcomes_on setup p route
 routed setup p route is same =
     ap (λ (b : Bool). cond b (outcomes_on setup p (route_of setup (element_of p.group.header 3))) []) is
     ∙ ap (outcomes_on setup p) (sym same)
 
-by_route : (setup : SetupValue) (q : ℕ) (p : PlacedValue) (route : List ℕ)
-    → list_any (is_delivery_to q) (outcomes_on setup p route) ≡ is_sent_by setup p q route
-by_route setup q p [] = refl
-by_route setup q p (t ∷ ts) = refl
-
 pub sent_by_route : (setup : SetupValue) (p : PlacedValue) (route : List ℕ) → is_deliverable p ≡ true
     → route ≡ route_of setup (element_of p.group.header 3) → (q : ℕ) → is_delivered_to setup q p ≡ is_sent_by setup p q route
-sent_by_route setup p route is same q = ap (list_any (is_delivery_to q)) (routed setup p route is same) ∙ by_route setup q p route
+sent_by_route setup p route is same q = ap (list_any (is_delivery_to q)) (routed setup p route is same) ∙ sym (by_route setup q p route)
 
 -- no set of a refused interchange is delivered
-and_false : (b : Bool) → (b && false) ≡ false
-and_false true = refl
-and_false false = refl
-
-refused_stays : (p : PlacedValue) → is_refused p.interchange ≡ true → is_deliverable p ≡ false
-refused_stays p is =
-    ap (λ (b : Bool). is_not_rejected (verdict_by_standing p) && p.standing.clear && not (is_fa p.group) && not b) is
-    ∙ and_false (is_not_rejected (verdict_by_standing p) && p.standing.clear && not (is_fa p.group))
-
-module _ (setup : SetupValue) (q : ℕ) (x : JudgedValue) (refused : is_refused x ≡ true) where
-  sets_stay : (g : GroupEntry) (standing : GroupStanding) (n : ℕ) (sets : List SetEnvelope)
-      → delivered_of setup q (sets_from x g standing n sets) ≡ []
-  sets_stay g standing n [] = refl
-  sets_stay g standing n (set ∷ sets) =
-      let p : PlacedValue = record { interchange = x; group = g; standing = standing; index = n; set = set } in
-      let more : List PlacedValue = delivered_of setup q (sets_from x g standing (n + 1) sets) in
-      ap (λ (b : Bool). cond b (p ∷ more) more) (not_delivered setup p (refused_stays p refused) q)
-      ∙ sets_stay g standing (n + 1) sets
-
-  groups_stay : (n : ℕ) (groups : List GroupEntry) → delivered_of setup q (sets_of_groups_from x n groups) ≡ []
-  groups_stay n [] = refl
-  groups_stay n (g ∷ groups) =
-      filter-append (is_delivered_to setup q) (sets_from x g (standing_at x.standings n) 0 g.sets) (sets_of_groups_from x (n + 1) groups)
-      ∙ ap (λ (ps : List PlacedValue). ps ++ delivered_of setup q (sets_of_groups_from x (n + 1) groups))
-      (sets_stay g (standing_at x.standings n) 0 g.sets)
-      ∙ groups_stay (n + 1) groups
+pub groups_stay : (setup : SetupValue) (q : ℕ) (x : JudgedValue) → is_refused x ≡ true → (n : ℕ) (groups : List GroupEntry)
+    → delivered_of setup q (sets_of_groups_from x n groups) ≡ []
+groups_stay setup q x refused n [] = refl
+groups_stay setup q x refused n (g ∷ groups) =
+    let standing : GroupStanding = standing_at x.standings n in
+    filter-append (is_delivered_to setup q) (sets_from x g standing 0 g.sets) (sets_of_groups_from x (n + 1) groups)
+    ∙ ap (λ (ps : List PlacedValue). ps ++ delivered_of setup q (sets_of_groups_from x (n + 1) groups))
+    (nothing_leaves setup q x g standing 0 g.sets
+    (ap (λ (b : Bool). standing.clear && not (is_fa g) && not b) refused ∙ and-false (standing.clear && not (is_fa g))))
+    ∙ groups_stay setup q x refused (n + 1) groups
 
 pub behind_refused : (by : TrackedBy) (before : List PlacedValue) (x : JudgedValue) (cs : List CursorValue) → is_refused x ≡ true
     → AreBehind by before cs → AreBehind by (before ++ sets_of x) cs
@@ -269,7 +185,7 @@ behind_refused by before x cs refused behind = record {
 }
 
 -- no target stands twice
-apart_from : (xs : List ℕ) (j t : ℕ) → ((i : ℕ) → i < j → i < length xs → get_or xs i t ≢ t)
+pub apart_from : (xs : List ℕ) (j t : ℕ) → ((i : ℕ) → i < j → i < length xs → get_or xs i t ≢ t)
     → list_any (λ (s : ℕ). s == t) (take j xs) ≡ false
 apart_from xs zero t none = refl
 apart_from [] (suc j) t none = refl
@@ -312,7 +228,7 @@ other_rows by line p end a b cs is told text before behind = (
   text ∙ ap (λ (e : List (List ℕ)). a ++ row_text line e) told
       ∙ ap (λ (t : List ℕ). a ++ t) (sym (append-nil (row_text line (other_end p))))
       ∙ ap (λ (es : List (List (List ℕ))). a ++ flat_map (row_text line) es) (sym (ends_other by before p is)),
-  behind_other by before p cs (not_delivered by.setup p is) behind,
+  behind_other by before p cs (λ q. not_delivered by.setup q p is) behind,
 )
 
 -- one row of a set that has no route

@@ -1,8 +1,9 @@
 -- The rows of a night, with a target, a set, a group and an interchange more.
-use Rattle.std.proofs.Common.{◌≡◌, ◌<◌, ℕ, zero, suc, ◌+◌, Bool, true, false, ◌||◌, List, [], ◌∷◌, ◌++◌}
+use Rattle.std.proofs.Common.{◌≡◌, ℕ, ◌+◌, List, [], ◌∷◌, ◌++◌}
 use Rattle.std.proofs.Common.{Some, length, take, map, refl, sym, ap, subst, ◌∙◌, arith, append_assoc, append-nil}
 use Rattle.std.specs.Prelude.{decimal, slice_get, slice_index_or}
 use Rattle.std.specs.List.{flat_map}
+use Rattle.std.proofs.lemmas.List.{length-take-le}
 use Rattle.std.proofs.lemmas.List.Concat.{flat_map-append}
 use Rattle.std.proofs.lemmas.Option.{slice_get_within}
 use Rattle.env_index.specs.declared.entry.SetEnvelope.{SetEnvelope}
@@ -10,7 +11,7 @@ use Rattle.env_index.specs.Words.{GroupEntry}
 use Rattle.partner_setup.specs.Setup.{SetupValue}
 use Rattle.judged_text.specs.declared.standing.GroupStanding.{GroupStanding}
 use Rattle.judged_text.specs.Judged.{JudgedValue, PlacedValue, all_sets, sets_of_groups_from, sets_from, sets_of}
-use Rattle.mailbox.proofs.ForAbove.{take_one_more}
+use Rattle.mailbox.proofs.ForAbove.{groups_snoc, sets_snoc, take_one_more}
 use Rattle.track_notes.specs.declared.notes.GroupNotes.{GroupNotes}
 use Rattle.track_notes.specs.declared.notes.Notes.{Notes}
 use Rattle.x12_bytes.specs.Header.{field_of}
@@ -20,14 +21,6 @@ use Rattle.csv_fields.specs.Csv.{cells_text, fields_text, field_text, record_tex
 use Rattle.track_rows.specs.Rows.{TrackedBy, ends_of, groups_rows, interchange_rows, notes_at, rows_from, set_rows, sets_at}
 use Rattle.track_rows.specs.Rows.{sets_rows}
 use Rattle.track_rows.specs.Walking.{AreBehind, CursorValue, HasRows, row_text, set_text, sets_text}
-
-or_false : (a : Bool) → (a || false) ≡ a
-or_false true = refl
-or_false false = refl
-
-or_assoc : (a b c : Bool) → (a || (b || c)) ≡ ((a || b) || c)
-or_assoc true b c = refl
-or_assoc false b c = refl
 
 -- one text after another, and the sets whose rows they are
 pub rows_then : (by : TrackedBy) (f g : List PlacedValue → List ℕ) (ps qs : List PlacedValue) (a b c : List ℕ) (cs ds es : List CursorValue)
@@ -66,36 +59,6 @@ sets_text_snoc by head notes before (q ∷ ps) p =
     ∙ sym (append_assoc (set_text by head notes before q) (sets_text by head notes (before ++ q ∷ []) ps)
     (set_text by head notes (before ++ q ∷ ps) p))
 
-sets_snoc : (x : JudgedValue) (g : GroupEntry) (standing : GroupStanding) (n m : ℕ) (sets : List SetEnvelope) (set : SetEnvelope)
-    → n + length sets ≡ m → sets_from x g standing n (sets ++ set ∷ [])
-    ≡ sets_from x g standing n sets ++ (record { interchange = x; group = g; standing = standing; index = m; set = set }) ∷ []
-sets_snoc x g standing n m [] set is = ap (λ (k : ℕ). let p : PlacedValue = record {
-  interchange = x;
-  group = g;
-  standing = standing;
-  index = k;
-  set = set;
-} in p ∷ []) (omega (arith, is))
-sets_snoc x g standing n m (s ∷ sets) set is = ap (λ (ps : List PlacedValue). let p : PlacedValue = record {
-  interchange = x;
-  group = g;
-  standing = standing;
-  index = n;
-  set = s;
-} in p ∷ ps) (sets_snoc x g standing (n + 1) m sets set (omega (arith, is)))
-
-groups_snoc : (x : JudgedValue) (n m : ℕ) (groups : List GroupEntry) (g : GroupEntry) → n + length groups ≡ m
-    → sets_of_groups_from x n (groups ++ g ∷ []) ≡ sets_of_groups_from x n groups ++ sets_at x m g
-groups_snoc x n m [] g is = append-nil _ ∙ ap (λ (k : ℕ). sets_at x k g) (omega (arith, is))
-groups_snoc x n m (h ∷ groups) g is =
-    ap (λ (ps : List PlacedValue). sets_at x n h ++ ps) (groups_snoc x (n + 1) m groups g (omega (arith, is)))
-    ∙ sym (append_assoc (sets_at x n h) (sets_of_groups_from x (n + 1) groups) (sets_at x m g))
-
-length_take : {A : Type 0} (xs : List A) (i : ℕ) → i < length xs → length (take i xs) ≡ i
-length_take [] i within = absurd (omega (arith, within))
-length_take (x ∷ xs) zero within = refl
-length_take (x ∷ xs) (suc i) within = ap suc (length_take xs i (omega (arith, within)))
-
 -- one set more of a group
 pub set_rows_more : (by : TrackedBy) (head : List ℕ) (notes : GroupNotes) (x : JudgedValue) (g : GroupEntry) (standing : GroupStanding)
     (i : ℕ) (set : SetEnvelope) (p : PlacedValue) (a b c : List ℕ) (cs ds es : List CursorValue)
@@ -109,7 +72,8 @@ set_rows_more by head notes x g standing i set p a b c cs ds es there is before 
     let ps : List PlacedValue = sets_from x g standing 0 (take i g.sets) in
     let all : ps ++ p ∷ [] ≡ sets_from x g standing 0 (take (i + 1) g.sets) =
     ap (λ (q : PlacedValue). ps ++ q ∷ []) is
-    ∙ sym (sets_snoc x g standing 0 i (take i g.sets) set (omega (arith, length_take g.sets i (slice_get_within g.sets i set there))))
+    ∙ sym (sets_snoc x g standing 0 i (take i g.sets) set
+    (omega (arith, length-take-le i g.sets (omega (arith, slice_get_within g.sets i set there)))))
     ∙ ap (sets_from x g standing 0) (sym (take_one_more g.sets i set there)) in
     rows_as by _ _ _ _ a c cs es
     (λ bs. sym (sets_text_snoc by head notes bs ps p) ∙ ap (sets_text by head notes bs) all) all
@@ -145,7 +109,7 @@ pub group_rows_more : (by : TrackedBy) (n : ℕ) (x : JudgedValue) (notes : List
 group_rows_more by n x notes i g a b c cs ds es there before next =
     let groups : List GroupEntry = x.interchange.content.groups in
     let front : List GroupEntry = take i groups in
-    let long : 0 + length front ≡ i = omega (arith, length_take groups i (slice_get_within groups i g there)) in
+    let long : 0 + length front ≡ i = omega (arith, length-take-le i groups (omega (arith, slice_get_within groups i g there))) in
     let more : front ++ g ∷ [] ≡ take (i + 1) groups = sym (take_one_more groups i g there) in
     rows_as by _ _ _ _ a c cs es
     (λ bs. sym (flat_map-append record_text (groups_rows by n bs x notes 0 front)
@@ -182,8 +146,8 @@ pub interchange_rows_more : (by : TrackedBy) (xs : List JudgedValue) (ms : List 
 interchange_rows_more by xs ms i n x m first a b cs ds at_x at_m number text behind rows =
     let front = take i xs in
     let kept = take i ms in
-    let long : length front ≡ i = length_take xs i (slice_get_within xs i x at_x) in
-    let wide : length kept ≡ i = length_take ms i (slice_get_within ms i m at_m) in
+    let long : length front ≡ i = length-take-le i xs (omega (arith, slice_get_within xs i x at_x)) in
+    let wide : length kept ≡ i = length-take-le i ms (omega (arith, slice_get_within ms i m at_m)) in
     let one = rows (all_sets front) behind in
     let row = interchange_rows by n (all_sets front) x m in
     let all : all_sets front ++ sets_of x ≡ all_sets (take (i + 1) xs) =

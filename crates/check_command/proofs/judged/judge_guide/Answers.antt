@@ -1,6 +1,7 @@
 use Rattle.std.proofs.Common.{ℕ, List, subst}
 use Rattle.check_command.specs.SetupFiles.{IsSaidOf}
-use Rattle.check_command.proofs.Reading.{guide_is, guide_refused}
+use Rattle.guide_toml.proofs.ForAbove.{guide_is}
+use Rattle.check_command.proofs.Reading.{guide_refused}
 use Rattle.check_command.proofs.judged.judge_guide.Goals as goal
 
 pub returns-in-Ok : goal.returns-in-Ok

@@ -2,7 +2,8 @@ use Rattle.std.proofs.Common.{ℕ, List, subst}
 use Rattle.partner_setup.specs.SetupFile.{setup_of_table}
 use Rattle.key_words.specs.KeySentences.{setup_key_words}
 use Rattle.check_command.specs.SetupFiles.{IsFileSaid}
-use Rattle.check_command.proofs.Reading.{rows_are, rows_refused}
+use Rattle.guide_toml.proofs.ForAbove.{rows_are}
+use Rattle.check_command.proofs.Reading.{rows_refused}
 use Rattle.check_command.proofs.judged.judge_rows.Goals as goal
 
 pub returns-in-Ok : goal.returns-in-Ok

@@ -1,4 +1,4 @@
-use Rattle.std.proofs.Common.{◌≡◌, ◌<◌, ℕ, List, Some, length, sym, ap, ◌∙◌, arith}
+use Rattle.std.proofs.Common.{◌≡◌, ◌<◌, ℕ, List, length, sym, ap, ◌∙◌, arith}
 use Rattle.std.specs.Prelude.{slice_get}
 use Rattle.x12_segs.specs.Words.{SegValue, element_of}
 use Rattle.env_index.specs.Words.{InterchangeEntry, GroupEntry}
@@ -6,20 +6,14 @@ use Rattle.partner_setup.specs.Setup.{route_of}
 use Rattle.mailbox.specs.Delivering.{may_leave}
 use Rattle.judged_text.specs.Judged.{PlacedValue, standing_at}
 use Rattle.mailbox.proofs.Growing.{set_taken, taken_stayed}
-use Rattle.mailbox.proofs.Replacing.{there_is}
+use Rattle.mailbox.proofs.Replacing.{same_at, there_is}
 use Rattle.mailbox.proofs.delivering.deliver_group.Goals as goal
-
-same_group : (groups found : List GroupEntry) (n : ℕ) (g h : GroupEntry) → found ≡ groups → slice_get found n ≡ Some g
-    → slice_get groups n ≡ Some h → g ≡ h
-same_group groups found n g h same at_g at_h =
-    let some : Some g ≡ Some h = sym at_g ∙ ap (λ (gs : List GroupEntry). slice_get gs n) same ∙ at_h in
-    cc
 
 pub returns-then-not-may_leave : goal.returns-then-not-may_leave
 returns-then-not-may_leave c g there =
     let x = c.args.judged.now in
     let standing = standing_at x.standings c.args.number in
-    let same : c.group-group.result ≡ g = same_group _ _ _ _ _
+    let same : c.group-group.result ≡ g = same_at _ _ _ _ _
     (ap (λ (i : InterchangeEntry). i.content.groups) c.interchange-interchange.ensures.value) c.group-group.ensures there in
     taken_stayed c.args.setup.now x g standing c.args.lists.now
     (ap (may_leave x standing) (sym same) ∙ sym c.may_leave.ensures ∙ c.if-not-may_leave.true)
@@ -50,7 +44,7 @@ deliver_set-requires-clause-route c =
 pub loop-set-preserved : goal.loop-set-preserved
 loop-set-preserved c g there =
     let x = c.args.judged.now in
-    let same : c.group-group.result ≡ g = same_group _ _ _ _ _
+    let same : c.group-group.result ≡ g = same_at _ _ _ _ _
     (ap (λ (i : InterchangeEntry). i.content.groups) c.interchange-interchange.ensures.value) c.group-group.ensures there in
     let count : length c.group-group.result.sets ≡ length g.sets = ap (λ (h : GroupEntry). length h.sets) same in
     let within : c.loop-set.set < length g.sets = omega (arith, c.loop-set-test.true, c.set_count-set-end.ensures, count) in

@@ -1,5 +1,6 @@
 use Rattle.partner_setup.specs.CountersFile.{counters_of_table}
-use Rattle.night_command.proofs.SettingUp.{counters_fail, rows_are}
+use Rattle.guide_toml.proofs.ForAbove.{rows_are}
+use Rattle.night_command.proofs.SettingUp.{counters_fail}
 use Rattle.night_command.proofs.setup.counter_rows_of.Goals as goal
 
 pub returns-in-Ok-clause-rows : goal.returns-in-Ok-clause-rows

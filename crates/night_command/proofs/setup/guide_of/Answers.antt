@@ -1,4 +1,5 @@
-use Rattle.night_command.proofs.SettingUp.{guide_fails, guide_is}
+use Rattle.guide_toml.proofs.ForAbove.{guide_is}
+use Rattle.night_command.proofs.SettingUp.{guide_fails}
 use Rattle.night_command.proofs.setup.guide_of.Goals as goal
 
 pub returns-in-Ok-clause-guide : goal.returns-in-Ok-clause-guide

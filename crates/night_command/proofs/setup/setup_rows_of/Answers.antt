@@ -1,5 +1,6 @@
 use Rattle.partner_setup.specs.SetupFile.{setup_of_table}
-use Rattle.night_command.proofs.SettingUp.{rows_are, setup_file_fails}
+use Rattle.guide_toml.proofs.ForAbove.{rows_are}
+use Rattle.night_command.proofs.SettingUp.{setup_file_fails}
 use Rattle.night_command.proofs.setup.setup_rows_of.Goals as goal
 
 pub returns-in-Ok-clause-rows : goal.returns-in-Ok-clause-rows

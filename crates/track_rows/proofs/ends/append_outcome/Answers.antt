@@ -6,7 +6,8 @@ use Rattle.mailbox.specs.Deliveries.{is_delivery_to, outcome_at}
 use Rattle.csv_fields.specs.Csv.{fields_text}
 use Rattle.partner_setup.specs.Setup.{SetupValue}
 use Rattle.track_rows.specs.Rows.{TrackedBy, outcome_cells}
-use Rattle.track_rows.proofs.Targets.{amid_held, delivered_here, held_here}
+use Rattle.mailbox.proofs.ForAbove.{delivered_here}
+use Rattle.track_rows.proofs.Targets.{amid_held, held_here}
 use Rattle.track_rows.proofs.ends.append_outcome.Goals as goal
 
 pub returns-in-DeliveredTo-clause-row : goal.returns-in-DeliveredTo-clause-row

@@ -1,22 +1,16 @@
-use Rattle.std.proofs.Common.{◌≡◌, ℕ, List, ◌++◌, Some, refl, sym, ap, ◌∙◌}
-use Rattle.std.specs.Prelude.{slice_get}
+use Rattle.std.proofs.Common.{◌≡◌, ℕ, List, ◌++◌, refl, ap, ◌∙◌}
 use Rattle.std.proofs.lemmas.Result.{on_ok_weaker}
 use Rattle.env_index.specs.Words.{InterchangeEntry, GroupEntry}
 use Rattle.hub_kinds.specs.declared.set_codes.GroupVerdict.{GroupVerdict}
 use Rattle.judged_text.specs.Judged.{standing_at}
 use Rattle.judged_text.specs.declared.standing.GroupStanding.{GroupStanding}
 use Rattle.csv_fields.specs.Csv.{cells_text}
+use Rattle.mailbox.proofs.ForAbove.{same_at}
 use Rattle.track_rows.specs.Cells.{group_cells, interchange_cells}
 use Rattle.track_rows.specs.Rows.{sets_at}
 use Rattle.track_rows.specs.Walking.{sets_text}
 use Rattle.track_rows.proofs.Walks.{head_text, rows_as, sets_are_rows}
 use Rattle.track_rows.proofs.rows.append_group_rows.Goals as goal
-
-same_group : (groups found : List GroupEntry) (n : ℕ) (g h : GroupEntry) → found ≡ groups → slice_get found n ≡ Some g
-    → slice_get groups n ≡ Some h → g ≡ h
-same_group groups found n g h same at_g at_h =
-    let some : Some g ≡ Some h = sym at_g ∙ ap (λ (gs : List GroupEntry). slice_get gs n) same ∙ at_h in
-    cc
 
 pub returns-clause-rows : goal.returns-clause-rows
 returns-clause-rows c =
@@ -26,7 +20,7 @@ returns-clause-rows c =
     let notes = c.args.notes.now in
     on_ok_weaker c.append_sets.result
     (λ made g there.
-    let same : c.group-group.result ≡ g = same_group _ _ _ _ _
+    let same : c.group-group.result ≡ g = same_at _ _ _ _ _
     (ap (λ (i : InterchangeEntry). i.content.groups) c.interchange.ensures.value) c.group-group.ensures there in
     let verdict = c.verdict_at-verdict.ensures
     ∙ ap (λ (ss : List GroupStanding). (standing_at ss k).verdict) c.standings.ensures in

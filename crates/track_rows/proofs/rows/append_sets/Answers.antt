@@ -1,4 +1,4 @@
-use Rattle.std.proofs.Common.{◌≡◌, ◌<◌, ℕ, List, Some, length, take, refl, sym, ap, subst, ◌∙◌, arith}
+use Rattle.std.proofs.Common.{◌≡◌, ◌<◌, ℕ, List, length, take, refl, sym, ap, subst, ◌∙◌, arith}
 use Rattle.std.specs.Prelude.{slice_get}
 use Rattle.std.proofs.lemmas.List.{take_all}
 use Rattle.x12_segs.specs.Words.{SegValue, element_of}
@@ -7,17 +7,11 @@ use Rattle.env_index.specs.declared.entry.SetEnvelope.{SetEnvelope}
 use Rattle.partner_setup.specs.Setup.{route_of}
 use Rattle.partner_setup.specs.Sound.{AreWithin}
 use Rattle.judged_text.specs.Judged.{PlacedValue, sets_from, standing_at}
-use Rattle.mailbox.proofs.ForAbove.{there_is}
+use Rattle.mailbox.proofs.ForAbove.{same_at, there_is}
 use Rattle.track_rows.specs.Rows.{TrackedBy}
 use Rattle.track_rows.specs.Walking.{sets_text}
 use Rattle.track_rows.proofs.Walks.{rows_as, rows_none, set_rows_more}
 use Rattle.track_rows.proofs.rows.append_sets.Goals as goal
-
-same_group : (groups found : List GroupEntry) (n : ℕ) (g h : GroupEntry) → found ≡ groups → slice_get found n ≡ Some g
-    → slice_get groups n ≡ Some h → g ≡ h
-same_group groups found n g h same at_g at_h =
-    let some : Some g ≡ Some h = sym at_g ∙ ap (λ (gs : List GroupEntry). slice_get gs n) same ∙ at_h in
-    cc
 
 pub loop-s-init : goal.loop-s-init
 loop-s-init c = record {
@@ -49,7 +43,7 @@ loop-s-preserved c = record {
   count = c.in_ok-append_set_rows.ensures.count ∙ c.loop-s.invariant.count;
   rows = λ g there.
       let x = c.args.judged.now in
-      let same : c.group-group.result ≡ g = same_group _ _ _ _ _
+      let same : c.group-group.result ≡ g = same_at _ _ _ _ _
       (ap (λ (i : InterchangeEntry). i.content.groups) c.interchange.ensures.value) c.group-group.ensures there in
       let count : length c.group-group.result.sets ≡ length g.sets = ap (λ (h : GroupEntry). length h.sets) same in
       let within : c.loop-s.s < length g.sets = omega (arith, c.loop-s-test.true, c.set_count-s-end.ensures, count) in
@@ -62,7 +56,7 @@ loop-s-preserved c = record {
 pub returns-clause-rows : goal.returns-clause-rows
 returns-clause-rows c g there =
     let x = c.args.judged.now in
-    let same : c.group-group.result ≡ g = same_group _ _ _ _ _
+    let same : c.group-group.result ≡ g = same_at _ _ _ _ _
     (ap (λ (i : InterchangeEntry). i.content.groups) c.interchange.ensures.value) c.group-group.ensures there in
     let count : length c.group-group.result.sets ≡ length g.sets = ap (λ (h : GroupEntry). length h.sets) same in
     let all : take c.loop-s.s g.sets ≡ g.sets =
