@@ -186,7 +186,7 @@ unfolding element_in
 element_in_has head later x e =
     of_step _ (next_token head) x e (λ (r : List ℕ × Tokens) is_r e1. of_step _ (reference_of r.0) x e1 (λ reference is_reference e2.
     of_step _ (next_token r.1) x e2 (λ (u : List ℕ × Tokens) is_u e3.
-    element_by (bytes_eq u.0 (codes "N")) reference u.0 u.1 number_after x e3 (has_reference r.0 reference is_reference))))
+    element_by (bytes_eq u.0 (codes "N")) reference u.0 u.1 later x e3 (has_reference r.0 reference is_reference))))
 
 each_has : (ds : Items) (xs : List Element) → each_item (text_item element_of_text) ds ≡ Some xs → All HasReferences xs
 each_has no_items xs e = none_of_any HasReferences xs e

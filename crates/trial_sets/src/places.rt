@@ -1,5 +1,5 @@
 //! The places of an order's segments by the compiled guide of orders.
-use super::guides::{DELIMS, guide_of};
+use super::compiled::{DELIMS, guide_of};
 use guide_fast::{FastGuide, place_all_fast};
 use hub_kinds::{Fault, SegmentCode};
 use std::alloc::Global;

@@ -2,7 +2,7 @@
 ghost use Rattle.std.specs.Prelude.{◌<◌};
 ghost use Rattle.std.specs.List.{AllByRecursion};
 
-use super::guides::{DELIMS, guide_of};
+use super::compiled::{DELIMS, guide_of};
 use guide_fast::{FastGuide, Turn};
 use loop_match::Step;
 use std::test::Fail;
