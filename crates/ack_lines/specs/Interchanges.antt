@@ -36,7 +36,7 @@ note_words note.NotRefused = codes "the interchange isn't refused"
 note_words note.ControlNumbersDiffer = codes "IEA02 isn't the number of ISA13"
 note_words note.GroupCountWrong = codes "IEA01 isn't the number of groups"
 note_words note.SegmentMisplaced = codes "a segment is out of place"
-note_words note.TrailerMissing = codes "no IEA: it was cut off"
+note_words note.TrailerMissing = codes "no IEA: it was truncated"
 note_words note.HeaderInvalid = codes "a bad GS or ST"
 note_words note.Duplicate = codes "an earlier interchange of the night has its number"
 

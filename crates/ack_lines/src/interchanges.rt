@@ -108,7 +108,7 @@ impl Worded for NoteCode {
             NoteCode::ControlNumbersDiffer => "IEA02 isn't the number of ISA13",
             NoteCode::GroupCountWrong => "IEA01 isn't the number of groups",
             NoteCode::SegmentMisplaced => "a segment is out of place",
-            NoteCode::TrailerMissing => "no IEA: it was cut off",
+            NoteCode::TrailerMissing => "no IEA: it was truncated",
             NoteCode::HeaderInvalid => "a bad GS or ST",
             NoteCode::Duplicate => "an earlier interchange of the night has its number",
         }

@@ -2,5 +2,6 @@ pub mod Behind
 pub mod CommandLine
 pub mod Counting
 pub mod Reading
+pub mod GivenBytes
 pub mod Telling
 pub mod WarningLines

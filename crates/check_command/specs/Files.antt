@@ -1,5 +1,7 @@
--- The check (own): the paths of the files that are given, the guides in their order, then the setup, then the counters.
-use Rattle.std.specs.Prelude.{ℕ, List, [], ◌∷◌, ◌++◌, map, Option, Some, None, option_map}
+-- The check (own): the files that are given, the guides in their order, then the setup, then the counters; and the bytes of each.
+use Rattle.std.specs.Prelude.{◌≡◌, ◌≢◌, ⊤, ℕ, List, [], ◌∷◌, ◌++◌, map, Option, Some, None, option_map, Result, Ok, IsErr, IfSome}
+use Rattle.std.specs.declared.io.ErrorKind.{ErrorKind}
+use Rattle.std.specs.declared.io.ErrorKind.TheVariants.{OutOfMemory}
 use Rattle.check_command.specs.declared.command.Options.{Options}
 use Rattle.check_command.specs.declared.files.Given.{Given}
 use Rattle.check_command.specs.declared.files.GivenFiles.{GivenFiles}
@@ -25,3 +27,13 @@ paths_in options =
 -- the paths of what is reported
 abbrev pub paths_told : List FileTold → List (List ℕ)
 paths_told told = map (λ (f : FileTold). f.path.now) told
+
+-- the bytes that are judged are all that the opened file declared, if it declares them; a file that can't be read has none
+abbrev pub AreBytesOf : (declared bytes : Option (List ℕ)) → Type 0
+AreBytesOf declared None = ⊤
+AreBytesOf declared (Some bytes) = IfSome declared (λ all. bytes ≡ all)
+
+-- an error of this kind is out of memory, or leaves a file without bytes
+pub record IsMissing {A E : Type 0} (kind : ErrorKind) (result : Result (Option A) E) : Type 0 where
+  pub memory : kind ≡ OutOfMemory → IsErr result
+  pub other_fault : kind ≢ OutOfMemory → result ≡ Ok None

@@ -4,6 +4,7 @@ use Rattle.std.specs.Prelude.{slice_get, Option, None, Some, if◌then◌else◌
 use Rattle.std.specs.List.{list_all}
 use Rattle.std.specs.Option.{option_map_or}
 use Rattle.std.specs.Str.{bytes_eq}
+use Rattle.file_names.specs.Shown.{shown}
 use Rattle.check_command.specs.declared.told.FileTold.{FileTold}
 use Rattle.check_command.specs.declared.told.Listed.{Listed}
 use Rattle.check_command.specs.declared.told.Listed.TheVariants as listed
@@ -21,15 +22,15 @@ taken_text count what = codes "ok, " ++ (decimal count ++ noun_of what)
 abbrev pub told_text : Told → List ℕ
 told_text (told.Taken count what warnings) = taken_text count what
 told_text told.Open = codes "read, and not judged, since another file is refused"
-told_text (told.Refused text) = text
+told_text (told.Refused text) = shown text
 
--- `F: ` and what is reported of it
+-- `F: ` and what is reported of it; bytes that control a terminal are escaped in each path and text
 abbrev pub line_of : FileTold → List ℕ
-line_of f = f.path.now ++ (codes ": " ++ (told_text f.told ++ codes "\n"))
+line_of f = shown f.path.now ++ (codes ": " ++ (told_text f.told ++ codes "\n"))
 
 -- `F: warning: ` and what it says
 abbrev pub warning_line : (path text : List ℕ) → List ℕ
-warning_line path text = path ++ (codes ": warning: " ++ (text ++ codes "\n"))
+warning_line path text = shown path ++ (codes ": warning: " ++ (shown text ++ codes "\n"))
 
 abbrev pub warning_lines : (path : List ℕ) → List (List ℕ) → List ℕ
 warning_lines path [] = []
@@ -63,7 +64,7 @@ is_empty (s ∷ ss) = false
 
 -- where all is asked for: a line for each thing that is said
 abbrev pub said_line : (path text : List ℕ) → List ℕ
-said_line path text = path ++ (codes ": " ++ (text ++ codes "\n"))
+said_line path text = shown path ++ (codes ": " ++ (shown text ++ codes "\n"))
 
 abbrev pub said_lines : (path : List ℕ) → List (List ℕ) → List ℕ
 said_lines path [] = []

@@ -5,6 +5,7 @@ ghost use Rattle.check_command.specs.Lines as lines;
 
 use crate::lines::{append_line, append_lines, are_taken};
 use crate::told::{FileTold, Told};
+use file_names::append_shown;
 use hub_kinds::{NoMemory, Text, Texts};
 use refusal_words::append;
 use std::alloc::Global;
@@ -12,9 +13,9 @@ use std::alloc::Global;
 fn append_said(out: &mut Vec<u8>, path: &[u8], text: &[u8]) -> Result<(), NoMemory>
     ensures { OnOk result (out.new.items ≡ out.old.items ++ lines.said_line path.now text.now) }
 {
-    append(out, path)?;
+    append_shown(out, path)?;
     append(out, b": ")?;
-    append(out, text)?;
+    append_shown(out, text)?;
     append(out, b"\n")
 }
 

@@ -1,24 +1,28 @@
-ghost use Rattle.std.specs.Prelude.{◌≡◌, ◌≢◌, codes, false, map, option_map, IfOk, IfErr, IsErrOf};
+ghost use Rattle.std.specs.Prelude.{◌≡◌, ◌≢◌, codes, false, map, option_map, IfOk, IfErr};
 ghost use Rattle.clap.specs.Words.{app_of, first_value, found_of, kind_of, rule_of};
 ghost use Rattle.night_ends.specs.Words.{values_found};
 ghost use Rattle.check_command.specs.CommandLine.{AreNone, IsAsked, IsCommandLine, IsGiven, IsShown, check_app, files_app, is_all};
 ghost use Rattle.check_command.specs.CommandLine.{option_flag, option_free, option_repeated};
-ghost use Rattle.check_command.specs.Failure.{IsOfWords};
+ghost use Rattle.check_command.specs.Failure.{IsUsage};
 
-use crate::failure::Failure;
+use crate::mistake::Mistake;
 use clap::error::ErrorKind;
 use clap::{Arg, ArgAction, ArgMatches, Command, Error};
-use night_ends::{texts_given, with_argument};
+use hub_kinds::copy_text;
+use night_ends::{RELEASE, mistake_found, texts_given, with_argument};
 use std::alloc::{AllocError, Global};
 use std::convert::AsStr;
 
-/// What stands after the options in the text of `--help`.
+/// What the text of `--help` ends with.
 const STATUSES: &str = "Status:
   0  each file is taken
   2  usage
   3  a file is refused, or can't be read
   5  standard output
-  6  no memory";
+  6  no memory
+
+Example:
+  nighthub_check --setup setup.toml --guide h850.toml --counters counters.toml";
 
 /// The files that are checked, each named by its path.
 #[derive(Debug, Drop)]
@@ -55,10 +59,9 @@ pub enum Asked<'a> {
 }
 
 /// Reads the program's arguments without its name. Arguments that name no file are no command line.
-pub fn read_words<'a, S: AsStr>(alloc: Global, words: &'a [S]) -> Result<Asked<'a>, Failure>
+pub fn read_words<'a, S: AsStr>(alloc: Global, words: &'a [S]) -> Result<Asked<'a>, Mistake>
     ensures asked { IfOk result (IsAsked (map S.text words.now)) }
-    ensures usage { IsErrOf result Failure.Usage → IsCommandLine (map S.text words.now) → ⊥ }
-    ensures err { IfErr result IsOfWords }
+    ensures usage { IfErr result (λ mistake. IsUsage mistake → IsCommandLine (map S.text words.now) → ⊥) }
 {
     let command = command(alloc)?;
     match command.try_get_matches_from(words) {
@@ -80,7 +83,7 @@ fn files_command<'a>(alloc: Global) -> Result<Command<'a>, AllocError>
 {
     let command = Command::new(alloc, "nighthub_check")
         .about("Says what is wrong with the files of a setup")
-        .version("0.1.0")
+        .version(RELEASE)
         .after_help(STATUSES)
         .no_binary_name(true);
     let setup = option(alloc, "setup", "The partners and routes");
@@ -123,10 +126,10 @@ fn repeated<'a>(alloc: Global, name: &'a str, help: &'a str) -> Arg<'a>
     option(alloc, name, help).action(ArgAction::Append)
 }
 
-fn options_given<'a>(alloc: Global, matches: &ArgMatches<'a>) -> Result<Asked<'a>, Failure>
+fn options_given<'a>(alloc: Global, matches: &ArgMatches<'a>) -> Result<Asked<'a>, Mistake>
     ensures given { IfOk result (IsGiven (first_value (found_of matches.now)) (values_found (found_of matches.now))) }
-    ensures usage { IsErrOf result Failure.Usage → AreNone (first_value (found_of matches.now)) (values_found (found_of matches.now)) }
-    ensures err { IfErr result IsOfWords }
+    ensures usage { IfErr result (λ mistake. IsUsage mistake
+        → AreNone (first_value (found_of matches.now)) (values_found (found_of matches.now))) }
 {
     let options = Options {
         setup: matches.get_str("setup"),
@@ -135,7 +138,7 @@ fn options_given<'a>(alloc: Global, matches: &ArgMatches<'a>) -> Result<Asked<'a
         all: is_all(matches.get_str("all")),
     };
     if options.names_none() {
-        return Err(Failure::Usage);
+        return Err(Mistake::Usage(copy_text(alloc, b"no file is named")?));
     }
     Ok(Asked::Check(options))
 }
@@ -151,17 +154,16 @@ fn is_all(value: Option<&str>) -> bool
 }
 
 /// The text that is asked for, where the arguments have no mistake.
-fn shown<'a>(alloc: Global, error: &Error) -> Result<Asked<'a>, Failure>
+fn shown<'a>(alloc: Global, error: &Error) -> Result<Asked<'a>, Mistake>
     ensures shown { IfOk result (IsShown (kind_of error.now)) }
-    ensures usage { IsErrOf result Failure.Usage → kind_of error.now ≢ ErrorKind.OutOfMemory }
-    ensures err { IfErr result IsOfWords }
+    ensures usage { IfErr result (λ mistake. IsUsage mistake → kind_of error.now ≢ ErrorKind.OutOfMemory) }
 {
     match error.kind() {
         ErrorKind::DisplayHelp | ErrorKind::DisplayVersion => {
             let text = format!(in alloc; "{error}")?;
             Ok(Asked::Show(text))
         }
-        ErrorKind::OutOfMemory => Err(Failure::Memory),
-        _ => Err(Failure::Usage),
+        ErrorKind::OutOfMemory => Err(Mistake::Memory),
+        _ => Err(Mistake::Usage(mistake_found(alloc, error)?)),
     }
 }

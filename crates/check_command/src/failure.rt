@@ -3,15 +3,21 @@ ghost use Rattle.std.specs.Io.KnownBytes.{Appends};
 ghost use Rattle.check_command.specs.Failure.{line_of, status_of};
 
 use hub_kinds::NoMemory;
+use night_ends::print_text;
 use std::alloc::AllocError;
 use std::io;
 use std::io::Write;
 
+/// That a failure was reported: the status that the program ends with, and whether the line is printed.
+#[derive(Debug, Drop)]
+pub struct Reported {
+    pub status: u8,
+    pub printed: io::Result<()>,
+}
+
 /// Why a run failed.
 #[derive(Clone, Copy, Debug, PartialEq, Eq)]
 pub enum Failure {
-    /// The arguments are not those of the command line.
-    Usage,
     /// Standard output failed.
     Stdout,
     /// Memory was refused.
@@ -19,28 +25,29 @@ pub enum Failure {
 }
 
 impl Failure {
-    /// Prints the failure's line, as `print` does, and gives the status that the program ends with. A fault of standard error is
-    /// passed over.
-    pub fn report<E: Write>(&self, err: &mut E) -> u8
-        ensures { result ≡ status_of self.now }
+    /// Prints the failure's line, and gives the status that the program ends with, and whether the line is printed. A fault of standard
+    /// error changes no status.
+    pub fn report<E: Write>(&self, err: &mut E) -> Reported
+        ensures status { result.status ≡ status_of self.now }
+        ensures printed { OnOk result.printed (Appends (E.contents err.old) (E.contents err.new) (line_of self.now)) }
     {
-        let _ = self.print(err);
-        let _ = err.flush();
-        self.status()
+        Reported {
+            printed: self.print(err),
+            status: self.status(),
+        }
     }
 
     /// Writes the line that says what failed (own).
     pub fn print<E: Write>(&self, err: &mut E) -> io::Result<()>
         ensures { OnOk result (Appends (E.contents err.old) (E.contents err.new) (line_of self.now)) }
     {
-        err.write_all(self.line())
+        print_text(self.line(), err)
     }
 
     fn line(&self) -> &'static [u8]
         ensures { result.now ≡ line_of self.now }
     {
         match self {
-            Failure::Usage => b"nighthub_check: usage\n",
             Failure::Stdout => b"nighthub_check: output stdout\n",
             Failure::Memory => b"nighthub_check: memory\n",
         }
@@ -50,7 +57,6 @@ impl Failure {
         ensures { result ≡ status_of self.now }
     {
         match self {
-            Failure::Usage => 2,
             Failure::Stdout => 5,
             Failure::Memory => 6,
         }

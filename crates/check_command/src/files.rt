@@ -1,12 +1,14 @@
-ghost use Rattle.std.specs.Prelude.{◌≡◌, IfOk, map, option_map};
+ghost use Rattle.std.specs.Prelude.{◌≡◌, Some, None, Ok, IfErr, IfOk, IfSome, IsErrOf, map, option_map};
+ghost use Rattle.std.specs.IoError.{error_kind};
 ghost use Rattle.check_command.specs.Files as files;
 
 use crate::command::Options;
 use hub_kinds::{Items, NoMemory, Text};
-use night_ends::read_whole;
+use night_ends::{Opened, open_at, read_whole};
 use std::alloc::Global;
+use std::io;
+use std::io::Read;
 use std::rt::Files;
-use std::{fs, io};
 
 /// A file that was given.
 #[derive(Debug, Drop)]
@@ -66,20 +68,45 @@ fn read_some<'a, R: Files + AllocGlobal>(
     }
 }
 
+/// Reads the file at `path`.
 fn read_file<'a, R: Files + AllocGlobal>(rt: &R, path: &'a str) -> Result<Given<'a>, NoMemory>
     ensures { IfOk result (λ given. files.path_of given ≡ path.entry.now) }
 {
-    let bytes = bytes_or_none(bytes_at(rt, path))?;
+    given_of(rt.alloc(), path, open_at(rt, path))
+}
+
+/// The file at `path` with its bytes, which `opened` gives.
+fn given_of<'a, I: Read + Drop>(
+    alloc: Global,
+    path: &'a str,
+    opened: Opened<'a, I>,
+) -> Result<Given<'a>, NoMemory>
+    requires { opened.path ≡ path.now }
+    ensures path { IfOk result (λ given. files.path_of given ≡ path.entry.now) }
+    ensures bytes { IfOk opened.entry.answer (λ input. IfOk result (λ given. files.AreBytesOf (I.remaining input) given.bytes)) }
+    ensures closed { IfErr opened.entry.answer (λ _. IfOk result (λ given. given.bytes ≡ None)) }
+{
+    let bytes = bytes_or_none(read_opened(alloc, opened.into_answer()))?;
     Ok(Given { path, bytes })
 }
 
-/// The bytes of a file.
-fn bytes_at<R: Files + AllocGlobal>(rt: &R, path: &str) -> io::Result<Vec<u8>> {
-    read_whole(rt.alloc(), fs::open(rt, path)?)
+/// All bytes of a file that was opened, or the error with which it couldn't be opened or read.
+fn read_opened<I: Read + Drop>(alloc: Global, opened: io::Result<I>) -> io::Result<Vec<u8>>
+    ensures bytes { IfOk opened (λ input. IfOk result (λ text. IfSome (I.remaining input) (λ bytes. text.items ≡ bytes))) }
+    ensures closed { IfErr opened (λ error. IsErrOf result error) }
+{
+    match opened {
+        Ok(input) => read_whole(alloc, input),
+        Err(error) => Err(error),
+    }
 }
 
 /// None for a file that can't be read; out of memory says nothing of the file.
-fn bytes_or_none(read: io::Result<Vec<u8>>) -> Result<Option<Text>, NoMemory> {
+fn bytes_or_none(read: io::Result<Vec<u8>>) -> Result<Option<Text>, NoMemory>
+    ensures bytes { IfOk read (λ bytes. result ≡ Ok (Some bytes.items)) }
+    ensures fault { IfErr read (λ error. files.IsMissing (error_kind error) result) }
+    ensures none { IfErr read (λ _. IfOk result (λ bytes. bytes ≡ None)) }
+{
     match read {
         Ok(bytes) => Ok(Some(Text::from_vec(bytes))),
         Err(error) if error.kind() == io::ErrorKind::OutOfMemory => Err(NoMemory),

@@ -13,12 +13,15 @@
 //!   what stands there is shown;
 //! - where `--all` is given, what is said of each file further is what is wrong with each of its tables, rows and nodes by itself, by the
 //!   definitions, and but for what its line says already; and the status is 0 only where nothing is;
+//! - the bytes that are judged of a file are all that the file that was opened at its path declares; a file that can be read is never
+//!   reported as unreadable, and one that can't never as a file of bytes;
+//! - in each path and text that is printed, bytes that control a terminal are escaped;
 //! - a failed run prints no line of a file, unless standard output itself failed; it ends with 2, 5 or 6; one that doesn't fail leaves
 //!   standard error as it was;
 //! - the arguments are read as clap's definitions say, and are usage only where they are no command line.
 //!
-//! Only tested: that the bytes of the files are those at the paths, that the place in UTF-8 that is no TOML is where its fault is, and that
-//! standard output holds what is printed, of which the system declares nothing.
+//! Only tested: that the system opens the file that it is asked for, that the place in UTF-8 that is no TOML is where its fault is, and
+//! that standard output holds what is printed, of which the system declares nothing.
 //!
 //! Source: own.
 //!
@@ -33,14 +36,16 @@ mod further;
 mod judge;
 mod judged;
 mod lines;
+mod mistake;
 mod run;
 mod told;
 mod warned;
 
 pub use command::{Asked, Options, read_words};
-pub use failure::Failure;
+pub use failure::{Failure, Reported};
 pub use files::{Given, GivenFiles};
 pub use further::said_of_files;
 pub use judge::{SetupTold, judge_setup, tell_files};
+pub use mistake::Mistake;
 pub use run::check_main;
 pub use told::{FileTold, Listed, Told};

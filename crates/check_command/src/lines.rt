@@ -3,6 +3,7 @@ ghost use Rattle.std.specs.List.{list_all};
 ghost use Rattle.check_command.specs.Lines as lines;
 
 use crate::told::{FileTold, Listed, Told};
+use file_names::append_shown;
 use hub_kinds::{NoMemory, Text};
 use refusal_words::{append, append_number};
 use std::alloc::Global;
@@ -31,14 +32,14 @@ fn append_told(out: &mut Vec<u8>, told: &Told) -> Result<(), NoMemory>
     match told {
         Told::Taken(count, what, _) => append_count(out, *count, *what),
         Told::Open => append(out, b"read, and not judged, since another file is refused"),
-        Told::Refused(text) => append(out, text.as_slice()),
+        Told::Refused(text) => append_shown(out, text.as_slice()),
     }
 }
 
 pub(crate) fn append_line(out: &mut Vec<u8>, file: &FileTold<'_>) -> Result<(), NoMemory>
     ensures { OnOk result (out.new.items ≡ out.old.items ++ lines.line_of file.now) }
 {
-    append(out, file.path.as_bytes())?;
+    append_shown(out, file.path.as_bytes())?;
     append(out, b": ")?;
     append_told(out, &file.told)?;
     append(out, b"\n")
@@ -47,9 +48,9 @@ pub(crate) fn append_line(out: &mut Vec<u8>, file: &FileTold<'_>) -> Result<(), 
 fn append_warning_line(out: &mut Vec<u8>, path: &[u8], text: &[u8]) -> Result<(), NoMemory>
     ensures { OnOk result (out.new.items ≡ out.old.items ++ lines.warning_line path.now text.now) }
 {
-    append(out, path)?;
+    append_shown(out, path)?;
     append(out, b": warning: ")?;
-    append(out, text)?;
+    append_shown(out, text)?;
     append(out, b"\n")
 }
 

@@ -45,7 +45,7 @@ where
     match read_words(rt.alloc(), words) {
         Ok(Asked::Check(options)) => check(rt, &options, out, err),
         Ok(Asked::Show(text)) => finish(text.as_bytes(), 0, out, err),
-        Err(mistake) => mistake.report(err),
+        Err(mistake) => mistake.report(err).status,
     }
 }
 
@@ -63,7 +63,7 @@ where
 {
     match report_of(rt, options) {
         Ok(report) => finish(report.text.as_slice(), report.status, out, err),
-        Err(_) => Failure::Memory.report(err),
+        Err(_) => Failure::Memory.report(err).status,
     }
 }
 
@@ -111,7 +111,7 @@ fn finish<O: Write, E: Write>(text: &[u8], status: u8, out: &mut O, err: &mut E)
     ensures quiet { result ≢ 5 → err.new ≡ err.old }
 {
     if print_text(text, out).is_err() {
-        return Failure::Stdout.report(err);
+        return Failure::Stdout.report(err).status;
     }
     status
 }

@@ -1,5 +1,4 @@
 pub mod CommandLine
 pub mod Opened
 pub mod Refusing
-pub mod Ended
 pub mod Telling

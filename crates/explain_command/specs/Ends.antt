@@ -1,15 +1,16 @@
 -- X12.6, segment terminator and transaction set (ST, SE), and the 997 (AK5): whether a text is cut off, and whether it is one that isn't
 -- read (own).
-use Rattle.std.specs.Prelude.{ℕ, ◌==◌, Bool, false, ◌&&◌, ◌||◌, not, List, [], ◌∷◌, codes, Option, None, Some}
+use Rattle.std.specs.Prelude.{ℕ, ◌==◌, Bool, false, ◌&&◌, ◌||◌, not, List, [], ◌∷◌, codes, length, Option, None, Some, slice_index}
 use Rattle.std.specs.Prelude.{if◌then◌else◌}
 use Rattle.std.specs.List.{list_any}
 use Rattle.std.specs.Str.{bytes_eq}
-use Rattle.x12_bytes.specs.Bytes.{is_line_end}
-use Rattle.x12_segs.specs.Words.{id_of, views}
+use Rattle.x12_bytes.specs.Bytes.{is_letter_or_digit, is_line_end}
+use Rattle.x12_segs.specs.Words.{element_of, id_of, views}
 use Rattle.x12_segs.specs.View.{SegValue}
 use Rattle.ack_read.specs.Words.{first_delims}
 use Rattle.explain_command.specs.declared.ends.CutOff.{CutOff}
 use Rattle.explain_command.specs.declared.ends.CutOff.TheVariants as cut
+use Rattle.explain_command.specs.declared.ends.SetId.{SetId}
 
 -- some byte but CR and LF stands after the last terminator; or so it does at the begin, and no terminator follows
 abbrev pub ends_open : (terminator : ℕ) → (is_open : Bool) → List ℕ → Bool
@@ -31,6 +32,27 @@ is_response s = bytes_eq (id_of s) (codes "AK5")
 -- the text has the response to a set that a 997 has, and a 999 doesn't
 abbrev pub is_997 : (text : List ℕ) → Bool
 is_997 text = list_any is_response (views text (first_delims text))
+
+abbrev pub is_set : SegValue → Bool
+is_set s = bytes_eq (id_of s) (codes "ST")
+
+-- the id of a set is three letters or digits other than 999
+abbrev pub is_other : (id : List ℕ) → Bool
+is_other id =
+    (length id == 3) && (is_letter_or_digit (slice_index id 0) && (is_letter_or_digit (slice_index id 1)
+    && (is_letter_or_digit (slice_index id 2) && not (bytes_eq id (codes "999")))))
+
+abbrev pub other_id : (id : List ℕ) → Option SetId
+other_id id =
+    if is_other id then Some (record { first = slice_index id 0; second = slice_index id 1; third = slice_index id 2 }) else None
+
+-- the id of the first set, if that is no acknowledgment
+abbrev pub other_in : List SegValue → Option SetId
+other_in [] = None
+other_in (s ∷ ss) = if is_set s then other_id (element_of s 1) else other_in ss
+
+abbrev pub other_set : (text : List ℕ) → Option SetId
+other_set text = other_in (views text (first_delims text))
 
 -- where a text is cut off: in a segment, or else in a 999
 abbrev pub cut_of : (text : List ℕ) → Option CutOff

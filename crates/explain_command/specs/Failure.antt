@@ -1,45 +1,65 @@
 -- The program's failures (own): the line that each prints, and the status that it ends with.
-use Rattle.std.specs.Prelude.{ℕ, ◌≡◌, ◌≢◌, ◌==◌, ◌||◌, IsTrue, true, List, ◌++◌, Option, None, IfSome, codes}
+use Rattle.std.specs.Prelude.{ℕ, ◌≡◌, ◌≢◌, ◌==◌, ◌||◌, IsTrue, true, List, [], ◌∷◌, ◌++◌, Option, None, Some, IfSome, codes}
 use Rattle.std.specs.declared.io.ErrorKind.{ErrorKind}
 use Rattle.std.specs.declared.io.ErrorKind.TheVariants.{OutOfMemory}
 use Rattle.ack_read.specs.Words.{IsRefused}
 use Rattle.ack_read.specs.declared.fault.ReadFault.{ReadFault}
 use Rattle.ack_read.specs.declared.fault.ReadFault.TheVariants as fault
 use Rattle.x12_bytes.specs.HeaderTest.{is_head}
-use Rattle.explain_command.specs.Ends.{cut_of, is_997}
+use Rattle.file_names.specs.Shown.{shown}
+use Rattle.explain_command.specs.Ends.{cut_of, is_997, other_set}
 use Rattle.explain_command.specs.declared.ends.CutOff.TheVariants as cut
+use Rattle.explain_command.specs.declared.ends.SetId.{SetId}
 use Rattle.explain_command.specs.declared.failure.Failure.{Failure}
 use Rattle.explain_command.specs.declared.failure.Failure.TheVariants as failure
+use Rattle.explain_command.specs.declared.mistake.Mistake.{Mistake}
+use Rattle.explain_command.specs.declared.mistake.Mistake.TheVariants as mistake
 
--- what failed
-abbrev pub subject_of : Failure → List ℕ
-subject_of failure.Usage = codes "usage"
-subject_of failure.Input = codes "input"
-subject_of failure.NoHeader = codes "input 1"
-subject_of failure.TellsNothing = codes "input 2"
-subject_of failure.Is997 = codes "this is a 997, which is not read here"
-subject_of (failure.CutOff cut.InSegment) = codes "the text ends inside a segment"
-subject_of (failure.CutOff cut.In999) = codes "the text ends inside a 999"
-subject_of failure.Stdout = codes "output stdout"
-subject_of failure.Memory = codes "memory"
+-- what failed, up to what the file has
+abbrev pub lead_of : Failure → List ℕ
+lead_of failure.Input = codes "input"
+lead_of failure.NoHeader = codes "input 1"
+lead_of failure.TellsNothing = codes "input 2"
+lead_of (failure.OtherSet id) = codes "ST is "
+lead_of failure.Is997 = codes "this is a 997, which is not read here"
+lead_of (failure.CutOff cut.InSegment) = codes "the text ends inside a segment"
+lead_of (failure.CutOff cut.In999) = codes "the text ends inside a 999"
+lead_of failure.Stdout = codes "output stdout"
+lead_of failure.Memory = codes "memory"
+
+abbrev pub other_words : SetId → List ℕ
+other_words id = (id.first ∷ id.second ∷ id.third ∷ []) ++ codes ": this isn't an acknowledgment\n"
+
+-- and what comes after it
+abbrev pub rest_of : Failure → List ℕ
+rest_of failure.Input = codes "\n"
+rest_of failure.NoHeader = codes "\n"
+rest_of failure.TellsNothing = codes "\n"
+rest_of (failure.OtherSet id) = other_words id
+rest_of failure.Is997 = codes "\n"
+rest_of (failure.CutOff c) = codes "\n"
+rest_of failure.Stdout = codes "\n"
+rest_of failure.Memory = codes "\n"
+
+abbrev pub subject_line : Failure → List ℕ
+subject_line f = lead_of f ++ rest_of f
 
 -- the line on standard error
 abbrev pub line_of : Failure → List ℕ
-line_of f = codes "nighthub_explain: " ++ (subject_of f ++ codes "\n")
-
--- after the path of one of several files
-abbrev pub said_of : Failure → List ℕ
-said_of f = codes ": " ++ (subject_of f ++ codes "\n")
+line_of f = codes "nighthub_explain: " ++ subject_line f
 
 -- the line of one of several files
+abbrev pub said_in : (path : List ℕ) → Failure → List ℕ
+said_in path f = shown path ++ (codes ": " ++ subject_line f)
+
 abbrev pub line_in : (path : List ℕ) → Failure → List ℕ
-line_in path f = codes "nighthub_explain: " ++ (path ++ said_of f)
+line_in path f = codes "nighthub_explain: " ++ said_in path f
 
 abbrev pub status_of : Failure → ℕ
-status_of failure.Usage = 2
 status_of failure.Input = 4
 status_of failure.NoHeader = 4
 status_of failure.TellsNothing = 4
+status_of (failure.OtherSet id) = 4
 status_of failure.Is997 = 4
 status_of (failure.CutOff c) = 4
 status_of failure.Stdout = 5
@@ -55,20 +75,39 @@ read_failure fault.NoHeader = failure.NoHeader
 read_failure fault.TellsNothing = failure.TellsNothing
 read_failure fault.NoMemory = failure.Memory
 
--- what reading the arguments may fail by
-abbrev pub IsOfWords : Failure → Type 0
-IsOfWords failure.Usage = Unit {0}
-IsOfWords failure.Memory = Unit {0}
-IsOfWords _ = ⊥
+-- the line and the status of a mistake in the arguments
+abbrev pub mistake_line : Mistake → List ℕ
+mistake_line (mistake.Usage text) = codes "nighthub_explain: usage: " ++ (text ++ codes "; see --help\n")
+mistake_line mistake.Memory = line_of failure.Memory
 
--- what the bytes of a reader may fail by: those that it declared of itself, where it declared them, are no acknowledgments
-abbrev pub IsOfInput : (told : Option (List ℕ)) → Failure → Type 0
-IsOfInput told failure.Input = Unit {0}
-IsOfInput told failure.NoHeader = IfSome told (λ text. IsRefused text fault.NoHeader)
-IsOfInput told failure.TellsNothing = IfSome told (λ text. IsRefused text fault.TellsNothing × (cut_of text ≡ None))
-IsOfInput told failure.Is997 = IfSome told (λ text. (is_head text 0 ≡ true) × (is_997 text ≡ true))
-IsOfInput told failure.Memory = Unit {0}
-IsOfInput told _ = ⊥
+abbrev pub mistake_status : Mistake → ℕ
+mistake_status (mistake.Usage text) = 2
+mistake_status mistake.Memory = 6
+
+-- the arguments are wrong
+abbrev pub IsUsage : Mistake → Type 0
+IsUsage (mistake.Usage text) = Unit {0}
+IsUsage mistake.Memory = ⊥
+
+-- what a text that was read may fail by: it has bytes that are no acknowledgments, or memory is refused
+abbrev pub IsOfText : (text : List ℕ) → Failure → Type 0
+IsOfText text failure.NoHeader = (text ≢ []) × IsRefused text fault.NoHeader
+IsOfText text failure.TellsNothing = IsRefused text fault.TellsNothing × (cut_of text ≡ None)
+IsOfText text (failure.OtherSet id) = IsRefused text fault.TellsNothing × (cut_of text ≡ None) × (other_set text ≡ Some id)
+IsOfText text failure.Is997 = (is_head text 0 ≡ true) × (is_997 text ≡ true)
+IsOfText text failure.Memory = Unit {0}
+IsOfText text _ = ⊥
+
+-- what a reader may fail by, which declared these bytes of itself, or none: it can't be read, or just this text fails
+abbrev pub IsOfInput : (declared : Option (List ℕ)) → Failure → Type 0
+IsOfInput declared failure.Input = Unit {0}
+IsOfInput declared failure.NoHeader = IfSome declared (λ text. IsOfText text failure.NoHeader)
+IsOfInput declared failure.TellsNothing = IfSome declared (λ text. IsOfText text failure.TellsNothing)
+IsOfInput declared (failure.OtherSet id) = IfSome declared (λ text. IsOfText text (failure.OtherSet id))
+IsOfInput declared failure.Is997 = IfSome declared (λ text. IsOfText text failure.Is997)
+IsOfInput declared (failure.CutOff cut) = ⊥
+IsOfInput declared failure.Stdout = ⊥
+IsOfInput declared failure.Memory = Unit {0}
 
 -- a fault of the system is out of memory, or stands for another failure
 pub record IsMemoryOr (kind : ErrorKind) (other failed : Failure) : Type 0 where

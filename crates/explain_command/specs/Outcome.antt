@@ -1,6 +1,5 @@
 -- The program's results (own): what is printed.
 use Rattle.std.specs.Prelude.{◌≡◌, ◌≢◌, ℕ, List, [], Option, None, Some, IfSome, codes, false}
-use Rattle.std.specs.Io.KnownBytes.{Appends}
 use Rattle.ack_read.specs.Words.{AreToldBy, IsRefused}
 use Rattle.ack_read.specs.declared.fault.ReadFault.TheVariants as fault
 use Rattle.ack_read.specs.declared.told.Told.{Told}
@@ -22,16 +21,3 @@ pub record IsExplanationOf (told : Option (List ℕ)) (lines : List ℕ) (cut : 
   pub text : List ℕ
   pub told_all : IfSome told (λ xs. text ≡ xs)
   pub said : IsSaidOf text lines cut
-
--- such lines were printed of a whole text
-pub record IsPrinted (told : Option (List ℕ)) (was is : Option (List ℕ)) : Type 0 where
-  pub lines : List ℕ
-  pub by : IsExplanationOf told lines None
-  pub printed : Appends was is lines
-
--- such lines were printed of a text that is cut off
-pub record IsCutShort (told : Option (List ℕ)) (was is : Option (List ℕ)) : Type 0 where
-  pub cut : CutOff
-  pub lines : List ℕ
-  pub by : IsExplanationOf told lines (Some cut)
-  pub printed : Appends was is lines

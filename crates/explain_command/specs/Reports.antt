@@ -1,26 +1,34 @@
 -- The program's results (own): what is printed of the files that the arguments name, and the status.
-use Rattle.std.specs.Prelude.{ℕ, ◌≡◌, ◌≢◌, ◌⊎◌, ◌==◌, ⊤, Bool, true, List, [], ◌∷◌, ◌++◌, codes, length, map, nat_lt, Option, None, Some}
+use Rattle.std.specs.Prelude.{ℕ, ◌≡◌, ◌≢◌, ◌⊎◌, ◌==◌, ⊤, Bool, true, List, [], ◌∷◌, ◌++◌, codes, length, map, nat_lt}
+use Rattle.std.specs.Prelude.{Option, None, Some, Result, Ok, Err, IsErr}
 use Rattle.std.specs.Prelude.{is_none, option_map, if◌then◌else◌}
 use Rattle.std.specs.List.{list_all}
 use Rattle.std.specs.Io.KnownBytes.{Appends}
 use Rattle.clap.specs.Words.{Text}
 use Rattle.explain_command.specs.CommandLine.{AsksForText, NamesFiles}
-use Rattle.explain_command.specs.Failure.{IsOfInput}
+use Rattle.file_names.specs.Shown.{shown}
+use Rattle.explain_command.specs.Failure.{IsOfInput, line_in, line_of}
 use Rattle.explain_command.specs.Outcome.{IsExplanationOf}
+use Rattle.explain_command.specs.declared.explain.Account.{Account}
 use Rattle.explain_command.specs.declared.failure.Failure.{Failure}
 use Rattle.explain_command.specs.declared.failure.Failure.TheVariants as failure
 use Rattle.explain_command.specs.declared.files.FileTold.{FileTold}
 use Rattle.explain_command.specs.declared.files.Told.{Told}
 use Rattle.explain_command.specs.declared.files.Told.TheVariants as told
 
--- a file is explained, or is refused for what it holds, or since it can't be read
-abbrev pub IsTold : Told → Type 0
-IsTold (told.Explained a) = IsExplanationOf None a.lines.items a.cut
-IsTold (told.Refused f) = IsOfInput None f × (f ≢ failure.Memory)
+-- a file that declared these bytes of itself, or none, is explained, or is refused for what it holds, or since it can't be read
+abbrev pub IsTold : (declared : Option (List ℕ)) → Told → Type 0
+IsTold declared (told.Explained a) = IsExplanationOf declared a.lines.items a.cut
+IsTold declared (told.Refused f) = IsOfInput declared f × (f ≢ failure.Memory)
+
+-- what explaining a file gave is what is reported of it; out of memory says nothing of the file
+abbrev pub IsReported : {E : Type 0} → Result Account Failure → Result Told E → Type 0
+IsReported (Ok a) result = result ≡ Ok (told.Explained a)
+IsReported (Err f) result = (f ≡ failure.Memory → IsErr result) × (f ≢ failure.Memory → result ≡ Ok (told.Refused f))
 
 abbrev pub AreTold : List FileTold → Type 0
 AreTold [] = ⊤
-AreTold (f ∷ fs) = IsTold f.told × AreTold fs
+AreTold (f ∷ fs) = IsTold None f.told × AreTold fs
 
 abbrev pub paths_of : List FileTold → List (List ℕ)
 paths_of fs = map (λ (f : FileTold). f.path.now) fs
@@ -37,7 +45,7 @@ named_lines name begins (b ∷ bs) = (if begins then name ++ (b ∷ []) else b �
 
 -- a path, before what is said of its file
 abbrev pub path_words : (path : List ℕ) → List ℕ
-path_words path = path ++ codes ": "
+path_words path = shown path ++ codes ": "
 
 -- of several files each line has its file's path in front
 abbrev pub file_lines : (several : Bool) → FileTold → List ℕ
@@ -52,6 +60,18 @@ abbrev pub failure_of : Told → Option Failure
 failure_of (told.Explained a) = option_map failure.CutOff a.cut
 failure_of (told.Refused f) = Some f
 
+-- the line of standard error on a file that is cut off or refused, of several files with its path
+abbrev pub failure_line : (several : Bool) → (path : List ℕ) → Option Failure → List ℕ
+failure_line several path None = []
+failure_line several path (Some f) = if several then line_in path f else line_of f
+
+abbrev pub file_failure : (several : Bool) → FileTold → List ℕ
+file_failure several f = failure_line several f.path.now (failure_of f.told)
+
+abbrev pub failure_lines : (several : Bool) → List FileTold → List ℕ
+failure_lines several [] = []
+failure_lines several (f ∷ fs) = file_failure several f ++ failure_lines several fs
+
 -- 0 where each file is explained, and whole, else 4
 abbrev pub are_whole : List FileTold → Bool
 are_whole fs = list_all (λ f. is_none (failure_of f.told)) fs
@@ -62,18 +82,20 @@ status_of fs = if are_whole fs then 0 else 4
 abbrev pub are_several : {A : Type 0} → List A → Bool
 are_several paths = nat_lt 1 (length paths)
 
--- a text is the lines on the files at these paths, and this is their status
-pub record IsReport (paths : List (List ℕ)) (text : List ℕ) (status : ℕ) : Type 0 where
+-- a text is the lines on the files at these paths, another those on the files that are cut off or refused, and this is their status
+pub record IsReport (paths : List (List ℕ)) (text failures : List ℕ) (status : ℕ) : Type 0 where
   pub told : List FileTold
   pub files : paths_of told ≡ paths
   pub is : AreTold told
   pub lines : text ≡ lines_of (are_several paths) told
+  pub refusals : failures ≡ failure_lines (are_several paths) told
   pub own_status : status ≡ status_of told
 
 -- such a text is what was printed
 pub record IsExplained (paths : List (List ℕ)) (status : ℕ) (was is : Option (List ℕ)) : Type 0 where
   pub text : List ℕ
-  pub report : IsReport paths text status
+  pub failures : List ℕ
+  pub report : IsReport paths text failures status
   pub printed : Appends was is text
 
 -- a text was shown that the arguments ask for

@@ -1,23 +1,27 @@
-ghost use Rattle.std.specs.Prelude.{◌≡◌, ◌≢◌, false, map, IfOk, IfErr, IsErrOf};
+ghost use Rattle.std.specs.Prelude.{◌≡◌, ◌≢◌, false, map, IfOk, IfErr};
 ghost use Rattle.clap.specs.Words.{app_of, found_of, kind_of, rule_of};
 ghost use Rattle.night_ends.specs.Words.{values_found};
 ghost use Rattle.explain_command.specs.CommandLine.{IsAsked, IsCommandLine, IsGiven, IsShown, NamesNone, explain_app, file_rule};
-ghost use Rattle.explain_command.specs.Failure.{IsOfWords};
+ghost use Rattle.explain_command.specs.Failure.{IsUsage};
 
-use crate::failure::Failure;
+use crate::mistake::Mistake;
 use clap::error::ErrorKind;
 use clap::{Arg, ArgAction, ArgMatches, Command, Error};
-use night_ends::{texts_given, with_argument};
+use hub_kinds::copy_text;
+use night_ends::{RELEASE, mistake_found, texts_given, with_argument};
 use std::alloc::{AllocError, Global};
 use std::convert::AsStr;
 
-/// What stands after the options in the text of `--help`.
+/// What the text of `--help` ends with.
 const STATUSES: &str = "Status:
   0  the acknowledgments are explained
   2  usage
-  4  a file can't be read, holds no acknowledgments, or is cut off
+  4  a file can't be read, holds no acknowledgments, or is truncated
   5  standard output
-  6  no memory";
+  6  no memory
+
+Example:
+  nighthub_explain out/ACME.ack";
 
 /// What the arguments ask for.
 #[derive(Debug, Drop)]
@@ -29,10 +33,9 @@ pub enum Asked<'a> {
 }
 
 /// Reads the program's arguments without its name.
-pub fn read_words<'a, S: AsStr>(alloc: Global, words: &'a [S]) -> Result<Asked<'a>, Failure>
+pub fn read_words<'a, S: AsStr>(alloc: Global, words: &'a [S]) -> Result<Asked<'a>, Mistake>
     ensures asked { IfOk result (IsAsked (map S.text words.now)) }
-    ensures usage { IsErrOf result Failure.Usage → IsCommandLine (map S.text words.now) → ⊥ }
-    ensures err { IfErr result IsOfWords }
+    ensures usage { IfErr result (λ mistake. IsUsage mistake → IsCommandLine (map S.text words.now) → ⊥) }
 {
     let command = command(alloc)?;
     match command.try_get_matches_from(words) {
@@ -46,7 +49,7 @@ fn command<'a>(alloc: Global) -> Result<Command<'a>, AllocError>
 {
     let command = Command::new(alloc, "nighthub_explain")
         .about("Says in words what a partner's acknowledgments tell")
-        .version("0.1.0")
+        .version(RELEASE)
         .after_help(STATUSES)
         .no_binary_name(true);
     with_argument(command, file(alloc))
@@ -66,30 +69,28 @@ fn file<'a>(alloc: Global) -> Arg<'a>
         .action(ArgAction::Append)
 }
 
-fn files_asked<'a>(alloc: Global, matches: &ArgMatches<'a>) -> Result<Asked<'a>, Failure>
+fn files_asked<'a>(alloc: Global, matches: &ArgMatches<'a>) -> Result<Asked<'a>, Mistake>
     ensures given { IfOk result (IsGiven (values_found (found_of matches.now))) }
-    ensures usage { IsErrOf result Failure.Usage → NamesNone (values_found (found_of matches.now)) }
-    ensures err { IfErr result IsOfWords }
+    ensures usage { IfErr result (λ mistake. IsUsage mistake → NamesNone (values_found (found_of matches.now))) }
 {
     let paths = texts_given(alloc, matches, "file")?;
     if paths.is_empty() {
-        return Err(Failure::Usage);
+        return Err(Mistake::Usage(copy_text(alloc, b"no file is named")?));
     }
     Ok(Asked::Explain(paths))
 }
 
 /// The text that is asked for, where the arguments have no mistake.
-fn shown<'a>(alloc: Global, error: &Error) -> Result<Asked<'a>, Failure>
+fn shown<'a>(alloc: Global, error: &Error) -> Result<Asked<'a>, Mistake>
     ensures shown { IfOk result (IsShown (kind_of error.now)) }
-    ensures usage { IsErrOf result Failure.Usage → kind_of error.now ≢ ErrorKind.OutOfMemory }
-    ensures err { IfErr result IsOfWords }
+    ensures usage { IfErr result (λ mistake. IsUsage mistake → kind_of error.now ≢ ErrorKind.OutOfMemory) }
 {
     match error.kind() {
         ErrorKind::DisplayHelp | ErrorKind::DisplayVersion => {
             let text = format!(in alloc; "{error}")?;
             Ok(Asked::Show(text))
         }
-        ErrorKind::OutOfMemory => Err(Failure::Memory),
-        _ => Err(Failure::Usage),
+        ErrorKind::OutOfMemory => Err(Mistake::Memory),
+        _ => Err(Mistake::Usage(mistake_found(alloc, error)?)),
     }
 }

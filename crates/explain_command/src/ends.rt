@@ -1,4 +1,4 @@
-ghost use Rattle.std.specs.Prelude.{◌≡◌, false};
+ghost use Rattle.std.specs.Prelude.{◌≡◌, false, length, true};
 ghost use Rattle.x12_bytes.specs.Bytes.{is_line_end};
 ghost use Rattle.std.specs.List.{list_any};
 ghost use Rattle.x12_segs.specs.Words.{views};
@@ -67,6 +67,59 @@ pub fn has_response(text: &[u8], delims: Delims) -> bool
         }
     }
     false
+}
+
+/// The id of a set (ST01), of three letters or digits.
+#[derive(Clone, Copy, Debug, PartialEq, Eq)]
+pub struct SetId {
+    pub first: u8,
+    pub second: u8,
+    pub third: u8,
+}
+
+/// Whether the id of a set is three letters or digits other than 999.
+fn is_other(id: &[u8]) -> bool
+    ensures value { result ≡ ends.is_other id.now }
+    ensures length { result ≡ true → length id.now ≡ 3 }
+{
+    id.len() == 3
+        && id[0].is_ascii_alphanumeric()
+        && id[1].is_ascii_alphanumeric()
+        && id[2].is_ascii_alphanumeric()
+        && !(id == b"999".as_slice())
+}
+
+/// The id of a set, if it is three letters or digits other than 999.
+fn other_id(id: &[u8]) -> Option<SetId>
+    ensures { result ≡ ends.other_id id.now }
+{
+    if is_other(id) {
+        Some(SetId {
+            first: id[0],
+            second: id[1],
+            third: id[2],
+        })
+    } else {
+        None
+    }
+}
+
+fn is_set(segment: &SegView<'_>) -> bool
+    ensures { result ≡ ends.is_set segment.now }
+{
+    segment.id() == b"ST".as_slice()
+}
+
+/// The id of the first set of a text, read by these delimiters, if that is no acknowledgment.
+pub fn other_set(text: &[u8], delims: Delims) -> Option<SetId>
+    ensures { result ≡ ends.other_in (views text.now delims) }
+{
+    for segment in segments(text, delims) {
+        if is_set(&segment) {
+            return other_id(segment.element(1));
+        }
+    }
+    None
 }
 
 /// Where a text is cut off, read by the delimiters of its first header.

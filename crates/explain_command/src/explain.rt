@@ -1,12 +1,13 @@
-ghost use Rattle.std.specs.Prelude.{◌≡◌, ◌≢◌, ◌≤◌, ◌⊎◌, true, false, ℕ, List, [], None, Some, IfOk, IfErr, IfSome, IsOkAnd, OnOk, map};
+ghost use Rattle.std.specs.Prelude.{◌≡◌, ◌≢◌, ◌⊎◌, true, false, [], IfOk, IfErr, IsErrAnd, IsOkAnd};
 ghost use Rattle.std.specs.Io.KnownBytes.{Appends};
 ghost use Rattle.std.specs.IoError.{error_kind};
-ghost use Rattle.explain_command.specs.Failure.{IsMemoryOr, IsOfInput, IsStatus};
-ghost use Rattle.explain_command.specs.Outcome.{IsCutShort, IsExplanationOf, IsPrinted, IsSaidOf};
+ghost use Rattle.explain_command.specs.Failure.{IsMemoryOr, IsOfInput, IsOfText};
+ghost use Rattle.explain_command.specs.Outcome.{IsExplanationOf, IsSaidOf};
 ghost use Rattle.explain_command.specs.Ends.{cut_of, is_997};
 ghost use Rattle.x12_bytes.specs.HeaderTest.{is_head};
+ghost use Rattle.ack_read.specs.Words.{first_delims};
 
-use crate::ends::{CutOff, cut_of, has_response};
+use crate::ends::{CutOff, cut_of, has_response, other_set};
 use crate::failure::Failure;
 use ack_lines::explanation;
 use ack_read::{ReadFault, read_acknowledgments};
@@ -14,7 +15,7 @@ use night_ends::{print_text, read_whole};
 use std::alloc::Global;
 use std::io;
 use std::io::{Read, Write};
-use x12_bytes::read_header;
+use x12_bytes::{Delims, read_header};
 
 /// The lines on acknowledgments, and where their text is cut off.
 #[derive(Debug, Drop)]
@@ -23,14 +24,15 @@ pub struct Account {
     pub cut: Option<CutOff>,
 }
 
-/// The lines on the acknowledgments in a file that was opened so.
+/// The lines on the acknowledgments of a file that was opened, which `opened` gives.
 pub fn explained_file<I: Read + Drop>(
     alloc: Global,
     opened: io::Result<I>,
 ) -> Result<Account, Failure>
     ensures lines { IfOk result (λ a. IsOkAnd opened (λ input. IsExplanationOf (I.remaining input) a.lines.items a.cut)) }
     ensures refused { IfOk opened (λ input. IfErr result (IsOfInput (I.remaining input))) }
-    ensures closed { IfErr opened (λ error. IfErr result (IsMemoryOr (error_kind error) Failure.Input)) }
+    ensures closed { IfErr opened (λ error. IsErrAnd result (IsMemoryOr (error_kind error) Failure.Input)) }
+    ensures either { IfErr opened (λ _. IfErr result (λ f. (f ≡ Failure.Memory) ⊎ (f ≡ Failure.Input))) }
 {
     match opened {
         Ok(input) => explained(alloc, input),
@@ -38,38 +40,23 @@ pub fn explained_file<I: Read + Drop>(
     }
 }
 
-/// Explains the acknowledgments that a reader gives: prints the lines on them on `out` and gives 0. Where that fails, the status of the
-/// failure, whose line is on `err`.
-pub fn give_explanation<I, O, E>(alloc: Global, input: I, out: &mut O, err: &mut E) -> u8
-where
-    I: Read + Drop,
-    O: Write,
-    E: Write,
-    ensures status { IsStatus result }
-    ensures words { result ≢ 2 }
-    ensures silent { 2 ≤ result → result ≢ 4 → result ≢ 5 → out.new ≡ out.old }
-    ensures cut_off { result ≡ 4 → (out.new ≡ out.old) ⊎ IsCutShort (I.remaining input) (O.contents out.old) (O.contents out.new) }
-    ensures quiet { result ≡ 0 → err.new ≡ err.old }
-    ensures printed { result ≡ 0 → IsPrinted (I.remaining input) (O.contents out.old) (O.contents out.new) }
-{
-    match explained(alloc, input) {
-        Ok(account) => give(&account, out, err),
-        Err(failure) => failure.report(err),
-    }
-}
-
-/// The lines on the acknowledgments that a reader gives.
-#[tactic(auto, using(crate::proofs::Refusing::of_reader))]
+/// The lines on the acknowledgments that `input` gives.
 pub fn explained<I: Read + Drop>(alloc: Global, input: I) -> Result<Account, Failure>
     ensures lines { IfOk result (λ a. IsExplanationOf (I.remaining input) a.lines.items a.cut) }
     ensures refused { IfErr result (IsOfInput (I.remaining input)) }
-    ensures empty { I.remaining input ≡ Some [] → IfErr result (λ failure. failure ≢ Failure.NoHeader) }
 {
-    match read_whole(alloc, input) {
-        Ok(text) => {
-            let account = account_of(alloc, text.as_slice())?;
-            Ok(account)
-        }
+    account_read(alloc, read_whole(alloc, input))
+}
+
+/// The lines on the acknowledgments of a text, which `read` gives.
+fn account_read(alloc: Global, read: io::Result<Vec<u8>>) -> Result<Account, Failure>
+    ensures said { IfOk result (λ a. IsOkAnd read (λ text. IsSaidOf text.items a.lines.items a.cut)) }
+    ensures refused { IfOk read (λ text. IfErr result (IsOfText text.items)) }
+    ensures unread { IfErr read (λ error. IsErrAnd result (IsMemoryOr (error_kind error) Failure.Input)) }
+    ensures either { IfErr read (λ _. IfErr result (λ f. (f ≡ Failure.Memory) ⊎ (f ≡ Failure.Input))) }
+{
+    match read {
+        Ok(text) => account_of(alloc, text.as_slice()),
         Err(error) => Err(Failure::of_fault(error, Failure::Input)),
     }
 }
@@ -77,8 +64,7 @@ pub fn explained<I: Read + Drop>(alloc: Global, input: I) -> Result<Account, Fai
 /// The lines on the acknowledgments of a text.
 fn account_of(alloc: Global, text: &[u8]) -> Result<Account, Failure>
     ensures said { IfOk result (λ a. IsSaidOf text.now a.lines.items a.cut) }
-    ensures refused { IfErr result (IsOfInput (Some text.now)) }
-    ensures empty { text.now ≡ [] → IfErr result (λ failure. failure ≡ Failure.Memory) }
+    ensures refused { IfErr result (IsOfText text.now) }
 {
     if text.is_empty() {
         return Ok(Account {
@@ -93,16 +79,23 @@ fn account_of(alloc: Global, text: &[u8]) -> Result<Account, Failure>
     if has_response(text, delims) {
         return Err(Failure::Is997);
     }
-    account_by(alloc, text, cut_of(text, delims))
+    account_by(alloc, text, delims, cut_of(text, delims))
 }
 
-/// The same of a text that begins with a header and is no 997, and is cut off so.
-fn account_by(alloc: Global, text: &[u8], cut: Option<CutOff>) -> Result<Account, Failure>
+/// The lines on the acknowledgments of a text that begins with a header, is no 997, and is cut off at `cut`.
+fn account_by(
+    alloc: Global,
+    text: &[u8],
+    delims: Delims,
+    cut: Option<CutOff>,
+) -> Result<Account, Failure>
+    requires delims { delims ≡ first_delims text.now }
+    requires some { text.now ≢ [] }
     requires headed { is_head text.now 0 ≡ true }
     requires read { is_997 text.now ≡ false }
     requires ends { cut_of text.now ≡ cut }
     ensures said { IfOk result (λ a. IsSaidOf text.now a.lines.items a.cut) }
-    ensures refused { IfErr result (IsOfInput (Some text.now)) }
+    ensures refused { IfErr result (IsOfText text.now) }
 {
     match read_acknowledgments(alloc, text) {
         Ok(found) => Ok(Account {
@@ -113,24 +106,11 @@ fn account_by(alloc: Global, text: &[u8], cut: Option<CutOff>) -> Result<Account
             lines: Vec::new(alloc),
             cut,
         }),
+        Err(ReadFault::TellsNothing) => match other_set(text, delims) {
+            Some(id) => Err(Failure::OtherSet(id)),
+            None => Err(Failure::TellsNothing),
+        },
         Err(fault) => Err(Failure::from(fault)),
-    }
-}
-
-/// Prints the lines on a text, and gives 0; after them, where the text is cut off, the line that says so on `err`, and its status.
-fn give<O: Write, E: Write>(account: &Account, out: &mut O, err: &mut E) -> u8
-    ensures status { ((result ≡ 0) × (account.now.cut ≡ None)) ⊎ (((result ≡ 4) × (account.now.cut ≢ None)) ⊎ (result ≡ 5)) }
-    ensures printed { result ≢ 5 → Appends (O.contents out.old) (O.contents out.new) account.now.lines.items }
-    ensures quiet { result ≡ 0 → err.new ≡ err.old }
-{
-    match account.cut {
-        None => finish(account.lines.as_slice(), out, err),
-        Some(cut) => {
-            if print_text(account.lines.as_slice(), out).is_err() {
-                return Failure::Stdout.report(err);
-            }
-            Failure::CutOff(cut).report(err)
-        }
     }
 }
 
@@ -142,7 +122,7 @@ pub(crate) fn finish<O: Write, E: Write>(text: &[u8], out: &mut O, err: &mut E) 
     ensures quiet { result ≢ 5 → err.new ≡ err.old }
 {
     if print_text(text, out).is_err() {
-        return Failure::Stdout.report(err);
+        return Failure::Stdout.report(err).status;
     }
     0
 }

@@ -1,13 +1,18 @@
 //! What is reported of files, one after another.
-ghost use Rattle.std.specs.Prelude.{◌≡◌, ◌++◌, ◌∷◌, ◌⊎◌, [], true, map, is_none, if◌then◌else◌, IfOk, OnOk};
+ghost use Rattle.std.specs.Prelude.{◌≡◌, ◌++◌, ◌∷◌, ◌⊎◌, [], None, true, map, is_none, codes, if◌then◌else◌, IfErr};
+ghost use Rattle.std.specs.Prelude.{IfOk, OnOk};
+ghost use Rattle.explain_command.specs.Failure.{line_in, line_of, other_words, rest_of, said_in, subject_line};
 ghost use Rattle.explain_command.specs.Reports as reports;
 
+use crate::ends::SetId;
 use crate::explain::{Account, explained_file};
 use crate::failure::Failure;
+use file_names::append_shown;
 use hub_kinds::NoMemory;
+use night_ends::{Opened, open_at};
 use std::alloc::Global;
-use std::fs;
-use std::io::Write;
+use std::io;
+use std::io::Read;
 use std::rt::Files;
 
 /// What is reported of a file.
@@ -51,22 +56,44 @@ impl Told {
     }
 }
 
-/// What is reported of the file at a path. The only error is out of memory.
-fn tell_file<R: Files + AllocGlobal>(rt: &R, path: &str) -> Result<Told, NoMemory>
-    ensures { IfOk result (λ told. reports.IsTold told) }
+/// What is reported of a file, by what explaining it gave. The only error is out of memory.
+fn reported(account: Result<Account, Failure>) -> Result<Told, NoMemory>
+    ensures { reports.IsReported account result }
 {
-    match explained_file(rt.alloc(), fs::open(rt, path)) {
+    match account {
         Ok(account) => Ok(Told::Explained(account)),
         Err(Failure::Memory) => Err(NoMemory),
         Err(failure) => Ok(Told::Refused(failure)),
     }
 }
 
+/// What is reported of a file that was opened, which `opened` gives. The only error is out of memory.
+pub fn tell_opened<I: Read + Drop>(alloc: Global, opened: io::Result<I>) -> Result<Told, NoMemory>
+    ensures told { IfOk opened (λ input. IfOk result (reports.IsTold (I.remaining input))) }
+    ensures closed { IfErr opened (λ error. IfOk result (λ told. told ≡ Told.Refused Failure.Input)) }
+{
+    reported(explained_file(alloc, opened))
+}
+
+/// What is reported of the file at `path`. The only error is out of memory.
 fn told_at<'a, R: Files + AllocGlobal>(rt: &R, path: &'a str) -> Result<FileTold<'a>, NoMemory>
-    ensures told { IfOk result (λ file. reports.IsTold file.told) }
+    ensures told { IfOk result (λ file. reports.IsTold None file.told) }
     ensures path { IfOk result (λ file. file.path.now ≡ path.entry.now) }
 {
-    let told = tell_file(rt, path)?;
+    told_of(rt.alloc(), path, open_at(rt, path))
+}
+
+/// What is reported of the file at `path`, which `opened` gives. The only error is out of memory.
+fn told_of<'a, I: Read + Drop>(
+    alloc: Global,
+    path: &'a str,
+    opened: Opened<'a, I>,
+) -> Result<FileTold<'a>, NoMemory>
+    requires { opened.path ≡ path.now }
+    ensures told { IfOk result (λ file. reports.IsTold None file.told) }
+    ensures path { IfOk result (λ file. file.path.now ≡ path.entry.now) }
+{
+    let told = tell_opened(alloc, opened.into_answer())?;
     Ok(FileTold { path, told })
 }
 
@@ -97,7 +124,7 @@ fn path_words(alloc: Global, path: &str) -> Result<Vec<u8>, NoMemory>
     ensures { IfOk result (λ name. name.items ≡ reports.path_words path.now) }
 {
     let mut name = Vec::new(alloc);
-    append(&mut name, path.as_bytes())?;
+    append_shown(&mut name, path.as_bytes())?;
     append(&mut name, b": ")?;
     Ok(name)
 }
@@ -172,30 +199,90 @@ pub fn status_of(files: &[FileTold<'_>]) -> u8
     if are_whole(files) { 0 } else { 4 }
 }
 
-/// Prints the line on a file that is cut off or refused. A fault of standard error is passed over.
-fn report_failure<E: Write>(several: bool, file: &FileTold<'_>, failure: Failure, err: &mut E) {
-    if several {
-        let _ = failure.print_of(file.path.as_bytes(), err);
-    } else {
-        let _ = failure.print(err);
-    }
-    let _ = err.flush();
+fn append_text(out: &mut Vec<u8>, text: &str) -> Result<(), NoMemory>
+    ensures { OnOk result (out.new.items ≡ out.old.items ++ text.now) }
+{
+    append(out, text.as_bytes())
 }
 
-/// Prints the line on a file, where there is one.
-fn report_file<E: Write>(several: bool, file: &FileTold<'_>, err: &mut E)
-    ensures { is_none (reports.failure_of file.now.told) ≡ true → err.new ≡ err.old }
+fn append_other(out: &mut Vec<u8>, id: SetId) -> Result<(), NoMemory>
+    ensures { OnOk result (out.new.items ≡ out.old.items ++ other_words id) }
 {
-    if let Some(failure) = file.told.failure() {
-        report_failure(several, file, failure, err);
+    append(out, &[id.first, id.second, id.third])?;
+    append(out, b": this isn't an acknowledgment\n")
+}
+
+fn append_rest(out: &mut Vec<u8>, failure: Failure) -> Result<(), NoMemory>
+    ensures { OnOk result (out.new.items ≡ out.old.items ++ rest_of failure) }
+{
+    match failure {
+        Failure::OtherSet(id) => append_other(out, id),
+        Failure::Input
+        | Failure::NoHeader
+        | Failure::TellsNothing
+        | Failure::Is997
+        | Failure::CutOff(_)
+        | Failure::Stdout
+        | Failure::Memory => append(out, b"\n"),
     }
 }
 
-/// Prints the lines on files that are cut off or refused, in the order of the files.
-pub fn report_failures<E: Write>(several: bool, files: &[FileTold<'_>], err: &mut E)
-    ensures { reports.are_whole files.now ≡ true → err.new ≡ err.old }
+fn append_subject(out: &mut Vec<u8>, failure: Failure) -> Result<(), NoMemory>
+    ensures { OnOk result (out.new.items ≡ out.old.items ++ subject_line failure) }
 {
+    append_text(out, failure.lead())?;
+    append_rest(out, failure)
+}
+
+fn append_line(out: &mut Vec<u8>, failure: Failure) -> Result<(), NoMemory>
+    ensures { OnOk result (out.new.items ≡ out.old.items ++ line_of failure) }
+{
+    append(out, b"nighthub_explain: ")?;
+    append_subject(out, failure)
+}
+
+fn append_said_in(out: &mut Vec<u8>, path: &[u8], failure: Failure) -> Result<(), NoMemory>
+    ensures { OnOk result (out.new.items ≡ out.old.items ++ said_in path.now failure) }
+{
+    append_shown(out, path)?;
+    append(out, b": ")?;
+    append_subject(out, failure)
+}
+
+fn append_line_in(out: &mut Vec<u8>, path: &[u8], failure: Failure) -> Result<(), NoMemory>
+    ensures { OnOk result (out.new.items ≡ out.old.items ++ line_in path.now failure) }
+{
+    append(out, b"nighthub_explain: ")?;
+    append_said_in(out, path, failure)
+}
+
+/// Adds the line of standard error on a file that is cut off or refused.
+fn append_failure(out: &mut Vec<u8>, several: bool, file: &FileTold<'_>) -> Result<(), NoMemory>
+    ensures { OnOk result (out.new.items ≡ out.old.items ++ reports.file_failure several file.now) }
+{
+    match file.told.failure() {
+        None => Ok(()),
+        Some(failure) => {
+            if several {
+                append_line_in(out, file.path.as_bytes(), failure)
+            } else {
+                append_line(out, failure)
+            }
+        }
+    }
+}
+
+/// The lines of standard error on files that are cut off or refused, in the order of the files.
+pub fn failure_lines(
+    alloc: Global,
+    several: bool,
+    files: &[FileTold<'_>],
+) -> Result<Vec<u8>, NoMemory>
+    ensures { IfOk result (λ text. text.items ≡ reports.failure_lines several files.now) }
+{
+    let mut text = Vec::new(alloc);
     for i in 0..files.len() {
-        report_file(several, &files[i], err);
+        append_failure(&mut text, several, &files[i])?;
     }
+    Ok(text)
 }

@@ -6,10 +6,13 @@
 //!   front, or a text that was asked for. It ends with 0 where each file is explained, and whole, with 4 where one is refused or cut off,
 //!   and with 2 only where the arguments are no command line; where memory is refused it prints nothing on standard output;
 //! - a file is cut off just where a byte but CR and LF stands after its last terminator, or else an ST without an SE after it;
-//! - `give_explanation` prints the lines on just the bytes that a reader gave;
-//! - `explained` refuses only bytes that don't begin with a header, are a 997, or report nothing and aren't cut off, but never none at all;
-//!   a reader that fails; and out of memory;
-//! - the line of a failure is the one that belongs to it, and so is its status.
+//! - what is reported of a file is what all of its bytes say, where it was opened and declares them, and `input` where it couldn't be
+//!   opened (`tell_opened`, of which what is printed of a file is one call);
+//! - a text that was read is refused only if it has bytes, and these don't begin with a header, are a 997, or report nothing and aren't
+//!   cut off; never as one that can't be read (`explained`);
+//! - the lines that are printed on standard error are those of just the files that are cut off or refused, in their order; in each path
+//!   that is printed, bytes that control a terminal are escaped;
+//! - the line of a failure is the one that belongs to it, and so is its status; a report says whether the line is printed.
 //!
 //! Source: own.
 //!
@@ -21,11 +24,13 @@ mod ends;
 mod explain;
 mod failure;
 mod files;
+mod mistake;
 mod run;
 
 pub use command::{Asked, read_words};
-pub use ends::CutOff;
-pub use explain::{Account, explained, explained_file, give_explanation};
-pub use failure::Failure;
-pub use files::{FileTold, Told};
+pub use ends::{CutOff, SetId};
+pub use explain::{Account, explained, explained_file};
+pub use failure::{Failure, Reported};
+pub use files::{FileTold, Told, tell_opened};
+pub use mistake::Mistake;
 pub use run::explain_main;

@@ -7,17 +7,18 @@ ghost use Rattle.explain_command.specs.Reports.{IsExplained, IsReport, IsRun, st
 use crate::command::{Asked, read_words};
 use crate::explain::finish;
 use crate::failure::Failure;
-use crate::files::{FileTold, lines_of, report_failures, status_of, tell_files};
+use crate::files::{FileTold, failure_lines, lines_of, status_of, tell_files};
 use hub_kinds::NoMemory;
 use night_ends::print_text;
 use std::convert::AsStr;
 use std::io::Write;
 use std::rt::Files;
 
-/// What is printed, and what is reported of each file.
+/// What is printed on standard output and on standard error, and what is reported of each file.
 #[derive(Drop)]
 struct Report<'a> {
     text: Vec<u8>,
+    failures: Vec<u8>,
     told: Vec<FileTold<'a>>,
 }
 
@@ -40,7 +41,7 @@ where
     match read_words(rt.alloc(), words) {
         Ok(Asked::Explain(paths)) => explain_files(rt, paths.as_slice(), out, err),
         Ok(Asked::Show(text)) => finish(text.as_bytes(), out, err),
-        Err(mistake) => mistake.report(err),
+        Err(mistake) => mistake.report(err).status,
     }
 }
 
@@ -58,17 +59,19 @@ where
 {
     match report_of(rt, paths) {
         Ok(report) => give_report(&report, out, err),
-        Err(_) => Failure::Memory.report(err),
+        Err(_) => Failure::Memory.report(err).status,
     }
 }
 
 /// What is printed of the files at these paths. The only error is out of memory.
 fn report_of<'a, R: Files + AllocGlobal>(rt: &R, paths: &[&'a str]) -> Result<Report<'a>, NoMemory>
-    ensures { IfOk result (λ r. IsReport (map (λ p. p.now) paths.now) r.text.items (status_of r.told.items)) }
+    ensures { IfOk result (λ r. IsReport (map (λ p. p.now) paths.now) r.text.items r.failures.items (status_of r.told.items)) }
 {
     let told = tell_files(rt, paths)?;
+    let several = 1 < told.len();
     Ok(Report {
-        text: lines_of(rt.alloc(), 1 < told.len(), told.as_slice())?,
+        text: lines_of(rt.alloc(), several, told.as_slice())?,
+        failures: failure_lines(rt.alloc(), several, told.as_slice())?,
         told,
     })
 }
@@ -81,8 +84,11 @@ fn give_report<O: Write, E: Write>(report: &Report<'_>, out: &mut O, err: &mut E
     ensures quiet { result ≡ 0 → err.new ≡ err.old }
 {
     if print_text(report.text.as_slice(), out).is_err() {
-        return Failure::Stdout.report(err);
+        return Failure::Stdout.report(err).status;
     }
-    report_failures(1 < report.told.len(), report.told.as_slice(), err);
-    status_of(report.told.as_slice())
+    let status = status_of(report.told.as_slice());
+    if status != 0 {
+        let _ = print_text(report.failures.as_slice(), err);
+    }
+    status
 }

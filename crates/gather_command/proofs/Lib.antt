@@ -1,2 +1,3 @@
 mod CommandLine
+mod Joined
 pub mod Members

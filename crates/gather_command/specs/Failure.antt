@@ -5,12 +5,14 @@ use Rattle.std.specs.declared.io.ErrorKind.TheVariants.{OutOfMemory}
 use Rattle.std.specs.Borrow.{Bor}
 use Rattle.gather_files.specs.declared.fault.GatherFault.{GatherFault}
 use Rattle.gather_files.specs.declared.fault.GatherFault.TheVariants as fault
+use Rattle.file_names.specs.Shown.{shown}
 use Rattle.gather_command.specs.declared.failure.Failure.{Failure}
 use Rattle.gather_command.specs.declared.failure.Failure.TheVariants as failure
+use Rattle.gather_command.specs.declared.mistake.Mistake.{Mistake}
+use Rattle.gather_command.specs.declared.mistake.Mistake.TheVariants as mistake
 
 -- what the line says before a path, the path, and what after it
 abbrev pub before_path : Failure → List ℕ
-before_path failure.Usage = codes "nighthub_gather: usage"
 before_path (failure.Input path) = codes "nighthub_gather: input "
 before_path (failure.TooLong path) = codes "nighthub_gather: input "
 before_path (failure.Output path) = codes "nighthub_gather: output "
@@ -20,7 +22,6 @@ before_path failure.Stdout = codes "nighthub_gather: output stdout"
 before_path failure.Memory = codes "nighthub_gather: memory"
 
 abbrev pub path_of : Failure → List ℕ
-path_of failure.Usage = []
 path_of (failure.Input path) = path.now
 path_of (failure.TooLong path) = path.now
 path_of (failure.Output path) = path.now
@@ -30,7 +31,6 @@ path_of failure.Stdout = []
 path_of failure.Memory = []
 
 abbrev pub after_path : Failure → List ℕ
-after_path failure.Usage = codes "\n"
 after_path (failure.Input path) = codes "\n"
 after_path (failure.TooLong path) = codes " too long\n"
 after_path (failure.Output path) = codes "\n"
@@ -41,10 +41,9 @@ after_path failure.Memory = codes "\n"
 
 -- the line on standard error
 abbrev pub line_of : Failure → List ℕ
-line_of f = before_path f ++ (path_of f ++ after_path f)
+line_of f = before_path f ++ (shown (path_of f) ++ after_path f)
 
 abbrev pub status_of : Failure → ℕ
-status_of failure.Usage = 2
 status_of (failure.Input path) = 4
 status_of (failure.TooLong path) = 4
 status_of (failure.Output path) = 5
@@ -57,11 +56,19 @@ status_of failure.Memory = 6
 abbrev pub IsStatus : ℕ → Type 0
 IsStatus n = IsTrue (n == 0 || (n == 1 || (n == 2 || (n == 4 || (n == 5 || n == 6)))))
 
--- what reading the arguments may fail by
-abbrev pub IsOfWords : Failure → Type 0
-IsOfWords failure.Usage = Unit {0}
-IsOfWords failure.Memory = Unit {0}
-IsOfWords _ = ⊥
+-- the line and the status of a mistake in the arguments
+abbrev pub mistake_line : Mistake → List ℕ
+mistake_line (mistake.Usage text) = codes "nighthub_gather: usage: " ++ (text ++ codes "; see --help\n")
+mistake_line mistake.Memory = line_of failure.Memory
+
+abbrev pub mistake_status : Mistake → ℕ
+mistake_status (mistake.Usage text) = 2
+mistake_status mistake.Memory = 6
+
+-- the arguments are wrong
+abbrev pub IsUsage : Mistake → Type 0
+IsUsage (mistake.Usage text) = Unit {0}
+IsUsage mistake.Memory = ⊥
 
 -- a fault of the system is out of memory, or stands for another failure
 pub record IsMemoryOr (kind : ErrorKind) (other failed : Failure) : Type 0 where
@@ -74,3 +81,7 @@ failure_of fault.Read file out = failure.Input file
 failure_of fault.TooLong file out = failure.TooLong file
 failure_of fault.Output file out = failure.Output out
 failure_of fault.NoMemory file out = failure.Memory
+
+-- a failure of the file at one path, which is put into another
+abbrev pub IsOfFile : (file out : Bor (List ℕ)) → Failure → Type 0
+IsOfFile file out failed = (fault : GatherFault) × (failed ≡ failure_of fault file out)

@@ -3,3 +3,4 @@ pub mod Failure
 pub mod Lines
 pub mod Members
 pub mod Outcome
+pub mod Part

@@ -49,6 +49,5 @@ NamesOut words = (out : List ℕ) × (option_value words (codes "out") ≡ Some 
 
 -- what making the file may fail by
 abbrev pub IsOfRun : Failure → Type 0
-IsOfRun failure.Usage = ⊥
 IsOfRun failure.Stdout = ⊥
 IsOfRun _ = Unit {0}

@@ -1,19 +1,27 @@
-ghost use Rattle.std.specs.Prelude.{◌≡◌, ◌++◌, OnOk, IfErr};
+ghost use Rattle.std.specs.Prelude.{◌≡◌, ◌⊎◌, ◌++◌, OnOk};
 ghost use Rattle.std.specs.Io.KnownBytes.{Appends};
 ghost use Rattle.std.specs.IoError.{error_kind};
+ghost use Rattle.file_names.specs.Shown.{shown};
 ghost use Rattle.gather_command.specs.Failure.{IsMemoryOr, after_path, before_path, failure_of, line_of, path_of, status_of};
 
+use file_names::print_shown;
 use gather_files::GatherFault;
 use hub_kinds::NoMemory;
-use std::alloc::AllocError;
+use night_ends::print_text;
+use std::alloc::{AllocError, Global};
 use std::io;
 use std::io::Write;
+
+/// That a failure was reported: the status that the program ends with, and whether the line is printed.
+#[derive(Debug, Drop)]
+pub struct Reported {
+    pub status: u8,
+    pub printed: io::Result<()>,
+}
 
 /// Why a run failed.
 #[derive(Clone, Copy, Debug, PartialEq, Eq)]
 pub enum Failure<'a> {
-    /// The arguments are not those of the command line.
-    Usage,
     /// The file at this path can't be read.
     Input(&'a str),
     /// With the file at this path there are more than 4,294,967,295 bytes.
@@ -53,36 +61,38 @@ impl<'a> Failure<'a> {
         }
     }
 
-    /// Prints the failure's line, as `print` does, and gives the status that the program ends with. A fault of standard error is
-    /// passed over.
-    pub fn report<E: Write>(self, err: &mut E) -> u8
-        ensures { result ≡ status_of self.entry }
+    /// Prints the failure's line, and gives the status that the program ends with, and whether the line is printed. A fault of standard
+    /// error changes no status.
+    pub fn report<E: Write>(self, alloc: Global, err: &mut E) -> Reported
+        ensures status { result.status ≡ status_of self.entry }
+        ensures values { (result.status ≡ 4) ⊎ ((result.status ≡ 5) ⊎ (result.status ≡ 6)) }
+        ensures printed { OnOk result.printed (Appends (E.contents err.old) (E.contents err.new) (line_of self.entry)) }
     {
-        let _ = self.print(err);
-        let _ = err.flush();
-        self.status()
+        Reported {
+            printed: self.print(alloc, err),
+            status: self.status(),
+        }
     }
 
     /// Writes the line that says what failed (own).
-    pub fn print<E: Write>(self, err: &mut E) -> io::Result<()>
+    pub fn print<E: Write>(self, alloc: Global, err: &mut E) -> io::Result<()>
         ensures { OnOk result (Appends (E.contents err.old) (E.contents err.new) (line_of self.entry)) }
     {
-        err.write_all(self.before_path().as_bytes())?;
-        self.print_path(err)
+        print_text(self.before_path().as_bytes(), err)?;
+        self.print_path(alloc, err)
     }
 
-    fn print_path<E: Write>(self, err: &mut E) -> io::Result<()>
-        ensures { OnOk result (Appends (E.contents err.old) (E.contents err.new) (path_of self.entry ++ after_path self.entry)) }
+    fn print_path<E: Write>(self, alloc: Global, err: &mut E) -> io::Result<()>
+        ensures { OnOk result (Appends (E.contents err.old) (E.contents err.new) (shown (path_of self.entry) ++ after_path self.entry)) }
     {
-        err.write_all(self.path().as_bytes())?;
-        err.write_all(self.after_path().as_bytes())
+        print_shown(alloc, self.path().as_bytes(), err)?;
+        print_text(self.after_path().as_bytes(), err)
     }
 
     fn before_path(self) -> &'static str
         ensures { result.now ≡ before_path self.entry }
     {
         match self {
-            Failure::Usage => "nighthub_gather: usage",
             Failure::Input(_) | Failure::TooLong(_) => "nighthub_gather: input ",
             Failure::Output(_) | Failure::There(_) | Failure::PartThere(_) =>
                 "nighthub_gather: output ",
@@ -100,7 +110,7 @@ impl<'a> Failure<'a> {
             | Failure::Output(path)
             | Failure::There(path)
             | Failure::PartThere(path) => path,
-            Failure::Usage | Failure::Stdout | Failure::Memory => "",
+            Failure::Stdout | Failure::Memory => "",
         }
     }
 
@@ -111,19 +121,15 @@ impl<'a> Failure<'a> {
             Failure::TooLong(_) => " too long\n",
             Failure::There(_) => " is there already\n",
             Failure::PartThere(_) => ".part is there already\n",
-            Failure::Usage
-            | Failure::Input(_)
-            | Failure::Output(_)
-            | Failure::Stdout
-            | Failure::Memory => "\n",
+            Failure::Input(_) | Failure::Output(_) | Failure::Stdout | Failure::Memory => "\n",
         }
     }
 
     fn status(self) -> u8
-        ensures { result ≡ status_of self.entry }
+        ensures status { result ≡ status_of self.entry }
+        ensures values { (result ≡ 4) ⊎ ((result ≡ 5) ⊎ (result ≡ 6)) }
     {
         match self {
-            Failure::Usage => 2,
             Failure::Input(_) | Failure::TooLong(_) => 4,
             Failure::Output(_) | Failure::There(_) | Failure::PartThere(_) | Failure::Stdout => 5,
             Failure::Memory => 6,

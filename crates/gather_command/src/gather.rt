@@ -1,5 +1,6 @@
-ghost use Rattle.std.specs.Prelude.{◌≡◌, ◌≢◌, ◌≤◌, ◌⊎◌, IfErr, IfOk, map};
+ghost use Rattle.std.specs.Prelude.{◌≡◌, ◌≢◌, ◌≤◌, ◌⊎◌, IfErr, IfOk, IsErrOf, IsOk, Ok, false, map, true};
 ghost use Rattle.std.specs.Io.KnownBytes.{Appends};
+ghost use Rattle.night_ends.specs.Paths.{AsksForNew};
 ghost use Rattle.gather_command.specs.CommandLine.{IsCommandLine};
 ghost use Rattle.gather_command.specs.Failure.{IsStatus};
 ghost use Rattle.gather_command.specs.Outcome.{IsMade, IsOfRun, IsOutcome, IsPrinted, NamesOut, paths_of, status_by};
@@ -7,11 +8,13 @@ ghost use Rattle.gather_command.specs.Outcome.{IsMade, IsOfRun, IsOutcome, IsPri
 use crate::all::{Gathering, gather_all};
 use crate::command::{Asked, Job, read_words};
 use crate::failure::Failure;
+use crate::part::PartFile;
 use crate::total::{Total, append_total};
-use night_ends::print_text;
+use night_ends::{Absent, Created, Looked, Presence, create_new_at, look_at, print_text};
+use std::alloc::Global;
 use std::convert::AsStr;
-use std::fs::{OpenFile, OpenOptions};
-use std::io::{ErrorKind, Write};
+use std::fs::OpenFile;
+use std::io::{ErrorKind, Seek, Write};
 use std::rt::Files;
 use std::{fs, io};
 
@@ -32,8 +35,8 @@ where
 {
     match read_words(rt.alloc(), words) {
         Ok(Asked::Gather(job)) => gather(rt, &job, out, err),
-        Ok(Asked::Show(text)) => finish(text.as_bytes(), 0, out, err),
-        Err(failure) => failure.report(err),
+        Ok(Asked::Show(text)) => finish(rt.alloc(), text.as_bytes(), 0, out, err),
+        Err(mistake) => mistake.report(rt.alloc(), err).status,
     }
 }
 
@@ -51,12 +54,13 @@ where
 {
     match made(rt, job) {
         Ok(gathering) => finish(
+            rt.alloc(),
             gathering.lines.as_slice(),
             status_by(&gathering.total),
             out,
             err,
         ),
-        Err(failure) => failure.report(err),
+        Err(failure) => failure.report(rt.alloc(), err).status,
     }
 }
 
@@ -73,11 +77,9 @@ fn made<'a, R: Files + AllocGlobal>(rt: &R, job: &Job<'a>) -> Result<Gathering, 
     ensures made { IfOk result (IsMade job.now) }
     ensures err { IfErr result IsOfRun }
 {
-    if is_there(rt, job.out)? {
-        return Err(Failure::There(job.out));
-    }
+    let absent = absent_by(look_at(rt, job.out), job.out)?;
     let beside = format!(in rt.alloc(); "{}.part", job.out)?;
-    let gathering = written(rt, job, beside.as_str())?;
+    let gathering = written(rt, job, absent, beside.as_str())?;
     match put_in_place(rt, beside.as_str(), job.out) {
         Ok(()) => Ok(gathering),
         Err(error) => {
@@ -98,33 +100,39 @@ fn unopened<'a>(kind: ErrorKind, out: &'a str) -> Failure<'a>
     }
 }
 
-fn is_there<'a, R: Files + AllocGlobal>(rt: &R, path: &'a str) -> Result<bool, Failure<'a>>
-    ensures { IfErr result IsOfRun }
+/// That nothing is at `path`, if the system says so.
+fn absent_by<'a>(looked: Looked<'a>, path: &'a str) -> Result<Absent<'a>, Failure<'a>>
+    requires { looked.path ≡ path.now }
+    ensures place { IfOk result (λ absent. absent ≡ path.now) }
+    ensures free { IfOk result (λ _. looked.entry.answer ≡ Ok false) }
+    ensures absent { looked.entry.answer ≡ Ok false → IsOk result }
+    ensures there { looked.entry.answer ≡ Ok true → IsErrOf result (Failure.There path.entry) }
+    ensures err { IfErr result IsOfRun }
 {
-    match fs::exists(rt, path) {
-        Ok(there) => Ok(there),
-        Err(error) => Err(Failure::of_fault(error, Failure::Output(path))),
+    match looked.presence() {
+        Presence::Nothing(absent) => Ok(absent),
+        Presence::Something => Err(Failure::There(path)),
+        Presence::Unknown(error) => Err(Failure::of_fault(error, Failure::Output(path))),
     }
 }
 
-/// Writes the files to a path where nothing stands yet, and asks the system to keep what was written; takes it away where that fails.
+/// Writes the files to a new one, which goes to the place where nothing is, and asks the system to keep what was written; takes it away
+/// where that fails.
 fn written<'a, R: Files + AllocGlobal>(
     rt: &R,
     job: &Job<'a>,
+    _absent: Absent<'a>,
     beside: &str,
 ) -> Result<Gathering, Failure<'a>>
+    requires { _absent ≡ job.now.out.now }
     ensures made { IfOk result (IsMade job.now) }
     ensures err { IfErr result IsOfRun }
 {
-    let file = match OpenOptions::new()
-        .write(true)
-        .create_new(true)
-        .open(rt, beside)
-    {
-        Ok(file) => file,
+    let created = match create_new_at(rt, String::from_str(rt.alloc(), beside)?) {
+        Ok(created) => created,
         Err(error) => return Err(Failure::of_fault(error, unopened(error.kind(), job.out))),
     };
-    match written_to(rt, job, file) {
+    match written_to(rt, job, created) {
         Ok(gathering) => Ok(gathering),
         Err(failure) => {
             let _ = rt.remove_file(beside);
@@ -133,27 +141,23 @@ fn written<'a, R: Files + AllocGlobal>(
     }
 }
 
-/// Writes the files to an open one.
-fn written_to<'a, R: Files + AllocGlobal, F: Write + OpenFile + Drop>(
+/// Writes the files to a new one.
+fn written_to<'a, R: Files + AllocGlobal, F: Write + OpenFile + Seek + Drop>(
     rt: &R,
     job: &Job<'a>,
-    file: F,
+    created: Created<F>,
 ) -> Result<Gathering, Failure<'a>>
+    requires { AsksForNew created.how }
     ensures made { IfOk result (IsMade job.now) }
     ensures err { IfErr result IsOfRun }
 {
-    let mut file = file;
+    let mut file = PartFile::of(created.into_file());
     let mut gathering = gather_all(rt, job.out, job.files.as_slice(), &mut file)?;
     append_total(&mut gathering.lines, &gathering.total)?;
-    match kept(&mut file) {
+    match file.keep() {
         Ok(()) => Ok(gathering),
         Err(error) => Err(Failure::of_fault(error, Failure::Output(job.out))),
     }
-}
-
-fn kept<F: Write + OpenFile>(file: &mut F) -> io::Result<()> {
-    file.flush()?;
-    file.sync_all()
 }
 
 /// Renames a file, and asks the system to keep its name in the folder.
@@ -173,14 +177,20 @@ fn folder_of(path: &str) -> &str {
 
 /// Prints a text on standard output, and nothing else, where the writer declares what it has. Gives the status, or that of a failure of
 /// standard output.
-fn finish<O: Write, E: Write>(text: &[u8], status: u8, out: &mut O, err: &mut E) -> u8
+fn finish<O: Write, E: Write>(
+    alloc: Global,
+    text: &[u8],
+    status: u8,
+    out: &mut O,
+    err: &mut E,
+) -> u8
     requires { status ≤ 1 }
     ensures status { (result ≡ status) ⊎ (result ≡ 5) }
     ensures printed { result ≢ 5 → Appends (O.contents out.old) (O.contents out.new) text.now }
     ensures quiet { result ≢ 5 → err.new ≡ err.old }
 {
     if print_text(text, out).is_err() {
-        return Failure::Stdout.report(err);
+        return Failure::Stdout.report(alloc, err).status;
     }
     status
 }

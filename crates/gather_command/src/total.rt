@@ -1,9 +1,10 @@
 ghost use Rattle.std.specs.Prelude.{◌≡◌, ◌++◌, ◌<◌, ◌≤◌, ◌+◌, false, OnOk};
 ghost use Rattle.hub_kinds.specs.declared.limits.TheConstants.{LONGEST_TEXT};
-ghost use Rattle.gather_command.specs.Members.{IfTaken, counted, files_line, is_cut, no_total, total_line, total_with};
+ghost use Rattle.gather_command.specs.Members.{IfTaken, counted, files_line, is_cut, no_total, not_whole, total_line, total_with};
 
 use crate::lines::{append, append_number};
-use gather_files::{End, Gathered};
+use crate::outcome::{Outcome, taken_of};
+use gather_files::End;
 use hub_kinds::{LONGEST_TEXT, NoMemory};
 
 /// How many files are taken, how many of these are cut off, how many are set aside, and how many bytes are gathered.
@@ -42,40 +43,41 @@ fn is_cut(end: End) -> u64
 {
     match end {
         End::Whole | End::Mended => 0,
-        End::CutOff | End::CutInHeader => 1,
+        End::CutOff | End::OtherSeparator(_) | End::CutInHeader => 1,
     }
 }
 
 /// Whether with this file more bytes are gathered than an input may have.
-pub(crate) fn is_over(total: Total, gathered: Gathered) -> bool
+pub(crate) fn is_over(total: Total, outcome: Outcome) -> bool
     requires { total.bytes ≤ LONGEST_TEXT }
-    ensures { result ≡ false → IfTaken gathered (λ taken. total.bytes + taken.len ≤ LONGEST_TEXT) }
+    ensures room { result ≡ false → IfTaken outcome (λ taken. total.bytes + taken.len ≤ LONGEST_TEXT) }
+    ensures over { IfTaken outcome (λ taken. total.bytes + taken.len ≤ LONGEST_TEXT) → result ≡ false }
 {
-    match gathered {
-        Gathered::Taken(taken) => taken.len > LONGEST_TEXT - total.bytes,
-        Gathered::SetAside(_) => false,
+    match taken_of(outcome) {
+        Some(taken) => taken.len > LONGEST_TEXT - total.bytes,
+        None => false,
     }
 }
 
 /// The total with one file more, of which so many bytes go in.
-pub(crate) fn with_file(total: Total, gathered: Gathered) -> Total
+pub(crate) fn with_file(total: Total, outcome: Outcome) -> Total
     requires files { total.taken + total.set_aside < 4611686018427387904 }
     requires cut { total.cut_off ≤ total.taken }
-    requires room { IfTaken gathered (λ taken. total.bytes + taken.len ≤ LONGEST_TEXT) }
+    requires room { IfTaken outcome (λ taken. total.bytes + taken.len ≤ LONGEST_TEXT) }
     requires bytes { total.bytes ≤ LONGEST_TEXT }
-    ensures total { result ≡ total_with gathered total }
+    ensures total { result ≡ total_with outcome total }
     ensures files { result.taken + result.set_aside ≡ total.taken + total.set_aside + 1 }
     ensures cut { result.cut_off ≤ result.taken }
     ensures bytes { result.bytes ≤ LONGEST_TEXT }
 {
-    match gathered {
-        Gathered::Taken(taken) => Total {
+    match taken_of(outcome) {
+        Some(taken) => Total {
             taken: total.taken + 1,
             cut_off: total.cut_off + is_cut(taken.end),
             set_aside: total.set_aside,
             bytes: total.bytes + taken.len,
         },
-        Gathered::SetAside(_) => Total {
+        None => Total {
             taken: total.taken,
             cut_off: total.cut_off,
             set_aside: total.set_aside + 1,
@@ -97,7 +99,14 @@ fn append_files(out: &mut Vec<u8>, total: &Total) -> Result<(), NoMemory>
     ensures { OnOk result (out.new.items ≡ out.old.items ++ files_line total.now) }
 {
     append_counted(out, "total taken ", total.taken)?;
-    append_counted(out, " cut off ", total.cut_off)?;
+    append_not_whole(out, total)
+}
+
+/// How many files are truncated, and how many are set aside.
+fn append_not_whole(out: &mut Vec<u8>, total: &Total) -> Result<(), NoMemory>
+    ensures { OnOk result (out.new.items ≡ out.old.items ++ not_whole total.now) }
+{
+    append_counted(out, " truncated ", total.cut_off)?;
     append_counted(out, " set aside ", total.set_aside)
 }
 

@@ -3,8 +3,7 @@ use Rattle.std.proofs.Common.{◌≡◌, ◌∙◌, ℕ, ◌+◌, ◌<◌, ◌�
 use Rattle.std.proofs.Common.{length, refl, sym, ap, arith}
 use Rattle.std.specs.Io.KnownBytes.{Appends}
 use Rattle.std.proofs.lemmas.List.{append-nil, length-append, take-append-le, take_at}
-use Rattle.std.proofs.lemmas.List.Elements.{All-nil}
-use Rattle.x12_bytes.specs.Bytes.{is_line_end}
+use Rattle.x12_bytes.specs.Header.{header_at, terminator_of}
 use Rattle.x12_bytes.specs.HeaderTest.{is_head}
 use Rattle.batch_law.proofs.ForAbove.{head_kept}
 use Rattle.stream_read.specs.Held.{HeldValue}
@@ -18,9 +17,9 @@ nothing_written : (a : Option (List ℕ)) → Appends a a []
 nothing_written None = tt
 nothing_written (Some xs) = sym (append-nil xs)
 
-pub begun_passed : (first now was : Option (List ℕ)) (held : HeldValue) → IsBegun first now held → is_head held.bytes 0 ≡ true
-    → IsPassed first now was was held nothing_passed
-begun_passed first now was held begun head = record {
+pub begun_passed : (first now was : Option (List ℕ)) (held : HeldValue) (t : ℕ) → IsBegun first now held → is_head held.bytes 0 ≡ true
+    → t ≡ terminator_of (header_at held.bytes 0) → IsPassed first now was was held (nothing_passed t)
+begun_passed first now was held t begun head named = record {
   file = begun.is_led.file;
   consumed = begun.is_led.consumed;
   total = begun.is_led.total;
@@ -32,7 +31,8 @@ begun_passed first now was held begun head = record {
   few_written = omega arith;
   seen = omega arith;
   few = omega arith;
-  ends = All-nil (λ (b : ℕ). is_line_end b ≡ true);
+  ends = refl;
+  terminator = named ∙ ap (λ (l : List ℕ). terminator_of (header_at l 0)) begun.is_led.led_is;
   whole = λ more. ([], (omega arith, λ q low lt. absurd (omega (arith, low, lt))), refl);
   start = refl;
   stands = omega arith;
@@ -77,7 +77,7 @@ cause_told (Some xs) (Some ys) held begun = by_rest begun.enough
     by_rest : (106 ≤ length held.bytes) ⊎ (ys ≡ []) → cause_of held.bytes ≡ cause_of (led xs)
     by_rest (inl le) =
         let size : length held.bytes ≡ length (led file) = ap (λ (l : List ℕ). length l) begun.is_led.led_is in
-        here ∙ ap cause_by (sym (take-append-le 4 (led file) ys (omega (arith, le, size))))
+        here ∙ ap cause_by (sym (take-append-le 106 (led file) ys (omega (arith, le, size))))
         ∙ ap cause_of (sym (led_kept file ys (omega (arith, le, size))))
         ∙ ap (λ (l : List ℕ). cause_of (led l)) (sym begun.is_led.consumed)
     by_rest (inr e) =
@@ -86,8 +86,20 @@ cause_told (Some xs) (Some ys) held begun = by_rest begun.enough
 
 pub set_aside : (first now was : Option (List ℕ)) (held : HeldValue) → IsBegun first now held → is_head held.bytes 0 ≡ false
     → IsSetAside first was was (cause_of held.bytes)
-set_aside first now was held begun none =
-    record { no_header = no_header_told first now held begun none; named = cause_told first now held begun; nothing = refl }
+set_aside None now was held begun none = record {
+  file = begun.is_led.file;
+  told_all = tt;
+  no_header = ap (λ (l : List ℕ). is_head l 0) (sym begun.is_led.led_is) ∙ none;
+  named = ap cause_of begun.is_led.led_is;
+  nothing = refl;
+}
+set_aside (Some xs) now was held begun none = record {
+  file = xs;
+  told_all = refl;
+  no_header = no_header_told (Some xs) now held begun none;
+  named = cause_told (Some xs) now held begun;
+  nothing = refl;
+}
 
 -- more is declared than there is room for
 pub passed_too_long : (first now was is : Option (List ℕ)) (held : HeldValue) (p : Passing) (most : ℕ)

@@ -1,72 +1,75 @@
--- The CR and LF at the end of bytes.
-use Rattle.std.proofs.Common.{◌≡◌, ◌∙◌, ℕ, ◌+◌, ◌-◌, ◌<◌, ◌≤◌, List, true, inl, inr}
+-- The CR and LF at the end of bytes, and the padding.
+use Rattle.std.proofs.Common.{◌≡◌, ◌∙◌, ℕ, ◌+◌, ◌-◌, ◌<◌, ◌≤◌, List, ◌++◌, Bool, true, false, cond, nat_eq}
 use Rattle.std.proofs.Common.{length, take, drop, get_or, sym, ap, arith}
 use Rattle.std.specs.Prelude.{reverse}
-use Rattle.std.specs.List.{suffix_len}
-use Rattle.std.proofs.lemmas.Bool.{cases_lt}
-use Rattle.std.proofs.lemmas.List.{get_or-drop, get_or-reverse, get_or-take, length-drop, length-reverse}
-use Rattle.std.proofs.lemmas.List.Sums.{prefix_len-le-length, prefix_len_passes}
+use Rattle.std.specs.List.{prefix_len, suffix_len}
+use Rattle.std.proofs.lemmas.Bool.{eqb-true, false_from_ne_true, eq-eqb}
+use Rattle.std.proofs.lemmas.List.{append_assoc, get_or-drop, get_or-reverse, length-drop, length-reverse, reverse-append, take-append-drop}
+use Rattle.std.proofs.lemmas.List.Folds.{prefix_len-append}
+use Rattle.std.proofs.lemmas.List.Sums.{prefix_len-le-length, prefix_len_passes, prefix_len_stops}
 use Rattle.x12_bytes.specs.Bytes.{is_line_end}
-use Rattle.gather_files.specs.Gathering.{AreEnds}
+use Rattle.gather_files.specs.Gathering.{AreEnds, is_end}
 
 -- each of the last so many
-passes : (xs : List ℕ) (k d : ℕ) → length xs - suffix_len is_line_end xs ≤ k → k < length xs → is_line_end (get_or xs k d) ≡ true
-passes xs k d low high =
+pub passes : (f : ℕ → Bool) (xs : List ℕ) (k d : ℕ) → length xs - suffix_len f xs ≤ k → k < length xs → f (get_or xs k d) ≡ true
+passes f xs k d low high =
     let n : ℕ = length xs in
-    let count : suffix_len is_line_end xs ≤ n =
-    omega (arith, prefix_len-le-length is_line_end (reverse xs), length-reverse xs) in
-    let there : n - 1 - k < suffix_len is_line_end xs = omega (arith, low, high, count) in
+    let count : suffix_len f xs ≤ n =
+    omega (arith, prefix_len-le-length f (reverse xs), length-reverse xs) in
+    let there : n - 1 - k < suffix_len f xs = omega (arith, low, high, count) in
     let within : n - 1 - k < n = omega (arith, high) in
     let place : n - 1 - (n - 1 - k) ≡ k = omega (arith, high) in
-    ap (λ (j : ℕ). is_line_end (get_or xs j d)) (sym place) ∙ ap is_line_end (sym (get_or-reverse xs (n - 1 - k) d within))
-    ∙ prefix_len_passes is_line_end (reverse xs) (n - 1 - k) d there
+    ap (λ (j : ℕ). f (get_or xs j d)) (sym place) ∙ ap f (sym (get_or-reverse xs (n - 1 - k) d within))
+    ∙ prefix_len_passes f (reverse xs) (n - 1 - k) d there
+
+-- and not the one before them
+pub stops : (f : ℕ → Bool) (xs : List ℕ) (d : ℕ) → suffix_len f xs < length xs
+    → f (get_or xs (length xs - 1 - suffix_len f xs) d) ≡ false
+stops f xs d lt =
+    ap f (sym (get_or-reverse xs (suffix_len f xs) d lt)) ∙ prefix_len_stops f (reverse xs) d (omega (arith, lt, length-reverse xs))
 
 pub last_are_ends : (xs : List ℕ) → AreEnds (drop (length xs - suffix_len is_line_end xs) xs)
 last_are_ends xs k d lt =
     let at : ℕ = length xs - suffix_len is_line_end xs in
     let size : length (drop at xs) ≡ length xs - at = length-drop at xs in
-    ap is_line_end (get_or-drop at xs k d) ∙ passes xs (at + k) d (omega arith) (omega (arith, lt, size))
+    ap is_line_end (get_or-drop at xs k d) ∙ passes is_line_end xs (at + k) d (omega arith) (omega (arith, lt, size))
 
--- of what was looked at now
-pub new_are_ends : (held : List ℕ) (seen more : ℕ) → seen ≤ length held → more ≡ suffix_len is_line_end (drop seen held)
-    → AreEnds (drop (length held - more) held)
-new_are_ends held seen more within is k d lt =
+-- of bytes after others
+suffix_behind : (f : ℕ → Bool) (xs ys : List ℕ)
+    → suffix_len f (xs ++ ys) ≡ cond (nat_eq (suffix_len f ys) (length ys)) (length ys + suffix_len f xs) (suffix_len f ys)
+suffix_behind f xs ys =
+    ap (λ (l : List ℕ). prefix_len f l) (reverse-append xs ys) ∙ prefix_len-append f (reverse ys) (reverse xs)
+    ∙ ap (λ (n : ℕ). cond (nat_eq (suffix_len f ys) n) (n + suffix_len f xs) (suffix_len f ys)) (length-reverse ys)
+
+pub suffix_all : (f : ℕ → Bool) (xs ys : List ℕ) → suffix_len f ys ≡ length ys → suffix_len f (xs ++ ys) ≡ length ys + suffix_len f xs
+suffix_all f xs ys is =
+    suffix_behind f xs ys
+    ∙ ap (λ (t : Bool). cond t (length ys + suffix_len f xs) (suffix_len f ys)) (eq-eqb (suffix_len f ys) (length ys) is)
+
+pub suffix_some : (f : ℕ → Bool) (xs ys : List ℕ) → suffix_len f ys < length ys → suffix_len f (xs ++ ys) ≡ suffix_len f ys
+suffix_some f xs ys lt =
+    suffix_behind f xs ys
+    ∙ ap (λ (t : Bool). cond t (length ys + suffix_len f xs) (suffix_len f ys))
+    (false_from_ne_true (nat_eq (suffix_len f ys) (length ys))
+    (λ yes. absurd (omega (arith, lt, eqb-true (suffix_len f ys) (length ys) yes))))
+
+-- of all bytes, where so many were looked at before
+pub looked : (before held : List ℕ) (seen : ℕ) → before ++ held ≡ (before ++ take seen held) ++ drop seen held
+looked before held seen =
+    ap (λ (l : List ℕ). before ++ l) (sym (take-append-drop seen held)) ∙ sym (append_assoc before (take seen held) (drop seen held))
+
+pub all_new : (before held : List ℕ) (seen ends more : ℕ) → suffix_len is_end (before ++ take seen held) ≡ ends
+    → more ≡ suffix_len is_end (drop seen held) → more ≡ length held - seen → suffix_len is_end (before ++ held) ≡ ends + more
+all_new before held seen ends more was is all =
     let rest : List ℕ = drop seen held in
-    let n : ℕ = length held in
-    let size : length rest ≡ n - seen = length-drop seen held in
-    let few : more ≤ length rest =
-    omega (arith, is, prefix_len-le-length is_line_end (reverse rest), length-reverse rest) in
-    let high : k < n - (n - more) = omega (arith, lt, length-drop (n - more) held) in
-    let place : seen + (length rest - more + k) ≡ n - more + k = omega (arith, size, few, within) in
-    let low : length rest - suffix_len is_line_end rest ≤ length rest - more + k = omega (arith, is) in
-    ap is_line_end (get_or-drop (n - more) held k d ∙ ap (λ (j : ℕ). get_or held j d) (sym place)
-    ∙ sym (get_or-drop seen held (length rest - more + k) d))
-    ∙ passes rest (length rest - more + k) d low (omega (arith, high, few, size))
+    let size : length rest ≡ length held - seen = length-drop seen held in
+    let found : suffix_len is_end (before ++ held) ≡ length rest + suffix_len is_end (before ++ take seen held) =
+    ap (λ (l : List ℕ). suffix_len is_end l) (looked before held seen)
+    ∙ suffix_all is_end (before ++ take seen held) rest (omega (arith, is, all, size)) in
+    omega (arith, found, was, all, size)
 
--- and of what was looked at before, where all of that are
-pub all_are_ends : (held : List ℕ) (seen ends more : ℕ) → seen ≤ length held → ends ≤ seen
-    → AreEnds (drop (seen - ends) (take seen held)) → more ≡ suffix_len is_line_end (drop seen held) → more ≡ length held - seen
-    → AreEnds (drop (length held - (ends + more)) held)
-all_are_ends held seen ends more within few before is all k d lt =
-    let n : ℕ = length held in
-    let at : ℕ = n - (ends + more) in
-    let start : at ≡ seen - ends = omega (arith, all, few, within) in
-    let size : k < n - at = omega (arith, lt, length-drop at held) in
-    ap is_line_end (get_or-drop at held k d) ∙ elim (cases_lt (at + k) seen) [
-      | inl low ↦
-          let j : at + k ≡ seen - ends + k = omega (arith, start) in
-          let short : length (drop (seen - ends) (take seen held)) ≡ seen - (seen - ends) =
-          length-drop (seen - ends) (take seen held) ∙ ap (λ (m : ℕ). m - (seen - ends)) (taken held seen within) in
-          sym (ap is_line_end (get_or-drop (seen - ends) (take seen held) k d
-          ∙ get_or-take seen held (seen - ends + k) d (omega (arith, low, j))
-          ∙ ap (λ (m : ℕ). get_or held m d) (sym j))) ∙ before k d (omega (arith, low, j, short))
-      | inr high ↦
-          let rest : List ℕ = drop seen held in
-          let j : seen + (at + k - seen) ≡ at + k = omega (arith, high) in
-          let whole : length rest ≡ n - seen = length-drop seen held in
-          ap is_line_end (ap (λ (m : ℕ). get_or held m d) (sym j) ∙ sym (get_or-drop seen held (at + k - seen) d))
-          ∙ passes rest (at + k - seen) d (omega (arith, is, all, whole)) (omega (arith, high, whole, size))
-    ]
-  where
-    taken : (xs : List ℕ) (n : ℕ) → n ≤ length xs → length (take n xs) ≡ n
-    taken xs n le = Rattle.std.proofs.lemmas.List.length-take-le n xs le
+pub some_new : (before held : List ℕ) (seen more : ℕ) → more ≡ suffix_len is_end (drop seen held) → more < length held - seen
+    → suffix_len is_end (before ++ held) ≡ more
+some_new before held seen more is few =
+    ap (λ (l : List ℕ). suffix_len is_end l) (looked before held seen)
+    ∙ suffix_some is_end (before ++ take seen held) (drop seen held) (omega (arith, is, few, length-drop seen held)) ∙ sym is

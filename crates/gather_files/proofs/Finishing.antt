@@ -1,9 +1,9 @@
 -- A file is closed at its end.
 use Rattle.std.proofs.Common.{◌≡◌, ◌∙◌, ℕ, ◌+◌, ◌-◌, ◌≤◌, ◌⊎◌, List, [], ◌∷◌, ◌++◌, true, inl, inr, Option, Some, None, IfSome}
 use Rattle.std.proofs.Common.{length, take, drop, refl, sym, ap, subst, arith}
-use Rattle.std.specs.List.{All}
+use Rattle.std.specs.List.{All, suffix_len}
 use Rattle.std.specs.Io.KnownBytes.{Appends, Consumes, IsAtEnd}
-use Rattle.std.proofs.lemmas.List.{append_assoc, append-nil, length-append, take-append-drop, take_all, take_at}
+use Rattle.std.proofs.lemmas.List.{append_assoc, append-nil, length-append, length-take-le, take-append-drop, take-take, take_at}
 use Rattle.std.proofs.lemmas.List.Elements.{All-cons, All-head, All-nil, All-tail}
 use Rattle.x12_bytes.specs.Bytes.{is_line_end}
 use Rattle.x12_bytes.specs.Header.{terminator_of}
@@ -12,13 +12,16 @@ use Rattle.env_index.proofs.ForAbove.{head_within}
 use Rattle.batch_law.proofs.ForAbove.{head_kept, head_more, head_past, header_past}
 use Rattle.stream_read.specs.Held.{HeldValue}
 use Rattle.gather_law.specs.Gathered.{HoldsInterchanges, IsWholeBefore, StandsApart}
-use Rattle.gather_law.proofs.ForAbove.{goes_up, holds_on, keeps, reads_on}
-use Rattle.gather_files.specs.Closing.{IsClosedSo, IsOwnTerminator, PutsBehind, PutsInPlace, StaysApart}
+use Rattle.gather_law.proofs.ForAbove.{holds_on, keeps, reads_on}
+use Rattle.gather_files.specs.Closing.{EndsSo, IsClosedSo, IsOwnTerminator, PutsBehind, PutsInPlace, StaysApart}
 use Rattle.gather_files.specs.Gathering.{AreEnds, IsPassed, IsTaken}
-use Rattle.gather_files.specs.Lead.{led}
+use Rattle.gather_files.specs.Lead.{body_of, led, pads, unpadded}
 use Rattle.gather_files.specs.declared.closing.Closed.{Closed}
 use Rattle.gather_files.specs.declared.gather.Passing.{Passing}
 use Rattle.gather_files.proofs.Behind.{IsPut}
+use Rattle.gather_files.proofs.Ends.{last_are_ends}
+use Rattle.gather_files.proofs.EndsOn.{ends_on}
+use Rattle.gather_files.proofs.Padding.{header_stays, not_looked, unpadded_past}
 use Rattle.gather_files.proofs.Passing.{whole_now, writes_on}
 use Rattle.gather_files.proofs.Untouched.{held_apart}
 
@@ -56,40 +59,53 @@ record Stays (front held closed : List ℕ) (count n : ℕ) : Type 0 where
   whole : IsWholeBefore front kept n
   header : (106 ≤ length kept) ⊎ (ends ≡ [])
 
-module _ (first now was mid : Option (List ℕ)) (held : HeldValue) (p : Passing) (e : ℕ) (passed : IsPassed first now was mid held p)
-    (few : e ≤ length held.bytes) (grows : p.seen - p.ends ≤ length held.bytes - e)
-    (are : AreEnds (drop (length held.bytes - e) held.bytes))
+module _ (first now was mid : Option (List ℕ)) (held : HeldValue) (p : Passing) (passed : IsPassed first now was mid held p)
     (closed : List ℕ) (count : ℕ) where
-  abbrev at : ℕ
-  at = length held.bytes - e
+  abbrev size : ℕ
+  size = length held.bytes - suffix_len (pads p.terminator) held.bytes
 
-  as_it_is : PutsBehind held.bytes closed count → Stays passed.front held.bytes closed count p.interchanges
+  abbrev body : List ℕ
+  body = unpadded p.terminator held.bytes
+
+  abbrev at : ℕ
+  at = length body - suffix_len is_line_end body
+
+  body_size : length body ≡ size
+  body_size = length-take-le size held.bytes (omega arith)
+
+  grows : p.seen - p.ends ≤ at
+  grows = not_looked passed.front held.bytes p.seen p.ends passed.seen passed.few passed.ends p.terminator
+
+  all_whole : IsWholeBefore passed.front body p.interchanges
+  all_whole = whole_now first now was mid held p size (omega (arith, grows, body_size)) passed
+
+  as_it_is : PutsBehind body closed count → Stays passed.front body closed count p.interchanges
   as_it_is puts = record {
-    kept = held.bytes;
+    kept = body;
     ends = [];
-    is = sym (append-nil held.bytes);
+    is = sym (append-nil body);
     are = All-nil (λ (b : ℕ). is_line_end b ≡ true);
     puts = puts;
     untouched = λ _. refl;
-    whole = subst (λ (l : List ℕ). IsWholeBefore passed.front l p.interchanges) (take_all (length held.bytes) held.bytes (omega arith))
-        (whole_now first now was mid held p (length held.bytes) (omega (arith, passed.seen)) passed);
+    whole = all_whole;
     header = inr refl;
   }
 
-  in_place : PutsInPlace (take at held.bytes) closed count → Stays passed.front held.bytes closed count p.interchanges
+  in_place : PutsInPlace (take at body) closed count → Stays passed.front body closed count p.interchanges
   in_place puts = record {
-    kept = take at held.bytes;
-    ends = drop at held.bytes;
-    is = sym (take-append-drop at held.bytes);
-    are = are;
+    kept = take at body;
+    ends = drop at body;
+    is = sym (take-append-drop at body);
+    are = last_are_ends body;
     puts = puts.puts;
     untouched = λ none. absurd (omega (arith, none, puts.some));
-    whole = whole_now first now was mid held p at grows passed;
+    whole = subst (λ (l : List ℕ). IsWholeBefore passed.front l p.interchanges)
+        (sym (take-take at size held.bytes (omega (arith, body_size)))) (whole_now first now was mid held p at grows passed);
     header = inl puts.header;
   }
 
-  stays : PutsBehind held.bytes closed count ⊎ PutsInPlace (take at held.bytes) closed count
-      → Stays passed.front held.bytes closed count p.interchanges
+  stays : PutsBehind body closed count ⊎ PutsInPlace (take at body) closed count
+      → Stays passed.front body closed count p.interchanges
   stays (inl puts) = as_it_is puts
   stays (inr puts) = in_place puts
 
@@ -121,29 +137,37 @@ all_told None now text consumed end = tt
 all_told (Some xs) None text consumed end = absurd consumed
 all_told (Some xs) (Some ys) text consumed end = consumed ∙ ap (λ (l : List ℕ). text ++ l) end ∙ append-nil text
 
-pub finished : (first now was mid is : Option (List ℕ)) (held : HeldValue) (p : Passing) (e : ℕ) (c : Closed)
-    → (passed : IsPassed first now was mid held p) → IsAtEnd now → e ≤ length held.bytes
-    → p.seen - p.ends ≤ length held.bytes - e → AreEnds (drop (length held.bytes - e) held.bytes)
-    → IsClosedSo held.bytes (take (length held.bytes - e) held.bytes) c → StaysApart held.bytes c → Appends mid is c.bytes.items
+abbrev pub body_at : List ℕ → ℕ
+body_at body = length body - suffix_len is_line_end body
+
+pub finished : (first now was mid is : Option (List ℕ)) (held : HeldValue) (p : Passing) (c : Closed)
+    → (passed : IsPassed first now was mid held p) → IsAtEnd now
+    → IsClosedSo (unpadded p.terminator held.bytes) (take (body_at (unpadded p.terminator held.bytes)) (unpadded p.terminator held.bytes)) c
+    → StaysApart (unpadded p.terminator held.bytes) c → Appends mid is c.bytes.items
     → IsTaken first was is (record { interchanges = p.interchanges + c.interchanges; len = p.written + length c.bytes.items; end = c.end })
-finished first now was mid is held p e c passed at_end few grows are so stays_apart wrote =
+finished first now was mid is held p c passed at_end so stays_apart wrote =
     let closed : List ℕ = c.bytes.items in
     let front : List ℕ = passed.front in
-    let s : Stays front held.bytes closed c.count p.interchanges =
-    stays first now was mid held p e passed few grows are closed c.count so.puts in
-    let file : List ℕ = led passed.file in
+    let t : ℕ = p.terminator in
+    let body : List ℕ = unpadded t held.bytes in
+    let s : Stays front body closed c.count p.interchanges = stays first now was mid held p passed closed c.count so.puts in
+    let before : IsWholeBefore front body p.interchanges = all_whole first now was mid held p passed closed c.count in
+    let file : List ℕ = body_of passed.file in
+    let body_is : file ≡ front ++ body =
+    ap (λ (k : ℕ). unpadded k (led passed.file)) (sym passed.terminator) ∙ ap (unpadded t) passed.led_is
+    ∙ unpadded_past front held.bytes p.seen p.ends passed.seen passed.few passed.ends t in
     let divided : file ≡ (front ++ s.kept) ++ s.ends =
-    passed.led_is ∙ ap (λ (l : List ℕ). front ++ l) s.is ∙ sym (append_assoc front s.kept s.ends) in
+    body_is ∙ ap (λ (l : List ℕ). front ++ l) s.is ∙ sym (append_assoc front s.kept s.ends) in
     let whole : IsWholeBefore front closed p.interchanges =
     subst (λ (l : List ℕ). IsWholeBefore front l p.interchanges) (sym s.puts.is)
     (reads_on front s.kept s.puts.rest p.interchanges s.whole) in
     let holds : HoldsInterchanges (front ++ closed) (p.interchanges + c.interchanges) =
     holds_on front closed p.interchanges c.interchanges whole so.holds in
     let as_it_was : (c.count ≡ 0 → front ++ closed ≡ file) = λ none. (
-    let same : closed ≡ held.bytes =
+    let same : closed ≡ body =
     s.puts.is ∙ ap (λ (l : List ℕ). s.kept ++ l) (nothing_left s.puts.rest (s.puts.few ∙ none)) ∙ append-nil s.kept
     ∙ sym (append-nil s.kept) ∙ ap (λ (l : List ℕ). s.kept ++ l) (sym (s.untouched none)) ∙ sym s.is in
-    ap (λ (l : List ℕ). front ++ l) same ∙ sym passed.led_is) in
+    ap (λ (l : List ℕ). front ++ l) same ∙ sym body_is) in
     record {
       closed = front ++ closed;
       goes_in = record {
@@ -161,15 +185,15 @@ finished first now was mid is held p e c passed at_end few grows are so stays_ap
         };
         len = (let n : p.written + length closed ≡ length (front ++ closed) =
             omega (arith, passed.size, length-append front closed) in n);
-        begins = begins_so file front s.kept s.ends closed s.puts.rest passed.begins divided s.header s.puts.is;
+        begins = begins_so file front s.kept s.ends closed s.puts.rest (header_stays (led passed.file) passed.begins) divided
+            s.header s.puts.is;
         keeps = keeps (front ++ closed) (p.interchanges + c.interchanges) holds;
         holds = holds;
         whole = λ w. as_it_was (so.whole w);
-        ended = λ w. goes_up front closed p.interchanges whole (so.ended w);
-        apart = λ a. (let own = stays_apart (held_apart front held.bytes p.interchanges
-            (subst (λ (l : List ℕ). IsWholeBefore front l p.interchanges) (take_all (length held.bytes) held.bytes (omega arith))
-            (whole_now first now was mid held p (length held.bytes) (omega (arith, passed.seen)) passed))
-            (subst StandsApart passed.led_is a)) in (as_it_was own.0, own.1));
+        ends = subst (λ (l : List ℕ). EndsSo l (front ++ closed) c.count c.end) (sym body_is)
+            (ends_on front body closed p.interchanges c.count c.end before whole so.ends);
+        apart = λ a. (let own = stays_apart (held_apart front body p.interchanges before (subst StandsApart body_is a)) in
+            (as_it_was own.0, own.1));
       };
       written = writes_on was mid is front closed passed.written wrote;
     }

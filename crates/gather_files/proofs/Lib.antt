@@ -1,11 +1,14 @@
 pub mod Beginning
 pub mod Behind
 pub mod Ends
+pub mod EndsOn
 pub mod Finishing
 pub mod Keeps
 pub mod LastFound
 pub mod LastPart
 pub mod Leading
+pub mod OpenEnds
+pub mod Padding
 pub mod Passing
 pub mod Sealing
 pub mod Untouched

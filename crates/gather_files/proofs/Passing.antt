@@ -2,12 +2,14 @@
 use Rattle.std.proofs.Common.{◌≡◌, ◌∙◌, ℕ, ◌+◌, ◌-◌, ◌<◌, ◌≤◌, List, ◌++◌, Option, Some, None}
 use Rattle.std.proofs.Common.{length, take, drop, refl, sym, ap, subst, arith}
 use Rattle.std.specs.Io.KnownBytes.{Appends}
-use Rattle.std.proofs.lemmas.List.{append_assoc, drop-drop, drop-take, length-append, length-drop, length-take-le, take-append-drop}
+use Rattle.std.proofs.lemmas.List.{append_assoc, drop-take, length-append, length-drop, length-take-le, take-append-drop}
 use Rattle.std.proofs.lemmas.List.{take-append-le, take-take, take_all, take_at}
+use Rattle.std.specs.List.{suffix_len}
+use Rattle.x12_bytes.specs.Header.{header_at, terminator_of}
 use Rattle.x12_bytes.specs.HeaderTest.{is_head}
 use Rattle.env_index.proofs.ForAbove.{head_within}
 use Rattle.batch_law.specs.Batches.{ChainUpTo}
-use Rattle.batch_law.proofs.ForAbove.{head_more}
+use Rattle.batch_law.proofs.ForAbove.{head_more, header_kept}
 use Rattle.batch_cut.proofs.ForAbove.{stands_on}
 use Rattle.batch_cut.specs.Scouting.{Advances, Stands}
 use Rattle.batch_cut.specs.declared.scout.Advanced.{Advanced}
@@ -16,7 +18,7 @@ use Rattle.stream_read.specs.Held.{HasRead, HeldValue}
 use Rattle.stream_read.proofs.ForAbove.{consumes_on}
 use Rattle.gather_law.specs.Gathered.{IsWholeBefore, PassesInterchanges}
 use Rattle.gather_law.proofs.ForAbove.{gives_up, reads_on}
-use Rattle.gather_files.specs.Gathering.{AreEnds, IsPassed, kept_of}
+use Rattle.gather_files.specs.Gathering.{IsPassed, is_end, kept_of}
 use Rattle.gather_files.specs.Lead.{led}
 use Rattle.gather_files.specs.declared.gather.Passing.{Passing}
 use Rattle.gather_files.proofs.Leading.{led_kept}
@@ -55,13 +57,14 @@ stands_within read at (Some i) stands = omega (arith, head_within read at stands
 -- the interchanges that are whole are written and given up
 pub passed_on : (first now was mid is : Option (List ℕ)) (old new : HeldValue) (p q : Passing) (a : Advanced)
     → q.ends ≤ length old.bytes → p.seen - p.ends ≤ length old.bytes - q.ends
-    → AreEnds (drop (length old.bytes - q.ends) old.bytes)
+    → ((before : List ℕ) → suffix_len is_end (before ++ take p.seen old.bytes) ≡ p.ends → suffix_len is_end (before ++ old.bytes) ≡ q.ends)
     → Advances (take (length old.bytes - q.ends) old.bytes) p.scout.at a → Appends mid is (take a.scout.at old.bytes)
     → new.bytes ≡ drop a.scout.at old.bytes → new.total ≡ old.total → q.scout.at ≡ 0
     → Stands (drop a.scout.at (take (length old.bytes - q.ends) old.bytes)) 0 q.scout.inside → q.written ≡ p.written + a.scout.at
-    → q.seen ≡ length new.bytes → q.interchanges ≡ p.interchanges + a.count → IsPassed first now was mid old p
+    → q.seen ≡ length new.bytes → q.interchanges ≡ p.interchanges + a.count → q.terminator ≡ p.terminator
+    → IsPassed first now was mid old p
     → IsPassed first now was is new q
-passed_on first now was mid is old new p q a few grows ends advances wrote given total start stands size seen counted passed =
+passed_on first now was mid is old new p q a few grows ends advances wrote given total start stands size seen counted named passed =
     let held : List ℕ = old.bytes in
     let m : ℕ = length held - q.ends in
     let at : ℕ = a.scout.at in
@@ -104,9 +107,12 @@ passed_on first now was mid is old new p q a few grows ends advances wrote given
       few_written = omega (arith, size, counted, advances.few, passed.few_written);
       seen = omega (arith, seen);
       few = omega (arith, seen, new_size, few, within);
-      ends = subst AreEnds (sym (ap (λ (l : List ℕ). drop (q.seen - q.ends) l) (take_all q.seen new.bytes (omega (arith, seen)))
-          ∙ ap (λ (k : ℕ). drop k new.bytes) left ∙ ap (λ (l : List ℕ). drop (m - at) l) given
-          ∙ drop-drop (m - at) at held ∙ ap (λ (k : ℕ). drop k held) sum)) ends;
+      ends = ap (λ (l : List ℕ). suffix_len is_end ((passed.front ++ take at held) ++ l))
+          (take_all q.seen new.bytes (omega (arith, seen)) ∙ given)
+          ∙ ap (λ (l : List ℕ). suffix_len is_end l) (append_assoc passed.front (take at held) (drop at held)
+          ∙ ap (λ (l : List ℕ). passed.front ++ l) (take-append-drop at held))
+          ∙ ends passed.front passed.ends;
+      terminator = named ∙ passed.terminator;
       whole = subst (λ (k : ℕ). IsWholeBefore (passed.front ++ take at held) (kept_of new.bytes q) k) (sym counted)
           (subst (λ (l : List ℕ). IsWholeBefore (passed.front ++ l) (kept_of new.bytes q) (p.interchanges + a.count)) gone
           (subst (λ (l : List ℕ). IsWholeBefore (passed.front ++ take at kept) l (p.interchanges + a.count)) behind whole));
@@ -145,7 +151,11 @@ passed_more first now later was is old new p n passed read =
       few_written = passed.few_written;
       seen = omega (arith, passed.seen, size);
       few = passed.few;
-      ends = subst (λ (l : List ℕ). AreEnds (drop k l)) (sym seen) passed.ends;
+      ends = ap (λ (l : List ℕ). suffix_len is_end (passed.front ++ l)) seen ∙ passed.ends;
+      terminator = passed.terminator
+          ∙ ap terminator_of (ap (λ (l : List ℕ). header_at l 0) (sym (take_at (led passed.file) read.more c refl))
+          ∙ header_kept (led passed.file ++ read.more) c (omega (arith, length-append (led passed.file) read.more)) 0
+          (omega (arith, head_within (led passed.file) 0 passed.begins)) ∙ ap (λ (l : List ℕ). header_at l 0) (sym longer));
       whole = subst (λ (l : List ℕ). IsWholeBefore passed.front l p.interchanges) (sym kept) passed.whole;
       start = passed.start;
       stands = subst (λ (l : List ℕ). Stands l 0 p.scout.inside) (sym kept) passed.stands;

@@ -1,18 +1,19 @@
 -- X12.5, interchange: a file that is put after what was gathered so far (own).
-use Rattle.std.specs.Prelude.{◌≡◌, ℕ, ◌≤◌, ◌⊎◌, true, false, List, ◌++◌, ◌-◌, drop, length, take, Option, None, IfSome}
-use Rattle.std.specs.List.{All}
+use Rattle.std.specs.Prelude.{◌≡◌, ℕ, ◌≤◌, ◌⊎◌, ◌||◌, Bool, true, false, List, ◌++◌, ◌-◌, length, take, Option, None, IfSome}
+use Rattle.std.specs.List.{All, suffix_len}
 use Rattle.std.specs.Io.KnownBytes.{Appends, Consumes, IsAtEnd}
 use Rattle.x12_bytes.specs.Bytes.{is_line_end}
+use Rattle.x12_bytes.specs.Header.{header_at, terminator_of}
 use Rattle.x12_bytes.specs.HeaderTest.{is_head}
 use Rattle.x12_bytes.specs.declared.layout.TheConstants.{HEADER_LEN}
 use Rattle.stream_read.specs.Held.{HeldValue}
 use Rattle.stream_read.specs.declared.held.StreamFault.{StreamFault}
 use Rattle.stream_read.specs.declared.held.StreamFault.TheVariants as stream
 use Rattle.batch_cut.specs.Scouting.{Stands}
-use Rattle.gather_law.specs.Gathered.{GoesUpTo, HoldsInterchanges, IsWholeBefore, KeepsToItself, StandsApart}
+use Rattle.gather_law.specs.Gathered.{HoldsInterchanges, IsWholeBefore, KeepsToItself, StandsApart}
 use Rattle.gather_files.specs.Causes.{cause_of}
-use Rattle.gather_files.specs.Closing.{Closes, IsUntouched}
-use Rattle.gather_files.specs.Lead.{led}
+use Rattle.gather_files.specs.Closing.{Closes, EndsSo, IsUntouched}
+use Rattle.gather_files.specs.Lead.{body_of, is_padding, led}
 use Rattle.gather_files.specs.declared.cause.Cause.{Cause}
 use Rattle.gather_files.specs.declared.fault.GatherFault.{GatherFault}
 use Rattle.gather_files.specs.declared.fault.GatherFault.TheVariants as fault
@@ -22,21 +23,21 @@ use Rattle.gather_files.specs.declared.gather.Taken.{Taken}
 use Rattle.gather_files.specs.declared.gather.Gathered.{Gathered}
 use Rattle.gather_files.specs.declared.gather.Gathered.TheVariants as gathered
 
--- a file that was read to its end goes in without the blanks at its front, closed: it begins with a header, and its interchanges go on up
--- to its end, whatever file follows
+-- a file that was read to its end goes in without the blanks at its front and the padding at its end, closed: it begins with a header, and
+-- its interchanges go on up to its end, whatever file follows
 pub record GoesIn (told : Option (List ℕ)) (closed : List ℕ) (taken : Taken) : Type 0 where
   pub file : List ℕ
   pub told_all : IfSome told (λ xs. xs ≡ file)
   pub count : ℕ
   pub few : count ≤ 17
-  pub closes : Closes (led file) closed count
+  pub closes : Closes (body_of file) closed count
   pub len : taken.len ≡ length closed
   pub begins : is_head closed 0 ≡ true
   pub keeps : KeepsToItself closed
   pub holds : HoldsInterchanges closed taken.interchanges
-  pub whole : taken.end ≡ end.Whole → closed ≡ led file
-  pub ended : (taken.end ≡ end.Whole) ⊎ (taken.end ≡ end.Mended) → GoesUpTo closed (length closed)
-  pub apart : StandsApart (led file) → (closed ≡ led file) × IsUntouched taken.end
+  pub whole : taken.end ≡ end.Whole → closed ≡ body_of file
+  pub ends : EndsSo (body_of file) closed count taken.end
+  pub apart : StandsApart (body_of file) → (closed ≡ body_of file) × IsUntouched taken.end
 
 -- what is written then
 pub record IsTaken (told was is : Option (List ℕ)) (taken : Taken) : Type 0 where
@@ -46,8 +47,10 @@ pub record IsTaken (told was is : Option (List ℕ)) (taken : Taken) : Type 0 wh
 
 -- a file isn't taken where no header begins after the blanks at its front, for the cause that its first bytes name
 pub record IsSetAside (told was is : Option (List ℕ)) (cause : Cause) : Type 0 where
-  pub no_header : IfSome told (λ xs. is_head (led xs) 0 ≡ false)
-  pub named : IfSome told (λ xs. cause ≡ cause_of (led xs))
+  pub file : List ℕ
+  pub told_all : IfSome told (λ xs. xs ≡ file)
+  pub no_header : is_head (led file) 0 ≡ false
+  pub named : cause ≡ cause_of (led file)
   pub nothing : is ≡ was
 
 abbrev pub IsGathered : (told was is : Option (List ℕ)) → Gathered → Type 0
@@ -72,7 +75,11 @@ pub record IsBegun (first now : Option (List ℕ)) (held : HeldValue) : Type 0 w
 abbrev pub AreEnds : List ℕ → Type 0
 AreEnds bytes = All (λ b. is_line_end b ≡ true) bytes
 
--- what of the bytes held was looked at, but for CR and LF at its end
+-- what isn't looked at at the end of what is held: CR and LF, whose place a terminator may take, and padding
+abbrev pub is_end : ℕ → Bool
+is_end b = is_line_end b || is_padding b
+
+-- what of the bytes held was looked at, but for these
 abbrev pub kept_of : List ℕ → Passing → List ℕ
 kept_of held passing = take (passing.seen - passing.ends) held
 
@@ -90,16 +97,18 @@ pub record IsPassed (first now was is : Option (List ℕ)) (held : HeldValue) (p
   pub few_written : passing.interchanges ≤ passing.written
   pub seen : passing.seen ≤ length held.bytes
   pub few : passing.ends ≤ passing.seen
-  pub ends : AreEnds (drop (passing.seen - passing.ends) (take passing.seen held.bytes))
+  pub ends : suffix_len is_end (front ++ take passing.seen held.bytes) ≡ passing.ends
+  pub terminator : passing.terminator ≡ terminator_of (header_at (led file) 0)
   pub whole : IsWholeBefore front (kept_of held.bytes passing) passing.interchanges
   pub start : passing.scout.at ≡ 0
   pub stands : Stands (kept_of held.bytes passing) 0 passing.scout.inside
 
 -- nothing is passed on yet
-abbrev pub nothing_passed : Passing
-nothing_passed = record { scout = record { at = 0; inside = None }; interchanges = 0; written = 0; seen = 0; ends = 0 }
+abbrev pub nothing_passed : (terminator : ℕ) → Passing
+nothing_passed terminator =
+    record { terminator = terminator; scout = record { at = 0; inside = None }; interchanges = 0; written = 0; seen = 0; ends = 0 }
 
--- what closing and writing may fail by
+-- writing fails as the output, and closing if memory is refused
 abbrev pub IsOfWriting : GatherFault → Type 0
 IsOfWriting fault.Read = ⊥
 IsOfWriting fault.TooLong = ⊥

@@ -1,11 +1,11 @@
-ghost use Rattle.std.specs.Prelude.{◌≡◌, ◌≤◌, ◌⊎◌, ℕ, IfOk, List, Some, true, length, take};
+ghost use Rattle.std.specs.Prelude.{◌≡◌, ◌≢◌, ◌≤◌, ℕ, IfOk, List, Some, true, length, take};
 ghost use Rattle.x12_bytes.specs.Bytes.{is_line_end};
 ghost use Rattle.batch_cut.specs.Scouting.{Advances};
-ghost use Rattle.gather_law.specs.Gathered.{GoesUpTo, HoldsInterchanges};
-ghost use Rattle.gather_files.specs.Closing.{IsClosedBy, IsClosedSo, IsLastSegment, StaysApart};
-ghost use Rattle.gather_files.specs.declared.gather.End.TheVariants.{Mended, Whole};
+ghost use Rattle.gather_law.specs.Gathered.{HoldsInterchanges};
+ghost use Rattle.gather_files.specs.Closing.{EndsInHeader, EndsSo, IsClosedBy, IsClosedSo, IsLastSegment, StaysApart};
 
 use crate::gather::End;
+use crate::trailer::open_end;
 use batch_cut::{Advanced, Scout, advance, may_begin};
 use hub_kinds::NoMemory;
 use memchr::memchr;
@@ -47,13 +47,14 @@ pub(crate) fn close(alloc: Global, held: &[u8], kept: usize) -> Result<Closed, N
     let Advanced { scout, count } = from_the_front(held);
     match scout.inside {
         None if scout.at == held.len() => as_it_is(alloc, held, End::Whole, count as u64),
-        None => spaced(alloc, held, End::CutInHeader),
+        None => cut_in_header(alloc, held),
         Some(inside) if inside.part.lead == held.len() => {
-            as_it_is(alloc, held, End::CutOff, count as u64 + 1)
+            let end = open_end(&held[scout.at..], inside.delims);
+            as_it_is(alloc, held, end, count as u64 + 1)
         }
         Some(_) => match last_open(&held[..kept]) {
             Some(last) => terminated(alloc, &held[..kept], last),
-            None => spaced(alloc, held, End::CutOff),
+            None => spaced(alloc, held),
         },
     }
 }
@@ -61,7 +62,7 @@ pub(crate) fn close(alloc: Global, held: &[u8], kept: usize) -> Result<Closed, N
 fn as_it_is(alloc: Global, held: &[u8], end: End, interchanges: u64) -> Result<Closed, NoMemory>
     requires holds { HoldsInterchanges held.now interchanges }
     requires few { interchanges ≤ length held.now }
-    requires ended { (end ≡ Whole) ⊎ (end ≡ Mended) → GoesUpTo held.now (length held.now) }
+    requires ends { EndsSo held.now held.now 0 end }
     ensures closed { IfOk result (λ c. (kept : List ℕ) → IsClosedSo held.now kept c) }
     ensures untouched { IfOk result (λ c. c.count ≡ 0) }
     ensures told { IfOk result (λ c. c.end ≡ end) }
@@ -126,11 +127,7 @@ fn terminated(alloc: Global, file: &[u8], last: OpenInterchange) -> Result<Close
 {
     let mut bytes = Vec::from_slice(alloc, file)?;
     bytes.push(last.terminator)?;
-    let end = if is_ended(bytes.as_slice()) {
-        End::Mended
-    } else {
-        End::CutOff
-    };
+    let end = end_after(bytes.as_slice());
     Ok(Closed {
         bytes,
         count: 1,
@@ -139,31 +136,53 @@ fn terminated(alloc: Global, file: &[u8], last: OpenInterchange) -> Result<Close
     })
 }
 
-/// Whether no interchange is open at the end of a file.
-fn is_ended(file: &[u8]) -> bool
-    ensures { result ≡ true → GoesUpTo file.now (length file.now) }
+/// How a file ends after which something was put.
+fn end_after(bytes: &[u8]) -> End
+    ensures ends { (file : List ℕ) (count : ℕ) → 1 ≤ count → EndsSo file bytes.now count result }
+    ensures put { result ≢ End.Whole }
 {
-    let scout = from_the_front(file).scout;
-    scout.inside.is_none() && scout.at == file.len()
+    let advanced = from_the_front(bytes);
+    match advanced.scout.inside {
+        Some(inside) => open_end(&bytes[advanced.scout.at..], inside.delims),
+        None if advanced.scout.at == bytes.len() => End::Mended,
+        None => End::CutInHeader,
+    }
 }
 
-/// A file with sixteen spaces after it, and after them the terminator of its interchange, where one is open.
-fn spaced(alloc: Global, file: &[u8], end: End) -> Result<Closed, NoMemory>
-    requires { (end ≡ Whole) ⊎ (end ≡ Mended) → ⊥ }
+/// A file at whose end a header may begin, with what keeps it from beginning there.
+fn cut_in_header(alloc: Global, file: &[u8]) -> Result<Closed, NoMemory>
+    requires { EndsInHeader file.now }
+    ensures { IfOk result (λ c. (kept : List ℕ) → IsClosedSo file.now kept c) }
+{
+    let closed = spaced(alloc, file)?;
+    Ok(Closed {
+        bytes: closed.bytes,
+        count: closed.count,
+        interchanges: closed.interchanges,
+        end: End::CutInHeader,
+    })
+}
+
+/// A file with sixteen spaces after it, and after them the terminator of its interchange, if one is open.
+fn spaced(alloc: Global, file: &[u8]) -> Result<Closed, NoMemory>
     ensures { IfOk result (λ c. (kept : List ℕ) → IsClosedSo file.now kept c) }
 {
     let mut bytes = Vec::from_slice(alloc, file)?;
     bytes.extend_from_slice(b"                ")?;
     let Advanced { scout, count } = from_the_front(bytes.as_slice());
     match scout.inside {
-        None => Ok(Closed {
-            bytes,
-            count: 16,
-            interchanges: count as u64,
-            end,
-        }),
+        None => {
+            let end = end_after(bytes.as_slice());
+            Ok(Closed {
+                bytes,
+                count: 16,
+                interchanges: count as u64,
+                end,
+            })
+        }
         Some(inside) => {
             bytes.push(inside.delims.terminator)?;
+            let end = end_after(bytes.as_slice());
             Ok(Closed {
                 bytes,
                 count: 17,

@@ -1,18 +1,19 @@
-ghost use Rattle.std.specs.Prelude.{◌≡◌, ◌+◌, ◌-◌, ◌≤◌, ◌<◌, ℕ, List, drop, take, Option, IfErr, IfOk, IfSome, IsErrOf, OnOk, false};
+ghost use Rattle.std.specs.Prelude.{◌≡◌, ◌+◌, ◌-◌, ◌≤◌, ◌<◌, ◌++◌, ℕ, List, take, Option, IfErr, IfOk, IfSome, IsErrOf, OnOk, false};
 ghost use Rattle.std.specs.Prelude.{length, true};
 ghost use Rattle.std.specs.Io.KnownBytes.{Appends, IsAtEnd};
 ghost use Rattle.hub_kinds.specs.declared.limits.TheConstants.{LONGEST_TEXT};
 ghost use Rattle.stream_read.specs.Source.{HasFailed};
 ghost use Rattle.x12_bytes.specs.Bytes.{is_line_end};
 ghost use Rattle.std.specs.List.{suffix_len};
-ghost use Rattle.gather_files.specs.Gathering.{AreEnds, IsBegun, IsGathered, IsLed, IsOfWriting, IsPassed, IsTaken};
+ghost use Rattle.gather_files.specs.Gathering.{is_end, IsBegun, IsGathered, IsLed, IsOfWriting, IsPassed, IsTaken};
+ghost use Rattle.x12_bytes.specs.Header.{header_at, terminator_of};
 ghost use Rattle.x12_bytes.specs.HeaderTest.{is_head};
-ghost use Rattle.gather_files.specs.declared.fault.GatherFault.TheVariants.{Read, TooLong};
+ghost use Rattle.gather_files.specs.declared.fault.GatherFault.TheVariants.{Output, Read, TooLong};
 
 use crate::cause::{Cause, cause_of};
 use crate::closing::close;
 use crate::fault::GatherFault;
-use crate::lead::skip_blanks;
+use crate::lead::{is_padding, skip_blanks, unpadded};
 use batch_cut::{Advanced, Scout, advance, forget};
 use std::alloc::Global;
 use std::io::Write;
@@ -48,8 +49,17 @@ pub enum End {
     Mended,
     /// It was cut off in its last interchange, which has no end: the night refuses that.
     CutOff,
+    /// Its last interchange has no end, since its IEA is written with another separator than its ISA names: the night refuses that.
+    OtherSeparator(Separators),
     /// It was cut off in what may begin a header.
     CutInHeader,
+}
+
+/// The element separator that an ISA names, and the byte that its IEA has in its place.
+#[derive(Clone, Copy, Debug, PartialEq, Eq)]
+pub struct Separators {
+    pub named: u8,
+    pub written: u8,
 }
 
 /// Puts a file after what was gathered so far: read window by window, from its first header on, closed at its end. Held of it are a
@@ -95,6 +105,7 @@ fn pass_all<S: Source, W: Write>(
 {
     let mut held = held;
     let mut passing = Passing {
+        terminator: first_terminator(held.bytes()),
         scout: Scout {
             at: 0,
             inside: None,
@@ -145,22 +156,32 @@ fn read_led<S: Source>(held: &mut Held, file: &mut S, window: usize) -> Result<b
     Ok(full)
 }
 
+/// The terminator that the header at the front of these bytes names.
+fn first_terminator(bytes: &[u8]) -> u8
+    requires { is_head bytes.now 0 ≡ true }
+    ensures { result ≡ terminator_of (header_at bytes.now 0) }
+{
+    bytes[HEADER_LEN - 1]
+}
+
 /// How far a file is passed on.
 #[derive(Clone, Copy, Debug)]
 pub(crate) struct Passing {
+    /// The terminator of its first interchange.
+    pub(crate) terminator: u8,
     /// The interchange that is open at the front of what is held, as far as it is followed.
     pub(crate) scout: Scout,
     /// How many interchanges are written.
     pub(crate) interchanges: u64,
     /// How many bytes are written.
     pub(crate) written: u64,
-    /// How many bytes of what is held were looked at, before which so many are CR and LF alone.
+    /// How many bytes of what is held were looked at, at whose end so many are CR, LF and padding alone.
     pub(crate) seen: usize,
     pub(crate) ends: usize,
 }
 
-/// Writes the interchanges that are whole in what is held, and gives their bytes up. CR and LF at the end of what is held aren't looked
-/// at, since a terminator may have to take their place.
+/// Writes the interchanges that are whole in what is held, and gives their bytes up. CR, LF and padding at the end of what is held aren't
+/// looked at, since a terminator may have to take their place, or the file may end with them.
 fn pass_on<W: Write>(held: &mut Held, passing: Passing, out: &mut W) -> Result<Passing, GatherFault>
     requires passed { (first now was is : Option (List ℕ)) × IsPassed first now was is held.old passing }
     requires few { held.old.total ≤ LONGEST_TEXT }
@@ -178,6 +199,7 @@ fn pass_on<W: Write>(held: &mut Held, passing: Passing, out: &mut W) -> Result<P
     put(out, &held.bytes()[..ahead.at])?;
     held.give_up(ahead.at);
     Ok(Passing {
+        terminator: passing.terminator,
         scout: forget(ahead),
         interchanges: passing.interchanges + count as u64,
         written: passing.written + ahead.at as u64,
@@ -186,9 +208,10 @@ fn pass_on<W: Write>(held: &mut Held, passing: Passing, out: &mut W) -> Result<P
     })
 }
 
+/// Writes `bytes` to `out`. Its only error is that of the output.
 fn put<W: Write>(out: &mut W, bytes: &[u8]) -> Result<(), GatherFault>
     ensures written { OnOk result (Appends (W.contents out.old) (W.contents out.new) bytes.now) }
-    ensures err { IfErr result IsOfWriting }
+    ensures failed { IfErr result (λ fault. fault ≡ Output) }
 {
     match out.write_all(bytes) {
         Ok(()) => Ok(()),
@@ -196,22 +219,36 @@ fn put<W: Write>(out: &mut W, bytes: &[u8]) -> Result<(), GatherFault>
     }
 }
 
-/// How many CR and LF stand at the end, where so many bytes were looked at before, of which so many were CR and LF at their end. Each
-/// byte is looked at once.
+/// How many bytes at the end are CR, LF and padding, where so many bytes were looked at before, at whose end so many were such. Each byte
+/// is looked at once.
 fn ends_of(held: &[u8], seen: usize, ends: usize) -> usize
     requires seen { seen ≤ length held.now }
     requires ends { ends ≤ seen }
-    requires before { AreEnds (drop (seen - ends) (take seen held.now)) }
     ensures within { result ≤ length held.now }
     ensures grows { seen - ends ≤ length held.now - result }
-    ensures ends { AreEnds (drop (length held.now - result) held.now) }
+    ensures ends { (before : List ℕ) → suffix_len is_end (before ++ take seen held.now) ≡ ends
+        → suffix_len is_end (before ++ held.now) ≡ result }
 {
-    let more = count_line_ends(&held[seen..]);
+    let more = count_ends(&held[seen..]);
     if more == held.len() - seen {
         ends + more
     } else {
         more
     }
+}
+
+/// How many bytes at the end are CR, LF and padding.
+fn count_ends(bytes: &[u8]) -> usize
+    ensures count { result ≡ suffix_len is_end bytes.now }
+    ensures within { result ≤ length bytes.now }
+{
+    bytes.iter().rev().take_while(|b| is_end(**b)).count()
+}
+
+fn is_end(byte: u8) -> bool
+    ensures { result ≡ is_end byte }
+{
+    byte == b'\r' || byte == b'\n' || is_padding(byte)
 }
 
 /// How many CR and LF stand at the end.
@@ -240,8 +277,8 @@ fn finish<W: Write>(
         → IsGathered first was (W.contents out.new) (Gathered.Taken taken)) }
     ensures err { IfErr result IsOfWriting }
 {
-    let ends = ends_of(held.bytes(), passing.seen, passing.ends);
-    let closed = close(alloc, held.bytes(), held.bytes().len() - ends)?;
+    let body = unpadded(held.bytes(), passing.terminator);
+    let closed = close(alloc, body, body.len() - count_line_ends(body))?;
     let bytes = closed.bytes.as_slice();
     put(out, bytes)?;
     Ok(Taken {

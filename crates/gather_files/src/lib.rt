@@ -1,9 +1,12 @@
-//! Files of a day, one after another: each goes in without the blanks at its front, and closed at its end, so that it stands apart from
-//! the files that are put after it.
+//! Files of a day, one after another: each goes in without the blanks at its front and the padding at its end, and closed, so that it
+//! stands apart from the files that are put after it.
 //!
 //! Proved:
-//! - `gather_file` puts a file in just so: from its first header on, byte for byte, but for what closes it, seventeen bytes at most; its
-//!   interchanges, which are counted, go on up to its end, whatever file follows;
+//! - `gather_file` puts a file in just so: from its first header on, without the NUL and Ctrl-Z that fill its end, byte for byte, but for
+//!   what closes it, seventeen bytes at most; its interchanges, which are counted, go on up to its end, whatever file follows;
+//! - it is reported as whole or mended only if no interchange is open at its end, as cut off only if one is, and as cut off in a header
+//!   only if what stands there may begin one; that the IEA of an open one is written with another separator than its ISA names is said
+//!   exactly where its last segment is such an IEA;
 //! - nothing is put after a file that stands apart from others by itself;
 //! - a file that isn't taken has the cause that is named, and nothing of it is written.
 //!
@@ -14,11 +17,13 @@
 
 mod cause;
 mod closing;
+mod elements;
 mod fault;
 mod gather;
 mod lead;
+mod trailer;
 
-pub use cause::{Cause, cause_of};
+pub use cause::{Cause, ElementLength, cause_of};
 pub use closing::MOST_BEHIND;
 pub use fault::GatherFault;
-pub use gather::{End, Gathered, Taken, gather_file};
+pub use gather::{End, Gathered, Separators, Taken, gather_file};

@@ -1,6 +1,7 @@
 pub mod Codes
 pub mod Dependencies
 pub mod Dictionary
+pub mod Groups
 pub mod Headers
 pub mod Labels
 pub mod Nodes

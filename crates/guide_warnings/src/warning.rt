@@ -79,9 +79,20 @@ pub struct UnmetWarning {
     pub element: u64,
 }
 
+/// The group and the set of a guide whose sets usually come in another group.
+#[derive(Debug, Drop)]
+pub struct GroupWarning {
+    /// Its GS01.
+    pub group: Text,
+    /// Its ST01.
+    pub set: Text,
+}
+
 /// What a guide that is accepted holds, and can't be meant or is dangerous.
 #[derive(Debug, Drop)]
 pub enum Warning {
+    /// Its sets usually come in another group.
+    UnusualGroup(GroupWarning),
     /// A set is accepted although it has a segment that the guide doesn't know, also one that begins with ISA.
     HeaderLetThrough,
     /// The dictionary is never asked for it.

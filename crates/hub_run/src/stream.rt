@@ -39,6 +39,7 @@ pub fn run_stream<S: Source, G: Gate + Sync, R: Threads + Wait + Clock + Sync>(
     requires workers { (1 ≤ workers) × (workers ≤ 64) }
     ensures night { IfOk result (IsNightRead (S.remaining source.old) setup.now at.now) }
     ensures long { IsErrOf result RunFault.InputTooLong → IfSome (S.remaining source.old) (λ xs. LONGEST_TEXT < length xs) }
+    ensures many { IsErrOf result RunFault.InputTooLong → LONGEST_TEXT < S.given source.new }
     ensures short { OnOk result (IfSome (S.remaining source.old) (λ xs. length xs ≤ LONGEST_TEXT)) }
     ensures end { OnOk result (IsAtEnd (S.remaining source.new)) }
     ensures fault { IsErrOf result RunFault.Read → HasFailed (S.faults source.old) (S.faults source.new) (S.interruptions source.new) }

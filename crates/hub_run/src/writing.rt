@@ -5,7 +5,7 @@ ghost use Rattle.checked_text.specs.Asked.{IsFound, asked_of};
 ghost use Rattle.night_writing.specs.Night.{IsNightIn};
 ghost use Rattle.night_writing.specs.Writing.{HasRoomFor, IsBatchWritten, nothing_written};
 
-use checked_text::Finding;
+use checked_text::{Finding, ReportWriters};
 use env_index::Index;
 use hub_kinds::NoMemory;
 use mailbox::Writers;
@@ -61,7 +61,7 @@ pub(crate) fn write_night<'a>(
 }
 
 /// The same by what was found out about the places of the index.
-pub(crate) fn write_found<'a, W: Writers>(
+pub(crate) fn write_found<'a, W: Writers + ReportWriters>(
     alloc: Global,
     writers: &W,
     setup: &'a Setup,
@@ -70,6 +70,7 @@ pub(crate) fn write_found<'a, W: Writers>(
     found: Vec<Finding<'a>>,
 ) -> Result<Night, NoMemory>
     requires ready { W.is_ready writers.now }
+    requires reports { W.can_report writers.now }
     requires spans { All (λ e. HasSpans index.now.text e.interchange) index.now.entries }
     requires found { AllZip IsFound (asked_of index.now.text setup.now index.now.entries) found.items }
     ensures { IfOk result (IsNightIn index.now setup.now at.now) }

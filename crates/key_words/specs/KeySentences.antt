@@ -73,7 +73,7 @@ item_wanted (item_kind.Guide text.SegmentCode) = codes "a code of IK304 but 8"
 item_wanted (item_kind.Guide text.ElementCode) = codes "a code of IK403"
 
 abbrev pub has_to_be : (wanted : List ℕ) → List ℕ
-has_to_be wanted = two_texts (codes ", and has to be ") wanted
+has_to_be wanted = two_texts (codes ", and must be ") wanted
 
 -- where the text of a row stops, and what has to stand there
 abbrev pub stop_said : ElementStop → List ℕ
@@ -123,7 +123,7 @@ wrong_words key wanted (Some d) = value_words key wanted d
 abbrev pub fault_words : KeyFault → (key wanted : List ℕ) → Option Data → List ℕ
 fault_words fault.Missing key wanted d = key_text key ++ codes " is missing"
 fault_words fault.WrongKind key wanted d = wrong_words key wanted d
-fault_words fault.Unknown key wanted d = key_text key ++ codes " is no key of its table"
+fault_words fault.Unknown key wanted d = key_text key ++ codes " isn't a key of its table"
 
 -- the place, where there is one, and what is wrong there
 abbrev pub spot_words : KeyFault → (key wanted : List ℕ) → Option Spot → List ℕ

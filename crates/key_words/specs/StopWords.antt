@@ -29,7 +29,7 @@ token_text [] = codes "a space too many"
 token_text (b ∷ bs) = shown_text (b ∷ bs)
 
 abbrev pub may_words : Wanted → List ℕ
-may_words w = codes " stands where " ++ two_texts (wanted_words w) (codes " may stand")
+may_words w = two_texts (codes " can't be here: expected ") (wanted_words w)
 
 abbrev pub standing_words : List ℕ → Wanted → List ℕ
 standing_words token w = token_text token ++ may_words w

@@ -5,6 +5,13 @@ use Rattle.std.specs.Str.{bytes_eq}
 abbrev pub number_wanted : List ℕ
 number_wanted = codes "a number of 0 to 4294967295"
 
+-- of a cap, and of a counter
+abbrev pub cap_wanted : List ℕ
+cap_wanted = codes "a number of 1 to 99999"
+
+abbrev pub counter_wanted : List ℕ
+counter_wanted = codes "a number of 1 to 999999999"
+
 -- of a table of a hierarchy or of a dependency
 abbrev pub rule_wanted : (key : List ℕ) → List ℕ
 rule_wanted key =
@@ -57,10 +64,10 @@ table_wanted key =
 
 abbrev pub setup_number_wanted : (key : List ℕ) → List ℕ
 setup_number_wanted key =
-    if bytes_eq key (codes "cap") then number_wanted
-    else (if bytes_eq key (codes "interchange") then number_wanted
-    else (if bytes_eq key (codes "group") then number_wanted
-    else (if bytes_eq key (codes "set") then number_wanted
+    if bytes_eq key (codes "cap") then cap_wanted
+    else (if bytes_eq key (codes "interchange") then counter_wanted
+    else (if bytes_eq key (codes "group") then counter_wanted
+    else (if bytes_eq key (codes "set") then counter_wanted
     else table_wanted key)))
 
 -- of a table of a setup or of counters

@@ -42,7 +42,7 @@ fn item_wanted(kind: ListItem) -> &'static [u8]
 fn append_has_to_be(out: &mut Vec<u8>, wanted: &[u8]) -> Result<(), NoMemory>
     ensures { OnOk result (out.new.items ≡ out.old.items ++ words.has_to_be wanted.now) }
 {
-    append_texts(out, b", and has to be ", wanted)
+    append_texts(out, b", and must be ", wanted)
 }
 
 fn append_stop_said(out: &mut Vec<u8>, stop: &ElementStop<'_>) -> Result<(), NoMemory>

@@ -56,7 +56,7 @@ fn append_fault(
         KeyFault::WrongKind => append_wrong(alloc, out, refused.key.as_bytes(), wanted, value),
         KeyFault::Unknown => {
             append_key(out, refused.key.as_bytes())?;
-            append(out, b" is no key of its table")
+            append(out, b" isn't a key of its table")
         }
     }
 }

@@ -47,8 +47,7 @@ fn append_token_text(out: &mut Vec<u8>, token: &[u8]) -> Result<(), NoMemory>
 fn append_may(out: &mut Vec<u8>, wanted: Wanted) -> Result<(), NoMemory>
     ensures { OnOk result (out.new.items ≡ out.old.items ++ words.may_words wanted) }
 {
-    append(out, b" stands where ")?;
-    append_texts(out, wanted_words(wanted), b" may stand")
+    append_texts(out, b" can't be here: expected ", wanted_words(wanted))
 }
 
 fn append_token(out: &mut Vec<u8>, token: &[u8], wanted: Wanted) -> Result<(), NoMemory>

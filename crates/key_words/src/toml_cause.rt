@@ -64,25 +64,25 @@ impl TomlCause {
         ensures { result.now ≡ cause_words self }
     {
         match self {
-            TomlCause::Key => b"a key has to stand here, of letters, digits, - and _, or in quotes",
-            TomlCause::Equals => b"= has to stand behind a key",
-            TomlCause::TableEnd => b"] has to stand behind the name of a table",
-            TomlCause::RowEnd => b"]] has to stand behind the name of a list of tables",
-            TomlCause::LineEnd => b"the line has to end here",
-            TomlCause::FileEnd => b"the file has to end here",
-            TomlCause::ListComma => b"a comma or ] has to stand here",
-            TomlCause::TableComma => b"a comma or } has to stand here",
+            TomlCause::Key => b"a key must be here, of letters, digits, - and _, or in quotes",
+            TomlCause::Equals => b"a key must be followed by =",
+            TomlCause::TableEnd => b"the name of a table must be followed by ]",
+            TomlCause::RowEnd => b"the name of a list of tables must be followed by ]]",
+            TomlCause::LineEnd => b"the line must end here",
+            TomlCause::FileEnd => b"the file must end here",
+            TomlCause::ListComma => b"a comma or ] must be here",
+            TomlCause::TableComma => b"a comma or } must be here",
             TomlCause::Quotes =>
-                b"a text in quotes isn't closed, or holds a byte that may not stand in it",
-            TomlCause::Escape => b"no letter of an escape stands behind \\",
+                b"a text in quotes isn't closed, or holds a byte that it can't hold",
+            TomlCause::Escape => b"the letter of an escape must follow \\",
             TomlCause::Value =>
-                b"no value stands here: a text in quotes, a number without leading zeros, true, false, a list, a table",
-            TomlCause::Underscore => b"_ stands between digits alone",
+                b"a value must be here: a text in quotes, a number without leading zeros, true, false, a list, a table",
+            TomlCause::Underscore => b"_ can only be between digits",
             TomlCause::TooLarge => b"the number is too large",
-            TomlCause::Moment => b"no date or time stands here",
-            TomlCause::KeyTwice => b"the key stands twice",
-            TomlCause::NoTable => b"a key with a point goes on behind a value that is no table",
-            TomlCause::TooDeep => b"over 80 lists or tables stand in one another",
+            TomlCause::Moment => b"a date or time must be here",
+            TomlCause::KeyTwice => b"the key appears twice",
+            TomlCause::NoTable => b"a key with a point continues after a value that isn't a table",
+            TomlCause::TooDeep => b"more than 80 lists or tables are nested",
             TomlCause::Other => b"no TOML table",
         }
     }

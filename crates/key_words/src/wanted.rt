@@ -100,13 +100,13 @@ fn setup_number_wanted(key: &[u8]) -> &'static [u8]
     ensures { result.now ≡ wanted.setup_number_wanted key.now }
 {
     if key == b"cap".as_slice() {
-        b"a number of 0 to 4294967295"
+        b"a number of 1 to 99999"
     } else if key == b"interchange".as_slice() {
-        b"a number of 0 to 4294967295"
+        b"a number of 1 to 999999999"
     } else if key == b"group".as_slice() {
-        b"a number of 0 to 4294967295"
+        b"a number of 1 to 999999999"
     } else if key == b"set".as_slice() {
-        b"a number of 0 to 4294967295"
+        b"a number of 1 to 999999999"
     } else {
         table_wanted(key)
     }

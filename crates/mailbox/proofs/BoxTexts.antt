@@ -1,11 +1,11 @@
 -- A mailbox grows by a delivered interchange.
-use Rattle.std.proofs.Common.{◌≡◌, ◌<◌, ◌≤◌, ◌⊎◌, inl, inr, false, ◌==◌, ℕ, zero, suc, ◌+◌, ◌-◌, List, [], ◌∷◌, ◌++◌, take, drop}
-use Rattle.std.proofs.Common.{length, min, refl, sym, ap, ◌∙◌, arith, append_assoc, length-drop, length-take}
+use Rattle.std.proofs.Common.{◌≡◌, ◌<◌, ◌≤◌, ◌⊎◌, inl, inr, false, true, ◌==◌, ℕ, zero, suc, ◌+◌, ◌-◌, List, [], ◌∷◌, ◌++◌, take, drop}
+use Rattle.std.proofs.Common.{eqb-true, length, min, refl, subst, sym, ap, ◌∙◌, arith, append_assoc, length-drop, length-take}
 use Rattle.std.proofs.lemmas.Bool.{cases_lt}
-use Rattle.std.proofs.lemmas.List.{take_all, drop_all}
+use Rattle.std.proofs.lemmas.List.{take-append-drop, take_all, drop_all}
 use Rattle.count_numbers.specs.Layout.{interchanges_of}
 use Rattle.count_numbers.specs.Num.{num}
-use Rattle.count_numbers.proofs.ForAbove.{first_interchange}
+use Rattle.count_numbers.proofs.ForAbove.{first_interchange, no_interchange}
 use Rattle.partner_setup.specs.Envelopes.{envelope_to}
 use Rattle.partner_setup.specs.Setup.{SetupValue}
 use Rattle.partner_setup.specs.declared.partner.Partner.{Partner}
@@ -13,6 +13,9 @@ use Rattle.x12_write.specs.Header.{header_text}
 use Rattle.x12_write.specs.Trailer.{trailer_text}
 use Rattle.mailbox.specs.Rendered.{RenderedValue, group_of, groups_in, groups_of, groups_text, interchange_of, interchanges_text}
 use Rattle.mailbox.specs.Renumbered.{groups_behind, numbered_interchange}
+use Rattle.mailbox.specs.Woven.{HasWoven}
+use Rattle.mailbox.specs.declared.woven.Cut.{Cut}
+use Rattle.mailbox.proofs.Weaving.{woven_none, woven_on}
 
 -- as many as there are, or as many as the cap
 module _ {A : Type 0} (cap end : ℕ) (xs : List A) (e : end ≡ min (length xs) cap) where
@@ -45,6 +48,10 @@ num_on start a k = omega arith
 pub some_left : (n : ℕ) → false ≡ (n == 0) → 0 < n
 some_left zero e = absurd (cc)
 some_left (suc n) e = omega arith
+
+-- nothing is left
+pub none_left : (n : ℕ) → true ≡ (n == 0) → n ≡ 0
+none_left n e = eqb-true n 0 (sym e)
 
 -- groups that are numbered from the number that comes g after the partner's counter
 groups_renumbered : (setup : SetupValue) (p : Partner) (at : List ℕ) (g k : ℕ) (groups : List (List RenderedValue))
@@ -100,6 +107,72 @@ box_step setup p at acks groups written count end number group more xs rest firs
   where
     counted : (g c m n : ℕ) → m ≡ n → g + (c + m) ≡ g + c + n
     counted g c m n e = omega arith
+
+-- what is woven of an interchange, and of those that are left
+pub box_on : (setup : SetupValue) (p : Partner) (at : List ℕ) (acks groups written count end number group more : ℕ)
+    (xs rest : List RenderedValue) (first first_group : ℕ) (a b : List ℕ) (ka kb : List Cut)
+    → end ≡ min (length xs) p.cap → 0 < p.cap → 0 < length xs → first ≡ num p.counters.interchange acks → number ≡ num first written
+    → first_group ≡ num p.counters.group groups → group ≡ num first_group count
+    → HasWoven a ka b kb (take end xs) (numbered_interchange setup p at number group (take end xs))
+    → more ≡ length (groups_of (take end xs)) → rest ≡ drop end xs
+    → (c : List ℕ) (cs : List Cut)
+    → HasWoven b kb c cs rest (interchanges_text setup p at (acks + (written + 1)) (groups + (count + more)) (interchanges_of p.cap rest))
+    → HasWoven a ka c cs xs (interchanges_text setup p at (acks + written) (groups + count) (interchanges_of p.cap xs))
+box_on setup p at acks groups written count end number group more xs rest first first_group a b ka kb
+    e h some ef en eg ec is em er =
+    let here : List ℕ = numbered_interchange setup p at number group (take end xs) in
+    let left : List ℕ = interchanges_text setup p at (acks + (written + 1)) (groups + (count + more)) (interchanges_of p.cap rest) in
+    let whole : List ℕ = interchanges_text setup p at (acks + written) (groups + count) (interchanges_of p.cap xs) in
+    let split : take end xs ++ rest ≡ xs = ap (λ (ys : List RenderedValue). take end xs ++ ys) er ∙ take-append-drop end xs in
+    let text : here ++ left ≡ whole =
+    box_step setup p at acks groups written count end number group more xs rest first first_group [] here whole
+    e h some ef en eg ec refl em er refl in
+    woven_on a b ka kb xs (take end xs) rest here left whole is split text
+
+-- no interchange is left
+pub box_end : (setup : SetupValue) (p : Partner) (at : List ℕ) (k before : ℕ) (rest : List RenderedValue) (a : List ℕ) (ka : List Cut)
+    → length rest ≡ 0 → HasWoven a ka a ka rest (interchanges_text setup p at k before (interchanges_of p.cap rest))
+box_end setup p at k before [] a ka none =
+    let same : [] ≡ interchanges_text setup p at k before (interchanges_of p.cap []) =
+    sym (ap (interchanges_text setup p at k before) (no_interchange p.cap [] refl)) in
+    subst (λ (t : List ℕ). HasWoven a ka a ka [] t) same (woven_none a ka)
+box_end setup p at k before (x ∷ xs) a ka none = absurd (omega (arith, none))
+
+-- what is woven of a group, and of those that are left
+pub group_on : (setup : SetupValue) (p : Partner) (at : List ℕ) (first k control end : ℕ) (xs rest : List RenderedValue)
+    (a b : List ℕ) (ka kb : List Cut) → groups_of xs ≡ take end xs ∷ groups_of (drop end xs) → control ≡ num first k
+    → rest ≡ drop end xs → HasWoven a ka b kb (take end xs) (group_of setup p at control (take end xs))
+    → (c : List ℕ) (cs : List Cut)
+    → HasWoven b kb c cs rest (groups_behind setup p at first (k + 1) (groups_of rest))
+    → HasWoven a ka c cs xs (groups_behind setup p at first k (groups_of xs))
+group_on setup p at first k control end xs rest a b ka kb split ec er is =
+    let front : List RenderedValue = take end xs in
+    let here : List ℕ = group_of setup p at control front in
+    let left : List ℕ = groups_behind setup p at first (k + 1) (groups_of rest) in
+    let text : here ++ left ≡ groups_behind setup p at first k (groups_of xs) =
+    ap (λ (n : ℕ). group_of setup p at n front ++ left) ec
+    ∙ ap (λ (ys : List RenderedValue). group_of setup p at (num first k) front ++ groups_behind setup p at first (k + 1) (groups_of ys)) er
+    ∙ sym (ap (groups_behind setup p at first k) split) in
+    woven_on a b ka kb xs front rest here left (groups_behind setup p at first k (groups_of xs)) is
+    (ap (λ (ys : List RenderedValue). front ++ ys) er ∙ take-append-drop end xs) text
+
+pub groups_end : (setup : SetupValue) (p : Partner) (at : List ℕ) (first k : ℕ) (rest : List RenderedValue) (a : List ℕ) (ka : List Cut)
+    → length rest ≡ 0 → HasWoven a ka a ka rest (groups_behind setup p at first k (groups_of rest))
+groups_end setup p at first k [] a ka none = woven_none a ka
+groups_end setup p at first k (x ∷ xs) a ka none = absurd (omega (arith, none))
+
+pub group_counted : (k end all : ℕ) (xs rest : List RenderedValue) → groups_of xs ≡ take end xs ∷ groups_of (drop end xs)
+    → rest ≡ drop end xs → k + length (groups_of xs) ≡ all → k + 1 + length (groups_of rest) ≡ all
+group_counted k end all xs rest split er was =
+    let one = ap length split in
+    let left = ap (λ (ys : List RenderedValue). length (groups_of ys)) er in
+    omega (arith, one, left, was)
+
+pub group_bound : (k end all : ℕ) (xs rest : List RenderedValue) → 0 < end → end ≤ length xs → rest ≡ drop end xs
+    → k + length xs ≤ all → k + 1 + length rest ≤ all
+group_bound k end all xs rest some within er was =
+    let left = ap length er ∙ length-drop end xs in
+    omega (arith, some, within, left, was)
 
 -- the groups of one more interchange
 pub count_step : (count end cap more all : ℕ) (xs rest : List RenderedValue) → end ≡ min (length xs) cap → 0 < cap → 0 < length xs

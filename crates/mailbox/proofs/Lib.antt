@@ -14,6 +14,7 @@ pub mod Rows
 pub mod Sending
 pub mod Sharing
 pub mod Together
+pub mod Weaving
 pub mod Writing
 pub mod WrittenSets
 pub mod Tallied

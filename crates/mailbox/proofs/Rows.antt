@@ -1,7 +1,7 @@
 -- Written sets stand in a text.
 use Rattle.std.proofs.Common.{◌≡◌, ℕ, ◌+◌, ◌-◌, ◌<◌, ◌≤◌, List, [], ◌∷◌, ◌++◌, take, drop, get_or, length, map, refl, sym, ap}
-use Rattle.std.proofs.Common.{◌∙◌, arith}
-use Rattle.std.proofs.Math.Seq.{drop-append-add, drop-append_seam}
+use Rattle.std.proofs.Common.{◌∙◌, append_assoc, arith}
+use Rattle.std.proofs.Math.Seq.{drop-append_seam}
 use Rattle.std.proofs.lemmas.List.{drop-append-le, length-append, length-drop, map-append}
 use Rattle.std.proofs.lemmas.List.{get_or-map, length-map, take-append-le, take_all, take_more}
 use Rattle.std.proofs.lemmas.List.Elements.{All-append, All-cons, All-head, All-nil, All-tail}
@@ -10,14 +10,14 @@ use Rattle.std.specs.Prelude.{slice_range}
 use Rattle.count_numbers.specs.Num.{num}
 use Rattle.partner_setup.specs.declared.partner.Partner.{Partner}
 use Rattle.judged_text.specs.Judged.{PlacedValue}
-use Rattle.mailbox.specs.Kept.{StandsIn, kept_as, kept_behind, kept_in}
+use Rattle.mailbox.specs.Kept.{StandsIn, kept_as, kept_in}
 use Rattle.mailbox.specs.Mailbox.{set_text}
 use Rattle.mailbox.specs.Numbered.{group_key_of}
 use Rattle.mailbox.specs.Rendered.{RenderedValue, rendered}
 use Rattle.mailbox.specs.declared.kept.Kept.{Kept}
 use Rattle.mailbox.proofs.Keeping.{kept_rendered}
 
-slice_front : (old more : List ℕ) (a b : ℕ) → a ≤ b → b ≤ length old → slice_range (old ++ more) a b ≡ slice_range old a b
+pub slice_front : (old more : List ℕ) (a b : ℕ) → a ≤ b → b ≤ length old → slice_range (old ++ more) a b ≡ slice_range old a b
 slice_front old more a b order within =
     let long : length (drop a old) ≡ length old - a = length-drop a old in
     ap (take (b - a)) (drop-append-le a old more (omega (arith, order, within)))
@@ -87,55 +87,14 @@ module _ (old piece : List ℕ) where
           parts = omega (arith, from, to, size, whole, length-append id version, id_len, version_len);
         }) (All-nil (StandsIn new)))
 
--- a text after another
-module _ (old more : List ℕ) where
-  abbrev both : List ℕ
-  both = old ++ more
-
-  slice_behind : (a b : ℕ) → a ≤ b → slice_range both (length old + a) (length old + b) ≡ slice_range more a b
-  slice_behind a b order =
-      let width : length old + b - (length old + a) ≡ b - a = omega arith in
-      ap (λ (n : ℕ). take n (drop (length old + a) both)) width ∙ ap (take (b - a)) (drop-append-add old more a)
-
-  set_behind : (k : Kept) → StandsIn more k → kept_in both (kept_behind (length old) k) ≡ kept_in more k
-  set_behind k is = ap (λ (b : List ℕ). kept_as b k.sender k.id_len k.version_len) (slice_behind k.from k.to is.order)
-
-  sets_behind : (ks : List Kept) → All (StandsIn more) ks → map (kept_in both) (map (kept_behind (length old)) ks) ≡ map (kept_in more) ks
-  sets_behind [] all = refl
-  sets_behind (k ∷ ks) all =
-      ap (λ (v : RenderedValue). v ∷ map (kept_in both) (map (kept_behind (length old)) ks))
-      (set_behind k (All-head (StandsIn more) k ks all))
-      ∙ ap (λ (vs : List RenderedValue). kept_in more k ∷ vs) (sets_behind ks (All-tail (StandsIn more) k ks all))
-
-  stand_behind : (ks : List Kept) → All (StandsIn more) ks → All (StandsIn both) (map (kept_behind (length old)) ks)
-  stand_behind [] all = All-nil (StandsIn both)
-  stand_behind (k ∷ ks) all =
-      let is : StandsIn more k = All-head (StandsIn more) k ks all in
-      All-cons (StandsIn both) (kept_behind (length old) k) (map (kept_behind (length old)) ks) (record {
-        order = omega (arith, is.order);
-        within = omega (arith, is.within, length-append old more);
-        parts = omega (arith, is.parts, is.order);
-      }) (stand_behind ks (All-tail (StandsIn more) k ks all))
-
-  pub all_views : (ks ls : List Kept) → All (StandsIn old) ks → All (StandsIn more) ls
-      → map (kept_in both) (ks ++ map (kept_behind (length old)) ls) ≡ map (kept_in old) ks ++ map (kept_in more) ls
-  all_views ks ls first second =
-      map-append (kept_in both) ks (map (kept_behind (length old)) ls)
-      ∙ ap (λ (vs : List RenderedValue). vs ++ map (kept_in both) (map (kept_behind (length old)) ls)) (same_sets old more ks first)
-      ∙ ap (λ (vs : List RenderedValue). map (kept_in old) ks ++ vs) (sets_behind ls second)
-
-  pub all_stand : (ks ls : List Kept) → All (StandsIn old) ks → All (StandsIn more) ls
-      → All (StandsIn both) (ks ++ map (kept_behind (length old)) ls)
-  all_stand ks ls first second =
-      All-append (StandsIn both) ks (map (kept_behind (length old)) ls) (stand_still old more ks first) (stand_behind ls second)
-
 -- one set more is lent
-pub lent_more : (f : Kept → RenderedValue) (ks : List Kept) (all done new : List RenderedValue) (i : ℕ) (k : Kept) (v : RenderedValue)
-    → map f ks ≡ all → i < length ks → k ≡ get_or ks i k → done ≡ take i all → v ≡ f k → new ≡ done ++ v ∷ [] → new ≡ take (i + 1) all
-lent_more f ks all done new i k v is lt its so_far value added =
+pub lent_more : (f : Kept → RenderedValue) (ks : List Kept) (before all done new : List RenderedValue) (i : ℕ) (k : Kept)
+    (v : RenderedValue) → map f ks ≡ all → i < length ks → k ≡ get_or ks i k → done ≡ before ++ take i all → v ≡ f k
+    → new ≡ done ++ v ∷ [] → new ≡ before ++ take (i + 1) all
+lent_more f ks before all done new i k v is lt its so_far value added =
     let here : i < length (map f ks) = omega (arith, lt, length-map ks f) in
     added
-    ∙ ap (λ (vs : List RenderedValue). vs ++ v ∷ []) (so_far ∙ ap (take i) (sym is))
-    ∙ ap (λ (w : RenderedValue). take i (map f ks) ++ w ∷ []) (value ∙ ap f its ∙ sym (get_or-map f ks i k (f k) lt))
-    ∙ sym (take_more (map f ks) i (f k) here)
-    ∙ ap (take (i + 1)) is
+    ∙ ap (λ (vs : List RenderedValue). vs ++ v ∷ []) (so_far ∙ ap (λ (vs : List RenderedValue). before ++ take i vs) (sym is))
+    ∙ append_assoc before (take i (map f ks)) (v ∷ [])
+    ∙ ap (λ (w : RenderedValue). before ++ (take i (map f ks) ++ w ∷ [])) (value ∙ ap f its ∙ sym (get_or-map f ks i k (f k) lt))
+    ∙ ap (λ (vs : List RenderedValue). before ++ vs) (sym (take_more (map f ks) i (f k) here) ∙ ap (take (i + 1)) is)

@@ -1,8 +1,7 @@
 -- What is written part by part is what is written of all.
 use Rattle.std.proofs.Common.{◌≡◌, ℕ, ◌+◌, ◌-◌, ◌≤◌, List, [], ◌∷◌, ◌++◌, take, drop, length, map, map-id, refl, sym, ap, subst}
 use Rattle.std.proofs.Common.{◌∙◌, arith, Err, IfOk, MatchResult, Ok, Result, Some}
-use Rattle.std.proofs.lemmas.Grind.{flat_map-append}
-use Rattle.std.proofs.lemmas.List.{append-nil, drop-drop, drop-take, length-drop, length-take-le, take-append-drop, take-take, take_all}
+use Rattle.std.proofs.lemmas.List.{drop-drop, drop-take, length-drop, length-take-le, take-append-drop, take-take, take_all}
 use Rattle.std.proofs.lemmas.List.Elements.{All-cons, All-nil}
 use Rattle.std.specs.List.{All, AllZip, flat_map, range_with_len}
 use Rattle.std.specs.Prelude.{slice_get, slice_range}
@@ -113,13 +112,3 @@ pub part_pushed : (from mid to : ℕ) (old new : List Part) → new ≡ old ++ (
     → AreParts from mid old → mid ≤ to → AreParts from to new
 part_pushed from mid to old new is parts order =
     subst (AreParts from to) (sym is) (part_added from mid to old (record { from = mid; to = to }) parts refl refl order)
-
--- one list more
-pub joined_more : (lists : List (List RenderedValue)) (list : List RenderedValue)
-    → flat_map same lists ++ list ≡ flat_map same (lists ++ list ∷ [])
-joined_more lists list =
-    sym (flat_map-append same lists (list ∷ []) ∙ ap (λ (l : List RenderedValue). flat_map same lists ++ l) (append-nil list))
-
-pub length_none : (lists : List (List RenderedValue)) → length lists ≡ 0 → lists ≡ []
-length_none [] none = refl
-length_none (list ∷ lists) none = absurd (omega (arith, none))

@@ -1,7 +1,10 @@
 -- The written sets, with a set, and with the sets of a partner more.
-use Rattle.std.proofs.Common.{◌≡◌, ◌≢◌, ◌<◌, ◌≤◌, ◌⊎◌, inl, inr, ℕ, ◌+◌, List, [], ◌∷◌, ◌++◌, Some, length, refl, sym, ap}
+use Rattle.std.proofs.Common.{◌≡◌, ◌≢◌, ◌<◌, ◌≤◌, ◌⊎◌, inl, inr, ℕ, suc, ◌+◌, List, [], ◌∷◌, ◌++◌, Some, length, refl, sym, ap}
 use Rattle.std.proofs.Common.{◌∙◌, arith, append_assoc}
 use Rattle.std.specs.Prelude.{slice_get, slice_set}
+use Rattle.std.specs.List.{flat_map}
+use Rattle.std.proofs.lemmas.Grind.{flat_map-append}
+use Rattle.std.proofs.lemmas.List.{length-append}
 use Rattle.std.proofs.lemmas.Bool.{cases_lt}
 use Rattle.std.proofs.lemmas.Option.{slice_get_within}
 use Rattle.partner_setup.specs.declared.partner.Partner.{Partner}
@@ -13,9 +16,15 @@ use Rattle.mailbox.specs.Rendered.{HaveRendered, RenderedValue, box_of_rendered,
 use Rattle.mailbox.specs.Rendering.{AreWritten}
 use Rattle.mailbox.proofs.Rendering.{boxes_rendered}
 use Rattle.mailbox.proofs.Replacing.{length_set, set_here, set_there}
+use Rattle.mailbox.proofs.Sharing.{same}
 
 abbrev Boxes : Type 0
 Boxes = List (List RenderedValue)
+
+-- as many as were to be written
+pub rendered_length : (partner : Partner) (k : ℕ) (ps : List PlacedValue) → length (rendered_from partner k ps) ≡ length ps
+rendered_length partner k [] = refl
+rendered_length partner k (p ∷ ps) = ap (λ (n : ℕ). suc n) (rendered_length partner (k + 1) ps)
 
 -- one set more, which is number k of those that are delivered to the partner
 pub one_added : (partner : Partner) (k : ℕ) (p : PlacedValue) (left rest : List PlacedValue) (old new all : List RenderedValue)
@@ -30,6 +39,12 @@ one_added partner k p left rest old new all is split was =
 
 pub some_same : {A : Type 0} (a b : A) → Some a ≡ Some b → a ≡ b
 some_same a b e = cc
+
+-- the partner at a place
+pub same_partner : (partners found : List Partner) (i : ℕ) (p q : Partner) → found ≡ partners → slice_get found i ≡ Some q
+    → slice_get partners i ≡ Some p → q ≡ p
+same_partner partners found i p q same at_q at_p =
+    some_same q p (sym at_q ∙ ap (λ (ps : List Partner). slice_get ps i) same ∙ at_p)
 
 pub none_written : (setup : SetupValue) (lists : List (List PlacedValue)) (boxes : Boxes) → AreWritten setup lists 0 boxes boxes
 none_written setup lists boxes = record {
@@ -112,3 +127,16 @@ pub total_made : (setup : SetupValue) (p q : Partner) (at : List ℕ) (sets : Li
     → groups_of_rendered p.cap written ≡ group_total p.cap sets
 total_made setup p q at sets none written nothing is same =
     ap (groups_of_rendered p.cap) (made_of p q sets none written nothing is same) ∙ sym (boxes_rendered setup p at 0 0 sets).1
+
+-- the rows of sets that were written, with those that were written after them
+pub rows_counted : (rows written new : List (List RenderedValue)) (partner : Partner) (k : ℕ) (ps : List PlacedValue) (count all : ℕ)
+    → count ≡ length (flat_map same rows) → all ≡ count + length ps → flat_map same written ≡ rendered_from partner k ps
+    → new ≡ rows ++ written → all ≡ length (flat_map same new)
+rows_counted rows written new partner k ps count all before sum its is =
+    let joined : length (flat_map same new) ≡ length (flat_map same rows) + length (flat_map same written) =
+    ap (λ (rs : List (List RenderedValue)). length (flat_map same rs)) is
+    ∙ ap (λ (vs : List RenderedValue). length vs) (flat_map-append same rows written)
+    ∙ length-append (flat_map same rows) (flat_map same written) in
+    let more : length (flat_map same written) ≡ length ps =
+    ap (λ (vs : List RenderedValue). length vs) its ∙ rendered_length partner k ps in
+    omega (arith, before, sum, joined, more)

@@ -22,13 +22,3 @@ pub record StandsIn (text : List ℕ) (k : Kept) : Type 0 where
   pub order : k.from ≤ k.to
   pub within : k.to ≤ length text
   pub parts : k.id_len + k.version_len ≤ k.to - k.from
-
--- the same after so many bytes
-abbrev pub kept_behind : (before : ℕ) → Kept → Kept
-kept_behind before k = record {
-  from = before + k.from;
-  to = before + k.to;
-  id_len = k.id_len;
-  version_len = k.version_len;
-  sender = k.sender;
-}

@@ -14,3 +14,4 @@ pub mod Rendered
 pub mod Rendering
 pub mod Renumbered
 pub mod Tallied
+pub mod Woven

@@ -6,14 +6,15 @@ ghost use Rattle.mailbox.specs.Mailbox.{box_text, group_total};
 ghost use Rattle.mailbox.specs.Numbers.{HasCap, HasCounters};
 ghost use Rattle.mailbox.specs.Rendered.{box_of_rendered, groups_of, groups_of_rendered};
 ghost use Rattle.mailbox.specs.Renumbered.{IsNumber, groups_behind, numbered_interchange};
+ghost use Rattle.mailbox.specs.Woven.{HasWoven};
 
 use crate::group_text::append_group;
 use crate::grouping::first_group;
 use crate::rendered::Rendered;
 use crate::rendered_sets::RenderedSets;
-use crate::room::room_for;
+use crate::woven::{Cut, Woven};
 use count_numbers::num;
-use hub_kinds::{Items, NoMemory, Text};
+use hub_kinds::NoMemory;
 use job_pool::OneThread;
 use judged_text::PlacedSet;
 use moment::At;
@@ -22,17 +23,26 @@ use std::alloc::Global;
 use x12_write::{OutboundHeader, append_trailer};
 
 /// What a partner finds in its mailbox (X12.5).
-#[derive(Debug, Drop)]
+#[derive(Drop)]
 pub struct Mailbox {
     /// Its text: interchanges, one after the other.
-    pub text: Text,
+    pub text: Woven,
     /// How many groups they have (X12.6, GS to GE).
     pub groups: u64,
+}
+
+/// The sets after the first of them.
+fn behind<'x, 'r>(sets: &'x [Rendered<'r>], end: usize) -> &'x [Rendered<'r>]
+    requires { end ≤ length sets.now }
+    ensures { result.now ≡ drop end sets.entry.now }
+{
+    &sets[end..]
 }
 
 /// Writes the groups of an interchange, the first of them as group number `first`, and answers how many they are.
 fn append_groups(
     out: &mut Vec<u8>,
+    cuts: &mut Vec<Cut>,
     setup: &Setup,
     partner: &Partner,
     at: &At,
@@ -40,8 +50,8 @@ fn append_groups(
     sets: &[Rendered<'_>],
 ) -> Result<u64, NoMemory>
     requires first { IsNumber first }
-    ensures text { OnOk result (out.new.items
-        ≡ out.old.items ++ groups_behind setup.now partner.now at.now first 0 (groups_of sets.now)) }
+    ensures text { OnOk result (HasWoven out.old.items cuts.old.items out.new.items cuts.new.items sets.now
+        (groups_behind setup.now partner.now at.now first 0 (groups_of sets.now))) }
     ensures count { IfOk result (λ n. n ≡ length (groups_of sets.now)) }
     ensures bound { IfOk result (λ n. n ≤ length sets.now) }
 {
@@ -50,9 +60,9 @@ fn append_groups(
     while !rest.is_empty() {
         let end = first_group(rest);
         let control = num(first, count);
-        append_group(out, setup, partner, at, control, &rest[..end])?;
+        append_group(out, cuts, setup, partner, at, control, &rest[..end])?;
         count += 1;
-        rest = &rest[end..];
+        rest = behind(rest, end);
     }
     Ok(count)
 }
@@ -74,6 +84,7 @@ fn header_for(
 /// Writes a delivered interchange (X12.5), as number `number`, its first group as number `first`, and answers how many groups it has.
 fn append_delivered(
     out: &mut Vec<u8>,
+    cuts: &mut Vec<Cut>,
     setup: &Setup,
     header: &OutboundHeader,
     partner: &Partner,
@@ -84,29 +95,22 @@ fn append_delivered(
 ) -> Result<u64, NoMemory>
     requires header { AreHeaderEnds (envelope_to setup.now partner.now) at.now header.now }
     requires first { IsNumber first }
-    ensures text { OnOk result (out.new.items
-        ≡ out.old.items ++ numbered_interchange setup.now partner.now at.now number first sets.now) }
+    ensures text { OnOk result (HasWoven out.old.items cuts.old.items out.new.items cuts.new.items sets.now
+        (numbered_interchange setup.now partner.now at.now number first sets.now)) }
     ensures count { IfOk result (λ n. n ≡ length (groups_of sets.now)) }
     ensures bound { IfOk result (λ n. n ≤ length sets.now) }
 {
     header.append(out, number)?;
-    let groups = append_groups(out, setup, partner, at, first, sets)?;
+    let groups = append_groups(out, cuts, setup, partner, at, first, sets)?;
     append_trailer(out, &partner.delims, groups, number)?;
     Ok(groups)
-}
-
-/// The sets after the first of them.
-fn behind<'x, 'r>(sets: &'x [Rendered<'r>], end: usize) -> &'x [Rendered<'r>]
-    requires { end ≤ length sets.now }
-    ensures { result.now ≡ drop end sets.entry.now }
-{
-    &sets[end..]
 }
 
 /// Writes delivered interchanges after so many acknowledgments, of which so many have a group, and answers how many groups they
 /// have.
 fn append_interchanges(
     out: &mut Vec<u8>,
+    cuts: &mut Vec<Cut>,
     setup: &Setup,
     header: &OutboundHeader,
     partner: &Partner,
@@ -118,8 +122,8 @@ fn append_interchanges(
     requires header { AreHeaderEnds (envelope_to setup.now partner.now) at.now header.now }
     requires counters { HasCounters partner.now }
     requires cap { HasCap partner.now }
-    ensures text { OnOk result (out.new.items
-        ≡ out.old.items ++ box_of_rendered setup.now partner.now at.now acknowledgments groups sets.now) }
+    ensures text { OnOk result (HasWoven out.old.items cuts.old.items out.new.items cuts.new.items sets.now
+        (box_of_rendered setup.now partner.now at.now acknowledgments groups sets.now)) }
     ensures count { IfOk result (λ n. n ≡ groups_of_rendered partner.now.cap sets.now) }
 {
     let cap = partner.cap as usize;
@@ -133,7 +137,9 @@ fn append_interchanges(
         let number = num(first, written);
         let control = num(first_control, count);
         let front = &rest[..end];
-        let more = append_delivered(out, setup, header, partner, at, number, control, front)?;
+        let more = append_delivered(
+            out, cuts, setup, header, partner, at, number, control, front,
+        )?;
         count += more;
         written += 1;
         rest = behind(rest, end);
@@ -152,30 +158,33 @@ pub fn close(
     at: &At,
     acknowledgments: u64,
     groups: u64,
-    sets: &RenderedSets,
+    sets: RenderedSets,
 ) -> Result<Mailbox, NoMemory>
     requires { partner < length setup.now.partners }
     ensures text { (p : Partner) → slice_get setup.now.partners partner ≡ Some p
-        → IfOk result (λ mailbox. mailbox.text ≡ box_of_rendered setup.now p at.now acknowledgments groups sets.now) }
+        → IfOk result (λ mailbox. mailbox.text ≡ box_of_rendered setup.now p at.now acknowledgments groups sets) }
     ensures groups { (p : Partner) → slice_get setup.now.partners partner ≡ Some p
-        → IfOk result (λ mailbox. mailbox.groups ≡ groups_of_rendered p.cap sets.now) }
+        → IfOk result (λ mailbox. mailbox.groups ≡ groups_of_rendered p.cap sets) }
 {
     let receiver = &setup.partners()[partner];
     let header = header_for(alloc, setup, partner, receiver, at)?;
-    let sets = sets.lent(alloc)?;
-    let mut out = Vec::with_capacity(alloc, room_for(sets.as_slice(), receiver.cap))?;
+    let mut out = Vec::new(alloc);
+    let mut cuts = Vec::new(alloc);
+    let lent = sets.lent(alloc)?;
     let count = append_interchanges(
         &mut out,
+        &mut cuts,
         setup,
         &header,
         receiver,
         at,
         acknowledgments,
         groups,
-        sets.as_slice(),
+        lent.as_slice(),
     )?;
+    drop(lent);
     Ok(Mailbox {
-        text: Items::from_vec(out),
+        text: Woven::new(sets, out, cuts),
         groups: count,
     })
 }
@@ -201,5 +210,5 @@ pub fn assemble(
 {
     let mut written = RenderedSets::none(alloc);
     written.add_all(alloc, &OneThread, &setup.partners()[partner], sets)?;
-    close(alloc, setup, partner, at, acknowledgments, groups, &written)
+    close(alloc, setup, partner, at, acknowledgments, groups, written)
 }

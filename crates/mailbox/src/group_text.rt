@@ -1,9 +1,11 @@
-ghost use Rattle.std.specs.Prelude.{◌≡◌, ◌++◌, ◌<◌, OnOk, length, map, slice_get};
-ghost use Rattle.x12_write.specs.Group.{group_header_text, texts_in_row};
+ghost use Rattle.std.specs.Prelude.{◌≡◌, ◌++◌, ◌<◌, OnOk, length, slice_get};
+ghost use Rattle.x12_write.specs.Group.{group_header_text};
 ghost use Rattle.mailbox.specs.Mailbox.{code_by};
-ghost use Rattle.mailbox.specs.Rendered.{group_of, header_of, text_in};
+ghost use Rattle.mailbox.specs.Rendered.{group_of, header_of};
+ghost use Rattle.mailbox.specs.Woven.{HasWoven};
 
 use crate::rendered::Rendered;
+use crate::woven::Cut;
 use hub_kinds::{Lent, NoMemory};
 use moment::At;
 use partner_setup::{Partner, Setup};
@@ -17,16 +19,6 @@ fn code_at(setup: &Setup, sender: usize) -> &[u8]
         Some(partner) => partner.code.as_slice(),
         None => b"",
     }
-}
-
-/// Writes sets, one after the other.
-fn append_sets(out: &mut Vec<u8>, sets: &[Rendered<'_>]) -> Result<(), NoMemory>
-    ensures { OnOk result (out.new.items ≡ out.old.items ++ texts_in_row (map text_in sets.now)) }
-{
-    for set in sets {
-        out.extend_from_slice(set.text())?;
-    }
-    Ok(())
 }
 
 /// Writes the GS of these values.
@@ -83,6 +75,7 @@ fn append_header_of(
 /// Writes a group of delivered sets (X12.6, GS to GE).
 pub(crate) fn append_group(
     out: &mut Vec<u8>,
+    cuts: &mut Vec<Cut>,
     setup: &Setup,
     partner: &Partner,
     at: &At,
@@ -90,9 +83,13 @@ pub(crate) fn append_group(
     sets: &[Rendered<'_>],
 ) -> Result<(), NoMemory>
     requires { 0 < length sets.now }
-    ensures { OnOk result (out.new.items ≡ out.old.items ++ group_of setup.now partner.now at.now control sets.now) }
+    ensures { OnOk result (HasWoven out.old.items cuts.old.items out.new.items cuts.new.items sets.now
+        (group_of setup.now partner.now at.now control sets.now)) }
 {
     append_header_of(out, setup, partner, at, control, &sets[0])?;
-    append_sets(out, sets)?;
+    cuts.push(Cut {
+        at: out.len(),
+        sets: sets.len(),
+    })?;
     append_group_trailer(out, &partner.delims, sets.len() as u64, control)
 }

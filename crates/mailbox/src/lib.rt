@@ -15,6 +15,8 @@
 //! - `close` writes exactly the mailbox of the definition by written sets: interchanges that hold as many sets as the partner's cap
 //!   says, numbered after its acknowledgments, in each the longest groups of sets of one sender, GS01 and GS08, and groups that are
 //!   numbered throughout, after those of its acknowledgments; and it answers how many groups these are;
+//! - what it writes is held as it was written (`Woven`): the sets in the rows of the threads that wrote them, the envelopes in a text of
+//!   their own; its `parts`, one after the other, are the mailbox, so that no set is copied when a mailbox is closed;
 //! - the mailbox by the sets that were written is the mailbox of the sets themselves (`boxes_by_rendered`), and `assemble` writes it;
 //! - the groups of a mailbox are the maximal runs that a tally counts, interchange by interchange, and as many in all
 //!   (`groups_are_runs`);
@@ -45,8 +47,8 @@ mod render;
 mod render_batch;
 mod rendered;
 mod rendered_sets;
-mod room;
 mod row;
+mod woven;
 mod writers;
 
 pub use assembling::{Mailbox, assemble, close};
@@ -58,5 +60,6 @@ pub use outcome::Outcome;
 pub use receiving::outcome_at;
 pub use render::render_set;
 pub use render_batch::{nothing_rendered, render_deliveries};
-pub use rendered_sets::RenderedSets;
+pub use rendered_sets::{RenderedSets, Row};
+pub use woven::Woven;
 pub use writers::Writers;

@@ -71,7 +71,7 @@ impl<'r> Rendered<'r> {
     }
 
     /// What was written of it.
-    pub(crate) fn text(&self) -> &[u8]
+    pub(crate) fn text(&self) -> &'r [u8]
         ensures { result.now ≡ self.now.text }
     {
         &self.bytes.bytes()[self.id_len + self.version_len..]

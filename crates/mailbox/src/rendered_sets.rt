@@ -1,6 +1,4 @@
-ghost use Rattle.std.specs.Prelude.{◌≡◌, ◌+◌, ◌<◌, ◌≤◌, ◌^◌, IfOk, map};
-ghost use Rattle.std.specs.List.{All};
-ghost use Rattle.mailbox.specs.Kept.{kept_behind};
+ghost use Rattle.std.specs.Prelude.{◌≡◌};
 ghost use Rattle.mailbox.specs.Numbered.{sender_in};
 
 use crate::kept::{Kept, lent_of};
@@ -13,14 +11,14 @@ use partner_setup::Partner;
 use std::alloc::Global;
 use std::marker::Model;
 
-/// The sets that were written for one partner, front to back, in one text: of each GS01, GS08 and its own text.
+/// Sets that one thread wrote for a partner, front to back, in one text: of each GS01, GS08 and its own text.
 #[derive(Drop)]
-pub struct RenderedSets {
+pub struct Row {
     text: Vec<u8>,
     sets: Vec<Kept>,
 }
 
-impl Model for RenderedSets {
+impl Model for Row {
     ghost use Rattle.std.specs.Prelude.{List, map};
     ghost use Rattle.std.specs.List.{All};
     ghost use Rattle.mailbox.specs.Kept.{StandsIn, kept_in};
@@ -33,31 +31,16 @@ impl Model for RenderedSets {
     ghost invariant = { λ s. All (StandsIn s.text.items) s.sets.items };
 }
 
-impl RenderedSets {
-    ghost use Rattle.std.specs.Prelude.{◌≡◌, ◌<◌, ◌^◌, ◌++◌, ◌∷◌, [], IfOk, OnOk, length};
-    ghost use Rattle.std.specs.List.{flat_map};
+impl Row {
+    ghost use Rattle.std.specs.Prelude.{◌≡◌, ◌++◌, ◌∷◌, [], IfOk, OnOk};
     ghost use Rattle.mailbox.specs.Numbers.{HasCounters};
-    ghost use Rattle.mailbox.specs.Rendered.{rendered, rendered_from};
-
-    /// None yet.
-    pub(crate) fn none(alloc: Global) -> RenderedSets
-        ensures { result ≡ [] }
-    {
-        RenderedSets {
-            text: Vec::new(alloc),
-            sets: Vec::new(alloc),
-        }
-    }
+    ghost use Rattle.mailbox.specs.Rendered.{rendered};
 
     /// None yet, with room for so many bytes and sets.
-    pub(crate) fn with_room(
-        alloc: Global,
-        bytes: usize,
-        sets: usize,
-    ) -> Result<RenderedSets, NoMemory>
+    pub(crate) fn with_room(alloc: Global, bytes: usize, sets: usize) -> Result<Row, NoMemory>
         ensures { IfOk result (λ all. all ≡ []) }
     {
-        Ok(RenderedSets {
+        Ok(Row {
             text: Vec::with_capacity(alloc, bytes)?,
             sets: Vec::with_capacity(alloc, sets)?,
         })
@@ -69,11 +52,11 @@ impl RenderedSets {
         partner: &Partner,
         k: u64,
         placed: &PlacedSet<'_, '_, '_>,
-    ) -> Result<RenderedSets, NoMemory>
+    ) -> Result<Row, NoMemory>
         requires { HasCounters partner.now }
         ensures { IfOk result (λ all. all ≡ self ++ rendered partner.now k placed.now ∷ []) }
     {
-        let RenderedSets { mut text, mut sets } = self;
+        let Row { mut text, mut sets } = self;
         let header = placed.group().header();
         let id = header.element(1);
         let version = header.element(8);
@@ -86,58 +69,75 @@ impl RenderedSets {
             version_len: version.len(),
             sender: sender_in(placed),
         })?;
-        Ok(RenderedSets { text, sets })
+        Ok(Row { text, sets })
+    }
+
+    /// Lends the sets, after those that were lent before.
+    fn append_lent<'r>(&'r self, lent: &mut Vec<Rendered<'r>>) -> Result<(), NoMemory>
+        ensures { OnOk result (lent.new.items ≡ lent.old.items ++ self.entry.now) }
+    {
+        let text = self.text.as_slice();
+        for i in 0..self.sets.len() {
+            lent.push(lent_of(text, self.sets[i]))?;
+        }
+        Ok(())
+    }
+}
+
+/// The sets that were written for one partner, front to back, in the rows in which they were written.
+#[derive(Drop)]
+pub struct RenderedSets {
+    rows: Vec<Row>,
+    count: usize,
+}
+
+impl Model for RenderedSets {
+    ghost use Rattle.std.specs.Prelude.{◌≡◌, List, length};
+    ghost use Rattle.std.specs.List.{flat_map};
+    ghost use Rattle.mailbox.specs.Rendered.{RenderedValue};
+
+    ghost Value = { List RenderedValue };
+
+    ghost view = { λ s. flat_map (λ sets. sets) s.rows.items };
+
+    ghost invariant = { λ s. s.count ≡ length (flat_map (λ sets. sets) s.rows.items) };
+}
+
+impl RenderedSets {
+    ghost use Rattle.std.specs.Prelude.{◌≡◌, ◌++◌, [], IfOk, OnOk, length};
+    ghost use Rattle.mailbox.specs.Numbers.{HasCounters};
+    ghost use Rattle.mailbox.specs.Rendered.{rendered_from};
+
+    /// None yet.
+    pub(crate) fn none(alloc: Global) -> RenderedSets
+        ensures { result ≡ [] }
+    {
+        RenderedSets {
+            rows: Vec::new(alloc),
+            count: 0,
+        }
     }
 
     /// How many they are.
     pub fn count(&self) -> u64
         ensures { result ≡ length self.now }
     {
-        self.sets.len() as u64
-    }
-
-    /// The same, and that a list can have no more.
-    fn len(&self) -> usize
-        ensures value { result ≡ length self.now }
-        ensures bound { result < 2 ^ 63 }
-    {
-        self.sets.len()
+        self.count as u64
     }
 
     /// The sets, lent.
     pub(crate) fn lent(&self, alloc: Global) -> Result<Vec<Rendered<'_>>, NoMemory>
         ensures { IfOk result (λ sets. sets.items ≡ self.now) }
     {
-        let text = self.text.as_slice();
-        let mut lent = Vec::with_capacity(alloc, self.sets.len())?;
-        for i in 0..self.sets.len() {
-            lent.push(lent_of(text, self.sets[i]))?;
+        let mut lent = Vec::with_capacity(alloc, self.count)?;
+        for i in 0..self.rows.len() {
+            let row = &self.rows[i];
+            row.append_lent(&mut lent)?;
         }
         Ok(lent)
     }
 
-    /// Adds sets after the others, whose own text is given up.
-    fn append(&mut self, alloc: Global, more: RenderedSets) -> Result<(), NoMemory>
-        ensures { OnOk result (self.new ≡ self.old ++ more) }
-    {
-        let RenderedSets { text, sets } = more;
-        let mut moved = behind(alloc, self.text.len(), sets.as_slice())?;
-        self.text.extend_from_slice(text.as_slice())?;
-        self.sets.append(&mut moved)?;
-        Ok(())
-    }
-
-    /// Adds the parts in which sets were written.
-    fn append_all(&mut self, alloc: Global, parts: Vec<RenderedSets>) -> Result<(), NoMemory>
-        ensures { OnOk result (self.new ≡ self.old ++ flat_map (λ sets. sets) parts.items) }
-    {
-        for part in parts {
-            self.append(alloc, part)?;
-        }
-        Ok(())
-    }
-
-    /// Writes sets after the others, and numbers them on.
+    /// Writes sets after the others, and numbers them on. No memory holds more sets than can be counted, so that's an error of memory.
     pub(crate) fn add_all<W: Writers>(
         &mut self,
         alloc: Global,
@@ -149,8 +149,16 @@ impl RenderedSets {
         requires counters { HasCounters partner.now }
         ensures { OnOk result (self.new ≡ self.old ++ rendered_from partner.now (length self.old) sets.now) }
     {
-        let written = writers.write_sets(alloc, partner, self.len() as u64, sets)?;
-        self.append_all(alloc, written)
+        let before = self.count;
+        match before.checked_add(sets.len()) {
+            None => Err(NoMemory),
+            Some(all) => {
+                let mut rows = writers.write_sets(alloc, partner, before as u64, sets)?;
+                self.rows.append(&mut rows)?;
+                self.count = all;
+                Ok(())
+            }
+        }
     }
 }
 
@@ -159,23 +167,4 @@ fn sender_in(placed: &PlacedSet<'_, '_, '_>) -> usize
     ensures { result ≡ sender_in placed.now }
 {
     placed.interchange().sender().unwrap_or(0)
-}
-
-/// The same sets where so many bytes stand before theirs.
-fn behind(alloc: Global, before: usize, sets: &[Kept]) -> Result<Vec<Kept>, NoMemory>
-    requires { All (λ k. (k.from ≤ k.to) × (before + k.to < 2 ^ 64)) sets.now }
-    ensures { IfOk result (λ moved. moved.items ≡ map (kept_behind before) sets.now) }
-{
-    let mut moved = Vec::with_capacity(alloc, sets.len())?;
-    for i in 0..sets.len() {
-        let set = sets[i];
-        moved.push(Kept {
-            from: before + set.from,
-            to: before + set.to,
-            id_len: set.id_len,
-            version_len: set.version_len,
-            sender: set.sender,
-        })?;
-    }
-    Ok(moved)
 }

@@ -5,7 +5,7 @@ ghost use Rattle.mailbox.specs.Numbers.{HasCounters};
 ghost use Rattle.mailbox.specs.Rendered.{rendered_from};
 
 use crate::render::append_set_of;
-use crate::rendered_sets::RenderedSets;
+use crate::rendered_sets::Row;
 use count_numbers::num;
 use hub_kinds::NoMemory;
 use judged_text::PlacedSet;
@@ -52,12 +52,12 @@ pub(crate) fn write_row(
     partner: &Partner,
     k: u64,
     sets: &[PlacedSet<'_, '_, '_>],
-) -> Result<RenderedSets, NoMemory>
+) -> Result<Row, NoMemory>
     requires counters { HasCounters partner.now }
     requires few { k + length sets.now < 2 ^ 64 }
     ensures { IfOk result (λ row. row ≡ rendered_from partner.now k sets.now) }
 {
-    let mut row = RenderedSets::with_room(alloc, room_for_texts(sets), sets.len())?;
+    let mut row = Row::with_room(alloc, room_for_texts(sets), sets.len())?;
     for i in 0..sets.len() {
         row = row.with(partner, k + i as u64, &sets[i])?;
     }

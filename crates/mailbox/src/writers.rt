@@ -8,7 +8,7 @@ ghost use Rattle.mailbox.specs.Rendered.{rendered_from};
 ghost use Rattle.mailbox.specs.declared.parts.Part.{Part};
 
 use crate::parts::{Part, parts_of};
-use crate::rendered_sets::RenderedSets;
+use crate::rendered_sets::Row;
 use crate::row::write_row;
 use hub_kinds::NoMemory;
 use job_pool::{ManyThreads, OneThread};
@@ -34,7 +34,7 @@ pub trait Writers {
         partner: &Partner,
         k: u64,
         sets: &[PlacedSet<'_, '_, '_>],
-    ) -> Result<Vec<RenderedSets>, NoMemory>
+    ) -> Result<Vec<Row>, NoMemory>
         requires ready { is_ready self.now }
         requires counters { HasCounters partner.now }
         requires few { k + length sets.now < 2 ^ 64 }
@@ -50,7 +50,7 @@ impl Writers for OneThread {
         partner: &Partner,
         k: u64,
         sets: &[PlacedSet<'_, '_, '_>],
-    ) -> Result<Vec<RenderedSets>, NoMemory> {
+    ) -> Result<Vec<Row>, NoMemory> {
         let mut parts = Vec::new(alloc);
         parts.push(write_row(alloc, partner, k, sets)?)?;
         Ok(parts)
@@ -66,7 +66,7 @@ impl<'r, R: Threads + Sync> Writers for ManyThreads<'r, R> {
         partner: &Partner,
         k: u64,
         sets: &[PlacedSet<'_, '_, '_>],
-    ) -> Result<Vec<RenderedSets>, NoMemory> {
+    ) -> Result<Vec<Row>, NoMemory> {
         let share = self.share_of(sets.len(), FEWEST);
         let parts = parts_of(alloc, sets.len(), share)?;
         write_by(self.rt, alloc, parts.as_slice(), partner, k, sets)
@@ -80,7 +80,7 @@ fn write_part(
     k: u64,
     sets: &[PlacedSet<'_, '_, '_>],
     part: Part,
-) -> Result<RenderedSets, NoMemory>
+) -> Result<Row, NoMemory>
     requires counters { HasCounters partner.now }
     requires few { k + length sets.now < 2 ^ 64 }
     requires order { part.from ≤ part.to }
@@ -103,16 +103,17 @@ fn write_by<R: Threads + Sync>(
     partner: &Partner,
     k: u64,
     sets: &[PlacedSet<'_, '_, '_>],
-) -> Result<Vec<RenderedSets>, NoMemory>
+) -> Result<Vec<Row>, NoMemory>
     requires counters { HasCounters partner.now }
     requires few { k + length sets.now < 2 ^ 64 }
     requires parts { AreParts 0 (length sets.now) parts.now }
     ensures { IfOk result (λ v. v.items ≡ map (rendered_part partner.now k sets.now) parts.now) }
 {
-    let written: Result<Vec<RenderedSets>, NoMemory> = (0..parts.len())
+    let written: Result<Vec<Row>, NoMemory> = (0..parts.len())
         .into_par_iter()
+        .with_min_len(1)
         .map(
-            |i: usize| -> Result<RenderedSets, NoMemory>
+            |i: usize| -> Result<Row, NoMemory>
                 requires { (i < length parts.now) × AreParts 0 (length sets.now) parts.now × HasCounters partner.now
                     × (k + length sets.now < 2 ^ 64) }
                 ensures { IfOk result (λ v. (p : Part) → slice_get parts.entry.now i ≡ Some p

@@ -2,7 +2,10 @@ pub mod CommandLine
 pub mod Ending
 pub mod Failing
 pub mod Files
+pub mod ForAbove
+pub mod Given
 pub mod OneSetup
+pub mod Opening
 pub mod PlainGuides
 pub mod Refusing
 pub mod SettingUp

@@ -38,7 +38,7 @@ use Rattle.night_command.specs.SetupFiles.{AreGuidesOf, IsFileRefused, IsFirstGu
 use Rattle.night_command.specs.SetupFiles.{IsGuideRefused, IsSetupOf}
 use Rattle.night_command.specs.declared.failure.Failure.{Failure}
 use Rattle.night_command.specs.declared.failure.Failure.TheVariants as failure
-use Rattle.night_command.specs.declared.setup_files.GuideFile.{GuideFile}
+use Rattle.night_command.specs.FileAt.{FileValue}
 use Rattle.night_command.specs.declared.setup_files.SetupFiles.{SetupFiles}
 
 -- two facts of the table of the same bytes are facts of one table
@@ -76,7 +76,7 @@ guide_or_refused (Some bytes) g (Some (fault.Unknown k slot)) is refused =
 guide_or_refused (Some bytes) g (Some (fault.Guide f)) is refused =
     same_table bytes _ _ (λ t a b. guide_not_faulty g f (guide_of_table t) a b) is refused
 
-guides_or_refused : (fs : List GuideFile) (gs : List GuideRows) (path : List ℕ) (refusal : Option GuideFileFault) → AreGuidesOf fs gs
+guides_or_refused : (fs : List FileValue) (gs : List GuideRows) (path : List ℕ) (refusal : Option GuideFileFault) → AreGuidesOf fs gs
     → IsFirstGuideRefused fs path refusal → ⊥
 guides_or_refused [] gs path refusal all is = is
 guides_or_refused (f ∷ fs) [] path refusal all is = all
@@ -122,7 +122,7 @@ guide_head_is_one None g h first second = absurd first
 guide_head_is_one (Some bytes) g h first second =
     same_table bytes _ _ (λ t x y. head_is_one g h (guide_of_table t) x y) first second
 
-heads_are_one : (fs : List GuideFile) (gs hs : List GuideRows) → AreGuidesOf fs gs → AreGuidesOf fs hs → map head_of gs ≡ map head_of hs
+heads_are_one : (fs : List FileValue) (gs hs : List GuideRows) → AreGuidesOf fs gs → AreGuidesOf fs hs → map head_of gs ≡ map head_of hs
 heads_are_one [] [] [] first second = refl
 heads_are_one [] [] (h ∷ hs) first second = absurd second
 heads_are_one [] (g ∷ gs) hs first second = absurd first
@@ -208,8 +208,8 @@ setup_or_refused : (files : SetupFiles) (setup : SetupValue) (refusal : SetupFau
     → IsFirstRefusal files (failure.Setup refusal) → ⊥
 setup_or_refused files setup refusal made is =
     let read = is.3 in
-    let rows : made.rows ≡ is.1 = rows_are_one setup_of_table files.setup made.rows is.1 made.read.1 read.1 in
-    let counters : made.counters ≡ is.2 = rows_are_one counters_of_table files.counters made.counters is.2 made.read.2 read.2 in
+    let rows : made.rows ≡ is.1 = rows_are_one setup_of_table files.setup.bytes made.rows is.1 made.read.1 read.1 in
+    let counters : made.counters ≡ is.2 = rows_are_one counters_of_table files.counters.bytes made.counters is.2 made.read.2 read.2 in
     let heads = heads_are_one files.guides made.guides is.0 made.read.0 read.0 in
     let faults = fault_is_one is.1 is.2 made.guides is.0 heads in
     let none : first_fault is.1 is.2 made.guides ≡ None =
@@ -220,8 +220,9 @@ setup_or_refused files setup refusal made is =
 
 pub never_both : (files : SetupFiles) (setup : SetupValue) (failed : Failure) → IsSetupOf files setup → IsFirstRefusal files failed → ⊥
 never_both files setup (failure.Guide path refusal) made is = guides_or_refused files.guides made.guides path.now refusal made.read.0 is
-never_both files setup (failure.SetupFile refusal) made is = file_or_refused setup_of_table files.setup made.rows refusal made.read.1 is.2
+never_both files setup (failure.SetupFile refusal) made is =
+    file_or_refused setup_of_table files.setup.bytes made.rows refusal made.read.1 is.2
 never_both files setup (failure.CountersFile refusal) made is =
-    file_or_refused counters_of_table files.counters made.counters refusal made.read.2 is.4
+    file_or_refused counters_of_table files.counters.bytes made.counters refusal made.read.2 is.4
 never_both files setup (failure.Setup refusal) made is = setup_or_refused files setup refusal made is
 never_both files setup _ made is = is

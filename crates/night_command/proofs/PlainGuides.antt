@@ -17,7 +17,7 @@ use Rattle.partner_setup.specs.Setup.{SetupValue}
 use Rattle.night_law.specs.Quotable.{IsGuidePlain, IsNodePlain, IsPlainReference, IsRowPlain}
 use Rattle.guide_toml.specs.FileBytes.{IsGuideOf}
 use Rattle.night_command.specs.SetupFiles.{AreGuidesOf, IsSetupAt, IsSetupOf}
-use Rattle.night_command.specs.declared.setup_files.GuideFile.{GuideFile}
+use Rattle.night_command.specs.FileAt.{FileValue}
 
 digit_or_letter : (b : ℕ) → is_ascii_digit b ≡ true → is_ascii_alphanumeric b ≡ true
 digit_or_letter b h = search (rules, tests)
@@ -69,15 +69,16 @@ guide_plain : WritesReferences → (bytes : Option (List ℕ)) (g : GuideRows) �
 guide_plain writes None g is = absurd is
 guide_plain writes (Some bytes) g is = nodes_plain (guide_of g).nodes (writes is.0 g is.2)
 
-guides_plain : WritesReferences → (files : List GuideFile) (gs : List GuideRows) → AreGuidesOf files gs → All IsGuidePlain gs
+guides_plain : WritesReferences → (files : List FileValue) (gs : List GuideRows) → AreGuidesOf files gs → All IsGuidePlain gs
 guides_plain writes [] [] are = All-nil IsGuidePlain
 guides_plain writes [] (g ∷ gs) are = absurd are
 guides_plain writes (f ∷ fs) [] are = absurd are
 guides_plain writes (f ∷ fs) (g ∷ gs) are =
     All-cons IsGuidePlain g gs (guide_plain writes f.bytes g are.0) (guides_plain writes fs gs are.1)
 
-pub setup_plain : WritesReferences → (paths : List (List ℕ)) (setup : SetupValue) → IsSetupAt paths setup → All IsGuidePlain setup.guides
-setup_plain writes paths setup at =
-    let made : IsSetupOf at.files setup = at.made in
+pub setup_plain : WritesReferences → (guides : List (List ℕ)) (rows counters : List ℕ) (setup : SetupValue)
+    → IsSetupAt guides rows counters setup → All IsGuidePlain setup.guides
+setup_plain writes guides rows counters setup at =
+    let made : IsSetupOf at.files setup = at.makes in
     subst (All IsGuidePlain) (sym (ap (λ (s : SetupValue). s.guides) made.made))
     (guides_plain writes at.files.guides made.guides made.read.0)

@@ -17,48 +17,48 @@ use Rattle.night_command.specs.SetupFiles.{IsMemoryOrIs, IsOfCounters, IsOfGuide
 use Rattle.night_command.specs.declared.setup_files.SetupFiles.{SetupFiles}
 use Rattle.night_command.specs.declared.failure.Failure.{Failure}
 use Rattle.night_command.specs.declared.failure.Failure.TheVariants as failure
-use Rattle.night_command.specs.declared.setup_files.GuideFile.{GuideFile}
+use Rattle.night_command.specs.FileAt.{FileValue}
 
 -- one guide more
-pub one_more : (fs : List GuideFile) (gs : List GuideRows) (f : GuideFile) (g : GuideRows) → AreGuidesOf fs gs → IsGuideOf f.bytes g
+pub one_more : (fs : List FileValue) (gs : List GuideRows) (f : FileValue) (g : GuideRows) → AreGuidesOf fs gs → IsGuideOf f.bytes g
     → AreGuidesOf (fs ++ f ∷ []) (gs ++ g ∷ [])
 one_more [] [] f g all is = (is, tt)
 one_more [] (h ∷ gs) f g all is = absurd all
 one_more (e ∷ fs) [] f g all is = absurd all
 one_more (e ∷ fs) (h ∷ gs) f g all is = (all.0, one_more fs gs f g all.1 is)
 
-first_refused : (fs rest : List GuideFile) (gs : List GuideRows) (f : GuideFile) (path : List ℕ) (refusal : Option GuideFileFault)
+first_refused : (fs rest : List FileValue) (gs : List GuideRows) (f : FileValue) (path : List ℕ) (refusal : Option GuideFileFault)
     → AreGuidesOf fs gs → path_of f ≡ path → IsGuideRefused f.bytes refusal → IsFirstGuideRefused (fs ++ f ∷ rest) path refusal
 first_refused [] rest gs f path refusal all at is = inl (at, is)
 first_refused (e ∷ fs) rest [] f path refusal all at is = absurd all
 first_refused (e ∷ fs) rest (h ∷ gs) f path refusal all at is = inr (h, all.0, first_refused fs rest gs f path refusal all.1 at is)
 
-refused_behind : (fs rest : List GuideFile) (gs : List GuideRows) (f : GuideFile) (failed : Failure) → AreGuidesOf fs gs
+refused_behind : (fs rest : List FileValue) (gs : List GuideRows) (f : FileValue) (failed : Failure) → AreGuidesOf fs gs
     → IsOfGuide f failed → IsOfGuides (fs ++ f ∷ rest) failed
 refused_behind fs rest gs f (failure.Guide path refusal) all is = first_refused fs rest gs f path.now refusal all is.0 is.1
 refused_behind fs rest gs f _ all is = absurd is
 
 -- guides, and after them one that is refused
-pub stopped_at : (fs rest : List GuideFile) (gs : List GuideRows) (f : GuideFile) (failed : Failure) → AreGuidesOf fs gs
+pub stopped_at : (fs rest : List FileValue) (gs : List GuideRows) (f : FileValue) (failed : Failure) → AreGuidesOf fs gs
     → IsMemoryOrIs (IsOfGuide f) failed → IsMemoryOrIs (IsOfGuides (fs ++ f ∷ rest)) failed
 stopped_at fs rest gs f failed all (inl memory) = inl memory
 stopped_at fs rest gs f failed all (inr is) = inr (refused_behind fs rest gs f failed all is)
 
 -- one step on in the list of files
-pub more_guides : (fs : List GuideFile) (i : ℕ) (gs new : List GuideRows) (f : GuideFile) (g : GuideRows) → i < length fs
+pub more_guides : (fs : List FileValue) (i : ℕ) (gs new : List GuideRows) (f : FileValue) (g : GuideRows) → i < length fs
     → f ≡ get_or fs i f → AreGuidesOf (take i fs) gs → IsGuideOf f.bytes g → new ≡ gs ++ g ∷ [] → AreGuidesOf (take (i + 1) fs) new
 more_guides fs i gs new f g within at all is pushed =
     let here : take i fs ++ f ∷ [] ≡ take (i + 1) fs =
-    sym (take_more fs i f within ∙ ap (λ (x : GuideFile). take i fs ++ x ∷ []) (sym at)) in
-    rw (pushed) (subst (λ (xs : List GuideFile). AreGuidesOf xs (gs ++ g ∷ [])) here (one_more (take i fs) gs f g all is))
+    sym (take_more fs i f within ∙ ap (λ (x : FileValue). take i fs ++ x ∷ []) (sym at)) in
+    rw (pushed) (subst (λ (xs : List FileValue). AreGuidesOf xs (gs ++ g ∷ [])) here (one_more (take i fs) gs f g all is))
 
 -- and no step on
-pub no_more_guides : (fs : List GuideFile) (i : ℕ) (gs : List GuideRows) (f : GuideFile) (failed : Failure) → i < length fs
+pub no_more_guides : (fs : List FileValue) (i : ℕ) (gs : List GuideRows) (f : FileValue) (failed : Failure) → i < length fs
     → f ≡ get_or fs i f → AreGuidesOf (take i fs) gs → IsMemoryOrIs (IsOfGuide f) failed → IsMemoryOrIs (IsOfGuides fs) failed
 no_more_guides fs i gs f failed within at all is =
-    let here : drop i fs ≡ f ∷ drop (i + 1) fs = drop_more fs i f within ∙ ap (λ (x : GuideFile). x ∷ drop (i + 1) fs) (sym at) in
-    let whole : take i fs ++ f ∷ drop (i + 1) fs ≡ fs = ap (λ (xs : List GuideFile). take i fs ++ xs) (sym here) ∙ take-append-drop i fs in
-    subst (λ (xs : List GuideFile). IsMemoryOrIs (IsOfGuides xs) failed) whole
+    let here : drop i fs ≡ f ∷ drop (i + 1) fs = drop_more fs i f within ∙ ap (λ (x : FileValue). x ∷ drop (i + 1) fs) (sym at) in
+    let whole : take i fs ++ f ∷ drop (i + 1) fs ≡ fs = ap (λ (xs : List FileValue). take i fs ++ xs) (sym here) ∙ take-append-drop i fs in
+    subst (λ (xs : List FileValue). IsMemoryOrIs (IsOfGuides xs) failed) whole
     (stopped_at (take i fs) (drop (i + 1) fs) gs f failed all is)
 
 guides_first : (files : SetupFiles) (failed : Failure) → IsOfGuides files.guides failed → IsFirstRefusal files failed
@@ -71,24 +71,24 @@ guides_fail files failed (inl memory) = inl memory
 guides_fail files failed (inr is) = inr (guides_first files failed is)
 
 setup_file_next : (files : SetupFiles) (gs : List GuideRows) (failed : Failure) → AreGuidesOf files.guides gs
-    → IsOfSetupFile files.setup failed → IsFirstRefusal files failed
+    → IsOfSetupFile files.setup.bytes failed → IsFirstRefusal files failed
 setup_file_next files gs (failure.SetupFile refusal) guides is = (gs, guides, is)
 setup_file_next files gs _ guides is = absurd is
 
 -- the setup file after its guides
 pub setup_fails : (files : SetupFiles) (gs : List GuideRows) (failed : Failure) → AreGuidesOf files.guides gs
-    → IsMemoryOrIs (IsOfSetupFile files.setup) failed → IsMemoryOrIs (IsFirstRefusal files) failed
+    → IsMemoryOrIs (IsOfSetupFile files.setup.bytes) failed → IsMemoryOrIs (IsFirstRefusal files) failed
 setup_fails files gs failed guides (inl memory) = inl memory
 setup_fails files gs failed guides (inr is) = inr (setup_file_next files gs failed guides is)
 
 counters_next : (files : SetupFiles) (gs : List GuideRows) (rows : SetupRows) (failed : Failure) → AreGuidesOf files.guides gs
-    → IsFileOf setup_of_table files.setup rows → IsOfCounters files.counters failed → IsFirstRefusal files failed
+    → IsFileOf setup_of_table files.setup.bytes rows → IsOfCounters files.counters.bytes failed → IsFirstRefusal files failed
 counters_next files gs rows (failure.CountersFile refusal) guides setup is = (gs, rows, guides, setup, is)
 counters_next files gs rows _ guides setup is = absurd is
 
 -- the counters file after the setup file
 pub counters_file_fails : (files : SetupFiles) (gs : List GuideRows) (rows : SetupRows) (failed : Failure) → AreGuidesOf files.guides gs
-    → IsFileOf setup_of_table files.setup rows → IsMemoryOrIs (IsOfCounters files.counters) failed
+    → IsFileOf setup_of_table files.setup.bytes rows → IsMemoryOrIs (IsOfCounters files.counters.bytes) failed
     → IsMemoryOrIs (IsFirstRefusal files) failed
 counters_file_fails files gs rows failed guides setup (inl memory) = inl memory
 counters_file_fails files gs rows failed guides setup (inr is) = inr (counters_next files gs rows failed guides setup is)

@@ -20,9 +20,9 @@ use Rattle.night_command.specs.Failure.{counters_failure, guide_failure, own_fai
 use Rattle.guide_toml.proofs.ForAbove.{SaysNone, SaysOf, fault_is, guide_fault_is}
 use Rattle.night_command.specs.SetupFiles.{IsFileRefused, IsGuideRefused}
 use Rattle.night_command.specs.SetupFiles.{IsMemoryOrIs, IsOfCounters, IsOfGuide, IsOfSetupFile, path_of}
-use Rattle.night_command.specs.declared.setup_files.GuideFile.{GuideFile}
+use Rattle.night_command.specs.FileAt.{FileValue}
 
-own_fails : (file : GuideFile) (path : Bor (List ℕ)) (f : GuideFault) → path_of file ≡ path.now
+own_fails : (file : FileValue) (path : Bor (List ℕ)) (f : GuideFault) → path_of file ≡ path.now
     → IsGuideRefused file.bytes (Some (fault.Guide f)) → IsMemoryOrIs (IsOfGuide file) (own_failure path f)
 own_fails file path own.NoMemory at is = inl refl
 own_fails file path own.TooDeep at is = inr (at, is)
@@ -32,7 +32,7 @@ own_fails file path (own.BadTrigger k) at is = inr (at, is)
 own_fails file path (own.Ambiguous a b) at is = inr (at, is)
 own_fails file path (own.BadCondition k) at is = inr (at, is)
 
-refused_guide : (file : GuideFile) (path : Bor (List ℕ)) (f : GuideFileFault) → path_of file ≡ path.now
+refused_guide : (file : FileValue) (path : Bor (List ℕ)) (f : GuideFileFault) → path_of file ≡ path.now
     → (f ≢ fault.NoMemory → IsGuideRefused file.bytes (Some f)) → IsMemoryOrIs (IsOfGuide file) (guide_failure path f)
 refused_guide file path fault.NoMemory at is = inl refl
 refused_guide file path fault.NotToml at is = inr (at, is (λ e. cc))
@@ -41,7 +41,7 @@ refused_guide file path (fault.WrongKind k slot) at is = inr (at, is (λ e. cc))
 refused_guide file path (fault.Unknown k slot) at is = inr (at, is (λ e. cc))
 refused_guide file path (fault.Guide f) at is = own_fails file path f at (is (λ e. cc))
 
-pub guide_fails : (file : GuideFile) (path : Bor (List ℕ)) (bytes : List ℕ) (f : GuideFileFault) → Some bytes ≡ file.bytes
+pub guide_fails : (file : FileValue) (path : Bor (List ℕ)) (bytes : List ℕ) (f : GuideFileFault) → Some bytes ≡ file.bytes
     → path_of file ≡ path.now → SaysOf bytes (λ t. Answers (Err f) (guide_of_table t))
     → SaysNone GuideRows GuideFileFault bytes fault.NotToml fault.NoMemory (Err f) → IsMemoryOrIs (IsOfGuide file) (guide_failure path f)
 guide_fails file path bytes f is at table toml =

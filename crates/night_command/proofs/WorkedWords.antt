@@ -49,6 +49,18 @@ shared : takes hub_app (codes "--workers" ∷ codes "7" ∷ codes "--piece" ∷ 
 unfolding clap_on_literals
 shared = refl
 
+too_many : takes hub_app (codes "--workers" ∷ codes "65" ∷ words) ≡ false
+unfolding clap_on_literals
+too_many = refl
+
+not_one : takes hub_app (codes "--workers" ∷ codes "0" ∷ words) ≡ false
+unfolding clap_on_literals
+not_one = refl
+
+piece_of_none : takes hub_app (codes "--piece" ∷ codes "0" ∷ words) ≡ false
+unfolding clap_on_literals
+piece_of_none = refl
+
 workers_twice : takes hub_app (codes "--workers" ∷ codes "7" ∷ codes "--workers" ∷ codes "7" ∷ words) ≡ false
 unfolding clap_on_literals
 workers_twice = refl

@@ -6,6 +6,7 @@ use Rattle.hub_kinds.specs.Words.{number_of}
 use Rattle.clap.specs.Words.{App, Rule, Text, IsAmong, all_of, fault_of, first_of, first_value, matches_of, new_app, new_rule, takes}
 use Rattle.clap.specs.Words.{with_rule}
 use Rattle.clap.specs.declared.builder.action.ArgAction.TheVariants.{Append, Set}
+use Rattle.clap.specs.declared.builder.value_parser.ValueParser.TheVariants.{Unsigned}
 use Rattle.clap.specs.declared.error.kind.ErrorKind.{ErrorKind}
 use Rattle.clap.specs.declared.error.kind.ErrorKind.TheVariants.{DisplayHelp, DisplayVersion}
 use Rattle.clap.specs.declared.parser.matches.Found.{Found}
@@ -28,6 +29,14 @@ option_repeated name = record (option_named name) { action = Some Append }
 abbrev pub option_free : Text → Rule
 option_free name = record (option_named name) { required = false }
 
+-- how many workers: 1 to 64
+abbrev pub workers_rule : Rule
+workers_rule = record (option_free (codes "workers")) { parser = Some (Unsigned 1 64) }
+
+-- how many bytes a worker takes at a time: 1 to 4,294,967,295
+abbrev pub piece_rule : Rule
+piece_rule = record (option_free (codes "piece")) { parser = Some (Unsigned 1 4294967295) }
+
 -- the program without its options: its arguments don't begin with a program's name, and it has a version
 abbrev pub program : App
 program =
@@ -49,7 +58,7 @@ night_app = with_rule (with_night program) (option_named (codes "out"))
 
 -- and how it is shared among workers
 abbrev pub hub_app : App
-hub_app = with_rule (with_rule night_app (option_free (codes "workers"))) (option_free (codes "piece"))
+hub_app = with_rule (with_rule night_app workers_rule) piece_rule
 
 -- a number from 1 up to the most
 abbrev pub up_to_most : (most : ℕ) → Option ℕ → Option ℕ

@@ -1,5 +1,5 @@
--- Private. What is said of the input when it is opened (own).
-use Rattle.std.specs.Prelude.{◌<◌, ◌≤◌, IsOk, IsErrOf, Result, Ok, Err}
+-- What is said of the input when it is opened, and the source that it is (own).
+use Rattle.std.specs.Prelude.{◌≡◌, ◌<◌, ◌≤◌, ℕ, List, Option, IsOk, IsErrOf, Result, Ok, Err}
 use Rattle.std.specs.Fs.{metadata_len}
 use Rattle.std.specs.IoError.{error_kind}
 use Rattle.std.specs.declared.fs.Metadata.{Metadata}
@@ -15,3 +15,12 @@ IsInputOf (Ok opened) result =
     (metadata_len opened.1 ≤ LONGEST_TEXT → IsOk result) × (LONGEST_TEXT < metadata_len opened.1 → IsErrOf result failure.InputTooLong)
 IsInputOf (Err error) (Ok source) = ⊥
 IsInputOf (Err error) (Err failed) = IsMemoryOr (error_kind error) failure.Input failed
+
+-- a source of all that a file declares which was opened, of which nothing was read
+pub record IsUnreadOf {F E : Type 0} (declared : F → Option (List ℕ)) (answer : Result F E) (remaining : Option (List ℕ))
+    (faults given : ℕ) : Type 0 where
+  pub file : F
+  pub opened : answer ≡ Ok file
+  pub whole : remaining ≡ declared file
+  pub none_failed : faults ≡ 0
+  pub none_given : given ≡ 0

@@ -1,5 +1,6 @@
 pub mod CommandLine
 pub mod Failure
+pub mod FileAt
 pub mod Input
 pub mod NightFiles
 pub mod Outbox

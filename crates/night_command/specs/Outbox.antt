@@ -1,5 +1,6 @@
 -- What an outbox is given (own): files with their bytes, in the order in which they are put there; and how often that failed.
 use Rattle.std.specs.Prelude.{◌≡◌, ◌≢◌, ℕ, ◌+◌, ⊤, List, ◌∷◌, ◌++◌, Option}
+use Rattle.std.specs.List.{flat_map}
 use Rattle.std.specs.declared.io.ErrorKind.{ErrorKind}
 use Rattle.std.specs.declared.io.ErrorKind.TheVariants.{OutOfMemory}
 use Rattle.night_command.specs.declared.outbox.NamedText.{NamedText}
@@ -8,7 +9,7 @@ use Rattle.night_command.specs.declared.put_fault.PutFault.TheVariants.{NoMemory
 pub use Rattle.night_ends.specs.Outbox.{AddsFiles, File, KeepsFiles, PutsFile}
 
 abbrev pub file_of : NamedText → File
-file_of text = (text.name, text.bytes.now)
+file_of text = (text.name, flat_map (λ part. part) text.parts.items)
 
 -- the first of the files that are left couldn't be put; or memory was refused
 abbrev pub IsAtFile : List File → PutFault → Type 0

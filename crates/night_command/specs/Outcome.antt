@@ -33,11 +33,11 @@ abbrev pub status_of : Outcome → ℕ
 status_of (Shown text) = 0
 status_of (Ran night) = if is_clean night.report then 0 else 1
 
--- the whole night of some text that isn't too long, at the moment of the options and by a setup that some files make, whose guides have the
--- paths of the options; each partner's guides can be quoted, so each reads its acknowledgments
+-- the whole night of some text that isn't too long, at the moment of the options and by a setup that some files make which were asked for
+-- by the paths of the options; each partner's guides can be quoted, so each reads its acknowledgments
 pub record IsNightBy (options : Options) (night : Night) : Type 0 where
   pub setup : SetupValue
-  pub made : IsSetupAt (guide_paths options) setup
+  pub made : IsSetupAt (guide_paths options) options.setup.now options.counters.now setup
   pub text : List ℕ
   pub within : length text ≤ LONGEST_TEXT
   pub whole : IsWholeNight text setup options.at night
@@ -52,7 +52,8 @@ pub record IsPrinted (options : Options) (status : ℕ) (was is : Option (List �
 
 -- the guides of files can be quoted
 abbrev pub IsQuotableOfFiles : (text : List ℕ) → SetupValue → Type 0
-IsQuotableOfFiles text setup = (paths : List (List ℕ)) → IsSetupAt paths setup → AreAllQuotable text setup
+IsQuotableOfFiles text setup =
+    (guides : List (List ℕ)) (rows counters : List ℕ) → IsSetupAt guides rows counters setup → AreAllQuotable text setup
 
 -- the whole night of the bytes that a source gave, no more than the limit, which are all that it declared, where it declared them; where
 -- files make the setup, each partner reads its acknowledgments
@@ -99,6 +100,12 @@ pub record PutsFront (told : Option (List ℕ)) (setup : SetupValue) (at : List 
   pub left : List File
   pub whole : night_files setup night ≡ done ++ left
   pub added : AddsFiles had has done
+
+-- all files of a night were put, of which no line is printed then
+pub record ArePut (told : Option (List ℕ)) (setup : SetupValue) (at : List ℕ) (had has : Option (List File)) : Type 0 where
+  pub night : Night
+  pub by : IsNightOfSource told setup at night
+  pub files : AddsFiles had has (night_files setup night)
 
 abbrev pub LeavesFront : (told : Option (List ℕ)) → SetupValue → (at : List ℕ) → (had has : Option (List File)) → Type 0
 LeavesFront told setup at had has = KeepsFiles had has ⊎ PutsFront told setup at had has

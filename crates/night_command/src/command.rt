@@ -5,12 +5,12 @@ ghost use Rattle.night_command.specs.Failure.{IsOfWords};
 ghost use Rattle.night_ends.specs.Words.{values_found};
 
 use crate::failure::Failure;
-use crate::options::{moment_given, option_free, option_named, with_night};
-use crate::sharing::{Sharing, sharing_given};
+use crate::options::{moment_given, option_named, with_night};
+use crate::sharing::{Sharing, piece_option, sharing_given, workers_option};
 use clap::error::ErrorKind;
 use clap::{ArgMatches, Command, Error};
 use moment::At;
-use night_ends::{copied, with_argument};
+use night_ends::{RELEASE, copied, with_argument};
 use std::alloc::{AllocError, Global};
 use std::convert::AsStr;
 
@@ -75,17 +75,13 @@ fn command<'a>(alloc: Global) -> Result<Command<'a>, AllocError>
     ensures { IfOk result (λ command. app_of command ≡ hub_app) }
 {
     let command = night_command(alloc)?;
-    let workers = option_free(
+    let workers = workers_option(
         alloc,
-        "workers",
-        "N",
         "How many workers share the night, 1 to 64 [default: 4]",
     );
     let command = with_argument(command, workers)?;
-    let piece = option_free(
+    let piece = piece_option(
         alloc,
-        "piece",
-        "BYTES",
         "How many bytes of the input a worker takes at a time [default: 1048576]",
     );
     with_argument(command, piece)
@@ -97,7 +93,7 @@ fn night_command<'a>(alloc: Global) -> Result<Command<'a>, AllocError>
 {
     let command = Command::new(alloc, "nighthub")
         .about("Acknowledges the X12 interchanges of a night and delivers their sets")
-        .version("0.1.0")
+        .version(RELEASE)
         .after_help(FILES_AND_STATUSES)
         .no_binary_name(true);
     let command = with_night(alloc, command)?;

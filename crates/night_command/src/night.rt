@@ -1,19 +1,20 @@
-ghost use Rattle.std.specs.Prelude.{◌≡◌, ◌≢◌, ◌<◌, ◌≤◌, ◌⊎◌, IfOk, IfErr, IfSome, IsErrOf, OnOk, length, map};
+ghost use Rattle.std.specs.Prelude.{◌≡◌, ◌≢◌, ◌<◌, ◌≤◌, ◌⊎◌, ℕ, List, Some, IfOk, IfErr, IfSome, IsErrOf, IsOkAnd, length, map};
 ghost use Rattle.std.specs.Io.KnownBytes.{Appends};
 ghost use Rattle.stream_read.specs.Source.{GivenUp, HasFailed, TriedAgain};
 ghost use Rattle.partner_setup.specs.Sound.{IsSoundSetup};
+ghost use Rattle.night_ends.specs.Outbox.{path_in};
 ghost use Rattle.night_command.specs.CommandLine.{AsksForText, CanShare, IsCommandLine, NamesNight, guide_paths};
 ghost use Rattle.night_command.specs.Failure.{IsOfNight};
 ghost use Rattle.night_command.specs.NightFiles.{night_files};
 ghost use Rattle.night_command.specs.Outbox.{AddsFiles, KeepsFiles};
-ghost use Rattle.night_command.specs.Outcome.{IsGiven, IsNightOfSource, IsOutcome, IsPrinted};
+ghost use Rattle.night_command.specs.Outcome.{ArePut, IsGiven, IsNightOfSource, IsOutcome, IsPrinted};
 ghost use Rattle.night_command.specs.Outcome.{LeavesFront, LeavesOutbox, status_of, text_of};
 ghost use Rattle.night_command.specs.SetupFiles.{IsSetupAt};
 ghost use Rattle.night_command.specs.declared.outcome.Outcome.{Outcome};
 
 use crate::command::{Asked, Options, read_words};
 use crate::failure::Failure;
-use crate::input::open_input;
+use crate::input::source_of;
 use crate::night_files::put_night;
 use crate::outcome::{Outcome, finish};
 use crate::setup::setup_at;
@@ -22,12 +23,13 @@ use guide_toml::files_write_references;
 use hub_kinds::LONGEST_TEXT;
 use hub_run::{Night, OpenGate, Source, run_stream};
 use moment::At;
-use night_ends::{Directory, Outbox};
+use night_ends::{Directory, Opened, Outbox, open_at};
 use night_law::plain_references_are_quoted;
 use partner_setup::Setup;
 use std::alloc::Global;
 use std::convert::AsStr;
-use std::io::Write;
+use std::fs::OpenFile;
+use std::io::{Read, Write};
 use std::rt::Files;
 use std::sync::Wait;
 use std::thread::Threads;
@@ -88,7 +90,7 @@ where
     R: Files + AllocGlobal + Threads + Wait + Clock + Sync,
     O: Write,
     E: Write,
-    requires made { IsSetupAt (guide_paths options.now) setup.now }
+    requires made { IsSetupAt (guide_paths options.now) options.now.setup.now options.now.counters.now setup.now }
     requires sharing { CanShare options.now.sharing }
     ensures status { result ≤ 6 }
     ensures words { result ≢ 2 }
@@ -97,15 +99,48 @@ where
     ensures quiet { result ≤ 1 → err.new ≡ err.old }
     ensures printed { result ≤ 1 → IsPrinted options.now result (O.contents out.old) (O.contents out.new) }
 {
-    match open_input(rt, options.input) {
+    let mut folder = Directory::at(rt, options.output);
+    let input = open_at(rt, options.input);
+    give_opened(rt, options, setup, input, &mut folder, out, err)
+}
+
+/// Gives the night of the input that these options name, into the folder that they name, by the setup of these options. Where that
+/// fails, the status of the failure, whose line is on `err`.
+pub fn give_opened<R, F, B, O, E>(
+    rt: &R,
+    options: &Options<'_>,
+    setup: &Setup,
+    input: Opened<'_, F>,
+    folder: &mut B,
+    out: &mut O,
+    err: &mut E,
+) -> u8
+where
+    R: AllocGlobal + Threads + Wait + Clock + Sync,
+    F: Read + OpenFile + Drop,
+    B: Outbox,
+    O: Write,
+    E: Write,
+    requires sharing { CanShare options.now.sharing }
+    requires input { input.path ≡ options.now.input.now }
+    requires folder { (name : List ℕ) → B.path folder.old name ≡ Some (path_in options.now.output.now name) }
+    requires count { B.faults folder.old < 18446744073709551615 }
+    ensures status { result ≤ 6 }
+    ensures words { result ≢ 2 }
+    ensures taken { result ≢ 3 }
+    ensures silent { 2 ≤ result → result ≢ 5 → out.new ≡ out.old }
+    ensures quiet { result ≤ 1 → err.new ≡ err.old }
+    ensures given { result ≤ 1 → IsOkAnd input.entry.answer (λ file. IsGiven (F.remaining file) setup.now options.now.at result
+        (B.contents folder.old) (B.contents folder.new) (O.contents out.old) (O.contents out.new)) }
+{
+    match source_of(input.into_answer()) {
         Ok(source) => {
             let mut source = source;
-            let mut folder = Directory::at(rt, options.output);
             give_night(
                 rt,
                 rt.alloc(),
                 &mut source,
-                &mut folder,
+                folder,
                 setup,
                 &options.at,
                 options.sharing,
@@ -141,7 +176,9 @@ where
     ensures status { result ≤ 6 }
     ensures words { result ≢ 2 }
     ensures taken { result ≢ 3 }
-    ensures silent { 2 ≤ result → result ≢ 5 → out.new ≡ out.old }
+    ensures silent { 2 ≤ result → (out.new ≡ out.old) ⊎ ArePut (S.remaining source.old) setup.now at.now
+        (B.contents outbox.old) (B.contents outbox.new) }
+    ensures stdout { 2 ≤ result → result ≢ 5 → out.new ≡ out.old }
     ensures quiet { result ≤ 1 → err.new ≡ err.old }
     ensures given { result ≤ 1 → IsGiven (S.remaining source.old) setup.now at.now result
         (B.contents outbox.old) (B.contents outbox.new) (O.contents out.old) (O.contents out.new) }
@@ -173,6 +210,7 @@ where
     ensures night { IfOk result (IsNightOfSource (S.remaining source.old) setup.now at.now) }
     ensures files { IfOk result (λ night. AddsFiles (B.contents outbox.old) (B.contents outbox.new) (night_files setup.now night)) }
     ensures long { IsErrOf result Failure.InputTooLong → IfSome (S.remaining source.old) (λ xs. LONGEST_TEXT < length xs) }
+    ensures many { IsErrOf result Failure.InputTooLong → LONGEST_TEXT < S.given source.new }
     ensures unread { IsErrOf result Failure.Input → HasFailed (S.faults source.old) (S.faults source.new) (S.interruptions source.new) }
     ensures tried { (IsErrOf result Failure.Input → ⊥)
         → TriedAgain (S.interruptions source.old) (S.longest source.old) (S.longest source.new) }

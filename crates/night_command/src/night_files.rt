@@ -1,12 +1,14 @@
 ghost use Rattle.std.specs.Prelude.{◌≡◌, ◌<◌, ◌++◌, ◌∷◌, [], List, IfOk, IfErr, OnOk, map, length};
+ghost use Rattle.std.specs.List.{flat_map};
 ghost use Rattle.partner_setup.specs.declared.partner.Partner.{Partner};
 ghost use Rattle.night_command.specs.Outbox.{AddsFiles, AddsSome, IsPutFault, file_of};
 ghost use Rattle.night_command.specs.NightFiles.{IsForPartners, files_of, last_files, night_files, partner_files};
 
 use crate::outbox::{NamedText, put_all};
 use crate::put_fault::PutFault;
-use hub_kinds::{Items, NoMemory, Text};
+use hub_kinds::{Items, Lent, NoMemory, Text};
 use hub_run::Night;
+use mailbox::Woven;
 use night_ends::Outbox;
 use partner_setup::{Partner, Setup};
 use std::alloc::Global;
@@ -67,7 +69,7 @@ fn append_partners<'a>(
     files: &mut Vec<NamedText<'a>>,
     partners: &[Partner],
     acks: &'a [Text],
-    boxes: &'a [Text],
+    boxes: &'a [Woven],
 ) -> Result<(), NoMemory>
     requires acks { length acks.now ≡ length partners.now }
     requires boxes { length boxes.now ≡ length partners.now }
@@ -85,17 +87,18 @@ fn append_partner<'a>(
     files: &mut Vec<NamedText<'a>>,
     partner: &Partner,
     acks: &'a Text,
-    sets: &'a Text,
+    sets: &'a Woven,
 ) -> Result<(), NoMemory>
     ensures { OnOk result (map file_of files.new.items
         ≡ map file_of files.old.items ++ files_of partner.now acks.now sets.now) }
 {
     let name = partner.name.as_slice();
     append_file(alloc, files, name, b".ack", acks.as_slice())?;
-    append_file(alloc, files, name, b".box", sets.as_slice())
+    let parts = sets.parts(alloc)?;
+    append_parts(alloc, files, name, b".box", parts)
 }
 
-/// Adds a file, whose name is of two parts.
+/// Adds a file of these bytes, whose name is of two parts.
 fn append_file<'a>(
     alloc: Global,
     files: &mut Vec<NamedText<'a>>,
@@ -106,12 +109,28 @@ fn append_file<'a>(
     ensures { OnOk result (map file_of files.new.items
         ≡ map file_of files.old.items ++ (name.now ++ kind.now, bytes.now) ∷ []) }
 {
+    let mut parts = Vec::new(alloc);
+    parts.push(Lent::new(bytes))?;
+    append_parts(alloc, files, name, kind, parts)
+}
+
+/// Adds a file that is held in parts, whose name is of two parts.
+fn append_parts<'a>(
+    alloc: Global,
+    files: &mut Vec<NamedText<'a>>,
+    name: &[u8],
+    kind: &[u8],
+    parts: Vec<Lent<'a>>,
+) -> Result<(), NoMemory>
+    ensures { OnOk result (map file_of files.new.items
+        ≡ map file_of files.old.items ++ (name.now ++ kind.now, flat_map (λ part. part) parts.entry.items) ∷ []) }
+{
     let mut whole = Vec::new(alloc);
     whole.extend_from_slice(name)?;
     whole.extend_from_slice(kind)?;
     files.push(NamedText {
         name: Text::from_vec(whole),
-        bytes,
+        parts,
     })?;
     Ok(())
 }

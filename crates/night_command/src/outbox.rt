@@ -2,16 +2,16 @@ ghost use Rattle.std.specs.Prelude.{◌≡◌, ◌<◌, IfErr, OnOk, map};
 ghost use Rattle.night_command.specs.Outbox.{AddsFiles, AddsSome, IsPutFault, file_of};
 
 use crate::put_fault::PutFault;
-use hub_kinds::Text;
+use hub_kinds::{Lent, Text};
 use night_ends::Outbox;
 
 /// A file that is to be put somewhere.
-#[derive(Debug, Drop)]
+#[derive(Drop)]
 pub struct NamedText<'a> {
     /// The name of the file.
     pub name: Text,
-    /// What it holds.
-    pub bytes: &'a [u8],
+    /// What it holds, in parts, one after the other.
+    pub parts: Vec<Lent<'a>>,
 }
 
 /// Puts files into an outbox, one after another, up to the first that can't be put.
@@ -25,7 +25,7 @@ pub fn put_all<B: Outbox>(outbox: &mut B, files: Vec<NamedText>) -> Result<(), P
     ensures failed { IfErr result (IsPutFault (B.faults outbox.old) (B.faults outbox.new)) }
 {
     for file in files {
-        match outbox.put(file.name.as_slice(), file.bytes) {
+        match outbox.put(file.name.as_slice(), file.parts.as_slice()) {
             Ok(_) => {}
             Err(error) => return Err(PutFault::of_error(error, file.name)),
         }

@@ -12,7 +12,7 @@ use x12_bytes::Delims;
 use x12_segs::{Parts, components};
 
 /// What a run that didn't fail has to report.
-#[derive(Debug, Drop)]
+#[derive(Drop)]
 pub enum Outcome {
     /// A text that was asked for: help, or the version.
     Shown(String),

@@ -8,10 +8,9 @@ ghost use Rattle.night_command.specs.SetupFiles.{AreGuidesOf, IsFirstRefusal, Is
 ghost use Rattle.night_command.specs.SetupFiles.{IsOfGuides, IsOfSetupFile, IsRefusedAt, IsSetupAt, IsSetupOf};
 
 use crate::failure::Failure;
-use crate::setup_files::{GuideFile, SetupFiles, read_files};
+use crate::setup_files::{FileAt, SetupFiles, read_files};
 use guide_toml::{GuideFileFault, read_guide};
 use guide_tree::{Guide, GuideFault};
-use hub_kinds::Text;
 use partner_setup::{
     CounterRows, FileFault, Setup, SetupFault, SetupRows, read_counters, read_setup,
 };
@@ -22,11 +21,11 @@ use std::rt::Files;
 pub fn setup_at<'a, R: Files + AllocGlobal>(
     rt: &R,
     guides: &[&'a str],
-    setup: &str,
-    counters: &str,
+    setup: &'a str,
+    counters: &'a str,
 ) -> Result<Setup, Failure<'a>>
-    ensures made { IfOk result (IsSetupAt (map (λ g. g.now) guides.now)) }
-    ensures refused { IfErr result (IsMemoryOrIs (IsRefusedAt (map (λ g. g.now) guides.now))) }
+    ensures made { IfOk result (IsSetupAt (map (λ g. g.now) guides.now) setup.now counters.now) }
+    ensures refused { IfErr result (IsMemoryOrIs (IsRefusedAt (map (λ g. g.now) guides.now) setup.now counters.now)) }
 {
     let files = read_files(rt, guides, setup, counters)?;
     setup_of(rt.alloc(), &files)
@@ -58,7 +57,7 @@ fn setup_from<'a>(
     rows: SetupRows,
 ) -> Result<Setup, Failure<'a>>
     requires guides { AreGuidesOf files.now.guides guides.items }
-    requires rows { IsFileOf setup_of_table files.now.setup rows }
+    requires rows { IsFileOf setup_of_table files.now.setup.bytes rows }
     ensures made { IfOk result (IsSetupOf files.now) }
     ensures refused { IfErr result (IsMemoryOrIs (IsFirstRefusal files.now)) }
 {
@@ -73,7 +72,7 @@ fn setup_from<'a>(
 }
 
 /// The guides of these files, in their order.
-fn guides_of<'a>(alloc: Global, files: &[GuideFile<'a>]) -> Result<Vec<Guide>, Failure<'a>>
+fn guides_of<'a>(alloc: Global, files: &[FileAt<'a>]) -> Result<Vec<Guide>, Failure<'a>>
     ensures guides { IfOk result (λ guides. AreGuidesOf files.now guides.items) }
     ensures refused { IfErr result (IsMemoryOrIs (IsOfGuides files.now)) }
 {
@@ -87,24 +86,24 @@ fn guides_of<'a>(alloc: Global, files: &[GuideFile<'a>]) -> Result<Vec<Guide>, F
     Ok(guides)
 }
 
-fn guide_of<'a>(alloc: Global, file: &GuideFile<'a>) -> Result<Guide, Failure<'a>>
+fn guide_of<'a>(alloc: Global, file: &FileAt<'a>) -> Result<Guide, Failure<'a>>
     ensures guide { IfOk result (IsGuideOf file.now.bytes) }
     ensures refused { IfErr result (IsMemoryOrIs (IsOfGuide file.now)) }
 {
-    let Some(bytes) = &file.bytes else {
-        return Err(Failure::Guide(file.path, None));
+    let Some(bytes) = file.bytes() else {
+        return Err(Failure::Guide(file.path(), None));
     };
     match read_guide(alloc, bytes.as_slice()) {
         Ok(guide) => Ok(guide),
-        Err(fault) => Err(of_guide(file.path, fault)),
+        Err(fault) => Err(of_guide(file.path(), fault)),
     }
 }
 
-fn setup_rows_of<'a>(alloc: Global, file: &Option<Text>) -> Result<SetupRows, Failure<'a>>
-    ensures rows { IfOk result (IsFileOf setup_of_table file.now) }
-    ensures refused { IfErr result (IsMemoryOrIs (IsOfSetupFile file.now)) }
+fn setup_rows_of<'a>(alloc: Global, file: &FileAt<'_>) -> Result<SetupRows, Failure<'a>>
+    ensures rows { IfOk result (IsFileOf setup_of_table file.now.bytes) }
+    ensures refused { IfErr result (IsMemoryOrIs (IsOfSetupFile file.now.bytes)) }
 {
-    let Some(bytes) = file else {
+    let Some(bytes) = file.bytes() else {
         return Err(Failure::SetupFile(None));
     };
     match read_setup(alloc, bytes.as_slice()) {
@@ -113,11 +112,11 @@ fn setup_rows_of<'a>(alloc: Global, file: &Option<Text>) -> Result<SetupRows, Fa
     }
 }
 
-fn counter_rows_of<'a>(alloc: Global, file: &Option<Text>) -> Result<CounterRows, Failure<'a>>
-    ensures rows { IfOk result (IsFileOf counters_of_table file.now) }
-    ensures refused { IfErr result (IsMemoryOrIs (IsOfCounters file.now)) }
+fn counter_rows_of<'a>(alloc: Global, file: &FileAt<'_>) -> Result<CounterRows, Failure<'a>>
+    ensures rows { IfOk result (IsFileOf counters_of_table file.now.bytes) }
+    ensures refused { IfErr result (IsMemoryOrIs (IsOfCounters file.now.bytes)) }
 {
-    let Some(bytes) = file else {
+    let Some(bytes) = file.bytes() else {
         return Err(Failure::CountersFile(None));
     };
     match read_counters(alloc, bytes.as_slice()) {

@@ -1,9 +1,11 @@
-ghost use Rattle.std.specs.Prelude.{◌≡◌, option_map};
-ghost use Rattle.clap.specs.Words.{first_value, found_of};
-ghost use Rattle.night_command.specs.CommandLine.{IsShared, number_given, up_to_most};
+ghost use Rattle.std.specs.Prelude.{◌≡◌, false, option_map};
+ghost use Rattle.clap.specs.Words.{first_value, found_of, rule_of};
+ghost use Rattle.night_command.specs.CommandLine.{IsShared, number_given, piece_rule, up_to_most, workers_rule};
 
-use clap::ArgMatches;
+use crate::options::option_free;
+use clap::{Arg, ArgMatches, value_parser};
 use hub_kinds::{LONGEST_TEXT, read_number};
+use std::alloc::Global;
 
 /// How many workers share a night where the arguments don't say it.
 const WORKERS: u64 = 4;
@@ -21,6 +23,24 @@ pub struct Sharing {
     pub workers: u64,
     /// How many bytes of the input a worker takes at a time, 1 or more.
     pub piece: u64,
+}
+
+/// The option for the number of workers, 1 to 64, which may be left out.
+pub fn workers_option<'a>(alloc: Global, help: &'a str) -> Arg<'a>
+    ensures rule { rule_of result ≡ workers_rule }
+    ensures local { result.global ≡ false }
+{
+    option_free(alloc, "workers", "N", help).value_parser(value_parser!(u64).range(1..=64))
+}
+
+/// The option for how many bytes a worker takes at a time, 1 to 4,294,967,295, which may be left out.
+pub fn piece_option<'a>(alloc: Global, help: &'a str) -> Arg<'a>
+    ensures rule { rule_of result ≡ piece_rule }
+    ensures local { result.global ≡ false }
+{
+    option_free(alloc, "piece", "BYTES", help).value_parser(value_parser!(u64).range(
+        1..=4_294_967_295,
+    ))
 }
 
 /// How the night is shared, if it can be so.

@@ -1,1 +1,3 @@
 pub mod ForAbove
+pub mod Parts
+pub mod Signs

@@ -1,3 +1,4 @@
 pub mod Outbox
+pub mod Paths
 pub mod Reader
 pub mod Words

@@ -1,5 +1,5 @@
 -- What an outbox is given (own): files with their bytes, in the order in which they are put there; and how often that failed.
-use Rattle.std.specs.Prelude.{◌≡◌, ◌≢◌, ℕ, ◌+◌, ⊤, List, ◌∷◌, [], ◌++◌, Option, None, Some, Result, Ok, Err, MatchResult}
+use Rattle.std.specs.Prelude.{◌≡◌, ◌≢◌, ℕ, ◌+◌, ⊤, List, ◌∷◌, [], ◌++◌, Option, None, Some, Result, Ok, Err, MatchResult, codes}
 use Rattle.std.specs.IoError.{error_kind}
 use Rattle.std.specs.declared.io.Error.{Error}
 use Rattle.std.specs.declared.io.ErrorKind.{ErrorKind}
@@ -24,6 +24,10 @@ AddsFiles (Some xs) (Some ys) files = ys ≡ xs ++ files
 -- a file is added where it could be put, and otherwise nothing
 abbrev pub PutsFile : {A E : Type 0} → Option (List File) → Option (List File) → Result A E → File → Type 0
 PutsFile old new result file = MatchResult result (λ _. AddsFiles old new (file ∷ [])) (λ _. KeepsFiles old new)
+
+-- the path of a file of this name in a folder
+abbrev pub path_in : (folder name : List ℕ) → List ℕ
+path_in folder name = folder ++ (codes "/" ++ name)
 
 -- an error of this kind is counted; one out of memory is no fault of the outbox
 pub record CountsError (kind : ErrorKind) (before after : ℕ) : Type 0 where

@@ -1,11 +1,15 @@
-ghost use Rattle.std.specs.Prelude.{◌≡◌, ◌≢◌, ◌++◌, [], IfOk, OnOk, string_bytes, codes};
+ghost use Rattle.std.specs.Prelude.{◌≡◌, ◌≢◌, [], IfOk, OnOk, string_bytes, Some};
+ghost use Rattle.std.specs.List.{flat_map};
+ghost use Rattle.night_ends.specs.Outbox.{path_in};
 
+use crate::creating::create_at;
 use crate::outbox::{Outbox, faults_behind};
-use crate::written::{Written, write_and_sync};
+use crate::written::{Written, room_for_parts, write_in_room};
+use hub_kinds::Lent;
 use std::alloc::Global;
+use std::io;
 use std::io::ErrorKind;
 use std::rt::Files;
-use std::{fs, io};
 
 /// A folder of the system, by its path.
 #[derive(Drop)]
@@ -16,11 +20,13 @@ pub struct Directory<'a, R> {
 }
 
 impl<'a, R: Files + AllocGlobal> Directory<'a, R> {
-    ghost use Rattle.std.specs.Prelude.{◌≡◌};
+    ghost use Rattle.std.specs.Prelude.{◌≡◌, ℕ, List, Some};
+    ghost use Rattle.night_ends.specs.Outbox.{path_in};
 
     /// The folder at this path, of which no put has failed.
     pub fn at(rt: &'a R, path: &'a str) -> Directory<'a, R>
-        ensures { ⟦<Directory<'a, R> as Outbox>⟧.faults result ≡ 0 }
+        ensures faults { ⟦<Directory<'a, R> as Outbox>⟧.faults result ≡ 0 }
+        ensures path { (name : List ℕ) → ⟦<Directory<'a, R> as Outbox>⟧.path result name ≡ Some (path_in path.now name) }
     {
         Directory {
             rt,
@@ -33,8 +39,10 @@ impl<'a, R: Files + AllocGlobal> Directory<'a, R> {
 impl<'a, R: Files + AllocGlobal> Outbox for Directory<'a, R> {
     ghost faults = { λ d. d.faults };
 
-    fn put<'f>(&mut self, name: &'f [u8], bytes: &'f [u8]) -> io::Result<Written<'f>> {
-        let answer = write_file(self.rt, self.path, name, bytes);
+    ghost path = { λ d name. Some (path_in d.path.now name) };
+
+    fn put<'f>(&mut self, name: &'f [u8], parts: &'f [Lent<'f>]) -> io::Result<Written<'f>> {
+        let answer = write_file(self.rt, self.path, name, parts);
         self.faults = faults_behind(&answer, self.faults);
         answer
     }
@@ -45,19 +53,21 @@ fn write_file<'f, R: Files + AllocGlobal>(
     rt: &R,
     folder: &str,
     name: &'f [u8],
-    bytes: &'f [u8],
+    parts: &'f [Lent<'f>],
 ) -> io::Result<Written<'f>>
-    ensures { IfOk result (λ written. written ≡ (name.now, bytes.now)) }
+    ensures file { IfOk result (λ written. written.file ≡ (name.now, flat_map (λ part. part) parts.now)) }
+    ensures path { IfOk result (λ written. written.path ≡ path_in folder.now name.now) }
 {
     let path = path_in(rt.alloc(), folder, name)?;
-    let mut file = fs::create(rt, path.as_str())?;
-    write_and_sync(&mut file, name, bytes)
+    let room = room_for_parts(rt.alloc())?;
+    let mut created = create_at(rt, path)?;
+    write_in_room(room, &mut created, name, parts)
 }
 
 /// The path of a file in a folder. An empty path is none of a folder.
 fn path_in(alloc: Global, folder: &str, name: &[u8]) -> io::Result<String>
     ensures some { OnOk result (folder.now ≢ []) }
-    ensures path { IfOk result (λ path. string_bytes path ≡ folder.now ++ (codes "/" ++ name.now)) }
+    ensures path { IfOk result (λ path. string_bytes path ≡ path_in folder.now name.now) }
 {
     if folder.is_empty() {
         return Err(io::Error::from(ErrorKind::NotFound));

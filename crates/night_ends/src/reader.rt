@@ -15,6 +15,8 @@ pub struct Reader<I> {
     row: u32,
     // and at most
     longest: u32,
+    // how many bytes it gave
+    given: u64,
 }
 
 impl<I: Read> Reader<I> {
@@ -26,18 +28,21 @@ impl<I: Read> Reader<I> {
         ensures faults { ⟦<Reader<I> as Source>⟧.faults result ≡ 0 }
         ensures interruptions { ⟦<Reader<I> as Source>⟧.interruptions result ≡ 0 }
         ensures longest { ⟦<Reader<I> as Source>⟧.longest result ≡ 0 }
+        ensures given { ⟦<Reader<I> as Source>⟧.given result ≡ 0 }
     {
         Reader {
             input,
             failed: false,
             row: 0,
             longest: 0,
+            given: 0,
         }
     }
 }
 
 impl<I> Reader<I> {
     ghost use Rattle.std.specs.Prelude.{◌≡◌, ◌<◌, ◌⊎◌, IsErrOf};
+    ghost use Rattle.stream_read.specs.Source.{given_after};
     ghost use Rattle.stream_read.specs.declared.source.SourceFault.TheVariants.{Interrupted};
     ghost use Rattle.night_ends.specs.Reader.{IsCounted};
 
@@ -47,9 +52,13 @@ impl<I> Reader<I> {
         ensures same { result ≡ answer }
         ensures input { self.new.input ≡ self.old.input }
         ensures counted { IsCounted answer self.old.failed self.old.row self.old.longest self.new.failed self.new.row self.new.longest }
+        ensures given { self.new.given ≡ given_after answer self.old.given }
     {
         match answer {
-            Ok(_) => self.row = 0,
+            Ok(count) => {
+                self.row = 0;
+                self.given = self.given.saturating_add(count as u64);
+            }
             Err(SourceFault::Interrupted) => {
                 self.row += 1;
                 self.longest = self.longest.max(self.row);
@@ -71,6 +80,8 @@ impl<I: Read> Source for Reader<I> {
     ghost interruptions = { λ r. r.row };
 
     ghost longest = { λ r. r.longest };
+
+    ghost given = { λ r. r.given };
 
     fn read(&mut self, buf: &mut [u8]) -> Result<usize, SourceFault> {
         if self.failed {

@@ -66,6 +66,8 @@ fn read_on<S: Source>(held: &mut Held, source: &mut S, window: usize) -> Result<
     ensures tried { (IsErrOf result (Stream Read) → ⊥)
         → TriedAgain (S.interruptions source.old) (S.longest source.old) (S.longest source.new) }
     ensures given_up { GivenUp (S.interruptions source.old) (S.longest source.old) (S.longest source.new) }
+    ensures given { OnOk result (held.old.total ≤ S.given source.old → held.new.total ≤ S.given source.new) }
+    ensures many { IsErrOf result (Stream InputTooLong) → held.old.total ≤ S.given source.old → LONGEST_TEXT < S.given source.new }
 {
     let full = held.fill(source, window)?;
     Ok(full)
@@ -157,6 +159,7 @@ pub fn stream_night<S: Source, G: Gate + Sync, R: Threads + Wait + Clock + Sync>
     requires window { 0 < window }
     ensures night { IfOk result (IsNightOfStream (S.remaining source.old) setup.now at.now) }
     ensures long { IsErrOf result (Stream InputTooLong) → IfSome (S.remaining source.old) (λ xs. LONGEST_TEXT < length xs) }
+    ensures many { IsErrOf result (Stream InputTooLong) → LONGEST_TEXT < S.given source.new }
     ensures short { OnOk result (IfSome (S.remaining source.old) (λ xs. length xs ≤ LONGEST_TEXT)) }
     ensures end { OnOk result (IsAtEnd (S.remaining source.new)) }
     ensures fault { IsErrOf result (Stream Read) → HasFailed (S.faults source.old) (S.faults source.new) (S.interruptions source.new) }

@@ -6,8 +6,8 @@ ghost use Rattle.night_writing.specs.Night.{AreForPartners, counters_by};
 
 use checked_text::Acknowledgments;
 use count_numbers::{interchange_count, num};
-use hub_kinds::{Counters, Items, NoMemory, Text, Texts};
-use mailbox::{RenderedSets, close};
+use hub_kinds::{Counters, Items, NoMemory};
+use mailbox::{RenderedSets, Woven, close};
 use moment::At;
 use partner_setup::Setup;
 use std::alloc::Global;
@@ -15,7 +15,7 @@ use std::alloc::Global;
 /// What a night closes with for one partner.
 #[derive(Drop)]
 struct Closed {
-    text: Text,
+    text: Woven,
     next: Counters,
 }
 
@@ -23,7 +23,7 @@ struct Closed {
 #[derive(Drop)]
 pub(crate) struct AllClosed {
     /// The mailboxes.
-    pub(crate) boxes: Texts,
+    pub(crate) boxes: Items<Woven>,
     /// The next counters.
     pub(crate) next: Items<Counters>,
 }
@@ -91,8 +91,9 @@ fn close_at(
 {
     let acknowledgments = file.count();
     let groups = file.groups();
-    let mailbox = close(alloc, setup, place, at, acknowledgments, groups, &sets)?;
-    let next = next_at(setup, place, file, sets.count(), mailbox.groups);
+    let count = sets.count();
+    let mailbox = close(alloc, setup, place, at, acknowledgments, groups, sets)?;
+    let next = next_at(setup, place, file, count, mailbox.groups);
     Ok(Closed {
         text: mailbox.text,
         next,

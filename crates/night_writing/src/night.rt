@@ -1,12 +1,13 @@
 use hub_kinds::{Counters, Items, Text, Texts};
+use mailbox::Woven;
 
 /// What a night gives.
-#[derive(Debug, Drop)]
+#[derive(Drop)]
 pub struct Night {
     /// The acknowledgments of each partner, in the order of the setup (999 guide, 005010X231).
     pub acks: Texts,
-    /// The mailbox of each partner, in the order of the setup (X12.5, interchange).
-    pub boxes: Texts,
+    /// The mailbox of each partner, in the order of the setup (X12.5, interchange), as it was written: its parts are its text.
+    pub boxes: Items<Woven>,
     /// The report: lines ended by LF (own).
     pub report: Text,
     /// The next counters of each partner, in the order of the setup.

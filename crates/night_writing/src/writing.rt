@@ -8,7 +8,8 @@ ghost use Rattle.checked_text.specs.CheckedText.{HaveRoom, IsCheckedBehind};
 use crate::closing::close_all;
 use crate::night::Night;
 use checked_text::{
-    Acknowledgments, CheckedText, Finding, answer_found, check_text, no_acknowledgments,
+    Acknowledgments, CheckedText, Finding, ReportWriters, answer_found, check_text,
+    no_acknowledgments,
 };
 use env_index::Index;
 use hub_kinds::{Items, NoMemory, Texts};
@@ -50,14 +51,16 @@ fn rendered_behind<W: Writers>(
 }
 
 /// The answers to a batch, after what was sent before: by what was found out about its places, or else checked here.
-fn answered<'i, 'a>(
+fn answered<'i, 'a, W: ReportWriters>(
     alloc: Global,
+    writers: &W,
     setup: &'a Setup,
     at: &At,
     index: &'i Index<'a>,
     found: Option<Vec<Finding<'a>>>,
     sent: Vec<Acknowledgments>,
 ) -> Result<CheckedText<'i, 'a>, NoMemory>
+    requires ready { W.can_report writers.now }
     requires spans { All (λ e. HasSpans index.now.text e.interchange) index.now.entries }
     requires found { IfSome found (λ v. AllZip IsFound (asked_of index.now.text setup.now index.now.entries) v.items) }
     requires sent { HaveRoom setup.now at.now (length index.now.entries) sent.items }
@@ -65,8 +68,8 @@ fn answered<'i, 'a>(
         c.interchanges.items sent.items c.acknowledgments.items) }
 {
     match found {
-        None => check_text(alloc, setup, at, index, sent),
-        Some(found) => answer_found(alloc, setup, at, index, found, sent),
+        None => check_text(alloc, writers, setup, at, index, sent),
+        Some(found) => answer_found(alloc, writers, setup, at, index, found, sent),
     }
 }
 
@@ -124,7 +127,7 @@ impl Writing {
     }
 
     /// Adds interchanges after those before, of which there may be none.
-    fn add_interchanges<'a, W: Writers>(
+    fn add_interchanges<'a, W: Writers + ReportWriters>(
         self,
         alloc: Global,
         writers: &W,
@@ -135,6 +138,7 @@ impl Writing {
         found: Option<Vec<Finding<'a>>>,
     ) -> Result<Writing, NoMemory>
         requires ready { W.is_ready writers.now }
+        requires reports { W.can_report writers.now }
         requires spans { All (λ e. HasSpans index.now.text e.interchange) index.now.entries }
         requires found { IfSome found (λ v. AllZip IsFound (asked_of index.now.text setup.now index.now.entries) v.items) }
         requires room { HasRoomFor setup.now at.now (length index.now.entries) index.now.outside self }
@@ -146,7 +150,7 @@ impl Writing {
             lines,
             boxes,
         } = self;
-        let checked = answered(alloc, setup, at, index, found, files)?;
+        let checked = answered(alloc, writers, setup, at, index, found, files)?;
         let interchanges = checked.interchanges.as_slice();
         let lines = lines.append(setup, base, interchanges)?;
         let boxes = rendered_behind(alloc, writers, setup, interchanges, boxes)?;
@@ -160,7 +164,7 @@ impl Writing {
 
     /// Adds a batch, by what was found out about its places, or else checked here. One without interchanges adds its bytes outside
     /// alone.
-    fn add_answered<'a, W: Writers>(
+    fn add_answered<'a, W: Writers + ReportWriters>(
         self,
         alloc: Global,
         writers: &W,
@@ -171,6 +175,7 @@ impl Writing {
         found: Option<Vec<Finding<'a>>>,
     ) -> Result<Writing, NoMemory>
         requires ready { W.is_ready writers.now }
+        requires reports { W.can_report writers.now }
         requires spans { All (λ e. HasSpans index.now.text e.interchange) index.now.entries }
         requires found { IfSome found (λ v. AllZip IsFound (asked_of index.now.text setup.now index.now.entries) v.items) }
         requires room { HasRoomFor setup.now at.now (length index.now.entries) index.now.outside self }
@@ -202,9 +207,9 @@ impl Writing {
     }
 
     /// The same of a batch of which all was found out before: of each place of its index whether its number is used earlier, and of each
-    /// set how it was checked; delivered sets are written by these writers. The only error is out of memory; then what was written before
-    /// is given up.
-    pub fn add_found<'a, W: Writers>(
+    /// set how it was checked; these writers write the delivered sets and the 999s. The only error is out of memory; then what was
+    /// written before is given up.
+    pub fn add_found<'a, W: Writers + ReportWriters>(
         self,
         alloc: Global,
         writers: &W,
@@ -215,6 +220,7 @@ impl Writing {
         found: Vec<Finding<'a>>,
     ) -> Result<Writing, NoMemory>
         requires ready { W.is_ready writers.now }
+        requires reports { W.can_report writers.now }
         requires spans { All (λ e. HasSpans index.now.text e.interchange) index.now.entries }
         requires found { AllZip IsFound (asked_of index.now.text setup.now index.now.entries) found.items }
         requires room { HasRoomFor setup.now at.now (length index.now.entries) index.now.outside self }

@@ -107,7 +107,7 @@ impl<'i, 'a, J: Named> Model for Register<'i, 'a, J> {
 
     ghost view = { λ r. r.given };
 
-    ghost invariant = { λ r. (r.rest.parts + r.given ≡ 65) × (r.rest.amount ≡ 0) × (r.given ≤ 64) };
+    ghost invariant = { λ r. (r.rest.parts + r.given ≡ 65) × (r.rest.amount ≡ 0) × (r.given ≤ 64) × (J.parts ≡ 65) };
 }
 
 impl<'i, 'a, J: Named> Locked<'i, 'a, J> {
@@ -192,8 +192,7 @@ impl<'i, 'a, J: Named> Register<'i, 'a, J> {
 
     /// The records, once all shares are back: as many are recorded as the shares add up to.
     pub fn open(self, shares: Vec<Share<J>>) -> Records<'i, 'a>
-        requires all { vec_len shares ≡ self }
-        requires parts { J.parts ≡ 65 }
+        requires { vec_len shares ≡ self }
         ensures index { result.index ≡ J.index }
         ensures count { length result.recorded ≡ sum shares.items }
     {

@@ -16,8 +16,8 @@ abbrev pub row_words : RowCause → List ℕ
 row_words in_row.ShortestIsZero = codes "shortest 0 is under 1"
 row_words (in_row.ShortestOverLongest least most) = two_numbers (codes "shortest ") least (codes " is over longest ") most
 row_words (in_row.LongestTooLong most) = one_number (codes "longest ") most (codes " is over 9999")
-row_words in_row.NoCode = codes "no code stands after ="
-row_words in_row.NoUnusedCode = codes "no code stands after !"
+row_words in_row.NoCode = codes "a code is missing after ="
+row_words in_row.NoUnusedCode = codes "a code is missing after !"
 
 abbrev pub component_words : (number : ℕ) → RowCause → List ℕ
 component_words number cause = one_number (codes "component ") number (codes ": ") ++ row_words cause
@@ -34,8 +34,8 @@ element_words number cause = one_number (codes "element ") number (codes ": ") +
 abbrev pub cause_words : (id : List ℕ) → NodeCause → List ℕ
 cause_words id (in_node.LeastOverMost least most) = two_numbers (codes "min ") least (codes " is over max ") most
 cause_words id (in_node.MostTooLarge most) = one_number (codes "max ") most (codes " is over 999999")
-cause_words id in_node.SegmentId = quoted id (codes " is no id of a segment position")
-cause_words id in_node.LoopId = quoted id (codes " is no id of a loop")
+cause_words id in_node.SegmentId = quoted id (codes " isn't a segment id")
+cause_words id in_node.LoopId = quoted id (codes " isn't a loop id")
 cause_words id (in_node.ManyElements count) = one_number [] count (codes " elements are over 40")
 cause_words id (in_node.Element number cause) = element_words number cause
 

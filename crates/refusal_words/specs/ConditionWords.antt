@@ -19,11 +19,11 @@ cause_words count (cause.PickNoCode position) = one_number (codes "`pick` has no
 abbrev pub slot_said : Slot → List ℕ
 slot_said s =
     option_map_or (cause_words (length s.elements)) (condition_cause s)
-    (codes "an element stands twice in a condition or in `pick`, or an earlier segment has its label")
+    (codes "an element appears twice in a condition or in `pick`, or an earlier segment has its label")
 
 abbrev pub said_of : Tree → List ℕ
 said_of (segment s) = slot_said s
-said_of (loop l ts) = codes "it is no segment"
+said_of (loop l ts) = codes "it isn't a segment"
 
 abbrev pub node_words : (slot : ℕ) → Tree → List ℕ
 node_words slot t = in_place (codes "segment") slot (node_id t) ++ said_of t

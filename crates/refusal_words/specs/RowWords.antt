@@ -49,7 +49,7 @@ first_unlisted listed texts = find (λ t. not (contains_text listed t)) texts
 
 abbrev pub guides_words : KeptRows → PartnerRow → List ℕ
 guides_words kept p =
-    unknown_words (codes " is no guide that is given") (first_unlisted kept.guides p.guides)
+    unknown_words (codes " isn't one of the guides given") (first_unlisted kept.guides p.guides)
     (codes "two of its guides are for the same sets")
 
 -- the first text that stands again later
@@ -60,8 +60,8 @@ first_again (t ∷ ts) = if contains_text ts t then Some t else first_again ts
 -- each target is a partner, and none is named twice; else a later route has its code
 abbrev pub targets_words : KeptRows → (place : ℕ) → RouteRow → List ℕ
 targets_words kept place r =
-    unknown_words (codes " is no partner") (first_unknown partner_name kept.rows.partners r.to)
-    (unknown_words (codes " stands twice in `to`") (first_again r.to)
+    unknown_words (codes " isn't a partner") (first_unknown partner_name kept.rows.partners r.to)
+    (unknown_words (codes " appears twice in `to`") (first_again r.to)
     (next_words (codes "route ") (codes " has its code too") (next_named route_name kept.rows.routes place r.code) []))
 
 -- X12.6, application codes
@@ -75,7 +75,7 @@ abbrev pub counted_words : KeptRows → (place : ℕ) → CounterRow → List �
 counted_words kept place c =
     if is_named partner_name kept.rows.partners c.partner
     then next_words (codes "counter ") (codes " has its partner too") (next_named counter_name kept.counters place c.partner) []
-    else quoted c.partner (codes " is no partner")
+    else quoted c.partner (codes " isn't a partner")
 
 -- X12.5, X12.6, control numbers: the first that can't be; else what is wrong with the partner
 abbrev pub counter_words : KeptRows → (place : ℕ) → CounterRow → List ℕ

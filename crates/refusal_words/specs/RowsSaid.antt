@@ -33,12 +33,12 @@ partners_said number [] = []
 partners_said number (p ∷ ps) = partner_said number p ++ partners_said (number + 1) ps
 
 abbrev pub unknown_said : (names : List (List ℕ)) → RouteRow → List ℕ
-unknown_said names r = option_map_or (λ n. quoted n (codes " is no partner")) (first_unlisted names r.to) []
+unknown_said names r = option_map_or (λ n. quoted n (codes " isn't a partner")) (first_unlisted names r.to) []
 
 abbrev pub again_said : RouteRow → List ℕ
-again_said r = option_map_or (λ n. quoted n (codes " stands twice in `to`")) (first_again r.to) []
+again_said r = option_map_or (λ n. quoted n (codes " appears twice in `to`")) (first_again r.to) []
 
--- its code, a receiver that is no partner, one that is named twice
+-- its code, a receiver that isn't a partner, one that is named twice
 abbrev pub route_lines : (place : List ℕ) → (names : List (List ℕ)) → RouteRow → List (List ℕ)
 route_lines place names r =
     sentence place (code_words r.code) ++ (sentence place (unknown_said names r) ++ sentence place (again_said r))

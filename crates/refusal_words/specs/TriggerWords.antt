@@ -14,7 +14,7 @@ first_words (tree (segment s) ts) = uses_words s
 first_words (tree (loop l us) ts) = codes "its first node is a loop"
 
 abbrev pub said_of : Tree → List ℕ
-said_of (segment s) = codes "it is no loop"
+said_of (segment s) = codes "it isn't a loop"
 said_of (loop l ts) = first_words ts
 
 abbrev pub node_words : (slot : ℕ) → Tree → List ℕ

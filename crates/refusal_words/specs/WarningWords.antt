@@ -6,6 +6,8 @@ use Rattle.guide_warnings.specs.declared.warning.CodeDoubt.TheVariants as doubt
 use Rattle.guide_warnings.specs.declared.warning.CodeWarning.{CodeWarning}
 use Rattle.guide_warnings.specs.declared.warning.DependencyWarning.{DependencyWarning}
 use Rattle.guide_warnings.specs.declared.warning.DictionaryWarning.{DictionaryWarning}
+use Rattle.guide_warnings.specs.Groups.{usual_group}
+use Rattle.guide_warnings.specs.declared.warning.GroupWarning.{GroupWarning}
 use Rattle.guide_warnings.specs.declared.warning.LabelWarning.{LabelWarning}
 use Rattle.guide_warnings.specs.declared.warning.UnmetWarning.{UnmetWarning}
 use Rattle.guide_warnings.specs.declared.warning.Warning.{Warning}
@@ -23,8 +25,8 @@ abbrev pub at_words : At → List ℕ
 at_words at = codes "element " ++ (decimal at.element ++ (component_words at.component ++ codes ": "))
 
 abbrev pub doubt_words : CodeDoubt → List ℕ
-doubt_words doubt.Joined = codes " has a comma or a stroke; a space stands between codes"
-doubt_words doubt.OtherForm = codes " has bytes that no value of the element's type has, or is no day or time"
+doubt_words doubt.Joined = codes " has a comma or a stroke; write a space between codes"
+doubt_words doubt.OtherForm = codes " has bytes that no value of the element's type has, or isn't a date or time"
 doubt_words doubt.OtherLength = codes " is shorter or longer than the element may be"
 doubt_words doubt.AlsoUnused = codes " is listed as used and as not used"
 doubt_words doubt.NotListed = codes " of `pick` isn't one of the element's codes"
@@ -34,7 +36,7 @@ code_words w =
     in_place (codes "segment") w.slot w.id ++ (at_words w.at ++ (codes "the code " ++ (w.code ++ doubt_words w.doubt)))
 
 abbrev pub dictionary_words : DictionaryWarning → List ℕ
-dictionary_words w = in_place (codes "segment") w.slot w.id ++ codes "its id stands in `dictionary` too, where it does nothing"
+dictionary_words w = in_place (codes "segment") w.slot w.id ++ codes "its id is in `dictionary` too, where it does nothing"
 
 abbrev pub label_words : LabelWarning → List ℕ
 label_words w = in_place (codes "segment") w.slot w.id ++ two_texts (codes "no dependency names its label ") w.label
@@ -56,7 +58,18 @@ unmet_words w =
     ++ (in_place (codes "segment") w.slot w.id
     ++ one_number (codes "element ") w.element (codes " is mandatory, and its type or its lengths allow none of its codes"))
 
+abbrev pub usual_words : (set usual : List ℕ) → List ℕ
+usual_words set usual = two_texts (codes ", and sets ") set ++ two_texts (codes " usually come in groups ") usual
+
+abbrev pub unusual_words : (group set usual : List ℕ) → List ℕ
+unusual_words group set usual = two_texts (codes "`group` is ") group ++ usual_words set usual
+
+-- the group, and the one in which such sets usually come
+abbrev pub group_words : GroupWarning → List ℕ
+group_words w = unusual_words w.group w.set (usual_group w.set)
+
 abbrev pub warning_words : Warning → List ℕ
+warning_words (warning.UnusualGroup w) = group_words w
 warning_words warning.HeaderLetThrough =
     codes "a segment that the guide doesn't know is accepted, also one that begins with ISA: a receiver may read it as a header"
 warning_words (warning.IdInDictionary w) = dictionary_words w

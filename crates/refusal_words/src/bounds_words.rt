@@ -25,8 +25,8 @@ fn append_row(out: &mut Vec<u8>, cause: RowCause) -> Result<(), NoMemory>
         RowCause::LongestTooLong(most) => {
             append_one(out, b"longest ", u64::from(most), b" is over 9999")
         }
-        RowCause::NoCode => append(out, b"no code stands after ="),
-        RowCause::NoUnusedCode => append(out, b"no code stands after !"),
+        RowCause::NoCode => append(out, b"a code is missing after ="),
+        RowCause::NoUnusedCode => append(out, b"a code is missing after !"),
     }
 }
 
@@ -73,8 +73,8 @@ fn append_cause(out: &mut Vec<u8>, id: &[u8], cause: NodeCause) -> Result<(), No
         NodeCause::MostTooLarge(most) => {
             append_one(out, b"max ", u64::from(most), b" is over 999999")
         }
-        NodeCause::SegmentId => append_quoted(out, id, b" is no id of a segment position"),
-        NodeCause::LoopId => append_quoted(out, id, b" is no id of a loop"),
+        NodeCause::SegmentId => append_quoted(out, id, b" isn't a segment id"),
+        NodeCause::LoopId => append_quoted(out, id, b" isn't a loop id"),
         NodeCause::ManyElements(count) => append_one(out, b"", count, b" elements are over 40"),
         NodeCause::Element(number, cause) => append_element(out, number, cause),
     }

@@ -44,7 +44,7 @@ fn append_of_slot(out: &mut Vec<u8>, slot: &Slot) -> Result<(), NoMemory>
     match condition_cause(slot) {
         None => append(
             out,
-            b"an element stands twice in a condition or in `pick`, or an earlier segment has its label",
+            b"an element appears twice in a condition or in `pick`, or an earlier segment has its label",
         ),
         Some(cause) => append_cause(out, slot.elements.as_slice().len() as u64, cause),
     }
@@ -55,7 +55,7 @@ fn append_said(out: &mut Vec<u8>, node: &Node) -> Result<(), NoMemory>
 {
     match node {
         Node::Segment(slot) => append_of_slot(out, slot),
-        Node::Loop(_, _) => append(out, b"it is no segment"),
+        Node::Loop(_, _) => append(out, b"it isn't a segment"),
     }
 }
 

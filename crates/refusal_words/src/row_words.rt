@@ -97,7 +97,7 @@ pub fn append_guides(
     ensures { OnOk result (out.new.items ≡ out.old.items ++ words.guides_words kept.now partner.now) }
 {
     if let Some(name) = first_unlisted(kept.guides.as_slice(), partner.guides.as_slice()) {
-        return append_quoted(out, name, b" is no guide that is given");
+        return append_quoted(out, name, b" isn't one of the guides given");
     }
     append(out, b"two of its guides are for the same sets")
 }
@@ -125,10 +125,10 @@ fn append_targets(
 {
     let targets = route.to.as_slice();
     if let Some(name) = first_unknown(kept.rows.partners.as_slice(), targets) {
-        return append_quoted(out, name, b" is no partner");
+        return append_quoted(out, name, b" isn't a partner");
     }
     if let Some(name) = first_again(targets) {
-        return append_quoted(out, name, b" stands twice in `to`");
+        return append_quoted(out, name, b" appears twice in `to`");
     }
     let next = next_named(kept.rows.routes.as_slice(), place, route.code.as_slice());
     append_next(out, b"route ", b" has its code too", next, b"")
@@ -178,7 +178,7 @@ fn append_counted(
 {
     let name = counter.partner.as_slice();
     if !is_named(kept.rows.partners.as_slice(), name) {
-        return append_quoted(out, name, b" is no partner");
+        return append_quoted(out, name, b" isn't a partner");
     }
     let next = next_named(kept.counters.as_slice(), place, name);
     append_next(out, b"counter ", b" has its partner too", next, b"")

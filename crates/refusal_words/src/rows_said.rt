@@ -127,7 +127,7 @@ fn unknown_said(alloc: Global, names: &Codes, route: &RouteRow) -> Result<Vec<u8
 {
     let mut text = Vec::new(alloc);
     if let Some(name) = first_unknown(names, route.to.as_slice()) {
-        append_quoted(&mut text, name, b" is no partner")?;
+        append_quoted(&mut text, name, b" isn't a partner")?;
     }
     Ok(text)
 }
@@ -137,7 +137,7 @@ fn again_said(alloc: Global, route: &RouteRow) -> Result<Vec<u8>, NoMemory>
 {
     let mut text = Vec::new(alloc);
     if let Some(name) = first_again(route.to.as_slice()) {
-        append_quoted(&mut text, name, b" stands twice in `to`")?;
+        append_quoted(&mut text, name, b" appears twice in `to`")?;
     }
     Ok(text)
 }

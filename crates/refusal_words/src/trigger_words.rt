@@ -35,7 +35,7 @@ fn append_said(out: &mut Vec<u8>, node: &Node) -> Result<(), NoMemory>
     ensures { OnOk result (out.new.items ≡ out.old.items ++ words.said_of (view node.now)) }
 {
     match node {
-        Node::Segment(_) => append(out, b"it is no loop"),
+        Node::Segment(_) => append(out, b"it isn't a loop"),
         Node::Loop(_, nodes) => append_first(out, nodes),
     }
 }

@@ -5,8 +5,8 @@ use crate::appended::{
     append, append_in_place, append_number, append_one, append_place, append_texts,
 };
 use guide_warnings::{
-    At, CodeDoubt, CodeWarning, DependencyWarning, DictionaryWarning, LabelWarning, UnmetWarning,
-    Warning,
+    At, CodeDoubt, CodeWarning, DependencyWarning, DictionaryWarning, GroupWarning, LabelWarning,
+    UnmetWarning, Warning, usual_group,
 };
 use hub_kinds::NoMemory;
 
@@ -39,9 +39,9 @@ fn doubt_words(doubt: CodeDoubt) -> &'static [u8]
     ensures { result.now ≡ words.doubt_words doubt }
 {
     match doubt {
-        CodeDoubt::Joined => b" has a comma or a stroke; a space stands between codes",
+        CodeDoubt::Joined => b" has a comma or a stroke; write a space between codes",
         CodeDoubt::OtherForm =>
-            b" has bytes that no value of the element's type has, or is no day or time",
+            b" has bytes that no value of the element's type has, or isn't a date or time",
         CodeDoubt::OtherLength => b" is shorter or longer than the element may be",
         CodeDoubt::AlsoUnused => b" is listed as used and as not used",
         CodeDoubt::NotListed => b" of `pick` isn't one of the element's codes",
@@ -64,10 +64,7 @@ fn append_dictionary(out: &mut Vec<u8>, warning: &DictionaryWarning) -> Result<(
 {
     let number = u64::from(warning.slot);
     append_in_place(out, b"segment", number, warning.id.as_slice())?;
-    append(
-        out,
-        b"its id stands in `dictionary` too, where it does nothing",
-    )
+    append(out, b"its id is in `dictionary` too, where it does nothing")
 }
 
 fn append_label(out: &mut Vec<u8>, warning: &LabelWarning) -> Result<(), NoMemory>
@@ -119,11 +116,33 @@ fn append_unmet(out: &mut Vec<u8>, warning: &UnmetWarning) -> Result<(), NoMemor
     )
 }
 
+fn append_usual(out: &mut Vec<u8>, set: &[u8], usual: &[u8]) -> Result<(), NoMemory>
+    ensures { OnOk result (out.new.items ≡ out.old.items ++ words.usual_words set.now usual.now) }
+{
+    append_texts(out, b", and sets ", set)?;
+    append_texts(out, b" usually come in groups ", usual)
+}
+
+fn append_unusual(out: &mut Vec<u8>, group: &[u8], set: &[u8], usual: &[u8]) -> Result<(), NoMemory>
+    ensures { OnOk result (out.new.items ≡ out.old.items ++ words.unusual_words group.now set.now usual.now) }
+{
+    append_texts(out, b"`group` is ", group)?;
+    append_usual(out, set, usual)
+}
+
+fn append_group(out: &mut Vec<u8>, warning: &GroupWarning) -> Result<(), NoMemory>
+    ensures { OnOk result (out.new.items ≡ out.old.items ++ words.group_words warning.now) }
+{
+    let set = warning.set.as_slice();
+    append_unusual(out, warning.group.as_slice(), set, usual_group(set))
+}
+
 /// Adds what a warning says of a guide that is accepted.
 pub fn append_warning(out: &mut Vec<u8>, warning: &Warning) -> Result<(), NoMemory>
     ensures { OnOk result (out.new.items ≡ out.old.items ++ words.warning_words warning.now) }
 {
     match warning {
+        Warning::UnusualGroup(warning) => append_group(out, warning),
         Warning::HeaderLetThrough => append(
             out,
             b"a segment that the guide doesn't know is accepted, also one that begins with ISA: a receiver may read it as a header",

@@ -9,7 +9,8 @@ use Rattle.night_ends.specs.Words.{values_found}
 use Rattle.night_ends.proofs.ForAbove.{all_found, asks_for_text, found}
 use Rattle.night_command.specs.CommandLine.{IsOfText, piece_given, workers_given}
 use Rattle.set_documents.specs.Given.{documents_given}
-use Rattle.track_command.specs.CommandLine.{AreGiven, AreOptions, AsksForText, IsAsked, IsGiven, track_app, option_value, values_of}
+use Rattle.track_command.specs.CommandLine.{AreGiven, AreOptions, AsksForText, IsAsked, IsGiven, IsTextOf, track_app, option_value}
+use Rattle.track_command.specs.CommandLine.{values_of}
 use Rattle.track_command.specs.declared.command.Asked.{Asked}
 use Rattle.track_command.specs.declared.command.Asked.TheVariants.{Run, Show}
 use Rattle.track_command.specs.declared.command.Options.{Options}
@@ -66,6 +67,11 @@ all_given words m has given = record {
   piece_named = ap piece_given (found track_app simple words m (codes "piece") has) ∙ given.piece_named;
 }
 
-pub shown : (words : List Text) (e : Error) → HasKind (fault_of track_app words) e
+shown : (words : List Text) (e : Error) → HasKind (fault_of track_app words) e
     → (takes track_app words ≡ true → kind_of e ≡ OutOfMemory) → IsOfText (kind_of e) → AsksForText words
 shown words e kind passes is = let both = asks_for_text track_app words e kind passes is in record { asked = both.0; no_run = both.1 }
+
+pub shown_asked : (words : List Text) (e : Error) (asked : Asked) → HasKind (fault_of track_app words) e
+    → (takes track_app words ≡ true → kind_of e ≡ OutOfMemory) → IsTextOf (kind_of e) asked → IsAsked words asked
+shown_asked words e (Run options) kind passes is = absurd is
+shown_asked words e (Show text) kind passes is = shown words e kind passes is

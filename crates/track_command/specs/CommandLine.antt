@@ -2,10 +2,12 @@
 -- one for each kind of set whose document's number stands elsewhere.
 use Rattle.std.specs.Prelude.{◌≡◌, ◌⊎◌, ℕ, Option, Some, true, false, List, codes, map}
 use Rattle.clap.specs.Words.{App, Rule, Text, IsAmong, all_of, fault_of, first_of, first_value, matches_of, new_app, takes, with_rule}
+use Rattle.clap.specs.declared.error.kind.ErrorKind.{ErrorKind}
 use Rattle.clap.specs.declared.error.kind.ErrorKind.TheVariants.{DisplayHelp, DisplayVersion}
 use Rattle.clap.specs.declared.parser.matches.Found.{Found}
 use Rattle.moment.specs.Moment.{IsMoment}
-use Rattle.night_command.specs.CommandLine.{option_free, option_named, option_repeated, piece_given, with_night, workers_given}
+use Rattle.night_command.specs.CommandLine.{IsOfText, option_named, option_repeated, piece_given, piece_rule, with_night, workers_given}
+use Rattle.night_command.specs.CommandLine.{workers_rule}
 use Rattle.night_ends.specs.Words.{values_found}
 use Rattle.set_documents.specs.Documents.{DocumentValue}
 use Rattle.set_documents.specs.Given.{documents_given}
@@ -29,7 +31,7 @@ document_rule = record (option_repeated (codes "document")) { required = false }
 
 -- and how nighthub would share it among workers
 abbrev pub track_app : App
-track_app = with_rule (with_rule (with_rule night_app document_rule) (option_free (codes "workers"))) (option_free (codes "piece"))
+track_app = with_rule (with_rule (with_rule night_app document_rule) workers_rule) piece_rule
 
 -- the value that the arguments give an option
 abbrev pub option_value : List Text → Text → Option Text
@@ -101,3 +103,8 @@ IsAsked words (Show text) = AsksForText words
 abbrev pub IsGiven : Found → Asked → Type 0
 IsGiven found (Run options) = AreOptions (first_value found) (values_found found) options
 IsGiven found (Show text) = ⊥
+
+-- a text is shown where clap reports one (no public clause of a program cites this)
+abbrev pub IsTextOf : ErrorKind → Asked → Type 0
+IsTextOf kind (Run options) = ⊥
+IsTextOf kind (Show text) = IsOfText kind

@@ -1,9 +1,9 @@
 -- The program's results (own): the file that is put, and the status.
-use Rattle.std.specs.Prelude.{◌≡◌, ◌≤◌, ◌⊎◌, ℕ, if◌then◌else◌, List, [], ◌∷◌, Option, IfSome, length}
+use Rattle.std.specs.Prelude.{◌≡◌, ◌≤◌, ℕ, if◌then◌else◌, List, [], ◌∷◌, Option, IfSome, length}
 use Rattle.std.specs.Io.KnownBytes.{Appends}
 use Rattle.hub_kinds.specs.declared.limits.TheConstants.{LONGEST_TEXT}
 use Rattle.clap.specs.Words.{Text}
-use Rattle.night_command.specs.Outbox.{AddsFiles, File, KeepsFiles}
+use Rattle.night_command.specs.Outbox.{AddsFiles, File}
 use Rattle.night_command.specs.SetupFiles.{IsSetupAt}
 use Rattle.partner_setup.specs.Setup.{SetupValue}
 use Rattle.set_documents.specs.Documents.{DocumentValue}
@@ -32,10 +32,10 @@ pub record IsGiven (told : Option (List ℕ)) (setup : SetupValue) (documents : 
   pub file : AddsFiles had has ((name, track.table) ∷ [])
   pub own_status : status ≡ status_of track
 
--- the table of some text that isn't too long, by a setup that some files make, whose guides have the paths of the options
+-- the table of some text that isn't too long, by a setup that some files make which were asked for by the paths of the options
 pub record IsTrackBy (options : Options) (status : ℕ) : Type 0 where
   pub setup : SetupValue
-  pub made : IsSetupAt (guide_paths options) setup
+  pub made : IsSetupAt (guide_paths options) options.setup.now options.counters.now setup
   pub text : List ℕ
   pub within : length text ≤ LONGEST_TEXT
   pub track : Track

@@ -1,16 +1,19 @@
-ghost use Rattle.std.specs.Prelude.{◌≡◌, false, map, IfOk, IfErr, IsErrOf};
-ghost use Rattle.clap.specs.Words.{app_of, first_value, found_of, rule_of};
-ghost use Rattle.night_command.specs.Failure.{IsOfWords};
+ghost use Rattle.std.specs.Prelude.{◌≡◌, ◌≢◌, false, map, IfOk, IfErr};
+ghost use Rattle.clap.specs.Words.{app_of, first_value, found_of, kind_of, rule_of};
 ghost use Rattle.night_ends.specs.Words.{values_found};
-ghost use Rattle.track_command.specs.CommandLine.{AreGiven, IsAsked, IsCommandLine, IsGiven, document_rule, night_app, track_app};
+ghost use Rattle.track_command.specs.CommandLine.{AreGiven, IsAsked, IsCommandLine, IsGiven, IsTextOf, document_rule, night_app, track_app};
+ghost use Rattle.track_command.specs.Failure.{IsOfWords, status_of};
 
-use clap::{Arg, ArgMatches, Command};
+use crate::failure::TrackFailure;
+use clap::error::ErrorKind;
+use clap::{Arg, ArgMatches, Command, Error};
+use hub_kinds::copy_text;
 use moment::At;
 use night_command::{
-    Failure, Sharing, moment_given, option_free, option_named, option_repeated, sharing_given,
-    text_asked, with_night,
+    Failure, Sharing, moment_given, option_named, option_repeated, piece_option, sharing_given,
+    text_asked, with_night, workers_option,
 };
-use night_ends::{copied, with_argument};
+use night_ends::{RELEASE, copied, mistake_found, with_argument};
 use set_documents::{Document, documents_given};
 use std::alloc::{AllocError, Global};
 use std::convert::AsStr;
@@ -60,18 +63,31 @@ pub enum Asked<'a> {
 }
 
 /// Reads the program's arguments without its name.
-pub fn read_words<'a, S: AsStr>(alloc: Global, words: &'a [S]) -> Result<Asked<'a>, Failure<'a>>
+pub fn read_words<'a, S: AsStr>(
+    alloc: Global,
+    words: &'a [S],
+) -> Result<Asked<'a>, TrackFailure<'a>>
     ensures asked { IfOk result (IsAsked (map S.text words.now)) }
-    ensures usage { IsErrOf result Failure.Usage → IsCommandLine (map S.text words.now) → ⊥ }
+    ensures usage { IfErr result (λ failed. status_of failed ≡ 2 → IsCommandLine (map S.text words.now) → ⊥) }
     ensures err { IfErr result IsOfWords }
 {
     let command = command(alloc)?;
     match command.try_get_matches_from(words) {
         Ok(matches) => run_asked(alloc, &matches),
-        Err(error) => match text_asked(alloc, &error) {
-            Ok(text) => Ok(Asked::Show(text)),
-            Err(mistake) => Err(mistake),
-        },
+        Err(error) => show_asked(alloc, &error),
+    }
+}
+
+/// The text that is asked for, where the arguments have no mistake.
+fn show_asked<'a>(alloc: Global, error: &Error) -> Result<Asked<'a>, TrackFailure<'a>>
+    ensures shown { IfOk result (IsTextOf (kind_of error.now)) }
+    ensures usage { IfErr result (λ failed. status_of failed ≡ 2 → kind_of error.now ≢ ErrorKind.OutOfMemory) }
+    ensures err { IfErr result IsOfWords }
+{
+    match text_asked(alloc, error) {
+        Ok(text) => Ok(Asked::Show(text)),
+        Err(Failure::Usage) => Err(TrackFailure::Usage(mistake_found(alloc, error)?)),
+        Err(_) => Err(TrackFailure::Night(Failure::Memory)),
     }
 }
 
@@ -80,19 +96,9 @@ fn command<'a>(alloc: Global) -> Result<Command<'a>, AllocError>
 {
     let command = night_command(alloc)?;
     let command = with_argument(command, document(alloc))?;
-    let workers = option_free(
-        alloc,
-        "workers",
-        "N",
-        "Taken as nighthub takes it, and changes nothing",
-    );
+    let workers = workers_option(alloc, "Taken as nighthub takes it, and changes nothing");
     let command = with_argument(command, workers)?;
-    let piece = option_free(
-        alloc,
-        "piece",
-        "BYTES",
-        "Taken as nighthub takes it, and changes nothing",
-    );
+    let piece = piece_option(alloc, "Taken as nighthub takes it, and changes nothing");
     with_argument(command, piece)
 }
 
@@ -102,7 +108,7 @@ fn night_command<'a>(alloc: Global) -> Result<Command<'a>, AllocError>
 {
     let command = Command::new(alloc, "nighthub_track")
         .about("Says where each set of a night is")
-        .version("0.1.0")
+        .version(RELEASE)
         .after_help(COLUMNS_AND_STATUSES)
         .no_binary_name(true);
     let command = with_night(alloc, command)?;
@@ -129,35 +135,35 @@ fn document<'a>(alloc: Global) -> Arg<'a>
     .required(false)
 }
 
-fn run_asked<'a>(alloc: Global, matches: &ArgMatches<'a>) -> Result<Asked<'a>, Failure<'a>>
+fn run_asked<'a>(alloc: Global, matches: &ArgMatches<'a>) -> Result<Asked<'a>, TrackFailure<'a>>
     ensures given { IfOk result (IsGiven (found_of matches.now)) }
-    ensures usage { IsErrOf result Failure.Usage
-        → AreGiven (first_value (found_of matches.now)) (values_found (found_of matches.now)) → ⊥ }
+    ensures usage { IfErr result (λ failed. status_of failed ≡ 2
+        → AreGiven (first_value (found_of matches.now)) (values_found (found_of matches.now)) → ⊥) }
     ensures err { IfErr result IsOfWords }
 {
     let Some(setup) = matches.get_str("setup") else {
-        return Err(Failure::Usage);
+        return Err(not_taken(alloc, "--setup"));
     };
     let Some(guides) = matches.get_strs("guide") else {
-        return Err(Failure::Usage);
+        return Err(not_taken(alloc, "--guide"));
     };
     let Some(counters) = matches.get_str("counters") else {
-        return Err(Failure::Usage);
+        return Err(not_taken(alloc, "--counters"));
     };
     let Some(at) = moment_given(matches) else {
-        return Err(Failure::Usage);
+        return Err(not_taken(alloc, "--at"));
     };
     let Some(input) = matches.get_str("in") else {
-        return Err(Failure::Usage);
+        return Err(not_taken(alloc, "--in"));
     };
     let Some(output) = matches.get_str("track") else {
-        return Err(Failure::Usage);
+        return Err(not_taken(alloc, "--track"));
     };
     let Some(sharing) = sharing_given(matches) else {
-        return Err(Failure::Usage);
+        return Err(not_taken(alloc, "--workers, --piece"));
     };
     let Some(documents) = documents_given(alloc, matches.get_strs("document"))? else {
-        return Err(Failure::Usage);
+        return Err(not_taken(alloc, "--document"));
     };
     let guides = copied(alloc, guides)?;
     Ok(Asked::Run(Options {
@@ -170,4 +176,14 @@ fn run_asked<'a>(alloc: Global, matches: &ArgMatches<'a>) -> Result<Asked<'a>, F
         documents,
         sharing,
     }))
+}
+
+/// That an option of this name has no value that can be taken.
+fn not_taken<'a>(alloc: Global, option: &str) -> TrackFailure<'a>
+    ensures { IsOfWords result }
+{
+    match copy_text(alloc, option.as_bytes()) {
+        Ok(option) => TrackFailure::Usage(option),
+        Err(_) => TrackFailure::Night(Failure::Memory),
+    }
 }

@@ -1,6 +1,6 @@
 ghost use Rattle.std.specs.Prelude.{◌≡◌, OnOk};
 ghost use Rattle.std.specs.Io.KnownBytes.{Appends};
-ghost use Rattle.track_command.specs.Failure.{lead_of, line_of, rest_of, status_of, there_text, there_words};
+ghost use Rattle.track_command.specs.Failure.{lead_of, line_of, line_text, rest_of, status_of, there_text, there_words};
 
 use hub_kinds::{NoMemory, Text};
 use night_command::Failure;
@@ -11,8 +11,10 @@ use std::io::Write;
 /// Why a run failed.
 #[derive(Debug, Drop)]
 pub enum TrackFailure<'a> {
-    /// As a run of `nighthub` fails.
+    /// As a run of `nighthub` fails, but for its arguments.
     Night(Failure<'a>),
+    /// The arguments are not those of the command line, by this mistake.
+    Usage(Text),
     /// A file of this path is there already: the one that is to be written, or the one that it is written as at first.
     There(Text),
 }
@@ -42,6 +44,7 @@ impl<'a> TrackFailure<'a> {
     {
         match self {
             TrackFailure::Night(_) => "nighthub_track: ",
+            TrackFailure::Usage(_) => "nighthub_track: usage: ",
             TrackFailure::There(_) => "nighthub_track: output ",
         }
     }
@@ -51,6 +54,7 @@ impl<'a> TrackFailure<'a> {
     {
         match self {
             TrackFailure::Night(failure) => failure.print_cause(err),
+            TrackFailure::Usage(mistake) => print_line(mistake.as_slice(), err),
             TrackFailure::There(path) => print_there(path.as_slice(), err),
         }
     }
@@ -60,9 +64,17 @@ impl<'a> TrackFailure<'a> {
     {
         match self {
             TrackFailure::Night(failure) => failure.status(),
+            TrackFailure::Usage(_) => 2,
             TrackFailure::There(_) => 5,
         }
     }
+}
+
+fn print_line<E: Write>(text: &[u8], err: &mut E) -> io::Result<()>
+    ensures { OnOk result (Appends (E.contents err.old) (E.contents err.new) (line_text text.now)) }
+{
+    err.write_all(text)?;
+    err.write_all(b"\n")
 }
 
 fn print_there<E: Write>(path: &[u8], err: &mut E) -> io::Result<()>

@@ -1,4 +1,5 @@
-ghost use Rattle.std.specs.Prelude.{◌≡◌, ◌≢◌, ◌<◌, ◌≤◌, ◌⊎◌, ◌∷◌, [], IfOk, IfErr, IfSome, IsErrOf, OnErr, OnOk, length, map};
+ghost use Rattle.std.specs.Prelude.{◌≡◌, ◌≢◌, ◌<◌, ◌≤◌, ◌⊎◌, ◌∷◌, [], ℕ, List, Some, IfOk, IfErr, IfSome, IsErrOf, IsOkAnd, OnErr, OnOk};
+ghost use Rattle.std.specs.Prelude.{length, map};
 ghost use Rattle.std.specs.Io.KnownBytes.{Appends};
 ghost use Rattle.hub_kinds.specs.declared.limits.TheConstants.{LONGEST_TEXT};
 ghost use Rattle.stream_read.specs.Source.{HasFailed};
@@ -10,15 +11,17 @@ ghost use Rattle.track_command.specs.Outcome.{IsGiven, IsOutcome, IsTrackBy, IsT
 
 use crate::command::{Asked, Options, read_words};
 use crate::failure::TrackFailure;
-use crate::whole::{Places, is_free};
-use hub_kinds::copy_text;
-use night_command::{Failure, PutFault, open_input, setup_at};
-use night_ends::{Outbox, print_text};
+use crate::free::{Free, is_free};
+use crate::whole::Places;
+use hub_kinds::{Lent, copy_text};
+use night_command::{Failure, PutFault, setup_at, source_of};
+use night_ends::{Opened, Outbox, open_at, print_text};
 use partner_setup::Setup;
 use set_documents::Document;
 use std::alloc::Global;
 use std::convert::AsStr;
-use std::io::Write;
+use std::fs::OpenFile;
+use std::io::{Read, Write};
 use std::rt::Files;
 use stream_read::{Held, Source, StreamFault};
 use track_night::{Track, track_plain};
@@ -46,7 +49,7 @@ where
     match read_words(rt.alloc(), words) {
         Ok(Asked::Run(options)) => run(rt, &options, err),
         Ok(Asked::Show(text)) => show(text.as_bytes(), out, err),
-        Err(mistake) => TrackFailure::Night(mistake).report(err),
+        Err(mistake) => mistake.report(err),
     }
 }
 
@@ -72,36 +75,79 @@ where
     ensures quiet { result ≤ 1 → err.new ≡ err.old }
     ensures tracked { result ≤ 1 → IsTrackBy options.now result }
 {
-    if let Err(failure) = is_free(rt, options.output) {
-        return failure.report(err);
+    match is_free(rt, options.output) {
+        Ok(free) => run_free(rt, options, &free, err),
+        Err(failure) => failure.report(err),
     }
+}
+
+/// Tracks the night that these options name, whose file goes to a place that was seen free.
+fn run_free<R, E>(rt: &R, options: &Options<'_>, free: &Free<'_>, err: &mut E) -> u8
+where
+    R: Files + AllocGlobal,
+    E: Write,
+    requires { free.now ≡ options.now.output.now }
+    ensures status { result ≤ 6 }
+    ensures words { result ≢ 2 }
+    ensures quiet { result ≤ 1 → err.new ≡ err.old }
+    ensures tracked { result ≤ 1 → IsTrackBy options.now result }
+{
     let guides = options.guides.as_slice();
     match setup_at(rt, guides, options.setup, options.counters) {
-        Ok(setup) => run_by(rt, options, &setup, err),
+        Ok(setup) => run_by(rt, options, free, &setup, err),
         Err(refusal) => TrackFailure::Night(refusal).report(err),
     }
 }
 
-/// The same by the setup of these options.
-fn run_by<R, E>(rt: &R, options: &Options<'_>, setup: &Setup, err: &mut E) -> u8
+/// Tracks the night that these options name by `setup`, which is theirs.
+fn run_by<R, E>(rt: &R, options: &Options<'_>, _free: &Free<'_>, setup: &Setup, err: &mut E) -> u8
 where
     R: Files + AllocGlobal,
     E: Write,
-    requires { IsSetupAt (guide_paths options.now) setup.now }
+    requires setup { IsSetupAt (guide_paths options.now) options.now.setup.now options.now.counters.now setup.now }
+    requires free { _free.now ≡ options.now.output.now }
     ensures status { result ≤ 6 }
     ensures words { result ≢ 2 }
     ensures taken { result ≢ 3 }
     ensures quiet { result ≤ 1 → err.new ≡ err.old }
     ensures tracked { result ≤ 1 → IsTrackBy options.now result }
 {
-    match open_input(rt, options.input) {
+    let mut places = Places::of(rt);
+    let input = open_at(rt, options.input);
+    give_opened(rt.alloc(), options, setup, input, &mut places, err)
+}
+
+/// Puts the table of the night of the input that these options name at the path that they name. Where that fails, the status of the
+/// failure, whose line is on `err`.
+pub fn give_opened<F, B, E>(
+    alloc: Global,
+    options: &Options<'_>,
+    setup: &Setup,
+    input: Opened<'_, F>,
+    places: &mut B,
+    err: &mut E,
+) -> u8
+where
+    F: Read + OpenFile + Drop,
+    B: Outbox,
+    E: Write,
+    requires input { input.path ≡ options.now.input.now }
+    requires places { (name : List ℕ) → B.path places.old name ≡ Some name }
+    requires count { B.faults places.old < 18446744073709551615 }
+    ensures status { result ≤ 6 }
+    ensures words { result ≢ 2 }
+    ensures taken { result ≢ 3 }
+    ensures quiet { result ≤ 1 → err.new ≡ err.old }
+    ensures given { result ≤ 1 → IsOkAnd input.entry.answer (λ file. IsGiven (F.remaining file) setup.now options.now.documents.items
+        options.now.output.now result (B.contents places.old) (B.contents places.new)) }
+{
+    match source_of(input.into_answer()) {
         Ok(source) => {
             let mut source = source;
-            let mut places = Places::of(rt);
             give_track(
-                rt.alloc(),
+                alloc,
                 &mut source,
-                &mut places,
+                places,
                 setup,
                 options.documents.as_slice(),
                 options.output.as_bytes(),
@@ -166,6 +212,7 @@ where
     ensures track { IfOk result (IsTrackOfSource (S.remaining source.old) setup.now documents.now) }
     ensures file { IfOk result (λ track. AddsFiles (B.contents outbox.old) (B.contents outbox.new) ((name.now, track.table) ∷ [])) }
     ensures long { IsErrOf result Failure.InputTooLong → IfSome (S.remaining source.old) (λ xs. LONGEST_TEXT < length xs) }
+    ensures many { IsErrOf result Failure.InputTooLong → LONGEST_TEXT < S.given source.new }
     ensures unread { IsErrOf result Failure.Input → HasFailed (S.faults source.old) (S.faults source.new) (S.interruptions source.new) }
     ensures left { IfErr result (λ _. KeepsFiles (B.contents outbox.old) (B.contents outbox.new)) }
     ensures err { IfErr result IsOfTrack }
@@ -201,7 +248,7 @@ fn put_table<B: Outbox>(
     ensures left { OnErr result (KeepsFiles (B.contents outbox.old) (B.contents outbox.new)) }
 {
     let kept = copy_text(alloc, name)?;
-    match outbox.put(name, bytes) {
+    match outbox.put(name, &[Lent::new(bytes)]) {
         Ok(_) => Ok(()),
         Err(error) => Err(PutFault::of_error(error, kept)),
     }

@@ -1,13 +1,12 @@
-ghost use Rattle.std.specs.Prelude.{◌≡◌, IfErr, IfOk, string_bytes};
-ghost use Rattle.track_command.specs.Failure.{IsOfPlace};
+ghost use Rattle.std.specs.Prelude.{◌≡◌, IfOk, Some, string_bytes};
+ghost use Rattle.std.specs.List.{flat_map};
 
-use crate::failure::TrackFailure;
-use hub_kinds::copy_text;
-use night_command::Failure;
-use night_ends::{Outbox, Written, faults_behind, write_and_sync};
+use crate::free::part_path;
+use hub_kinds::Lent;
+use night_ends::{Created, Outbox, Written, create_new_at, faults_behind, write_and_sync};
 use std::alloc::Global;
-use std::fs::{File, OpenFile};
-use std::io::{ErrorKind, Write};
+use std::fs::OpenFile;
+use std::io::ErrorKind;
 use std::rt::Files;
 use std::{fs, io};
 
@@ -19,11 +18,12 @@ pub struct Places<'a, R> {
 }
 
 impl<'a, R: Files + AllocGlobal> Places<'a, R> {
-    ghost use Rattle.std.specs.Prelude.{◌≡◌};
+    ghost use Rattle.std.specs.Prelude.{◌≡◌, ℕ, List, Some};
 
     /// Those of the system, of which no put has failed.
     pub fn of(rt: &'a R) -> Places<'a, R>
-        ensures { ⟦<Places<'a, R> as Outbox>⟧.faults result ≡ 0 }
+        ensures faults { ⟦<Places<'a, R> as Outbox>⟧.faults result ≡ 0 }
+        ensures path { (name : List ℕ) → ⟦<Places<'a, R> as Outbox>⟧.path result name ≡ Some name }
     {
         Places { rt, faults: 0 }
     }
@@ -32,8 +32,10 @@ impl<'a, R: Files + AllocGlobal> Places<'a, R> {
 impl<'a, R: Files + AllocGlobal> Outbox for Places<'a, R> {
     ghost faults = { λ p. p.faults };
 
-    fn put<'f>(&mut self, name: &'f [u8], bytes: &'f [u8]) -> io::Result<Written<'f>> {
-        let answer = put_whole(self.rt, name, bytes);
+    ghost path = { λ _ name. Some name };
+
+    fn put<'f>(&mut self, name: &'f [u8], parts: &'f [Lent<'f>]) -> io::Result<Written<'f>> {
+        let answer = put_whole(self.rt, name, parts);
         self.faults = faults_behind(&answer, self.faults);
         answer
     }
@@ -44,35 +46,35 @@ impl<'a, R: Files + AllocGlobal> Outbox for Places<'a, R> {
 fn put_whole<'f, R: Files + AllocGlobal>(
     rt: &R,
     name: &'f [u8],
-    bytes: &'f [u8],
+    parts: &'f [Lent<'f>],
 ) -> io::Result<Written<'f>>
-    ensures { IfOk result (λ written. written ≡ (name.now, bytes.now)) }
+    ensures file { IfOk result (λ written. written.file ≡ (name.now, flat_map (λ part. part) parts.now)) }
+    ensures path { IfOk result (λ written. written.path ≡ name.now) }
 {
     let path = path_of(rt.alloc(), name)?;
-    let beside = format!(in rt.alloc(); "{}.part", path.as_str())?;
-    let file = File::create_new(rt, beside.as_str())?;
-    match write_closed(file, name, bytes) {
-        Ok(written) => {
-            put_in_place(rt, beside.as_str(), path.as_str())?;
-            Ok(written)
-        }
+    let beside = part_path(rt.alloc(), path.as_str())?;
+    let created = create_new_at(rt, beside)?;
+    let written = write_closed(rt, created, name, parts)?;
+    put_in_place(rt, written, path)
+}
+
+/// Writes a file that was made, and closes it. Where that fails, it isn't left.
+fn write_closed<'f, R: Files + AllocGlobal>(
+    rt: &R,
+    created: Created<R::File>,
+    name: &'f [u8],
+    parts: &'f [Lent<'f>],
+) -> io::Result<Written<'f>>
+    ensures { IfOk result (λ written. written.file ≡ (name.now, flat_map (λ part. part) parts.now)) }
+{
+    let mut created = created;
+    match write_and_sync(rt.alloc(), &mut created, name, parts) {
+        Ok(written) => Ok(written),
         Err(error) => {
-            let _ = rt.remove_file(beside.as_str());
+            let _ = rt.remove_file(created.path());
             Err(error)
         }
     }
-}
-
-/// Writes a file, and closes it.
-fn write_closed<'f, F: Write + OpenFile + Drop>(
-    file: F,
-    name: &'f [u8],
-    bytes: &'f [u8],
-) -> io::Result<Written<'f>>
-    ensures { IfOk result (λ written. written ≡ (name.now, bytes.now)) }
-{
-    let mut file = file;
-    write_and_sync(&mut file, name, bytes)
 }
 
 /// The path that a name is.
@@ -88,16 +90,20 @@ fn path_of(alloc: Global, name: &[u8]) -> io::Result<String>
 }
 
 /// Renames a file, and asks the system to keep its name in the folder. Where that fails, it is under neither name.
-fn put_in_place<R: Files>(rt: &R, beside: &str, path: &str) -> io::Result<()> {
-    if let Err(error) = fs::rename(rt, beside, path) {
-        let _ = rt.remove_file(beside);
+fn put_in_place<'f, R: Files>(rt: &R, written: Written<'f>, path: String) -> io::Result<Written<'f>>
+    ensures file { IfOk result (λ placed. placed.file ≡ written.entry.file) }
+    ensures path { IfOk result (λ placed. placed.path ≡ string_bytes path) }
+{
+    let mut written = written;
+    if let Err(error) = written.rename(rt, path) {
+        let _ = rt.remove_file(written.path());
         return Err(error);
     }
-    if let Err(error) = keep_names(rt, folder_of(path)) {
-        let _ = rt.remove_file(path);
+    if let Err(error) = keep_names(rt, folder_of(written.path())) {
+        let _ = rt.remove_file(written.path());
         return Err(error);
     }
-    Ok(())
+    Ok(written)
 }
 
 fn keep_names<R: Files>(rt: &R, folder: &str) -> io::Result<()> {
@@ -110,25 +116,5 @@ fn folder_of(path: &str) -> &str {
         None => ".",
         Some(0) => "/",
         Some(at) => &path[..at],
-    }
-}
-
-/// Sees that a file can go to a path: nothing is there, nor beside it.
-pub fn is_free<R: Files + AllocGlobal>(rt: &R, path: &str) -> Result<(), TrackFailure<'static>>
-    ensures { IfErr result IsOfPlace }
-{
-    let beside = format!(in rt.alloc(); "{path}.part")?;
-    is_absent(rt, path)?;
-    is_absent(rt, beside.as_str())
-}
-
-fn is_absent<R: Files + AllocGlobal>(rt: &R, path: &str) -> Result<(), TrackFailure<'static>>
-    ensures { IfErr result IsOfPlace }
-{
-    let named = copy_text(rt.alloc(), path.as_bytes())?;
-    match fs::exists(rt, path) {
-        Ok(false) => Ok(()),
-        Ok(true) => Err(TrackFailure::There(named)),
-        Err(error) => Err(TrackFailure::Night(Failure::of_fault(error, Failure::Output(named)))),
     }
 }

@@ -3,11 +3,11 @@ ghost use Rattle.std.specs.Prelude.{◌≡◌};
 
 use crate::examples::{COUNTERS, H850, H856, SETUP, TOTAL, TWO_PARTNERS};
 use crate::tests::{Answer, WRITTEN, expect, expect_files, make_folder, ran_in, same, words_in};
-use hub_kinds::{Items, copy_text};
+use hub_kinds::{Items, Lent};
 use moment::At;
 use night_command::{
-    Failure, GuideFile, Outbox, Reader, SetupFiles, Sharing, Written, night_in, night_main,
-    read_whole, setup_of, write_and_sync,
+    Created, Failure, FileAt, Outbox, Reader, SetupFiles, Sharing, Written, create_at, night_in,
+    night_main, open_at, read_at, read_whole, setup_of, write_and_sync,
 };
 use partner_setup::Setup;
 use std::alloc::{AllocError, Global};
@@ -18,7 +18,7 @@ use std::test::Fail;
 use std::thread::Threads;
 use std::time::Clock;
 use std::{fs, io};
-use trial_ends::drive::{Drive, Form, Log, Sheet, Step};
+use trial_ends::drive::{Drive, Log, Sheet};
 
 /// A reader of bytes, at most seven at once, that fails after so many reads.
 #[derive(Drop)]
@@ -204,8 +204,9 @@ struct Names<'a> {
     puts: usize,
     fault: ErrorKind,
     faults: u64,
+    alloc: Global,
     // what each file is written to
-    sheet: Sheet<'a>,
+    sheet: Created<Sheet<'a>>,
 }
 
 impl<'a> Names<'a> {
@@ -221,7 +222,7 @@ impl<'a> Names<'a> {
 impl<'a> Outbox for Names<'a> {
     ghost faults = { λ n. n.faults };
 
-    fn put<'f>(&mut self, name: &'f [u8], bytes: &'f [u8]) -> io::Result<Written<'f>> {
+    fn put<'f>(&mut self, name: &'f [u8], parts: &'f [Lent<'f>]) -> io::Result<Written<'f>> {
         if self.puts == 0 {
             if self.fault != ErrorKind::OutOfMemory {
                 self.faults += 1;
@@ -232,30 +233,29 @@ impl<'a> Outbox for Names<'a> {
         if self.keep(name).is_err() {
             return Err(io::Error::from(ErrorKind::OutOfMemory));
         }
-        match write_and_sync(&mut self.sheet, name, bytes) {
+        match write_and_sync(self.alloc, &mut self.sheet, name, parts) {
             Ok(written) => Ok(written),
             Err(_) => Err(io::Error::from(ErrorKind::OutOfMemory)),
         }
     }
 }
 
-fn guide_files(alloc: Global) -> Result<Items<GuideFile<'static>>, Fail> {
-    let mut guides = Vec::new(alloc);
-    for (path, bytes) in [("h850.toml", H850), ("h856.toml", H856)] {
-        let bytes = Some(copy_text(alloc, bytes)?);
-        guides.push(GuideFile { path, bytes })?;
-    }
-    Ok(Items::from_vec(guides))
+/// A file at this path that holds these bytes.
+fn file_of(alloc: Global, path: &'static str, bytes: &[u8]) -> Result<FileAt<'static>, Fail> {
+    let log = Log::new();
+    let drive = Drive::holding(alloc, &log, bytes);
+    Ok(read_at(alloc, open_at(&drive, path))?)
 }
 
 fn setup_files(alloc: Global) -> Result<SetupFiles<'static>, Fail> {
-    let guides = guide_files(alloc)?;
-    let setup = Some(copy_text(alloc, SETUP)?);
-    let counters = Some(copy_text(alloc, COUNTERS)?);
+    let mut guides = Vec::new(alloc);
+    for (path, bytes) in [("h850.toml", H850), ("h856.toml", H856)] {
+        guides.push(file_of(alloc, path, bytes)?)?;
+    }
     Ok(SetupFiles {
-        guides,
-        setup,
-        counters,
+        guides: Items::from_vec(guides),
+        setup: file_of(alloc, "setup.toml", SETUP)?,
+        counters: file_of(alloc, "counters.toml", COUNTERS)?,
     })
 }
 
@@ -300,19 +300,14 @@ fn night_of<R: Threads + Wait + Clock + Sync + AllocGlobal, I: Read + Drop>(
     };
     let mut source = Reader::new(input);
     let log = Log::new();
-    let drive = Drive {
-        alloc,
-        log: &log,
-        form: Form::Regular,
-        fails: Step::None,
-        kind: fault,
-    };
+    let drive = Drive::holding(alloc, &log, b"");
     let mut outbox = Names {
         names: Vec::new(alloc),
         puts,
         fault,
         faults: 0,
-        sheet: fs::create(&drive, "night")?,
+        alloc,
+        sheet: create_at(&drive, String::from_str(alloc, "night")?)?,
     };
     let night = night_in(rt, alloc, &mut source, &mut outbox, &setup, &at, SHARING);
     Ok((night.err(), outbox.names))

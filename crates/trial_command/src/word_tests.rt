@@ -1,6 +1,7 @@
 //! Arguments that are no command line, and arguments that ask for a text.
 use crate::tests::{Answer, expect, same};
 use night_command::night_main;
+use night_ends::RELEASE;
 use std::alloc::{AllocError, Global};
 use std::rt::Files;
 use std::sync::Wait;
@@ -174,11 +175,12 @@ fn no_words_are_usage(rt: HostRuntime) -> Result<(), Fail> {
 
 #[test]
 fn shows_the_version(rt: HostRuntime) -> Result<(), Fail> {
+    let line = format!(in rt.alloc(); "nighthub {RELEASE}\n")?;
     expect(
         rt.alloc(),
         &ran(&rt, &["--version"]),
         0,
-        b"nighthub 0.1.0\n",
+        line.as_bytes(),
         b"",
     )
 }

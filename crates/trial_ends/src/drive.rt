@@ -59,6 +59,22 @@ pub struct Drive<'a> {
     pub form: Form,
     pub fails: Step,
     pub kind: ErrorKind,
+    /// What each of its files holds that is opened.
+    pub content: &'a [u8],
+}
+
+impl<'a> Drive<'a> {
+    /// A drive of which no call fails, whose files hold these bytes.
+    pub fn holding(alloc: Global, log: &'a Log, content: &'a [u8]) -> Drive<'a> {
+        Drive {
+            alloc,
+            log,
+            form: Form::Regular,
+            fails: Step::None,
+            kind: ErrorKind::Other,
+            content,
+        }
+    }
 }
 
 /// A file of a drive.
@@ -67,6 +83,7 @@ pub struct Sheet<'a> {
     form: Form,
     fails: Step,
     kind: ErrorKind,
+    left: &'a [u8],
 }
 
 impl<'a> Sheet<'a> {
@@ -85,6 +102,7 @@ impl<'a> Drop for Sheet<'a> {
             form: _,
             fails: _,
             kind: _,
+            left: _,
         } = self;
         if log.synced.load(Ordering::SeqCst) != log.written.load(Ordering::SeqCst) {
             log.lost.fetch_add(1, Ordering::SeqCst);
@@ -110,8 +128,11 @@ impl<'a> Write for Sheet<'a> {
 }
 
 impl<'a> Read for Sheet<'a> {
-    fn read(&mut self, _buf: &mut [u8]) -> io::Result<usize> {
-        Err(io::Error::from(ErrorKind::Unsupported))
+    fn read(&mut self, buf: &mut [u8]) -> io::Result<usize> {
+        let count = buf.len().min(self.left.len());
+        buf[..count].copy_from_slice(&self.left[..count]);
+        self.left = &self.left[count..];
+        Ok(count)
     }
 }
 
@@ -173,6 +194,7 @@ impl<'a> Files for Drive<'a> {
             form: self.form,
             fails: self.fails,
             kind: self.kind,
+            left: self.content,
         })
     }
 

@@ -5,5 +5,6 @@
 #![tactic(auto)]
 
 pub mod drive;
+pub mod parts;
 #[cfg(test)]
 mod tests;

@@ -1,5 +1,6 @@
 use crate::drive::{Drive, Form, Log, Step};
-use night_ends::{Directory, Outbox, Reader};
+use hub_kinds::Lent;
+use night_ends::{Directory, Outbox, Reader, in_one_line};
 use std::alloc::Global;
 use std::io;
 use std::io::{ErrorKind, Read};
@@ -20,10 +21,14 @@ fn put_on(alloc: Global, form: Form, fails: Step, kind: ErrorKind) -> (Option<Er
         form,
         fails,
         kind,
+        content: b"",
     };
     let put = {
         let mut folder = Directory::at(&drive, "out");
-        folder.put(NAME, BYTES).err().map(|error| error.kind())
+        folder
+            .put(NAME, &[Lent::new(BYTES)])
+            .err()
+            .map(|error| error.kind())
     };
     let is_whole = log.written.load(Ordering::SeqCst) == BYTES.len() as u64;
     (put, !is_whole || log.lost.load(Ordering::SeqCst) != 0)
@@ -113,5 +118,30 @@ fn a_failed_read_is_no_end(rt: HostRuntime) -> Result<(), Fail> {
         assert_eq!(rt; reader.read(&mut buf), Err(*fault), "{kind:?}");
         assert_eq!(rt; reader.read(&mut buf), Ok(*after), "{kind:?}");
     }
+    Ok(())
+}
+
+#[test]
+fn a_mistake_stands_in_one_line(rt: HostRuntime) -> Result<(), Fail> {
+    let line = in_one_line(rt.alloc(), b"what \x1b[31m\n  is\x7f \xc3\xa9\n")?;
+    assert_eq!(rt; line.as_slice(), b"what [31m  is \xc3\xa9".as_slice());
+    Ok(())
+}
+
+#[test]
+fn many_parts_are_written_one_after_the_other(rt: HostRuntime) -> Result<(), Fail> {
+    let log = Log::new();
+    let drive = Drive::holding(rt.alloc(), &log, b"");
+    let large = Vec::from_elem(rt.alloc(), b'A', 300_000)?;
+    let mut folder = Directory::at(&drive, "out");
+    let parts = [
+        Lent::new(BYTES),
+        Lent::new(large.as_slice()),
+        Lent::new(b""),
+        Lent::new(BYTES),
+    ];
+    let written = folder.put(NAME, parts.as_slice())?;
+    assert_eq!(rt; written.path(), "out/ACME.ack");
+    assert_eq!(rt; log.synced.load(Ordering::SeqCst), 300_042);
     Ok(())
 }

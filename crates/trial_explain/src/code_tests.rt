@@ -146,7 +146,7 @@ pub const NOTES: &[(&str, &str)] = &[
     ),
     (
         "R*023",
-        "refused (TA104 R): no IEA: it was cut off (TA105 023)",
+        "refused (TA104 R): no IEA: it was truncated (TA105 023)",
     ),
     ("R*024", "refused (TA104 R): a bad GS or ST (TA105 024)"),
     (

@@ -92,7 +92,7 @@ fn refuses_texts_that_are_no_acknowledgments(rt: HostRuntime) -> Result<(), Fail
         text.extend_from_slice(segments)?;
         let answer = lines_on(rt.alloc(), text.as_slice());
         assert!(rt;
-            matches!(&answer, Err(Failure::TellsNothing)),
+            matches!(&answer, Err(Failure::TellsNothing | Failure::OtherSet(_))),
             "something told"
         );
     }

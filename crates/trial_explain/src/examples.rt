@@ -12,7 +12,7 @@ ST*999*0002*005010X231~AK1*SH*12*005010~AK2*856*0001~IK5*E*5~AK9*R*1*1*0*19*5~SE
 
 /// What they report.
 pub const LINES: &[u8] =
-    b"interchange 1, TA1 000000006: refused (TA104 R): no IEA: it was cut off (TA105 023)
+    b"interchange 1, TA1 000000006: refused (TA104 R): no IEA: it was truncated (TA105 023)
 interchange 2, group PO 12, 850 0002: rejected: segment 3 N3 in loop N1, element 1, repetition 2 (166): \
 more occurrences than the guide allows (IK403 12): B
 interchange 2, group PO 12, 850 0002: rejected: segment 6 Q9: \

@@ -28,6 +28,8 @@ impl<'r, S: Source> Source for Counted<'r, S> {
 
     ghost longest = { λ c. S.longest c.source };
 
+    ghost given = { λ c. S.given c.source };
+
     fn read(&mut self, buf: &mut [u8]) -> Result<usize, SourceFault> {
         self.reads.fetch_add(1, Ordering::SeqCst);
         self.source.read(buf)

@@ -1,9 +1,11 @@
 //! Hostile bytes and reads: each run of a text gives what the run on one thread gives, byte for byte, and a source that fails is reported.
+use super::night::text_of;
 use super::pieces::{FROM_ACME, ORDER_IN_ITS_INTERCHANGE};
 use super::runs::{plain_night, shared_night, stream_night};
 use super::setups::{FIRST, two_partners};
 use hub_kinds::{Counters, Text};
 use hub_run::{Night, OpenGate, RunFault, run_stream};
+use mailbox::Woven;
 use moment::At;
 use partner_setup::Setup;
 use std::alloc::{AllocError, Global};
@@ -39,11 +41,26 @@ fn same_counters(one: &[Counters], other: &[Counters]) -> bool {
     true
 }
 
-pub fn are_same(one: &Night, other: &Night) -> bool {
-    same_texts(one.acks.as_slice(), other.acks.as_slice())
-        && same_texts(one.boxes.as_slice(), other.boxes.as_slice())
-        && one.report.as_slice() == other.report.as_slice()
-        && same_counters(one.next.as_slice(), other.next.as_slice())
+fn same_boxes(alloc: Global, one: &[Woven], other: &[Woven]) -> Result<bool, Fail> {
+    if one.len() != other.len() {
+        return Ok(false);
+    }
+    for place in 0..one.len() {
+        if text_of(alloc, &one[place])?.as_slice() != text_of(alloc, &other[place])?.as_slice() {
+            return Ok(false);
+        }
+    }
+    Ok(true)
+}
+
+pub fn are_same(alloc: Global, one: &Night, other: &Night) -> Result<bool, Fail> {
+    let boxes = same_boxes(alloc, one.boxes.as_slice(), other.boxes.as_slice())?;
+    Ok(
+        boxes
+            && same_texts(one.acks.as_slice(), other.acks.as_slice())
+            && one.report.as_slice() == other.report.as_slice()
+            && same_counters(one.next.as_slice(), other.next.as_slice()),
+    )
 }
 
 /// Whether each run of a text gives what the run on one thread gives: shared among 1 and 64 workers in pieces of so many bytes, and in
@@ -58,12 +75,12 @@ fn expect_one_night<R: AllocGlobal + Threads + Wait + Clock + Sync>(
     let plain = plain_night(alloc, setup, text)?;
     for workers in [1u64, 64] {
         let shared = shared_night(rt, setup, text, workers, piece)?;
-        if !are_same(&plain, &shared) {
+        if !are_same(alloc, &plain, &shared)? {
             return Err(Fail::new(format!(in alloc; "{} bytes by {workers} workers", text.len())?));
         }
     }
     let streamed = stream_night(rt, setup, text, 53, 2, piece)?;
-    if !are_same(&plain, &streamed) {
+    if !are_same(alloc, &plain, &streamed)? {
         return Err(Fail::new(format!(in alloc; "{} bytes as a stream", text.len())?));
     }
     Ok(())
@@ -118,8 +135,12 @@ fn expect_read<S: Source, R: AllocGlobal + Threads + Wait + Clock + Sync>(
     let at = At::read(b"202603011530").ok_or("no moment")?;
     let wanted = plain_night(alloc, &setup, ORDER_IN_ITS_INTERCHANGE)?;
     match run_stream(rt, alloc, source, 53, 53, &setup, &at, 2, &OpenGate) {
-        Ok(night) if reads && are_same(&wanted, &night) => Ok(()),
-        Ok(_) => Err("a night".into()),
+        Ok(night) => {
+            if !reads || !are_same(alloc, &wanted, &night)? {
+                return Err("a night")?;
+            }
+            Ok(())
+        }
         Err(RunFault::Read) if !reads => Ok(()),
         Err(fault) => Err(Fail::new(format!(in alloc; "{}", fault.number())?)),
     }

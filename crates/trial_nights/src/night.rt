@@ -4,6 +4,7 @@ use super::setups::{Starts, two_partners};
 use super::{accepted, answered, held, receivers, refused, rejected};
 use hub_kinds::{Counters, Text};
 use hub_run::{Night, RunFault};
+use mailbox::Woven;
 use night_report::is_clean;
 use partner_setup::Setup;
 use std::alloc::{AllocError, Global};
@@ -53,6 +54,31 @@ fn expect_texts(alloc: Global, found: &[Text], wanted: &[&[&[u8]]; 2]) -> Result
     expect_text(alloc, found.get(1), wanted[1])
 }
 
+/// The text of a mailbox.
+pub fn text_of(alloc: Global, mailbox: &Woven) -> Result<Vec<u8>, Fail> {
+    let mut text = Vec::new(alloc);
+    for part in mailbox.parts(alloc)? {
+        text.extend_from_slice(part.bytes())?;
+    }
+    Ok(text)
+}
+
+fn expect_boxes(alloc: Global, found: &[Woven], wanted: &[&[&[u8]]; 2]) -> Result<(), Fail> {
+    let [acme, bolt] = found else {
+        return Err("other partners")?;
+    };
+    expect_bytes(
+        alloc,
+        text_of(alloc, acme)?.as_slice(),
+        joined(alloc, wanted[0])?.as_slice(),
+    )?;
+    expect_bytes(
+        alloc,
+        text_of(alloc, bolt)?.as_slice(),
+        joined(alloc, wanted[1])?.as_slice(),
+    )
+}
+
 fn numbers_of(counters: &Counters) -> (u32, u32, u32) {
     (counters.interchange, counters.group, counters.set)
 }
@@ -69,7 +95,7 @@ fn expect_next(found: &[Counters], wanted: &[(u32, u32, u32); 2]) -> Result<(), 
 
 fn expect_given(alloc: Global, night: &Night, worked: &WorkedNight) -> Result<(), Fail> {
     expect_texts(alloc, night.acks.as_slice(), &worked.acks)?;
-    expect_texts(alloc, night.boxes.as_slice(), &worked.boxes)?;
+    expect_boxes(alloc, night.boxes.as_slice(), &worked.boxes)?;
     expect_bytes(alloc, night.report.as_slice(), worked.report)?;
     expect_next(night.next.as_slice(), &worked.next)?;
     if is_clean(night.report.as_slice()) != worked.clean {

@@ -19,7 +19,7 @@ fn each_pair_of_workers_and_pieces(rt: HostRuntime) -> Result<(), Fail> {
     for workers in WORKERS {
         for piece in PIECES {
             let night = shared_night(&rt, &setup, ORDER_IN_ITS_INTERCHANGE, *workers, *piece)?;
-            assert!(rt; are_same(&wanted, &night));
+            assert!(rt; are_same(rt.alloc(), &wanted, &night)?);
         }
     }
     Ok(())
@@ -43,7 +43,7 @@ fn cut_twice_at_each_byte(rt: HostRuntime) -> Result<(), Fail> {
     let cuts = Cuts::new(alloc, text.len(), places.as_slice())?;
     for workers in [1u64, 7] {
         let night = run_night(&rt, alloc, text, &setup, &at, workers, &cuts, &OpenGate)?;
-        assert!(rt; are_same(&wanted, &night));
+        assert!(rt; are_same(rt.alloc(), &wanted, &night)?);
     }
     Ok(())
 }

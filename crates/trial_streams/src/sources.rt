@@ -1,5 +1,5 @@
 //! Sources over a text in memory: a plain one, one that is interrupted, and one that fails.
-ghost use Rattle.std.specs.Prelude.{◌≡◌, ◌≤◌, ◌<◌, ◌++◌, [], length, take, Some};
+ghost use Rattle.std.specs.Prelude.{◌≡◌, ◌+◌, ◌≤◌, ◌<◌, ◌++◌, [], length, min, take, Some};
 
 use stream_read::{Source, SourceFault};
 
@@ -7,11 +7,12 @@ use stream_read::{Source, SourceFault};
 #[derive(Drop)]
 pub struct Memory<'a> {
     left: &'a [u8],
+    given: u64,
 }
 
 impl<'a> Memory<'a> {
     pub fn new(left: &'a [u8]) -> Self {
-        Memory { left }
+        Memory { left, given: 0 }
     }
 
     /// Gives as many bytes as there is room for, at most so many.
@@ -20,10 +21,12 @@ impl<'a> Memory<'a> {
         ensures bound { result ≤ length buf.new }
         ensures bytes { self.old.left.now ≡ take result buf.new ++ self.new.left.now }
         ensures end { result ≡ 0 → 0 < length buf.new → self.new.left.now ≡ [] }
+        ensures given { self.new.given ≡ min 18446744073709551615 (self.old.given + result) }
     {
         let count = buf.len().min(self.left.len()).min(most);
         buf[..count].copy_from_slice(&self.left[..count]);
         self.left = &self.left[count..];
+        self.given = self.given.saturating_add(count as u64);
         count
     }
 }
@@ -36,6 +39,8 @@ impl<'a> Source for Memory<'a> {
     ghost interruptions = { λ m. 0 };
 
     ghost longest = { λ m. 0 };
+
+    ghost given = { λ m. m.given };
 
     fn read(&mut self, buf: &mut [u8]) -> Result<usize, SourceFault> {
         Ok(self.give(buf, usize::MAX))
@@ -77,6 +82,8 @@ impl<'a> Source for Interrupted<'a> {
 
     ghost longest = { λ s. s.longest };
 
+    ghost given = { λ s. s.memory.given };
+
     fn read(&mut self, buf: &mut [u8]) -> Result<usize, SourceFault> {
         if self.row < self.often {
             self.row += 1;
@@ -117,6 +124,8 @@ impl<'a> Source for Failing<'a> {
     ghost interruptions = { λ s. 0 };
 
     ghost longest = { λ s. 0 };
+
+    ghost given = { λ s. s.memory.given };
 
     fn read(&mut self, buf: &mut [u8]) -> Result<usize, SourceFault> {
         if self.reads == 0 && self.faults == 0 {

@@ -166,7 +166,7 @@ impl<'a> Files for Drive<'a> {
             let Some(there) = self.log.at(path) else {
                 return Err(io::Error::from(ErrorKind::NotFound));
             };
-            if there.swap(1, Ordering::SeqCst) != 0 {
+            if there.swap(1, Ordering::SeqCst) != 0 && how.asks_create_new() {
                 return Err(io::Error::from(ErrorKind::AlreadyExists));
             }
         }

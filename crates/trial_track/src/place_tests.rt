@@ -1,5 +1,6 @@
 //! A file that is put at its place, on a drive of which each call fails in turn.
 use crate::drive::{BESIDE, Drive, Log, PLACE, Step};
+use hub_kinds::Lent;
 use night_ends::Outbox;
 use std::alloc::Global;
 use std::io::ErrorKind;
@@ -27,7 +28,7 @@ fn put_on(alloc: Global, log: &Log, fails: Step) -> Option<ErrorKind> {
     let drive = Drive { alloc, log, fails };
     let mut places = Places::of(&drive);
     places
-        .put(PLACE.as_bytes(), BYTES)
+        .put(PLACE.as_bytes(), &[Lent::new(BYTES)])
         .err()
         .map(|error| error.kind())
 }
@@ -66,7 +67,7 @@ fn told(alloc: Global, place: u64, beside: u64, fails: Step) -> u8 {
         fails,
     };
     match is_free(&drive, PLACE) {
-        Ok(()) => 0,
+        Ok(_) => 0,
         Err(TrackFailure::There(path)) => {
             let named = if place != 0 { PLACE } else { BESIDE };
             if path.as_slice() == named.as_bytes() {
@@ -75,7 +76,7 @@ fn told(alloc: Global, place: u64, beside: u64, fails: Step) -> u8 {
                 3
             }
         }
-        Err(TrackFailure::Night(_)) => 2,
+        Err(_) => 2,
     }
 }
 

@@ -1,16 +1,17 @@
 //! Whole tables, by sources and outboxes in memory.
 use crate::examples::{COUNTERS, GUIDE, IN, NAMES, ROWS, SETUP};
-use hub_kinds::{Items, copy_text};
-use night_command::{Failure, GuideFile, Reader, SetupFiles, setup_of};
-use night_ends::{Outbox, Written, write_and_sync};
+use hub_kinds::{Items, Lent};
+use night_command::{Failure, FileAt, Reader, SetupFiles, read_at, setup_of};
+use night_ends::{Created, Outbox, Written, create_at, open_at, write_and_sync};
 use partner_setup::Setup;
 use set_documents::{Document, documents_given};
 use std::alloc::{AllocError, Global};
+use std::io;
 use std::io::{ErrorKind, Read};
 use std::test::Fail;
-use std::{fs, io};
 use track_command::track_in;
-use trial_ends::drive::{Drive, Form, Log, Sheet, Step};
+use trial_ends::drive::{Drive, Log, Sheet};
+use trial_ends::parts::joined;
 
 /// Whether a text is the one that is wanted; if not, it is shown.
 pub(crate) fn same(alloc: Global, found: &[u8], wanted: &[u8]) -> Result<(), Fail> {
@@ -20,21 +21,20 @@ pub(crate) fn same(alloc: Global, found: &[u8], wanted: &[u8]) -> Result<(), Fai
     Err(Fail::new(String::from_utf8_lossy(alloc, found)?))
 }
 
-fn guide_files(alloc: Global) -> Result<Items<GuideFile<'static>>, Fail> {
-    let mut guides = Vec::new(alloc);
-    let bytes = Some(copy_text(alloc, GUIDE)?);
-    guides.push(GuideFile {
-        path: "h850.toml",
-        bytes,
-    })?;
-    Ok(Items::from_vec(guides))
+/// A file at this path that holds these bytes.
+fn file_of(alloc: Global, path: &'static str, bytes: &[u8]) -> Result<FileAt<'static>, Fail> {
+    let log = Log::new();
+    let drive = Drive::holding(alloc, &log, bytes);
+    Ok(read_at(alloc, open_at(&drive, path))?)
 }
 
 pub(crate) fn example(alloc: Global) -> Result<Setup, Fail> {
+    let mut guides = Vec::new(alloc);
+    guides.push(file_of(alloc, "h850.toml", GUIDE)?)?;
     let files = SetupFiles {
-        guides: guide_files(alloc)?,
-        setup: Some(copy_text(alloc, SETUP)?),
-        counters: Some(copy_text(alloc, COUNTERS)?),
+        guides: Items::from_vec(guides),
+        setup: file_of(alloc, "setup.toml", SETUP)?,
+        counters: file_of(alloc, "counters.toml", COUNTERS)?,
     };
     match setup_of(alloc, &files) {
         Ok(setup) => Ok(setup),
@@ -49,8 +49,9 @@ pub(crate) struct Keeps<'a> {
     bytes: Vec<u8>,
     fault: Option<ErrorKind>,
     faults: u64,
+    alloc: Global,
     // what each file is written to
-    sheet: Sheet<'a>,
+    sheet: Created<Sheet<'a>>,
 }
 
 impl<'a> Keeps<'a> {
@@ -68,17 +69,18 @@ impl<'a> Keeps<'a> {
 impl<'a> Outbox for Keeps<'a> {
     ghost faults = { λ k. k.faults };
 
-    fn put<'f>(&mut self, name: &'f [u8], bytes: &'f [u8]) -> io::Result<Written<'f>> {
+    fn put<'f>(&mut self, name: &'f [u8], parts: &'f [Lent<'f>]) -> io::Result<Written<'f>> {
         if let Some(fault) = self.fault {
             if fault != ErrorKind::OutOfMemory {
                 self.faults += 1;
             }
             return Err(io::Error::from(fault));
         }
-        if self.keep(name, bytes).is_err() {
+        let bytes = joined(self.alloc, parts)?;
+        if self.keep(name, bytes.as_slice()).is_err() {
             return Err(io::Error::from(ErrorKind::OutOfMemory));
         }
-        match write_and_sync(&mut self.sheet, name, bytes) {
+        match write_and_sync(self.alloc, &mut self.sheet, name, parts) {
             Ok(written) => Ok(written),
             Err(_) => Err(io::Error::from(ErrorKind::OutOfMemory)),
         }
@@ -95,19 +97,14 @@ pub(crate) fn track_of<I: Read + Drop>(
     let setup = example(alloc)?;
     let mut source = Reader::new(input);
     let log = Log::new();
-    let drive = Drive {
-        alloc,
-        log: &log,
-        form: Form::Regular,
-        fails: Step::None,
-        kind: ErrorKind::Other,
-    };
+    let drive = Drive::holding(alloc, &log, b"");
     let mut outbox = Keeps {
         name: Vec::new(alloc),
         bytes: Vec::new(alloc),
         fault,
         faults: 0,
-        sheet: fs::create(&drive, "table")?,
+        alloc,
+        sheet: create_at(&drive, String::from_str(alloc, "table")?)?,
     };
     let track = track_in(
         alloc,

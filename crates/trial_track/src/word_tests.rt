@@ -50,40 +50,65 @@ fn expect<R: Files + AllocGlobal>(
     Ok(())
 }
 
-const USAGE: &[u8] = b"nighthub_track: usage\n";
-
-/// Arguments that are added to those of a night, and make them no command line.
-const MISTAKES: &[&[&str]] = &[
-    &["--out", "out"],
-    &["more"],
-    &["--in", "twice"],
-    &["--track", "twice"],
-    &["--workers", "0"],
-    &["--workers", "65"],
-    &["--piece", "0"],
-    &["--document"],
-    &["--document", ""],
-    &["--document", "850"],
-    &["--document", "850=BEG"],
-    &["--document", "850=BEG00"],
-    &["--document", "850=BEG3"],
-    &["--document", "850=BEG003"],
-    &["--document", "85=BEG03"],
-    &["--document", "850:BEG03"],
-    &["--document", "850=B-G03"],
-    &["--document", "850=BEG03", "--document", "x"],
+/// Arguments that are added to those of a night and make them no command line, and the mistake that is named.
+const MISTAKES: &[(&[&str], &str)] = &[
+    (&["--out", "out"], "unexpected argument '--out' found"),
+    (&["more"], "unexpected argument 'more' found"),
+    (
+        &["--in", "twice"],
+        "the argument '--in <FILE>' cannot be used multiple times",
+    ),
+    (
+        &["--track", "twice"],
+        "the argument '--track <FILE>' cannot be used multiple times",
+    ),
+    (
+        &["--workers", "0"],
+        "invalid value '0' for '--workers <N>': 0 is not in 1..=64",
+    ),
+    (
+        &["--workers", "65"],
+        "invalid value '65' for '--workers <N>': 65 is not in 1..=64",
+    ),
+    (
+        &["--piece", "0"],
+        "invalid value '0' for '--piece <BYTES>': 0 is not in 1..=4294967295",
+    ),
+    (
+        &["--document"],
+        "a value is required for '--document <SET=SEGELEMENT>' but none was supplied",
+    ),
+    (&["--document", ""], "--document"),
+    (&["--document", "850"], "--document"),
+    (&["--document", "850=BEG"], "--document"),
+    (&["--document", "850=BEG00"], "--document"),
+    (&["--document", "850=BEG3"], "--document"),
+    (&["--document", "850=BEG003"], "--document"),
+    (&["--document", "85=BEG03"], "--document"),
+    (&["--document", "850:BEG03"], "--document"),
+    (&["--document", "850=B-G03"], "--document"),
+    (
+        &["--document", "850=BEG03", "--document", "x"],
+        "--document",
+    ),
 ];
 
 #[test]
-fn mistakes_are_usage(rt: HostRuntime) -> Result<(), Fail> {
-    for more in MISTAKES {
-        expect(&rt, "no_folder", more, 2, USAGE)?;
+fn mistakes_are_named(rt: HostRuntime) -> Result<(), Fail> {
+    for (more, mistake) in MISTAKES {
+        let line = format!(in rt.alloc(); "nighthub_track: usage: {mistake}\n")?;
+        expect(&rt, "no_folder", more, 2, line.as_bytes())?;
     }
     let mut out = Vec::new(rt.alloc());
     let mut err = Vec::new(rt.alloc());
     let none: &[&str] = &[];
     assert_eq!(rt; track_main(&rt, none, &mut out, &mut err), 2);
-    same(rt.alloc(), err.as_slice(), USAGE)
+    same(
+        rt.alloc(),
+        err.as_slice(),
+        b"nighthub_track: usage: the following required arguments were not provided:  --setup <FILE>  --guide <FILE>  \
+          --counters <FILE>  --at <CCYYMMDDHHMM>  --in <FILE>  --track <FILE>\n",
+    )
 }
 
 /// Runs by files that aren't there yet, each of which is then written; then by all of them, and once more.

@@ -215,25 +215,27 @@ fn all_are_recorded_and_checked(rt: HostRuntime) -> Result<(), Fail> {
 
 #[test]
 fn two_workers_meet(rt: HostRuntime) -> Result<(), Fail> {
-    let pairs = Pairs::new();
-    let places = places_behind(&rt, rt.alloc(), 2, &pairs)?;
-    assert_eq!(rt; places.len(), 6);
-    assert_eq!(rt; pairs.entered.load(Ordering::SeqCst), 2);
-    assert_eq!(rt; pairs.missed.load(Ordering::SeqCst), 0);
-    let pairs = Pairs::new();
     let text = of_sets(rt.alloc(), SETS)?;
-    expect_heads(&rt, rt.alloc(), text.as_slice(), 200, 2, &pairs)?;
-    assert_eq!(rt; pairs.left.load(Ordering::SeqCst), 2);
-    assert_eq!(rt; pairs.missed.load(Ordering::SeqCst), 0);
+    for workers in [2, 64] {
+        let pairs = Pairs::new();
+        let places = places_behind(&rt, rt.alloc(), workers, &pairs)?;
+        assert_eq!(rt; places.len(), 6);
+        assert_eq!(rt; pairs.entered.load(Ordering::SeqCst), 2);
+        assert_eq!(rt; pairs.missed.load(Ordering::SeqCst), 0);
+        let pairs = Pairs::new();
+        expect_heads(&rt, rt.alloc(), text.as_slice(), 200, workers, &pairs)?;
+        assert_eq!(rt; pairs.left.load(Ordering::SeqCst), 2);
+        assert_eq!(rt; pairs.missed.load(Ordering::SeqCst), 0);
+    }
     Ok(())
 }
 
 /// The interchange has job 0, its group job 1.
 #[test]
 fn one_waits_for_the_other(rt: HostRuntime) -> Result<(), Fail> {
-    for (job, other) in [(0, 1), (1, 0)] {
+    for (job, other, workers) in [(0, 1, 2), (1, 0, 2), (0, 1, 64), (1, 0, 64)] {
         let late = Late::new(job, other);
-        let places = places_behind(&rt, rt.alloc(), 2, &late)?;
+        let places = places_behind(&rt, rt.alloc(), workers, &late)?;
         let interchange = position(places.as_slice(), 0, 0);
         let group = position(places.as_slice(), 1, 0);
         assert_eq!(rt; late.missed.load(Ordering::SeqCst), 0);

@@ -199,7 +199,6 @@ fn checks_named<
     requires few { length jobs.now ≤ 4611686018427387904 }
     requires workers { (1 ≤ workers) × (workers ≤ 64) }
     requires shares { (vec_len shares ≡ workers) × (register ≡ workers) }
-    requires parts { J.parts ≡ 65 }
     ensures seat { IfOk result (λ c. EachOnce (length jobs.now) c.seat.got) }
     ensures done { IfOk result (λ c. map K.answers c.done.items ≡ map K.asks jobs.now) }
     ensures numbers { IfOk result (λ c. map K.number_of c.done.items ≡ numbers_from 0 (length jobs.now)) }
@@ -252,7 +251,6 @@ pub fn run_checks<
     requires few { length jobs.now ≤ 4611686018427387904 }
     requires workers { (1 ≤ workers) × (workers ≤ 64) }
     requires fresh { register ≡ 0 }
-    requires parts { J.parts ≡ 65 }
     ensures seat { IfOk result (λ c. EachOnce (length jobs.now) c.seat.got) }
     ensures done { IfOk result (λ c. map job_of c.done.items ≡ map job_value jobs.now) }
     ensures numbers { IfOk result (λ c. map number_of c.done.items ≡ numbers_from 0 (length jobs.now)) }

@@ -15,6 +15,7 @@ use checked_text::{
 use env_index::{Index, SetEnvelope, index_plain};
 use guide_tree::Guide;
 use hub_kinds::{NoMemory, within_limit};
+use job_pool::OneThread;
 use moment::At;
 use night_report::report_text;
 use partner_setup::Setup;
@@ -177,7 +178,7 @@ fn checked<'i, 'a>(
 {
     let _ = index.interchanges();
     let none = no_acknowledgments(alloc, setup)?;
-    check_text(alloc, setup, at, index, none)
+    check_text(alloc, &OneThread, setup, at, index, none)
 }
 
 /// Answers it by what was found out about its places, after no acknowledgments.
@@ -193,7 +194,7 @@ fn answered<'i, 'a>(
 {
     let _ = index.interchanges();
     let none = no_acknowledgments(alloc, setup)?;
-    answer_found(alloc, setup, at, index, places, none)
+    answer_found(alloc, &OneThread, setup, at, index, places, none)
 }
 
 /// Answers the text of a settled index both ways.

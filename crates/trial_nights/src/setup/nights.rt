@@ -3,9 +3,11 @@ ghost use Rattle.std.specs.List.{All};
 ghost use Rattle.env_index.specs.Words.{HasSpans};
 
 use super::built::example;
+use crate::night::text_of;
 use checked_text::{CheckedText, check_text, no_acknowledgments, settled_faults};
 use env_index::{Index, index_plain};
 use hub_kinds::within_limit;
+use job_pool::OneThread;
 use judged_text::{JudgedInterchange, PlacedSet};
 use mailbox::{Mailbox, assemble};
 use moment::At;
@@ -73,7 +75,7 @@ fn expect_delivered(
     if found.groups != 1 {
         return Err("another number of groups")?;
     }
-    expect_bytes(found.text.as_slice(), DELIVERED)
+    expect_bytes(text_of(alloc, &found.text)?.as_slice(), DELIVERED)
 }
 
 fn expect_report(
@@ -118,7 +120,7 @@ fn expect_settled<'i, 'a>(
 {
     let _ = index.interchanges();
     let none = no_acknowledgments(alloc, setup)?;
-    let checked = check_text(alloc, setup, at, index, none)?;
+    let checked = check_text(alloc, &OneThread, setup, at, index, none)?;
     expect_checked(alloc, setup, at, &checked)
 }
 

@@ -4,7 +4,7 @@ use Rattle.checked_text.proofs.Reporting.{group_written}
 use Rattle.checked_text.proofs.acknowledge.append_group.Goals as goal
 
 pub returns-clause-text : goal.returns-clause-text
-returns-clause-text c =
+returns-clause-text g c =
     let any : has_any (present c.args.groups.now) ≡ true = sym c.has_any.ensures ∙ c.if-not-has_any.false in
     group_written c.args.envelope.now c.args.at.now c.args.control (present c.args.groups.now) c.in_ok-reports.reports
     c.args.out.now.items c.append_ack_group_header.new.out.items c.append_reports.new.out.items c.append_group_trailer.new.out.items

@@ -6,7 +6,7 @@ use Rattle.checked_text.specs.CheckedText.{SentValues, with_next}
 use Rattle.checked_text.proofs.sending.add_to.Goals as goal
 
 pub returns-clause-sent : goal.returns-clause-sent
-returns-clause-sent c =
+returns-clause-sent g c =
     let setup = c.args.setup.now in
     let files = c.args.files.now in
     let place = c.args.place in

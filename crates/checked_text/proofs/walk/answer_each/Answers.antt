@@ -40,29 +40,32 @@ answer_interchange-requires g c =
     λ k. (
       (refl, (refl, tt)),
       (
-        subst (λ (text : List ℕ). HasSpans text c.index-entries-i.result.interchange) (sym c.text-text.ensures)
-            (at_index (λ (e : IndexEntry). HasSpans c.args.index.now.text e.interchange) entries c.loop-i.i c.index-entries-i.result there
-            c.requires.spans),
+        c.requires.ready,
         (
+          subst (λ (text : List ℕ). HasSpans text c.index-entries-i.result.interchange) (sym c.text-text.ensures)
+              (at_index (λ (e : IndexEntry). HasSpans c.args.index.now.text e.interchange) entries c.loop-i.i c.index-entries-i.result there
+              c.requires.spans),
           (
-            drop (c.loop-i.i + 1) entries,
-            subst (λ (text : List ℕ). g.S.AnswerSource.serves c.loop-i.source text c.args.setup.now (c.index-entries-i.result ∷ drop
-                (c.loop-i.i + 1) entries))
-                (sym c.text-text.ensures)
-                (subst (λ (es : List IndexEntry). g.S.AnswerSource.serves c.loop-i.source c.args.index.now.text c.args.setup.now es)
-                (drop_one_more entries c.loop-i.i c.index-entries-i.result there) done.6),
-          ),
-          (
-            sent.count,
             (
-              λ n f at.
-                  let count = room_left c.args.setup.now c.args.at.now all c.loop-i.files n f (length all) sent at refl in
-                  omega (arith, count, so_many, entry_count, c.loop-i-test.true, room.2),
+              drop (c.loop-i.i + 1) entries,
+              subst (λ (text : List ℕ). g.S.AnswerSource.serves c.loop-i.source text c.args.setup.now (c.index-entries-i.result ∷ drop
+                  (c.loop-i.i + 1) entries))
+                  (sym c.text-text.ensures)
+                  (subst (λ (es : List IndexEntry). g.S.AnswerSource.serves c.loop-i.source c.args.index.now.text c.args.setup.now es)
+                  (drop_one_more entries c.loop-i.i c.index-entries-i.result there) done.6),
+            ),
+            (
+              sent.count,
               (
                 λ n f at.
-                    let count = groups_left c.args.setup.now c.args.at.now all c.loop-i.files n f (length all) sent at refl in
+                    let count = room_left c.args.setup.now c.args.at.now all c.loop-i.files n f (length all) sent at refl in
                     omega (arith, count, so_many, entry_count, c.loop-i-test.true, room.2),
-                done.5,
+                (
+                  λ n f at.
+                      let count = groups_left c.args.setup.now c.args.at.now all c.loop-i.files n f (length all) sent at refl in
+                      omega (arith, count, so_many, entry_count, c.loop-i-test.true, room.2),
+                  done.5,
+                ),
               ),
             ),
           ),

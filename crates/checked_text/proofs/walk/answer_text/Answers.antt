@@ -12,4 +12,4 @@ answer_each-requires g c κs =
     (sym c.as_mut_slice-files.ensures.value) c.requires.sent in
     let headers = subst (λ (made : List (Option HeaderEnds)). AreHeadersTo setup at made) (sym c.as_mut_slice-headers.ensures.value)
     (c.in_ok-made.ensures at) in
-    ((refl, (refl, tt)), (c.requires.spans, (c.requires.serves, (room, headers))))
+    ((refl, (refl, tt)), (c.requires.ready, (c.requires.spans, (c.requires.serves, (room, headers)))))

@@ -1,5 +1,5 @@
 use Rattle.std.proofs.Common.{◌≡◌, ◌∙◌, ap, subst, map, true}
-use Rattle.std.proofs.lemmas.Result.{IfOk-weaker}
+use Rattle.std.proofs.lemmas.Result.{IfErr-weaker, IfOk-weaker}
 use Rattle.clap.specs.Words.{App, HasKind, HasMatchesOf, app_of, fault_of, is_simple_and_free, kind_of, takes}
 use Rattle.clap.specs.declared.error.kind.ErrorKind.TheVariants.{OutOfMemory}
 use Rattle.explain_command.specs.CommandLine.{explain_app}
@@ -14,12 +14,20 @@ returns-in-Ok-clause-asked g c =
     IfOk-weaker c.files_asked.result _ _ (λ a given. asked words c.in-Ok.matches a has given) c.files_asked.ensures.given
 
 pub returns-in-Ok-clause-usage : goal.returns-in-Ok-clause-usage
-returns-in-Ok-clause-usage g c usage line =
+returns-in-Ok-clause-usage g c =
     let app : app_of c.in_ok-command.command ≡ explain_app = c.in_ok-command.ensures in
     let words = map g.S.AsStr.text c.args.words.now in
     let m = c.in-Ok.matches in
     let has = subst (λ (a : App). HasMatchesOf a words m) app c.in-Ok.ensures.matches in
-    line.named (none_named words m has (c.files_asked.ensures.usage usage))
+    IfErr-weaker c.files_asked.result _ _ (λ x is usage line. line.named (none_named words m has (is usage)))
+    c.files_asked.ensures.usage
+
+pub returns-in-Err-clause-usage : goal.returns-in-Err-clause-usage
+returns-in-Err-clause-usage g c =
+    let app : app_of c.in_ok-command.command ≡ explain_app = c.in_ok-command.ensures in
+    let words = map g.S.AsStr.text c.args.words.now in
+    IfErr-weaker c.shown.result _ _
+    (λ x is usage line. is usage (c.in-Err.ensures.passes (ap (λ (a : App). takes a words) app ∙ line.taken))) c.shown.ensures.usage
 
 pub returns-in-Err-clause-asked : goal.returns-in-Err-clause-asked
 returns-in-Err-clause-asked g c =
@@ -30,9 +38,3 @@ returns-in-Err-clause-asked g c =
     let passes : takes explain_app words ≡ true → kind_of c.in-Err.error ≡ OutOfMemory =
     λ taken. c.in-Err.ensures.passes (ap (λ (a : App). takes a words) app ∙ taken) in
     IfOk-weaker c.shown.result _ _ (λ a is. shown words c.in-Err.error a kind passes is) c.shown.ensures.shown
-
-pub returns-in-Err-clause-usage : goal.returns-in-Err-clause-usage
-returns-in-Err-clause-usage g c usage line =
-    let app : app_of c.in_ok-command.command ≡ explain_app = c.in_ok-command.ensures in
-    let words = map g.S.AsStr.text c.args.words.now in
-    c.shown.ensures.usage usage (c.in-Err.ensures.passes (ap (λ (a : App). takes a words) app ∙ line.taken))

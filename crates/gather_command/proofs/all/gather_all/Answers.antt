@@ -1,4 +1,5 @@
-use Rattle.std.proofs.Common.{◌≡◌, ◌<◌, ◌≤◌, ◌∙◌, ◌+◌, ◌++◌, ◌∷◌, [], ℕ, List, Option, length, map, take, get_or, sym, ap, subst, arith}
+use Rattle.std.proofs.Common.{◌≡◌, ◌<◌, ◌≤◌, ◌∙◌, ◌+◌, ◌++◌, ◌∷◌, [], ℕ, List, Option, None}
+use Rattle.std.proofs.Common.{length, map, take, get_or, sym, ap, subst, arith}
 use Rattle.std.specs.Borrow.{Bor}
 use Rattle.std.proofs.lemmas.List.{map-append, take_more}
 use Rattle.gather_command.specs.Lines.{line_of_file}
@@ -31,7 +32,7 @@ loop-path-preserved g c =
     let longer : texts (take (i + 1) c.args.paths.now) ≡ texts (take i c.args.paths.now) ++ path.now ∷ [] =
     ap texts (take_more c.args.paths.now i none lt) ∙ map-append (λ (p : Bor (List ℕ)). p.now) (take i c.args.paths.now) (path ∷ []) in
     let old : Total = c.loop-path.total in
-    let gathered = c.in_ok-gathered.gathered in
+    let gathered = c.in_ok-outcome.outcome in
     let lines : List ℕ = c.loop-path.lines.items ++ line_of_file path.now gathered old.bytes in
     record {
       gathered = subst (λ (ps : List (List ℕ)). AreGathered ps was now c.append_line.new.out.items c.with_file-total.result) (sym longer)
@@ -40,7 +41,7 @@ loop-path-preserved g c =
           (subst (λ (t : Total). AreGathered (texts (take i c.args.paths.now) ++ path.now ∷ []) was now lines t)
           (sym c.with_file-total.ensures.total)
           (one_gathered (texts (take i c.args.paths.now)) was (g.W.Write.contents c.loop-path.out) now c.loop-path.lines.items old path.now
-          gathered c.loop-path.invariant.gathered c.in_ok-gathered.ensures.gathered)));
+          gathered None c.loop-path.invariant.gathered c.in_ok-outcome.ensures.gathered)));
       count = omega (arith, c.with_file-total.ensures.files, c.loop-path.invariant.count);
       cut = c.with_file-total.ensures.cut;
       few = c.with_file-total.ensures.bytes;

@@ -1,5 +1,5 @@
 use Rattle.std.proofs.Common.{◌≡◌, ◌∙◌, ap, subst, map, true}
-use Rattle.std.proofs.lemmas.Result.{IfOk-weaker}
+use Rattle.std.proofs.lemmas.Result.{IfErr-weaker, IfOk-weaker}
 use Rattle.clap.specs.Words.{App, HasKind, HasMatchesOf, app_of, fault_of, is_simple_and_free, kind_of, takes}
 use Rattle.clap.specs.declared.error.kind.ErrorKind.TheVariants.{OutOfMemory}
 use Rattle.gather_command.specs.CommandLine.{gather_app}
@@ -24,15 +24,16 @@ returns-in-Err-clause-asked g c =
     IfOk-weaker c.shown.result _ _ (λ a is. shown words c.in-Err.error a kind passes is) c.shown.ensures.shown
 
 pub returns-in-Ok-clause-usage : goal.returns-in-Ok-clause-usage
-returns-in-Ok-clause-usage g c usage line =
+returns-in-Ok-clause-usage g c =
     let app : app_of c.in_ok-command.command ≡ gather_app = c.in_ok-command.ensures in
     let words = map g.S.AsStr.text c.args.words.now in
     let m = c.in-Ok.matches in
     let has = subst (λ (a : App). HasMatchesOf a words m) app c.in-Ok.ensures.matches in
-    line.named (none_named words m has (c.job_given.ensures.usage usage))
+    IfErr-weaker c.job_given.result _ _ (λ x is usage line. line.named (none_named words m has (is usage))) c.job_given.ensures.usage
 
 pub returns-in-Err-clause-usage : goal.returns-in-Err-clause-usage
-returns-in-Err-clause-usage g c usage line =
+returns-in-Err-clause-usage g c =
     let app : app_of c.in_ok-command.command ≡ gather_app = c.in_ok-command.ensures in
     let words = map g.S.AsStr.text c.args.words.now in
-    c.shown.ensures.usage usage (c.in-Err.ensures.passes (ap (λ (a : App). takes a words) app ∙ line.taken))
+    IfErr-weaker c.shown.result _ _
+    (λ x is usage line. is usage (c.in-Err.ensures.passes (ap (λ (a : App). takes a words) app ∙ line.taken))) c.shown.ensures.usage

@@ -1,4 +1,4 @@
-use Rattle.std.proofs.Common.{◌+◌, ℕ, List, Option, sym, ap, subst, arith}
+use Rattle.std.proofs.Common.{◌+◌, ◌-◌, ℕ, List, Option, drop, length, take, sym, ap, subst, arith}
 use Rattle.std.proofs.lemmas.Result.{IfOk-weaker}
 use Rattle.batch_cut.specs.Scouting.{Advances, IsInside, Stands}
 use Rattle.batch_cut.specs.declared.scout.Advanced.{Advanced}
@@ -6,6 +6,7 @@ use Rattle.batch_cut.specs.declared.scout.Inside.{Inside}
 use Rattle.gather_law.specs.Gathered.{HoldsInterchanges}
 use Rattle.gather_files.specs.Closing.{StaysApart}
 use Rattle.gather_files.proofs.Keeps.{holds_inside}
+use Rattle.gather_files.proofs.OpenEnds.{ends_open, stays, untouched}
 use Rattle.gather_files.proofs.Untouched.{inside_all}
 use Rattle.gather_files.proofs.closing.close.Goals as goal
 
@@ -31,10 +32,23 @@ returns-in-Some-last_open-clause-apart c =
 
 pub returns-in-None-last_open-clause-apart : goal.returns-in-None-last_open-clause-apart
 returns-in-None-last_open-clause-apart c =
-    IfOk-weaker c.spaced-in-None-last_open.result _ (StaysApart c.args.held.now)
+    IfOk-weaker c.spaced.result _ (StaysApart c.args.held.now)
     (λ closed was apart. absurd (omega (
       arith,
       c.if-inside-held.false,
       inside_all c.args.held.now c.from_the_front-count.result c.from_the_front-count.ensures c.in-Some.inside c.in-Some.is apart,
     )))
-    c.spaced-in-None-last_open.ensures
+    c.spaced.ensures
+
+pub as_it_is-requires-in-Some-clause-ends : goal.as_it_is-requires-in-Some-clause-ends
+as_it_is-requires-in-Some-clause-ends c =
+    ends_open c.args.held.now c.args.held.now 0 c.from_the_front-count.result c.in-Some.inside c.open_end-end.result
+    c.from_the_front-count.ensures c.in-Some.is c.open_end-end.ensures.value
+
+pub returns-in-Some-clause-apart : goal.returns-in-Some-clause-apart
+returns-in-Some-clause-apart c =
+    let at : ℕ = c.from_the_front-count.result.scout.at in
+    stays c.args.held.now c.as_it_is-in-Some.result c.open_end-end.result c.as_it_is-in-Some.ensures.untouched
+    c.as_it_is-in-Some.ensures.told
+    (untouched c.in-Some.inside.delims (take (length c.args.held.now - at) (drop at c.args.held.now)) c.open_end-end.result
+    c.open_end-end.ensures.value)

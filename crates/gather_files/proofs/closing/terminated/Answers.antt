@@ -1,12 +1,9 @@
-use Rattle.std.proofs.Common.{◌≡◌, ◌∙◌, ◌⊎◌, ◌++◌, ◌∷◌, [], ◌≤◌, ℕ, List, length, sym, ap, subst, arith, inl, inr}
+use Rattle.std.proofs.Common.{◌≡◌, ◌∙◌, ◌++◌, ◌∷◌, [], ◌≤◌, ℕ, List, length, sym, ap, subst, arith, inr}
 use Rattle.std.proofs.lemmas.List.{length-append}
 use Rattle.env_index.proofs.ForAbove.{head_within}
-use Rattle.gather_law.specs.Gathered.{GoesUpTo, HoldsInterchanges}
-use Rattle.gather_files.specs.Closing.{PutsBehind}
-use Rattle.gather_files.specs.declared.gather.End.{End}
-use Rattle.gather_files.specs.declared.gather.End.TheVariants as end
+use Rattle.gather_law.specs.Gathered.{HoldsInterchanges}
+use Rattle.gather_files.specs.Closing.{EndsSo, PutsBehind}
 use Rattle.gather_files.proofs.Behind.{nothing_behind, one_more}
-use Rattle.gather_files.proofs.closing.terminated.Goals.{then-is_ended, else-is_ended}
 use Rattle.gather_files.proofs.closing.terminated.Goals as goal
 
 pub returns : goal.returns
@@ -22,21 +19,9 @@ returns c = λ held.
     record {
       holds = subst (λ (l : List ℕ). HoldsInterchanges l c.args.last.number) (sym is) c.requires.holds;
       some = subst (λ (l : List ℕ). c.args.last.number ≤ length l) (sym is) long;
-      ended = λ w. elim c.if-is_ended.branch [
-        | then-is_ended w1 ↦ subst (λ (l : List ℕ). GoesUpTo l (length l)) c.as_slice.ensures.value (c.is_ended.ensures w1.if-is_ended.true)
-        | else-is_ended w1 ↦ absurd (no_cut c.if-is_ended.end w w1.end-is)
-      ];
-      whole = λ w. elim c.if-is_ended.branch [
-        | then-is_ended w1 ↦ absurd (no_mended c.if-is_ended.end w w1.end-is)
-        | else-is_ended w1 ↦ absurd (no_cut c.if-is_ended.end (inl w) w1.end-is)
-      ];
+      ends = subst (λ (l : List ℕ). EndsSo held l 1 c.end_after-end.result) c.as_slice.ensures.value
+          (c.end_after-end.ensures.ends held 1 (omega arith));
+      whole = λ w. absurd (c.end_after-end.ensures.put w);
       few = omega arith;
       puts = inr (record { header = header; some = omega arith; puts = puts });
     })
-  where
-    no_mended : (e : End) → e ≡ end.Whole → e ≡ end.Mended → ⊥
-    no_mended e whole mended = cc
-
-    no_cut : (e : End) → (e ≡ end.Whole) ⊎ (e ≡ end.Mended) → e ≡ end.CutOff → ⊥
-    no_cut e (inl w) cut = cc
-    no_cut e (inr m) cut = cc

@@ -1,13 +1,15 @@
-use Rattle.std.proofs.Common.{◌≤◌, ℕ, refl, sym, subst, rules}
+use Rattle.std.proofs.Common.{◌∙◌, ◌≤◌, ℕ, List, ap, refl, sym, subst, rules}
 use Rattle.std.proofs.lemmas.Result.{IfOk-weaker}
+use Rattle.x12_bytes.specs.Header.{header_at, terminator_of}
 use Rattle.gather_files.proofs.Beginning.{begun_passed, passed_too_long}
 use Rattle.gather_files.proofs.Passing.{passed_more}
 use Rattle.gather_files.proofs.gather.pass_all.Goals as goal
 
 pub loop-held-init : goal.loop-held-init
 loop-held-init g c = record {
-  passed = λ first begun. begun_passed first (g.S.Source.remaining c.args.file.now) (g.W.Write.contents c.args.out.now) c.args.held begun
-      c.requires.header;
+  passed = λ first begun. begun_passed first (g.S.Source.remaining c.args.file.now) (g.W.Write.contents c.args.out.now) c.args.held
+      c.first_terminator.result begun c.requires.header
+      (c.first_terminator.ensures ∙ ap (λ (l : List ℕ). terminator_of (header_at l 0)) c.bytes.ensures);
   few = c.requires.few;
   faults = refl;
 }

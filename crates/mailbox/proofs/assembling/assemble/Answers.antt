@@ -1,16 +1,9 @@
-use Rattle.std.proofs.Common.{◌≡◌, ◌<◌, ℕ, List, Some, length, refl, sym, ap, subst, ◌∙◌}
-use Rattle.std.specs.Prelude.{slice_get}
+use Rattle.std.proofs.Common.{◌<◌, List, length, refl, sym, subst, ◌∙◌}
 use Rattle.std.proofs.lemmas.Option.{slice_get_read}
 use Rattle.std.proofs.lemmas.Result.{IfOk-weaker}
 use Rattle.partner_setup.specs.declared.partner.Partner.{Partner}
-use Rattle.mailbox.proofs.WrittenSets.{box_made, some_same, total_made}
+use Rattle.mailbox.proofs.WrittenSets.{box_made, same_partner, total_made}
 use Rattle.mailbox.proofs.assembling.assemble.Goals as goal
-
--- the partner that the sets are written for
-same_partner : (partners found : List Partner) (i : ℕ) (p q : Partner) → found ≡ partners → slice_get found i ≡ Some q
-    → slice_get partners i ≡ Some p → q ≡ p
-same_partner partners found i p q same at_q at_p =
-    some_same q p (sym at_q ∙ ap (λ (ps : List Partner). slice_get ps i) same ∙ at_p)
 
 pub returns-clause-text : goal.returns-clause-text
 returns-clause-text c p there =

@@ -18,7 +18,7 @@ collect-requires-clause-ready g c κs within =
     let inside = nat_range-All (λ i. (i < n) × AreParts 0 (length c.args.sets.now) c.args.parts.now × HasCounters c.args.partner.now
     × (c.args.k + length c.args.sets.now < 18446744073709551616)) 0 n
     (λ i low high. (high, c.requires.parts, c.requires.counters, c.requires.few)) in
-    rw (c.map.ensures.base, c.map.ensures.f, ends.0, ends.1) (λ k d lt. (inside k d lt, λ y p. tt))
+    rw (c.map.ensures.base, c.map.ensures.f, c.with_min_len.ensures.base, ends.0, ends.1) (λ k d lt. (inside k d lt, λ y p. tt))
 
 pub returns : goal.returns
 returns g c =
@@ -29,7 +29,7 @@ returns g c =
     let k : c.map.result.f.2.now ≡ c.args.k = λ i. (f i).2.now in
     let sets : c.map.result.f.3.now ≡ c.args.sets.now = λ i. (f i).3.now in
     let parts : c.map.result.f.4.now ≡ c.args.parts.now = λ i. (f i).4.now in
-    let base = c.map.ensures.base in
+    let base = (λ i. (c.map.ensures.base i).base) ∙ c.with_min_len.ensures.base in
     let whole : length c.args.parts.now - 0 ≡ length c.map.result.f.4.now =
     (omega arith) ∙ ap (λ (ps : List Part). length ps) (sym parts) in
     let places = e.1.1 ∙ (λ i. nat_range (base i).start (base i).end) ∙ (λ i. nat_range (ends.0 i) (ends.1 i))

@@ -12,9 +12,9 @@ returns-clause-night g c =
       told_all = given.told_all;
       within = given.few;
       whole = given.whole;
-      quotable = λ paths at.
+      quotable = λ guides rows counters at.
           c.plain_references_are_quoted.ensures given.text c.args.setup.now c.is_sound.ensures
-          (setup_plain c.files_write_references.ensures paths c.args.setup.now at);
+          (setup_plain c.files_write_references.ensures guides rows counters c.args.setup.now at);
     }
 
 pub returns-in_err-put_night-clause-some : goal.returns-in_err-put_night-clause-some
@@ -27,9 +27,9 @@ returns-in_err-put_night-clause-some g c =
       told_all = given.told_all;
       within = given.few;
       whole = given.whole;
-      quotable = λ paths at.
+      quotable = λ guides rows counters at.
           c.plain_references_are_quoted.ensures given.text setup c.is_sound.ensures
-          (setup_plain c.files_write_references.ensures paths setup at);
+          (setup_plain c.files_write_references.ensures guides rows counters setup at);
     } in
     told_fault c.from_residual-in_err-put_night.result c.in_err-put_night.field-0.0
     (λ (failed : Failure). LeavesOutbox told setup c.args.at.now (g.B.Outbox.contents c.args.outbox.now)

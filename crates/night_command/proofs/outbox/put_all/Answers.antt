@@ -1,5 +1,6 @@
 use Rattle.std.proofs.Common.{ℕ, List, ◌∷◌, [], map, sym, subst, rules}
 use Rattle.std.proofs.lemmas.List.{map-append}
+use Rattle.std.specs.List.{flat_map}
 use Rattle.night_command.specs.Outbox.{AddsFiles, file_of}
 use Rattle.night_command.proofs.Files.{add_two, one_more}
 use Rattle.night_command.proofs.outbox.put_all.Goals as goal
@@ -11,7 +12,10 @@ loop-file-preserved g c =
     let after = g.B.Outbox.contents c.put.new.self in
     let done = c.loop-file.yielded in
     let file = c.in-Some.file in
-    let added = subst (λ (name : List ℕ). AddsFiles mid after ((name, file.bytes.now) ∷ [])) c.as_slice.ensures c.in-Ok.ensures.files in
+    let held : List (List ℕ) → List ℕ = flat_map (λ (part : List ℕ). part) in
+    let added = subst (λ (name : List ℕ). AddsFiles mid after ((name, held file.parts.items) ∷ [])) c.as_slice.ensures
+    (subst (λ (parts : List (List ℕ)). AddsFiles mid after ((c.as_slice.result.now, held parts) ∷ [])) c.as_slice-in-loop-file.ensures.value
+    c.in-Ok.ensures.files) in
     let put = add_two before mid after (map file_of done) (file_of file ∷ []) c.loop-file.invariant.put added in
     record {
       put = subst (AddsFiles before after) (sym (map-append file_of done (file ∷ []))) put;

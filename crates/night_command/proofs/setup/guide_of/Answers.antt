@@ -9,5 +9,5 @@ returns-in-Ok-clause-guide c =
 pub returns-in-Err-clause-refused : goal.returns-in-Err-clause-refused
 returns-in-Err-clause-refused c =
     rw (c.of_guide.ensures)
-    (guide_fails c.args.file.now c.args.file.now.path c.as_slice.result.now c.in-Err.fault (cc) (cc)
+    (guide_fails c.args.file.now c.path-in-Err.result c.as_slice.result.now c.in-Err.fault (cc) (cc)
     c.in-Err.ensures.table c.in-Err.ensures.not_toml)

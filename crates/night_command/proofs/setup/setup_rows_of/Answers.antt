@@ -5,9 +5,9 @@ use Rattle.night_command.proofs.setup.setup_rows_of.Goals as goal
 
 pub returns-in-Ok-clause-rows : goal.returns-in-Ok-clause-rows
 returns-in-Ok-clause-rows c =
-    rows_are setup_of_table c.args.file.now c.as_slice.result.now c.in-Ok.rows (cc) c.in-Ok.ensures.table c.in-Ok.ensures.not_toml
+    rows_are setup_of_table c.args.file.now.bytes c.as_slice.result.now c.in-Ok.rows (cc) c.in-Ok.ensures.table c.in-Ok.ensures.not_toml
 
 pub returns-in-Err-clause-refused : goal.returns-in-Err-clause-refused
 returns-in-Err-clause-refused c =
     rw (c.of_setup_file.ensures)
-    (setup_file_fails c.args.file.now c.as_slice.result.now c.in-Err.fault (cc) c.in-Err.ensures.table c.in-Err.ensures.not_toml)
+    (setup_file_fails c.args.file.now.bytes c.as_slice.result.now c.in-Err.fault (cc) c.in-Err.ensures.table c.in-Err.ensures.not_toml)

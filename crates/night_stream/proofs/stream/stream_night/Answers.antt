@@ -25,6 +25,8 @@ loop-reading-preserved g c =
     record {
       read = c.in_ok-reading-2.ensures.read (g.S.Source.remaining c.args.source.now) (g.S.Source.remaining c.read_on.new.source) later;
       few = subst (λ (k : ℕ). k ≤ 4294967295) (sym c.in_ok-reading-2.ensures.total) c.in_ok-read_on.ensures.few;
+      given = subst (λ (k : ℕ). k ≤ g.S.Source.given c.read_on.new.source) (sym c.in_ok-reading-2.ensures.total)
+          (c.in_ok-read_on.ensures.given c.loop-reading.invariant.given);
       faults = search rules;
       rested = search rules;
       tried = search rules;

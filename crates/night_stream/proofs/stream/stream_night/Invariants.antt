@@ -7,6 +7,7 @@ abbrev pub invariant-loop-reading : goal.invariant-loop-reading
 invariant-loop-reading g l = record {
   read : IsReadUpTo l.setup l.at (g.S.Source.remaining l.initial.source) (g.S.Source.remaining l.source) l.held l.reading;
   few : l.held.total ≤ 4294967295;
+  given : l.held.total ≤ g.S.Source.given l.source;
   faults : g.S.Source.faults l.source ≡ g.S.Source.faults l.initial.source;
   rested : g.S.Source.interruptions l.source ≤ g.S.Source.interruptions l.initial.source;
   tried : TriedAgain (g.S.Source.interruptions l.initial.source) (g.S.Source.longest l.initial.source) (g.S.Source.longest l.source);

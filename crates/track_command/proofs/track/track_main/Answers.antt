@@ -1,6 +1,6 @@
-use Rattle.std.proofs.Common.{inl, inr, map, refl}
+use Rattle.std.proofs.Common.{inl, map, refl}
 use Rattle.track_command.specs.Outcome.{Tracked}
-use Rattle.track_command.proofs.Asking.{asked_for, names, options_named, text_shown}
+use Rattle.track_command.proofs.Asking.{names, options_named, text_shown}
 use Rattle.track_command.proofs.track.track_main.Goals as goal
 
 pub returns-in-Ok-Run-clause-setup : goal.returns-in-Ok-Run-clause-setup

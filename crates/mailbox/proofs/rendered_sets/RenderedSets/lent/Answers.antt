@@ -1,12 +1,13 @@
-use Rattle.std.proofs.Common.{◌≡◌, ◌∙◌, ℕ, List, ap, arith, length, rules}
-use Rattle.mailbox.specs.Kept.{kept_in}
-use Rattle.mailbox.proofs.Rows.{lent_more}
+use Rattle.std.proofs.Common.{◌≡◌, ◌∙◌, ◌≤◌, List, ap, arith, length, rules}
+use Rattle.std.proofs.lemmas.List.{take_all}
+use Rattle.std.specs.List.{flat_map}
+use Rattle.mailbox.specs.Rendered.{RenderedValue}
+use Rattle.mailbox.proofs.Sharing.{same}
 use Rattle.mailbox.proofs.rendered_sets.RenderedSets.lent.Goals as goal
 
-pub loop-i-preserved : goal.loop-i-preserved
-loop-i-preserved c =
-    let end : c.len-i-end.result ≡ length c.self.inside.sets.items = search rules in
-    lent_more (kept_in c.self.inside.text.items) c.self.inside.sets.items c.args.self.now c.loop-i.lent.items c.push.new.self.items
-    c.loop-i.i c.index.result.now c.lent_of.result c.self.view_is (omega (arith, c.loop-i-test.true, end)) c.index.ensures
-    c.loop-i.invariant (c.lent_of.ensures ∙ ap (λ (b : List ℕ). kept_in b c.index.result.now) c.as_slice-text.ensures.value)
-    c.in_ok-push.ensures.items
+pub returns : goal.returns
+returns c =
+    let rows : List (List RenderedValue) = c.self.inside.rows.items in
+    let end : c.len-i-end.result ≡ length rows = search rules in
+    let all : length rows ≤ c.loop-i.i = omega (arith, c.loop-i-test.false, c.loop-i.auto.i-end, end) in
+    c.loop-i.invariant ∙ ap (flat_map same) (take_all c.loop-i.i rows all) ∙ c.self.view_is

@@ -1,0 +1,113 @@
+//! The elements of a header that isn't one: how long each is, and the first that isn't as long as it has to be.
+ghost use Rattle.std.specs.Prelude.{◌≡◌, ◌≤◌, length};
+ghost use Rattle.x12_bytes.specs.Header.{separator_place, width_of};
+ghost use Rattle.std.specs.List.{prefix_len};
+ghost use Rattle.gather_files.specs.Causes.{element_len, is_other, is_wide, wrong_element};
+
+/// The first of ISA01 to ISA15 that isn't as long as the standard says; 16 if each is.
+pub(crate) fn wrong_element(file: &[u8]) -> usize
+    requires { 4 ≤ length file.now }
+    ensures value { result ≡ wrong_element file.now }
+    ensures from { 1 ≤ result }
+    ensures to { result ≤ 16 }
+{
+    let mut k = 1;
+    while k < 16 && is_wide(file, k) {
+        k += 1;
+    }
+    k
+}
+
+fn is_wide(file: &[u8], k: usize) -> bool
+    requires long { 4 ≤ length file.now }
+    requires from { 1 ≤ k }
+    requires to { k ≤ 16 }
+    ensures { result ≡ is_wide file.now k }
+{
+    element_len(file, k) == width_of(k)
+}
+
+/// How long element `k` is, up to the next separator.
+pub(crate) fn element_len(file: &[u8], k: usize) -> usize
+    requires long { 4 ≤ length file.now }
+    requires from { 1 ≤ k }
+    requires to { k ≤ 16 }
+    ensures { result ≡ element_len file.now k }
+{
+    let start = separator_place(k) + 1;
+    if start < file.len() {
+        run_len(&file[start..], file[3])
+    } else {
+        0
+    }
+}
+
+/// How many bytes stand before the first separator.
+fn run_len(bytes: &[u8], separator: u8) -> usize
+    ensures { result ≡ prefix_len (is_other separator) bytes.now }
+{
+    bytes
+        .iter()
+        .take_while(|b| is_other(**b, separator))
+        .count()
+}
+
+fn is_other(byte: u8, separator: u8) -> bool
+    ensures { result ≡ is_other separator byte }
+{
+    byte != separator
+}
+
+/// Where the separator before element `k` stands.
+fn separator_place(k: usize) -> usize
+    requires from { 1 ≤ k }
+    requires to { k ≤ 16 }
+    ensures value { result ≡ separator_place k }
+    ensures bound { result ≤ 103 }
+{
+    match k {
+        1 => 3,
+        2 => 6,
+        3 => 17,
+        4 => 20,
+        5 => 31,
+        6 => 34,
+        7 => 50,
+        8 => 53,
+        9 => 69,
+        10 => 76,
+        11 => 81,
+        12 => 83,
+        13 => 89,
+        14 => 99,
+        15 => 101,
+        _ => 103,
+    }
+}
+
+/// How wide element `k` has to be.
+pub(crate) fn width_of(k: usize) -> usize
+    requires from { 1 ≤ k }
+    requires to { k ≤ 16 }
+    ensures value { result ≡ width_of k }
+    ensures bound { result ≤ 15 }
+{
+    match k {
+        1 => 2,
+        2 => 10,
+        3 => 2,
+        4 => 10,
+        5 => 2,
+        6 => 15,
+        7 => 2,
+        8 => 15,
+        9 => 6,
+        10 => 4,
+        11 => 1,
+        12 => 5,
+        13 => 9,
+        14 => 1,
+        15 => 1,
+        _ => 1,
+    }
+}

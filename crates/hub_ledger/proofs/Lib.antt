@@ -1,0 +1,3 @@
+mod Consecutive
+mod Rows
+mod Steps

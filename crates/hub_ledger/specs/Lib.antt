@@ -1,0 +1,4 @@
+pub mod Entries
+pub mod Events
+pub mod Laws
+pub mod Nights

@@ -1,0 +1,21 @@
+ghost use Rattle.hub_ledger.specs.Laws.{DeliversOnce, GoingOnDeliversOnce, NumbersGoOn, ShowsCommitted};
+
+/// Whatever stops the hub and whenever, no set is delivered to a receiver on two nights.
+pub fn delivers_once()
+    ensures { DeliversOnce }
+{}
+
+/// What may be sent is written down.
+pub fn shows_committed()
+    ensures { ShowsCommitted }
+{}
+
+/// What an address is sent is numbered without a gap over all nights, whatever its partner is called and whatever stops the hub.
+pub fn numbers_go_on()
+    ensures { NumbersGoOn }
+{}
+
+/// Nights that go on deliver no set to a receiver twice, and number what an address is sent without a gap.
+pub fn nights_that_go_on()
+    ensures { GoingOnDeliversOnce }
+{}

@@ -1,0 +1,5 @@
+mod Broken
+mod GoingOn
+mod Knowing
+mod Nothing
+mod Steps

@@ -1,0 +1,7 @@
+use Rattle.std.proofs.Common.{◌≡◌, ◌++◌, take}
+use Rattle.night_breaches.specs.Breaches.{second_deliveries}
+use Rattle.night_breaches.specs.Known.{night_in}
+use Rattle.night_breaches.proofs.rules.add_second_deliveries.Given as goal
+
+abbrev pub invariant-loop-i : goal.invariant-loop-i
+invariant-loop-i l = l.found.items ≡ l.fn.found.items ++ second_deliveries (night_in l.nights) l.night (take l.i l.keys)

@@ -1,0 +1,13 @@
+use Rattle.std.proofs.Common.{◌∙◌, map}
+use Rattle.std.proofs.lemmas.Result.{IfOk-weaker}
+use Rattle.csv.specs.Records.{fields_of}
+use Rattle.night_entries.specs.Keys.{receiver_named}
+use Rattle.night_entries.specs.Named.{found_in}
+use Rattle.night_entries.proofs.Same.{keys_same}
+use Rattle.night_entries.proofs.key.delivered_keys.Goals as goal
+
+pub returns : goal.returns
+returns c =
+    IfOk-weaker c.keys_by.result _ _
+    (λ found is. is ∙ keys_same c.args.input.now (found_in c.in_ok-receivers.receivers) (receiver_named c.args.receivers.now)
+    (map fields_of c.args.table.now) c.in_ok-receivers.ensures) c.keys_by.ensures

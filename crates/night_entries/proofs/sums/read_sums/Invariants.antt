@@ -1,0 +1,10 @@
+use Rattle.std.proofs.Common.{◌≡◌, ◌≤◌, ◌-◌, length, take}
+use Rattle.std.specs.List.{flat_map}
+use Rattle.night_entries.specs.Files.{sum_line}
+use Rattle.night_entries.proofs.sums.read_sums.Given as goal
+
+abbrev pub invariant-loop-at : goal.invariant-loop-at
+invariant-loop-at l = record { within : l.at ≤ length l.text; so_far : flat_map sum_line l.sums.items ≡ take l.at l.text }
+
+abbrev pub decreases-loop-at : goal.decreases-loop-at
+decreases-loop-at l = length l.text - l.at

@@ -1,0 +1,43 @@
+-- What is kept of a night, by the bytes of its files (own).
+use Rattle.std.specs.Prelude.{◌≡◌, ℕ, List, Some, Ok, map}
+use Rattle.std.specs.List.{flat_map}
+use Rattle.std.specs.Str.{IsUtf8}
+use Rattle.toml.specs.Data.{Members}
+use Rattle.toml.specs.Parse.{parse_document}
+use Rattle.csv.specs.Reading.{AreRecords, default_config, strip_bom}
+use Rattle.csv.specs.declared.parser.State.TheVariants as st
+use Rattle.partner_setup.specs.CountersFile.{counters_of_table}
+use Rattle.partner_setup.specs.SetupFile.{setup_of_table}
+use Rattle.partner_setup.specs.declared.rows.CounterRow.{CounterRow}
+use Rattle.partner_setup.specs.declared.rows.SetupRows.{SetupRows}
+use Rattle.hub_ledger.specs.declared.entry.NightEntry.{NightEntry}
+use Rattle.night_entries.specs.Files.{files_of, given_names, sum_line}
+use Rattle.night_entries.specs.Keys.{delivered_keys}
+use Rattle.night_entries.specs.Rows.{address_rows}
+use Rattle.night_entries.specs.declared.entry.Papers.{Papers}
+use Rattle.night_entries.specs.declared.files.NamedSum.{NamedSum}
+
+-- bytes that are a setup file, and its rows
+abbrev pub IsSetup : List ℕ → SetupRows → Type 0
+IsSetup bytes rows = (table : Members) → IsUtf8 bytes → parse_document bytes ≡ Some table → setup_of_table table ≡ Ok rows
+
+abbrev pub AreCounters : List ℕ → List CounterRow → Type 0
+AreCounters bytes rows = (table : Members) → IsUtf8 bytes → parse_document bytes ≡ Some table → counters_of_table table ≡ Ok rows
+
+-- the entry of a night by its papers
+pub record IsEntry (papers : Papers) (entry : NightEntry) : Type 0 where
+  pub setup : SetupRows
+  pub begun : List CounterRow
+  pub left : List CounterRow
+  pub listed : List NamedSum
+  pub table : List (List (List ℕ))
+  pub name_is : entry.name ≡ papers.name.now
+  pub moment_is : entry.moment ≡ papers.moment.now
+  pub setup_is : IsSetup papers.setup.now setup
+  pub begun_is : AreCounters papers.counters.now begun
+  pub left_is : AreCounters papers.next_counters.now left
+  pub listed_is : flat_map sum_line listed ≡ papers.sums.now
+  pub table_is : AreRecords default_config st.StartRecord (strip_bom papers.track.now) table
+  pub addresses_are : entry.addresses ≡ address_rows begun left setup.partners
+  pub delivered_are : entry.delivered ≡ delivered_keys papers.input.now entry.addresses table
+  pub files_are : entry.files ≡ files_of (given_names entry.addresses) listed papers.found.now

@@ -1,0 +1,5 @@
+pub mod Entry
+pub mod Files
+pub mod Keys
+pub mod Named
+pub mod Rows

@@ -1,0 +1,109 @@
+ghost use Rattle.std.specs.Prelude.{◌≡◌, ◌++◌, IfOk, map};
+ghost use Rattle.csv.specs.Reading.{AreRecords, default_config, strip_bom};
+ghost use Rattle.csv.specs.Records.{fields_of};
+ghost use Rattle.csv.specs.declared.parser.State.TheVariants as st;
+ghost use Rattle.night_entries.specs.Entry.{AreCounters, IsEntry, IsSetup};
+
+use crate::fault::{EntryFault, Paper};
+use crate::files::{NamedSum, files_of};
+use crate::key::delivered_keys;
+use crate::rows::address_rows;
+use crate::sums::read_sums;
+use crate::table::records_of;
+use csv::ByteRecord;
+use hub_kinds::{Items, copy_text, read_number};
+use hub_ledger::NightEntry;
+use partner_setup::{CounterRows, FileFault, SetupRows, read_counters, read_setup};
+use std::alloc::Global;
+
+/// How many digits a moment has, CCYYMMDDHHMM.
+const DIGITS: usize = 12;
+
+/// What a night leaves: the bytes of its files, and the sums of those that it gave.
+#[derive(Drop)]
+pub struct Papers<'a> {
+    /// The name of its folder.
+    pub name: &'a [u8],
+    pub moment: &'a [u8],
+    pub setup: &'a [u8],
+    /// The counters that it begins with, and those that it leaves.
+    pub counters: &'a [u8],
+    pub next_counters: &'a [u8],
+    pub sums: &'a [u8],
+    pub input: &'a [u8],
+    /// The table of its sets.
+    pub track: &'a [u8],
+    /// The sums of the files that are there.
+    pub found: &'a [NamedSum],
+}
+
+/// The fault of a file that isn't read.
+fn fault_of(fault: FileFault, paper: Paper) -> EntryFault {
+    match fault {
+        FileFault::NoMemory => EntryFault::Memory,
+        FileFault::NotToml
+        | FileFault::Missing(_)
+        | FileFault::WrongKind(_)
+        | FileFault::Unknown(_) => EntryFault::Unreadable(paper),
+    }
+}
+
+fn setup_of(alloc: Global, bytes: &[u8]) -> Result<SetupRows, EntryFault>
+    ensures { IfOk result (IsSetup bytes.now) }
+{
+    match read_setup(alloc, bytes) {
+        Ok(rows) => Ok(rows),
+        Err(fault) => Err(fault_of(fault, Paper::Setup)),
+    }
+}
+
+fn counters_of(alloc: Global, bytes: &[u8], paper: Paper) -> Result<CounterRows, EntryFault>
+    ensures { IfOk result (AreCounters bytes.now) }
+{
+    match read_counters(alloc, bytes) {
+        Ok(rows) => Ok(rows),
+        Err(fault) => Err(fault_of(fault, paper)),
+    }
+}
+
+fn table_of(alloc: Global, bytes: &[u8]) -> Result<Vec<ByteRecord>, EntryFault>
+    ensures { IfOk result (λ table. AreRecords default_config st.StartRecord (strip_bom bytes.now) (map fields_of table.items)) }
+{
+    match records_of(alloc, bytes) {
+        Ok(table) => Ok(table),
+        Err(error) => Err(if error.is_io_error() {
+            EntryFault::Memory
+        } else {
+            EntryFault::Unreadable(Paper::Track)
+        }),
+    }
+}
+
+/// What is kept of a night.
+pub fn entry_of(alloc: Global, papers: &Papers<'_>) -> Result<NightEntry, EntryFault>
+    ensures { IfOk result (IsEntry papers.now) }
+{
+    if papers.moment.len() != DIGITS || read_number(papers.moment, DIGITS).is_none() {
+        return Err(EntryFault::Unreadable(Paper::Moment));
+    }
+    let setup = setup_of(alloc, papers.setup)?;
+    let begun = counters_of(alloc, papers.counters, Paper::Counters)?;
+    let left = counters_of(alloc, papers.next_counters, Paper::NextCounters)?;
+    let listed = read_sums(alloc, papers.sums)?;
+    let table = table_of(alloc, papers.track)?;
+    let rows = address_rows(
+        alloc,
+        setup.partners.as_slice(),
+        begun.as_slice(),
+        left.as_slice(),
+    )?;
+    let delivered = delivered_keys(alloc, papers.input, rows.as_slice(), table.as_slice())?;
+    let files = files_of(alloc, rows.as_slice(), listed.as_slice(), papers.found)?;
+    Ok(NightEntry {
+        name: copy_text(alloc, papers.name)?,
+        moment: copy_text(alloc, papers.moment)?,
+        delivered: Items::from_vec(delivered),
+        addresses: Items::from_vec(rows),
+        files: Items::from_vec(files),
+    })
+}

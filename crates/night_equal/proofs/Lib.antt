@@ -1,0 +1,5 @@
+pub mod Envelopes
+pub mod ForAbove
+pub mod Headers
+pub mod Reaches
+pub mod Summaries

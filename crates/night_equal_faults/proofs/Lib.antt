@@ -1,0 +1,4 @@
+pub mod Rising
+pub mod Plain
+pub mod Firsts
+pub mod Faults

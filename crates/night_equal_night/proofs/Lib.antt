@@ -1,0 +1,12 @@
+pub mod Codes
+pub mod Checks
+pub mod Answers
+pub mod Pairs
+pub mod There
+pub mod Groups
+pub mod Interchanges
+pub mod Ready
+pub mod Seen
+pub mod Plain
+pub mod Counted
+pub mod Night

@@ -1,0 +1,14 @@
+pub mod Given
+pub mod Standings
+pub mod Reading
+pub mod Rising
+pub mod Uses
+pub mod Ranges
+pub mod Inner
+pub mod Found
+pub mod Few
+pub mod Inside
+pub mod Nodes
+pub mod Parents
+pub mod Relations
+pub mod Structures

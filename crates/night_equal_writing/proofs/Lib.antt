@@ -1,0 +1,11 @@
+pub mod Texts
+pub mod Codes
+pub mod Acknowledgments
+pub mod Answers
+pub mod Deliveries
+pub mod Boxes
+pub mod Report
+pub mod Totals
+pub mod Blocked
+pub mod DeliveredTexts
+pub mod ForAbove

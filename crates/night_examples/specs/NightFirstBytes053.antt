@@ -1,0 +1,51 @@
+-- A whole night: first bytes 053.
+use Rattle.std.specs.Prelude.{ℕ, ◌≡◌, List, [], ◌∷◌, codes, Some}
+use Rattle.partner_setup.specs.declared.partner.Partner.{Partner}
+use Rattle.partner_setup.specs.declared.rows.Usage.TheVariants as usage
+use Rattle.night_definition.specs.Setup.{Setup}
+use Rattle.night_definition.specs.Night.{night_of}
+use Rattle.night_examples.specs.Guide1.{guide_1}
+use Rattle.night_examples.specs.Guide2.{guide_2}
+
+abbrev pub text : List ℕ
+text = (codes "ISA*00*          *00*          *01*ACME           *ZZ")
+
+abbrev pub partner_1 : Partner
+partner_1 = record {
+  name = codes "ACME";
+  qualifier = codes "01";
+  id = codes "ACME";
+  code = codes "ACME";
+  delims = record { element = 42; component = 62; repetition = Some 94; terminator = 126 };
+  cap = 2;
+  counters = record { interchange = 1; group = 1; set = 1 };
+  guides = (0 ∷ 1 ∷ []);
+}
+
+abbrev pub partner_2 : Partner
+partner_2 = record {
+  name = codes "BOLT";
+  qualifier = codes "ZZ";
+  id = codes "BOLT";
+  code = codes "BOLT";
+  delims = record { element = 124; component = 58; repetition = Some 94; terminator = 33 };
+  cap = 1;
+  counters = record { interchange = 1; group = 1; set = 1 };
+  guides = (0 ∷ []);
+}
+
+abbrev pub setup : Setup
+setup = record {
+  hub = record { qualifier = codes "ZZ"; id = codes "HUB"; code = codes "HUB"; usage = usage.Production };
+  partners = partner_1 ∷ partner_2 ∷ [];
+  routes = record { code = codes "ACME"; to = (0 ∷ []) } ∷ record { code = codes "BOLT"; to = (1 ∷ []) } ∷ [];
+  guides = guide_1 ∷ guide_2 ∷ [];
+}
+
+abbrev pub Computes : Type 0
+Computes = night_of text setup (codes "202603011530") ≡ record {
+  acks = [] ∷ [] ∷ [];
+  boxes = [] ∷ [] ∷ [];
+  report = (codes "total interchanges 0 refused 0 groups 0 sets 0 accepted 0 held 0 outside 22\n");
+  next = record { interchange = 1; group = 1; set = 1 } ∷ record { interchange = 1; group = 1; set = 1 } ∷ [];
+}
