@@ -139,7 +139,7 @@ UNANSWERED = {
     "ISA13 that isn't digits": WHOLE_ORDER.replace("000000007", "00000000A"),
     "ISA09 that isn't digits": WHOLE_ORDER[:-16].replace("*260228*", "*26022A*"),
     "ISA10 that isn't digits": WHOLE_ORDER[:-16].replace("*0900*^", "*09A0*^"),
-    "a sender who is no partner": WHOLE_ORDER.replace("*01*ACME ", "*01*CARL "),
+    "a sender who isn't a partner": WHOLE_ORDER.replace("*01*ACME ", "*01*CARL "),
     "no group": f"{ASKING}IEA*0*000000007~",
     "groups FA that don't ask": f"{ISA}{REPORTS}IEA*1*000000007~",
 }

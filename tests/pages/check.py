@@ -38,87 +38,87 @@ def lines(**said):
 
 
 REF = "segment 1 (REF): "
-TWICE = "an element stands twice in a condition or in `pick`, or an earlier segment has its label"
+TWICE = "an element appears twice in a condition or in `pick`, or an earlier segment has its label"
 ROW = "a text as \"128 M ID 2 3 = DP IA\", \"367 N\" or \"- O C ; 355 O ID 2 2\""
 TYPE = "a type (AN, ID, N0 to N9, R, DT, TM)"
 OPTIONS = "xN, wide, or = and codes, in this order"
 NO_DEPENDENCY = "a dependency, or `hl`, that can't be"
 BOTH = "segment 1 (REF) and segment 2 (REF) may come at one place, and both fit REF"
 
-QUOTES = "a text in quotes isn't closed, or holds a byte that may not stand in it"
-NO_VALUE = "no value stands here: a text in quotes, a number without leading zeros, true, false, a list, a table"
+QUOTES = "a text in quotes isn't closed, or holds a byte that it can't hold"
+NO_VALUE = "a value must be here: a text in quotes, a number without leading zeros, true, false, a list, a table"
 # what is no TOML, and what is said of it
 TOML = {
-    "[hub": "line 1, column 5: ] has to stand behind the name of a table: the file ends",
-    "[[partner]\n": "line 1, column 11: ]] has to stand behind the name of a list of tables: the line ends",
+    "[hub": "line 1, column 5: the name of a table must be followed by ]: the file ends",
+    "[[partner]\n": "line 1, column 11: the name of a list of tables must be followed by ]]: the line ends",
     "a = 1 2\n": f"line 1, column 5: {NO_VALUE}: 1 2",
     "a = 007\n": f"line 1, column 5: {NO_VALUE}: 007",
-    'a = ["x" "y"]': 'line 1, column 10: a comma or ] has to stand here: "y"]',
-    "a = {b=1 c=2}": "line 1, column 10: a comma or } has to stand here: c=2}",
-    'a = "\\q"': 'line 1, column 7: no letter of an escape stands behind \\: q"',
-    "a = 1__0": "line 1, column 5: _ stands between digits alone: 1__0",
+    'a = ["x" "y"]': 'line 1, column 10: a comma or ] must be here: "y"]',
+    "a = {b=1 c=2}": "line 1, column 10: a comma or } must be here: c=2}",
+    'a = "\\q"': 'line 1, column 7: the letter of an escape must follow \\: q"',
+    "a = 1__0": "line 1, column 5: _ can only be between digits: 1__0",
     "a = 99999999999999999999": "line 1, column 5: the number is too large: 99999999999999999999",
-    "a = 2026-13-01": "line 1, column 5: no date or time stands here: 2026-13-01",
-    "a = 1\na.b = 2": "line 2, column 1: a key with a point goes on behind a value that is no table: a.b = 2",
-    "= 1": "line 1, column 1: a key has to stand here, of letters, digits, - and _, or in quotes: = 1",
+    "a = 2026-13-01": "line 1, column 5: a date or time must be here: 2026-13-01",
+    "a = 1\na.b = 2": "line 2, column 1: a key with a point continues after a value that isn't a table: a.b = 2",
+    "= 1": "line 1, column 1: a key must be here, of letters, digits, - and _, or in quotes: = 1",
     'a = "x\ty\1"': f'line 1, column 9: {QUOTES}: \\x01"',
     "a = 'x\r\nb = 1": f"line 1, column 7: {QUOTES}: the line ends",
-    "a = " + "[" * 100: "line 1, column 85: over 80 lists or tables stand in one another: " + "[" * 20,
+    "a = " + "[" * 100: "line 1, column 85: more than 80 lists or tables are nested: " + "[" * 20,
     "a = " + "=" * 100: f"line 1, column 5: {NO_VALUE}: " + "=" * 40,
 }
 
 GUIDES = {
     "not TOML": ('name = "A', f"line 1, column 10: {QUOTES}: the file ends"),
-    "a line that is no TOML": (SMALL.replace('set = "850"', 'set "850"'), 'line 3, column 5: = has to stand behind a key: "850"'),
-    "a key twice": (SMALL + 'set = "850"\n', 'line 8, column 1: the key stands twice: set = "850"'),
+    "a line that is no TOML": (SMALL.replace('set = "850"', 'set "850"'), 'line 3, column 5: a key must be followed by =: "850"'),
+    "a key twice": (SMALL + 'set = "850"\n', 'line 8, column 1: the key appears twice: set = "850"'),
     "no set": (SMALL.replace('set = "850"\n', ""), "`set` is missing"),
-    "a set that is a number": (SMALL.replace('set = "850"', "set = 850"), "`set` is 850, and has to be a text of 3 letters or digits"),
-    "a guide for FA": (SMALL.replace('"PO"', '"FA"'), "`group` is \"FA\", and has to be a text of two upper-case letters, and not FA"),
-    "a key of no guide": ('colour = "red"\n' + SMALL, "`colour` is no key of its table"),
+    "a set that is a number": (SMALL.replace('set = "850"', "set = 850"), "`set` is 850, and must be a text of 3 letters or digits"),
+    "a guide for FA": (SMALL.replace('"PO"', '"FA"'), "`group` is \"FA\", and must be a text of two upper-case letters, and not FA"),
+    "a key of no guide": ('colour = "red"\n' + SMALL, "`colour` isn't a key of its table"),
     "segment and loop at once": (nodes('{seg="REF", loop="N9", min=0, max=1}'),
-                                 "node 1 (REF): `seg` is \"REF\", and has to be a text, in a table that has `seg` or `loop`, and not both"),
-    "a label on a loop": (nodes(loop("", 'label="X", ')), "node 1 (N9): `label` is no key of its table"),
+                                 "node 1 (REF): `seg` is \"REF\", and must be a text, in a table that has `seg` or `loop`, and not both"),
+    "a label on a loop": (nodes(loop("", 'label="X", ')), "node 1 (N9): `label` isn't a key of its table"),
     "no elements": (nodes('{seg="REF", min=0, max=1}'), "node 1 (REF): `elements` is missing"),
     "a second segment without elements": (nodes(segment(), '{seg="DTM", min=0, max=1}'), "node 2 (DTM): `elements` is missing"),
     "no elements in a loop": (nodes(loop('{seg="N9", min=1, max=1}')), "node 2 (N9): `elements` is missing"),
     "neither segment nor loop": (nodes('{min=0, max=1}'),
                                  "node 1: `seg` isn't a text, in a table that has `seg` or `loop`, and not both"),
     "a most that is a text": (nodes('{seg="REF", min=0, max="9", elements=["128 M ID 2 3"]}'),
-                              "node 1 (REF): `max` is \"9\", and has to be a number of 0 to 4294967295"),
+                              "node 1 (REF): `max` is \"9\", and must be a number of 0 to 4294967295"),
     "8 tolerated": ('tolerate_segment = ["1", "8"]\n' + SMALL,
-                    "text 2 of `tolerate_segment` is \"8\", and has to be a code of IK304 but 8"),
+                    "text 2 of `tolerate_segment` is \"8\", and must be a code of IK304 but 8"),
     "a code of no element fault": ('tolerate_element = ["I7"]\n' + SMALL,
-                                   "text 1 of `tolerate_element` is \"I7\", and has to be a code of IK403"),
+                                   "text 1 of `tolerate_element` is \"I7\", and must be a code of IK403"),
     "an id that is known in lower case": ('dictionary = ["per"]\n' + SMALL,
-                                          "text 1 of `dictionary` is \"per\", and has to be a segment's id"),
+                                          "text 1 of `dictionary` is \"per\", and must be a segment's id"),
     "a level of three letters": ('hl = {pairs=["/S", "S/ABC"], sequential=true}\n' + SMALL,
-                                 "`hl`: text 2 of `pairs` is \"S/ABC\", and has to be two levels as \"/S\" or \"S/O\""),
+                                 "`hl`: text 2 of `pairs` is \"S/ABC\", and must be two levels as \"/S\" or \"S/O\""),
     "a dependency's code of two words": (DEPENDS.replace('codes=["', 'codes=["A B", "') + SMALL,
-                                         "dependency 1: text 1 of `codes` is \"A B\", and has to be a code"),
+                                         "dependency 1: text 1 of `codes` is \"A B\", and must be a code"),
     "a row that is no text": (nodes('{seg="REF", min=0, max=1, elements=["128 M ID 2 3", 128]}'),
-                              f"node 1 (REF): text 2 of `elements` is 128, and has to be {ROW}"),
+                              f"node 1 (REF): text 2 of `elements` is 128, and must be {ROW}"),
     "a condition of one digit": (elements(*TWO, more=', conditions=["R0102", "P012"]'),
-                                 "node 1 (REF): text 2 of `conditions` is \"P012\", and has to be one of P, R, E, C, L and two digits "
+                                 "node 1 (REF): text 2 of `conditions` is \"P012\", and must be one of P, R, E, C, L and two digits "
                                  "for each element"),
     "a pick of no element": (elements(*TWO, more=', pick=["DP"]'),
-                             "node 1 (REF): text 1 of `pick` is \"DP\", and has to be an element's number and its codes"),
+                             "node 1 (REF): text 1 of `pick` is \"DP\", and must be an element's number and its codes"),
     "elements that are a text": (nodes('{seg="REF", min=0, max=1, elements="128 M ID 2 3"}'),
-                                 "node 1 (REF): `elements` is \"128 M ID 2 3\", and has to be a list of texts, each as "
+                                 "node 1 (REF): `elements` is \"128 M ID 2 3\", and must be a list of texts, each as "
                                  "\"128 M ID 2 3 = DP IA\", \"367 N\" or \"- O C ; 355 O ID 2 2\""),
     "loops nested nine deep": (loops(9), "loops are nested over 8 deep"),
     "2,001 nodes": (many(2001), "over 2000 nodes"),
     "least over most": (nodes(segment(least=2)), REF + "min 2 is over max 1"),
     "a million uses": (nodes(segment(most=1000000)), REF + "max 1000000 is over 999999"),
     "a loop's least over its most": (nodes(loop(segment("N9", 1, 1)).replace("min=0", "min=2")), "loop 1 (N9): min 2 is over max 1"),
-    "an id in lower case": (nodes(segment("fob")), 'segment 1 (fob): "fob" is no id of a segment position'),
-    "ISA": (nodes(segment("ISA")), 'segment 1 (ISA): "ISA" is no id of a segment position'),
+    "an id in lower case": (nodes(segment("fob")), 'segment 1 (fob): "fob" isn\'t a segment id'),
+    "ISA": (nodes(segment("ISA")), 'segment 1 (ISA): "ISA" isn\'t a segment id'),
     "41 elements": (elements(*["128 O ID 2 3"] * 41), REF + "41 elements are over 40"),
     "shortest 0": (elements("128 M ID 0 3"), REF + "element 1: shortest 0 is under 1"),
     "shortest over longest": (elements(*TWO, "128 M ID 5 4"), REF + "element 3: shortest 5 is over longest 4"),
     "longest 10,000": (elements("128 M AN 1 10000"), REF + "element 1: longest 10000 is over 9999"),
     "a thousand repeats": (elements("128 M ID 2 3 x1000"), REF + "element 1: x1000 is out of 1 to 999"),
-    "no codes behind =": (elements("128 M ID 2 3 ="), REF + "element 1: no code stands after ="),
-    "no codes behind !": (elements("128 M ID 2 3 = DP !"), REF + "element 1: no code stands after !"),
+    "no codes behind =": (elements("128 M ID 2 3 ="), REF + "element 1: a code is missing after ="),
+    "no codes behind !": (elements("128 M ID 2 3 = DP !"), REF + "element 1: a code is missing after !"),
     "21 components": (elements("- M C" + " ; 128 O ID 2 3" * 21), REF + "element 1: 21 components are over 20"),
     "a component": (elements("- M C ; 128 N ; 128 M ID 0 3"), REF + "element 1: component 2: shortest 0 is under 1"),
     "first child twice": (nodes(loop(segment("N9", 1, 2))),
@@ -141,30 +141,32 @@ GUIDES = {
 }
 
 ROWS = {
-    "12345 M ID 2 3": "\"12345\" stands where a reference number of 1 to 4 digits, or - may stand",
-    "128 X ID 2 3": "\"X\" stands where M, O or N may stand",
-    "128 M XX 2 3": f"\"XX\" stands where {TYPE}, or C may stand",
-    "128 M ID x 3": "\"x\" stands where the shortest length may stand",
+    "12345 M ID 2 3": "\"12345\" can't be here: expected a reference number of 1 to 4 digits, or -",
+    "128 X ID 2 3": "\"X\" can't be here: expected M, O or N",
+    "128 M XX 2 3": f"\"XX\" can't be here: expected {TYPE}, or C",
+    "128 M ID x 3": "\"x\" can't be here: expected the shortest length",
     "128 M ID 2": "the longest length is missing",
-    "128 M ID 2 3 ID": f"\"ID\" stands where {OPTIONS} may stand",
-    "128 M ID 2 3 wide x2": f"\"x2\" stands where {OPTIONS} may stand",
-    "128 M ID 2 3 = DP ;": "\";\" stands where nothing more may stand",
-    "128 M ID 2 3 = DP = IA": "\"=\" stands where a code, or ! and codes may stand",
-    "128 M ID 2 3 = DP ! IA ! L1": "\"!\" stands where a code may stand",
-    "128 N ID": "\"ID\" stands where nothing more may stand",
-    "- M C wide": "\"wide\" stands where xN, or ; and a component may stand",
+    "128 M ID 2 3 ID": f"\"ID\" can't be here: expected {OPTIONS}",
+    "128 M ID 2 3 wide x2": f"\"x2\" can't be here: expected {OPTIONS}",
+    "128 M ID 2 3 = DP ;": "\";\" can't be here: expected nothing more",
+    "128 M ID 2 3 = DP = IA": "\"=\" can't be here: expected a code, or ! and codes",
+    "128 M ID 2 3 = DP ! IA ! L1": "\"!\" can't be here: expected a code",
+    "128 N ID": "\"ID\" can't be here: expected nothing more",
+    "- M C wide": "\"wide\" can't be here: expected xN, or ; and a component",
     "- M C ; 128 M ID 2 3 ; 355 O": f"component 2: {TYPE} is missing",
-    "128  M ID 2 3": "a space too many stands where M, O or N may stand",
-    "128\\tM ID 2 3": "\"128\\u0009M\" stands where a reference number of 1 to 4 digits, or - may stand",
+    "128  M ID 2 3": "a space too many can't be here: expected M, O or N",
+    "128\\tM ID 2 3": "\"128\\u0009M\" can't be here: expected a reference number of 1 to 4 digits, or -",
 }
 
 HEADER = "a segment that the guide doesn't know is accepted, also one that begins with ISA: a receiver may read it as a header"
 CODE = "segment 1 (REF): element 1: the code"
-IDLE = "its id stands in `dictionary` too, where it does nothing"
+IDLE = "its id is in `dictionary` too, where it does nothing"
 UNMET = "no set can meet this: "
 NONE_STANDS = " is mandatory, and its type or its lengths allow none of its codes"
 
 WARNED = {
+    "an 850 in another group": (SMALL.replace('"PO"', '"SH"'), ["`group` is SH, and sets 850 usually come in groups PO"]),
+    "a set whose group nobody knows": (SMALL.replace('"850"', '"940"'), []),
     "1 tolerated": ('tolerate_segment = ["1"]\n' + SMALL, [HEADER]),
     "6 tolerated, and ISA known": ('dictionary = ["ISA"]\ntolerate_segment = ["6"]\n' + SMALL, [HEADER]),
     "6 tolerated": ('dictionary = ["PER"]\ntolerate_segment = ["6"]\n' + SMALL, []),
@@ -174,8 +176,8 @@ WARNED = {
         'dictionary = ["DTM", "N9", "PER"]\ntolerate_segment = ["1"]\n'
         + nodes(segment("DTM"), segment(), loop(segment("N9", 1, 1) + ", " + segment("DTM"))),
         [HEADER, f"segment 1 (DTM): {IDLE}", f"segment 4 (N9): {IDLE}"]),
-    "a comma": (elements("128 M ID 2 5 = DP,IA"), [f"{CODE} DP,IA has a comma or a stroke; a space stands between codes"]),
-    "a stroke": (elements("128 M ID 2 5 = DP IA|VN"), [f"{CODE} IA|VN has a comma or a stroke; a space stands between codes"]),
+    "a comma": (elements("128 M ID 2 5 = DP,IA"), [f"{CODE} DP,IA has a comma or a stroke; write a space between codes"]),
+    "a stroke": (elements("128 M ID 2 5 = DP IA|VN"), [f"{CODE} IA|VN has a comma or a stroke; write a space between codes"]),
     "a code too long": (elements("128 M ID 2 2 = DP DPX"), [f"{CODE} DPX is shorter or longer than the element may be"]),
     "a number too long": (elements("128 M N0 1 2 = -10 100"), [f"{CODE} 100 is shorter or longer than the element may be"]),
     "an element that no set can meet": (nodes(segment("REF", 1, 1, "128 M ID 2 2 = DPX")),
@@ -183,15 +185,15 @@ WARNED = {
     "one that no set can meet in a mandatory loop": (
         nodes(loop(segment("N9", 1, 1, "128 M DT 8 8 = TODAY TOMORROW")).replace("min=0", "min=1")),
         [f"{UNMET}segment 2 (N9): element 1{NONE_STANDS}",
-         "segment 2 (N9): element 1: the code TODAY has bytes that no value of the element's type has, or is no day or time",
+         "segment 2 (N9): element 1: the code TODAY has bytes that no value of the element's type has, or isn't a date or time",
          "segment 2 (N9): element 1: the code TODAY is shorter or longer than the element may be"]),
     "one that a set may leave out": (nodes(segment("REF", 0, 1, "128 M ID 2 2 = DPX")),
                                      [f"{CODE} DPX is shorter or longer than the element may be"]),
     "letters in a number": (elements("610 O N2 1 15 = AB"),
-                            [f"{CODE} AB has bytes that no value of the element's type has, or is no day or time",
+                            [f"{CODE} AB has bytes that no value of the element's type has, or isn't a date or time",
                              f"{CODE} AB is shorter or longer than the element may be"]),
     "a day that there is not": (elements("373 O DT 8 8 = 20260228 20260230"),
-                                [f"{CODE} 20260230 has bytes that no value of the element's type has, or is no day or time"]),
+                                [f"{CODE} 20260230 has bytes that no value of the element's type has, or isn't a date or time"]),
     "a label of nobody": (nodes(segment(more='label="R", ')), ["segment 1 (REF): no dependency names its label R"]),
     "a dependency on a code that isn't there": (
         DEPENDS.replace('"P"', '"P", "X"')
@@ -204,7 +206,7 @@ WARNED = {
     "a component": (elements("- M C ; 128 M ID 2 2 = DP ; 128 M ID 2 2 = DP ! XXX"),
                     ["segment 1 (REF): element 1, component 2: the code XXX is shorter or longer than the element may be"]),
     "in a loop, two warnings": (nodes(loop(segment("N9", 1, 1, "128 M ID 2 2 = DP,IA"))),
-                                ["segment 2 (N9): element 1: the code DP,IA has a comma or a stroke; a space stands between codes",
+                                ["segment 2 (N9): element 1: the code DP,IA has a comma or a stroke; write a space between codes",
                                  "segment 2 (N9): element 1: the code DP,IA is shorter or longer than the element may be"]),
 }
 
@@ -213,27 +215,28 @@ FILES = {
     "no UTF-8": (b"\xff", "line 1, column 1: no UTF-8: \\xFF"),
     "no UTF-8 in a comment, after a letter of two bytes": ("# a\n# \u00e9 ".encode() + b"\xe9\n", "line 2, column 6: no UTF-8: \\xE9"),
     "nothing": (b"", "`hub` is missing"),
-    "a hub that is a number": (b"hub=1", "`hub` is 1, and has to be a table, [hub]"),
-    "two keys of no setup": (b"zeta=1\nalpha=1", "`alpha` is no key of its table"),
+    "a hub that is a number": (b"hub=1", "`hub` is 1, and must be a table, [hub]"),
+    "two keys of no setup": (b"zeta=1\nalpha=1", "`alpha` isn't a key of its table"),
+    "a key that would move the cursor": (b'"a\\u001b[1m\\nok" = 2\n', "`a\\x1B[1m\\x0Aok` isn't a key of its table"),
     "a partner without a cap": (replaced(SETUP, "cap = 1\n", ""), "partner 2 (BOLT): `cap` is missing"),
     "a cap that is a text": (replaced(SETUP, "cap = 1\n", "cap = \"1\"\n"),
-                             "partner 2 (BOLT): `cap` is \"1\", and has to be a number of 0 to 4294967295"),
-    "a key of no partner": (replaced(SETUP, "cap = 1\n", "cap = 1\nphone = 5\n"), "partner 2 (BOLT): `phone` is no key of its table"),
-    "another usage": (replaced(SETUP, 'usage = "P"', 'usage = "prod"'), "the hub: `usage` is \"prod\", and has to be \"P\" or \"T\""),
+                             "partner 2 (BOLT): `cap` is \"1\", and must be a number of 1 to 99999"),
+    "a key of no partner": (replaced(SETUP, "cap = 1\n", "cap = 1\nphone = 5\n"), "partner 2 (BOLT): `phone` isn't a key of its table"),
+    "another usage": (replaced(SETUP, 'usage = "P"', 'usage = "prod"'), "the hub: `usage` is \"prod\", and must be \"P\" or \"T\""),
     "a guide that is a number": (replaced(SETUP, 'guides = ["H850"]', 'guides = ["H850", 856]'),
-                                 "partner 2 (BOLT): text 2 of `guides` is 856, and has to be a text"),
+                                 "partner 2 (BOLT): text 2 of `guides` is 856, and must be a text"),
     "a route to none": (replaced(SETUP, 'to = "BOLT"', "to = []"),
-                        "route 2 (BOLT): `to` is a list of 0, and has to be a text, or a list of 1 to 16 texts"),
+                        "route 2 (BOLT): `to` is a list of 0, and must be a text, or a list of 1 to 16 texts"),
 }
 
 COUNTER_FILES = {
     "no UTF-8": (b"\xff", "line 1, column 1: no UTF-8: \\xFF"),
     "nothing": (b"", "`version` is missing"),
-    "version 3": (b"version = 3", "`version` is 3, and has to be 1 or 2"),
-    "a group in version 1": (COUNTERS.replace("version = 2", "version = 1"), "counter 1 (ACME): `group` is no key of its table"),
+    "version 3": (b"version = 3", "`version` is 3, and must be 1 or 2"),
+    "a group in version 1": (COUNTERS.replace("version = 2", "version = 1"), "counter 1 (ACME): `group` isn't a key of its table"),
     "a counter without a group": (COUNTERS.replace("group = 1\n", "", 1), "counter 1 (ACME): `group` is missing"),
     "a counter that is a text": ("interchange = \"1\"".join(COUNTERS.rsplit("interchange = 1", 1)),
-                                 "counter 2 (BOLT): `interchange` is \"1\", and has to be a number of 0 to 4294967295"),
+                                 "counter 2 (BOLT): `interchange` is \"1\", and must be a number of 1 to 999999999"),
 }
 
 OPEN = "read, and not judged, since another file is refused"
@@ -260,12 +263,12 @@ SETUPS = {
                              "partner 2 (BOLT-1): the name \"BOLT-1\" isn't 1 to 20 letters or digits"),
     "a hub without an id": (replaced(SETUP, 'id = "HUB"', 'id = ""'), f"the hub: the id \"\" isn't 1 to {FORM}"),
     "a guide that isn't given": (replaced(SETUP, 'guides = ["H850"]', 'guides = ["H999"]'),
-                                 "partner 2 (BOLT): \"H999\" is no guide that is given"),
+                                 "partner 2 (BOLT): \"H999\" isn't one of the guides given"),
     "a guide named twice": (replaced(SETUP, 'guides = ["H850"]', 'guides = ["H850", "H850"]'),
                             "partner 2 (BOLT): two of its guides are for the same sets"),
-    "a route to nobody": (replaced(SETUP, 'to = "BOLT"', 'to = "CARL"'), "route 2 (BOLT): \"CARL\" is no partner"),
+    "a route to nobody": (replaced(SETUP, 'to = "BOLT"', 'to = "CARL"'), "route 2 (BOLT): \"CARL\" isn't a partner"),
     "a route to one partner twice": (replaced(SETUP, 'to = "BOLT"', 'to = ["ACME", "BOLT", "BOLT"]'),
-                                     "route 2 (BOLT): \"BOLT\" stands twice in `to`"),
+                                     "route 2 (BOLT): \"BOLT\" appears twice in `to`"),
     "two routes for one code": (SETUP + '\n[[route]]\ncode = "ACME"\nto = "BOLT"\n', "route 1 (ACME): route 3 has its code too"),
     "a route for a code of one byte": (SETUP + '\n[[route]]\ncode = "B"\nto = "BOLT"\n',
                                        f"route 3 (B): the code \"B\" isn't 2 to {FORM}"),
@@ -285,7 +288,7 @@ COUNTERS_OF = {
     "a set counter of 0": ("set = 0".join(COUNTERS.rsplit("set = 1", 1)), "counter 2 (BOLT): `set` 0 is out of 1 to 999999999"),
     "an interchange counter of ten digits": (COUNTERS.replace("interchange = 1", "interchange = 1000000000", 1),
                                              "counter 1 (ACME): `interchange` 1000000000 is out of 1 to 999999999"),
-    "counters of nobody": (COUNTERS.replace('"BOLT"', '"CARL"'), "counter 2 (CARL): \"CARL\" is no partner"),
+    "counters of nobody": (COUNTERS.replace('"BOLT"', '"CARL"'), "counter 2 (CARL): \"CARL\" isn't a partner"),
     "counters of a partner twice": (COUNTERS.replace('"BOLT"', '"ACME"'), "counter 1 (ACME): counter 2 has its partner too"),
 }
 
@@ -301,16 +304,16 @@ nodes = [
 ]
 """
 ALL_GUIDE = [
-    '`name` is "A-1", and has to be a text of 1 to 20 letters or digits',
-    '`group` is "po", and has to be a text of two upper-case letters, and not FA',
-    "`hl`: `sequental` is no key of its table",
-    '`hl`: text 1 of `pairs` is "S", and has to be two levels as "/S" or "S/O"',
+    '`name` is "A-1", and must be a text of 1 to 20 letters or digits',
+    '`group` is "po", and must be a text of two upper-case letters, and not FA',
+    "`hl`: `sequental` isn't a key of its table",
+    '`hl`: text 1 of `pairs` is "S", and must be two levels as "/S" or "S/O"',
     "`hl`: `sequential` is missing",
-    'node 1 (BEG): `max` is "1", and has to be a number of 0 to 4294967295',
-    'node 1 (BEG): text 2 of `elements` is "x": "x" stands where a reference number of 1 to 4 digits, or - may stand',
-    "node 2 (N1): `label` is no key of its table",
+    'node 1 (BEG): `max` is "1", and must be a number of 0 to 4294967295',
+    'node 1 (BEG): text 2 of `elements` is "x": "x" can\'t be here: expected a reference number of 1 to 4 digits, or -',
+    "node 2 (N1): `label` isn't a key of its table",
     "node 2 (N1): `max` is missing",
-    'node 4 (N2): text 1 of `conditions` is "Q12", and has to be one of P, R, E, C, L and two digits for each element',
+    'node 4 (N2): text 1 of `conditions` is "Q12", and must be one of P, R, E, C, L and two digits for each element',
 ]
 
 
@@ -330,17 +333,17 @@ def all_examples(page):
     ], guide_0=nodes(segment(least=2, more='conditions=["R0103"], '), loop(segment("N9", 1, 2))))
     keys = replaced(replaced(SETUP, 'usage = "P"', 'usage = "prod"'), "cap = 1\n", "cap = \"1\"\nphone = 5\n")
     said("keys of a setup", [
-        'setup.toml: the hub: `usage` is "prod", and has to be "P" or "T"',
-        "setup.toml: partner 2 (BOLT): `phone` is no key of its table",
-        'setup.toml: partner 2 (BOLT): `cap` is "1", and has to be a number of 0 to 4294967295',
+        'setup.toml: the hub: `usage` is "prod", and must be "P" or "T"',
+        "setup.toml: partner 2 (BOLT): `phone` isn't a key of its table",
+        'setup.toml: partner 2 (BOLT): `cap` is "1", and must be a number of 1 to 99999',
     ], setup=keys)
     rows = replaced(replaced(replaced(SETUP, "cap = 1\n", "cap = 0\n"), 'component = ":"', 'component = "|"'), 'to = "BOLT"', 'to = ["CARL", "BOLT", "BOLT"]')
     said("rows of a setup", [
         *lines(guide_0=OK["guide_0"], guide_1=OK["guide_1"]).splitlines(),
         "setup.toml: partner 2 (BOLT): `element` and `component` are both \"|\"",
         "setup.toml: partner 2 (BOLT): the cap 0 is out of 1 to 99999",
-        'setup.toml: route 2 (BOLT): "CARL" is no partner',
-        'setup.toml: route 2 (BOLT): "BOLT" stands twice in `to`',
+        'setup.toml: route 2 (BOLT): "CARL" isn\'t a partner',
+        'setup.toml: route 2 (BOLT): "BOLT" appears twice in `to`',
         "counters.toml: ok, 2 counters",
     ], **{**whole, "setup": rows})
     numbers = COUNTERS.replace("interchange = 1", "interchange = 0", 1).replace("set = 1", "set = 1000000000", 1)
@@ -365,10 +368,10 @@ def examples():
     page.want("a guide alone", check(guide_0=H850), (0, lines(guide_0="ok, 14 segments and loops"), ""))
     page.want("a setup without counters", check(guide_0=H850, guide_1=H856, setup=SETUP),
               (0, lines(**{kind: OK[kind] for kind in ORDER[:3]}), ""))
-    page.want("no word", run([]), (2, "", "nighthub_check: usage\n"))
-    page.want("a word of no option", run(["--zeta"]), (2, "", "nighthub_check: usage\n"))
-    page.want("two setups", run(["--setup", "a", "--setup", "b"]), (2, "", "nighthub_check: usage\n"))
-    page.want("no file but --all", run(["--all"]), (2, "", "nighthub_check: usage\n"))
+    for name, words, said in (("no word", [], "no file is named"), ("a word of no option", ["--al"], "unexpected argument '--al' found"),
+                              ("two setups", ["--setup", "a", "--setup", "b"], "the argument '--setup <FILE>' cannot be used multiple times"),
+                              ("no file but --all", ["--all"], "no file is named")):
+        page.want(name, run(words), (2, "", f"nighthub_check: usage: {said}; see --help\n"))
     for word in ("--help", "--version"):
         status, said, failed = run([word])
         page.want(word, (status, bool(said), failed), (0, True, ""))
@@ -399,10 +402,10 @@ def examples():
         page.want(f"counters: {name}", check(**{**whole, "counters": counters}), (3, lines(**{**OK, "setup": OPEN, "counters": said}), ""))
     page.want("two guides with one name", check(guide_0=H850, guide_1=H850, setup=SETUP),
               (3, lines(guide_0="ok, 14 segments and loops", guide_1="ok, 14 segments and loops",
-                        setup="partner 1 (ACME): \"H856\" is no guide that is given"), ""))
+                        setup="partner 1 (ACME): \"H856\" isn't one of the guides given"), ""))
     page.want("a setup beside a guide that is refused", check(guide_0=HEAD, setup=SETUP),
               (3, lines(guide_0="`nodes` is missing", setup=OPEN), ""))
     page.want("each guide's own refusal", check(guide_0="name = 7", guide_1=H856, setup=b"", counters=b""),
-              (3, lines(guide_0="`name` is 7, and has to be a text of 1 to 20 letters or digits", guide_1="ok, 12 segments and loops",
+              (3, lines(guide_0="`name` is 7, and must be a text of 1 to 20 letters or digits", guide_1="ok, 12 segments and loops",
                         setup="`hub` is missing", counters="`version` is missing"), ""))
     return page

@@ -10,7 +10,8 @@ import check
 import words
 from trial import PROGRAM, TOP, Page
 
-GATHER, TRACK = (os.path.join(TOP, "crates", name, "out", name) for name in ("nighthub_gather", "nighthub_track"))
+GATHER, TRACK = (os.path.abspath(os.environ.get(name.upper(), os.path.join(TOP, "crates", name, "out", name)))
+                 for name in ("nighthub_gather", "nighthub_track"))
 TOTAL = "total interchanges 2 refused 0 groups 2 sets 2 accepted 2 held 0 outside 0"
 
 
@@ -24,6 +25,20 @@ def commands(page, holds):
     """The first block of commands of a page that has these words."""
     with open(os.path.join(TOP, page), encoding="utf-8") as it:
         return next(block for block in re.findall(r"^```sh\n(.*?)^```", it.read(), re.M | re.S) if holds in block)
+
+
+def described(page, prefix, name):
+    """The manual page and the completion of a program or script have each word that it prints with --help."""
+    status, said, failed = bash(f"bin/{name} --help", prefix)
+    page.want(f"{name} --help", (status, failed, len(said.splitlines()) > 2), (0, "", True))
+    manual = os.path.join(prefix, "share", "man", "man1", f"{name}.1")
+    with open(manual, encoding="utf-8") as it:
+        text = it.read().replace("\\-", "-")
+    words = bash(f"source share/bash-completion/completions/{name} && complete -p {name}", prefix)[1]
+    for word in sorted(set(re.findall(r"(?<![\w-])--[a-z][a-z-]*[a-z]", said))):
+        page.holds(f"the manual page and completion of {name}", word in text and word in words, f"they lack {word}")
+    if shutil.which("groff"):
+        page.want(f"the manual page of {name}", bash(f"groff -man -ww -Tascii -z {manual}", prefix), (0, "", ""))
 
 
 def examples():
@@ -40,8 +55,9 @@ def examples():
         release = next(iter(glob.glob(os.path.join(here, "nighthub-*"))))
         page.want("its sums", bash("sha256sum --check --quiet --strict SHA256SUMS", release), (0, "", ""))
         page.holds("it names its commit", "\ncommit: " in open(os.path.join(release, "RELEASE"), encoding="utf-8").read(), "it doesn't")
-        status, said, failed = bash(commands("README.md", "two_partners.x12"), release)
-        page.want("the commands of README", (status, said.splitlines()[0], failed), (0, TOTAL, ""))
+        status, said, failed = bash(commands("README.md", "box.x12"), release)
+        page.want("the commands of README", (status, said.splitlines()[0], failed),
+                  (0, "total interchanges 1 refused 0 groups 1 sets 2 accepted 1 held 0 outside 0", ""))
         page.holds("an acknowledgment in words", said.splitlines()[1].startswith("interchange 1"), said)
         bash("rm -r out", release)
         page.want("the night of OPERATIONS", bash(commands("docs/OPERATIONS.md", "mkdir out"), release), (0, TOTAL + "\n", ""))
@@ -52,10 +68,12 @@ def examples():
             "cat /dev/null >none && ./nighthub_gather all.x12 examples/night/two_partners.x12 none examples/night/one_order.x12 && exit 9; "
             "[ $? = 1 ] && cmp all.x12 <(cat examples/night/two_partners.x12 examples/night/one_order.x12) && rm all.x12 none", release),
             (0, "examples/night/two_partners.x12: 2 interchanges, 461 bytes at 0\nnone: set aside: it is empty\nexamples/night/one_order.x12: 1 interchange, 236 bytes at 461\n"
-             "total taken 2 cut off 0 set aside 1 bytes 697\n", ""))
+             "total taken 2 truncated 0 set aside 1 bytes 697\n", ""))
         prefix = os.path.join(here, "prefix")
         page.want("./install without a prefix", bash("./install", release)[0], 1)
         page.want("./install", bash(f"./install {prefix} && ./install {prefix}", release)[0], 0)
+        for name in sorted(os.listdir(os.path.join(prefix, "bin"))):
+            described(page, prefix, name)
         config = os.path.join(here, "config")
         os.makedirs(os.path.join(config, "guides"))
         shared = os.path.join(prefix, "share", "nighthub", "examples")
@@ -63,7 +81,8 @@ def examples():
             shutil.copy(os.path.join(shared, name), os.path.join(config, into))
         shutil.copy(os.path.join(release, "examples", "night", "two_partners.x12"), os.path.join(here, "in.x12"))
         nights = os.path.join(here, "nights")
-        run = commands("docs/OPERATIONS.md", "run_night 20260301").splitlines()[-1]
+        os.mkdir(nights)
+        run = next(it for it in commands("docs/OPERATIONS.md", "run_night 20260302").splitlines() if it.startswith("run_night --first "))
         found = bash(run, here, NIGHTS=nights, CONFIG=config, NIGHTHUB=os.path.join(prefix, "bin", "nighthub"),
                      PATH=os.path.join(prefix, "bin") + os.pathsep + os.environ["PATH"])
         page.want("a night of run_night, installed", found, (0, f"{nights}/20260301/out\n", ""))

@@ -39,7 +39,7 @@ WHOLE = {
         "total ta1s 1 groups 1 sets 1 accepted 1",
     ],
     "night/cut_off": [
-        "interchange 1, TA1 000000007: refused (TA104 R): no IEA: it was cut off (TA105 023)",
+        "interchange 1, TA1 000000007: refused (TA104 R): no IEA: it was truncated (TA105 023)",
         "total ta1s 1 groups 0 sets 0 accepted 0",
     ],
     "three_guides/h855_rejected": [
@@ -72,10 +72,10 @@ FALLEN_LINES = [
     "total ta1s 0 groups 1 sets 2 accepted 0",
 ]
 REFUSED = [
-    ("no word", [], 2, "usage"),
-    ("a word of no option", ["-x"], 2, "usage"),
+    ("no word", [], 2, "usage: the following required arguments were not provided:  <NAME.ack>...; see --help"),
+    ("a word of no option", ["-x"], 2, "usage: unexpected argument '-x' found; see --help"),
     ("no file", ["/nowhere/file"], 4, "input"),
-    ("an order", [os.path.join(EXAMPLES, "night", "one_order.x12")], 4, "input 2"),
+    ("an order", [os.path.join(EXAMPLES, "night", "one_order.x12")], 4, "ST is 850: this isn't an acknowledgment"),
     ("no interchange", [os.path.join(EXAMPLES, "night", "setup.toml")], 4, "input 1"),
 ]
 
