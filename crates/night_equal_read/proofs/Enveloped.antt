@@ -29,15 +29,17 @@ use Rattle.ack_999.specs.Ta1.{ta1_text}
 use Rattle.ack_999.proofs.ForAbove.{IsReadable}
 use Rattle.judged_text.specs.Answered.{is_answered, ta1_note}
 use Rattle.checked_text.specs.declared.answered.AnsweredGroup.{AnsweredGroup}
-use Rattle.checked_text.specs.Acknowledgments.{Acknowledgment, acknowledgment_group_count, acknowledgment_text, present, reports_from, ta1_of}
+use Rattle.checked_text.specs.Acknowledgments.{Acknowledgment, acknowledgment_group_count, acknowledgment_text, present}
+use Rattle.checked_text.specs.Acknowledgments.{reports_from, ta1_of}
 use Rattle.checked_text.specs.CheckedText.{CheckedInterchange, acknowledgment_of, acknowledgments_from}
-use Rattle.night_law.proofs.ForAbove.{ge, gs, iea, isa, isa_text, readable_ge, readable_gs, readable_iea, readable_isa, readable_ta1, repeated, ta1}
+use Rattle.night_law.proofs.ForAbove.{ge, gs, iea, isa, isa_text, readable_ge, readable_gs, readable_iea, readable_isa}
+use Rattle.night_law.proofs.ForAbove.{readable_ta1, repeated, ta1}
 use Rattle.night_definition.specs.Segments.{Elements}
 use Rattle.night_definition.specs.ReadBack.{Response, responses_after}
 use Rattle.night_equal_read.proofs.Reading.{IsAck, both, nothing, other, report, shown, ta1s_in}
 
 -- the responses to the sets of groups that are answered
-abbrev group_responses : AnsweredGroup → List Response
+abbrev pub group_responses : AnsweredGroup → List Response
 group_responses a = shown (shows_sets a.answer.codes) a.sets
 
 abbrev pub responses_to : Acknowledgment → List Response
@@ -178,6 +180,7 @@ module _ (setup : SetupValue) (at : List ℕ) (moment : IsMoment at) (p : Partne
       let a : Acknowledgment = acknowledgment_of c in
       both d (acknowledgment_text e at (num p.counters.interchange k) (num p.counters.group g) a)
       (acknowledgments_from setup p at (k + 1) (g + acknowledgment_group_count a) cs)
-      (responses_to a) (flat_map (λ x. responses_to (acknowledgment_of x)) cs) (ta1s_to a) (flat_map (λ x. ta1s_to (acknowledgment_of x)) cs)
+      (responses_to a) (flat_map (λ x. responses_to (acknowledgment_of x)) cs) (ta1s_to a)
+      (flat_map (λ x. ta1s_to (acknowledgment_of x)) cs)
       (one_read (num p.counters.interchange k) (num p.counters.group g) c (All-head Q c cs quoted))
       (acknowledgments_read (k + 1) (g + acknowledgment_group_count a) cs (All-tail Q c cs quoted))

@@ -23,7 +23,8 @@ use Rattle.night_definition.specs.Setup.{Setup}
 use Rattle.night_definition.specs.Tables.{◌>>=◌, each, list_of, number, optional, required, table_of, texts, word}
 use Rattle.night_definition.specs.GuideFile.{Words, all_of, component_of, count_in, element_of, element_text, guide_of_table, head_of}
 use Rattle.night_definition.specs.GuideFile.{loop_of, no_more, node_in, node_of, nodes_among, nodes_from, nodes_of, reference_of}
-use Rattle.night_definition.specs.GuideFile.{code_list, condition_of, head_or_none, count, dependency_of, hl_of, pick_of, requirement_of, row_of, slot_of, take_repeat, take_wide, type_of}
+use Rattle.night_definition.specs.GuideFile.{code_list, condition_of, count, dependency_of, head_or_none, hl_of, pick_of}
+use Rattle.night_definition.specs.GuideFile.{requirement_of, row_of, slot_of, take_repeat, take_wide, type_of}
 use Rattle.night_definition.specs.SetupFile.{counters_row, hub_of, partner_of, route_of, setup_of_tables}
 use Rattle.night_definition.specs.Program.{setup_of_files, table_in}
 use Rattle.night_definition.specs.ReadBack.{has_plain_references, references_of}
@@ -156,7 +157,8 @@ composite_row reference q ts groups r plain e =
     ap is_row (sym (same_some _ r e2))
     ∙ and_from (is_plain reference) (list_all is_plain (map room.component_reference cs)) plain (components_plain groups cs is_cs)))
 
-if_either : (b : Bool) (first second : Option Element) (r : Element) → (first ≡ Some r → is_row r ≡ true) → (second ≡ Some r → is_row r ≡ true)
+if_either : (b : Bool) (first second : Option Element) (r : Element) → (first ≡ Some r → is_row r ≡ true)
+    → (second ≡ Some r → is_row r ≡ true)
     → (if b then first else second) ≡ Some r → is_row r ≡ true
 if_either true first second r from_first from_second e = from_first e
 if_either false first second r from_first from_second e = from_second e
@@ -268,7 +270,8 @@ none_node t e = cc
 none_nodes : (ts : Trees) → None ≡ Some ts → AreNodesPlain ts
 none_nodes ts e = cc
 
-either_nodes : (b : Bool) (first second : Option Trees) (ts : Trees) → (first ≡ Some ts → AreNodesPlain ts) → (second ≡ Some ts → AreNodesPlain ts)
+either_nodes : (b : Bool) (first second : Option Trees) (ts : Trees) → (first ≡ Some ts → AreNodesPlain ts)
+    → (second ≡ Some ts → AreNodesPlain ts)
     → (if b then first else second) ≡ Some ts → AreNodesPlain ts
 either_nodes true first second ts from_first from_second e = from_first e
 either_nodes false first second ts from_first from_second e = from_second e

@@ -32,19 +32,21 @@ module _ {A : Type 0} (P : A → Type 0) (test : A → Bool) where
 
   pub each_passed : (xs : List A) → All P (filter test xs) → All IfPassed xs
   each_passed [] all = All-nil IfPassed
-  each_passed (x ∷ xs) all = by (test x) refl all
+  each_passed (x ∷ xs) all = by (test x) refl (λ kept. each_passed xs kept) all
     where
-      by : (b : Bool) → test x ≡ b → All P (if b then x ∷ filter test xs else filter test xs) → All IfPassed (x ∷ xs)
-      by true is kept = All-cons IfPassed x xs (λ _. All-head P x (filter test xs) kept) (each_passed xs (All-tail P x (filter test xs) kept))
-      by false is kept = All-cons IfPassed x xs (λ passed. absurd (true≢false (sym passed ∙ is))) (each_passed xs kept)
+      by : (b : Bool) → test x ≡ b → (All P (filter test xs) → All IfPassed xs)
+          → All P (if b then x ∷ filter test xs else filter test xs) → All IfPassed (x ∷ xs)
+      by true is rest kept =
+          All-cons IfPassed x xs (λ _. All-head P x (filter test xs) kept) (rest (All-tail P x (filter test xs) kept))
+      by false is rest kept = All-cons IfPassed x xs (λ passed. absurd (true≢false (sym passed ∙ is))) (rest kept)
 
   pub passed_all : (xs : List A) → All IfPassed xs → All P (filter test xs)
   passed_all [] all = All-nil P
-  passed_all (x ∷ xs) all = by (test x) refl
+  passed_all (x ∷ xs) all = by (test x) refl (All-head IfPassed x xs all) (passed_all xs (All-tail IfPassed x xs all))
     where
-      by : (b : Bool) → test x ≡ b → All P (if b then x ∷ filter test xs else filter test xs)
-      by true is = All-cons P x (filter test xs) (All-head IfPassed x xs all is) (passed_all xs (All-tail IfPassed x xs all))
-      by false is = passed_all xs (All-tail IfPassed x xs all)
+      by : (b : Bool) → test x ≡ b → IfPassed x → All P (filter test xs) → All P (if b then x ∷ filter test xs else filter test xs)
+      by true is one rest = All-cons P x (filter test xs) (one is) rest
+      by false is one rest = rest
 
 module _ (text : List ℕ) (setup : SetupValue) (at : List ℕ) (moment : IsMoment at) (place : ℕ) (p : Partner) (count : ℕ)
     (hub_ids : are_ids setup.hub.qualifier setup.hub.id setup.hub.code ≡ true) (sound : IsSoundPartner count p) where
@@ -108,6 +110,7 @@ module _ (text : List ℕ) (setup : SetupValue) (at : List ℕ) (moment : IsMome
       let told : All (λ (e : IndexEntry). is_told_to setup place e ≡ true → IsQuotableIn e) es =
       each_passed IsQuotableIn (is_told_to setup place) es quotable in
       passed_all AreQuoted (is_acknowledged_to place) cs
-      (pairs_all (λ n e c. IsCheckedAs text setup e c) (λ (c : CheckedInterchange). is_acknowledged_to place c ≡ true → AreQuoted c) es cs are
+      (pairs_all (λ n e c. IsCheckedAs text setup e c)
+      (λ (c : CheckedInterchange). is_acknowledged_to place c ≡ true → AreQuoted c) es cs are
       (λ n e c at_e is. one_quoted e c (at_index (IsRead text) es n e at_e read) is
       (at_index (λ (e : IndexEntry). is_told_to setup place e ≡ true → IsQuotableIn e) es n e at_e told)))

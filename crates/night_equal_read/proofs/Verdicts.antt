@@ -37,7 +37,8 @@ use Rattle.night_definition.specs.Envelopes.{Set, Group}
 use Rattle.night_definition.specs.Interchanges.{Interchange, text_of}
 use Rattle.night_definition.specs.Setup.{Judged, Setup, guide_of, judged_after}
 use Rattle.night_definition.specs.Sets.{Meets, MeetsAlone, control_of}
-use Rattle.night_definition.specs.Answers.{Answer, AnsweredGroup, Answered, answer_to, answered, answered_group, answers_after, groups_after}
+use Rattle.night_definition.specs.Answers.{Answer, AnsweredGroup, Answered, answer_to, answered, answered_group}
+use Rattle.night_definition.specs.Answers.{answers_after, groups_after}
 use Rattle.night_definition.specs.Acknowledgments.{reported}
 use Rattle.night_definition.specs.Night.{answered_text}
 use Rattle.night_definition.specs.ReadBack.{IsVerdictTrue}
@@ -147,7 +148,8 @@ module _ (laws : MeetingLaws) (sent : SentValue) where
       (subst (λ (l : List Set). IsTrueAt group sent.delims l b) (sym (append-nil before)) one)
   sets_true group gs header before olds befores (s ∷ ss) (e ∷ es) (o ∷ os) kept is_in are each (suc n) a at_n =
       subst (λ (l : List Set). IsTrueAt group sent.delims l a) (append_assoc before (s ∷ []) (take n ss))
-      (sets_true group gs header (before ++ s ∷ []) (olds ++ e ∷ []) (sets_kept_on before (s ∷ []) olds (e ∷ []) befores (kept.0, tt)) ss es os
+      (sets_true group gs header (before ++ s ∷ []) (olds ++ e ∷ [])
+      (sets_kept_on before (s ∷ []) olds (e ∷ []) befores (kept.0, tt)) ss es os
       kept.1 is_in.1 are.1
       (λ k x y p q. subst (λ (l : List SetEnvelope). IsSetAnswer sent gs l x y) (sym (append_assoc olds (e ∷ []) (take k es)))
       (each (suc k) x y p q)) n a at_n)
