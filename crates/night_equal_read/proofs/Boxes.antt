@@ -1,10 +1,10 @@
 -- What a partner finds in its mailbox is what the definition delivers to it.
 use Rattle.std.proofs.Common.{◌≡◌, ℕ, ◌+◌, ◌==◌, List, [], ◌∷◌, ◌++◌, map, take, drop, Bool, true, false, ◌||◌, Option, Some, None, length}
-use Rattle.std.proofs.Common.{refl, sym, ap, subst, ◌∙◌, get_or}
-use Rattle.std.specs.Prelude.{All, codes, decimal, slice_get, slice_index_or}
+use Rattle.std.proofs.Common.{refl, sym, ap, ◌∙◌}
+use Rattle.std.specs.Prelude.{All, codes, decimal}
 use Rattle.std.specs.List.{AllZip}
 use Rattle.std.proofs.lemmas.List.{length-map}
-use Rattle.std.proofs.lemmas.List.Elements.{All-cons, All-from_recursion, All-head, All-nil, All-tail}
+use Rattle.std.proofs.lemmas.List.Elements.{All-from_recursion, All-head, All-tail}
 use Rattle.std.proofs.lemmas.List.Splits.{slice_split_none}
 use Rattle.x12_bytes.specs.declared.delims.Delims.{Delims}
 use Rattle.x12_segs.specs.Words.{SegValue, elements_of, part_or_empty, views}
@@ -13,8 +13,6 @@ use Rattle.x12_write.specs.Number as old_number
 use Rattle.count_numbers.specs.Num as old_num
 use Rattle.guide_tree.specs.Tree.{GuideTree}
 use Rattle.guide_tree.specs.View.{guide_of}
-use Rattle.partner_setup.specs.declared.partner.Partner.{Partner}
-use Rattle.partner_setup.specs.Setup.{SetupValue}
 use Rattle.judged_text.specs.Judged.{PlacedValue, delims_in}
 use Rattle.mailbox.specs.Deliveries.{inner_in}
 use Rattle.mailbox.specs.Numbered.{NumberedValue, numbered_from}
@@ -29,7 +27,7 @@ use Rattle.night_definition.specs.Written.{padded_number}
 use Rattle.night_definition.specs.Acknowledgments.{num}
 use Rattle.night_definition.specs.Deliveries.{Sent, delivered_to}
 use Rattle.night_definition.specs.Night.{answered_text}
-use Rattle.night_definition.specs.ReadBack.{element_content, set_content, segments_in, sets_after, text_content}
+use Rattle.night_definition.specs.ReadBack.{element_content, set_content, sets_after, text_content}
 use Rattle.night_equal_text.specs.LookedUp.{seen_setup}
 use Rattle.night_equal_writing.specs.Deliveries.{DeliveriesAreOne, IsPlain, IsSeen}
 use Rattle.night_equal_writing.specs.Texts.{TextsAreOne}

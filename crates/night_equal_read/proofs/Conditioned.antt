@@ -1,7 +1,6 @@
 -- In a guide without fault the conditions of each slot that a derivation gives list rows of the slot.
-use Rattle.std.proofs.Common.{◌≡◌, ◌≤◌, inl, inr, List, [], ◌∷◌, ◌++◌, ◌&&◌, false, refl, sym, ap, subst, length}
-use Rattle.std.specs.Prelude.{IsTrue}
-use Rattle.std.specs.List.{AllByRecursion, Contains, list_all}
+use Rattle.std.proofs.Common.{◌≡◌, inl, inr, List, [], ◌∷◌, ◌&&◌, false, refl, sym, ap, subst}
+use Rattle.std.specs.List.{AllByRecursion, list_all}
 use Rattle.std.proofs.lemmas.Bool.{and_parts, true_from_ne_false}
 use Rattle.guide_tree.specs.declared.slot.Slot.{Slot}
 use Rattle.guide_tree.specs.declared.fault.GuideFault.TheVariants as fault
@@ -9,7 +8,6 @@ use Rattle.guide_tree.specs.Tree.{AnyIn, AnyNode, GuideTree, Tree, Trees, loop, 
 use Rattle.guide_tree.specs.Words.{IsWellFormed, are_picks_of, is_condition_of, is_conditioned, is_label_new, is_slot_conditioned}
 use Rattle.guide_tree.proofs.ForAbove.{In}
 use Rattle.guide_law.proofs.ForAbove.{contains_in, in_cases}
-use Rattle.night_definition.specs.Segments.{Elements}
 use Rattle.night_definition.specs.Guides.{Derives, Given, IsPart, joined}
 use Rattle.night_equal_set.specs.Meeting.{IsConditioned}
 

@@ -1,5 +1,5 @@
 -- The responses and TA1s that are read in the acknowledgments of a partner.
-use Rattle.std.proofs.Common.{◌≡◌, ℕ, ◌+◌, ◌<◌, Bool, true, false, List, [], ◌∷◌, ◌++◌, drop, length, Option, Some, None, refl, sym, ap}
+use Rattle.std.proofs.Common.{◌≡◌, ℕ, ◌+◌, ◌<◌, Bool, true, false, List, [], ◌∷◌, ◌++◌, length, Option, Some, None, refl, sym, ap}
 use Rattle.std.proofs.Common.{subst, ◌∙◌, arith, append-nil}
 use Rattle.std.specs.Prelude.{All, IfSome, if◌then◌else◌, option_map}
 use Rattle.std.specs.List.{flat_map}
@@ -8,7 +8,7 @@ use Rattle.x12_bytes.specs.Header.{field_of}
 use Rattle.x12_bytes.specs.declared.delims.Delims.{Delims}
 use Rattle.x12_write.specs.Group.{texts_in_row}
 use Rattle.x12_write.specs.Header.{header_text}
-use Rattle.x12_write.specs.Segment.{WrittenSegment, segment_text, trimmed}
+use Rattle.x12_write.specs.Segment.{WrittenSegment, segment_text}
 use Rattle.x12_write.specs.declared.envelope.Envelope.{Envelope}
 use Rattle.x12_write.proofs.ForAbove.{trimmed-push_full}
 use Rattle.moment.specs.Moment.{IsMoment}

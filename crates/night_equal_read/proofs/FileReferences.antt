@@ -22,11 +22,11 @@ use Rattle.night_definition.specs.Elements as room
 use Rattle.night_definition.specs.Setup.{Setup}
 use Rattle.night_definition.specs.Tables.{◌>>=◌, each, list_of, number, optional, required, table_of, texts, word}
 use Rattle.night_definition.specs.GuideFile.{Words, all_of, component_of, count_in, element_of, element_text, guide_of_table, head_of}
-use Rattle.night_definition.specs.GuideFile.{loop_of, no_more, node_in, node_of, nodes_among, nodes_from, nodes_of, reference_of}
+use Rattle.night_definition.specs.GuideFile.{loop_of, no_more, node_in, nodes_among, nodes_from, nodes_of, reference_of}
 use Rattle.night_definition.specs.GuideFile.{code_list, condition_of, count, dependency_of, head_or_none, hl_of, pick_of}
 use Rattle.night_definition.specs.GuideFile.{requirement_of, row_of, slot_of, take_repeat, take_wide, type_of}
 use Rattle.night_definition.specs.SetupFile.{counters_row, hub_of, partner_of, route_of, setup_of_tables}
-use Rattle.night_definition.specs.Program.{setup_of_files, table_in}
+use Rattle.night_definition.specs.Program.{table_in}
 use Rattle.night_definition.specs.ReadBack.{has_plain_references, references_of}
 use Rattle.night_equal_read.specs.Read.{FileReferencesArePlain}
 

@@ -1,5 +1,5 @@
 -- Partners read the files of a night as the definition says.
-use Rattle.std.proofs.Common.{◌≡◌, ℕ, List, [], map, length, Some, refl, sym, ap, subst, ◌∙◌}
+use Rattle.std.proofs.Common.{◌≡◌, ℕ, List, [], map, length, Some, sym, ap, subst, ◌∙◌}
 use Rattle.std.specs.Prelude.{filter_map, slice_get}
 use Rattle.std.specs.List.{All, AllZip, flat_map}
 use Rattle.hub_kinds.specs.declared.counters.Counters.{Counters}
@@ -10,7 +10,7 @@ use Rattle.partner_setup.specs.Setup.{SetupValue}
 use Rattle.partner_setup.specs.Sound.{IsSoundPartner, IsSoundSetup}
 use Rattle.checked_text.specs.CheckedText.{CheckedInterchange, acknowledged_to, acknowledgment_of}
 use Rattle.checked_text.specs.Settled.{settled_faults}
-use Rattle.night_writing.specs.Night.{IsNight, acks_of}
+use Rattle.night_writing.specs.Night.{IsNight}
 use Rattle.night_writing.specs.declared.night.Night as layer
 use Rattle.night_law.specs.Quotable.{AreAllQuotable, IsGuidePlain}
 use Rattle.night_law.proofs.ForAbove.{IsRead, all_read, at_index, settled_headers, settled_sound}
@@ -23,7 +23,7 @@ use Rattle.night_equal_text.specs.LookedUp.{seen_setup}
 use Rattle.night_equal_writing.specs.Answers.{AnswersAreOne, IsAnswered}
 use Rattle.night_equal_writing.specs.Codes.{CodesAreOne}
 use Rattle.night_equal_night.specs.Night.{IsThatNight, NightsAreOne}
-use Rattle.night_equal_read.specs.Known.{IsKnownAs, KnownTextsAreOne}
+use Rattle.night_equal_read.specs.Known.{KnownTextsAreOne}
 use Rattle.night_equal_read.specs.Read.{BoxesAreRead, ResponsesAreRead, Ta1sAreRead, VerdictsAreTrue, WholeNightsAreOne, seen_night}
 use Rattle.night_equal_read.proofs.Enveloped.{acknowledgments_read, responses_to, ta1s_to}
 use Rattle.night_equal_read.proofs.Quoting.{all_quoted}

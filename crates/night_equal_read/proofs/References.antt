@@ -1,5 +1,5 @@
 -- Reference numbers that are letters and digits by the definition are so by the layers.
-use Rattle.std.proofs.Common.{◌≡◌, ◌&&◌, ℕ, Bool, List, [], ◌∷◌, map, true, refl, sym, ap, ◌∙◌, subst}
+use Rattle.std.proofs.Common.{◌≡◌, ℕ, Bool, List, [], ◌∷◌, map, true, refl, sym, ◌∙◌, subst}
 use Rattle.std.specs.Char.{is_ascii_alphanumeric}
 use Rattle.std.specs.List.{All, list_all}
 use Rattle.std.proofs.lemmas.Bool.{and_parts}
@@ -14,7 +14,7 @@ use Rattle.guide_tree.specs.declared.rows.GuideRows.{GuideRows}
 use Rattle.guide_tree.specs.declared.slot.Slot.{Slot}
 use Rattle.guide_tree.specs.Tree.{EachIn, EachNode, Tree, Trees, loop, no_trees, segment, tree}
 use Rattle.guide_tree.specs.View.{guide_of}
-use Rattle.elem_rules.specs.Rows.{component_reference, components_of}
+use Rattle.elem_rules.specs.Rows.{component_reference}
 use Rattle.night_law.specs.Quotable.{IsGuidePlain, IsNodePlain, IsPlainReference, IsRowPlain}
 use Rattle.night_definition.specs.Elements as room
 use Rattle.night_definition.specs.Guides.{slots, slots_in}

@@ -4,8 +4,6 @@ use Rattle.std.specs.Prelude.{filter, filter_map, if◌then◌else◌, option_ma
 use Rattle.std.specs.List.{AllZip, cons_option, flat_map, list_any}
 use Rattle.std.proofs.lemmas.List.{map-append}
 use Rattle.x12_bytes.specs.Header.{field_of}
-use Rattle.hub_kinds.specs.Words.{acknowledgment_code}
-use Rattle.hub_kinds.specs.declared.answers.SetAnswer.{SetAnswer}
 use Rattle.hub_kinds.specs.declared.set_codes.GroupCode.{GroupCode}
 use Rattle.hub_kinds.specs.declared.set_codes.GroupCode.TheVariants as ak905
 use Rattle.ack_999.specs.Report as old

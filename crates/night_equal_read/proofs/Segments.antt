@@ -7,7 +7,7 @@ use Rattle.std.specs.Option.{option_map_or}
 use Rattle.x12_bytes.specs.Bytes.{is_line_end}
 use Rattle.x12_bytes.specs.declared.delims.Delims.{Delims}
 use Rattle.x12_segs.specs.Words as old
-use Rattle.x12_segs.specs.Words.{elements_of, part_at, segs_of, view_of, views}
+use Rattle.x12_segs.specs.Words.{elements_of, segs_of, view_of, views}
 use Rattle.night_law.specs.SetsRead.{Segments, said_in, sets_read}
 use Rattle.night_definition.specs.Header.{divided}
 use Rattle.night_definition.specs.Segments.{Elements, element, is_blank, segment_of}

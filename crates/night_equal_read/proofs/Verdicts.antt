@@ -1,22 +1,20 @@
 -- The verdict on a set is A exactly if the set meets its guide, in the definition's words.
 use Rattle.std.proofs.Common.{◌≡◌, ◌↔◌, ℕ, zero, suc, List, [], ◌∷◌, ◌++◌, map, take, not, Bool, true, false, Option, Some, None, refl}
-use Rattle.std.proofs.Common.{sym, ap, subst, ◌∙◌, true≢false, append_assoc, append-nil, arith}
-use Rattle.std.specs.Prelude.{bytes_eq, filter, if◌then◌else◌, option_map, slice_get, unwrap_or}
-use Rattle.std.specs.List.{All, AllZip, Contains, list_any}
-use Rattle.std.proofs.lemmas.List.Elements.{All-cons, All-contains, All-head, All-nil, All-tail}
-use Rattle.x12_bytes.specs.Header.{header_delims}
+use Rattle.std.proofs.Common.{sym, ap, subst, ◌∙◌, true≢false, append_assoc, append-nil}
+use Rattle.std.specs.Prelude.{bytes_eq, filter, if◌then◌else◌, option_map, slice_get}
+use Rattle.std.specs.List.{All, AllZip, list_any}
+use Rattle.std.proofs.lemmas.List.Elements.{All-cons, All-contains, All-nil}
 use Rattle.x12_bytes.specs.declared.delims.Delims.{Delims}
 use Rattle.x12_segs.specs.Words.{SegValue, element_of}
 use Rattle.x12_segs.specs.declared.set_span.SetSpan.{SetSpan}
 use Rattle.hub_kinds.specs.declared.answers.SetAnswer.{SetAnswer}
 use Rattle.hub_kinds.specs.declared.interchange.InterchangeFault.{InterchangeFault}
-use Rattle.hub_kinds.specs.declared.set_codes.Verdict.{Verdict}
 use Rattle.hub_kinds.specs.declared.set_codes.Verdict.TheVariants as ik501
 use Rattle.guide_tree.specs.Tree.{GuideTree}
 use Rattle.guide_tree.specs.View as rows
 use Rattle.env_index.specs.Words as index
 use Rattle.env_index.specs.declared.entry.SetEnvelope.{SetEnvelope}
-use Rattle.partner_setup.specs.Setup.{SetupValue, sender_of}
+use Rattle.partner_setup.specs.Setup.{SetupValue}
 use Rattle.set_check.specs.Checked.{Checked, guide_in, parts_in}
 use Rattle.set_check.specs.Codes as set_codes
 use Rattle.set_check.specs.Meets as old_meets
@@ -24,12 +22,10 @@ use Rattle.set_check.specs.MeetsLaw.{IsWellGuided}
 use Rattle.set_check.specs.SetParts.{set_parts}
 use Rattle.set_check.proofs.ForAbove.{meets_by}
 use Rattle.number_register.specs.SeenNumbers.{is_among}
-use Rattle.judged_text.specs.Judged.{is_fa}
 use Rattle.checked_text.specs.Answers as answers
 use Rattle.checked_text.specs.Answers.{SentValue, IsSetAnswer}
 use Rattle.checked_text.specs.CheckedText.{AreAnswersBy, CheckedInterchange, sent_by}
 use Rattle.checked_text.specs.declared.answered.AnsweredGroup as layer
-use Rattle.night_writing.specs.Night.{IsKnown}
 use Rattle.checked_text.specs.Pairs.{AreAllPairs}
 use Rattle.night_law.proofs.ForAbove.{IsAnsweredGroup, answered_anywhere, pairs_tail}
 use Rattle.night_definition.specs.Segments.{Segment, element}
@@ -47,7 +43,7 @@ use Rattle.night_equal_text.specs.Seen.{seen}
 use Rattle.night_equal_text.specs.LookedUp.{seen_setup}
 use Rattle.night_equal_text.specs.Kept.{AreSetsKept, IsSetKept, IsGroupKept, AreGroupsKept, IsKept}
 use Rattle.night_equal_text.specs.Spanned.{IsSetOf, AreSetsIn, AreGroupsIn}
-use Rattle.night_equal_text.specs.Answered.{AreAnswersOf, AreGroupsOf, ChecksAreOne, IsAnswerOf, IsAnsweredAs, IsGroupOf}
+use Rattle.night_equal_text.specs.Answered.{AreAnswersOf, AreGroupsOf, ChecksAreOne, IsAnswerOf, IsGroupOf}
 use Rattle.night_equal_text.specs.Laws.{AnswersFollow, GuidesAreOne, InterchangesAreKept, NightsAreSettled, SetNumbersAreOne, SetsAreParts}
 use Rattle.night_equal_text.proofs.ForAbove.{sets_kept_on}
 use Rattle.night_equal_night.proofs.ForAbove.{IsReady, ready, that_set}
