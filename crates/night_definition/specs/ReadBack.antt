@@ -2,14 +2,19 @@
 -- (X12.5); and in its mailbox the sets that are sent to it (X12.6).
 use Rattle.std.specs.Prelude.{ℕ, ◌≡◌, ◌↔◌, ◌-◌, List, [], ◌∷◌, ◌++◌, map, length, codes, decimal, bytes_eq, Some, if◌then◌else◌, filter}
 use Rattle.std.specs.Prelude.{flat_map}
-use Rattle.std.specs.Prelude.{◌+◌, not, filter_map, take, drop, option_map, slice_get, unwrap_or}
-use Rattle.std.specs.List.{list_any, Contains}
+use Rattle.std.specs.Prelude.{◌+◌, Bool, IsTrue, not, filter_map, take, drop, option_map, slice_get, unwrap_or}
+use Rattle.std.specs.List.{list_all, list_any, Contains}
+use Rattle.std.specs.Char.{is_ascii_alphanumeric}
 use Rattle.x12_bytes.specs.declared.delims.Delims.{Delims}
+use Rattle.guide_tree.specs.declared.element.Element.{Element}
+use Rattle.guide_tree.specs.declared.element.Element.TheVariants as row
+use Rattle.guide_tree.specs.Tree.{GuideTree}
 use Rattle.hub_kinds.specs.declared.set_codes.Verdict.TheVariants as ik501
 use Rattle.partner_setup.specs.declared.partner.Partner.{Partner}
 use Rattle.night_definition.specs.Header.{field, divided}
 use Rattle.night_definition.specs.Segments.{Elements, element, segment_of, is_blank}
-use Rattle.night_definition.specs.Elements.{occurrences, components, numbered}
+use Rattle.night_definition.specs.Guides.{slots}
+use Rattle.night_definition.specs.Elements.{occurrences, components, numbered, component_reference}
 use Rattle.night_definition.specs.Codes.{verdict_text}
 use Rattle.night_definition.specs.Sets.{Meets}
 use Rattle.night_definition.specs.Setup.{Setup, guide_of}
@@ -49,7 +54,7 @@ AreResponses n p xs ack =
     ≡ map (λ (a : Answer). (element 1 a.set.header.elements, element 2 a.set.header.elements, verdict_text a.verdict))
     (reported_answers n xs)
 
--- a set's verdict is A exactly if it meets its guide
+-- a set's verdict is A exactly if it meets its guide; nothing is reported to a group of acknowledgments (FA), so nothing is said of one
 abbrev pub IsVerdictTrue : Setup → Answered → AnsweredGroup → (n : ℕ) → Answer → Type 0
 IsVerdictTrue setup x g n a =
     (a.verdict ≡ ik501.Accepted)
@@ -58,7 +63,7 @@ IsVerdictTrue setup x g n a =
 
 abbrev pub AreVerdictsTrue : (text : List ℕ) → Setup → Type 0
 AreVerdictsTrue text setup =
-    (x : Answered) (g : AnsweredGroup) (n : ℕ) (a : Answer) → Contains (answered_text text setup) x → Contains x.groups g
+    (x : Answered) (g : AnsweredGroup) (n : ℕ) (a : Answer) → Contains (answered_text text setup) x → Contains (reported x) g
     → slice_get g.answers n ≡ Some a → IsVerdictTrue setup x g n a
 
 -- its TA1s: TA101 to TA105
@@ -68,13 +73,14 @@ AreTa1s n p xs ack =
     ≡ filter_map (λ (x : Answered). let isa = x.judged.interchange.header in
     option_map (λ note. field 13 isa ∷ field 9 isa ∷ field 10 isa ∷ ta1_code note ∷ note ∷ []) (ta1_note x.judged)) (acknowledged_to n xs)
 
--- the sets of a mailbox: from each ST to its SE
+-- the sets of a mailbox: from each ST to the SE after it; `begun` is the open set, empty between sets
 abbrev pub sets_after : (begun : List Elements) → List Elements → List (List Elements)
 sets_after begun [] = []
-sets_after begun (s ∷ ss) =
+sets_after [] (s ∷ ss) = sets_after (if bytes_eq (element 0 s) (codes "ST") then s ∷ [] else []) ss
+sets_after (st ∷ inner) (s ∷ ss) =
     if bytes_eq (element 0 s) (codes "ST") then sets_after (s ∷ []) ss
-    else if bytes_eq (element 0 s) (codes "SE") then (begun ++ s ∷ []) ∷ sets_after [] ss
-    else sets_after (begun ++ s ∷ []) ss
+    else if bytes_eq (element 0 s) (codes "SE") then (st ∷ inner ++ s ∷ []) ∷ sets_after [] ss
+    else sets_after (st ∷ inner ++ s ∷ []) ss
 
 -- an element without its delimiters: its occurrences, each as its components
 abbrev pub element_content : Delims → List ℕ → List (List (List ℕ))
@@ -98,13 +104,28 @@ IsBoxRead setup n p xs box =
     map (map (map (element_content p.delims))) (sets_after [] (segments_in p.delims box))
     ≡ map (λ x. set_content (num p.counters.set x.0) x.1) (numbered 0 (delivered_to setup n xs))
 
--- the files are those of the night, and partners read them so
+-- the reference numbers of a row: its own, and those of its components
+abbrev pub references_of : Element → List (List ℕ)
+references_of (row.NotUsed reference) = reference ∷ []
+references_of (row.Simple r repeat) = r.reference ∷ []
+references_of (row.Composite r) = r.reference ∷ map component_reference r.components
+
+-- X12.6, data element reference number: those of a guide, which IK402 repeats, contain letters and digits alone, so no delimiter
+abbrev pub has_plain_references : GuideTree → Bool
+has_plain_references g =
+    list_all (λ x. list_all (λ r. list_all (list_all is_ascii_alphanumeric) (references_of r)) x.0.elements) (slots [] g.nodes)
+
+abbrev pub AreReferencesPlain : Setup → Type 0
+AreReferencesPlain setup = IsTrue (list_all has_plain_references setup.guides)
+
+-- The files are those of the night, and partners read them so. Acknowledgments can be read if the guides' reference numbers can be
+-- quoted in them, as those of guide files always can.
 pub record IsNight (text : List ℕ) (setup : Setup) (at : List ℕ) (night : Night) : Type 0 where
   pub is : night ≡ night_of text setup at
   pub verdicts : AreVerdictsTrue text setup
-  pub responses : (n : ℕ) (p : Partner) (ack : List ℕ) → slice_get setup.partners n ≡ Some p → slice_get night.acks n ≡ Some ack
-      → AreResponses n p (answered_text text setup) ack
-  pub ta1s : (n : ℕ) (p : Partner) (ack : List ℕ) → slice_get setup.partners n ≡ Some p → slice_get night.acks n ≡ Some ack
-      → AreTa1s n p (answered_text text setup) ack
+  pub responses : AreReferencesPlain setup → (n : ℕ) (p : Partner) (ack : List ℕ) → slice_get setup.partners n ≡ Some p
+      → slice_get night.acks n ≡ Some ack → AreResponses n p (answered_text text setup) ack
+  pub ta1s : AreReferencesPlain setup → (n : ℕ) (p : Partner) (ack : List ℕ) → slice_get setup.partners n ≡ Some p
+      → slice_get night.acks n ≡ Some ack → AreTa1s n p (answered_text text setup) ack
   pub boxes : (n : ℕ) (p : Partner) (box : List ℕ) → slice_get setup.partners n ≡ Some p → slice_get night.boxes n ≡ Some box
       → IsBoxRead setup n p (answered_text text setup) box

@@ -12,5 +12,6 @@
 //! - The files of a hub: `Tables`, `GuideFile`, `SetupFile`, `Program` (`IsRun`).
 //!
 //! The crates that do the work have other definitions, in the forms that their proofs like. The crates called `night_equal_` prove that
-//! the two say the same, layer by layer, and `night_equal_night` that each night of the one is the night of the other.
+//! the two say the same, layer by layer, and `night_equal_night` that each night of the one is the night of the other;
+//! `night_equal_read`, that partners read it so.
 #![tactic(auto)]

@@ -28,7 +28,7 @@ trailers : (o : Option SegValue) → option_map elements_of o ≡ option_map (λ
 trailers None = refl
 trailers (Some s) = refl
 
-that_set : (c : Checked) (s : Set) → IsSetOf s (parts_in c) → IsThatSet c.span.delims s (parts_in c)
+pub that_set : (c : Checked) (s : Set) → IsSetOf s (parts_in c) → IsThatSet c.span.delims s (parts_in c)
 that_set c s is = record {
   delims = refl;
   header_delims = first_delims c.span.delims (span_segs c.text c.span);

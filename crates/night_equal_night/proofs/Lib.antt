@@ -8,5 +8,7 @@ pub mod Interchanges
 pub mod Ready
 pub mod Seen
 pub mod Plain
+pub mod Known
 pub mod Counted
 pub mod Night
+pub mod ForAbove

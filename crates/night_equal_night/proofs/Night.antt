@@ -14,22 +14,21 @@ use Rattle.count_numbers.specs.Num as old_num
 use Rattle.judged_text.specs.Judged.{JudgedValue}
 use Rattle.mailbox.specs.Deliveries as old_deliveries
 use Rattle.mailbox.specs.Mailbox as old_box
-use Rattle.checked_text.specs.CheckedText.{CheckedInterchange, judged, acknowledged_to, groups_to}
+use Rattle.checked_text.specs.CheckedText.{CheckedInterchange, acknowledged_to, groups_to}
 use Rattle.night_writing.specs.Night.{IsNight, acks_of, box_of, next_of, judgements, sets_to}
 use Rattle.night_writing.specs.declared.night.Night as then
 use Rattle.night_law.proofs.ForAbove.{at_index}
 use Rattle.night_definition.specs.Interchanges.{text_of}
 use Rattle.night_definition.specs.Elements.{numbered}
-use Rattle.night_definition.specs.Setup.{Setup, Judged, judged_after}
-use Rattle.night_definition.specs.Answers.{Answered, answered}
+use Rattle.night_definition.specs.Setup.{Setup}
+use Rattle.night_definition.specs.Answers.{Answered}
 use Rattle.night_definition.specs.Acknowledgments as room_acks
 use Rattle.night_definition.specs.Deliveries as room_deliveries
 use Rattle.night_definition.specs.Deliveries.{Sent}
 use Rattle.night_definition.specs.Report.{report_of}
 use Rattle.night_definition.specs.Night as room
 use Rattle.night_equal_text.specs.LookedUp.{seen_setup}
-use Rattle.night_equal_text.specs.Answered.{ChecksAreOne}
-use Rattle.night_equal_text.specs.Laws.{AnswersFollow, InterchangesAreKept, NightsAreSettled, SetsAreParts, TextsAreIndexes}
+use Rattle.night_equal_text.specs.Laws.{TextsAreIndexes}
 use Rattle.night_equal_writing.specs.Answers as answers_law
 use Rattle.night_equal_writing.specs.Answers.{IsAnswered}
 use Rattle.night_equal_writing.specs.Boxes.{BoxesAreOne}
@@ -39,20 +38,14 @@ use Rattle.night_equal_writing.specs.Texts.{TextsAreOne}
 use Rattle.night_equal_writing.specs.Totals.{TotalsAreOne}
 use Rattle.night_equal_night.specs.Night.{IsThatNight, NightsAreOne}
 use Rattle.night_equal_night.proofs.Counted.{sets_counted}
-use Rattle.night_equal_night.proofs.Interchanges.{IsReady, is_told, is_answered}
-use Rattle.night_equal_night.proofs.Pairs.{by_place, zip_map, zip_both}
-use Rattle.night_equal_night.proofs.Plain.{delivered_plain}
-use Rattle.night_equal_night.proofs.Ready.{ready}
-use Rattle.night_equal_night.proofs.Seen.{Seen, all_seen}
+use Rattle.night_equal_night.proofs.Known.{TextLaws, known_answers, known_plain, known_seen, known_told}
+use Rattle.night_equal_night.proofs.Pairs.{by_place}
+use Rattle.night_equal_night.proofs.Seen.{Seen}
 
 -- what is known of a text, of answers, and of what is written
 pub record Laws : Type 0 where
-  pub keeps : InterchangesAreKept
+  pub known : TextLaws
   pub indexes : TextsAreIndexes
-  pub settle : NightsAreSettled
-  pub parts : SetsAreParts
-  pub follow : AnswersFollow
-  pub checks : ChecksAreOne
   pub texts : TextsAreOne
   pub answers : answers_law.AnswersAreOne
   pub deliveries : DeliveriesAreOne
@@ -80,28 +73,17 @@ module _ (laws : Laws) (text : List ℕ) (setup : SetupValue) (at : List ℕ) (n
   abbrev js : List JudgedValue
   js = judgements text known
 
-  abbrev ks : List Judged
-  ks = judged_after now [] (text_of text).interchanges
-
   abbrev xs : List Answered
   xs = room.answered_text text now
 
-  pairs : AllZip (IsReady text setup) known ks
-  pairs = ready text setup laws.settle laws.parts is.is_known.index known is.is_known.read is.is_known.answered
-
   answers_zip : AllZip IsAnswered known xs
-  answers_zip =
-      zip_map (IsReady text setup) IsAnswered (answered now)
-      (λ c j r. is_answered laws.keeps laws.follow laws.checks laws.answers text setup c j r) known ks pairs
+  answers_zip = known_answers laws.known text setup known is.outside is.is_known
 
   told_zip : AllZip IsTold js xs
-  told_zip =
-      zip_both (λ c x. IsTold (judged text c) x) IsTold (judged text) (λ c x r. r) known xs
-      (zip_map (IsReady text setup) (λ c x. IsTold (judged text c) x) (answered now)
-      (λ c j r. is_told laws.keeps laws.follow laws.checks laws.answers text setup c j r) known ks pairs)
+  told_zip = known_told laws.known text setup known is.outside is.is_known
 
   seen_zip : AllZip Seen (open_sets js) (all_sent xs)
-  seen_zip = all_seen js xs told_zip
+  seen_zip = known_seen laws.known text setup known is.outside is.is_known
 
   module _ (place : ℕ) (p : Partner) where
     abbrev acks : List Answered
@@ -113,7 +95,7 @@ module _ (laws : Laws) (text : List ℕ) (setup : SetupValue) (at : List ℕ) (n
     ack_is = laws.answers.all now setup place p at known xs refl answers_zip
 
     plain : All IsPlain (old_deliveries.delivered_to setup place js)
-    plain = delivered_plain text setup is.is_known.index known is.is_known.read is.is_known.answered place
+    plain = known_plain text setup known is.outside is.is_known place
 
     box_is : room.box_of now at xs place p ≡ box_of text setup at known place p
     box_is =

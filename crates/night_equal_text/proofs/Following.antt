@@ -58,7 +58,7 @@ module _ {A B : Type 0} (R : List A → A → B → Type 0) where
         (λ n a b p q. subst (λ l. R l a b) (sym (append_assoc olds (x ∷ []) (take n xs))) (each (suc n) a b p q)),
   )
 
-sets_kept_on : (ss ts : List Set) (es fs : List SetEnvelope) → AreSetsKept ss es → AreSetsKept ts fs → AreSetsKept (ss ++ ts) (es ++ fs)
+pub sets_kept_on : (ss ts : List Set) (es fs : List SetEnvelope) → AreSetsKept ss es → AreSetsKept ts fs → AreSetsKept (ss ++ ts) (es ++ fs)
 sets_kept_on [] ts [] fs p q = q
 sets_kept_on [] ts (e ∷ es) fs p q = absurd p
 sets_kept_on (s ∷ ss) ts [] fs p q = absurd p

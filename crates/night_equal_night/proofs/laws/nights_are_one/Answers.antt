@@ -4,12 +4,15 @@ use Rattle.night_equal_night.proofs.laws.nights_are_one.Goals as goal
 pub returns : goal.returns
 returns c =
     nights (record {
-      keeps = c.interchanges_are_kept.ensures;
+      known = record {
+        keeps = c.interchanges_are_kept.ensures;
+        settle = c.nights_are_settled.ensures;
+        parts = c.sets_are_parts.ensures;
+        follow = c.answers_follow.ensures;
+        checks = c.checks_are_one.ensures;
+        answers = c.answers_are_one.ensures;
+      };
       indexes = c.texts_are_indexes.ensures;
-      settle = c.nights_are_settled.ensures;
-      parts = c.sets_are_parts.ensures;
-      follow = c.answers_follow.ensures;
-      checks = c.checks_are_one.ensures;
       texts = c.texts_are_one.ensures;
       answers = c.answers_are_one.ensures;
       deliveries = c.deliveries_are_one.ensures;

@@ -1,0 +1,11 @@
+pub mod Segments
+pub mod Boxes
+pub mod Conditioned
+pub mod Verdicts
+pub mod Reading
+pub mod Enveloped
+pub mod References
+pub mod Quoting
+pub mod Reported
+pub mod FileReferences
+pub mod Nights

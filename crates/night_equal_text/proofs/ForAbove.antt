@@ -1,0 +1,2 @@
+-- The lemmas of this crate on which those above it stand.
+pub use Rattle.night_equal_text.proofs.Following.{sets_kept_on}
