@@ -3,6 +3,9 @@ ghost use Rattle.moment.specs.Moment.{IsMoment};
 ghost use Rattle.partner_setup.specs.Sound.{IsSoundSetup};
 ghost use Rattle.night_writing.specs.Night.{IsNight};
 ghost use Rattle.night_law.specs.WholeNight.{IsWholeNight};
+ghost use Rattle.night_definition.specs.ReadBack as defined;
+ghost use Rattle.night_equal_text.specs.LookedUp.{seen_setup};
+ghost use Rattle.night_equal_read.specs.Read.{seen_night};
 
 use crate::run_fault::RunFault;
 use crate::writing::write_night;
@@ -10,6 +13,7 @@ use checked_text::settled_faults;
 use env_index::index_plain;
 use hub_kinds::{LONGEST_TEXT, NoMemory, within_limit};
 use moment::At;
+use night_equal_read::whole_nights_are_one;
 use night_writing::Night;
 use partner_setup::Setup;
 use std::alloc::Global;
@@ -22,11 +26,13 @@ use std::alloc::Global;
 pub fn run_plain(alloc: Global, text: &[u8], setup: &Setup, at: &At) -> Result<Night, RunFault>
     ensures too_long { IsErrOf result RunFault.InputTooLong ↔ (LONGEST_TEXT < length text.now) }
     ensures night { IfOk result (IsWholeNight text.now setup.now at.now) }
+    ensures definition { IfOk result (λ night. defined.IsNight text.now (seen_setup setup.now) at.now (seen_night night)) }
 {
     if !within_limit(text.len() as u64) {
         return Err(RunFault::InputTooLong);
     }
     are_sound(setup, at);
+    whole_nights_are_one();
     let night = read_night(alloc, text, setup, at)?;
     Ok(night)
 }

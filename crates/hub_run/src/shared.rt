@@ -2,6 +2,9 @@ ghost use Rattle.std.specs.Prelude.{◌≡◌, ◌↔◌, ◌<◌, ◌≤◌, le
 ghost use Rattle.moment.specs.Moment.{IsMoment};
 ghost use Rattle.night_writing.specs.Night.{IsNight};
 ghost use Rattle.night_law.specs.WholeNight.{IsWholeNight};
+ghost use Rattle.night_definition.specs.ReadBack as defined;
+ghost use Rattle.night_equal_text.specs.LookedUp.{seen_setup};
+ghost use Rattle.night_equal_read.specs.Read.{seen_night};
 
 use crate::plain::are_sound;
 use crate::run_fault::RunFault;
@@ -10,6 +13,7 @@ use cut_plan::Cuts;
 use hub_kinds::{LONGEST_TEXT, within_limit};
 use job_pool::ManyThreads;
 use moment::At;
+use night_equal_read::whole_nights_are_one;
 use night_findings::{FastGuides, FoundText, find_out};
 use night_writing::Night;
 use partner_setup::Setup;
@@ -38,11 +42,13 @@ pub fn run_night<G: Gate + Sync, R: Threads + Wait + Clock + Sync>(
     requires cuts { cuts.now.text_len ≡ length text.now }
     ensures too_long { IsErrOf result RunFault.InputTooLong ↔ (LONGEST_TEXT < length text.now) }
     ensures night { IfOk result (IsWholeNight text.now setup.now at.now) }
+    ensures definition { IfOk result (λ night. defined.IsNight text.now (seen_setup setup.now) at.now (seen_night night)) }
 {
     if !within_limit(text.len() as u64) {
         return Err(RunFault::InputTooLong);
     }
     are_sound(setup, at);
+    whole_nights_are_one();
     let night = share_night(rt, alloc, text, setup, at, workers, cuts, gate)?;
     Ok(night)
 }

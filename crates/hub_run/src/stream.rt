@@ -7,6 +7,7 @@ use crate::plain::are_sound;
 use crate::run_fault::RunFault;
 use hub_kinds::LONGEST_TEXT;
 use moment::At;
+use night_equal_read::whole_nights_are_one;
 use night_stream::{Crew, stream_night};
 use night_writing::Night;
 use partner_setup::Setup;
@@ -49,6 +50,7 @@ pub fn run_stream<S: Source, G: Gate + Sync, R: Threads + Wait + Clock + Sync>(
     ensures given_up { GivenUp (S.interruptions source.old) (S.longest source.old) (S.longest source.new) }
 {
     are_sound(setup, at);
+    whole_nights_are_one();
     let crew = Crew {
         rt,
         gate,

@@ -19,6 +19,7 @@ printed_of declared options setup (Ok file) status had has was is made given = r
     text = given.by.text;
     within = given.by.within;
     whole = given.by.whole;
+    definition = given.by.definition;
     quotable = given.by.quotable _ _ _ made;
   };
   own_status = given.own_status;

@@ -4,6 +4,9 @@ use Rattle.std.specs.Io.KnownBytes.{Appends}
 use Rattle.hub_kinds.specs.declared.limits.TheConstants.{LONGEST_TEXT}
 use Rattle.night_law.specs.Quotable.{AreAllQuotable}
 use Rattle.night_law.specs.WholeNight.{IsWholeNight}
+use Rattle.night_definition.specs.ReadBack as defined
+use Rattle.night_equal_text.specs.LookedUp.{seen_setup}
+use Rattle.night_equal_read.specs.Read.{seen_night}
 use Rattle.night_writing.specs.declared.night.Night.{Night}
 use Rattle.night_report.specs.Clean.{is_clean, last_of, lines_of}
 use Rattle.partner_setup.specs.Setup.{SetupValue}
@@ -34,13 +37,14 @@ status_of (Shown text) = 0
 status_of (Ran night) = if is_clean night.report then 0 else 1
 
 -- the whole night of some text that isn't too long, at the moment of the options and by a setup that some files make which were asked for
--- by the paths of the options; each partner's guides can be quoted, so each reads its acknowledgments
+-- by the paths of the options, which is the definition's; each partner's guides can be quoted, so each reads its acknowledgments
 pub record IsNightBy (options : Options) (night : Night) : Type 0 where
   pub setup : SetupValue
   pub made : IsSetupAt (guide_paths options) options.setup.now options.counters.now setup
   pub text : List ℕ
   pub within : length text ≤ LONGEST_TEXT
   pub whole : IsWholeNight text setup options.at night
+  pub definition : defined.IsNight text (seen_setup setup) options.at (seen_night night)
   pub quotable : AreAllQuotable text setup
 
 -- such a night was run: what was printed is the last line of its report, and the status is its own
@@ -62,6 +66,7 @@ pub record IsNightOfSource (told : Option (List ℕ)) (setup : SetupValue) (at :
   pub told_all : IfSome told (λ xs. xs ≡ text)
   pub within : length text ≤ LONGEST_TEXT
   pub whole : IsWholeNight text setup at night
+  pub definition : defined.IsNight text (seen_setup setup) at (seen_night night)
   pub quotable : IsQuotableOfFiles text setup
 
 -- a night is given: it is that of a source, a setup and a moment, its files are put after what the outbox had, the last line of its report

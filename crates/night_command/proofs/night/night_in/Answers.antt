@@ -12,6 +12,7 @@ returns-clause-night g c =
       told_all = given.told_all;
       within = given.few;
       whole = given.whole;
+      definition = given.definition;
       quotable = λ guides rows counters at.
           c.plain_references_are_quoted.ensures given.text c.args.setup.now c.is_sound.ensures
           (setup_plain c.files_write_references.ensures guides rows counters c.args.setup.now at);
@@ -27,6 +28,7 @@ returns-in_err-put_night-clause-some g c =
       told_all = given.told_all;
       within = given.few;
       whole = given.whole;
+      definition = given.definition;
       quotable = λ guides rows counters at.
           c.plain_references_are_quoted.ensures given.text setup c.is_sound.ensures
           (setup_plain c.files_write_references.ensures guides rows counters setup at);
