@@ -1,0 +1,70 @@
+"""What parts of the gate share: where things are, the words of a night, programs whose calls are counted or fail, and the last line."""
+import os
+import subprocess
+import tempfile
+
+TOP = os.path.dirname(os.path.dirname(os.path.abspath(__file__)))
+NIGHT, GUIDES = os.path.join(TOP, "examples", "night"), os.path.join(TOP, "examples", "guides")
+NIGHTS = os.path.join(TOP, "tests", "nights")
+AT = "202603011530"
+
+
+def program_of(name, words=(), place=0):
+    """The path of a program: the word at the place, or crates/NAME/out/NAME if there is none."""
+    path = words[place] if len(words) > place else os.path.join(TOP, "crates", name, "out", name)
+    return os.path.abspath(path)
+
+
+def read(*path):
+    with open(os.path.join(*path), "rb") as it:
+        return it.read()
+
+
+def words_of(night):
+    """The options for the inputs of a folder of tests/nights, and the moment."""
+    guides = os.path.join(night, "guides")
+    words = [part for name in sorted(os.listdir(guides)) for part in ("--guide", os.path.join(guides, name))]
+    for option, name in (("--setup", "setup.toml"), ("--counters", "counters.toml"), ("--in", "in.x12")):
+        words += [option, os.path.join(night, name)]
+    return [*words, "--at", AT]
+
+
+def words_of_bundled(path=os.path.join(NIGHT, "two_partners.x12")):
+    """The options for the bundled guides, setup and counters, the moment, and an input."""
+    return ["--setup", f"{NIGHT}/setup.toml", "--guide", f"{GUIDES}/h850.toml", "--guide", f"{GUIDES}/h856.toml",
+            "--counters", f"{NIGHT}/counters.toml", "--at", AT, "--in", path]
+
+
+def library(folder):
+    """Builds .ci/calls.c, and answers its path."""
+    made = os.path.join(folder, "calls.so")
+    subprocess.run(["cc", "-shared", "-fPIC", "-O1", "-o", made, os.path.join(TOP, ".ci", "calls.c"), "-ldl"], check=True)
+    return made
+
+
+def run_counted(words, made, cwd=None, **settings):
+    """Runs a command with the library before it, by these settings of .ci/calls.c. Answers how it ended, and its calls as (kind, path)."""
+    with tempfile.TemporaryFile() as told:
+        environment = {**os.environ, "LD_PRELOAD": made, **{name: str(value) for name, value in settings.items()}}
+        done = subprocess.run(words, env=environment, cwd=cwd, stdin=subprocess.DEVNULL, capture_output=True, timeout=120,
+                              preexec_fn=lambda: os.dup2(told.fileno(), 9), pass_fds=(9,))
+        told.seek(0)
+        return done, [(line[:1], line[2:]) for line in told.read().decode().splitlines()]
+
+
+class Count:
+    """What passed and what failed."""
+
+    def __init__(self):
+        self.passed = self.failed = 0
+
+    def add(self, what, wrong):
+        """Counts a case by what is wrong with it, if anything is, which it prints."""
+        self.passed, self.failed = self.passed + (not wrong), self.failed + bool(wrong)
+        if wrong:
+            print(f"{what}: {wrong}")
+
+    def end(self):
+        """Prints the last line, and answers the status."""
+        print(f"{self.passed} passed, {self.failed} failed")
+        return 1 if self.failed or not self.passed else 0
