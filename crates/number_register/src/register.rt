@@ -9,9 +9,13 @@ use crate::records::Records;
 use env_index::Index;
 use hub_kinds::{NoMemory, Place};
 use std::alloc::Global;
+use std::hint::spin_loop;
 use std::marker::{Brand, Model, PhantomData};
 use std::sync::ledger::{Blank, Ledger};
-use std::sync::{Mutex, Wait, ledger};
+use std::sync::{Mutex, MutexGuard, Wait, ledger};
+
+/// How often a thread tries the lock before it sleeps. A record is made in less time than it takes to wake a thread.
+const TRIES: u32 = 4_000;
 
 /// Names one index and one ledger: what lies under a lock is known by its type alone.
 pub trait Named: Ledger {
@@ -129,6 +133,20 @@ impl<'i, 'a, J: Named> Locked<'i, 'a, J> {
     }
 }
 
+/// Takes `lock`: tries it first, and then sleeps until it is free.
+fn taken<'g, 'i, 'a, J: Named, R: Wait>(
+    rt: &R,
+    lock: &'g Mutex<Locked<'i, 'a, J>>,
+) -> MutexGuard<'g, Locked<'i, 'a, J>> {
+    for _ in 0..TRIES {
+        if let Some(guard) = lock.try_lock() {
+            return guard;
+        }
+        spin_loop();
+    }
+    lock.lock(rt)
+}
+
 impl<'i, 'a, J: Named> RecordLock<'i, 'a, J> {
     /// Records a place of the register's index, which it names; waits for the lock. A fresh record raises the share by one, else it
     /// stays. The number is read before the lock is taken. The only error is out of memory.
@@ -143,7 +161,7 @@ impl<'i, 'a, J: Named> RecordLock<'i, 'a, J> {
         ensures err { OnErr result (share.new ≡ share.old) }
     {
         let key = key_at(self.index, place);
-        let mut guard = self.lock.lock(rt);
+        let mut guard = taken(rt, &self.lock);
         let locked = &mut *guard;
         let is_fresh = locked.record(share, place, key)?;
         Ok(Recorded { place, is_fresh })

@@ -1,4 +1,4 @@
--- 999 guide, IK4 (own): the element faults that a walk over a body adds, segment by segment, and which other faults stand beside
+-- 999 guide, IK4 (own): the element faults that a walk over a body adds, segment by segment, and which other faults are beside
 -- them. Private.
 use Rattle.std.specs.Prelude.{ℕ, ◌+◌, ◌≡◌, ◌<◌, ◌⊎◌, Bool, List, Option, Some}
 use Rattle.std.specs.Ordering.{eq_by_cmp}

@@ -7,7 +7,7 @@ use Rattle.set_check.specs.Checked.{Checked, guide_in, parts_in}
 use Rattle.set_check.specs.SetFaults.{set_codes_where}
 use Rattle.set_check.specs.Verdict.{verdict_with}
 
--- a checked set, whose ST02 an earlier set of its group may have: ST01, ST02 and ST03 as they stand, its faults, codes and verdict
+-- a checked set, whose ST02 an earlier set of its group may have: ST01, ST02 and ST03 as written, its faults, codes and verdict
 abbrev pub answer_to : Checked → (earlier : Bool) → SetAnswer
 answer_to c earlier = record {
   identifier = element_of (parts_in c).header 1;

@@ -10,7 +10,7 @@ use Rattle.set_check.specs.SetParts.{SetParts, set_parts}
 use Rattle.set_check.specs.SetFaults.{AreSetFaults, codes_with}
 use Rattle.set_check.specs.MeetsLaw.{IsWellGuided}
 
--- the text in which a set stands, where it stands there, its guide if it has one, and what was found wrong with it
+-- the text in which a set is, where in it, its guide if it has one, and what was found wrong with it
 pub record Checked : Type 0 where
   pub text : List ℕ
   pub span : SetSpan

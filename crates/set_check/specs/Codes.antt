@@ -1,4 +1,4 @@
--- 999 guide, implementation transaction set syntax error code (IK502): the codes of a set; which code stands for which fault is own.
+-- 999 guide, implementation transaction set syntax error code (IK502): the codes of a set; which code is for which fault is own.
 use Rattle.std.specs.Prelude.{ℕ, ◌==◌, Bool, true, false, not, ◌&&◌, nat_eq, nat_lt, List, [], ◌∷◌, ◌++◌, Option, Some, None, is_none}
 use Rattle.std.specs.Prelude.{codes, if◌then◌else◌, length, take}
 use Rattle.std.specs.List.{list_any, starts_with}

@@ -1,5 +1,5 @@
 -- 999 guide, IK3 and IK4: what is wrong with the segments of a set, by its guide; and the set's codes. Which of two faults of one
--- key stands is own.
+-- key is reported is own.
 use Rattle.std.specs.Prelude.{ℕ, ◌+◌, ◌≡◌, ◌↔◌, ◌⊎◌, List, Option, Some, None, Bool, false}
 use Rattle.std.specs.List.{Contains, slice_get}
 use Rattle.x12_bytes.specs.declared.delims.Delims.{Delims}
@@ -50,7 +50,7 @@ abbrev pub HasKeyOfError : Trees → SetParts → List (Option Place) → Fault 
 HasKeyOfError ts parts given f = (e : Fault) × IsErrorIn ts parts given e × (key_of e ≡ key_of f)
 
 -- what is wrong with a set whose segments are given these places: its structure, an element, or a hierarchy or dependency; where an
--- element fault and one of these have one key, the element fault stands alone
+-- element fault and one of these have one key, the element fault is reported alone
 abbrev pub IsFaultUnder : GuideTree → SetParts → List (Option Place) → Fault → Type 0
 IsFaultUnder g parts given f =
     IsStructureFault g parts.body given (end_position parts) f

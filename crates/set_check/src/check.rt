@@ -1,6 +1,6 @@
-ghost use Rattle.std.specs.Prelude.{◌≡◌, ◌≤◌, ◌↔◌, [], length, IfOk};
+ghost use Rattle.std.specs.Prelude.{◌≡◌, ◌≤◌, ◌↔◌, [], length, IfOk, IfSome};
 ghost use Rattle.std.specs.List.{All};
-ghost use Rattle.std.specs.Option.{option_copied};
+ghost use Rattle.std.specs.Option.{option_copied, option_map_or};
 ghost use Rattle.hub_kinds.specs.Words.{AreRising};
 ghost use Rattle.set_check.specs.Checked.{guide_in, parts_in, guide_tree_of};
 ghost use Rattle.set_check.specs.Meets.{MeetsAlone};
@@ -10,13 +10,14 @@ ghost use Rattle.set_check.specs.SetParts.{before_trailer, parts_of, set_parts};
 ghost use Rattle.x12_segs.specs.Words.{IsSetSpan};
 
 use crate::body::body_faults;
-use crate::checked::CheckedSet;
+use crate::checked::{CheckedSet, Found, is_without_fault};
 use crate::codes::set_codes;
 use crate::envelope::{Envelope, envelope_of};
 use crate::segments::segments_of;
 use guide_tree::Guide;
 use hub_kinds::{Fault, NoMemory};
 use std::alloc::Global;
+use std::boxed::Box;
 use x12_segs::{SegView, SetSpan};
 
 /// Checks a transaction set (X12.6) of a text by its guide, if it has one: its faults (999 guide, IK3 and IK4), in their
@@ -58,6 +59,7 @@ pub(crate) fn checked_by<'a>(
     envelope: Envelope<'a>,
     faults: Vec<Fault<'a>>,
 ) -> Result<CheckedSet<'a>, NoMemory>
+    requires span { IsSetSpan text.now set }
     requires envelope { IsEnvelopeOf (set_parts text.now set) envelope }
     requires faults { AreSetFaults (guide_tree_of (option_copied guide)) (set_parts text.now set) faults.items }
     requires rising { AreRising faults.items }
@@ -78,14 +80,32 @@ pub(crate) fn checked_by<'a>(
         envelope.trailer.as_ref(),
         false,
     )?;
+    let found = unless_clean(
+        alloc,
+        Found {
+            faults,
+            codes,
+            envelope,
+        },
+    )?;
     Ok(CheckedSet {
         text,
         span: set,
         guide,
-        faults,
-        codes,
-        envelope,
+        found,
     })
+}
+
+/// Keeps what was found of a set, unless nothing was.
+fn unless_clean<'a>(alloc: Global, found: Found<'a>) -> Result<Option<Box<Found<'a>>>, NoMemory>
+    ensures faults { IfOk result (λ kept. option_map_or (λ f. f.value.faults.items) kept [] ≡ found.entry.faults.items) }
+    ensures codes { IfOk result (λ kept. option_map_or (λ f. f.value.codes.items) kept [] ≡ found.entry.codes.items) }
+    ensures envelope { IfOk result (λ kept. IfSome kept (λ f. f.value.envelope ≡ found.entry.envelope)) }
+{
+    if is_without_fault(found.faults.as_slice(), found.codes.as_slice()) {
+        return Ok(None);
+    }
+    Ok(Some(Box::new(alloc, found)?))
 }
 
 /// The faults of the segments of a set by its guide; none where it has no guide.

@@ -1,29 +1,39 @@
 ghost use Rattle.std.specs.Prelude.{◌≡◌, ◌↔◌, IsTrue, []};
+ghost use Rattle.std.specs.Option.{option_map_or};
 ghost use Rattle.set_check.specs.Verdict.{is_without_fault};
 
-use crate::envelope::Envelope;
+use crate::envelope::{Envelope, header_of};
 use guide_tree::Guide;
 use hub_kinds::{Fault, SetCode};
+use std::boxed::Box;
 use std::marker::Model;
 use x12_segs::SetSpan;
 
-/// A transaction set of a text that was checked, with what was found wrong with it: its faults and codes are those of its own
-/// span by its own guide.
+/// What was found of a set that isn't clean: its faults and codes, and what its codes speak of beside its faults.
 #[derive(Drop)]
-pub struct CheckedSet<'a> {
-    pub(crate) text: &'a [u8],
-    pub(crate) span: SetSpan,
-    pub(crate) guide: Option<&'a Guide>,
+pub(crate) struct Found<'a> {
     pub(crate) faults: Vec<Fault<'a>>,
     pub(crate) codes: Vec<SetCode>,
     pub(crate) envelope: Envelope<'a>,
 }
 
+/// A transaction set of a text that was checked, with what was found wrong with it: its faults and codes are those of its own
+/// span by its own guide. Of a set that is clean nothing is kept but where it stands.
+#[derive(Drop)]
+pub struct CheckedSet<'a> {
+    pub(crate) text: &'a [u8],
+    pub(crate) span: SetSpan,
+    pub(crate) guide: Option<&'a Guide>,
+    pub(crate) found: Option<Box<Found<'a>>>,
+}
+
 impl<'a> Model for CheckedSet<'a> {
-    ghost use Rattle.std.specs.Option.{option_copied};
+    ghost use Rattle.std.specs.Prelude.{[], IfSome};
+    ghost use Rattle.std.specs.Option.{option_copied, option_map_or};
     ghost use Rattle.set_check.specs.Checked.{Checked, IsChecked};
     ghost use Rattle.set_check.specs.Envelope.{IsEnvelopeOf};
     ghost use Rattle.set_check.specs.SetParts.{set_parts};
+    ghost use Rattle.x12_segs.specs.Words.{IsSetSpan};
     ghost use Rattle.guide_tree.specs.contracts.node.Node as node;
     ghost use Rattle.std.specs.Coded.{codes as known_codes};
 
@@ -35,17 +45,17 @@ impl<'a> Model for CheckedSet<'a> {
       text = c.text.now;
       span = c.span;
       guide = option_copied c.guide;
-      faults = c.faults.items;
-      codes = c.codes.items;
+      faults = option_map_or (λ f. f.value.faults.items) c.found [];
+      codes = option_map_or (λ f. f.value.codes.items) c.found [];
     } };
 
     ghost invariant = { λ c. IsChecked (record {
       text = c.text.now;
       span = c.span;
       guide = option_copied c.guide;
-      faults = c.faults.items;
-      codes = c.codes.items;
-    }) × IsEnvelopeOf (set_parts c.text.now c.span) c.envelope };
+      faults = option_map_or (λ f. f.value.faults.items) c.found [];
+      codes = option_map_or (λ f. f.value.codes.items) c.found [];
+    }) × IsSetSpan c.text.now c.span × IfSome c.found (λ f. IsEnvelopeOf (set_parts c.text.now c.span) f.value.envelope) };
 }
 
 impl<'a> CheckedSet<'a> {
@@ -56,32 +66,32 @@ impl<'a> CheckedSet<'a> {
     ghost use Rattle.set_check.specs.SetFaults.{AreSetFaults, codes_with};
     ghost use Rattle.x12_segs.specs.View.{element_of};
 
-    /// Where it stands in its text.
+    /// Where it is in its text.
     pub fn span(&self) -> SetSpan
         ensures { result ≡ self.now.span }
     {
         self.span
     }
 
-    /// Its transaction set identifier code, ST01, as it stands.
+    /// Its transaction set identifier code, ST01, as written.
     pub fn identifier(&self) -> &'a [u8]
         ensures { result.now ≡ element_of (parts_in self.now).header 1 }
     {
-        self.envelope.header.element(1)
+        header_of(self.text, &self.span).element(1)
     }
 
-    /// Its transaction set control number, ST02, as it stands.
+    /// Its transaction set control number, ST02, as written.
     pub fn control(&self) -> &'a [u8]
         ensures { result.now ≡ element_of (parts_in self.now).header 2 }
     {
-        self.envelope.header.element(2)
+        header_of(self.text, &self.span).element(2)
     }
 
-    /// Its implementation convention reference, ST03, as it stands; empty where it is absent.
+    /// Its implementation convention reference, ST03, as written; empty where it is absent.
     pub fn convention(&self) -> &'a [u8]
         ensures { result.now ≡ element_of (parts_in self.now).header 3 }
     {
-        self.envelope.header.element(3)
+        header_of(self.text, &self.span).element(3)
     }
 
     /// Its faults (999 guide, IK3 and IK4), in their order, each once.
@@ -90,7 +100,7 @@ impl<'a> CheckedSet<'a> {
         ensures exact { AreSetFaults (guide_in self.now) (parts_in self.now) self.now.faults }
         ensures rising { AreRising self.now.faults }
     {
-        self.faults.as_slice()
+        found_faults(&self.found)
     }
 
     /// Its codes (999 guide, IK5) in their order, the first five; whether an earlier set of its group has its ST02 isn't asked.
@@ -98,14 +108,34 @@ impl<'a> CheckedSet<'a> {
         ensures value { result.now ≡ self.now.codes }
         ensures exact { self.now.codes ≡ codes_with (guide_in self.now) (parts_in self.now) self.now.faults }
     {
-        self.codes.as_slice()
+        found_codes(&self.found)
     }
 
     /// Whether it meets its guide, looked at alone (X12.6): then it has neither a fault nor a code.
     pub fn is_clean(&self) -> bool
         ensures { IsTrue result ↔ MeetsAlone (guide_in self.now) (parts_in self.now) }
     {
-        is_without_fault(self.faults.as_slice(), self.codes.as_slice())
+        is_without_fault(found_faults(&self.found), found_codes(&self.found))
+    }
+}
+
+/// The faults that were found, if any.
+pub(crate) fn found_faults<'f, 'a>(found: &'f Option<Box<Found<'a>>>) -> &'f [Fault<'a>]
+    ensures { result.now ≡ option_map_or (λ f. f.value.faults.items) found.entry.now [] }
+{
+    match found {
+        None => &[],
+        Some(found) => found.faults.as_slice(),
+    }
+}
+
+/// The codes that were found, if any.
+pub(crate) fn found_codes<'f>(found: &'f Option<Box<Found<'_>>>) -> &'f [SetCode]
+    ensures { result.now ≡ option_map_or (λ f. f.value.codes.items) found.entry.now [] }
+{
+    match found {
+        None => &[],
+        Some(found) => found.codes.as_slice(),
     }
 }
 

@@ -1,9 +1,10 @@
 ghost use Rattle.std.specs.Prelude.{◌≡◌, ◌≤◌, length, take};
 ghost use Rattle.x12_bytes.specs.declared.delims.Delims.{Delims};
 ghost use Rattle.set_check.specs.Envelope.{IsEnvelopeOf};
-ghost use Rattle.set_check.specs.SetParts.{before_trailer, parts_of, set_trailer_of};
+ghost use Rattle.set_check.specs.SetParts.{before_trailer, parts_of, set_parts, set_trailer_of};
+ghost use Rattle.x12_segs.specs.Words.{IsSetSpan};
 
-use x12_segs::SegView;
+use x12_segs::{SegView, SetSpan};
 
 /// What the codes of a set speak of beside its faults (X12.6, transaction set header and trailer).
 #[derive(Drop)]
@@ -40,4 +41,12 @@ pub(crate) fn envelope_of<'a>(closed: bool, segs: Vec<SegView<'a>>) -> Envelope<
         segments,
         trailer,
     }
+}
+
+/// The ST of a set of a text, read again.
+pub(crate) fn header_of<'a>(text: &'a [u8], set: &SetSpan) -> SegView<'a>
+    requires { IsSetSpan text.now set.now }
+    ensures { result ≡ (set_parts text.entry.now set.now).header }
+{
+    set.segments(text).next().unwrap()
 }

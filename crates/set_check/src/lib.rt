@@ -4,9 +4,9 @@
 //! Proved:
 //! - `check_set` finds exactly the faults of a set, each once and in their order, and its codes; there is neither a fault nor
 //!   a code exactly where the set meets its guide, looked at alone: by the grammar, its elements, its hierarchy and its
-//!   dependencies. Where an element fault and one of a hierarchy or dependency have one key, the element fault stands;
+//!   dependencies. Where an element fault and one of a hierarchy or dependency have one key, the element fault is reported;
 //! - `check_set_fast` finds the same by a compiled guide, mostly on one walk over the set (`set_walk`);
-//! - a `CheckedSet` keeps that its faults and codes are those of its own span of its text by its own guide, and `is_clean`
+//! - a `CheckedSet` keeps that its faults and codes are those of its span of its text by its own guide, and `is_clean`
 //!   answers whether it meets that guide;
 //! - `verdict` is accepted exactly where the set meets its guide and no earlier set of its group has its ST02, and accepted with
 //!   errors exactly where all codes report faults and the guide tolerates each fault; `into_answer` is what an acknowledgment

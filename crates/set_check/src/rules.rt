@@ -18,7 +18,7 @@ use loop_match::Placing;
 use std::alloc::Global;
 use x12_segs::SegView;
 
-/// Whether one of some faults that stand in order has the key of this one.
+/// Whether one of some faults that are in order has the key of this one.
 fn has_key_among(faults: &[Fault], fault: &Fault) -> bool
     ensures { AreRising faults.now → result ≡ has_key_among faults.now fault.now }
 {

@@ -1,17 +1,23 @@
 //! The verdict on a checked set (999 guide, IK501), and what is answered to it.
-ghost use Rattle.std.specs.Prelude.{◌≡◌, if◌then◌else◌};
+ghost use Rattle.std.specs.Prelude.{◌≡◌, [], if◌then◌else◌, IfOk};
 ghost use Rattle.std.specs.List.{list_all};
 ghost use Rattle.std.specs.Option.{option_copied};
 ghost use Rattle.hub_kinds.specs.declared.set_codes.Verdict.TheVariants.{Rejected};
 ghost use Rattle.set_check.specs.Checked.{guide_tree_of};
+ghost use Rattle.set_check.specs.Codes.{control_of, earlier_set_codes};
+ghost use Rattle.set_check.specs.Envelope.{codes_found};
 ghost use Rattle.set_check.specs.Verdict.{tells_of_faults, tolerates, verdict_on};
+ghost use Rattle.x12_segs.specs.Words.{element_of};
 
-use crate::checked::{CheckedSet, is_without_fault};
+use crate::checked::{CheckedSet, Found, found_codes, found_faults, is_without_fault};
 use crate::codes::set_codes;
+use crate::envelope::header_of;
 use crate::tolerance::tolerates;
 use guide_tree::Guide;
 use hub_kinds::{Fault, Items, Lent, NoMemory, SetAnswer, SetCode, Verdict};
 use std::alloc::Global;
+use std::boxed::Box;
+use x12_segs::SegView;
 
 impl<'a> CheckedSet<'a> {
     ghost use Rattle.std.specs.Prelude.{◌≡◌, ◌↔◌, false, IfOk};
@@ -29,8 +35,8 @@ impl<'a> CheckedSet<'a> {
     {
         verdict_by(
             self.guide,
-            self.faults.as_slice(),
-            self.codes.as_slice(),
+            found_faults(&self.found),
+            found_codes(&self.found),
             earlier,
         )
     }
@@ -42,35 +48,95 @@ impl<'a> CheckedSet<'a> {
     {
         let verdict = self.verdict(earlier);
         let CheckedSet {
+            text,
+            span,
             guide,
-            faults,
-            codes,
-            envelope,
-            ..
+            found,
         } = self;
-        let codes = if earlier {
-            set_codes(
-                alloc,
-                faults.as_slice(),
-                guide,
-                &envelope.header,
-                envelope.segments,
-                envelope.trailer.as_ref(),
-                earlier,
-            )?
-        } else {
-            codes
-        };
-        let (identifier, control, convention) = envelope.header.first_elements();
-        Ok(SetAnswer {
-            identifier: Lent::new(identifier),
-            control: Lent::new(control),
-            convention: Lent::new(convention),
-            faults: Items::from_vec(faults),
-            codes: Items::from_vec(codes),
-            verdict,
-        })
+        match found {
+            None => clean_answer(alloc, &header_of(text, &span), earlier, verdict),
+            Some(found) => found_answer(alloc, guide, Box::into_inner(found), earlier, verdict),
+        }
     }
+}
+
+/// What is answered to a set in which nothing was found, by its ST.
+fn clean_answer<'a>(
+    alloc: Global,
+    header: &SegView<'a>,
+    earlier: bool,
+    verdict: Verdict,
+) -> Result<SetAnswer<'a>, NoMemory>
+    ensures { IfOk result (λ answer. answer ≡ record {
+      identifier = element_of header.entry.now 1;
+      control = control_of header.entry.now;
+      convention = element_of header.entry.now 3;
+      faults = [];
+      codes = earlier_set_codes earlier;
+      verdict = verdict;
+    }) }
+{
+    let mut codes = Vec::new(alloc);
+    if earlier {
+        codes.push(SetCode::ControlNumberNotUnique)?;
+    }
+    let (identifier, control, convention) = header.first_elements();
+    Ok(SetAnswer {
+        identifier: Lent::new(identifier),
+        control: Lent::new(control),
+        convention: Lent::new(convention),
+        faults: Items::from_vec(Vec::new(alloc)),
+        codes: Items::from_vec(codes),
+        verdict,
+    })
+}
+
+/// What is answered to a set in which this was found, by its guide if it has one.
+fn found_answer<'a>(
+    alloc: Global,
+    guide: Option<&Guide>,
+    found: Found<'a>,
+    earlier: bool,
+    verdict: Verdict,
+) -> Result<SetAnswer<'a>, NoMemory>
+    ensures { IfOk result (λ answer. answer ≡ record {
+      identifier = element_of found.entry.envelope.header 1;
+      control = control_of found.entry.envelope.header;
+      convention = element_of found.entry.envelope.header 3;
+      faults = found.entry.faults.items;
+      codes =
+          codes_found (guide_tree_of (option_copied guide.entry)) found.entry.envelope found.entry.faults.items
+          found.entry.codes.items earlier;
+      verdict = verdict;
+    }) }
+{
+    let Found {
+        faults,
+        codes,
+        envelope,
+    } = found;
+    let codes = if earlier {
+        set_codes(
+            alloc,
+            faults.as_slice(),
+            guide,
+            &envelope.header,
+            envelope.segments,
+            envelope.trailer.as_ref(),
+            earlier,
+        )?
+    } else {
+        codes
+    };
+    let (identifier, control, convention) = envelope.header.first_elements();
+    Ok(SetAnswer {
+        identifier: Lent::new(identifier),
+        control: Lent::new(control),
+        convention: Lent::new(convention),
+        faults: Items::from_vec(faults),
+        codes: Items::from_vec(codes),
+        verdict,
+    })
 }
 
 /// The verdict by the faults, the codes where no earlier set is asked for, and whether there is one: it rejects the set.

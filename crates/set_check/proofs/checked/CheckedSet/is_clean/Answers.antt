@@ -5,6 +5,6 @@ use Rattle.set_check.proofs.checked.CheckedSet.is_clean.Goals as goal
 
 pub returns : goal.returns
 returns c =
-    clean_by c.args.self.now (subst IsChecked c.self.view_is c.self.invariant.0) c.as_slice.result.now c.as_slice-2.result.now
-    c.is_without_fault.result (c.as_slice.ensures.value ∙ ap (λ (k : Checked). k.faults) c.self.view_is)
-    (c.as_slice-2.ensures.value ∙ ap (λ (k : Checked). k.codes) c.self.view_is) c.is_without_fault.ensures.none
+    clean_by c.args.self.now (subst IsChecked c.self.view_is c.self.invariant.0) c.found_faults.result.now c.found_codes.result.now
+    c.is_without_fault.result (c.found_faults.ensures ∙ ap (λ (k : Checked). k.faults) c.self.view_is)
+    (c.found_codes.ensures ∙ ap (λ (k : Checked). k.codes) c.self.view_is) c.is_without_fault.ensures.none

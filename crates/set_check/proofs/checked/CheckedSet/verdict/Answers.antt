@@ -5,10 +5,10 @@ use Rattle.set_check.proofs.checked.CheckedSet.verdict.Goals as goal
 
 pub returns-clause-value : goal.returns-clause-value
 returns-clause-value c =
-    verdict_is c.args.self.now (subst IsChecked c.self.view_is c.self.invariant.0) _ c.as_slice.result.now c.as_slice-2.result.now
+    verdict_is c.args.self.now (subst IsChecked c.self.view_is c.self.invariant.0) _ c.found_faults.result.now c.found_codes.result.now
     c.args.earlier c.verdict_by.result (ap guide_in c.self.view_is)
-    (c.as_slice.ensures.value ∙ ap (λ (k : Checked). k.faults) c.self.view_is)
-    (c.as_slice-2.ensures.value ∙ ap (λ (k : Checked). k.codes) c.self.view_is) c.verdict_by.ensures
+    (c.found_faults.ensures ∙ ap (λ (k : Checked). k.faults) c.self.view_is)
+    (c.found_codes.ensures ∙ ap (λ (k : Checked). k.codes) c.self.view_is) c.verdict_by.ensures
 
 pub returns-clause-meets : goal.returns-clause-meets
 returns-clause-meets c =
