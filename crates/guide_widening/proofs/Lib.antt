@@ -1,0 +1,5 @@
+pub mod Agreeing
+pub mod GuidesAgree
+pub mod NodesAgree
+pub mod RowsAgree
+pub mod Walked

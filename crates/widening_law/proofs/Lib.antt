@@ -1,0 +1,12 @@
+mod Dependencies
+mod Elements
+mod Empties
+mod Given
+mod Hierarchies
+mod Listed
+mod Meeting
+mod Nodes
+mod Rows
+mod Slots
+mod Usages
+mod Values

@@ -1,0 +1,12 @@
+//! A guide was changed: which sets the new guide takes. A theorem alone: its call does nothing.
+//!
+//! Proved: if the new guide is wider by `guide_widening`, each set that meets the old guide meets the new one
+//! (`wider_guides_take_more`). It is proved rule by rule: the order of segments by induction over what a guide derives, then the
+//! elements and conditions of each segment, the hierarchy, the dependencies and the convention.
+//!
+//! Source: X12.6, transaction sets, segments and data elements; the 999 guide (005010X231), IK3 and IK4.
+#![tactic(auto)]
+
+mod law;
+
+pub use law::wider_guides_take_more;
