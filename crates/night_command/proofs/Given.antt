@@ -20,6 +20,7 @@ printed_of declared options setup (Ok file) status had has was is made given = r
     within = given.by.within;
     whole = given.by.whole;
     definition = given.by.definition;
+    run = given.by.run made.files made.makes;
     quotable = given.by.quotable _ _ _ made;
   };
   own_status = given.own_status;

@@ -1,3 +1,4 @@
+pub mod Cleaning
 pub mod CommandLine
 pub mod Ending
 pub mod Failing
@@ -8,6 +9,7 @@ pub mod OneSetup
 pub mod Opening
 pub mod PlainGuides
 pub mod Refusing
+pub mod Running
 pub mod SettingUp
 pub mod Shared
 mod WorkedWords

@@ -65,7 +65,7 @@ abbrev pub up_to_most : (most : ℕ) → Option ℕ → Option ℕ
 up_to_most most None = None
 up_to_most most (Some n) = if nat_le 1 n && nat_le n most then Some n else None
 
--- what an option says that may be left out: a number of 1 to 10 digits, from 1 up to the most; another number where it is left out
+-- what an option says that is optional: a number of 1 to 10 digits, from 1 up to the most; another number where it is left out
 abbrev pub number_given : (otherwise most : ℕ) → Option Text → Option ℕ
 number_given otherwise most None = Some otherwise
 number_given otherwise most (Some text) = up_to_most most (number_of 10 text)

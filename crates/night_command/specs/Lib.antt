@@ -5,4 +5,5 @@ pub mod Input
 pub mod NightFiles
 pub mod Outbox
 pub mod Outcome
+pub mod Runs
 pub mod SetupFiles

@@ -17,7 +17,7 @@ partner_files (p ∷ ps) [] boxes = []
 partner_files (p ∷ ps) (a ∷ acks) [] = []
 partner_files (p ∷ ps) (a ∷ acks) (b ∷ boxes) = files_of p a b ++ partner_files ps acks boxes
 
--- the files of the whole night
+-- the files of the complete night
 abbrev pub last_files : (report counters : List ℕ) → List File
 last_files report counters = (codes "report.txt", report) ∷ (codes "counters.toml", counters) ∷ []
 

@@ -15,9 +15,11 @@ use Rattle.night_command.specs.CommandLine.{AreOptions, AsksForText, guide_paths
 use Rattle.night_command.specs.Outbox.{AddsFiles, AddsSome, File, KeepsFiles}
 use Rattle.night_command.specs.Failure.{put_failure}
 use Rattle.night_command.specs.NightFiles.{night_files}
-use Rattle.night_command.specs.SetupFiles.{IsSetupAt}
+use Rattle.night_command.specs.Runs.{IsRunBy}
+use Rattle.night_command.specs.SetupFiles.{IsSetupAt, IsSetupOf}
 use Rattle.night_command.specs.declared.command.Options.{Options}
 use Rattle.night_command.specs.declared.failure.Failure.{Failure}
+use Rattle.night_command.specs.declared.setup_files.SetupFiles.{SetupFiles}
 use Rattle.night_command.specs.declared.put_fault.PutFault.{PutFault}
 use Rattle.night_command.specs.declared.outcome.Outcome.{Outcome}
 use Rattle.night_command.specs.declared.outcome.Outcome.TheVariants.{Shown, Ran}
@@ -36,8 +38,9 @@ abbrev pub status_of : Outcome → ℕ
 status_of (Shown text) = 0
 status_of (Ran night) = if is_clean night.report then 0 else 1
 
--- the whole night of some text that isn't too long, at the moment of the options and by a setup that some files make which were asked for
--- by the paths of the options, which is the definition's; each partner's guides can be quoted, so each reads its acknowledgments
+-- the complete night of some text that isn't too long, at the moment of the options and by a setup that some files make which were asked
+-- for by the paths of the options, which is the definition's; its files and its status are those of the definition's run by these files;
+-- each partner's guides can be quoted, so each reads its acknowledgments
 pub record IsNightBy (options : Options) (night : Night) : Type 0 where
   pub setup : SetupValue
   pub made : IsSetupAt (guide_paths options) options.setup.now options.counters.now setup
@@ -45,6 +48,7 @@ pub record IsNightBy (options : Options) (night : Night) : Type 0 where
   pub within : length text ≤ LONGEST_TEXT
   pub whole : IsWholeNight text setup options.at night
   pub definition : defined.IsNight text (seen_setup setup) options.at (seen_night night)
+  pub run : IsRunBy made.files options.at text (night_files setup night) (status_of (Ran night))
   pub quotable : AreAllQuotable text setup
 
 -- such a night was run: what was printed is the last line of its report, and the status is its own
@@ -59,14 +63,15 @@ abbrev pub IsQuotableOfFiles : (text : List ℕ) → SetupValue → Type 0
 IsQuotableOfFiles text setup =
     (guides : List (List ℕ)) (rows counters : List ℕ) → IsSetupAt guides rows counters setup → AreAllQuotable text setup
 
--- the whole night of the bytes that a source gave, no more than the limit, which are all that it declared, where it declared them; where
--- files make the setup, each partner reads its acknowledgments
+-- the complete night of the bytes that a source gave, no more than the limit, which are all that it declared, where it declared them; where
+-- files make the setup, its files and its status are those of the definition's run by them, and each partner reads its acknowledgments
 pub record IsNightOfSource (told : Option (List ℕ)) (setup : SetupValue) (at : List ℕ) (night : Night) : Type 0 where
   pub text : List ℕ
   pub told_all : IfSome told (λ xs. xs ≡ text)
   pub within : length text ≤ LONGEST_TEXT
   pub whole : IsWholeNight text setup at night
   pub definition : defined.IsNight text (seen_setup setup) at (seen_night night)
+  pub run : (read : SetupFiles) → IsSetupOf read setup → IsRunBy read at text (night_files setup night) (status_of (Ran night))
   pub quotable : IsQuotableOfFiles text setup
 
 -- a night is given: it is that of a source, a setup and a moment, its files are put after what the outbox had, the last line of its report

@@ -20,7 +20,7 @@ use Rattle.night_command.specs.declared.failure.Failure.TheVariants as failure
 use Rattle.night_command.specs.FileAt.{FileValue}
 use Rattle.night_command.specs.declared.setup_files.SetupFiles.{SetupFiles}
 
--- why a file writes none; none stands for the refusal of one that can't be read
+-- why a file writes none; none represents the refusal of one that can't be read
 abbrev pub IsFileRefused : {A : Type 0} → (Members → Result A Refusal) → Option (List ℕ) → Option FileFault → Type 0
 IsFileRefused read None None = ⊤
 IsFileRefused read None (Some refusal) = ⊥
@@ -104,7 +104,7 @@ pub record IsRefusedAt (guides : List (List ℕ)) (setup counters : List ℕ) (f
   pub at : AreAt files guides setup counters
   pub refused : IsFirstRefusal files failed
 
--- a file that can't be opened has no bytes, but for want of memory, which says nothing of it
+-- a file that can't be opened has no bytes, but for lack of memory, which says nothing of it
 pub record IsUnread {E : Type 0} (kind : ErrorKind) (result : Result FileValue E) : Type 0 where
   pub memory : kind ≡ OutOfMemory → IsErr result
   pub other_fault : kind ≢ OutOfMemory → IsOkAnd result (λ file. file.bytes ≡ None)

@@ -14,7 +14,7 @@ use night_ends::{RELEASE, copied, with_argument};
 use std::alloc::{AllocError, Global};
 use std::convert::AsStr;
 
-/// What stands after the options in the text of `--help`.
+/// What comes after the options in the text of `--help`.
 const FILES_AND_STATUSES: &str =
     "Files of DIR: NAME.ack and NAME.box for each partner, report.txt, counters.toml.
 

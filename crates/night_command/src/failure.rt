@@ -14,7 +14,7 @@ use std::alloc::{AllocError, AllocFailed};
 use std::io;
 use std::io::Write;
 
-/// Why a run failed. Of a file's refusal, none stands for a file that can't be read.
+/// Why a run failed. Of a file's refusal, none represents a file that can't be read.
 #[derive(Debug, Drop)]
 pub enum Failure<'a> {
     /// The arguments are not those of the command line.
@@ -42,7 +42,7 @@ pub enum Failure<'a> {
 }
 
 impl<'a> Failure<'a> {
-    /// The failure that a fault of the system stands for, where it isn't out of memory.
+    /// The failure that a fault of the system represents, where it isn't out of memory.
     pub fn of_fault(error: io::Error, other: Failure<'a>) -> Failure<'a>
         ensures fault { IsMemoryOr (error_kind error) other.entry result }
         ensures either { (result ≡ Failure.Memory) ⊎ (result ≡ other.entry) }

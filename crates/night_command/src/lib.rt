@@ -5,7 +5,7 @@
 //! Proved, where a call returns (it waits for its workers):
 //! - `night_main` is safe on every input, and its status is 0 to 6;
 //! - a run that doesn't fail has printed what its arguments ask for, and nothing else, where the writer declares what it has: help or
-//!   the version where they ask for that; otherwise the last line of the report of the whole night (`IsWholeNight` of `night_law`) of
+//!   the version where they ask for that; otherwise the last line of the report of the complete night (`IsWholeNight` of `night_law`) of
 //!   some text, no longer than the limit, at the moment that the arguments name, by a setup that the bytes of some files make, which
 //!   were asked for by the paths that the arguments name; each partner can read its acknowledgments, and the status is 0 exactly where
 //!   that report is clean (`night_main`, `printed`);
@@ -16,10 +16,10 @@
 //! - the setup of files is what their bytes make, all of it, or their first refusal: of the guides in their order, of the
 //!   setup file, of the counters file, of what they make together, a file that can't be read being refused at its place;
 //!   files that make a setup have no refusal, and only out of memory comes before the first one (`setup_of`);
-//! - a night that is given is the whole night of the bytes that its source declared, its setup and its moment; its files were put into the
-//!   outbox, after what that had, where the outbox declares what it has; the last line of its report was printed, where the writer declares
-//!   what it has; and the status is 0 exactly where it is clean (`give_night`, `given`); each partner can read its acknowledgments,
-//!   by whatever guide files (`night_in`, `night`);
+//! - a night that is given is the complete night of the bytes that its source declared, its setup and its moment; its files were put into
+//!   the outbox, after what that had, where the outbox declares what it has; the last line of its report was printed, where the writer
+//!   declares what it has; and the status is 0 exactly where it is clean (`give_night`, `given`); each partner can read its
+//!   acknowledgments, by whatever guide files (`night_in`, `night`);
 //! - an input is reported as too long only where the source declared more than the limit, where it declares what it has, and gave more,
 //!   which it counts; and unreadable exactly where the source failed, or was interrupted more than 1,000 times in a row (`night_in`,
 //!   `long`, `many`, `unread`, `tried`); before it is read it is refused exactly where opening it failed, or the system says that it is

@@ -49,7 +49,7 @@ pub fn option_named<'a>(alloc: Global, name: &'a str, value: &'a str, help: &'a 
         .action(ArgAction::Set)
 }
 
-/// An option of this name that takes one value, and may be left out.
+/// An option of this name that takes one value, and is optional.
 pub fn option_free<'a>(alloc: Global, name: &'a str, value: &'a str, help: &'a str) -> Arg<'a>
     ensures rule { rule_of result ≡ option_free name.now }
     ensures local { result.global ≡ false }

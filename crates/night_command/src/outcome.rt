@@ -16,7 +16,7 @@ use x12_segs::{Parts, components};
 pub enum Outcome {
     /// A text that was asked for: help, or the version.
     Shown(String),
-    /// A night, whose files are put away.
+    /// A night, whose files are written.
     Ran(Night),
 }
 
@@ -51,7 +51,7 @@ fn print_last_line<O: Write>(report: &[u8], out: &mut O) -> io::Result<()>
     out.write_all(b"\n")
 }
 
-/// The lines of a text, and what stands after the last of them.
+/// The lines of a text, and what comes after the last of them.
 fn lines_of(text: &[u8]) -> Parts<'_>
     ensures { result ≡ parts 10 text.entry.now }
 {

@@ -25,7 +25,7 @@ pub struct Sharing {
     pub piece: u64,
 }
 
-/// The option for the number of workers, 1 to 64, which may be left out.
+/// The option for the number of workers, 1 to 64, which is optional.
 pub fn workers_option<'a>(alloc: Global, help: &'a str) -> Arg<'a>
     ensures rule { rule_of result ≡ workers_rule }
     ensures local { result.global ≡ false }
@@ -33,7 +33,7 @@ pub fn workers_option<'a>(alloc: Global, help: &'a str) -> Arg<'a>
     option_free(alloc, "workers", "N", help).value_parser(value_parser!(u64).range(1..=64))
 }
 
-/// The option for how many bytes a worker takes at a time, 1 to 4,294,967,295, which may be left out.
+/// The option for how many bytes a worker takes at a time, 1 to 4,294,967,295, which is optional.
 pub fn piece_option<'a>(alloc: Global, help: &'a str) -> Arg<'a>
     ensures rule { rule_of result ≡ piece_rule }
     ensures local { result.global ≡ false }
@@ -52,7 +52,7 @@ pub fn sharing_given(matches: &ArgMatches<'_>) -> Option<Sharing>
     Some(Sharing { workers, piece })
 }
 
-/// The number that an option gives which may be left out, from 1 up to the most.
+/// The number that an option gives which is optional, from 1 up to the most.
 fn number_given(text: Option<&str>, otherwise: u64, most: u64) -> Option<u64>
     ensures { result ≡ number_given otherwise most (option_map (λ t. t.now) text.entry) }
 {

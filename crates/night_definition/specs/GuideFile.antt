@@ -1,6 +1,7 @@
 -- own: the guide that a guide file describes.
 use Rattle.std.specs.Prelude.{ℕ, ◌+◌, ◌==◌, nat_le, List, [], ◌∷◌, length, codes, Option, Some, None, Bool, true, false, not, ◌&&◌, ◌||◌}
 use Rattle.std.specs.Prelude.{if◌then◌else◌, option_map, bytes_eq, take, drop, find, map, is_some}
+use Rattle.std.specs.Option.{option_map_or}
 use Rattle.std.specs.List.{list_all, prefix_len, slice_split}
 use Rattle.std.specs.Char.{is_ascii_uppercase}
 use Rattle.toml.specs.Data.{Data, array, table, Items, no_items, item, Members, no_members, member}
@@ -39,8 +40,9 @@ use Rattle.night_definition.specs.Tables.{◌>>=◌, required, optional, only, n
 abbrev pub Words : Type 0
 Words = List (List ℕ)
 
+-- one or more digits, at most 4,294,967,295
 abbrev pub count : List ℕ → Option ℕ
-count text = number_of 10 text >>= only (λ n. nat_le n 4294967295)
+count text = number_of (length text) text >>= only (λ n. nat_le n 4294967295)
 
 -- a code consists of the bytes 0x21 to 0x7E without =, ! and ;
 abbrev pub is_code : List ℕ → Bool
@@ -65,21 +67,20 @@ type_of t =
 -- xN, or once
 abbrev pub take_repeat : Words → ℕ × Words
 take_repeat [] = (1, [])
-take_repeat (t ∷ ts) = by (if bytes_eq (take 1 t) (codes "x") then count (drop 1 t) else None) where
-  by : Option ℕ → ℕ × Words
-  by None = (1, t ∷ ts)
-  by (Some n) = (n, ts)
+take_repeat (t ∷ ts) = option_map_or (λ n. (n, ts)) (if bytes_eq (take 1 t) (codes "x") then count (drop 1 t) else None) (1, t ∷ ts)
 
--- the codes in use after =, and the codes that are known but not used after !
+-- the codes that are known but not used, after !
+abbrev pub codes_unused : (used : Words) → Words → Option CodeList
+codes_unused used [] = Some (record { used = used; unused = None })
+codes_unused used (t ∷ ts) =
+    if bytes_eq t (codes "!") && list_all is_code ts then Some (record { used = used; unused = Some ts }) else None
+
+-- the codes in use after =, and those not used
 abbrev pub code_list : Words → Option (Option CodeList)
 code_list [] = Some None
 code_list (t ∷ ts) =
     let used = take (prefix_len is_code ts) ts in
-    if bytes_eq t (codes "=") then option_map Some (by used (drop (prefix_len is_code ts) ts)) else None
-  where
-    by : Words → Words → Option CodeList
-    by used [] = Some (record { used = used; unused = None })
-    by used (t ∷ ts) = if bytes_eq t (codes "!") && list_all is_code ts then Some (record { used = used; unused = Some ts }) else None
+    if bytes_eq t (codes "=") then option_map Some (codes_unused used (drop (prefix_len is_code ts) ts)) else None
 
 abbrev pub take_wide : Words → Bool × Words
 take_wide [] = (false, [])
@@ -109,6 +110,12 @@ abbrev pub all_of : {A : Type 0} → List (Option A) → Option (List A)
 all_of [] = Some []
 all_of (o ∷ os) = o >>= λ x. option_map (λ xs. x ∷ xs) (all_of os)
 
+-- MIN MAX xN, then `wide` and codes
+abbrev pub simple_of : (reference : List ℕ) → Requirement → (type : List ℕ) → Words → (components : List Words) → Option Element
+simple_of r q type (least ∷ most ∷ ts) [] =
+    option_map (λ s. row.Simple s (take_repeat ts).0) (row_of r q type least most (take_repeat ts).1)
+simple_of r q type ts groups = None
+
 -- REF N; or REF USE C and components after semicolons; or REF USE TYPE MIN MAX
 abbrev pub element_of : Words → (components : List Words) → Option Element
 element_of (ref ∷ usage ∷ []) [] = if bytes_eq usage (codes "N") then option_map row.NotUsed (reference_of ref) else None
@@ -117,11 +124,7 @@ element_of (ref ∷ usage ∷ type ∷ ts) groups =
     if bytes_eq type (codes "C")
     then (no_more (take_repeat ts).0 (take_repeat ts).1 >>= λ n. all_of (map component_of groups) >>= λ cs.
     Some (row.Composite (record { reference = r; requirement = q; repeat = n; components = cs })))
-    else by r q type ts groups
-  where
-    by : List ℕ → Requirement → List ℕ → Words → List Words → Option Element
-    by r q type (least ∷ most ∷ ts) [] = option_map (λ s. row.Simple s (take_repeat ts).0) (row_of r q type least most (take_repeat ts).1)
-    by r q type ts groups = None
+    else simple_of r q type ts groups
 element_of ts groups = None
 
 abbrev pub head_or_none : List Words → Words
@@ -132,12 +135,13 @@ abbrev pub element_text : List ℕ → Option Element
 element_text text =
     let groups = slice_split (λ t. bytes_eq t (codes ";")) (divided 32 text) in element_of (head_or_none groups) (drop 1 groups)
 
+abbrev pub pick_in : Words → Option Pick
+pick_in [] = None
+pick_in (t ∷ ts) = count t >>= λ n. if list_all is_code ts then Some (record { position = n; codes = ts }) else None
+
 -- POSITION CODE CODE ..
 abbrev pub pick_of : List ℕ → Option Pick
-pick_of text = by (divided 32 text) where
-  by : Words → Option Pick
-  by [] = None
-  by (t ∷ ts) = count t >>= λ n. if list_all is_code ts then Some (record { position = n; codes = ts }) else None
+pick_of text = pick_in (divided 32 text)
 
 abbrev pub positions_of : List ℕ → Option (List ℕ)
 positions_of [] = Some []
@@ -151,14 +155,15 @@ condition_of text =
     ∷ (codes "C", relation.Conditional) ∷ (codes "L", relation.ListConditional) ∷ []) (take 1 text) >>= λ r.
     positions_of (drop 1 text) >>= λ ps. Some (record { relation = r; positions = ps })
 
+abbrev pub pair_in : Words → Option HlPair
+pair_in ([] ∷ child ∷ []) = only (is_word 1 2) child >>= λ c. Some (record { parent = None; child = c })
+pair_in (parent ∷ child ∷ []) = only (is_word 1 2) parent >>= λ p. only (is_word 1 2) child
+    >>= λ c. Some (record { parent = Some p; child = c })
+pair_in ts = None
+
 -- PARENT/CHILD
 abbrev pub pair_of : List ℕ → Option HlPair
-pair_of text = by (divided 47 text) where
-  by : Words → Option HlPair
-  by ([] ∷ child ∷ []) = only (is_word 1 2) child >>= λ c. Some (record { parent = None; child = c })
-  by (parent ∷ child ∷ []) = only (is_word 1 2) parent >>= λ p. only (is_word 1 2) child
-      >>= λ c. Some (record { parent = Some p; child = c })
-  by ts = None
+pair_of text = pair_in (divided 47 text)
 
 abbrev pub segment_code : List ℕ → Option SegmentCode
 segment_code t = find (λ c. bytes_eq (ik304_of c).0 t)

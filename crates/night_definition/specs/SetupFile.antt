@@ -41,11 +41,12 @@ counters_of rows name =
     option_map_or (λ (r : List ℕ × Counters). r.1) (find (λ (r : List ℕ × Counters). bytes_eq r.0 name) rows)
     (record { interchange = 1; group = 1; set = 1 })
 
+abbrev pub only_byte : List ℕ → Option ℕ
+only_byte (b ∷ []) = Some b
+only_byte t = None
+
 abbrev pub byte : (key : List ℕ) → Members → Option ℕ
-byte key ms = text key ms >>= λ t. by t where
-  by : List ℕ → Option ℕ
-  by (b ∷ []) = Some b
-  by t = None
+byte key ms = text key ms >>= only_byte
 
 abbrev pub delims_of : Members → Option Delims
 delims_of ms =
@@ -69,12 +70,13 @@ partner_of rows guides ms =
       guides = places;
     })
 
+abbrev pub names_of : List Partner → List (List ℕ)
+names_of ps = map (λ (p : Partner). p.name) ps
+
 -- `to` is a partner's name, or a list of them
 abbrev pub receivers : List Partner → Data → Option (List ℕ)
-receivers ps d = by (as_str d) where
-  by : Option (List ℕ) → Option (List ℕ)
-  by (Some name) = option_map (λ p. p ∷ []) (place_of (map (λ (p : Partner). p.name) ps) name)
-  by None = texts (place_of (map (λ (p : Partner). p.name) ps)) d
+receivers ps d =
+    option_map_or (λ name. option_map (λ p. p ∷ []) (place_of (names_of ps) name)) (as_str d) (texts (place_of (names_of ps)) d)
 
 abbrev pub route_of : List Partner → Members → Option Route
 route_of ps ms = text (codes "code") ms >>= λ code. required (receivers ps) (codes "to") ms
@@ -88,29 +90,30 @@ setup_of_tables setup counters guides =
     optional [] (list_of (table_of (route_of partners))) (codes "route") setup >>= λ routes.
     Some (record { hub = hub; partners = partners; routes = routes; guides = guides })
 
+abbrev pub counter_text : Partner → Counters → List ℕ
+counter_text p c =
+    codes "\n[[counter]]\npartner = \"" ++ p.name ++ codes "\"\ninterchange = " ++ decimal c.interchange
+    ++ codes "\ngroup = " ++ decimal c.group ++ codes "\nset = " ++ decimal c.set ++ codes "\n"
+
+abbrev pub counter_texts : List Partner → List Counters → List ℕ
+counter_texts [] cs = []
+counter_texts (p ∷ ps) [] = []
+counter_texts (p ∷ ps) (c ∷ cs) = counter_text p c ++ counter_texts ps cs
+
 -- the text of the next night's counters
 abbrev pub counters_text : List Partner → List Counters → List ℕ
-counters_text partners next = codes "version = 2\n" ++ rows partners next where
-  row : Partner → Counters → List ℕ
-  row p c =
-      codes "\n[[counter]]\npartner = \"" ++ p.name ++ codes "\"\ninterchange = " ++ decimal c.interchange
-      ++ codes "\ngroup = " ++ decimal c.group ++ codes "\nset = " ++ decimal c.set ++ codes "\n"
+counters_text partners next = codes "version = 2\n" ++ counter_texts partners next
 
-  rows : List Partner → List Counters → List ℕ
-  rows [] cs = []
-  rows (p ∷ ps) [] = []
-  rows (p ∷ ps) (c ∷ cs) = row p c ++ rows ps cs
+abbrev pub partner_files : List Partner → (acks boxes : List (List ℕ)) → List (List ℕ × List ℕ)
+partner_files (p ∷ ps) (a ∷ acks) (b ∷ boxes) =
+    (p.name ++ codes ".ack", a) ∷ (p.name ++ codes ".box", b) ∷ partner_files ps acks boxes
+partner_files ps acks boxes = []
 
 -- each file's name and bytes
 abbrev pub night_files : Setup → Night → List (List ℕ × List ℕ)
 night_files setup night =
     partner_files setup.partners night.acks night.boxes
     ++ (codes "report.txt", night.report) ∷ (codes "counters.toml", counters_text setup.partners night.next) ∷ []
-  where
-    partner_files : List Partner → (acks boxes : List (List ℕ)) → List (List ℕ × List ℕ)
-    partner_files (p ∷ ps) (a ∷ acks) (b ∷ boxes) =
-        (p.name ++ codes ".ack", a) ∷ (p.name ++ codes ".box", b) ∷ partner_files ps acks boxes
-    partner_files ps acks boxes = []
 
 abbrev pub lines_of : (report : List ℕ) → List (List ℕ)
 lines_of report = let parts = divided 10 report in take (length parts - 1) parts

@@ -1,6 +1,7 @@
 -- own: the values of a TOML table. An absent value, or one of another kind, is None.
 use Rattle.std.specs.Prelude.{ℕ, ℤ, pos, negsuc, nat_le, List, [], ◌∷◌, Option, Some, None, Bool, if◌then◌else◌, option_map}
 use Rattle.std.specs.Prelude.{option_and_then, bytes_eq}
+use Rattle.std.specs.Option.{option_map_or}
 use Rattle.toml.specs.Data.{Data, Items, no_items, item, Members, get_member, as_str, as_integer, as_array, as_table}
 use Rattle.night_definition.specs.Header.{is_word}
 
@@ -13,19 +14,17 @@ required read key ms = get_member key ms >>= read
 
 -- the value of a key that may be absent
 abbrev pub optional : {A : Type 0} → A → (Data → Option A) → (key : List ℕ) → Members → Option A
-optional {A = A} absent read key ms = by (get_member key ms) where
-  by : Option Data → Option A
-  by None = Some absent
-  by (Some d) = read d
+optional absent read key ms = option_map_or read (get_member key ms) (Some absent)
 
 abbrev pub only : {A : Type 0} → (A → Bool) → A → Option A
 only test x = if test x then Some x else None
 
+abbrev pub natural : ℤ → Option ℕ
+natural (pos n) = only (λ m. nat_le m 4294967295) n
+natural (negsuc n) = None
+
 abbrev pub number : Data → Option ℕ
-number d = as_integer d >>= λ z. natural z where
-  natural : ℤ → Option ℕ
-  natural (pos n) = only (λ m. nat_le m 4294967295) n
-  natural (negsuc n) = None
+number d = as_integer d >>= natural
 
 abbrev pub word : (least most : ℕ) → Data → Option (List ℕ)
 word least most d = as_str d >>= only (is_word least most)

@@ -1,4 +1,4 @@
--- A whole night: first bytes 001.
+-- A complete night: first bytes 001.
 use Rattle.std.specs.Prelude.{ℕ, ◌≡◌, List, [], ◌∷◌, codes, Some}
 use Rattle.partner_setup.specs.declared.partner.Partner.{Partner}
 use Rattle.partner_setup.specs.declared.rows.Usage.TheVariants as usage

@@ -1,4 +1,4 @@
--- A whole night: line feed terminates.
+-- A complete night: line feed terminates.
 use Rattle.std.specs.Prelude.{ℕ, ◌≡◌, List, [], ◌∷◌, ◌++◌, codes, Some}
 use Rattle.partner_setup.specs.declared.partner.Partner.{Partner}
 use Rattle.partner_setup.specs.declared.rows.Usage.TheVariants as usage

@@ -1,5 +1,6 @@
 use Rattle.night_command.proofs.Files.{some_put, told_fault}
 use Rattle.night_command.proofs.PlainGuides.{setup_plain}
+use Rattle.night_command.proofs.Running.{run_is}
 use Rattle.night_command.specs.Outcome.{IsNightOfSource, LeavesOutbox}
 use Rattle.night_command.specs.declared.failure.Failure.{Failure}
 use Rattle.night_command.proofs.night.night_in.Goals as goal
@@ -13,6 +14,7 @@ returns-clause-night g c =
       within = given.few;
       whole = given.whole;
       definition = given.definition;
+      run = run_is c.args.setup.now c.in_ok-night.night given.text c.args.at.now given.few given.definition;
       quotable = λ guides rows counters at.
           c.plain_references_are_quoted.ensures given.text c.args.setup.now c.is_sound.ensures
           (setup_plain c.files_write_references.ensures guides rows counters c.args.setup.now at);
@@ -29,6 +31,7 @@ returns-in_err-put_night-clause-some g c =
       within = given.few;
       whole = given.whole;
       definition = given.definition;
+      run = run_is setup c.in_ok-night.night given.text c.args.at.now given.few given.definition;
       quotable = λ guides rows counters at.
           c.plain_references_are_quoted.ensures given.text setup c.is_sound.ensures
           (setup_plain c.files_write_references.ensures guides rows counters setup at);

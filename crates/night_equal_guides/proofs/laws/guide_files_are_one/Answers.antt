@@ -1,0 +1,5 @@
+use Rattle.night_equal_guides.proofs.Guides.{guide_files_are_one}
+use Rattle.night_equal_guides.proofs.laws.guide_files_are_one.Goals as goal
+
+pub returns : goal.returns
+returns c = guide_files_are_one
