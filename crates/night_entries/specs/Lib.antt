@@ -3,3 +3,4 @@ pub mod Files
 pub mod Keys
 pub mod Named
 pub mod Rows
+pub mod TableFault

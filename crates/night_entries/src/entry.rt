@@ -1,8 +1,9 @@
 ghost use Rattle.std.specs.Prelude.{◌≡◌, ◌++◌, IfOk, map};
-ghost use Rattle.csv.specs.Reading.{AreRecords, default_config, strip_bom};
+ghost use Rattle.csv.specs.Reading.{AreRecords, default_config, error_kind, strip_bom};
 ghost use Rattle.csv.specs.Records.{fields_of};
 ghost use Rattle.csv.specs.declared.parser.State.TheVariants as st;
 ghost use Rattle.night_entries.specs.Entry.{AreCounters, IsEntry, IsSetup};
+ghost use Rattle.night_entries.specs.TableFault.{table_fault};
 
 use crate::fault::{EntryFault, Paper};
 use crate::files::{NamedSum, files_of};
@@ -10,7 +11,7 @@ use crate::key::delivered_keys;
 use crate::rows::address_rows;
 use crate::sums::read_sums;
 use crate::table::records_of;
-use csv::ByteRecord;
+use csv::{ByteRecord, Error, ErrorKind};
 use hub_kinds::{Items, copy_text, read_number};
 use hub_ledger::NightEntry;
 use partner_setup::{CounterRows, FileFault, SetupRows, read_counters, read_setup};
@@ -66,16 +67,25 @@ fn counters_of(alloc: Global, bytes: &[u8], paper: Paper) -> Result<CounterRows,
     }
 }
 
+/// The fault of a table that isn't read.
+fn table_fault(error: &Error) -> EntryFault
+    ensures { result ≡ table_fault (error_kind error.now) }
+{
+    match error.kind() {
+        ErrorKind::OutOfMemory | ErrorKind::Io(_) => EntryFault::Memory,
+        ErrorKind::Utf8 { .. }
+        | ErrorKind::UnequalLengths { .. }
+        | ErrorKind::Serialize(_)
+        | ErrorKind::Deserialize { .. } => EntryFault::Unreadable(Paper::Track),
+    }
+}
+
 fn table_of(alloc: Global, bytes: &[u8]) -> Result<Vec<ByteRecord>, EntryFault>
     ensures { IfOk result (λ table. AreRecords default_config st.StartRecord (strip_bom bytes.now) (map fields_of table.items)) }
 {
     match records_of(alloc, bytes) {
         Ok(table) => Ok(table),
-        Err(error) => Err(if error.is_io_error() {
-            EntryFault::Memory
-        } else {
-            EntryFault::Unreadable(Paper::Track)
-        }),
+        Err(error) => Err(table_fault(&error)),
     }
 }
 

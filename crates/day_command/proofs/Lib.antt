@@ -1,0 +1,4 @@
+mod CommandLine
+mod Counting
+mod GoingOn
+mod Reporting

@@ -1,0 +1,42 @@
+-- What was read of a folder, and what is said of it.
+use Rattle.std.proofs.Common.{◌≡◌, ◌∙◌, ℕ, List, [], Option, Some, ap, codes, length, subst}
+use Rattle.std.specs.List.{AllZip, filter_map}
+use Rattle.hub_ledger.specs.declared.entry.NightEntry.{NightEntry}
+use Rattle.night_ends.specs.Outbox.{path_in}
+use Rattle.night_folder.specs.Files.{FileValue, FolderValue, bytes_or_none, first_line}
+use Rattle.night_folder.specs.Marks.{IsFound}
+use Rattle.night_folder.specs.Nights.{IsRead, bad_in, entry_in}
+use Rattle.night_folder.specs.declared.night.NightRead.{NightRead}
+use Rattle.night_marks.specs.Order.{in_order}
+use Rattle.night_marks.specs.declared.bad.BadFile.{BadFile}
+use Rattle.night_marks.specs.declared.mark.NightMark.{NightMark}
+use Rattle.day_command.specs.GoingOn.{IsJudged}
+use Rattle.day_command.specs.Outcome.{IsReport, nights_in}
+
+pub reported : (nights text : List ℕ) (status : ℕ) (folder : FolderValue) (names : List (List ℕ)) (found : List (Option NightMark))
+    (marks order : List NightMark) (reads : List NightRead) (entries : List NightEntry) (bad : List BadFile) (last : FileValue)
+    (limit named : List ℕ) → folder.path ≡ nights → folder.names ≡ Some names → AllZip (IsFound nights) names found
+    → marks ≡ nights_in found → order ≡ in_order (length marks) [] marks → AllZip (IsRead nights) order reads
+    → last.path ≡ path_in nights (codes ".last") → entries ≡ filter_map entry_in reads → bad ≡ filter_map bad_in reads
+    → named ≡ first_line (bytes_or_none last.bytes) → IsJudged limit named order entries bad text status → IsReport nights text status
+reported nights text status folder names found marks order reads entries bad last limit named folder_at listed found_by marks_are ordered
+    read_by last_at entries_are bad_are named_is judged =
+    record {
+      folder = folder;
+      folder_at = folder_at;
+      names = names;
+      listed = listed;
+      found = found;
+      found_by = found_by;
+      order = order;
+      ordered = ordered ∙ ap (λ (l : List NightMark). in_order (length l) [] l) marks_are;
+      reads = reads;
+      read_by = read_by;
+      last = last;
+      last_at = last_at;
+      limit = limit;
+      judged =
+          subst (λ (n : List ℕ). IsJudged limit n order (filter_map entry_in reads) (filter_map bad_in reads) text status) named_is
+          (subst (λ (b : List BadFile). IsJudged limit named order (filter_map entry_in reads) b text status) bad_are
+          (subst (λ (e : List NightEntry). IsJudged limit named order e bad text status) entries_are judged));
+    }

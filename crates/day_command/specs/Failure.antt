@@ -1,0 +1,42 @@
+-- The program's failures (own): the line that each prints, and the status that it ends with.
+use Rattle.std.specs.Prelude.{ℕ, ◌==◌, ◌||◌, IsTrue, List, ◌++◌, codes}
+use Rattle.day_command.specs.declared.failure.Failure.{Failure}
+use Rattle.day_command.specs.declared.failure.Failure.TheVariants as failure
+use Rattle.day_command.specs.declared.mistake.Mistake.{Mistake}
+use Rattle.day_command.specs.declared.mistake.Mistake.TheVariants as mistake
+
+-- the line on standard error
+abbrev pub line_of : Failure → List ℕ
+line_of failure.Input = codes "nighthub_day: input: NIGHTS can't be listed, or has a name that isn't UTF-8\n"
+line_of failure.Clock = codes "nighthub_day: input: the clock can't be read\n"
+line_of failure.Stdout = codes "nighthub_day: output stdout\n"
+line_of failure.Memory = codes "nighthub_day: memory\n"
+
+abbrev pub status_of : Failure → ℕ
+status_of failure.Input = 4
+status_of failure.Clock = 4
+status_of failure.Stdout = 5
+status_of failure.Memory = 6
+
+-- a status: 0 or 1, or that of a failure
+abbrev pub IsStatus : ℕ → Type 0
+IsStatus n = IsTrue (n == 0 || (n == 1 || (n == 2 || (n == 4 || (n == 5 || n == 6)))))
+
+-- the line and the status of a mistake in the arguments
+abbrev pub mistake_line : Mistake → List ℕ
+mistake_line (mistake.Usage text) = codes "nighthub_day: usage: " ++ (text ++ codes "; see --help\n")
+mistake_line mistake.Memory = line_of failure.Memory
+
+abbrev pub mistake_status : Mistake → ℕ
+mistake_status (mistake.Usage text) = 2
+mistake_status mistake.Memory = 6
+
+-- the arguments are wrong
+abbrev pub IsUsage : Mistake → Type 0
+IsUsage (mistake.Usage text) = Unit {0}
+IsUsage mistake.Memory = ⊥
+
+-- a failure before anything is printed
+abbrev pub IsBefore : Failure → Type 0
+IsBefore failure.Stdout = ⊥
+IsBefore _ = Unit {0}

@@ -1,0 +1,89 @@
+ghost use Rattle.std.specs.Prelude.{◌≡◌, ◌⊎◌, OnOk};
+ghost use Rattle.std.specs.Io.KnownBytes.{Appends};
+ghost use Rattle.day_command.specs.Failure.{line_of, status_of};
+
+use hub_kinds::NoMemory;
+use night_ends::print_text;
+use std::alloc::AllocError;
+use std::io;
+use std::io::Write;
+
+/// That a failure was reported: the status that the program ends with, and whether the line is printed.
+#[derive(Debug, Drop)]
+pub struct Reported {
+    pub status: u8,
+    pub printed: io::Result<()>,
+}
+
+/// Why a run failed.
+#[derive(Clone, Copy, Debug, PartialEq, Eq)]
+pub enum Failure {
+    /// The folder of all nights can't be listed, or has a name that isn't UTF-8.
+    Input,
+    /// The clock can't be read.
+    Clock,
+    /// Standard output failed.
+    Stdout,
+    /// Memory was refused.
+    Memory,
+}
+
+impl Failure {
+    /// Prints the failure's line, and gives the status that the program ends with, and whether the line is printed. A fault of standard
+    /// error changes no status.
+    pub fn report<E: Write>(self, err: &mut E) -> Reported
+        ensures status { result.status ≡ status_of self }
+        ensures values { (result.status ≡ 4) ⊎ ((result.status ≡ 5) ⊎ (result.status ≡ 6)) }
+        ensures printed { OnOk result.printed (Appends (E.contents err.old) (E.contents err.new) (line_of self)) }
+    {
+        Reported {
+            printed: print_text(self.line().as_bytes(), err),
+            status: self.status(),
+        }
+    }
+
+    fn line(self) -> &'static str
+        ensures { result.now ≡ line_of self }
+    {
+        match self {
+            Failure::Input =>
+                "nighthub_day: input: NIGHTS can't be listed, or has a name that isn't UTF-8\n",
+            Failure::Clock => "nighthub_day: input: the clock can't be read\n",
+            Failure::Stdout => "nighthub_day: output stdout\n",
+            Failure::Memory => "nighthub_day: memory\n",
+        }
+    }
+
+    fn status(self) -> u8
+        ensures status { result ≡ status_of self }
+        ensures values { (result ≡ 4) ⊎ ((result ≡ 5) ⊎ (result ≡ 6)) }
+    {
+        match self {
+            Failure::Input | Failure::Clock => 4,
+            Failure::Stdout => 5,
+            Failure::Memory => 6,
+        }
+    }
+}
+
+impl From<AllocError> for Failure {
+    ghost use Rattle.std.specs.Prelude.{◌≡◌};
+    ghost use Rattle.day_command.specs.declared.failure.Failure.TheVariants.{Memory};
+
+    ghost from_gives = { λ _ failure. failure ≡ Memory };
+
+    fn from(_error: AllocError) -> Failure {
+        Failure::Memory
+    }
+}
+
+impl From<NoMemory> for Failure {
+    ghost use Rattle.std.specs.Prelude.{◌≡◌};
+    ghost use Rattle.day_command.specs.declared.failure.Failure.TheVariants.{Memory};
+
+    ghost from_gives = { λ _ failure. failure ≡ Memory };
+
+    fn from(_error: NoMemory) -> Failure {
+        Failure::Memory
+    }
+}

@@ -1,0 +1,14 @@
+use Rattle.std.proofs.Common.{◌≡◌, ◌+◌, ℕ, List, arith, get_or, subst, sym, take}
+use Rattle.std.specs.List.{AllZip}
+use Rattle.night_folder.specs.Marks.{IsFound}
+use Rattle.night_folder.proofs.Zips.{zip_more}
+use Rattle.night_folder.proofs.mark.marks_at.Goals as goal
+
+pub loop-i-preserved : goal.loop-i-preserved
+loop-i-preserved g c =
+    let names : List (List ℕ) = c.args.names.now in
+    subst (AllZip (IsFound c.args.nights.now) (take (c.loop-i.i + 1) names)) (sym c.in_ok-push.ensures.items)
+    (zip_more (IsFound c.args.nights.now) names c.loop-i.found.items c.loop-i.i c.as_slice.result.now c.in_ok-found_at.field-0
+    (omega (arith))
+    (subst (λ (k : List ℕ). k ≡ get_or names c.loop-i.i k) (sym c.as_slice.ensures) c.index-names-i.is)
+    c.loop-i.invariant c.in_ok-found_at.ensures)

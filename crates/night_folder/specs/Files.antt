@@ -1,0 +1,26 @@
+-- Files and folders that were asked for by their paths (own): what was read of each.
+use Rattle.std.specs.Prelude.{ℕ, ◌==◌, List, [], ◌∷◌, Option, Some, None, if◌then◌else◌}
+use Rattle.night_ends.specs.Outbox.{path_in}
+
+-- a file: its bytes, if it can be read
+pub record FileValue : Type 0 where
+  pub path : List ℕ
+  pub bytes : Option (List ℕ)
+
+-- a folder: the names in it, if it can be listed
+pub record FolderValue : Type 0 where
+  pub path : List ℕ
+  pub names : Option (List (List ℕ))
+
+abbrev pub bytes_or_none : Option (List ℕ) → List ℕ
+bytes_or_none None = []
+bytes_or_none (Some bytes) = bytes
+
+-- a text up to its first line feed
+abbrev pub first_line : List ℕ → List ℕ
+first_line [] = []
+first_line (b ∷ bs) = if b == 10 then [] else b ∷ first_line bs
+
+-- a file of a night
+abbrev pub in_night : (nights night file : List ℕ) → List ℕ
+in_night nights night file = path_in (path_in nights night) file

@@ -1,0 +1,24 @@
+//! `nighthub_day check NIGHTS` says whether each night of a folder goes on from those before it: on standard output a line for each set
+//! that is delivered twice, each address whose numbers don't go on, each file that isn't what its night gave, and a last line of totals.
+//! It only reads. Status 0 says that each night goes on, 1 that one doesn't; a run that fails prints one line on standard error and ends
+//! with 2, 4, 5 or 6 (docs/ERRORS.md).
+//!
+//! Proved: the program is safe on every input, and ends. If memory is refused for its arguments, it reports that. All else of a run is
+//! `day_command::day_main`, called on the arguments without the program's name, and what is proved of it is said there.
+#![tactic(auto)]
+
+use day_command::{Failure, day_main};
+use file_names::arguments;
+use std::io;
+use std::process::ExitCode;
+
+fn main(rt: HostRuntime) -> ExitCode {
+    let mut out = io::writer(&rt);
+    let stderr = rt.stderr();
+    let mut err = io::writer(&stderr);
+    let status = match arguments(&rt) {
+        Ok(words) => day_main(&rt, words.as_slice(), &mut out, &mut err),
+        Err(_) => Failure::Memory.report(&mut err).status,
+    };
+    ExitCode::from(status)
+}
