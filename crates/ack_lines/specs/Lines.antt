@@ -81,7 +81,7 @@ set_name identifier control = codes ", " ++ (shown identifier ++ (codes " " ++ (
 abbrev pub set_head : (sender : List ℕ) → SetTold → List ℕ
 set_head sender s = group_head s.interchange sender s.functional_id s.group_control ++ set_name s.identifier s.control
 
--- a line for a code of a list: the words of its verdict stand in front
+-- a line for a code of a list: the words of its verdict are in front
 abbrev pub code_line : (head verdict : List ℕ) → (said : List ℕ → List ℕ) → (element code : List ℕ) → List ℕ
 code_line head verdict said element code = head ++ (verdict ++ (codes ": " ++ (coded (said code) element code ++ codes "\n")))
 
@@ -103,7 +103,7 @@ element_place e =
     ++ (shown_if (codes ", component ") e.component []
     ++ (shown_if (codes ", repetition ") e.repetition [] ++ shown_if (codes " (") e.reference (codes ")"))))
 
--- IK304 3, I6, I7 and I8: the segment is missing before the one that stands at its position
+-- IK304 3, I6, I7 and I8: the segment is missing before the one that is at its position
 abbrev pub is_of_missing : (code : List ℕ) → Bool
 is_of_missing code =
     if bytes_eq code (codes "3") then true
@@ -210,7 +210,7 @@ reported_lines sender (reported.OfInterchange t) = ta1_line t
 reported_lines sender (reported.OfGroup g) = if is_accepted g.code then [] else faulty_group_lines sender g
 reported_lines sender (reported.OfSet s falls) = set_lines sender s falls
 
--- the last TA1 so far: in which interchange it stands, and which one of the sender it answers
+-- the last TA1 so far: in which interchange it is, and which one of the sender it answers
 pub record Asked : Type 0 where
   pub interchange : ℕ
   pub control : List ℕ

@@ -16,13 +16,13 @@ is_rejected code = bytes_eq code (codes "R")
 abbrev pub set_reported : (falls : Bool) → SetTold → Reported
 set_reported falls s = reported.OfSet s falls
 
--- a group with its sets, whose IK5s stand before its AK9
+-- a group with its sets, whose IK5s are before its AK9
 abbrev pub group_reported : GroupTold → List SetTold → List Reported
 group_reported g sets =
     if is_rejected g.code then reported.OfGroup g ∷ map (set_reported true) sets
     else map (set_reported false) sets ++ reported.OfGroup g ∷ []
 
--- what is reported after sets whose AK9 is still to come; where none comes before the next TA1 or the end, they stand for themselves
+-- what is reported after sets whose AK9 is still to come; where none comes before the next TA1 or the end, they are reported by themselves
 abbrev pub reported_behind : (sets : List SetTold) → List Told → List Reported
 reported_behind sets [] = map (set_reported false) sets
 reported_behind sets (told.OfInterchange t ∷ more) =

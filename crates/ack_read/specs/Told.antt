@@ -1,5 +1,5 @@
 -- X12.5, interchange acknowledgment (TA1), and the 999 guide (005010X231): what the segments of acknowledgments report, each where it
--- stands.
+-- is.
 use Rattle.std.specs.Prelude.{ℕ, ◌+◌, Bool, true, false, List, [], ◌∷◌, ◌++◌, map, filter, drop}
 use Rattle.x12_bytes.specs.declared.delims.Delims.{Delims}
 use Rattle.x12_segs.specs.Words.{components, elements_of, part_or_empty, views}
@@ -16,7 +16,7 @@ use Rattle.ack_read.specs.declared.told.Ta1Told.{Ta1Told}
 use Rattle.ack_read.specs.declared.told.Told.{Told}
 use Rattle.ack_read.specs.declared.told.Told.TheVariants as told
 
--- where a segment stands: in which interchange, counted from 1; after which AK1 (AK101, AK102) and which AK2 (AK201, AK202); after which
+-- where a segment is: in which interchange, counted from 1; after which AK1 (AK101, AK102) and which AK2 (AK201, AK202); after which
 -- IK3; and what is reported of the segments and elements of the set so far
 pub record Standing : Type 0 where
   pub interchange : ℕ
@@ -67,7 +67,7 @@ element_told d s =
       copy = part_or_empty s 4;
     }
 
--- where the segments after a segment stand
+-- where the segments after a segment are
 abbrev pub behind_kind : Delims → Standing → (segment : List (List ℕ)) → AckKind → Standing
 behind_kind d at s kind.InterchangeHeader = record at { interchange = at.interchange + 1 }
 behind_kind d at s kind.GroupHeader = record at { functional_id = part_or_empty s 1; group_control = part_or_empty s 2 }
@@ -135,7 +135,7 @@ told_by_kind at s kind.Other = []
 abbrev pub reports_of_segment : Standing → (segment : List (List ℕ)) → List Told
 reports_of_segment at s = told_by_kind at s (ack_kind (part_or_empty s 0))
 
--- what segments report, the first of which stands here
+-- what segments report, the first of which is here
 abbrev pub told_behind : Delims → Standing → (segments : List (List (List ℕ))) → List Told
 told_behind d at [] = []
 told_behind d at (s ∷ ss) = reports_of_segment at s ++ told_behind d (behind d at s) ss

@@ -6,7 +6,7 @@ ghost use Rattle.ack_read.specs.Kinds.{ack_kind};
 pub enum AckKind {
     /// ISA: an interchange begins.
     InterchangeHeader,
-    /// TA1: what becomes of an interchange.
+    /// TA1: the outcome of an interchange.
     Ta1,
     /// AK1: which group the 999 answers.
     GroupHeader,
@@ -16,9 +16,9 @@ pub enum AckKind {
     SegmentNote,
     /// IK4: an element in error.
     ElementNote,
-    /// IK5: what becomes of the set.
+    /// IK5: the outcome of the set.
     SetResponse,
-    /// AK9: what becomes of the group.
+    /// AK9: the outcome of the group.
     GroupResponse,
     /// Any other id.
     Other,

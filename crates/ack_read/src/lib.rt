@@ -1,5 +1,5 @@
 //! What a partner's acknowledgments report, read from their text: of each interchange that is answered (TA1), of each set and of each group
-//! of its 999s, each where it stands, with all that is reported of segments and elements. Everything is lent from the text, as it stands.
+//! of its 999s, each where it is, with all that is reported of segments and elements. Everything is lent from the text, as written.
 //!
 //! Proved:
 //! - `read_acknowledgments` gives all that a text reports, in its order, each once, and takes any bytes;

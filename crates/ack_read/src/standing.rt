@@ -13,7 +13,7 @@ use std::mem;
 use x12_bytes::Delims;
 use x12_segs::SegView;
 
-/// Where a segment of acknowledgments stands: what those before it say of it.
+/// Where a segment of acknowledgments is: what those before it say of it.
 #[derive(Drop)]
 pub(crate) struct Standing<'a> {
     interchange: u64,

@@ -1,19 +1,19 @@
 use hub_kinds::{Items, Lent};
 
-/// What is reported of a segment in error (999 guide, IK3), as it stands.
+/// What is reported of a segment in error (999 guide, IK3), as written.
 #[derive(Debug, Drop)]
 pub struct SegmentTold<'a> {
     /// IK301: its id.
     pub id: Lent<'a>,
     /// IK302: its position in the set.
     pub position: Lent<'a>,
-    /// IK303: the innermost loop that it stands in; empty where there is none.
+    /// IK303: the innermost loop that it is in; empty where there is none.
     pub loop_id: Lent<'a>,
     /// IK304: what is wrong.
     pub code: Lent<'a>,
 }
 
-/// What is reported of an element in error (999 guide, IK4), as it stands.
+/// What is reported of an element in error (999 guide, IK4), as written.
 #[derive(Debug, Drop)]
 pub struct ElementTold<'a> {
     /// IK401, its first component: the element's number.
@@ -39,7 +39,7 @@ pub enum NoteTold<'a> {
     OfElement(SegmentTold<'a>, ElementTold<'a>),
 }
 
-/// What is reported of a set (999 guide, AK2 to IK5), as it stands.
+/// What is reported of a set (999 guide, AK2 to IK5), as written.
 #[derive(Debug, Drop)]
 pub struct SetTold<'a> {
     /// In which interchange of the text it is reported, counted from 1.
@@ -60,7 +60,7 @@ pub struct SetTold<'a> {
     pub codes: Items<Lent<'a>>,
 }
 
-/// What is reported of a group (999 guide, AK1 and AK9), as it stands.
+/// What is reported of a group (999 guide, AK1 and AK9), as written.
 #[derive(Debug, Drop)]
 pub struct GroupTold<'a> {
     /// In which interchange of the text it is reported, counted from 1.
@@ -81,7 +81,7 @@ pub struct GroupTold<'a> {
     pub codes: Items<Lent<'a>>,
 }
 
-/// What is reported of an interchange (X12.5, TA1), as it stands.
+/// What is reported of an interchange (X12.5, TA1), as written.
 #[derive(Debug, Drop)]
 pub struct Ta1Told<'a> {
     /// In which interchange of the text it is reported, counted from 1.

@@ -3,6 +3,6 @@ use Rattle.std.specs.Prelude.{ℕ}
 use Rattle.batch_law.specs.Moved.{moved_entry}
 use Rattle.checked_text.specs.CheckedText.{CheckedInterchange}
 
--- the same interchange where so many bytes stand before the batch
+-- the same interchange where this many bytes are before the batch
 abbrev pub moved_answered : (by : ℕ) → CheckedInterchange → CheckedInterchange
 moved_answered by x = record { entry = moved_entry by x.entry; sender = x.sender; groups = x.groups }

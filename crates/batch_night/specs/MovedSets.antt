@@ -5,7 +5,7 @@ use Rattle.set_check.specs.SetParts.{SetParts}
 use Rattle.judged_text.specs.Judged.{JudgedValue, PlacedValue}
 use Rattle.batch_law.specs.Moved.{moved_group, moved_interchange, moved_set, moved_span, moved_view}
 
--- the same set where these bytes stand before and after the batch
+-- the same set where these bytes are before and after the batch
 abbrev pub moved_checked : (before behind : List ℕ) → Checked → Checked
 moved_checked before behind c = record {
   text = before ++ (c.text ++ behind);

@@ -37,7 +37,7 @@ behind_batch base old index known w = record {
   writing = w;
 }
 
--- a batch was worked on, read as a text of its own that begins at an offset of the whole one
+-- a batch was worked on, read as a separate text that begins at an offset of the whole one
 pub record IsBatchDone (batch : List ℕ) (setup : SetupValue) (at : List ℕ) (base : ℕ) (old new : NightSoFar) : Type 0 where
   pub index : IndexValue
   pub read : IsIndex batch index

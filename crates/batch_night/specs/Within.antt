@@ -1,4 +1,4 @@
--- X12.6, transaction set: a set that stands in its text.
+-- X12.6, transaction set: a set that is in its text.
 use Rattle.std.specs.Prelude.{◌≤◌, length}
 use Rattle.judged_text.specs.Judged.{PlacedValue}
 

@@ -34,7 +34,7 @@ pub fn faults_go_on()
         ≡ with_faults es (settled_faults setup es) ++ with_faults fs (faults_from setup es fs) }
 {}
 
-/// A theorem, with nothing to run: acknowledgments don't say where an interchange stands.
+/// A theorem, with nothing to run: acknowledgments don't say where an interchange is.
 pub fn acknowledgments_go_on()
     ensures { (setup : SetupValue) (at : List ℕ) (by : ℕ) (done xs : List CheckedInterchange) (files : List SentValues)
         → AreAcknowledgments setup at (done ++ xs) files

@@ -7,8 +7,8 @@ ghost use Rattle.batch_law.specs.Batches.{ChainUpTo};
 ghost use Rattle.batch_night.specs.UpTo.{IsBatchDone, IsBatchOf, IsNightUpTo, IsWhole, NightSoFar, behind_batch, none_yet};
 ghost use Rattle.night_writing.specs.Writing.{IsClosedBy, WritingValue};
 
-/// A theorem, with nothing to run: a night goes on batch by batch, and after the last batch it is what is known of the whole text; a batch
-/// whose index is written, settled by the numbers seen so far, shows all that it has to show.
+/// A theorem, with nothing to run: a night continues batch by batch, and after the last batch it is what is known of the whole text; a
+/// batch whose index is written, settled by the numbers seen so far, shows all that it has to show.
 pub fn nights_go_on()
     ensures starts { (text : List ℕ) (setup : SetupValue) (at : List ℕ) → IsNightUpTo text setup at 0 (none_yet setup) }
     ensures steps { (before batch behind : List ℕ) (setup : SetupValue) (at : List ℕ) (old new : NightSoFar) (xs : List Extent)

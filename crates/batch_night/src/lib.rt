@@ -1,19 +1,19 @@
-//! A night that is worked on batch by batch is the night of the whole text. Each batch is read as a text of its own: its sets, the answers
-//! to its interchanges and its report are what the whole text has there. What is carried goes on by each batch, and after the last one it
+//! A night that is worked on batch by batch is the night of the whole text. Each batch is read as a separate text: its sets, the answers
+//! to its interchanges and its report are what the whole text has there. What is carried continues by each batch, and after the last one it
 //! gives the night of the whole text. Of earlier batches a batch needs the numbers of their interchanges, and the acknowledgments that each
 //! partner is sent of them. Theorems alone, beside the program's chain: none of these calls does anything.
 //!
 //! Proved:
-//! - what a set's check gives in a batch it gives in the whole text, with the same answer; what becomes of it for each receiver, and the
+//! - what a set's check gives in a batch it gives in the whole text, with the same answer; the outcome of it for each receiver, and the
 //!   bytes that are delivered of it, are the same too (`sets_are_placed_alike`);
 //! - the lines of a batch's interchanges, in the whole text, are its lines at the offset of the batch;
 //! - the lines and totals of interchanges and of others after them are those of both;
 //! - what is counted of a batch, and which of its sets are delivered to a partner, is the same in the whole text (`reports_go_on`);
 //! - the interchanges of a batch that are checked and answered are, moved by the bytes before the batch, those of the whole text,
 //!   with the same standings; and those of two parts of a text join on (`batches_are_answered`);
-//! - the faults 8 and 9 of a batch's interchanges follow from the numbers of the interchanges before it, whatever else stands there;
+//! - the faults 8 and 9 of a batch's interchanges follow from the numbers of the interchanges before it, whatever else is there;
 //!   the numbers join on, and so does the index that is settled batch by batch (`faults_go_on`);
-//! - acknowledgments don't say where an interchange stands (`acknowledgments_go_on`);
+//! - acknowledgments don't say where an interchange is (`acknowledgments_go_on`);
 //! - before any batch nothing is known, each batch moves what is known on, and after the last one it is what the definitions say of the
 //!   whole text (`nights_go_on`);
 //! - closed after the last batch it is the night of the whole text, byte for byte (`batches_give_the_night`).

@@ -10,7 +10,7 @@ ghost use Rattle.mailbox.specs.Mailbox.{set_text};
 ghost use Rattle.batch_night.specs.MovedSets.{moved_checked, moved_placed};
 ghost use Rattle.batch_night.specs.Within.{IsWithinText};
 
-/// A theorem, with nothing to run: a set that is checked in a batch is checked in the whole text, with the same answer; and what becomes of
+/// A theorem, with nothing to run: a set that is checked in a batch is checked in the whole text, with the same answer; and the outcome of
 /// it for each receiver, and what is written of it, is the same.
 pub fn sets_are_placed_alike()
     ensures checked { (before behind : List ℕ) (c : Checked) → IsSetSpan c.text c.span → IsChecked c

@@ -65,7 +65,7 @@ AreSaidOfGuides [] (s ∷ ss) = ⊥
 AreSaidOfGuides (f ∷ fs) [] = ⊥
 AreSaidOfGuides (f ∷ fs) (s ∷ ss) = IsSaidOfGuide f.bytes s × AreSaidOfGuides fs ss
 
--- the same of a file that may be left out
+-- the same of a file that is optional
 abbrev pub IsSomeSaid : (Option (List ℕ) → Sentences → Type 0) → Option Given → Option Sentences → Type 0
 IsSomeSaid P None None = ⊤
 IsSomeSaid P None (Some said) = ⊥

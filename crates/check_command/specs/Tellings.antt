@@ -74,7 +74,7 @@ AreGuidesTold [] (l ∷ ls) = ⊥
 AreGuidesTold (f ∷ fs) [] = ⊥
 AreGuidesTold (f ∷ fs) (l ∷ ls) = IsFileTold IsGuideTold f l × AreGuidesTold fs ls
 
--- the same of a file that may be left out
+-- the same of a file that is optional
 abbrev pub IsSomeTold : (Option (List ℕ) → Told → Type 0) → Option Given → Option FileTold → Type 0
 IsSomeTold P None None = ⊤
 IsSomeTold P None (Some l) = ⊥

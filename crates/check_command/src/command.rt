@@ -33,7 +33,7 @@ pub struct Options<'a> {
     pub guides: Vec<&'a str>,
     /// The counters, where they are given.
     pub counters: Option<&'a str>,
-    /// Whether a check goes on after a file's first refusal.
+    /// Whether a check continues after a file's first refusal.
     pub all: bool,
 }
 
@@ -94,7 +94,7 @@ fn files_command<'a>(alloc: Global) -> Result<Command<'a>, AllocError>
     with_argument(command, counters)
 }
 
-/// An option of this name that takes one file, and may be left out.
+/// An option of this name that takes one file, and is optional.
 fn option<'a>(alloc: Global, name: &'a str, help: &'a str) -> Arg<'a>
     ensures rule { rule_of result ≡ option_free name.now }
     ensures local { result.global ≡ false }
@@ -107,7 +107,7 @@ fn option<'a>(alloc: Global, name: &'a str, help: &'a str) -> Arg<'a>
         .action(ArgAction::Set)
 }
 
-/// The option without a value, by which a check goes on after a refusal.
+/// The option without a value, by which a check continues after a refusal.
 fn flag<'a>(alloc: Global) -> Arg<'a>
     ensures rule { rule_of result ≡ option_flag (codes "all") }
     ensures local { result.global ≡ false }

@@ -25,8 +25,8 @@ pub struct SetupTold {
     pub counters: Told,
 }
 
-/// What is reported of a setup that is made of these, and of the counters: they are taken, or the first refusal stands with the one that is
-/// at fault. The only error is out of memory.
+/// What is reported of a setup that is made of these, and of the counters: they are taken, or the first refusal is reported with the one
+/// that is at fault. The only error is out of memory.
 pub fn judge_setup(
     alloc: Global,
     rows: SetupRows,
@@ -81,7 +81,7 @@ fn is_of_counters(fault: &SetupFault) -> bool
     }
 }
 
-/// Where a refusal in these words stands: with the counters where one of them is at fault, and else with the setup.
+/// Where a refusal in these words is reported: with the counters where one of them is at fault, and else with the setup.
 fn refused_by(fault: &SetupFault, text: Text, counters: Told) -> SetupTold
     ensures setup { result.setup ≡ (if judged.is_of_counters fault.now then variants.Open else variants.Refused text) }
     ensures counters { result.counters ≡ (if judged.is_of_counters fault.now then variants.Refused text else counters) }

@@ -6,11 +6,11 @@
 //!   line for each of its warnings; and the status is 0 exactly where each of them is reported as taken, else 3 (`check_main`);
 //! - what is reported of a file is what its bytes say: a guide is taken, with its size and just its warnings, where its reader gives it,
 //!   and else refused in the words of its fault; a setup file or counters likewise, and where all can be read, by what `Setup::build` makes
-//!   of just these rows: a setup that is taken has just its warnings, and the first refusal stands with the counters where it is of one of
-//!   them; a setup is left open only where another file is refused (`tell_files`, `judge_setup`);
+//!   of just these rows: a setup that is taken has just its warnings, and the first refusal is reported with the counters where it is of
+//!   one of them; a setup is left open only where another file is refused (`tell_files`, `judge_setup`);
 //! - of a key that is refused the place, the value and one cause are those of the file's own table;
 //! - of bytes that write no table the line and the column are those of the first byte that is no UTF-8, or else of a place in the file, and
-//!   what stands there is shown;
+//!   what is there is shown;
 //! - where `--all` is given, what is said of each file further is what is wrong with each of its tables, rows and nodes by itself, by the
 //!   definitions, and but for what its line says already; and the status is 0 only where nothing is;
 //! - the bytes that are judged of a file are all that the file that was opened at its path declares; a file that can be read is never

@@ -14,7 +14,7 @@ pub enum Listed {
 /// What is reported of a file.
 #[derive(Debug, Drop)]
 pub enum Told {
-    /// It is taken, has so many of what it lists, and these warnings, in words.
+    /// It is taken, has this many of what it lists, and these warnings, in words.
     Taken(u64, Listed, Texts),
     /// It is read, and isn't judged, since another file is refused.
     Open,

@@ -1,4 +1,4 @@
--- What has to be found out before a text is answered (own): whether the number of a place of the index is used earlier, and of a set how it
+-- What must be found out before a text is answered (own): whether the number of a place of the index is used earlier, and of a set how it
 -- is checked; in the order of the places.
 use Rattle.std.specs.Prelude.{◌≡◌, ◌↔◌, ℕ, Bool, true, false, List, [], ◌∷◌, ◌++◌, map, Option, Some, None}
 use Rattle.std.specs.List.{AllZip}
@@ -21,7 +21,7 @@ use Rattle.checked_text.specs.Seen.{is_among}
 use Rattle.checked_text.specs.Settled.{settled_entries}
 use Rattle.checked_text.specs.declared.finding.Finding.{Finding}
 
--- how a set is checked: where it stands, and by which guide
+-- how a set is checked: where it is, and by which guide
 pub record SetAsked : Type 0 where
   pub text : List ℕ
   pub span : SetSpan

@@ -4,7 +4,7 @@
 //! Proved:
 //! - `settled_faults` gives each interchange of an index its least fault of 1 to 9: 8 where no partner of the setup is its
 //!   sender, 9 where an earlier interchange without faults 1 to 8 has the same number; `faults_behind` does so where interchanges
-//!   come before the index, by their numbers alone, and gives the numbers that those after it go on from;
+//!   come before the index, by their numbers alone, and gives the numbers that those after it continue from;
 //! - `check_text` checks each set of the interchanges without a fault by its sender's guide, and answers each group and set: the
 //!   standings that it leaves, and the acknowledgments of each partner, byte for byte, are those of these answers, after the
 //!   acknowledgments that stood before;

@@ -1,5 +1,5 @@
--- RFC 4180, comma-separated values: a record's fields with commas between them and CRLF after them. A field stands in quotes where a byte
--- of it isn't TEXTDATA (other than `!`, `#` to `+` and `-` to `~`, and the space); in quotes each quote stands twice, every other byte as
+-- RFC 4180, comma-separated values: a record's fields with commas between them and CRLF after them. A field is in quotes where a byte
+-- of it isn't TEXTDATA (other than `!`, `#` to `+` and `-` to `~`, and the space); in quotes each quote is twice, every other byte as
 -- it is.
 use Rattle.std.specs.Prelude.{ℕ, ◌==◌, Bool, not, ◌&&◌, nat_le, List, [], ◌∷◌, ◌++◌, map, if◌then◌else◌}
 use Rattle.std.specs.List.{flat_map, list_all}

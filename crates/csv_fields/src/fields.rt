@@ -4,7 +4,7 @@ ghost use Rattle.csv_fields.specs.Csv as csv;
 
 use hub_kinds::NoMemory;
 
-/// Whether a byte may stand in a field without quotes.
+/// Whether a byte may be in a field without quotes.
 fn is_text_data(byte: u8) -> bool
     ensures { result ≡ csv.is_text_data byte }
 {

@@ -12,7 +12,7 @@ use Rattle.explain_command.specs.declared.ends.CutOff.{CutOff}
 use Rattle.explain_command.specs.declared.ends.CutOff.TheVariants as cut
 use Rattle.explain_command.specs.declared.ends.SetId.{SetId}
 
--- some byte but CR and LF stands after the last terminator; or so it does at the begin, and no terminator follows
+-- some byte but CR and LF is after the last terminator; or so it does at the begin, and no terminator follows
 abbrev pub ends_open : (terminator : ℕ) → (is_open : Bool) → List ℕ → Bool
 ends_open terminator is_open [] = is_open
 ends_open terminator is_open (b ∷ bs) = ends_open terminator (not (b == terminator) && (is_open || not (is_line_end b))) bs

@@ -109,7 +109,7 @@ IsOfInput declared (failure.CutOff cut) = ⊥
 IsOfInput declared failure.Stdout = ⊥
 IsOfInput declared failure.Memory = Unit {0}
 
--- a fault of the system is out of memory, or stands for another failure
+-- a fault of the system is out of memory, or represents another failure
 pub record IsMemoryOr (kind : ErrorKind) (other failed : Failure) : Type 0 where
   pub memory : kind ≡ OutOfMemory → failed ≡ failure.Memory
   pub other_fault : kind ≢ OutOfMemory → failed ≡ other

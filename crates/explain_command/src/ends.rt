@@ -23,7 +23,7 @@ fn is_line_end(byte: u8) -> bool
     byte == b'\r' || byte == b'\n'
 }
 
-/// Whether some byte but CR and LF stands after the last terminator.
+/// Whether some byte but CR and LF is after the last terminator.
 fn ends_open(terminator: u8, text: &[u8]) -> bool
     ensures { result ≡ ends.ends_open terminator false text.now }
 {

@@ -40,7 +40,7 @@ pub enum Failure {
 }
 
 impl Failure {
-    /// The failure that a fault of the system stands for, where it isn't out of memory.
+    /// The failure that a fault of the system represents, where it isn't out of memory.
     pub fn of_fault(error: io::Error, other: Failure) -> Failure
         ensures by_kind { IsMemoryOr (error_kind error) other result }
         ensures either { (result ≡ Failure.Memory) ⊎ (result ≡ other) }

@@ -5,7 +5,7 @@
 //! - `explain_main` prints just the lines on the files that the arguments name, in their order, of several each with its file's path in
 //!   front, or a text that was asked for. It ends with 0 where each file is explained, and whole, with 4 where one is refused or cut off,
 //!   and with 2 only where the arguments are no command line; where memory is refused it prints nothing on standard output;
-//! - a file is cut off just where a byte but CR and LF stands after its last terminator, or else an ST without an SE after it;
+//! - a file is cut off just where a byte but CR and LF is after its last terminator, or else an ST without an SE after it;
 //! - what is reported of a file is what all of its bytes say, where it was opened and declares them, and `input` where it couldn't be
 //!   opened (`tell_opened`, of which what is printed of a file is one call);
 //! - a text that was read is refused only if it has bytes, and these don't begin with a header, are a 997, or report nothing and aren't

@@ -25,7 +25,7 @@ texts_for text setup at known place partner =
     mailbox_texts setup partner at (length (acknowledged_to place known)) (groups_to (acknowledged_to place known))
     (interchanges_of partner.cap (numbered_from 0 (sets_to text setup known place)))
 
--- each mailbox has just the interchanges that are written to it, where no header begins at a segment that may stand between ST and SE
+-- each mailbox has just the interchanges that are written to it, where no header begins at a segment that may be between ST and SE
 pub record AreMailboxesRead (text : List ℕ) (setup : SetupValue) (at : List ℕ) (boxes : List (List ℕ)) : Type 0 where
   pub known : List CheckedInterchange
   pub outside : ℕ

@@ -70,7 +70,7 @@ abbrev pub IsUsage : Mistake → Type 0
 IsUsage (mistake.Usage text) = Unit {0}
 IsUsage mistake.Memory = ⊥
 
--- a fault of the system is out of memory, or stands for another failure
+-- a fault of the system is out of memory, or represents another failure
 pub record IsMemoryOr (kind : ErrorKind) (other failed : Failure) : Type 0 where
   pub memory : kind ≡ OutOfMemory → failed ≡ failure.Memory
   pub other_fault : kind ≢ OutOfMemory → failed ≡ other

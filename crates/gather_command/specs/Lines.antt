@@ -29,13 +29,13 @@ end_words end.CutOff = codes ", truncated: its last interchange has no IEA, and 
 end_words (end.OtherSeparator separators) = separator_words separators
 end_words end.CutInHeader = codes ", truncated: its last bytes may begin a header\n"
 
--- so many bytes, and how many it has to have
+-- this many bytes, and how many it has to have
 abbrev pub length_words : ElementLength → List ℕ
 length_words e =
     codes " has "
     ++ (decimal e.len ++ ((if e.len == 1 then codes " byte, not " else codes " bytes, not ") ++ (decimal e.width ++ codes "\n")))
 
--- which element of what should be a header isn't as long as it has to be
+-- which element of what should be a header isn't as long as it must be
 abbrev pub element_words : ElementLength → List ℕ
 element_words e =
     (if nat_le e.element 9 then codes "its ISA0" else codes "its ISA") ++ (decimal e.element ++ length_words e)
@@ -49,11 +49,11 @@ cause_words cause.Utf16 = codes "it is UTF-16\n"
 cause_words cause.HeaderLength = codes "its ISA isn't a header of 106 bytes\n"
 cause_words (cause.ElementLength e) = element_words e
 
--- so many interchanges
+-- this many interchanges
 abbrev pub interchange_words : ℕ → List ℕ
 interchange_words n = decimal n ++ (if n == 1 then codes " interchange, " else codes " interchanges, ")
 
--- of so many bytes, after so many others
+-- of this many bytes, after this many others
 abbrev pub byte_words : (len before : ℕ) → End → List ℕ
 byte_words len before end = decimal len ++ (codes " bytes at " ++ (decimal before ++ end_words end))
 

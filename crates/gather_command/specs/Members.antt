@@ -44,7 +44,7 @@ abbrev pub bytes_of : List Member → List ℕ
 bytes_of [] = []
 bytes_of (m ∷ ms) = m.closed ++ bytes_of ms
 
--- the lines, after so many bytes
+-- the lines, after this many bytes
 abbrev pub lines_of : (before : ℕ) → List Member → List ℕ
 lines_of before [] = []
 lines_of before (m ∷ ms) = line_of_file m.path m.outcome before ++ lines_of (before + length m.closed) ms

@@ -39,7 +39,7 @@ pub enum Failure<'a> {
 }
 
 impl<'a> Failure<'a> {
-    /// The failure that a fault of the system stands for, where it isn't out of memory.
+    /// The failure that a fault of the system represents, where it isn't out of memory.
     pub fn of_fault(error: io::Error, other: Failure<'a>) -> Failure<'a>
         ensures { IsMemoryOr (error_kind error) other.entry result }
     {

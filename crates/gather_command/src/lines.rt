@@ -9,7 +9,7 @@ use gather_files::{Cause, ElementLength, End, Gathered, Separators, Taken};
 use hub_kinds::NoMemory;
 use itoa::Buffer;
 
-/// Writes the line on a file, from whose first byte on so many bytes stand before it in what is gathered.
+/// Writes the line on a file, from whose first byte on this many bytes are before it in what is gathered.
 pub(crate) fn append_line(
     out: &mut Vec<u8>,
     path: &str,

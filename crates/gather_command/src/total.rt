@@ -59,7 +59,7 @@ pub(crate) fn is_over(total: Total, outcome: Outcome) -> bool
     }
 }
 
-/// The total with one file more, of which so many bytes go in.
+/// The total with one file more, of which this many bytes go in.
 pub(crate) fn with_file(total: Total, outcome: Outcome) -> Total
     requires files { total.taken + total.set_aside < 4611686018427387904 }
     requires cut { total.cut_off ≤ total.taken }

@@ -19,14 +19,14 @@ use Rattle.gather_files.specs.declared.gather.End.TheVariants as end
 abbrev pub IsOwnTerminator : List ℕ → ℕ → Type 0
 IsOwnTerminator file b = (start : ℕ) × (is_head file start ≡ true) × (b ≡ terminator_of (header_at file start))
 
--- so many bytes more: spaces and its own terminators
+-- this many bytes more: spaces and its own terminators
 pub record PutsBehind (old new : List ℕ) (count : ℕ) : Type 0 where
   pub rest : List ℕ
   pub is : new ≡ old ++ rest
   pub few : length rest ≡ count
   pub own : All (λ b. (b ≡ 32) ⊎ IsOwnTerminator new b) rest
 
--- a file as it goes in: without the CR and LF at its end, if something is put there, and with so many bytes more
+-- a file as it goes in: without the CR and LF at its end, if something is put there, and with this many bytes more
 pub record Closes (file closed : List ℕ) (count : ℕ) : Type 0 where
   pub kept : List ℕ
   pub ends : List ℕ
@@ -35,7 +35,7 @@ pub record Closes (file closed : List ℕ) (count : ℕ) : Type 0 where
   pub puts : PutsBehind kept closed count
   pub untouched : count ≡ 0 → ends ≡ []
 
--- so many bytes in place of CR and LF, at least one
+-- this many bytes in place of CR and LF, at least one
 pub record PutsInPlace (kept new : List ℕ) (count : ℕ) : Type 0 where
   pub header : HEADER_LEN ≤ length kept
   pub some : 1 ≤ count
@@ -65,7 +65,7 @@ pub record EndsInHeader (bytes : List ℕ) : Type 0 where
   pub within : at < length bytes
   pub begun : may_begin bytes at ≡ true
 
--- how a file ends that goes in so, with so many bytes put after it
+-- how a file ends that goes in so, with this many bytes put after it
 abbrev pub EndsSo : (file closed : List ℕ) (count : ℕ) → End → Type 0
 EndsSo file closed count end.Whole = (count ≡ 0) × GoesUpTo closed (length closed)
 EndsSo file closed count end.Mended = (1 ≤ count) × GoesUpTo closed (length closed)
@@ -85,7 +85,7 @@ abbrev pub StaysApart : List ℕ → Closed → Type 0
 StaysApart held c = IsHeldApart held → (c.count ≡ 0) × IsUntouched c.end
 
 -- it goes in so closed: as it is and with bytes after it, or without its CR and LF and with more than nothing in their place, where a
--- header stands before
+-- header is before
 pub record IsClosedSo (held kept : List ℕ) (c : Closed) : Type 0 where
   pub holds : HoldsInterchanges c.bytes.items c.interchanges
   pub some : c.interchanges ≤ length c.bytes.items
@@ -100,7 +100,7 @@ pub record IsClosedBy (file : List ℕ) (last : OpenInterchange) : Type 0 where
   pub holds : HoldsInterchanges (file ++ last.terminator ∷ []) last.number
   pub few : last.number ≤ length file
 
--- from here to the end one segment stands, which no terminator ends, and at which no header can turn out to begin
+-- from here to the end there is one segment, which no terminator ends, and at which no header can turn out to begin
 pub record IsLastSegment (file : List ℕ) (t lead : ℕ) : Type 0 where
   pub within : lead < length file
   pub other : is_line_end (slice_index file lead) ≡ false

@@ -24,7 +24,7 @@ use Rattle.gather_files.specs.declared.gather.Gathered.{Gathered}
 use Rattle.gather_files.specs.declared.gather.Gathered.TheVariants as gathered
 
 -- a file that was read to its end goes in without the blanks at its front and the padding at its end, closed: it begins with a header, and
--- its interchanges go on up to its end, whatever file follows
+-- its interchanges continue up to its end, whatever file follows
 pub record GoesIn (told : Option (List ℕ)) (closed : List ℕ) (taken : Taken) : Type 0 where
   pub file : List ℕ
   pub told_all : IfSome told (λ xs. xs ≡ file)

@@ -1,4 +1,4 @@
--- X12.5, interchange control header (ISA): what stands before the first header of a file, or fills its end, and is left out (own).
+-- X12.5, interchange control header (ISA): what comes before the first header of a file, or fills its end, and is left out (own).
 use Rattle.std.specs.Prelude.{ℕ, Bool, not, ◌&&◌, ◌||◌, ◌==◌, ◌-◌, List, drop, length, take}
 use Rattle.std.specs.List.{prefix_len, suffix_len}
 use Rattle.x12_bytes.specs.Header.{header_at, terminator_of}

@@ -27,7 +27,7 @@ without_line_ends bytes = drop (prefix_len is_line_end bytes) bytes
 abbrev pub last_segment : (terminator : ℕ) → List ℕ → List ℕ
 last_segment terminator interchange = without_line_ends (after_terminator terminator (unended terminator interchange))
 
--- an IEA, after which another byte than the separator stands, which may separate
+-- an IEA, after which another byte than the separator comes, which may separate
 abbrev pub is_trailer_by_another : (separator : ℕ) → List ℕ → Bool
 is_trailer_by_another separator segment =
     nat_le 4 (length segment)

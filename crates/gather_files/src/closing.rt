@@ -37,7 +37,7 @@ pub(crate) struct OpenInterchange {
     pub(crate) number: u64,
 }
 
-/// Closes what is held of a file, of which CR and LF alone stand after so many bytes: where a segment is open, its terminator stands in
+/// Closes what is held of a file, of which CR and LF alone are after this many bytes: where a segment is open, its terminator is in
 /// their place.
 pub(crate) fn close(alloc: Global, held: &[u8], kept: usize) -> Result<Closed, NoMemory>
     requires { kept ≤ length held.now }
@@ -92,7 +92,7 @@ fn last_open(file: &[u8]) -> Option<OpenInterchange>
     }
 }
 
-/// Whether from an offset to the end of a file one segment stands, without its terminator, at which no header can turn out to begin.
+/// Whether from an offset to the end of a file there is one segment, without its terminator, at which no header can turn out to begin.
 fn is_last_segment(file: &[u8], terminator: u8, lead: usize) -> bool
     ensures { result ≡ true → IsLastSegment file.now terminator lead }
 {

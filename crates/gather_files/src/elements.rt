@@ -1,4 +1,4 @@
-//! The elements of a header that isn't one: how long each is, and the first that isn't as long as it has to be.
+//! The elements of a header that isn't one: how long each is, and the first that isn't as long as it must be.
 ghost use Rattle.std.specs.Prelude.{◌≡◌, ◌≤◌, length};
 ghost use Rattle.x12_bytes.specs.Header.{separator_place, width_of};
 ghost use Rattle.std.specs.List.{prefix_len};
@@ -42,7 +42,7 @@ pub(crate) fn element_len(file: &[u8], k: usize) -> usize
     }
 }
 
-/// How many bytes stand before the first separator.
+/// How many bytes are before the first separator.
 fn run_len(bytes: &[u8], separator: u8) -> usize
     ensures { result ≡ prefix_len (is_other separator) bytes.now }
 {
@@ -58,7 +58,7 @@ fn is_other(byte: u8, separator: u8) -> bool
     byte != separator
 }
 
-/// Where the separator before element `k` stands.
+/// Where the separator before element `k` is.
 fn separator_place(k: usize) -> usize
     requires from { 1 ≤ k }
     requires to { k ≤ 16 }
@@ -85,7 +85,7 @@ fn separator_place(k: usize) -> usize
     }
 }
 
-/// How wide element `k` has to be.
+/// How wide element `k` must be.
 pub(crate) fn width_of(k: usize) -> usize
     requires from { 1 ≤ k }
     requires to { k ≤ 16 }

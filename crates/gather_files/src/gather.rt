@@ -175,7 +175,7 @@ pub(crate) struct Passing {
     pub(crate) interchanges: u64,
     /// How many bytes are written.
     pub(crate) written: u64,
-    /// How many bytes of what is held were looked at, at whose end so many are CR, LF and padding alone.
+    /// How many bytes of what is held were looked at, at whose end this many are CR, LF and padding alone.
     pub(crate) seen: usize,
     pub(crate) ends: usize,
 }
@@ -219,8 +219,8 @@ fn put<W: Write>(out: &mut W, bytes: &[u8]) -> Result<(), GatherFault>
     }
 }
 
-/// How many bytes at the end are CR, LF and padding, where so many bytes were looked at before, at whose end so many were such. Each byte
-/// is looked at once.
+/// How many bytes at the end are CR, LF and padding, where this many bytes were looked at before, at whose end this many were such. Each
+/// byte is looked at once.
 fn ends_of(held: &[u8], seen: usize, ends: usize) -> usize
     requires seen { seen ≤ length held.now }
     requires ends { ends ≤ seen }
@@ -251,7 +251,7 @@ fn is_end(byte: u8) -> bool
     byte == b'\r' || byte == b'\n' || is_padding(byte)
 }
 
-/// How many CR and LF stand at the end.
+/// How many CR and LF are at the end.
 fn count_line_ends(bytes: &[u8]) -> usize
     ensures count { result ≡ suffix_len is_line_end bytes.now }
     ensures within { result ≤ length bytes.now }

@@ -3,9 +3,9 @@
 //!
 //! Proved:
 //! - `gather_file` puts a file in just so: from its first header on, without the NUL and Ctrl-Z that fill its end, byte for byte, but for
-//!   what closes it, seventeen bytes at most; its interchanges, which are counted, go on up to its end, whatever file follows;
+//!   what closes it, seventeen bytes at most; its interchanges, which are counted, continue up to its end, whatever file follows;
 //! - it is reported as whole or mended only if no interchange is open at its end, as cut off only if one is, and as cut off in a header
-//!   only if what stands there may begin one; that the IEA of an open one is written with another separator than its ISA names is said
+//!   only if what is there may begin one; that the IEA of an open one is written with another separator than its ISA names is said
 //!   exactly where its last segment is such an IEA;
 //! - nothing is put after a file that stands apart from others by itself;
 //! - a file that isn't taken has the cause that is named, and nothing of it is written.

@@ -15,11 +15,11 @@ pub record File : Type 0 where
   pub bytes : List ℕ
   pub index : IndexValue
 
--- where what stands after the last terminator of an interchange begins, after its CR and LF
+-- where what comes after the last terminator of an interchange begins, after its CR and LF
 abbrev pub open_from : List ℕ → ℕ → ℕ
 open_from bytes start = (rest_from bytes (terminator_of (header_at bytes start)) (start + HEADER_LEN)).start
 
--- an interchange that goes on to the end of the bytes has nothing but CR and LF after its last terminator
+-- an interchange that continues to the end of the bytes has nothing but CR and LF after its last terminator
 abbrev pub IsClosed : List ℕ → Extent → Type 0
 IsClosed bytes x = (x.end ≡ length bytes) → (open_from bytes x.start ≡ length bytes)
 
@@ -37,15 +37,15 @@ pub record StandsApart (bytes : List ℕ) : Type 0 where
   pub closed : IsClosedFile bytes
   pub fit : IsFit bytes
 
--- what may stand after a file: nothing, or what begins with a header
+-- what may be after a file: nothing, or what begins with a header
 abbrev pub MayFollow : List ℕ → Type 0
 MayFollow more = (more ≡ []) ⊎ (is_head more 0 ≡ true)
 
--- whatever follows, its interchanges go on up to its end, and none further
+-- whatever follows, its interchanges continue up to its end, and none further
 abbrev pub KeepsToItself : List ℕ → Type 0
 KeepsToItself bytes = (more : List ℕ) → MayFollow more → (xs : List Extent) × ChainUpTo (bytes ++ more) 0 (length bytes) xs
 
--- the same, and so many interchanges
+-- the same, and this many interchanges
 abbrev pub HoldsInterchanges : List ℕ → ℕ → Type 0
 HoldsInterchanges bytes n =
     (more : List ℕ) → MayFollow more → (xs : List Extent) × ChainUpTo (bytes ++ more) 0 (length bytes) xs × (length xs ≡ n)
@@ -54,11 +54,11 @@ HoldsInterchanges bytes n =
 abbrev pub GoesUpTo : List ℕ → ℕ → Type 0
 GoesUpTo read at = (more : List ℕ) → (xs : List Extent) × ChainUpTo (read ++ more) 0 at xs
 
--- the same, and so many interchanges up to there
+-- the same, and this many interchanges up to there
 abbrev pub PassesInterchanges : List ℕ → (at n : ℕ) → Type 0
 PassesInterchanges read at n = (more : List ℕ) → (xs : List Extent) × ChainUpTo (read ++ more) 0 at xs × (length xs ≡ n)
 
--- the front of a file, which is given up, has so many interchanges, and is whole before what is held of it, whatever follows
+-- the front of a file, which is dropped, has this many interchanges, and is whole before what is held of it, whatever follows
 abbrev pub IsWholeBefore : (front held : List ℕ) (n : ℕ) → Type 0
 IsWholeBefore front held n =
     (more : List ℕ) → (xs : List Extent) × ChainUpTo (front ++ (held ++ more)) 0 (length front) xs × (length xs ≡ n)

@@ -8,7 +8,7 @@ ghost use Rattle.gather_law.specs.Gathered.{File, HoldsInterchanges, IsClosedFil
 ghost use Rattle.gather_law.specs.Gathered.{PassesInterchanges, gathered, gathered_index};
 
 /// A theorem, with nothing to run: the index of files that stand apart, one after another, is the index of each file read alone, moved by
-/// the bytes before it; and as many bytes stand outside of interchanges as outside of those of each file.
+/// the bytes before it; and as many bytes are outside of interchanges as outside of those of each file.
 pub fn files_stand_apart()
     ensures { (files : List File) → All IsFile files → IsIndex (gathered files) (gathered_index files) }
 {}

@@ -8,7 +8,7 @@ use Rattle.night_definition.specs.ReadBack as defined
 use Rattle.night_equal_text.specs.LookedUp.{seen_setup}
 use Rattle.night_equal_read.specs.Read.{seen_night}
 
--- no more bytes than the limit, and their whole night, which is the definition's
+-- no more bytes than the limit, and their complete night, which is the definition's
 pub record IsNightRead (told : Option (List ℕ)) (setup : SetupValue) (at : List ℕ) (night : Night) : Type 0 where
   pub text : List ℕ
   pub told_all : IfSome told (λ xs. xs ≡ text)

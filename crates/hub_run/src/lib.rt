@@ -1,9 +1,9 @@
-//! The run of a whole night: a text, a setup and a moment in; each partner's acknowledgments, mailbox and next counters, and the
+//! The run of a complete night: a text, a setup and a moment in; each partner's acknowledgments, mailbox and next counters, and the
 //! report out. This crate composes what the crates below it promise.
 //!
 //! Proved:
-//! - each run gives the whole night, by one record of what it is and what is reported and read of it (`IsWholeNight` of `night_law`, whose
-//!   theorems say what each part of it means);
+//! - each run gives the complete night, by one record of what it is and what is reported and read of it (`IsWholeNight` of `night_law`,
+//!   whose theorems say what each part of it means);
 //! - it is that of the definition: each partner's acknowledgments, byte for byte, its mailbox, whose interchanges are numbered after
 //!   them, its next counters, and the report;
 //! - it refuses a text as too long exactly over 4,294,967,295 bytes (`within_limit`).

@@ -18,7 +18,7 @@ use std::time::Clock;
 use stream_read::Source;
 use worker_pool::Gate;
 
-/// The night of a stream that is read in windows of so many bytes, cut into pieces of so many, and shared among 1 to 64 workers, after
+/// The night of a stream that is read in windows of this many bytes, cut into pieces of this many, and shared among 1 to 64 workers, after
 /// a gate: for every window, every size of the pieces and every number of workers, what the definitions give for the bytes that were read,
 /// front to back, byte for byte. Interchanges that are whole are worked on before more is read. It waits for its workers. Errors: more
 /// bytes than `LONGEST_TEXT`; a reader that fails, or is interrupted more than 1,000 times in a row; a thread that the system doesn't

@@ -1,4 +1,4 @@
--- Own: what may stand at each key of the tables of guide files, setup files and counters files, and which keys have to be there.
+-- Own: what may be at each key of the tables of guide files, setup files and counters files, and which keys must be there.
 use Rattle.std.specs.Prelude.{ℕ, ◌==◌, Bool, false, ◌||◌, ◌&&◌, not, List, [], ◌∷◌, codes}
 use Rattle.std.specs.Prelude.{if◌then◌else◌, is_none, is_some}
 use Rattle.std.specs.Option.{option_map_or}
@@ -86,7 +86,7 @@ node_form key =
     else (if bytes_eq key (codes "loop") then form.Word 1 4
     else (if bytes_eq key (codes "label") then form.Word 1 20 else node_list_form key))
 
--- what may stand at a key of a table
+-- what may be at a key of a table
 abbrev pub form_of : KeyTable → (key : List ℕ) → ValueForm
 form_of table.Setup key = if bytes_eq key (codes "hub") then form.Table else form.Rows
 form_of table.Hub key = if bytes_eq key (codes "usage") then form.Usage else form.Text
@@ -99,7 +99,7 @@ form_of table.Hierarchy key = if bytes_eq key (codes "pairs") then form.Items (i
 form_of table.Dependency key = dependency_form key
 form_of table.Node key = node_form key
 
--- the keys that may be left out; a counter's `group` stands in version 2 alone
+-- the keys that are optional; a counter's `group` is in version 2 alone
 abbrev pub is_free : KeyTable → (key : List ℕ) → Bool
 is_free table.Counters key = bytes_eq key (codes "counter")
 is_free table.Counter key = bytes_eq key (codes "group")

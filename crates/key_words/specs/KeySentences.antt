@@ -60,7 +60,7 @@ table_words table.Hierarchy number ms = codes "`hl`: "
 table_words table.Dependency number ms = in_place (codes "dependency") number []
 table_words table.Node number ms = in_place (codes "node") number (node_name ms)
 
--- what a value of a list has to be
+-- what a value of a list must be
 abbrev pub item_wanted : ListItem → List ℕ
 item_wanted item_kind.AnyText = codes "a text"
 item_wanted (item_kind.Guide text.Element) = codes "a text as \"128 M ID 2 3 = DP IA\", \"367 N\" or \"- O C ; 355 O ID 2 2\""
@@ -75,20 +75,20 @@ item_wanted (item_kind.Guide text.ElementCode) = codes "a code of IK403"
 abbrev pub has_to_be : (wanted : List ℕ) → List ℕ
 has_to_be wanted = two_texts (codes ", and must be ") wanted
 
--- where the text of a row stops, and what has to stand there
+-- where the text of a row stops, and what must be there
 abbrev pub stop_said : ElementStop → List ℕ
 stop_said stop = codes ": " ++ stop_words stop
 
 abbrev pub row_said : List ℕ → List ℕ
 row_said s = option_map_or stop_said (element_stop s) (has_to_be (item_wanted (item_kind.Guide text.Element)))
 
--- why a value can't stand in a list
+-- why a value can't be in a list
 abbrev pub item_said : ListItem → Data → List ℕ
 item_said (item_kind.Guide text.Element) d =
     option_map_or row_said (as_str d) (has_to_be (item_wanted (item_kind.Guide text.Element)))
 item_said kind d = has_to_be (item_wanted kind)
 
--- a value of a list that can't stand there, by its number
+-- a value of a list that can't be there, by its number
 abbrev pub item_words : (key : List ℕ) → ListItem → ℕ × Data → List ℕ
 item_words key kind w =
     codes "text " ++ (decimal w.0 ++ (codes " of " ++ (key_text key ++ (codes " is " ++ (shown w.1 ++ item_said kind w.1)))))
@@ -110,11 +110,11 @@ abbrev pub one_or_whole : (key wanted : List ℕ) → Data → Option (ListItem 
 one_or_whole key wanted d None = whole_words key wanted d
 one_or_whole key wanted d (Some w) = item_words key w.0 (w.1, w.2)
 
--- the list's value that can't stand there, where there is one; else the whole value
+-- the list's value that can't be there, where there is one; else the whole value
 abbrev pub value_words : (key wanted : List ℕ) → Data → List ℕ
 value_words key wanted d = one_or_whole key wanted d (wrong_at key d)
 
--- a value that is another than it has to be
+-- a value that is another than it must be
 abbrev pub wrong_words : (key wanted : List ℕ) → Option Data → List ℕ
 wrong_words key wanted None = key_text key ++ (codes " isn't " ++ wanted)
 wrong_words key wanted (Some d) = value_words key wanted d

@@ -48,7 +48,7 @@ dependency_fits key d =
     else (if bytes_eq key (codes "slot") then is_some (word_in 1 20 d)
     else (if bytes_eq key (codes "target") then is_some (word_in 1 20 d) else is_some (count_of_data d))))
 
--- whether a value may stand at a key of such a table; where no other table of the file has the key, no value is looked at
+-- whether a value may be at a key of such a table; where no other table of the file has the key, no value is looked at
 abbrev pub fits : KeyTable → (key : List ℕ) → Data → Bool
 fits table.Hub key d = not (bytes_eq key (codes "usage")) && is_some (as_str d)
 fits table.Partner key d = partner_fits key d
@@ -62,7 +62,7 @@ abbrev pub is_known : KeyTable → List ℕ → Bool
 is_known table.Counter key = is_key table.Counter key && not (bytes_eq key (codes "group"))
 is_known kind key = is_key kind key
 
--- something stands at a key that can't
+-- something is at a key that can't
 abbrev pub is_wrong : KeyTable → (key : List ℕ) → Option Data → Bool
 is_wrong kind key None = false
 is_wrong kind key (Some d) = not (fits kind key d)

@@ -1,4 +1,4 @@
--- Own: the lists of texts of guide files and setup files, and the first value of one that can't stand there.
+-- Own: the lists of texts of guide files and setup files, and the first value of one that can't be there.
 use Rattle.std.specs.Prelude.{ℕ, ◌+◌, List, codes, Option, None, Some, Bool, false, if◌then◌else◌, is_some, is_none}
 use Rattle.std.specs.Option.{option_map_or}
 use Rattle.std.specs.Str.{bytes_eq}
@@ -9,7 +9,7 @@ use Rattle.guide_toml.specs.declared.listed_text.ListedText.TheVariants as text
 use Rattle.key_words.specs.declared.list_items.ListItem.{ListItem}
 use Rattle.key_words.specs.declared.list_items.ListItem.TheVariants as item_kind
 
--- a text of a guide file's list that stands for something
+-- a text of a guide file's list that is for something
 abbrev pub is_listed : ListedText → Data → Bool
 is_listed kind d = option_map_or (can_stand kind) (as_str d) false
 
@@ -17,7 +17,7 @@ abbrev pub is_item : ListItem → Data → Bool
 is_item item_kind.AnyText d = is_some (as_str d)
 is_item (item_kind.Guide kind) d = is_listed kind d
 
--- the first that can't stand there, by its number, the first of these having this one
+-- the first that can't be there, by its number, the first of these having this one
 abbrev pub first_wrong : ListItem → (number : ℕ) → Items → Option (ℕ × Data)
 first_wrong kind number no_items = None
 first_wrong kind number (item d ds) = if is_item kind d then first_wrong kind (number + 1) ds else Some (number, d)

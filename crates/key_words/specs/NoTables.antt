@@ -1,4 +1,4 @@
--- TOML (own): what is said of bytes that write no table: a place in them, one cause, and what stands there.
+-- TOML (own): what is said of bytes that write no table: a place in them, one cause, and what is there.
 use Rattle.std.specs.Prelude.{◌≡◌, ◌≤◌, ◌⊎◌, ℕ, true, false, List, codes, length}
 use Rattle.std.specs.Str.{is_utf8}
 use Rattle.std.specs.Str.Lossy.{utf8_valid_len}

@@ -1,4 +1,4 @@
--- Own: the table of a file in which a refused key stands: the first of which the refusal holds, in the order in which they are read.
+-- Own: the table of a file in which a refused key is: the first of which the refusal holds, in the order in which they are read.
 use Rattle.std.specs.Prelude.{ℕ, ◌+◌, ◌==◌, List, codes, Option, None, Some, if◌then◌else◌, option_and_then}
 use Rattle.std.specs.Option.{option_map_or, option_or}
 use Rattle.toml.specs.Data.{Items, Members, as_array, as_table, get_member, item, no_items}

@@ -6,7 +6,7 @@ use Rattle.guide_toml.specs.declared.stops.Wanted.TheVariants as wanted
 use Rattle.refusal_words.specs.Places.{two_texts}
 use Rattle.key_words.specs.Shown.{shown_text}
 
--- what may stand there
+-- what may be there
 abbrev pub wanted_words : Wanted → List ℕ
 wanted_words wanted.Reference = codes "a reference number of 1 to 4 digits, or -"
 wanted_words wanted.Requirement = codes "M, O or N"
@@ -23,7 +23,7 @@ wanted_words wanted.End = codes "nothing more"
 abbrev pub component_words : (component : ℕ) → List ℕ
 component_words component = if component == 0 then [] else codes "component " ++ (decimal component ++ codes ": ")
 
--- a token; an empty one stands between two spaces, or at an end
+-- a token; an empty one is between two spaces, or at an end
 abbrev pub token_text : List ℕ → List ℕ
 token_text [] = codes "a space too many"
 token_text (b ∷ bs) = shown_text (b ∷ bs)
@@ -37,7 +37,7 @@ standing_words token w = token_text token ++ may_words w
 abbrev pub missing_words : Wanted → List ℕ
 missing_words w = wanted_words w ++ codes " is missing"
 
--- a token that can't stand there, or the end of the row or the component
+-- a token that can't be there, or the end of the row or the component
 abbrev pub token_words : Option (List ℕ) → Wanted → List ℕ
 token_words None w = missing_words w
 token_words (Some token) w = standing_words token w

@@ -1,4 +1,4 @@
--- Own: where in a file a byte stands, by its line and its column, both from 1 on, and what stands there. A line ends with a line feed; a
+-- Own: where in a file a byte is, by its line and its column, both from 1 on, and what is there. A line ends with a line feed; a
 -- column counts bytes.
 use Rattle.std.specs.Prelude.{ℕ, Bool, ◌+◌, ◌==◌, ◌||◌, ◌&&◌, ◌/◌, ◌%◌, List, [], ◌∷◌, ◌++◌, codes, decimal, drop, length, nat_le, not}
 use Rattle.std.specs.Prelude.{reverse, take, if◌then◌else◌}
@@ -31,15 +31,15 @@ printed_byte b = if is_printed b then b ∷ [] else 92 ∷ 120 ∷ digit (b / 16
 abbrev pub is_in_line : ℕ → Bool
 is_in_line b = not ((b == 10) || (b == 13))
 
--- at most so many bytes of a line are shown
+-- at most this many bytes of a line are shown
 abbrev pub MOST_SHOWN : ℕ
 MOST_SHOWN = 40
 
--- what stands at a place: the front of the rest of its line
+-- what is at a place: the front of the rest of its line
 abbrev pub standing : (bytes : List ℕ) → (offset : ℕ) → List ℕ
 standing bytes offset = take MOST_SHOWN (take_while is_in_line (drop offset bytes))
 
--- where nothing stands there, the line ends, or the file
+-- where nothing is there, the line ends, or the file
 abbrev pub standing_words : List ℕ → (rest : List ℕ) → List ℕ
 standing_words [] [] = codes "the file ends"
 standing_words [] (b ∷ bs) = codes "the line ends"
@@ -48,7 +48,7 @@ standing_words (b ∷ bs) rest = flat_map printed_byte (b ∷ bs)
 abbrev pub place_words : (line column : ℕ) → List ℕ
 place_words line column = codes "line " ++ (decimal line ++ (codes ", column " ++ (decimal column ++ codes ": ")))
 
--- a place in a file, what is wrong there, and what stands there
+-- a place in a file, what is wrong there, and what is there
 abbrev pub said_at : (bytes : List ℕ) → (offset : ℕ) → (text : List ℕ) → List ℕ
 said_at bytes offset text =
     place_words (line_at bytes offset) (column_at bytes offset)

@@ -1,4 +1,4 @@
--- Own: what the value of a key has to be, in a guide file, and in a setup file or a counters file.
+-- Own: what the value of a key must be, in a guide file, and in a setup file or a counters file.
 use Rattle.std.specs.Prelude.{ℕ, List, codes, if◌then◌else◌}
 use Rattle.std.specs.Str.{bytes_eq}
 

@@ -29,7 +29,7 @@ fn text_wanted(kind: ListedText) -> &'static [u8]
     }
 }
 
-/// What a value of a list has to be.
+/// What a value of a list must be.
 fn item_wanted(kind: ListItem) -> &'static [u8]
     ensures { result.now ≡ words.item_wanted kind }
 {
@@ -62,7 +62,7 @@ fn append_row_said(alloc: Global, out: &mut Vec<u8>, text: &[u8]) -> Result<(), 
     }
 }
 
-/// Adds why a value can't stand in a list.
+/// Adds why a value can't be in a list.
 fn append_item_said(
     alloc: Global,
     out: &mut Vec<u8>,
@@ -116,7 +116,7 @@ fn append_whole(out: &mut Vec<u8>, key: &[u8], wanted: &[u8], value: &Value) -> 
     append_has_to_be(out, wanted)
 }
 
-/// The first value of the list at a key that can't stand there, where there is one, and what the list's values are.
+/// The first value of the list at a key that can't be there, where there is one, and what the list's values are.
 fn wrong_at<'v>(
     alloc: Global,
     key: &[u8],

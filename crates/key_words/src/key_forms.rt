@@ -1,4 +1,4 @@
-//! What may stand at each key of a file's tables, and which keys have to be there.
+//! What may be at each key of a file's tables, and which keys must be there.
 ghost use Rattle.std.specs.Prelude.{◌≡◌, IfOk, false, is_some, map, if◌then◌else◌};
 ghost use Rattle.std.specs.Char.{is_ascii_uppercase};
 ghost use Rattle.std.specs.List.{list_all};
@@ -19,11 +19,11 @@ use std::alloc::Global;
 use toml::{Table, Value};
 use toml_keys::value_at;
 
-/// What may stand at a key.
+/// What may be at a key.
 #[derive(Clone, Copy, Debug, PartialEq, Eq)]
 pub enum ValueForm {
     Text,
-    /// So many to so many letters or digits.
+    /// This many to this many letters or digits.
     Word(usize, usize),
     Number,
     Flag,
@@ -233,7 +233,7 @@ fn or_form(is_first: bool, first: ValueForm, second: ValueForm) -> ValueForm
     if is_first { first } else { second }
 }
 
-/// What may stand at a key of a table.
+/// What may be at a key of a table.
 pub fn form_of(kind: KeyTable, key: &[u8]) -> ValueForm
     ensures { result ≡ forms.form_of kind key.now }
 {
@@ -271,7 +271,7 @@ pub fn form_of(kind: KeyTable, key: &[u8]) -> ValueForm
     }
 }
 
-/// Whether a key of a table may be left out.
+/// Whether a key of a table is optional.
 pub fn is_free(kind: KeyTable, key: &[u8]) -> bool
     ensures { result ≡ forms.is_free kind key.now }
 {

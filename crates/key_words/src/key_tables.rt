@@ -178,7 +178,7 @@ fn dependency_fits(alloc: Global, key: &[u8], value: &Value) -> Result<bool, NoM
     }
 }
 
-/// Whether a value may stand at a key of a table.
+/// Whether a value may be at a key of a table.
 fn fits(alloc: Global, kind: KeyTable, key: &[u8], value: &Value) -> Result<bool, NoMemory>
     ensures { IfOk result (λ yes. yes ≡ tables.fits kind key.now (view value.now)) }
 {
@@ -217,7 +217,7 @@ fn is_known(kind: KeyTable, key: &[u8]) -> bool
     }
 }
 
-/// Whether what stands at a key, where something does, can't stand there.
+/// Whether what is at a key, where something does, can't be there.
 fn is_wrong(
     alloc: Global,
     kind: KeyTable,

@@ -1,10 +1,10 @@
-//! What is wrong with a key of a guide file, a setup file or a counters file, in words: the table in which it stands, by its number and its
-//! name, the value that stands there, and one cause. Of a list of texts it is the first that can't stand there, and of the text of a data
+//! What is wrong with a key of a guide file, a setup file or a counters file, in words: the table in which it is, by its number and its
+//! name, the value that is there, and one cause. Of a list of texts it is the first that can't be there, and of the text of a data
 //! element's row the first token that can't.
 //!
 //! Proved: each sentence is the one that the definitions give, byte for byte, of the file's table and of the refusal. The table that is
 //! named is the first of which the refusal holds, in the order in which the readers of these files read them. Of bytes that write no table
-//! the line and the column are those of the first byte that is no UTF-8, or else of a place in the file, and what is shown is what stands
+//! the line and the column are those of the first byte that is no UTF-8, or else of a place in the file, and what is shown is what is
 //! there (`no_table_text`).
 //!
 //! The same of all keys that can't be, table by table, is said by the definitions too (`push_setup_keys_said` and the others).

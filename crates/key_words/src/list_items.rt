@@ -14,7 +14,7 @@ pub enum ListItem {
     Guide(ListedText),
 }
 
-/// A value that can't stand in its list, and its number, from 1 on.
+/// A value that can't be in its list, and its number, from 1 on.
 #[derive(Clone, Copy)]
 pub struct WrongItem<'v> {
     pub number: u64,
@@ -39,7 +39,7 @@ fn is_item(alloc: Global, kind: ListItem, value: &Value) -> Result<bool, NoMemor
     }
 }
 
-/// The first value that can't stand in a list. The only error is out of memory.
+/// The first value that can't be in a list. The only error is out of memory.
 pub fn first_wrong<'v>(
     alloc: Global,
     kind: ListItem,

@@ -37,7 +37,7 @@ fn append_wrong(
     }
 }
 
-/// Adds what is wrong with a key, by what stands there.
+/// Adds what is wrong with a key, by what is there.
 fn append_fault(
     alloc: Global,
     out: &mut Vec<u8>,
@@ -61,7 +61,7 @@ fn append_fault(
     }
 }
 
-/// Adds where a key stands, where that is found, and what is wrong with it.
+/// Adds where a key is, where that is found, and what is wrong with it.
 pub fn append_spot(
     alloc: Global,
     out: &mut Vec<u8>,

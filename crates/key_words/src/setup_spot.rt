@@ -44,7 +44,7 @@ fn below_setup<'t>(
     }
 }
 
-/// The table of a setup file in which a refused key stands. The only error is out of memory.
+/// The table of a setup file in which a refused key is. The only error is out of memory.
 pub fn setup_spot<'t>(
     alloc: Global,
     refused: RefusedKey<'_>,

@@ -10,7 +10,7 @@ use std::alloc::Global;
 use toml::{Table, Value};
 use toml_keys::value_at;
 
-/// A table in which a refused key stands.
+/// A table in which a refused key is.
 #[derive(Clone, Copy)]
 pub struct Spot<'t> {
     /// What it writes.

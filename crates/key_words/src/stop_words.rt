@@ -6,7 +6,7 @@ use guide_toml::{ElementStop, Wanted};
 use hub_kinds::{Lent, NoMemory};
 use refusal_words::{append, append_one, append_texts};
 
-/// What may stand there.
+/// What may be there.
 fn wanted_words(wanted: Wanted) -> &'static [u8]
     ensures { result.now ≡ words.wanted_words wanted }
 {
@@ -73,7 +73,7 @@ fn append_at(out: &mut Vec<u8>, token: &Option<Lent<'_>>, wanted: Wanted) -> Res
     }
 }
 
-/// Adds where the text of a data element's row stops, and what may stand there.
+/// Adds where the text of a data element's row stops, and what may be there.
 pub fn append_stop(out: &mut Vec<u8>, stop: &ElementStop<'_>) -> Result<(), NoMemory>
     ensures { OnOk result (out.new.items ≡ out.old.items ++ words.stop_words stop.now) }
 {

@@ -1,4 +1,4 @@
-//! Where in a file something stands, and what stands there.
+//! Where in a file something is, and what is there.
 ghost use Rattle.std.specs.Prelude.{◌≡◌, ◌≤◌, ◌<◌, ◌++◌, decimal, drop, length, min, take, OnOk};
 ghost use Rattle.std.specs.List.{count_by, flat_map, take_while};
 ghost use Rattle.key_words.specs.TextPlaces as places;
@@ -7,7 +7,7 @@ use crate::shown::digit;
 use hub_kinds::NoMemory;
 use refusal_words::{append, append_number};
 
-/// So many bytes of a line are shown at most.
+/// This many bytes of a line are shown at most.
 const MOST_SHOWN: usize = 40;
 
 fn line_feeds(text: &[u8]) -> usize
@@ -98,7 +98,7 @@ fn front_of(line: &[u8]) -> &[u8]
     &line[..MOST_SHOWN.min(line.len())]
 }
 
-/// Adds what stands at the front of a text.
+/// Adds what is at the front of a text.
 fn append_standing(out: &mut Vec<u8>, rest: &[u8]) -> Result<(), NoMemory>
     ensures { OnOk result (out.new.items ≡ out.old.items
         ++ places.standing_words (take places.MOST_SHOWN (take_while places.is_in_line rest.now)) rest.now) }
@@ -113,7 +113,7 @@ fn append_standing(out: &mut Vec<u8>, rest: &[u8]) -> Result<(), NoMemory>
     }
 }
 
-/// Adds a place in a file, what is wrong there, and what stands there.
+/// Adds a place in a file, what is wrong there, and what is there.
 pub fn append_said_at(
     out: &mut Vec<u8>,
     bytes: &[u8],

@@ -57,7 +57,7 @@ fn guide_number_wanted(key: &[u8]) -> &'static [u8]
     }
 }
 
-/// What the value of a key of a guide file has to be.
+/// What the value of a key of a guide file must be.
 pub fn guide_wanted(key: &[u8]) -> &'static [u8]
     ensures { result.now ≡ wanted.guide_wanted key.now }
 {
@@ -112,7 +112,7 @@ fn setup_number_wanted(key: &[u8]) -> &'static [u8]
     }
 }
 
-/// What the value of a key of a setup file or a counters file has to be.
+/// What the value of a key of a setup file or a counters file must be.
 pub fn setup_wanted(key: &[u8]) -> &'static [u8]
     ensures { result.now ≡ wanted.setup_wanted key.now }
 {

@@ -36,7 +36,7 @@ pub record IsAccounted (setup : SetupValue) (p : PlacedValue) : Type 0 where
   pub routed : 0 < length (receivers_of setup p) → All (λ outcome. outcome ≢ HeldForRoute) (outcomes setup p)
   pub without_route : receivers_of setup p ≡ [] → outcomes setup p ≡ HeldForRoute ∷ []
 
--- under a setup, what becomes of all sets
+-- under a setup, the outcome of all sets
 pub record AreAccounted (setup : SetupValue) : Type 0 where
   pub deliverable : (p : PlacedValue) → is_deliverable p ≡ true → IsAccounted setup p
   pub others : (p : PlacedValue) → is_deliverable p ≡ false → outcomes setup p ≡ []

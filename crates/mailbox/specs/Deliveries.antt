@@ -36,7 +36,7 @@ is_text_in_the_way from to text = list_any (is_in_the_way from to) text
 abbrev pub kept_parts : SegValue → List (List ℕ)
 kept_parts header = id_of header ∷ remove (drop 1 (elements_of header)) 1
 
--- how many segments stand between ST and SE
+-- how many segments are between ST and SE
 abbrev pub inner_count : PlacedValue → ℕ
 inner_count p = if is_some p.set.trailer then p.set.segments - 2 else p.set.segments - 1
 
@@ -44,13 +44,13 @@ inner_count p = if is_some p.set.trailer then p.set.segments - 2 else p.set.segm
 abbrev pub inner_in : PlacedValue → List SegValue
 inner_in p = take (inner_count p) (drop 1 (segments_in p))
 
--- in what is kept of a set, its SE left aside, such a byte stands
+-- in what is kept of a set, its SE left aside, there is such a byte
 abbrev pub is_blocked : (to : Delims) → PlacedValue → Bool
 is_blocked to p =
     list_any (is_text_in_the_way (delims_in p) to) (kept_parts p.set.header)
     || list_any (λ seg. is_text_in_the_way (delims_in p) to seg.bytes) (inner_in p)
 
--- what becomes of a set that may be delivered, for a receiver of its route; a set whose receiver isn't there has none
+-- the outcome of a set that may be delivered, for a receiver of its route; a set whose receiver isn't there has none
 abbrev pub outcome_by : Option Partner → PlacedValue → ℕ → Outcome
 outcome_by None p to = HeldForRoute
 outcome_by (Some partner) p to = if is_blocked partner.delims p then HeldForDelimiter to else DeliveredTo to
@@ -62,7 +62,7 @@ abbrev pub outcomes_on : SetupValue → PlacedValue → List ℕ → List Outcom
 outcomes_on setup p [] = HeldForRoute ∷ []
 outcomes_on setup p (to ∷ more) = map (outcome_at setup p) (to ∷ more)
 
--- what becomes of a set, for each receiver of its route (GS03): nothing of one that may not be delivered
+-- the outcome of a set, for each receiver of its route (GS03): nothing of one that may not be delivered
 abbrev pub outcomes : SetupValue → PlacedValue → List Outcome
 outcomes setup p = if is_deliverable p then outcomes_on setup p (route_of setup (element_of p.group.header 3)) else []
 

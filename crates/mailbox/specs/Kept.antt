@@ -17,7 +17,7 @@ kept_as bytes sender id_len version_len = record {
 abbrev pub kept_in : List ℕ → Kept → RenderedValue
 kept_in text k = kept_as (slice_range text k.from k.to) k.sender k.id_len k.version_len
 
--- it stands there, with GS01 and GS08 at its front
+-- it is there, with GS01 and GS08 at its front
 pub record StandsIn (text : List ℕ) (k : Kept) : Type 0 where
   pub order : k.from ≤ k.to
   pub within : k.to ≤ length text

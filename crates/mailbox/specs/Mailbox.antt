@@ -37,7 +37,7 @@ mapped from to bytes = map (mapped_byte from to) bytes
 abbrev pub mapped_elements : Delims → Delims → List (List ℕ) → List ℕ
 mapped_elements from to elements = elements_text to.element (map (mapped from to) elements)
 
--- ST: as it stands, with ST02 written anew
+-- ST: as written, with ST02 written anew
 abbrev pub set_header_text : Delims → Delims → SegValue → ℕ → List ℕ
 set_header_text from to header n =
     codes "ST" ++ mapped_elements from to (take 1 (drop 1 (elements_of header)))
@@ -59,7 +59,7 @@ set_text to p n =
     set_header_text (delims_in p) to p.set.header n ++ flat_map (inner_text (delims_in p) to) (inner_in p)
     ++ set_trailer_text to (length (inner_in p) + 2) n
 
--- the number of a delivered set: so many after the partner's first
+-- the number of a delivered set: this many after the partner's first
 abbrev pub numbered_text : Partner → NumberedValue → List ℕ
 numbered_text partner x = set_text partner.delims x.set (num partner.counters.set x.place)
 
@@ -93,21 +93,21 @@ groups_text setup partner at g [] = []
 groups_text setup partner at g (group ∷ groups) =
     delivered_group_text setup partner at (num partner.counters.group g) group ++ groups_text setup partner at (g + 1) groups
 
--- a delivered interchange, before which the partner is sent so many groups
+-- a delivered interchange, before which the partner is sent this many groups
 abbrev pub delivered_text : SetupValue → Partner → (at : List ℕ) → (number before : ℕ) → List NumberedValue → List ℕ
 delivered_text setup partner at number before sets =
     header_text (envelope_to setup partner) at number
     ++ groups_text setup partner at before (groups_of sets)
     ++ trailer_text partner.delims (length (groups_of sets)) number
 
--- delivered interchanges, the first of them as number k of those that the partner is sent, and its groups after so many before
+-- delivered interchanges, the first of them as number k of those that the partner is sent, and its groups after this many before
 abbrev pub delivered_texts : SetupValue → Partner → (at : List ℕ) → (k before : ℕ) → List (List NumberedValue) → List ℕ
 delivered_texts setup partner at k before [] = []
 delivered_texts setup partner at k before (sets ∷ more) =
     delivered_text setup partner at (num partner.counters.interchange k) before sets
     ++ delivered_texts setup partner at (k + 1) (before + length (groups_of sets)) more
 
--- a partner's mailbox, after so many acknowledgments, so many of them with a group: set k stands in interchange k / cap
+-- a partner's mailbox, after this many acknowledgments, this many of them with a group: set k is in interchange k / cap
 abbrev pub box_text : SetupValue → Partner → (at : List ℕ) → (acknowledgments groups : ℕ) → List PlacedValue → List ℕ
 box_text setup partner at acknowledgments groups sets =
     delivered_texts setup partner at acknowledgments groups (interchanges_of partner.cap (numbered_from 0 sets))

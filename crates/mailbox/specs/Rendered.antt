@@ -67,21 +67,21 @@ groups_text setup partner at g [] = []
 groups_text setup partner at g (group ∷ groups) =
     group_of setup partner at (num partner.counters.group g) group ++ groups_text setup partner at (g + 1) groups
 
--- a delivered interchange, before which the partner is sent so many groups
+-- a delivered interchange, before which the partner is sent this many groups
 abbrev pub interchange_of : SetupValue → Partner → (at : List ℕ) → (number before : ℕ) → List RenderedValue → List ℕ
 interchange_of setup partner at number before sets =
     header_text (envelope_to setup partner) at number
     ++ groups_text setup partner at before (groups_of sets)
     ++ trailer_text partner.delims (length (groups_of sets)) number
 
--- delivered interchanges, the first of them as number k of those that the partner is sent, and its groups after so many before
+-- delivered interchanges, the first of them as number k of those that the partner is sent, and its groups after this many before
 abbrev pub interchanges_text : SetupValue → Partner → (at : List ℕ) → (k before : ℕ) → List (List RenderedValue) → List ℕ
 interchanges_text setup partner at k before [] = []
 interchanges_text setup partner at k before (sets ∷ more) =
     interchange_of setup partner at (num partner.counters.interchange k) before sets
     ++ interchanges_text setup partner at (k + 1) (before + length (groups_of sets)) more
 
--- a partner's mailbox, after so many acknowledgments, so many of them with a group
+-- a partner's mailbox, after this many acknowledgments, this many of them with a group
 abbrev pub box_of_rendered : SetupValue → Partner → (at : List ℕ) → (acknowledgments groups : ℕ) → List RenderedValue → List ℕ
 box_of_rendered setup partner at acknowledgments groups sets =
     interchanges_text setup partner at acknowledgments groups (interchanges_of partner.cap sets)

@@ -106,7 +106,7 @@ fn append_delivered(
     Ok(groups)
 }
 
-/// Writes delivered interchanges after so many acknowledgments, of which so many have a group, and answers how many groups they
+/// Writes delivered interchanges after this many acknowledgments, of which this many have a group, and answers how many groups they
 /// have.
 fn append_interchanges(
     out: &mut Vec<u8>,
@@ -148,8 +148,8 @@ fn append_interchanges(
 }
 
 /// What the partner at this place of the setup finds in its mailbox (X12.5, X12.6), by the sets that were written for it: in
-/// interchanges that hold as many as its cap says, numbered after so many acknowledgments, and in each the longest groups of sets
-/// from one sender with one GS01 and GS08, whose control numbers (GS06) go on after those of the groups of acknowledgments, so many.
+/// interchanges that hold as many as its cap says, numbered after this many acknowledgments, and in each the longest groups of sets
+/// from one sender with one GS01 and GS08, whose control numbers (GS06) continue after those of the groups of acknowledgments, this many.
 /// The only error is out of memory.
 pub fn close(
     alloc: Global,
@@ -190,8 +190,8 @@ pub fn close(
 }
 
 /// What the partner at this place of the setup finds in its mailbox (X12.5, X12.6): its delivered sets in interchanges that hold
-/// as many as its cap says, numbered after so many acknowledgments, and in each the longest groups of sets from one sender with
-/// one GS01 and GS08, whose control numbers (GS06) go on after those of the groups of acknowledgments, so many. The only error is
+/// as many as its cap says, numbered after this many acknowledgments, and in each the longest groups of sets from one sender with
+/// one GS01 and GS08, whose control numbers (GS06) continue after those of the groups of acknowledgments, this many. The only error is
 /// out of memory.
 pub fn assemble(
     alloc: Global,

@@ -103,7 +103,7 @@ fn are_shared(from: &Delims, to: &Delims) -> bool
         && is_delimiter(from, to.terminator)
 }
 
-/// Whether in what is kept of a set, its SE left aside, a byte stands that is no delimiter there and one of the receiver's.
+/// Whether in what is kept of a set, its SE left aside, a byte is that is no delimiter there and one of the receiver's.
 pub(crate) fn is_blocked(to: &Delims, placed: &PlacedSet<'_, '_, '_>) -> bool
     ensures { result ≡ is_blocked to.now placed.now }
 {
@@ -163,14 +163,14 @@ fn is_repetition_passed_over(from: &Delims, repetition: Option<u8>, text: &[u8])
     }
 }
 
-/// Whether a byte is a delimiter where a text comes from, or doesn't stand in it.
+/// Whether a byte is a delimiter where a text comes from, or isn't in it.
 fn is_passed_over(from: &Delims, byte: u8, text: &[u8]) -> bool
     ensures { OnTrue result (list_any (is_foreign from.now byte) text.now ≡ false) }
 {
     is_delimiter(from, byte) || memchr(byte, text).is_none()
 }
 
-/// How many segments stand between ST and SE.
+/// How many segments are between ST and SE.
 pub(crate) fn inner_count(set: &SetEnvelope<'_>) -> u64
     ensures { result ≡ (if is_some set.now.trailer then set.now.segments - 2 else set.now.segments - 1) }
 {

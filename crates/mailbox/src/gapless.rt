@@ -17,7 +17,7 @@ fn is_line_end(byte: u8) -> bool
     (byte == b'\r') | (byte == b'\n')
 }
 
-/// Whether in a text no terminator stands at the front or right after another one, no CR or LF stands, and the last byte is a terminator.
+/// Whether in a text no terminator is at the front or right after another one, there is no CR or LF, and the last byte is a terminator.
 /// All bytes are looked at, which costs less than to stop.
 fn is_gapless(terminator: u8, text: &[u8]) -> bool
     ensures { result ≡ is_gapless terminator terminator text.now }
@@ -31,7 +31,7 @@ fn is_gapless(terminator: u8, text: &[u8]) -> bool
     !gap & (before == terminator)
 }
 
-/// How many terminators stand in a text.
+/// How many terminators are in a text.
 fn count_of(terminator: u8, text: &[u8]) -> usize
     ensures { result ≡ count_by (is_byte terminator) text.now }
 {
@@ -50,7 +50,7 @@ fn inner_end(set: &SetEnvelope<'_>, stretch: &[u8]) -> usize
     }
 }
 
-/// The bytes of the segments between ST and SE, of which there are so many, where these surely stand without a gap.
+/// The bytes of the segments between ST and SE, of which there are this many, where these surely are without a gap.
 pub(crate) fn inner_if_gapless<'a>(
     placed: &PlacedSet<'_, '_, 'a>,
     set: &SetEnvelope<'a>,

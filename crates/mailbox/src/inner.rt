@@ -69,7 +69,7 @@ fn append_each_as_read(
     Ok(written)
 }
 
-/// The same, where it may be known what they are as they are read, and that there are so many.
+/// The same, where it may be known what they are as they are read, and that there are this many.
 fn append_as_read(
     out: &mut Vec<u8>,
     from: &Delims,
@@ -145,7 +145,7 @@ fn changes_terminator(from: &Delims, to: &Delims) -> bool
 }
 
 /// Writes the first of the segments that are left, `most` of them, with the receiver's delimiters; answers how many there are. What they
-/// are as they are read may be known, and that there are so many.
+/// are as they are read may be known, and that there are this many.
 pub(crate) fn append_inners(
     out: &mut Vec<u8>,
     from: &Delims,

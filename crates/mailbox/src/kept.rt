@@ -4,7 +4,7 @@ ghost use Rattle.mailbox.specs.Kept.{StandsIn, kept_in};
 use crate::rendered::Rendered;
 use hub_kinds::Lent;
 
-/// Where a written set stands in a text: from where to where, and of that how many bytes are GS01 and GS08 of its group, one after the
+/// Where a written set is in a text: from where to where, and of that how many bytes are GS01 and GS08 of its group, one after the
 /// other at its front; and the place in the setup of its sender.
 #[derive(Clone, Copy, Debug)]
 pub(crate) struct Kept {

@@ -1,7 +1,7 @@
-//! Which transaction sets may be delivered, what becomes of one for a receiver of its route, and what a partner finds in its
+//! Which transaction sets may be delivered, the outcome of one for a receiver of its route, and what a partner finds in its
 //! mailbox: its delivered sets, numbered anew, in interchanges and groups of its own, in its delimiters. A delivered set is a place in
 //! its interchange; once it is written it is kept as its text, and the mailbox is closed from these texts, so that sets may come in
-//! batches, each of which is let go when its sets are written.
+//! batches, each of which is released when its sets are written.
 //!
 //! Proved:
 //! - `is_deliverable` and `outcome_at` are their definitions: which verdicts, groups and interchanges a set may be delivered from,

@@ -1,4 +1,4 @@
-/// What becomes of a set that may be delivered (own). Partners are named by their places in the setup.
+/// The outcome of a set that may be delivered (own). Partners are named by their places in the setup.
 #[derive(Clone, Copy, Debug, PartialEq, Eq)]
 pub enum Outcome {
     /// It is delivered to this partner.

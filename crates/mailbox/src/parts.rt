@@ -13,7 +13,7 @@ pub(crate) struct Part {
     pub(crate) to: usize,
 }
 
-/// The parts of a list of so many elements, of which each but the last has so many.
+/// The parts of a list of this many elements, of which each but the last has this many.
 pub(crate) fn parts_of(alloc: Global, count: usize, share: usize) -> Result<Vec<Part>, NoMemory>
     requires { 0 < share }
     ensures { IfOk result (λ parts. AreParts 0 count parts.items) }

@@ -6,7 +6,7 @@ use crate::outcome::Outcome;
 use judged_text::PlacedSet;
 use partner_setup::Setup;
 
-/// What becomes of a set that may be delivered, for the receiver at this place of the setup.
+/// The outcome of a set that may be delivered, for the receiver at this place of the setup.
 pub fn outcome_at(setup: &Setup, placed: &PlacedSet<'_, '_, '_>, to: usize) -> Outcome
     ensures { result ≡ outcome_at setup.now placed.now to }
 {

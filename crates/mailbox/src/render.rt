@@ -39,7 +39,7 @@ fn append_set_header(
     Ok(())
 }
 
-/// Writes the SE of a set with so many segments.
+/// Writes the SE of a set with this many segments.
 fn append_set_trailer(
     out: &mut Vec<u8>,
     to: &Delims,
@@ -112,7 +112,7 @@ pub(crate) fn append_set_of<'a>(
 }
 
 /// Writes a set as it is delivered, as set number `number`, after what is there: with the receiver's delimiters, ST02 and SE
-/// written anew (X12.6, transaction set header and trailer). Where memory is refused a part of it may stand there.
+/// written anew (X12.6, transaction set header and trailer). Where memory is refused a part of it may be there.
 pub fn render_set(
     out: &mut Vec<u8>,
     to: &Delims,

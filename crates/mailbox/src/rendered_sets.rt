@@ -36,7 +36,7 @@ impl Row {
     ghost use Rattle.mailbox.specs.Numbers.{HasCounters};
     ghost use Rattle.mailbox.specs.Rendered.{rendered};
 
-    /// None yet, with room for so many bytes and sets.
+    /// None yet, with room for this many bytes and sets.
     pub(crate) fn with_room(alloc: Global, bytes: usize, sets: usize) -> Result<Row, NoMemory>
         ensures { IfOk result (λ all. all ≡ []) }
     {

@@ -7,17 +7,17 @@ use hub_kinds::{Lent, NoMemory};
 use std::alloc::Global;
 use std::marker::Model;
 
-/// Where sets stand between envelopes: after so many bytes of the envelopes, so many of them.
+/// Where sets are between envelopes: after this many bytes of the envelopes, this many of them.
 #[derive(Clone, Copy, Debug)]
 pub(crate) struct Cut {
-    /// How many bytes of the envelopes stand before them.
+    /// How many bytes of the envelopes are before them.
     pub(crate) at: usize,
     /// How many they are.
     pub(crate) sets: usize,
 }
 
 /// The text of a mailbox as it is held: the sets in the rows in which they were written, the envelopes in a text of their own, and
-/// where sets stand between them. It is woven only when it is written: nothing is copied for it.
+/// where sets are between them. It is woven only when it is written: nothing is copied for it.
 #[derive(Drop)]
 pub struct Woven {
     sets: RenderedSets,
@@ -41,7 +41,7 @@ impl Woven {
     ghost use Rattle.x12_write.specs.Group.{texts_in_row};
     ghost use Rattle.mailbox.specs.Woven.{AreCuts, woven};
 
-    /// Sets with the envelopes that stand between them.
+    /// Sets with the envelopes that are between them.
     pub(crate) fn new(sets: RenderedSets, ends: Vec<u8>, cuts: Vec<Cut>) -> Woven
         requires { AreCuts 0 (length ends.items) (length sets) cuts.items }
         ensures { result ≡ woven ends.items 0 cuts.items sets }

@@ -28,7 +28,7 @@ pub struct FoundText<'a> {
     pub findings: Vec<Finding<'a>>,
 }
 
-/// The same of a text that stands after others.
+/// The same of a text that is after others.
 #[derive(Drop)]
 pub struct FoundBehind<'a> {
     /// Its index, settled with the faults 1 to 9.

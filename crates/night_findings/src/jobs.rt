@@ -119,7 +119,7 @@ fn add_interchange<'f, 'g, 'a>(
 }
 
 /// The jobs of the places of an index that is settled with the faults 1 to 8, one for each, in their order: at the place of a set
-/// where it stands, and its sender's guide for its GS01, GS08 and ST01; nothing at that of an interchange or a group. An interchange with a
+/// where it is, and its sender's guide for its GS01, GS08 and ST01; nothing at that of an interchange or a group. An interchange with a
 /// fault has no place. X12.5, interchange; X12.6, functional group and transaction set. The only error is out of memory.
 pub(crate) fn check_jobs<'f, 'g, 'a>(
     alloc: Global,

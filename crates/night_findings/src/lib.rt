@@ -14,7 +14,7 @@
 //! - `settle_behind` settles an index with these, gives the faults 1 to 9 by the numbers that were seen in earlier batches
 //!   (`number_register::Seen`), and adds those of its interchange places;
 //! - `check_jobs` gives one job for each place of an index settled with the faults 1 to 8, in the order of places: at a set's place its
-//!   check, where it stands, by its sender's guide for its GS01, GS08 and ST01;
+//!   check, where it is, by its sender's guide for its GS01, GS08 and ST01;
 //! - `flags_of` says of each place whether an earlier one has its number: of a group and a set exactly where the first use of the
 //!   number is an earlier place, of an interchange where it has the fault 9;
 //! - `findings_of` puts together what was done at the places and what is reported of their numbers: where all jobs were done and all

@@ -86,7 +86,7 @@ fn put(key: &mut [u8; KEY_LEN], at: usize, text: &[u8])
     }
 }
 
-/// From which of a partner's guides on a guide for these can stand, by the partner's table; none where there is none.
+/// From which of a partner's guides on a guide for these can be, by the partner's table; none where there is none.
 pub(crate) fn start_of(
     table: &BTreeMap<Vec<u8>, usize>,
     group: &[u8],

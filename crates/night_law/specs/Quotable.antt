@@ -21,7 +21,7 @@ use Rattle.checked_text.specs.CheckedText.{sent_by}
 use Rattle.checked_text.specs.Settled.{settled_entries}
 use Rattle.night_law.specs.Told.{groups_told, is_told_to}
 
--- neither the element separator nor the terminator stands in the reference numbers of a row and of its components
+-- neither the element separator nor the terminator is in the reference numbers of a row and of its components
 abbrev pub IsRowQuotable : Delims → Element → Type 0
 IsRowQuotable d row =
     IsUndivided d (element_reference row) × All (λ component. IsUndivided d (component_reference component)) (components_of row)

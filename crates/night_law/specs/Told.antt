@@ -108,7 +108,7 @@ told_groups before (group ∷ groups) =
     else record { before = before; group = group } ∷ told_groups (before ++ group ∷ []) groups
 
 -- the acknowledgment of an interchange under this envelope: the TA1, if there is one, and one group, if there are 999s, in which a 999
--- stands for each of these groups, in their order, counted from 1
+-- represents each of these groups, in their order, counted from 1
 pub record IsInterchangeTold (e : Envelope) (at : List ℕ) (number control : ℕ) (ta1 : Option (List ℕ)) (sent : SentValue)
     (groups : List GroupEntry) (acknowledgment : List ℕ) : Type 0 where
   pub reports : List (List ℕ)

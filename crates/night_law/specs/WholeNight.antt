@@ -1,5 +1,5 @@
--- X12.5, interchange; X12.6, functional group and transaction set; 999 guide (005010X231): the whole night of a text, by a setup and at a
--- moment, with what is reported and read of it. Each run promises this record, and so does the program.
+-- X12.5, interchange; X12.6, functional group and transaction set; 999 guide (005010X231): the complete night of a text, by a setup and at
+-- a moment, with what is reported and read of it. Each run promises this record, and so does the program.
 use Rattle.std.specs.Prelude.{ℕ, List}
 use Rattle.partner_setup.specs.Setup.{SetupValue}
 use Rattle.night_writing.specs.Night.{IsNight}

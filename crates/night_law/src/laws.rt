@@ -58,7 +58,7 @@ pub fn sets_are_told_as_they_meet()
 
 /// A partner that reads a night's acknowledgments, by its delimiters, finds a response to each of its sets that is reported to it, in
 /// their order, and no other: ST01, ST02, and A as IK501 exactly where the set meets its guide (X12.6, segment; 999 guide, 005010X231).
-/// That is so where its element separator and its terminator stand in no reference number of its guides; in the ids of their loops and
+/// That is so where its element separator and its terminator are in no reference number of its guides; in the ids of their loops and
 /// in the elements that are repeated of an interchange without fault (GS01, GS06, GS08, ST01, ST02) they never do. It does nothing: its
 /// contract is the theorem.
 pub fn acknowledgments_are_read_as_sets_meet()
@@ -74,7 +74,7 @@ pub fn ta1s_are_read_as_interchanges_are_answered()
         → IsNight text setup at night → AreTa1sReadBack text setup night.acks }
 {}
 
-/// Where each guide of a sound setup has letters and digits alone as reference numbers, no partner's element separator or terminator stands
+/// Where each guide of a sound setup has letters and digits alone as reference numbers, no partner's element separator or terminator is
 /// in one, so each can read its acknowledgments (X12.6, data element reference number). It does nothing: its contract is the theorem.
 pub fn plain_references_are_quoted()
     ensures { (text : List ℕ) (setup : SetupValue) → IsSoundSetup setup → All IsGuidePlain setup.guides → AreAllQuotable text setup }

@@ -1,6 +1,6 @@
-//! The theorems of a checked text and of a night: when a set is accepted and a number is told as used, what acknowledgments and mailboxes
-//! say, and how partners read them. Theorems alone: none of these calls does anything. A run promises all that is said of its night as one
-//! record of the whole night (`IsWholeNight`).
+//! The theorems of a checked text and of a night: when a set is accepted and a number is reported as used, what acknowledgments and
+//! mailboxes say, and how partners read them. Theorems alone: none of these calls does anything. A run promises all that is said of its
+//! night as one record of the complete night (`IsWholeNight`).
 //!
 //! Proved of a checked text:
 //! - its interchanges are answered in one way (`answers_are_one`), and the answer to a set says that it is accepted exactly where the set
@@ -16,7 +16,7 @@
 //!   (`sets_are_told_as_they_meet`);
 //! - a partner that reads its acknowledgments by its delimiters finds in them ST01, ST02 and IK501 of each of its sets
 //!   that is reported to it, in their order, and no other response (`acknowledgments_are_read_as_sets_meet`), where its element separator
-//!   and terminator stand in no reference number of its guides, so in none of letters and digits (`plain_references_are_quoted`);
+//!   and terminator are in no reference number of its guides, so in none of letters and digits (`plain_references_are_quoted`);
 //! - it finds in them too exactly one TA1 for each of its interchanges that is answered, in their order, with ISA13, A or R and the note
 //!   (`ta1s_are_read_as_interchanges_are_answered`);
 //! - a partner that reads its mailbox by its delimiters finds in it just the sets that are delivered to it, in their order, each with what

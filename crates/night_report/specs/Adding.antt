@@ -40,7 +40,7 @@ accepted_one = record { interchanges = 1; refused = 0; groups = 0; sets = 0; acc
 abbrev pub held_in : SetupValue → ShownGroup → ℕ
 held_in setup g = sum_by (held_count setup) (placed_sets_in g)
 
--- a group of whose sets so many are held
+-- a group of whose sets this many are held
 abbrev pub totals_with : GroupEntry → GroupStanding → (held : ℕ) → Totals
 totals_with group standing held =
     if is_fa group then record { interchanges = 0; refused = 0; groups = 0; sets = 0; accepted = 0; held = held }

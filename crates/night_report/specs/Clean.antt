@@ -1,4 +1,4 @@
--- Whether a night was clean, by its report (own): nothing in it is refused or held, and nothing stands outside interchanges.
+-- Whether a night was clean, by its report (own): nothing in it is refused or held, and nothing is outside interchanges.
 use Rattle.std.specs.Prelude.{ℕ, ◌-◌, Bool, not, ◌&&◌, ◌||◌, List, [], ◌∷◌, slice_index_or, codes}
 use Rattle.std.specs.List.{list_any}
 use Rattle.std.specs.Str.{bytes_eq}
@@ -9,7 +9,7 @@ all_but_last [] = []
 all_but_last (part ∷ []) = []
 all_but_last (part ∷ next ∷ more) = part ∷ all_but_last (next ∷ more)
 
--- the lines of a report: what LF ends; what stands after the last LF is no line
+-- the lines of a report: what LF ends; what comes after the last LF is no line
 abbrev pub lines_of : (report : List ℕ) → List (List ℕ)
 lines_of report = all_but_last (parts 10 report)
 
@@ -41,6 +41,6 @@ tells_of_trouble line =
 abbrev pub ends_in_nought : (line : List ℕ) → Bool
 ends_in_nought line = bytes_eq (last_of (words_of line)) (codes "0")
 
--- no line reports trouble, and the last one says that nothing stands outside; a report without a line isn't clean
+-- no line reports trouble, and the last one says that nothing is outside; a report without a line isn't clean
 abbrev pub is_clean : (report : List ℕ) → Bool
 is_clean report = not (list_any tells_of_trouble (lines_of report)) && ends_in_nought (last_of (lines_of report))

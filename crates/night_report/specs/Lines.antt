@@ -32,7 +32,7 @@ abbrev pub interchange_line : (n start : ℕ) → (name control : List ℕ) → 
 interchange_line n start name control fault = line (codes "interchange")
     (decimal n ∷ codes "at" ∷ decimal start ∷ codes "from" ∷ name ∷ codes "control" ∷ control ∷ end_words fault)
 
--- so many interchange acknowledgments (TA1) that were received; nothing where there are none
+-- this many interchange acknowledgments (TA1) that were received; nothing where there are none
 abbrev pub ta1_line : (ta1s : ℕ) → List ℕ
 ta1_line ta1s = if ta1s == 0 then [] else line (codes "ta1") (decimal ta1s ∷ [])
 
@@ -56,7 +56,7 @@ answered_line id control verdict sets accepted = verdict_line id control (group_
 abbrev pub held_line : (ordinal : ℕ) → (reason : List (List ℕ)) → List ℕ
 held_line ordinal reason = line (codes "held") (codes "set" ∷ decimal ordinal ∷ reason)
 
--- the last line: what was counted, and how many bytes stand outside interchanges
+-- the last line: what was counted, and how many bytes are outside interchanges
 abbrev pub total_line : Totals → (outside : ℕ) → List ℕ
 total_line t outside = line (codes "total")
     (codes "interchanges" ∷ decimal t.interchanges ∷ codes "refused" ∷ decimal t.refused ∷ codes "groups" ∷ decimal t.groups

@@ -56,7 +56,7 @@ group_line group standing =
     else answered_line (element_of group.header 1) (element_of group.header 6) standing.verdict (length group.sets)
     standing.accepted
 
--- what becomes of set number so and so of a group, counted from 1, for a receiver: nothing is reported of one that is delivered; what is
+-- the outcome of set number so and so of a group, counted from 1, for a receiver: nothing is reported of one that is delivered; what is
 -- held for a delimiter names the receiver
 abbrev pub outcome_line : SetupValue → (ordinal : ℕ) → Outcome → List ℕ
 outcome_line setup ordinal (DeliveredTo to) = []
@@ -120,6 +120,6 @@ report_totals setup xs = record {
   held = sum_by (held_count setup) (all_sets xs);
 }
 
--- the report: what is known of the interchanges of a text, front to back, and how many bytes stand outside of them
+-- the report: what is known of the interchanges of a text, front to back, and how many bytes are outside of them
 abbrev pub report_text : SetupValue → List JudgedValue → (outside : ℕ) → List ℕ
 report_text setup xs outside = all_lines setup 0 1 xs ++ total_line (report_totals setup xs) outside

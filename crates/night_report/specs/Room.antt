@@ -9,7 +9,7 @@ pub record HasRoom (t : Totals) (before behind : ℕ) : Type 0 where
   pub accepted : before * 2 ^ 64 + t.accepted ≤ behind * 2 ^ 64
   pub held : before + t.held ≤ behind
 
--- of so many interchanges
+-- of this many interchanges
 abbrev pub IsOfInterchanges : Totals → ℕ → Type 0
 IsOfInterchanges t n = (t.interchanges ≤ n) × (t.refused ≤ n)
 

@@ -1,4 +1,4 @@
--- A report that goes on (own): the lines of the interchanges that were reported so far, and what is counted of them.
+-- A report that continues (own): the lines of the interchanges that were reported so far, and what is counted of them.
 use Rattle.std.specs.Prelude.{ℕ, ◌+◌, List, [], ◌++◌, length}
 use Rattle.judged_text.specs.Judged.{JudgedValue}
 use Rattle.partner_setup.specs.Setup.{SetupValue}

@@ -62,7 +62,7 @@ fn ends_in_nought(line: &[u8]) -> bool
 }
 
 /// Whether a night was clean, by its report: no interchange is refused, no group's verdict is P or R, no set is held, and
-/// nothing stands outside interchanges. Lines are what LF ends, words what spaces divide.
+/// nothing is outside interchanges. Lines are what LF ends, words what spaces divide.
 pub fn is_clean(report: &[u8]) -> bool
     ensures { result ≡ clean.is_clean report.now }
 {

@@ -93,7 +93,7 @@ fn append_held_of_group(
     Ok(held)
 }
 
-/// What is counted of group `n`, of whose sets so many are held.
+/// What is counted of group `n`, of whose sets this many are held.
 fn group_totals(
     group: &GroupEnvelope<'_, '_>,
     standings: &[GroupStanding],

@@ -44,7 +44,7 @@ fn append_outcome(
     }
 }
 
-/// Writes what becomes of a set for each of these receivers, and gives how often it is held.
+/// Writes the outcome of a set for each of these receivers, and gives how often it is held.
 fn append_for_each(
     out: &mut Vec<u8>,
     setup: &Setup,
@@ -66,7 +66,7 @@ fn append_for_each(
     Ok(held)
 }
 
-/// Writes what becomes of a set on a route, and gives how often it is held.
+/// Writes the outcome of a set on a route, and gives how often it is held.
 fn append_on_route(
     out: &mut Vec<u8>,
     setup: &Setup,

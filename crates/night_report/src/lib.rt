@@ -3,10 +3,10 @@
 //!
 //! Proved:
 //! - `report_text` is the report of what is known of a text, byte for byte;
-//! - `ReportLines` goes on from text to text: `append` reports more interchanges, numbered on, at the offsets of the whole, and `close`
+//! - `ReportLines` continues from text to text: `append` reports more interchanges, numbered on, at the offsets of the whole, and `close`
 //!   ends with all that was counted;
 //! - `is_clean` is false exactly where a line of the report shows something refused or held, or its last line doesn't
-//!   say that nothing stands outside interchanges.
+//!   say that nothing is outside interchanges.
 //!
 //! Source: own; X12.5, interchange control number (ISA13); X12.6, functional group header; 999 guide, AK901 and AK904.
 //!

@@ -87,7 +87,7 @@ fn append_interchange(
     append_content(out, setup, interchange)
 }
 
-/// Writes the lines of interchanges after so many others, and gives what is counted of them.
+/// Writes the lines of interchanges after this many others, and gives what is counted of them.
 pub(crate) fn append_all(
     out: &mut Vec<u8>,
     setup: &Setup,
@@ -111,7 +111,7 @@ pub(crate) fn append_all(
 }
 
 /// The report of a night: what is known of each interchange of the text, of its groups, and of the sets that are held, and
-/// last what is counted, with the bytes that stand outside interchanges. The only error is out of memory.
+/// last what is counted, with the bytes that are outside interchanges. The only error is out of memory.
 pub fn report_text(
     alloc: Global,
     setup: &Setup,

@@ -7,7 +7,7 @@ use partner_setup::Setup;
 use std::alloc::Global;
 use std::marker::Model;
 
-/// A report that goes on: the lines of the interchanges that were reported so far, and what is counted of them. The texts of a night may
+/// A report that continues: the lines of the interchanges that were reported so far, and what is counted of them. The texts of a night may
 /// come one after the other; offsets and numbers are those of the whole.
 #[derive(Debug, Drop)]
 pub struct ReportLines {
@@ -69,7 +69,7 @@ impl ReportLines {
         Ok(ReportLines { text, totals, told })
     }
 
-    /// The whole report, which ends with what was counted and how many bytes stand outside interchanges.
+    /// The whole report, which ends with what was counted and how many bytes are outside interchanges.
     pub fn close(self, outside: u64) -> Result<Text, NoMemory>
         ensures { IfOk result (λ text. text ≡ told_text self outside) }
     {

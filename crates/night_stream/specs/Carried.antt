@@ -8,7 +8,7 @@ use Rattle.checked_text.specs.Settled.{faults_with, kept_keys}
 use Rattle.night_writing.specs.Writing.{IsBatchWritten, WritingValue}
 use Rattle.night_stream.specs.declared.carried.Carried.{Carried}
 
--- after so many bytes it can go on: no more interchanges and no more bytes outside than these
+-- after this many bytes it can continue: no more interchanges and no more bytes outside than these
 pub record CanGoOn (setup : SetupValue) (at : List ℕ) (base : ℕ) (w : WritingValue) : Type 0 where
   pub before : List CheckedInterchange
   pub files : AreAcknowledgments setup at before w.files

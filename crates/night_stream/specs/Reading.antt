@@ -12,7 +12,7 @@ use Rattle.batch_night.specs.UpTo.{IsNightUpTo, NightSoFar}
 use Rattle.stream_read.specs.Held.{HeldValue}
 use Rattle.night_stream.specs.declared.stream.Reading.{Reading}
 
--- what was read, up to where it is worked on, and what stands there: whatever follows, it is the night up to there
+-- what was read, up to where it is worked on, and what is there: whatever follows, it is the night up to there
 pub record IsReadUpTo (setup : SetupValue) (at : List ℕ) (first now : Option (List ℕ)) (held : HeldValue) (r : Reading) : Type 0 where
   pub text : List ℕ
   pub consumed : Consumes first now text

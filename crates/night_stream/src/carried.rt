@@ -113,7 +113,7 @@ fn add_shared<'g: 'a, 'a, G: Gate + Sync, R: Threads + Wait + Clock + Sync>(
     Ok(Carried { numbers, writing })
 }
 
-/// Works on a batch, read as a text of its own that begins at this offset of the stream.
+/// Works on a batch, read as a separate text that begins at this offset of the stream.
 pub(crate) fn add_batch<'g: 'a, 'a, G: Gate + Sync, R: Threads + Wait + Clock + Sync>(
     crew: &Crew<'_, R, G>,
     alloc: Global,

@@ -1,5 +1,5 @@
 //! The night of a stream that is read in windows: the interchanges that are whole by what is read are worked on as a batch, and their
-//! bytes are given up, before more is read. What is held is a window, what of an interchange is still open, and what is written.
+//! bytes are dropped, before more is read. What is held is a window, what of an interchange is still open, and what is written.
 //!
 //! Proved:
 //! - where the reader declares its bytes, `stream_night` gives the night of all of them, read front to back, whatever the window;

@@ -142,9 +142,9 @@ fn finish<G: Gate + Sync, R: Threads + Wait + Clock + Sync>(
     Ok(night)
 }
 
-/// The night of a stream that is read in windows of so many bytes, by a setup and at a moment, and shared among workers: after each full
+/// The night of a stream that is read in windows of this many bytes, by a setup and at a moment, and shared among workers: after each full
 /// window, and at the end, the interchanges that are whole by then are worked on, before more is read. The end of a header or a trailer
-/// may stand in the next window. Each guide of the setup is compiled once, before the first window. Errors: more bytes than
+/// may be in the next window. Each guide of the setup is compiled once, before the first window. Errors: more bytes than
 /// `LONGEST_TEXT`, a reader that fails or is interrupted more than 1,000 times in a row, a thread that the system doesn't start, out
 /// of memory. X12.5, interchange.
 pub fn stream_night<S: Source, G: Gate + Sync, R: Threads + Wait + Clock + Sync>(

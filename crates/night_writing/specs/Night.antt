@@ -17,7 +17,7 @@ use Rattle.checked_text.specs.Settled.{settled_entries}
 use Rattle.night_report.specs.Report.{report_text}
 use Rattle.night_writing.specs.declared.night.Night.{Night}
 
--- what is known of a text: its interchanges, answered, and how many bytes stand outside of them
+-- what is known of a text: its interchanges, answered, and how many bytes are outside of them
 pub record IsKnown (text : List ℕ) (setup : SetupValue) (known : List CheckedInterchange) (outside : ℕ) : Type 0 where
   pub index : IndexValue
   pub read : IsIndex text index
@@ -42,7 +42,7 @@ box_of text setup at known place partner =
     box_text setup partner at (length (acknowledged_to place known)) (groups_to (acknowledged_to place known))
     (sets_to text setup known place)
 
--- the counters after so many acknowledgments with so many groups, and so many delivered sets with so many
+-- the counters after this many acknowledgments with this many groups, and this many delivered sets with this many
 abbrev pub counters_by : Counters → (cap acknowledgments groups sets delivered_groups : ℕ) → Counters
 counters_by now cap acknowledgments groups sets delivered_groups = record {
   interchange = num now.interchange (acknowledgments + interchange_count cap sets);

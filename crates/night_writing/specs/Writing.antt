@@ -28,7 +28,7 @@ nothing_written setup = record {
   boxes = replicate (length setup.partners) [];
 }
 
--- the same with so many more bytes outside
+-- the same with this many more bytes outside
 abbrev pub with_outside : WritingValue → (more : ℕ) → WritingValue
 with_outside w more = record { outside = w.outside + more; files = w.files; told = w.told; boxes = w.boxes }
 
@@ -51,7 +51,7 @@ pub record IsWrittenOf (text : List ℕ) (setup : SetupValue) (at : List ℕ) (k
   pub told : AreTold setup (judgements text known) w.told
   pub boxes : AreRendered setup (judgements text known) w.boxes
 
--- there is room after it for so many interchanges more, and so many bytes outside
+-- there is room after it for this many interchanges more, and this many bytes outside
 pub record HasRoomFor (setup : SetupValue) (at : List ℕ) (more others : ℕ) (w : WritingValue) : Type 0 where
   pub before : List CheckedInterchange
   pub files : AreAcknowledgments setup at before w.files

@@ -19,7 +19,7 @@ struct Closed {
     next: Counters,
 }
 
-/// What a night closes with: for each partner its mailbox, and the counters from which its next night goes on.
+/// What a night closes with: for each partner its mailbox, and the counters from which its next night continues.
 #[derive(Drop)]
 pub(crate) struct AllClosed {
     /// The mailboxes.
@@ -28,7 +28,7 @@ pub(crate) struct AllClosed {
     pub(crate) next: Items<Counters>,
 }
 
-/// The counters after so many acknowledgments, which have so many groups, and after so many delivered sets, which have so many.
+/// The counters after this many acknowledgments, which have this many groups, and after this many delivered sets, which have this many.
 fn counters_by(
     now: Counters,
     cap: u32,
@@ -50,7 +50,7 @@ fn counters_by(
     }
 }
 
-/// The next counters of the partner at a place, to whom so many sets are delivered in so many groups.
+/// The next counters of the partner at a place, to whom this many sets are delivered in this many groups.
 fn next_at(
     setup: &Setup,
     place: usize,

@@ -113,7 +113,7 @@ impl Writing {
         })
     }
 
-    /// The same with more bytes that stand outside interchanges.
+    /// The same with more bytes that are outside interchanges.
     fn with_outside(self, more: u64) -> Writing
         requires { self.outside + more < 2 ^ 64 }
         ensures { result ≡ with_outside self more }
@@ -188,9 +188,9 @@ impl Writing {
     }
 
     /// Adds a batch of interchanges, after those before: each set is checked and answered, and written where it is delivered. They
-    /// stand in a text of their own, which begins at the offset `base` of the whole one, and are settled. A batch without
+    /// are in a text of their own, which begins at the offset `base` of the whole one, and are settled. A batch without
     /// interchanges adds its bytes outside alone, whatever the number of partners. The only error is out of memory; then what was
-    /// written before is given up.
+    /// written before is dropped.
     pub fn add_batch<'a>(
         self,
         alloc: Global,
@@ -208,7 +208,7 @@ impl Writing {
 
     /// The same of a batch of which all was found out before: of each place of its index whether its number is used earlier, and of each
     /// set how it was checked; these writers write the delivered sets and the 999s. The only error is out of memory; then what was
-    /// written before is given up.
+    /// written before is dropped.
     pub fn add_found<'a, W: Writers + ReportWriters>(
         self,
         alloc: Global,

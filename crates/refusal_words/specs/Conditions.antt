@@ -28,7 +28,7 @@ abbrev pub picks_cause : Slot → List Pick → Option ConditionCause
 picks_cause s [] = None
 picks_cause s (p ∷ ps) = or_else (pick_cause s p) (picks_cause s ps)
 
--- an element that isn't there, too few of them, then the picks; none is left where an element or a label stands twice
+-- an element that isn't there, too few of them, then the picks; none is left where an element or a label is twice
 abbrev pub condition_cause : Slot → Option ConditionCause
 condition_cause s =
     or_else (option_map (λ p. cause.NoRow p) (missing_rows s s.conditions))

@@ -27,7 +27,7 @@ bytes_cause p =
     or_else (byte_cause delimiter.Element p.element) (or_else (byte_cause delimiter.Component p.component)
     (or_else (byte_cause delimiter.Repetition p.repetition) (byte_cause delimiter.Terminator p.terminator)))
 
--- one byte stands for both
+-- one byte represents both
 abbrev pub same_cause : (first second : Delimiter) → (a b : Option ℕ) → Option DelimiterCause
 same_cause first second None b = None
 same_cause first second (Some m) None = None

@@ -27,7 +27,7 @@ rivals_words first first_name second second_name =
     place_text (codes "segment") first first_name
     ++ (codes " and " ++ (place_text (codes "segment") second second_name ++ codes " may come at one place, and both fit "))
 
--- a guide's own fault, by the nodes that have the numbers; of rivals, what stands before the segment that fits both
+-- a guide's own fault, by the nodes that have the numbers; of rivals, what comes before the segment that fits both
 abbrev pub own_words : GuideFault → Trees → List ℕ
 own_words own.TooDeep nodes = codes "loops are nested over 8 deep"
 own_words own.TooMany nodes = codes "over 2000 nodes"

@@ -33,7 +33,7 @@ earlier_said partners number p earlier = option_map_or (λ e. alike_text partner
 abbrev pub alike_warning : List PartnerRow → (place : ℕ) → PartnerRow → List (List ℕ)
 alike_warning partners place p = earlier_said partners (place + 1) p (earlier_alike partners place p)
 
--- of those of all partners that stand from a place on
+-- of those of all partners that are from a place on
 abbrev pub alike_from : (all : List PartnerRow) → (place : ℕ) → List PartnerRow → List (List ℕ)
 alike_from all place [] = []
 alike_from all place (p ∷ ps) = alike_warning all place p ++ alike_from all (place + 1) ps

@@ -13,7 +13,7 @@ use Rattle.refusal_words.specs.TriggerWords as trigger
 abbrev pub bounds_said : (number : ℕ) → Tree → List (List ℕ)
 bounds_said number t = option_map_or (λ cause. bounds.node_words number t ∷ []) (bounds_cause t) []
 
--- nodes begin with a segment that stands there once
+-- nodes begin with a segment that is there once
 abbrev pub begins : Trees → Bool
 begins no_trees = false
 begins (tree (segment s) ts) = (s.min == 1) && (s.max == 1)

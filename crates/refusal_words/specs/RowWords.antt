@@ -16,7 +16,7 @@ use Rattle.refusal_words.specs.declared.kept_rows.KeptRows.{KeptRows}
 abbrev pub next_words : (kind said : List ℕ) → (next : Option ℕ) → (otherwise : List ℕ) → List ℕ
 next_words kind said next otherwise = option_map_or (λ n. one_number kind n said) next otherwise
 
--- X12.5: a qualifier and an id stand for one partner
+-- X12.5: a qualifier and an id represent one partner
 abbrev pub sender_ids_words : PartnerRow → List ℕ
 sender_ids_words p = quoted p.qualifier (codes " and id ") ++ quoted p.id (codes " too")
 
@@ -52,7 +52,7 @@ guides_words kept p =
     unknown_words (codes " isn't one of the guides given") (first_unlisted kept.guides p.guides)
     (codes "two of its guides are for the same sets")
 
--- the first text that stands again later
+-- the first text that is again later
 abbrev pub first_again : List (List ℕ) → Option (List ℕ)
 first_again [] = None
 first_again (t ∷ ts) = if contains_text ts t then Some t else first_again ts

@@ -39,6 +39,6 @@ abbrev pub numbered_found : ℕ → Found → Option Tree
 numbered_found number (at t) = Some (numbered_in number t)
 numbered_found number (behind left) = None
 
--- what a node that is lent stands for
+-- what a node that is lent represents
 abbrev pub viewed : Option (Bor Node) → Option Tree
 viewed o = option_map (λ n. view n.now) o

@@ -23,7 +23,7 @@ row_words kind name rows place = said_at (λ r. in_place kind (place + 1) (name 
 abbrev pub partner_at : KeptRows → (place : ℕ) → List ℕ
 partner_at kept place = row_words (codes "partner") partner_name kept.rows.partners place
 
--- where the refusal stands
+-- where the refusal is
 abbrev pub where_words : KeptRows → SetupFault → List ℕ
 where_words kept (fault.SamePartner place) = partner_at kept place
 where_words kept (fault.BadDelimiters place) = partner_at kept place

@@ -1,4 +1,4 @@
--- X12.6, loops (own): what is said of a loop that doesn't begin with a segment which stands there once.
+-- X12.6, loops (own): what is said of a loop that doesn't begin with a segment which is there once.
 use Rattle.std.specs.Prelude.{ℕ, List, ◌++◌, codes, Option, None, Some}
 use Rattle.guide_tree.specs.declared.slot.Slot.{Slot}
 use Rattle.guide_tree.specs.Words.{Tree, Trees, loop, no_trees, segment, tree}

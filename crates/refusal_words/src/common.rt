@@ -59,7 +59,7 @@ fn common_code<'a>(pick: &'a Pick, other: &Pick) -> &'a [u8] {
     &[]
 }
 
-/// What an element has to be where a slot picks by it.
+/// What an element must be where a slot picks by it.
 fn code_at<'a>(slot: &'a Slot, other: &'a Slot, position: usize) -> &'a [u8] {
     match (pick_at(slot, position), pick_at(other, position)) {
         (Some(pick), Some(other)) => common_code(pick, other),

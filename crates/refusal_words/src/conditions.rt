@@ -85,7 +85,7 @@ fn picks_cause(slot: &Slot, picks: &[Pick]) -> Option<ConditionCause>
     None
 }
 
-/// The first that can't be; none where an element or a label stands twice, or all can be.
+/// The first that can't be; none where an element or a label is twice, or all can be.
 pub fn condition_cause(slot: &Slot) -> Option<ConditionCause>
     ensures { result ≡ conditions.condition_cause slot.now }
 {

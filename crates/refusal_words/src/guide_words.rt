@@ -105,7 +105,7 @@ pub fn append_guide_words(
     }
 }
 
-/// Adds what is wrong with a guide; of rivals, what stands before the segment that fits both.
+/// Adds what is wrong with a guide; of rivals, what comes before the segment that fits both.
 fn append_own(out: &mut Vec<u8>, fault: &GuideFault, nodes: &[Node]) -> Result<(), NoMemory>
     ensures { OnOk result (out.new.items
         ≡ out.old.items ++ words.own_words fault.now (numbered 1 (nodes_view nodes.now))) }

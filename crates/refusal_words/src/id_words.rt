@@ -26,7 +26,7 @@ fn are_inner(text: &[u8]) -> bool
     text.iter().all(|byte| is_inner(*byte))
 }
 
-/// Whether a text has the form of an id, with so many to so many bytes.
+/// Whether a text has the form of an id, with this many to this many bytes.
 pub fn is_id(text: &[u8], least: usize, most: usize) -> bool
     ensures { result ≡ faults.is_id least most text.now }
 {

@@ -30,7 +30,7 @@ fn push_bounds(
     Ok(())
 }
 
-/// Whether nodes begin with a segment that stands there once.
+/// Whether nodes begin with a segment that is there once.
 fn begins(nodes: &[Node]) -> bool
     ensures { result ≡ said.begins (nodes_view nodes.now) }
 {

@@ -102,7 +102,7 @@ pub fn append_guides(
     append(out, b"two of its guides are for the same sets")
 }
 
-/// The first text that stands again later.
+/// The first text that is again later.
 pub fn first_again(texts: &[Text]) -> Option<&[u8]>
     ensures { option_map (λ t. t.now) result ≡ words.first_again texts.entry.now }
 {

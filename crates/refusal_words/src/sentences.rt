@@ -6,7 +6,7 @@ use crate::appended::{append, append_in_place};
 use hub_kinds::{Items, NoMemory, Text};
 use std::alloc::Global;
 
-/// Adds a sentence of its own: a place and what is said of it.
+/// Adds a separate sentence: a place and what is said of it.
 fn push_text(
     alloc: Global,
     found: &mut Vec<Text>,

@@ -34,7 +34,7 @@ fn append_partner(out: &mut Vec<u8>, kept: &KeptRows, place: usize) -> Result<()
     append_row(out, b"partner", kept.rows.partners.as_slice(), place)
 }
 
-/// Adds where the refusal of a setup stands.
+/// Adds where the refusal of a setup is.
 fn append_where(out: &mut Vec<u8>, kept: &KeptRows, fault: &SetupFault) -> Result<(), NoMemory>
     ensures { OnOk result (out.new.items ≡ out.old.items ++ words.where_words kept.now fault.now) }
 {

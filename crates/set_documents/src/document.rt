@@ -76,7 +76,7 @@ fn document_for<'x, 'd>(
     None
 }
 
-/// The number of the document of a set with this ST01, as it stands in these segments of it; nothing where no element is named for such
+/// The number of the document of a set with this ST01, as written in these segments of it; nothing where no element is named for such
 /// sets, or this one has none.
 pub fn document_number<'a>(
     documents: &[Document<'_>],

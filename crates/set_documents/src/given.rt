@@ -5,14 +5,14 @@ use crate::document::Document;
 use hub_kinds::{NoMemory, is_alphanumeric, is_segment_id, read_number};
 use std::alloc::Global;
 
-/// At most so many of the first bytes of a text.
+/// At most this many of the first bytes of a text.
 fn front_of(text: &[u8], most: usize) -> &[u8]
     ensures { result.now ≡ take most text.entry.now }
 {
     &text[..most.min(text.len())]
 }
 
-/// The bytes of a text after so many.
+/// The bytes of a text after this many.
 fn behind(text: &[u8], count: usize) -> &[u8]
     ensures { result.now ≡ drop count text.entry.now }
 {

@@ -2,12 +2,12 @@
 use Rattle.std.specs.Prelude.{◌≡◌, ℕ, ◌+◌, List, ◌++◌, length, Option}
 use Rattle.std.specs.Io.KnownBytes.{Consumes}
 
--- the bytes that are read and not given up, and how many were read in all
+-- the bytes that are read and not dropped, and how many were read in all
 pub record HeldValue : Type 0 where
   pub bytes : List ℕ
   pub total : ℕ
 
--- so many more bytes were read
+-- this many more bytes were read
 pub record HasRead (before after : Option (List ℕ)) (old new : HeldValue) (n : ℕ) : Type 0 where
   pub more : List ℕ
   pub count : length more ≡ n

@@ -1,5 +1,5 @@
 -- The command line (own), read as clap's definitions say: the options of nighthub, with a file for the table in place of the folder, and
--- one for each kind of set whose document's number stands elsewhere.
+-- one for each kind of set whose document's number is elsewhere.
 use Rattle.std.specs.Prelude.{◌≡◌, ◌⊎◌, ℕ, Option, Some, true, false, List, codes, map}
 use Rattle.clap.specs.Words.{App, Rule, Text, IsAmong, all_of, fault_of, first_of, first_value, matches_of, new_app, takes, with_rule}
 use Rattle.clap.specs.declared.error.kind.ErrorKind.{ErrorKind}

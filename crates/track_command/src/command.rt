@@ -18,7 +18,7 @@ use set_documents::{Document, documents_given};
 use std::alloc::{AllocError, Global};
 use std::convert::AsStr;
 
-/// What stands after the options in the text of `--help`.
+/// What comes after the options in the text of `--help`.
 const COLUMNS_AND_STATUSES: &str =
     "FILE of --track: a row for each set and receiver, one for a set that nobody gets and one for
 each refused interchange, as comma-separated values (RFC 4180).

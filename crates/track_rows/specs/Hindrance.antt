@@ -1,4 +1,4 @@
--- X12.5, delimiters (own): which byte of a set is in the way of its delivery, and in which segment it stands first.
+-- X12.5, delimiters (own): which byte of a set is in the way of its delivery, and in which segment it is first.
 use Rattle.std.specs.Prelude.{ℕ, ◌+◌, List, [], ◌∷◌, Option, Some, None, find}
 use Rattle.x12_bytes.specs.declared.delims.Delims.{Delims}
 use Rattle.x12_segs.specs.Words.{SegValue}
@@ -20,12 +20,12 @@ abbrev pub byte_in_parts : (from to : Delims) → List (List ℕ) → Option ℕ
 byte_in_parts from to [] = None
 byte_in_parts from to (part ∷ parts) = byte_or (byte_in_the_way from to part) (byte_in_parts from to parts)
 
--- that byte after so many segments, or what is found after it
+-- that byte after this many segments, or what is found after it
 abbrev pub here_or : Option ℕ → (before : ℕ) → Option Hindrance → Option Hindrance
 here_or None before behind = behind
 here_or (Some b) before behind = Some (record { byte = b; before = before })
 
--- in segments after so many
+-- in segments after this many
 abbrev pub first_in : (from to : Delims) → (before : ℕ) → List SegValue → Option Hindrance
 first_in from to before [] = None
 first_in from to before (seg ∷ segs) = here_or (byte_in_the_way from to seg.bytes) before (first_in from to (before + 1) segs)

@@ -18,7 +18,7 @@ use Rattle.set_documents.specs.Documents.{DocumentValue}
 use Rattle.track_rows.specs.Hindrance.{hindrance_to}
 use Rattle.track_rows.specs.Mailed.{acknowledgments_to, groups_to, mailed_behind}
 
--- what rows are made by: the setup, what is kept of the answers to the interchanges of the whole night, and which elements are shown
+-- what rows are made by: the setup, what is kept of the answers to the interchanges of the complete night, and which elements are shown
 pub record TrackedBy : Type 0 where
   pub setup : SetupValue
   pub night : List Notes

@@ -75,7 +75,7 @@ last_key [] = None
 last_key (p ∷ []) = Some (group_key_of p)
 last_key (p ∷ q ∷ ps) = last_key (q ∷ ps)
 
--- the numbers have come after these sets of a partner, before whose mailbox so many acknowledgments with so many groups stand
+-- the numbers have come after these sets of a partner, before whose mailbox this many acknowledgments with this many groups are
 pub record IsBehind (partner : Partner) (acknowledgments groups : ℕ) (sets : List PlacedValue) (c : CursorValue) : Type 0 where
   pub interchange : c.interchange ≡ num partner.counters.interchange acknowledgments
   pub group : c.group ≡ num partner.counters.group groups
@@ -136,12 +136,12 @@ abbrev pub HasRows : TrackedBy → (text : List PlacedValue → List ℕ) → (s
 HasRows by text sets old new cs ds =
     (before : List PlacedValue) → AreBehind by before cs → (new ≡ old ++ text before) × AreBehind by (before ++ sets) ds
 
--- how much of these was sent to each of so many partners
+-- how much of these was sent to each of this many partners
 pub record AreSent (n : ℕ) (xs : List Notes) (sent : List Sent) : Type 0 where
   pub count : length sent ≡ n
   pub each : (q : ℕ) (s : Sent) → slice_get sent q ≡ Some s → (s.acknowledgments ≡ acknowledgments_to q xs) × (s.groups ≡ groups_to q xs)
 
--- its counters and its cap are what they have to be
+-- its counters and its cap are what they must be
 abbrev pub IsReady : Partner → Type 0
 IsReady p = HasCounters p × HasCap p
 

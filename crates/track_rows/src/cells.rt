@@ -117,7 +117,7 @@ fn spaced_codes<C: Code>(alloc: Global, codes: &[C]) -> Result<Vec<u8>, NoMemory
     Ok(text)
 }
 
-/// At most so many of the first bytes of a text.
+/// At most this many of the first bytes of a text.
 fn front_of(text: &[u8], most: usize) -> &[u8]
     ensures { result.now ≡ take most text.entry.now }
 {

@@ -99,7 +99,7 @@ impl<'a> Cursor<'a> {
     ghost use Rattle.std.specs.Prelude.{◌≡◌, ◌≤◌, IfOk, OnOk};
     ghost use Rattle.track_rows.specs.Walking.{AreNumbers, advanced, begins_group, first_cursor, mailed_at, mailed_next};
 
-    /// Before any set, where these are the first numbers of the mailbox and an interchange holds so many sets.
+    /// Before any set, where these are the first numbers of the mailbox and an interchange holds this many sets.
     pub(crate) fn new(interchange: u32, group: u32, set: u32, cap: u32) -> Cursor<'a>
         requires numbers { AreNumbers interchange group set }
         requires cap { 1 ≤ cap }

@@ -13,7 +13,7 @@ use x12_write::is_delimiter;
 pub struct Hindrance {
     /// A delimiter of the receiver that is none of the set's own.
     pub byte: u8,
-    /// How many segments of the set stand before the first that it stands in; none before ST.
+    /// How many segments of the set are before the first that it is in; none before ST.
     pub before: u64,
 }
 
@@ -59,7 +59,7 @@ fn byte_in_header(from: &Delims, to: &Delims, header: &SegView<'_>) -> Option<u8
         .or(byte_in_parts(from, to, elements))
 }
 
-/// The first one of the first segments of those that are left, `most` of them, which stand after ST.
+/// The first one of the first segments of those that are left, `most` of them, which are after ST.
 fn first_in(from: &Delims, to: &Delims, segments: Segments<'_>, most: u64) -> Option<Hindrance>
     ensures { result ≡ hindrance.first_in from.now to.now 1 (take most segments.entry) }
 {
@@ -82,7 +82,7 @@ fn first_in(from: &Delims, to: &Delims, segments: Segments<'_>, most: u64) -> Op
     None
 }
 
-/// How many segments stand between ST and SE.
+/// How many segments are between ST and SE.
 fn inner_count(set: &SetEnvelope<'_>) -> u64
     ensures { result ≡ (if is_some set.now.trailer then set.now.segments - 2 else set.now.segments - 1) }
 {

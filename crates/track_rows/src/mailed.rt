@@ -1,4 +1,4 @@
-/// Under which numbers a delivered set stands in its receiver's mailbox, 1 to 999,999,999 each.
+/// Under which numbers a delivered set is in its receiver's mailbox, 1 to 999,999,999 each.
 #[derive(Clone, Copy, Debug, PartialEq, Eq)]
 pub struct Mailed {
     /// The control number of its interchange (X12.5, ISA13).

@@ -16,7 +16,7 @@ pub struct Sent {
     pub groups: u64,
 }
 
-/// Nothing is sent to any of so many partners.
+/// Nothing is sent to any of this many partners.
 fn nothing_sent(alloc: Global, partners: usize) -> Result<Vec<Sent>, NoMemory>
     ensures { IfOk result (λ v. AreSent partners [] v.items) }
 {
@@ -79,7 +79,7 @@ fn count_all(sent: &mut [Sent], night: &[Notes]) -> Result<(), NoMemory>
     Ok(())
 }
 
-/// How much is sent of these interchanges to each of so many partners.
+/// How much is sent of these interchanges to each of this many partners.
 pub(crate) fn sent_of(
     alloc: Global,
     partners: usize,

@@ -5,7 +5,7 @@ use std::io;
 use std::io::{ErrorKind, Write};
 use std::test::Fail;
 
-/// A writer that takes at most 50 bytes at once, and fails after so many calls.
+/// A writer that takes at most 50 bytes at once, and fails after this many calls.
 #[derive(Drop)]
 struct Writer {
     taken: Vec<u8>,

@@ -20,7 +20,7 @@ use std::time::Clock;
 use std::{fs, io};
 use trial_ends::drive::{Drive, Log, Sheet};
 
-/// A reader of bytes, at most seven at once, that fails after so many reads.
+/// A reader of bytes, at most seven at once, that fails after this many reads.
 #[derive(Drop)]
 struct Slow {
     left: &'static [u8],
@@ -85,7 +85,7 @@ fn a_setup_that_fails_at_some_read_is_none(rt: HostRuntime) -> Result<(), Fail> 
     same(rt.alloc(), read.as_slice(), TWENTY)
 }
 
-/// A writer that takes at most five bytes at once, and fails after so many calls.
+/// A writer that takes at most five bytes at once, and fails after this many calls.
 #[derive(Drop)]
 struct Writer {
     taken: Vec<u8>,
@@ -112,7 +112,7 @@ impl Write for Writer {
     }
 }
 
-/// A run in this folder, whose standard output fails after so many calls.
+/// A run in this folder, whose standard output fails after this many calls.
 fn ran_until<R: Files + AllocGlobal + Threads + Wait + Clock + Sync>(
     rt: &R,
     folder: &str,
@@ -164,7 +164,7 @@ fn says_that_standard_output_failed(rt: HostRuntime) -> Result<(), Fail> {
     Ok(())
 }
 
-/// What a usage prints on a standard error that fails after so many calls.
+/// What a usage prints on a standard error that fails after this many calls.
 const LINES: &[&[u8]] = &[
     b"",
     b"night",
@@ -174,7 +174,7 @@ const LINES: &[&[u8]] = &[
     b"nighthub: usage\n",
 ];
 
-/// A usage, whose standard error fails after so many calls.
+/// A usage, whose standard error fails after this many calls.
 fn usage_until<R: Files + AllocGlobal + Threads + Wait + Clock + Sync>(
     rt: &R,
     calls: usize,
@@ -197,7 +197,7 @@ fn passes_over_a_fault_of_standard_error(rt: HostRuntime) -> Result<(), Fail> {
     Ok(())
 }
 
-/// An outbox that keeps the names of its files, a line each, and fails after so many.
+/// An outbox that keeps the names of its files, a line each, and fails after this many.
 #[derive(Drop)]
 struct Names<'a> {
     names: Vec<u8>,
@@ -371,7 +371,7 @@ fn tries_again_what_was_interrupted(rt: HostRuntime) -> Result<(), Fail> {
     Ok(())
 }
 
-/// Names the file that can't be written in the folder, where no folder is, and where a folder stands in the file's place.
+/// Names the file that can't be written in the folder, where no folder is, and where a folder is in the file's place.
 #[test]
 fn names_the_file_that_cannot_be_written(rt: HostRuntime) -> Result<(), Fail> {
     make_folder(&rt, "faults_of_folders")?;

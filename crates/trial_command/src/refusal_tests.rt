@@ -9,7 +9,7 @@ use std::test::Fail;
 use std::thread::Threads;
 use std::time::Clock;
 
-/// What becomes of a file before the night.
+/// The outcome of a file before the night.
 pub enum Change {
     /// It isn't there.
     Gone,
@@ -17,11 +17,11 @@ pub enum Change {
     Folder,
     /// It holds these bytes.
     Holds(&'static [u8]),
-    /// A text in it stands for another.
+    /// A text in it represents another.
     Says(&'static str, &'static str),
     /// It is a guide with this node.
     Node(&'static str),
-    /// It is a guide of so many nodes.
+    /// It is a guide of this many nodes.
     Nodes(usize),
 }
 

@@ -1,4 +1,4 @@
-//! Whole nights, each in a folder of its own that is gone when the night is over.
+//! Complete nights, each in a separate folder that is gone when the night is over.
 use crate::examples::{
     ACME_ACK, ACME_BOX, BOLT_ACK, BOLT_BOX, COUNTERS, H850, H856, NEXT, REPORT, SETUP, TOTAL,
     TWO_PARTNERS,
@@ -110,7 +110,7 @@ pub(crate) fn expect(
     Ok(())
 }
 
-/// Whether these files, and no others, stand in the folder's own for what is written.
+/// Whether these files, and no others, are in the folder's own for what is written.
 pub(crate) fn expect_files<R: Files + AllocGlobal + Threads + Wait + Clock + Sync>(
     rt: &R,
     folder: &str,
@@ -276,7 +276,7 @@ fn refuses_a_file_that_is_too_long(rt: HostRuntime) -> Result<(), Fail> {
     expect(rt.alloc(), &answer, 4, b"", b"nighthub: input too long\n")
 }
 
-/// What stands in a file's place and keeps nothing, so that it can't be synced, is written all the same.
+/// What is in a file's place and keeps nothing, so that it can't be synced, is written all the same.
 #[test]
 fn writes_to_what_cannot_be_synced(rt: HostRuntime) -> Result<(), Fail> {
     make_folder(&rt, "faults_of_devices")?;

@@ -84,7 +84,7 @@ fn wants_each_option(rt: HostRuntime) -> Result<(), Fail> {
     Ok(())
 }
 
-/// What stands after the arguments of a night that makes them none.
+/// What comes after the arguments of a night that makes them none.
 const MORE: &[&[&str]] = &[
     &["--setup", "no_folder/s"],
     &["--counters", "no_folder/c"],

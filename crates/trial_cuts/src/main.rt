@@ -3,7 +3,7 @@
 //! tries pieces of N bytes alone. Status 0 says that all are equal.
 //!
 //! A text is cut at each offset alone, twice, which leaves an empty piece there; at all offsets at once, twice each; and into
-//! pieces of 1, 53 and 106 bytes. Of a text of 20,000 bytes or more the offsets that are taken alone are every so many: the square
+//! pieces of 1, 53 and 106 bytes. Of a text of 20,000 bytes or more the offsets that are taken alone are every this many: the square
 //! of its length in tens of thousands of bytes, rounded down first; so the texts that are read for these have fewer than 400,000,000
 //! bytes in all. Each time there are marks under the guessed pair, under that of another header, under one pair for all pieces, and
 //! none; and the marks of all pieces under the first pair, gathered to one value.
@@ -43,7 +43,7 @@ fn main(rt: HostRuntime) -> Result<ExitCode, Fail> {
     Ok(ExitCode::from(if are_same { 0 } else { 1 }))
 }
 
-/// Whether a text has one index, in pieces of so many bytes, or else however it is cut.
+/// Whether a text has one index, in pieces of this many bytes, or else however it is cut.
 fn is_same(alloc: Global, text: &[u8], piece: Option<usize>) -> Result<bool, Fail> {
     if text.len() as u64 > LONGEST_TEXT {
         return Err("too long".into());

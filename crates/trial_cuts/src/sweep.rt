@@ -65,7 +65,7 @@ fn is_same_at_all(alloc: Global, text: &[u8], plain: &Index<'_>) -> Result<bool,
     is_same_by(alloc, text, plain, &cuts)
 }
 
-/// Whether a text has one index, in pieces of so many bytes.
+/// Whether a text has one index, in pieces of this many bytes.
 pub fn is_same_every(alloc: Global, text: &[u8], len: usize) -> Result<bool, Fail>
     requires few { length text.now ≤ LONGEST_TEXT }
     requires some { 0 < len }

@@ -18,7 +18,7 @@ pub enum Step {
     Sync,
 }
 
-/// What stands at each path of a drive.
+/// What is at each path of a drive.
 #[derive(Clone, Copy, Debug, PartialEq, Eq)]
 pub enum Form {
     /// A file that keeps what it is asked to keep.
@@ -143,7 +143,7 @@ impl<'a> Seek for Sheet<'a> {
 }
 
 impl<'a> OpenFile for Sheet<'a> {
-    /// The kit makes none of a pipe, so a folder's stands for it.
+    /// The kit makes none of a pipe, so a folder's is for it.
     fn metadata(&self) -> io::Result<Metadata> {
         self.at(Step::Metadata)?;
         match self.form {

@@ -78,7 +78,7 @@ fn a_pipe_is_not_synced(rt: HostRuntime) {
     assert_eq!(rt; found, Some(ErrorKind::BrokenPipe));
 }
 
-/// A reader that gives two bytes, then fails once, and then goes on.
+/// A reader that gives two bytes, then fails once, and then continues.
 #[derive(Drop)]
 struct Broken {
     reads: u32,

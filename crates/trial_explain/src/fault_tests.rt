@@ -7,7 +7,7 @@ use std::rt::Files;
 use std::test::Fail;
 use std::{fs, io};
 
-/// The acknowledgments, read by 100 bytes, until so many reads.
+/// The acknowledgments, read by 100 bytes, until this many reads.
 fn slow(reads: usize) -> Slow<'static> {
     Slow {
         left: TOLD,
@@ -29,7 +29,7 @@ fn a_file_that_fails_at_some_read_is_not_explained(rt: HostRuntime) -> Result<()
     }
 }
 
-/// A writer that takes at most 50 bytes at once, and fails after so many calls.
+/// A writer that takes at most 50 bytes at once, and fails after this many calls.
 #[derive(Drop)]
 struct Writer {
     taken: Vec<u8>,
@@ -57,7 +57,7 @@ impl Write for Writer {
     }
 }
 
-/// A run on `printed.ack` whose standard output fails after so many calls.
+/// A run on `printed.ack` whose standard output fails after this many calls.
 fn prints_until<R: Files + AllocGlobal>(rt: &R, calls: usize) -> Result<(), Fail> {
     let alloc = rt.alloc();
     let mut out = Writer {
@@ -93,7 +93,8 @@ fn says_that_standard_output_failed(rt: HostRuntime) -> Result<(), Fail> {
 /// The line of a wrong word.
 const USAGE: &[u8] = b"nighthub_explain: usage: unexpected argument '--in' found; see --help\n";
 
-/// On a standard error that takes ten bytes at once and fails after so many calls a front of the line stands, and the status is the same.
+/// On a standard error that takes ten bytes at once and fails after this many calls a front of the line is there, and the status is the
+/// same.
 #[test]
 fn passes_over_a_fault_of_standard_error(rt: HostRuntime) -> Result<(), Fail> {
     for calls in 0..20 {

@@ -5,7 +5,7 @@ use std::io;
 use std::io::{ErrorKind, Read};
 use std::test::Fail;
 
-/// A reader of bytes, at most so many at once, that fails after so many reads.
+/// A reader of bytes, at most this many at once, that fails after this many reads.
 #[derive(Drop)]
 pub struct Slow<'a> {
     pub left: &'a [u8],

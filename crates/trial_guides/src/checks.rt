@@ -88,7 +88,7 @@ fn nested(alloc: Global, depth: u8) -> Result<Vec<Node>, AllocError> {
     Ok(nodes)
 }
 
-/// So many segments, each with an id of its own.
+/// This many segments, each with an id of its own.
 fn many(alloc: Global, count: u32) -> Result<Vec<Node>, AllocError> {
     let mut nodes = Vec::new(alloc);
     for i in 0..count {

@@ -19,7 +19,7 @@ fn push_slot(out: &mut String, number: u32, kind: &str, id: &[u8]) -> Result<(),
     push_id(out, id)
 }
 
-/// The numbers and ids of slots, parents first; a loop's id stands after `loop`.
+/// The numbers and ids of slots, parents first; a loop's id is after `loop`.
 fn listed(nodes: &[Node], out: &mut String) -> Result<(), AllocError> {
     for node in nodes {
         match node {
@@ -48,7 +48,7 @@ fn counts_codes(codes: &CodeList, used: usize) -> bool {
     codes.used.as_slice().len() == used && codes.unused.is_some()
 }
 
-/// Whether it is an identifier of this reference, with so many codes that are used and some that are not.
+/// Whether it is an identifier of this reference, with this many codes that are used and some that are not.
 fn is_identifier_row(row: &SimpleRow, reference: &[u8], used: usize) -> bool {
     match &row.codes {
         None => false,

@@ -71,7 +71,7 @@ fn expect_each(alloc: Global, guide: &Guide, cases: &[Long]) -> Result<(), Fail>
     Ok(())
 }
 
-/// Whether each body has so many faults by the guide of these rows, the last of them there.
+/// Whether each body has this many faults by the guide of these rows, the last of them there.
 fn expect_counts(alloc: Global, rows: &[Row], cases: &[Long]) -> Result<(), Fail> {
     let guide = guide_of(alloc, rows)?;
     expect_each(alloc, &guide, cases)

@@ -142,7 +142,7 @@ fn expect_each(
     Ok(())
 }
 
-/// Whether each body has by the guide of these rows what stands beside it.
+/// Whether each body has by the guide of these rows what comes beside it.
 pub fn expect(alloc: Global, rows: &[Row], bodies: &[[&str; 2]], shown: Shown) -> Result<(), Fail> {
     let guide = guide_of(alloc, rows)?;
     expect_each(alloc, &guide, bodies, shown)

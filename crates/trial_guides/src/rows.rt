@@ -16,7 +16,7 @@ pub enum Row {
     Picked(&'static str, u32, u32, &'static str),
     /// A segment with a relational condition of one position.
     Conditioned(&'static str),
-    /// A loop of the last so many nodes, with its least and greatest number of repetitions.
+    /// A loop of the last this many nodes, with its least and greatest number of repetitions.
     Loop(&'static str, u32, u32, usize),
 }
 

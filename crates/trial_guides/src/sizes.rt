@@ -15,7 +15,7 @@ fn nested(alloc: Global, depth: u8) -> Result<String, AllocError> {
     Ok(nodes)
 }
 
-/// So many segments, each with an id of its own.
+/// This many segments, each with an id of its own.
 fn many(alloc: Global, count: u32) -> Result<String, AllocError> {
     let mut nodes = String::new(alloc);
     for i in 0..count {

@@ -19,7 +19,7 @@ pub const DELIMS: Delims = Delims {
     terminator: b'~',
 };
 
-/// What a test says of a row; the codes stand with a space between them.
+/// What a test says of a row; the codes are with a space between them.
 #[derive(Clone, Copy)]
 pub struct Line {
     pub reference: &'static str,

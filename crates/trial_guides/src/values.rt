@@ -148,7 +148,7 @@ const TABLES: &[Cases] = &[
     TIMES_OF_DAY,
 ];
 
-/// Codes in no order, so many that a value is searched among them.
+/// Codes in no order, this many that a value is searched among them.
 const ROWS_OF_MANY_CODES: &[Line] = &[Line {
     reference: "1",
     data_type: ElementType::Identifier,

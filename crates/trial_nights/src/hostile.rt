@@ -63,7 +63,7 @@ pub fn are_same(alloc: Global, one: &Night, other: &Night) -> Result<bool, Fail>
     )
 }
 
-/// Whether each run of a text gives what the run on one thread gives: shared among 1 and 64 workers in pieces of so many bytes, and in
+/// Whether each run of a text gives what the run on one thread gives: shared among 1 and 64 workers in pieces of this many bytes, and in
 /// windows of 53.
 fn expect_one_night<R: AllocGlobal + Threads + Wait + Clock + Sync>(
     rt: &R,

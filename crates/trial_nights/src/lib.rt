@@ -1,4 +1,4 @@
-//! Trials of `hub_run` and `night_stream`: whole nights of two partners, each beside the acknowledgments, the mailboxes, the report and
+//! Trials of `hub_run` and `night_stream`: complete nights of two partners, each beside the acknowledgments, the mailboxes, the report and
 //! the next counters that it gives, byte for byte. Beside them the trials of `partner_setup`, and of a text that is checked by a setup,
 //! down to its acknowledgment, a mailbox and the report (`setup`).
 //!

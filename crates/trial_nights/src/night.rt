@@ -13,7 +13,7 @@ use std::test::Fail;
 use std::thread::Threads;
 use std::time::Clock;
 
-/// A night of ACME and BOLT. Texts are written as their pieces; what goes to a partner stands in the order of the partners.
+/// A night of ACME and BOLT. Texts are written as their pieces; what goes to a partner is in the order of the partners.
 pub struct WorkedNight {
     pub starts: Starts,
     pub text: &'static [&'static [u8]],

@@ -22,7 +22,7 @@ repetition = "^"
 terminator = "~"
 cap = "#;
 
-/// What stands after ACME's cap.
+/// What comes after ACME's cap.
 const BEHIND_CAP: &str = r#"
 guides = ["H850", "H856"]
 

@@ -27,7 +27,7 @@ fn is_there(answers: &[SetAnswer], control: &[u8]) -> bool {
     false
 }
 
-/// Adds the answer to a set that stands after those that have these answers.
+/// Adds the answer to a set that is after those that have these answers.
 fn add_answer<'a>(
     answers: &mut Vec<SetAnswer<'a>>,
     alloc: Global,
@@ -206,7 +206,7 @@ const ORDERS: Cases = &[
         "ST*850*0001~BEG*00*SA*PO100**20260228~SE*3*0001~GE*1*12~",
         "ST*999*0001*005010X231~AK1*PO*12*005010~AK2*850*0001~IK3*PO1*3*PO1*3~IK5*R*5~AK9*R*1*1*0~SE*7*0001~",
     ],
-    // elements in error, of which one alone is tolerated; 99 bytes are shown of the 100 that stand in REF
+    // elements in error, of which one alone is tolerated; 99 bytes are shown of the 100 that are in REF
     [
         "ST*850*0001~BEG*01*SA*P1**20260229~REF*DP*7*\
           AAAAAAAAAAAAAAAAAAAAAAAAAAAAAAAAAAAAAAAAAAAAAAAAAAAAAAAAAAAAAAAAAAAAAAAAAAAAAAAAAAAAAAAAAAAAAAAAAAAA~\

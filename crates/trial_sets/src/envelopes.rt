@@ -5,7 +5,7 @@ use guide_tree::Guide;
 use std::alloc::{AllocError, Global};
 use std::test::Fail;
 
-/// What stands before a clean body and after it, and what is found.
+/// What comes before a clean body and after it, and what is found.
 const ORDERS: &[[&str; 3]] = &[
     ["ST*850*0001", "SE*4*0001~", " clean\n"],
     // SE01 is a number: zeros before it don't count, and it has 10 digits at most

@@ -8,7 +8,7 @@
 //!
 //! Nothing is proved here but that the trials are safe and end. A fault is written as `position id(loop) code slot;`, one of an
 //! element with `element.component.repetition code reference copy` before the semicolon; after the faults the set's codes, each
-//! with a space before it, and a line end. Positions count from ST, which is 1. Whole groups stand beside the 999 that answers them.
+//! with a space before it, and a line end. Positions count from ST, which is 1. Whole groups are beside the 999 that answers them.
 #![tactic(auto)]
 
 #[cfg(test)]

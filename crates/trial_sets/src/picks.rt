@@ -1,4 +1,4 @@
-//! A guide with many slots of one id, told apart by their picks.
+//! A guide with many slots of one id, distinguished by their picks.
 use crate::compiled::{DELIMS, guide_of};
 use guide_fast::{Children, FastGuide};
 use hub_kinds::SegmentCode;

@@ -6,11 +6,11 @@ use guide_tree::Guide;
 use std::alloc::{AllocError, Global};
 use std::test::Fail;
 
-/// What stands after BSN in a shipment, its SE01, and what is found.
+/// What comes after BSN in a shipment, its SE01, and what is found.
 const SHIPMENTS: &[[&str; 3]] = &[
     ["", "3", " clean\n"],
     ["HL*1**S*1~HL*2*1*O*0~", "5", " clean\n"],
-    // an empty level, one that isn't used, and one that isn't known: where the value has a fault of the same key, it alone stands
+    // an empty level, one that isn't used, and one that isn't known: where the value has a fault of the same key, it alone is reported
     [
         "HL*1~",
         "4",

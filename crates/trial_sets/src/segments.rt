@@ -104,7 +104,7 @@ fn expect(alloc: Global, text: &[u8], wanted: &str) -> Result<(), Fail> {
     Ok(())
 }
 
-/// One separator or one odd byte after so many bytes, before a segment that has neither, in texts of every length.
+/// One separator or one odd byte after this many bytes, before a segment that has neither, in texts of every length.
 #[test]
 fn a_separator_stands_anywhere(rt: HostRuntime) -> Result<(), Fail> {
     let alloc = rt.alloc();

@@ -228,7 +228,7 @@ pub fn expect_told(
     expect_same(alloc, sets, found.as_slice(), wanted)
 }
 
-/// Whether what stands beside each of these groups of sets is found in it by a guide, or without one.
+/// Whether what comes beside each of these groups of sets is found in it by a guide, or without one.
 pub fn expect_each(alloc: Global, guide: Option<&Guide>, cases: Cases) -> Result<(), Fail> {
     for [sets, wanted] in cases {
         expect_told(alloc, guide, sets, wanted)?;

@@ -5,7 +5,7 @@ use std::test::Fail;
 
 /// Sets of an order, and what is found in each.
 const ORDERS: Cases = &[
-    // clean, with and without what may be left out
+    // clean, with and without what is optional
     [
         "ST*850*0001~BEG*00*SA*PO100**20260228~PO1*1*5*EA*2.50~SE*4*0001~",
         " clean\n",
@@ -31,7 +31,7 @@ const ORDERS: Cases = &[
         "ST*850*0001~QQ*1~PER*1~PID*G~SE*5*0001~",
         "2 QQ() 1 0;3 PER() 6 0;4 PID() 7 0;5 BEG() 3 1;5 PO1(PO1) 3 7; 5\n",
     ],
-    // a second REF may stand, a third one not
+    // a second REF may come, a third one not
     [
         "ST*850*0001~BEG*00*SA*PO100**20260228~REF*DP*7~REF*DP*8~REF*DP*9~PO1*1*5*EA~SE*7*0001~",
         "5 REF() 5 2; 5\n",

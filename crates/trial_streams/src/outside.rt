@@ -1,4 +1,4 @@
-//! What stands outside of interchanges.
+//! What is outside of interchanges.
 use crate::texts::seen;
 use std::alloc::Global;
 use std::test::Fail;

@@ -10,7 +10,7 @@ use stream_read::{Held, MOST_RETRIES, ReadFault, Source, StreamFault, read_again
 /// How many windows were full, and whether the order was held then, or why it isn't read.
 type Answer = Result<(usize, bool), StreamFault>;
 
-/// Reads windows of so many bytes up to the end, at most 1,000 of them.
+/// Reads windows of this many bytes up to the end, at most 1,000 of them.
 fn answer<S: Source>(alloc: Global, source: &mut S, window: usize) -> Answer
     requires { 0 < window }
 {
@@ -85,7 +85,7 @@ fn a_fault_is_no_end(rt: HostRuntime) -> Result<(), Fail> {
     expect(rt.alloc(), &mut Failing::new(ORDER, 6), 53, Ok((4, true)))
 }
 
-/// Whether the rest of the order is held where so many of its first 106 bytes are given up before it is read on.
+/// Whether the rest of the order is held where this many of its first 106 bytes are dropped before it is read on.
 fn is_rest_kept(alloc: Global, count: usize) -> Result<bool, StreamFault> {
     let mut source = Memory::new(ORDER);
     let mut held = Held::new(alloc);

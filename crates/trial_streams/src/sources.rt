@@ -15,7 +15,7 @@ impl<'a> Memory<'a> {
         Memory { left, given: 0 }
     }
 
-    /// Gives as many bytes as there is room for, at most so many.
+    /// Gives as many bytes as there is room for, at most this many.
     fn give(&mut self, buf: &mut [u8], most: usize) -> usize
         requires { 0 < most }
         ensures bound { result ≤ length buf.new }
@@ -96,7 +96,7 @@ impl<'a> Source for Interrupted<'a> {
     }
 }
 
-/// It fails once, at one of its reads, and goes on then.
+/// It fails once, at one of its reads, and continues then.
 #[derive(Drop)]
 pub struct Failing<'a> {
     memory: Memory<'a>,
@@ -106,7 +106,7 @@ pub struct Failing<'a> {
 }
 
 impl<'a> Failing<'a> {
-    /// It fails after so many reads.
+    /// It fails after this many reads.
     pub fn new(text: &'a [u8], reads: u32) -> Self {
         Failing {
             memory: Memory::new(text),

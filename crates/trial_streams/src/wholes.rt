@@ -5,12 +5,12 @@ use std::alloc::Global;
 use std::test::Fail;
 use x12_bytes::{HEADER_LEN, read_header};
 
-/// Its segments stand on lines, and a line end stands after it.
+/// Its segments are on lines, and a line end is after it.
 const LINES: &[u8] =
     b"ISA*00*          *00*          *01*ACME           *ZZ*HUB            *260228*0900*^*00501*000000007*0*P*>~\
       \r\nIEA*0*000000007~\r\n";
 
-/// After its header stands what is a header too, once `!` is read, by the element separator `~`; an IEA stands in its field 4.
+/// After its header is what is a header too, once `!` is read, by the element separator `~`; an IEA is in its field 4.
 const TRAILER_IN_A_HEADER: &[u8] =
     b"ISA*00*          *00*          *01*ACME           *ZZ*HUB            *260228*0900*^*00501*000000007*0*P*>~\
       ISA~00~          ~00~IEA*1*0007~01~ACME           ~01~HUB            ~260228~0900~^~00501~000000007~0~P~>!GS";
@@ -20,7 +20,7 @@ const TRAILER_IN_NO_HEADER: &[u8] =
     b"ISA*00*          *00*          *01*ACME           *ZZ*HUB            *260228*0900*^*00501*000000007*0*P*>~\
       ISA~00~          ~00~IEA*1*07~";
 
-/// A text, and what is seen of its first bytes, of so many up to so many of them.
+/// A text, and what is seen of its first bytes, of this many up to this many of them.
 type Case = (&'static [u8], &'static [(usize, usize, Seen)]);
 
 const CASES: &[Case] = &[

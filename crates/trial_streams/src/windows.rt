@@ -1,4 +1,4 @@
-//! Texts read window by window: what is worked on is given up, and the open interchange is followed from where it was left.
+//! Texts read window by window: what is worked on is dropped, and the open interchange is followed from where it was left.
 ghost use Rattle.std.specs.Prelude.{◌<◌};
 
 use crate::sources::Memory;
@@ -8,7 +8,7 @@ use std::alloc::Global;
 use std::test::Fail;
 use stream_read::Held;
 
-/// Where those batches end in which an interchange is whole, where a text is read in windows of so many bytes.
+/// Where those batches end in which an interchange is whole, where a text is read in windows of this many bytes.
 fn ends(alloc: Global, text: &[u8], window: usize) -> Result<Vec<usize>, Fail>
     requires { 0 < window }
 {
@@ -42,7 +42,7 @@ const BETWEEN: &[u8] = b"HI ISA\r\n\
       GS*PO*ACME*BOLT*20260228*0900*12*X*005010~ST*850*0001~BEG*00*SA*PO100**20260228~PO1*1*5*EA*2.50~SE*4*0001~\
       GE*1*12~IEA*1*000000007~\r\nBYE";
 
-/// A text, windows from so many up to so many bytes, and where those batches end in which an interchange is whole.
+/// A text, windows from this many up to this many bytes, and where those batches end in which an interchange is whole.
 type Case = (&'static [u8], usize, usize, &'static [usize]);
 
 const CASES: &[Case] = &[

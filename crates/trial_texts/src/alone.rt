@@ -5,7 +5,7 @@ use env_index::{Interchange, judge_interchange, read_lone};
 use std::alloc::Global;
 use std::test::Fail;
 
-/// What stands before the order, and where the interchange begins, if the text is one.
+/// What comes before the order, and where the interchange begins, if the text is one.
 const FRONTS: &[(&[u8], Option<usize>)] = &[
     (b" \r\n", Some(3)),
     (b"", Some(0)),

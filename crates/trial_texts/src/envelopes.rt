@@ -265,7 +265,7 @@ const SETS: &[Set] = &[
     },
 ];
 
-/// Whether an interchange has such a set, of so many segments, which ends there.
+/// Whether an interchange has such a set, of this many segments, which ends there.
 fn has_set(found: &Interchange, wanted: &Set) -> bool {
     if found.group_count() <= wanted.place.0 {
         return false;

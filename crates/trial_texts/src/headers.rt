@@ -17,7 +17,7 @@ const ACME: &[u8] =
 const BOLT: &[u8] =
     b"ISA|00|          |00|          |ZZ|BOLT           |ZZ|HUB            |260228|0915|U|00501|000000003|0|P|:!";
 
-/// A field's number, and what stands in it.
+/// A field's number, and what is in it.
 const FIELDS: &[(usize, &[u8])] = &[
     (1, b"00"),
     (2, b"          "),

@@ -8,7 +8,7 @@ use std::test::Fail;
 /// An interchange of an index: its start, its end, how many groups it has, and its fault.
 type Seen = (usize, usize, usize, Option<InterchangeFault>);
 
-/// A text in two parts, the interchanges of its index, and how many bytes stand outside.
+/// A text in two parts, the interchanges of its index, and how many bytes are outside.
 type Case = (&'static [u8], &'static [u8], &'static [Seen], u64);
 
 const CASES: &[Case] = &[

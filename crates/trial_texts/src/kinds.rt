@@ -20,7 +20,7 @@ const NUMBERS: &[(&[u8], usize, Option<u64>)] = &[
     (b"A", 6, None),
 ];
 
-/// A text, how many bytes it may have, and whether it is so many letters or digits.
+/// A text, how many bytes it may have, and whether it is this many letters or digits.
 const WORDS: &[(&[u8], usize, usize, bool)] = &[
     (b"005010X231", 1, 12, true),
     (b"0001", 4, 4, true),

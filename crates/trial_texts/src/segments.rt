@@ -224,7 +224,7 @@ fn reads_occurrences_and_components_by_number(rt: HostRuntime) -> Result<(), Fai
     expect_components(rt.alloc(), &segment, COMPONENTS)
 }
 
-/// The walk goes on with this part.
+/// The walk continues with this part.
 fn gives_next(alloc: Global, parts: &mut Parts<'_>, wanted: &[u8]) -> Result<(), Fail> {
     match parts.next() {
         None => Err("no part".into()),

@@ -27,7 +27,7 @@ pub const PLACE: &str = "out/track.csv";
 
 pub const BESIDE: &str = "out/track.csv.part";
 
-/// What stands on a drive: 1 where a file is there, and how many bytes of it were written, and synced after that.
+/// What is on a drive: 1 where a file is there, and how many bytes of it were written, and synced after that.
 #[derive(Drop)]
 pub struct Log {
     pub place: AtomicU64,

@@ -6,7 +6,7 @@ use std::io;
 use std::io::{ErrorKind, Read};
 use std::test::Fail;
 
-/// A reader of bytes, at most seven at once, that fails after so many reads.
+/// A reader of bytes, at most seven at once, that fails after this many reads.
 #[derive(Drop)]
 struct Slow {
     left: &'static [u8],

@@ -1,4 +1,4 @@
-//! Trials of `track_command`: the table of a night with all that may stand in its fields; arguments that are no command line; readers and
+//! Trials of `track_command`: the table of a night with all that may be in its fields; arguments that are no command line; readers and
 //! outboxes that fail; and a drive of which each call fails in turn, on which no part of a file is left.
 //!
 //! Nothing is proved here but that the trials are safe and end.

@@ -147,7 +147,7 @@ fn a_night_of_nothing_has_the_names_of_the_columns(rt: HostRuntime) -> Result<()
     same(rt.alloc(), bytes.as_slice(), NAMES)
 }
 
-/// An order, whose number stands in its second BEG too, to nobody.
+/// An order, whose number is in its second BEG too, to nobody.
 const ORDER: &[u8] =
     b"ISA*00*          *00*          *01*ACME           *ZZ*HUB            *260228*0900*^*00501*000000007*0*P*>~\
       GS*PO*ACME*NONE*20260228*0900*12*X*005010~ST*850*0001~BEG*00*SA*P1~BEG*01*NE*P2~SE*4*0001~GE*1*12~IEA*1*000000007~";

@@ -50,7 +50,7 @@ fn equal_keys_in_any_order(rt: HostRuntime) -> Result<(), Fail> {
     Ok(())
 }
 
-/// 100,000 keys, each of which stands at two positions, from the last one on.
+/// 100,000 keys, each of which is at two positions, from the last one on.
 #[test]
 fn falling_keys(rt: HostRuntime) -> Result<(), Fail> {
     let count = 200_000usize;

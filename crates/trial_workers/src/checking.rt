@@ -132,7 +132,7 @@ fn checks_named<
     run_checks::<J, G, R>(rt, alloc, jobs, register, workers, gate)
 }
 
-/// By so many workers, after a gate; the register's name is picked here.
+/// By this many workers, after a gate; the register's name is picked here.
 pub fn checks_of<'f, 'i, 'a, G: Gate + Sync, R: Threads + Wait + Clock + Sync>(
     rt: &R,
     alloc: Global,

@@ -6,7 +6,7 @@ use std::alloc::{AllocError, Global};
 use std::test::Fail;
 use std::thread;
 
-/// A seat that was told that no job is left, and what it got.
+/// A seat that was answered that no job is left, and what it got.
 #[derive(Drop)]
 struct Claimed {
     seat: Seat,

@@ -192,7 +192,7 @@ fn places_in<'a, G: Gate + Sync, R: Threads + Wait + Clock + Sync>(
     recorded_behind(rt, alloc, &index, jobs.as_slice(), workers, gate)
 }
 
-/// Where a place stands in a list.
+/// Where a place is in a list.
 fn position(places: &[Place], gs: u32, st: u32) -> usize {
     let mut at = 0usize;
     for place in places {

@@ -22,7 +22,7 @@ const PAIR: Pair = Pair {
     terminator: b'~',
 };
 
-/// The piece of a text from an offset on, of so many bytes at most.
+/// The piece of a text from an offset on, of this many bytes at most.
 fn piece_from(text: &[u8], from: usize, size: usize) -> Piece
     requires { from ≤ length text.now }
     ensures { IsPieceOf text.now result }

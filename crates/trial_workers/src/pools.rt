@@ -8,7 +8,7 @@ use std::test::Fail;
 use std::thread::Threads;
 use std::time::Clock;
 
-/// So many numbers to be squared.
+/// This many numbers to be squared.
 #[derive(Drop)]
 struct Squares {
     count: u64,

@@ -5,7 +5,7 @@ use std::test::Fail;
 const HEADER: &[u8] = b"ISA*00*          *00*          *01*ACME           *ZZ*HUB            \
 *260228*0900*^*00501*000000007*0*P*>~";
 
-/// An interchange of so many groups without a set, numbered as asked for.
+/// An interchange of this many groups without a set, numbered as asked for.
 pub fn of_groups(alloc: Global, numbers: &[u32]) -> Result<Vec<u8>, Fail> {
     let mut text = Vec::new(alloc);
     text.extend_from_slice(HEADER)?;

@@ -8,7 +8,7 @@ use Rattle.set_check.specs.Checked.{Checked}
 use Rattle.worker_pool.specs.declared.job.CheckJob.{CheckJob}
 use Rattle.worker_pool.specs.declared.job.SetJob.{SetJob}
 
--- how a set is checked: the text, where it stands there, and the rows of its guide, if it has one
+-- how a set is checked: the text, where it is there, and the rows of its guide, if it has one
 pub record SetAsked : Type 0 where
   pub text : List ℕ
   pub span : SetSpan

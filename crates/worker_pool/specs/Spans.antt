@@ -1,4 +1,4 @@
--- X12.6, transaction set: jobs whose sets stand in their spans, at places of an index (own).
+-- X12.6, transaction set: jobs whose sets are in their spans, at places of an index (own).
 use Rattle.std.specs.Prelude.{List, Option, Some, None, Contains}
 use Rattle.std.specs.List.{All}
 use Rattle.hub_kinds.specs.declared.place.Place.{Place}
@@ -6,7 +6,7 @@ use Rattle.x12_segs.specs.Words.{IsSetSpan}
 use Rattle.worker_pool.specs.declared.job.CheckJob.{CheckJob}
 use Rattle.worker_pool.specs.declared.job.SetJob.{SetJob}
 
--- the set of a job stands in its span
+-- the set of a job is in its span
 abbrev pub IsSpanOf : Option SetJob → Type 0
 IsSpanOf None = Unit {0}
 IsSpanOf (Some s) = IsSetSpan s.text.now s.span

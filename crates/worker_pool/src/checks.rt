@@ -227,7 +227,7 @@ fn checks_named<
     })
 }
 
-/// Records the place of each job and checks its set, each once, by so many workers, each but one in a thread of its own: at most
+/// Records the place of each job and checks its set, each once, by this many workers, each but one in a separate thread: at most
 /// 2 ^ 62 jobs, 1 to 64 workers. It gives an answer to each job, in the order of the jobs, and the records, opened after the last
 /// worker. Where one of them has no memory, or no thread can be started, nothing is given.
 pub fn run_checks<

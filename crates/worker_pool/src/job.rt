@@ -2,7 +2,7 @@ use guide_fast::FastGuide;
 use hub_kinds::Place;
 use x12_segs::SetSpan;
 
-/// How a set is checked (X12.6, transaction set): where it stands in its text, and by which compiled guide, if it has one.
+/// How a set is checked (X12.6, transaction set): where it is in its text, and by which compiled guide, if it has one.
 #[derive(Drop)]
 pub struct SetJob<'f, 'g, 'a> {
     pub text: &'a [u8],

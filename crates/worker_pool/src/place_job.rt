@@ -22,7 +22,7 @@ pub(crate) trait PlaceJob {
 
     ghost number_of: { Self.Done → ℕ };
 
-    // where it stands
+    // where it is
     fn place(&self) -> Place
         ensures { result ≡ (asks self.now).place };
 

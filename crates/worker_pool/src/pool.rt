@@ -111,7 +111,7 @@ fn unnamed<J: Job, N: Jobs<J::Asked>>(
     Ok(all)
 }
 
-// So many workers, who have nothing of their own.
+// This many workers, who have nothing of their own.
 fn bare(alloc: Global, workers: u64) -> Result<Vec<u64>, AllocError>
     ensures { IfOk result (λ v. vec_len v ≡ workers) }
 {
@@ -154,7 +154,7 @@ fn jobs_named<
     unnamed::<J, N>(alloc, done)
 }
 
-/// Does jobs, each once, by so many workers, each but one in a thread of its own: at most 2 ^ 62 jobs, 1 to 64 workers. It gives an
+/// Does jobs, each once, by this many workers, each but one in a separate thread: at most 2 ^ 62 jobs, 1 to 64 workers. It gives an
 /// answer to each, in the order of the jobs. Where one of them has no memory, or no thread can be started, nothing is given.
 pub fn run_jobs<J: Job + Sync, G: Gate + Sync, R: Threads + Wait + Clock + Sync>(
     rt: &R,

@@ -9,7 +9,7 @@ abbrev pub extents_in_row : (from : ℕ) → List (List ℕ) → List Extent
 extents_in_row from [] = []
 extents_in_row from (text ∷ texts) = record { start = from; end = from + length text } ∷ extents_in_row (from + length text) texts
 
--- a file has just these interchanges, one after another: no byte stands outside of them, and none has a fault 1 to 7
+-- a file has just these interchanges, one after another: no byte is outside of them, and none has a fault 1 to 7
 pub record HasInterchanges (texts : List (List ℕ)) (file : List ℕ) : Type 0 where
   pub in_row : file ≡ texts_in_row texts
   pub index : IndexValue

@@ -29,7 +29,7 @@ pub record WholeGroup : Type 0 where
   pub sets : List WholeSet
   pub trailer : Elements
 
--- what stands after a header = TA1* group* IEA
+-- what comes after a header = TA1* group* IEA
 pub record Whole : Type 0 where
   pub ta1s : List Elements
   pub groups : List WholeGroup

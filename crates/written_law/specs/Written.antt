@@ -56,7 +56,7 @@ abbrev pub AreClear : (file : List ℕ) → (from : ℕ) → List Written → Ty
 AreClear file from [] = Unit {0}
 AreClear file from (w ∷ ws) = NoHeads file (from + HEADER_LEN) w.segments × AreClear file (from + length (written_text w)) ws
 
--- no header begins at a segment of these interchanges that may stand between ST and SE, as they are read by these delimiters after their
+-- no header begins at a segment of these interchanges that may be between ST and SE, as they are read by these delimiters after their
 -- headers, the first of them at this offset
 abbrev pub NoInnerHeads : Delims → (file : List ℕ) → (from : ℕ) → List (List ℕ) → Type 0
 NoInnerHeads d file from [] = Unit {0}

@@ -20,7 +20,7 @@ pub fn other_segments_are_clear()
         → AreClear (texts_in_row (texts_of ws)) 0 ws }
 {}
 
-/// A theorem, with nothing to run: nor does one where none begins at a segment of theirs that may stand between ST and SE, as it is read by
+/// A theorem, with nothing to run: nor does one where none begins at a segment of theirs that may be between ST and SE, as it is read by
 /// the delimiters they are written with (X12.6, segment, transaction set): no control segment begins as a header.
 pub fn segments_as_read_are_clear()
     ensures { (d : Delims) (ws : List Written) → All IsWritten ws → All (λ w. w.envelope.delims ≡ d) ws
@@ -28,7 +28,7 @@ pub fn segments_as_read_are_clear()
 {}
 
 /// A theorem, with nothing to run: a text that is one such interchange is one interchange from its first byte to its last, and no byte
-/// stands outside of it (X12.5, interchange).
+/// is outside of it (X12.5, interchange).
 pub fn written_interchange_is_alone()
     ensures { (w : Written) → IsWritten w → AreClear (written_text w) 0 (w ∷ [])
         → IsLone (written_text w) (record { start = 0; end = length (written_text w) }) }

@@ -65,7 +65,7 @@ fn setup_files(rt: HostRuntime) -> Result<(), Fail> {
     expect_setups(rt.alloc(), SETUPS)
 }
 
-/// What stands after the hub, and the fault of each file.
+/// What comes after the hub, and the fault of each file.
 const BEHIND: &[[&str; 2]] = &[
     ["[[partner]]\n", "2 Missing(\"name\")"],
     [

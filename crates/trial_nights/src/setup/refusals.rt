@@ -116,7 +116,7 @@ fn head(alloc: Global, case: &Case) -> Result<String, AllocError> {
     )
 }
 
-/// What stands after this head.
+/// What comes after this head.
 fn partner_behind(alloc: Global, head: &str, case: &Case) -> Result<String, AllocError> {
     format!(in alloc;
         "{head}component=\"{}\"\nrepetition=\"^\"\nterminator=\"!\"\ncap={}\nguides=[\"{}\"]\n",

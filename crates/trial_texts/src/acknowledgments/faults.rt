@@ -153,7 +153,7 @@ const ANSWERS: &[Answer] = &[
 type Note = (&'static [FaultRow<'static>], &'static [u8]);
 
 const NOTES: &[Note] = &[
-    // a level of the hierarchy that may not stand there
+    // a level of the hierarchy that may not be there
     (
         &[FaultRow {
             position: 3,
@@ -247,7 +247,7 @@ fn told(alloc: Global, delims: &Delims, row: &SetRow) -> Result<Vec<u8>, NoMemor
     Ok(out)
 }
 
-/// The text of a rejected set between whose AK2 and IK5 this stands.
+/// The text of a rejected set between whose AK2 and IK5 this is.
 fn between(alloc: Global, wanted: &[u8]) -> Result<Vec<u8>, NoMemory> {
     let mut whole = Vec::from_slice(alloc, b"AK2*850*0001~")?;
     whole.extend_from_slice(wanted)?;

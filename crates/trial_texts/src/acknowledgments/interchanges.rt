@@ -100,7 +100,7 @@ fn sends_an_acknowledgment_to_the_partner(rt: HostRuntime) -> Result<(), Fail> {
     same(rt.alloc(), "an interchange", bytes.as_slice(), SENT)
 }
 
-/// The TA1 stands before the group, and the group has a number of its own.
+/// The TA1 is before the group, and the group has a separate number.
 const WITH_A_TA1: &[u8] =
     b"ISA*00*          *00*          *ZZ*HUB            *01*ACME           *260301*1530*^*00501*000000007*0*P*>~\
       TA1*000000007*260228*0900*A*000~GS*FA*HUB*ACME*20260301*1530*999999999*X*005010X231~ST*999*0001*005010X231~\

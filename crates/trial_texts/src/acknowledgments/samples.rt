@@ -14,7 +14,7 @@ pub const DELIMS: Delims = Delims {
     terminator: b'~',
 };
 
-/// A fault, with texts that own no memory, so that a test holds nothing that it has to let go.
+/// A fault, with texts that own no memory, so that a test holds nothing that it has to release.
 #[derive(Clone, Copy)]
 pub struct FaultRow<'a> {
     pub position: u64,
