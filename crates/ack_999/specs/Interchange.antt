@@ -7,7 +7,7 @@ use Rattle.x12_write.specs.Header.{header_text}
 use Rattle.x12_write.specs.Group.{group_text}
 use Rattle.x12_write.specs.Trailer.{trailer_text}
 
--- the group that 999s stand in: FA, from the hub's code to the partner's
+-- the group that 999s are in: FA, from the hub's code to the partner's
 abbrev pub acknowledging_group : Envelope → (control : ℕ) → GroupHeader
 acknowledging_group e control = record {
   functional_id = codes "FA";

@@ -10,7 +10,7 @@ use Rattle.x12_write.specs.Segment.{WrittenSegment, trimmed}
 use Rattle.x12_write.specs.Undivided.{CanDivide, IsUndivided}
 use Rattle.ack_999.specs.Report.{segments_999}
 
--- no element separator and no terminator stands in what is repeated of an element fault; where its position is written, the component
+-- no element separator and no terminator is in what is repeated of an element fault; where its position is written, the component
 -- separator is neither
 pub record IsQuotableElement (d : Delims) (e : ElemFault) : Type 0 where
   pub reference : IsUndivided d e.reference
@@ -30,7 +30,7 @@ pub record IsQuotable (d : Delims) (g : GroupAnswer) (sets : List SetAnswer) : T
   pub controls : All (λ s. IsUndivided d s.control) sets
   pub faults : All (λ s. All (IsQuotableFault d) s.faults) sets
 
--- what stands between the separators of a segment that is written
+-- what is between the separators of a segment that is written
 abbrev pub written_parts : WrittenSegment → List (List ℕ)
 written_parts s = s.id ∷ trimmed s.elements
 

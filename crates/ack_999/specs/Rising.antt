@@ -1,5 +1,5 @@
 -- 999 guide, error identification (IK3) and implementation data element note (IK4): what is reported at each position of a set whose
--- faults stand in their order (own), each once.
+-- faults are in their order (own), each once.
 use Rattle.std.specs.Prelude.{ℕ, ◌≡◌, ◌==◌, Bool, is_some, nat_lt, List, [], ◌∷◌, ◌++◌, All, map, filter, filter_map}
 use Rattle.x12_bytes.specs.declared.delims.Delims.{Delims}
 use Rattle.hub_kinds.specs.Words.{segment_rank, AreRising}
@@ -24,7 +24,7 @@ comes_before f = nat_lt (rank_of f) (segment_rank ElementErrors)
 abbrev pub comes_behind : Fault → Bool
 comes_behind f = nat_lt (segment_rank ElementErrors) (rank_of f)
 
--- where the fault stands, by a position
+-- where the fault is, by a position
 abbrev pub is_below : ℕ → Fault → Bool
 is_below p f = nat_lt f.position p
 

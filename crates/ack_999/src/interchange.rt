@@ -64,14 +64,14 @@ fn append_group_part(
     append_group(out, &envelope.delims, at, &header, reports)
 }
 
-/// How many groups these acknowledgments stand in.
+/// How many groups these acknowledgments are in.
 fn group_count(reports: &[Text]) -> u64
     ensures { result ≡ group_count reports.now }
 {
     if reports.is_empty() { 0 } else { 1 }
 }
 
-/// Writes GS of the group of number `control` (1 to 999,999,999) that acknowledgments stand in, after what is there.
+/// Writes GS of the group of number `control` (1 to 999,999,999) that acknowledgments are in, after what is there.
 pub fn append_ack_group_header(
     out: &mut Vec<u8>,
     envelope: &Envelope,
@@ -86,7 +86,7 @@ pub fn append_ack_group_header(
     append_group_header(out, &envelope.delims, at, &header)
 }
 
-/// The header of the group that acknowledgments stand in.
+/// The header of the group that acknowledgments are in.
 fn acknowledging_group<'a>(envelope: &'a Envelope<'a>, control: u32) -> GroupHeader<'a>
     ensures { result ≡ acknowledging_group envelope.now control }
 {

@@ -12,7 +12,7 @@
 //! - `write_ack_interchange` writes exactly the interchange: its header in its fixed width, the TA1 if there is one, the group of the
 //!   999s if there are any, and the trailer with the number of groups; `append_ack_group_header` writes the header of that group; the
 //!   interchange's header is read again where the envelope is fit to be sent;
-//! - of faults that stand in their order, each once, each position is reported by an IK3 for each structural fault and one IK3
+//! - of faults that are in their order, each once, each position is reported by an IK3 for each structural fault and one IK3
 //!   with code 8 for all element faults together, with an IK4 for each after it (`each_position_is_told`);
 //! - a call that appends keeps what was there before, also where memory is refused;
 //! - `group_codes` gives the group's codes, in their order;

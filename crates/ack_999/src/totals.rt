@@ -20,7 +20,7 @@ impl Totals {
     ghost use Rattle.hub_kinds.specs.declared.answers.SetAnswer.{SetAnswer};
     ghost use Rattle.ack_999.specs.Group.{totals_of, received_sets, IsCountable};
 
-    /// Of no set.
+    /// The totals of no set.
     pub fn new() -> Totals
         ensures value { result ≡ totals_of [] }
         ensures countable { IsCountable result }

@@ -3,7 +3,7 @@ use Rattle.std.specs.Prelude.{ℕ, List, Option, Some, None, codes}
 use Rattle.std.specs.List.{find}
 use Rattle.std.specs.Str.{bytes_eq}
 
--- what is said of a text that is no code of these
+-- what is said of a text that isn't a code of these
 abbrev pub unknown_words : List ℕ
 unknown_words = codes "a code that this hub doesn't write"
 

@@ -43,7 +43,7 @@ pub(crate) fn segment_told<'a>(segment: &SegView<'a>) -> SegmentTold<'a>
     }
 }
 
-/// The same again.
+/// A copy of `segment`.
 pub(crate) fn again<'a>(segment: &SegmentTold<'a>) -> SegmentTold<'a>
     ensures { result ≡ segment.now }
 {

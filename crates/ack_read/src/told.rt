@@ -101,10 +101,10 @@ pub struct Ta1Told<'a> {
 /// What an acknowledgment reports.
 #[derive(Debug, Drop)]
 pub enum Told<'a> {
-    /// Of an interchange.
+    /// About an interchange.
     OfInterchange(Ta1Told<'a>),
-    /// Of a set.
+    /// About a set.
     OfSet(SetTold<'a>),
-    /// Of a group.
+    /// About a group.
     OfGroup(GroupTold<'a>),
 }

@@ -51,7 +51,7 @@ abbrev pub IsLeft : List ℕ → ℕ → Option Inside → Type 0
 IsLeft read at None = (q : ℕ) → at ≤ q → is_head read q ≡ false
 IsLeft read at (Some i) = whole_end read at ≡ None
 
--- nor could it go on: all is read, or what stands there isn't whole yet
+-- nor could it continue: all is read, or what is there isn't whole yet
 abbrev pub IsFarthest : List ℕ → ℕ → Option Inside → Type 0
 IsFarthest read at None = IsAsFar read at
 IsFarthest read at (Some i) = IsShort read i.part.lead i.part.seen

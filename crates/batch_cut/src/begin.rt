@@ -67,7 +67,7 @@ fn is_field_begun(bytes: &[u8], k: usize) -> bool
         && holds_none(field_so_far(bytes, k), bytes[3])
 }
 
-/// Whether the separator stands at a place, if the bytes go so far.
+/// Whether the separator is at a place, if the bytes go so far.
 fn has_separator(bytes: &[u8], place: usize, element: u8) -> bool
     ensures { result ≡ (nat_le (length bytes.now) place || slice_index bytes.now place == element) }
 {

@@ -14,21 +14,21 @@ use memchr::memchr;
 use x12_bytes::{Delims, read_header};
 use x12_segs::{Kind, SegView, kind_of};
 
-/// The part of an interchange that is looked at: where it begins, up to where CR and LF alone stand in it, and up to where no
-/// terminator stands in it.
+/// The part of an interchange that is looked at: where it begins, up to where CR and LF alone are in it, and up to where no
+/// terminator is in it.
 #[derive(Clone, Copy, Debug)]
 pub struct OpenPart {
     /// Where it begins.
     pub at: usize,
     /// The first byte that is no CR and no LF, or where none is read yet.
     pub lead: usize,
-    /// Up to here no terminator stands in it.
+    /// Up to here no terminator is in it.
     pub seen: usize,
 }
 
 /// What a part makes of its interchange.
 pub(crate) enum Step {
-    /// It goes on at this offset.
+    /// It continues at this offset.
     On(usize),
     /// It ends at this offset.
     End(usize),
@@ -44,7 +44,7 @@ pub enum Followed {
     Wait(OpenPart),
 }
 
-/// The same, with how far is searched.
+/// What a step finds, with how far was searched.
 pub(crate) enum Walked {
     /// It ends at this offset.
     End(usize, Searched),
@@ -175,7 +175,7 @@ pub fn follow(read: &[u8], delims: Delims, part: OpenPart) -> Followed
     }
 }
 
-/// The same by what was searched before: parts that can't end it are passed over together.
+/// What a step finds by `searched`, what was searched before: parts that can't end it are passed over together.
 pub(crate) fn walk(read: &[u8], delims: Delims, part: OpenPart, searched: Searched) -> Walked
     requires open_part { IsOpen read.now delims.terminator part.at part.lead part.seen }
     requires searched { AreSearched read.now searched }

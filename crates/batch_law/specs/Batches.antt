@@ -1,4 +1,4 @@
--- X12.5, interchange: how the interchanges of a text go on where it is read in batches.
+-- X12.5, interchange: how the interchanges of a text continue where it is read in batches.
 use Rattle.std.specs.Prelude.{◌≡◌, ℕ, ◌+◌, ◌≤◌, ◌<◌, false, List, [], ◌∷◌, length, map}
 use Rattle.std.specs.Prelude.{Option, Some, None, if◌then◌else◌}
 use Rattle.x12_bytes.specs.Header.{header_at, header_delims}

@@ -1,4 +1,4 @@
--- X12.5, interchange, and X12.6, functional group and transaction set: the same envelopes where so many bytes stand before the text.
+-- X12.5, interchange, and X12.6, functional group and transaction set: the same envelopes where that many bytes are before the text.
 use Rattle.std.specs.Prelude.{◌≡◌, ℕ, ◌+◌, not, List, [], ◌∷◌, map, option_map, count_by, slice_range}
 use Rattle.std.specs.List.{All}
 use Rattle.x12_segs.specs.Words.{SegValue}
@@ -50,7 +50,7 @@ moved_entry by e = record { interchange = moved_interchange by e.interchange; fa
 abbrev pub moved_extent : (by : ℕ) → Extent → Extent
 moved_extent by x = record { start = by + x.start; end = by + x.end }
 
--- how many bytes stand outside interchanges, up to an offset at which none is open
+-- how many bytes are outside interchanges, up to an offset at which none is open
 abbrev pub count_up_to : List ℕ → (from to : ℕ) → List Extent → ℕ
 count_up_to text from to [] = count_by (λ b. not (is_filler b)) (slice_range text from to)
 count_up_to text from to (x ∷ xs) = count_by (λ b. not (is_filler b)) (slice_range text from x.start) + count_up_to text x.end to xs

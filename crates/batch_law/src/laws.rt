@@ -12,7 +12,7 @@ pub fn header_shows_early()
 {}
 
 /// A theorem, with nothing to run: interchanges that are whole by what is read of a text are the text's, whatever follows; what is read
-/// up to an offset at which none is open has just these, and those that follow there go on with them.
+/// up to an offset at which none is open has just these, and those that follow there continue with them.
 pub fn whole_stays_whole()
     ensures whole { (read more : List ℕ) (from to : ℕ) (xs : List Extent) → WholeUpTo read from to xs
         → ChainUpTo (read ++ more) from to xs }

@@ -31,7 +31,7 @@ hub_of key = part key 17 19 ++ (codes " " ++ unspaced (part key 19 34))
 abbrev pub interchange_of : List ℕ → List ℕ
 interchange_of key = part key 34 43
 
--- what stands after ISA13
+-- what is after ISA13
 abbrev pub numbers_of : List ℕ → List ℕ
 numbers_of key = part key 43 (length key)
 

@@ -1,4 +1,4 @@
--- What is printed of nights that don't go on (own): a line a breach, and a total.
+-- What is printed of nights that don't continue (own): a line a breach, and a total.
 use Rattle.std.specs.Prelude.{ℕ, ◌+◌, ◌==◌, List, [], ◌∷◌, ◌++◌, codes, decimal, length, if◌then◌else◌}
 use Rattle.std.specs.List.{flat_map}
 use Rattle.file_names.specs.Shown.{shown}

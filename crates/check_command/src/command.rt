@@ -118,7 +118,7 @@ fn flag<'a>(alloc: Global) -> Arg<'a>
         .action(ArgAction::SetTrue)
 }
 
-/// The same, which may be given again.
+/// An option that may be given again.
 fn repeated<'a>(alloc: Global, name: &'a str, help: &'a str) -> Arg<'a>
     ensures rule { rule_of result ≡ option_repeated name.now }
     ensures local { result.global ≡ false }

@@ -26,7 +26,7 @@ fn nothing(alloc: Global) -> Texts
     Items::from_vec(Vec::new(alloc))
 }
 
-/// Of a guide that is taken nothing is said.
+/// Nothing: no texts are printed about a guide that is taken.
 fn nothing_of(alloc: Global, _guide: &Guide) -> Texts
     ensures { result ≡ [] }
 {
@@ -41,7 +41,7 @@ fn said_of_nodes(alloc: Global, nodes: &[Node]) -> Result<Texts, NoMemory>
     Ok(Items::from_vec(found))
 }
 
-/// Of the nodes of a guide that bytes write, which are known to write one.
+/// The texts about the nodes of a guide that `bytes` write, which are known to write one.
 fn nodes_of(alloc: Global, bytes: &[u8]) -> Result<Texts, NoMemory>
     ensures { IfOk result (further.AreNodesSaid bytes.now) }
 {
@@ -234,7 +234,7 @@ pub fn said_of_files(alloc: Global, given: &GivenFiles<'_>) -> Result<Items<Text
     Ok(Items::from_vec(all))
 }
 
-/// The same where all is asked for.
+/// What is printed, if all is asked for.
 pub fn said_if(
     alloc: Global,
     all: bool,

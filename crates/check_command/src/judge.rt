@@ -214,7 +214,7 @@ fn tell_counters_in<'a>(alloc: Global, given: &Given<'a>) -> Result<ToldCounters
     }
 }
 
-/// The same where there may be no such file: then there are no counters.
+/// What is printed of a counters file, if there is one: without one there are no counters.
 fn tell_counters<'a>(alloc: Global, given: &Option<Given<'a>>) -> Result<ToldCounters<'a>, NoMemory>
     ensures line { IfOk result (λ t. AreCountedAlone given.now t.rows t.line) }
     ensures rows { IfOk result (λ t. AreCountersFound given.now t.rows) }

@@ -27,7 +27,7 @@ impl<'x, 'a> Acknowledgment<'x, 'a> {
     ghost use Rattle.std.specs.Prelude.{option_map};
     ghost use Rattle.checked_text.specs.Acknowledgments.{has_reports, is_there};
 
-    /// Of an interchange with this header, this note of a TA1 and these answers to its groups.
+    /// An acknowledgment of an interchange with this header, this note of a TA1 and these answers to its groups.
     pub(crate) fn new(
         header: &'x Header<'a>,
         note: Option<&'static str>,

@@ -1,4 +1,4 @@
--- Own: what a seat's fields stand for. Private.
+-- Own: what a seat's fields mean. Private.
 use Rattle.std.specs.Prelude.{◌≡◌, ◌≤◌, [], ltb}
 use Rattle.claim_desk.specs.declared.desk.Seat.TheInside.{Inside}
 use Rattle.claim_desk.specs.Seats.{Holding}

@@ -30,7 +30,7 @@ impl Model for Desk {
 }
 
 /// The right to claim jobs of one desk: how much of the desk's seats it is (its weight), which jobs it got,
-/// in that order, and how many of those seats were told that none is left (`ended`). A seat that is dropped
+/// in that order, and how many of those seats were reported that none is left (`ended`). A seat that is dropped
 /// is lost: then no other one ever has the whole weight.
 #[derive(Drop)]
 pub struct Seat {
@@ -52,7 +52,7 @@ impl Model for Seat {
 }
 
 impl Desk {
-    /// A desk for so many jobs, and one seat that is all its seats. The only error is out of memory.
+    /// A desk for that many jobs, and one seat that is all its seats. The only error is out of memory.
     pub fn new(alloc: Global, n: u64, seats: u64) -> Result<(Desk, Seat), NoMemory>
         requires n { n ≤ 4611686018427387904 }
         requires seats { (1 ≤ seats) × (seats ≤ 64) }
@@ -78,7 +78,7 @@ impl Desk {
     }
 
     /// The next job that no seat got yet, by one step of the shared word and without waiting; none where no
-    /// job is left. A seat that was told so makes no step again. One that is all the desk's seats has then
+    /// job is left. A seat that was reported so makes no step again. One that is all the desk's seats has then
     /// got each job once.
     pub fn claim(&self, seat: &mut Seat) -> Option<JobNo>
         requires { seat.old.desk ≡ self.now }

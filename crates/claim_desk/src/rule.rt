@@ -11,7 +11,7 @@ pub struct View {
     pub ended: u64,
 }
 
-// The word counts the claims, and the jobs below it stand each once in what the seats got.
+// The word counts the claims, and the jobs below it are each once in what the seats got.
 pub struct InOrder;
 
 impl TableRule<(), View, (u64, u64)> for InOrder {

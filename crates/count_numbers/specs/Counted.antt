@@ -27,7 +27,7 @@ groups_in (Delivered key ∷ es) = groups_in es
 abbrev pub delivered_set_count : List Entry → ℕ
 delivered_set_count es = length (keys_of es)
 
--- a partner's numbers where so many acknowledgments are its, so many of them with a group, and the delivered sets with these keys
+-- a partner's numbers where that many acknowledgments are its, that many of them with a group, and the delivered sets with these keys
 abbrev pub numbers_behind : Counters → (cap acknowledgments groups : ℕ) → List RunKey → PartnerNumbers
 numbers_behind counters cap acknowledgments groups keys = record {
   first_acknowledgment = counters.interchange;

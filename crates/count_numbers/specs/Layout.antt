@@ -1,4 +1,4 @@
--- X12.5, interchange, and X12.6, functional group: which delivered interchanges and groups a tally stands for (own).
+-- X12.5, interchange, and X12.6, functional group: which delivered interchanges and groups a tally means (own).
 use Rattle.std.specs.Prelude.{◌≡◌, ℕ, ◌+◌, ◌-◌, ◌*◌, ◌/◌, ◌%◌, ◌==◌, if◌then◌else◌, ◌^◌, ◌<◌, ◌≤◌, List, [], ◌∷◌, map, length, take}
 use Rattle.std.specs.Prelude.{drop, replicate, sum_by}
 use Rattle.std.specs.List.{flat_map, range_with_len}
@@ -6,7 +6,7 @@ use Rattle.count_numbers.specs.declared.run.RunKey.{RunKey}
 use Rattle.count_numbers.specs.declared.run.Run.{Run}
 use Rattle.count_numbers.specs.Runs.{runs_of, together}
 
--- set k stands in delivered interchange k / cap
+-- set k is in delivered interchange k / cap
 abbrev pub in_interchange : {A : Type 0} → (cap : ℕ) → List A → (m : ℕ) → List A
 in_interchange cap xs m = take cap (drop (m * cap) xs)
 
@@ -29,7 +29,7 @@ delivered_groups cap keys = sum_by length (layout_of cap keys)
 abbrev pub keys_in : Run → List RunKey
 keys_in run = replicate run.sets run.key
 
--- the keys that runs stand for
+-- the keys that runs mean
 abbrev pub keys_of_runs : List Run → List RunKey
 keys_of_runs runs = flat_map keys_in runs
 

@@ -7,11 +7,11 @@ use Rattle.count_numbers.specs.Layout.{group_count, interchange_count, set_count
 use Rattle.count_numbers.specs.Num.{num}
 use Rattle.count_numbers.specs.Tally.{PartnerTally}
 
--- how many delivered interchanges hold a tally's sets, so many of them each
+-- how many delivered interchanges hold a tally's sets, that many of them each
 abbrev pub delivered_in : (cap : ℕ) → PartnerTally → ℕ
 delivered_in cap t = interchange_count cap (set_count t.runs)
 
--- its acknowledgments come first, then its delivered interchanges, and their groups in the same order; the counters go on after
+-- its acknowledgments come first, then its delivered interchanges, and their groups in the same order; the counters continue after
 -- both, and after the delivered sets
 abbrev pub numbers_of : PartnerTally → Counters → (cap : ℕ) → PartnerNumbers
 numbers_of t counters cap = record {

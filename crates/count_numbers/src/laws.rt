@@ -16,7 +16,7 @@ pub fn runs_suffice()
 {}
 
 /// A theorem, with nothing to run: the first numbers and the next counters that a tally gives of fewer than 2^64 acknowledgments and
-/// delivered sets are those after so many of them.
+/// delivered sets are those after that many of them.
 pub fn numbers_are_counted()
     ensures { NumbersAreCounted }
 {}

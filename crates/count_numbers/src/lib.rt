@@ -1,5 +1,5 @@
 //! Control numbers: which numbers a partner's interchanges, functional groups and transaction sets get in a night, and from which
-//! the next night goes on.
+//! the next night continues.
 //!
 //! Proved:
 //! - `num` is the number that comes so far after a first one, where 1 follows 999,999,999;
@@ -11,7 +11,7 @@
 //! - a tally is enough: delivered interchanges and their groups follow from its runs as they do from the sets
 //!   themselves, and so do the number of these groups and that of sets, where there are fewer than 2^64 (`runs_suffice`);
 //! - `numbers_for` gives each partner's first numbers and its next counters; of fewer than 2^64 acknowledgments and sets these are
-//!   the numbers after so many (`numbers_are_counted`).
+//!   the numbers after that many (`numbers_are_counted`).
 //!
 //! Source: X12.5, interchange control number (ISA13); X12.6, functional group, group control number (GS06) and transaction set
 //! control number (ST02); how they are counted is own.

@@ -28,14 +28,14 @@ pub struct PartnerNumbers {
     pub groups: u64,
     /// How many sets are delivered to it.
     pub sets: u64,
-    /// From where the next night goes on.
+    /// From where the next night continues.
     pub next: Counters,
 }
 
 /// The numbers of all partners, in their order.
 pub type Numbers = Items<PartnerNumbers>;
 
-/// How many interchanges hold so many sets, each at most `cap`.
+/// How many interchanges hold that many sets, each at most `cap`.
 pub fn interchange_count(cap: u32, sets: u64) -> u64
     requires { 1 ≤ cap }
     ensures { result ≡ interchange_count cap sets }

@@ -25,7 +25,7 @@ impl<'a> Tallies<'a> {
     ghost use Rattle.count_numbers.specs.Tally.{Acknowledged, Delivered};
     ghost use Rattle.count_numbers.specs.Tallies.{tallies_of, all_joined};
 
-    /// Of nothing, for so many partners. The only error is out of memory.
+    /// Tallies of nothing, for that many partners. The only error is out of memory.
     pub fn new(alloc: Global, partners: usize) -> Result<Tallies<'a>, NoMemory>
         ensures { IfOk result (λ tallies. tallies ≡ tallies_of partners []) }
     {

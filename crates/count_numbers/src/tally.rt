@@ -52,7 +52,7 @@ impl<'a> Tally<'a> {
         self.runs.as_slice()
     }
 
-    /// Of nothing.
+    /// A tally of nothing.
     pub fn new(alloc: Global) -> Tally<'a>
         ensures value { result ≡ empty_tally }
         ensures empty { result ≡ tally_of [] }

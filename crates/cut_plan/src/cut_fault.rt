@@ -1,7 +1,7 @@
 use hub_kinds::NoMemory;
 use std::fmt;
 
-/// Why a list of places is no plan of cuts, the first that is judged first; out of memory comes last (own).
+/// Why a list of places isn't a plan of cuts, the first that is judged first; out of memory comes last (own).
 #[derive(Clone, Copy, Debug, PartialEq, Eq, Drop)]
 pub enum CutFault {
     /// A place lies before the one before it.

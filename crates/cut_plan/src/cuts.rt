@@ -26,7 +26,7 @@ impl Cuts {
     ghost use Rattle.std.specs.Prelude.{◌≡◌, ◌+◌, ◌<◌, ◌≤◌, length, IfOk, IsErrOf, slice_get, Some, true, false, ◌&&◌, not};
     ghost use Rattle.cut_plan.specs.Plan.{IsPlan, rises_from, all_up_to, pieces, multiples_below};
 
-    /// Cuts of a text of so many bytes at these places, which rise, and of which none lies after the text's end. Errors: they
+    /// Cuts of a text of that many bytes at these places, which rise, and of which none lies after the text's end. Errors: they
     /// don't rise; else one lies after the end; else memory is refused.
     pub fn new(alloc: Global, text_len: usize, places: &[usize]) -> Result<Cuts, CutFault>
         ensures cuts { IfOk result (λ c. (c.text_len ≡ text_len) × (c.places ≡ places.now)) }
@@ -48,7 +48,7 @@ impl Cuts {
         }
     }
 
-    /// Cuts of a text of so many bytes at the multiples of `n` that lie strictly between 0 and its end. The only error is out
+    /// Cuts of a text of that many bytes at the multiples of `n` that lie strictly between 0 and its end. The only error is out
     /// of memory.
     pub fn every(alloc: Global, text_len: usize, n: usize) -> Result<Cuts, NoMemory>
         requires { 0 < n }

@@ -1,4 +1,4 @@
--- Nights that were read go on (own), and what is printed of nights.
+-- Nights that were read continue (own), and what is printed of nights.
 use Rattle.std.specs.Prelude.{ℕ, ◌≡◌, ◌↔◌, ⊤, List, [], ◌∷◌, ◌++◌, length}
 use Rattle.hub_ledger.specs.declared.entry.NightEntry.{NightEntry}
 use Rattle.night_breaches.specs.Breaches.{breaches_after, last_breach, last_name}
@@ -31,7 +31,7 @@ abbrev pub day_text : (limit named : List ℕ) → List NightMark → List Night
 day_text limit named order entries bad =
     report_text (length order) (different [] (addresses_of entries)) bad (broken_links [] order) (all_breaches limit named entries)
 
--- what is printed of nights, and the status: 0 exactly if they go on
+-- what is printed of nights, and the status: 0 exactly if they continue
 pub record IsJudged (limit named : List ℕ) (order : List NightMark) (entries : List NightEntry) (bad : List BadFile)
     (text : List ℕ) (status : ℕ) : Type 0 where
   pub text_is : text ≡ day_text limit named order entries bad

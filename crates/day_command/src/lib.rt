@@ -4,7 +4,7 @@
 //! - `read_words` gives what the arguments ask for, as clap's definitions say, and calls usage only what is none;
 //! - `day_main` prints just the text of the definition on the nights that were read of the folder, or a text that was asked for: a line
 //!   a breach, and a total;
-//! - it ends with 0 exactly if the nights that were read go on: each of their files is what it must be, each night names the one before
+//! - it ends with 0 exactly if the nights that were read continue: each of their files is what it must be, each night names the one before
 //!   it, no set is delivered to a receiver on two nights, the numbers of each address begin where they were left, no moment is before that
 //!   of the night before or after a limit, and the last night is the one that is named last; else with 1;
 //! - it ends with 2 only if the arguments are wrong, and prints nothing on standard output if the folder or the clock can't be read, or if

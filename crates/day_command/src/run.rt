@@ -15,8 +15,9 @@ use std::convert::AsStr;
 use std::io::Write;
 use std::rt::{Clock, Files};
 
-/// Runs the program on its arguments, without its name, and gives its exit status: 0 if each night that was read goes on from those before
-/// it, or a text that was asked for is printed; 1 if one doesn't; otherwise that of the failure whose line it has printed on `err`.
+/// Runs the program on its arguments, without its name, and gives its exit status: 0 if each night that was read continues from
+/// those before it, or a text that was asked for is printed; 1 if one doesn't; otherwise that of the failure whose line it has
+/// printed on `err`.
 pub fn day_main<R, S, O, E>(rt: &R, words: &[S], out: &mut O, err: &mut E) -> u8
 where
     R: Files + Clock + AllocGlobal + Clone + Drop,

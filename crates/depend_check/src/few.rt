@@ -58,7 +58,7 @@ fn add_broken_by<'a>(
     add_uses(faults, delims, dependency, placed)
 }
 
-/// The same of a dependency that may not be triggered.
+/// Adds the faults of a dependency that may not be triggered.
 fn add_found<'a>(
     faults: &mut Vec<Fault<'a>>,
     nodes: &'a [Node],

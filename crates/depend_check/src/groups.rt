@@ -39,7 +39,7 @@ pub fn keep_labelled(placed: &mut Vec<PlacedSeg>)
     placed.retain(|one| has_a_label(one.slot));
 }
 
-/// Brings placed segments into the order of their slots' labels, so that the uses of a slot stand side by side.
+/// Brings placed segments into the order of their slots' labels, so that the uses of a slot are side by side.
 pub fn sort_by_label(placed: &mut Vec<PlacedSeg>)
     ensures same { (p : PlacedSegment) → Contains (placed_views placed.new.items) p ↔ Contains (placed_views placed.old.items) p }
     ensures sorted { AreByLabel placed.new.items }

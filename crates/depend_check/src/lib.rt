@@ -6,7 +6,7 @@
 //! target that lacks a needed element, or has a banned one.
 //!
 //! `AreDependenciesKept` of `specs/Kept.antt` says of segments with their slots alone that they keep the dependencies of an
-//! accepted guide; where each segment of a body has a place that leads to its slot, there is no fault exactly then
+//! accepted guide; where each segment of a body has a place that leads to its slot, there isn't a fault exactly then
 //! (`proofs/Whole.antt`).
 //!
 //! The cost follows the bytes of the set and of the dependencies, but for a logarithm: the uses of a slot are found by their

@@ -46,7 +46,7 @@ fn texts_in<'a>(
     Ok(texts)
 }
 
-/// The same, of segments in the order of labels.
+/// The texts of segments that are in the order of labels.
 pub fn texts_of<'a>(
     alloc: Global,
     label: &[u8],

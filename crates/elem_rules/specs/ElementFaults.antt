@@ -70,12 +70,12 @@ abbrev pub missing_fault : Requirement → Option ElementCode
 missing_fault Mandatory = Some ik403.RequiredMissing
 missing_fault Optional = None
 
--- a component: one that isn't used has to be empty; else it is missing, or its value is judged
+-- a component: one that isn't used must be empty; else it is missing, or its value is judged
 abbrev pub component_fault : Delims → Component → List ℕ → Option ElementCode
 component_fault delims (component.NotUsed reference) text = if is_empty delims text then None else Some ik403.NotUsedPresent
 component_fault delims (component.Simple row) text = if is_empty delims text then missing_fault row.requirement else value_fault row text
 
--- a whole element: one that isn't used has to be empty; else it is missing, if anything
+-- a whole element: one that isn't used must be empty; else it is missing, if anything
 abbrev pub whole_fault : Delims → Element → List ℕ → Option ElementCode
 whole_fault delims (element.NotUsed reference) text = if is_empty delims text then None else Some ik403.NotUsedPresent
 whole_fault delims (element.Simple row repeat) text = if is_empty delims text then missing_fault row.requirement else None

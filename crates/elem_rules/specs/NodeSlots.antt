@@ -1,4 +1,4 @@
--- X12.6, transaction set (own): the slot of each node of a guide by the nodes' numbers, parents first, and the flat slots that stand so.
+-- X12.6, transaction set (own): the slot of each node of a guide by the nodes' numbers, parents first, and the flat slots that are so.
 use Rattle.std.specs.Prelude.{◌≡◌, List, [], ◌∷◌, ◌++◌, map, length, Option, Some, None}
 use Rattle.guide_tree.specs.declared.slot.Slot.{Slot}
 use Rattle.guide_tree.specs.Words.{Tree, Trees, segment, loop, no_trees, tree, Place, slot_at}

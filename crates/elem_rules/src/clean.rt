@@ -134,7 +134,7 @@ fn is_odd(component: u8, separator: u8, byte: u8) -> bool
     byte == component || byte == separator || !is_character(byte, false)
 }
 
-/// Whether a text has one of two separators, or a byte that is no character from space to tilde. No byte ends the walk, so that
+/// Whether a text has one of two separators, or a byte that isn't a character from space to tilde. No byte ends the walk, so that
 /// many are looked at together.
 fn has_odd_by(component: u8, separator: u8, text: &[u8]) -> bool
     ensures { result ≡ list_any (is_odd_by component separator) text.now }
@@ -146,7 +146,7 @@ fn has_odd_by(component: u8, separator: u8, text: &[u8]) -> bool
     found
 }
 
-/// The same of the component and the repetition separator.
+/// Whether a text has the component or the repetition separator.
 fn has_odd(delims: Delims, text: &[u8]) -> bool
     ensures { result ≡ list_any (is_odd delims) text.now }
 {
@@ -217,7 +217,7 @@ pub(crate) fn hold_all(bits: u64, conditions: &[Condition]) -> bool
     conditions.iter().all(|condition| holds(bits, condition))
 }
 
-/// The same of a segment without component and repetition separators.
+/// Whether a segment without component and repetition separators fits its slot.
 fn fits_slot(seg: &SegView, slot: &Slot, narrow: bool) -> bool
     requires bounded { IsTrue (is_slot_bounded slot.now) }
     requires conditions { IsTrue (list_all (is_condition_of slot.now) slot.now.conditions) }

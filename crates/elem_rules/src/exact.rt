@@ -205,7 +205,7 @@ fn find_at<'a>(
     Ok(found)
 }
 
-/// The same faults as `check_segment`'s, of a segment whose element separators stand at these offsets of its bytes, and which has
+/// The faults that `check_segment` gives, of a segment whose element separators are at these offsets of its bytes, and which has
 /// no component and no repetition separator and no byte but characters from space to tilde, by its slot and that as few numbers. An
 /// element that surely fits its row isn't gone over again, and elements are looked up by the offsets.
 pub fn check_segment_at<'a>(

@@ -150,7 +150,7 @@ fn is_string(data_type: ElementType) -> bool
     }
 }
 
-/// Of a row of whose values nothing is said.
+/// A flat row that says nothing of the values of `row`.
 fn unsure(numbers: &[u32], row: &SimpleRow) -> FlatRow
     ensures { IsFlatOf result numbers.now row.now }
 {

@@ -32,7 +32,7 @@ pub struct FlatSlot {
     pub must: u64,
 }
 
-/// Of no slot.
+/// A flat slot without rows.
 pub fn no_rows(alloc: Global) -> FlatSlot {
     FlatSlot {
         rows: Vec::new(alloc),
@@ -189,7 +189,7 @@ pub(crate) fn all_hold(conditions: &[FlatCondition], bits: u64) -> bool
         .all(|condition| holds_flat(condition, bits))
 }
 
-/// The same look as `is_clean_at`, by the flat rows and conditions of the slot: `true` only where no element has a fault.
+/// The look of `is_clean_at`, by the flat rows and conditions of the slot: `true` only where no element has a fault.
 pub fn is_clean_flat(seg: &SegView, slot: &Slot, flat: &FlatSlot, separators: &[usize]) -> bool
     requires bounded { IsTrue (is_slot_bounded slot.now) }
     requires conditions { IsTrue (list_all (is_condition_of slot.now) slot.now.conditions) }

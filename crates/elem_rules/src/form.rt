@@ -21,7 +21,7 @@ fn are_characters(text: &[u8], wide: bool) -> bool
     text.iter().all(|byte| is_character(*byte, wide))
 }
 
-/// The same; where `narrow` is true, they are known to be characters from space to tilde.
+/// Whether `text` has only characters that are allowed; where `narrow` is true, they are known to be from space to tilde.
 fn are_known_characters(text: &[u8], wide: bool, narrow: bool) -> bool
     requires { OnTrue narrow (list_any is_strange text.now ≡ false) }
     ensures { result ≡ list_all (is_character wide) text.now }

@@ -91,7 +91,7 @@ fn hold_there(seg: &SegView, conditions: &[Condition], separators: &[usize]) -> 
     }
 }
 
-/// A quick look at a segment whose element separators stand at these offsets of its bytes, and which has no component and no
+/// A quick look at a segment whose element separators are at these offsets of its bytes, and which has no component and no
 /// repetition separator and no byte but characters from space to tilde: `true` only where no element has a fault.
 pub fn is_clean_at(seg: &SegView, slot: &Slot, separators: &[usize]) -> bool
     requires bounded { IsTrue (is_slot_bounded slot.now) }

@@ -39,7 +39,7 @@ impl<'g> SlotTables<'g> {
     ghost use Rattle.elem_rules.specs.Flat.{IsFlatSlot};
     ghost use Rattle.elem_rules.specs.NodeSlots.{IsSlotOf};
 
-    /// Of a guide. The only error is out of memory.
+    /// The tables of the slots of `guide`. The only error is out of memory.
     pub fn of(alloc: Global, guide: &'g Guide) -> Result<SlotTables<'g>, NoMemory>
         ensures { IfOk result (λ t. t ≡ guide.now) }
     {
@@ -88,7 +88,7 @@ fn flat_node_of(alloc: Global, slot: Option<&Slot>) -> Result<FlatSlot, NoMemory
     }
 }
 
-/// The same of each node.
+/// The flat slots of each node.
 fn flat_nodes_of(alloc: Global, slots: &[Option<&Slot>]) -> Result<Vec<FlatSlot>, NoMemory>
     requires { All (λ o. IfSome o IsSound) (lent_slots slots.now) }
     ensures { IfOk result (λ flats. AreFlatNodes flats.items (lent_slots slots.now)) }

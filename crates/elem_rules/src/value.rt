@@ -40,7 +40,7 @@ pub fn value_fault(row: &SimpleRow, text: &[u8]) -> Option<ElementCode>
     value_fault_by(row, text, false)
 }
 
-/// The same; where `narrow` is true, the value's bytes are known to be characters from space to tilde.
+/// What is wrong with a value; where `narrow` is true, its bytes are known to be characters from space to tilde.
 pub fn value_fault_by(row: &SimpleRow, text: &[u8], narrow: bool) -> Option<ElementCode>
     requires { OnTrue narrow (list_any is_strange text.now ≡ false) }
     ensures { result ≡ value_fault row.now text.now }

@@ -18,7 +18,7 @@ abbrev pub is_some_number : Option ℕ → ℕ → Bool
 is_some_number None n = false
 is_some_number (Some m) n = m == n
 
--- a text of 1 to so many digits writes this number
+-- a text of 1 to that many digits writes this number
 abbrev pub writes_number : ℕ → List ℕ → ℕ → Bool
 writes_number most text n = is_some_number (number_of most text) n
 

@@ -1,4 +1,4 @@
--- X12.5, interchange: the interchanges of a text with their faults, and how many bytes stand outside of them.
+-- X12.5, interchange: the interchanges of a text with their faults, and how many bytes are outside of them.
 use Rattle.std.specs.Prelude.{◌≡◌, ℕ, List, map, Option}
 use Rattle.std.specs.List.{All}
 use Rattle.hub_kinds.specs.declared.interchange.InterchangeFault.{InterchangeFault}
@@ -26,7 +26,7 @@ extent_of e = record { start = e.interchange.start; end = e.interchange.end }
 abbrev pub extents_of : List IndexEntry → List Extent
 extents_of es = map extent_of es
 
--- what stands in a text at an interchange's start is this interchange, and its sets stand in their spans
+-- what is in a text at an interchange's start is this interchange, and its sets are in their spans
 pub record IsReadIn (text : List ℕ) (x : InterchangeEntry) : Type 0 where
   pub tree : Body SegValue
   pub derived : DerivesInterchange kind_of (reach_at text x.start).segs tree

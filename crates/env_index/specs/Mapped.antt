@@ -4,7 +4,7 @@ use Rattle.x12_segs.specs.declared.kind.Kind.{Kind}
 use Rattle.env_index.specs.Envelope.{Set, InGroup, ASet, OutOfGroup, Group, InBody, ATa1, AGroup, OutOfBody, Body, DerivesInterchange}
 use Rattle.env_index.specs.Extents.{ends_interchange}
 
--- no segment stands after an IEA
+-- no segment is after an IEA
 abbrev pub EndsWithTrailer : {X : Type 0} → (X → Kind) → List X → Type 0
 EndsWithTrailer kind [] = Unit {0}
 EndsWithTrailer kind (x ∷ xs) = (ends_interchange (kind x) ≡ true → xs ≡ []) × EndsWithTrailer kind xs

@@ -70,7 +70,7 @@ index_places knows xs = places_from knows 1 xs
 abbrev pub is_before : Place → Place → Bool
 is_before a b = is_lt (slice_cmp nat_cmp (place_key a) (place_key b))
 
--- of a list of numbered places: the second place has the number of the first, stands before it, and no other with it stands before that
+-- of a list of numbered places: the second place has the number of the first, is before it, and no other with it is before that
 pub record IsFirstUse (places : List Numbered) (p q : Place) : Type 0 where
   pub number : Number
   pub mine : Contains places (record { place = p; number = number })

@@ -1,4 +1,4 @@
--- X12.6, segment: what stands at a place of the text (for the models of the types and for inner clauses; no public clause cites it).
+-- X12.6, segment: what is at a place of the text (for the models of the types and for inner clauses; no public clause cites it).
 use Rattle.std.specs.Prelude.{ℕ, List, map, option_map, slice_range, Bool, true, false, Option, Some, None}
 use Rattle.x12_bytes.specs.declared.delims.Delims.{Delims}
 use Rattle.x12_segs.specs.Words.{SegValue}

@@ -13,7 +13,7 @@ use Rattle.env_index.specs.Places.{seg_in, set_in, group_in}
 use Rattle.env_index.specs.Summary.{GroupEntry, Summary}
 
 -- the groups that are whole; how many TA1 there were, and whether a segment was out of place; the GS of an open group and its
--- whole sets; the ST of an open set, how many segments stand after it so far, and the last of these
+-- whole sets; the ST of an open set, how many segments are after it so far, and the last of these
 pub record State : Type 0 where
   pub groups : List GroupEntry
   pub ta1s : ℕ
@@ -97,11 +97,11 @@ step_in Other x s (Some group) (Some set) = record s { count = s.count + 1; last
 abbrev pub step : Kind → SegValue → State → State
 step k x s = step_in k x s s.group s.set
 
--- the groups and what stands beside them, where nothing is open
+-- the groups and what is beside them, where nothing is open
 abbrev pub finished : Option SegValue → State → Summary
 finished trailer s = record { groups = s.groups; ta1s = s.ta1s; misplaced = s.misplaced; trailer = trailer }
 
--- what the fields of a builder stand for
+-- what the fields of a builder mean
 abbrev pub state_of : List ℕ → Delims → Builder → State
 state_of text delims b = record {
   groups = map (group_in text delims) b.groups.items;

@@ -11,7 +11,7 @@ abbrev pub TakesPart : List ℕ → List Seg → Seg → Part → List Seg → S
 TakesPart text segs rest (Segment start end) more left = (segs ≡ seg_at text start end ∷ more) × (rest ≡ left)
 TakesPart text segs rest (Rest start) more left = (segs ≡ []) × (rest ≡ seg_at text start (length text))
 
--- what comes then stands after the segment's terminator
+-- what comes then is after the segment's terminator
 abbrev pub GoesOnBehind : Part → ℕ → Type 0
 GoesOnBehind (Segment start end) at = at ≡ end + 1
 GoesOnBehind (Rest start) at = Unit {0}

@@ -1,4 +1,4 @@
--- X12.6, transaction set: where the sets of an interchange stand in the text.
+-- X12.6, transaction set: where the sets of an interchange are in the text.
 use Rattle.std.specs.Prelude.{◌≡◌, ℕ, List, [], ◌∷◌, is_some}
 use Rattle.std.specs.List.{All}
 use Rattle.x12_bytes.specs.Header.{header_delims}
@@ -32,6 +32,6 @@ EachSetIn P (ATa1 x ∷ ms) = EachSetIn P ms
 EachSetIn P (AGroup g ∷ ms) = EachSet P g.members × EachSetIn P ms
 EachSetIn P (OutOfBody x ∷ ms) = EachSetIn P ms
 
--- each set of an indexed interchange stands in a span of the text, read by the interchange's delimiters
+-- each set of an indexed interchange is in a span of the text, read by the interchange's delimiters
 abbrev pub HasSpans : List ℕ → InterchangeEntry → Type 0
 HasSpans text x = All (λ group. All (λ set. IsSetSpan text (span_of (header_delims x.header) set)) group.sets) x.content.groups

@@ -21,7 +21,7 @@ pub(crate) struct Builder {
     pub(crate) sets: Vec<SetPlace>,
     /// The ST of the open set.
     pub(crate) set: Option<Stretch>,
-    /// How many segments stand after that ST.
+    /// How many segments are after that ST.
     pub(crate) count: u32,
     /// The last of these.
     pub(crate) last: Option<Stretch>,
@@ -149,7 +149,7 @@ impl Builder {
         Ok(())
     }
 
-    /// Takes one more segment that is no control segment.
+    /// Takes one more segment that isn't a control segment.
     pub(crate) fn take_inner(&mut self, place: Stretch)
         requires { self.old.seen + 3 < 2 ^ 32 }
         ensures seen { self.new.seen ≡ self.old.seen + 1 }

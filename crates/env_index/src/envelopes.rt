@@ -89,7 +89,7 @@ impl Builder {
         }
     }
 
-    /// Takes any other segment, which may stand in a set alone.
+    /// Takes any other segment, which may be in a set alone.
     pub(crate) fn take_other(&mut self, place: Stretch)
         requires { self.old.count < self.old.seen }
         ensures seen { self.new.seen ≡ self.old.seen }

@@ -10,7 +10,7 @@ use hub_kinds::{InterchangeFault, MOST_CONTROL_DIGITS, is_alphanumeric, read_num
 use x12_bytes::Header;
 use x12_segs::SegView;
 
-/// The least of the faults 1 to 7 of an interchange, also of one that stands in no index; none where it has none. Sets and groups that
+/// The least of the faults 1 to 7 of an interchange, also of one that is in no index; none where it has none. Sets and groups that
 /// lack their trailers, and counts of theirs, are no fault of the interchange (X12.5, interchange
 /// control numbers and counts; X12.6, functional group and transaction set headers; own numbers).
 pub fn judge_interchange(interchange: &Interchange<'_>) -> Option<InterchangeFault>

@@ -4,7 +4,7 @@ ghost use Rattle.env_index.specs.GroupElements.{group_elements};
 use hub_kinds::Lent;
 use x12_segs::SegView;
 
-/// What a functional group's header names the group by, each element as it stands (X12.6, GS).
+/// What a functional group's header names the group by, each element as it is (X12.6, GS).
 #[derive(Debug, Drop)]
 pub struct GroupElements<'a> {
     /// The functional identifier code (GS01).

@@ -41,7 +41,7 @@ impl<'a> IndexedInterchange<'a> {
     }
 }
 
-/// The index of a text: its interchanges in their order, each with its least fault, and how many bytes stand
+/// The index of a text: its interchanges in their order, each with its least fault, and how many bytes are
 /// outside of them (X12.5, interchange; own where a header or trailer is missing).
 #[derive(Drop)]
 pub struct Index<'a> {
@@ -82,7 +82,7 @@ impl<'a> Index<'a> {
         self.interchanges.as_slice()
     }
 
-    /// How many bytes stand in no interchange, but for CR, LF and space.
+    /// How many bytes are in no interchange, but for CR, LF and space.
     pub fn outside(&self) -> u64
         ensures { result ≡ self.now.outside }
     {

@@ -74,7 +74,7 @@ impl<'a> Interchange<'a> {
         self.body.end
     }
 
-    /// How many interchange acknowledgments (TA1) stand directly in it, outside groups.
+    /// How many interchange acknowledgments (TA1) are directly in it, outside groups.
     pub fn ta1s(&self) -> u32
         ensures { result ≡ self.now.content.ta1s }
     {

@@ -18,14 +18,14 @@ pub fn envelope_is_one()
     ensures { (segs : List SegValue) (a b : Body SegValue) → DerivesInterchange kind_of segs a → DerivesInterchange kind_of segs b → a ≡ b }
 {}
 
-/// A theorem, with nothing to run: whatever stands after a header, its segments up to the interchange's
+/// A theorem, with nothing to run: whatever is after a header, its segments up to the interchange's
 /// end derive a tree of envelopes.
 pub fn envelope_is_there()
     ensures { (text : List ℕ) (start : ℕ) → (tree : Body SegValue) × DerivesInterchange kind_of (reach_at text start).segs tree }
 {}
 
 /// A theorem, with nothing to run: whatever segments are held as, they derive at most one tree of envelopes,
-/// and they derive one exactly where no segment stands after an IEA (X12.5, interchange).
+/// and they derive one exactly where no segment is after an IEA (X12.5, interchange).
 pub fn envelope_is_of_kinds<X>()
     ensures one { (kind : X → Kind) (segs : List X) (a b : Body X) → DerivesInterchange kind segs a → DerivesInterchange kind segs b → a
         ≡ b }
@@ -57,7 +57,7 @@ pub fn end_is_least()
     ensures { (text : List ℕ) (start : ℕ) → is_head text start ≡ true → EndsLeast text start (reach_at text start).end }
 {}
 
-/// A theorem, with nothing to run: each set of an interchange stands in a span of the text, from its ST
+/// A theorem, with nothing to run: each set of an interchange is in a span of the text, from its ST
 /// to just after its last segment, and that span, read by the interchange's delimiters, has just the
 /// set's segments (X12.6, transaction set). So a set can be checked in its span.
 pub fn sets_stand_alone()

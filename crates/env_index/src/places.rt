@@ -1,11 +1,11 @@
-/// Where a segment's bytes stand in the text, without its terminator.
+/// Where a segment's bytes are in the text, without its terminator.
 #[derive(Clone, Copy, Debug)]
 pub(crate) struct Stretch {
     pub(crate) start: u32,
     pub(crate) end: u32,
 }
 
-/// Where a set's ST and its last segment stand, whether that is its SE, and how many segments it has
+/// Where a set's ST and its last segment are, whether that is its SE, and how many segments it has
 /// with them.
 #[derive(Clone, Copy, Debug)]
 pub(crate) struct SetPlace {
@@ -15,7 +15,7 @@ pub(crate) struct SetPlace {
     pub(crate) closed: bool,
 }
 
-/// Where a group's GS and GE stand, and its sets.
+/// Where a group's GS and GE are, and its sets.
 #[derive(Drop)]
 pub(crate) struct GroupPlace {
     pub(crate) header: Stretch,
@@ -23,7 +23,7 @@ pub(crate) struct GroupPlace {
     pub(crate) trailer: Option<Stretch>,
 }
 
-/// Where all stands that an interchange has after its header.
+/// Where all is that an interchange has after its header.
 #[derive(Drop)]
 pub(crate) struct BodyPlace {
     pub(crate) groups: Vec<GroupPlace>,

@@ -6,17 +6,17 @@ use crate::places::{SetPlace, Stretch};
 use x12_bytes::Delims;
 use x12_segs::SegView;
 
-/// The segment that stands at a place of the text.
+/// The segment that is at a place of the text.
 pub(crate) fn segment_at<'a>(text: &'a [u8], delims: Delims, place: Stretch) -> SegView<'a>
     ensures { result ≡ seg_in text.entry.now delims place }
 {
-    // What lies after the text's end is no byte of the segment, so any place may be asked for.
+    // What lies after the text's end isn't a byte of the segment, so any place may be asked for.
     let end = text.len().min(place.end as usize);
     let start = end.min(place.start as usize);
     SegView::new(place.start as usize, &text[start..end], delims)
 }
 
-/// The trailer that stands at a place of the text, where there is one.
+/// The trailer that is at a place of the text, where there is one.
 pub(crate) fn trailer_at<'a>(
     text: &'a [u8],
     delims: Delims,
@@ -30,7 +30,7 @@ pub(crate) fn trailer_at<'a>(
     }
 }
 
-/// The offset after the terminator of the segment that stands at a place of the text.
+/// The offset after the terminator of the segment that is at a place of the text.
 pub(crate) fn behind_segment(text: &[u8], delims: Delims, place: Stretch) -> usize
     ensures { result ≡ behind (seg_in text.now delims place) }
 {

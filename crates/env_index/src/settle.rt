@@ -24,7 +24,7 @@ fn settle_each(entries: &mut [IndexedInterchange<'_>], faults: &[Option<Intercha
 
 impl<'a> Index<'a> {
     /// Gives each interchange its fault, once senders and first uses of numbers are known: one for each interchange, in their
-    /// order. What stands beside the faults stays (X12.5, interchange; the faults' numbers are own).
+    /// order. What is beside the faults stays (X12.5, interchange; the faults' numbers are own).
     pub fn settle(&mut self, faults: &[Option<InterchangeFault>])
         requires { length faults.now ≡ length self.old.entries }
         ensures { self.new ≡ settled self.old faults.now }

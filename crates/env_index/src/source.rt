@@ -6,7 +6,7 @@ use x12_segs::{Part, next_part};
 
 /// Where the walk of an interchange takes its parts from, one after another.
 pub(crate) trait PartSource {
-    // the text that the parts stand in, the offset after those that were taken, the segments to come and the rest
+    // the text that the parts are in, the offset after those that were taken, the segments to come and the rest
     ghost text: { Self → List ℕ };
 
     ghost at: { Self → ℕ };

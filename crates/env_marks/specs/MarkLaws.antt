@@ -90,7 +90,7 @@ last-glue_one (p ∷ r ∷ ps) e place at q h s =
     last-cons e place p (glue (r ∷ ps) (q ∷ [])) (glue-some (r ∷ ps) (q ∷ []) (omega arith))
     ∙ last-glue_one (r ∷ ps) e (place + length p + 1) at q (omega arith) (omega (arith, s))
 
--- a part goes on over the cut, and ends after it
+-- a part continues over the cut, and ends after it
 marks-glue : (ps : List (List ℕ)) (e place at : ℕ) (q r : List ℕ) (rs : List (List ℕ)) → 0 < length ps → place + span_of ps ≡ at + 1
     → map (mark_of e) (segs_of place (glue ps (q ∷ r ∷ rs)))
     ≡ map (mark_of e) (segs_of place ps)

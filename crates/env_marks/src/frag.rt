@@ -14,7 +14,7 @@ pub struct Frag {
     pub id_end: Option<usize>,
 }
 
-/// A segment by offsets: where it starts, where its terminator stands, and where its id ends (X12.6, segment).
+/// A segment by offsets: where it starts, where its terminator is, and where its id ends (X12.6, segment).
 #[derive(Clone, Copy, Debug, PartialEq, Eq)]
 pub struct Mark {
     pub start: usize,

@@ -13,13 +13,13 @@ use std::alloc::Global;
 use x12_bytes::{Pair, Piece};
 use x12_segs::{find_byte, find_near, lead};
 
-/// How many bytes short segments have. Room for the marks of so many is taken at once; where there are more, more is taken.
+/// How many bytes short segments have. Room for the marks of that many is taken at once; where there are more, more is taken.
 const SEGMENT: usize = 16;
 
 /// How many bytes most ids have at most, with the separator after them.
 const SHORT: usize = 4;
 
-/// How many bytes stand before the first element separator.
+/// How many bytes are before the first element separator.
 fn id_len(bytes: &[u8], element: u8) -> usize
     ensures value { result ≡ prefix_len (is_other_than element) bytes.now }
     ensures bound { result ≤ length bytes.now }

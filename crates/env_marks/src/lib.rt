@@ -3,7 +3,7 @@
 //!
 //! Proved:
 //! - `marks_of` says of a piece, under an element separator and a segment terminator, where the segments between its
-//!   first terminator and its last start and end and where their ids end, and what of a segment stands before and after;
+//!   first terminator and its last start and end and where their ids end, and what of a segment is before and after;
 //! - the value of an empty piece is a unit, joining is associative, and the values of two neighbours join to that of both
 //!   (`PieceLaws`), for marks under any pair, for headers, and for each further `Piecewise`;
 //! - `gather` makes of the values of all pieces, however a list was cut, the value of the whole list;

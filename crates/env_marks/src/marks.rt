@@ -29,7 +29,7 @@ impl Marks {
     ghost use Rattle.env_marks.specs.Marking.{MarksValue, Uncut, Cut};
     ghost use Rattle.env_marks.specs.Shown.{first_shown, end_shown, list_shown};
 
-    /// The marks of a piece in which no terminator stands.
+    /// The marks of a piece in which no terminator is.
     pub(crate) fn uncut(alloc: Global, pair: Pair, first: Frag) -> Marks
         ensures { result ≡ record { pair = pair; marking = Uncut first } }
     {
@@ -41,7 +41,7 @@ impl Marks {
         }
     }
 
-    /// The marks of a piece in which a terminator stands.
+    /// The marks of a piece in which a terminator is.
     pub(crate) fn cut(pair: Pair, first: Frag, list: Vec<Mark>, last: Frag) -> Marks
         ensures { result ≡ record { pair = pair; marking = Cut first list.items last } }
     {

@@ -46,7 +46,7 @@ abbrev pub other_id : (id : List ℕ) → Option SetId
 other_id id =
     if is_other id then Some (record { first = slice_index id 0; second = slice_index id 1; third = slice_index id 2 }) else None
 
--- the id of the first set, if that is no acknowledgment
+-- the id of the first set, if that isn't an acknowledgment
 abbrev pub other_in : List SegValue → Option SetId
 other_in [] = None
 other_in (s ∷ ss) = if is_set s then other_id (element_of s 1) else other_in ss

@@ -110,7 +110,7 @@ fn is_set(segment: &SegView<'_>) -> bool
     segment.id() == b"ST".as_slice()
 }
 
-/// The id of the first set of a text, read by these delimiters, if that is no acknowledgment.
+/// The id of the first set of a text, read by these delimiters, if that isn't an acknowledgment.
 pub fn other_set(text: &[u8], delims: Delims) -> Option<SetId>
     ensures { result ≡ ends.other_in (views text.now delims) }
 {

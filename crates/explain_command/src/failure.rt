@@ -27,7 +27,7 @@ pub enum Failure {
     NoHeader,
     /// The file reports nothing: it has no TA1, and no IK5 or AK9 of a 999.
     TellsNothing,
-    /// The file reports nothing, and its first set is no acknowledgment.
+    /// The file reports nothing, and its first set isn't an acknowledgment.
     OtherSet(SetId),
     /// The file has the response to a set of a 997 (AK5).
     Is997,

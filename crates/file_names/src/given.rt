@@ -13,7 +13,7 @@ use std::str;
 /// How many bytes an argument has at first; twice as many are tried as often as needed.
 const FIRST_ROOM: usize = 4096;
 
-/// The program's arguments, without its name. In one that isn't UTF-8 each byte beyond ASCII stands as `\xFC`, and after it NUL, which no
+/// The program's arguments, without its name. In one that isn't UTF-8 each byte beyond ASCII is as `\xFC`, and after it NUL, which no
 /// argument has: it names no file.
 pub fn arguments<R: Env + AllocGlobal>(rt: &R) -> Result<Vec<String>, NoMemory> {
     let mut words = Vec::new(rt.alloc());
@@ -26,7 +26,7 @@ pub fn arguments<R: Env + AllocGlobal>(rt: &R) -> Result<Vec<String>, NoMemory> 
     Ok(words)
 }
 
-/// Whether an argument stands for one that isn't UTF-8.
+/// Whether an argument means one that isn't UTF-8.
 #[tactic(auto, using(crate::proofs::Marks::marks))]
 pub fn is_not_utf_8(word: &str) -> bool
     ensures value { result ≡ is_marked word.now }

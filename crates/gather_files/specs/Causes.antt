@@ -38,7 +38,7 @@ wrong_element file = 1 + prefix_len (is_wide file) (range_with_len 1 15)
 abbrev pub wrong_length : List ℕ → (k : ℕ) → ElementLength
 wrong_length file k = record { element = k; len = element_len file k; width = width_of k }
 
--- why what begins with ISA is no header
+-- why what begins with ISA isn't a header
 abbrev pub header_cause : List ℕ → Cause
 header_cause file =
     if length file == 3 || wrong_element file == 16 then cause.HeaderLength else cause.ElementLength

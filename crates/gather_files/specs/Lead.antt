@@ -15,7 +15,7 @@ is_blank b = b == 32 || (b == 9 || (b == 13 || (b == 10 || (b == 239 || (b == 18
 abbrev pub led : List ℕ → List ℕ
 led file = drop (prefix_len is_blank file) file
 
--- such a byte is no padding where it is the terminator
+-- such a byte isn't padding where it is the terminator
 abbrev pub pads : (terminator : ℕ) → ℕ → Bool
 pads terminator b = is_padding b && not (b == terminator)
 

@@ -63,7 +63,7 @@ fn begins_isa(first: &[u8]) -> bool
     first.starts_with(b"ISA")
 }
 
-/// Why what begins with ISA is no header.
+/// Why what begins with ISA isn't a header.
 fn header_cause(first: &[u8]) -> Cause
     requires { 3 ≤ length first.now }
     ensures { result ≡ header_cause first.now }

@@ -22,7 +22,7 @@ use_at [] d = 0
 use_at (a ∷ p) zero = a.use_no
 use_at (a ∷ p) (suc d) = use_at p d
 
--- the use to which a turn goes, from a place without its first steps, so many
+-- the use to which a turn goes, from a place without its first steps, that many
 abbrev pub next_use : (above : ℕ) → Place → KnownTurn → ℕ
 next_use n p t = if t.again then use_at p (t.depth - n) + 1 else 0
 

@@ -11,7 +11,7 @@ abbrev pub places_of : List ℕ → (k : ℕ) → List (List ℕ) → List ℕ
 places_of text k [] = []
 places_of text k (t ∷ texts) = cond (bytes_eq t text) (k ∷ places_of text (k + 1) texts) (places_of text (k + 1) texts)
 
--- no entry is no place
+-- each entry is a place
 abbrev pub kept_places : Option (Vec ℕ Global) → List ℕ
 kept_places None = []
 kept_places (Some all) = all.items

@@ -20,7 +20,7 @@ tables_of ts = ts ∷ lists_of ts
 abbrev pub trees_in : List (List Node) → List Trees
 trees_in tables = map nodes_view tables
 
--- each loop's nodes stand at its number
+-- each loop's nodes are at its number
 abbrev mutual
   pub HasTablesIn : List Trees → Tree → Type 0
   HasTablesIn tables (segment s) = Unit {0}

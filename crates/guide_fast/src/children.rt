@@ -71,7 +71,7 @@ impl<'g> Children<'g> {
     ghost use Rattle.std.specs.Prelude.{slice_index_or};
     ghost use Rattle.loop_match.specs.Steps.{turned};
 
-    /// Of these nodes.
+    /// The children of a node, which are `nodes`.
     pub fn of(alloc: Global, nodes: &'g [Node]) -> Result<Children<'g>, NoMemory>
         ensures { IfOk result (λ c. c ≡ nodes.now) }
     {
@@ -128,7 +128,7 @@ impl<'g> Children<'g> {
         self.start_numbered(from, number_of(seg), seg)
     }
 
-    /// The same, where the number of the segment's id is known.
+    /// The start of a child from `from` on, where the number of the segment's id is known.
     #[inline]
     pub(crate) fn start_numbered(&self, from: usize, number: u32, seg: &SegView) -> Option<Turn<'g>>
         requires number { HasNumber (elements_of seg.now) number }
@@ -155,7 +155,7 @@ impl<'g> Children<'g> {
         self.start_numbered_behind(child, number_of(seg), seg)
     }
 
-    /// The same, where the number of the segment's id is known.
+    /// The start of a later child, where the number of the segment's id is known.
     #[inline]
     pub(crate) fn start_numbered_behind(
         &self,

@@ -56,7 +56,7 @@ impl<'g> FastGuide<'g> {
     ghost use Rattle.guide_fast.specs.Ahead.{IsStation, StandsAt};
     ghost use Rattle.std.specs.Bool.{OnTrue};
 
-    /// Of a guide. The only error is out of memory.
+    /// A fast guide made of `guide`. The only error is out of memory.
     pub fn of(alloc: Global, guide: &'g Guide) -> Result<FastGuide<'g>, NoMemory>
         ensures { IfOk result (λ f. f ≡ guide.now) }
     {
@@ -136,7 +136,7 @@ impl<'g> FastGuide<'g> {
         None
     }
 
-    /// The same turn as `turn_from`, and whether surely nothing is reported at its place of the order and number of segments. It is
+    /// The turn that `turn_from` gives, and whether surely nothing is reported at its place of the order and number of segments. It is
     /// found sooner where `slot` is the number of the last place's slot, or 0 at the beginning.
     #[inline]
     pub fn next_turn(
@@ -175,7 +175,7 @@ impl<'g> FastGuide<'g> {
         self.strays.code(seg)
     }
 
-    /// The nodes of the loop with a number, and at 0 the guide's own; a segment's number has none. Each loop's nodes stand at its
+    /// The nodes of the loop with a number, and at 0 the guide's own; a segment's number has none. Each loop's nodes are at its
     /// number.
     pub fn table(&self, number: usize) -> Option<&Children<'g>>
         ensures value { option_map (λ c. nodes_view c.now) result

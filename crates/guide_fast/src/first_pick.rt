@@ -11,7 +11,7 @@ use loop_match::text_at;
 use std::alloc::Global;
 use x12_segs::SegView;
 
-/// The first pick of a slot: the position of its element, and the number of the code that this has to be. Where the pick lists several
+/// The first pick of a slot: the position of its element, and the number of the code that this must be. Where the pick lists several
 /// codes, or one that has no number, or there is none, the number is 0.
 #[derive(Clone, Copy, Drop)]
 pub(crate) struct FirstPick {

@@ -29,7 +29,7 @@ pub(crate) fn id_number(id: &[u8]) -> u32
     }
 }
 
-/// The byte at a place of a text; where none stands there, another.
+/// The byte at a place of a text; where none is there, another.
 #[inline]
 fn byte_or(text: &[u8], place: usize, other: u8) -> u8
     ensures { result ≡ slice_index_or text.now place other }
@@ -40,7 +40,7 @@ fn byte_or(text: &[u8], place: usize, other: u8) -> u8
     }
 }
 
-/// The number of what stands before the first separator of a text.
+/// The number of what is before the first separator of a text.
 #[inline]
 fn number_before(separator: u8, text: &[u8]) -> u32
     ensures { result ≡ id_number (part_or_empty (parts separator text.now) 0) }

@@ -17,7 +17,7 @@ impl<'g> TextIndex<'g> {
     ghost use Rattle.hub_kinds.specs.Words.{contains_text};
     ghost use Rattle.guide_fast.specs.Listed.{places_of, Knows};
 
-    /// Of no text.
+    /// An index without a text.
     pub fn new(alloc: Global) -> TextIndex<'g>
         ensures { Knows result.places [] }
     {

@@ -69,7 +69,7 @@ pub(crate) fn nodes_reach(nodes: &[Node]) -> usize
     reach
 }
 
-/// The same of some slots.
+/// How far the keys of some slots reach.
 pub(crate) fn slots_reach(slots: &[&Slot]) -> usize
     ensures { Reaches lent_reach result slots.now }
 {

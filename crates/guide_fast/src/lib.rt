@@ -1,7 +1,7 @@
 //! Compiled guides: tables of a guide by which the place that comes next is found by searches, and no longer by looking at one
 //! node after another.
 //!
-//! Proved: `FastGuide::turn_from` gives the place that `fit_behind` defines, which is the one that `loop_match` gives, whatever stands
+//! Proved: `FastGuide::turn_from` gives the place that `fit_behind` defines, which is the one that `loop_match` gives, whatever is
 //! there: the innermost loop's candidate first, and of equal ids the first that the segment fits. `FastGuide::stray_code` gives the code
 //! of a segment without a place, as `stray_code` defines it. `FastGuide::table` gives the nodes of a loop by its number;
 //! `Children::start_from` the first of them from one on whose start a segment fits, and `Children::needed_between` how many of some are
@@ -15,10 +15,10 @@
 //! Of each slot that at most thirty-two turns follow these are kept, the innermost loop's first: which they are depends on the children
 //! that lead to the slot, but not on the uses. A next place by them costs a look at each turn's number up to the one that is taken.
 //! Else the cost of a next place is the number of the segment's id, from its first four bytes, and for each loop round the last one a look
-//! at the number of each node that comes later where these are at most thirty-two. Else its nodes stand in an ordered map, each by the one
+//! at the number of each node that comes later where these are at most thirty-two. Else its nodes are in an ordered map, each by the one
 //! code of its slot's first pick, where the pick is of the id or one of the four elements after it and lists one, and by its id otherwise.
 //! The segment's texts up to the last that such a pick is of are searched for there, then a place in the list of the nodes with each, and
-//! of these nodes each is looked at that comes later, stands before what was found so far, and doesn't fit by a further pick.
+//! of these nodes each is looked at that comes later, is before what was found so far, and doesn't fit by a further pick.
 //! Whether a stray fits some slot is found likewise.
 //! A node is asked whether the segment fits it only where the numbers agree; an id of one to three bytes is the segment's then.
 //! Where its slot's first pick lists one code of one to three bytes, the number of the segment's element is compared with that of the code

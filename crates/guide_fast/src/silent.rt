@@ -72,7 +72,7 @@ fn is_left_silent(here: &Children, node: &Node, step: Step) -> bool
     )
 }
 
-/// Whether nothing is reported where the nodes in which a place stands end.
+/// Whether nothing is reported where the nodes in which a place is end.
 fn is_ended_silent<'t, 'g>(
     tables: &'t [Children<'g>],
     here: &'t Children<'g>,

@@ -68,7 +68,7 @@ pub fn start_here<'g>(node: &'g Node, own: u32, number: u32, seg: &SegView) -> O
     start_with(node, number, seg)
 }
 
-/// The same, where by the first pick of a node's first slot a segment that it surely doesn't pick is passed over.
+/// The start of a node, where by the first pick of its first slot a segment that it surely doesn't pick is passed over.
 #[inline]
 pub fn start_picked<'g>(
     node: &'g Node,
@@ -94,7 +94,7 @@ pub fn start_picked<'g>(
     start_with(node, number, seg)
 }
 
-/// The same, where nothing is known of the numbers of ids.
+/// The start of a node, where nothing is known of the numbers of ids.
 pub fn start_asked<'g>(
     node: &'g Node,
     pick: FirstPick,

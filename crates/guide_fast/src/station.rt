@@ -16,7 +16,7 @@ use loop_match::{Step, Turn};
 use std::alloc::Global;
 use x12_segs::SegView;
 
-/// How many turns are kept of a slot: to look at so many costs less than a search.
+/// How many turns are kept of a slot: to look at that many costs less than a search.
 const MOST: usize = 32;
 
 /// All turns from the places that lead by these children, whatever their uses are, the innermost loop's first.

@@ -64,7 +64,7 @@ impl<'g> Strays<'g> {
     ghost use Rattle.hub_kinds.specs.Words.{contains_text};
     ghost use Rattle.guide_tree.specs.Words.{any_slot, fits, guide_of, nodes_view, stray_code};
 
-    /// Of a guide.
+    /// The strays of `guide`.
     pub fn of(alloc: Global, guide: &'g Guide) -> Result<Strays<'g>, NoMemory>
         ensures { IfOk result (λ s. s ≡ guide.now) }
     {

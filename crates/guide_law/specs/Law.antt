@@ -49,7 +49,7 @@ abbrev pub NextsAreExact : Trees → Type 0
 NextsAreExact ts = (last : Option Place) (c : Candidate)
     → Contains (nexts ts last) c ↔ (MayCome last c.place × (slot_at ts c.place ≡ Some c.slot))
 
--- the computed placing is a placing, and there is no other
+-- the computed placing is a placing, and there isn't another
 abbrev pub IsOnlyPlacing : GuideTree → Type 0
 IsOnlyPlacing g = (body : List Segment) (given : List (Option Place))
     → IsPlacing g.nodes None body given ↔ (given ≡ placing_of g.nodes body)

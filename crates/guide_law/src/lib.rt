@@ -1,6 +1,6 @@
 //! The theorems of guides: what the placing of a set's segments and its structural faults say of the grammar by which a
 //! set meets a guide, and that the computed forms of places, placing and faults are those of the relations. The
-//! definitions stand in `guide_tree`; here they are joined, for the crates that check sets. Nothing here runs.
+//! definitions are in `guide_tree`; here they are joined, for the crates that check sets. Nothing here runs.
 //!
 //! Proved:
 //! - `placing_is_grammar`: in a guide without fault a body is derived by the grammar exactly where its placing has no

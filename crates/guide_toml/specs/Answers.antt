@@ -1,4 +1,4 @@
--- The guide file (own): how an answer of the program stands to the reading of a table.
+-- The guide file (own): how an answer of the program is to the reading of a table.
 use Rattle.std.specs.Prelude.{◌≡◌, Result, Ok, Err, string_bytes}
 use Rattle.guide_tree.specs.declared.rows.GuideRows.{GuideRows}
 use Rattle.guide_tree.specs.Words.{GuideTree, with_slot_numbers, guide_of, IsFirstFault, IsAccepted}

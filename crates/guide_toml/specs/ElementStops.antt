@@ -1,4 +1,4 @@
--- The guide file (own): where a text stops to be that of a data element's row: the first token that can't stand there, and what has to.
+-- The guide file (own): where a text stops to be that of a data element's row: the first token that can't be there, and what has to.
 use Rattle.std.specs.Prelude.{◌≡◌, ℕ, ◌+◌, List, [], ◌∷◌, codes, Option, Some, None, Result, Ok, Err, Bool, true, false, ◌||◌, take, drop}
 use Rattle.std.specs.Prelude.{if◌then◌else◌, is_some}
 use Rattle.std.specs.List.{prefix_len, position_or_len}
@@ -26,7 +26,7 @@ abbrev pub is_token : List ℕ → Tokens → Bool
 is_token word [] = false
 is_token word (t ∷ ts) = bytes_eq t word
 
--- whether a token may stand where something is wanted
+-- whether a token may be where something is wanted
 abbrev pub is_wanted : Wanted → List ℕ → Bool
 is_wanted wanted.Reference t = is_some (reference_of t)
 is_wanted wanted.Requirement t = bytes_eq t (codes "N") || is_some (requirement_of t)
@@ -44,12 +44,12 @@ abbrev pub halt : Tokens → Wanted → Halt
 halt [] w = record { token = None; wanted = w }
 halt (t ∷ ts) w = record { token = Some t; wanted = w }
 
--- the tokens after one that has to be there
+-- the tokens after one that must be there
 abbrev pub expected : Wanted → Tokens → Result Tokens Halt
 expected w [] = Err (halt [] w)
 expected w (t ∷ ts) = if is_wanted w t then Ok ts else Err (halt (t ∷ ts) w)
 
--- nothing more may stand
+-- nothing more may be
 abbrev pub at_end : Wanted → Tokens → Result Tokens Halt
 at_end w [] = Ok []
 at_end w (t ∷ ts) = Err (halt (t ∷ ts) w)
@@ -84,7 +84,7 @@ abbrev pub component_read : Tokens → Result Tokens Halt
 component_read ts =
     expected wanted.Reference ts >>= λ r. expected wanted.Requirement r >>= λ u. behind_component (is_token (codes "N") r) u
 
--- whether components may stand after it
+-- whether components may be after it
 abbrev pub then_components : Bool → Result Tokens Halt → Result Bool Halt
 then_components composite read = read >>= λ rest. Ok composite
 
@@ -98,7 +98,7 @@ abbrev pub behind_element : (is_unused : Bool) → Tokens → Result Bool Halt
 behind_element true ts = then_components false (at_end wanted.End ts)
 behind_element false ts = behind_type (is_token (codes "C") ts) ts
 
--- what stands before the first semicolon
+-- what is before the first semicolon
 abbrev pub head_read : Tokens → Result Bool Halt
 head_read ts =
     expected wanted.Reference ts >>= λ r. expected wanted.Requirement r >>= λ u. behind_element (is_token (codes "N") r) u

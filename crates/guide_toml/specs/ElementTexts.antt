@@ -161,7 +161,7 @@ used_element reference word ts behind = do
   t ← next_token ts
   if bytes_eq t.0 (codes "C") then composite_of reference req t.1 behind else alone behind (simple_of reference req ts)
 
--- the row, from what stands before the first semicolon and what stands after it
+-- the row, from what is before the first semicolon and what is after it
 unfoldable pub element_in : Tokens → Option Tokens → Option Element
 element_in head behind = do
   r ← next_token head
@@ -169,7 +169,7 @@ element_in head behind = do
   u ← next_token r.1
   if bytes_eq u.0 (codes "N") then alone behind (no_more (element.NotUsed reference) u.1) else used_element reference u.0 u.1 behind
 
--- what stands after the first semicolon
+-- what is after the first semicolon
 abbrev pub behind_first : Tokens → Option Tokens
 behind_first [] = None
 behind_first (semicolon ∷ ts) = Some ts

@@ -6,7 +6,7 @@ use Rattle.guide_toml.specs.declared.listed_text.ListedText.TheVariants as liste
 use Rattle.guide_toml.specs.ElementTexts.{element_of_text}
 use Rattle.guide_toml.specs.Entries.{condition_of, element_code_of, has_form, pair_of, pick_of, segment_code_of}
 
--- a text that stands for something there
+-- a text that means something there
 abbrev pub can_stand : ListedText → List ℕ → Bool
 can_stand listed.Element text = is_some (element_of_text text)
 can_stand listed.Condition text = is_some (condition_of text)

@@ -3,7 +3,7 @@ use Rattle.std.specs.Prelude.{ℕ, ◌+◌, min, Result, Ok, Err}
 use Rattle.toml_keys.specs.Refusals.{Refusal}
 use Rattle.toml_keys.specs.declared.values.TheConstants.{GREATEST_NUMBER}
 
--- the number of the node, as the guide counts its slots, or 0 for what stands in none; and what is wrong
+-- the number of the node, as the guide counts its slots, or 0 for what is in none; and what is wrong
 abbrev pub Refused : Type 0
 Refused = ℕ × Refusal
 
@@ -17,6 +17,6 @@ abbrev pub at_slot : {A : Type 0} → (slot : ℕ) → Result A Refusal → Resu
 at_slot slot (Ok x) = Ok x
 at_slot slot (Err r) = Err (slot, r)
 
--- the number after so many nodes, as far as 32 bits count
+-- the number after that many nodes, as far as 32 bits count
 abbrev pub number_after : (first count : ℕ) → ℕ
 number_after first count = min (first + count) GREATEST_NUMBER

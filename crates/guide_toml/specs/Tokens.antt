@@ -1,4 +1,4 @@
--- The guide file (own): tokens, which stand with one space between.
+-- The guide file (own): tokens, which are with one space between.
 use Rattle.std.specs.Prelude.{ℕ, ◌==◌, List, codes, Bool, ◌&&◌, ◌||◌, not, nat_le, length}
 use Rattle.std.specs.List.{slice_split, list_all}
 use Rattle.std.specs.Str.{bytes_eq}

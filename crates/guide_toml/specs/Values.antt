@@ -1,4 +1,4 @@
--- The guide file (own): what values of its tables stand for.
+-- The guide file (own): what values of its tables mean.
 use Rattle.std.specs.Prelude.{ℕ, ◌==◌, List, length, codes, Option, Some, None, Bool, ◌&&◌, not, if◌then◌else◌, option_and_then}
 use Rattle.std.specs.List.{list_all}
 use Rattle.std.specs.Str.{bytes_eq}
@@ -15,7 +15,7 @@ is_group s = (length s == 2) && list_all is_ascii_uppercase s && not (bytes_eq s
 abbrev pub group_in : Data → Option (List ℕ)
 group_in d = option_and_then (λ s. if is_group s then Some s else None) (as_str d)
 
--- a text, by what it stands for
+-- a text, by what it means
 abbrev pub text_item : {A : Type 0} → (List ℕ → Option A) → Data → Option A
 text_item reading d = option_and_then reading (as_str d)
 

@@ -12,9 +12,9 @@ use hub_kinds::{ElementCode, Items, SegmentCode, Text, is_alphanumeric, is_segme
 use std::alloc::Global;
 use toml_keys::{TextFault, copy_of};
 
-/// What an entry of a list of texts stands for.
+/// What an entry of a list of texts means.
 pub trait Entry: Drop {
-    /// What a text stands for.
+    /// What a text means.
     ghost reading: { List ℕ → Option Self };
 
     /// Reads a text.
@@ -22,7 +22,7 @@ pub trait Entry: Drop {
         ensures { Reads (λ x. x) result (reading text.now) };
 }
 
-/// What a text of a list has to be.
+/// What a text of a list must be.
 #[derive(Clone, Copy)]
 pub enum Form {
     SegmentId,

@@ -2,17 +2,17 @@ use guide_tree::GuideFault;
 use thiserror::Error;
 use toml_keys::FileFault;
 
-/// Why a guide file isn't read. A key stands in a node, which is named by the slot number that it would have in the guide: from 1, a
-/// loop before what is in it, up to 4,294,967,295; 0 stands for the top table, `hl` and `depends`.
+/// Why a guide file isn't read. A key is in a node, which is named by the slot number that it would have in the guide: from 1, a
+/// loop before what is in it, up to 4,294,967,295; 0 means the top table, `hl` and `depends`.
 #[derive(Debug, Drop, Error)]
 pub enum GuideFileFault {
     /// The bytes are no TOML table.
     #[error("no TOML table")]
     NotToml,
-    /// A key that has to be there isn't, in the node of a number.
+    /// A key that must be there isn't, in the node of a number.
     #[error("{0} is missing")]
     Missing(&'static str, u32),
-    /// What stands at a key has another type or form, in the node of a number.
+    /// What is at a key has another type or form, in the node of a number.
     #[error("{0} has another type or form")]
     WrongKind(&'static str, u32),
     /// A key isn't listed, in the node of a number.
@@ -44,7 +44,7 @@ impl GuideFileFault {
         }
     }
 
-    /// The same in the node of a number.
+    /// This fault in the node of a number.
     pub(crate) fn at(self, slot: u32) -> GuideFileFault
         ensures { result ≡ placed_at slot self }
     {

@@ -11,7 +11,7 @@ pub fn written_row_is_read_back()
 {}
 
 /// A theorem, with nothing to run: the reference numbers of the rows and components of a guide that a file writes are 1 to 4 digits, or
-/// none (X12.6, data element reference number). So no delimiter stands in them.
+/// none (X12.6, data element reference number). So no delimiter is in them.
 pub fn files_write_references()
     ensures { WritesReferences }
 {}

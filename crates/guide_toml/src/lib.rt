@@ -3,7 +3,7 @@
 //! Proved: `read_guide` refuses bytes as no TOML exactly where `toml` reads no table from them, out of memory
 //! aside; else its answer is a function of the table, which the definitions give: the least key that a table may
 //! not have, then the first key that is missing or has another type or form, in the order of the tables and of
-//! their keys, with the number of the node in which it stands; then what the check of the guide refuses; else the guide
+//! their keys, with the number of the node in which it is; then what the check of the guide refuses; else the guide
 //! that the file writes, all of it. `read_rows` gives the rows of that guide without their check.
 //!
 //! Source: the format is own; its words for rows and conditions are those of X12.6 (requirement designator, data

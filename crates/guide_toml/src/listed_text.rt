@@ -40,7 +40,7 @@ fn is_read<T: Entry>(alloc: Global, text: &[u8]) -> Result<bool, NoMemory>
     }
 }
 
-/// Whether a text can stand in such a list. The only error is out of memory.
+/// Whether a text can be in such a list. The only error is out of memory.
 pub fn can_stand(alloc: Global, kind: ListedText, text: &[u8]) -> Result<bool, NoMemory>
     ensures { IfOk result (λ yes. yes ≡ can_stand kind text.now) }
 {

@@ -11,7 +11,7 @@ use std::marker::PhantomData;
 use toml::Value;
 use toml_keys::{Reading, TextFault, copy_of};
 
-/// A text, by what it stands for.
+/// A text, by what it means.
 #[derive(Clone, Copy)]
 pub struct EntryText<T>(PhantomData<T>);
 

@@ -9,7 +9,7 @@ use crate::tokens::{code_count, first_semicolon, is_code, tokens_of};
 use hub_kinds::{Lent, NoMemory, read_number};
 use std::alloc::Global;
 
-/// What has to stand where a text stops to be that of a data element's row.
+/// What has to appear where a text stops to be that of a data element's row.
 #[derive(Clone, Copy, Debug, PartialEq, Eq)]
 pub enum Wanted {
     /// A reference number of 1 to 4 digits, or `-`.
@@ -36,7 +36,7 @@ pub enum Wanted {
     End,
 }
 
-/// Where the text of a row stops: the first token that can't stand there, and what has to.
+/// Where the text of a row stops: the first token that can't be there, and what has to.
 #[derive(Debug, Drop)]
 pub struct ElementStop<'a> {
     /// The component, from 1 on; 0 before the first semicolon and at it.
@@ -46,7 +46,7 @@ pub struct ElementStop<'a> {
     pub wanted: Wanted,
 }
 
-/// The same within the tokens between two semicolons.
+/// Where a text stops within the tokens between two semicolons.
 #[derive(Debug, Drop)]
 struct Halt<'a> {
     token: Option<Lent<'a>>,
@@ -86,7 +86,7 @@ fn is_requirement(token: &[u8]) -> bool
     token == b"N".as_slice() || token == b"M".as_slice() || token == b"O".as_slice()
 }
 
-/// Whether a token may stand where something is wanted.
+/// Whether a token may be where something is wanted.
 fn is_wanted(wanted: Wanted, token: &[u8]) -> bool
     ensures { result ≡ stops.is_wanted wanted token.now }
 {
@@ -113,7 +113,7 @@ fn is_first(word: &[u8], tokens: &[Lent]) -> bool
     }
 }
 
-/// The tokens after one that has to be there.
+/// The tokens after one that must be there.
 fn expected<'a, 't>(wanted: Wanted, tokens: &'t [Lent<'a>]) -> Result<&'t [Lent<'a>], Halt<'a>>
     ensures { stops.Gives (λ rest. rest.now) result (stops.expected wanted tokens.entry.now) }
 {
@@ -123,7 +123,7 @@ fn expected<'a, 't>(wanted: Wanted, tokens: &'t [Lent<'a>]) -> Result<&'t [Lent<
     }
 }
 
-/// No tokens, where nothing more stands.
+/// No tokens, where nothing more is.
 fn at_end<'a, 't>(wanted: Wanted, tokens: &'t [Lent<'a>]) -> Result<&'t [Lent<'a>], Halt<'a>>
     ensures { stops.Gives (λ rest. rest.now) result (stops.at_end wanted tokens.entry.now) }
 {
@@ -189,7 +189,7 @@ fn component_read<'a, 't>(tokens: &'t [Lent<'a>]) -> Result<&'t [Lent<'a>], Halt
     row_read(rest)
 }
 
-/// What is after an element's type, and whether components may stand there.
+/// What is after an element's type, and whether components may be there.
 fn behind_type<'a>(tokens: &[Lent<'a>]) -> Result<bool, Halt<'a>>
     ensures { result ≡ stops.behind_type (stops.is_token (codes "C") tokens.now) tokens.now }
 {
@@ -205,7 +205,7 @@ fn behind_type<'a>(tokens: &[Lent<'a>]) -> Result<bool, Halt<'a>>
     Ok(false)
 }
 
-/// Reads what stands before the first semicolon: whether components may stand after it.
+/// Reads what is before the first semicolon: whether components may be after it.
 fn head_read<'a>(tokens: &[Lent<'a>]) -> Result<bool, Halt<'a>>
     ensures { result ≡ stops.head_read tokens.now }
 {
@@ -276,7 +276,7 @@ fn stop_of_tokens<'a>(tokens: &[Lent<'a>]) -> Option<ElementStop<'a>>
     }
 }
 
-/// Where a text stops to be that of a data element's row: the first of its words that can't stand there, and what has to; none where
+/// Where a text stops to be that of a data element's row: the first of its words that can't be there, and what has to; none where
 /// it writes a row. The only error is out of memory.
 #[tactic(auto, using(crate::proofs::ElementStops::stops_exactly))]
 pub fn element_stop(alloc: Global, text: &[u8]) -> Result<Option<ElementStop<'_>>, NoMemory>

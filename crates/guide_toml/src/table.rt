@@ -27,7 +27,7 @@ pub fn refuse_unlisted(alloc: Global, table: &Table, kind: TableKind) -> Result<
     Ok(refuse_unknown(alloc, table, kind.keys())?)
 }
 
-/// A text of so many to so many letters or digits.
+/// A text of that many to that many letters or digits.
 pub fn word_at(
     alloc: Global,
     table: &Table,
@@ -40,7 +40,7 @@ pub fn word_at(
     Ok(required(alloc, table, key, &Word { least, most })?)
 }
 
-/// The same where it may be absent.
+/// The text at a key that may be absent.
 pub fn some_word_at(
     alloc: Global,
     table: &Table,
@@ -92,7 +92,7 @@ pub fn dependency_kind_at(
     Ok(required(alloc, table, key, &Kind)?)
 }
 
-/// A list of texts, and what each stands for.
+/// A list of texts, and what each means.
 pub fn entries_at<T: Entry>(
     alloc: Global,
     table: &Table,
@@ -104,7 +104,7 @@ pub fn entries_at<T: Entry>(
     Ok(required(alloc, table, key, &entries)?)
 }
 
-/// The same where it may be absent: then there are none.
+/// The entries at a key that may be absent: then there are none.
 pub fn some_entries_at<T: Entry>(
     alloc: Global,
     table: &Table,

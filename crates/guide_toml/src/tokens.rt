@@ -87,7 +87,7 @@ pub fn are_codes(tokens: &[Lent]) -> bool
     true
 }
 
-/// How many codes stand in front.
+/// How many codes are in front.
 pub fn code_count(tokens: &[Lent]) -> usize
     ensures count { result ≡ prefix_len is_code tokens.now }
     ensures within { result ≤ length tokens.now }

@@ -19,7 +19,7 @@ use Rattle.guide_tree.specs.Tree.{Tree, segment, loop}
 abbrev pub is_within : ℕ → ℕ → ℕ → Bool
 is_within lo hi n = nat_le lo n && nat_le n hi
 
--- the least use is no more than the greatest, which is at most 999,999
+-- the least use isn't more than the greatest, which is at most 999,999
 abbrev pub is_use_range : ℕ → ℕ → Bool
 is_use_range least most = nat_le least most && nat_le most MOST_USES
 

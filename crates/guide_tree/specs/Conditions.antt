@@ -1,4 +1,4 @@
--- X12.6, loops begin with a segment that stands there once; relational conditions name elements that there are.
+-- X12.6, loops begin with a segment that is there once; relational conditions name elements that there are.
 -- Picks, labels, dependencies and the rule of the hierarchy are own.
 use Rattle.std.specs.Prelude.{ℕ, ◌==◌, nat_le, List, [], ◌∷◌, codes, length, map, Option, Some, None, Bool, true}
 use Rattle.std.specs.Prelude.{false, ◌&&◌, ◌||◌, not}
@@ -13,11 +13,11 @@ use Rattle.guide_tree.specs.declared.rows.HlRule.{HlRule}
 use Rattle.guide_tree.specs.Tree.{Tree, Trees, segment, loop, no_trees, tree, find_slot, any_slot, GuideTree}
 use Rattle.guide_tree.specs.Bounds.{is_within, has_codes}
 
--- stands there exactly once
+-- is there exactly once
 abbrev pub is_once : Slot → Bool
 is_once s = (s.min == 1) && (s.max == 1)
 
--- a loop's first child is a segment that stands there exactly once
+-- a loop's first child is a segment that is there exactly once
 abbrev pub has_trigger : Trees → Bool
 has_trigger no_trees = false
 has_trigger (tree (segment s) ts) = is_once s
@@ -57,7 +57,7 @@ has_label label s = option_map_or (λ l. bytes_eq l label) s.label false
 abbrev pub labelled : Trees → List ℕ → Option Slot
 labelled ts label = find_slot (has_label label) ts
 
--- the label is no earlier slot's
+-- the label isn't an earlier slot's
 abbrev pub is_label_new : Trees → Slot → Bool
 is_label_new ts s = option_map_or (λ l. option_map_or (λ first. nat_le s.number first.number) (labelled ts l) true) s.label true
 

@@ -1,6 +1,6 @@
 -- X12.6, order of segments (own rule): which slots may come from one place, by the tree alone, and the least pair
 -- of rivals. In a loop the first child comes with the loop; each other node may come again or after an earlier
--- one, and so it is a rival of those after it, and of the loops round it and what stands after these.
+-- one, and so it is a rival of those after it, and of the loops round it and what is after these.
 use Rattle.std.specs.Prelude.{ℕ, ◌==◌, nat_lt, nat_le, Option, Some, None, Bool, ◌&&◌, ◌||◌, if◌then◌else◌}
 use Rattle.guide_tree.specs.declared.slot.Slot.{Slot}
 use Rattle.guide_tree.specs.Tree.{Tree, Trees, segment, loop, no_trees, tree}

@@ -128,7 +128,7 @@ abbrev pub IsThere : List (Option Place) → Place → Type 0
 IsThere given [] = Unit {0}
 IsThere given (a ∷ q) = Has given (a ∷ q)
 
--- in a repetition of the parent there is no use of a child that is needed, or there are some but too few
+-- in a repetition of the parent there isn't a use of a child that is needed, or there are some but too few
 pub record IsShort (ts : Trees) (given : List (Option Place)) (end : ℕ) (f : Fault) : Type 0 where
   pub parent : Place
   pub child : ℕ
@@ -144,7 +144,7 @@ pub record IsShort (ts : Trees) (given : List (Option Place)) (end : ℕ) (f : F
   pub is : f ≡ node_fault ts position code parent node
 
 -- why a segment has no place: no slot has its id (and the dictionary has it, or hasn't), no slot with its id
--- picks it, or it stands where none may
+-- picks it, or it is where none may be
 abbrev pub stray_code : GuideTree → Segment → SegmentCode
 stray_code g s =
     if any_slot (λ slot. bytes_eq slot.id (segment_id s)) g.nodes

@@ -1,4 +1,4 @@
--- X12.6, transaction set: what the rows of a guide stand for.
+-- X12.6, transaction set: what the rows of a guide mean.
 use Rattle.std.specs.Prelude.{List, [], ◌∷◌, map}
 use Rattle.guide_tree.specs.Tree.{Tree, Trees, segment, loop, no_trees, tree, GuideTree, with_slot_numbers}
 use Rattle.guide_tree.specs.declared.node.Node.{Node, fold-Node}
@@ -19,7 +19,7 @@ view = fold-Node Tree view_step
 abbrev pub nodes_view : List Node → Trees
 nodes_view ns = trees_of (map view ns)
 
--- the guide that rows stand for
+-- the guide that rows mean
 abbrev pub guide_of : GuideRows → GuideTree
 guide_of rows = record { head = rows.head; hl = rows.hl; depends = rows.depends; nodes = nodes_view rows.nodes.items }
 

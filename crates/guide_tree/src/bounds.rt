@@ -136,7 +136,7 @@ fn is_loop_bounded(head: &Loop) -> bool
     is_use_range(head.min, head.max) && is_loop_id(head.id.as_slice())
 }
 
-/// Whether a node's own bounds and id are as they have to be.
+/// Whether a node's own bounds and id are as they must be.
 pub fn is_bounded(node: &Node) -> bool
     ensures { result ≡ is_bounded (view node.now) }
 {

@@ -14,7 +14,7 @@ const FEW: usize = 8;
 #[derive(Debug, Drop)]
 pub struct Codes {
     texts: Texts,
-    /// The same in order, where they are many.
+    /// These codes in order, where they are many.
     ordered: Option<BTreeSet<Vec<u8>>>,
 }
 

@@ -23,7 +23,7 @@ fn has_trigger(nodes: &[Node]) -> bool
     }
 }
 
-/// Whether a loop begins with a segment that stands there exactly once.
+/// Whether a loop begins with a segment that is there exactly once.
 pub fn is_triggered(node: &Node) -> bool
     ensures { result ≡ is_triggered (view node.now) }
 {
@@ -63,7 +63,7 @@ fn have_rows(slot: &Slot, positions: &[u32]) -> bool
     positions.iter().all(|position| has_row(slot, *position))
 }
 
-/// Whether positions have rows and none stands twice. Those that have rows are no more than the rows, unless one does.
+/// Whether positions have rows and none appears twice. Those that have rows are no more than the rows, unless one does.
 fn are_rows_once(slot: &Slot, positions: &[u32]) -> bool
     ensures { result ≡ is_distinct positions.now && list_all (has_row slot.now) positions.now }
 {

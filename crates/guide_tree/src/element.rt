@@ -8,7 +8,7 @@ pub enum ElementType {
     Text,
     /// `ID`: an identifier.
     Identifier,
-    /// `N0` to `N9`: a number with so many implied decimal places.
+    /// `N0` to `N9`: a number with that many implied decimal places.
     Number(u8),
     /// `R`: a decimal number.
     Decimal,
@@ -18,7 +18,7 @@ pub enum ElementType {
     Time,
 }
 
-/// Whether a data element has to be there (X12.6, data element requirement designator).
+/// Whether a data element must be there (X12.6, data element requirement designator).
 #[derive(Clone, Copy, Debug, PartialEq, Eq)]
 pub enum Requirement {
     /// `M`: mandatory.

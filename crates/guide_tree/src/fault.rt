@@ -8,7 +8,7 @@ pub enum GuideFault {
     TooMany,
     /// A node has bounds that can't be met or are too large, or an id that is none.
     BadBounds(u32),
-    /// A loop doesn't begin with a segment that stands there exactly once.
+    /// A loop doesn't begin with a segment that is there exactly once.
     BadTrigger(u32),
     /// A condition, a pick, a label; or, at slot 0, a dependency or the hierarchy's rule.
     BadCondition(u32),

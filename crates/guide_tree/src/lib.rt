@@ -1,12 +1,12 @@
 //! Guides: what a partner's implementation guide says of a transaction set, as a tree of segment slots and loops
 //! with their uses, their elements' rows and conditions; and the check by which a guide is accepted. The
 //! definitions of the places of a guide, of the placing of a set's segments, of what is wrong with its structure
-//! and of the grammar by which a set meets a guide stand here too, for the crates above.
+//! and of the grammar by which a set meets a guide are here too, for the crates above.
 //!
 //! Proved: `Guide::check` accepts exactly the guides without a fault, and gives the rows with each slot's number;
 //! it refuses with the first fault: none is judged before it. Two slots are found ambiguous exactly where two
 //! places that may follow one lead to them, however often loops and segments are repeated. What is proved of placing
-//! and grammar stands in `guide_law`.
+//! and grammar is in `guide_law`.
 //!
 //! Source: X12.6, transaction sets, loops, segments, data elements and relational conditions; the 999 guide
 //! (005010X231), IK304. Slot numbers, picks, labels, dependencies and the limits are own.

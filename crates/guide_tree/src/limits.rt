@@ -27,7 +27,7 @@ pub fn nests_within(nodes: &[Node], limit: u32) -> bool
     true
 }
 
-/// How many nodes there is room for after these; none where there is no room for these.
+/// How many nodes there is room for after these; none where there isn't room for these.
 pub fn room_behind(nodes: &[Node], room: usize) -> Option<usize>
     ensures { result ≡ room_left room (node_count (nodes_view nodes.now)) }
 {

@@ -21,7 +21,7 @@ is_joined code = list_any (λ byte. (byte == 44) || ((byte == 47) || (byte == 12
 abbrev pub has_length : SimpleRow → List ℕ → Bool
 has_length row code = is_within row.min row.max (value_length row.data_type code)
 
--- it has the bytes that values of the row's type have, and is no date or time that there is not
+-- it has the bytes that values of the row's type have, and isn't a date or time that doesn't exist
 abbrev pub has_form : SimpleRow → List ℕ → Bool
 has_form row code = is_form row.data_type row.wide code && is_none (calendar_fault row.data_type code)
 

@@ -52,7 +52,7 @@ slot_differences old new =
 abbrev pub loop_differences : (old new : Loop) → List Difference
 loop_differences old new = use_differences (at_node new.number) old.min old.max new.min new.max
 
--- a node that is new is narrower where it has to be there
+-- a node that is new is narrower where it must be there
 abbrev pub new_node : Tree → List Difference
 new_node t =
     said (at_node (node_number t)) key.Node (Some (if min_of t == 0 then Wider else Narrower)) value.Nothing

@@ -93,7 +93,7 @@ component_differences at (component.Simple old) (component.Simple new) = row_dif
 abbrev pub component_at : At → ℕ → At
 component_at at n = record { node = at.node; element = at.element; component = n }
 
--- a component that is new, or gone, or stands in both lists
+-- a component that is new, or gone, or is in both lists
 abbrev pub component_pair : At → (old new : Option Component) → List Difference
 component_pair at None None = []
 component_pair at None (Some new) =
@@ -138,7 +138,7 @@ element_differences at (element.Composite old) (element.Composite new) = composi
 abbrev pub element_at : At → ℕ → At
 element_at at n = record { node = at.node; element = n; component = 0 }
 
--- an element that is new, or gone, or stands in both segments
+-- an element that is new, or gone, or is in both segments
 abbrev pub element_pair : At → (old new : Option Element) → List Difference
 element_pair at None None = []
 element_pair at None (Some new) =

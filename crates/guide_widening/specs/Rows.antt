@@ -15,7 +15,7 @@ use Rattle.guide_tree.specs.declared.element.Element.TheVariants as element
 use Rattle.hub_kinds.specs.Words.{contains_text}
 use Rattle.elem_rules.specs.Clean.{is_optional, fits_empty}
 
--- what may be left out doesn't become mandatory
+-- what is optional doesn't become mandatory
 abbrev pub is_wider_requirement : (old new : Requirement) → Bool
 is_wider_requirement Mandatory new = true
 is_wider_requirement Optional new = is_optional new
@@ -51,7 +51,7 @@ is_wider_codes old None = true
 is_wider_codes None (Some new) = false
 is_wider_codes (Some old) (Some new) = are_texts_of new.used old.used
 
--- the new least is no greater and the new greatest no less
+-- the new least isn't greater and the new greatest no less
 abbrev pub is_wider_range : (old_min old_max new_min new_max : ℕ) → Bool
 is_wider_range old_min old_max new_min new_max = nat_le new_min old_min && nat_le old_max new_max
 
@@ -73,7 +73,7 @@ abbrev pub fits_no_component : Component → Bool
 fits_no_component (component.NotUsed reference) = true
 fits_no_component (component.Simple row) = is_optional row.requirement
 
--- one that wasn't used has to be optional if it is used, and one that was used stays so
+-- one that wasn't used must be optional if it is used, and one that was used stays so
 abbrev pub is_wider_component : (old new : Component) → Bool
 is_wider_component (component.NotUsed reference) new = fits_no_component new
 is_wider_component (component.Simple old) (component.NotUsed reference) = false
@@ -91,7 +91,7 @@ is_wider_composite old new =
     && nat_le old.repeat new.repeat
     && are_wider_components old.components new.components
 
--- an element that wasn't used has to be optional if it is used; a simple one stays simple, a composite one composite
+-- an element that wasn't used must be optional if it is used; a simple one stays simple, a composite one composite
 abbrev pub is_wider_element : (old new : Element) → Bool
 is_wider_element (element.NotUsed reference) new = fits_empty new
 is_wider_element (element.Simple old repeat) (element.NotUsed reference) = false

@@ -57,7 +57,7 @@ pub enum Key {
     GreatestLength,
     /// Whether bytes from 0x80 on are allowed.
     Wide,
-    /// Whether a value has to be one of a list of codes.
+    /// Whether a value must be one of a list of codes.
     Codes,
     /// A code.
     Code,

@@ -81,7 +81,7 @@ is_child_wrong delims h later =
 abbrev pub hl_segments : List Segment → List Segment
 hl_segments body = filter is_hl body
 
--- nothing is wrong with an HL that stands after the earlier and before the later ones
+-- nothing is wrong with an HL that is after the earlier and before the later ones
 abbrev pub IsHlWhole : HlRule → Delims → (earlier : List Segment) → Segment → (later : List Segment) → Type 0
 IsHlWhole rule delims earlier h later =
     IsFalse (is_number_wrong rule delims earlier h)
@@ -120,7 +120,7 @@ hl_fault h element code = record {
   });
 }
 
--- what is wrong with an HL that stands after the earlier and before the later ones
+-- what is wrong with an HL that is after the earlier and before the later ones
 abbrev pub IsHlFault : HlRule → Delims → (earlier : List PlacedSegment) → PlacedSegment → (later : List PlacedSegment) → Fault → Type 0
 IsHlFault rule delims earlier h later f =
     (IsTrue (is_number_wrong rule delims (segments_of earlier) h.segment) × (f ≡ hl_fault h 1 ik403.PatternFailure))

@@ -16,7 +16,7 @@ const MOST_LEVELS: usize = 0xFFFF_FFFF;
 /// The most digits of a number by which a parent is sought.
 const PLACE_DIGITS: usize = 10;
 
-/// Where the HL would stand that a number from 1 on names.
+/// Where the HL would be that a number from 1 on names.
 fn place_of(parent: &[u8]) -> usize {
     match read_number(parent, PLACE_DIGITS) {
         None => usize::MAX,
@@ -93,7 +93,7 @@ fn is_whole_at(rule: &HlRule, delims: Delims, names: &[HlNames], count: usize) -
     has_children(delims, names, count, one.number(), one.child())
 }
 
-/// Whether surely nothing is wrong with the HLs that have these names, first to last: each is numbered by its count, stands below an
+/// Whether surely nothing is wrong with the HLs that have these names, first to last: each is numbered by its count, is below an
 /// earlier one or is a root, and those that announce children have one at once. Takes no memory. A whole hierarchy may be answered with
 /// `false`. X12.6, hierarchical level segment.
 pub fn look_whole(rule: &HlRule, delims: Delims, names: &[HlNames]) -> bool

@@ -6,7 +6,7 @@
 //! (HL04). Where the guide has no rule there is none.
 //!
 //! `IsHierarchyWhole` of `specs/Hierarchy.antt` says of HL segments alone that nothing is wrong with them; where each segment
-//! of a body has a place that leads to a slot, there is no fault exactly then (`proofs/Whole.antt`). Where `is_hierarchy_whole`
+//! of a body has a place that leads to a slot, there isn't a fault exactly then (`proofs/Whole.antt`). Where `is_hierarchy_whole`
 //! says yes of HL segments that were found before, they are whole, and where `look_whole` does of HL01 to HL04 that were kept of
 //! them.
 //!
@@ -15,7 +15,7 @@
 //! ordered map and an ordered set, so that the cost follows the bytes, but for a logarithm, whatever numbers somebody chooses;
 //! nothing goes as deep as the hierarchy.
 //!
-//! Source: X12.6, hierarchical level segment (HL); the 999 guide (005010X231), IK4. Which code stands for which fault is
+//! Source: X12.6, hierarchical level segment (HL); the 999 guide (005010X231), IK4. Which code means which fault is
 //! own.
 //!
 //! Tests: `trial_nights`, `trial_sets`.

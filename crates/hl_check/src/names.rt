@@ -3,7 +3,7 @@ ghost use Rattle.hl_check.specs.Names.{Names};
 
 use std::marker::Model;
 
-/// HL01 to HL04 of an HL segment, as they stand there.
+/// HL01 to HL04 of an HL segment, as they are there.
 #[derive(Drop)]
 pub struct HlNames<'a> {
     number: &'a [u8],

@@ -19,7 +19,7 @@ key_of f = f.position ∷ segment_rank f.code ∷ f.slot ∷ elem_key f.elem
 abbrev pub element_key_of : ElemFault → List ℕ
 element_key_of e = elem_key (Some e)
 
--- each fault is before the next ones, and so stands once
+-- each fault is before the next ones, and so appears once
 abbrev pub AreRising : List Fault → Type 0
 AreRising faults = IsRisingBy key_of faults
 

@@ -1,4 +1,4 @@
--- X12.5, interchange, and X12.6, functional group and transaction set: the order of places (own), as they stand in the text.
+-- X12.5, interchange, and X12.6, functional group and transaction set: the order of places (own), as they are in the text.
 use Rattle.std.specs.Prelude.{ℕ, List, [], ◌∷◌}
 use Rattle.hub_kinds.specs.declared.place.Place.{Place}
 

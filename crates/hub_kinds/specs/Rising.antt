@@ -1,4 +1,4 @@
--- Own: lists that rise by a key, so that each key stands once.
+-- Own: lists that rise by a key, so that each key appears once.
 use Rattle.std.specs.Prelude.{ℕ, ◌≡◌, List}
 use Rattle.std.specs.Ordering.{nat_cmp}
 use Rattle.std.specs.declared.cmp.Ordering.{Ordering}

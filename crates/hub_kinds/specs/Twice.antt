@@ -1,4 +1,4 @@
--- Own: whether a key stands twice in a list.
+-- Own: whether a key appears twice in a list.
 use Rattle.std.specs.Prelude.{ℕ, Bool, false, ◌||◌, List, [], ◌∷◌}
 use Rattle.std.specs.List.{list_any}
 use Rattle.std.specs.Ordering.{eq_by_cmp}

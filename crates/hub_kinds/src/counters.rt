@@ -3,10 +3,10 @@
 /// its own is own), from 1 to 999,999,999.
 #[derive(Clone, Copy, Debug, PartialEq, Eq)]
 pub struct Counters {
-    /// Of an interchange.
+    /// The number of an interchange.
     pub interchange: u32,
-    /// Of a group.
+    /// The number of a group.
     pub group: u32,
-    /// Of a set.
+    /// The number of a set.
     pub set: u32,
 }

@@ -42,7 +42,7 @@ fn rank(fault: InterchangeFault) -> u32
     fault as u32 + 1
 }
 
-/// The interchange note code (X12.5, TA105) that stands for a fault, or for none: `000`. None for the faults 2 and 8, since such an
+/// The interchange note code (X12.5, TA105) that means a fault, or for none: `000`. None for the faults 2 and 8, since such an
 /// interchange is never answered. Takes no memory.
 pub fn note_text(fault: Option<InterchangeFault>) -> Option<&'static str>
     ensures { option_map (λ text. text.now) result ≡ note_text fault }
@@ -61,7 +61,7 @@ pub fn note_text(fault: Option<InterchangeFault>) -> Option<&'static str>
     }
 }
 
-/// The interchange acknowledgment code (X12.5, TA104) that stands before a note: `A` where the note is `000`, else `R`.
+/// The interchange acknowledgment code (X12.5, TA104) that is before a note: `A` where the note is `000`, else `R`.
 pub fn acknowledgment_code(note: &str) -> &'static str
     ensures { result.now ≡ acknowledgment_code note.now }
 {

@@ -10,7 +10,7 @@
 //!   a TA1;
 //! - `in_order` gives the same values in the order of their keys, each once;
 //! - `within_limit` is the test of a text's length;
-//! - `read_number` reads exactly the numbers of 1 to so many digits; `is_alphanumeric` and
+//! - `read_number` reads exactly the numbers of 1 to that many digits; `is_alphanumeric` and
 //!   `is_segment_id` are exact;
 //! - `contains_text` says exactly whether a text is one of a list;
 //! - `Items` and `Lent` are the list and the bytes that they were made from, `copy_text` a copy of them.

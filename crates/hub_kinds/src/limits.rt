@@ -17,7 +17,7 @@ pub const MOST_COUNT_DIGITS: usize = 6;
 /// How many bytes an input has at most: its offsets fit 32 bits.
 pub const LONGEST_TEXT: u64 = 4_294_967_295;
 
-/// Whether an input of so many bytes isn't too long to be read.
+/// Whether an input of that many bytes isn't too long to be read.
 pub fn within_limit(len: u64) -> bool
     ensures { IsTrue result ↔ (len ≤ LONGEST_TEXT) }
 {

@@ -1,4 +1,4 @@
--- What a hub keeps of its nights, and when a night goes on from those before it (own). The newest night stands first.
+-- What a hub keeps of its nights, and when a night continues from those before it (own). The newest night comes first.
 use Rattle.std.specs.Prelude.{◌≡◌, ℕ, true, false, List, [], ◌∷◌, Option, Some, None, IfSome, if◌then◌else◌}
 use Rattle.std.specs.List.{AllByRecursion, flat_map}
 use Rattle.std.specs.Option.{option_or}
@@ -34,14 +34,14 @@ last_known address (night ∷ older) = option_or (known_row night (row_of addres
 abbrev pub BeginsWhereLeft : List NightEntry → AddressNumbers → Type 0
 BeginsWhereLeft older row = IfSome (last_known row.address older) (λ known. row.begun ≡ known.row.left)
 
--- a night goes on from older ones
+-- a night continues from older ones
 pub record GoesOn (older : List NightEntry) (night : NightEntry) : Type 0 where
   -- no set goes to a receiver that had it
   pub keys : (key : List ℕ) → contains_text night.delivered key ≡ true → contains_text (keys_of older) key ≡ false
   -- each address is numbered from where it was
   pub numbers : AllByRecursion (BeginsWhereLeft older) night.addresses
 
--- each night goes on from those before it
+-- each night continues from those before it
 abbrev pub GoOn : List NightEntry → Type 0
 GoOn [] = Unit {0}
 GoOn (night ∷ older) = GoesOn older night × GoOn older

@@ -27,7 +27,7 @@ new_hub = record { committed = []; shown = []; run = None }
 abbrev pub entries_of : List Night → List NightEntry
 entries_of nights = map (λ (night : Night). night.entry) nights
 
--- a night that may be run: it goes on from those that are written down, and numbers what it sends without a gap
+-- a night that may be run: it continues from those that are written down, and numbers what it sends without a gap
 pub record MayRun (committed : List Night) (night : Night) : Type 0 where
   pub goes_on : GoesOn (entries_of committed) night.entry
   pub counted : IsCounted night

@@ -1,4 +1,4 @@
--- What holds of every hub, whatever stops it and whenever, and of nights that go on (own).
+-- What holds of every hub, whatever stops it and whenever, and of nights that continue (own).
 use Rattle.std.specs.Prelude.{Contains, List}
 use Rattle.std.specs.List.{AllByRecursion}
 use Rattle.hub_ledger.specs.Entries.{AreApart, GoOn}
@@ -22,6 +22,6 @@ pub record IsGoingOn (nights : List Night) : Type 0 where
   pub apart : AreApart (entries_of nights)
   pub numbers : AreConsecutive nights
 
--- nights of which each goes on from those before it, and numbers what it sends without a gap
+-- nights of which each continues from those before it, and numbers what it sends without a gap
 abbrev pub GoingOnDeliversOnce : Type 0
 GoingOnDeliversOnce = (nights : List Night) → GoOn (entries_of nights) → AllByRecursion IsCounted nights → IsGoingOn nights

@@ -1,5 +1,5 @@
 -- X12.5, interchange control number (ISA13), and X12.6, group and set control numbers (GS06, ST02): which numbers an address is sent, in a
--- night and over nights (own). The newest night stands first.
+-- night and over nights (own). The newest night comes first.
 use Rattle.std.specs.Prelude.{◌≡◌, ℕ, zero, suc, List, [], ◌∷◌, ◌++◌, length, MatchOption, if◌then◌else◌}
 use Rattle.std.specs.List.{flat_map}
 use Rattle.std.specs.Str.{bytes_eq}
@@ -19,12 +19,12 @@ next_number Interchange counters = counters.interchange
 next_number Group counters = counters.group
 next_number Set counters = counters.set
 
--- so many numbers that go up by one from a first
+-- that many numbers that go up by one from a first
 abbrev pub numbers_from : (first count : ℕ) → List ℕ
 numbers_from first zero = []
 numbers_from first (suc n) = num first 0 ∷ numbers_from (num first 1) n
 
--- numbers that an address is sent in a night, in the order in which they stand in its files
+-- numbers that an address is sent in a night, in the order in which they are in its files
 pub record Sent : Type 0 where
   pub address : List ℕ
   pub interchanges : List ℕ

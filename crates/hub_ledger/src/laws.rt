@@ -15,7 +15,7 @@ pub fn numbers_go_on()
     ensures { NumbersGoOn }
 {}
 
-/// Nights that go on deliver no set to a receiver twice, and number what an address is sent without a gap.
+/// Nights that continue deliver no set to a receiver twice, and number what an address is sent without a gap.
 pub fn nights_that_go_on()
     ensures { GoingOnDeliversOnce }
 {}

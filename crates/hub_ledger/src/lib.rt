@@ -1,4 +1,4 @@
-//! What a hub keeps of its nights, and how one night goes on from those before it. Plain values and theorems: the calls do nothing.
+//! What a hub keeps of its nights, and how one night continues from those before it. Plain values and theorems: the calls do nothing.
 //!
 //! Proved, of every list of events (a night is run, it is written down, it may be sent, the hub stops), in any order and number:
 //! - no set is delivered to a receiver on two nights (`delivers_once`);
@@ -6,10 +6,10 @@
 //!   interchanges, groups and sets, whatever the address's partner is called (`numbers_go_on`);
 //! - what may be sent is written down (`shows_committed`).
 //!
-//! Proved of nights of which each goes on from those before it: no set is delivered to a receiver twice, and the numbers of an address
-//! have no gap, if those of each night have none (`nights_that_go_on`). `night_ledger` finds out whether nights go on.
+//! Proved of nights of which each continues from those before it: no set is delivered to a receiver twice, and the numbers of an address
+//! have no gap, if those of each night have none (`nights_that_go_on`). `night_ledger` finds out whether nights continue.
 //!
-//! Source: X12.5, interchange control number (ISA13); X12.6, group and set control numbers (GS06, ST02). That they go on from night to
+//! Source: X12.5, interchange control number (ISA13); X12.6, group and set control numbers (GS06, ST02). That they continue from night to
 //! night, and what is kept of a night, is own.
 #![tactic(auto)]
 

@@ -60,7 +60,7 @@ pub(crate) fn write_night<'a>(
     close_one(alloc, setup, at, index, written)
 }
 
-/// The same by what was found out about the places of the index.
+/// Writes by what was found out about the places of the index.
 pub(crate) fn write_found<'a, W: Writers + ReportWriters>(
     alloc: Global,
     writers: &W,

@@ -139,7 +139,7 @@ fn joined<T: Task, H: Hall>(
     Ok(hand_back(seat, owns, done))
 }
 
-// Starts a thread for one more worker, and goes on with the rest.
+// Starts a thread for one more worker, and continues with the rest.
 pub(crate) fn crew<
     's,
     E,

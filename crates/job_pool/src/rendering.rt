@@ -16,7 +16,7 @@ pub struct ManyThreads<'r, R> {
 impl<'r, R> ManyThreads<'r, R> {
     ghost use Rattle.std.specs.Prelude.{◌*◌, ◌≤◌, max};
 
-    /// How many of so many items a thread gets, where `fewest` items are worth a thread: so many that as many shares as there are workers
+    /// How many of that many items a thread gets, where `fewest` items are worth a thread: so many that as many shares as there are workers
     /// have them all, and no more threads are started.
     pub fn share_of(&self, items: usize, fewest: usize) -> usize
         ensures fewest { fewest ≤ result }

@@ -40,7 +40,7 @@ is_refused x = not (is_none x.fault)
 abbrev pub responded_groups : List GroupEntry → List GroupEntry
 responded_groups groups = filter (λ group. not (is_fa group)) groups
 
--- a set with what stands above it, and its number in its group, counted from 0
+-- a set with what is above it, and its number in its group, counted from 0
 pub record PlacedValue : Type 0 where
   pub interchange : JudgedValue
   pub group : GroupEntry

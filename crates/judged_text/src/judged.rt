@@ -70,7 +70,7 @@ impl<'i, 'a> JudgedInterchange<'i, 'a> {
         self.text
     }
 
-    /// The interchange in the index; its sets stand in their spans of the text.
+    /// The interchange in the index; its sets are in their spans of the text.
     pub fn interchange(&self) -> &'i Interchange<'a>
         ensures value { result.now ≡ self.now.interchange }
         ensures spans { HasSpans self.now.text self.now.interchange }

@@ -2,9 +2,9 @@
 //! groups, and each set at its place in them. Text and index are lent; a placed set is 24 bytes.
 //!
 //! Proved:
-//! - a `JudgedInterchange` gives back what it was made of, and its sets stand in their spans of the text;
+//! - a `JudgedInterchange` gives back what it was made of, and its sets are in their spans of the text;
 //! - a `PlacedSet`, made by the numbers of its group and of itself, is that set of its interchange, with the group, the standing and
-//!   the delimiters that it is read by; its segments are those of its span, and a byte that doesn't stand in `stretch` stands in none
+//!   the delimiters that it is read by; its segments are those of its span, and a byte that isn't in `stretch` is in none
 //!   of them, and `stretch_behind_header`, read alone, has those after its ST;
 //! - `is_fa` and `is_refused` are their definitions.
 //!

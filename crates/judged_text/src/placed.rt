@@ -10,7 +10,7 @@ use std::marker::Model;
 use x12_bytes::Delims;
 use x12_segs::{Segments, SetSpan};
 
-/// A set (X12.6) with what stands above it, lent by the numbers of its group and of itself: 24 bytes.
+/// A set (X12.6) with what is above it, lent by the numbers of its group and of itself: 24 bytes.
 #[derive(Drop)]
 pub struct PlacedSet<'j, 'i, 'a> {
     interchange: &'j JudgedInterchange<'i, 'a>,
@@ -61,7 +61,7 @@ impl<'j, 'i, 'a> PlacedSet<'j, 'i, 'a> {
         }
     }
 
-    /// The same set, lent again.
+    /// This set, lent again.
     pub fn again(&self) -> PlacedSet<'j, 'i, 'a>
         ensures { result ≡ self.now }
     {
@@ -72,7 +72,7 @@ impl<'j, 'i, 'a> PlacedSet<'j, 'i, 'a> {
         }
     }
 
-    /// The interchange that it stands in.
+    /// The interchange that it is in.
     pub fn interchange(&self) -> &'j JudgedInterchange<'i, 'a>
         ensures { result.now ≡ self.now.interchange }
     {
@@ -87,7 +87,7 @@ impl<'j, 'i, 'a> PlacedSet<'j, 'i, 'a> {
         judged.interchange().header().delims()
     }
 
-    /// The group that it stands in.
+    /// The group that it is in.
     pub fn group(&self) -> GroupEnvelope<'_, 'a>
         ensures { result ≡ self.now.group }
     {
@@ -121,7 +121,7 @@ impl<'j, 'i, 'a> PlacedSet<'j, 'i, 'a> {
         segments
     }
 
-    /// The stretch of the text in which its segments stand.
+    /// The stretch of the text in which its segments are.
     pub fn stretch(&self, set: &SetEnvelope<'a>) -> &'a [u8]
         requires { set.now ≡ self.now.set }
         ensures { (test : ℕ → Bool) → list_any test result.now ≡ false
@@ -174,7 +174,7 @@ fn verdict_at(verdicts: &[Verdict], n: usize) -> Verdict
     }
 }
 
-/// The bytes in which the segments of a set's span stand.
+/// The bytes in which the segments of a set's span are.
 fn stretch_in<'a>(text: &'a [u8], span: &SetSpan) -> &'a [u8]
     requires { IsSetSpan text.now span.now }
     ensures { (test : ℕ → Bool) → list_any test result.now ≡ false

@@ -159,7 +159,7 @@ pub fn push_setup_keys_said(
     push_spots(alloc, found, spots.as_slice())
 }
 
-/// The same of a counters file.
+/// Adds what is said of the keys of a counters file.
 pub fn push_counters_keys_said(
     alloc: Global,
     found: &mut Vec<Text>,
@@ -171,7 +171,7 @@ pub fn push_counters_keys_said(
     push_spots(alloc, found, spots.as_slice())
 }
 
-/// The same of a guide file.
+/// Adds what is said of the keys of a guide file.
 pub fn push_guide_keys_said(
     alloc: Global,
     found: &mut Vec<Text>,

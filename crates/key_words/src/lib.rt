@@ -7,7 +7,7 @@
 //! the line and the column are those of the first byte that is no UTF-8, or else of a place in the file, and what is shown is what is
 //! there (`no_table_text`).
 //!
-//! The same of all keys that can't be, table by table, is said by the definitions too (`push_setup_keys_said` and the others).
+//! What is said of all keys that can't be, table by table, is as the definitions have it too (`push_setup_keys_said` and the others).
 //!
 //! Only tested: that the place in UTF-8 that is no TOML is where its fault is, and that the cause is that of the fault.
 //!

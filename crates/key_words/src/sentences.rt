@@ -103,7 +103,7 @@ fn append_setup_key(
     }
 }
 
-/// Adds what is wrong with a setup file that writes this table. Where memory is refused it says so; that is no refusal of the file.
+/// Adds what is wrong with a setup file that writes this table. Where memory is refused it says so; that isn't a refusal of the file.
 pub fn append_setup_key_words(
     alloc: Global,
     out: &mut Vec<u8>,
@@ -139,7 +139,7 @@ fn append_counters_key(
     }
 }
 
-/// The same of a counters file.
+/// Adds what is wrong with a key of a counters file.
 pub fn append_counters_key_words(
     alloc: Global,
     out: &mut Vec<u8>,
@@ -183,7 +183,7 @@ fn append_guide_key(
     }
 }
 
-/// The same of a guide file, where a key is refused.
+/// Adds what is wrong with a guide file, where a key is refused.
 pub fn append_guide_key_words(
     alloc: Global,
     out: &mut Vec<u8>,

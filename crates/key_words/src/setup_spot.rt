@@ -59,7 +59,7 @@ pub fn setup_spot<'t>(
     }
 }
 
-/// The same of a counters file.
+/// The spot of the first key of a counters file that is refused.
 pub fn counters_spot<'t>(
     alloc: Global,
     refused: RefusedKey<'_>,

@@ -74,7 +74,7 @@ fn row_spot<'t>(
     Ok(None)
 }
 
-/// The same of the rows at a key of the top table.
+/// The spot in the rows at a key of the top table.
 pub fn rows_spot<'t>(
     alloc: Global,
     kind: KeyTable,

@@ -90,7 +90,7 @@ pub fn setup_spots<'t>(alloc: Global, top: &'t Table) -> Result<Vec<Spot<'t>>, N
     Ok(spots)
 }
 
-/// The same of a counters file.
+/// All spots of a counters file.
 pub fn counters_spots<'t>(alloc: Global, top: &'t Table) -> Result<Vec<Spot<'t>>, NoMemory>
     ensures { IfOk result (λ spots. map seen spots.items ≡ said.counters_spots (table_view top.entry.now)) }
 {
@@ -100,7 +100,7 @@ pub fn counters_spots<'t>(alloc: Global, top: &'t Table) -> Result<Vec<Spot<'t>>
     Ok(spots)
 }
 
-/// The same of a guide file.
+/// All spots of a guide file.
 pub fn guide_spots<'t>(alloc: Global, top: &'t Table) -> Result<Vec<Spot<'t>>, NoMemory>
     ensures { IfOk result (λ spots. map seen spots.items ≡ said.guide_spots (table_view top.entry.now)) }
 {

@@ -49,7 +49,7 @@ const CAUSES: &[(ErrorKind, TomlCause)] = &[
 ];
 
 impl TomlCause {
-    /// The cause of a fault of the parser, by its message, since it lends no other sign of it. Which one that is no clause says.
+    /// The cause of a fault of the parser, by its message, since it lends no other sign of it. No clause says which one it is.
     pub fn of_message(message: &str) -> TomlCause {
         for (kind, cause) in CAUSES {
             if kind.description() == message {

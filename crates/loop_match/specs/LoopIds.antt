@@ -2,7 +2,7 @@
 use Rattle.std.specs.Prelude.{ℕ, zero, suc, List, [], ◌∷◌}
 use Rattle.guide_tree.specs.Words.{Tree, Trees, segment, loop, no_trees, tree, Place}
 
--- on a place's way down from a node, or among nodes to a child of theirs; outer where there is no loop
+-- on a place's way down from a node, or among nodes to a child of theirs; outer where there isn't a loop
 abbrev mutual
   pub loop_id_in : (outer : List ℕ) → Tree → Place → List ℕ
   loop_id_in outer (segment s) q = outer
@@ -18,6 +18,6 @@ abbrev pub loop_id_under : (outer : List ℕ) → Trees → Place → List ℕ
 loop_id_under outer ts [] = outer
 loop_id_under outer ts (a ∷ q) = loop_id_nth outer ts a.child q
 
--- the id of the innermost loop in which a place stands; empty where it is in none
+-- the id of the innermost loop in which a place is; empty where it is in none
 abbrev pub loop_id_of : Trees → Place → List ℕ
 loop_id_of ts q = loop_id_under [] ts q

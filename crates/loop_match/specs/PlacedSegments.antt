@@ -1,5 +1,5 @@
 -- X12.6, order of segments in a transaction set: the segments of a body that have places, each with its position, its slot and the
--- loop that it stands in (999 guide, IK3: segment position, loop identifier code).
+-- loop that it is in (999 guide, IK3: segment position, loop identifier code).
 use Rattle.std.specs.Prelude.{ℕ, zero, suc, ◌+◌, ◌<◌, ◌≡◌, ◌↔◌, List, [], ◌∷◌, ◌++◌, length}
 use Rattle.std.specs.Prelude.{Option, Some, None, option_map, slice_get, slice_index_or}
 use Rattle.std.specs.List.{Contains}
@@ -34,7 +34,7 @@ placed_among_first ts body given (suc n) = with_placed (placed_among_first ts bo
 abbrev pub placed_segments : Trees → List Segment → List (Option Place) → List PlacedSegment
 placed_segments ts body given = placed_among_first ts body given (length body)
 
--- the segment with this index in the body has a place, which leads to a slot: so it stands at its position, with that slot and loop
+-- the segment with this index in the body has a place, which leads to a slot: so it is at its position, with that slot and loop
 pub record IsPlacedAt (ts : Trees) (body : List Segment) (given : List (Option Place)) (index : ℕ) (p : PlacedSegment) : Type 0 where
   pub place : Place
   pub given_place : slice_get given index ≡ Some (Some place)
@@ -48,7 +48,7 @@ abbrev pub AreThoseWithPlaces : Trees → List Segment → List (Option Place) �
 AreThoseWithPlaces ts body given =
     (p : PlacedSegment) → Contains (placed_segments ts body given) p ↔ ((index : ℕ) × IsPlacedAt ts body given index p)
 
--- they stand in the order of the body, each once
+-- they are in the order of the body, each once
 abbrev pub AreInOrder : List PlacedSegment → Type 0
 AreInOrder placed = (j k : ℕ) (p q : PlacedSegment) → slice_get placed j ≡ Some p → slice_get placed k ≡ Some q → j < k
     → p.position < q.position

@@ -28,7 +28,7 @@ fn are_picked(picks: &[Pick], seg: &SegView) -> bool
     picks.iter().all(|pick| is_picked(pick, seg))
 }
 
-/// Whether a segment surely has another id: most are told apart by their first byte.
+/// Whether a segment surely has another id: most are distinguished by their first byte.
 fn begins_otherwise(id: &[u8], seg: &SegView) -> bool
     ensures { OnTrue result (bytes_eq id.now (element_at (elements_of seg.now) 0) ≡ false) }
 {

@@ -35,7 +35,7 @@ impl<'a> Found<'a> {
         }
     }
 
-    /// Adds a fault of a node that stands in the loop with the id `outer`.
+    /// Adds a fault of a node that is in the loop with the id `outer`.
     fn add(
         &mut self,
         at: u64,

@@ -64,7 +64,7 @@ pub fn ended_in<'a>(
     }
 }
 
-/// After a place the nodes in which it stands end.
+/// After a place the nodes in which it is end.
 #[cycle(ends)]
 pub fn ended<'a>(
     found: &mut Found<'a>,

@@ -1,10 +1,10 @@
-//! Places: which segment slot of a guide each segment of a set's body stands at, and what is wrong with the order and the
+//! Places: which segment slot of a guide each segment of a set's body is at, and what is wrong with the order and the
 //! number of the segments.
 //!
 //! Proved: `place_all` gives each segment the place that may follow the last one given and that it fits, with its slot, or no place
 //! where there is none; and its faults are exactly the structural faults of the body under that placing: uses past a maximum, what
 //! is missing, what is used too few times, strays; each once, by position, code and slot. `placed_segments` gives the segments that
-//! have places, each with its position, its slot and the loop that it stands in: these and no other, in their order
+//! have places, each with its position, its slot and the loop that it is in: these and no other, in their order
 //! (`placed_segments_have_places`). `place_by` is `place_all` by whatever finds the next place (`NextPlace`). For a walk of another crate,
 //! `step`, `end` and `Found::stray` add to what was found (`Found`) what the one pass reports of a step, of the body's end and of a stray.
 //!

@@ -18,7 +18,7 @@ fn loop_of<'g>(node: &'g Node) -> Option<(&'g [u8], &'g [Node])>
     }
 }
 
-/// The id of the innermost loop in which a place of these nodes stands (999 guide, IK303); empty where it is in none.
+/// The id of the innermost loop in which a place of these nodes is (999 guide, IK303); empty where it is in none.
 pub fn loop_id_of<'g>(nodes: &'g [Node], place: &[Step]) -> &'g [u8]
     ensures { result.now ≡ loop_id_of (nodes_view nodes.entry.now) (place_view place.now) }
 {

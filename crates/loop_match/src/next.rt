@@ -22,7 +22,7 @@ pub struct Start<'a> {
     pub slot: &'a Slot,
 }
 
-/// How a place goes on to the next: at a depth, to a use of a child.
+/// How a place continues to the next: at a depth, to a use of a child.
 #[derive(Clone, Copy)]
 pub struct Turn<'a> {
     pub depth: usize,

@@ -78,7 +78,7 @@ impl<'a> Placing<'a> {
         self.faults.as_slice()
     }
 
-    /// The same, given away.
+    /// The faults, given away.
     pub fn into_faults(self) -> Items<Fault<'a>>
         ensures { result ≡ self.entry.faults }
     {

@@ -33,7 +33,7 @@ pub fn step<'a>(
     stepped(found, at, b"", nodes, last, next)
 }
 
-/// The same, where what finds the places may know that nothing shows.
+/// A step by `next`, which may know that nothing shows.
 pub fn step_by<'a, 'g: 'a, N: NextPlace<'g>>(
     found: &mut Found<'a>,
     at: u64,

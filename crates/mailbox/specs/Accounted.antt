@@ -29,7 +29,7 @@ abbrev pub told_for : SetupValue → (partner : ℕ) → PlacedValue → ℕ
 told_for setup partner p = length (copies_for setup partner p) + count_by (is_held_for partner) (outcomes setup p)
 
 -- of a set that may be delivered: each receiver of its route has it once, in its mailbox or in a held line that names it; nobody else
--- has it; and a held line that names nobody is there exactly where there is no route, and is then the only one
+-- has it; and a held line that names nobody is there exactly where there isn't a route, and is then the only one
 pub record IsAccounted (setup : SetupValue) (p : PlacedValue) : Type 0 where
   pub receivers : All (λ q. told_for setup q p ≡ 1) (receivers_of setup p)
   pub others : (q : ℕ) → All (λ to. to ≢ q) (receivers_of setup p) → told_for setup q p ≡ 0

@@ -8,7 +8,7 @@ use Rattle.mailbox.specs.Deliveries.{is_in_the_way}
 abbrev pub AllShared : (from to : Delims) → Type 0
 AllShared from to = (b : ℕ) → is_in_the_way from to b ≡ false
 
--- this byte, where it is no delimiter where the set comes from
+-- this byte, where it isn't a delimiter where the set comes from
 abbrev pub is_foreign : (from : Delims) → ℕ → ℕ → Bool
 is_foreign from byte b = not (is_delimiter from b) && b == byte
 

@@ -24,7 +24,7 @@ abbrev pub is_deliverable : PlacedValue → Bool
 is_deliverable p =
     is_not_rejected (verdict_by_standing p) && p.standing.clear && not (is_fa p.group) && not (is_refused p.interchange)
 
--- a byte that is no delimiter where it comes from, and one where it goes to
+-- a byte that isn't a delimiter where it comes from, and one where it goes to
 abbrev pub is_in_the_way : Delims → Delims → ℕ → Bool
 is_in_the_way from to b = not (is_delimiter from b) && is_delimiter to b
 

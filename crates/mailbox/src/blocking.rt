@@ -13,7 +13,7 @@ use x12_bytes::Delims;
 use x12_segs::{Parts, SegView, Segments};
 use x12_write::is_delimiter;
 
-/// Whether a byte is no delimiter where it comes from, and one where it goes to.
+/// Whether a byte isn't a delimiter where it comes from, and one where it goes to.
 fn is_in_the_way(from: &Delims, to: &Delims, byte: u8) -> bool
     ensures { result ≡ is_in_the_way from.now to.now byte }
 {
@@ -26,7 +26,7 @@ fn is_text_in_the_way(from: &Delims, to: &Delims, text: &[u8]) -> bool
     text.iter().any(|byte| is_in_the_way(from, to, *byte))
 }
 
-/// The same of what is kept of an ST. Most are seen to be clear by all their bytes.
+/// Whether a byte of what is kept of an ST is in the way. Most are seen to be clear by all their bytes.
 fn is_header_blocked(from: &Delims, to: &Delims, header: &SegView<'_>) -> bool
     ensures { result ≡ list_any (is_text_in_the_way from.now to.now) (kept_parts header.now) }
 {
@@ -42,7 +42,7 @@ fn are_header_parts_blocked(from: &Delims, to: &Delims, header: &SegView<'_>) ->
     is_text_in_the_way(from, to, header.id()) || are_kept_blocked(from, to, header.elements())
 }
 
-/// The same of an ST's elements but the second.
+/// Whether a byte of an ST's elements but the second is in the way.
 fn are_kept_blocked(from: &Delims, to: &Delims, elements: Parts<'_>) -> bool
     ensures { result ≡ list_any (is_text_in_the_way from.now to.now) (remove elements.entry 1) }
 {
@@ -70,7 +70,7 @@ fn are_left_blocked(from: &Delims, to: &Delims, left: Parts<'_>) -> bool
     left.any(|part| is_text_in_the_way(from, to, part))
 }
 
-/// The same of the first segments of those that are left, `most` of them.
+/// Whether a byte of the first `most` segments of those that are left is in the way.
 fn are_segments_blocked(from: &Delims, to: &Delims, mut left: Segments<'_>, most: u64) -> bool
     ensures { result ≡ list_any (λ seg. is_text_in_the_way from.now to.now seg.bytes) (take most left.entry) }
 {
@@ -103,7 +103,7 @@ fn are_shared(from: &Delims, to: &Delims) -> bool
         && is_delimiter(from, to.terminator)
 }
 
-/// Whether in what is kept of a set, its SE left aside, a byte is that is no delimiter there and one of the receiver's.
+/// Whether in what is kept of a set, its SE left aside, a byte is that isn't a delimiter there and one of the receiver's.
 pub(crate) fn is_blocked(to: &Delims, placed: &PlacedSet<'_, '_, '_>) -> bool
     ensures { result ≡ is_blocked to.now placed.now }
 {
@@ -122,7 +122,7 @@ fn is_exactly_blocked(from: &Delims, to: &Delims, placed: &PlacedSet<'_, '_, '_>
     is_header_blocked(from, to, &set.header) || is_inner_blocked(from, to, placed, &set)
 }
 
-/// The same of the segments between ST and SE. Most sets are seen to be clear without looking at their segments.
+/// Whether a byte of the segments between ST and SE is in the way. Most sets are seen to be clear without looking at their segments.
 fn is_inner_blocked<'a>(
     from: &Delims,
     to: &Delims,

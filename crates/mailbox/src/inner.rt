@@ -69,7 +69,7 @@ fn append_each_as_read(
     Ok(written)
 }
 
-/// The same, where it may be known what they are as they are read, and that there are this many.
+/// Adds the segments as they are read, where it may be known what they are, and that there are this many.
 fn append_as_read(
     out: &mut Vec<u8>,
     from: &Delims,

@@ -1,4 +1,4 @@
--- Private. Where a walk by marks stands in a stretch of a text, and what it has read (X12.6, segment terminator, data element separator).
+-- Private. Where a walk by marks is in a stretch of a text, and what it has read (X12.6, segment terminator, data element separator).
 use Rattle.std.specs.Prelude.{ℕ, ◌≡◌, ◌<◌, ◌≤◌, false, IsTrue, List, [], ◌∷◌, length, map, take, Option, Some, None}
 use Rattle.std.specs.List.{list_any}
 use Rattle.memchr.specs.Find.{is_byte, places}
@@ -13,7 +13,7 @@ use Rattle.marked_segments.specs.declared.bounds.Bounds.{Bounds}
 abbrev pub views_behind : Delims → (base : ℕ) → (stretch : List ℕ) → (at : ℕ) → List SegValue
 views_behind delims base stretch at = map (view_of delims) (map (moved_by base) (segs_from stretch delims.terminator at))
 
--- the walk stands where what is left of its block begins
+-- the walk is where what is left of its block begins
 pub record StandsAt (delims : Delims) (stretch : List ℕ) (walk : MarkWalk) : Type 0 where
   pub block : IsBlock delims stretch walk.block
   pub room : walk.count ≤ length walk.separators.items

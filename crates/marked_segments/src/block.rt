@@ -21,7 +21,7 @@ pub(crate) struct Block {
     pub(crate) odds: u64,
 }
 
-/// What of a block stands before its first terminator, or all of it.
+/// What of a block is before its first terminator, or all of it.
 #[derive(Clone, Copy, Drop)]
 pub(crate) struct Front {
     pub(crate) end: usize,
@@ -92,7 +92,7 @@ pub(crate) fn block_at(text: &[u8], base: usize, stretch: &[u8], at: usize, deli
     }
 }
 
-/// What stands before a block's first terminator. Stretch and delimiters are for the contract alone.
+/// What is before a block's first terminator. Stretch and delimiters are for the contract alone.
 #[inline(always)]
 pub(crate) fn front_of(stretch: &[u8], block: Block, delims: Delims) -> Front
     requires { IsBlock delims stretch.now block }

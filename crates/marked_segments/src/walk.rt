@@ -7,10 +7,10 @@ ghost use Rattle.marked_segments.specs.Walk.{StandsAt, IsRead};
 use crate::block::{Block, Front, behind, block_at, front_of};
 use x12_bytes::Delims;
 
-/// A walk over a stretch of a text by its marks: where it stands, and what it has found of the part that it read last.
+/// A walk over a stretch of a text by its marks: where it is, and what it has found of the part that it read last.
 #[derive(Drop)]
 pub(crate) struct MarkWalk {
-    /// What wasn't read of the bytes that were looked at together. The walk stands where it begins.
+    /// What wasn't read of the bytes that were looked at together. The walk is where it begins.
     pub(crate) block: Block,
     /// Room for the offsets of the part's element separators from its front.
     pub(crate) separators: Vec<usize>,
@@ -20,7 +20,7 @@ pub(crate) struct MarkWalk {
     pub(crate) is_plain: bool,
 }
 
-/// Notes the element separators from an offset up to another, by their mask; where there is no room for them, or a byte is odd by the
+/// Notes the element separators from an offset up to another, by their mask; where there isn't room for them, or a byte is odd by the
 /// other mask, the part isn't plain.
 #[inline(always)]
 fn note_front(

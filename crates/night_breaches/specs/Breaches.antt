@@ -1,4 +1,4 @@
--- What breaks a rule between nights, or in one (own; X12.5, ISA13; X12.6, GS06 and ST02). The older nights stand newest first.
+-- What breaks a rule between nights, or in one (own; X12.5, ISA13; X12.6, GS06 and ST02). The older nights are newest first.
 use Rattle.std.specs.Prelude.{ℕ, Bool, not, ◌&&◌, ◌==◌, List, [], ◌∷◌, ◌++◌, Option, Some, None, length, if◌then◌else◌}
 use Rattle.std.specs.List.{flat_map}
 use Rattle.std.specs.Cmp.Lexicographic.{slice_cmp}
@@ -49,7 +49,7 @@ number_break night row (Some known) =
 abbrev pub number_breaks : (known : List ℕ → Option KnownRow) → (night : List ℕ) → List AddressNumbers → List Breach
 number_breaks known night rows = flat_map (λ (row : AddressNumbers). number_break night row (known row.address)) rows
 
--- why a file isn't what it has to be
+-- why a file isn't what it must be
 abbrev pub file_fault : FileSum → Option FileFault
 file_fault file =
     if not file.is_given then Some fault.OfNoPartner

@@ -1,4 +1,4 @@
--- What a breach says of nights (own): the nights, sets, rows and files that it names stand there, and break the rule.
+-- What a breach says of nights (own): the nights, sets, rows and files that it names are there, and break the rule.
 use Rattle.std.specs.Prelude.{◌≡◌, ◌≢◌, ℕ, true, false, Contains, List, [], ◌∷◌, ◌++◌, Some, reverse}
 use Rattle.hub_kinds.specs.Words.{contains_text}
 use Rattle.hub_ledger.specs.declared.entry.AddressNumbers.{AddressNumbers}
@@ -45,7 +45,7 @@ HasFault file fault.OfNoPartner = file.is_given ≡ false
 HasFault file fault.NotListed = file.listed ≡ []
 HasFault file fault.Changed = file.listed ≢ file.sum
 
--- a file of a night that isn't what it has to be
+-- a file of a night that isn't what it must be
 pub record IsWrong (night : NightEntry) (b : WrongFile) : Type 0 where
   pub night_is : b.night ≡ night.name
   pub file : FileSum
@@ -68,7 +68,7 @@ pub record IsLate (limit : List ℕ) (night : NightEntry) (b : LateMoment) : Typ
   pub moment_is : b.moment ≡ night.moment
   pub late : is_before limit b.moment ≡ true
 
--- what is broken by a night after older ones, the newest of which stands first
+-- what is broken by a night after older ones, the newest of which comes first
 abbrev pub IsBroken : (limit : List ℕ) → (older : List NightEntry) → NightEntry → Breach → Type 0
 IsBroken limit older night (breach.DeliveredTwice b) = WasDelivered older night b
 IsBroken limit older night (breach.NumbersBreak b) = BeginsOtherwise older night b

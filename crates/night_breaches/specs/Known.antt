@@ -22,7 +22,7 @@ row_in rows address = option_map known_of (get_by (λ k. slice_cmp nat_cmp addre
 abbrev pub night_before : Option (Bor NightEntry) → Option NightEntry
 night_before before = option_map (λ night. night.now) before
 
--- the maps have what the older nights say, of which the newest stands first
+-- the maps have what the older nights say, of which the newest comes first
 pub record Knows (known : Known) (older : List NightEntry) : Type 0 where
   pub nights : (key : List ℕ) → night_in known.nights key ≡ night_with key older
   pub rows : (address : List ℕ) → row_in known.rows address ≡ last_known address older

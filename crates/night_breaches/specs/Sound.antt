@@ -1,4 +1,4 @@
--- Nights that are sound (own): each goes on from those before it, and its files and its moment are what they have to be.
+-- Nights that are sound (own): each continues from those before it, and its files and its moment are what they must be.
 use Rattle.std.specs.Prelude.{◌≡◌, ◌≢◌, ℕ, true, false, List, [], ◌∷◌, IfSome, reverse}
 use Rattle.std.specs.List.{AllByRecursion}
 use Rattle.hub_ledger.specs.declared.entry.FileSum.{FileSum}
@@ -12,7 +12,7 @@ pub record IsAsListed (file : FileSum) : Type 0 where
   pub listed : file.listed ≢ []
   pub same : file.listed ≡ file.sum
 
--- a night after older ones, the newest of which stands first
+-- a night after older ones, the newest of which comes first
 pub record IsSound (limit : List ℕ) (older : List NightEntry) (night : NightEntry) : Type 0 where
   pub goes_on : GoesOn older night
   pub files : AllByRecursion IsAsListed night.files
@@ -24,6 +24,6 @@ abbrev pub AreSound : (limit : List ℕ) → (older : List NightEntry) → List 
 AreSound limit older [] = Unit {0}
 AreSound limit older (night ∷ nights) = IsSound limit older night × AreSound limit (night ∷ older) nights
 
--- sound nights go on
+-- sound nights continue
 abbrev pub SoundNightsGoOn : Type 0
 SoundNightsGoOn = (limit : List ℕ) (nights : List NightEntry) → AreSound limit [] nights → GoOn (reverse nights)

@@ -27,7 +27,7 @@ pub struct NumberBreak<'a> {
     pub left: Counters,
 }
 
-/// Why a file isn't what it has to be.
+/// Why a file isn't what it must be.
 #[derive(Clone, Copy, Debug, PartialEq, Eq)]
 pub enum FileFault {
     /// No file of this name is given by the night.
@@ -38,7 +38,7 @@ pub enum FileFault {
     Changed,
 }
 
-/// A file that isn't what it has to be.
+/// A file that isn't what it must be.
 #[derive(Debug, Drop)]
 pub struct WrongFile<'a> {
     pub night: Lent<'a>,
@@ -62,7 +62,7 @@ pub struct LateMoment<'a> {
     pub moment: Lent<'a>,
 }
 
-/// The last night is another one than the one that is named last. Empty names stand for none.
+/// The last night is another one than the one that is named last. Empty names mean none.
 #[derive(Debug, Drop)]
 pub struct LastNight<'a> {
     pub last: Lent<'a>,

@@ -40,7 +40,7 @@ fn last_name(nights: &[NightEntry]) -> &[u8]
     }
 }
 
-/// Adds that the last night is another one than the one that is named last; empty names stand for none.
+/// Adds that the last night is another one than the one that is named last; empty names mean none.
 pub fn last_breach<'a>(
     found: &mut Vec<Breach<'a>>,
     nights: &'a [NightEntry],

@@ -1,6 +1,6 @@
 ghost use Rattle.night_breaches.specs.Sound.{SoundNightsGoOn};
 
-/// Sound nights go on from one another.
+/// Sound nights continue from one another.
 pub fn sound_nights_go_on()
     ensures { SoundNightsGoOn }
 {}

@@ -1,12 +1,12 @@
-//! Whether nights go on from one another: what breaks a rule, by what is kept of each night.
+//! Whether nights continue from one another: what breaks a rule, by what is kept of each night.
 //!
 //! Proved:
 //! - `breaches` gives just what the definition says, night by night (`found`);
-//! - it gives none exactly if the nights are sound (`none`): each goes on from those before it (no set is delivered to a receiver on two
+//! - it gives none exactly if the nights are sound (`none`): each continues from those before it (no set is delivered to a receiver on two
 //!   nights, the numbers of each address begin where the last night that knows it left them), each file has the sum that was listed,
 //!   no moment is before that of the night before, and none is after the limit;
-//! - what it gives is broken: it names nights that stand there in this order, and what they have breaks that rule (`each`);
-//! - sound nights are nights of `hub_ledger` that go on (`sound_nights_go_on`);
+//! - what it gives is broken: it names nights that are there in this order, and what they have breaks that rule (`each`);
+//! - sound nights are nights of `hub_ledger` that continue (`sound_nights_go_on`);
 //! - `last_breach` says exactly whether the last night is another one than the one that is named last.
 //!
 //! Keys and addresses are found in ordered maps, so the cost is that of sorting them.

@@ -98,7 +98,7 @@ fn add_number_breaks<'a>(
     Ok(())
 }
 
-/// Why a file isn't what it has to be.
+/// Why a file isn't what it must be.
 fn file_fault(file: &FileSum) -> Option<FileFault>
     ensures { result ≡ spec.file_fault file.now }
 {
@@ -131,7 +131,7 @@ fn add_wrong_file<'a>(
     Ok(())
 }
 
-/// Adds the files of a night that aren't what they have to be.
+/// Adds the files of a night that aren't what they must be.
 fn add_wrong_files<'a>(
     found: &mut Vec<Breach<'a>>,
     night: &'a [u8],

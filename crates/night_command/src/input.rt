@@ -30,7 +30,7 @@ fn said_of<F: OpenFile + Drop>(answer: io::Result<F>) -> io::Result<(F, Metadata
     Ok((file, said))
 }
 
-/// The same, by what the system said.
+/// The input, by what the system said.
 fn input_of<'a, F: Read + Drop>(opened: io::Result<(F, Metadata)>) -> Result<Reader<F>, Failure<'a>>
     ensures limit { IsInputOf opened result }
     ensures remaining { IfOk result (λ source. IfOk opened (λ said. ⟦<Reader<F> as Source>⟧.remaining source ≡ F.remaining said.0)) }

@@ -84,7 +84,7 @@ where
     }
 }
 
-/// The same by the setup of these options.
+/// Runs the night by the setup of these options.
 fn run_by<R, O, E>(rt: &R, options: &Options<'_>, setup: &Setup, out: &mut O, err: &mut E) -> u8
 where
     R: Files + AllocGlobal + Threads + Wait + Clock + Sync,

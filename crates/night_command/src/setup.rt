@@ -49,7 +49,7 @@ pub fn setup_of<'a>(alloc: Global, files: &SetupFiles<'a>) -> Result<Setup, Fail
     setup_from(alloc, files, guides, rows)
 }
 
-/// The same, of the guides and the rows that were read of these files.
+/// The setup of the guides and the rows that were read of these files.
 fn setup_from<'a>(
     alloc: Global,
     files: &SetupFiles<'a>,

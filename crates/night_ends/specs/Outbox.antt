@@ -29,7 +29,7 @@ PutsFile old new result file = MatchResult result (λ _. AddsFiles old new (file
 abbrev pub path_in : (folder name : List ℕ) → List ℕ
 path_in folder name = folder ++ (codes "/" ++ name)
 
--- an error of this kind is counted; one out of memory is no fault of the outbox
+-- an error of this kind is counted; one out of memory isn't a fault of the outbox
 pub record CountsError (kind : ErrorKind) (before after : ℕ) : Type 0 where
   pub memory : kind ≡ OutOfMemory → after ≡ before
   pub other : kind ≢ OutOfMemory → after ≡ before + 1

@@ -41,7 +41,7 @@ IsPresence look (Nothing absent) = (look.answer ≡ Ok false) × (absent ≡ loo
 IsPresence look Something = look.answer ≡ Ok true
 IsPresence look (Unknown error) = look.answer ≡ Err error
 
--- a file was written: the path at which it stands, its name and its bytes
+-- a file was written: the path at which it is, its name and its bytes
 pub record WrittenFile : Type 0 where
   pub path : List ℕ
   pub file : File

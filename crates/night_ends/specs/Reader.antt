@@ -7,7 +7,7 @@ use Rattle.std.specs.declared.io.ErrorKind.TheVariants as kind
 use Rattle.stream_read.specs.declared.source.SourceFault.{SourceFault}
 use Rattle.stream_read.specs.declared.source.SourceFault.TheVariants.{Failed, Interrupted}
 
--- an error of this kind after so many interruptions in a row: an interruption is one, as long as they can be counted, and all else is
+-- an error of this kind after that many interruptions in a row: an interruption is one, as long as they can be counted, and all else is
 -- a failure
 pub record IsFaultOf (of : ErrorKind) (row : ℕ) (fault : SourceFault) : Type 0 where
   pub interrupted : of ≡ kind.Interrupted → row < 4294967295 → fault ≡ Interrupted

@@ -9,14 +9,14 @@
 //!   (`print_text`);
 //! - a file is put only by a `Written` of its name and its bytes, which nothing but the write of just these bytes into a file makes
 //!   (`write_and_sync`), so a put can't succeed where nothing was written; that file was made for the path that it says (`Created`,
-//!   `create_at`), and a folder's files stand at its path, a slash and their name (`Directory`, `path`); how often a put failed, out of
+//!   `create_at`), and a folder's files are at its path, a slash and their name (`Directory`, `path`); how often a put failed, out of
 //!   memory aside, is counted by the kinds of its errors (`Outbox`, `faults`);
 //! - what is opened is known by the path that it was asked for (`Opened`, `open_at`), and whether it was opened by the system's answer;
 //! - a file that is made shows how the system was asked for it: for a new one, so that one that is there is never opened
 //!   (`create_new_at`), or for one that is emptied (`create_at`);
 //! - that nothing is at a path is known only by the system's answer of that path (`look_at`, `Absent`);
 //! - how many bytes a reader gave is counted (`Reader`, `given`);
-//! - the mistake of a command line that is printed stands in one line, without bytes that control a terminal (`mistake_found`).
+//! - the mistake of a command line that is printed is in one line, without bytes that control a terminal (`mistake_found`).
 //!
 //! Only tested: that what was written is flushed and synced, that the system is asked for the file at the path, and in the way, that is
 //! shown, and that a put gives the system's own error on, since no contract says what `flush` and `sync_all` do, what is at a path, nor

@@ -22,7 +22,7 @@ pub struct Reader<I> {
 impl<I: Read> Reader<I> {
     ghost use Rattle.std.specs.Prelude.{◌≡◌};
 
-    /// Of this input, of which nothing was read.
+    /// A reader of `input`, of which nothing was read.
     pub fn new(input: I) -> Reader<I>
         ensures remaining { ⟦<Reader<I> as Source>⟧.remaining result ≡ I.remaining input }
         ensures faults { ⟦<Reader<I> as Source>⟧.faults result ≡ 0 }
@@ -92,7 +92,7 @@ impl<I: Read> Source for Reader<I> {
     }
 }
 
-/// What a source answers for this answer of the system, after so many interruptions in a row.
+/// What a source answers for this answer of the system, after that many interruptions in a row.
 fn answer_of(answer: io::Result<usize>, row: u32) -> Result<usize, SourceFault>
     ensures { IsAnswerOf answer row result }
 {

@@ -27,7 +27,7 @@ pub fn texts_given<'a>(
     }
 }
 
-/// The same texts, as a list of its own.
+/// A copy of the list of texts.
 pub fn copied<'a>(alloc: Global, texts: &[&'a str]) -> Result<Vec<&'a str>, AllocError>
     ensures { IfOk result (λ copy. copy.items ≡ texts.now) }
 {

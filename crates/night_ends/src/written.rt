@@ -14,7 +14,7 @@ use std::{fs, io, mem};
 /// How many bytes of small parts are written together.
 const TOGETHER: usize = 262_144;
 
-/// That a file was written: the path at which it stands, its name, and its bytes, in parts. Only `write_and_sync` makes one.
+/// That a file was written: the path at which it is, its name, and its bytes, in parts. Only `write_and_sync` makes one.
 #[derive(Drop)]
 pub struct Written<'a> {
     path: String,
@@ -35,7 +35,7 @@ impl<'a> Model for Written<'a> {
 impl<'a> Written<'a> {
     ghost use Rattle.std.specs.Prelude.{◌≡◌, OnErr, OnOk, string_bytes};
 
-    /// The path at which the file stands.
+    /// The path at which the file is.
     pub fn path(&self) -> &str
         ensures { result.now ≡ self.now.path }
     {
@@ -54,7 +54,7 @@ impl<'a> Written<'a> {
     }
 }
 
-/// Room in which small parts are put together. A file is made only behind it, so that no want of memory leaves a part of a file.
+/// Room in which small parts are put together. A file is made only after it, so that no lack of memory leaves a part of a file.
 pub(crate) fn room_for_parts(alloc: Global) -> io::Result<Vec<u8>> {
     Ok(Vec::with_capacity(alloc, TOGETHER)?)
 }

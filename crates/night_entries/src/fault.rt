@@ -12,7 +12,7 @@ pub enum Paper {
     Track,
 }
 
-/// Why there is no entry.
+/// Why there isn't an entry.
 #[derive(Clone, Copy, Debug, PartialEq, Eq)]
 pub enum EntryFault {
     /// This file isn't what a night leaves.

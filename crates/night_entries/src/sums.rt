@@ -13,7 +13,7 @@ use std::alloc::Global;
 /// How many digits a sum has.
 const DIGITS: usize = 64;
 
-/// How many spaces stand between a sum and a name.
+/// How many spaces are between a sum and a name.
 const SPACES: usize = 2;
 
 const SUMS: EntryFault = EntryFault::Unreadable(Paper::Sums);

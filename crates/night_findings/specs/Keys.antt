@@ -27,6 +27,6 @@ key_at guides place = key_by (slice_get guides place)
 abbrev pub KeepsGuides : List GuideRows → Partner → BTreeMap (Vec ℕ Global) ℕ → Type 0
 KeepsGuides guides p table = KeepsPlaces table 0 (map (key_at guides) p.guides)
 
--- before this number no key is this one; none is where there is no number
+-- before this number no key is this one; none if there is no number at all
 abbrev pub IsStart : (keys : List (List ℕ)) → (key : List ℕ) → Option ℕ → Type 0
 IsStart keys key start = MatchOption start (place_of keys key ≡ None) (λ j. (j ≡ 0) ⊎ (place_of keys key ≡ Some j))

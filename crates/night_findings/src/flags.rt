@@ -36,7 +36,7 @@ fn flag_of(full: &FullRegister<'_, '_>, faults: &[Option<InterchangeFault>], pla
     }
 }
 
-/// Of each of some places of the register's index, whether an earlier place has its number: of a group or a set exactly where the
+/// Says of each of some places of the register's index whether an earlier place has its number: of a group or a set exactly where the
 /// first use of its number is an earlier place (X12.6, group and set control numbers), of an interchange where it has a fault of 1 to 9,
 /// which can only be 9, since one with another has no place (X12.5, interchange control number). The only error is out of memory.
 pub(crate) fn flags_of(

@@ -28,7 +28,7 @@ pub struct FoundText<'a> {
     pub findings: Vec<Finding<'a>>,
 }
 
-/// The same of a text that is after others.
+/// What is found of a text that is after others.
 #[derive(Drop)]
 pub struct FoundBehind<'a> {
     /// Its index, settled with the faults 1 to 9.
@@ -76,7 +76,7 @@ pub fn find_out<'g: 'a, 'a, G: Gate + Sync, R: Threads + Wait + Clock + Sync>(
     Ok(without_numbers(found))
 }
 
-/// The same of a text that interchanges come before, by the numbers of those of them that have none of the faults 1 to 8; and the numbers
+/// Finds out about a text after earlier interchanges, by the numbers of those of them that have none of the faults 1 to 8; and the numbers
 /// after the text. An error leaves no numbers.
 pub fn find_out_behind<'g: 'a, 'a, G: Gate + Sync, R: Threads + Wait + Clock + Sync>(
     rt: &R,

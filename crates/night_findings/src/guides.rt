@@ -53,7 +53,7 @@ impl<'a> FastGuides<'a> {
     ghost use Rattle.partner_setup.specs.Tables.{KeepsPlaces};
     ghost use Rattle.night_findings.specs.Keys.{key_at};
 
-    /// Of a setup. The only error is out of memory.
+    /// The fast guides of `setup`. The only error is out of memory.
     pub fn of(alloc: Global, setup: &'a Setup) -> Result<FastGuides<'a>, NoMemory>
         ensures { IfOk result (λ f. f ≡ setup.now) }
     {

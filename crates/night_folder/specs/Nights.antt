@@ -128,7 +128,7 @@ abbrev pub IsBad : NightFiles → NightFile → FileState → Type 0
 IsBad files file state.Unread = first_unread files ≡ Some file
 IsBad files file state.Wrong = IsWrong files file
 
--- why there is no entry: a file, or memory, which says nothing of the files
+-- why there isn't an entry: a file, or memory, which says nothing of the files
 abbrev pub IsFaultOf : NightFiles → NightFault → Type 0
 IsFaultOf files (fault.File file state) = IsBad files file state
 IsFaultOf files fault.Memory = ⊤

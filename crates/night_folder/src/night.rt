@@ -18,11 +18,11 @@ use std::rt::Files;
 pub enum NightRead {
     /// What is kept of it.
     Entry(NightEntry),
-    /// The file that isn't what it has to be.
+    /// The file that isn't what it must be.
     Bad(BadFile),
 }
 
-/// Why there is no entry.
+/// Why there isn't an entry.
 #[derive(Clone, Copy, Debug, PartialEq, Eq)]
 pub(crate) enum NightFault {
     File(NightFile, FileState),
@@ -216,7 +216,7 @@ pub fn read_nights<R: Files + AllocGlobal + Clone + Drop>(
     Ok(reads)
 }
 
-/// What is kept of nights, and the files of the others that aren't what they have to be. The only error is out of memory.
+/// What is kept of nights, and the files of the others that aren't what they must be. The only error is out of memory.
 pub fn entries_in(
     alloc: Global,
     reads: Vec<NightRead>,

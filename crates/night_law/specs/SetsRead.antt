@@ -22,7 +22,7 @@ Segments = List (List (List ℕ))
 abbrev pub has_id : List (List ℕ) → (id : List ℕ) → Bool
 has_id segment id = bytes_eq (part_or_empty segment 0) id
 
--- the sets in segments, each from an ST to the SE after it; an ST without SE is no set
+-- the sets in segments, each from an ST to the SE after it; an ST without SE isn't a set
 abbrev pub sets_read : (begun : Option Segments) → Segments → List Segments
 sets_read begun [] = []
 sets_read None (s ∷ ss) = if has_id s (codes "ST") then sets_read (Some (s ∷ [])) ss else sets_read None ss

@@ -25,7 +25,7 @@ pub enum FileState {
     Wrong,
 }
 
-/// A night of which nothing is kept, since a file of it isn't what it has to be.
+/// A night of which nothing is kept, since a file of it isn't what it must be.
 #[derive(Debug, Drop)]
 pub struct BadFile {
     pub night: Text,

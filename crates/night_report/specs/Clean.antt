@@ -9,7 +9,7 @@ all_but_last [] = []
 all_but_last (part ∷ []) = []
 all_but_last (part ∷ next ∷ more) = part ∷ all_but_last (next ∷ more)
 
--- the lines of a report: what LF ends; what comes after the last LF is no line
+-- the lines of a report: what LF ends; what comes after the last LF isn't a line
 abbrev pub lines_of : (report : List ℕ) → List (List ℕ)
 lines_of report = all_but_last (parts 10 report)
 

@@ -25,7 +25,7 @@ name_by (Some partner) = partner.name
 abbrev pub partner_name : SetupValue → (place : ℕ) → List ℕ
 partner_name setup place = name_by (slice_get setup.partners place)
 
--- that of a sender; of none where there is no partner
+-- that of a sender; of none where there isn't a partner
 abbrev pub sender_name : SetupValue → (sender : Option ℕ) → List ℕ
 sender_name setup None = codes "?"
 sender_name setup (Some sender) = partner_name setup sender

@@ -32,7 +32,7 @@ impl ReportLines {
     ghost use Rattle.std.specs.Prelude.{◌≡◌, ◌+◌, ◌<◌, ◌^◌, IfOk, length};
     ghost use Rattle.night_report.specs.Told.{nothing_told, told_behind, told_text};
 
-    /// Of nothing.
+    /// The lines of an empty report.
     pub fn new(alloc: Global) -> ReportLines
         ensures { result ≡ nothing_told }
     {

@@ -20,7 +20,7 @@ impl Totals {
     ghost use Rattle.night_report.specs.Adding as adding;
     ghost use Rattle.night_report.specs.Room.{FitsWith};
 
-    /// Of nothing.
+    /// The totals of nothing.
     pub(crate) fn none() -> Totals
         ensures { result ≡ adding.none }
     {
@@ -34,7 +34,7 @@ impl Totals {
         }
     }
 
-    /// Of an interchange that is refused.
+    /// The totals of an interchange that is refused.
     pub(crate) fn of_refused() -> Totals
         ensures { result ≡ adding.refused_one }
     {
@@ -48,7 +48,7 @@ impl Totals {
         }
     }
 
-    /// Of an interchange that isn't refused, before its groups.
+    /// The totals of an interchange that isn't refused, before its groups.
     pub(crate) fn of_accepted() -> Totals
         ensures { result ≡ adding.accepted_one }
     {

@@ -5,7 +5,7 @@ use stream_read::StreamFault;
 /// Why a stream gives no night.
 #[derive(Debug, Drop)]
 pub enum Stopped {
-    /// It is too long, it can't be read, or there is no memory to hold it.
+    /// It is too long, it can't be read, or there isn't memory to hold it.
     Stream(StreamFault),
     /// It isn't worked on: memory is refused, or a thread.
     Pool(PoolFault),

@@ -99,7 +99,7 @@ impl Writing {
     ghost use Rattle.checked_text.specs.Asked.{IsFound, asked_of};
     ghost use Rattle.night_writing.specs.Writing.{HasRoomFor, IsBatchWritten, IsClosedBy, nothing_written, with_outside};
 
-    /// Of nothing. The only error is out of memory.
+    /// Writing in which nothing is written yet. The only error is out of memory.
     pub fn new(alloc: Global, setup: &Setup) -> Result<Writing, NoMemory>
         ensures { IfOk result (λ w. w ≡ nothing_written setup.now) }
     {
@@ -113,7 +113,7 @@ impl Writing {
         })
     }
 
-    /// The same with more bytes that are outside interchanges.
+    /// This writing with more bytes that are outside interchanges.
     fn with_outside(self, more: u64) -> Writing
         requires { self.outside + more < 2 ^ 64 }
         ensures { result ≡ with_outside self more }
@@ -206,7 +206,7 @@ impl Writing {
         self.add_answered(alloc, &OneThread, setup, at, base, index, None)
     }
 
-    /// The same of a batch of which all was found out before: of each place of its index whether its number is used earlier, and of each
+    /// Writes a batch of which all was found out before: of each place of its index whether its number is used earlier, and of each
     /// set how it was checked; these writers write the delivered sets and the 999s. The only error is out of memory; then what was
     /// written before is dropped.
     pub fn add_found<'a, W: Writers + ReportWriters>(

@@ -1,6 +1,6 @@
-//! `nighthub_day check NIGHTS` says whether each night of a folder goes on from those before it: on standard output a line for each set
-//! that is delivered twice, each address whose numbers don't go on, each file that isn't what its night gave, and a last line of totals.
-//! It only reads. Status 0 says that each night goes on, 1 that one doesn't; a run that fails prints one line on standard error and ends
+//! `nighthub_day check NIGHTS` says whether each night of a folder continues from those before it: on standard output a line for each set
+//! that is delivered twice, each address whose numbers don't continue, each file that isn't what its night gave, and a last line of totals.
+//! It only reads. Status 0 says that each night continues, 1 that one doesn't; a run that fails prints one line on standard error and ends
 //! with 2, 4, 5 or 6 (docs/ERRORS.md).
 //!
 //! Proved: the program is safe on every input, and ends. If memory is refused for its arguments, it reports that. All else of a run is

@@ -28,7 +28,7 @@ where_before at (Some first) = cond (ltb first at) (Some first) None
 abbrev pub AreRising : {K : Type 0} → (K → K → Ordering) → List (Option K) → Type 0
 AreRising {K} cmp keys = (i j : ℕ) (a b : K) → i < j → slice_get keys i ≡ Some (Some a) → slice_get keys j ≡ Some (Some b) → cmp a b ≡ Less
 
--- from an end on there is no key
+-- from an end on there isn't a key
 abbrev pub AreBelow : {K : Type 0} → ℕ → List (Option K) → Type 0
 AreBelow {K} end keys = (i : ℕ) (a : K) → slice_get keys i ≡ Some (Some a) → i < end
 

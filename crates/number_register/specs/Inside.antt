@@ -1,4 +1,4 @@
--- What the fields of the records stand for. Private.
+-- What the fields of the records mean. Private.
 use Rattle.std.specs.Prelude.{◌≡◌, true, Contains}
 use Rattle.hub_kinds.specs.declared.place.Place.{Place}
 use Rattle.env_index.specs.Words.{places_of}

@@ -1,4 +1,4 @@
--- Own: what stands at a place of an index, by its numbers, and the key of its number. Private.
+-- Own: what is at a place of an index, by its numbers, and the key of its number. Private.
 use Rattle.std.specs.Prelude.{◌≡◌, ◌-◌, ◌<◌, ◌≤◌, List, Some, map, length, slice_get}
 use Rattle.hub_kinds.specs.declared.place.Place.{Place}
 use Rattle.env_index.specs.Words.{IndexEntry}

@@ -38,7 +38,7 @@ impl<K: Ord + Copy + Drop> Model for Book<K> {
 impl<K: Ord + Copy + Drop> Book<K> {
     ghost use Rattle.std.specs.Prelude.{replicate, is_some};
 
-    /// No key at each of so many positions. The only error is out of memory.
+    /// No key at each of that many positions. The only error is out of memory.
     pub fn new(alloc: Global, count: usize) -> Result<Book<K>, AllocError>
         ensures { IfOk result (λ b. b ≡ replicate count None) }
     {
@@ -113,7 +113,7 @@ fn earlier_by<K: Ord + Copy + Drop>(
     if first < at { Some(first) } else { None }
 }
 
-/// Whether keys go on rising with this one, as far as its near neighbours show.
+/// Whether keys continue rising with this one, as far as its near neighbours show.
 fn fits<K: Ord + Copy + Drop>(keys: &[Option<K>], end: usize, at: usize, key: K) -> bool
     requires end { AreBelow end keys.now }
     requires absent { slice_get keys.now at ≡ Some None }

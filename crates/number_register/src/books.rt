@@ -23,7 +23,7 @@ impl<K: Ord + Copy + Drop> Model for Books<K> {
 }
 
 impl<K: Ord + Copy + Drop> Books<K> {
-    /// No book, and room for so many. The only error is out of memory.
+    /// No book, and room for that many. The only error is out of memory.
     pub(crate) fn new(alloc: Global, room: usize) -> Result<Books<K>, AllocError>
         ensures { IfOk result (λ b. b ≡ []) }
     {
@@ -31,7 +31,7 @@ impl<K: Ord + Copy + Drop> Books<K> {
         Ok(Books { alloc, books })
     }
 
-    /// One more book, which has no key at each of so many positions. The only error is out of memory, which leaves the books as
+    /// One more book, which has no key at each of that many positions. The only error is out of memory, which leaves the books as
     /// they were.
     pub(crate) fn push(&mut self, count: usize) -> Result<(), AllocError>
         ensures ok { OnOk result (self.new ≡ self.old ++ replicate count None ∷ []) }

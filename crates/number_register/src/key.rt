@@ -4,7 +4,7 @@ use crate::reading::{group_key, set_key};
 use env_index::Index;
 use hub_kinds::Place;
 
-/// The number of a place, as it is compared: GS06 as a number, or ST02. The fields of an interchange's header stand at fixed places,
+/// The number of a place, as it is compared: GS06 as a number, or ST02. The fields of an interchange's header are at fixed places,
 /// and are read where they are needed.
 #[derive(Clone, Copy)]
 pub(crate) enum Key<'a> {

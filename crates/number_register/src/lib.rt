@@ -18,7 +18,7 @@
 //! - `finish_all` makes records whole: it records what is missing, and gives those of the same index;
 //! - `FullRegister::recorded` are the places of the index, each once, in the order of recording;
 //! - `FullRegister::earlier_of` answers the first use of a place's number where that is an earlier place (`IsFirstUse`),
-//!   and none where there is no such place, whatever was recorded first;
+//!   and none where there isn't such a place, whatever was recorded first;
 //! - `Seen` keeps the numbers of the interchanges of batch after batch: `add` adds exactly those of the interchange places of an
 //!   index, or leaves what was seen as it was where memory is refused; `holds` answers whether an interchange's number was seen;
 //! - for every interleaving of the threads, whenever the lock is free the records are of the index that the register's
@@ -29,7 +29,7 @@
 //! - `Book::add` puts a key at a position that has none, and leaves the book as it was where memory is
 //!   refused;
 //! - `Book::earlier` answers the first position before the one asked about whose key is equal to its own,
-//!   and none where there is no such position (`first_of`, `where_before`), whatever came first;
+//!   and none where there isn't such a position (`first_of`, `where_before`), whatever came first;
 //! - `Books` is a list of books, of which a call changes one.
 //!
 //! X12.5, interchange control number (ISA13) with sender and receiver (ISA05 to ISA08); X12.6, group control number

@@ -96,7 +96,7 @@ impl Recorded {
     }
 }
 
-/// A register: records behind a lock, and what is left of its ledger. Contracts see how many shares it gave.
+/// A register: records under a lock, and what is left of its ledger. Contracts see how many shares it gave.
 #[derive(Drop)]
 pub struct Register<'i, 'a, J: Named> {
     side: RecordLock<'i, 'a, J>,

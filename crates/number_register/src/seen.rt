@@ -10,7 +10,7 @@ use hub_kinds::NoMemory;
 use std::alloc::Global;
 
 /// The numbers of the interchanges of the batches so far: ISA05 to ISA08 and ISA13 of each (X12.5, interchange sender, receiver and
-/// control number). They lend from no text, so that they stand while batch after batch is read.
+/// control number). They lend from no text, so that they last while batch after batch is read.
 ///
 /// They are kept in runs, each in order. A batch is one more run, joined with the last ones that are no longer than it. So there are
 /// few runs, and the cost follows the numbers whatever numbers somebody chooses.

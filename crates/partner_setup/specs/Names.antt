@@ -1,4 +1,4 @@
--- Own: names, and the places at which they stand.
+-- Own: names, and the places at which they are.
 use Rattle.std.specs.Prelude.{ℕ, ◌+◌, List, [], ◌∷◌, Option, Some, None, slice_get, if◌then◌else◌}
 use Rattle.std.specs.Str.{bytes_eq}
 
@@ -19,7 +19,7 @@ abbrev pub places_of_texts : List (List ℕ) → List (List ℕ) → List ℕ
 places_of_texts texts [] = []
 places_of_texts texts (name ∷ names) = and_some (place_of texts name) (places_of_texts texts names)
 
--- what stands at places
+-- what is at places
 abbrev pub those_at : {A : Type 0} → List A → (places : List ℕ) → List A
 those_at xs [] = []
 those_at xs (place ∷ places) = and_some (slice_get xs place) (those_at xs places)

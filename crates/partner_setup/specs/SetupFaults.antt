@@ -141,7 +141,7 @@ name_of_row p = p.name
 abbrev pub are_targets : List PartnerRow → (names : List (List ℕ)) → Bool
 are_targets ps names = list_all (contains_text (map name_of_row ps)) names && not (has_twice by_name names)
 
--- 5: a target that is no partner or is named twice in one list, a code that hasn't its form, or one given twice
+-- 5: a target that isn't a partner or is named twice in one list, a code that hasn't its form, or one given twice
 abbrev pub is_route : List PartnerRow → RouteRow → Bool
 is_route ps r = is_id 2 15 r.code && are_targets ps r.to
 

@@ -21,7 +21,7 @@ AreCounters c =
 abbrev pub has_delimiters : Delims → Bool
 has_delimiters d = option_map_or (λ (r : ℕ). are_delimiters d.element d.component r d.terminator) d.repetition false
 
--- a partner of a setup with so many guides
+-- a partner of a setup with that many guides
 pub record IsSoundPartner (guide_count : ℕ) (p : Partner) : Type 0 where
   pub cap_least : 1 ≤ p.cap
   pub cap_most : p.cap ≤ 99999
@@ -32,11 +32,11 @@ pub record IsSoundPartner (guide_count : ℕ) (p : Partner) : Type 0 where
   pub ids : IsTrue (are_ids p.qualifier p.id p.code)
   pub guides : All (λ (g : ℕ). g < guide_count) p.guides
 
--- places of partners, of so many
+-- places of partners, of that many
 abbrev pub AreWithin : (count : ℕ) → List ℕ → Type 0
 AreWithin count places = All (λ (q : ℕ). q < count) places
 
--- no place stands twice
+-- no place appears twice
 abbrev pub AreApart : List ℕ → Type 0
 AreApart places = AllPairs (λ (p q : ℕ). p ≢ q) places
 

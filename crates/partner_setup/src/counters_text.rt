@@ -57,7 +57,7 @@ impl Setup {
     ghost use Rattle.std.specs.Prelude.{◌≡◌, length, IfOk};
     ghost use Rattle.partner_setup.specs.CountersText as written;
 
-    /// The counters file of the next night, in version 2: for each partner, in their order, the numbers from which it goes on.
+    /// The counters file of the next night, in version 2: for each partner, in their order, the numbers from which it continues.
     /// The only error is out of memory.
     pub fn counters_text(&self, alloc: Global, next: &[Counters]) -> Result<Text, NoMemory>
         requires { length next.now ≡ length self.now.partners }

@@ -43,7 +43,7 @@ fn are_delimiters(element: u8, component: u8, repetition: u8, terminator: u8) ->
         && are_apart(element, component, repetition, terminator)
 }
 
-/// The delimiters of a partner's row, where they are what they have to be.
+/// The delimiters of a partner's row, where they are what they must be.
 pub fn delims_of(partner: &PartnerRow) -> Option<Delims>
     ensures { result ≡ faults.delims_of partner.now }
 {

@@ -6,7 +6,7 @@
 //!   aside; else the answer is a function of the table: its first fault, or the rows that it writes;
 //! - `Setup::build` is the setup that rows, counters and guides make, exactly where nothing of them is refused, and else the
 //!   first refusal, in the order of the refusals' numbers, at the least row that is at fault;
-//! - every setup is sound: each partner's cap, counters, delimiters and names are what they have to be, and each route leads to
+//! - every setup is sound: each partner's cap, counters, delimiters and names are what they must be, and each route leads to
 //!   its partners, to none of them twice;
 //! - `Setup::envelope_to` is the envelope from the hub to a partner, and its interchange header can be read again;
 //! - `Setup::sender_of`, `route_of`, `has_group`, `has_version` and `guide_of` look up the rows;

@@ -27,6 +27,6 @@ pub struct Partner {
 pub struct Route {
     /// The application code, GS03.
     pub code: Text,
-    /// The receivers, in the route's order, by their places among the setup's partners; none stands twice.
+    /// The receivers, in the route's order, by their places among the setup's partners; none appears twice.
     pub to: Items<usize>,
 }

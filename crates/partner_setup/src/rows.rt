@@ -139,7 +139,7 @@ pub struct SetupRows {
     pub routes: Items<RouteRow>,
 }
 
-/// From where a partner's numbers go on.
+/// From where a partner's numbers continue.
 #[derive(Debug, Drop)]
 pub struct CounterRow {
     /// The partner's name.

@@ -107,7 +107,7 @@ impl Setup {
         &self.hub
     }
 
-    /// The partners, in their order. Each one's cap, counters, delimiters, names and guides are what they have to be.
+    /// The partners, in their order. Each one's cap, counters, delimiters, names and guides are what they must be.
     pub fn partners(&self) -> &[Partner]
         ensures partners { result.now ≡ self.now.partners }
         ensures sound { All (IsSoundPartner (length self.now.guides)) self.now.partners }

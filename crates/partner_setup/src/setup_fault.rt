@@ -17,13 +17,13 @@ pub enum GuidesOwner {
 
 /// Why rows, counters and guides make no setup, in the order in which it is judged; out of memory may come before
 /// any other. Each reports the least row that is at fault, by its place in its list, from 0 on. Of rows that are given twice that is the
-/// first one whose like stands after it.
+/// first one whose like is after it.
 #[derive(Clone, Copy, Debug, PartialEq, Eq, Error)]
 pub enum SetupFault {
     /// The name, or the qualifier and id, of the partner at this place are those of one after it.
     #[error("a partner is given twice")]
     SamePartner(usize),
-    /// A delimiter of the partner at this place isn't one byte, isn't allowed, or stands for two of the four.
+    /// A delimiter of the partner at this place isn't one byte, isn't allowed, or means two of the four.
     #[error("delimiters that can't be written")]
     BadDelimiters(usize),
     /// A name, qualifier, id or code hasn't its form.

@@ -9,7 +9,7 @@ use hub_kinds::{NoMemory, Text, has_twice};
 use std::alloc::Global;
 use std::collections::BTreeSet;
 
-/// What rows are told apart by.
+/// What rows are distinguished by.
 pub trait Tells {
     type Row;
 
@@ -114,7 +114,7 @@ fn told_apart<'a, K: Tells>(alloc: Global, rows: &'a [K::Row]) -> Result<Vec<Tol
     Ok(told)
 }
 
-/// Whether two rows can't be told apart.
+/// Whether two rows can't be distinguished.
 pub fn given_twice<K: Tells>(alloc: Global, rows: &[K::Row]) -> Result<bool, NoMemory>
     ensures { IfOk result (λ twice. twice ≡ has_twice K.tells rows.now) }
 {

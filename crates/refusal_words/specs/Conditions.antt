@@ -8,7 +8,7 @@ use Rattle.guide_tree.specs.declared.slot.Slot.{Slot}
 use Rattle.refusal_words.specs.declared.conditions.ConditionCause.{ConditionCause}
 use Rattle.refusal_words.specs.declared.conditions.ConditionCause.TheVariants as cause
 
--- the first position at which there is no element
+-- the first position at which there isn't an element
 abbrev pub missing_row : Slot → (positions : List ℕ) → Option ℕ
 missing_row s positions = find (λ p. not (has_row s p)) positions
 

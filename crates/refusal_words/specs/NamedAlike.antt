@@ -26,7 +26,7 @@ alike_words partners earlier =
 unfoldable pub alike_text : List PartnerRow → (number : ℕ) → PartnerRow → (earlier : ℕ) → List ℕ
 alike_text partners number p earlier = in_place (codes "partner") number p.name ++ alike_words partners earlier
 
--- nothing is said where there is no earlier one
+-- nothing is said where there isn't an earlier one
 abbrev pub earlier_said : List PartnerRow → (number : ℕ) → PartnerRow → (earlier : Option ℕ) → List (List ℕ)
 earlier_said partners number p earlier = option_map_or (λ e. alike_text partners number p e ∷ []) earlier []
 

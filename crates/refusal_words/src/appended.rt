@@ -46,7 +46,7 @@ pub fn append_place(
     append_name(out, name)
 }
 
-/// The same after which something is said of it.
+/// Adds words in a place, after which something is said of it.
 pub fn append_in_place(
     out: &mut Vec<u8>,
     kind: &[u8],

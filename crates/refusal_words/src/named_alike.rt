@@ -87,7 +87,7 @@ fn push_alike(
     }
 }
 
-/// The same of all partners, whose names in small letters these are.
+/// Adds all partners, whose names in small letters these are.
 fn push_known(
     alloc: Global,
     found: &mut Vec<Text>,

@@ -47,7 +47,7 @@ pub fn node_at<'a>(nodes: &'a [Node], number: u32) -> Option<&'a Node>
     }
 }
 
-/// The id of a node's segment or loop; empty where there is no node.
+/// The id of a node's segment or loop; empty where there isn't a node.
 pub fn id_of<'a>(node: Option<&'a Node>) -> &'a [u8]
     ensures { result.now ≡ option_map_or node_id (viewed node.entry) [] }
 {

@@ -22,7 +22,7 @@ fn push_text(
     Ok(())
 }
 
-/// The same where something is said.
+/// Adds a sentence, where something is said.
 pub fn push_sentence(
     alloc: Global,
     found: &mut Vec<Text>,

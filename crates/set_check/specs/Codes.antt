@@ -39,7 +39,7 @@ fault_codes faults =
     code_if (list_any (λ f. option_map_or (λ c. not (is_of_guides c)) (reported f) false) faults) code.SegmentsInError
     ++ code_if (list_any (λ f. option_map_or is_of_guides (reported f) false) faults) code.ImplementationSegmentsInError
 
--- 1: there is no guide for the set
+-- 1: there isn't a guide for the set
 abbrev pub guide_codes : Option GuideTree → List SetCode
 guide_codes guide = code_if (is_none guide) code.NotSupported
 

@@ -50,7 +50,7 @@ pub fn body_faults<'a>(
     placed_faults(alloc, set, segs, placing, guide)
 }
 
-/// The same by its compiled guide.
+/// The faults of a body by its compiled guide.
 pub fn body_faults_fast<'a, 'g: 'a>(
     alloc: Global,
     set: &SetSpan,
@@ -68,7 +68,7 @@ pub fn body_faults_fast<'a, 'g: 'a>(
     placed_faults(alloc, set, segs, placing, fast.guide())
 }
 
-/// The same of segments that have their places.
+/// The faults of segments that have their places.
 fn placed_faults<'a>(
     alloc: Global,
     set: &SetSpan,

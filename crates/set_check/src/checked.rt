@@ -18,7 +18,7 @@ pub(crate) struct Found<'a> {
 }
 
 /// A transaction set of a text that was checked, with what was found wrong with it: its faults and codes are those of its own
-/// span by its own guide. Of a set that is clean nothing is kept but where it stands.
+/// span by its own guide. Of a set that is clean nothing is kept but where it is.
 #[derive(Drop)]
 pub struct CheckedSet<'a> {
     pub(crate) text: &'a [u8],

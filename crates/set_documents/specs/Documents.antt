@@ -13,7 +13,7 @@ pub record DocumentValue : Type 0 where
 abbrev pub document_for : List DocumentValue → (identifier : List ℕ) → Option DocumentValue
 document_for documents identifier = find (λ d. bytes_eq d.set identifier) documents
 
--- nothing where there is no such segment
+-- nothing where there isn't such a segment
 abbrev pub number_in : DocumentValue → List SegValue → List ℕ
 number_in d [] = []
 number_in d (seg ∷ segs) = if bytes_eq (id_of seg) d.segment then element_of seg d.element else number_in d segs

@@ -13,7 +13,7 @@ use Rattle.set_walk.specs.Told.{IsTold}
 abbrev pub places_by : GuideTree → List SegValue → List (Option Place)
 places_by g body = placing_of g.nodes (map elements_of body)
 
--- a segment that has a place has an element fault by the slot of that place; the first of the segments stands at position `first`
+-- a segment that has a place has an element fault by the slot of that place; the first of the segments is at position `first`
 pub record IsElementFaultIn (ts : Trees) (first : ℕ) (body : List SegValue) (given : List (Option Place)) (f : Fault) : Type 0 where
   pub index : ℕ
   pub seg : SegValue

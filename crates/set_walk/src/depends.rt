@@ -13,7 +13,7 @@ use guide_tree::{Dependency, DependencyKind};
 use loop_match::text_at;
 use x12_bytes::Delims;
 
-/// So many dependencies may each look at all segments whose slots have labels.
+/// That many dependencies may each look at all segments whose slots have labels.
 pub const FEW: usize = 4;
 
 /// Whether there are few dependencies.

@@ -18,7 +18,7 @@ fn offset_or(offsets: &[usize], index: usize, end: usize) -> usize
     end
 }
 
-/// The element at an index, from 0, of a segment whose element separators stand at these offsets of its bytes; the empty text where it
+/// The element at an index, from 0, of a segment whose element separators are at these offsets of its bytes; the empty text where it
 /// isn't there.
 #[inline]
 fn element_at<'a>(seg: &SegView<'a>, separators: &[usize], k: usize) -> &'a [u8]

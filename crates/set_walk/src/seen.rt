@@ -200,7 +200,7 @@ fn is_trailer(seg: &SegView) -> bool
     matches!(kind_of(seg), Kind::SetTrailer)
 }
 
-/// Sees the next segment, with the places of its element separators, if it is plain, and says whether the walk can go on: after the
+/// Sees the next segment, with the places of its element separators, if it is plain, and says whether the walk can continue: after the
 /// SE there is none, and a body may have too many.
 pub fn see<'a, 'g: 'a>(
     alloc: Global,

@@ -20,7 +20,7 @@ use marked_segments::MarkedSegments;
 use std::alloc::Global;
 use x12_segs::{SegView, SetSpan};
 
-/// How many segments a set has whose body has so many.
+/// How many segments a set has whose body has that many.
 fn count_with_ends(count: u64, closed: bool) -> u64
     requires { count < 4294967296 }
     ensures { result ≡ count + (if closed then 2 else 1) }
@@ -28,7 +28,7 @@ fn count_with_ends(count: u64, closed: bool) -> u64
     if closed { count + 2 } else { count + 1 }
 }
 
-/// The faults of two lists; the fewer are moved after the others, so that no list stands twice.
+/// The faults of two lists; the fewer are moved after the others, so that no list appears twice.
 fn faults_of_both<'a>(
     structure: Vec<Fault<'a>>,
     errors: Vec<Fault<'a>>,

@@ -1,4 +1,4 @@
--- Files of tables (own): how an answer of the program stands to the reading of a text.
+-- Files of tables (own): how an answer of the program is to the reading of a text.
 use Rattle.std.specs.Prelude.{◌≡◌, Option, Some, None, Result, Ok, Err, option_and_then}
 use Rattle.toml_keys.specs.declared.text_fault.TextFault.{TextFault}
 use Rattle.toml_keys.specs.declared.text_fault.TextFault.TheVariants as fault

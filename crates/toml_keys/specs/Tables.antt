@@ -1,4 +1,4 @@
--- Files of tables (own): what stands at the keys of a table, and the first fault.
+-- Files of tables (own): what is at the keys of a table, and the first fault.
 use Rattle.std.specs.Prelude.{ℕ, ℤ, pos, negsuc, List, [], ◌∷◌, Option, Some, None, Result, Ok, Err, Bool, true, ◌&&◌, nat_le}
 use Rattle.std.specs.Prelude.{if◌then◌else◌, option_map, option_and_then, is_some}
 use Rattle.toml.specs.Data.{Data, Items, no_items, item, Members, get_member, as_str, as_integer, as_array, as_table}
@@ -20,7 +20,7 @@ abbrev pub required_of : {A : Type 0} → (Data → Option A) → List ℕ → O
 required_of read key None = Err (missing key)
 required_of read key (Some d) = asked key (read d)
 
--- a key that has to be there
+-- a key that must be there
 abbrev pub required : {A : Type 0} → (Data → Option A) → List ℕ → Members → Result A Refusal
 required read key ms = required_of read key (get_member key ms)
 
@@ -28,7 +28,7 @@ abbrev pub optional_of : {A : Type 0} → A → (Data → Option A) → List ℕ
 optional_of absent read key None = Ok absent
 optional_of absent read key (Some d) = asked key (read d)
 
--- a key that may be absent, and what stands for it then
+-- a key that may be absent, and what means it then
 abbrev pub optional : {A : Type 0} → A → (Data → Option A) → List ℕ → Members → Result A Refusal
 optional absent read key ms = optional_of absent read key (get_member key ms)
 
@@ -36,7 +36,7 @@ optional absent read key ms = optional_of absent read key (get_member key ms)
 abbrev pub value_present : {A : Type 0} → (Data → Option A) → Data → Option (Option A)
 value_present read d = option_map Some (read d)
 
--- a text of so many to so many letters or digits
+-- a text of that many to that many letters or digits
 abbrev pub word_in : ℕ → ℕ → Data → Option (List ℕ)
 word_in least most d = option_and_then (λ s. if is_word least most s then Some s else None) (as_str d)
 

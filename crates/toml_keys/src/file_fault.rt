@@ -6,10 +6,10 @@ pub enum FileFault {
     /// The bytes are no TOML table.
     #[error("no TOML table")]
     NotToml,
-    /// A key that has to be there isn't.
+    /// A key that must be there isn't.
     #[error("{0} is missing")]
     Missing(&'static str),
-    /// What stands at a key has another type or form.
+    /// What is at a key has another type or form.
     #[error("{0} has another type or form")]
     WrongKind(&'static str),
     /// A key isn't listed.

@@ -1,9 +1,9 @@
-//! The readers of keys of a TOML file, on which those of guide files and of setup files stand side by side.
+//! The readers of keys of a TOML file, on which those of guide files and of setup files are side by side.
 //!
 //! Proved, out of memory aside:
-//! - `required` and `optional` give what stands at a key, as a `Reading` reads it, or refuse it as missing or as of another type
+//! - `required` and `optional` give what is at a key, as a `Reading` reads it, or refuse it as missing or as of another type
 //!   or form;
-//! - `tables_at`, `some_tables_at`, `table_at` and `some_table_at` lend the tables that stand at a key, or refuse it likewise;
+//! - `tables_at`, `some_tables_at`, `table_at` and `some_table_at` lend the tables that are at a key, or refuse it likewise;
 //! - `refuse_unknown` refuses exactly the least key of a table that isn't listed, in the order of bytes;
 //! - `AnyText`, `Word`, `Count`, `ListOf` and `Present` read texts, words, numbers, lists and what may be absent;
 //! - each refusal has its number.

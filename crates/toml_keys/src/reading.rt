@@ -10,7 +10,7 @@ use crate::text_fault::TextFault;
 use std::alloc::Global;
 use toml::{Table, Value};
 
-/// How what stands at a key is read.
+/// How what is at a key is read.
 pub trait Reading {
     /// What is read.
     type Read: Drop;
@@ -37,7 +37,7 @@ impl<R: Reading> Reading for Present<R> {
     }
 }
 
-/// An answer for a key, from the reading of what stands there.
+/// An answer for a key, from the reading of what is there.
 fn told<T: Drop>(key: &'static str, read: Result<T, TextFault>) -> Result<T, FileFault>
     ensures { (o : Option T) → Reads (λ x. x) read o → Gives result (tables.asked key.now o) }
 {
@@ -48,7 +48,7 @@ fn told<T: Drop>(key: &'static str, read: Result<T, TextFault>) -> Result<T, Fil
     }
 }
 
-/// Reads what stands at a key that has to be there.
+/// Reads what is at a key that must be there.
 pub fn required<R: Reading>(
     alloc: Global,
     table: &Table,
@@ -63,7 +63,7 @@ pub fn required<R: Reading>(
     }
 }
 
-/// Reads what stands at a key that may be absent; `absent` stands for it then.
+/// Reads what is at a key that may be absent; `absent` means it then.
 pub fn optional<R: Reading>(
     alloc: Global,
     table: &Table,
@@ -79,7 +79,7 @@ pub fn optional<R: Reading>(
     }
 }
 
-/// What stands at a key.
+/// What is at a key.
 pub fn value_at<'a>(table: &'a Table, key: &str) -> Option<&'a Value>
     ensures { option_map (λ v. view v.now) result ≡ get_member key.now (table_view table.now) }
 {

@@ -36,7 +36,7 @@ fn tables_in(value: &Value) -> Option<&[Value]>
     }
 }
 
-/// The list of tables at a key that has to be there.
+/// The list of tables at a key that must be there.
 pub fn tables_at<'a>(table: &'a Table, key: &'static str) -> Result<&'a [Value], FileFault>
     ensures { GivesAs meaning_of (λ v. items_view v.now) result
         (tables.required tables.tables_in key.now (table_view table.now)) }
@@ -64,7 +64,7 @@ pub fn some_tables_at<'a>(table: &'a Table, key: &'static str) -> Result<&'a [Va
     }
 }
 
-/// The table at a key that has to be there.
+/// The table at a key that must be there.
 pub fn table_at<'a>(table: &'a Table, key: &'static str) -> Result<&'a Table, FileFault>
     ensures { GivesAs meaning_of (λ t. table_view t.now) result
         (tables.required as_table key.now (table_view table.now)) }

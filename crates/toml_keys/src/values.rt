@@ -20,7 +20,7 @@ pub fn copy_of(alloc: Global, bytes: &[u8]) -> Result<Text, TextFault>
     copy_text(alloc, bytes).map_err(|_| TextFault::NoMemory)
 }
 
-/// A text of so many to so many letters or digits.
+/// A text of that many to that many letters or digits.
 #[derive(Clone, Copy)]
 pub struct Word {
     pub least: usize,

@@ -95,7 +95,7 @@ abbrev pub IsRowOf : SetupValue → Row → Entry → Type 0
 IsRowOf setup row (OfRefused n x) = IsRefusedRow row n x
 IsRowOf setup row (OfSet n p receiver) = NamesSet row n p × IsFor setup row receiver
 
--- rows are those of entries, one by one, and there is no other
+-- rows are those of entries, one by one, and there isn't another
 abbrev pub AreRowsOf : SetupValue → List Row → List Entry → Type 0
 AreRowsOf setup [] [] = Unit {0}
 AreRowsOf setup [] (e ∷ es) = ⊥

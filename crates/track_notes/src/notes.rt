@@ -23,7 +23,7 @@ impl GroupNotes {
     ghost use Rattle.std.specs.Prelude.{◌≡◌};
     ghost use Rattle.track_notes.specs.Notes.{no_notes};
 
-    /// Of a group to which nothing is answered.
+    /// The notes of a group to which nothing is answered.
     pub fn none(alloc: Global) -> GroupNotes
         ensures { result ≡ no_notes }
     {

@@ -26,7 +26,7 @@ abbrev pub spaced_words : List (List ℕ) → List ℕ
 spaced_words [] = []
 spaced_words (word ∷ words) = word ++ flat_map (λ w. 32 ∷ w) words
 
--- the name of a partner by its place in the setup, and that of a sender; of none where there is no partner
+-- the name of a partner by its place in the setup, and that of a sender; of none where there isn't a partner
 abbrev pub name_by : Option Partner → List ℕ
 name_by None = codes "?"
 name_by (Some partner) = partner.name

@@ -6,7 +6,7 @@ use Rattle.judged_text.specs.Judged.{PlacedValue, delims_in}
 use Rattle.mailbox.specs.Deliveries.{inner_in, is_in_the_way, kept_parts}
 use Rattle.track_rows.specs.declared.hindrance.Hindrance.{Hindrance}
 
--- the first byte of a text that is no delimiter where it comes from, and one where it goes to
+-- the first byte of a text that isn't a delimiter where it comes from, and one where it goes to
 abbrev pub byte_in_the_way : (from to : Delims) → List ℕ → Option ℕ
 byte_in_the_way from to text = find (is_in_the_way from to) text
 

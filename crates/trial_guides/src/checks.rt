@@ -202,7 +202,7 @@ fn slot_id(guide: &Guide, number: u32) -> &[u8] {
     }
 }
 
-/// Numbers, and the id of the slot that has it: a loop's number is no slot's.
+/// Numbers, and the id of the slot that has it: a loop's number isn't a slot's.
 const SLOTS: &[(u32, &[u8])] = &[(4, b"N3"), (2, b""), (5, b"")];
 
 fn expect_slots(guide: &Guide, slots: &[(u32, &[u8])]) -> Result<(), Fail> {

@@ -39,7 +39,7 @@ fn node_fault(alloc: Global, nodes: &str) -> Result<Option<GuideFileFault>, Allo
     Ok(fault_of(alloc, file.as_bytes()))
 }
 
-/// The same of a file of one segment with this row.
+/// The fault of a file of one segment with this row.
 fn row_fault(alloc: Global, row: &str) -> Result<Option<GuideFileFault>, AllocError> {
     let node = format!(in alloc; "{{seg=\"REF\",min=0,max=1,elements=[\"{row}\"]}}")?;
     node_fault(alloc, node.as_str())

@@ -60,7 +60,7 @@ fn is_identifier_row(row: &SimpleRow, reference: &[u8], used: usize) -> bool {
     }
 }
 
-/// The same of an element, which occurs once.
+/// Whether an element, which occurs once, is this identifier.
 fn is_identifier(element: &Element, reference: &[u8], used: usize) -> bool {
     match element {
         Element::Simple(row, repeat) => { *repeat == 1 && is_identifier_row(row, reference, used) }

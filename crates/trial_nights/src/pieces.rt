@@ -6,7 +6,7 @@ pub const ORDER_IN_ITS_INTERCHANGE: &[u8] =
         GS*PO*ACME*BOLT*20260228*0900*12*X*005010~ST*850*0001~BEG*00*SA*PO100**20260228~PO1*1*5*EA*2.50~SE*4*0001~\
         GE*1*12~IEA*1*000000007~";
 
-/// The same, as BOLT finds it in its mailbox.
+/// The order, as BOLT finds it in its mailbox.
 pub const ORDER_FOR_BOLT: &[u8] =
     b"ISA|00|          |00|          |ZZ|HUB            |ZZ|BOLT           |260301|1530|^|00501|000000001|0|P|:!\
         GS|PO|ACME|BOLT|20260301|1530|1|X|005010!ST|850|0001!BEG|00|SA|PO100||20260228!PO1|1|5|EA|2.50!SE|4|0001!\

@@ -172,7 +172,7 @@ fn expect_each(alloc: Global, guide: &Guide, group: &str, cases: Cases) -> Resul
     Ok(())
 }
 
-/// The same by the guide of a file.
+/// Expects the answers by the guide of a file.
 pub fn expect_answers(alloc: Global, guide: &str, group: &str, cases: Cases) -> Result<(), Fail> {
     let guide = guide_of(alloc, guide)?;
     expect_each(alloc, &guide, group, cases)

@@ -157,7 +157,7 @@ fn answers(rt: HostRuntime) -> Result<(), Fail> {
     expect_answers(rt.alloc(), SHIPMENT, "SH", ANSWERS)
 }
 
-/// The same by a guide that tolerates that a slot is needed, or banned.
+/// Cases by a guide that tolerates that a slot is needed, or banned.
 const TOLERATED: Cases = &[
     [
         "ST*856*0001~BSN*00*SH1*20260228*0900~HL*1**S~HL*2*1*O~HL*3*2*P~SE*6*0001~GE*1*12~",

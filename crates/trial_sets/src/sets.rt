@@ -236,7 +236,7 @@ pub fn expect_each(alloc: Global, guide: Option<&Guide>, cases: Cases) -> Result
     Ok(())
 }
 
-/// The same by the guide of a file.
+/// Expects the faults by the guide of a file.
 pub fn expect(alloc: Global, guide: &str, cases: Cases) -> Result<(), Fail> {
     let guide = guide_of(alloc, guide)?;
     expect_each(alloc, Some(&guide), cases)

@@ -14,7 +14,7 @@ const ORDERS: Cases = &[
         "ST*850*0001~BEG*00*SA*PO100**20260228~REF*DP*7~DTM*002*20260301~N1*ST*A~N3*B~PO1**5*EA~PID*F****C~PO1**1*CA~CTT*2~SE*11*0001~",
         " clean\n",
     ],
-    // what is needed is missing, a loop is there too often, an id is unknown; SE is no part of the body
+    // what is needed is missing, a loop is there too often, an id is unknown; SE isn't part of the body
     [
         "ST*850*0001~REF*DP*7~N1*ST*A~N1*BT*B~N1*VN*C~QQ*1~PO1*1*5*EA~SE*8*0001~",
         "2 BEG() 3 1;5 N1(N1) 4 4;6 QQ() 1 0; 5\n",

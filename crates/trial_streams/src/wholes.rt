@@ -15,7 +15,7 @@ const TRAILER_IN_A_HEADER: &[u8] =
     b"ISA*00*          *00*          *01*ACME           *ZZ*HUB            *260228*0900*^*00501*000000007*0*P*>~\
       ISA~00~          ~00~IEA*1*0007~01~ACME           ~01~HUB            ~260228~0900~^~00501~000000007~0~P~>!GS";
 
-/// The terminator after the IEA falls into field 4, so that this is no header.
+/// The terminator after the IEA falls into field 4, so that this isn't a header.
 const TRAILER_IN_NO_HEADER: &[u8] =
     b"ISA*00*          *00*          *01*ACME           *ZZ*HUB            *260228*0900*^*00501*000000007*0*P*>~\
       ISA~00~          ~00~IEA*1*07~";

@@ -26,7 +26,7 @@ const FIRST: Row = Row {
     copy: b"AA",
 };
 
-/// The same of a DTM, with another copy.
+/// A row of a DTM, with another copy.
 const EQUAL: Row = Row {
     position: 3,
     id: b"DTM",

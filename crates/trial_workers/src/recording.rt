@@ -117,7 +117,7 @@ fn recorded_by<'i, 'a, J: Named + Send + Sync, R: Threads + Wait + Clock + Sync>
     Ok((done, register.open(owns)))
 }
 
-/// Of an index that the register's name is picked for.
+/// What is recorded of an index that the register's name is picked for.
 pub fn recorded_of<'i, 'a, R: Threads + Wait + Clock + Sync>(
     rt: &R,
     alloc: Global,

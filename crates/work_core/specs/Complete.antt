@@ -5,7 +5,7 @@ use Rattle.hub_kinds.specs.declared.place.Place.{Place}
 use Rattle.work_core.specs.declared.state.Finished.{Finished}
 use Rattle.work_core.specs.Core.{Core, same_place, was_recorded}
 
--- how often a place stands in a list
+-- how often a place is in a list
 abbrev pub times_place : Place → List Place → ℕ
 times_place p [] = 0
 times_place p (q ∷ qs) = (if same_place p q then 1 else 0) + times_place p qs
@@ -16,7 +16,7 @@ job_places [] = []
 job_places (None ∷ jobs) = job_places jobs
 job_places (Some p ∷ jobs) = p ∷ job_places jobs
 
--- each of some places stands in a list once, and no other
+-- each of some places is in a list once, and no other
 abbrev pub AreOnce : List Place → List Place → Type 0
 AreOnce places recorded = (p : Place) → times_place p recorded ≡ (if was_recorded places p then 1 else 0)
 

@@ -101,7 +101,7 @@ abbrev pub run : Core → List Event → Core
 run c [] = c
 run c (e ∷ es) = run (stepped c e) es
 
--- so many workers, of which none holds a job or has ended
+-- that many workers, of which none holds a job or has ended
 abbrev pub idle_workers : ℕ → List Worker
 idle_workers n = replicate n (worker_with None false)
 

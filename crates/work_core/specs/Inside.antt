@@ -1,4 +1,4 @@
--- Own: what the fields of a state stand for. Private.
+-- Own: what the fields of a state mean. Private.
 use Rattle.std.specs.Prelude.{◌+◌, ◌≤◌, length, count_by}
 use Rattle.work_core.specs.Core.{Core}
 use Rattle.work_core.specs.declared.state.CoreState.TheInside.{Inside}

@@ -1,6 +1,6 @@
 //! The rule by which any number of workers do jobs: they claim them in order, record their index places and finish
 //! them, one event after another. A job has at most one place. What an event needs and does is said of plain lists, so
-//! it holds of whatever keeps them: a desk's word and a seat (`claim_desk`), a register behind a lock, each worker's own
+//! it holds of whatever keeps them: a desk's word and a seat (`claim_desk`), a register under a lock, each worker's own
 //! list of answers.
 //!
 //! Proved, for every list of events:

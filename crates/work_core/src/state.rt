@@ -27,7 +27,7 @@ pub struct Finished {
     pub job: usize,
 }
 
-/// Where jobs and workers stand. Contracts see the jobs, the count of claims, the workers, the places recorded and the jobs
+/// Where jobs and workers are. Contracts see the jobs, the count of claims, the workers, the places recorded and the jobs
 /// finished.
 #[derive(Drop)]
 pub struct CoreState {
@@ -51,7 +51,7 @@ impl Model for CoreState {
 }
 
 impl CoreState {
-    /// Jobs, each with its place where it has one, and so many workers, who hold nothing. The only error is out of memory.
+    /// Jobs, each with its place where it has one, and that many workers, who hold nothing. The only error is out of memory.
     pub fn new(
         alloc: Global,
         jobs: Vec<Option<Place>>,
@@ -167,7 +167,7 @@ impl CoreState {
     }
 }
 
-/// Where jobs and workers stand after some events, taken in their order. The only error is out of memory.
+/// Where jobs and workers are after some events, taken in their order. The only error is out of memory.
 pub fn run_events(
     alloc: Global,
     jobs: Vec<Option<Place>>,

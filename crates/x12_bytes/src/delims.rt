@@ -1,5 +1,5 @@
 /// The delimiters of an interchange (X12.5), each a byte. A delimiter byte is a delimiter wherever
-/// it stands after the header; it can't be escaped.
+/// it is after the header; it can't be escaped.
 #[derive(Clone, Copy, Debug, PartialEq, Eq)]
 pub struct Delims {
     /// Stands between the elements of a segment.

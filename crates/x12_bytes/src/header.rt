@@ -6,7 +6,7 @@ use crate::delims::Delims;
 use crate::layout::{self, COMPONENT, ELEMENT, REPETITION, TERMINATOR};
 use std::marker::Model;
 
-/// A header, lent from the text that it stands in (X12.5, ISA). Contracts see its 106 bytes.
+/// A header, lent from the text that it is in (X12.5, ISA). Contracts see its 106 bytes.
 #[derive(Drop)]
 pub struct Header<'a> {
     bytes: &'a [u8],
@@ -28,7 +28,7 @@ impl<'a> Header<'a> {
         Header { bytes }
     }
 
-    /// Field `k` as it stands, spaces and all: `field(6)` is ISA06, 15 bytes.
+    /// Field `k` as it is, spaces and all: `field(6)` is ISA06, 15 bytes.
     pub fn field(&self, k: usize) -> &'a [u8]
         requires from { 1 ≤ k }
         requires to { k ≤ 16 }

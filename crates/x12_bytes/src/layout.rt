@@ -1,4 +1,4 @@
-//! Where the parts of a header stand.
+//! Where the parts of a header are.
 ghost use Rattle.std.specs.Prelude.{◌≡◌, ◌≤◌, length};
 ghost use Rattle.x12_bytes.specs.Header.{separator_place, field_of, width_of};
 ghost use Rattle.x12_bytes.specs.declared.layout.TheConstants.{HEADER_LEN};
@@ -6,7 +6,7 @@ ghost use Rattle.x12_bytes.specs.declared.layout.TheConstants.{HEADER_LEN};
 /// The length of a header in bytes, its terminator included.
 pub const HEADER_LEN: usize = 106;
 
-/// Where the element separator, the component separator, ISA11 and the terminator stand.
+/// Where the element separator, the component separator, ISA11 and the terminator are.
 pub const ELEMENT: usize = 3;
 
 pub const COMPONENT: usize = 104;
@@ -15,7 +15,7 @@ pub const REPETITION: usize = 82;
 
 pub const TERMINATOR: usize = 105;
 
-/// Where the separator before field `k` stands.
+/// Where the separator before field `k` is.
 #[inline(always)]
 pub fn separator_place(k: usize) -> usize
     requires from { 1 ≤ k }

@@ -49,7 +49,7 @@ fn is_header(bytes: &[u8]) -> bool
         && has_fields(bytes)
 }
 
-/// Whether each field stands after a separator and holds no delimiter. Written out, so that each place and each width is a constant:
+/// Whether each field is after a separator and holds no delimiter. Written out, so that each place and each width is a constant:
 /// a header is tested wherever a letter I is met.
 fn has_fields(bytes: &[u8]) -> bool
     requires { length bytes.now ≡ HEADER_LEN }
@@ -104,7 +104,7 @@ fn is_field_at(bytes: &[u8], k: usize) -> bool
         && is_free_of(layout::field(bytes, k), element, terminator)
 }
 
-/// Whether neither byte stands in a field. No byte ends it, so that many are looked at in one step.
+/// Whether neither byte is in a field. No byte ends it, so that many are looked at in one step.
 #[inline(always)]
 fn is_free_of(field: &[u8], element: u8, terminator: u8) -> bool
     ensures { result ≡ list_all (is_free element terminator) field.now }

@@ -24,7 +24,7 @@ pub record StandsAlone (text : List ℕ) (terminator : ℕ) (run : List Seg) : T
   pub segs : run ≡ map (moved_by (start_offset run)) (Segs (slice_range text (start_offset run) (end_of run)) terminator)
   pub stretch : run ≡ segs_within text terminator (start_offset run) (end_of run)
 
--- each run of one or more of the segments after an offset stands alone
+-- each run of one or more of the segments after an offset is alone
 abbrev pub RunsStandAlone : List ℕ → ℕ → ℕ → Type 0
 RunsStandAlone text terminator from =
     (before run behind : List Seg) → segs_from text terminator from ≡ before ++ (run ++ behind) → 0 < length run

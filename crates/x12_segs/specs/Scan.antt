@@ -9,7 +9,7 @@ abbrev pub LiesIn : ℕ → ℕ → Part → Type 0
 LiesIn from len (Segment start end) = (from ≤ start) × (start < end) × (end < len)
 LiesIn from len (Rest start) = (from ≤ start) × (start ≤ len)
 
--- a segment is the first from the offset on, and the others follow after its terminator; the rest comes where there is no segment
+-- a segment is the first from the offset on, and the others follow after its terminator; the rest comes where there isn't a segment
 abbrev pub IsNextPart : List ℕ → ℕ → ℕ → Part → Type 0
 IsNextPart text terminator from (Segment start end) =
     (segs_from text terminator from ≡ seg_at text start end ∷ segs_from text terminator (end + 1))

@@ -16,7 +16,7 @@ span_segs text span = segs_within text span.delims.terminator span.start span.en
 abbrev pub span_views : List ℕ → SetSpan → List SegValue
 span_views text span = map (view_of span.delims) (span_segs text span)
 
--- SE stands at the end of a set that is closed
+-- SE is at the end of a set that is closed
 abbrev pub trailer_kinds : Bool → List Kind
 trailer_kinds true = SetTrailer ∷ []
 trailer_kinds false = []

@@ -2,7 +2,7 @@ ghost use Rattle.memchr.specs.Find.{IsFirstByte, is_byte};
 
 use memchr::{memchr, memchr_iter};
 
-/// The offset of the first byte of this value in a text, where it is likely to be near: most segments are short. It stands in
+/// The offset of the first byte of this value in a text, where it is likely to be near: most segments are short. It is in
 /// the walk over a text, so that what it prepares is prepared once.
 #[inline(always)]
 pub fn find_near(byte: u8, text: &[u8]) -> Option<usize>

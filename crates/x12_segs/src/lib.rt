@@ -10,7 +10,7 @@
 //!   one and by number; one that isn't there is the empty text;
 //! - a run of segments, cut out of its text, reads as the same run;
 //! - `kind_of` finds a segment's kind by its id, and a span of the text lends just its segments;
-//! - `find_byte` and `find_near` give the first place of a byte, or none where it doesn't stand.
+//! - `find_byte` and `find_near` give the first place of a byte, or none where it isn't.
 //!
 //! X12.6, data segment, data element and their separators, control segments, transaction set; X12.5,
 //! interchange control segments.

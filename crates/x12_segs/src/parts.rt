@@ -61,7 +61,7 @@ impl<'a> Iterator for Parts<'a> {
     }
 }
 
-/// Where the first part ends, if a separator stands after it.
+/// Where the first part ends, if a separator is after it.
 pub(crate) fn first_end(text: &[u8], separator: Option<u8>) -> Option<usize>
     ensures { MatchOption result (parts_by separator text.now ≡ text.now ∷ [])
         (λ end. (end < length text.now) × (parts_by separator text.now

@@ -1,7 +1,7 @@
 use crate::segs::Segments;
 use x12_bytes::Delims;
 
-/// Where a transaction set stands in its text (X12.6, from ST to SE), by offsets.
+/// Where a transaction set is in its text (X12.6, from ST to SE), by offsets.
 #[derive(Clone, Copy, Debug, PartialEq, Eq)]
 pub struct SetSpan {
     /// The offset of the first byte of the set's ST.

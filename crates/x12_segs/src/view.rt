@@ -6,7 +6,7 @@ use crate::parts::{self, Parts};
 use std::marker::Model;
 use x12_bytes::Delims;
 
-/// A segment, lent from the text that it stands in (X12.6, data segment). Elements, occurrences
+/// A segment, lent from the text that it is in (X12.6, data segment). Elements, occurrences
 /// and components are counted from 1; one that isn't there is the empty text. A read by number
 /// walks the segment from its front; to read them all, walk the iterators.
 #[derive(Drop)]
@@ -55,7 +55,7 @@ impl<'a> SegView<'a> {
         self.delims
     }
 
-    /// The segment's id: what stands before the first element separator.
+    /// The segment's id: what is before the first element separator.
     pub fn id(&self) -> &'a [u8]
         ensures value { result.now ≡ id_of self.now }
         ensures len { length result.now ≤ length self.now.bytes }
@@ -63,7 +63,7 @@ impl<'a> SegView<'a> {
         parts::part_or_empty(self.bytes, Some(self.delims.element), 0)
     }
 
-    /// Element `k` as it stands.
+    /// Element `k` as it is.
     pub fn element(&self, k: usize) -> &'a [u8]
         requires { 1 ≤ k }
         ensures value { result.now ≡ element_of self.now k }
@@ -72,7 +72,7 @@ impl<'a> SegView<'a> {
         parts::part_or_empty(self.bytes, Some(self.delims.element), k)
     }
 
-    /// Elements 1, 2 and 3 as they stand, found in one walk over the segment.
+    /// Elements 1, 2 and 3 as they are, found in one walk over the segment.
     pub fn first_elements(&self) -> (&'a [u8], &'a [u8], &'a [u8])
         ensures first { result.0.now ≡ element_of self.now 1 }
         ensures second { result.1.now ≡ element_of self.now 2 }

@@ -1,4 +1,4 @@
--- X12.6, data element types N0 and AN: a number in at least so many digits, a text in at least so many characters.
+-- X12.6, data element types N0 and AN: a number in at least that many digits, a text in at least that many characters.
 use Rattle.std.specs.Prelude.{ℕ, ◌-◌, List, ◌++◌, length, decimal, replicate}
 
 -- with leading zeros

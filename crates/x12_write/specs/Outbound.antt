@@ -1,5 +1,5 @@
--- X12.5, interchange control header (ISA) of an interchange that is sent, without its number (ISA13): what stands before that, and
--- what stands after it.
+-- X12.5, interchange control header (ISA) of an interchange that is sent, without its number (ISA13): what is before that, and
+-- what is after it.
 use Rattle.std.specs.Prelude.{ℕ, ◌≡◌, List, [], ◌∷◌, ◌++◌, codes}
 use Rattle.moment.specs.Moment.{IsMoment, short_date_of, time_of}
 use Rattle.x12_write.specs.declared.envelope.Envelope.{Envelope}

@@ -41,7 +41,7 @@ pub record IsReadAs (e : Envelope) (at : List ℕ) (number : ℕ) (text : List �
   pub delims : header_delims (header_at text place) ≡ e.delims
   pub fields : (k : ℕ) → 1 ≤ k → k ≤ 16 → field_of (header_at text place) k ≡ slice_index_or (header_elements e at number) (k - 1) []
 
--- so does what begins with the header of a sendable envelope, whatever stands after it, where its number has up to nine digits
+-- so does what begins with the header of a sendable envelope, whatever is after it, where its number has up to nine digits
 abbrev pub BeginsWithHeader : Envelope → List ℕ → ℕ → List ℕ → ℕ → Type 0
 BeginsWithHeader e at number text place =
     IsSendable e → number ≤ 999999999 → (behind : List ℕ) → IsReadAs e at number (text ++ behind) place

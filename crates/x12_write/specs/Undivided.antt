@@ -10,6 +10,6 @@ pub record CanDivide (d : Delims) : Type 0 where
   pub terminator : is_ascii_alphanumeric d.terminator ≡ false
   pub apart : d.element ≢ d.terminator
 
--- no element separator and no terminator stands in a text
+-- no element separator and no terminator is in a text
 abbrev pub IsUndivided : Delims → List ℕ → Type 0
 IsUndivided d text = All (λ b. (b ≢ d.element) × (b ≢ d.terminator)) text

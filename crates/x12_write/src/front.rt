@@ -10,7 +10,7 @@ use crate::number::append_padded;
 use hub_kinds::{Lent, NoMemory};
 use moment::At;
 
-/// Writes what stands before ISA13. The moment's digits are read as one, so that what `At` keeps of them is known here.
+/// Writes what is before ISA13. The moment's digits are read as one, so that what `At` keeps of them is known here.
 pub(crate) fn append_front(out: &mut Vec<u8>, envelope: &Envelope, at: &At) -> Result<(), NoMemory>
     ensures text { OnOk result (out.new.items ≡ out.old.items ++ front_text envelope.now at.now) }
     ensures moment { IsMoment at.now }

@@ -109,7 +109,7 @@ fn append_texts(out: &mut Vec<u8>, texts: &[Text]) -> Result<(), NoMemory>
     Ok(())
 }
 
-/// Writes GE after what is there: of so many transaction sets, in the group of this number.
+/// Writes GE after what is there: of that many transaction sets, in the group of this number.
 pub fn append_group_trailer(
     out: &mut Vec<u8>,
     delims: &Delims,

@@ -29,7 +29,7 @@ pub fn append_header(
     append_rest(out, number, &back_of(envelope))
 }
 
-/// Writes ISA13, and what stands after it.
+/// Writes ISA13, and what is after it.
 pub(crate) fn append_rest(out: &mut Vec<u8>, number: u32, back: &[u8]) -> Result<(), NoMemory>
     ensures text { OnOk result (out.new.items ≡ out.old.items ++ (padded_number 9 number ++ back.now)) }
     ensures kept { Extends out.old.items out.new.items }
@@ -40,7 +40,7 @@ pub(crate) fn append_rest(out: &mut Vec<u8>, number: u32, back: &[u8]) -> Result
     Ok(())
 }
 
-/// What stands after ISA13.
+/// What is after ISA13.
 pub(crate) fn back_of(envelope: &Envelope) -> [u8; 7]
     ensures { result ≡ back_text envelope.now }
 {

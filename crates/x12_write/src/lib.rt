@@ -6,7 +6,7 @@
 //! - each call appends exactly the text of its definition, and keeps what was there before, also where memory is
 //!   refused;
 //! - `append_header` writes a header of fixed width, and what begins with it is read again as a header, with these
-//!   delimiters and with these elements as its fields, whatever stands after it, where the envelope is fit to be sent
+//!   delimiters and with these elements as its fields, whatever is after it, where the envelope is fit to be sent
 //!   (`IsSendable`) and the number has at most nine digits;
 //! - an `OutboundHeader` is the header of an envelope and a moment, all but its number: made once, and written with any number the
 //!   same as by `append_header`, without a look at the envelope;
@@ -14,7 +14,7 @@
 //!   `append_group_trailer` are its ends;
 //! - `append_trailer` writes the number of groups and the interchange's number in nine digits;
 //! - `append_segment` leaves off exactly the empty elements at the end; `append_coded_segment` does the same of
-//!   elements after which codes stand;
+//!   elements after which codes are;
 //! - a `PaddedNumber` is the number in decimal, with leading zeros up to a width;
 //! - `is_delimiter` recognizes the bytes that divide a text.
 //!

@@ -12,7 +12,7 @@ const MOST_DIGITS: usize = 10;
 /// As many spaces as an id is filled with at most.
 const SPACES: [u8; 15] = [b' '; 15];
 
-/// A number in at least so many digits, which contracts see as its text.
+/// A number in at least that many digits, which contracts see as its text.
 #[derive(Drop)]
 pub struct PaddedNumber {
     digits: [u8; MOST_DIGITS],
@@ -49,7 +49,7 @@ impl PaddedNumber {
     }
 }
 
-/// From where on a number is shown whose first digit stands at `start`, in at least so many digits.
+/// From where on a number is shown whose first digit is at `start`, in at least that many digits.
 fn first_shown(start: usize, least: usize) -> usize
     requires { least ≤ 10 }
     ensures { result ≡ min start (10 - least) }

@@ -6,11 +6,11 @@ use moment::At;
 use std::alloc::Global;
 use std::marker::Model;
 
-/// How long what stands before ISA13 is, in a header of fixed width.
+/// How long what is before ISA13 is, in a header of fixed width.
 const FRONT_LEN: usize = 90;
 
 /// The header of the interchanges that are sent in one envelope at one moment (X12.5, ISA), all but its number: made once, and
-/// written for each. Contracts see what stands before the number, and what stands after it.
+/// written for each. Contracts see what is before the number, and what is after it.
 #[derive(Debug, Drop)]
 pub struct OutboundHeader {
     front: Vec<u8>,

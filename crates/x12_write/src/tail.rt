@@ -45,7 +45,7 @@ impl SegmentTail {
         self.bytes[self.start] = byte;
     }
 
-    /// Writes a number in at least so many digits before what is there.
+    /// Writes a number in at least that many digits before what is there.
     pub(crate) fn put_number(&mut self, number: u64, least: usize)
         requires room { length self.old + 20 ≤ 64 }
         requires least { least ≤ 20 }

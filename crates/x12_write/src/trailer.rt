@@ -8,7 +8,7 @@ use crate::tail::SegmentTail;
 use hub_kinds::NoMemory;
 use x12_bytes::Delims;
 
-/// Writes IEA after what is there: of so many groups, in the interchange of this number
+/// Writes IEA after what is there: of that many groups, in the interchange of this number
 /// (X12.5, interchange control trailer).
 pub fn append_trailer(
     out: &mut Vec<u8>,
@@ -28,7 +28,7 @@ pub fn append_trailer(
     Ok(())
 }
 
-/// The end of a trailer after its id: how many stand in what it ends, and the number of that, in at least so many digits.
+/// The end of a trailer after its id: how many are in what it ends, and the number of that, in at least that many digits.
 pub(crate) fn counted(delims: &Delims, count: u64, number: u32, least: usize) -> SegmentTail
     requires from { 1 ≤ least }
     requires to { least ≤ 10 }

@@ -6,7 +6,7 @@ use partner_setup::{FileFault, Setup, SetupFault, read_counters, read_setup};
 use std::alloc::{AllocError, Global};
 use std::test::Fail;
 
-/// Why there is no setup.
+/// Why there isn't a setup.
 #[derive(Debug, Drop)]
 pub enum NoSetup {
     File(FileFault),

@@ -12,7 +12,7 @@ const FIRST: Counters = Counters {
     set: 1,
 };
 
-/// BOLT's counters alone, in version 1, in which there is no counter of groups.
+/// BOLT's counters alone, in version 1, in which there isn't a counter of groups.
 const VERSION_1: &str = "version=1\n[[counter]]\npartner=\"BOLT\"\ninterchange=41\nset=7\n";
 
 /// Files with BOLT's counters alone, and these.

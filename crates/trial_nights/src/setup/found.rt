@@ -41,7 +41,7 @@ const TEXTS: &[&[u8]] = &[
     GE*2*12~IEA*1*000000007~",
 ];
 
-/// Of an interchange or a group whose number no earlier one has.
+/// What is found of an interchange or a group whose number no earlier one has.
 fn new_place<'a>() -> Finding<'a>
     ensures { result ≡ record { checked = None; earlier = false } }
 {
@@ -51,7 +51,7 @@ fn new_place<'a>() -> Finding<'a>
     }
 }
 
-/// Of a set, by its check.
+/// What is found of a set, by its check.
 fn set_found<'a>(
     alloc: Global,
     text: &'a [u8],
