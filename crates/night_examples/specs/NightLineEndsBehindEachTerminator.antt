@@ -1,4 +1,4 @@
--- A complete night: line ends after each terminator.
+-- A complete night: line ends behind each terminator.
 use Rattle.std.specs.Prelude.{ℕ, ◌≡◌, List, [], ◌∷◌, ◌++◌, codes, Some}
 use Rattle.partner_setup.specs.declared.partner.Partner.{Partner}
 use Rattle.partner_setup.specs.declared.rows.Usage.TheVariants as usage
