@@ -1,0 +1,6 @@
+pub mod Seats
+pub mod Rules
+pub mod Keyed
+pub mod Sorting
+pub mod Without
+pub mod Index

@@ -1,0 +1,8 @@
+//! Each text has a night of the layers.
+#![tactic(auto)]
+
+mod accepted;
+mod laws;
+
+pub use accepted::guides_are_accepted;
+pub use laws::each_text_has_an_index;
