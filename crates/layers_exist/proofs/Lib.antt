@@ -4,3 +4,4 @@ pub mod Keyed
 pub mod Sorting
 pub mod Without
 pub mod Index
+pub mod Faults

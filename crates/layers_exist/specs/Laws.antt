@@ -1,9 +1,15 @@
--- Each text has an index. The guides of a setup are accepted.
-use Rattle.std.specs.Prelude.{ℕ, List}
+-- Each text has an index, and each set its faults. The guides of a setup are accepted.
+use Rattle.std.specs.Prelude.{ℕ, List, Option, IfSome}
 use Rattle.std.specs.List.{All}
+use Rattle.hub_kinds.specs.declared.fault.Fault.{Fault}
+use Rattle.hub_kinds.specs.Words.{AreRising}
+use Rattle.guide_tree.specs.declared.rows.GuideRows.{GuideRows}
 use Rattle.guide_tree.specs.Words.{IsAccepted}
 use Rattle.env_index.specs.Words.{IndexValue, IsIndex}
 use Rattle.partner_setup.specs.Setup.{SetupValue}
+use Rattle.set_check.specs.Checked.{guide_tree_of}
+use Rattle.set_check.specs.SetFaults.{AreSetFaults}
+use Rattle.set_check.specs.SetParts.{SetParts}
 
 -- each guide is without fault and has numbered slots, as the ones that the hub reads do
 abbrev pub AreGuidesAccepted : SetupValue → Type 0
@@ -12,3 +18,8 @@ AreGuidesAccepted setup = All IsAccepted setup.guides
 -- the interchanges of a text, each read as a tree of envelopes, with its fault
 abbrev pub EachTextHasAnIndex : Type 0
 EachTextHasAnIndex = (text : List ℕ) → (index : IndexValue) × IsIndex text index
+
+-- the faults of a set by an accepted guide, or by none, in their order, each once
+abbrev pub EachSetHasItsFaults : Type 0
+EachSetHasItsFaults = (guide : Option GuideRows) (parts : SetParts) → IfSome guide IsAccepted
+    → (faults : List Fault) × AreSetFaults (guide_tree_of guide) parts faults × AreRising faults

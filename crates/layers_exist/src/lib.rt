@@ -5,4 +5,4 @@ mod accepted;
 mod laws;
 
 pub use accepted::guides_are_accepted;
-pub use laws::each_text_has_an_index;
+pub use laws::{each_set_has_its_faults, each_text_has_an_index};
