@@ -1,10 +1,8 @@
 -- Each set has its faults.
-use Rattle.std.proofs.Common.{◌≡◌, ◌↔◌, ◌⊎◌, inl, inr, ℕ, List, [], ◌∷◌, ◌++◌, map, Option, Some, None, refl, sym, ap, subst, ◌∙◌}
-use Rattle.std.specs.Prelude.{IfSome}
-use Rattle.std.specs.List.{Contains, slice_get}
+use Rattle.std.proofs.Common.{◌≡◌, ◌↔◌, ◌⊎◌, inl, inr, ℕ, List, [], ◌∷◌, ◌++◌, map, Option, Some, None, refl, ap, subst}
+use Rattle.std.specs.List.{slice_get}
 use Rattle.x12_bytes.specs.declared.delims.Delims.{Delims}
 use Rattle.hub_kinds.specs.declared.fault.Fault.{Fault}
-use Rattle.hub_kinds.specs.Words.{key_of}
 use Rattle.x12_segs.specs.Words.{elements_of}
 use Rattle.elem_rules.specs.ElementFaults.{IsElementFault}
 use Rattle.guide_tree.specs.declared.rows.GuideRows.{GuideRows}

@@ -1,11 +1,11 @@
 -- Each text has an index.
-use Rattle.std.proofs.Common.{◌≡◌, ◌⊎◌, inl, inr, ℕ, zero, suc, ◌+◌, ◌<◌, ◌≤◌, List, [], ◌∷◌, length, Bool, true, false, refl, subst, arith}
+use Rattle.std.proofs.Common.{◌≡◌, ◌⊎◌, inl, inr, ℕ, zero, suc, ◌+◌, ◌≤◌, List, [], ◌∷◌, length, Bool, true, false, refl, subst, arith}
 use Rattle.std.specs.List.{All}
 use Rattle.std.proofs.lemmas.Bool.{cases_lt}
 use Rattle.std.proofs.lemmas.List.Elements.{All-cons, All-nil}
 use Rattle.x12_bytes.specs.HeaderTest.{is_head}
 use Rattle.x12_segs.specs.Words.{SegValue, kind_of}
-use Rattle.env_index.specs.Words.{Body, ChainFrom, DerivesInterchange, IndexEntry, IndexValue, InterchangeEntry, IsEntryOf, IsIndex}
+use Rattle.env_index.specs.Words.{Body, ChainFrom, DerivesInterchange, IndexEntry, IndexValue, IsEntryOf, IsIndex}
 use Rattle.env_index.specs.Words.{IsNextHead, count_outside, extents_of, fault_of, interchange_of, reach_at}
 use Rattle.env_index.proofs.ForAbove.{interchange_has_spans, no_head_past}
 use Rattle.batch_law.proofs.ForAbove.{end_behind}
@@ -33,14 +33,17 @@ module _ (trees : EachHasATree) (text : List ℕ) where
           → ((start : ℕ) × IsNextHead text from start) ⊎ NoHead from
       by true is rest = inl (from, record { behind = omega arith; head = is; least = λ q low lt. absurd (omega (arith, low, lt)) })
       by false is (inr none) = inr (later is none)
-      by false is (inl (start, next)) = inl (start, record {
-        behind = omega (arith, next.behind);
-        head = next.head;
-        least = λ q low lt. elim (cases_lt from q) [
-          | inl more ↦ next.least q (omega (arith, more)) lt
-          | inr ge ↦ (let same : from ≡ q = omega (arith, low, ge) in subst (λ n. is_head text n ≡ false) same is)
-        ];
-      })
+      by false is (inl (start, next)) = inl (
+        start,
+        record {
+          behind = omega (arith, next.behind);
+          head = next.head;
+          least = λ q low lt. elim (cases_lt from q) [
+            | inl more ↦ next.least q (omega (arith, more)) lt
+            | inr ge ↦ (let same : from ≡ q = omega (arith, low, ge) in subst (λ n. is_head text n ≡ false) same is)
+          ];
+        },
+      )
 
   abbrev entry_at : (start : ℕ) → IndexEntry
   entry_at start = record {

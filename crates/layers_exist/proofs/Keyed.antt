@@ -1,9 +1,9 @@
--- Of the faults of a set by an accepted guide, one key has one.
+-- Two faults of a set by an accepted guide with the same key are one.
 use Rattle.std.proofs.Common.{◌≡◌, ◌⊎◌, inl, inr, ℕ, ◌+◌, true, List, Option, Some, get_or, drop, refl, sym, ap, subst, ◌∙◌, arith}
 use Rattle.std.specs.List.{slice_get}
 use Rattle.hub_kinds.specs.declared.fault.ElemFault.{ElemFault}
 use Rattle.hub_kinds.specs.declared.fault.Fault.{Fault}
-use Rattle.hub_kinds.specs.Words.{elem_key, key_of}
+use Rattle.hub_kinds.specs.Words.{key_of}
 use Rattle.guide_tree.specs.declared.rows.GuideRows.{GuideRows}
 use Rattle.guide_tree.specs.declared.slot.Slot.{Slot}
 use Rattle.guide_tree.specs.Words.{GuideTree, IsAccepted, IsStructureFault, Place, Segment, guide_of, placing_of, slot_at, structure_faults}

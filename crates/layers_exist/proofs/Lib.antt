@@ -5,3 +5,7 @@ pub mod Sorting
 pub mod Without
 pub mod Index
 pub mod Faults
+pub mod Pairs
+pub mod Answers
+pub mod Nights
+pub mod Follow

@@ -1,5 +1,5 @@
--- Of the faults of a set's hierarchy and dependencies, one key has one.
-use Rattle.std.proofs.Common.{◌≡◌, inl, inr, ℕ, zero, suc, ◌+◌, ◌<◌, ◌==◌, ◌⊎◌, List, [], Option, Some, None, get_or, take, drop, length}
+-- Two faults of a set's hierarchy or dependencies with the same key are one.
+use Rattle.std.proofs.Common.{◌≡◌, inl, inr, ℕ, zero, suc, ◌<◌, ◌==◌, ◌⊎◌, List, [], Option, Some, None, get_or}
 use Rattle.std.proofs.Common.{refl, sym, ap, subst, ◌∙◌, arith, if◌then◌else◌, true}
 use Rattle.std.specs.Prelude.{IsSomeAnd}
 use Rattle.std.specs.List.{Contains, slice_get}
@@ -17,7 +17,7 @@ use Rattle.guide_tree.specs.declared.rows.HlRule.{HlRule}
 use Rattle.guide_tree.specs.Words.{Trees, GuideTree, numbered, Segment, element_at, Place}
 use Rattle.loop_match.specs.PlacedSegments.{PlacedSegment, placed_segments}
 use Rattle.loop_match.proofs.ForAbove.{one_placed}
-use Rattle.hl_check.specs.Hierarchy.{is_hl, hls_of, hl_fault, IsHlFault, IsFaultAmong, IsHierarchyFault}
+use Rattle.hl_check.specs.Hierarchy.{is_hl, hls_of, IsFaultAmong, IsHierarchyFault}
 use Rattle.depend_check.specs.Dependencies.{Seat, seat_of, unused_fault, use_fault, element_fault, IsTargetBroken, IsDependencyFault}
 use Rattle.set_walk.proofs.ForAbove.{apart_at}
 use Rattle.layers_exist.proofs.Seats.{one_seat}
@@ -66,7 +66,7 @@ module _ (ts : Trees) (body : List Segment) (given : List (Option Place)) (end :
   abbrev pub Shape : Fault → Type 0
   Shape f = OfElement f ⊎ (OfUse f ⊎ OfSlot f)
 
-  -- a code of IK304 of its own for each
+  -- each shape has another code of IK304
   abbrev pub segment_code : Fault → ℕ
   segment_code f = get_or (key_of f) 1 0
 
@@ -94,7 +94,8 @@ module _ (ts : Trees) (body : List Segment) (given : List (Option Place)) (end :
   one_slot : ts ≡ numbered 1 ts → (f h : Fault) → OfSlot f → OfSlot h → key_of f ≡ key_of h → f ≡ h
   one_slot numbers f h a b k =
       let keys = sym (ap key_of a.is) ∙ k ∙ ap key_of b.is in
-      let s : a.seat ≡ b.seat = one_seat ts a.label b.label a.seat b.seat numbers a.there b.there (ap (λ (l : List ℕ). get_or l 2 0) keys) in
+      let number : a.seat.slot.number ≡ b.seat.slot.number = ap (λ (l : List ℕ). get_or l 2 0) keys in
+      let s : a.seat ≡ b.seat = one_seat ts a.label b.label a.seat b.seat numbers a.there b.there number in
       a.is ∙ ap (unused_fault end) s ∙ sym b.is
 
   element_code : (f : Fault) → OfElement f → segment_code f ≡ 7
@@ -121,7 +122,8 @@ module _ (ts : Trees) (body : List Segment) (given : List (Option Place)) (end :
       absurd (differs 9 12 (omega arith) (sym (apart f h 12 9 (use_code f a) (slot_code h b) k)))
   one_shape numbers f h (inr (inr a)) (inl b) k =
       absurd (differs 7 9 (omega arith) (sym (apart f h 9 7 (slot_code f a) (element_code h b) k)))
-  one_shape numbers f h (inr (inr a)) (inr (inl b)) k = absurd (differs 9 12 (omega arith) (apart f h 9 12 (slot_code f a) (use_code h b) k))
+  one_shape numbers f h (inr (inr a)) (inr (inl b)) k =
+      absurd (differs 9 12 (omega arith) (apart f h 9 12 (slot_code f a) (use_code h b) k))
 
   pub shape_apart : (f : Fault) → Shape f → apart_at f ≡ true
   shape_apart f (inl a) = ap apart_at a.is
@@ -152,7 +154,8 @@ module _ (ts : Trees) (body : List Segment) (given : List (Option Place)) (end :
         ]
       ]
 
-  target_shape : (d : Delims) (label : List ℕ) (k : DependencyKind) (e : ℕ) (f : Fault) → IsTargetBroken ts d end placed label k e f → Shape f
+  target_shape : (d : Delims) (label : List ℕ) (k : DependencyKind) (e : ℕ) (f : Fault)
+      → IsTargetBroken ts d end placed label k e f → Shape f
   target_shape d label kind.Need zero f b = inr (inr (record { label = label; seat = b.0; there = b.1; is = b.3 }))
   target_shape d label kind.Ban zero f b = inr (inl (record { segment = b.0; listed = b.1; is = b.3 }))
   target_shape d label kind.Need (suc e) f b = of_element f b.0 (suc e) 13 b.1.listed refl b.2

@@ -1,5 +1,5 @@
 -- In a numbered guide a slot's number names one seat.
-use Rattle.std.proofs.Common.{◌≡◌, ℕ, ◌⊎◌, inl, inr, List, [], Bool, true, false, if◌then◌else◌, ap, sym, ◌∙◌, Option, Some, None, refl}
+use Rattle.std.proofs.Common.{◌≡◌, ℕ, ◌⊎◌, inl, inr, List, [], Bool, true, false, if◌then◌else◌, ap, ◌∙◌, Option, Some, None}
 use Rattle.std.proofs.Common.{subst}
 use Rattle.guide_tree.specs.declared.slot.Slot.{Slot}
 use Rattle.guide_tree.specs.Words.{Tree, Trees, segment, loop, no_trees, tree, numbered, or_else, has_label}

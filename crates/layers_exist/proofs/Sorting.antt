@@ -1,9 +1,9 @@
--- Faults of which one key has one can be put in their order.
-use Rattle.std.proofs.Common.{◌≡◌, ◌↔◌, ◌⊎◌, inl, inr, ℕ, List, [], ◌∷◌, Bool, true, false, not, refl, sym, ap, subst, ◌∙◌, if◌then◌else◌}
+-- Faults put in their order: if no two have the same key, all are kept.
+use Rattle.std.proofs.Common.{◌≡◌, ◌⊎◌, inl, inr, List, [], ◌∷◌, refl, sym, ap, subst, ◌∙◌}
 use Rattle.std.specs.BTreeSet.{insert_key}
 use Rattle.std.specs.Cmp.{IsTotalOrder}
 use Rattle.std.specs.Cmp.Lexicographic.{on_texts}
-use Rattle.std.specs.List.{AllByRecursion, Contains, filter, list_any}
+use Rattle.std.specs.List.{AllByRecursion}
 use Rattle.std.specs.List.Sorted.{IsStrictlySortedBy}
 use Rattle.std.specs.Ordering.{is_eq, match_ordering, ordering_reverse}
 use Rattle.std.specs.declared.cmp.Ordering.{Ordering}
@@ -99,7 +99,7 @@ pub from_order : (fs : List Fault) (h : Fault) → In (in_order fs) h → In fs 
 from_order [] h i = i
 from_order (f ∷ fs) h i = elim (from_with (in_order fs) f h i) [ inl e ↦ inl e | inr j ↦ inr (from_order fs h j) ]
 
--- of one key there is one
+-- no two different faults have the same key
 abbrev pub AreKeyed : List Fault → Type 0
 AreKeyed fs = (f h : Fault) → In fs f → In fs h → key_of f ≡ key_of h → f ≡ h
 

@@ -1,15 +1,19 @@
--- Each text has an index, and each set its faults. The guides of a setup are accepted.
+-- Each text has an index, answers to its groups and sets, and a night of the layers. The guides of a setup are accepted.
 use Rattle.std.specs.Prelude.{ℕ, List, Option, IfSome}
 use Rattle.std.specs.List.{All}
 use Rattle.hub_kinds.specs.declared.fault.Fault.{Fault}
 use Rattle.hub_kinds.specs.Words.{AreRising}
 use Rattle.guide_tree.specs.declared.rows.GuideRows.{GuideRows}
 use Rattle.guide_tree.specs.Words.{IsAccepted}
-use Rattle.env_index.specs.Words.{IndexValue, IsIndex}
+use Rattle.env_index.specs.Words.{GroupEntry, IndexValue, IsIndex}
 use Rattle.partner_setup.specs.Setup.{SetupValue}
 use Rattle.set_check.specs.Checked.{guide_tree_of}
 use Rattle.set_check.specs.SetFaults.{AreSetFaults}
 use Rattle.set_check.specs.SetParts.{SetParts}
+use Rattle.checked_text.specs.Answers.{AreGroupAnswers, SentValue}
+use Rattle.checked_text.specs.declared.answered.AnsweredGroup.{AnsweredGroup}
+use Rattle.night_writing.specs.Night.{IsNight}
+use Rattle.night_writing.specs.declared.night.Night.{Night}
 
 -- each guide is without fault and has numbered slots, as the ones that the hub reads do
 abbrev pub AreGuidesAccepted : SetupValue → Type 0
@@ -23,3 +27,13 @@ EachTextHasAnIndex = (text : List ℕ) → (index : IndexValue) × IsIndex text 
 abbrev pub EachSetHasItsFaults : Type 0
 EachSetHasItsFaults = (guide : Option GuideRows) (parts : SetParts) → IfSome guide IsAccepted
     → (faults : List Fault) × AreSetFaults (guide_tree_of guide) parts faults × AreRising faults
+
+-- the answers to the groups that a sender's interchange has, and to their sets
+abbrev pub EachGroupHasItsAnswers : Type 0
+EachGroupHasItsAnswers = (sent : SentValue) (groups : List GroupEntry) → AreGuidesAccepted sent.setup
+    → (answers : List (Option AnsweredGroup)) × AreGroupAnswers sent groups answers
+
+-- the night of a text, a setup and a moment
+abbrev pub EachTextHasANight : Type 0
+EachTextHasANight = (text : List ℕ) (setup : SetupValue) (at : List ℕ) → AreGuidesAccepted setup
+    → (night : Night) × IsNight text setup at night

@@ -1,8 +1,12 @@
-//! Each text has a night of the layers.
+//! Each text has a night of the layers, so what the definition of a night gives is one: for a setup whose guides are accepted, as those of
+//! each setup that is built are (`guides_are_accepted`).
 #![tactic(auto)]
 
 mod accepted;
 mod laws;
 
 pub use accepted::guides_are_accepted;
-pub use laws::{each_set_has_its_faults, each_text_has_an_index};
+pub use laws::{
+    each_group_has_its_answers, each_set_has_its_faults, each_text_has_a_night,
+    each_text_has_an_index, layers_follow, nights_are_the_definitions,
+};
