@@ -1,5 +1,5 @@
 -- The groups and sets of an interchange have their answers.
-use Rattle.std.proofs.Common.{◌≡◌, ℕ, List, [], ◌∷◌, Bool, true, false, take, Option, Some, None, refl, cond}
+use Rattle.std.proofs.Common.{◌≡◌, ℕ, List, [], ◌∷◌, Bool, true, false, take, Option, Some, None, refl, cond, subst, ◌∙◌}
 use Rattle.std.specs.Prelude.{IfSome, find, slice_get}
 use Rattle.std.specs.List.{All}
 use Rattle.std.proofs.lemmas.List.Elements.{All-cons, All-head, All-nil, All-tail}
@@ -24,10 +24,10 @@ use Rattle.checked_text.specs.Answers.{controls_of, has_number_among}
 use Rattle.checked_text.specs.Seen.{is_among}
 use Rattle.checked_text.specs.declared.answered.AnsweredGroup.{AnsweredGroup}
 use Rattle.checked_text.proofs.ForAbove.{at_index}
-use Rattle.layers_exist.specs.Laws.{AreGuidesAccepted, EachGroupHasItsAnswers, EachSetHasItsFaults}
+use Rattle.layers_exist.specs.Laws.{AreGuidesAccepted, EachGroupHasItsAnswers, EachSetHasItsFaults, FaultyGuidesAnswerNothing}
 use Rattle.layers_exist.proofs.Pairs.{pairs}
 
--- what is so of all is so of those at places, and of the one that is found
+-- what holds of all items holds of those at some places, and of the one that a test finds
 module _ {A : Type 0} (P : A → Type 0) where
   at_places : (xs : List A) → All P xs → (places : List ℕ) → All P (those_at xs places)
   at_places xs all [] = All-nil P
@@ -117,3 +117,8 @@ module _ (faults : EachSetHasItsFaults) where
 
 pub answers : EachSetHasItsFaults → EachGroupHasItsAnswers
 answers faults sent groups accepted = group_answers faults sent accepted groups
+
+-- the check of a set says that its guide has no fault
+pub no_answer : FaultyGuidesAnswerNothing
+no_answer sent gs before set answer rows found faulty is =
+    faulty (subst (λ (guide : Option GuideRows). IsWellGuided (guide_tree_of guide)) (is.guide ∙ found) is.exact.well_guided)

@@ -70,7 +70,7 @@ module _ (errors_one : ErrorsAreOne) (rules_one : RuleFaultsAreOne) (rows : Guid
       let is = members g accepted.well_formed parts.body end f in
       (λ i. is.0 (in_contains by_nodes f i), λ h. contains_in by_nodes f (is.1 h))
 
-  -- an element fault is of the body and the delimiters alone
+  -- an element fault depends on the body and the delimiters alone
   error_moved : (p q : SetParts) (f : Fault) → p.body ≡ q.body → p.delims ≡ q.delims → IsErrorIn g.nodes p given f
       → IsErrorIn g.nodes q given f
   error_moved p q f body delims r = record {
@@ -99,7 +99,7 @@ module _ (errors_one : ErrorsAreOne) (rules_one : RuleFaultsAreOne) (rows : Guid
       let is = rules_one g parts.delims parts.body end f in
       (λ i. is.0 (in_contains by_rules f i), λ h. contains_in by_rules f (is.1 h))
 
-  -- of an element fault and a fault of a rule with one key, the element fault is kept
+  -- a fault of a rule is dropped if an element fault has its key
   abbrev others : List Fault
   others = (without by_elements by_rules).0
 
@@ -115,15 +115,15 @@ module _ (errors_one : ErrorsAreOne) (rules_one : RuleFaultsAreOne) (rows : Guid
   no_key_in : (f : Fault) → (HasKeyOfError g.nodes parts given f → ⊥) → HasKeyIn by_elements f → ⊥
   no_key_in f none (e, i, key) = none (e, (elements_are e).0 i, key)
 
-  told : (f : Fault) → In by_nodes f ⊎ In (by_elements ++ others) f → IsFaultUnder g parts given f
-  told f (inl i) = inl ((nodes_are f).0 i)
-  told f (inr i) = elim (in_cases by_elements others f i) [
+  either : (f : Fault) → In by_nodes f ⊎ In (by_elements ++ others) f → IsFaultUnder g parts given f
+  either f (inl i) = inl ((nodes_are f).0 i)
+  either f (inr i) = elim (in_cases by_elements others f i) [
     | inl j ↦ inr (inl ((elements_are f).0 j))
     | inr j ↦ (let o = (others_are f).0 j in inr (inr ((rules_are f).0 o.0, no_key f o.1)))
   ]
 
   to : (f : Fault) → In all f → IsFaultUnder g parts given f
-  to f i = told f (in_cases by_nodes (by_elements ++ others) f i)
+  to f i = either f (in_cases by_nodes (by_elements ++ others) f i)
 
   from : (f : Fault) → IsFaultUnder g parts given f → In all f
   from f (inl h) = in_left by_nodes (by_elements ++ others) f ((nodes_are f).1 h)

@@ -38,7 +38,7 @@ module _ (rows : GuideRows) (accepted : IsAccepted rows) (parts : SetParts) wher
       one_shape g.nodes parts.body given end (ap (λ (t : GuideTree). t.nodes) accepted.numbered) f h
       (rule_shape g parts.delims parts.body given end f a) (rule_shape g parts.delims parts.body given end h b) k
 
-  -- the key of an element fault has the segment's index and what the element adds
+  -- the key of an element fault has the index of its segment and what is wrong there
   one_error : (f h : Fault) → IsErrorIn g.nodes parts given f → IsErrorIn g.nodes parts given h → key_of f ≡ key_of h → f ≡ h
   one_error f h a b k =
       let keys = ap key_of (sym a.is) ∙ k ∙ ap key_of b.is in
@@ -64,7 +64,7 @@ module _ (rows : GuideRows) (accepted : IsAccepted rows) (parts : SetParts) wher
       ∙ ap (λ (e : ElemFault). fault_of_element (b.index + 2) b.segment (loop_id_of g.nodes b.place) b.slot e) elem
       ∙ sym b.is
 
-  -- what isn't of the structure has other codes than what is
+  -- faults of elements and rules have other codes than structural faults
   abbrev IsOther : Fault → Type 0
   IsOther f = IsErrorIn g.nodes parts given f
       ⊎ (IsRuleFault g parts.delims parts.body given end f × (HasKeyOfError g.nodes parts given f → ⊥))

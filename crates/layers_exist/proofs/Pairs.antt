@@ -1,4 +1,4 @@
--- Where each item has what belongs to it, a list has a list of these.
+-- If each item has another that belongs to it, a list has a list of those.
 use Rattle.std.proofs.Common.{◌≡◌, ℕ, zero, suc, List, [], ◌∷◌, Some, refl, ap, subst}
 use Rattle.std.specs.Prelude.{slice_get}
 use Rattle.checked_text.specs.Pairs.{AreAllPairs, ArePairs}

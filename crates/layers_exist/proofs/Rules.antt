@@ -22,7 +22,7 @@ use Rattle.depend_check.specs.Dependencies.{Seat, seat_of, unused_fault, use_fau
 use Rattle.set_walk.proofs.ForAbove.{apart_at}
 use Rattle.layers_exist.proofs.Seats.{one_seat}
 
--- the codes by which these report an element, found again by their ranks
+-- the code of an element that is at fault, by its rank: the four codes of hierarchies and dependencies
 abbrev code_of : (rank : ℕ) → ElementCode
 code_of rank =
     if rank == 12 then ik403.CodeNotUsed
@@ -30,7 +30,7 @@ code_of rank =
     else if rank == 15 then ik403.PatternFailure
     else ik403.DependentNotUsedPresent
 
--- a missing element has no copy
+-- the copy of an element: none if it is missing
 abbrev copied : (rank : ℕ) → PlacedSegment → (element : ℕ) → List ℕ
 copied rank p element = if rank == 13 then [] else element_at p.segment element
 
@@ -41,7 +41,7 @@ module _ (ts : Trees) (body : List Segment) (given : List (Option Place)) (end :
   abbrev pub placed : List PlacedSegment
   placed = placed_segments ts body given
 
-  -- a fault of an element of a segment
+  -- a fault that reports an element of a placed segment
   pub record OfElement (f : Fault) : Type 0 where
     segment : PlacedSegment
     listed : Contains placed segment
@@ -50,13 +50,13 @@ module _ (ts : Trees) (body : List Segment) (given : List (Option Place)) (end :
     ranked : element_rank (code_of rank) ≡ rank
     is : f ≡ reported segment element rank
 
-  -- of the use of a segment
+  -- a fault that reports a segment that must not be used
   pub record OfUse (f : Fault) : Type 0 where
     segment : PlacedSegment
     listed : Contains placed segment
     is : f ≡ use_fault segment ik304.DependentNotUsedPresent None
 
-  -- of a slot without a use
+  -- a fault that reports a slot that has no use
   pub record OfSlot (f : Fault) : Type 0 where
     label : List ℕ
     seat : Seat

@@ -24,7 +24,7 @@ abbrev pub in_order : List Fault → List Fault
 in_order [] = []
 in_order (f ∷ fs) = insert_key order (in_order fs) f
 
--- what is so of a list and of a fault is so with the fault among them
+-- what holds of all faults of a list and of one more holds once that one is put in
 all_with : (P : Fault → Type 0) (xs : List Fault) (f : Fault) → AllByRecursion P xs → P f → AllByRecursion P (insert_key order xs f)
 all_with P [] f all is = (is, tt)
 all_with P (x ∷ xs) f all is = by (order f x) (all_with P xs f all.1 is)
@@ -56,7 +56,7 @@ unfolding IsStrictlySortedBy
 rising [] = tt
 rising (f ∷ fs) = rising_with (in_order fs) f (rising fs)
 
--- nothing comes in but the fault
+-- only that fault is new
 from_with : (xs : List Fault) (f h : Fault) → In (insert_key order xs f) h → (f ≡ h) ⊎ In xs h
 from_with [] f h i = i
 from_with (x ∷ xs) f h i = by (order f x) i (from_with xs f h)
@@ -82,7 +82,7 @@ kept_with (x ∷ xs) f h i = by (order f x) (kept_with xs f h) i
 same_key : (f x : Fault) → order f x ≡ Equal → key_of f ≡ key_of x
 same_key f x e = tells_apart exact_bytes (key_of f) (key_of x) (ap is_eq e)
 
--- a fault is among them, or one that has its key
+-- then the fault is in the list, or another was there with its key
 there_with : (xs : List Fault) (f : Fault) → In (insert_key order xs f) f ⊎ ((x : Fault) × In xs x × (key_of x ≡ key_of f))
 there_with [] f = inl (inl refl)
 there_with (x ∷ xs) f = by (order f x) refl (there_with xs f)

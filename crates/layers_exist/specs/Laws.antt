@@ -1,16 +1,19 @@
 -- Each text has an index, answers to its groups and sets, and a night of the layers. The guides of a setup are accepted.
-use Rattle.std.specs.Prelude.{ℕ, List, Option, IfSome}
+use Rattle.std.specs.Prelude.{◌≡◌, ℕ, List, Option, Some, IfSome}
 use Rattle.std.specs.List.{All}
 use Rattle.hub_kinds.specs.declared.fault.Fault.{Fault}
 use Rattle.hub_kinds.specs.Words.{AreRising}
 use Rattle.guide_tree.specs.declared.rows.GuideRows.{GuideRows}
-use Rattle.guide_tree.specs.Words.{IsAccepted}
+use Rattle.guide_tree.specs.Words.{IsAccepted, IsWellFormed, guide_of}
+use Rattle.x12_segs.specs.Words.{SegValue, element_of}
 use Rattle.env_index.specs.Words.{GroupEntry, IndexValue, IsIndex}
-use Rattle.partner_setup.specs.Setup.{SetupValue}
+use Rattle.env_index.specs.declared.entry.SetEnvelope.{SetEnvelope}
+use Rattle.hub_kinds.specs.declared.answers.SetAnswer.{SetAnswer}
+use Rattle.partner_setup.specs.Setup.{SetupValue, guide_for_set}
 use Rattle.set_check.specs.Checked.{guide_tree_of}
 use Rattle.set_check.specs.SetFaults.{AreSetFaults}
 use Rattle.set_check.specs.SetParts.{SetParts}
-use Rattle.checked_text.specs.Answers.{AreGroupAnswers, SentValue}
+use Rattle.checked_text.specs.Answers.{AreGroupAnswers, IsSetAnswer, SentValue}
 use Rattle.checked_text.specs.declared.answered.AnsweredGroup.{AnsweredGroup}
 use Rattle.night_writing.specs.Night.{IsNight}
 use Rattle.night_writing.specs.declared.night.Night.{Night}
@@ -32,6 +35,13 @@ EachSetHasItsFaults = (guide : Option GuideRows) (parts : SetParts) → IfSome g
 abbrev pub EachGroupHasItsAnswers : Type 0
 EachGroupHasItsAnswers = (sent : SentValue) (groups : List GroupEntry) → AreGuidesAccepted sent.setup
     → (answers : List (Option AnsweredGroup)) × AreGroupAnswers sent groups answers
+
+-- without that there may be none: a set that is to be checked by a guide with a fault has no answer
+abbrev pub FaultyGuidesAnswerNothing : Type 0
+FaultyGuidesAnswerNothing = (sent : SentValue) (gs : SegValue) (before : List SetEnvelope) (set : SetEnvelope) (answer : SetAnswer)
+    (rows : GuideRows)
+    → guide_for_set sent.setup sent.sender (element_of gs 1) (element_of gs 8) (element_of set.header 1) ≡ Some rows
+    → (IsWellFormed (guide_of rows) → ⊥) → IsSetAnswer sent gs before set answer → ⊥
 
 -- the night of a text, a setup and a moment
 abbrev pub EachTextHasANight : Type 0

@@ -1,5 +1,6 @@
-ghost use Rattle.layers_exist.specs.Laws.{EachGroupHasItsAnswers, EachSetHasItsFaults, EachTextHasANight, EachTextHasAnIndex};
 ghost use Rattle.layers_exist.specs.Follow.{LayersFollow, NightsAreTheDefinitions};
+ghost use Rattle.layers_exist.specs.Laws.{EachGroupHasItsAnswers, EachSetHasItsFaults, EachTextHasANight, EachTextHasAnIndex};
+ghost use Rattle.layers_exist.specs.Laws.{FaultyGuidesAnswerNothing};
 
 use env_index::envelope_is_there;
 use night_equal_night::nights_are_one;
@@ -27,6 +28,11 @@ pub fn each_group_has_its_answers()
 {
     each_set_has_its_faults();
 }
+
+/// A theorem, with nothing to run: a set has no answer by a guide with a fault, so the guides of a setup must be accepted.
+pub fn faulty_guides_answer_nothing()
+    ensures { FaultyGuidesAnswerNothing }
+{}
 
 /// A theorem, with nothing to run: each text has a night of the layers, by a setup of accepted guides and at any moment.
 pub fn each_text_has_a_night()

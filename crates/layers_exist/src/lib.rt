@@ -8,5 +8,6 @@ mod laws;
 pub use accepted::guides_are_accepted;
 pub use laws::{
     each_group_has_its_answers, each_set_has_its_faults, each_text_has_a_night,
-    each_text_has_an_index, layers_follow, nights_are_the_definitions,
+    each_text_has_an_index, faulty_guides_answer_nothing, layers_follow,
+    nights_are_the_definitions,
 };
