@@ -24,7 +24,8 @@ use Rattle.checked_text.specs.Answers.{controls_of, has_number_among}
 use Rattle.checked_text.specs.Seen.{is_among}
 use Rattle.checked_text.specs.declared.answered.AnsweredGroup.{AnsweredGroup}
 use Rattle.checked_text.proofs.ForAbove.{at_index}
-use Rattle.layers_exist.specs.Laws.{AreGuidesAccepted, EachGroupHasItsAnswers, EachSetHasItsFaults, FaultyGuidesAnswerNothing}
+use Rattle.accepted_guides.specs.Accepted.{AreGuidesAccepted}
+use Rattle.layers_exist.specs.Laws.{EachGroupHasItsAnswers, EachSetHasItsFaults, FaultyGuidesAnswerNothing}
 use Rattle.layers_exist.proofs.Pairs.{pairs}
 
 -- what holds of all items holds of those at some places, and of the one that a test finds

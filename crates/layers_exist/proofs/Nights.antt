@@ -10,7 +10,8 @@ use Rattle.checked_text.specs.Settled.{settled_entries}
 use Rattle.checked_text.specs.declared.answered.AnsweredGroup.{AnsweredGroup}
 use Rattle.night_writing.specs.Night.{AreForPartners, IsNight, acks_of, box_of, judgements, next_of}
 use Rattle.night_writing.specs.declared.night.Night.{Night}
-use Rattle.layers_exist.specs.Laws.{AreGuidesAccepted, EachGroupHasItsAnswers, EachTextHasANight, EachTextHasAnIndex}
+use Rattle.accepted_guides.specs.Accepted.{AreGuidesAccepted}
+use Rattle.layers_exist.specs.Laws.{EachGroupHasItsAnswers, EachTextHasANight, EachTextHasAnIndex}
 use Rattle.layers_exist.proofs.Pairs.{pairs}
 
 -- what a function gives for each partner

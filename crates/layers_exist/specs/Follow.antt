@@ -11,7 +11,7 @@ use Rattle.night_definition.specs.ReadBack as defined
 use Rattle.night_equal_text.specs.LookedUp.{seen_setup}
 use Rattle.night_equal_night.specs.Night.{IsThatNight}
 use Rattle.night_equal_read.specs.Read.{seen_night}
-use Rattle.layers_exist.specs.Laws.{AreGuidesAccepted}
+use Rattle.accepted_guides.specs.Accepted.{AreGuidesAccepted}
 
 -- the files of the definition's night are a night of the layers
 abbrev pub LayersFollow : Type 0

@@ -1,6 +1,5 @@
--- Each text has an index, answers to its groups and sets, and a night of the layers. The guides of a setup are accepted.
+-- Each text has an index, answers to its groups and sets, and a night of the layers.
 use Rattle.std.specs.Prelude.{◌≡◌, ℕ, List, Option, Some, IfSome}
-use Rattle.std.specs.List.{All}
 use Rattle.hub_kinds.specs.declared.fault.Fault.{Fault}
 use Rattle.hub_kinds.specs.Words.{AreRising}
 use Rattle.guide_tree.specs.declared.rows.GuideRows.{GuideRows}
@@ -10,6 +9,7 @@ use Rattle.env_index.specs.Words.{GroupEntry, IndexValue, IsIndex}
 use Rattle.env_index.specs.declared.entry.SetEnvelope.{SetEnvelope}
 use Rattle.hub_kinds.specs.declared.answers.SetAnswer.{SetAnswer}
 use Rattle.partner_setup.specs.Setup.{SetupValue, guide_for_set}
+use Rattle.accepted_guides.specs.Accepted.{AreGuidesAccepted}
 use Rattle.set_check.specs.Checked.{guide_tree_of}
 use Rattle.set_check.specs.SetFaults.{AreSetFaults}
 use Rattle.set_check.specs.SetParts.{SetParts}
@@ -17,10 +17,6 @@ use Rattle.checked_text.specs.Answers.{AreGroupAnswers, IsSetAnswer, SentValue}
 use Rattle.checked_text.specs.declared.answered.AnsweredGroup.{AnsweredGroup}
 use Rattle.night_writing.specs.Night.{IsNight}
 use Rattle.night_writing.specs.declared.night.Night.{Night}
-
--- each guide is without fault and has numbered slots, as the ones that the hub reads do
-abbrev pub AreGuidesAccepted : SetupValue → Type 0
-AreGuidesAccepted setup = All IsAccepted setup.guides
 
 -- the interchanges of a text, each read as a tree of envelopes, with its fault
 abbrev pub EachTextHasAnIndex : Type 0

@@ -1,4 +1,4 @@
-ghost use Rattle.layers_exist.specs.Laws.{AreGuidesAccepted};
+ghost use Rattle.accepted_guides.specs.Accepted.{AreGuidesAccepted};
 
 use partner_setup::Setup;
 
