@@ -1,3 +1,6 @@
+pub mod BadRows
+pub mod BadSums
 pub mod Naming
+pub mod Reading
 pub mod Same
 pub mod Summing

@@ -1,11 +1,9 @@
 -- What is kept of a night, by the bytes of its files (own).
-use Rattle.std.specs.Prelude.{◌≡◌, ℕ, List, Some, Ok, map}
+use Rattle.std.specs.Prelude.{◌≡◌, ℕ, List, Ok}
 use Rattle.std.specs.List.{flat_map}
-use Rattle.std.specs.Str.{IsUtf8}
-use Rattle.toml.specs.Data.{Members}
-use Rattle.toml.specs.Parse.{parse_document}
 use Rattle.csv.specs.Reading.{AreRecords, default_config, strip_bom}
 use Rattle.csv.specs.declared.parser.State.TheVariants as st
+use Rattle.guide_toml.specs.FileBytes.{HasTable}
 use Rattle.partner_setup.specs.CountersFile.{counters_of_table}
 use Rattle.partner_setup.specs.SetupFile.{setup_of_table}
 use Rattle.partner_setup.specs.declared.rows.CounterRow.{CounterRow}
@@ -19,10 +17,10 @@ use Rattle.night_entries.specs.declared.files.NamedSum.{NamedSum}
 
 -- bytes that are a setup file, and its rows
 abbrev pub IsSetup : List ℕ → SetupRows → Type 0
-IsSetup bytes rows = (table : Members) → IsUtf8 bytes → parse_document bytes ≡ Some table → setup_of_table table ≡ Ok rows
+IsSetup bytes rows = HasTable bytes (λ table. setup_of_table table ≡ Ok rows)
 
 abbrev pub AreCounters : List ℕ → List CounterRow → Type 0
-AreCounters bytes rows = (table : Members) → IsUtf8 bytes → parse_document bytes ≡ Some table → counters_of_table table ≡ Ok rows
+AreCounters bytes rows = HasTable bytes (λ table. counters_of_table table ≡ Ok rows)
 
 -- the entry of a night by its papers
 pub record IsEntry (papers : Papers) (entry : NightEntry) : Type 0 where

@@ -1,5 +1,5 @@
 -- The files of a night (own): those that it gives by the partners of its setup, those that its sums list, and those that were found.
-use Rattle.std.specs.Prelude.{ℕ, Bool, not, ◌&&◌, List, [], ◌∷◌, ◌++◌, Option, Some, None, codes, filter, is_some, map}
+use Rattle.std.specs.Prelude.{ℕ, not, ◌&&◌, List, [], ◌∷◌, ◌++◌, Option, Some, None, codes, filter, is_some, map}
 use Rattle.std.specs.List.{flat_map}
 use Rattle.hub_ledger.specs.declared.entry.AddressNumbers.{AddressNumbers}
 use Rattle.hub_ledger.specs.declared.entry.FileSum.{FileSum}

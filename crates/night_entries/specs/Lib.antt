@@ -2,5 +2,6 @@ pub mod Entry
 pub mod Files
 pub mod Keys
 pub mod Named
+pub mod ReadFault
+pub mod Refused
 pub mod Rows
-pub mod TableFault

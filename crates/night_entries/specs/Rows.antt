@@ -1,5 +1,5 @@
 -- The numbers of partners in a night (own; X12.5, ISA13; X12.6, GS06 and ST02).
-use Rattle.std.specs.Prelude.{ℕ, List, [], ◌∷◌, ◌++◌, Option, Some, None, map}
+use Rattle.std.specs.Prelude.{ℕ, List, ◌∷◌, ◌++◌, Option, Some, None, map}
 use Rattle.hub_kinds.specs.declared.counters.Counters.{Counters}
 use Rattle.partner_setup.specs.declared.rows.CounterRow.{CounterRow}
 use Rattle.partner_setup.specs.declared.rows.PartnerRow.{PartnerRow}

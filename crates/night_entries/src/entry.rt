@@ -1,9 +1,10 @@
-ghost use Rattle.std.specs.Prelude.{◌≡◌, ◌++◌, IfOk, map};
-ghost use Rattle.csv.specs.Reading.{AreRecords, default_config, error_kind, strip_bom};
-ghost use Rattle.csv.specs.Records.{fields_of};
-ghost use Rattle.csv.specs.declared.parser.State.TheVariants as st;
+ghost use Rattle.std.specs.Prelude.{◌≡◌, IfErr, IfOk};
 ghost use Rattle.night_entries.specs.Entry.{AreCounters, IsEntry, IsSetup};
-ghost use Rattle.night_entries.specs.TableFault.{table_fault};
+ghost use Rattle.night_entries.specs.Refused.{IsEntryFault, is_moment};
+ghost use Rattle.night_entries.specs.ReadFault.{IsReadFault, read_fault};
+ghost use Rattle.night_entries.specs.declared.fault.Paper.TheVariants as paper;
+ghost use Rattle.partner_setup.specs.CountersFile.{counters_of_table};
+ghost use Rattle.partner_setup.specs.SetupFile.{setup_of_table};
 
 use crate::fault::{EntryFault, Paper};
 use crate::files::{NamedSum, files_of};
@@ -11,7 +12,6 @@ use crate::key::delivered_keys;
 use crate::rows::address_rows;
 use crate::sums::read_sums;
 use crate::table::records_of;
-use csv::{ByteRecord, Error, ErrorKind};
 use hub_kinds::{Items, copy_text, read_number};
 use hub_ledger::NightEntry;
 use partner_setup::{CounterRows, FileFault, SetupRows, read_counters, read_setup};
@@ -39,7 +39,9 @@ pub struct Papers<'a> {
 }
 
 /// The fault of a file that isn't read.
-fn fault_of(fault: FileFault, paper: Paper) -> EntryFault {
+fn fault_of(fault: FileFault, paper: Paper) -> EntryFault
+    ensures { result ≡ read_fault paper fault }
+{
     match fault {
         FileFault::NoMemory => EntryFault::Memory,
         FileFault::NotToml
@@ -50,7 +52,8 @@ fn fault_of(fault: FileFault, paper: Paper) -> EntryFault {
 }
 
 fn setup_of(alloc: Global, bytes: &[u8]) -> Result<SetupRows, EntryFault>
-    ensures { IfOk result (IsSetup bytes.now) }
+    ensures rows { IfOk result (IsSetup bytes.now) }
+    ensures refused { IfErr result (IsReadFault setup_of_table paper.Setup bytes.now) }
 {
     match read_setup(alloc, bytes) {
         Ok(rows) => Ok(rows),
@@ -59,7 +62,8 @@ fn setup_of(alloc: Global, bytes: &[u8]) -> Result<SetupRows, EntryFault>
 }
 
 fn counters_of(alloc: Global, bytes: &[u8], paper: Paper) -> Result<CounterRows, EntryFault>
-    ensures { IfOk result (AreCounters bytes.now) }
+    ensures rows { IfOk result (AreCounters bytes.now) }
+    ensures refused { IfErr result (IsReadFault counters_of_table paper bytes.now) }
 {
     match read_counters(alloc, bytes) {
         Ok(rows) => Ok(rows),
@@ -67,40 +71,27 @@ fn counters_of(alloc: Global, bytes: &[u8], paper: Paper) -> Result<CounterRows,
     }
 }
 
-/// The fault of a table that isn't read.
-fn table_fault(error: &Error) -> EntryFault
-    ensures { result ≡ table_fault (error_kind error.now) }
+/// Whether a text is twelve digits.
+fn is_moment(text: &[u8]) -> bool
+    ensures { result ≡ is_moment text.now }
 {
-    match error.kind() {
-        ErrorKind::OutOfMemory | ErrorKind::Io(_) => EntryFault::Memory,
-        ErrorKind::Utf8 { .. }
-        | ErrorKind::UnequalLengths { .. }
-        | ErrorKind::Serialize(_)
-        | ErrorKind::Deserialize { .. } => EntryFault::Unreadable(Paper::Track),
-    }
+    text.len() == DIGITS && read_number(text, DIGITS).is_some()
 }
 
-fn table_of(alloc: Global, bytes: &[u8]) -> Result<Vec<ByteRecord>, EntryFault>
-    ensures { IfOk result (λ table. AreRecords default_config st.StartRecord (strip_bom bytes.now) (map fields_of table.items)) }
-{
-    match records_of(alloc, bytes) {
-        Ok(table) => Ok(table),
-        Err(error) => Err(table_fault(&error)),
-    }
-}
-
-/// What is kept of a night.
+/// What is kept of a night, by `papers`. Errors: the first file that isn't what a night leaves, in the order moment, setup, counters, next
+/// counters, sums and table; or out of memory.
 pub fn entry_of(alloc: Global, papers: &Papers<'_>) -> Result<NightEntry, EntryFault>
-    ensures { IfOk result (IsEntry papers.now) }
+    ensures entry { IfOk result (IsEntry papers.now) }
+    ensures refused { IfErr result (IsEntryFault papers.now) }
 {
-    if papers.moment.len() != DIGITS || read_number(papers.moment, DIGITS).is_none() {
+    if !is_moment(papers.moment) {
         return Err(EntryFault::Unreadable(Paper::Moment));
     }
     let setup = setup_of(alloc, papers.setup)?;
     let begun = counters_of(alloc, papers.counters, Paper::Counters)?;
     let left = counters_of(alloc, papers.next_counters, Paper::NextCounters)?;
     let listed = read_sums(alloc, papers.sums)?;
-    let table = table_of(alloc, papers.track)?;
+    let table = records_of(alloc, papers.track)?;
     let rows = address_rows(
         alloc,
         setup.partners.as_slice(),

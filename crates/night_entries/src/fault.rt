@@ -1,3 +1,4 @@
+use csv::{Error, ErrorKind};
 use hub_kinds::NoMemory;
 use std::alloc::{AllocError, AllocFailed};
 
@@ -22,19 +23,52 @@ pub enum EntryFault {
 }
 
 impl From<NoMemory> for EntryFault {
+    ghost use Rattle.std.specs.Prelude.{◌≡◌};
+    ghost use Rattle.night_entries.specs.declared.fault.EntryFault.TheVariants.{Memory};
+
+    ghost from_gives = { λ _ fault. fault ≡ Memory };
+
     fn from(_error: NoMemory) -> EntryFault {
         EntryFault::Memory
     }
 }
 
 impl From<AllocError> for EntryFault {
+    ghost use Rattle.std.specs.Prelude.{◌≡◌};
+    ghost use Rattle.night_entries.specs.declared.fault.EntryFault.TheVariants.{Memory};
+
+    ghost from_gives = { λ _ fault. fault ≡ Memory };
+
     fn from(_error: AllocError) -> EntryFault {
         EntryFault::Memory
     }
 }
 
 impl<T: Drop> From<AllocFailed<T>> for EntryFault {
+    ghost use Rattle.std.specs.Prelude.{◌≡◌};
+    ghost use Rattle.night_entries.specs.declared.fault.EntryFault.TheVariants.{Memory};
+
+    ghost from_gives = { λ _ fault. fault ≡ Memory };
+
     fn from(_error: AllocFailed<T>) -> EntryFault {
         EntryFault::Memory
+    }
+}
+
+impl From<Error> for EntryFault {
+    ghost use Rattle.std.specs.Prelude.{◌≡◌};
+    ghost use Rattle.csv.specs.Reading.{error_kind};
+    ghost use Rattle.night_entries.specs.ReadFault.{table_fault};
+
+    ghost from_gives = { λ error fault. fault ≡ table_fault (error_kind error) };
+
+    fn from(error: Error) -> EntryFault {
+        match error.kind() {
+            ErrorKind::OutOfMemory | ErrorKind::Io(_) => EntryFault::Memory,
+            ErrorKind::Utf8 { .. }
+            | ErrorKind::UnequalLengths { .. }
+            | ErrorKind::Serialize(_)
+            | ErrorKind::Deserialize { .. } => EntryFault::Unreadable(Paper::Track),
+        }
     }
 }

@@ -1,11 +1,13 @@
-ghost use Rattle.std.specs.Prelude.{◌≡◌, ◌++◌, ◌∷◌, [], ℕ, List, IfOk, IfSome, OnOk, map, option_map, slice_index_or};
-ghost use Rattle.std.specs.List.{filter_map};
+ghost use Rattle.std.specs.Prelude.{◌≡◌, ◌++◌, ◌∷◌, [], ◌&&◌, not, ℕ, List, IfErr, IfOk, IfSome, OnOk, map, option_map, slice_index_or};
+ghost use Rattle.std.specs.List.{filter_map, list_all};
 ghost use Rattle.std.specs.Option.{option_to_list};
 ghost use Rattle.csv.specs.Records.{fields_of};
 ghost use Rattle.x12_bytes.specs.Header.{header_at};
 ghost use Rattle.hub_kinds.specs.Numbers.{value_of};
 ghost use Rattle.night_entries.specs.Keys as keys;
 ghost use Rattle.night_entries.specs.Named.{found_in};
+ghost use Rattle.night_entries.specs.ReadFault.{IsTrackFault};
+ghost use Rattle.night_entries.specs.Refused.{has_byte, has_key, is_offset, is_row};
 
 use crate::fault::{EntryFault, Paper};
 use crate::named::{by_name, find};
@@ -21,19 +23,20 @@ const FIELDS: usize = 25;
 
 const TRACK: EntryFault = EntryFault::Unreadable(Paper::Track);
 
-/// Field `n` of a row, counted from 0.
-fn cell(row: &ByteRecord, n: usize) -> Result<&[u8], EntryFault>
-    ensures { IfOk result (λ cell. cell.now ≡ keys.cell (fields_of row.entry.now) n) }
+/// Field `n` of a row, counted from 0; empty where there isn't one.
+fn cell(row: &ByteRecord, n: usize) -> &[u8]
+    ensures { result.now ≡ keys.cell (fields_of row.entry.now) n }
 {
     match row.get(n) {
-        None => Err(TRACK),
-        Some(cell) => Ok(cell),
+        None => b"",
+        Some(cell) => cell,
     }
 }
 
 /// The header of the interchange that begins at the offset which a row writes.
 fn header_of<'a>(input: &'a [u8], offset: &[u8]) -> Result<Header<'a>, EntryFault>
-    ensures { IfOk result (λ header. header ≡ header_at input.entry.now (value_of offset.now)) }
+    ensures header { IfOk result (λ header. header ≡ header_at input.entry.now (value_of offset.now)) }
+    ensures refused { IfErr result (IsTrackFault (is_offset input.entry.now offset.now)) }
 {
     let Some(at) = read_number(offset, 10) else {
         return Err(TRACK);
@@ -58,7 +61,8 @@ fn append_interchange(key: &mut Vec<u8>, header: &Header<'_>) -> Result<(), NoMe
 
 /// Appends a text, and a byte that it must not have.
 fn append_ended(key: &mut Vec<u8>, text: &[u8]) -> Result<(), EntryFault>
-    ensures { OnOk result (key.new.items ≡ key.old.items ++ (text.now ++ 0 ∷ [])) }
+    ensures key { OnOk result (key.new.items ≡ key.old.items ++ (text.now ++ 0 ∷ [])) }
+    ensures refused { IfErr result (IsTrackFault (not (has_byte 0 text.now))) }
 {
     if text.contains(&0) {
         return Err(TRACK);
@@ -76,8 +80,9 @@ fn set_key(
     set: &[u8],
     receiver: &AddressNumbers,
 ) -> Result<Text, EntryFault>
-    ensures { IfOk result (λ key. key ≡ keys.interchange_key header.now
+    ensures key { IfOk result (λ key. key ≡ keys.interchange_key header.now
         ++ (group.now ++ (0 ∷ []) ++ (set.now ++ (0 ∷ []) ++ receiver.now.address))) }
+    ensures refused { IfErr result (IsTrackFault (not (has_byte 0 group.now) && not (has_byte 0 set.now))) }
 {
     let mut key = Vec::new(alloc);
     append_interchange(&mut key, header)?;
@@ -94,15 +99,16 @@ fn delivered_key<'a>(
     receivers: &BTreeMap<&'a [u8], &'a AddressNumbers>,
     row: &ByteRecord,
 ) -> Result<Text, EntryFault>
-    ensures { IfOk result (λ key. let cells = fields_of row.now in
+    ensures key { IfOk result (λ key. let cells = fields_of row.now in
         key ≡ keys.set_key (header_at input.now (value_of (keys.cell cells 1))) (keys.cell cells 7) (keys.cell cells 13)
         (found_in receivers.now (keys.cell cells 21))) }
+    ensures refused { IfErr result (IsTrackFault (has_key input.now (found_in receivers.now) (fields_of row.now))) }
 {
-    let Some(receiver) = find(receivers, cell(row, 21)?) else {
+    let Some(receiver) = find(receivers, cell(row, 21)) else {
         return Err(TRACK);
     };
-    let header = header_of(input, cell(row, 1)?)?;
-    set_key(alloc, &header, cell(row, 7)?, cell(row, 13)?, receiver)
+    let header = header_of(input, cell(row, 1))?;
+    set_key(alloc, &header, cell(row, 7), cell(row, 13), receiver)
 }
 
 /// The key of the set of a row, if the row says delivered.
@@ -112,12 +118,13 @@ fn row_key<'a>(
     receivers: &BTreeMap<&'a [u8], &'a AddressNumbers>,
     row: &ByteRecord,
 ) -> Result<Option<Text>, EntryFault>
-    ensures { IfOk result (λ key. key ≡ keys.row_key input.now (found_in receivers.now) (fields_of row.now)) }
+    ensures key { IfOk result (λ key. key ≡ keys.row_key input.now (found_in receivers.now) (fields_of row.now)) }
+    ensures refused { IfErr result (IsTrackFault (is_row input.now (found_in receivers.now) (fields_of row.now))) }
 {
     if row.len() != FIELDS {
         return Err(TRACK);
     }
-    if cell(row, 18)? == b"delivered".as_slice() {
+    if cell(row, 18) == b"delivered".as_slice() {
         Ok(Some(delivered_key(alloc, input, receivers, row)?))
     } else {
         Ok(None)
@@ -140,7 +147,8 @@ fn keys_by<'a>(
     receivers: &BTreeMap<&'a [u8], &'a AddressNumbers>,
     table: &[ByteRecord],
 ) -> Result<Vec<Text>, EntryFault>
-    ensures { IfOk result (λ found. found.items ≡ filter_map (keys.row_key input.now (found_in receivers.now)) (map fields_of table.now)) }
+    ensures keys { IfOk result (λ found. found.items ≡ filter_map (keys.row_key input.now (found_in receivers.now)) (map fields_of table.now)) }
+    ensures refused { IfErr result (IsTrackFault (list_all (is_row input.now (found_in receivers.now)) (map fields_of table.now))) }
 {
     let mut found = Vec::new(alloc);
     for i in 0..table.len() {
@@ -156,7 +164,8 @@ pub(crate) fn delivered_keys(
     receivers: &[AddressNumbers],
     table: &[ByteRecord],
 ) -> Result<Vec<Text>, EntryFault>
-    ensures { IfOk result (λ found. found.items ≡ keys.delivered_keys input.now receivers.now (map fields_of table.now)) }
+    ensures keys { IfOk result (λ found. found.items ≡ keys.delivered_keys input.now receivers.now (map fields_of table.now)) }
+    ensures refused { IfErr result (IsTrackFault (list_all (is_row input.now (keys.receiver_named receivers.now)) (map fields_of table.now))) }
 {
     let receivers = by_name(alloc, receivers)?;
     keys_by(alloc, input, &receivers, table)

@@ -1,8 +1,10 @@
-ghost use Rattle.std.specs.Prelude.{◌≡◌, ◌<◌, ◌++◌, ◌∷◌, [], IfOk, IfSome, length, slice_index};
-ghost use Rattle.std.specs.List.{flat_map};
+ghost use Rattle.std.specs.Prelude.{◌≡◌, ◌==◌, ◌++◌, ◌∷◌, [], false, IfErr, IfOk};
+ghost use Rattle.std.specs.List.{flat_map, position};
 ghost use Rattle.hex.specs.Hex.{encode_lower};
 ghost use Rattle.sha2.specs.Sha256.{sha256};
 ghost use Rattle.night_entries.specs.Files.{sum_line};
+ghost use Rattle.night_entries.specs.ReadFault.{IsSumFault};
+ghost use Rattle.night_entries.specs.Refused.{HasBadSum, is_sum_line};
 
 use crate::fault::{EntryFault, Paper};
 use crate::files::NamedSum;
@@ -29,8 +31,7 @@ pub fn sum_of(alloc: Global, bytes: &[u8]) -> Result<Text, NoMemory>
 
 /// The end of the first line of a text, without its line feed.
 fn line_end(text: &[u8]) -> Option<usize>
-    ensures within { IfSome result (λ end. end < length text.now) }
-    ensures feed { IfSome result (λ end. slice_index text.now end ≡ 10) }
+    ensures { result ≡ position (λ byte. byte == 10) text.now }
 {
     text.iter().position(|byte| *byte == b'\n')
 }
@@ -38,7 +39,8 @@ fn line_end(text: &[u8]) -> Option<usize>
 /// A line of sums, without its line feed.
 #[tactic(auto, using(crate::proofs::Summing::line_is))]
 fn sum_in(alloc: Global, line: &[u8]) -> Result<NamedSum, EntryFault>
-    ensures { IfOk result (λ sum. sum_line sum ≡ line.now ++ 10 ∷ []) }
+    ensures line { IfOk result (λ sum. sum_line sum ≡ line.now ++ 10 ∷ []) }
+    ensures refused { IfErr result (IsSumFault (is_sum_line line.now ≡ false)) }
 {
     if line.len() < DIGITS + SPACES {
         return Err(SUMS);
@@ -56,7 +58,8 @@ fn sum_in(alloc: Global, line: &[u8]) -> Result<NamedSum, EntryFault>
 
 /// Reads sums: lines of a sum, two spaces and the name of a file, as sha256sum prints them.
 pub fn read_sums(alloc: Global, text: &[u8]) -> Result<Vec<NamedSum>, EntryFault>
-    ensures { IfOk result (λ sums. flat_map sum_line sums.items ≡ text.now) }
+    ensures lines { IfOk result (λ sums. flat_map sum_line sums.items ≡ text.now) }
+    ensures refused { IfErr result (IsSumFault (HasBadSum text.now)) }
 {
     let mut sums = Vec::new(alloc);
     let mut at = 0;

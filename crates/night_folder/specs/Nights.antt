@@ -6,7 +6,10 @@ use Rattle.sha2.specs.Sha256.{sha256}
 use Rattle.hub_ledger.specs.declared.entry.NightEntry.{NightEntry}
 use Rattle.night_ends.specs.Outbox.{path_in}
 use Rattle.night_entries.specs.Entry.{IsEntry}
+use Rattle.night_entries.specs.Refused.{IsRefused}
 use Rattle.night_entries.specs.declared.entry.Papers.{Papers}
+use Rattle.night_entries.specs.declared.fault.Paper.{Paper}
+use Rattle.night_entries.specs.declared.fault.Paper.TheVariants as paper
 use Rattle.night_entries.specs.declared.files.NamedSum.{NamedSum}
 use Rattle.std.specs.Option.{option_or}
 use Rattle.night_folder.specs.Files.{FileValue, FolderValue, bytes_or_none}
@@ -117,26 +120,37 @@ pub record IsEntryOf (mark : NightMark) (files : NightFiles) (entry : NightEntry
   pub papers_are : ArePapersOf mark files papers
   pub entry_is : IsEntry papers entry
 
--- an input with another sum than the one that was written down; what else is wrong with a file the reader of that file says
-abbrev pub IsWrong : NightFiles → NightFile → Type 0
-IsWrong files file.Input = is_as_summed files.made ≡ false
-IsWrong files file.InputSum = ⊥
-IsWrong files file.Out = ⊥
-IsWrong files _ = ⊤
+-- a file whose bytes aren't what a night leaves
+pub record IsRefusedIn (mark : NightMark) (files : NightFiles) (paper : Paper) : Type 0 where
+  pub papers : Papers
+  pub papers_are : ArePapersOf mark files papers
+  pub refused : IsRefused papers paper
 
-abbrev pub IsBad : NightFiles → NightFile → FileState → Type 0
-IsBad files file state.Unread = first_unread files ≡ Some file
-IsBad files file state.Wrong = IsWrong files file
+-- such a file, or an input with another sum than the one that was written down
+abbrev pub IsWrong : NightMark → NightFiles → NightFile → Type 0
+IsWrong mark files file.Moment = IsRefusedIn mark files paper.Moment
+IsWrong mark files file.Setup = IsRefusedIn mark files paper.Setup
+IsWrong mark files file.Counters = IsRefusedIn mark files paper.Counters
+IsWrong mark files file.Input = is_as_summed files.made ≡ false
+IsWrong mark files file.InputSum = ⊥
+IsWrong mark files file.NextCounters = IsRefusedIn mark files paper.NextCounters
+IsWrong mark files file.Sums = IsRefusedIn mark files paper.Sums
+IsWrong mark files file.Track = IsRefusedIn mark files paper.Track
+IsWrong mark files file.Out = ⊥
+
+abbrev pub IsBad : NightMark → NightFiles → NightFile → FileState → Type 0
+IsBad mark files file state.Unread = first_unread files ≡ Some file
+IsBad mark files file state.Wrong = IsWrong mark files file
 
 -- why there isn't an entry: a file, or memory, which says nothing of the files
-abbrev pub IsFaultOf : NightFiles → NightFault → Type 0
-IsFaultOf files (fault.File file state) = IsBad files file state
-IsFaultOf files fault.Memory = ⊤
+abbrev pub IsFaultOf : NightMark → NightFiles → NightFault → Type 0
+IsFaultOf mark files (fault.File file state) = IsBad mark files file state
+IsFaultOf mark files fault.Memory = ⊤
 
 -- what was read of a night: its entry, or its first file that isn't what it must be
 abbrev pub IsReadOf : NightMark → NightFiles → NightRead → Type 0
 IsReadOf mark files (read.Entry entry) = IsEntryOf mark files entry
-IsReadOf mark files (read.Bad bad) = (bad.night ≡ mark.name) × IsBad files bad.file bad.state
+IsReadOf mark files (read.Bad bad) = (bad.night ≡ mark.name) × IsBad mark files bad.file bad.state
 
 -- a night of the folder `nights`, as it was read
 pub record IsRead (nights : List ℕ) (mark : NightMark) (read : NightRead) : Type 0 where

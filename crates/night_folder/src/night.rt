@@ -3,6 +3,9 @@ ghost use Rattle.std.specs.List.{AllZip, filter_map};
 ghost use Rattle.std.specs.Option.{option_or};
 ghost use Rattle.night_folder.specs.Nights as spec;
 ghost use Rattle.night_folder.specs.declared.files.NightFiles.{NightFiles};
+ghost use Rattle.night_marks.specs.declared.mark.NightMark.{NightMark};
+ghost use Rattle.night_entries.specs.Refused.{IsEntryFault};
+ghost use Rattle.night_entries.specs.declared.entry.Papers.{Papers};
 
 use crate::files::{Left, MadeOf, NightFiles, read_files};
 use crate::paper::{PaperAt, path_in};
@@ -123,7 +126,7 @@ fn is_summed(alloc: Global, input: &[u8], written: &[u8]) -> Result<bool, NoMemo
 }
 
 fn file_of(paper: Paper) -> NightFile
-    ensures { (files : NightFiles) → spec.IsWrong files result }
+    ensures { (mark : NightMark) → (files : NightFiles) → spec.IsRefusedIn mark files paper → spec.IsWrong mark files result }
 {
     match paper {
         Paper::Moment => NightFile::Moment,
@@ -137,7 +140,8 @@ fn file_of(paper: Paper) -> NightFile
 
 /// The fault of a file of which no entry is made.
 fn fault_of(fault: EntryFault) -> NightFault
-    ensures { (files : NightFiles) → spec.IsFaultOf files result }
+    ensures { (mark : NightMark) → (files : NightFiles) → (papers : Papers) → spec.ArePapersOf mark files papers
+        → IsEntryFault papers fault → spec.IsFaultOf mark files result }
 {
     match fault {
         EntryFault::Memory => NightFault::Memory,
@@ -149,7 +153,7 @@ fn fault_of(fault: EntryFault) -> NightFault
 fn checked(alloc: Global, files: &NightFiles) -> Result<(), NightFault>
     ensures each_read { OnOk result (spec.first_unread files.now ≡ None) }
     ensures summed { OnOk result (spec.is_as_summed files.now.made ≡ true) }
-    ensures fault { IfErr result (spec.IsFaultOf files.now) }
+    ensures fault { (mark : NightMark) → IfErr result (spec.IsFaultOf mark files.now) }
 {
     if let Some(file) = or(unread_of(&files.made), unread_left(&files.left)) {
         return Err(NightFault::File(file, FileState::Unread));
@@ -164,10 +168,11 @@ fn checked(alloc: Global, files: &NightFiles) -> Result<(), NightFault>
 /// What is kept of a night, by its files.
 fn entry_by(alloc: Global, mark: &NightMark, files: &NightFiles) -> Result<NightEntry, NightFault>
     ensures entry { IfOk result (spec.IsEntryOf mark.now files.now) }
-    ensures fault { IfErr result (spec.IsFaultOf files.now) }
+    ensures fault { IfErr result (spec.IsFaultOf mark.now files.now) }
 {
     checked(alloc, files)?;
-    match entry_of(alloc, &papers_of(mark, files)) {
+    let papers = papers_of(mark, files);
+    match entry_of(alloc, &papers) {
         Ok(entry) => Ok(entry),
         Err(fault) => Err(fault_of(fault)),
     }

@@ -1,5 +1,5 @@
 use Rattle.std.proofs.Common.{◌≡◌, ◌++◌, map, take}
-use Rattle.night_entries.specs.Files.{file_by, only_found, only_listed}
+use Rattle.night_entries.specs.Files.{file_by, only_listed}
 use Rattle.night_entries.specs.Named.{found_in}
 use Rattle.night_entries.proofs.files.push_listed.Given as goal
 
