@@ -1,5 +1,6 @@
 -- A row that isn't one of a night.
-use Rattle.std.proofs.Common.{◌≡◌, ℕ, ◌<◌, ◌==◌, ◌&&◌, ◌||◌, Bool, true, false, zero, suc, not, List, [], ◌∷◌, Option, length, map, get_or, sym, ap, subst, refl, ◌∙◌, arith}
+use Rattle.std.proofs.Common.{◌≡◌, ℕ, ◌<◌, ◌==◌, ◌&&◌, ◌||◌, Bool, true, false, zero, suc, not, List, [], ◌∷◌, Option, length}
+use Rattle.std.proofs.Common.{map, get_or, sym, ap, subst, refl, ◌∙◌, arith}
 use Rattle.std.specs.Prelude.{is_some}
 use Rattle.std.specs.List.{list_all}
 use Rattle.csv.specs.Reading.{AreRecords, default_config, strip_bom}

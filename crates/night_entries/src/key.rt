@@ -147,7 +147,8 @@ fn keys_by<'a>(
     receivers: &BTreeMap<&'a [u8], &'a AddressNumbers>,
     table: &[ByteRecord],
 ) -> Result<Vec<Text>, EntryFault>
-    ensures keys { IfOk result (λ found. found.items ≡ filter_map (keys.row_key input.now (found_in receivers.now)) (map fields_of table.now)) }
+    ensures keys { IfOk result (λ found. found.items
+        ≡ filter_map (keys.row_key input.now (found_in receivers.now)) (map fields_of table.now)) }
     ensures refused { IfErr result (IsTrackFault (list_all (is_row input.now (found_in receivers.now)) (map fields_of table.now))) }
 {
     let mut found = Vec::new(alloc);
@@ -165,7 +166,8 @@ pub(crate) fn delivered_keys(
     table: &[ByteRecord],
 ) -> Result<Vec<Text>, EntryFault>
     ensures keys { IfOk result (λ found. found.items ≡ keys.delivered_keys input.now receivers.now (map fields_of table.now)) }
-    ensures refused { IfErr result (IsTrackFault (list_all (is_row input.now (keys.receiver_named receivers.now)) (map fields_of table.now))) }
+    ensures refused { IfErr result
+        (IsTrackFault (list_all (is_row input.now (keys.receiver_named receivers.now)) (map fields_of table.now))) }
 {
     let receivers = by_name(alloc, receivers)?;
     keys_by(alloc, input, &receivers, table)

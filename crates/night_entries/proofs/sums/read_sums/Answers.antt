@@ -57,4 +57,5 @@ returns-in_err-sum_in-clause-refused c =
     same_fault c.from_residual.result c.in_err-sum_in.field-0.0 (IsSumFault (HasBadSum text)) c.from_residual.ensures.1
     (sum_fails text at end c.loop-at.sums.items c.loop-at.invariant.so_far
     (subst (λ (l : List ℕ). position (λ byte. byte == 10) l ≡ Some end) whole (sym c.in-Some.ensures)) c.in_err-sum_in.field-0.0
-    (subst (λ (n : ℕ). IsSumFault (is_sum_line (take n (drop at text)) ≡ false) c.in_err-sum_in.field-0.0) more c.in_err-sum_in.ensures.refused))
+    (subst (λ (n : ℕ). IsSumFault (is_sum_line (take n (drop at text)) ≡ false) c.in_err-sum_in.field-0.0) more
+    c.in_err-sum_in.ensures.refused))
