@@ -15,7 +15,8 @@ use Rattle.night_entries.proofs.Summing.{line_found, line_open}
 divided : (text : List ℕ) (at : ℕ) (sums : List NamedSum) (left : List ℕ) → flat_map sum_line sums ≡ take at text → drop at text ≡ left
     → text ≡ flat_map sum_line sums ++ left
 divided text at sums left so_far is =
-    sym (take-append-drop at text) ∙ ap (λ (l : List ℕ). l ++ drop at text) (sym so_far) ∙ ap (λ (l : List ℕ). flat_map sum_line sums ++ l) is
+    sym (take-append-drop at text) ∙ ap (λ (l : List ℕ). l ++ drop at text) (sym so_far)
+    ∙ ap (λ (l : List ℕ). flat_map sum_line sums ++ l) is
 
 -- what is left has no line feed
 pub open_sum : (text : List ℕ) (at : ℕ) (sums : List NamedSum) → flat_map sum_line sums ≡ take at text → 0 < length (drop at text)
@@ -37,7 +38,8 @@ bad_line text at end sums so_far found bad =
       sums = sums;
       line = take end (drop at text);
       left = drop end (drop at text);
-      text_is = divided text at sums (take end (drop at text) ++ drop end (drop at text)) so_far (sym (take-append-drop end (drop at text)));
+      text_is = divided text at sums (take end (drop at text) ++ drop end (drop at text)) so_far
+          (sym (take-append-drop end (drop at text)));
       one_line = line.2;
       bad = inr (feed_first (drop at text) end line.0 line.1, bad);
     }

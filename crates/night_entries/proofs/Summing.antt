@@ -1,5 +1,6 @@
 -- Lines of sums.
-use Rattle.std.proofs.Common.{◌≡◌, ℕ, ◌+◌, ◌<◌, ◌≤◌, ◌==◌, ◌||◌, Bool, true, false, not, cond, List, [], ◌∷◌, ◌++◌, None, Some, codes, length}
+use Rattle.std.proofs.Common.{◌≡◌, ℕ, ◌+◌, ◌<◌, ◌≤◌, ◌==◌, ◌||◌, Bool, true, false}
+use Rattle.std.proofs.Common.{not, cond, List, [], ◌∷◌, ◌++◌, None, Some, codes, length}
 use Rattle.std.proofs.Common.{suc, take, drop, sym, ap, subst, refl, ◌∙◌, append_assoc, arith}
 use Rattle.std.specs.Prelude.{slice_index}
 use Rattle.std.specs.List.{position, position_or_len}
