@@ -84,13 +84,7 @@ fn append_night(
     ensures lines { OnOk result (out.new.items ≡ out.old.items ++ search.night_lines text.now table.now) }
     ensures found { IfOk result (λ found. found ≡ search.has_row text.now table.now) }
 {
-    let found = append_found(
-        alloc,
-        out,
-        text,
-        table.night.as_slice(),
-        table.state.rows(),
-    )?;
+    let found = append_found(alloc, out, text, table.night.as_slice(), table.state.rows())?;
     append_unread(alloc, out, table)?;
     Ok(found)
 }

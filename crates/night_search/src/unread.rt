@@ -21,11 +21,7 @@ fn append_words(
 }
 
 /// Appends the line on `table` to `out` if it wasn't read. The only error is out of memory.
-pub fn append_unread(
-    alloc: Global,
-    out: &mut Vec<u8>,
-    table: &NightTable,
-) -> Result<(), NoMemory>
+pub fn append_unread(alloc: Global, out: &mut Vec<u8>, table: &NightTable) -> Result<(), NoMemory>
     ensures { OnOk result (out.new.items ≡ out.old.items ++ lines.unread_line table.now.night table.now.state) }
 {
     let night = table.night.as_slice();

@@ -1,1 +1,0 @@
-use Rattle.night_search.proofs.append.append_parts.Goals as goal
