@@ -54,6 +54,7 @@ searched_more text old new table has read lines has_is found read_is all_read ta
       lines ∙ ap (λ (t : List ℕ). t ++ night_lines text table) is.lines ∙ sym (flat_more (night_lines text) tables table);
   found = found_more (has_row text) tables (tables ++ table ∷ []) table old.found new.found has refl is.found has_is found;
   read =
-      all_read ∙ ap (λ (b : Bool). b && read) is.read ∙ ap (λ (b : Bool). list_all (λ (t : NightTable). is_read t.state) tables && b) read_is
+      all_read ∙ ap (λ (b : Bool). b && read) is.read
+      ∙ ap (λ (b : Bool). list_all (λ (t : NightTable). is_read t.state) tables && b) read_is
       ∙ sym (all_more (λ (t : NightTable). is_read t.state) tables table);
 }

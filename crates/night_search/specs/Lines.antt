@@ -1,5 +1,5 @@
--- What is printed of the rows of nights (own): a line for each row, and one for each table that wasn't read. A byte that controls a terminal
--- is escaped, so that each line is one line; a byte 0 isn't shown.
+-- What is printed of the rows of nights (own): a line for each row, and one for each table that wasn't read. A byte that controls a
+-- terminal is escaped, so that each line is one line; a byte 0 isn't shown.
 use Rattle.std.specs.Prelude.{ℕ, List, [], ◌∷◌, ◌++◌, codes, map, if◌then◌else◌}
 use Rattle.std.specs.List.{flat_map}
 use Rattle.std.specs.Str.{bytes_eq}
@@ -47,7 +47,8 @@ receiver_isa13 row = field row 22
 -- a set that was delivered: to whom, in which interchange of which file
 abbrev pub delivered_words : (row : List (List ℕ)) → List ℕ
 delivered_words row =
-    joined (codes "delivered to " ∷ receiver row ∷ codes ", ISA13 " ∷ receiver_isa13 row ∷ codes ", out/" ∷ receiver row ∷ codes ".box" ∷ [])
+    joined (codes "delivered to " ∷ receiver row ∷ codes ", ISA13 " ∷ receiver_isa13 row
+    ∷ codes ", out/" ∷ receiver row ∷ codes ".box" ∷ [])
 
 -- a set that was rejected: IK501
 abbrev pub rejected_words : (row : List (List ℕ)) → List ℕ

@@ -38,7 +38,8 @@ plain_run fields field (b ∷ rest) tail e =
 
 -- a byte other than a quote, between quotes
 quoted_byte : (fields : List (List ℕ)) (field : List ℕ) (b : ℕ) (tail : List ℕ) → (b == 34) ≡ false
-    → next_record default_config st.InQuoted fields field (b ∷ tail) ≡ next_record default_config st.InQuoted fields (field ++ (b ∷ [])) tail
+    → next_record default_config st.InQuoted fields field (b ∷ tail)
+    ≡ next_record default_config st.InQuoted fields (field ++ (b ∷ [])) tail
 unfolding next_record
 quoted_byte fields field b tail n = rw n refl
 
@@ -89,7 +90,8 @@ plain_start fields (b ∷ rest) c tail n p =
 
 -- a field with what comes after it, which starts with no quote
 field_run : (fields : List (List ℕ)) (x : List ℕ) (c : ℕ) (tail : List ℕ) → (c == 34) ≡ false
-    → next_record default_config st.StartField fields [] (field_text x ++ (c ∷ tail)) ≡ next_record default_config st.InField fields x (c ∷ tail)
+    → next_record default_config st.StartField fields [] (field_text x ++ (c ∷ tail))
+    ≡ next_record default_config st.InField fields x (c ∷ tail)
 unfolding next_record
 field_run fields x c tail n = elim (cases_Bool (list_all is_text_data x)) [
   | inl plain ↦
@@ -126,7 +128,8 @@ head_plain (z ∷ zs) = refl
 
 -- the rest of a record, after a field
 rest_run : (fields : List (List ℕ)) (x : List ℕ) (rest : List (List ℕ)) (tail : List ℕ)
-    → next_record default_config st.InField fields x (fields_text rest ++ (13 ∷ 10 ∷ tail)) ≡ Some (fields ++ (x ∷ rest), st.AfterCr, 10 ∷ tail)
+    → next_record default_config st.InField fields x (fields_text rest ++ (13 ∷ 10 ∷ tail))
+    ≡ Some (fields ++ (x ∷ rest), st.AfterCr, 10 ∷ tail)
 unfolding next_record
 rest_run fields x [] tail = refl
 rest_run fields x (y ∷ ys) tail =
