@@ -14,7 +14,7 @@ use Rattle.ack_999.specs.Copy.{copy_text}
 use Rattle.x12_write.specs.Delimiters.{is_this}
 use Rattle.x12_write.specs.Segment.{WrittenSegment, segment, segment_text, elements_text, trimmed}
 
--- IK301: an id of 2 or 3 upper-case letters or digits is, any other is written ZZZ (own)
+-- IK301: an id of 2 or 3 upper-case letters or digits is unchanged, any other is written ZZZ (own)
 abbrev pub id_text : List ℕ → List ℕ
 id_text id = if is_segment_id id then id else codes "ZZZ"
 

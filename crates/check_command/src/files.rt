@@ -69,7 +69,7 @@ fn read_some<'a, R: Files + AllocGlobal>(
 }
 
 /// Reads the file at `path`.
-fn read_file<'a, R: Files + AllocGlobal>(rt: &R, path: &'a str) -> Result<Given<'a>, NoMemory>
+pub fn read_file<'a, R: Files + AllocGlobal>(rt: &R, path: &'a str) -> Result<Given<'a>, NoMemory>
     ensures { IfOk result (λ given. files.path_of given ≡ path.entry.now) }
 {
     given_of(rt.alloc(), path, open_at(rt, path))

@@ -1,4 +1,7 @@
 mod CommandLine
 mod Counting
+mod Exporting
+mod Finding
 mod GoingOn
 mod Reporting
+mod Zips

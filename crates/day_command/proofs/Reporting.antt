@@ -1,35 +1,29 @@
--- What was read of a folder, and what is said of it.
-use Rattle.std.proofs.Common.{◌≡◌, ◌∙◌, ℕ, List, [], Option, Some, ap, codes, length, subst}
+-- What is printed of nights is made of what was read of them.
+use Rattle.std.proofs.Common.{◌≡◌, ◌∙◌, ℕ, List, [], codes, length, subst}
 use Rattle.std.specs.List.{AllZip, filter_map}
 use Rattle.hub_ledger.specs.declared.entry.NightEntry.{NightEntry}
 use Rattle.night_ends.specs.Outbox.{path_in}
-use Rattle.night_folder.specs.Files.{FileValue, FolderValue, bytes_or_none, first_line}
-use Rattle.night_folder.specs.Marks.{IsFound}
+use Rattle.night_folder.specs.Files.{FileValue, bytes_or_none, first_line}
 use Rattle.night_folder.specs.Nights.{IsRead, bad_in, entry_in}
 use Rattle.night_folder.specs.declared.night.NightRead.{NightRead}
 use Rattle.night_marks.specs.Order.{in_order}
 use Rattle.night_marks.specs.declared.bad.BadFile.{BadFile}
 use Rattle.night_marks.specs.declared.mark.NightMark.{NightMark}
 use Rattle.day_command.specs.GoingOn.{IsJudged}
-use Rattle.day_command.specs.Outcome.{IsReport, nights_in}
+use Rattle.day_command.specs.Outcome.{IsReport}
+use Rattle.day_command.specs.Tables.{AreNights}
 
-pub reported : (nights text : List ℕ) (status : ℕ) (folder : FolderValue) (names : List (List ℕ)) (found : List (Option NightMark))
-    (marks order : List NightMark) (reads : List NightRead) (entries : List NightEntry) (bad : List BadFile) (last : FileValue)
-    (limit named : List ℕ) → folder.path ≡ nights → folder.names ≡ Some names → AllZip (IsFound nights) names found
-    → marks ≡ nights_in found → order ≡ in_order (length marks) [] marks → AllZip (IsRead nights) order reads
-    → last.path ≡ path_in nights (codes ".last") → entries ≡ filter_map entry_in reads → bad ≡ filter_map bad_in reads
-    → named ≡ first_line (bytes_or_none last.bytes) → IsJudged limit named order entries bad text status → IsReport nights text status
-reported nights text status folder names found marks order reads entries bad last limit named folder_at listed found_by marks_are ordered
-    read_by last_at entries_are bad_are named_is judged =
+pub reported : (nights text : List ℕ) (status : ℕ) (marks order : List NightMark) (reads : List NightRead) (entries : List NightEntry)
+    (bad : List BadFile) (last : FileValue) (limit named : List ℕ) → AreNights nights marks → order ≡ in_order (length marks) [] marks
+    → AllZip (IsRead nights) order reads → last.path ≡ path_in nights (codes ".last") → entries ≡ filter_map entry_in reads
+    → bad ≡ filter_map bad_in reads → named ≡ first_line (bytes_or_none last.bytes) → IsJudged limit named order entries bad text status
+    → IsReport nights text status
+reported nights text status marks order reads entries bad last limit named marks_are ordered read_by last_at entries_are bad_are named_is judged =
     record {
-      folder = folder;
-      folder_at = folder_at;
-      names = names;
-      listed = listed;
-      found = found;
-      found_by = found_by;
+      marks = marks;
+      marks_are = marks_are;
       order = order;
-      ordered = ordered ∙ ap (λ (l : List NightMark). in_order (length l) [] l) marks_are;
+      ordered = ordered;
       reads = reads;
       read_by = read_by;
       last = last;

@@ -10,12 +10,14 @@ abbrev pub line_of : Failure → List ℕ
 line_of failure.Input = codes "nighthub_day: input: NIGHTS can't be listed, or has a name that isn't UTF-8\n"
 line_of failure.Clock = codes "nighthub_day: input: the clock can't be read\n"
 line_of failure.Stdout = codes "nighthub_day: output stdout\n"
+line_of failure.Stderr = codes "nighthub_day: output stderr\n"
 line_of failure.Memory = codes "nighthub_day: memory\n"
 
 abbrev pub status_of : Failure → ℕ
 status_of failure.Input = 4
 status_of failure.Clock = 4
 status_of failure.Stdout = 5
+status_of failure.Stderr = 5
 status_of failure.Memory = 6
 
 -- a status: 0 or 1, or that of a failure
@@ -39,4 +41,5 @@ IsUsage mistake.Memory = ⊥
 -- a failure before anything is printed
 abbrev pub IsBefore : Failure → Type 0
 IsBefore failure.Stdout = ⊥
+IsBefore failure.Stderr = ⊥
 IsBefore _ = Unit {0}

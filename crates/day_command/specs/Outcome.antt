@@ -1,32 +1,29 @@
 -- The program's results (own): what is printed of the nights in the folder that the arguments name, and the status.
-use Rattle.std.specs.Prelude.{ℕ, ◌≡◌, ◌⊎◌, List, [], Option, Some, codes, length}
+use Rattle.std.specs.Prelude.{ℕ, ◌≡◌, ◌↔◌, ◌⊎◌, true, List, [], Option, Some, codes, length}
 use Rattle.std.specs.List.{AllZip, filter_map}
 use Rattle.std.specs.Io.KnownBytes.{Appends}
 use Rattle.clap.specs.Words.{Text}
 use Rattle.night_ends.specs.Outbox.{path_in}
-use Rattle.night_folder.specs.Files.{FileValue, FolderValue, bytes_or_none, first_line}
-use Rattle.night_folder.specs.Marks.{IsFound}
+use Rattle.night_folder.specs.Files.{FileValue, bytes_or_none, first_line}
 use Rattle.night_folder.specs.Nights.{IsRead, bad_in, entry_in}
 use Rattle.night_marks.specs.Order.{in_order}
 use Rattle.night_marks.specs.declared.mark.NightMark.{NightMark}
 use Rattle.night_folder.specs.declared.night.NightRead.{NightRead}
-use Rattle.day_command.specs.CommandLine.{AsksForText, IsCheck, value_of}
+use Rattle.night_search.specs.Lines.{unread_lines}
+use Rattle.night_search.specs.Search.{are_read, is_found, search_text}
+use Rattle.track_tables.specs.declared.export.Form.{Form}
+use Rattle.track_tables.specs.declared.night.NightTable.{NightTable}
+use Rattle.day_command.specs.CommandLine.{AsksForText, Request, check, export, find, request_of, value_of}
+use Rattle.day_command.specs.Export.{export_text}
 use Rattle.day_command.specs.GoingOn.{IsJudged}
-
--- the nights among the names that were found
-abbrev pub nights_in : List (Option NightMark) → List NightMark
-nights_in found = filter_map (λ (mark : Option NightMark). mark) found
+use Rattle.day_command.specs.Tables.{AreNights, AreTables}
 
 -- the folder was listed, its nights were read in their order, and this is what is said of them
 pub record IsReport (nights text : List ℕ) (status : ℕ) : Type 0 where
-  pub folder : FolderValue
-  pub folder_at : folder.path ≡ nights
-  pub names : List (List ℕ)
-  pub listed : folder.names ≡ Some names
-  pub found : List (Option NightMark)
-  pub found_by : AllZip (IsFound nights) names found
+  pub marks : List NightMark
+  pub marks_are : AreNights nights marks
   pub order : List NightMark
-  pub ordered : order ≡ in_order (length (nights_in found)) [] (nights_in found)
+  pub ordered : order ≡ in_order (length marks) [] marks
   pub reads : List NightRead
   pub read_by : AllZip (IsRead nights) order reads
   pub last : FileValue
@@ -41,6 +38,35 @@ pub record IsChecked (nights : List ℕ) (status : ℕ) (was is : Option (List �
   pub report : IsReport nights text status
   pub printed : Appends was is text
 
+-- what is printed of a search of the tables of the nights, and the status: 0 exactly if a row has the text, and each table was read
+pub record IsSearchReport (nights wanted text : List ℕ) (status : ℕ) : Type 0 where
+  pub tables : List NightTable
+  pub tables_are : AreTables nights tables
+  pub text_is : text ≡ search_text wanted tables
+  pub found : (status ≡ 0) ↔ ((is_found wanted tables ≡ true) × (are_read tables ≡ true))
+
+-- such a text is what was printed
+pub record IsSearched (nights wanted : List ℕ) (status : ℕ) (was is : Option (List ℕ)) : Type 0 where
+  pub text : List ℕ
+  pub searched : IsSearchReport nights wanted text status
+  pub printed : Appends was is text
+
+-- what is printed of the tables of the nights, on standard output and on standard error; the status is 0 exactly if each table was read
+pub record IsExportReport (nights : List ℕ) (form : Form) (text unread : List ℕ) (status : ℕ) : Type 0 where
+  pub tables : List NightTable
+  pub tables_are : AreTables nights tables
+  pub text_is : text ≡ export_text form tables
+  pub unread_is : unread ≡ unread_lines tables
+  pub complete : (status ≡ 0) ↔ (are_read tables ≡ true)
+
+-- such texts are what was printed
+pub record IsExported (nights : List ℕ) (form : Form) (status : ℕ) (was is err_was err_is : Option (List ℕ)) : Type 0 where
+  pub text : List ℕ
+  pub unread : List ℕ
+  pub exported : IsExportReport nights form text unread status
+  pub printed : Appends was is text
+  pub named : Appends err_was err_is unread
+
 -- a text was shown that the arguments ask for
 pub record IsShownText (words : List Text) (status : ℕ) (was is : Option (List ℕ)) : Type 0 where
   pub asked : AsksForText words
@@ -48,7 +74,18 @@ pub record IsShownText (words : List Text) (status : ℕ) (was is : Option (List
   pub printed : Appends was is text
   pub own_status : status ≡ 0
 
--- the nights in the folder that the arguments name were checked, or such a text was shown
-abbrev pub IsRun : (words : List Text) → (status : ℕ) → (was is : Option (List ℕ)) → Type 0
-IsRun words status was is =
-    ((nights : List ℕ) × IsCheck (value_of words) nights × IsChecked nights status was is) ⊎ IsShownText words status was is
+-- what was done with the nights
+abbrev pub IsDone : Request → (status : ℕ) → (was is err_was err_is : Option (List ℕ)) → Type 0
+IsDone (check nights) status was is err_was err_is = IsChecked nights status was is
+IsDone (find nights wanted) status was is err_was err_is = IsSearched nights wanted status was is
+IsDone (export nights form) status was is err_was err_is = IsExported nights form status was is err_was err_is
+
+-- what the arguments ask for was done, or such a text was shown
+abbrev pub IsRun : (words : List Text) → (status : ℕ) → (was is err_was err_is : Option (List ℕ)) → Type 0
+IsRun words status was is err_was err_is =
+    ((request : Request) × (request_of (value_of words) ≡ Some request) × IsDone request status was is err_was err_is)
+    ⊎ IsShownText words status was is
+
+-- the arguments ask for an export
+abbrev pub AsksForExport : (words : List Text) → Type 0
+AsksForExport words = (nights : List ℕ) × (form : Form) × (request_of (value_of words) ≡ Some (export nights form))

@@ -24,6 +24,8 @@ pub enum Failure {
     Clock,
     /// Standard output failed.
     Stdout,
+    /// Standard error failed, on which an export names tables.
+    Stderr,
     /// Memory was refused.
     Memory,
 }
@@ -50,6 +52,7 @@ impl Failure {
                 "nighthub_day: input: NIGHTS can't be listed, or has a name that isn't UTF-8\n",
             Failure::Clock => "nighthub_day: input: the clock can't be read\n",
             Failure::Stdout => "nighthub_day: output stdout\n",
+            Failure::Stderr => "nighthub_day: output stderr\n",
             Failure::Memory => "nighthub_day: memory\n",
         }
     }
@@ -60,7 +63,7 @@ impl Failure {
     {
         match self {
             Failure::Input | Failure::Clock => 4,
-            Failure::Stdout => 5,
+            Failure::Stdout | Failure::Stderr => 5,
             Failure::Memory => 6,
         }
     }

@@ -2,29 +2,40 @@
 //!
 //! Proved:
 //! - `read_words` gives what the arguments ask for, as clap's definitions say, and calls usage only what is none;
-//! - `day_main` prints just the text of the definition on the nights that were read of the folder, or a text that was asked for: a line
-//!   a breach, and a total;
-//! - it ends with 0 exactly if the nights that were read continue: each of their files is what it must be, each night names the one before
-//!   it, no set is delivered to a receiver on two nights, the numbers of each address begin where they were left, no moment is before that
-//!   of the night before or after a limit, and the last night is the one that is named last; else with 1;
+//! - `day_main` does what they ask for, and prints just the text of its definition on the nights that were read of the folder, each file at
+//!   its path, in the nights' order;
+//! - check prints a line a breach and a total. It ends with 0 exactly if the nights that were read continue: each of their files is what it
+//!   must be, each night names the one before it, no set is delivered to a receiver on two nights, the numbers of each address begin where
+//!   they were left, no moment is before that of the night before or after a limit, and the last night is the one that is named last;
+//!   else with 1;
+//! - find prints a line for each row whose document has the text, and for each table that wasn't read. It ends with 0 exactly if a row has
+//!   the text and each table was read; else with 1;
+//! - export prints one CSV of the rows of all tables that were read, each with its night, and names the others on standard error. It ends
+//!   with 0 exactly if each table was read; else with 1;
 //! - it ends with 2 only if the arguments are wrong, and prints nothing on standard output if the folder or the clock can't be read, or if
-//!   memory is refused; with 0 nothing is printed on standard error;
+//!   memory is refused; with 0 or 1 nothing but an export prints on standard error;
 //! - the line of a failure is the one that belongs to it, and so is its status.
+//!
+//! One night's table is in memory at a time. What is printed is kept in memory until all nights were read, so that a run which fails prints
+//! no part of it.
 //!
 //! Only tested: that the limit is two days after the clock, in UTC, since no contract says what the clock gives.
 //!
 //! Source: own.
 //!
-//! Tests: `.ci/nights_go_on`.
+//! Tests: `.ci/nights_go_on`, `.ci/find`.
 #![tactic(auto)]
 
 mod clock;
 mod command;
 mod count;
+mod export;
 mod failure;
+mod find;
 mod judge;
 mod mistake;
 mod run;
+mod tables;
 
 pub use command::{Asked, read_words};
 pub use failure::{Failure, Reported};

@@ -1,23 +1,26 @@
-ghost use Rattle.std.specs.Prelude.{◌≡◌, ◌≢◌, ◌≤◌, ◌⊎◌, map, IfErr, IfOk};
+ghost use Rattle.std.specs.Prelude.{◌≡◌, ◌≢◌, ◌≤◌, ◌↔◌, ◌⊎◌, true, map, IfErr, IfOk};
 ghost use Rattle.std.specs.Io.KnownBytes.{Appends};
 ghost use Rattle.day_command.specs.CommandLine.{IsCommandLine};
 ghost use Rattle.day_command.specs.Failure.{IsBefore, IsStatus};
-ghost use Rattle.day_command.specs.Outcome.{IsChecked, IsReport, IsRun};
+ghost use Rattle.day_command.specs.Outcome.{AsksForExport, IsChecked, IsExported, IsReport, IsRun, IsSearched};
 
 use crate::clock::limit;
 use crate::command::{Asked, read_words};
+use crate::export::{Export, export_nights};
 use crate::failure::Failure;
+use crate::find::{find_nights, status_of};
 use crate::judge::{Report, judged};
+use crate::tables::nights_at;
 use night_ends::print_text;
-use night_folder::{entries_in, first_line, list_at, marks_at, marks_in, read_nights, read_paper};
+use night_folder::{entries_in, first_line, read_nights, read_paper};
 use night_marks::in_order;
 use std::convert::AsStr;
 use std::io::Write;
 use std::rt::{Clock, Files};
+use track_tables::Form;
 
-/// Runs the program on its arguments, without its name, and gives its exit status: 0 if each night that was read continues from
-/// those before it, or a text that was asked for is printed; 1 if one doesn't; otherwise that of the failure whose line it has
-/// printed on `err`.
+/// Runs the program on its arguments, without its name, and gives its exit status: 0 or 1 by what the nights are, as `IsRun` says, or
+/// that of the failure whose line it has printed on `err`.
 pub fn day_main<R, S, O, E>(rt: &R, words: &[S], out: &mut O, err: &mut E) -> u8
 where
     R: Files + Clock + AllocGlobal + Clone + Drop,
@@ -26,12 +29,15 @@ where
     E: Write,
     ensures status { IsStatus result }
     ensures silent { 2 ≤ result → result ≢ 5 → out.new ≡ out.old }
-    ensures quiet { result ≤ 1 → err.new ≡ err.old }
+    ensures quiet { result ≤ 1 → (err.new ≡ err.old) ⊎ AsksForExport (map S.text words.now) }
     ensures usage { result ≡ 2 → IsCommandLine (map S.text words.now) → ⊥ }
-    ensures printed { result ≤ 1 → IsRun (map S.text words.now) result (O.contents out.old) (O.contents out.new) }
+    ensures printed { result ≤ 1 → IsRun (map S.text words.now) result (O.contents out.old) (O.contents out.new)
+        (E.contents err.old) (E.contents err.new) }
 {
     match read_words(rt.alloc(), words) {
         Ok(Asked::Check(nights)) => check_nights(rt, nights, out, err),
+        Ok(Asked::Find(nights, text)) => print_found(rt, nights, text, out, err),
+        Ok(Asked::Export(nights, form)) => print_exported(rt, nights, form, out, err),
         Ok(Asked::Show(text)) => finish(text.as_bytes(), 0, out, err),
         Err(mistake) => mistake.report(err).status,
     }
@@ -55,6 +61,58 @@ where
     }
 }
 
+/// Prints which documents have `text`, in the nights of the folder at the path `nights`.
+fn print_found<R, O, E>(rt: &R, nights: &str, text: &str, out: &mut O, err: &mut E) -> u8
+where
+    R: Files + AllocGlobal + Clone + Drop,
+    O: Write,
+    E: Write,
+    ensures status { IsStatus result }
+    ensures words { result ≢ 2 }
+    ensures silent { 2 ≤ result → result ≢ 5 → out.new ≡ out.old }
+    ensures quiet { result ≤ 1 → err.new ≡ err.old }
+    ensures printed { result ≤ 1 → IsSearched nights.now text.now result (O.contents out.old) (O.contents out.new) }
+{
+    match find_nights(rt, nights, text) {
+        Ok(report) => finish(report.text.as_slice(), report.status, out, err),
+        Err(failure) => failure.report(err).status,
+    }
+}
+
+/// Prints the tables of the nights of the folder at the path `nights`, and on standard error those that weren't read.
+fn print_exported<R, O, E>(rt: &R, nights: &str, form: Form, out: &mut O, err: &mut E) -> u8
+where
+    R: Files + AllocGlobal + Clone + Drop,
+    O: Write,
+    E: Write,
+    ensures status { IsStatus result }
+    ensures words { result ≢ 2 }
+    ensures silent { 2 ≤ result → result ≢ 5 → out.new ≡ out.old }
+    ensures printed { result ≤ 1 → IsExported nights.now form result (O.contents out.old) (O.contents out.new)
+        (E.contents err.old) (E.contents err.new) }
+{
+    match export_nights(rt, nights, form) {
+        Ok(all) => finish_both(&all, out, err),
+        Err(failure) => failure.report(err).status,
+    }
+}
+
+/// Prints an export, first the tables that weren't read, and gives its status, or that of a failure of an output.
+fn finish_both<O: Write, E: Write>(all: &Export, out: &mut O, err: &mut E) -> u8
+    ensures values { (result ≡ 0) ⊎ ((result ≡ 1) ⊎ (result ≡ 5)) }
+    ensures status { result ≢ 5 → ((result ≡ 0) ↔ (all.now.all_read ≡ true)) }
+    ensures printed { result ≢ 5 → Appends (O.contents out.old) (O.contents out.new) all.now.text.items }
+    ensures named { result ≢ 5 → Appends (E.contents err.old) (E.contents err.new) all.now.unread.items }
+{
+    if print_text(all.unread.as_slice(), err).is_err() {
+        return Failure::Stderr.report(err).status;
+    }
+    if print_text(all.text.as_slice(), out).is_err() {
+        return Failure::Stdout.report(err).status;
+    }
+    status_of(all.all_read)
+}
+
 /// What is printed of the nights in the folder at the path `nights`.
 fn report_of<R: Files + Clock + AllocGlobal + Clone + Drop>(
     rt: &R,
@@ -66,13 +124,9 @@ fn report_of<R: Files + Clock + AllocGlobal + Clone + Drop>(
 {
     let alloc = rt.alloc();
     let limit = limit(rt)?;
-    let folder = list_at(rt, nights)?;
-    let Some(names) = folder.names() else {
-        return Err(Failure::Input);
-    };
-    let nights = nights.as_bytes();
-    let marks = marks_in(alloc, marks_at(rt, nights, names)?)?;
+    let marks = nights_at(rt, nights)?;
     let order = in_order(alloc, marks.as_slice())?;
+    let nights = nights.as_bytes();
     let (entries, bad) = entries_in(alloc, read_nights(rt, nights, order.as_slice())?)?;
     let last = read_paper(rt, nights, b".last")?;
     let report = judged(

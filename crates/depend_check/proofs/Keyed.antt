@@ -11,10 +11,10 @@ use Rattle.hub_kinds.specs.Words.{element_rank, key_of, AreRising, IsKeyedBy}
 use Rattle.guide_tree.specs.declared.rows.Dependency.{Dependency}
 use Rattle.guide_tree.specs.declared.rows.DependencyKind.{DependencyKind}
 use Rattle.guide_tree.specs.declared.rows.DependencyKind.TheVariants as kind
-use Rattle.guide_tree.specs.Words.{Trees, numbered, Segment, element_at, Place}
+use Rattle.guide_tree.specs.Words.{GuideTree, Trees, numbered, Segment, element_at, Place}
 use Rattle.loop_match.specs.PlacedSegments.{PlacedSegment, placed_segments}
 use Rattle.loop_match.proofs.ForAbove.{one_placed}
-use Rattle.depend_check.specs.Dependencies.{Seat, seat_of, unused_fault, use_fault, element_fault, IsTargetBroken}
+use Rattle.depend_check.specs.Dependencies.{Seat, seat_of, unused_fault, use_fault, element_fault, IsTargetBroken, IsDependencyFault}
 use Rattle.depend_check.specs.Uses.{IsFound}
 use Rattle.depend_check.proofs.Seats.{one_seat}
 
@@ -126,6 +126,16 @@ same_fault ts us body given end f g n (inl a) (inl b) h = same_slot ts us end f 
 same_fault ts us body given end f g n (inl a) (inr b) h = absurd (differ ts end (placed_segments ts body given) g f b a (sym h))
 same_fault ts us body given end f g n (inr a) (inl b) h = absurd (differ ts end (placed_segments ts body given) f g a b h)
 same_fault ts us body given end f g n (inr a) (inr b) h = same_use ts body given f g a b h
+
+pub one_dependency_fault : (guide : GuideTree) (us : Trees) (d : Delims) (end : ℕ) (body : List Segment) (given : List (Option Place))
+    (f g : Fault) → guide.nodes ≡ numbered 1 us → IsDependencyFault guide d body given end f → IsDependencyFault guide d body given end g
+    → key_of f ≡ key_of g → f ≡ g
+one_dependency_fault guide us d end body given f g n x y h =
+    let ts = guide.nodes in
+    let placed = placed_segments ts body given in
+    same_fault ts us body given end f g n
+    (shape ts d end placed x.dependency.target x.dependency.kind x.dependency.element f x.broken)
+    (shape ts d end placed y.dependency.target y.dependency.kind y.dependency.element g y.broken) h
 
 -- what is found has one fault for each key, where the nodes are numbered
 pub keyed : (ts us : Trees) (d : Delims) (end : ℕ) (body : List Segment) (given : List (Option Place)) (depends : List Dependency)

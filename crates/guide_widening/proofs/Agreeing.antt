@@ -1,5 +1,5 @@
 -- Where no difference narrows: small changes, one by one.
-use Rattle.std.proofs.Common.{◌≡◌, ℕ, ◌+◌, List, [], ◌∷◌, ◌++◌, Bool, true, false, Option, Some, None, refl, sym, ap, ◌∙◌, arith}
+use Rattle.std.proofs.Common.{◌≡◌, ℕ, List, [], ◌∷◌, ◌++◌, Bool, true, false, Option, Some, None, refl, sym, ap, ◌∙◌, arith}
 use Rattle.std.specs.Prelude.{◌&&◌, ◌==◌, nat_le, if◌then◌else◌}
 use Rattle.std.specs.List.{list_all}
 use Rattle.std.proofs.lemmas.Bool.{eqb-true, le-leb}
@@ -8,6 +8,7 @@ use Rattle.guide_tree.specs.declared.element.ElementType.{ElementType}
 use Rattle.guide_tree.specs.declared.element.ElementType.TheVariants.{Text, Identifier, Number, Decimal, Date, Time}
 use Rattle.guide_tree.specs.declared.element.Requirement.{Requirement}
 use Rattle.guide_tree.specs.declared.element.Requirement.TheVariants.{Mandatory, Optional}
+use Rattle.hub_kinds.specs.Words.{contains_text}
 use Rattle.guide_widening.specs.declared.difference.At.{At}
 use Rattle.guide_widening.specs.declared.difference.Change.{Change}
 use Rattle.guide_widening.specs.declared.difference.Change.TheVariants.{Narrower, Wider, Other}
@@ -17,8 +18,8 @@ use Rattle.guide_widening.specs.declared.difference.Value.{Value}
 use Rattle.guide_widening.specs.declared.difference.Value.TheVariants as value
 use Rattle.guide_widening.specs.Changes.{is_widening, said, unless, least_change, most_change, asked_change, requirement_change}
 use Rattle.guide_widening.specs.Changes.{type_change}
-use Rattle.guide_widening.specs.Changes.{new_items, gone_items}
-use Rattle.guide_widening.specs.Rows.{is_wider_requirement, is_wider_type, is_wider_alphabet}
+use Rattle.guide_widening.specs.Changes.{gone_texts, items_differences, new_texts}
+use Rattle.guide_widening.specs.Rows.{are_texts_of, is_wider_requirement, is_wider_type, is_wider_alphabet}
 
 -- the test whether none of these differences narrows has a result
 pub record Says (found : List Difference) (result : Bool) : Type 0 where
@@ -112,28 +113,30 @@ keeps_type Date new = keeps_other (is_wider_type Date new)
 keeps_type Time new = keeps_other (is_wider_type Time new)
 
 -- of items that fail a test
-module _ {X : Type 0} (test : X → Bool) (at : At) (key : Key) where
-  pub new_narrower : (n : ℕ) (xs : List X) → Says (new_items test at key Narrower n xs) (list_all test xs)
-  new_narrower n [] = record { is = refl }
-  new_narrower n (x ∷ xs) =
-      both (told at key (unless (test x) Narrower) value.Nothing (value.Number n) (test x) (keeps_narrower (test x)))
-      (new_narrower (n + 1) xs)
+module _ {X : Type 0} (test : X → Bool) (at : At) (key : Key) (old new : X → Value) where
+  pub items_narrower : (xs : List X) → Says (items_differences test at key Narrower old new xs) (list_all test xs)
+  items_narrower [] = record { is = refl }
+  items_narrower (x ∷ xs) =
+      both (told at key (unless (test x) Narrower) (old x) (new x) (test x) (keeps_narrower (test x))) (items_narrower xs)
 
-  pub new_wider : (n : ℕ) (xs : List X) → Says (new_items test at key Wider n xs) true
-  new_wider n [] = record { is = refl }
-  new_wider n (x ∷ xs) =
-      both (told at key (unless (test x) Wider) value.Nothing (value.Number n) true (keeps_wider (test x))) (new_wider (n + 1) xs)
+  pub items_wider : (xs : List X) → Says (items_differences test at key Wider old new xs) true
+  items_wider [] = record { is = refl }
+  items_wider (x ∷ xs) =
+      both (told at key (unless (test x) Wider) (old x) (new x) true (keeps_wider (test x))) (items_wider xs)
 
-  pub gone_narrower : (n : ℕ) (xs : List X) → Says (gone_items test at key Narrower n xs) (list_all test xs)
-  gone_narrower n [] = record { is = refl }
-  gone_narrower n (x ∷ xs) =
-      both (told at key (unless (test x) Narrower) (value.Number n) value.Nothing (test x) (keeps_narrower (test x)))
-      (gone_narrower (n + 1) xs)
+-- of texts that other ones don't have
+module _ (at : At) (key : Key) (other : List (List ℕ)) where
+  pub gone_narrower : (texts : List (List ℕ)) → Says (gone_texts at key other texts) (are_texts_of other texts)
+  gone_narrower [] = record { is = refl }
+  gone_narrower (text ∷ texts) =
+      both (told at key (unless (contains_text other text) Narrower) (value.Text text) value.Nothing (contains_text other text)
+      (keeps_narrower (contains_text other text))) (gone_narrower texts)
 
-  pub gone_wider : (n : ℕ) (xs : List X) → Says (gone_items test at key Wider n xs) true
-  gone_wider n [] = record { is = refl }
-  gone_wider n (x ∷ xs) =
-      both (told at key (unless (test x) Wider) (value.Number n) value.Nothing true (keeps_wider (test x))) (gone_wider (n + 1) xs)
+  pub new_wider : (texts : List (List ℕ)) → Says (new_texts at key other texts) true
+  new_wider [] = record { is = refl }
+  new_wider (text ∷ texts) =
+      both (told at key (unless (contains_text other text) Wider) value.Nothing (value.Text text) true
+      (keeps_wider (contains_text other text))) (new_wider texts)
 
 pub with_true : (a : Bool) → (a && true) ≡ a
 with_true true = refl

@@ -23,7 +23,7 @@ use Rattle.guide_widening.specs.Nodes.{is_same_text, are_wider_picks, are_wider_
 use Rattle.guide_widening.specs.Nodes.{is_same_node, is_wider_node, are_wider_nodes}
 use Rattle.guide_widening.specs.Rows.{is_wider_range, are_wider_elements}
 use Rattle.guide_widening.proofs.Agreeing.{Says, both, turn, told, itself, keeps_other, keeps_if, keeps_least, keeps_most}
-use Rattle.guide_widening.proofs.Agreeing.{new_narrower, gone_wider, with_true, five}
+use Rattle.guide_widening.proofs.Agreeing.{items_narrower, items_wider, with_true, five}
 use Rattle.guide_widening.proofs.RowsAgree.{elements_agree}
 
 uses_agree : (at : At) (a b c d : ℕ) → Says (found.use_differences at a b c d) (is_wider_range a b c d)
@@ -33,13 +33,17 @@ uses_agree at a b c d =
 
 picks_agree : (at : At) (old new : List Pick) → Says (found.pick_differences at old new) (are_wider_picks old new)
 picks_agree at old new =
-    turn (both (new_narrower (found.is_pick_kept old) at key.Pick 1 new) (gone_wider (found.is_pick_kept new) at key.Pick 1 old))
+    let before = found.pick_beside old in
+    let after = found.pick_beside new in
+    turn (both (items_narrower (found.is_pick_kept old) at key.Pick before after new)
+    (items_wider (found.is_pick_kept new) at key.Pick before after old))
     (with_true (are_wider_picks old new))
 
 conditions_agree : (at : At) (old new : List Condition) → Says (found.condition_differences at old new) (are_wider_conditions old new)
 conditions_agree at old new =
-    turn (both (new_narrower (found.is_condition_in old) at key.Condition 1 new)
-    (gone_wider (found.is_condition_in new) at key.Condition 1 old)) (with_true (are_wider_conditions old new))
+    turn (both (items_narrower (found.is_condition_in old) at key.Condition (λ c. value.Nothing) found.condition_value new)
+    (items_wider (found.is_condition_in new) at key.Condition found.condition_value
+    (λ c. value.Nothing) old)) (with_true (are_wider_conditions old new))
 
 slot_agrees : (old new : Slot) → can_fit_both old new ≡ true → Says (found.slot_differences old new) (is_wider_slot old new)
 slot_agrees old new same =

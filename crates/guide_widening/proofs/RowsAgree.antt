@@ -1,7 +1,6 @@
 -- No difference of two rows narrows exactly where the new row is wider.
 use Rattle.std.proofs.Common.{◌≡◌, ℕ, ◌+◌, List, [], ◌∷◌, Bool, true, false, Option, Some, None, refl}
 use Rattle.std.specs.Prelude.{◌&&◌, nat_le}
-use Rattle.hub_kinds.specs.Words.{contains_text}
 use Rattle.guide_tree.specs.declared.element.CodeList.{CodeList}
 use Rattle.guide_tree.specs.declared.element.Component.{Component}
 use Rattle.guide_tree.specs.declared.element.Component.TheVariants as component
@@ -23,27 +22,16 @@ use Rattle.guide_widening.specs.Rows.{is_wider_alphabet}
 use Rattle.guide_widening.specs.Rows.{is_wider_row, fits_no_component, is_wider_component, are_wider_components, is_wider_composite}
 use Rattle.guide_widening.specs.Rows.{is_wider_element, are_wider_elements}
 use Rattle.guide_widening.proofs.Agreeing.{Says, both, turn, told, keeps, keeps_narrower, keeps_wider, keeps_least, keeps_most}
-use Rattle.guide_widening.proofs.Agreeing.{keeps_wide}
+use Rattle.guide_widening.proofs.Agreeing.{gone_narrower, keeps_wide, new_wider}
 use Rattle.guide_widening.proofs.Agreeing.{keeps_requirement, keeps_type, with_true, three, four}
-
-gone_codes : (at : At) (other texts : List (List ℕ)) → Says (found.gone_codes at other texts) (are_texts_of other texts)
-gone_codes at other [] = record { is = refl }
-gone_codes at other (text ∷ texts) =
-    both (told at key.Code (unless (contains_text other text) Narrower) (value.Text text) value.Nothing (contains_text other text)
-    (keeps_narrower (contains_text other text))) (gone_codes at other texts)
-
-new_codes : (at : At) (other texts : List (List ℕ)) → Says (found.new_codes at other texts) true
-new_codes at other [] = record { is = refl }
-new_codes at other (text ∷ texts) =
-    both (told at key.Code (unless (contains_text other text) Wider) value.Nothing (value.Text text) true
-    (keeps_wider (contains_text other text))) (new_codes at other texts)
 
 codes_agree : (at : At) (old new : Option CodeList) → Says (found.codes_differences at old new) (is_wider_codes old new)
 codes_agree at None None = record { is = refl }
 codes_agree at None (Some new) = record { is = refl }
 codes_agree at (Some old) None = record { is = refl }
 codes_agree at (Some old) (Some new) =
-    turn (both (gone_codes at new.used old.used) (new_codes at old.used new.used)) (with_true (are_texts_of new.used old.used))
+    turn (both (gone_narrower at key.Code new.used old.used) (new_wider at key.Code old.used new.used)) (with_true (are_texts_of
+    new.used old.used))
 
 requirement_agrees : (at : At) (old new : Requirement) → Says (found.requirement_differences at old new) (is_wider_requirement old new)
 requirement_agrees at old new =

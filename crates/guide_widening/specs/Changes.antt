@@ -1,10 +1,11 @@
 -- Own: how two values of a guide differ.
-use Rattle.std.specs.Prelude.{ℕ, ◌==◌, ◌+◌, nat_le, List, [], ◌∷◌, ◌++◌, Bool, true, false, Option, Some, None, if◌then◌else◌}
+use Rattle.std.specs.Prelude.{ℕ, ◌==◌, nat_le, List, [], ◌∷◌, ◌++◌, Bool, true, false, Option, Some, None, if◌then◌else◌}
 use Rattle.std.specs.Str.{bytes_eq}
 use Rattle.guide_tree.specs.declared.element.Requirement.{Requirement}
 use Rattle.guide_tree.specs.declared.element.Requirement.TheVariants.{Mandatory, Optional}
 use Rattle.guide_tree.specs.declared.element.ElementType.{ElementType}
 use Rattle.guide_tree.specs.declared.element.ElementType.TheVariants as type
+use Rattle.hub_kinds.specs.Words.{contains_text}
 use Rattle.guide_widening.specs.Nodes.{is_same_text}
 use Rattle.guide_widening.specs.Rows.{is_wider_type}
 use Rattle.guide_widening.specs.declared.difference.At.{At}
@@ -74,14 +75,19 @@ abbrev pub text_value : Option (List ℕ) → Value
 text_value None = value.Nothing
 text_value (Some text) = value.Text text
 
--- items of the old list, by their numbers from n on, that fail a test
-abbrev pub gone_items : {X : Type 0} → (X → Bool) → At → Key → Change → (n : ℕ) → List X → List Difference
-gone_items test at key change n [] = []
-gone_items test at key change n (x ∷ xs) =
-    said at key (unless (test x) change) (value.Number n) value.Nothing ++ gone_items test at key change (n + 1) xs
+-- items that fail a test, each with what the old and the new guide say of it
+abbrev pub items_differences : {X : Type 0} → (X → Bool) → At → Key → Change → (old new : X → Value) → List X → List Difference
+items_differences test at key change old new [] = []
+items_differences test at key change old new (x ∷ xs) =
+    said at key (unless (test x) change) (old x) (new x) ++ items_differences test at key change old new xs
 
--- items of the new list
-abbrev pub new_items : {X : Type 0} → (X → Bool) → At → Key → Change → (n : ℕ) → List X → List Difference
-new_items test at key change n [] = []
-new_items test at key change n (x ∷ xs) =
-    said at key (unless (test x) change) value.Nothing (value.Number n) ++ new_items test at key change (n + 1) xs
+-- texts that were there and aren't, by the others
+abbrev pub gone_texts : At → Key → (other texts : List (List ℕ)) → List Difference
+gone_texts at key other [] = []
+gone_texts at key other (text ∷ texts) =
+    said at key (unless (contains_text other text) Narrower) (value.Text text) value.Nothing ++ gone_texts at key other texts
+
+abbrev pub new_texts : At → Key → (other texts : List (List ℕ)) → List Difference
+new_texts at key other [] = []
+new_texts at key other (text ∷ texts) =
+    said at key (unless (contains_text other text) Wider) value.Nothing (value.Text text) ++ new_texts at key other texts

@@ -1,8 +1,10 @@
 pub mod Changes
 pub mod Differences
+pub mod Keys
 pub mod NodeDifferences
 pub mod Nodes
 pub mod RowDifferences
 pub mod Rows
 pub mod Rules
 pub mod Wider
+pub mod Written

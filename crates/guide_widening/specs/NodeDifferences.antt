@@ -1,5 +1,5 @@
 -- X12.6, transaction set: what two lists of nodes say otherwise, node by node.
-use Rattle.std.specs.Prelude.{ℕ, zero, suc, ◌==◌, List, [], ◌++◌, Bool, Option, Some, None, if◌then◌else◌}
+use Rattle.std.specs.Prelude.{ℕ, zero, suc, ◌==◌, List, [], ◌∷◌, ◌++◌, Bool, Option, Some, None, if◌then◌else◌}
 use Rattle.std.specs.List.{list_any}
 use Rattle.std.specs.Option.{option_map_or}
 use Rattle.guide_tree.specs.declared.node.Loop.{Loop}
@@ -11,10 +11,12 @@ use Rattle.guide_widening.specs.declared.difference.At.{At}
 use Rattle.guide_widening.specs.declared.difference.Change.TheVariants.{Narrower, Wider, Other}
 use Rattle.guide_widening.specs.declared.difference.Difference.{Difference}
 use Rattle.guide_widening.specs.declared.difference.Key.TheVariants as key
+use Rattle.guide_widening.specs.declared.difference.Value.{Value}
 use Rattle.guide_widening.specs.declared.difference.Value.TheVariants as value
-use Rattle.guide_widening.specs.Changes.{said, least_change, most_change, label_change, text_value, gone_items, new_items}
+use Rattle.guide_widening.specs.Changes.{said, least_change, most_change, label_change, text_value, items_differences}
 use Rattle.guide_widening.specs.Nodes.{is_wider_pick, is_same_condition, is_same_node}
 use Rattle.guide_widening.specs.RowDifferences.{elements_differences}
+use Rattle.guide_widening.specs.Written.{condition_text, pick_text}
 
 abbrev pub at_node : (number : ℕ) → At
 at_node number = record { node = number; element = 0; component = 0 }
@@ -28,18 +30,35 @@ use_differences at old_min old_max new_min new_max =
 abbrev pub is_pick_kept : (old : List Pick) → Pick → Bool
 is_pick_kept old pick = list_any (λ before. is_wider_pick before pick) old
 
--- a new pick is narrower unless it was asked for, an old one wider unless it is asked for
+abbrev pub pick_written : Pick → Value
+pick_written pick = value.Text (pick_text pick)
+
+-- what picks ask of the element at a position
+abbrev pub pick_at : List Pick → (position : ℕ) → Value
+pick_at [] position = value.Nothing
+pick_at (pick ∷ picks) position = if pick.position == position then pick_written pick else pick_at picks position
+
+-- what picks ask at the position of another one
+abbrev pub pick_beside : List Pick → Pick → Value
+pick_beside picks pick = pick_at picks pick.position
+
+-- a new pick is narrower unless it was asked for, an old one wider unless it is asked for; both with what is asked at the position
 abbrev pub pick_differences : At → (old new : List Pick) → List Difference
 pick_differences at old new =
-    new_items (is_pick_kept old) at key.Pick Narrower 1 new ++ gone_items (is_pick_kept new) at key.Pick Wider 1 old
+    items_differences (is_pick_kept old) at key.Pick Narrower (pick_beside old) (pick_beside new) new
+    ++ items_differences (is_pick_kept new) at key.Pick Wider (pick_beside old) (pick_beside new) old
 
 -- a new condition is narrower, one that is gone wider
 abbrev pub is_condition_in : List Condition → Condition → Bool
 is_condition_in conditions condition = list_any (λ other. is_same_condition other condition) conditions
 
+abbrev pub condition_value : Condition → Value
+condition_value condition = value.Text (condition_text condition)
+
 abbrev pub condition_differences : At → (old new : List Condition) → List Difference
 condition_differences at old new =
-    new_items (is_condition_in old) at key.Condition Narrower 1 new ++ gone_items (is_condition_in new) at key.Condition Wider 1 old
+    items_differences (is_condition_in old) at key.Condition Narrower (λ c. value.Nothing) condition_value new
+    ++ items_differences (is_condition_in new) at key.Condition Wider condition_value (λ c. value.Nothing) old
 
 abbrev pub slot_differences : (old new : Slot) → List Difference
 slot_differences old new =

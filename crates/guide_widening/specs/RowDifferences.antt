@@ -9,7 +9,6 @@ use Rattle.guide_tree.specs.declared.element.Component.TheVariants as component
 use Rattle.guide_tree.specs.declared.element.CompositeRow.{CompositeRow}
 use Rattle.guide_tree.specs.declared.element.Element.{Element}
 use Rattle.guide_tree.specs.declared.element.Element.TheVariants as element
-use Rattle.hub_kinds.specs.Words.{contains_text}
 use Rattle.elem_rules.specs.Clean.{fits_empty}
 use Rattle.guide_widening.specs.Rows.{fits_no_component}
 use Rattle.guide_widening.specs.declared.difference.At.{At}
@@ -20,7 +19,8 @@ use Rattle.guide_widening.specs.declared.difference.Key.TheVariants as key
 use Rattle.guide_widening.specs.declared.difference.Presence.{Presence}
 use Rattle.guide_widening.specs.declared.difference.Presence.TheVariants as presence
 use Rattle.guide_widening.specs.declared.difference.Value.TheVariants as value
-use Rattle.guide_widening.specs.Changes.{said, unless, least_change, most_change, asked_change, requirement_change, type_change}
+use Rattle.guide_widening.specs.Changes.{said, least_change, most_change, asked_change, requirement_change, type_change}
+use Rattle.guide_widening.specs.Changes.{gone_texts, new_texts}
 
 abbrev pub required : Requirement → Presence
 required requirement.Mandatory = presence.Mandatory
@@ -35,22 +35,12 @@ element_presence (element.NotUsed reference) = presence.NotUsed
 element_presence (element.Simple row repeat) = required row.requirement
 element_presence (element.Composite row) = required row.requirement
 
--- codes that were used and aren't, by the others
-abbrev pub gone_codes : At → (other texts : List (List ℕ)) → List Difference
-gone_codes at other [] = []
-gone_codes at other (text ∷ texts) =
-    said at key.Code (unless (contains_text other text) Narrower) (value.Text text) value.Nothing ++ gone_codes at other texts
-
-abbrev pub new_codes : At → (other texts : List (List ℕ)) → List Difference
-new_codes at other [] = []
-new_codes at other (text ∷ texts) =
-    said at key.Code (unless (contains_text other text) Wider) value.Nothing (value.Text text) ++ new_codes at other texts
-
 abbrev pub codes_differences : At → (old new : Option CodeList) → List Difference
 codes_differences at None None = []
 codes_differences at None (Some new) = said at key.Codes (Some Narrower) (value.Flag false) (value.Flag true)
 codes_differences at (Some old) None = said at key.Codes (Some Wider) (value.Flag true) (value.Flag false)
-codes_differences at (Some old) (Some new) = gone_codes at new.used old.used ++ new_codes at old.used new.used
+codes_differences at (Some old) (Some new) =
+    gone_texts at key.Code new.used old.used ++ new_texts at key.Code old.used new.used
 
 abbrev pub requirement_differences : At → (old new : Requirement) → List Difference
 requirement_differences at old new =

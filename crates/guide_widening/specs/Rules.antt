@@ -1,7 +1,9 @@
 -- X12.6, transaction set: what a new guide says beside its nodes refuses no set that the old one takes. The rules themselves are own.
-use Rattle.std.specs.Prelude.{ℕ, ◌==◌, List, Bool, true, false, ◌&&◌, ◌||◌, not, Option, Some, None}
+use Rattle.std.specs.Prelude.{ℕ, ◌==◌, List, map, Bool, true, false, ◌&&◌, ◌||◌, not, Option, Some, None}
 use Rattle.std.specs.List.{list_all, list_any}
 use Rattle.std.specs.Str.{bytes_eq}
+use Rattle.hub_kinds.specs.Words.{contains_text, element_code_text, segment_code_text}
+use Rattle.guide_tree.specs.declared.rows.GuideHead.{GuideHead}
 use Rattle.guide_tree.specs.declared.rows.HlPair.{HlPair}
 use Rattle.guide_tree.specs.declared.rows.HlRule.{HlRule}
 use Rattle.guide_tree.specs.declared.rows.Dependency.{Dependency}
@@ -29,22 +31,39 @@ is_same_kind Need Ban = false
 is_same_kind Ban Need = false
 is_same_kind Ban Ban = true
 
--- it asks the same of the same target, by the same codes or fewer in the same element
-abbrev pub is_wider_dependency : (old new : Dependency) → Bool
-is_wider_dependency old new =
-    is_same_kind old.kind new.kind
-    && bytes_eq old.slot new.slot
-    && (old.at == new.at)
-    && are_texts_of old.codes new.codes
-    && bytes_eq old.target new.target
-    && (old.element == new.element)
+-- they ask the same of one target, where one element of one slot has a code
+abbrev pub asks_same : (one other : Dependency) → Bool
+asks_same one other =
+    is_same_kind one.kind other.kind
+    && ((one.at == other.at)
+    && ((one.element == other.element) && (bytes_eq one.slot other.slot && bytes_eq one.target other.target)))
 
--- each new dependency is an old one, or a part of it
+-- a code makes some dependency ask the same
+abbrev pub is_code_asked : List Dependency → Dependency → (code : List ℕ) → Bool
+is_code_asked depends depend code = list_any (λ other. asks_same other depend && contains_text other.codes code) depends
+
+-- each of its codes makes one of some dependencies ask the same
+abbrev pub is_dependency_kept : List Dependency → Dependency → Bool
+is_dependency_kept depends depend = list_all (is_code_asked depends depend) depend.codes
+
+-- each new dependency was asked for by old ones
 abbrev pub are_wider_dependencies : (old new : List Dependency) → Bool
-are_wider_dependencies old new = list_all (λ depend. list_any (λ before. is_wider_dependency before depend) old) new
+are_wider_dependencies old new = list_all (is_dependency_kept old) new
 
 -- no convention is asked for, or the old one
 abbrev pub is_wider_convention : (old new : Option (List ℕ)) → Bool
 is_wider_convention old None = true
 is_wider_convention None (Some new) = false
 is_wider_convention (Some old) (Some new) = bytes_eq old new
+
+-- the codes that don't reject a set, as they are written
+abbrev pub tolerated_segments : GuideHead → List (List ℕ)
+tolerated_segments head = map segment_code_text head.tolerate_segment
+
+abbrev pub tolerated_elements : GuideHead → List (List ℕ)
+tolerated_elements head = map element_code_text head.tolerate_element
+
+-- each code that didn't reject a set still doesn't
+abbrev pub is_wider_tolerance : (old new : GuideHead) → Bool
+is_wider_tolerance old new =
+    are_texts_of (tolerated_segments new) (tolerated_segments old) && are_texts_of (tolerated_elements new) (tolerated_elements old)

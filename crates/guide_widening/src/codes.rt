@@ -1,5 +1,6 @@
-ghost use Rattle.std.specs.Prelude.{◌≡◌, ◌++◌, OnOk, Some};
+ghost use Rattle.std.specs.Prelude.{◌≡◌, ◌++◌, IfOk, OnOk};
 ghost use Rattle.hub_kinds.specs.Words.{contains_text};
+ghost use Rattle.guide_widening.specs.Changes.{gone_texts, new_texts};
 ghost use Rattle.guide_widening.specs.RowDifferences as rows;
 
 use crate::changes::unless;
@@ -10,39 +11,41 @@ use hub_kinds::{NoMemory, Text, copy_text};
 use std::alloc::Global;
 
 /// Adds each of `texts` that isn't in `other`, as gone.
-fn push_gone(
+pub fn push_gone(
     alloc: Global,
     found: &mut Vec<Difference>,
     at: At,
+    key: Key,
     other: &Codes,
     texts: &[Text],
 ) -> Result<(), NoMemory>
-    ensures { OnOk result (found.new.items ≡ found.old.items ++ rows.gone_codes at other.now texts.now) }
+    ensures { OnOk result (found.new.items ≡ found.old.items ++ gone_texts at key other.now texts.now) }
 {
     for i in 0..texts.len() {
         let text = texts[i].as_slice();
         let change = unless(other.contains(text), Change::Narrower);
         let old = Value::Text(copy_text(alloc, text)?);
-        push(found, at, Key::Code, change, old, Value::Nothing)?;
+        push(found, at, key, change, old, Value::Nothing)?;
     }
     Ok(())
 }
 
 /// Adds each of `texts` that isn't in `other`, as new.
-fn push_new(
+pub fn push_new(
     alloc: Global,
     found: &mut Vec<Difference>,
     at: At,
+    key: Key,
     other: &Codes,
     texts: &[Text],
 ) -> Result<(), NoMemory>
-    ensures { OnOk result (found.new.items ≡ found.old.items ++ rows.new_codes at other.now texts.now) }
+    ensures { OnOk result (found.new.items ≡ found.old.items ++ new_texts at key other.now texts.now) }
 {
     for i in 0..texts.len() {
         let text = texts[i].as_slice();
         let change = unless(other.contains(text), Change::Wider);
         let new = Value::Text(copy_text(alloc, text)?);
-        push(found, at, Key::Code, change, Value::Nothing, new)?;
+        push(found, at, key, change, Value::Nothing, new)?;
     }
     Ok(())
 }
@@ -62,8 +65,8 @@ pub fn push_codes(
         (None, Some(_)) => (Change::Narrower, false, true),
         (Some(_), None) => (Change::Wider, true, false),
         (Some(old), Some(new)) => {
-            push_gone(alloc, found, at, &new.used, old.used.as_slice())?;
-            return push_new(alloc, found, at, &old.used, new.used.as_slice());
+            push_gone(alloc, found, at, Key::Code, &new.used, old.used.as_slice())?;
+            return push_new(alloc, found, at, Key::Code, &old.used, new.used.as_slice());
         }
     };
     push(

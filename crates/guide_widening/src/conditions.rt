@@ -1,85 +1,141 @@
-ghost use Rattle.std.specs.Prelude.{◌≡◌, ◌==◌, ◌++◌, OnOk};
+ghost use Rattle.std.specs.Prelude.{◌≡◌, ◌++◌, IfOk, OnOk, map};
+ghost use Rattle.guide_tree.specs.Codes.{Knows};
 ghost use Rattle.guide_widening.specs.NodeDifferences as nodes;
-ghost use Rattle.guide_widening.specs.Nodes as rules;
-ghost use Rattle.guide_widening.specs.Changes.{gone_items, new_items};
+ghost use Rattle.guide_widening.specs.Keys.{condition_key};
+ghost use Rattle.guide_widening.specs.Changes as changes;
+ghost use Rattle.guide_widening.specs.Changes.{items_differences, said};
 ghost use Rattle.guide_widening.specs.declared.difference.Change.TheVariants.{Narrower, Wider};
 ghost use Rattle.guide_widening.specs.declared.difference.Key.TheVariants as key;
+ghost use Rattle.guide_widening.specs.declared.difference.Value.TheVariants as value;
 
-use crate::changes::unless;
 use crate::difference::{At, Change, Difference, Key, Value};
+use crate::keys::{condition_key, has_key, insert_key};
 use crate::push::push;
-use guide_tree::{Condition, Relation};
+use crate::written::condition_written;
+use guide_tree::Condition;
 use hub_kinds::NoMemory;
+use std::alloc::Global;
+use std::collections::BTreeSet;
 
-fn is_same_relation(one: Relation, other: Relation) -> bool
-    ensures { result ≡ (rules.relation_number one == rules.relation_number other) }
+/// The keys of relational conditions.
+fn keys_of(alloc: Global, conditions: &[Condition]) -> Result<BTreeSet<Vec<u64>>, NoMemory>
+    ensures { IfOk result (λ known. Knows known (map condition_key conditions.now)) }
 {
-    one == other
+    let mut known = BTreeSet::new(alloc);
+    for i in 0..conditions.len() {
+        let key = condition_key(alloc, &conditions[i])?;
+        insert_key(&mut known, key)?;
+    }
+    Ok(known)
 }
 
-fn is_same_condition(one: &Condition, other: &Condition) -> bool
-    ensures { result ≡ rules.is_same_condition one.now other.now }
+/// Whether `condition` is one of those with the keys `known`.
+fn is_in(
+    alloc: Global,
+    conditions: &[Condition],
+    known: &BTreeSet<Vec<u64>>,
+    condition: &Condition,
+) -> Result<bool, NoMemory>
+    requires { Knows known.now (map condition_key conditions.now) }
+    ensures { IfOk result (λ is. is ≡ nodes.is_condition_in conditions.now condition.now) }
 {
-    is_same_relation(one.relation, other.relation)
-        && one.positions.as_slice() == other.positions.as_slice()
+    let key = condition_key(alloc, condition)?;
+    Ok(has_key(known, key.as_slice()))
 }
 
-fn is_in(conditions: &[Condition], condition: &Condition) -> bool
-    ensures { result ≡ nodes.is_condition_in conditions.now condition.now }
-{
-    conditions
-        .iter()
-        .any(|other| is_same_condition(other, condition))
-}
-
+/// Adds `condition`, as new, if `old` doesn't have it.
 fn push_new(
+    alloc: Global,
+    found: &mut Vec<Difference>,
+    at: At,
+    old: &[Condition],
+    known: &BTreeSet<Vec<u64>>,
+    condition: &Condition,
+) -> Result<(), NoMemory>
+    requires { Knows known.now (map condition_key old.now) }
+    ensures { OnOk result (found.new.items ≡ found.old.items
+        ++ said at key.Condition (changes.unless (nodes.is_condition_in old.now condition.now) Narrower)
+        value.Nothing (nodes.condition_value condition.now)) }
+{
+    if is_in(alloc, old, known, condition)? {
+        return Ok(());
+    }
+    let after = condition_written(alloc, condition)?;
+    push(
+        found,
+        at,
+        Key::Condition,
+        Some(Change::Narrower),
+        Value::Nothing,
+        after,
+    )
+}
+
+/// Adds `condition`, as gone, if `new` doesn't have it.
+fn push_gone(
+    alloc: Global,
+    found: &mut Vec<Difference>,
+    at: At,
+    new: &[Condition],
+    known: &BTreeSet<Vec<u64>>,
+    condition: &Condition,
+) -> Result<(), NoMemory>
+    requires { Knows known.now (map condition_key new.now) }
+    ensures { OnOk result (found.new.items ≡ found.old.items
+        ++ said at key.Condition (changes.unless (nodes.is_condition_in new.now condition.now) Wider)
+        (nodes.condition_value condition.now) value.Nothing) }
+{
+    if is_in(alloc, new, known, condition)? {
+        return Ok(());
+    }
+    let before = condition_written(alloc, condition)?;
+    push(
+        found,
+        at,
+        Key::Condition,
+        Some(Change::Wider),
+        before,
+        Value::Nothing,
+    )
+}
+
+fn push_each_new(
+    alloc: Global,
     found: &mut Vec<Difference>,
     at: At,
     old: &[Condition],
     new: &[Condition],
 ) -> Result<(), NoMemory>
-    ensures { OnOk result (found.new.items
-        ≡ found.old.items ++ new_items (nodes.is_condition_in old.now) at key.Condition Narrower 1 new.now) }
+    ensures { OnOk result (found.new.items ≡ found.old.items
+        ++ items_differences (nodes.is_condition_in old.now) at key.Condition Narrower (λ c. value.Nothing) nodes.condition_value new.now) }
 {
+    let known = keys_of(alloc, old)?;
     for i in 0..new.len() {
-        let change = unless(is_in(old, &new[i]), Change::Narrower);
-        push(
-            found,
-            at,
-            Key::Condition,
-            change,
-            Value::Nothing,
-            Value::Number(i as u64 + 1),
-        )?;
+        push_new(alloc, found, at, old, &known, &new[i])?;
     }
     Ok(())
 }
 
-fn push_gone(
+fn push_each_gone(
+    alloc: Global,
     found: &mut Vec<Difference>,
     at: At,
     old: &[Condition],
     new: &[Condition],
 ) -> Result<(), NoMemory>
-    ensures { OnOk result (found.new.items
-        ≡ found.old.items ++ gone_items (nodes.is_condition_in new.now) at key.Condition Wider 1 old.now) }
+    ensures { OnOk result (found.new.items ≡ found.old.items
+        ++ items_differences (nodes.is_condition_in new.now) at key.Condition Wider nodes.condition_value (λ c. value.Nothing) old.now) }
 {
+    let known = keys_of(alloc, new)?;
     for i in 0..old.len() {
-        let change = unless(is_in(new, &old[i]), Change::Wider);
-        push(
-            found,
-            at,
-            Key::Condition,
-            change,
-            Value::Number(i as u64 + 1),
-            Value::Nothing,
-        )?;
+        push_gone(alloc, found, at, new, &known, &old[i])?;
     }
     Ok(())
 }
 
 /// Adds what the relational conditions of two slots say otherwise.
 pub fn push_conditions(
+    alloc: Global,
     found: &mut Vec<Difference>,
     at: At,
     old: &[Condition],
@@ -87,6 +143,6 @@ pub fn push_conditions(
 ) -> Result<(), NoMemory>
     ensures { OnOk result (found.new.items ≡ found.old.items ++ nodes.condition_differences at old.now new.now) }
 {
-    push_new(found, at, old, new)?;
-    push_gone(found, at, old, new)
+    push_each_new(alloc, found, at, old, new)?;
+    push_each_gone(alloc, found, at, old, new)
 }

@@ -23,13 +23,17 @@ pub enum Key {
     Version,
     /// The implementation convention reference, ST03.
     Convention,
+    /// A segment fault that doesn't reject a set.
+    TolerateSegment,
+    /// An element fault that doesn't reject a set.
+    TolerateElement,
     /// Whether the HL segments are judged.
     Hierarchy,
-    /// Whether HL01 has to count from 1.
+    /// Whether HL01 must count from 1.
     Sequential,
-    /// A pair of levels of HL segments, by its number in its guide.
+    /// A pair of levels of HL segments.
     Pair,
-    /// A dependency, by its number in its guide.
+    /// A dependency.
     Dependency,
     /// A segment or a loop.
     Node,
@@ -39,9 +43,9 @@ pub enum Key {
     LeastUse,
     /// The greatest use of a segment or a loop.
     GreatestUse,
-    /// A pick, by its number in its segment.
+    /// What a segment's picks ask of the element at a position.
     Pick,
-    /// A relational condition, by its number in its segment.
+    /// A relational condition.
     Condition,
     /// Whether an element or a component is mandatory, optional or not used.
     Presence,
@@ -76,6 +80,7 @@ pub enum Presence {
 pub enum Value {
     Nothing,
     Number(u64),
+    /// A text; a pick, a condition, a pair of levels or a dependency as guide files write it.
     Text(Text),
     Flag(bool),
     Presence(Presence),

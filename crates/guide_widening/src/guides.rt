@@ -10,6 +10,7 @@ use crate::dependencies::push_dependencies;
 use crate::difference::{Change, Difference, Key, Value};
 use crate::hierarchy::push_hierarchy;
 use crate::push::push;
+use crate::tolerance::push_tolerated;
 use crate::values::{at_node, text_of};
 use crate::walk::push_nodes;
 use guide_tree::{Guide, GuideHead};
@@ -73,7 +74,8 @@ fn push_head(
         old.version.as_slice(),
         new.version.as_slice(),
     )?;
-    push_convention(alloc, found, old, new)
+    push_convention(alloc, found, old, new)?;
+    push_tolerated(alloc, found, old, new)
 }
 
 fn all_differences(alloc: Global, old: &Guide, new: &Guide) -> Result<Vec<Difference>, NoMemory>
@@ -83,8 +85,9 @@ fn all_differences(alloc: Global, old: &Guide, new: &Guide) -> Result<Vec<Differ
     let before = old.rows();
     let after = new.rows();
     push_head(alloc, &mut found, &before.head, &after.head)?;
-    push_hierarchy(&mut found, &before.hl, &after.hl)?;
+    push_hierarchy(alloc, &mut found, &before.hl, &after.hl)?;
     push_dependencies(
+        alloc,
         &mut found,
         before.depends.as_slice(),
         after.depends.as_slice(),

@@ -1,18 +1,20 @@
-ghost use Rattle.std.specs.Prelude.{◌≡◌, ◌==◌, ◌&&◌, ◌++◌, OnOk};
+ghost use Rattle.std.specs.Prelude.{◌≡◌, ◌==◌, ◌&&◌, ◌++◌, IfOk, OnOk};
 ghost use Rattle.std.specs.List.{list_all, list_any};
 ghost use Rattle.guide_tree.specs.Words.{agree, can_fit_both, share_text};
 ghost use Rattle.guide_widening.specs.NodeDifferences as nodes;
 ghost use Rattle.guide_widening.specs.Nodes as rules;
 ghost use Rattle.guide_widening.specs.Rows.{are_texts_of};
-ghost use Rattle.guide_widening.specs.Changes.{gone_items, new_items};
+ghost use Rattle.guide_widening.specs.Changes.{items_differences, said};
 ghost use Rattle.guide_widening.specs.declared.difference.Change.TheVariants.{Narrower, Wider};
 ghost use Rattle.guide_widening.specs.declared.difference.Key.TheVariants as key;
 
 use crate::changes::unless;
 use crate::difference::{At, Change, Difference, Key, Value};
 use crate::push::push;
+use crate::written::pick_written;
 use guide_tree::{Codes, Pick, Slot};
 use hub_kinds::{NoMemory, Text};
+use std::alloc::Global;
 
 /// Whether each of `texts` is in `other`.
 pub fn are_texts_of(other: &Codes, texts: &[Text]) -> bool
@@ -65,49 +67,78 @@ fn is_kept(old: &[Pick], pick: &Pick) -> bool
     old.iter().any(|before| is_wider_pick(before, pick))
 }
 
-fn push_new(found: &mut Vec<Difference>, at: At, old: &[Pick], new: &[Pick]) -> Result<(), NoMemory>
-    ensures { OnOk result (found.new.items
-        ≡ found.old.items ++ new_items (nodes.is_pick_kept old.now) at key.Pick Narrower 1 new.now) }
+/// The pick at a position, as a value.
+fn value_at(alloc: Global, picks: &[Pick], position: u32) -> Result<Value, NoMemory>
+    ensures { IfOk result (λ v. v ≡ nodes.pick_at picks.now position) }
 {
-    for i in 0..new.len() {
-        let change = unless(is_kept(old, &new[i]), Change::Narrower);
-        push(
-            found,
-            at,
-            Key::Pick,
-            change,
-            Value::Nothing,
-            Value::Number(i as u64 + 1),
-        )?;
+    for i in 0..picks.len() {
+        if picks[i].position == position {
+            return pick_written(alloc, &picks[i]);
+        }
     }
-    Ok(())
+    Ok(Value::Nothing)
 }
 
-fn push_gone(
+/// Adds what two slots ask at the position of `pick`, unless it is kept.
+fn push_pick(
+    alloc: Global,
+    found: &mut Vec<Difference>,
+    at: At,
+    change: Option<Change>,
+    old: &[Pick],
+    new: &[Pick],
+    pick: &Pick,
+) -> Result<(), NoMemory>
+    ensures { OnOk result (found.new.items ≡ found.old.items
+        ++ said at key.Pick change (nodes.pick_beside old.now pick.now) (nodes.pick_beside new.now pick.now)) }
+{
+    if change.is_none() {
+        return Ok(());
+    }
+    let before = value_at(alloc, old, pick.position)?;
+    let after = value_at(alloc, new, pick.position)?;
+    push(found, at, Key::Pick, change, before, after)
+}
+
+fn push_new(
+    alloc: Global,
     found: &mut Vec<Difference>,
     at: At,
     old: &[Pick],
     new: &[Pick],
 ) -> Result<(), NoMemory>
-    ensures { OnOk result (found.new.items
-        ≡ found.old.items ++ gone_items (nodes.is_pick_kept new.now) at key.Pick Wider 1 old.now) }
+    ensures { OnOk result (found.new.items ≡ found.old.items
+        ++ items_differences (nodes.is_pick_kept old.now) at key.Pick Narrower (nodes.pick_beside old.now) (nodes.pick_beside new.now)
+        new.now) }
+{
+    for i in 0..new.len() {
+        let change = unless(is_kept(old, &new[i]), Change::Narrower);
+        push_pick(alloc, found, at, change, old, new, &new[i])?;
+    }
+    Ok(())
+}
+
+fn push_gone(
+    alloc: Global,
+    found: &mut Vec<Difference>,
+    at: At,
+    old: &[Pick],
+    new: &[Pick],
+) -> Result<(), NoMemory>
+    ensures { OnOk result (found.new.items ≡ found.old.items
+        ++ items_differences (nodes.is_pick_kept new.now) at key.Pick Wider (nodes.pick_beside old.now) (nodes.pick_beside new.now)
+        old.now) }
 {
     for i in 0..old.len() {
         let change = unless(is_kept(new, &old[i]), Change::Wider);
-        push(
-            found,
-            at,
-            Key::Pick,
-            change,
-            Value::Number(i as u64 + 1),
-            Value::Nothing,
-        )?;
+        push_pick(alloc, found, at, change, old, new, &old[i])?;
     }
     Ok(())
 }
 
 /// Adds what the picks of two slots say otherwise.
 pub fn push_picks(
+    alloc: Global,
     found: &mut Vec<Difference>,
     at: At,
     old: &[Pick],
@@ -115,6 +146,6 @@ pub fn push_picks(
 ) -> Result<(), NoMemory>
     ensures { OnOk result (found.new.items ≡ found.old.items ++ nodes.pick_differences at old.now new.now) }
 {
-    push_new(found, at, old, new)?;
-    push_gone(found, at, old, new)
+    push_new(alloc, found, at, old, new)?;
+    push_gone(alloc, found, at, old, new)
 }

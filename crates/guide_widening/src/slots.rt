@@ -89,7 +89,7 @@ pub fn push_slot(
     let after = text_of(alloc, &new.label)?;
     push(found, at, Key::Label, label, before, after)?;
     push_slot_uses(found, old, new)?;
-    push_picks(found, at, old.picks.as_slice(), new.picks.as_slice())?;
+    push_picks(alloc, found, at, old.picks.as_slice(), new.picks.as_slice())?;
     push_elements(
         alloc,
         found,
@@ -98,6 +98,7 @@ pub fn push_slot(
         new.elements.as_slice(),
     )?;
     push_conditions(
+        alloc,
         found,
         at,
         old.conditions.as_slice(),

@@ -1,6 +1,7 @@
 -- Two faults of a hierarchy that have one place in the order of faults are one.
-use Rattle.std.proofs.Common.{◌≡◌, inl, inr, ℕ, ◌+◌, ◌==◌, List, [], Option, Some}
+use Rattle.std.proofs.Common.{◌≡◌, inl, inr, ℕ, ◌+◌, ◌==◌, List, [], Option, Some, None}
 use Rattle.std.proofs.Common.{sym, ap, subst, ◌∙◌, if◌then◌else◌, length, get_or, take, drop}
+use Rattle.std.specs.Prelude.{IsSomeAnd}
 use Rattle.std.specs.List.{Contains, slice_get}
 use Rattle.std.specs.List.Sorted.{IsStrictlySortedBy}
 use Rattle.std.proofs.lemmas.List.Elements.{Contains-get_or, All-contains, All-filter, All-contains_itself}
@@ -11,10 +12,10 @@ use Rattle.hub_kinds.specs.declared.codes.ElementCode.{ElementCode}
 use Rattle.hub_kinds.specs.declared.codes.ElementCode.TheVariants as ik403
 use Rattle.hub_kinds.specs.Words.{key_of, AreRising, IsKeyedBy}
 use Rattle.guide_tree.specs.declared.rows.HlRule.{HlRule}
-use Rattle.guide_tree.specs.Words.{Trees, Segment, Place}
+use Rattle.guide_tree.specs.Words.{GuideTree, Trees, Segment, Place}
 use Rattle.loop_match.specs.PlacedSegments.{PlacedSegment, placed_segments}
 use Rattle.loop_match.proofs.ForAbove.{one_placed}
-use Rattle.hl_check.specs.Hierarchy.{is_hl, hls_of, hl_fault, IsHlFault, IsFaultAmong}
+use Rattle.hl_check.specs.Hierarchy.{is_hl, hls_of, hl_fault, IsHlFault, IsFaultAmong, IsHierarchyFault}
 use Rattle.hl_check.specs.Found.{found_faults}
 use Rattle.hl_check.proofs.Faulty.{members}
 
@@ -66,6 +67,16 @@ one_fault ts body given rule d f g a b k =
     let h : a.hl ≡ b.hl =
     one_placed ts body given a.hl b.hl (is_placed ts body given a.count a.hl a.there) (is_placed ts body given b.count b.hl b.there) p in
     x.1 ∙ ap (λ (z : PlacedSegment). hl_fault z x.0 (code_at x.0)) h ∙ ap (λ (m : ℕ). hl_fault b.hl m (code_at m)) e ∙ sym y.1
+
+of_rule : (ts : Trees) (body : List Segment) (given : List (Option Place)) (rule : Option HlRule) (d : Delims) (f g : Fault)
+    → IsSomeAnd rule (λ r. IsFaultAmong r d (hls_of ts body given) f) → IsSomeAnd rule (λ r. IsFaultAmong r d (hls_of ts body given) g)
+    → key_of f ≡ key_of g → f ≡ g
+of_rule ts body given None d f g a b k = absurd a
+of_rule ts body given (Some rule) d f g a b k = one_fault ts body given rule d f g a b k
+
+pub one_hierarchy_fault : (guide : GuideTree) (d : Delims) (body : List Segment) (given : List (Option Place)) (f g : Fault)
+    → IsHierarchyFault guide d body given f → IsHierarchyFault guide d body given g → key_of f ≡ key_of g → f ≡ g
+one_hierarchy_fault guide d body given f g a b k = of_rule guide.nodes body given guide.hl d f g a b k
 
 -- what the two walks find over the HLs of a body has one fault for each key
 pub keyed : (ts : Trees) (body : List Segment) (given : List (Option Place)) (rule : HlRule) (d : Delims) (faults : List Fault)

@@ -2,10 +2,8 @@
 //! report out. This crate composes what the crates below it promise.
 //!
 //! Proved:
-//! - each run gives the complete night, by one record of what it is and what is reported and read of it (`IsWholeNight` of `night_law`,
-//!   whose theorems say what each part of it means);
-//! - it is that of the definition: each partner's acknowledgments, byte for byte, its mailbox, whose interchanges are numbered after
-//!   them, its next counters, and the report;
+//! - each run gives the night of the definition, and partners read it so (`IsNight` of `night_definition`): each partner's
+//!   acknowledgments, byte for byte, its mailbox, whose interchanges are numbered after them, its next counters, and the report;
 //! - it refuses a text as too long exactly over 4,294,967,295 bytes (`within_limit`).
 //!
 //! X12.5, interchange; X12.6, functional group and transaction set; 999 guide (005010X231).

@@ -2,7 +2,6 @@ ghost use Rattle.std.specs.Prelude.{◌↔◌, ◌<◌, ◌≤◌, length, IfOk,
 ghost use Rattle.moment.specs.Moment.{IsMoment};
 ghost use Rattle.partner_setup.specs.Sound.{IsSoundSetup};
 ghost use Rattle.night_writing.specs.Night.{IsNight};
-ghost use Rattle.night_law.specs.WholeNight.{IsWholeNight};
 ghost use Rattle.night_definition.specs.ReadBack as defined;
 ghost use Rattle.night_equal_text.specs.LookedUp.{seen_setup};
 ghost use Rattle.night_equal_read.specs.Read.{seen_night};
@@ -25,7 +24,6 @@ use std::alloc::Global;
 /// X12.5, interchange and interchange acknowledgment; X12.6, functional group and transaction set; 999 guide (005010X231).
 pub fn run_plain(alloc: Global, text: &[u8], setup: &Setup, at: &At) -> Result<Night, RunFault>
     ensures too_long { IsErrOf result RunFault.InputTooLong ↔ (LONGEST_TEXT < length text.now) }
-    ensures night { IfOk result (IsWholeNight text.now setup.now at.now) }
     ensures definition { IfOk result (λ night. defined.IsNight text.now (seen_setup setup.now) at.now (seen_night night)) }
 {
     if !within_limit(text.len() as u64) {

@@ -1,7 +1,6 @@
 ghost use Rattle.std.specs.Prelude.{◌≡◌, ◌↔◌, ◌<◌, ◌≤◌, length, IfOk, IsErrOf};
 ghost use Rattle.moment.specs.Moment.{IsMoment};
 ghost use Rattle.night_writing.specs.Night.{IsNight};
-ghost use Rattle.night_law.specs.WholeNight.{IsWholeNight};
 ghost use Rattle.night_definition.specs.ReadBack as defined;
 ghost use Rattle.night_equal_text.specs.LookedUp.{seen_setup};
 ghost use Rattle.night_equal_read.specs.Read.{seen_night};
@@ -41,7 +40,6 @@ pub fn run_night<G: Gate + Sync, R: Threads + Wait + Clock + Sync>(
     requires workers { (1 ≤ workers) × (workers ≤ 64) }
     requires cuts { cuts.now.text_len ≡ length text.now }
     ensures too_long { IsErrOf result RunFault.InputTooLong ↔ (LONGEST_TEXT < length text.now) }
-    ensures night { IfOk result (IsWholeNight text.now setup.now at.now) }
     ensures definition { IfOk result (λ night. defined.IsNight text.now (seen_setup setup.now) at.now (seen_night night)) }
 {
     if !within_limit(text.len() as u64) {

@@ -1,5 +1,3 @@
-pub mod Seats
-pub mod Rules
 pub mod Keyed
 pub mod Sorting
 pub mod Without

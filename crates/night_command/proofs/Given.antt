@@ -18,7 +18,6 @@ printed_of declared options setup (Ok file) status had has was is made given = r
     made = made;
     text = given.by.text;
     within = given.by.within;
-    whole = given.by.whole;
     definition = given.by.definition;
     run = given.by.run made.files made.makes;
     quotable = given.by.quotable _ _ _ made;

@@ -13,3 +13,4 @@ pub mod Running
 pub mod SettingUp
 pub mod Shared
 mod WorkedWords
+pub mod Sizes

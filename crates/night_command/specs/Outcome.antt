@@ -3,7 +3,6 @@ use Rattle.std.specs.Prelude.{◌≡◌, ◌≤◌, ◌⊎◌, ℕ, if◌then◌
 use Rattle.std.specs.Io.KnownBytes.{Appends}
 use Rattle.hub_kinds.specs.declared.limits.TheConstants.{LONGEST_TEXT}
 use Rattle.night_law.specs.Quotable.{AreAllQuotable}
-use Rattle.night_law.specs.WholeNight.{IsWholeNight}
 use Rattle.night_definition.specs.ReadBack as defined
 use Rattle.night_equal_text.specs.LookedUp.{seen_setup}
 use Rattle.night_equal_read.specs.Read.{seen_night}
@@ -38,15 +37,14 @@ abbrev pub status_of : Outcome → ℕ
 status_of (Shown text) = 0
 status_of (Ran night) = if is_clean night.report then 0 else 1
 
--- the complete night of some text that isn't too long, at the moment of the options and by a setup that some files make which were asked
--- for by the paths of the options, which is the definition's; its files and its status are those of the definition's run by these files;
--- each partner's guides can be quoted, so each reads its acknowledgments
+-- the definition's night of some text that isn't too long, at the moment of the options and by a setup that some files make which were
+-- asked for by the paths of the options; its files and its status are those of the definition's run by these files; each partner's guides
+-- can be quoted, so each reads its acknowledgments
 pub record IsNightBy (options : Options) (night : Night) : Type 0 where
   pub setup : SetupValue
   pub made : IsSetupAt (guide_paths options) options.setup.now options.counters.now setup
   pub text : List ℕ
   pub within : length text ≤ LONGEST_TEXT
-  pub whole : IsWholeNight text setup options.at night
   pub definition : defined.IsNight text (seen_setup setup) options.at (seen_night night)
   pub run : IsRunBy made.files options.at text (night_files setup night) (status_of (Ran night))
   pub quotable : AreAllQuotable text setup
@@ -63,13 +61,13 @@ abbrev pub IsQuotableOfFiles : (text : List ℕ) → SetupValue → Type 0
 IsQuotableOfFiles text setup =
     (guides : List (List ℕ)) (rows counters : List ℕ) → IsSetupAt guides rows counters setup → AreAllQuotable text setup
 
--- the complete night of the bytes that a source gave, no more than the limit, which are all that it declared, where it declared them; where
--- files make the setup, its files and its status are those of the definition's run by them, and each partner reads its acknowledgments
+-- the definition's night of the bytes that a source gave, no more than the limit, which are all that it declared, where it declared them;
+-- where files make the setup, its files and its status are those of the definition's run by them, and each partner reads its
+-- acknowledgments
 pub record IsNightOfSource (told : Option (List ℕ)) (setup : SetupValue) (at : List ℕ) (night : Night) : Type 0 where
   pub text : List ℕ
   pub told_all : IfSome told (λ xs. xs ≡ text)
   pub within : length text ≤ LONGEST_TEXT
-  pub whole : IsWholeNight text setup at night
   pub definition : defined.IsNight text (seen_setup setup) at (seen_night night)
   pub run : (read : SetupFiles) → IsSetupOf read setup → IsRunBy read at text (night_files setup night) (status_of (Ran night))
   pub quotable : IsQuotableOfFiles text setup

@@ -5,7 +5,7 @@
 //! Proved, where a call returns (it waits for its workers):
 //! - `night_main` is safe on every input, and its status is 0 to 6;
 //! - a run that doesn't fail has printed what its arguments ask for, and nothing else, where the writer declares what it has: help or
-//!   the version where they ask for that; otherwise the last line of the report of the complete night (`IsWholeNight` of `night_law`) of
+//!   the version where they ask for that; otherwise the last line of the report of the night (`IsNight` of `night_definition`) of
 //!   some text, no longer than the limit, at the moment that the arguments name, by a setup that the bytes of some files make, which
 //!   were asked for by the paths that the arguments name; each partner can read its acknowledgments, and the status is 0 exactly where
 //!   that report is clean (`night_main`, `printed`);

@@ -102,19 +102,27 @@ module _ (g : GuideTree) (d : Delims) (body : List Segment) (given : List (Optio
       ap (λ (l : List ℕ). let rank = get_or l 6 0 in (rank == 12) || (rank == 15)) e in
       true≢false (sym (of_hierarchies f a).1 ∙ same ∙ (of_dependencies h b).1)
 
+  pub one_rule_fault : ((x y : Fault) → IsHierarchyFault g d body given x → IsHierarchyFault g d body given y → key_of x ≡ key_of y → x ≡ y)
+      → ((x y : Fault) → IsDependencyFault g d body given end x → IsDependencyFault g d body given end y → key_of x ≡ key_of y → x ≡ y)
+      → (f h : Fault) → IsRuleFault g d body given end f → IsRuleFault g d body given end h → key_of f ≡ key_of h → f ≡ h
+  one_rule_fault one two f h (inl a) (inl b) e = one f h a b e
+  one_rule_fault one two f h (inr a) (inr b) e = two f h a b e
+  one_rule_fault one two f h (inl a) (inr b) e = absurd (differ f h a b e)
+  one_rule_fault one two f h (inr a) (inl b) e = absurd (differ h f b a (sym e))
+
   pub rules_keyed : (hierarchies dependencies all : List Fault) → IsKeyedBy key_of hierarchies → IsKeyedBy key_of dependencies
       → ((f : Fault) → Contains hierarchies f ↔ IsHierarchyFault g d body given f)
       → ((f : Fault) → Contains dependencies f ↔ IsDependencyFault g d body given end f) → all ≡ hierarchies ++ dependencies
       → IsKeyedBy key_of all
   rules_keyed hierarchies dependencies all one two by_hl by_need is x y c k e =
-      either_way (Contains-append_cases hierarchies dependencies x (subst (λ (l : List Fault). Contains l x) is c))
-      (Contains-append_cases hierarchies dependencies y (subst (λ (l : List Fault). Contains l y) is k))
+      one_rule_fault (λ f h a b same. one f h ((by_hl f).1 a) ((by_hl h).1 b) same)
+      (λ f h a b same. two f h ((by_need f).1 a) ((by_need h).1 b) same) x y (rule_fault x c) (rule_fault y k) e
     where
-      either_way : Contains hierarchies x ⊎ Contains dependencies x → Contains hierarchies y ⊎ Contains dependencies y → x ≡ y
-      either_way (inl a) (inl b) = one x y a b e
-      either_way (inr a) (inr b) = two x y a b e
-      either_way (inl a) (inr b) = absurd (differ x y ((by_hl x).0 a) ((by_need y).0 b) e)
-      either_way (inr a) (inl b) = absurd (differ y x ((by_hl y).0 b) ((by_need x).0 a) (sym e))
+      rule_fault : (f : Fault) → Contains all f → IsRuleFault g d body given end f
+      rule_fault f l = elim (Contains-append_cases hierarchies dependencies f (subst (λ (fs : List Fault). Contains fs f) is l)) [
+        | inl a ↦ inl ((by_hl f).0 a)
+        | inr a ↦ inr ((by_need f).0 a)
+      ]
 
 beside_is_apart : (g : GuideTree) (parts : SetParts) (given : List (Option Place)) (f : Fault)
     → IsErrorIn g.nodes parts given f

@@ -3,6 +3,7 @@ mod Elements
 mod Empties
 mod Given
 mod Hierarchies
+mod Itself
 mod Listed
 mod Meeting
 mod Nodes

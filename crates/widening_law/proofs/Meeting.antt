@@ -1,7 +1,5 @@
 -- A set that meets a guide meets a wider one.
-use Rattle.std.proofs.Common.{◌≡◌, ◌⊎◌, inl, inr, ℕ, List, Bool, true, refl, sym, ap, ◌∙◌, subst, Option, Some, None}
-use Rattle.std.specs.Prelude.{◌&&◌}
-use Rattle.std.specs.Str.{bytes_eq}
+use Rattle.std.proofs.Common.{◌≡◌, inl, inr, ℕ, List, true, refl, sym, ◌∙◌, subst, Option, Some, None}
 use Rattle.std.proofs.lemmas.Bool.{and_parts}
 use Rattle.x12_bytes.specs.declared.delims.Delims.{Delims}
 use Rattle.hl_check.specs.Hierarchy.{hl_segments}
@@ -10,7 +8,7 @@ use Rattle.set_check.specs.SetParts.{SetParts}
 use Rattle.set_check.specs.Meets.{MeetsAlone, MeetsConvention}
 use Rattle.guide_widening.specs.Nodes.{are_wider_nodes}
 use Rattle.guide_widening.specs.Rules.{is_wider_convention, is_wider_hierarchy, are_wider_dependencies}
-use Rattle.guide_widening.specs.Wider.{is_wider, is_same_set}
+use Rattle.guide_widening.specs.Wider.{is_wider}
 use Rattle.widening_law.specs.Law.{WiderGuidesTakeMore}
 use Rattle.widening_law.proofs.Dependencies.{dependencies_free}
 use Rattle.widening_law.proofs.Given.{same_body, elements_free}
@@ -30,7 +28,8 @@ guide_parts old new h =
     let b = and_parts _ _ a.0 in
     let c = and_parts _ _ b.0 in
     let d = and_parts _ _ c.0 in
-    record { convention = d.1; hierarchy = c.1; dependencies = b.1; nodes = a.1 }
+    let e = and_parts _ _ d.0 in
+    record { convention = e.1; hierarchy = c.1; dependencies = b.1; nodes = a.1 }
 
 convention_free : (old new : Option (List ℕ)) (delims : Delims) (given : List ℕ) → is_wider_convention old new ≡ true
     → MeetsConvention delims old given → MeetsConvention delims new given

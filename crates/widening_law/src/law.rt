@@ -1,7 +1,12 @@
-ghost use Rattle.widening_law.specs.Law.{WiderGuidesTakeMore};
+ghost use Rattle.widening_law.specs.Law.{EachGuideIsAsWide, WiderGuidesTakeMore};
 
 /// A theorem, with nothing to run: if `is_wider` holds of two guides, each set that meets the old guide, looked at alone, meets the new
 /// one.
 pub fn wider_guides_take_more()
     ensures { WiderGuidesTakeMore }
+{}
+
+/// A theorem, with nothing to run: `is_wider` holds of each accepted guide and itself.
+pub fn each_guide_is_as_wide()
+    ensures { EachGuideIsAsWide }
 {}

@@ -4,9 +4,11 @@
 //! (`wider_guides_take_more`). It is proved rule by rule: the order of segments by induction over what a guide derives, then the
 //! elements and conditions of each segment, the hierarchy, the dependencies and the convention.
 //!
+//! A guide that is accepted is as wide as itself (`each_guide_is_as_wide`).
+//!
 //! Source: X12.6, transaction sets, segments and data elements; the 999 guide (005010X231), IK3 and IK4.
 #![tactic(auto)]
 
 mod law;
 
-pub use law::wider_guides_take_more;
+pub use law::{each_guide_is_as_wide, wider_guides_take_more};

@@ -1,9 +1,9 @@
-use Rattle.std.proofs.Common.{◌≡◌, ◌∙◌, ap, subst, map, true}
+use Rattle.std.proofs.Common.{◌≡◌, ◌∙◌, ap, subst, sym, map, true}
 use Rattle.std.proofs.lemmas.Result.{IfErr-weaker, IfOk-weaker}
 use Rattle.clap.specs.Words.{App, HasKind, HasMatchesOf, app_of, fault_of, is_simple_and_free, kind_of, takes}
 use Rattle.clap.specs.declared.error.kind.ErrorKind.TheVariants.{OutOfMemory}
 use Rattle.day_command.specs.CommandLine.{day_app}
-use Rattle.day_command.proofs.CommandLine.{asked, free, none_named, shown}
+use Rattle.day_command.proofs.CommandLine.{asked, free, same, shown}
 use Rattle.day_command.proofs.command.read_words.Goals as goal
 
 pub returns-in-Ok-clause-asked : goal.returns-in-Ok-clause-asked
@@ -11,7 +11,7 @@ returns-in-Ok-clause-asked g c =
     let app : app_of c.in_ok-command.command ≡ day_app = c.in_ok-command.ensures in
     let words = map g.S.AsStr.text c.args.words.now in
     let has = subst (λ (a : App). HasMatchesOf a words c.in-Ok.matches) app c.in-Ok.ensures.matches in
-    IfOk-weaker c.check_asked.result _ _ (λ a given. asked words c.in-Ok.matches a has given) c.check_asked.ensures.given
+    IfOk-weaker c.request_asked.result _ _ (λ a given. asked words c.in-Ok.matches a has given) c.request_asked.ensures.given
 
 pub returns-in-Err-clause-asked : goal.returns-in-Err-clause-asked
 returns-in-Err-clause-asked g c =
@@ -29,7 +29,8 @@ returns-in-Ok-clause-usage g c =
     let words = map g.S.AsStr.text c.args.words.now in
     let m = c.in-Ok.matches in
     let has = subst (λ (a : App). HasMatchesOf a words m) app c.in-Ok.ensures.matches in
-    IfErr-weaker c.check_asked.result _ _ (λ x is usage line. line.named (none_named words m has (is usage))) c.check_asked.ensures.usage
+    IfErr-weaker c.request_asked.result _ _ (λ x is usage line. line.asked (sym (same words m has) ∙ is usage))
+    c.request_asked.ensures.usage
 
 pub returns-in-Err-clause-usage : goal.returns-in-Err-clause-usage
 returns-in-Err-clause-usage g c =

@@ -1,14 +1,42 @@
 use Rattle.std.proofs.Common.{arith, inl, inr, map}
-use Rattle.day_command.proofs.CommandLine.{folder_named, text_asked}
+use Rattle.day_command.specs.CommandLine.{check, export, find}
+use Rattle.day_command.proofs.CommandLine.{check_asked, export_asked, find_asked, text_asked}
 use Rattle.day_command.proofs.run.day_main.Goals as goal
 
 pub returns-in-Ok-Check-clause-printed : goal.returns-in-Ok-Check-clause-printed
 returns-in-Ok-Check-clause-printed g c done =
     inl (
-      c.in-Ok-Check.nights.now,
-      folder_named (map g.S.AsStr.text c.args.words.now) c.in-Ok-Check.field-0 c.in-Ok-Check.nights c.in-Ok-Check.field-0-is
+      check c.in-Ok-Check.nights.now,
+      check_asked (map g.S.AsStr.text c.args.words.now) c.in-Ok-Check.field-0 c.in-Ok-Check.nights c.in-Ok-Check.field-0-is
           c.in-Ok-Check.ensures.asked,
       c.check_nights.ensures.printed done,
+    )
+
+pub returns-in-Ok-Find-clause-printed : goal.returns-in-Ok-Find-clause-printed
+returns-in-Ok-Find-clause-printed g c done =
+    inl (
+      find c.in-Ok-Find.nights.now c.in-Ok-Find.text.now,
+      find_asked (map g.S.AsStr.text c.args.words.now) c.in-Ok-Find.field-0 c.in-Ok-Find.nights c.in-Ok-Find.text c.in-Ok-Find.field-0-is
+          c.in-Ok-Find.ensures.asked,
+      c.print_found.ensures.printed done,
+    )
+
+pub returns-in-Ok-Export-clause-printed : goal.returns-in-Ok-Export-clause-printed
+returns-in-Ok-Export-clause-printed g c done =
+    inl (
+      export c.in-Ok-Export.nights.now c.in-Ok-Export.form,
+      export_asked (map g.S.AsStr.text c.args.words.now) c.in-Ok-Export.field-0 c.in-Ok-Export.nights c.in-Ok-Export.form
+          c.in-Ok-Export.field-0-is c.in-Ok-Export.ensures.asked,
+      c.print_exported.ensures.printed done,
+    )
+
+pub returns-in-Ok-Export-clause-quiet : goal.returns-in-Ok-Export-clause-quiet
+returns-in-Ok-Export-clause-quiet g c done =
+    inr (
+      c.in-Ok-Export.nights.now,
+      c.in-Ok-Export.form,
+      export_asked (map g.S.AsStr.text c.args.words.now) c.in-Ok-Export.field-0 c.in-Ok-Export.nights c.in-Ok-Export.form
+          c.in-Ok-Export.field-0-is c.in-Ok-Export.ensures.asked,
     )
 
 pub returns-in-Ok-Show-clause-printed : goal.returns-in-Ok-Show-clause-printed

@@ -25,12 +25,8 @@ returns-clause-report g c =
     let named : List ℕ = c.first_line.result.now in
     let text : List ℕ = c.in_ok-report.report.text.items in
     let status : ℕ = c.in_ok-report.report.status in
-    reported nights text status c.in_ok-folder.folder c.in-Some.names.now c.in_ok-marks_at.field-0.items c.in_ok-marks.marks.items order
-    c.in_ok-read_nights.field-0.items entries bad c.in_ok-last.last limit named c.in_ok-folder.ensures
-    (sym c.names.ensures ∙ ap (option_map (λ (names : Bor (List (List ℕ))). names.now)) c.in-Some.is)
-    (subst (λ (at : List ℕ). AllZip (IsFound at) c.in-Some.names.now c.in_ok-marks_at.field-0.items) c.as_bytes-nights.ensures.value
-    c.in_ok-marks_at.ensures)
-    c.in_ok-marks.ensures
+    reported nights text status c.in_ok-marks.marks.items order c.in_ok-read_nights.field-0.items entries bad c.in_ok-last.last limit named
+    c.in_ok-marks.ensures.nights
     (c.in_ok-order.ensures ∙ ap (λ (l : List NightMark). in_order (length l) [] l) c.as_slice.ensures.value)
     (subst (λ (l : List (Bor NightMark)). AllZip (IsRead nights) (marks l) c.in_ok-read_nights.field-0.items) c.as_slice-2.ensures.value
     (subst (λ (at : List ℕ). AllZip (IsRead at) (marks c.as_slice-2.result.now) c.in_ok-read_nights.field-0.items)

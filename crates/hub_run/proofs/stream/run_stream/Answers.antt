@@ -10,7 +10,6 @@ returns-clause-night g c =
       text = of.text;
       told_all = of.told_all;
       few = of.few;
-      whole = whole;
       definition = c.whole_nights_are_one.ensures of.text c.args.setup.now c.args.at.now c.in_ok-night.night c.are_sound.ensures.setup
           c.are_sound.ensures.moment whole;
     }

@@ -1,6 +1,7 @@
 use Rattle.night_command.proofs.Files.{some_put, told_fault}
 use Rattle.night_command.proofs.PlainGuides.{setup_plain}
 use Rattle.night_command.proofs.Running.{run_is}
+use Rattle.night_command.proofs.Sizes.{is_for_partners}
 use Rattle.night_command.specs.Outcome.{IsNightOfSource, LeavesOutbox}
 use Rattle.night_command.specs.declared.failure.Failure.{Failure}
 use Rattle.night_command.proofs.night.night_in.Goals as goal
@@ -12,7 +13,6 @@ returns-clause-night g c =
       text = given.text;
       told_all = given.told_all;
       within = given.few;
-      whole = given.whole;
       definition = given.definition;
       run = run_is c.args.setup.now c.in_ok-night.night given.text c.args.at.now given.few given.definition;
       quotable = λ guides rows counters at.
@@ -29,7 +29,6 @@ returns-in_err-put_night-clause-some g c =
       text = given.text;
       told_all = given.told_all;
       within = given.few;
-      whole = given.whole;
       definition = given.definition;
       run = run_is setup c.in_ok-night.night given.text c.args.at.now given.few given.definition;
       quotable = λ guides rows counters at.
@@ -40,3 +39,8 @@ returns-in_err-put_night-clause-some g c =
     (λ (failed : Failure). LeavesOutbox told setup c.args.at.now (g.B.Outbox.contents c.args.outbox.now)
     (g.B.Outbox.contents c.put_night.new.outbox) failed) c.from_residual-in_err-put_night.ensures.1
     (some_put told setup c.args.at.now _ _ c.in_ok-night.night c.in_err-put_night.field-0.0 by c.in_err-put_night.ensures.some)
+
+pub put_night-requires-clause-partners : goal.put_night-requires-clause-partners
+put_night-requires-clause-partners g c =
+    let given = c.in_ok-night.ensures.night in
+    is_for_partners c.args.setup.now c.in_ok-night.night given.text c.args.at.now given.definition

@@ -1,0 +1,15 @@
+use Rattle.std.proofs.Common.{ℕ, List, arith, inl, inr, subst, sym}
+use Rattle.diff_command.specs.Outcome.{IsReport}
+use Rattle.diff_command.proofs.run.compare_files.Goals as goal
+
+pub returns-in-Ok-clause-printed : goal.returns-in-Ok-clause-printed
+returns-in-Ok-clause-printed g c done = record {
+  text = c.as_slice.result.now;
+  report =
+      subst (λ (t : List ℕ). IsReport c.args.old.now c.args.new.now t c.finish.result) (sym c.as_slice.ensures.value)
+      (elim c.finish.ensures.status [
+        | inl is ↦ subst (λ (n : ℕ). IsReport c.args.old.now c.args.new.now c.in-Ok.report.text.items n) (sym is) c.in-Ok.ensures.report
+        | inr five ↦ absurd (omega (arith, done, five))
+      ]);
+  printed = c.finish.ensures.printed (omega (arith, done));
+}

@@ -1,0 +1,13 @@
+use Rattle.std.proofs.Common.{◌≡◌, ◌++◌, drop}
+use Rattle.guide_widening.specs.Changes.{items_differences}
+use Rattle.guide_widening.specs.NodeDifferences.{at_node}
+use Rattle.guide_widening.specs.Differences.{is_pair_in, pair_value}
+use Rattle.guide_widening.specs.declared.difference.Change.TheVariants.{Narrower}
+use Rattle.guide_widening.specs.declared.difference.Key.TheVariants as key
+use Rattle.guide_widening.specs.declared.difference.Value.TheVariants as value
+use Rattle.guide_widening.proofs.hierarchy.push_each_gone.Given as goal
+
+abbrev pub invariant-loop-i : goal.invariant-loop-i
+invariant-loop-i l =
+    l.found.items ++ items_differences (is_pair_in l.new) (at_node 0) key.Pair Narrower pair_value (λ p. value.Nothing) (drop l.i l.old)
+    ≡ l.initial.found.items ++ items_differences (is_pair_in l.new) (at_node 0) key.Pair Narrower pair_value (λ p. value.Nothing) l.old

@@ -1,0 +1,7 @@
+use Rattle.std.proofs.Common.{◌≡◌, ◌++◌, drop}
+use Rattle.std.specs.List.{flat_map}
+use Rattle.guide_widening.specs.Written.{code_text}
+use Rattle.guide_widening.proofs.written.append_codes.Given as goal
+
+abbrev pub invariant-loop-i : goal.invariant-loop-i
+invariant-loop-i l = l.out.items ++ flat_map code_text (drop l.i l.texts) ≡ l.initial.out.items ++ flat_map code_text l.texts
