@@ -20,7 +20,7 @@ printed_of declared options setup (Ok file) status had has was is made given = r
     within = given.by.within;
     definition = given.by.definition;
     run = given.by.run made.files made.makes;
-    quotable = given.by.quotable _ _ _ made;
+    plain = given.by.plain made.files made.makes;
   };
   own_status = given.own_status;
   printed = given.printed;

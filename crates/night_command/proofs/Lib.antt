@@ -7,7 +7,6 @@ pub mod ForAbove
 pub mod Given
 pub mod OneSetup
 pub mod Opening
-pub mod PlainGuides
 pub mod Refusing
 pub mod Running
 pub mod SettingUp

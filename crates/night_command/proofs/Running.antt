@@ -14,8 +14,9 @@ use Rattle.partner_setup.specs.Setup.{SetupValue}
 use Rattle.partner_setup.specs.SetupFile.{setup_of_table}
 use Rattle.night_writing.specs.declared.night.Night.{Night}
 use Rattle.night_definition.specs.ReadBack as defined
+use Rattle.night_definition.specs.Program.{setup_of_files}
 use Rattle.night_definition.specs.SetupFile as defined_files
-use Rattle.night_equal_read.specs.Read.{seen_night}
+use Rattle.night_equal_read.specs.Read.{FileReferencesArePlain, seen_night}
 use Rattle.night_equal_text.specs.LookedUp.{seen_setup}
 use Rattle.night_equal_setup.proofs.ForAbove.{counters_texts_are_one, setup_bytes_are_one}
 use Rattle.night_command.specs.FileAt.{FileValue}
@@ -61,16 +62,27 @@ files_are setup night =
     ∙ ap (λ (t : List ℕ). defined_files.partner_files setup.partners night.acks night.boxes
     ++ (codes "report.txt", night.report) ∷ (codes "counters.toml", t) ∷ []) (sym (counters_texts_are_one setup night.next))
 
+made_is : (setup : SetupValue) (read : SetupFiles) → IsSetupOf read setup
+    → setup_of_files (bytes_of read.setup) (bytes_of read.counters) (map bytes_of read.guides) ≡ Some (seen_setup setup)
+made_is setup read of_files =
+    setup_bytes_are_one (bytes_of read.setup) (bytes_of read.counters) (map bytes_of read.guides) of_files.rows of_files.counters
+    of_files.guides (guides_have read.guides of_files.guides of_files.read.0)
+    (file_has setup_of_table read.setup.bytes of_files.rows of_files.read.1)
+    (file_has counters_of_table read.counters.bytes of_files.counters of_files.read.2) of_files.accepted
+    ∙ ap (λ (s : SetupValue). Some (seen_setup s)) (sym of_files.made)
+
+-- the guides of files have reference numbers of letters and digits alone
+pub plain_is : FileReferencesArePlain → (setup : SetupValue) (read : SetupFiles) → IsSetupOf read setup
+    → defined.AreReferencesPlain (seen_setup setup)
+plain_is plain setup read of_files =
+    plain (bytes_of read.setup) (bytes_of read.counters) (map bytes_of read.guides) (seen_setup setup) (made_is setup read of_files)
+
 pub run_is : (setup : SetupValue) (night : Night) (text at : List ℕ) → length text ≤ LONGEST_TEXT
     → defined.IsNight text (seen_setup setup) at (seen_night night) → (read : SetupFiles) → IsSetupOf read setup
     → IsRunBy read at text (night_files setup night) (status_of (Ran night))
 run_is setup night text at few is read of_files = record {
   setup = seen_setup setup;
-  made = setup_bytes_are_one (bytes_of read.setup) (bytes_of read.counters) (map bytes_of read.guides) of_files.rows of_files.counters
-      of_files.guides (guides_have read.guides of_files.guides of_files.read.0)
-      (file_has setup_of_table read.setup.bytes of_files.rows of_files.read.1)
-      (file_has counters_of_table read.counters.bytes of_files.counters of_files.read.2) of_files.accepted
-      ∙ ap (λ (s : SetupValue). Some (seen_setup s)) (sym of_files.made);
+  made = made_is setup read of_files;
   few = few;
   night = seen_night night;
   is = is;

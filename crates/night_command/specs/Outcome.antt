@@ -2,7 +2,6 @@
 use Rattle.std.specs.Prelude.{◌≡◌, ◌≤◌, ◌⊎◌, ℕ, if◌then◌else◌, List, ◌++◌, Option, IfSome, codes, length, string_bytes}
 use Rattle.std.specs.Io.KnownBytes.{Appends}
 use Rattle.hub_kinds.specs.declared.limits.TheConstants.{LONGEST_TEXT}
-use Rattle.night_law.specs.Quotable.{AreAllQuotable}
 use Rattle.night_definition.specs.ReadBack as defined
 use Rattle.night_equal_text.specs.LookedUp.{seen_setup}
 use Rattle.night_equal_read.specs.Read.{seen_night}
@@ -38,8 +37,8 @@ status_of (Shown text) = 0
 status_of (Ran night) = if is_clean night.report then 0 else 1
 
 -- the definition's night of some text that isn't too long, at the moment of the options and by a setup that some files make which were
--- asked for by the paths of the options; its files and its status are those of the definition's run by these files; each partner's guides
--- can be quoted, so each reads its acknowledgments
+-- asked for by the paths of the options; its files and its status are those of the definition's run by these files; the guides' reference
+-- numbers are letters and digits, so each partner reads its acknowledgments
 pub record IsNightBy (options : Options) (night : Night) : Type 0 where
   pub setup : SetupValue
   pub made : IsSetupAt (guide_paths options) options.setup.now options.counters.now setup
@@ -47,7 +46,7 @@ pub record IsNightBy (options : Options) (night : Night) : Type 0 where
   pub within : length text ≤ LONGEST_TEXT
   pub definition : defined.IsNight text (seen_setup setup) options.at (seen_night night)
   pub run : IsRunBy made.files options.at text (night_files setup night) (status_of (Ran night))
-  pub quotable : AreAllQuotable text setup
+  pub plain : defined.AreReferencesPlain (seen_setup setup)
 
 -- such a night was run: what was printed is the last line of its report, and the status is its own
 pub record IsPrinted (options : Options) (status : ℕ) (was is : Option (List ℕ)) : Type 0 where
@@ -56,21 +55,16 @@ pub record IsPrinted (options : Options) (status : ℕ) (was is : Option (List �
   pub own_status : status ≡ status_of (Ran night)
   pub printed : Appends was is (text_of (Ran night))
 
--- the guides of files can be quoted
-abbrev pub IsQuotableOfFiles : (text : List ℕ) → SetupValue → Type 0
-IsQuotableOfFiles text setup =
-    (guides : List (List ℕ)) (rows counters : List ℕ) → IsSetupAt guides rows counters setup → AreAllQuotable text setup
-
 -- the definition's night of the bytes that a source gave, no more than the limit, which are all that it declared, where it declared them;
--- where files make the setup, its files and its status are those of the definition's run by them, and each partner reads its
--- acknowledgments
+-- where files make the setup, its files and its status are those of the definition's run by them, and the guides' reference numbers are
+-- letters and digits, so each partner reads its acknowledgments
 pub record IsNightOfSource (told : Option (List ℕ)) (setup : SetupValue) (at : List ℕ) (night : Night) : Type 0 where
   pub text : List ℕ
   pub told_all : IfSome told (λ xs. xs ≡ text)
   pub within : length text ≤ LONGEST_TEXT
   pub definition : defined.IsNight text (seen_setup setup) at (seen_night night)
   pub run : (read : SetupFiles) → IsSetupOf read setup → IsRunBy read at text (night_files setup night) (status_of (Ran night))
-  pub quotable : IsQuotableOfFiles text setup
+  pub plain : (read : SetupFiles) → IsSetupOf read setup → defined.AreReferencesPlain (seen_setup setup)
 
 -- a night is given: it is that of a source, a setup and a moment, its files are put after what the outbox had, the last line of its report
 -- is printed, and the status is its own

@@ -1,7 +1,6 @@
 ghost use Rattle.std.specs.Prelude.{◌≡◌, ◌≢◌, ◌<◌, ◌≤◌, ◌⊎◌, ℕ, List, Some, IfOk, IfErr, IfSome, IsErrOf, IsOkAnd, length, map};
 ghost use Rattle.std.specs.Io.KnownBytes.{Appends};
 ghost use Rattle.stream_read.specs.Source.{GivenUp, HasFailed, TriedAgain};
-ghost use Rattle.partner_setup.specs.Sound.{IsSoundSetup};
 ghost use Rattle.night_ends.specs.Outbox.{path_in};
 ghost use Rattle.night_command.specs.CommandLine.{AsksForText, CanShare, IsCommandLine, NamesNight, guide_paths};
 ghost use Rattle.night_command.specs.Failure.{IsOfNight};
@@ -19,12 +18,11 @@ use crate::night_files::put_night;
 use crate::outcome::{Outcome, finish};
 use crate::setup::setup_at;
 use crate::sharing::Sharing;
-use guide_toml::files_write_references;
 use hub_kinds::LONGEST_TEXT;
 use hub_run::{Night, OpenGate, Source, run_stream};
 use moment::At;
 use night_ends::{Directory, Opened, Outbox, open_at};
-use night_law::plain_references_are_quoted;
+use night_equal_read::file_references_are_plain;
 use partner_setup::Setup;
 use std::alloc::Global;
 use std::convert::AsStr;
@@ -220,9 +218,7 @@ where
     ensures some { IfErr result (LeavesOutbox (S.remaining source.old) setup.now at.now (B.contents outbox.old) (B.contents outbox.new)) }
     ensures err { IfErr result IsOfNight }
 {
-    is_sound(setup);
-    files_write_references();
-    plain_references_are_quoted();
+    file_references_are_plain();
     let night = run_stream(
         rt,
         alloc,
@@ -236,13 +232,4 @@ where
     )?;
     put_night(alloc, &night, setup, outbox)?;
     Ok(night)
-}
-
-/// Every setup is sound. It does nothing: its contract says so.
-fn is_sound(setup: &Setup)
-    ensures { IsSoundSetup setup.now }
-{
-    let _hub = setup.hub();
-    let _partners = setup.partners();
-    let _routes = setup.routes();
 }

@@ -1,6 +1,5 @@
 use Rattle.night_command.proofs.Files.{some_put, told_fault}
-use Rattle.night_command.proofs.PlainGuides.{setup_plain}
-use Rattle.night_command.proofs.Running.{run_is}
+use Rattle.night_command.proofs.Running.{plain_is, run_is}
 use Rattle.night_command.proofs.Sizes.{is_for_partners}
 use Rattle.night_command.specs.Outcome.{IsNightOfSource, LeavesOutbox}
 use Rattle.night_command.specs.declared.failure.Failure.{Failure}
@@ -15,9 +14,7 @@ returns-clause-night g c =
       within = given.few;
       definition = given.definition;
       run = run_is c.args.setup.now c.in_ok-night.night given.text c.args.at.now given.few given.definition;
-      quotable = λ guides rows counters at.
-          c.plain_references_are_quoted.ensures given.text c.args.setup.now c.is_sound.ensures
-          (setup_plain c.files_write_references.ensures guides rows counters c.args.setup.now at);
+      plain = plain_is c.file_references_are_plain.ensures c.args.setup.now;
     }
 
 pub returns-in_err-put_night-clause-some : goal.returns-in_err-put_night-clause-some
@@ -31,9 +28,7 @@ returns-in_err-put_night-clause-some g c =
       within = given.few;
       definition = given.definition;
       run = run_is setup c.in_ok-night.night given.text c.args.at.now given.few given.definition;
-      quotable = λ guides rows counters at.
-          c.plain_references_are_quoted.ensures given.text setup c.is_sound.ensures
-          (setup_plain c.files_write_references.ensures guides rows counters setup at);
+      plain = plain_is c.file_references_are_plain.ensures setup;
     } in
     told_fault c.from_residual-in_err-put_night.result c.in_err-put_night.field-0.0
     (λ (failed : Failure). LeavesOutbox told setup c.args.at.now (g.B.Outbox.contents c.args.outbox.now)
