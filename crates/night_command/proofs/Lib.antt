@@ -1,4 +1,3 @@
-pub mod Cleaning
 pub mod CommandLine
 pub mod Ending
 pub mod Failing

@@ -27,7 +27,7 @@ use Rattle.night_command.specs.Runs.{IsRunBy, bytes_of}
 use Rattle.night_command.specs.SetupFiles.{AreGuidesOf, IsSetupOf}
 use Rattle.night_command.specs.declared.outcome.Outcome.TheVariants.{Ran}
 use Rattle.night_command.specs.declared.setup_files.SetupFiles.{SetupFiles}
-use Rattle.night_command.proofs.Cleaning.{clean_is}
+use Rattle.night_equal_writing.proofs.ForAbove.{clean_is}
 
 -- a file that writes something has bytes
 file_has : {A : Type 0} (read : Members → Result A Refusal) (bytes : Option (List ℕ)) (rows : A) → IsFileOf read bytes rows

@@ -50,13 +50,13 @@ swapped true false = refl
 swapped false true = refl
 swapped false false = refl
 
-in_way : (from to : Delims) (b : ℕ) → (room_acks.is_delimiter to b && not (room_acks.is_delimiter from b)) ≡ old.is_in_the_way from to b
+pub in_way : (from to : Delims) (b : ℕ) → (room_acks.is_delimiter to b && not (room_acks.is_delimiter from b)) ≡ old.is_in_the_way from to b
 in_way from to b =
     swapped (room_acks.is_delimiter to b) (room_acks.is_delimiter from b)
     ∙ ap (λ t. not t && room_acks.is_delimiter to b) (delimiter_is from b)
     ∙ ap (λ t. not (old_delims.is_delimiter from b) && t) (delimiter_is to b)
 
-own_is_none : (from to : Delims) → old.is_in_the_way from to from.element ≡ false
+pub own_is_none : (from to : Delims) → old.is_in_the_way from to from.element ≡ false
 own_is_none from to =
     ap (λ t. not (t || from.element == from.component || from.element == from.terminator
     || old_delims.is_this from.repetition from.element)

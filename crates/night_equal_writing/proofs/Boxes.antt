@@ -76,45 +76,54 @@ interchanges_zip R cap ls ms zip =
     (λ m. take_zip R cap (drop (m * cap) ls) (drop (m * cap) ms) (drop_zip R (m * cap) ls ms zip))
     (range_with_len 0 (old_layout.interchange_count cap (length ls))))
 
-goes_is : (v w : NumberedValue) (x y : ℕ × Sent) → IsNumbered v x → IsNumbered w y
-    → room.goes_with x.1 y.1 ≡ same_key (group_key_of v.set) (group_key_of w.set)
-goes_is v w x y a b =
-    ap (λ n. n == y.1.sender && bytes_eq (element 1 x.1.gs) (element 1 y.1.gs)
-    && bytes_eq (element 8 x.1.gs) (element 8 y.1.gs)) a.set.sender
-    ∙ ap (λ n. sender_in v.set == n && bytes_eq (element 1 x.1.gs) (element 1 y.1.gs)
-    && bytes_eq (element 8 x.1.gs) (element 8 y.1.gs)) b.set.sender
-    ∙ ap (λ (gs : Elements). sender_in v.set == sender_in w.set && bytes_eq (element 1 gs) (element 1 y.1.gs)
-    && bytes_eq (element 8 gs) (element 8 y.1.gs)) a.set.gs
-    ∙ ap (λ (gs : Elements). sender_in v.set == sender_in w.set && bytes_eq (element 1 (elements_of v.set.group.header)) (element 1 gs)
-    && bytes_eq (element 8 (elements_of v.set.group.header)) (element 8 gs)) b.set.gs
+-- the groups of numbered sets of which each is seen by the definition
+module _ (R : NumberedValue → ℕ × Sent → Type 0) (seen : (v : NumberedValue) (x : ℕ × Sent) → R v x → IsSeen v.set x.1) where
+  goes_is : (v w : NumberedValue) (x y : ℕ × Sent) → R v x → R w y
+      → room.goes_with x.1 y.1 ≡ same_key (group_key_of v.set) (group_key_of w.set)
+  goes_is v w x y a b =
+      let first : IsSeen v.set x.1 = seen v x a in
+      let second : IsSeen w.set y.1 = seen w y b in
+      ap (λ n. n == y.1.sender && bytes_eq (element 1 x.1.gs) (element 1 y.1.gs)
+      && bytes_eq (element 8 x.1.gs) (element 8 y.1.gs)) first.sender
+      ∙ ap (λ n. sender_in v.set == n && bytes_eq (element 1 x.1.gs) (element 1 y.1.gs)
+      && bytes_eq (element 8 x.1.gs) (element 8 y.1.gs)) second.sender
+      ∙ ap (λ (gs : Elements). sender_in v.set == sender_in w.set && bytes_eq (element 1 gs) (element 1 y.1.gs)
+      && bytes_eq (element 8 gs) (element 8 y.1.gs)) first.gs
+      ∙ ap (λ (gs : Elements). sender_in v.set == sender_in w.set && bytes_eq (element 1 (elements_of v.set.group.header)) (element 1 gs)
+      && bytes_eq (element 8 (elements_of v.set.group.header)) (element 8 gs)) second.gs
 
-put : (t : Bool) (v : NumberedValue) (x : ℕ × Sent) (g : List NumberedValue) (h : List (ℕ × Sent)) (gs : List (List NumberedValue))
-    (hs : List (List (ℕ × Sent)))
-    → IsNumbered v x → AllZip IsNumbered g h → AllZip (AllZip IsNumbered) gs hs
-    → AllZip (AllZip IsNumbered) (if t then (v ∷ g) ∷ gs else (v ∷ []) ∷ g ∷ gs) (if t then (x ∷ h) ∷ hs else (x ∷ []) ∷ h ∷ hs)
-put true v x g h gs hs is first rest = ((is, first), rest)
-put false v x g h gs hs is first rest = ((is, tt), (first, rest))
+  put : (t : Bool) (v : NumberedValue) (x : ℕ × Sent) (g : List NumberedValue) (h : List (ℕ × Sent)) (gs : List (List NumberedValue))
+      (hs : List (List (ℕ × Sent)))
+      → R v x → AllZip R g h → AllZip (AllZip R) gs hs
+      → AllZip (AllZip R) (if t then (v ∷ g) ∷ gs else (v ∷ []) ∷ g ∷ gs) (if t then (x ∷ h) ∷ hs else (x ∷ []) ∷ h ∷ hs)
+  put true v x g h gs hs is first rest = ((is, first), rest)
+  put false v x g h gs hs is first rest = ((is, tt), (first, rest))
 
-onto_zip : (v : NumberedValue) (x : ℕ × Sent) → IsNumbered v x → (gs : List (List NumberedValue)) (hs : List (List (ℕ × Sent)))
-    → AllZip (AllZip IsNumbered) gs hs → AllZip (AllZip IsNumbered) (old_numbered.onto_groups v gs) (room.onto_groups x hs)
-onto_zip v x is [] [] zip = ((is, tt), tt)
-onto_zip v x is (g ∷ gs) [] zip = absurd zip
-onto_zip v x is [] (h ∷ hs) zip = absurd zip
-onto_zip v x is ([] ∷ gs) ([] ∷ hs) zip = ((is, tt), (zip.0, zip.1))
-onto_zip v x is ((w ∷ g) ∷ gs) ([] ∷ hs) zip = absurd zip.0
-onto_zip v x is ([] ∷ gs) ((y ∷ h) ∷ hs) zip = absurd zip.0
-onto_zip v x is ((w ∷ g) ∷ gs) ((y ∷ h) ∷ hs) zip =
-    subst (λ t. AllZip (AllZip IsNumbered) (old_numbered.onto_groups v ((w ∷ g) ∷ gs))
-    (if t then (x ∷ y ∷ h) ∷ hs else (x ∷ []) ∷ (y ∷ h) ∷ hs))
-    (sym (goes_is v w x y is zip.0.0))
-    (put (same_key (group_key_of v.set) (group_key_of w.set)) v x (w ∷ g) (y ∷ h) gs hs is zip.0 zip.1)
+  onto_zip : (v : NumberedValue) (x : ℕ × Sent) → R v x → (gs : List (List NumberedValue)) (hs : List (List (ℕ × Sent)))
+      → AllZip (AllZip R) gs hs → AllZip (AllZip R) (old_numbered.onto_groups v gs) (room.onto_groups x hs)
+  onto_zip v x is [] [] zip = ((is, tt), tt)
+  onto_zip v x is (g ∷ gs) [] zip = absurd zip
+  onto_zip v x is [] (h ∷ hs) zip = absurd zip
+  onto_zip v x is ([] ∷ gs) ([] ∷ hs) zip = ((is, tt), (zip.0, zip.1))
+  onto_zip v x is ((w ∷ g) ∷ gs) ([] ∷ hs) zip = absurd zip.0
+  onto_zip v x is ([] ∷ gs) ((y ∷ h) ∷ hs) zip = absurd zip.0
+  onto_zip v x is ((w ∷ g) ∷ gs) ((y ∷ h) ∷ hs) zip =
+      subst (λ t. AllZip (AllZip R) (old_numbered.onto_groups v ((w ∷ g) ∷ gs))
+      (if t then (x ∷ y ∷ h) ∷ hs else (x ∷ []) ∷ (y ∷ h) ∷ hs))
+      (sym (goes_is v w x y is zip.0.0))
+      (put (same_key (group_key_of v.set) (group_key_of w.set)) v x (w ∷ g) (y ∷ h) gs hs is zip.0 zip.1)
+
+  pub groups_zip_by : (vs : List NumberedValue) (xs : List (ℕ × Sent)) → AllZip R vs xs
+      → AllZip (AllZip R) (old_numbered.groups_of vs) (room.groups_of xs)
+  groups_zip_by [] [] zip = zip
+  groups_zip_by (v ∷ vs) [] zip = absurd zip
+  groups_zip_by [] (x ∷ xs) zip = absurd zip
+  groups_zip_by (v ∷ vs) (x ∷ xs) zip =
+      onto_zip v x zip.0 (old_numbered.groups_of vs) (room.groups_of xs) (groups_zip_by vs xs zip.1)
 
 pub groups_zip : (vs : List NumberedValue) (xs : List (ℕ × Sent)) → AllZip IsNumbered vs xs
     → AllZip (AllZip IsNumbered) (old_numbered.groups_of vs) (room.groups_of xs)
-groups_zip [] [] zip = zip
-groups_zip (v ∷ vs) [] zip = absurd zip
-groups_zip [] (x ∷ xs) zip = absurd zip
-groups_zip (v ∷ vs) (x ∷ xs) zip = onto_zip v x zip.0 (old_numbered.groups_of vs) (room.groups_of xs) (groups_zip vs xs zip.1)
+groups_zip vs xs zip = groups_zip_by IsNumbered (λ v x is. is.set) vs xs zip
 
 module _ (setup : SetupValue) (guides : List GuideTree) (p : Partner) (at : List ℕ) where
   abbrev there : Setup

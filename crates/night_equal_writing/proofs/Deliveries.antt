@@ -89,7 +89,7 @@ never false b true true e = refl
 never false b true false e = refl
 never false b false d e = refl
 
-deliverable_is : (p : PlacedValue) (g : AnsweredGroup) (s : Sent) → IsSeenIn p g s → room.is_deliverable g s.answer ≡ old.is_deliverable p
+pub deliverable_is : (p : PlacedValue) (g : AnsweredGroup) (s : Sent) → IsSeenIn p g s → room.is_deliverable g s.answer ≡ old.is_deliverable p
 deliverable_is p g s is =
     ap (λ t. not (is_rejected s.answer.verdict) && room.has_no_code g.codes && not t) is.fa ∙ by (is_fa p.group) refl
   where
@@ -128,10 +128,10 @@ kind_is partner (delivered to) = refl
 kind_is partner (held_for_delimiter to) = refl
 kind_is partner held_for_route = refl
 
-abbrev goes : SetupValue → List GuideTree → (partner : ℕ) → AnsweredGroup → Sent → Bool
+abbrev pub goes : SetupValue → List GuideTree → (partner : ℕ) → AnsweredGroup → Sent → Bool
 goes setup guides partner g s = list_any (room.is_delivered_to partner) (room.outcomes (room_setup setup guides) g s)
 
-goes_is : (setup : SetupValue) (guides : List GuideTree) (partner : ℕ) (p : PlacedValue) (x : AnsweredGroup × Sent) → IsSeenIn p x.0 x.1
+pub goes_is : (setup : SetupValue) (guides : List GuideTree) (partner : ℕ) (p : PlacedValue) (x : AnsweredGroup × Sent) → IsSeenIn p x.0 x.1
     → old.is_delivered_to setup partner p ≡ goes setup guides partner x.0 x.1
 goes_is setup guides partner p x is =
     sym (ap (list_any (old.is_delivery_to partner)) (outcomes_are setup guides p x.0 x.1 is))
@@ -182,7 +182,7 @@ delivered_is q xs =
     flat_filter h t (λ (g : AnsweredGroup). map (λ (a : Answer). (g, sent x g a)) g.answers) x.groups
     ∙ ap (λ (f : AnsweredGroup → List Sent). flat_map f x.groups) (fun_ext (λ (g : AnsweredGroup). paired q g (sent x g) g.answers))))
 
-alone_seen : (ps : List PlacedValue) (xs : List (AnsweredGroup × Sent))
+pub alone_seen : (ps : List PlacedValue) (xs : List (AnsweredGroup × Sent))
     → AllZip (λ p (x : AnsweredGroup × Sent). IsSeenIn p x.0 x.1) ps xs
     → AllZip IsSeen ps (map (λ (x : AnsweredGroup × Sent). x.1) xs)
 alone_seen [] [] zip = zip

@@ -8,4 +8,5 @@ pub mod Report
 pub mod Totals
 pub mod Blocked
 pub mod DeliveredTexts
+pub mod Cleaning
 pub mod ForAbove

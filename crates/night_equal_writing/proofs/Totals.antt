@@ -36,7 +36,7 @@ use Rattle.night_equal_writing.specs.Report.{IsShown, IsTold}
 use Rattle.night_equal_writing.specs.Totals.{TotalsAreOne}
 use Rattle.night_equal_writing.proofs.Answers.{filtered}
 use Rattle.night_equal_writing.proofs.Deliveries.{outcomes_are, refused_none, to_is}
-use Rattle.night_equal_writing.proofs.Boxes.{groups_zip, interchanges_zip, numbered_zip}
+use Rattle.night_equal_writing.proofs.Boxes.{groups_zip_by, interchanges_zip, numbered_zip}
 use Rattle.night_equal_writing.proofs.Report.{all_are}
 
 sum_zip : {A B : Type 0} (R : A → B → Type 0) (f : A → ℕ) (h : B → ℕ) → ((a : A) (b : B) → R a b → f a ≡ h b)
@@ -233,16 +233,17 @@ interchanges_are setup guides place p js xs zip =
     ∙ ap (room.interchange_count p.cap) (length_numbered 0 ss
     ∙ AllZip-long IsSeen (old.delivered_to setup place js) ss (to_is setup guides place js xs zip))
 
-groups_within_are : (vs : List (List NumberedValue)) (xs : List (List (ℕ × Sent))) → AllZip (AllZip IsNumbered) vs xs
+pub groups_within_are : (R : NumberedValue → ℕ × Sent → Type 0) → ((v : NumberedValue) (x : ℕ × Sent) → R v x → IsSeen v.set x.1)
+    → (vs : List (List NumberedValue)) (xs : List (List (ℕ × Sent))) → AllZip (AllZip R) vs xs
     → sum_by (λ sets. length (room.groups_of sets)) xs ≡ old_box.groups_within vs
-groups_within_are [] [] zip = refl
-groups_within_are (v ∷ vs) [] zip = absurd zip
-groups_within_are [] (x ∷ xs) zip = absurd zip
-groups_within_are (v ∷ vs) (x ∷ xs) zip =
+groups_within_are R seen [] [] zip = refl
+groups_within_are R seen (v ∷ vs) [] zip = absurd zip
+groups_within_are R seen [] (x ∷ xs) zip = absurd zip
+groups_within_are R seen (v ∷ vs) (x ∷ xs) zip =
     sum_by-cons (λ (sets : List (ℕ × Sent)). length (room.groups_of sets)) x xs
     ∙ ap (λ n. n + sum_by (λ (sets : List (ℕ × Sent)). length (room.groups_of sets)) xs)
-    (AllZip-long (AllZip IsNumbered) (old_numbered.groups_of v) (room.groups_of x) (groups_zip v x zip.0))
-    ∙ ap (λ n. length (old_numbered.groups_of v) + n) (groups_within_are vs xs zip.1)
+    (AllZip-long (AllZip R) (old_numbered.groups_of v) (room.groups_of x) (groups_zip_by R seen v x zip.0))
+    ∙ ap (λ n. length (old_numbered.groups_of v) + n) (groups_within_are R seen vs xs zip.1)
 
 pub groups_are : (setup : SetupValue) (guides : List GuideTree) (place : ℕ) (p : Partner) (js : List JudgedValue) (xs : List Answered)
     → AllZip (λ p (x : AnsweredGroup × Sent). IsSeenIn p x.0 x.1) (open_sets js) (all_sent xs)
@@ -252,7 +253,7 @@ pub groups_are : (setup : SetupValue) (guides : List GuideTree) (place : ℕ) (p
 groups_are setup guides place p js xs zip plain =
     let ps : List PlacedValue = old.delivered_to setup place js in
     let ss : List Sent = room.delivered_to (room_setup setup guides) place xs in
-    groups_within_are (old_layout.interchanges_of p.cap (old_numbered.numbered_from 0 ps)) (room.interchanges_of p.cap (numbered 0 ss))
+    groups_within_are IsNumbered (λ v x is. is.set) (old_layout.interchanges_of p.cap (old_numbered.numbered_from 0 ps)) (room.interchanges_of p.cap (numbered 0 ss))
     (interchanges_zip IsNumbered p.cap (old_numbered.numbered_from 0 ps) (numbered 0 ss)
     (numbered_zip 0 ps ss (to_is setup guides place js xs zip) plain))
 

@@ -1,7 +1,6 @@
 -- The fields of a row (own): of an interchange (X12.5), of a group and of a set (X12.6), and of what became of it.
 use Rattle.std.specs.Prelude.{ℕ, ◌+◌, List, [], ◌∷◌, ◌++◌, Option, Some, None, take, drop, slice_get, slice_index_or, codes, decimal, map}
 use Rattle.std.specs.Prelude.{if◌then◌else◌}
-use Rattle.std.specs.List.{flat_map}
 use Rattle.x12_bytes.specs.Header.{field_of}
 use Rattle.x12_segs.specs.Words.{element_of}
 use Rattle.x12_write.specs.Number.{padded_number}
@@ -17,14 +16,10 @@ use Rattle.judged_text.specs.Judged.{JudgedValue, PlacedValue, is_fa, segments_i
 use Rattle.track_notes.specs.declared.notes.GroupNotes.{GroupNotes}
 use Rattle.track_notes.specs.declared.notes.SetNotes.{SetNotes}
 use Rattle.set_documents.specs.Documents.{DocumentValue, document_number}
+pub use Rattle.track_definition.specs.Columns.{column_names, no_set_cells, plain_end, spaced_words}
 use Rattle.track_rows.specs.declared.hindrance.Hindrance.{Hindrance}
 use Rattle.track_rows.specs.declared.mailed.Mailed.{Mailed}
 use Rattle.track_rows.specs.declared.limits.TheConstants.{MOST_SHOWN}
-
--- words with spaces between them
-abbrev pub spaced_words : List (List ℕ) → List ℕ
-spaced_words [] = []
-spaced_words (word ∷ words) = word ++ flat_map (λ w. 32 ∷ w) words
 
 -- the name of a partner by its place in the setup, and that of a sender; of none where there isn't a partner
 abbrev pub name_by : Option Partner → List ℕ
@@ -86,14 +81,6 @@ head_cells setup documents n p notes =
     (interchange_cells setup n p.interchange ++ group_cells p.group p.standing.verdict notes.codes)
     ++ set_cells documents p (slice_index_or notes.sets p.index no_set_notes)
 
--- the fields of a group and of a set, where there are none
-abbrev pub no_set_cells : List (List ℕ)
-no_set_cells = [] ∷ [] ∷ [] ∷ [] ∷ [] ∷ [] ∷ [] ∷ [] ∷ [] ∷ [] ∷ [] ∷ [] ∷ []
-
--- what became of a set that no receiver is named for
-abbrev pub plain_end : (outcome : List ℕ) → List (List ℕ)
-plain_end outcome = outcome ∷ [] ∷ [] ∷ [] ∷ [] ∷ [] ∷ [] ∷ []
-
 abbrev pub hindrance_cells : Option Hindrance → List (List ℕ)
 hindrance_cells None = [] ∷ [] ∷ []
 hindrance_cells (Some h) = (h.byte ∷ []) ∷ decimal (h.before + 1) ∷ []
@@ -106,11 +93,3 @@ held_end name h = codes "held delimiter" ∷ (hindrance_cells h ++ name ∷ [] �
 abbrev pub delivered_end : (name : List ℕ) → Mailed → List (List ℕ)
 delivered_end name m =
     codes "delivered" ∷ [] ∷ [] ∷ name ∷ padded_number 9 m.interchange ∷ decimal m.group ∷ padded_number 4 m.set ∷ []
-
--- the names of the fields
-abbrev pub column_names : List (List ℕ)
-column_names =
-    codes "interchange" ∷ codes "offset" ∷ codes "sender" ∷ codes "isa13" ∷ codes "fault" ∷ codes "ta1" ∷ codes "gs01" ∷ codes "gs06"
-    ∷ codes "gs02" ∷ codes "gs03" ∷ codes "group_verdict" ∷ codes "group_codes" ∷ codes "st01" ∷ codes "st02" ∷ codes "document"
-    ∷ codes "verdict" ∷ codes "codes" ∷ codes "faults" ∷ codes "outcome" ∷ codes "byte" ∷ codes "segment" ∷ codes "receiver"
-    ∷ codes "receiver_isa13" ∷ codes "receiver_gs06" ∷ codes "receiver_st02" ∷ []

@@ -1,0 +1,4 @@
+pub mod Columns
+pub mod Hindrance
+pub mod Cells
+pub mod Rows
