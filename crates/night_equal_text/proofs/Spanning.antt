@@ -27,7 +27,7 @@ elements_seen (x ∷ xs) = ap (λ ys. elements_of x ∷ ys) (elements_seen xs)
 front : (inner behind : List SegValue) (n : ℕ) → n ≡ length inner → take n (inner ++ behind) ≡ inner
 front inner behind n is = ap (λ k. take k (inner ++ behind)) is ∙ take-append_seam inner behind
 
-inner_is : (h : SegValue) (inner : List SegValue) (t : Option SegValue)
+pub inner_is : (h : SegValue) (inner : List SegValue) (t : Option SegValue)
     → inner_of (is_some t) (h ∷ (inner ++ then.option_items t)) ≡ inner
 inner_is h inner None =
     let long : length (inner ++ []) ≡ length inner = omega (arith, length-append inner []) in
@@ -36,7 +36,7 @@ inner_is h inner (Some t) =
     let long : length (inner ++ t ∷ []) ≡ length inner + 1 = omega (arith, length-append inner (t ∷ [])) in
     front inner (t ∷ []) (length (h ∷ (inner ++ t ∷ [])) - 1 - 1) (omega (arith, long))
 
-trailer_is : (h : SegValue) (inner : List SegValue) (t : Option SegValue)
+pub trailer_is : (h : SegValue) (inner : List SegValue) (t : Option SegValue)
     → set_trailer_of (is_some t) (h ∷ (inner ++ then.option_items t)) ≡ t
 trailer_is h inner None = refl
 trailer_is h inner (Some t) =
