@@ -7,7 +7,7 @@ use Rattle.night_command.specs.Outbox.{AddsFiles, File}
 use Rattle.night_command.specs.SetupFiles.{IsSetupAt}
 use Rattle.partner_setup.specs.Setup.{SetupValue}
 use Rattle.set_documents.specs.Documents.{DocumentValue}
-use Rattle.track_night.specs.Track.{IsTrack}
+use Rattle.track_equal.specs.Table.{IsTableOf}
 use Rattle.track_night.specs.declared.track.Track.{Track}
 use Rattle.track_command.specs.CommandLine.{AreOptions, AsksForText, guide_paths, option_value, values_of}
 use Rattle.track_command.specs.declared.command.Options.{Options}
@@ -16,12 +16,12 @@ use Rattle.track_command.specs.declared.command.Options.{Options}
 abbrev pub status_of : Track → ℕ
 status_of track = if track.clean then 0 else 1
 
--- the table of the bytes that a source gave, no more than the limit, which are all that it declared, where it declared them
+-- the definition's table of the bytes that a source gave, no more than the limit, which are all that it declared, where it declared them
 pub record IsTrackOfSource (told : Option (List ℕ)) (setup : SetupValue) (documents : List DocumentValue) (track : Track) : Type 0 where
   pub text : List ℕ
   pub told_all : IfSome told (λ xs. xs ≡ text)
   pub within : length text ≤ LONGEST_TEXT
-  pub is : IsTrack text setup documents track
+  pub is : IsTableOf text setup documents track
 
 -- a table is given: it is that of a source and a setup, it is put after what the outbox had as the file of this name, and the status is
 -- the night's
@@ -32,14 +32,14 @@ pub record IsGiven (told : Option (List ℕ)) (setup : SetupValue) (documents : 
   pub file : AddsFiles had has ((name, track.table) ∷ [])
   pub own_status : status ≡ status_of track
 
--- the table of some text that isn't too long, by a setup that some files make which were asked for by the paths of the options
+-- the definition's table of some text that isn't too long, by a setup that some files make which were asked for by the paths of the options
 pub record IsTrackBy (options : Options) (status : ℕ) : Type 0 where
   pub setup : SetupValue
   pub made : IsSetupAt (guide_paths options) options.setup.now options.counters.now setup
   pub text : List ℕ
   pub within : length text ≤ LONGEST_TEXT
   pub track : Track
-  pub is : IsTrack text setup options.documents.items track
+  pub is : IsTableOf text setup options.documents.items track
   pub own_status : status ≡ status_of track
 
 -- what a run of these arguments has done that didn't fail: printed a text where they ask for one; otherwise it has put a table by the

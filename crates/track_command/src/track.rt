@@ -5,6 +5,7 @@ ghost use Rattle.hub_kinds.specs.declared.limits.TheConstants.{LONGEST_TEXT};
 ghost use Rattle.stream_read.specs.Source.{HasFailed};
 ghost use Rattle.night_command.specs.Outbox.{AddsFiles, KeepsFiles};
 ghost use Rattle.night_command.specs.SetupFiles.{IsSetupAt};
+ghost use Rattle.track_equal.specs.Table.{IsTableOf};
 ghost use Rattle.track_command.specs.CommandLine.{AsksForText, IsCommandLine, NamesNight, guide_paths};
 ghost use Rattle.track_command.specs.Failure.{IsOfTrack, stream_failure};
 ghost use Rattle.track_command.specs.Outcome.{IsGiven, IsOutcome, IsTrackBy, IsTrackOfSource, status_of};
@@ -13,7 +14,7 @@ use crate::command::{Asked, Options, read_words};
 use crate::failure::TrackFailure;
 use crate::free::{Free, is_free};
 use crate::whole::Places;
-use hub_kinds::{Lent, copy_text};
+use hub_kinds::{Lent, NoMemory, copy_text};
 use night_command::{Failure, PutFault, setup_at, source_of};
 use night_ends::{Opened, Outbox, open_at, print_text};
 use partner_setup::Setup;
@@ -24,6 +25,7 @@ use std::fs::OpenFile;
 use std::io::{Read, Write};
 use std::rt::Files;
 use stream_read::{Held, Source, StreamFault};
+use track_equal::tracks_are_one;
 use track_night::{Track, track_plain};
 
 /// More bytes than an input may have.
@@ -221,9 +223,23 @@ where
     if let Err(fault) = held.fill(source, ALL) {
         return Err(of_stream(fault));
     }
-    let track = track_plain(alloc, held.bytes(), setup, documents)?;
+    let track = tracked(alloc, held.bytes(), setup, documents)?;
     put_table(alloc, outbox, name, track.table.as_slice())?;
     Ok(track)
+}
+
+/// The table of the night of a text by a setup, which is the definition's.
+fn tracked(
+    alloc: Global,
+    text: &[u8],
+    setup: &Setup,
+    documents: &[Document<'_>],
+) -> Result<Track, NoMemory>
+    requires { length text.now ≤ LONGEST_TEXT }
+    ensures { IfOk result (IsTableOf text.now setup.now documents.now) }
+{
+    tracks_are_one();
+    track_plain(alloc, text, setup, documents)
 }
 
 fn of_stream(fault: StreamFault) -> Failure<'static>
