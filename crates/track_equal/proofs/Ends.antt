@@ -48,12 +48,12 @@ map_map : {A B C : Type 0} (f : B → C) (g : A → B) (xs : List A) → map f (
 map_map f g [] = refl
 map_map f g (x ∷ xs) = ap (λ ys. f (g x) ∷ ys) (map_map f g xs)
 
-append_zip : {A B : Type 0} (R : A → B → Type 0) (as cs : List A) (bs ds : List B) → AllZip R as bs → AllZip R cs ds
-    → AllZip R (as ++ cs) (bs ++ ds)
-append_zip R [] cs [] ds zip more = more
-append_zip R [] cs (b ∷ bs) ds zip more = absurd zip
-append_zip R (a ∷ as) cs [] ds zip more = absurd zip
-append_zip R (a ∷ as) cs (b ∷ bs) ds zip more = (zip.0, append_zip R as cs bs ds zip.1 more)
+pub append_zip : {A B : Type 0} (R : A → B → Type 0) (ls ns : List A) (ms os : List B) → AllZip R ls ms → AllZip R ns os
+    → AllZip R (ls ++ ns) (ms ++ os)
+append_zip R [] ns [] os zip more = more
+append_zip R [] ns (b ∷ ms) os zip more = absurd zip
+append_zip R (a ∷ ls) ns [] os zip more = absurd zip
+append_zip R (a ∷ ls) ns (b ∷ ms) os zip more = (zip.0, append_zip R ls ns ms os zip.1 more)
 
 -- what is known of a night: its answers, by the layers and by the definition
 pub record IsKnownNight (setup : SetupValue) (cs : List CheckedInterchange) (xs : List Answered) : Type 0 where
@@ -192,6 +192,7 @@ module _ (setup : SetupValue) (documents : List DocumentValue) (cs : List Checke
     ends_are =
         ap (λ (t : Bool). if t then map (old.outcome_cells by before p) (old_deliveries.outcomes setup p) else old.other_end p ∷ [])
         (sym (deliverable_is p g s is))
-        ∙ ap (λ (ends : List (List (List ℕ))). if room_deliveries.is_deliverable g s.answer then ends else old.other_end p ∷ []) outcomes_are
+        ∙ ap (λ (ends : List (List (List ℕ))). if room_deliveries.is_deliverable g s.answer then ends else old.other_end p ∷ [])
+        outcomes_are
         ∙ ap (λ (end : List (List ℕ)). if room_deliveries.is_deliverable g s.answer
         then map (room.outcome_cells there documents xs placed s) (room_deliveries.outcomes there g s) else end ∷ []) other_is

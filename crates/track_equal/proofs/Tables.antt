@@ -127,22 +127,22 @@ module _ (laws : Laws) (text : List ℕ) (setup : SetupValue) where
   )
 
   module _ (documents : List DocumentValue) (all : List CheckedInterchange) (night : List Answered) (known : IsKnownNight setup all night)
-      where
-    rows_are : (n : ℕ) (before : List PlacedValue) (placed : List Placed) → AllZip Seen (filter is_open before) placed
-        → (cs : List CheckedInterchange) (xs : List Answered) → AllZip (IsHere text) cs xs
-        → old.rows_from (tracked_by setup documents all) n before (map (judged text) cs) (map notes_of cs)
-        ≡ room.rows_from there documents night n placed xs
-    rows_are n before placed zip [] [] here = refl
-    rows_are n before placed zip [] (x ∷ xs) here = absurd here
-    rows_are n before placed zip (c ∷ cs) [] here = absurd here
-    rows_are n before placed zip (c ∷ cs) (x ∷ xs) here =
-        let j : JudgedValue = judged text c in
-        ap (λ (rows : List (List (List ℕ))). rows ++ old.rows_from (tracked_by setup documents all) (n + 1) (before ++ sets_of j)
-        (map (judged text) cs) (map notes_of cs))
-        (interchange_rows_are setup documents all night known laws.writ n text before placed zip c x here.0)
-        ∙ ap (λ (rows : List (List (List ℕ))). room.interchange_rows there documents night n placed x ++ rows)
-        (rows_are (n + 1) (before ++ sets_of j) (placed ++ all_sets_in x)
-        (onto_open before (sets_of j) placed (all_sets_in x) zip (interchange_open j x here.0.told)) cs xs here.1)
+    where
+      rows_are : (n : ℕ) (before : List PlacedValue) (placed : List Placed) → AllZip Seen (filter is_open before) placed
+          → (cs : List CheckedInterchange) (xs : List Answered) → AllZip (IsHere text) cs xs
+          → old.rows_from (tracked_by setup documents all) n before (map (judged text) cs) (map notes_of cs)
+          ≡ room.rows_from there documents night n placed xs
+      rows_are n before placed zip [] [] here = refl
+      rows_are n before placed zip [] (x ∷ xs) here = absurd here
+      rows_are n before placed zip (c ∷ cs) [] here = absurd here
+      rows_are n before placed zip (c ∷ cs) (x ∷ xs) here =
+          let j : JudgedValue = judged text c in
+          ap (λ (rows : List (List (List ℕ))). rows ++ old.rows_from (tracked_by setup documents all) (n + 1) (before ++ sets_of j)
+          (map (judged text) cs) (map notes_of cs))
+          (interchange_rows_are setup documents all night known laws.writ n text before placed zip c x here.0)
+          ∙ ap (λ (rows : List (List (List ℕ))). room.interchange_rows there documents night n placed x ++ rows)
+          (rows_are (n + 1) (before ++ sets_of j) (placed ++ all_sets_in x)
+          (onto_open before (sets_of j) placed (all_sets_in x) zip (interchange_open j x here.0.told)) cs xs here.1)
 
   module _ (known : List CheckedInterchange) (outside : ℕ) (is : IsKnown text setup known outside) where
     abbrev night : List Answered
