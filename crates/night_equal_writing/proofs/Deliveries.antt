@@ -89,7 +89,8 @@ never false b true true e = refl
 never false b true false e = refl
 never false b false d e = refl
 
-pub deliverable_is : (p : PlacedValue) (g : AnsweredGroup) (s : Sent) → IsSeenIn p g s → room.is_deliverable g s.answer ≡ old.is_deliverable p
+pub deliverable_is : (p : PlacedValue) (g : AnsweredGroup) (s : Sent) → IsSeenIn p g s
+    → room.is_deliverable g s.answer ≡ old.is_deliverable p
 deliverable_is p g s is =
     ap (λ t. not (is_rejected s.answer.verdict) && room.has_no_code g.codes && not t) is.fa ∙ by (is_fa p.group) refl
   where

@@ -253,7 +253,8 @@ pub groups_are : (setup : SetupValue) (guides : List GuideTree) (place : ℕ) (p
 groups_are setup guides place p js xs zip plain =
     let ps : List PlacedValue = old.delivered_to setup place js in
     let ss : List Sent = room.delivered_to (room_setup setup guides) place xs in
-    groups_within_are IsNumbered (λ v x is. is.set) (old_layout.interchanges_of p.cap (old_numbered.numbered_from 0 ps)) (room.interchanges_of p.cap (numbered 0 ss))
+    groups_within_are IsNumbered (λ v x is. is.set) (old_layout.interchanges_of p.cap (old_numbered.numbered_from 0 ps))
+    (room.interchanges_of p.cap (numbered 0 ss))
     (interchanges_zip IsNumbered p.cap (old_numbered.numbered_from 0 ps) (numbered 0 ss)
     (numbered_zip 0 ps ss (to_is setup guides place js xs zip) plain))
 
