@@ -1,0 +1,7 @@
+use Rattle.std.specs.Prelude.{refl}
+use Rattle.std.specs.Fmt.{digits}
+use Rattle.track_examples.proofs.table_laws.elements_wrong.Goals as goal
+
+pub returns : goal.returns
+unfolding digits
+returns c = refl

@@ -1,0 +1,8 @@
+pub mod TableCutOffResentAndSentAgain
+pub mod TableElementsWrong
+pub mod TableHeldWithoutARoute
+pub mod TableNumbersBeginAgain
+pub mod TableReceivedAcknowledgments
+pub mod TableSetNumberTwice
+pub mod TableTwoPartners
+pub mod TableTwoReceiversAndOneHeld

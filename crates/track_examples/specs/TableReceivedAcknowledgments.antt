@@ -1,0 +1,12 @@
+-- The table of the sets of a night: received acknowledgments.
+use Rattle.std.specs.Prelude.{◌≡◌, [], ◌∷◌, ◌++◌, codes}
+use Rattle.set_documents.specs.Given.{usual}
+use Rattle.track_definition.specs.Rows.{table_of}
+use Rattle.night_examples.specs.NightReceivedAcknowledgments.{text, setup}
+
+abbrev pub Computes : Type 0
+Computes = table_of text setup usual ≡
+    (codes "interchange,offset,sender,isa13,fault,ta1,gs01,gs06,gs02,gs03,group_verdict,group_codes,st01,st02,document"
+    ++ codes ",verdict,codes,faults,outcome,byte,segment,receiver,receiver_isa13,receiver_gs06,receiver_st02" ++ (13 ∷ [])
+    ++ codes "\n1,0,ACME,000000007,,,FA,5,ACME,HUB,,,999,0001,,,,,listed,,,,,," ++ (13 ∷ [])
+    ++ codes "\n1,0,ACME,000000007,,,IN,6,ACME,BOLT,R,1,810,0001,,R,1,0,rejected,,,,,," ++ (13 ∷ []) ++ codes "\n")
