@@ -5,3 +5,4 @@ pub mod Ends
 pub mod Heads
 pub mod Rows
 pub mod Tables
+pub mod ForAbove
