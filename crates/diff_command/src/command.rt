@@ -48,7 +48,7 @@ fn command<'a>(alloc: Global) -> Result<Command<'a>, AllocError>
     ensures { IfOk result (λ command. app_of command ≡ diff_app) }
 {
     let command = Command::new(alloc, "nighthub_diff")
-        .about("Compares two guides: what the new one may refuse that the old one takes")
+        .about("Compares two guides, and says what the new one may refuse that the old one takes")
         .version(RELEASE)
         .after_help(STATUSES)
         .no_binary_name(true);
