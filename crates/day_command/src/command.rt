@@ -17,11 +17,11 @@ use track_tables::Form;
 const STATUSES: &str = "Commands:
   check NIGHTS            says whether each night goes on from those before it
   find NIGHTS TEXT        prints a line for each row of the nights' track.csv
-                          whose document has TEXT
+                          whose document number contains TEXT
   export [--sheet] NIGHTS
-                          prints one CSV of the rows of the nights' track.csv,
-                          with the night in a first column; with --sheet none
-                          of its fields is a formula
+                          prints the rows of the nights' track.csv as one CSV,
+                          the night in the first column; with --sheet no field
+                          is a formula
 
 Status:
   0  check: each night goes on from those before it; find: a row was found, and
@@ -108,7 +108,7 @@ fn text<'a>(alloc: Global) -> Arg<'a>
 {
     Arg::new(alloc, "text")
         .value_name("TEXT")
-        .help("find: what the number of a document has")
+        .help("find: a part of a document number")
         .required(false)
         .action(ArgAction::Set)
 }

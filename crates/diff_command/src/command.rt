@@ -48,14 +48,12 @@ fn command<'a>(alloc: Global) -> Result<Command<'a>, AllocError>
     ensures { IfOk result (λ command. app_of command ≡ diff_app) }
 {
     let command = Command::new(alloc, "nighthub_diff")
-        .about(
-            "Says what a changed guide takes otherwise, and whether it takes all that the old one takes",
-        )
+        .about("Compares two guides, and says what the new one may refuse that the old one takes")
         .version(RELEASE)
         .after_help(STATUSES)
         .no_binary_name(true);
     let command = with_argument(command, guide(alloc, "old", "OLD", "The guide as it was"))?;
-    with_argument(command, guide(alloc, "new", "NEW", "The guide as it is"))
+    with_argument(command, guide(alloc, "new", "NEW", "The changed guide"))
 }
 
 /// A guide file that is given by its place, and is shown as `shown`.
