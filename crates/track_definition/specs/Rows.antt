@@ -1,5 +1,5 @@
--- own: the table that says where each set of a night is (RFC 4180): a row for each refused interchange, and for each set of the others a row
--- for each receiver of its route, or one if nobody gets it.
+-- own: the table that says where each set of a night is (RFC 4180): a row for each refused interchange, and for each set of the others a
+-- row for each receiver of its route, or one if nobody gets it.
 use Rattle.std.specs.Prelude.{ℕ, ◌+◌, List, [], ◌∷◌, ◌++◌, if◌then◌else◌, codes, filter, flat_map, is_some, map, slice_get}
 use Rattle.std.specs.Option.{option_map_or}
 use Rattle.std.specs.List.{list_any}
