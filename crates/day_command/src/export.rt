@@ -37,7 +37,7 @@ fn new_export(alloc: Global, form: Form) -> Result<Export, NoMemory>
     })
 }
 
-/// Exports one more table.
+/// Adds `table` to the export `all`, as `form` says.
 fn add_table(
     alloc: Global,
     all: &mut Export,
@@ -55,7 +55,7 @@ fn add_table(
     Ok(())
 }
 
-/// Exports the tables of these nights of the folder at the path `nights`, one after another.
+/// Exports the table of each night of `order`, as `form` says. The nights are in the folder at the path `nights`.
 fn export_tables<R: Files + AllocGlobal>(
     rt: &R,
     nights: &[u8],

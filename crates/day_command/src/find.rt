@@ -14,7 +14,7 @@ use night_marks::{NightMark, in_order};
 use night_search::Search;
 use std::rt::Files;
 
-/// Searches the tables of these nights of the folder at the path `nights` for `text`, one after another.
+/// Searches the table of each night of `order` for `text`. The nights are in the folder at the path `nights`.
 fn search_nights<R: Files + AllocGlobal>(
     rt: &R,
     nights: &[u8],
@@ -32,7 +32,7 @@ fn search_nights<R: Files + AllocGlobal>(
     Ok(search)
 }
 
-/// The status that says whether all is as it is to be.
+/// The status: 0 if `is_complete`, otherwise 1.
 pub(crate) fn status_of(is_complete: bool) -> u8
     ensures zero { (result ≡ 0) ↔ (is_complete ≡ true) }
     ensures values { (result ≡ 0) ⊎ (result ≡ 1) }
@@ -40,7 +40,7 @@ pub(crate) fn status_of(is_complete: bool) -> u8
     if is_complete { 0 } else { 1 }
 }
 
-/// What is printed of the documents that have `text`, in the nights of the folder at the path `nights`.
+/// What is printed of a search for `text` in the nights of the folder at the path `nights`, and the status.
 pub(crate) fn find_nights<R: Files + AllocGlobal + Clone + Drop>(
     rt: &R,
     nights: &str,

@@ -1,9 +1,9 @@
 //! `nighthub_day check NIGHTS` says whether each night of a folder continues from those before it: on standard output a line for each set
-//! that is delivered twice, each address whose numbers don't continue, each file that isn't what its night gave, and a last line of totals.
-//! `nighthub_day find NIGHTS TEXT` prints a line for each row of the nights' tables whose document has TEXT, and
-//! `nighthub_day export [--sheet] NIGHTS` prints these tables as one. It only reads. Status 0 says that each night continues, that a row was
-//! found, or that each table was read, and 1 that it isn't so; a run that fails prints one line on standard error and ends with 2, 4, 5 or 6
-//! (docs/ERRORS.md).
+//! that is delivered twice, each address whose numbers don't continue, each file that isn't what its night gave, and a last line of
+//! totals. `nighthub_day find NIGHTS TEXT` prints a line for each row of the nights' tables whose document has TEXT, and `nighthub_day
+//! export [--sheet] NIGHTS` prints these tables as one. It only reads. Status 0 says of `check` that each night continues, of `find` that
+//! a row was found and each table was read, and of `export` that each table was read; otherwise it is 1. A run that fails prints one line
+//! on standard error and ends with 2, 4, 5 or 6 (docs/ERRORS.md).
 //!
 //! Proved: the program is safe on every input, and ends. If memory is refused for its arguments, it reports that. All else of a run is
 //! `day_command::day_main`, called on the arguments without the program's name, and what is proved of it is said there.
