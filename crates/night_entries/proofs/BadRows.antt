@@ -1,6 +1,8 @@
 -- A row that isn't one of a night.
 use Rattle.std.proofs.Common.{◌≡◌, ℕ, ◌<◌, ◌==◌, ◌&&◌, ◌||◌, Bool, true, false, zero, suc, not, List, [], ◌∷◌, Option, length}
-use Rattle.std.proofs.Common.{map, get_or, sym, ap, subst, refl, ◌∙◌, arith}
+use Rattle.std.proofs.Common.{map, get_or, sym, ap, subst, refl, ◌∙◌, arith, take, ◌+◌, ◌++◌}
+use Rattle.std.proofs.lemmas.List.{map-append, take_more}
+use Rattle.std.proofs.lemmas.List.Folds.{list_all-append}
 use Rattle.std.specs.Prelude.{is_some}
 use Rattle.std.specs.List.{list_all}
 use Rattle.csv.specs.Reading.{AreRecords, default_config, strip_bom}
@@ -13,7 +15,8 @@ use Rattle.partner_setup.specs.declared.rows.SetupRows.{SetupRows}
 use Rattle.night_entries.specs.Entry.{AreCounters, IsSetup}
 use Rattle.night_entries.specs.Keys.{cell, is_delivered, receiver_named}
 use Rattle.night_entries.specs.ReadFault.{IsTrackFault}
-use Rattle.night_entries.specs.Refused.{IsEntryFault, IsRefused, has_byte, is_offset, is_row}
+use Rattle.night_entries.specs.Good.{has_byte, is_offset, is_row}
+use Rattle.night_entries.specs.Refused.{IsEntryFault, IsRefused}
 use Rattle.night_entries.specs.Rows.{address_rows}
 use Rattle.night_entries.specs.declared.entry.Papers.{Papers}
 use Rattle.night_entries.specs.declared.fault.EntryFault.{EntryFault}
@@ -37,6 +40,17 @@ pub row_fails : (p : List (List ℕ) → Bool) (rows : List ByteRecord) (i : ℕ
 row_fails p rows i row low is fault.Memory bad = tt
 row_fails p rows i row low is (fault.Unreadable other) bad = (bad.0, all_fails p rows i row low is bad.1)
 
+-- rows that were looked at, and one more
+pub rows_good : (p : List (List ℕ) → Bool) (rows : List ByteRecord) (i : ℕ) (row : ByteRecord) → i < length rows → row ≡ get_or rows i row
+    → list_all p (map fields_of (take i rows)) ≡ true → p (fields_of row) ≡ true
+    → list_all p (map fields_of (take (i + 1) rows)) ≡ true
+rows_good p rows i row low is so_far good =
+    ap (λ (l : List ByteRecord). list_all p (map fields_of l))
+    (take_more rows i row low ∙ ap (λ (r : ByteRecord). take i rows ++ r ∷ []) (sym is))
+    ∙ ap (list_all p) (map-append fields_of (take i rows) (row ∷ []))
+    ∙ list_all-append p (map fields_of (take i rows)) (fields_of row ∷ [])
+    ∙ ap (λ (b : Bool). b && (p (fields_of row) && true)) so_far ∙ ap (λ (b : Bool). b && true) good
+
 -- receivers that are found alike
 row_same : (input : List ℕ) (f g : List ℕ → Option AddressNumbers) → ((q : List ℕ) → f q ≡ g q) → (row : List (List ℕ))
     → is_row input f row ≡ is_row input g row
@@ -49,6 +63,10 @@ all_same : (p q : List (List ℕ) → Bool) → ((row : List (List ℕ)) → p r
 all_same p q same [] = refl
 all_same p q same (row ∷ rows) =
     ap (λ (b : Bool). b && list_all p rows) (same row) ∙ ap (λ (b : Bool). q row && b) (all_same p q same rows)
+
+pub all_good : (input : List ℕ) (f g : List ℕ → Option AddressNumbers) (table : List (List (List ℕ))) → ((q : List ℕ) → f q ≡ g q)
+    → list_all (is_row input f) table ≡ true → list_all (is_row input g) table ≡ true
+all_good input f g table same good = sym (all_same (is_row input f) (is_row input g) (row_same input f g same) table) ∙ good
 
 pub rows_same : (input : List ℕ) (f g : List ℕ → Option AddressNumbers) (table : List (List (List ℕ))) → ((q : List ℕ) → f q ≡ g q)
     → (e : EntryFault) → IsTrackFault (list_all (is_row input f) table) e → IsTrackFault (list_all (is_row input g) table) e

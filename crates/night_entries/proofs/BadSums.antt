@@ -6,7 +6,8 @@ use Rattle.std.specs.List.{flat_map, position}
 use Rattle.std.proofs.lemmas.List.{take-append-drop}
 use Rattle.night_entries.specs.Files.{sum_line}
 use Rattle.night_entries.specs.ReadFault.{IsSumFault}
-use Rattle.night_entries.specs.Refused.{HasBadSum, is_sum_line}
+use Rattle.night_entries.specs.Good.{is_sum_line}
+use Rattle.night_entries.specs.Refused.{HasBadSum}
 use Rattle.night_entries.specs.declared.fault.EntryFault.{EntryFault}
 use Rattle.night_entries.specs.declared.fault.EntryFault.TheVariants as fault
 use Rattle.night_entries.specs.declared.files.NamedSum.{NamedSum}

@@ -10,7 +10,7 @@ use Rattle.std.proofs.Math.Seq.{take-add}
 use Rattle.std.proofs.lemmas.List.{take-append-drop, take_all, take_more}
 use Rattle.std.proofs.lemmas.Bool.{eqb-true, ltb-false}
 use Rattle.std.proofs.lemmas.List.Quantifiers.{position-Some}
-use Rattle.night_entries.specs.Refused.{has_byte}
+use Rattle.night_entries.specs.Good.{has_byte}
 
 pub line_is : (line sum rest spaces name : List ℕ) → sum ≡ take 64 line → rest ≡ drop 64 line → spaces ≡ take 2 rest → name ≡ drop 2 rest
     → bytes_eq spaces (codes "  ") ≡ true → sum ++ (codes "  " ++ (name ++ 10 ∷ [])) ≡ line ++ 10 ∷ []

@@ -1,5 +1,6 @@
 pub mod Entry
 pub mod Files
+pub mod Good
 pub mod Keys
 pub mod Named
 pub mod ReadFault

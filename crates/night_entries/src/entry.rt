@@ -1,6 +1,7 @@
 ghost use Rattle.std.specs.Prelude.{◌≡◌, IfErr, IfOk};
 ghost use Rattle.night_entries.specs.Entry.{AreCounters, IsEntry, IsSetup};
-ghost use Rattle.night_entries.specs.Refused.{IsEntryFault, is_moment};
+ghost use Rattle.night_entries.specs.Good.{is_moment};
+ghost use Rattle.night_entries.specs.Refused.{IsEntryFault};
 ghost use Rattle.night_entries.specs.ReadFault.{IsReadFault, read_fault};
 ghost use Rattle.night_entries.specs.declared.fault.Paper.TheVariants as paper;
 ghost use Rattle.partner_setup.specs.CountersFile.{counters_of_table};

@@ -1,4 +1,4 @@
-ghost use Rattle.std.specs.Prelude.{◌≡◌, ◌++◌, ◌∷◌, [], ◌&&◌, not, ℕ, List, IfErr, IfOk, IfSome, OnOk, map, option_map, slice_index_or};
+ghost use Rattle.std.specs.Prelude.{◌≡◌, ◌++◌, ◌∷◌, [], ◌&&◌, not, true, ℕ, List, IfErr, IfOk, IfSome, OnOk, map, option_map, slice_index_or};
 ghost use Rattle.std.specs.List.{filter_map, list_all};
 ghost use Rattle.std.specs.Option.{option_to_list};
 ghost use Rattle.csv.specs.Records.{fields_of};
@@ -7,7 +7,7 @@ ghost use Rattle.hub_kinds.specs.Numbers.{value_of};
 ghost use Rattle.night_entries.specs.Keys as keys;
 ghost use Rattle.night_entries.specs.Named.{found_in};
 ghost use Rattle.night_entries.specs.ReadFault.{IsTrackFault};
-ghost use Rattle.night_entries.specs.Refused.{has_byte, has_key, is_offset, is_row};
+ghost use Rattle.night_entries.specs.Good.{has_byte, has_key, is_offset, is_row};
 
 use crate::fault::{EntryFault, Paper};
 use crate::named::{by_name, find};
@@ -36,6 +36,7 @@ fn cell(row: &ByteRecord, n: usize) -> &[u8]
 /// The header of the interchange that begins at the offset which a row writes.
 fn header_of<'a>(input: &'a [u8], offset: &[u8]) -> Result<Header<'a>, EntryFault>
     ensures header { IfOk result (λ header. header ≡ header_at input.entry.now (value_of offset.now)) }
+    ensures good { IfOk result (λ _. is_offset input.entry.now offset.now ≡ true) }
     ensures refused { IfErr result (IsTrackFault (is_offset input.entry.now offset.now)) }
 {
     let Some(at) = read_number(offset, 10) else {
@@ -62,6 +63,7 @@ fn append_interchange(key: &mut Vec<u8>, header: &Header<'_>) -> Result<(), NoMe
 /// Appends a text, and a byte that it must not have.
 fn append_ended(key: &mut Vec<u8>, text: &[u8]) -> Result<(), EntryFault>
     ensures key { OnOk result (key.new.items ≡ key.old.items ++ (text.now ++ 0 ∷ [])) }
+    ensures good { OnOk result (not (has_byte 0 text.now) ≡ true) }
     ensures refused { IfErr result (IsTrackFault (not (has_byte 0 text.now))) }
 {
     if text.contains(&0) {
@@ -82,6 +84,7 @@ fn set_key(
 ) -> Result<Text, EntryFault>
     ensures key { IfOk result (λ key. key ≡ keys.interchange_key header.now
         ++ (group.now ++ (0 ∷ []) ++ (set.now ++ (0 ∷ []) ++ receiver.now.address))) }
+    ensures good { IfOk result (λ _. (not (has_byte 0 group.now) && not (has_byte 0 set.now)) ≡ true) }
     ensures refused { IfErr result (IsTrackFault (not (has_byte 0 group.now) && not (has_byte 0 set.now))) }
 {
     let mut key = Vec::new(alloc);
@@ -102,6 +105,7 @@ fn delivered_key<'a>(
     ensures key { IfOk result (λ key. let cells = fields_of row.now in
         key ≡ keys.set_key (header_at input.now (value_of (keys.cell cells 1))) (keys.cell cells 7) (keys.cell cells 13)
         (found_in receivers.now (keys.cell cells 21))) }
+    ensures good { IfOk result (λ _. has_key input.now (found_in receivers.now) (fields_of row.now) ≡ true) }
     ensures refused { IfErr result (IsTrackFault (has_key input.now (found_in receivers.now) (fields_of row.now))) }
 {
     let Some(receiver) = find(receivers, cell(row, 21)) else {
@@ -119,6 +123,7 @@ fn row_key<'a>(
     row: &ByteRecord,
 ) -> Result<Option<Text>, EntryFault>
     ensures key { IfOk result (λ key. key ≡ keys.row_key input.now (found_in receivers.now) (fields_of row.now)) }
+    ensures good { IfOk result (λ _. is_row input.now (found_in receivers.now) (fields_of row.now) ≡ true) }
     ensures refused { IfErr result (IsTrackFault (is_row input.now (found_in receivers.now) (fields_of row.now))) }
 {
     if row.len() != FIELDS {
@@ -149,6 +154,7 @@ fn keys_by<'a>(
 ) -> Result<Vec<Text>, EntryFault>
     ensures keys { IfOk result (λ found. found.items
         ≡ filter_map (keys.row_key input.now (found_in receivers.now)) (map fields_of table.now)) }
+    ensures good { IfOk result (λ _. list_all (is_row input.now (found_in receivers.now)) (map fields_of table.now) ≡ true) }
     ensures refused { IfErr result (IsTrackFault (list_all (is_row input.now (found_in receivers.now)) (map fields_of table.now))) }
 {
     let mut found = Vec::new(alloc);
@@ -166,6 +172,7 @@ pub(crate) fn delivered_keys(
     table: &[ByteRecord],
 ) -> Result<Vec<Text>, EntryFault>
     ensures keys { IfOk result (λ found. found.items ≡ keys.delivered_keys input.now receivers.now (map fields_of table.now)) }
+    ensures good { IfOk result (λ _. list_all (is_row input.now (keys.receiver_named receivers.now)) (map fields_of table.now) ≡ true) }
     ensures refused { IfErr result
         (IsTrackFault (list_all (is_row input.now (keys.receiver_named receivers.now)) (map fields_of table.now))) }
 {

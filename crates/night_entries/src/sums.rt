@@ -1,10 +1,11 @@
-ghost use Rattle.std.specs.Prelude.{◌≡◌, ◌==◌, ◌++◌, ◌∷◌, [], false, IfErr, IfOk};
-ghost use Rattle.std.specs.List.{flat_map, position};
+ghost use Rattle.std.specs.Prelude.{◌≡◌, ◌==◌, ◌++◌, ◌∷◌, [], false, length, IfErr, IfOk};
+ghost use Rattle.std.specs.List.{All, flat_map, position};
 ghost use Rattle.hex.specs.Hex.{encode_lower};
 ghost use Rattle.sha2.specs.Sha256.{sha256};
 ghost use Rattle.night_entries.specs.Files.{sum_line};
 ghost use Rattle.night_entries.specs.ReadFault.{IsSumFault};
-ghost use Rattle.night_entries.specs.Refused.{HasBadSum, is_sum_line};
+ghost use Rattle.night_entries.specs.Good.{is_sum_line};
+ghost use Rattle.night_entries.specs.Refused.{HasBadSum};
 
 use crate::fault::{EntryFault, Paper};
 use crate::files::NamedSum;
@@ -40,6 +41,7 @@ fn line_end(text: &[u8]) -> Option<usize>
 #[tactic(auto, using(crate::proofs::Summing::line_is))]
 fn sum_in(alloc: Global, line: &[u8]) -> Result<NamedSum, EntryFault>
     ensures line { IfOk result (λ sum. sum_line sum ≡ line.now ++ 10 ∷ []) }
+    ensures sum { IfOk result (λ sum. length sum.sum ≡ 64) }
     ensures refused { IfErr result (IsSumFault (is_sum_line line.now ≡ false)) }
 {
     if line.len() < DIGITS + SPACES {
@@ -59,6 +61,7 @@ fn sum_in(alloc: Global, line: &[u8]) -> Result<NamedSum, EntryFault>
 /// Reads sums: lines of a sum, two spaces and the name of a file, as sha256sum prints them.
 pub fn read_sums(alloc: Global, text: &[u8]) -> Result<Vec<NamedSum>, EntryFault>
     ensures lines { IfOk result (λ sums. flat_map sum_line sums.items ≡ text.now) }
+    ensures sums { IfOk result (λ sums. All (λ line. length line.sum ≡ 64) sums.items) }
     ensures refused { IfErr result (IsSumFault (HasBadSum text.now)) }
 {
     let mut sums = Vec::new(alloc);

@@ -4,7 +4,8 @@ use Rattle.csv.specs.Records.{fields_of}
 use Rattle.hub_ledger.specs.declared.entry.AddressNumbers.{AddressNumbers}
 use Rattle.night_entries.specs.Keys.{receiver_named}
 use Rattle.night_entries.specs.ReadFault.{IsTrackFault}
-use Rattle.night_entries.specs.Refused.{IsEntryFault, is_row}
+use Rattle.night_entries.specs.Good.{is_row}
+use Rattle.night_entries.specs.Refused.{IsEntryFault}
 use Rattle.night_entries.specs.Rows.{address_rows}
 use Rattle.night_entries.proofs.BadRows.{track_fails}
 use Rattle.night_entries.proofs.Reading.{same_fault}

@@ -2,12 +2,14 @@ use Rattle.std.proofs.Common.{◌≡◌, ◌<◌, ◌+◌, ◌-◌, ◌++◌, �
 use Rattle.std.proofs.Common.{◌==◌, None, Some, false, length-drop, refl, subst}
 use Rattle.std.specs.Prelude.{slice_index}
 use Rattle.std.proofs.lemmas.List.{take_all}
+use Rattle.std.proofs.lemmas.List.Elements.{All-push, All-same}
 use Rattle.std.specs.List.{flat_map, position}
 use Rattle.std.proofs.lemmas.Grind.{flat_map-append}
 use Rattle.night_entries.specs.Files.{sum_line}
 use Rattle.night_entries.specs.declared.files.NamedSum.{NamedSum}
 use Rattle.night_entries.specs.ReadFault.{IsSumFault}
-use Rattle.night_entries.specs.Refused.{HasBadSum, is_sum_line}
+use Rattle.night_entries.specs.Good.{is_sum_line}
+use Rattle.night_entries.specs.Refused.{HasBadSum}
 use Rattle.night_entries.proofs.Reading.{same_fault}
 use Rattle.night_entries.proofs.BadSums.{open_sum, sum_fails}
 use Rattle.night_entries.proofs.Summing.{line_found, line_more}
@@ -32,6 +34,10 @@ loop-at-preserved c =
           ∙ ap (λ (l : List ℕ). l ++ (sum_line c.in_ok-sum_in.field-0 ++ [])) c.loop-at.invariant.so_far
           ∙ ap (λ (l : List ℕ). take at text ++ l) (append-nil (sum_line c.in_ok-sum_in.field-0) ∙ c.in_ok-sum_in.ensures.line)
           ∙ sym (line_more text at end (take (at + end - at) (drop at text)) (ap (λ (n : ℕ). take n (drop at text)) more) low feed);
+      sums = All-same (λ (line : NamedSum). length line.sum ≡ 64) c.push.new.self.items (sums ++ c.in_ok-sum_in.field-0 ∷ [])
+          c.in_ok-push.ensures.items
+          (All-push (λ (line : NamedSum). length line.sum ≡ 64) sums c.in_ok-sum_in.field-0 c.loop-at.invariant.sums
+          c.in_ok-sum_in.ensures.sum);
     }
 
 pub returns-in_default-clause-refused : goal.returns-in_default-clause-refused
