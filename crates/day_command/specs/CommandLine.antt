@@ -30,7 +30,8 @@ program =
     record bare { top = record bare.top { has_version = true; no_binary_name = true } }
 
 abbrev pub day_app : App
-day_app = with_rule (with_rule (with_rule (with_rule program (word_rule (codes "command"))) (word_rule (codes "nights"))) text_rule) sheet_rule
+day_app =
+    with_rule (with_rule (with_rule (with_rule program (word_rule (codes "command"))) (word_rule (codes "nights"))) text_rule) sheet_rule
 
 -- the value that the arguments give a name
 abbrev pub value_of : List Text → Text → Option Text

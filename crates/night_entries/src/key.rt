@@ -172,7 +172,8 @@ pub(crate) fn delivered_keys(
     table: &[ByteRecord],
 ) -> Result<Vec<Text>, EntryFault>
     ensures keys { IfOk result (λ found. found.items ≡ keys.delivered_keys input.now receivers.now (map fields_of table.now)) }
-    ensures good { IfOk result (λ _. list_all (is_row input.now (keys.receiver_named receivers.now)) (map fields_of table.now) ≡ true) }
+    ensures good { IfOk result
+        (λ _. list_all (is_row input.now (keys.receiver_named receivers.now)) (map fields_of table.now) ≡ true) }
     ensures refused { IfErr result
         (IsTrackFault (list_all (is_row input.now (keys.receiver_named receivers.now)) (map fields_of table.now))) }
 {
