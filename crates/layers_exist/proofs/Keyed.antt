@@ -1,5 +1,5 @@
 -- Two faults of a set by an accepted guide with the same key are one.
-use Rattle.std.proofs.Common.{◌≡◌, List, Option, refl, ap}
+use Rattle.std.proofs.Common.{◌≡◌, ℕ, List, Option, refl, ap}
 use Rattle.hub_kinds.specs.declared.fault.Fault.{Fault}
 use Rattle.hub_kinds.specs.Words.{key_of}
 use Rattle.guide_tree.specs.declared.rows.GuideRows.{GuideRows}

@@ -18,7 +18,7 @@ use Rattle.night_equal_text.specs.Spanned.{IsSetOf}
 use Rattle.night_equal_text.proofs.ForAbove.{inner_is, trailer_is}
 use Rattle.track_definition.specs.Cells as room
 
-abbrev elements_in : List Segment → List Elements
+abbrev pub elements_in : List Segment → List Elements
 elements_in ss = map (λ (s : Segment). s.elements) ss
 
 abbrev one_or_none : Option Segment → List Segment

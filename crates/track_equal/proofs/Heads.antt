@@ -122,7 +122,7 @@ module _ (writes : AnswersAreOne) (writ : CodesAreOne) where
   same_answer true false is a b c d e f verdict codes faults = cc
   same_answer false true is a b c d e f verdict codes faults = cc
 
-  abbrev notes_of : Answer → SetNotes
+  abbrev pub notes_of : Answer → SetNotes
   notes_of a = record { codes = a.codes; faults = length a.faults }
 
   pub set_is : (documents : List DocumentValue) (x : Answered) (p : PlacedValue) (g : AnsweredGroup) (a : Answer) (notes : SetNotes)

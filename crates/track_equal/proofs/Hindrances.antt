@@ -88,7 +88,7 @@ header_found q (a ∷ b ∷ []) = refl
 header_found q (a ∷ b ∷ c ∷ st) = refl
 
 -- where a byte is found, the number of its segment is one more than of those before it
-abbrev seen : Option layer.Hindrance → Option room.Hindrance
+abbrev pub seen : Option layer.Hindrance → Option room.Hindrance
 seen None = None
 seen (Some h) = Some (h.byte, h.before + 1)
 

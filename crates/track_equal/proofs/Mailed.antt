@@ -19,6 +19,7 @@ use Rattle.checked_text.specs.Acknowledgments.{acknowledgment_group_count, has_r
 use Rattle.checked_text.specs.CheckedText.{CheckedInterchange, acknowledged_to, acknowledgment_of, groups_to, is_partner, recipient_by}
 use Rattle.checked_text.specs.CheckedText.{recipient_of}
 use Rattle.track_answers.specs.Noted.{notes_of}
+use Rattle.track_notes.specs.declared.notes.Notes.{Notes}
 use Rattle.track_rows.specs.Mailed as old
 use Rattle.track_rows.specs.Rows as old_rows
 use Rattle.night_definition.specs.Elements.{numbered}
@@ -42,7 +43,9 @@ to_is place (Some recipient) = refl
 acknowledged_count : (place : ℕ) (cs : List CheckedInterchange)
     → old.acknowledgments_to place (map notes_of cs) ≡ length (acknowledged_to place cs)
 acknowledged_count place [] = refl
-acknowledged_count place (c ∷ cs) = by (old.is_to place (recipient_of c)) (is_partner place (recipient_of c)) (to_is place (recipient_of c))
+acknowledged_count place (c ∷ cs) =
+    sum_by-cons (λ (x : Notes). if old.is_to place x.recipient then 1 else 0) (notes_of c) (map notes_of cs)
+    ∙ by (old.is_to place (recipient_of c)) (is_partner place (recipient_of c)) (to_is place (recipient_of c))
     (acknowledged_count place cs)
   where
     rest : ℕ
@@ -50,15 +53,17 @@ acknowledged_count place (c ∷ cs) = by (old.is_to place (recipient_of c)) (is_
 
     by : (t u : Bool) → t ≡ u → rest ≡ length (acknowledged_to place cs)
         → (if t then 1 else 0) + rest ≡ length (if u then c ∷ acknowledged_to place cs else acknowledged_to place cs)
-    by true true e more = ap suc more
-    by false false e more = more
+    by true true e more = omega (arith, more)
+    by false false e more = omega (arith, more)
     by true false e more = cc
     by false true e more = cc
 
 groups_count : (place : ℕ) (cs : List CheckedInterchange)
     → old.groups_to place (map notes_of cs) ≡ groups_to (acknowledged_to place cs)
 groups_count place [] = refl
-groups_count place (c ∷ cs) = by (old.is_to place (recipient_of c)) (is_partner place (recipient_of c)) (to_is place (recipient_of c))
+groups_count place (c ∷ cs) =
+    sum_by-cons (λ (x : Notes). if old.is_to place x.recipient && x.has_reports then 1 else 0) (notes_of c) (map notes_of cs)
+    ∙ by (old.is_to place (recipient_of c)) (is_partner place (recipient_of c)) (to_is place (recipient_of c))
     (has_reports (acknowledgment_of c)) refl (groups_count place cs)
   where
     rest : ℕ
@@ -67,9 +72,11 @@ groups_count place (c ∷ cs) = by (old.is_to place (recipient_of c)) (is_partne
     by : (t u : Bool) → t ≡ u → (r : Bool) → has_reports (acknowledgment_of c) ≡ r → rest ≡ groups_to (acknowledged_to place cs)
         → (if t && r then 1 else 0) + rest
         ≡ groups_to (if u then c ∷ acknowledged_to place cs else acknowledged_to place cs)
-    by true true e true r more = ap suc more ∙ sym (ap (λ b. (if b then 1 else 0) + groups_to (acknowledged_to place cs)) r)
-    by true true e false r more = more ∙ sym (ap (λ b. (if b then 1 else 0) + groups_to (acknowledged_to place cs)) r)
-    by false false e r is more = more
+    by true true e true r more =
+        ap (λ n. 1 + n) more ∙ sym (ap (λ b. (if b then 1 else 0) + groups_to (acknowledged_to place cs)) r)
+    by true true e false r more =
+        ap (λ n. 0 + n) more ∙ sym (ap (λ b. (if b then 1 else 0) + groups_to (acknowledged_to place cs)) r)
+    by false false e r is more = omega (arith, more)
     by true false e r is more = cc
     by false true e r is more = cc
 
