@@ -29,9 +29,12 @@ program =
     let bare = new_app (codes "nighthub_day") in
     record bare { top = record bare.top { has_version = true; no_binary_name = true } }
 
+-- with the words that each command takes
+abbrev pub words_app : App
+words_app = with_rule (with_rule program (word_rule (codes "command"))) (word_rule (codes "nights"))
+
 abbrev pub day_app : App
-day_app =
-    with_rule (with_rule (with_rule (with_rule program (word_rule (codes "command"))) (word_rule (codes "nights"))) text_rule) sheet_rule
+day_app = with_rule (with_rule words_app text_rule) sheet_rule
 
 -- the value that the arguments give a name
 abbrev pub value_of : List Text → Text → Option Text

@@ -66,6 +66,15 @@ pub fn read_words<'a, S: AsStr>(alloc: Global, words: &'a [S]) -> Result<Asked<'
 fn command<'a>(alloc: Global) -> Result<Command<'a>, AllocError>
     ensures { IfOk result (λ command. app_of command ≡ line.day_app) }
 {
+    let command = words_command(alloc)?;
+    let command = with_argument(command, text(alloc))?;
+    with_argument(command, sheet(alloc))
+}
+
+/// The program with the words that each command takes.
+fn words_command<'a>(alloc: Global) -> Result<Command<'a>, AllocError>
+    ensures { IfOk result (λ command. app_of command ≡ line.words_app) }
+{
     let command = Command::new(alloc, "nighthub_day")
         .about("Checks, searches and exports the nights of a folder")
         .version(RELEASE)
@@ -84,9 +93,7 @@ fn command<'a>(alloc: Global) -> Result<Command<'a>, AllocError>
         "NIGHTS",
         "The folder of all nights, as run_night makes it",
     );
-    let command = with_argument(command, nights)?;
-    let command = with_argument(command, text(alloc))?;
-    with_argument(command, sheet(alloc))
+    with_argument(command, nights)
 }
 
 /// A word by its place.
