@@ -1,5 +1,9 @@
 pub mod Alone
+pub mod Completing
+pub mod Header
 pub mod Joining
+pub mod Mixed
 pub mod Onward
 pub mod Reaching
+pub mod Sample
 pub mod Walks
