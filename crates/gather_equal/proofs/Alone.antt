@@ -8,7 +8,6 @@ use Rattle.env_index.specs.Words.{ChainFrom, Extent}
 use Rattle.env_index.proofs.ForAbove.{chain_from_is_one}
 use Rattle.batch_law.specs.Batches.{ChainUpTo}
 use Rattle.batch_law.proofs.ForAbove.{chain_ends, end_within, head_more}
-use Rattle.night_definition.specs.Header.{is_head}
 use Rattle.night_definition.specs.Interchanges.{Interchange, Text, text_of}
 use Rattle.night_equal.proofs.ForAbove.{heads}
 use Rattle.gather_law.specs.Gathered.{GoesUpTo, HoldsInterchanges, KeepsToItself, MayFollow}

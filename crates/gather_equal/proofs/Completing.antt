@@ -7,7 +7,7 @@ use Rattle.std.specs.Cmp.Lexicographic.{bytes_decides}
 use Rattle.std.proofs.lemmas.Bool.{and_from, and_parts, both_ways, cases_Bool, cases_lt, le-leb, leb-true, ltb-true, ne_eqb, or_cases}
 use Rattle.std.proofs.lemmas.Bool.{true_from_ne_false}
 use Rattle.std.proofs.lemmas.List.{append_assoc, drop-append-le, length-append, length-drop, take-append-drop, take_all, take-take}
-use Rattle.x12_bytes.specs.Header.{element_separator_of, header_at}
+use Rattle.x12_bytes.specs.Header.{header_at}
 use Rattle.x12_bytes.specs.HeaderTest.{is_head, is_header}
 use Rattle.batch_law.specs.Begun.{are_fields_begun, are_delims_begun, is_begun, may_begin}
 use Rattle.batch_law.proofs.ForAbove.{none_behind}

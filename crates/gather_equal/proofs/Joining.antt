@@ -1,6 +1,6 @@
 -- Where no interchange is open at the end of a text, it is read alone, and so is what comes after it.
-use Rattle.std.proofs.Common.{◌≡◌, ℕ, ◌+◌, ◌<◌, ◌≤◌, List, [], ◌∷◌, ◌++◌, Bool, true, false, length, take, drop, refl, sym, ap, subst, ◌∙◌}
-use Rattle.std.proofs.Common.{◌⊎◌, arith, inl, inr}
+use Rattle.std.proofs.Common.{◌≡◌, ℕ, ◌+◌, ◌<◌, ◌≤◌, List, [], ◌∷◌, ◌++◌, Bool, true, false, length, take, refl, sym, ap, subst, ◌∙◌}
+use Rattle.std.proofs.Common.{arith, inl, inr}
 use Rattle.std.specs.Prelude.{if◌then◌else◌, nat_lt}
 use Rattle.std.proofs.lemmas.Bool.{both_ways, cases_Bool, cases_lt, ltb-false, ltb-true}
 use Rattle.std.proofs.lemmas.List.{length-append, take_at}
@@ -11,7 +11,7 @@ use Rattle.env_index.specs.Words.{Extent}
 use Rattle.env_index.specs.Words as then
 use Rattle.env_index.proofs.ForAbove.{head_within}
 use Rattle.batch_law.specs.Batches.{ChainUpTo}
-use Rattle.batch_law.proofs.ForAbove.{Clears, end_behind, head_kept, head_more, header_kept, same_reach}
+use Rattle.batch_law.proofs.ForAbove.{Clears, end_behind, head_kept, header_kept, same_reach}
 use Rattle.night_definition.specs.Header.{delims_of, is_head}
 use Rattle.night_definition.specs.Envelopes.{in_body, read}
 use Rattle.night_definition.specs.Interchanges.{Interchange, Reach, Text, found_at, found_from, interchange_at, is_filler, reach_at, text_of}

@@ -2,8 +2,10 @@ pub mod Alone
 pub mod Completing
 pub mod Header
 pub mod Joining
+pub mod Lacking
 pub mod Mixed
 pub mod Onward
+pub mod Opening
 pub mod Reaching
 pub mod Sample
 pub mod Walks

@@ -1,5 +1,5 @@
 -- X12.5, interchange, and X12.6, functional group and transaction set: a text as it is read after other bytes.
-use Rattle.std.specs.Prelude.{ℕ, ◌+◌, List, ◌++◌, map, option_map}
+use Rattle.std.specs.Prelude.{ℕ, ◌+◌, ◌++◌, map, option_map}
 use Rattle.night_definition.specs.Segments.{Segment}
 use Rattle.night_definition.specs.Envelopes.{Set, Group, Read}
 use Rattle.night_definition.specs.Interchanges.{Interchange, Text}
