@@ -20,6 +20,7 @@ mod closing;
 mod elements;
 mod fault;
 mod gather;
+mod laws;
 mod lead;
 mod trailer;
 
@@ -27,3 +28,4 @@ pub use cause::{Cause, ElementLength, cause_of};
 pub use closing::MOST_BEHIND;
 pub use fault::GatherFault;
 pub use gather::{End, Gathered, Separators, Taken, gather_file};
+pub use laws::goes_in_is_one;
