@@ -16,15 +16,15 @@ pub record IsOpen (text : List ℕ) (offset : ℕ) : Type 0 where
   pub more : List ℕ
   pub elsewhere : (reach_at (text ++ more) offset).end ≢ (reach_at text offset).end
 
--- the bytes after the last terminator; all, if there is none
+-- the bytes of `text` after its last terminator; all, if it has none
 abbrev pub last_part : (terminator : ℕ) → List ℕ → List ℕ
 last_part terminator text = let parts = divided terminator text in slice_index_or parts (length parts - 1) []
 
--- if an interchange continues to the end of its file, CR and LF alone come after its last terminator
+-- an interchange that continues to the end of `file` has CR and LF alone after its last terminator
 abbrev pub EndsClosed : (file : List ℕ) → Interchange → Type 0
 EndsClosed file x = x.end ≡ length file → is_blank (last_part x.delims.terminator (drop (x.start + 106) file)) ≡ true
 
--- a file that lacks nothing: it begins with a header, its interchanges end closed, and no other header can still begin in it
+-- a file that lacks nothing: it begins with a header, its interchanges end closed, and more bytes can complete no header in it
 pub record LacksNothing (file : List ℕ) : Type 0 where
   pub begins : is_head file 0 ≡ true
   pub closed : All (EndsClosed file) (text_of file).interchanges

@@ -10,28 +10,28 @@ use Rattle.gather_law.specs.Gathered as then
 use Rattle.gather_equal.specs.Apart.{AreReadAlone, MayComeAfter, StandsAlone, text_of_files}
 use Rattle.gather_equal.specs.Ends.{IsOpen, LacksNothing, MayBegin}
 
--- a file stands alone exactly if its interchanges continue up to its end whatever file follows
+-- a file stands alone exactly if by the layers it keeps to itself
 abbrev pub AloneIsOne : Type 0
 AloneIsOne = (file : List ℕ) → StandsAlone file ↔ KeepsToItself file
 
--- and has as many interchanges then
+-- a file that stands alone has `n` interchanges exactly if the layers count `n`
 abbrev pub CountIsOne : Type 0
 CountIsOne = (file : List ℕ) (n : ℕ) → (StandsAlone file × (length (text_of file).interchanges ≡ n)) ↔ HoldsInterchanges file n
 
--- bytes are read alone whatever follows exactly if no interchange is open at their end then
+-- `before` is read alone, whatever comes after `last`, exactly if by the layers no interchange is open between the two
 abbrev pub CompleteIsOne : Type 0
 CompleteIsOne = (before last : List ℕ)
     → ((after : List ℕ) → AreReadAlone before (last ++ after)) ↔ GoesUpTo (before ++ last) (length before)
 
--- a header can be completed at an offset exactly if by the bytes there it may begin
+-- more bytes can complete a header at an offset exactly if by the layers one may begin there
 abbrev pub BegunIsOne : Type 0
 BegunIsOne = (text : List ℕ) (offset : ℕ) → offset ≤ length text → MayBegin text offset ↔ (may_begin text offset ≡ true)
 
--- an interchange is open exactly if its end isn't known by the bytes there
+-- an interchange is open exactly if the layers don't know its end
 abbrev pub OpenIsOne : Type 0
 OpenIsOne = (text : List ℕ) (offset : ℕ) → is_head text offset ≡ true → IsOpen text offset ↔ (whole_end text offset ≡ None)
 
--- a file lacks nothing exactly if it is closed and fit
+-- a file lacks nothing exactly if by the layers it stands apart
 abbrev pub LackIsOne : Type 0
 LackIsOne = (file : List ℕ) → LacksNothing file ↔ then.StandsApart file
 

@@ -4,7 +4,7 @@ use Rattle.night_definition.specs.Segments.{Segment}
 use Rattle.night_definition.specs.Envelopes.{Set, Group, Read}
 use Rattle.night_definition.specs.Interchanges.{Interchange, Text}
 
--- a segment `by` bytes further on
+-- a segment, `by` bytes further on
 abbrev pub moved_segment : (by : ℕ) → Segment → Segment
 moved_segment by s = record { start = by + s.start; end = by + s.end; elements = s.elements }
 
@@ -43,10 +43,10 @@ moved_interchange by x = record {
   content = moved_content by x.content;
 }
 
--- each interchange of a text `by` bytes further on; the bytes outside are as many
+-- the interchanges of a text, `by` bytes further on, and as many bytes outside
 abbrev pub moved : (by : ℕ) → Text → Text
 moved by t = record { interchanges = map (moved_interchange by) t.interchanges; outside = t.outside }
 
--- the interchanges of one text and then those of another, and the bytes outside of both
+-- the interchanges of text `a`, then those of text `b`, and the bytes outside of both
 abbrev pub in_a_row : Text → Text → Text
 in_a_row a b = record { interchanges = a.interchanges ++ b.interchanges; outside = a.outside + b.outside }

@@ -63,7 +63,7 @@ abbrev pub IsGathered : (told was is : Option (List ℕ)) → Gathered → Type 
 IsGathered told was is (gathered.Taken taken) = IsTaken told was is taken
 IsGathered told was is (gathered.SetAside cause) = IsSetAside told was is cause
 
--- Private from here on: the same by the words of the layers, and how far a file is read.
+-- Private from here on: how a file goes in by the words of the layers, and how far it is read.
 
 pub record GoesInByLayers (told : Option (List ℕ)) (closed : List ℕ) (taken : Taken) : Type 0 where
   pub file : List ℕ
