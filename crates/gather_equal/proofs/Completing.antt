@@ -123,7 +123,8 @@ head_from read more at le done =
     and_from (leb (at + 106) (length text)) (is_header (header_at text at)) (le-leb (at + 106) (length text) (omega arith))
     (ap is_header same ∙ done.header)
 
-pub completed : (read : List ℕ) (at : ℕ) → at ≤ length read → may_begin read at ≡ true → (more : List ℕ) × (is_head (read ++ more) at ≡ true)
+pub completed : (read : List ℕ) (at : ℕ) → at ≤ length read → may_begin read at ≡ true
+    → (more : List ℕ) × (is_head (read ++ more) at ≡ true)
 completed read at le begun =
     let done : (more : List ℕ) × Completes (drop at read) more = begun_done (drop at read) begun in
     (done.0, head_from read done.0 at le done.1)

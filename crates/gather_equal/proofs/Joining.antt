@@ -14,7 +14,8 @@ use Rattle.batch_law.specs.Batches.{ChainUpTo}
 use Rattle.batch_law.proofs.ForAbove.{Clears, end_behind, head_kept, header_kept, same_reach}
 use Rattle.night_definition.specs.Header.{delims_of, is_head}
 use Rattle.night_definition.specs.Envelopes.{in_body, read}
-use Rattle.night_definition.specs.Interchanges.{Interchange, Reach, Text, found_at, found_from, interchange_at, is_filler, reach_at, text_of}
+use Rattle.night_definition.specs.Interchanges.{Interchange, Reach, Text, found_at, found_from, interchange_at, is_filler}
+use Rattle.night_definition.specs.Interchanges.{reach_at, text_of}
 use Rattle.night_definition.specs.Interchanges.{with_byte, with_interchange}
 use Rattle.night_equal.proofs.ForAbove.{heads}
 use Rattle.gather_equal.specs.Apart.{AreReadAlone}

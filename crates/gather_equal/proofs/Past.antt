@@ -41,7 +41,8 @@ module _ (before last : List ℕ) where
     λ m. record {
       not_yet = sym (head_past last) ∙ m.not_yet;
       more = m.more;
-      completed = sym (head_past (last ++ m.more)) ∙ ap (λ (l : List ℕ). is_head l by) (sym (append_assoc before last m.more)) ∙ m.completed;
+      completed = sym (head_past (last ++ m.more)) ∙ ap (λ (l : List ℕ). is_head l by) (sym (append_assoc before last m.more))
+          ∙ m.completed;
     },
     λ m. record {
       not_yet = head_past last ∙ m.not_yet;

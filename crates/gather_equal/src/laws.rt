@@ -10,7 +10,7 @@ pub fn count_is_one()
     ensures { CountIsOne }
 {}
 
-/// A theorem, with nothing to run: bytes are read alone, whatever follows, exactly if the layers say that no interchange is open after them.
+/// A theorem, with nothing to run: bytes are read alone, whatever follows, exactly if by the layers no interchange is open after them.
 pub fn complete_is_one()
     ensures { CompleteIsOne }
 {}

@@ -77,4 +77,5 @@ pub blanks_behind : (file : List ℕ) → PutsBehind file (file ++ blanks) 16
 blanks_behind file = record { rest = blanks; is = refl; few = refl; own = all_spaces (file ++ blanks) 16 }
 
 pub inside_own : (read : List ℕ) (at : ℕ) (i : Inside) → IsInside read at i → IsOwnTerminator read i.delims.terminator
-inside_own read at i is = (at, heads read at ∙ is.head, ap (λ (d : Rattle.x12_bytes.specs.declared.delims.Delims.Delims). d.terminator) is.delims)
+inside_own read at i is =
+    (at, heads read at ∙ is.head, ap (λ (d : Rattle.x12_bytes.specs.declared.delims.Delims.Delims). d.terminator) is.delims)

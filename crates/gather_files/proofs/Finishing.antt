@@ -146,7 +146,8 @@ pub finished : (first now was mid is : Option (List ℕ)) (held : HeldValue) (p 
     → (passed : IsPassed first now was mid held p) → IsAtEnd now
     → IsClosedSo (unpadded p.terminator held.bytes) (take (body_at (unpadded p.terminator held.bytes)) (unpadded p.terminator held.bytes)) c
     → StaysApart (unpadded p.terminator held.bytes) c → Appends mid is c.bytes.items
-    → IsTakenByLayers first was is (record { interchanges = p.interchanges + c.interchanges; len = p.written + length c.bytes.items; end = c.end })
+    → IsTakenByLayers first was is
+    (record { interchanges = p.interchanges + c.interchanges; len = p.written + length c.bytes.items; end = c.end })
 finished first now was mid is held p c passed at_end so stays_apart wrote =
     let closed : List ℕ = c.bytes.items in
     let front : List ℕ = passed.front in

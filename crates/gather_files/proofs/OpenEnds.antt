@@ -16,7 +16,8 @@ use Rattle.gather_files.specs.declared.gather.End.{End}
 use Rattle.gather_files.specs.declared.gather.End.TheVariants as end
 use Rattle.gather_files.specs.declared.gather.Separators.{Separators}
 
-by_test : (file closed : List ℕ) (count : ℕ) (b : Bool) (s : Separators) → EndsOpenByLayers closed (cond b (end.OtherSeparator s) end.CutOff)
+by_test : (file closed : List ℕ) (count : ℕ) (b : Bool) (s : Separators)
+    → EndsOpenByLayers closed (cond b (end.OtherSeparator s) end.CutOff)
     → EndsByLayers file closed count (cond b (end.OtherSeparator s) end.CutOff)
 by_test file closed count true s is = is
 by_test file closed count false s is = is
@@ -44,7 +45,8 @@ rest_all : (xs : List ℕ) (at : ℕ) → take (length xs - at) (drop at xs) ≡
 rest_all xs at = take_all (length xs - at) (drop at xs) (omega (arith, length-drop at xs))
 
 pub ends_open : (file read : List ℕ) (count : ℕ) (a : Advanced) (i : Inside) (e : End) → Advances read 0 a
-    → a.scout.inside ≡ Some i → e ≡ open_end i.delims (take (length read - a.scout.at) (drop a.scout.at read)) → EndsByLayers file read count e
+    → a.scout.inside ≡ Some i → e ≡ open_end i.delims (take (length read - a.scout.at) (drop a.scout.at read))
+    → EndsByLayers file read count e
 ends_open file read count a i e advances inside is =
     let at : ℕ = a.scout.at in
     let stands : IsInside read at i = subst (λ (o : Option Inside). Stands read at o) inside advances.stands in
