@@ -11,3 +11,4 @@ pub mod Past
 pub mod Reaching
 pub mod Sample
 pub mod Walks
+mod Worked
