@@ -1,9 +1,13 @@
 -- One file more is gathered.
 use Rattle.std.proofs.Common.{◌≡◌, ◌∙◌, ℕ, ◌+◌, List, [], ◌∷◌, ◌++◌, ◌-◌, Option, Some, None, length, take}
-use Rattle.std.proofs.Common.{refl, sym, ap, ap₂, subst, arith}
+use Rattle.std.proofs.Common.{map, inl, inr, refl, sym, ap, ap₂, subst, arith}
+use Rattle.std.specs.List.{All, flat_map}
 use Rattle.std.specs.Io.KnownBytes.{Appends}
 use Rattle.std.proofs.lemmas.List.{append_assoc, append-nil, length-append, map-append, take_at}
-use Rattle.std.proofs.lemmas.List.Elements.{All-append, All-cons, All-nil}
+use Rattle.std.proofs.lemmas.List.Elements.{All-append, All-cons, All-head, All-nil, All-tail}
+use Rattle.night_definition.specs.Interchanges.{text_of}
+use Rattle.gather_equal.specs.Apart.{MayComeAfter, StandsAlone, text_of_files}
+use Rattle.gather_equal.proofs.ForAbove.{files_are_read, nothing_alone}
 use Rattle.gather_files.specs.Gathering.{GoesIn, IsGathered}
 use Rattle.gather_files.specs.declared.cause.Cause.{Cause}
 use Rattle.gather_files.specs.declared.gather.Gathered.{Gathered}
@@ -54,12 +58,46 @@ more_bytes (outcome.Read (gathered.SetAside cause)) file closed t is = nothing_m
 more_bytes outcome.Changed file closed t is = nothing_more closed t is
 more_bytes outcome.NameNotUtf8 file closed t is = nothing_more closed t is
 
+-- a file of which nothing goes in stands alone, and may come after others
+nothing_goes : (closed : List ℕ) → closed ≡ [] → StandsAlone closed × MayComeAfter closed
+nothing_goes closed none = (subst StandsAlone (sym none) nothing_alone, inl none)
+
+member_alone : (o : Outcome) (file closed : List ℕ) → IsOutcome o file closed → StandsAlone closed × MayComeAfter closed
+member_alone (outcome.Read (gathered.Taken taken)) file closed is = (is.alone, inr is.begins)
+member_alone (outcome.Read (gathered.SetAside cause)) file closed is = nothing_goes closed is.2
+member_alone outcome.Changed file closed is = nothing_goes closed is
+member_alone outcome.NameNotUtf8 file closed is = nothing_goes closed is
+
+abbrev closed_of : List Member → List (List ℕ)
+closed_of ms = map (λ m. m.closed) ms
+
+each_alone : (ms : List Member) → All IsMember ms → All StandsAlone (closed_of ms)
+each_alone [] each = All-nil StandsAlone
+each_alone (m ∷ ms) each =
+    All-cons StandsAlone m.closed (closed_of ms) (member_alone m.outcome m.file m.closed (All-head IsMember m ms each)).0
+    (each_alone ms (All-tail IsMember m ms each))
+
+each_comes : (ms : List Member) → All IsMember ms → All MayComeAfter (closed_of ms)
+each_comes [] each = All-nil MayComeAfter
+each_comes (m ∷ ms) each =
+    All-cons MayComeAfter m.closed (closed_of ms) (member_alone m.outcome m.file m.closed (All-head IsMember m ms each)).1
+    (each_comes ms (All-tail IsMember m ms each))
+
+in_a_row : (ms : List Member) → bytes_of ms ≡ flat_map (λ (file : List ℕ). file) (closed_of ms)
+in_a_row [] = refl
+in_a_row (m ∷ ms) = ap (λ (l : List ℕ). m.closed ++ l) (in_a_row ms)
+
+-- what goes in of all is read as each alone
+read_each : (ms : List Member) → All IsMember ms → text_of (bytes_of ms) ≡ text_of_files (closed_of ms)
+read_each ms each = ap text_of (in_a_row ms) ∙ files_are_read (closed_of ms) (each_alone ms each) (each_comes ms each)
+
 pub none_gathered : (was : Option (List ℕ)) → AreGathered [] was was [] no_total
 none_gathered was = record {
   members = [];
   named = refl;
   each = All-nil IsMember;
   written = nothing_written was;
+  read = refl;
   lines_are = refl;
   total_is = refl;
   bytes = refl;
@@ -73,11 +111,14 @@ one_gathered paths was mid is lines total path g declared so_far adds =
     let closed : List ℕ = adds.closed in
     let m : Member = record { path = path; outcome = g; file = adds.file; closed = closed } in
     let longer : bytes_of (ms ++ m ∷ []) ≡ bytes_of ms ++ closed = bytes_on ms m in
+    let all : All IsMember (ms ++ m ∷ []) =
+    All-append IsMember ms (m ∷ []) so_far.each (All-cons IsMember m [] adds.outcome (All-nil IsMember)) in
     record {
       members = ms ++ m ∷ [];
       named = map-append (λ (x : Member). x.path) ms (m ∷ []) ∙ ap (λ (l : List (List ℕ)). l ++ path ∷ []) so_far.named;
-      each = All-append IsMember ms (m ∷ []) so_far.each (All-cons IsMember m [] adds.outcome (All-nil IsMember));
+      each = all;
       written = subst (Appends was is) (sym longer) (writes_on was mid is (bytes_of ms) closed so_far.written adds.written);
+      read = read_each (ms ++ m ∷ []) all;
       lines_are = ap₂ (λ (l : List ℕ) (k : ℕ). l ++ line_of_file path g k) so_far.lines_are
           (let k : total.bytes ≡ 0 + length (bytes_of ms) = omega (arith, so_far.bytes) in k) ∙ sym (lines_on 0 ms m);
       total_is = ap (total_with g) so_far.total_is ∙ sym (total_on no_total ms m);
@@ -101,11 +142,11 @@ puts_file declared was is (gathered.Taken taken) by =
         closes = into.closes;
         len = into.len;
         begins = into.begins;
-        keeps = into.keeps;
-        holds = into.holds;
+        alone = into.alone;
+        interchanges = into.interchanges;
         whole = into.whole;
         ends = into.ends;
-        apart = into.apart;
+        lacks_nothing = into.lacks_nothing;
       };
       written = by.written;
     }

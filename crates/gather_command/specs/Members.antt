@@ -3,7 +3,9 @@ use Rattle.std.specs.Prelude.{ℕ, ◌≡◌, ◌+◌, false, List, [], ◌∷�
 use Rattle.std.specs.Prelude.{decimal}
 use Rattle.std.specs.List.{All}
 use Rattle.std.specs.Io.KnownBytes.{Appends}
-use Rattle.x12_bytes.specs.HeaderTest.{is_head}
+use Rattle.night_definition.specs.Header.{is_head}
+use Rattle.night_definition.specs.Interchanges.{text_of}
+use Rattle.gather_equal.specs.Apart.{text_of_files}
 use Rattle.gather_files.specs.Causes.{cause_of}
 use Rattle.gather_files.specs.Gathering.{GoesIn}
 use Rattle.gather_files.specs.Lead.{led}
@@ -99,12 +101,14 @@ pub record AddsFile (declared was is : Option (List ℕ)) (o : Outcome) : Type 0
   pub outcome : IsOutcome o file closed
   pub written : Appends was is closed
 
--- the files at these paths were gathered: what was written, and what is said of it
+-- the files at these paths were gathered: what was written, and what is said of it; a night reads what was written as it reads each
+-- file alone, one after another
 pub record AreGathered (paths : List (List ℕ)) (was is : Option (List ℕ)) (lines : List ℕ) (total : Total) : Type 0 where
   pub members : List Member
   pub named : map (λ m. m.path) members ≡ paths
   pub each : All IsMember members
   pub written : Appends was is (bytes_of members)
+  pub read : text_of (bytes_of members) ≡ text_of_files (map (λ m. m.closed) members)
   pub lines_are : lines ≡ lines_of 0 members
   pub total_is : total ≡ total_from no_total members
   pub bytes : total.bytes ≡ length (bytes_of members)

@@ -6,6 +6,7 @@ use Rattle.std.proofs.lemmas.List.{append-nil, length-append, take-append-le, ta
 use Rattle.x12_bytes.specs.Header.{header_at, terminator_of}
 use Rattle.x12_bytes.specs.HeaderTest.{is_head}
 use Rattle.batch_law.proofs.ForAbove.{head_kept}
+use Rattle.night_equal.proofs.ForAbove.{heads}
 use Rattle.stream_read.specs.Held.{HeldValue}
 use Rattle.gather_files.specs.Causes.{cause_by, cause_of}
 use Rattle.gather_files.specs.Gathering.{IsBegun, IsPassed, IsSetAside, nothing_passed}
@@ -89,14 +90,14 @@ pub set_aside : (first now was : Option (List ℕ)) (held : HeldValue) → IsBeg
 set_aside None now was held begun none = record {
   file = begun.is_led.file;
   told_all = tt;
-  no_header = ap (λ (l : List ℕ). is_head l 0) (sym begun.is_led.led_is) ∙ none;
+  no_header = heads (led begun.is_led.file) 0 ∙ ap (λ (l : List ℕ). is_head l 0) (sym begun.is_led.led_is) ∙ none;
   named = ap cause_of begun.is_led.led_is;
   nothing = refl;
 }
 set_aside (Some xs) now was held begun none = record {
   file = xs;
   told_all = refl;
-  no_header = no_header_told (Some xs) now held begun none;
+  no_header = heads (led xs) 0 ∙ no_header_told (Some xs) now held begun none;
   named = cause_told (Some xs) now held begun;
   nothing = refl;
 }

@@ -1,5 +1,5 @@
 -- What is put after a file, byte by byte.
-use Rattle.std.proofs.Common.{◌≡◌, ℕ, zero, suc, ◌+◌, ◌≤◌, List, replicate, [], ◌∷◌, ◌++◌, ◌⊎◌, inl, inr}
+use Rattle.std.proofs.Common.{◌≡◌, ℕ, zero, suc, ◌+◌, ◌≤◌, List, replicate, [], ◌∷◌, ◌++◌, ◌⊎◌, inl, inr, true}
 use Rattle.std.proofs.Common.{length, take, refl, sym, ap, ap₂, subst, ◌∙◌, arith}
 use Rattle.std.specs.List.{All}
 use Rattle.std.proofs.lemmas.List.{append_assoc, append-nil, length-append, take_at}
@@ -8,6 +8,7 @@ use Rattle.x12_bytes.specs.Header.{header_at, terminator_of}
 use Rattle.x12_bytes.specs.HeaderTest.{is_head}
 use Rattle.env_index.proofs.ForAbove.{head_within}
 use Rattle.batch_law.proofs.ForAbove.{head_more, header_kept}
+use Rattle.night_equal.proofs.ForAbove.{heads}
 use Rattle.batch_cut.specs.Scouting.{IsInside}
 use Rattle.batch_cut.specs.declared.scout.Inside.{Inside}
 use Rattle.gather_law.specs.Closing.{blanks}
@@ -27,9 +28,10 @@ still_own file more b (start, head, is) =
     let c : ℕ = length file in
     let front : take c (file ++ more) ≡ file = take_at file more c refl in
     let within : c ≤ length (file ++ more) = omega (arith, length-append file more) in
-    let fits : start + 106 ≤ c = head_within file start head in (
+    let there : is_head file start ≡ true = sym (heads file start) ∙ head in
+    let fits : start + 106 ≤ c = head_within file start there in (
       start,
-      head_more (file ++ more) c within start (ap (λ (xs : List ℕ). is_head xs start) front ∙ head),
+      heads (file ++ more) start ∙ head_more (file ++ more) c within start (ap (λ (xs : List ℕ). is_head xs start) front ∙ there),
       is ∙ ap terminator_of (ap (λ (xs : List ℕ). header_at xs start) (sym front) ∙ header_kept (file ++ more) c within start fits),
     )
 
@@ -75,4 +77,5 @@ pub blanks_behind : (file : List ℕ) → PutsBehind file (file ++ blanks) 16
 blanks_behind file = record { rest = blanks; is = refl; few = refl; own = all_spaces (file ++ blanks) 16 }
 
 pub inside_own : (read : List ℕ) (at : ℕ) (i : Inside) → IsInside read at i → IsOwnTerminator read i.delims.terminator
-inside_own read at i is = (at, is.head, ap (λ (d : Rattle.x12_bytes.specs.declared.delims.Delims.Delims). d.terminator) is.delims)
+inside_own read at i is =
+    (at, heads read at ∙ is.head, ap (λ (d : Rattle.x12_bytes.specs.declared.delims.Delims.Delims). d.terminator) is.delims)

@@ -14,7 +14,7 @@ use Rattle.batch_law.proofs.ForAbove.{chain_joined, chain_past, drop_past, head_
 use Rattle.batch_law.proofs.ForAbove.{views_moved}
 use Rattle.gather_law.specs.Gathered.{GoesUpTo, IsWholeBefore}
 use Rattle.gather_law.proofs.ForAbove.{goes_up}
-use Rattle.gather_files.specs.Closing.{EndsInHeader, EndsOpen, EndsSo}
+use Rattle.gather_files.specs.EndsByLayers.{EndsByLayers, EndsInHeaderByLayers, EndsOpenByLayers}
 use Rattle.gather_files.specs.Trailer.{open_end}
 use Rattle.gather_files.specs.declared.gather.End.{End}
 use Rattle.gather_files.specs.declared.gather.End.TheVariants as end
@@ -92,7 +92,7 @@ module _ (front read : List ℕ) where
           subst (λ (xs : List ℕ). ChainUpTo xs 0 (by + at) (first.0 ++ moved)) (sym (append_assoc front read more)) both,
         ))
 
-    open_on : (e : End) → EndsOpen read e → EndsOpen text e
+    open_on : (e : End) → EndsOpenByLayers read e → EndsOpenByLayers text e
     open_on e o = record {
       at = by + o.at;
       passes = goes_up_to o.at o.passes;
@@ -102,7 +102,7 @@ module _ (front read : List ℕ) where
           ∙ ap (λ (h : List ℕ). open_end (header_delims h) (drop (by + o.at) text)) (sym (header_past front read o.at));
     }
 
-    header_on : EndsInHeader read → EndsInHeader text
+    header_on : EndsInHeaderByLayers read → EndsInHeaderByLayers text
     header_on h = record {
       at = by + h.at;
       passes = goes_up_to h.at h.passes;
@@ -111,7 +111,7 @@ module _ (front read : List ℕ) where
     }
 
 pub ends_on : (front file closed : List ℕ) (n count : ℕ) (e : End) → IsWholeBefore front file n → IsWholeBefore front closed n
-    → EndsSo file closed count e → EndsSo (front ++ file) (front ++ closed) count e
+    → EndsByLayers file closed count e → EndsByLayers (front ++ file) (front ++ closed) count e
 ends_on front file closed n count end.Whole first second is = (is.0, goes_up front closed n second is.1)
 ends_on front file closed n count end.Mended first second is = (is.0, goes_up front closed n second is.1)
 ends_on front file closed n count end.CutOff first second is = open_on front closed n second end.CutOff is

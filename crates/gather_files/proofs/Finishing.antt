@@ -9,12 +9,14 @@ use Rattle.x12_bytes.specs.Bytes.{is_line_end}
 use Rattle.x12_bytes.specs.Header.{terminator_of}
 use Rattle.x12_bytes.specs.HeaderTest.{is_head}
 use Rattle.env_index.proofs.ForAbove.{head_within}
-use Rattle.batch_law.proofs.ForAbove.{head_kept, head_more, head_past, header_past}
+use Rattle.batch_law.proofs.ForAbove.{head_kept, head_more, header_past}
+use Rattle.gather_equal.proofs.ForAbove.{head_moved}
 use Rattle.stream_read.specs.Held.{HeldValue}
 use Rattle.gather_law.specs.Gathered.{HoldsInterchanges, IsWholeBefore, StandsApart}
 use Rattle.gather_law.proofs.ForAbove.{holds_on, keeps, reads_on}
-use Rattle.gather_files.specs.Closing.{EndsSo, IsClosedSo, IsOwnTerminator, PutsBehind, PutsInPlace, StaysApart}
-use Rattle.gather_files.specs.Gathering.{AreEnds, IsPassed, IsTaken}
+use Rattle.gather_files.specs.Closing.{IsClosedSo, IsOwnTerminator, PutsBehind, PutsInPlace, StaysApart}
+use Rattle.gather_files.specs.EndsByLayers.{EndsByLayers}
+use Rattle.gather_files.specs.Gathering.{AreEnds, IsPassed, IsTakenByLayers}
 use Rattle.gather_files.specs.Lead.{body_of, led, pads, unpadded}
 use Rattle.gather_files.specs.declared.closing.Closed.{Closed}
 use Rattle.gather_files.specs.declared.gather.Passing.{Passing}
@@ -28,7 +30,7 @@ use Rattle.gather_files.proofs.Untouched.{held_apart}
 -- what is put after a file is put after it where other bytes stand before
 own_past : (front file : List ℕ) (b : ℕ) → IsOwnTerminator file b → IsOwnTerminator (front ++ file) b
 own_past front file b (start, head, is) =
-    (length front + start, head_past front file start ∙ head, is ∙ ap terminator_of (sym (header_past front file start)))
+    (length front + start, head_moved front file start ∙ head, is ∙ ap terminator_of (sym (header_past front file start)))
 
 put_past : (front file : List ℕ) (b : ℕ) → IsPut file b → IsPut (front ++ file) b
 put_past front file b (inl space) = inl space
@@ -144,7 +146,8 @@ pub finished : (first now was mid is : Option (List ℕ)) (held : HeldValue) (p 
     → (passed : IsPassed first now was mid held p) → IsAtEnd now
     → IsClosedSo (unpadded p.terminator held.bytes) (take (body_at (unpadded p.terminator held.bytes)) (unpadded p.terminator held.bytes)) c
     → StaysApart (unpadded p.terminator held.bytes) c → Appends mid is c.bytes.items
-    → IsTaken first was is (record { interchanges = p.interchanges + c.interchanges; len = p.written + length c.bytes.items; end = c.end })
+    → IsTakenByLayers first was is
+    (record { interchanges = p.interchanges + c.interchanges; len = p.written + length c.bytes.items; end = c.end })
 finished first now was mid is held p c passed at_end so stays_apart wrote =
     let closed : List ℕ = c.bytes.items in
     let front : List ℕ = passed.front in
@@ -190,7 +193,7 @@ finished first now was mid is held p c passed at_end so stays_apart wrote =
         keeps = keeps (front ++ closed) (p.interchanges + c.interchanges) holds;
         holds = holds;
         whole = λ w. as_it_was (so.whole w);
-        ends = subst (λ (l : List ℕ). EndsSo l (front ++ closed) c.count c.end) (sym body_is)
+        ends = subst (λ (l : List ℕ). EndsByLayers l (front ++ closed) c.count c.end) (sym body_is)
             (ends_on front body closed p.interchanges c.count c.end before whole so.ends);
         apart = λ a. (let own = stays_apart (held_apart front body p.interchanges before (subst StandsApart body_is a)) in
             (as_it_was own.0, own.1));

@@ -10,5 +10,6 @@ pub mod Leading
 pub mod OpenEnds
 pub mod Padding
 pub mod Passing
+pub mod Said
 pub mod Sealing
 pub mod Untouched

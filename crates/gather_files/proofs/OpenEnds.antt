@@ -8,20 +8,22 @@ use Rattle.x12_bytes.specs.declared.delims.Delims.{Delims}
 use Rattle.batch_cut.specs.Scouting.{Advances, IsInside, IsLeft, Stands}
 use Rattle.batch_cut.specs.declared.scout.Advanced.{Advanced}
 use Rattle.batch_cut.specs.declared.scout.Inside.{Inside}
-use Rattle.gather_files.specs.Closing.{EndsOpen, EndsSo, IsUntouched, StaysApart}
+use Rattle.gather_files.specs.Closing.{IsUntouched, StaysApart}
+use Rattle.gather_files.specs.EndsByLayers.{EndsByLayers, EndsOpenByLayers}
 use Rattle.gather_files.specs.Trailer.{is_trailer_by_another, last_segment, open_end}
 use Rattle.gather_files.specs.declared.closing.Closed.{Closed}
 use Rattle.gather_files.specs.declared.gather.End.{End}
 use Rattle.gather_files.specs.declared.gather.End.TheVariants as end
 use Rattle.gather_files.specs.declared.gather.Separators.{Separators}
 
-by_test : (file closed : List ℕ) (count : ℕ) (b : Bool) (s : Separators) → EndsOpen closed (cond b (end.OtherSeparator s) end.CutOff)
-    → EndsSo file closed count (cond b (end.OtherSeparator s) end.CutOff)
+by_test : (file closed : List ℕ) (count : ℕ) (b : Bool) (s : Separators)
+    → EndsOpenByLayers closed (cond b (end.OtherSeparator s) end.CutOff)
+    → EndsByLayers file closed count (cond b (end.OtherSeparator s) end.CutOff)
 by_test file closed count true s is = is
 by_test file closed count false s is = is
 
-open_so : (file closed : List ℕ) (count : ℕ) (d : Delims) (interchange : List ℕ) → EndsOpen closed (open_end d interchange)
-    → EndsSo file closed count (open_end d interchange)
+open_so : (file closed : List ℕ) (count : ℕ) (d : Delims) (interchange : List ℕ) → EndsOpenByLayers closed (open_end d interchange)
+    → EndsByLayers file closed count (open_end d interchange)
 open_so file closed count d interchange is =
     by_test file closed count (is_trailer_by_another d.element (last_segment d.terminator interchange)) _ is
 
@@ -43,18 +45,19 @@ rest_all : (xs : List ℕ) (at : ℕ) → take (length xs - at) (drop at xs) ≡
 rest_all xs at = take_all (length xs - at) (drop at xs) (omega (arith, length-drop at xs))
 
 pub ends_open : (file read : List ℕ) (count : ℕ) (a : Advanced) (i : Inside) (e : End) → Advances read 0 a
-    → a.scout.inside ≡ Some i → e ≡ open_end i.delims (take (length read - a.scout.at) (drop a.scout.at read)) → EndsSo file read count e
+    → a.scout.inside ≡ Some i → e ≡ open_end i.delims (take (length read - a.scout.at) (drop a.scout.at read))
+    → EndsByLayers file read count e
 ends_open file read count a i e advances inside is =
     let at : ℕ = a.scout.at in
     let stands : IsInside read at i = subst (λ (o : Option Inside). Stands read at o) inside advances.stands in
     let named : e ≡ open_end (header_delims (header_at read at)) (drop at read) =
     is ∙ ap (open_end i.delims) (rest_all read at) ∙ ap (λ (d : Delims). open_end d (drop at read)) stands.delims in
-    let ends : EndsOpen read e = record {
+    let ends : EndsOpenByLayers read e = record {
       at = at;
       passes = λ more. (advances.whole, advances.chain more);
       begins = stands.head;
       unended = subst (λ (o : Option Inside). IsLeft read at o) inside advances.left;
       is = named;
     } in
-    subst (EndsSo file read count) (sym named)
-    (open_so file read count (header_delims (header_at read at)) (drop at read) (subst (EndsOpen read) named ends))
+    subst (EndsByLayers file read count) (sym named)
+    (open_so file read count (header_delims (header_at read at)) (drop at read) (subst (EndsOpenByLayers read) named ends))

@@ -1,8 +1,9 @@
 -- X12.5, interchange control header (ISA): why a file isn't taken, by its first bytes (own).
-use Rattle.std.specs.Prelude.{ℕ, ◌+◌, Bool, not, ◌||◌, ◌==◌, List, [], ◌∷◌, length, take, drop, slice_index, codes, if◌then◌else◌}
+use Rattle.std.specs.Prelude.{ℕ, ◌+◌, ◌-◌, Bool, not, ◌||◌, ◌==◌, List, [], ◌∷◌, length, take, drop, slice_index, slice_index_or, codes}
+use Rattle.std.specs.Prelude.{if◌then◌else◌}
 use Rattle.std.specs.List.{prefix_len, range_with_len}
 use Rattle.std.specs.Str.{bytes_eq}
-use Rattle.x12_bytes.specs.Header.{separator_place, width_of}
+use Rattle.night_definition.specs.Header.{separator_at, widths}
 use Rattle.x12_bytes.specs.declared.layout.TheConstants.{HEADER_LEN}
 use Rattle.gather_files.specs.declared.cause.Cause.{Cause}
 use Rattle.gather_files.specs.declared.cause.ElementLength.{ElementLength}
@@ -24,9 +25,13 @@ is_utf16 file =
 abbrev pub is_other : (separator : ℕ) → ℕ → Bool
 is_other separator b = not (b == separator)
 
+-- how wide element k of a header is
+abbrev pub width_of : (k : ℕ) → ℕ
+width_of k = slice_index_or widths (k - 1) 0
+
 -- how long element k of what should be a header is, up to the next separator
 abbrev pub element_len : List ℕ → (k : ℕ) → ℕ
-element_len file k = prefix_len (is_other (slice_index file 3)) (drop (separator_place k + 1) file)
+element_len file k = prefix_len (is_other (slice_index file 3)) (drop (separator_at k + 1) file)
 
 abbrev pub is_wide : List ℕ → (k : ℕ) → Bool
 is_wide file k = element_len file k == width_of k

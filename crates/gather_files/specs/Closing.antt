@@ -2,14 +2,13 @@
 use Rattle.std.specs.Prelude.{ℕ, ◌≡◌, ◌<◌, ◌≤◌, ◌⊎◌, true, false, List, [], ◌∷◌, ◌++◌, length, drop, slice_index, None}
 use Rattle.std.specs.List.{All}
 use Rattle.memchr.specs.Find.{IsFirstByte, is_byte}
-use Rattle.x12_bytes.specs.Bytes.{is_line_end}
-use Rattle.x12_bytes.specs.Header.{header_at, header_delims, terminator_of}
-use Rattle.x12_bytes.specs.HeaderTest.{is_head}
+use Rattle.x12_bytes.specs.HeaderTest as then_test
 use Rattle.x12_bytes.specs.declared.layout.TheConstants.{HEADER_LEN}
-use Rattle.batch_law.specs.Batches.{whole_end}
 use Rattle.batch_law.specs.Begun.{may_begin}
-use Rattle.gather_law.specs.Gathered.{GoesUpTo, HoldsInterchanges, IsClosedFile}
-use Rattle.gather_files.specs.Trailer.{open_end}
+use Rattle.gather_law.specs.Gathered.{HoldsInterchanges, IsClosedFile}
+use Rattle.night_definition.specs.Header.{delims_of, header_at, is_head}
+use Rattle.night_definition.specs.Segments.{is_line_end}
+use Rattle.gather_files.specs.EndsByLayers.{EndsByLayers}
 use Rattle.gather_files.specs.declared.closing.Closed.{Closed}
 use Rattle.gather_files.specs.declared.closing.OpenInterchange.{OpenInterchange}
 use Rattle.gather_files.specs.declared.gather.End.{End}
@@ -17,7 +16,8 @@ use Rattle.gather_files.specs.declared.gather.End.TheVariants as end
 
 -- the terminator of an interchange of the file
 abbrev pub IsOwnTerminator : List ℕ → ℕ → Type 0
-IsOwnTerminator file b = (start : ℕ) × (is_head file start ≡ true) × (b ≡ terminator_of (header_at file start))
+IsOwnTerminator file b =
+    (start : ℕ) × (is_head file start ≡ true) × (b ≡ (delims_of (header_at file start)).terminator)
 
 -- this many bytes more: spaces and its own terminators
 pub record PutsBehind (old new : List ℕ) (count : ℕ) : Type 0 where
@@ -49,30 +49,6 @@ IsUntouched (end.OtherSeparator separators) = Unit {0}
 IsUntouched end.Mended = ⊥
 IsUntouched end.CutInHeader = ⊥
 
--- no interchange is open before this offset, one begins there, and where it ends isn't known by all that there is: so it ends as its last
--- segment says
-pub record EndsOpen (bytes : List ℕ) (e : End) : Type 0 where
-  pub at : ℕ
-  pub passes : GoesUpTo bytes at
-  pub begins : is_head bytes at ≡ true
-  pub unended : whole_end bytes at ≡ None
-  pub is : e ≡ open_end (header_delims (header_at bytes at)) (drop at bytes)
-
--- no interchange is open at this offset, and the bytes from there on may begin a header
-pub record EndsInHeader (bytes : List ℕ) : Type 0 where
-  pub at : ℕ
-  pub passes : GoesUpTo bytes at
-  pub within : at < length bytes
-  pub begun : may_begin bytes at ≡ true
-
--- how a file ends that goes in so, with this many bytes put after it
-abbrev pub EndsSo : (file closed : List ℕ) (count : ℕ) → End → Type 0
-EndsSo file closed count end.Whole = (count ≡ 0) × GoesUpTo closed (length closed)
-EndsSo file closed count end.Mended = (1 ≤ count) × GoesUpTo closed (length closed)
-EndsSo file closed count end.CutOff = EndsOpen closed end.CutOff
-EndsSo file closed count (end.OtherSeparator separators) = EndsOpen closed (end.OtherSeparator separators)
-EndsSo file closed count end.CutInHeader = EndsInHeader file ⊎ EndsInHeader closed
-
 -- Private from here on: what is held of a file at its end.
 
 -- no header can turn out to begin in it, and its interchanges are closed
@@ -89,7 +65,7 @@ StaysApart held c = IsHeldApart held → (c.count ≡ 0) × IsUntouched c.end
 pub record IsClosedSo (held kept : List ℕ) (c : Closed) : Type 0 where
   pub holds : HoldsInterchanges c.bytes.items c.interchanges
   pub some : c.interchanges ≤ length c.bytes.items
-  pub ends : EndsSo held c.bytes.items c.count c.end
+  pub ends : EndsByLayers held c.bytes.items c.count c.end
   pub whole : c.end ≡ end.Whole → c.count ≡ 0
   pub few : c.count ≤ 17
   pub puts : PutsBehind held c.bytes.items c.count ⊎ PutsInPlace kept c.bytes.items c.count
@@ -105,5 +81,5 @@ pub record IsLastSegment (file : List ℕ) (t lead : ℕ) : Type 0 where
   pub within : lead < length file
   pub other : is_line_end (slice_index file lead) ≡ false
   pub none : IsFirstByte (is_byte t) (drop lead file) None
-  pub no_head : is_head file lead ≡ false
+  pub no_head : then_test.is_head file lead ≡ false
   pub none_begins : may_begin file lead ≡ false

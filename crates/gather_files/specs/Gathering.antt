@@ -4,15 +4,21 @@ use Rattle.std.specs.List.{All, suffix_len}
 use Rattle.std.specs.Io.KnownBytes.{Appends, Consumes, IsAtEnd}
 use Rattle.x12_bytes.specs.Bytes.{is_line_end}
 use Rattle.x12_bytes.specs.Header.{header_at, terminator_of}
-use Rattle.x12_bytes.specs.HeaderTest.{is_head}
+use Rattle.x12_bytes.specs.HeaderTest as then_test
 use Rattle.x12_bytes.specs.declared.layout.TheConstants.{HEADER_LEN}
 use Rattle.stream_read.specs.Held.{HeldValue}
 use Rattle.stream_read.specs.declared.held.StreamFault.{StreamFault}
 use Rattle.stream_read.specs.declared.held.StreamFault.TheVariants as stream
 use Rattle.batch_cut.specs.Scouting.{Stands}
 use Rattle.gather_law.specs.Gathered.{HoldsInterchanges, IsWholeBefore, KeepsToItself, StandsApart}
+use Rattle.night_definition.specs.Header.{is_head}
+use Rattle.night_definition.specs.Interchanges.{text_of}
+use Rattle.gather_equal.specs.Apart.{StandsAlone}
+use Rattle.gather_equal.specs.Ends.{LacksNothing}
 use Rattle.gather_files.specs.Causes.{cause_of}
-use Rattle.gather_files.specs.Closing.{Closes, EndsSo, IsUntouched}
+use Rattle.gather_files.specs.Closing.{Closes, IsUntouched}
+use Rattle.gather_files.specs.Ends.{EndsSo}
+use Rattle.gather_files.specs.EndsByLayers.{EndsByLayers}
 use Rattle.gather_files.specs.Lead.{body_of, is_padding, led}
 use Rattle.gather_files.specs.declared.cause.Cause.{Cause}
 use Rattle.gather_files.specs.declared.fault.GatherFault.{GatherFault}
@@ -23,8 +29,8 @@ use Rattle.gather_files.specs.declared.gather.Taken.{Taken}
 use Rattle.gather_files.specs.declared.gather.Gathered.{Gathered}
 use Rattle.gather_files.specs.declared.gather.Gathered.TheVariants as gathered
 
--- a file that was read to its end goes in without the blanks at its front and the padding at its end, closed: it begins with a header, and
--- its interchanges continue up to its end, whatever file follows
+-- a file that was read to its end goes in without the blanks at its front and the padding at its end, as `closed`: it begins with a
+-- header, and stands alone, whichever files come after it
 pub record GoesIn (told : Option (List ℕ)) (closed : List ℕ) (taken : Taken) : Type 0 where
   pub file : List ℕ
   pub told_all : IfSome told (λ xs. xs ≡ file)
@@ -33,11 +39,11 @@ pub record GoesIn (told : Option (List ℕ)) (closed : List ℕ) (taken : Taken)
   pub closes : Closes (body_of file) closed count
   pub len : taken.len ≡ length closed
   pub begins : is_head closed 0 ≡ true
-  pub keeps : KeepsToItself closed
-  pub holds : HoldsInterchanges closed taken.interchanges
+  pub alone : StandsAlone closed
+  pub interchanges : taken.interchanges ≡ length (text_of closed).interchanges
   pub whole : taken.end ≡ end.Whole → closed ≡ body_of file
   pub ends : EndsSo (body_of file) closed count taken.end
-  pub apart : StandsApart (body_of file) → (closed ≡ body_of file) × IsUntouched taken.end
+  pub lacks_nothing : LacksNothing (body_of file) → (closed ≡ body_of file) × IsUntouched taken.end
 
 -- what is written then
 pub record IsTaken (told was is : Option (List ℕ)) (taken : Taken) : Type 0 where
@@ -57,7 +63,26 @@ abbrev pub IsGathered : (told was is : Option (List ℕ)) → Gathered → Type 
 IsGathered told was is (gathered.Taken taken) = IsTaken told was is taken
 IsGathered told was is (gathered.SetAside cause) = IsSetAside told was is cause
 
--- Private from here on: how far a file is read.
+-- Private from here on: how a file goes in by the words of the layers, and how far it is read.
+
+pub record GoesInByLayers (told : Option (List ℕ)) (closed : List ℕ) (taken : Taken) : Type 0 where
+  pub file : List ℕ
+  pub told_all : IfSome told (λ xs. xs ≡ file)
+  pub count : ℕ
+  pub few : count ≤ 17
+  pub closes : Closes (body_of file) closed count
+  pub len : taken.len ≡ length closed
+  pub begins : then_test.is_head closed 0 ≡ true
+  pub keeps : KeepsToItself closed
+  pub holds : HoldsInterchanges closed taken.interchanges
+  pub whole : taken.end ≡ end.Whole → closed ≡ body_of file
+  pub ends : EndsByLayers (body_of file) closed count taken.end
+  pub apart : StandsApart (body_of file) → (closed ≡ body_of file) × IsUntouched taken.end
+
+pub record IsTakenByLayers (told was is : Option (List ℕ)) (taken : Taken) : Type 0 where
+  pub closed : List ℕ
+  pub goes_in : GoesInByLayers told closed taken
+  pub written : Appends was is closed
 
 -- what is read of a file, of which no blank before its first header is held
 pub record IsLed (first now : Option (List ℕ)) (held : HeldValue) : Type 0 where
@@ -91,7 +116,7 @@ pub record IsPassed (first now was is : Option (List ℕ)) (held : HeldValue) (p
   pub total : held.total ≡ length file
   pub front : List ℕ
   pub led_is : led file ≡ front ++ held.bytes
-  pub begins : is_head (led file) 0 ≡ true
+  pub begins : then_test.is_head (led file) 0 ≡ true
   pub written : Appends was is front
   pub size : passing.written ≡ length front
   pub few_written : passing.interchanges ≤ passing.written

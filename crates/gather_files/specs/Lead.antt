@@ -1,7 +1,7 @@
 -- X12.5, interchange control header (ISA): what comes before the first header of a file, or fills its end, and is left out (own).
 use Rattle.std.specs.Prelude.{ℕ, Bool, not, ◌&&◌, ◌||◌, ◌==◌, ◌-◌, List, drop, length, take}
 use Rattle.std.specs.List.{prefix_len, suffix_len}
-use Rattle.x12_bytes.specs.Header.{header_at, terminator_of}
+use Rattle.night_definition.specs.Header.{delims_of, header_at}
 
 -- NUL or Ctrl-Z, with which some systems fill a file
 abbrev pub is_padding : ℕ → Bool
@@ -25,4 +25,4 @@ unpadded terminator bytes = take (length bytes - suffix_len (pads terminator) by
 
 -- a file from its first header on, without the padding at its end
 abbrev pub body_of : List ℕ → List ℕ
-body_of file = unpadded (terminator_of (header_at (led file) 0)) (led file)
+body_of file = unpadded (delims_of (header_at (led file) 0)).terminator (led file)

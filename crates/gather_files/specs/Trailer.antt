@@ -1,8 +1,9 @@
 -- X12.5, interchange control trailer (IEA): how an interchange ends that has no end (own).
 use Rattle.std.specs.Prelude.{ℕ, Bool, not, ◌&&◌, ◌||◌, ◌==◌, ◌-◌, nat_le, List, length, take, drop, slice_index, codes, if◌then◌else◌}
 use Rattle.std.specs.List.{prefix_len, suffix_len}
-use Rattle.x12_bytes.specs.Bytes.{is_line_end, may_separate}
 use Rattle.x12_bytes.specs.declared.delims.Delims.{Delims}
+use Rattle.night_definition.specs.Header.{may_separate}
+use Rattle.night_definition.specs.Segments.{is_line_end}
 use Rattle.gather_files.specs.Causes.{begins, is_other}
 use Rattle.gather_files.specs.declared.gather.End.{End}
 use Rattle.gather_files.specs.declared.gather.End.TheVariants as end

@@ -2,7 +2,8 @@ ghost use Rattle.std.specs.Prelude.{◌≡◌, ◌≢◌, ◌≤◌, ℕ, IfOk, 
 ghost use Rattle.x12_bytes.specs.Bytes.{is_line_end};
 ghost use Rattle.batch_cut.specs.Scouting.{Advances};
 ghost use Rattle.gather_law.specs.Gathered.{HoldsInterchanges};
-ghost use Rattle.gather_files.specs.Closing.{EndsInHeader, EndsSo, IsClosedBy, IsClosedSo, IsLastSegment, StaysApart};
+ghost use Rattle.gather_files.specs.Closing.{IsClosedBy, IsClosedSo, IsLastSegment, StaysApart};
+ghost use Rattle.gather_files.specs.EndsByLayers.{EndsByLayers, EndsInHeaderByLayers};
 
 use crate::gather::End;
 use crate::trailer::open_end;
@@ -62,7 +63,7 @@ pub(crate) fn close(alloc: Global, held: &[u8], kept: usize) -> Result<Closed, N
 fn as_it_is(alloc: Global, held: &[u8], end: End, interchanges: u64) -> Result<Closed, NoMemory>
     requires holds { HoldsInterchanges held.now interchanges }
     requires few { interchanges ≤ length held.now }
-    requires ends { EndsSo held.now held.now 0 end }
+    requires ends { EndsByLayers held.now held.now 0 end }
     ensures closed { IfOk result (λ c. (kept : List ℕ) → IsClosedSo held.now kept c) }
     ensures untouched { IfOk result (λ c. c.count ≡ 0) }
     ensures told { IfOk result (λ c. c.end ≡ end) }
@@ -138,7 +139,7 @@ fn terminated(alloc: Global, file: &[u8], last: OpenInterchange) -> Result<Close
 
 /// How a file ends after which something was put.
 fn end_after(bytes: &[u8]) -> End
-    ensures ends { (file : List ℕ) (count : ℕ) → 1 ≤ count → EndsSo file bytes.now count result }
+    ensures ends { (file : List ℕ) (count : ℕ) → 1 ≤ count → EndsByLayers file bytes.now count result }
     ensures put { result ≢ End.Whole }
 {
     let advanced = from_the_front(bytes);
@@ -151,7 +152,7 @@ fn end_after(bytes: &[u8]) -> End
 
 /// A file at whose end a header may begin, with what keeps it from beginning there.
 fn cut_in_header(alloc: Global, file: &[u8]) -> Result<Closed, NoMemory>
-    requires { EndsInHeader file.now }
+    requires { EndsInHeaderByLayers file.now }
     ensures { IfOk result (λ c. (kept : List ℕ) → IsClosedSo file.now kept c) }
 {
     let closed = spaced(alloc, file)?;

@@ -1,8 +1,8 @@
 //! The elements of a header that isn't one: how long each is, and the first that isn't as long as it must be.
 ghost use Rattle.std.specs.Prelude.{◌≡◌, ◌≤◌, length};
-ghost use Rattle.x12_bytes.specs.Header.{separator_place, width_of};
+ghost use Rattle.night_definition.specs.Header.{separator_at};
 ghost use Rattle.std.specs.List.{prefix_len};
-ghost use Rattle.gather_files.specs.Causes.{element_len, is_other, is_wide, wrong_element};
+ghost use Rattle.gather_files.specs.Causes.{element_len, is_other, is_wide, width_of, wrong_element};
 
 /// The first of ISA01 to ISA15 that isn't as long as the standard says; 16 if each is.
 pub(crate) fn wrong_element(file: &[u8]) -> usize
@@ -62,7 +62,7 @@ fn is_other(byte: u8, separator: u8) -> bool
 fn separator_place(k: usize) -> usize
     requires from { 1 ≤ k }
     requires to { k ≤ 16 }
-    ensures value { result ≡ separator_place k }
+    ensures value { result ≡ separator_at k }
     ensures bound { result ≤ 103 }
 {
     match k {

@@ -5,7 +5,7 @@ ghost use Rattle.hub_kinds.specs.declared.limits.TheConstants.{LONGEST_TEXT};
 ghost use Rattle.stream_read.specs.Source.{HasFailed};
 ghost use Rattle.x12_bytes.specs.Bytes.{is_line_end};
 ghost use Rattle.std.specs.List.{suffix_len};
-ghost use Rattle.gather_files.specs.Gathering.{is_end, IsBegun, IsGathered, IsLed, IsOfWriting, IsPassed, IsTaken};
+ghost use Rattle.gather_files.specs.Gathering.{is_end, IsBegun, IsGathered, IsLed, IsOfWriting, IsPassed, IsTakenByLayers};
 ghost use Rattle.x12_bytes.specs.Header.{header_at, terminator_of};
 ghost use Rattle.x12_bytes.specs.HeaderTest.{is_head};
 ghost use Rattle.gather_files.specs.declared.fault.GatherFault.TheVariants.{Output, Read, TooLong};
@@ -98,7 +98,7 @@ fn pass_all<S: Source, W: Write>(
     requires begun { (first : Option (List ℕ)) × IsBegun first (S.remaining file.old) held }
     requires header { is_head held.bytes 0 ≡ true }
     ensures taken { IfOk result (λ taken. (first : Option (List ℕ)) → IsBegun first (S.remaining file.old) held
-        → IsTaken first (W.contents out.old) (W.contents out.new) taken) }
+        → IsTakenByLayers first (W.contents out.old) (W.contents out.new) taken) }
     ensures read { IsErrOf result Read → HasFailed (S.faults file.old) (S.faults file.new) (S.interruptions file.new) }
     ensures long { IsErrOf result TooLong → (first : Option (List ℕ)) → IsBegun first (S.remaining file.old) held
         → IfSome first (λ xs. LONGEST_TEXT < length xs) }
@@ -274,7 +274,7 @@ fn finish<W: Write>(
     requires few { held.now.total ≤ LONGEST_TEXT }
     ensures taken { IfOk result (λ taken. (first now was : Option (List ℕ))
         → IsPassed first now was (W.contents out.old) held.now passing → IsAtEnd now
-        → IsGathered first was (W.contents out.new) (Gathered.Taken taken)) }
+        → IsTakenByLayers first was (W.contents out.new) taken) }
     ensures err { IfErr result IsOfWriting }
 {
     let body = unpadded(held.bytes(), passing.terminator);

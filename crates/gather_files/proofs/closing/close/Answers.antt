@@ -4,7 +4,7 @@ use Rattle.batch_cut.specs.Scouting.{Advances, IsInside, Stands}
 use Rattle.batch_cut.specs.declared.scout.Advanced.{Advanced}
 use Rattle.batch_cut.specs.declared.scout.Inside.{Inside}
 use Rattle.gather_law.specs.Gathered.{HoldsInterchanges}
-use Rattle.gather_files.specs.Closing.{StaysApart}
+use Rattle.gather_files.specs.Closing.{IsClosedSo, StaysApart}
 use Rattle.gather_files.proofs.Keeps.{holds_inside}
 use Rattle.gather_files.proofs.OpenEnds.{ends_open, stays, untouched}
 use Rattle.gather_files.proofs.Untouched.{inside_all}
@@ -19,6 +19,11 @@ as_it_is-requires-in-Some-clause-holds c =
     subst (λ (o : Option Inside). Stands held a.scout.at o) c.in-Some.is advances.stands in
     subst (HoldsInterchanges held) (ap (λ (n : ℕ). n + 1) (sym advances.count))
     (holds_inside held a.scout.at advances.whole c.in-Some.inside advances.chain stands c.if-inside-held.true)
+
+pub returns-in-Some-last_open-clause-closed : goal.returns-in-Some-last_open-clause-closed
+returns-in-Some-last_open-clause-closed c =
+    IfOk-weaker c.terminated.result _ (IsClosedSo c.args.held.now (take c.args.kept c.args.held.now))
+    (λ closed was. was c.args.held.now) c.terminated.ensures
 
 pub returns-in-Some-last_open-clause-apart : goal.returns-in-Some-last_open-clause-apart
 returns-in-Some-last_open-clause-apart c =

@@ -11,7 +11,8 @@ use Rattle.batch_cut.specs.declared.scout.Inside.{Inside}
 use Rattle.gather_law.specs.Closing.{blanks}
 use Rattle.gather_law.specs.Gathered.{HoldsInterchanges}
 use Rattle.gather_law.proofs.ForAbove.{blanks_break}
-use Rattle.gather_files.specs.Closing.{EndsSo, PutsBehind}
+use Rattle.gather_files.specs.Closing.{PutsBehind}
+use Rattle.gather_files.specs.EndsByLayers.{EndsByLayers}
 use Rattle.gather_files.proofs.Behind.{blanks_behind, inside_own, one_more}
 use Rattle.gather_files.proofs.Sealing.{none_open, seals}
 use Rattle.gather_files.proofs.closing.spaced.Goals as goal
@@ -42,7 +43,7 @@ returns-in-None c = λ kept.
       holds = subst (HoldsInterchanges bytes) (sym advances.count)
           (none_open bytes a.scout.at advances.whole advances.chain within none closed);
       some = (let n : a.count ≤ length bytes = omega (arith, advances.few, within) in n);
-      ends = subst (λ (l : List ℕ). EndsSo file l 16 c.end_after-end.result) c.as_slice-in-None.ensures.value
+      ends = subst (λ (l : List ℕ). EndsByLayers file l 16 c.end_after-end.result) c.as_slice-in-None.ensures.value
           (c.end_after-end.ensures.ends file 16 (omega arith));
       whole = λ w. absurd (c.end_after-end.ensures.put w);
       few = omega arith;
@@ -73,7 +74,7 @@ returns-in_ok-push-in-Some c = λ kept.
     record {
       holds = subst (λ (l : List ℕ). HoldsInterchanges l (a.count + 1)) (sym bytes) holds;
       some = subst (λ (l : List ℕ). a.count + 1 ≤ length l) (sym bytes) few;
-      ends = subst (λ (l : List ℕ). EndsSo file l 17 c.end_after-end-in-Some.result) c.as_slice-in-Some.ensures.value
+      ends = subst (λ (l : List ℕ). EndsByLayers file l 17 c.end_after-end-in-Some.result) c.as_slice-in-Some.ensures.value
           (c.end_after-end-in-Some.ensures.ends file 17 (omega arith));
       whole = λ w. absurd (c.end_after-end-in-Some.ensures.put w);
       few = omega arith;

@@ -4,7 +4,7 @@ use Rattle.std.specs.Io.KnownBytes.{Appends}
 use Rattle.x12_bytes.specs.Bytes.{is_line_end}
 use Rattle.stream_read.specs.Held.{HeldValue}
 use Rattle.gather_files.specs.Closing.{IsClosedSo, StaysApart}
-use Rattle.gather_files.specs.Gathering.{IsTaken}
+use Rattle.gather_files.specs.Gathering.{IsTakenByLayers}
 use Rattle.gather_files.specs.Lead.{unpadded}
 use Rattle.gather_files.specs.declared.closing.Closed.{Closed}
 use Rattle.gather_files.specs.declared.gather.Passing.{Passing}
@@ -28,7 +28,7 @@ returns-clause-taken g c first now was passed at_end =
     let wrote : Appends (g.W.Write.contents c.args.out.now) (g.W.Write.contents c.put.new.out) closed.bytes.items =
     subst (λ (l : List ℕ). Appends (g.W.Write.contents c.args.out.now) (g.W.Write.contents c.put.new.out) l) c.as_slice-bytes.ensures.value
     c.in_ok-put.ensures.written in
-    subst (λ (n : ℕ). IsTaken first was (g.W.Write.contents c.put.new.out) (record {
+    subst (λ (n : ℕ). IsTakenByLayers first was (g.W.Write.contents c.put.new.out) (record {
       interchanges = p.interchanges + closed.interchanges;
       len = p.written + n;
       end = closed.end;

@@ -4,6 +4,7 @@ use Rattle.gather_files.specs.Causes.{cause_of}
 use Rattle.gather_files.specs.Gathering.{IsSetAside}
 use Rattle.gather_files.specs.declared.cause.Cause.{Cause}
 use Rattle.gather_files.proofs.Beginning.{set_aside}
+use Rattle.gather_files.proofs.Said.{taken_said}
 use Rattle.gather_files.proofs.gather.gather_file.Goals as goal
 
 pub returns-then-is_none-clause-gathered : goal.returns-then-is_none-clause-gathered
@@ -18,4 +19,6 @@ returns-then-is_none-clause-gathered g c =
     c.in_ok-held.held c.in_ok-held.ensures.begun here)
 
 pub returns-clause-gathered : goal.returns-clause-gathered
-returns-clause-gathered g c = c.in_ok-taken.ensures.taken (g.S.Source.remaining c.args.file.now) c.in_ok-held.ensures.begun
+returns-clause-gathered g c =
+    taken_said (g.S.Source.remaining c.args.file.now) (g.W.Write.contents c.args.out.now) (g.W.Write.contents c.pass_all.new.out)
+    c.in_ok-taken.taken (c.in_ok-taken.ensures.taken (g.S.Source.remaining c.args.file.now) c.in_ok-held.ensures.begun)

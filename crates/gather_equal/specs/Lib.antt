@@ -1,0 +1,4 @@
+pub mod Apart
+pub mod Ends
+pub mod Laws
+pub mod Moved
