@@ -34,7 +34,8 @@ exported_more form old new table read text unread read_is all_read tables is = r
       unread ∙ ap (λ (t : List ℕ). t ++ unread_line table.night table.state) is.unread
       ∙ sym (flat_more (λ (t : NightTable). unread_line t.night t.state) tables table);
   read =
-      all_read ∙ ap (λ (b : Bool). b && read) is.read ∙ ap (λ (b : Bool). list_all (λ (t : NightTable). is_read t.state) tables && b) read_is
+      all_read ∙ ap (λ (b : Bool). b && read) is.read
+      ∙ ap (λ (b : Bool). list_all (λ (t : NightTable). is_read t.state) tables && b) read_is
       ∙ ap (λ (b : Bool). list_all (λ (t : NightTable). is_read t.state) tables && b) (sym (and_true (is_read table.state)))
       ∙ sym (list_all-append (λ (t : NightTable). is_read t.state) tables (table ∷ []));
 }

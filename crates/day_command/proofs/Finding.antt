@@ -18,7 +18,11 @@ pub searched : (nights wanted text : List ℕ) (status : ℕ) (marks order : Lis
     → IsSearchReport nights wanted text status
 searched nights wanted text status marks order tables complete marks_are ordered read_by text_is complete_is zero = record {
   tables = tables;
-  tables_are = record { marks = marks; marks_are = marks_are; read_by = subst (λ (o : List NightMark). AllZip (IsTableAt nights) o tables) ordered read_by };
+  tables_are = record {
+    marks = marks;
+    marks_are = marks_are;
+    read_by = subst (λ (o : List NightMark). AllZip (IsTableAt nights) o tables) ordered read_by;
+  };
   text_is = text_is;
   found = (λ is. complete_is.0 (zero.0 is), λ two. zero.1 (complete_is.1 two));
 }
@@ -28,7 +32,11 @@ pub exported : (nights : List ℕ) (form : Form) (all : Export) (marks order : L
     → (status : ℕ) → ((status ≡ 0) ↔ (all.all_read ≡ true)) → IsExportReport nights form all.text.items all.unread.items status
 exported nights form all marks order tables marks_are ordered read_by is status zero = record {
   tables = tables;
-  tables_are = record { marks = marks; marks_are = marks_are; read_by = subst (λ (o : List NightMark). AllZip (IsTableAt nights) o tables) ordered read_by };
+  tables_are = record {
+    marks = marks;
+    marks_are = marks_are;
+    read_by = subst (λ (o : List NightMark). AllZip (IsTableAt nights) o tables) ordered read_by;
+  };
   text_is = is.text;
   unread_is = is.unread;
   complete = (λ is_zero. sym is.read ∙ zero.0 is_zero, λ read. zero.1 (is.read ∙ read));

@@ -18,7 +18,8 @@ pub reported : (nights text : List ℕ) (status : ℕ) (marks order : List Night
     → AllZip (IsRead nights) order reads → last.path ≡ path_in nights (codes ".last") → entries ≡ filter_map entry_in reads
     → bad ≡ filter_map bad_in reads → named ≡ first_line (bytes_or_none last.bytes) → IsJudged limit named order entries bad text status
     → IsReport nights text status
-reported nights text status marks order reads entries bad last limit named marks_are ordered read_by last_at entries_are bad_are named_is judged =
+reported nights text status marks order reads entries bad last limit named marks_are ordered read_by last_at entries_are bad_are named_is
+    judged =
     record {
       marks = marks;
       marks_are = marks_are;
