@@ -51,7 +51,7 @@ abbrev pub is_change : Change → Change → Bool
 is_change Narrower Narrower = true
 is_change Wider Wider = true
 is_change Other Other = true
-is_change one another = false
+is_change _ _ = false
 
 -- how many differences are of a kind
 abbrev pub count_of : Change → List Difference → ℕ
