@@ -1,0 +1,13 @@
+mod Appended
+mod Between
+mod Clean
+mod Cutting
+mod Growing
+mod LineTexts
+mod Listed
+mod Numbers
+mod Parted
+mod Passing
+mod ReadRows
+mod Sliced
+mod Whole
