@@ -1,6 +1,6 @@
 -- What is between the fixed parts of a line.
-use Rattle.std.proofs.Common.{◌≡◌, ◌≢◌, ◌∙◌, ℕ, ◌+◌, ◌-◌, ◌<◌, ◌≤◌, ◌&&◌, Bool, true, false, List, [], ◌∷◌, ◌++◌, Option, Some, None}
-use Rattle.std.proofs.Common.{append_assoc, ap, ap₂, arith, codes, drop, length, length-append, refl, subst, sym, take}
+use Rattle.std.proofs.Common.{◌≡◌, ◌≢◌, ◌∙◌, ℕ, ◌+◌, ◌-◌, ◌≤◌, true, List, ◌++◌, Option, Some, None}
+use Rattle.std.proofs.Common.{append_assoc, ap, ap₂, arith, codes, drop, length, length-append, refl, sym, take}
 use Rattle.std.specs.Prelude.{MatchOption, decimal}
 use Rattle.std.specs.Borrow.{Bor}
 use Rattle.std.proofs.lemmas.Bool.{and_parts, eqb-true}
@@ -8,7 +8,7 @@ use Rattle.std.proofs.lemmas.Fmt.{decimal_injective}
 use Rattle.std.proofs.lemmas.List.{append_cancel_left, append_cancel_right}
 use Rattle.std.proofs.Math.Seq.{drop-append_seam, take-append_seam}
 use Rattle.night_record.specs.Record.{file_line, is_file, number_line, text_line}
-use Rattle.night_record.specs.Values.{is_count, is_name, is_sum}
+use Rattle.night_record.specs.Values.{is_name, is_sum}
 use Rattle.night_record.specs.declared.record.SummedFile.{SummedFile}
 
 -- a part of a part

@@ -1,5 +1,5 @@
 -- Each line of a record is one line.
-use Rattle.std.proofs.Common.{◌≡◌, ◌∙◌, ℕ, ◌==◌, ◌&&◌, ◌≤◌, Bool, true, not, List, [], ◌∷◌, ◌++◌, None, Option, Some, arith, codes, map, refl, sym}
+use Rattle.std.proofs.Common.{◌≡◌, ◌∙◌, ℕ, ◌==◌, ◌≤◌, Bool, true, not, List, [], ◌∷◌, ◌++◌, None, Option, Some, arith, codes, map, refl}
 use Rattle.std.specs.Prelude.{decimal}
 use Rattle.std.specs.Char.{is_ascii_digit}
 use Rattle.std.specs.List.{list_all}
@@ -7,7 +7,8 @@ use Rattle.std.proofs.lemmas.Bool.{and_from, and_parts, leb-true}
 use Rattle.std.proofs.lemmas.Bool.Decides.{nat_tests}
 use Rattle.std.proofs.lemmas.List.Folds.{list_all-append}
 use Rattle.night_record.specs.Lines.{is_line}
-use Rattle.night_record.specs.Record.{CanBe, are_files, before_text, file_line, files_lines, head_lines, is_before, is_file, number_line, record_lines, text_line, version_line}
+use Rattle.night_record.specs.Record.{CanBe, are_files, before_text, file_line, files_lines, head_lines}
+use Rattle.night_record.specs.Record.{is_before, is_file, number_line, record_lines, text_line, version_line}
 use Rattle.night_record.specs.Refused.{lines_to}
 use Rattle.night_record.specs.Values.{is_count, is_hex_digit, is_moment, is_name, is_name_byte, is_status, is_sum}
 use Rattle.night_record.specs.declared.fault.Part.{Part}
@@ -78,7 +79,7 @@ titled_lines title files one can =
 pub small_count : (n : ℕ) → is_count n ≡ true → n ≤ 999999999
 small_count n can = leb-true n 999999999 ((and_parts _ _ can).1)
 
-small_status : (n : ℕ) → is_status n ≡ true → n ≤ 999999999
+pub small_status : (n : ℕ) → is_status n ≡ true → n ≤ 999999999
 small_status n can = let low : n ≤ 6 = leb-true n 6 can in omega arith
 
 both_lines : (a b : List (List ℕ)) → list_all is_line a ≡ true → list_all is_line b ≡ true → list_all is_line (a ++ b) ≡ true
@@ -94,38 +95,50 @@ one_more : (line : List ℕ) (lines : List (List ℕ)) → is_line line ≡ true
 one_more line lines one rest = record { each = and_from (is_line line) (list_all is_line lines) one rest.each }
 
 -- the first lines up to any of them
-from_clock : (night : NightRecord) → CanBe night → (rest : List (List ℕ)) → First rest → First (text_line (codes "clock") night.clock ∷ rest)
+from_clock : (night : NightRecord) → CanBe night → (rest : List (List ℕ)) → First rest → First (text_line (codes "clock")
+    night.clock ∷ rest)
 from_clock night can rest more =
-    one_more (text_line (codes "clock") night.clock) rest (text_is_line (codes "clock") night.clock refl (moment_line night.clock can.clock)) more
+    one_more (text_line (codes "clock") night.clock) rest (text_is_line (codes "clock") night.clock refl (moment_line night.clock
+    can.clock)) more
 
-from_release : (night : NightRecord) → CanBe night → (rest : List (List ℕ)) → First rest → First (text_line (codes "release") night.release ∷ rest)
+from_release : (night : NightRecord) → CanBe night → (rest : List (List ℕ)) → First rest → First (text_line (codes "release")
+    night.release ∷ rest)
 from_release night can rest more =
-    one_more (text_line (codes "release") night.release) rest (text_is_line (codes "release") night.release refl (name_line night.release can.release)) more
+    one_more (text_line (codes "release") night.release) rest (text_is_line (codes "release") night.release refl (name_line
+    night.release can.release)) more
 
-from_status : (night : NightRecord) → CanBe night → (rest : List (List ℕ)) → First rest → First (number_line (codes "status") night.status ∷ rest)
+from_status : (night : NightRecord) → CanBe night → (rest : List (List ℕ)) → First rest → First (number_line (codes "status")
+    night.status ∷ rest)
 from_status night can rest more =
-    one_more (number_line (codes "status") night.status) rest (number_is_line (codes "status") night.status refl (small_status night.status can.status)) more
+    one_more (number_line (codes "status") night.status) rest (number_is_line (codes "status") night.status refl (small_status
+    night.status can.status)) more
 
 from_before : (night : NightRecord) → CanBe night → (rest : List (List ℕ)) → First rest
     → First (text_line (codes "before") (before_text night.before) ∷ rest)
 from_before night can rest more =
-    one_more (text_line (codes "before") (before_text night.before)) rest (text_is_line (codes "before") (before_text night.before) refl (before_line night.before can.before)) more
+    one_more (text_line (codes "before") (before_text night.before)) rest (text_is_line (codes "before") (before_text night.before)
+    refl (before_line night.before can.before)) more
 
-from_moment : (night : NightRecord) → CanBe night → (rest : List (List ℕ)) → First rest → First (text_line (codes "moment") night.moment ∷ rest)
+from_moment : (night : NightRecord) → CanBe night → (rest : List (List ℕ)) → First rest → First (text_line (codes "moment")
+    night.moment ∷ rest)
 from_moment night can rest more =
-    one_more (text_line (codes "moment") night.moment) rest (text_is_line (codes "moment") night.moment refl (moment_line night.moment can.moment)) more
+    one_more (text_line (codes "moment") night.moment) rest (text_is_line (codes "moment") night.moment refl (moment_line
+    night.moment can.moment)) more
 
 from_name : (night : NightRecord) → CanBe night → (rest : List (List ℕ)) → First rest → First (text_line (codes "name") night.name ∷ rest)
-from_name night can rest more = one_more (text_line (codes "name") night.name) rest (text_is_line (codes "name") night.name refl (name_line night.name can.name)) more
+from_name night can rest more = one_more (text_line (codes "name") night.name) rest (text_is_line (codes "name") night.name refl
+    (name_line night.name can.name)) more
 
 from_number : (night : NightRecord) → CanBe night → (rest : List (List ℕ)) → First rest
     → First (number_line (codes "number") night.number ∷ rest)
 from_number night can rest more =
-    one_more (number_line (codes "number") night.number) rest (number_is_line (codes "number") night.number refl (small_count night.number can.number)) more
+    one_more (number_line (codes "number") night.number) rest (number_is_line (codes "number") night.number refl (small_count
+    night.number can.number)) more
 
 head_first : (night : NightRecord) → CanBe night → First (head_lines night)
 head_first night can =
-    one_more version_line _ refl (from_number night can _ (from_name night can _ (from_moment night can _ (from_before night can _ (from_status night can _
+    one_more version_line _ refl (from_number night can _ (from_name night can _ (from_moment night can _ (from_before night can _
+    (from_status night can _
     (from_release night can _ (from_clock night can [] nothing)))))))
 
 head_clean : (night : NightRecord) → CanBe night → list_all is_line (head_lines night) ≡ true
@@ -147,11 +160,14 @@ part_first part.Name night can =
 part_first part.Moment night can =
     one_more version_line _ refl (from_number night can _ (from_name night can _ (from_moment night can [] nothing)))
 part_first part.Before night can =
-    one_more version_line _ refl (from_number night can _ (from_name night can _ (from_moment night can _ (from_before night can [] nothing))))
+    one_more version_line _ refl (from_number night can _ (from_name night can _ (from_moment night can _ (from_before night can []
+    nothing))))
 part_first part.Status night can =
-    one_more version_line _ refl (from_number night can _ (from_name night can _ (from_moment night can _ (from_before night can _ (from_status night can [] nothing)))))
+    one_more version_line _ refl (from_number night can _ (from_name night can _ (from_moment night can _ (from_before night can _
+    (from_status night can [] nothing)))))
 part_first part.Release night can =
-    one_more version_line _ refl (from_number night can _ (from_name night can _ (from_moment night can _ (from_before night can _ (from_status night can _
+    one_more version_line _ refl (from_number night can _ (from_name night can _ (from_moment night can _ (from_before night can _
+    (from_status night can _
     (from_release night can [] nothing))))))
 part_first part.Clock night can = head_first night can
 part_first part.MadeOf night can = record {

@@ -1,4 +1,5 @@
 mod Appended
+mod Begun
 mod Between
 mod Clean
 mod Cutting
@@ -6,8 +7,11 @@ mod Growing
 mod LineTexts
 mod Listed
 mod Numbers
+mod Once
 mod Parted
 mod Passing
 mod ReadRows
 mod Sliced
+mod Tabled
 mod Whole
+mod Worked

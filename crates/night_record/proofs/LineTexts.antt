@@ -1,9 +1,10 @@
 -- A text has its lines in one way.
-use Rattle.std.proofs.Common.{◌≡◌, ◌∙◌, ◌==◌, ℕ, Bool, true, false, not, ◌&&◌, List, [], ◌∷◌, ◌++◌, append-nil, append_assoc, ap, sym, subst, refl}
+use Rattle.std.proofs.Common.{◌≡◌, ◌∙◌, ◌==◌, ℕ, Bool, true, not, ◌&&◌, List}
+use Rattle.std.proofs.Common.{[], ◌∷◌, ◌++◌, append-nil, append_assoc, ap, sym, subst, refl}
 use Rattle.std.specs.List.{list_all}
-use Rattle.std.proofs.lemmas.Bool.{and_from, and_parts}
+use Rattle.std.proofs.lemmas.Bool.{and_parts}
 use Rattle.std.proofs.lemmas.List.Folds.{list_all-append}
-use Rattle.night_record.specs.Lines.{AreLinesOf, IsUnended, is_line, lines_text}
+use Rattle.night_record.specs.Lines.{IsUnended, is_line, lines_text}
 
 no_feed : (b : ℕ) (rest : Bool) → b ≡ 10 → (not (b == 10) && rest) ≡ true → ⊥
 no_feed b rest is line =

@@ -1,5 +1,5 @@
 -- The files of lines.
-use Rattle.std.proofs.Common.{◌≡◌, ◌∙◌, ℕ, ◌<◌, zero, suc, Bool, true, List, [], ◌∷◌, ap₂, arith, get_or, length, map, refl, sym}
+use Rattle.std.proofs.Common.{◌≡◌, ◌∙◌, ℕ, ◌<◌, zero, suc, true, List, [], ◌∷◌, ap₂, arith, get_or, length, map, refl}
 use Rattle.std.specs.Borrow.{Bor}
 use Rattle.std.specs.List.{list_all}
 use Rattle.std.proofs.lemmas.Bool.{and_parts}
@@ -14,7 +14,8 @@ pub record IsFileLine (line : List ℕ) : Type 0 where
   pub line_is : line ≡ file_line file
 
 -- a line of files is that of a file
-pub file_at : (lines : List (Bor (List ℕ))) (files : List SummedFile) (i : ℕ) (x d : Bor (List ℕ)) → i < length lines → x ≡ get_or lines i d
+pub file_at : (lines : List (Bor (List ℕ))) (files : List SummedFile) (i : ℕ) (x d : Bor (List ℕ)) → i < length lines → x ≡ get_or
+    lines i d
     → read lines ≡ map file_line files → list_all is_file files ≡ true → IsFileLine x.now
 file_at [] files i x d low is same can = absurd (omega (arith, low))
 file_at (l ∷ ls) [] i x d low is same can = absurd (cc)

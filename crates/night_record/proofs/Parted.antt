@@ -1,11 +1,13 @@
 -- The parts of a record, by its lines.
-use Rattle.std.proofs.Common.{◌≡◌, ◌≢◌, ◌∙◌, ℕ, ◌+◌, ◌-◌, ◌<◌, ◌≤◌, zero, suc, Bool, true, false, ◌&&◌, List, [], ◌∷◌, ◌++◌}
-use Rattle.std.proofs.Common.{ap, append-nil, append_assoc, arith, codes, drop, get_or, length, length-append, map, refl, subst, sym, take}
+use Rattle.std.proofs.Common.{◌≡◌, ◌∙◌, ℕ, ◌≤◌, true, List, [], ◌∷◌, ◌++◌}
+use Rattle.std.proofs.Common.{ap, append-nil, append_assoc, arith, codes, drop, length, map, refl, subst, sym, take}
 use Rattle.std.specs.List.{list_all}
-use Rattle.night_record.specs.Lines.{AreLinesOf, is_line, lines_text}
-use Rattle.night_record.specs.Reading.{AfterLines, AreFilesOf, AreRecordLines, ArePartsOf, BeginLines, IsGave, IsHead, IsHeadFault, IsHeadWrong, IsLinesFault, IsMadeOf, IsNoFiles, IsNoGave, IsNoMadeOf, IsPartsFault, IsPartsWrong, IsWrongFor, before_of, is_filled, joined, line}
-use Rattle.night_record.specs.Record.{CanBe, IsRecordOf, file_line, files_lines, head_lines, record_lines, record_text}
-use Rattle.night_record.specs.Refused.{Begins, IsReadFault, MayFollow, lines_to}
+use Rattle.std.proofs.lemmas.List.{take-append-drop}
+use Rattle.night_record.specs.Reading.{AfterLines, AreLinesBegun, ArePartsOf, BeginLines, IsHead, IsHeadFault}
+use Rattle.night_record.specs.Reading.{IsHeadWrong, IsLinesFault, IsMadeOf, IsNoFiles, IsNoGave, IsNoMadeOf}
+use Rattle.night_record.specs.Reading.{IsPartsFault, IsPartsWrong, IsWrongFor, is_filled, joined, line}
+use Rattle.night_record.specs.Record.{CanBe, file_line, files_lines, head_lines, record_lines}
+use Rattle.night_record.specs.Refused.{lines_to}
 use Rattle.night_record.specs.declared.fault.Part.{Part}
 use Rattle.night_record.specs.declared.fault.Part.TheVariants as part
 use Rattle.night_record.specs.declared.fault.RecordFault.{RecordFault}
@@ -13,8 +15,6 @@ use Rattle.night_record.specs.declared.fault.RecordFault.TheVariants as fault
 use Rattle.night_record.specs.declared.head.Head.{Head}
 use Rattle.night_record.specs.declared.record.NightRecord.{NightRecord}
 use Rattle.night_record.specs.declared.record.SummedFile.{SummedFile}
-use Rattle.night_record.proofs.Clean.{part_clean, record_clean}
-use Rattle.night_record.proofs.LineTexts.{lines_after, same_lines}
 use Rattle.night_record.proofs.Sliced.{files_filled, no_blank, split_once}
 
 -- the files of which a night was made end at the first empty line
@@ -26,7 +26,8 @@ no_made_of lines rest first after is cut filled none files more made =
     let two = split_once first (map file_line files) after more filled (files_filled files) (sym cut ∙ tail) in
     none files (record { lines_are = two.0; can_be = made.can_be })
 
-pub made_of_open : (lines rest : List (List ℕ)) → lines ≡ [] ∷ codes "[made_of]" ∷ rest → list_all is_filled rest ≡ true → IsNoMadeOf lines
+pub made_of_open : (lines rest : List (List ℕ)) → lines ≡ [] ∷ codes "[made_of]" ∷ rest → list_all is_filled rest ≡ true →
+    IsNoMadeOf lines
 made_of_open lines rest is filled files more made =
     let same : [] ∷ codes "[made_of]" ∷ rest ≡ [] ∷ codes "[made_of]" ∷ (map file_line files ++ [] ∷ more) = sym is ∙ made.lines_are in
     no_blank rest (map file_line files) more filled (ap (λ (l : List (List ℕ)). drop 2 l) same)
@@ -60,7 +61,7 @@ pub gave_wrong : (lines rest : List (List ℕ)) (made_of : List SummedFile) → 
 gave_wrong lines rest made_of is fault.Memory wrong = tt
 gave_wrong lines rest made_of is fault.CutOff wrong = absurd wrong
 gave_wrong lines rest made_of is (fault.Wrong other) wrong =
-    parts_wrong other part.Gave wrong.0 lines (no_gave lines rest made_of is wrong.1)
+    parts_wrong other part.Gave wrong.0 lines ((made_of, rest, is), no_gave lines rest made_of is wrong.1)
 
 -- a line of the head that isn't one of a record
 head_begins : (wrong : Part) (lines : List (List ℕ)) → IsHeadWrong wrong (take 8 lines) → BeginLines wrong lines → ⊥
@@ -82,10 +83,34 @@ head_begins part.Clock lines is begins =
 head_begins part.MadeOf lines is begins = absurd is
 head_begins part.Gave lines is begins = absurd is
 
+-- what the first lines begin, all lines begin
+begin_first : (last : Part) (lines : List (List ℕ)) → ((rest : List (List ℕ)) → AfterLines last rest) → BeginLines last (take 8 lines)
+    → BeginLines last lines
+begin_first last lines may begins = record {
+  night = begins.night;
+  rest = begins.rest ++ drop 8 lines;
+  can_be = begins.can_be;
+  lines_are = sym (take-append-drop 8 lines) ∙ ap (λ (l : List (List ℕ)). l ++ drop 8 lines) begins.lines_are
+      ∙ append_assoc (lines_to last begins.night) begins.rest (drop 8 lines);
+  after = may (begins.rest ++ drop 8 lines);
+}
+
+begun_first : (wrong : Part) (lines : List (List ℕ)) → AreLinesBegun wrong (take 8 lines) → AreLinesBegun wrong lines
+begun_first part.Version lines is = tt
+begun_first part.Number lines is = begin_first part.Version lines (λ rest. tt) is
+begun_first part.Name lines is = begin_first part.Number lines (λ rest. tt) is
+begun_first part.Moment lines is = begin_first part.Name lines (λ rest. tt) is
+begun_first part.Before lines is = begin_first part.Moment lines (λ rest. tt) is
+begun_first part.Status lines is = begin_first part.Before lines (λ rest. tt) is
+begun_first part.Release lines is = begin_first part.Status lines (λ rest. tt) is
+begun_first part.Clock lines is = begin_first part.Release lines (λ rest. tt) is
+begun_first part.MadeOf lines is = begin_first part.Clock lines (λ rest. tt) is
+begun_first part.Gave lines is = begin_first part.MadeOf lines (λ rest. tt) is
+
 pub head_fails : (lines : List (List ℕ)) (e : RecordFault) → IsHeadFault (take 8 lines) e → IsLinesFault lines e
 head_fails lines fault.Memory is = tt
 head_fails lines fault.CutOff is = absurd is
-head_fails lines (fault.Wrong wrong) is = head_begins wrong lines is
+head_fails lines (fault.Wrong wrong) is = (begun_first wrong lines is.0, head_begins wrong lines is.1)
 
 -- files that aren't those of a record
 parts_begin : (wrong : Part) (lines : List (List ℕ)) → IsPartsWrong wrong (drop 8 lines) → BeginLines wrong lines → ⊥
@@ -104,7 +129,7 @@ parts_begin part.MadeOf lines is begins =
       can_be = begins.can_be.made_of;
     })
 parts_begin part.Gave lines is begins =
-    is begins.night.made_of begins.night.gave (record {
+    is.1 begins.night.made_of begins.night.gave (record {
       lines_are = ap (λ (l : List (List ℕ)). drop 8 l)
           (begins.lines_are ∙ ap (λ (r : List (List ℕ)). record_lines begins.night ++ r) begins.after
           ∙ append-nil (record_lines begins.night));
@@ -112,13 +137,7 @@ parts_begin part.Gave lines is begins =
       gave_can = begins.can_be.gave;
     })
 
-pub parts_fail : (lines : List (List ℕ)) (e : RecordFault) → IsPartsFault (drop 8 lines) e → IsLinesFault lines e
-parts_fail lines fault.Memory is = tt
-parts_fail lines fault.CutOff is = absurd is
-parts_fail lines (fault.Wrong wrong) is = parts_begin wrong lines is
-
--- eight lines, one by one
-
+-- the first lines are those of the record that is made of them
 pub head_is : (lines : List (List ℕ)) (head : Head) (made_of gave : List SummedFile) → 8 ≤ length lines → IsHead (take 8 lines) head
     → take 8 lines ≡ head_lines (joined head made_of gave)
 head_is [] head made_of gave long is = absurd (omega (arith, long))
@@ -139,3 +158,75 @@ head_is (a ∷ b ∷ c ∷ d ∷ e ∷ f ∷ g ∷ h ∷ rest) head made_of gave
     let r = is.release in
     let k = is.clock in
     cc
+
+abbrev clocked : Head → NightRecord
+clocked head = joined head [] []
+
+head_can : (lines : List (List ℕ)) (head : Head) → IsHead lines head → CanBe (clocked head)
+head_can lines head is = record {
+  number = is.number_can;
+  name = is.name_can;
+  moment = is.moment_can;
+  before = is.before_can;
+  status = is.status_can;
+  release = is.release_can;
+  clock = is.clock_can;
+  made_of = refl;
+  gave = refl;
+}
+
+-- the first lines are right
+begun_head : (lines : List (List ℕ)) (head : Head) → 8 ≤ length lines → IsHead (take 8 lines) head → BeginLines part.Clock lines
+begun_head lines head long is = record {
+  night = clocked head;
+  rest = drop 8 lines;
+  can_be = head_can (take 8 lines) head is;
+  lines_are = sym (take-append-drop 8 lines) ∙ ap (λ (l : List (List ℕ)). l ++ drop 8 lines) (head_is lines head [] [] long is);
+  after = tt;
+}
+
+-- and the files that the night was made of
+begun_made_of : (lines : List (List ℕ)) (head : Head) → 8 ≤ length lines → IsHead (take 8 lines) head → (files : List SummedFile)
+    (rest : List (List ℕ)) → IsMadeOf (drop 8 lines) files rest → BeginLines part.MadeOf lines
+begun_made_of lines head long is files rest made =
+    let night : NightRecord = joined head files [] in
+    let can = head_can (take 8 lines) head is in record {
+      night = night;
+      rest = rest;
+      can_be = record {
+        number = can.number;
+        name = can.name;
+        moment = can.moment;
+        before = can.before;
+        status = can.status;
+        release = can.release;
+        clock = can.clock;
+        made_of = made.can_be;
+        gave = refl;
+      };
+      lines_are = sym (take-append-drop 8 lines)
+          ∙ ap (λ (l : List (List ℕ)). l ++ drop 8 lines) (head_is lines head files [] long is)
+          ∙ ap (λ (l : List (List ℕ)). head_lines night ++ l)
+          (made.lines_are ∙ sym (append_assoc (files_lines (codes "[made_of]") files) ([] ∷ []) rest))
+          ∙ sym (append_assoc (head_lines night) (files_lines (codes "[made_of]") files ++ [] ∷ []) rest);
+      after = tt;
+    }
+
+parts_begun : (wrong : Part) (lines : List (List ℕ)) (head : Head) → 8 ≤ length lines → IsHead (take 8 lines) head
+    → IsPartsWrong wrong (drop 8 lines) → AreLinesBegun wrong lines
+parts_begun part.Version lines head long is wrong = tt
+parts_begun part.Number lines head long is wrong = absurd wrong
+parts_begun part.Name lines head long is wrong = absurd wrong
+parts_begun part.Moment lines head long is wrong = absurd wrong
+parts_begun part.Before lines head long is wrong = absurd wrong
+parts_begun part.Status lines head long is wrong = absurd wrong
+parts_begun part.Release lines head long is wrong = absurd wrong
+parts_begun part.Clock lines head long is wrong = absurd wrong
+parts_begun part.MadeOf lines head long is wrong = begun_head lines head long is
+parts_begun part.Gave lines head long is wrong = begun_made_of lines head long is wrong.0.0 wrong.0.1 wrong.0.2
+
+pub parts_fail : (lines : List (List ℕ)) (head : Head) → 8 ≤ length lines → IsHead (take 8 lines) head → (e : RecordFault)
+    → IsPartsFault (drop 8 lines) e → IsLinesFault lines e
+parts_fail lines head long is fault.Memory wrong = tt
+parts_fail lines head long is fault.CutOff wrong = absurd wrong
+parts_fail lines head long is (fault.Wrong bad) wrong = (parts_begun bad lines head long is wrong, parts_begin bad lines wrong)

@@ -16,7 +16,7 @@ not_true : (x : Bool) → (x ≡ true → ⊥) → x ≡ false
 not_true true n = absurd (n refl)
 not_true false n = refl
 
-both : (a b : Bool) → (a && b) ≡ true → (a ≡ true) × (b ≡ true)
+pub both : (a b : Bool) → (a && b) ≡ true → (a ≡ true) × (b ≡ true)
 both true b e = (refl, e)
 both false b e = absurd (cc)
 
@@ -144,7 +144,8 @@ rest_run fields x (y ∷ ys) tail =
 
 -- a record of two fields or more starts as a field does, with no byte order mark
 plain_first : (x : List ℕ) (tail : List ℕ) → list_all is_text_data x ≡ true
-    → next_record default_config st.StartRecord [] [] (x ++ (44 ∷ tail)) ≡ next_record default_config st.StartField [] [] (x ++ (44 ∷ tail))
+    → next_record default_config st.StartRecord [] [] (x ++ (44 ∷ tail)) ≡ next_record default_config st.StartField [] [] (x ++ (44
+    ∷ tail))
 plain_first [] tail p = record_start 44 tail refl refl
 plain_first (b ∷ rest) tail p =
     let one = (both (is_text_data b) (list_all is_text_data rest) p).0 in
@@ -178,13 +179,13 @@ line_feed : (t : List ℕ)
 unfolding next_record
 line_feed t = refl
 
-wide_run : (row : List (List ℕ)) (tail : List ℕ) → is_wide row ≡ true
+pub wide_run : (row : List (List ℕ)) (tail : List ℕ) → is_wide row ≡ true
     → next_record default_config st.StartRecord [] [] (record_text row ++ tail) ≡ Some (row, st.AfterCr, 10 ∷ tail)
 wide_run [] tail wide = absurd (cc)
 wide_run (x ∷ []) tail wide = absurd (cc)
 wide_run (x ∷ y ∷ ys) tail wide = record_run x y ys tail
 
-none : next_record default_config st.StartRecord [] [] [] ≡ None
+pub none : next_record default_config st.StartRecord [] [] [] ≡ None
 unfolding next_record
 none = refl
 

@@ -1,12 +1,12 @@
 -- The text of a record, by its lines.
-use Rattle.std.proofs.Common.{◌≡◌, ◌∙◌, ℕ, ◌+◌, ◌<◌, ◌≤◌, Bool, true, List, [], ◌∷◌, ◌++◌, ap, append-nil, arith, codes, drop, length, length-append, refl, sym, take}
-use Rattle.std.specs.List.{list_all}
+use Rattle.std.proofs.Common.{◌≡◌, ◌∙◌, ℕ, ◌<◌, ◌≤◌, List, [], ◌∷◌, ◌++◌}
+use Rattle.std.proofs.Common.{ap, append-nil, arith, codes, drop, length, length-append, sym, take}
 use Rattle.std.proofs.lemmas.Grind.{flat_map-append}
 use Rattle.std.proofs.lemmas.List.{take-append-drop}
-use Rattle.night_record.specs.Lines.{AreLinesOf, IsUnended, is_line, lines_text}
-use Rattle.night_record.specs.Reading.{AfterLines, AreRecordLines, ArePartsOf, BeginLines, IsHead, IsLinesFault, joined}
-use Rattle.night_record.specs.Record.{CanBe, IsRecordOf, files_lines, head_lines, record_lines, record_text}
-use Rattle.night_record.specs.Refused.{Begins, IsNoRecord, IsReadFault, MayFollow, lines_to}
+use Rattle.night_record.specs.Lines.{AreLinesOf, IsUnended, lines_text}
+use Rattle.night_record.specs.Reading.{AfterLines, AreLinesBegun, AreRecordLines, ArePartsOf, BeginLines, IsHead, IsLinesFault, joined}
+use Rattle.night_record.specs.Record.{IsRecordOf, files_lines, head_lines, record_lines, record_text}
+use Rattle.night_record.specs.Refused.{Begins, IsBegun, IsNoRecord, IsReadFault, MayFollow, lines_to}
 use Rattle.night_record.specs.declared.fault.Part.{Part}
 use Rattle.night_record.specs.declared.fault.Part.TheVariants as part
 use Rattle.night_record.specs.declared.fault.RecordFault.{RecordFault}
@@ -66,7 +66,8 @@ after_part part.MadeOf rest left is may = tt
 after_part part.Gave rest left is may = no_lines left (is ∙ may)
 
 -- a text begins as its lines do
-lines_begin : (bytes : List ℕ) (lines : List (List ℕ)) → AreLinesOf bytes lines → (last : Part) → Begins last bytes → BeginLines last lines
+lines_begin : (bytes : List ℕ) (lines : List (List ℕ)) → AreLinesOf bytes lines → (last : Part) → Begins last bytes → BeginLines
+    last lines
 lines_begin bytes lines are last begins =
     let after = lines_after lines (lines_to last begins.night) begins.rest are.each (part_clean last begins.night begins.can_be)
     (sym are.text_is ∙ begins.text) in record {
@@ -77,11 +78,37 @@ lines_begin bytes lines are last begins =
       after = after_part last begins.rest after.rest after.text begins.after;
     }
 
+-- a text begins as its lines do, the other way round
+bytes_begin : (bytes : List ℕ) (lines : List (List ℕ)) → AreLinesOf bytes lines → (last : Part)
+    → ((rest : List ℕ) → MayFollow last rest) → BeginLines last lines → Begins last bytes
+bytes_begin bytes lines are last may begins = record {
+  night = begins.night;
+  rest = lines_text begins.rest;
+  can_be = begins.can_be;
+  text = are.text_is ∙ ap lines_text begins.lines_are
+      ∙ flat_map-append (λ (line : List ℕ). line ++ 10 ∷ []) (lines_to last begins.night) begins.rest;
+  after = may (lines_text begins.rest);
+}
+
+bytes_begun : (bytes : List ℕ) (lines : List (List ℕ)) → AreLinesOf bytes lines → (wrong : Part) → AreLinesBegun wrong lines
+    → IsBegun wrong bytes
+bytes_begun bytes lines are part.Version is = tt
+bytes_begun bytes lines are part.Number is = bytes_begin bytes lines are part.Version (λ rest. tt) is
+bytes_begun bytes lines are part.Name is = bytes_begin bytes lines are part.Number (λ rest. tt) is
+bytes_begun bytes lines are part.Moment is = bytes_begin bytes lines are part.Name (λ rest. tt) is
+bytes_begun bytes lines are part.Before is = bytes_begin bytes lines are part.Moment (λ rest. tt) is
+bytes_begun bytes lines are part.Status is = bytes_begin bytes lines are part.Before (λ rest. tt) is
+bytes_begun bytes lines are part.Release is = bytes_begin bytes lines are part.Status (λ rest. tt) is
+bytes_begun bytes lines are part.Clock is = bytes_begin bytes lines are part.Release (λ rest. tt) is
+bytes_begun bytes lines are part.MadeOf is = bytes_begin bytes lines are part.Clock (λ rest. tt) is
+bytes_begun bytes lines are part.Gave is = bytes_begin bytes lines are part.MadeOf (λ rest. tt) is
+
 pub lines_fail : (bytes : List ℕ) (lines : List (List ℕ)) → AreLinesOf bytes lines → (e : RecordFault) → IsLinesFault lines e
     → IsReadFault bytes e
 lines_fail bytes lines are fault.Memory is = tt
 lines_fail bytes lines are fault.CutOff is = absurd is
-lines_fail bytes lines are (fault.Wrong wrong) is = λ begins. is (lines_begin bytes lines are wrong begins)
+lines_fail bytes lines are (fault.Wrong wrong) is =
+    (bytes_begun bytes lines are wrong is.0, λ begins. is.1 (lines_begin bytes lines are wrong begins))
 
 -- the text is that of the record
 pub text_of_lines : (bytes : List ℕ) (lines : List (List ℕ)) → AreLinesOf bytes lines → (night : NightRecord) → AreRecordLines lines night

@@ -1,7 +1,8 @@
 -- What the lines of a text are read as (no public clause cites these).
 use Rattle.std.specs.Prelude.{◌≡◌, ◌≢◌, ⊤, ℕ, Bool, true, false, List, [], ◌∷◌, ◌++◌, Option, codes, map, option_map, slice_index_or}
 use denote.Ref.{Bor}
-use Rattle.night_record.specs.Record.{CanBe, are_files, before_text, file_line, files_lines, is_before, number_line, record_lines, text_line, version_line}
+use Rattle.night_record.specs.Record.{CanBe, are_files, before_text, file_line, files_lines}
+use Rattle.night_record.specs.Record.{is_before, number_line, record_lines, text_line, version_line}
 use Rattle.night_record.specs.Refused.{lines_to}
 use Rattle.night_record.specs.Values.{is_count, is_moment, is_name, is_status}
 use Rattle.night_record.specs.declared.fault.Part.{Part}
@@ -71,10 +72,36 @@ IsHeadWrong part.Clock lines = IsNoMoment (codes "clock") (line lines 7)
 IsHeadWrong part.MadeOf lines = ⊥
 IsHeadWrong part.Gave lines = ⊥
 
+-- after the last part comes no line
+abbrev pub AfterLines : Part → (rest : List (List ℕ)) → Type 0
+AfterLines part.Gave rest = rest ≡ []
+AfterLines _ rest = ⊤
+
+-- lines begin as those of a record that can be, up to a part, this part among them
+pub record BeginLines (last : Part) (lines : List (List ℕ)) : Type 0 where
+  pub night : NightRecord
+  pub rest : List (List ℕ)
+  pub can_be : CanBe night
+  pub lines_are : lines ≡ lines_to last night ++ rest
+  pub after : AfterLines last rest
+
+-- the parts before a part are right
+abbrev pub AreLinesBegun : Part → (lines : List (List ℕ)) → Type 0
+AreLinesBegun part.Version lines = ⊤
+AreLinesBegun part.Number lines = BeginLines part.Version lines
+AreLinesBegun part.Name lines = BeginLines part.Number lines
+AreLinesBegun part.Moment lines = BeginLines part.Name lines
+AreLinesBegun part.Before lines = BeginLines part.Moment lines
+AreLinesBegun part.Status lines = BeginLines part.Before lines
+AreLinesBegun part.Release lines = BeginLines part.Status lines
+AreLinesBegun part.Clock lines = BeginLines part.Release lines
+AreLinesBegun part.MadeOf lines = BeginLines part.Clock lines
+AreLinesBegun part.Gave lines = BeginLines part.MadeOf lines
+
 abbrev pub IsHeadFault : (lines : List (List ℕ)) → RecordFault → Type 0
 IsHeadFault lines fault.Memory = ⊤
 IsHeadFault lines fault.CutOff = ⊥
-IsHeadFault lines (fault.Wrong wrong) = IsHeadWrong wrong lines
+IsHeadFault lines (fault.Wrong wrong) = AreLinesBegun wrong lines × IsHeadWrong wrong lines
 
 -- lines of files
 pub record AreFilesOf (lines : List (List ℕ)) (files : List SummedFile) : Type 0 where
@@ -111,9 +138,12 @@ pub record ArePartsOf (lines : List (List ℕ)) (made_of gave : List SummedFile)
   pub made_of_can : are_files made_of ≡ true
   pub gave_can : are_files gave ≡ true
 
+-- what the night was made of is wrong, or it is right and what the night gave is wrong
 abbrev pub IsPartsWrong : Part → (lines : List (List ℕ)) → Type 0
 IsPartsWrong part.MadeOf lines = IsNoMadeOf lines
-IsPartsWrong part.Gave lines = (made_of gave : List SummedFile) → ArePartsOf lines made_of gave → ⊥
+IsPartsWrong part.Gave lines =
+    ((files : List SummedFile) × (rest : List (List ℕ)) × IsMadeOf lines files rest)
+    × ((made_of gave : List SummedFile) → ArePartsOf lines made_of gave → ⊥)
 IsPartsWrong _ lines = ⊥
 
 abbrev pub IsPartsFault : (lines : List (List ℕ)) → RecordFault → Type 0
@@ -135,23 +165,10 @@ joined head made_of gave = record {
   gave = gave;
 }
 
--- after the last part comes no line
-abbrev pub AfterLines : Part → (rest : List (List ℕ)) → Type 0
-AfterLines part.Gave rest = rest ≡ []
-AfterLines _ rest = ⊤
-
--- lines begin as those of a record that can be, up to a part, this part among them
-pub record BeginLines (last : Part) (lines : List (List ℕ)) : Type 0 where
-  pub night : NightRecord
-  pub rest : List (List ℕ)
-  pub can_be : CanBe night
-  pub lines_are : lines ≡ lines_to last night ++ rest
-  pub after : AfterLines last rest
-
 abbrev pub IsLinesFault : (lines : List (List ℕ)) → RecordFault → Type 0
 IsLinesFault lines fault.Memory = ⊤
 IsLinesFault lines fault.CutOff = ⊥
-IsLinesFault lines (fault.Wrong wrong) = BeginLines wrong lines → ⊥
+IsLinesFault lines (fault.Wrong wrong) = AreLinesBegun wrong lines × (BeginLines wrong lines → ⊥)
 
 -- lines are those of a record
 pub record AreRecordLines (lines : List (List ℕ)) (night : NightRecord) : Type 0 where

@@ -1,5 +1,5 @@
 -- The record of a night (own): what it says, when it can be, and the text that it is written as, which a TOML reader takes too.
-use Rattle.std.specs.Prelude.{◌≡◌, ◌&&◌, ℕ, Bool, true, false, List, [], ◌∷◌, ◌++◌, Option, Some, None, codes, decimal, map}
+use Rattle.std.specs.Prelude.{◌≡◌, ◌&&◌, ℕ, Bool, true, List, [], ◌∷◌, ◌++◌, Option, Some, None, codes, decimal, map}
 use Rattle.std.specs.List.{list_all}
 use Rattle.night_record.specs.Lines.{lines_text}
 use Rattle.night_record.specs.Values.{are_rising, is_count, is_moment, is_name, is_status, is_sum}

@@ -59,8 +59,21 @@ pub record Begins (last : Part) (bytes : List ℕ) : Type 0 where
 abbrev pub IsNoRecord : (bytes : List ℕ) → Type 0
 IsNoRecord bytes = (night : NightRecord) → IsRecordOf bytes night → ⊥
 
--- why a text isn't read
+-- the parts before a part are right
+abbrev pub IsBegun : Part → (bytes : List ℕ) → Type 0
+IsBegun part.Version bytes = ⊤
+IsBegun part.Number bytes = Begins part.Version bytes
+IsBegun part.Name bytes = Begins part.Number bytes
+IsBegun part.Moment bytes = Begins part.Name bytes
+IsBegun part.Before bytes = Begins part.Moment bytes
+IsBegun part.Status bytes = Begins part.Before bytes
+IsBegun part.Release bytes = Begins part.Status bytes
+IsBegun part.Clock bytes = Begins part.Release bytes
+IsBegun part.MadeOf bytes = Begins part.Clock bytes
+IsBegun part.Gave bytes = Begins part.MadeOf bytes
+
+-- why a text isn't read: a part is wrong, and those before it are right
 abbrev pub IsReadFault : (bytes : List ℕ) → RecordFault → Type 0
 IsReadFault bytes fault.Memory = ⊤
 IsReadFault bytes fault.CutOff = IsNoRecord bytes
-IsReadFault bytes (fault.Wrong wrong) = Begins wrong bytes → ⊥
+IsReadFault bytes (fault.Wrong wrong) = IsBegun wrong bytes × (Begins wrong bytes → ⊥)

@@ -1,7 +1,7 @@
-use Rattle.std.proofs.Common.{◌≡◌, ◌∙◌, List, ℕ, ◌++◌, ◌<◌, ◌-◌, ap, append_assoc, arith, codes, drop, length, length-append, sym, take, true, false}
+use Rattle.std.proofs.Common.{◌≡◌, ◌∙◌, ap, codes, sym, true}
 use Rattle.std.proofs.lemmas.List.{append_cancel_right}
 use Rattle.night_record.specs.Values.{is_name, is_sum}
-use Rattle.night_record.proofs.Between.{both_is, both_of, both_quoted, cut_both, file_parts, sum_long}
+use Rattle.night_record.proofs.Between.{both_is, both_of, both_quoted, cut_both, file_parts}
 use Rattle.night_record.proofs.files.file_in.Goals as goal
 use Rattle.night_record.proofs.files.file_in.Goals.{else-is_name-via-then-is_name+else-is_sum, else-is_name-via-else-is_name}
 

@@ -1,7 +1,7 @@
-use Rattle.std.proofs.Common.{◌≡◌, ◌∙◌, List, ap, map, refl, sym, true, false}
+use Rattle.std.proofs.Common.{◌≡◌, ◌∙◌, List, ap, map, refl, sym, true}
 use Rattle.std.specs.List.{list_all}
 use Rattle.std.proofs.lemmas.Bool.{and_parts}
-use Rattle.night_record.specs.Record.{file_line, is_file}
+use Rattle.night_record.specs.Record.{is_file}
 use Rattle.night_record.specs.Values.{are_rising}
 use Rattle.night_record.specs.declared.record.SummedFile.{SummedFile}
 use Rattle.night_record.proofs.Listed.{files_once}

@@ -1,4 +1,4 @@
-use Rattle.std.proofs.Common.{◌≡◌, ◌≤◌, ◌∙◌, ℕ, ap, codes, refl, sym, true, arith}
+use Rattle.std.proofs.Common.{◌≡◌, ◌≤◌, ◌∙◌, ℕ, ap, codes, refl, sym, true}
 use Rattle.std.proofs.lemmas.Bool.{and_parts, leb-true}
 use Rattle.night_record.specs.Values.{is_count}
 use Rattle.night_record.proofs.Between.{number_once}

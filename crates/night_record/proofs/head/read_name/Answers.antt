@@ -1,4 +1,4 @@
-use Rattle.std.proofs.Common.{◌≡◌, ◌∙◌, ap, false, refl, sym, true}
+use Rattle.std.proofs.Common.{◌≡◌, ◌∙◌, ap, refl, sym, true}
 use Rattle.night_record.specs.Values.{is_name}
 use Rattle.night_record.proofs.Between.{text_once}
 use Rattle.night_record.proofs.head.read_name.Goals as goal

@@ -1,6 +1,5 @@
-use Rattle.std.proofs.Common.{◌≡◌, ◌≤◌, ◌∙◌, ℕ, ap, codes, refl, sym, true, arith}
+use Rattle.std.proofs.Common.{◌≡◌, ◌≤◌, ◌∙◌, codes, refl, sym, arith}
 use Rattle.std.proofs.lemmas.Bool.{leb-true}
-use Rattle.night_record.specs.Values.{is_status}
 use Rattle.night_record.proofs.Between.{number_once}
 use Rattle.night_record.proofs.head.read_status.Goals as goal
 

@@ -1,12 +1,10 @@
-use Rattle.std.proofs.Common.{◌≡◌, ◌∙◌, ◌+◌, ◌-◌, ◌<◌, List, ℕ, [], ◌∷◌, ◌++◌, ap, arith, codes, drop, length, length-drop, map, subst, sym, take}
+use Rattle.std.proofs.Common.{◌≡◌, ◌∙◌, ◌+◌, ◌-◌, List, ℕ, [], ◌∷◌, ◌++◌, ap, arith, codes, drop, length, length-drop, map, sym, take}
 use Rattle.std.specs.Borrow.{Bor}
-use Rattle.std.specs.List.{list_all}
 use Rattle.std.proofs.lemmas.List.{take_all}
 use Rattle.csv_fields.specs.Csv.{read}
-use Rattle.night_record.specs.Reading.{IsNoFiles, IsNoMadeOf, IsWrongFor, line}
+use Rattle.night_record.specs.Reading.{IsNoMadeOf, IsWrongFor}
 use Rattle.night_record.specs.Record.{file_line}
 use Rattle.night_record.specs.declared.fault.Part.TheVariants as part
-use Rattle.night_record.specs.declared.fault.RecordFault.{RecordFault}
 use Rattle.night_record.proofs.Parted.{made_of_fails, no_made_of}
 use Rattle.night_record.proofs.Passing.{same_fault}
 use Rattle.night_record.proofs.Sliced.{blank_divides}

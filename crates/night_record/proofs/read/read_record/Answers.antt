@@ -1,11 +1,9 @@
-use Rattle.std.proofs.Common.{◌≡◌, ◌∙◌, List, ℕ, ap, arith, length, refl, subst, sym}
-use Rattle.std.specs.Borrow.{Bor}
-use Rattle.std.proofs.lemmas.Result.{IfErr-weaker, IfOk-weaker}
+use Rattle.std.proofs.Common.{◌≡◌, List, ℕ, ap, arith, subst, sym}
+use Rattle.std.proofs.lemmas.Result.{IfErr-weaker}
 use Rattle.csv_fields.specs.Csv.{read}
 use Rattle.night_record.specs.Lines.{AreLinesOf}
-use Rattle.night_record.specs.Reading.{AreRecordLines, IsLinesFault}
 use Rattle.night_record.proofs.Sliced.{read_length}
-use Rattle.night_record.proofs.Whole.{lines_fail, short_record, text_of_lines, unended_record}
+use Rattle.night_record.proofs.Whole.{lines_fail, short_record, unended_record}
 use Rattle.night_record.proofs.read.read_record.Goals as goal
 
 pub returns-in_default-clause-refused : goal.returns-in_default-clause-refused

@@ -1,4 +1,4 @@
-use Rattle.std.proofs.Common.{◌≡◌, ◌≤◌, ◌∙◌, ◌≢◌, List, ℕ, None, Option, Some, true, false, ap, sym, subst}
+use Rattle.std.proofs.Common.{◌≡◌, ◌≤◌, ◌∙◌, List, ℕ, None, Some, true, false, ap, sym}
 use Rattle.std.specs.Prelude.{decimal}
 use Rattle.hub_kinds.specs.Numbers.{number_of}
 use Rattle.night_record.proofs.Numbers.{nine_read}

@@ -1,4 +1,4 @@
-use Rattle.std.proofs.Common.{List, ℕ, [], ◌∷◌, ◌++◌, codes, rules}
+use Rattle.std.proofs.Common.{[], ◌∷◌, ◌++◌, codes, rules}
 use Rattle.night_record.specs.Record.{before_text, number_line, text_line}
 use Rattle.night_record.proofs.Appended.{four}
 use Rattle.night_record.proofs.write.append_next.Goals as goal
