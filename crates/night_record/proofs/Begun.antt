@@ -62,7 +62,7 @@ lines_one (a ∷ b ∷ c ∷ d ∷ e ∷ f ∷ g ∷ h ∷ rest) long = refl
 pub begun_version : (l : List (List ℕ)) → 8 ≤ length l → line l 0 ≡ version_line → BeginLines part.Version l
 begun_version l long e0 =
     let first : take 1 l ≡ take 1 (head_lines (night_of 1 (codes "n") (codes "000000000000") None 0 (codes "n"))) = ap (λ (x : List
-        (List ℕ)). take 1 x) (lines_one l long) ∙ (cc) in
+    (List ℕ)). take 1 x) (lines_one l long) ∙ (cc) in
     record {
       night = night_of 1 (codes "n") (codes "000000000000") None 0 (codes "n");
       rest = drop 1 l;
@@ -75,7 +75,7 @@ pub begun_number : (l : List (List ℕ)) (n : ℕ) → 8 ≤ length l → line l
     → is_count n ≡ true → BeginLines part.Number l
 begun_number l n long e0 e1 c1 =
     let first : take 2 l ≡ take 2 (head_lines (night_of n (codes "n") (codes "000000000000") None 0 (codes "n"))) = ap (λ (x : List
-        (List ℕ)). take 2 x) (lines_one l long) ∙ (cc) in
+    (List ℕ)). take 2 x) (lines_one l long) ∙ (cc) in
     record {
       night = night_of n (codes "n") (codes "000000000000") None 0 (codes "n");
       rest = drop 2 l;
@@ -88,7 +88,7 @@ pub begun_name : (l : List (List ℕ)) (n : ℕ) (a : List ℕ) → 8 ≤ length
     "number") n → is_count n ≡ true → line l 2 ≡ text_line (codes "name") a → is_name a ≡ true → BeginLines part.Name l
 begun_name l n a long e0 e1 c1 e2 c2 =
     let first : take 3 l ≡ take 3 (head_lines (night_of n a (codes "000000000000") None 0 (codes "n"))) = ap (λ (x : List (List
-        ℕ)). take 3 x) (lines_one l long) ∙ (cc) in
+    ℕ)). take 3 x) (lines_one l long) ∙ (cc) in
     record {
       night = night_of n a (codes "000000000000") None 0 (codes "n");
       rest = drop 3 l;
@@ -102,7 +102,7 @@ pub begun_moment : (l : List (List ℕ)) (n : ℕ) (a : List ℕ) (m : List ℕ)
     text_line (codes "moment") m → is_moment m ≡ true → BeginLines part.Moment l
 begun_moment l n a m long e0 e1 c1 e2 c2 e3 c3 =
     let first : take 4 l ≡ take 4 (head_lines (night_of n a m None 0 (codes "n"))) = ap (λ (x : List (List ℕ)). take 4 x)
-        (lines_one l long) ∙ (cc) in
+    (lines_one l long) ∙ (cc) in
     record {
       night = night_of n a m None 0 (codes "n");
       rest = drop 4 l;
@@ -117,7 +117,7 @@ pub begun_before : (l : List (List ℕ)) (n : ℕ) (a : List ℕ) (m : List ℕ)
     → is_before b ≡ true → BeginLines part.Before l
 begun_before l n a m b long e0 e1 c1 e2 c2 e3 c3 e4 c4 =
     let first : take 5 l ≡ take 5 (head_lines (night_of n a m b 0 (codes "n"))) = ap (λ (x : List (List ℕ)). take 5 x) (lines_one l
-        long) ∙ (cc) in
+    long) ∙ (cc) in
     record {
       night = night_of n a m b 0 (codes "n");
       rest = drop 5 l;
@@ -132,7 +132,7 @@ pub begun_status : (l : List (List ℕ)) (n : ℕ) (a : List ℕ) (m : List ℕ)
     → is_before b ≡ true → line l 5 ≡ number_line (codes "status") s → is_status s ≡ true → BeginLines part.Status l
 begun_status l n a m b s long e0 e1 c1 e2 c2 e3 c3 e4 c4 e5 c5 =
     let first : take 6 l ≡ take 6 (head_lines (night_of n a m b s (codes "n"))) = ap (λ (x : List (List ℕ)). take 6 x) (lines_one l
-        long) ∙ (cc) in
+    long) ∙ (cc) in
     record {
       night = night_of n a m b s (codes "n");
       rest = drop 6 l;

@@ -1,5 +1,5 @@
--- The two tables of a night (RFC 4180, comma-separated values; X12.5, ISA05 to ISA08 and ISA13; X12.6, GS06 and ST02; own): the interchanges
--- that it took, and the numbers that come next for each address that was ever sent to.
+-- The two tables of a night (RFC 4180, comma-separated values; X12.5, ISA05 to ISA08 and ISA13; X12.6, GS06 and ST02; own): the
+-- interchanges that it took, and the numbers that come next for each address that was ever sent to.
 use Rattle.std.specs.Prelude.{◌≡◌, ◌≢◌, ⊤, ◌&&◌, ℕ, Bool, true, false, List, [], ◌∷◌, ◌++◌, codes, decimal, map}
 use Rattle.std.specs.List.{list_all}
 use Rattle.hub_kinds.specs.declared.counters.Counters.{Counters}

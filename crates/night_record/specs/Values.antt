@@ -1,5 +1,5 @@
--- What may be in a record and in its tables: numbers, names, moments, sums, and the order of names (X12.5, ISA13; X12.6, GS06 and ST02; FIPS
--- 180-4, SHA-256; own).
+-- What may be in a record and in its tables: numbers, names, moments, sums, and the order of names (X12.5, ISA13; X12.6, GS06 and
+-- ST02; FIPS 180-4, SHA-256; own).
 use Rattle.std.specs.Prelude.{ℕ, ◌==◌, Bool, true, not, ◌&&◌, ◌||◌, nat_le, List, [], ◌∷◌, length}
 use Rattle.std.specs.Char.{is_ascii_digit}
 use Rattle.std.specs.Cmp.Lexicographic.{slice_cmp}

@@ -1,18 +1,17 @@
-//! What a hub writes down of a night: its record, and the tables of the interchanges that it took and of the numbers that come next. Each is
-//! written as a text, and read back.
+//! What a hub writes down of a night: its record, and two tables. Each is written as a text, and read back.
 //!
 //! The record is `night.toml`: lines of `KEY = VALUE`, then the files that the night was made of and those that it gave, each with its
-//! SHA-256, by their names in the order of bytes. A TOML reader takes this text too, if the names are UTF-8. `read_record` takes no other
-//! layout. A name has one byte or more; it has no control byte, no quotation mark and no backslash. A record names the SHA-256 of the record
-//! before it, so a night that was changed, taken out or put back is seen.
+//! SHA-256, by their names in the order of bytes. If the names are UTF-8, a TOML reader takes this text too. `read_record` takes no
+//! other layout. A name has one byte or more; it has no control byte, no quotation mark and no backslash. A record names the SHA-256
+//! of the record before it, so a night that was changed, taken out or put back is seen.
 //!
 //! The tables are `taken.csv` (ISA05 to ISA08 and ISA13 of each interchange) and `addresses.csv` (the next number of an interchange, a
 //! group and a set, for each address in the order of bytes).
 //!
 //! Proved:
 //! - `write_record` writes exactly the text of the definition; it refuses a record only if a part of it can't be, and names such a part;
-//! - `read_record` gives the record whose text the bytes are; it refuses bytes only if they are the text of no record that can be. It names
-//!   the first part that is wrong: the parts before it are right, and no record that can be begins with this part too;
+//! - `read_record` gives the record whose text the bytes are; it refuses bytes only if they are the text of no record that can be. It
+//!   names the first part that is wrong: the parts before it are right, and no record that can be begins with this part too;
 //! - a text is that of one record, so reading what was written gives it back (`records_read_back`);
 //! - `append_taken` and `append_addresses` write exactly the tables of the definitions; `read_taken` and `read_addresses` give the list
 //!   whose table the bytes are, and refuse no table; a table is that of one list (`taken_reads_back`, `addresses_read_back`).

@@ -25,7 +25,7 @@ returns-in_default-2-clause-refused c = (
   (c.in-Some.text.now, c.in-Some.ensures ∙ ap (λ (l : List ℕ). l ++ c.in-Some.text.now) c.address_columns.ensures),
   λ list can same. c.in_ok-rows.ensures.none c.in_default-2.is (map address_row list) (record {
     records = rest_is c.args.bytes.now c.address_columns.result.now c.in-Some.text.now list c.in-Some.ensures
-    c.address_columns.ensures same;
+        c.address_columns.ensures same;
     width = address_wide list;
   }),
 )
@@ -37,7 +37,7 @@ returns-in_default-3-clause-refused c = (
       let rows : List (List (List ℕ)) = map fields_of c.in-Some-2.rows.items in
       let has : HasRows c.in-Some.text.now rows = rw c.in-Some-2.is at c.in_ok-rows.ensures.some in
       let text = rest_is c.args.bytes.now c.address_columns.result.now c.in-Some.text.now list c.in-Some.ensures
-          c.address_columns.ensures same in
+      c.address_columns.ensures same in
       let one = table_once rows (map address_row list) has.width (address_wide list) (sym has.records ∙ text) in
       let none = rw c.in_default-3.is at c.in_ok-list.ensures in
       none list can (ap (λ (l : List ByteRecord). map fields_of l) c.as_slice.ensures.value ∙ one)

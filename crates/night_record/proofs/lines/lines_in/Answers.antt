@@ -50,11 +50,17 @@ returns-in_default-clause-none c is =
     let text : List ℕ = c.args.text.now in
     let at : ℕ = c.loop-at.at in
     let long : length (drop at text) ≡ length text - at = length-drop at text in
-    let whole : take (length text - at) (drop at text) ≡ drop at text = take_all (length text - at) (drop at text) (omega (arith,
-        long)) in
+    let whole : take (length text - at) (drop at text) ≡ drop at text = take_all (length text - at) (drop at text) (omega (
+      arith,
+      long,
+    )) in
     unended text (read c.loop-at.lines.items) (drop at text) c.loop-at.invariant.each
     (sym (take-append-drop at text) ∙ ap (λ (l : List ℕ). l ++ drop at text) (sym c.loop-at.invariant.so_far))
     (line_open (drop at text) (subst (λ (l : List ℕ). position (λ byte. byte == 10) l ≡ None) whole (sym c.line_end.ensures ∙
     c.in_default.is)))
-    (λ empty. let none : length (drop at text) ≡ 0 = ap (λ (l : List ℕ). length l) empty in omega (arith, long, none,
-    c.loop-at-test.true))
+    (λ empty. let none : length (drop at text) ≡ 0 = ap (λ (l : List ℕ). length l) empty in omega (
+      arith,
+      long,
+      none,
+      c.loop-at-test.true,
+    ))

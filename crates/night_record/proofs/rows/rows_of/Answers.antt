@@ -12,7 +12,7 @@ returns-else-branch-clause-none c is rows has =
     let read : List (List (List ℕ)) = map fields_of c.in_ok-rows.rows.items in
     let same : read ≡ rows = read_back rows read c.args.text.now has.records has.width c.in_ok-rows.ensures in
     let lent : map fields_of c.as_slice.result.now ≡ rows = ap (λ (l : List ByteRecord). map fields_of l) c.as_slice.ensures.value
-        ∙ same in
+    ∙ same in
     let are = c.in_ok-are_rows_of.ensures.1 (
       ap (λ (l : List (List (List ℕ))). list_all is_wide l) lent ∙ has.width,
       has.records ∙ ap (λ (l : List (List (List ℕ))). table_text l) (sym lent),
