@@ -1,13 +1,16 @@
 -- Changes of a place, one after another.
-use Rattle.std.proofs.Common.{◌≡◌, ◌∙◌, ℕ, ◌⊎◌, List, [], ◌∷◌, ◌++◌, Option, None, Some, Result, Ok, Err, ap, append-nil, append_assoc, inl, inr, refl, subst, sym}
-use Rattle.std.specs.Prelude.{Contains, IsTrue, MatchResult, OnOk}
-use Rattle.night_shelf.specs.Shelf.{ArePut, Changes, IsKept, IsLaid, IsMade, IsNamed, IsNamedOnDisk, IsPut, IsSettled, IsSynced, KeepsNights, MayLeave, MayName, Place, night_of}
+use Rattle.std.proofs.Common.{◌≡◌, ◌∙◌, ℕ, List, [], ◌∷◌, ◌++◌, Option, None, Some}
+use Rattle.std.proofs.Common.{Result, Ok, Err, ap, append-nil, append_assoc, inl, inr, refl, sym}
+use Rattle.std.specs.Prelude.{MatchResult, OnOk}
+use Rattle.night_shelf.specs.Shelf.{ArePut, Changes, IsKept, IsLaid, IsMade, IsNamed, IsNamedOnDisk, IsPut}
+use Rattle.night_shelf.specs.Shelf.{IsSettled, IsSynced, KeepsNights, MayLeave, MayName, Place, night_of}
 use Rattle.night_shelf.specs.declared.night.KeptNight.{KeptNight}
 use Rattle.night_shelf.specs.declared.night.NightFile.{NightFile}
 
 -- two changes make one
 pub both : (first second whole : Place → Place → Type 0)
-    → ((a b c : Place) → first a b → second b c → whole a c) → (a b c : Option Place) → Changes first a b → Changes second b c → Changes whole a c
+    → ((a b c : Place) → first a b → second b c → whole a c) → (a b c : Option Place) → Changes first a b → Changes second b c →
+    Changes whole a c
 both first second whole join None b c one two = tt
 both first second whole join (Some a) None c one two = absurd one
 both first second whole join (Some a) (Some b) None one two = absurd two
@@ -34,7 +37,8 @@ keeps_both a b c one two = record { named = two.named ∙ one.named; left = λ n
 pub put_none : (a : Place) → ArePut [] a a
 put_none a = record { nights = keeps_same a; tonight = sym (append-nil a.tonight) }
 
-pub put_more : (files : List NightFile) (file : NightFile) (a b c : Place) → ArePut files a b → IsPut file b c → ArePut (files ++ file ∷ []) a c
+pub put_more : (files : List NightFile) (file : NightFile) (a b c : Place) → ArePut files a b → IsPut file b c → ArePut (files ++
+    file ∷ []) a c
 put_more files file a b c one two = record {
   nights = keeps_both a b c one.nights two.nights;
   tonight = two.tonight ∙ ap (λ (l : List NightFile). l ++ file ∷ []) one.tonight ∙ append_assoc a.tonight files (file ∷ []);

@@ -1,4 +1,4 @@
-ghost use Rattle.std.specs.Prelude.{◌≡◌, ◌++◌, IfOk, OnOk, map};
+ghost use Rattle.std.specs.Prelude.{◌≡◌, ◌++◌, ◌∷◌, [], IfOk, MatchResult, OnOk, map};
 ghost use Rattle.night_shelf.specs.declared.night.KeptNight.{KeptNight};
 
 use crate::night::{KeptNight, NightFile};
@@ -84,14 +84,13 @@ impl Shelf for MemoryShelf {
         let name = copy_text(self.alloc, name)?;
         let files = mem::replace(&mut self.tonight, Vec::new(self.alloc));
         self.is_made = false;
-        let night = KeptNight {
-            name,
-            files: Items::from_vec(files),
-        };
-        match self.fresh.push(night) {
-            Ok(()) => Ok(()),
-            Err(_) => Err(ShelfFault::Memory),
-        }
+        push_night(
+            &mut self.fresh,
+            KeptNight {
+                name,
+                files: Items::from_vec(files),
+            },
+        )
     }
 
     fn sync_nights(&mut self) -> Result<(), ShelfFault> {
@@ -125,4 +124,14 @@ fn push_names(alloc: Global, names: &mut Vec<Text>, nights: &[KeptNight]) -> Res
         names.push(copy_text(alloc, nights[i].name.as_slice())?)?;
     }
     Ok(())
+}
+
+/// Adds `night` to `fresh`. If memory is refused, `fresh` stays as it was.
+fn push_night(fresh: &mut Vec<KeptNight>, night: KeptNight) -> Result<(), ShelfFault>
+    ensures { MatchResult result (λ _. fresh.new.items ≡ fresh.old.items ++ night ∷ []) (λ _. fresh.new.items ≡ fresh.old.items) }
+{
+    match fresh.push(night) {
+        Ok(()) => Ok(()),
+        Err(_) => Err(ShelfFault::Memory),
+    }
 }

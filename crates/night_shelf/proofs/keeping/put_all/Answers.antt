@@ -1,6 +1,6 @@
 use Rattle.std.proofs.Common.{◌≡◌, ◌∙◌, ℕ, ◌+◌, List, [], ◌∷◌, ◌++◌, ap, arith, subst, sym, take}
 use Rattle.std.proofs.lemmas.List.{take_more}
-use Rattle.night_shelf.specs.Shelf.{ArePut, IsPut, KeepsNights, Place}
+use Rattle.night_shelf.specs.Shelf.{ArePut, IsPut, KeepsNights}
 use Rattle.night_shelf.specs.declared.night.NightFile.{NightFile}
 use Rattle.night_shelf.proofs.Changing.{are_nights, both, none_done, put_keeps, put_more, put_none, weaker}
 use Rattle.night_shelf.proofs.keeping.put_all.Goals as goal
