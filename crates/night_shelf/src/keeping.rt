@@ -37,8 +37,10 @@ fn give_name<S: Shelf>(shelf: &mut S, name: &[u8]) -> Result<(), ShelfFault>
 /// Keeps a night of `files` under `name`. At `Ok` its files may be sent: whatever stops from then on, the night is there, whole. A stop at
 /// any moment of the call leaves the nights as they were, or with this one.
 pub fn keep<S: Shelf>(shelf: &mut S, name: &[u8], files: &[NightFile]) -> Result<(), ShelfFault>
-    ensures kept { OnOk result (states.Changes (states.IsKept (record { name = name.now; files = files.now })) (S.place shelf.old) (S.place shelf.new)) }
-    ensures stopped { states.Changes (states.MayLeave (record { name = name.now; files = files.now })) (S.place shelf.old) (S.place shelf.new) }
+    ensures kept { OnOk result (states.Changes (states.IsKept (record { name = name.now; files = files.now }))
+        (S.place shelf.old) (S.place shelf.new)) }
+    ensures stopped { states.Changes (states.MayLeave (record { name = name.now; files = files.now }))
+        (S.place shelf.old) (S.place shelf.new) }
 {
     lay(shelf, files)?;
     give_name(shelf, name)
