@@ -1,0 +1,17 @@
+mod Appended
+mod Begun
+mod Between
+mod Clean
+mod Cutting
+mod Growing
+mod LineTexts
+mod Listed
+mod Numbers
+mod Once
+mod Parted
+mod Passing
+mod ReadRows
+mod Sliced
+mod Tabled
+mod Whole
+mod Worked
