@@ -1,7 +1,7 @@
 -- Why there isn't a record, to be written or of a text (own): the first part that is wrong, in the order of the lines. Out of memory says
 -- nothing of the record.
-use Rattle.std.specs.Prelude.{◌≡◌, ⊤, ℕ, false, List, [], ◌∷◌, ◌++◌, codes, take}
-use Rattle.night_record.specs.Lines.{lines_text}
+use Rattle.std.specs.Prelude.{◌≡◌, ◌<◌, ◌⊎◌, ⊤, ℕ, false, List, [], ◌∷◌, ◌++◌, codes, length, take}
+use Rattle.night_record.specs.Lines.{AreLinesOf, IsUnended, lines_text}
 use Rattle.night_record.specs.Record.{CanBe, IsRecordOf, are_files, files_lines, head_lines, is_before, record_lines}
 use Rattle.night_record.specs.Values.{is_count, is_moment, is_name, is_status}
 use Rattle.night_record.specs.declared.fault.Part.{Part}
@@ -59,6 +59,16 @@ pub record Begins (last : Part) (bytes : List ℕ) : Type 0 where
 abbrev pub IsNoRecord : (bytes : List ℕ) → Type 0
 IsNoRecord bytes = (night : NightRecord) → IsRecordOf bytes night → ⊥
 
+-- the lines of a text are fewer than those that each record has
+pub record IsShort (bytes : List ℕ) : Type 0 where
+  pub lines : List (List ℕ)
+  pub are : AreLinesOf bytes lines
+  pub short : length lines < 12
+
+-- a text that ends too early: after its last line is no line feed, or it has too few lines
+abbrev pub IsCutOff : (bytes : List ℕ) → Type 0
+IsCutOff bytes = (IsUnended bytes ⊎ IsShort bytes) × IsNoRecord bytes
+
 -- the parts before a part are right
 abbrev pub IsBegun : Part → (bytes : List ℕ) → Type 0
 IsBegun part.Version bytes = ⊤
@@ -75,5 +85,5 @@ IsBegun part.Gave bytes = Begins part.MadeOf bytes
 -- why a text isn't read: a part is wrong, and those before it are right
 abbrev pub IsReadFault : (bytes : List ℕ) → RecordFault → Type 0
 IsReadFault bytes fault.Memory = ⊤
-IsReadFault bytes fault.CutOff = IsNoRecord bytes
+IsReadFault bytes fault.CutOff = IsCutOff bytes
 IsReadFault bytes (fault.Wrong wrong) = IsBegun wrong bytes × (Begins wrong bytes → ⊥)

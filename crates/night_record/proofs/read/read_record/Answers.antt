@@ -1,4 +1,4 @@
-use Rattle.std.proofs.Common.{◌≡◌, List, ℕ, ap, arith, subst, sym}
+use Rattle.std.proofs.Common.{◌≡◌, ◌<◌, List, ℕ, ap, arith, inl, inr, length, subst, sym}
 use Rattle.std.proofs.lemmas.Result.{IfErr-weaker}
 use Rattle.csv_fields.specs.Csv.{read}
 use Rattle.night_record.specs.Lines.{AreLinesOf}
@@ -7,13 +7,17 @@ use Rattle.night_record.proofs.Whole.{lines_fail, short_record, unended_record}
 use Rattle.night_record.proofs.read.read_record.Goals as goal
 
 pub returns-in_default-clause-refused : goal.returns-in_default-clause-refused
-returns-in_default-clause-refused c = unended_record c.args.bytes.now (c.in_ok-lines.ensures.none c.in_default.is)
+returns-in_default-clause-refused c =
+    let none = c.in_ok-lines.ensures.none c.in_default.is in (inl none, unended_record c.args.bytes.now none)
 
 pub returns-then-len-lt-LEAST_LINES-clause-refused : goal.returns-then-len-lt-LEAST_LINES-clause-refused
 returns-then-len-lt-LEAST_LINES-clause-refused c =
     let are : AreLinesOf c.args.bytes.now (read c.in-Some.lines.items) = rw c.in-Some.is at c.in_ok-lines.ensures.lines in
-    short_record c.args.bytes.now (read c.in-Some.lines.items) are
-    (omega (arith, read_length c.in-Some.lines.items, c.len.ensures, c.if-len-lt-LEAST_LINES.true))
+    let short : length (read c.in-Some.lines.items) < 12 =
+    omega (arith, read_length c.in-Some.lines.items, c.len.ensures, c.if-len-lt-LEAST_LINES.true) in (
+      inr (record { lines = read c.in-Some.lines.items; are = are; short = short }),
+      short_record c.args.bytes.now (read c.in-Some.lines.items) are short,
+    )
 
 pub returns-clause-refused : goal.returns-clause-refused
 returns-clause-refused c =
