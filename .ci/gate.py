@@ -68,3 +68,25 @@ class Count:
         """Prints the last line, and answers the status."""
         print(f"{self.passed} passed, {self.failed} failed")
         return 1 if self.failed or not self.passed else 0
+
+
+def state_of_crates():
+    """How many files the crates of the current folder have, and the newest time of one."""
+    found = [(len(names), max([os.stat(f"{at}/{name}").st_mtime_ns for name in names], default=0))
+             for crate in os.listdir("crates") for part in ("src", "specs", "proofs") for at, _, names in os.walk(f"crates/{crate}/{part}")]
+    return sum(count for count, _ in found), max((time for _, time in found), default=0), os.stat("crates.txt").st_mtime_ns
+
+
+def sum_each_crate_once(rtlib):
+    """Has the toolchain sum each crate once. It sums a library's files and those of the crates below it along each way that leads down to
+    a crate; if crates list all that they use there are a million such ways, an hour of one processor. A crate's sum is worked out again
+    only if a file of the crates has changed."""
+    work_out, kept = rtlib.Crate.stamp, {}
+
+    def stamp(crate):
+        key = crate.folder, state_of_crates()
+        if key not in kept:
+            kept[key] = work_out(crate)
+        return kept[key]
+
+    rtlib.Crate.stamp = stamp

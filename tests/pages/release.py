@@ -10,8 +10,10 @@ import check
 import words
 from trial import PROGRAM, TOP, Page
 
-GATHER, TRACK, DAY, DIFF = (os.path.abspath(os.environ.get(name.upper(), os.path.join(TOP, "crates", name, "out", name)))
-                 for name in ("nighthub_gather", "nighthub_track", "nighthub_day", "nighthub_diff"))
+# the programs beside those that the other pages run
+BESIDE = [os.path.abspath(os.environ.get(name.upper(), os.path.join(TOP, "crates", name, "out", name)))
+          for name in sorted(os.listdir(os.path.join(TOP, "crates")))
+          if name.startswith("nighthub_") and name not in ("nighthub_check", "nighthub_explain")]
 TOTAL = "total interchanges 2 refused 0 groups 2 sets 2 accepted 2 held 0 outside 0"
 
 
@@ -46,7 +48,7 @@ def examples():
     with tempfile.TemporaryDirectory(prefix="nighthub-release-") as here:
         programs = os.path.join(here, "programs")
         os.mkdir(programs)
-        for path in (PROGRAM, check.CHECK, words.PROGRAM, GATHER, TRACK, DAY, DIFF):
+        for path in (PROGRAM, check.CHECK, words.PROGRAM, *BESIDE):
             shutil.copy(path, programs)
         made = subprocess.run([os.path.join(TOP, ".ci", "release"), programs, os.path.join(here, "dist")], capture_output=True, text=True)
         page.want("the archive is made", (made.returncode, made.stderr), (0, ""))

@@ -2,9 +2,8 @@
 -- header; and which texts are none (own).
 use Rattle.std.specs.Prelude.{◌≡◌, ◌≢◌, ℕ, true, false, List, [], ◌∷◌}
 use Rattle.std.specs.List.{flat_map}
-use Rattle.x12_bytes.specs.Header.{header_delims, header_at}
-use Rattle.x12_bytes.specs.HeaderTest.{is_head}
 use Rattle.x12_bytes.specs.declared.delims.Delims.{Delims}
+use Rattle.night_definition.specs.Header.{delims_of, header_at, is_head}
 use Rattle.ack_read.specs.Responses.{Response}
 use Rattle.ack_read.specs.Ta1s.{Ta1}
 use Rattle.ack_read.specs.Told.{told_in}
@@ -15,7 +14,7 @@ use Rattle.ack_read.specs.declared.told.Told.TheVariants as told
 
 -- the delimiters of the header that the text begins with
 abbrev pub first_delims : (text : List ℕ) → Delims
-first_delims text = header_delims (header_at text 0)
+first_delims text = delims_of (header_at text 0)
 
 -- these are the acknowledgments of a text: it begins with a header, and reports an interchange, a set or a group
 pub record AreToldBy (text : List ℕ) (found : List Told) : Type 0 where

@@ -31,6 +31,7 @@ pub fn read_acknowledgments<'a>(alloc: Global, text: &'a [u8]) -> Result<Vec<Tol
 }
 
 /// What a text reports, read by these delimiters.
+#[tactic(auto, using(night_equal::proofs::ForAbove::segments_are))]
 fn told_in<'a>(alloc: Global, delims: Delims, text: &'a [u8]) -> Result<Vec<Told<'a>>, NoMemory>
     ensures { IfOk result (λ found. found.items ≡ told_in delims text.now) }
 {

@@ -1,5 +1,6 @@
 ghost use Rattle.std.specs.Prelude.{◌≡◌, ◌<◌, ◌++◌, OnOk, IfOk, [], ◌∷◌};
-ghost use Rattle.x12_segs.specs.Words.{elements_of, part_or_empty};
+ghost use Rattle.x12_segs.specs.Words.{elements_of};
+ghost use Rattle.night_definition.specs.Segments.{element};
 ghost use Rattle.ack_read.specs.Told as told;
 ghost use Rattle.ack_read.specs.declared.told.NoteTold.TheVariants.{OfElement, OfSegment};
 
@@ -88,8 +89,8 @@ impl<'a> Standing<'a> {
 
     fn begin_group(&mut self, segment: &SegView<'a>)
         ensures { self.new ≡ record self.old {
-          functional_id = part_or_empty (elements_of segment.now) 1;
-          group_control = part_or_empty (elements_of segment.now) 2;
+          functional_id = element 1 (elements_of segment.now);
+          group_control = element 2 (elements_of segment.now);
         } }
     {
         let mut elements = segment.elements();
@@ -99,8 +100,8 @@ impl<'a> Standing<'a> {
 
     fn begin_set(&mut self, segment: &SegView<'a>)
         ensures { self.new ≡ record self.old {
-          identifier = part_or_empty (elements_of segment.now) 1;
-          control = part_or_empty (elements_of segment.now) 2;
+          identifier = element 1 (elements_of segment.now);
+          control = element 2 (elements_of segment.now);
           notes = [];
         } }
     {

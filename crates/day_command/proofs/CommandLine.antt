@@ -9,10 +9,11 @@ use Rattle.std.specs.Borrow.{Bor}
 use Rattle.std.specs.declared.alloc.Global.{Global}
 use Rattle.night_ends.proofs.ForAbove.{asks_for_text, found}
 use Rattle.track_tables.specs.declared.export.Form.{Form}
-use Rattle.day_command.specs.CommandLine.{AsksForText, IsAsked, IsRequest, IsShown, Request, check, day_app, export, find, request_given}
+use Rattle.day_command.specs.CommandLine.{AsksForText, IsAsked, IsRequest, IsShown, Request, check, day_app, export, find, page}
+use Rattle.day_command.specs.CommandLine.{request_given}
 use Rattle.day_command.specs.CommandLine.{request_of, value_of}
 use Rattle.day_command.specs.declared.command.Asked.{Asked}
-use Rattle.day_command.specs.declared.command.Asked.TheVariants.{Check, Export, Find, Show}
+use Rattle.day_command.specs.declared.command.Asked.TheVariants.{Check, Export, Find, Page, Show}
 
 simple : is_simple day_app ≡ true
 unfolding clap_on_literals
@@ -43,6 +44,7 @@ pub asked : (words : List Text) (m : ArgMatches) (asked : Asked) → HasMatchesO
 asked words m (Check nights) has given = sym (same words m has) ∙ given
 asked words m (Find nights text) has given = sym (same words m has) ∙ given
 asked words m (Export nights form) has given = sym (same words m has) ∙ given
+asked words m (Page nights night) has given = sym (same words m has) ∙ given
 asked words m (Show text) has given = absurd given
 
 pub shown : (words : List Text) (e : Error) (asked : Asked) → HasKind (fault_of day_app words) e
@@ -50,6 +52,7 @@ pub shown : (words : List Text) (e : Error) (asked : Asked) → HasKind (fault_o
 shown words e (Check nights) kind passes is = absurd is
 shown words e (Find nights text) kind passes is = absurd is
 shown words e (Export nights form) kind passes is = absurd is
+shown words e (Page nights night) kind passes is = absurd is
 shown words e (Show text) kind passes is =
     let both = asks_for_text day_app words e kind passes is in record { asked = both.0; no_run = both.1 }
 
@@ -65,6 +68,10 @@ find_asked words asked nights text is by = subst (λ (a : Asked). IsAsked words 
 pub export_asked : (words : List Text) (asked : Asked) (nights : Bor (List ℕ)) (form : Form) → asked ≡ Export nights form
     → IsAsked words asked → request_of (value_of words) ≡ Some (export nights.now form)
 export_asked words asked nights form is by = subst (λ (a : Asked). IsAsked words a) is by
+
+pub page_asked : (words : List Text) (asked : Asked) (nights night : Bor (List ℕ)) → asked ≡ Page nights night → IsAsked words asked
+    → request_of (value_of words) ≡ Some (page nights.now night.now)
+page_asked words asked nights night is by = subst (λ (a : Asked). IsAsked words a) is by
 
 -- the text that is asked for isn't shown in place of anything else
 pub text_asked : (words : List Text) (asked : Asked) (text : String Global) → asked ≡ Show text → IsAsked words asked → AsksForText words

@@ -8,7 +8,8 @@ use Rattle.track_tables.specs.declared.export.Form.{Form}
 use Rattle.track_tables.specs.declared.night.NightTable.{NightTable}
 use Rattle.day_command.specs.Export.{IsExport}
 use Rattle.day_command.specs.Outcome.{IsExportReport, IsSearchReport}
-use Rattle.day_command.specs.Tables.{AreNights, IsTableAt}
+use Rattle.night_review.specs.Nights.{AreNights}
+use Rattle.day_command.specs.Tables.{IsTableAt}
 use Rattle.day_command.specs.declared.export.Export.{Export}
 
 pub searched : (nights wanted text : List ℕ) (status : ℕ) (marks order : List NightMark) (tables : List NightTable) (complete : Bool)

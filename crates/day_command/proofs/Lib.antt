@@ -1,7 +1,8 @@
 mod CommandLine
-mod Counting
 mod Exporting
 mod Finding
-mod GoingOn
+mod LastNight
+mod Paging
 mod Reporting
+mod Telling
 mod Zips

@@ -1,22 +1,22 @@
 -- What is printed of nights is made of what was read of them.
-use Rattle.std.proofs.Common.{◌≡◌, ◌∙◌, ℕ, List, [], codes, length, subst}
+use Rattle.std.proofs.Common.{◌≡◌, ◌∙◌, ℕ, List, [], ap, codes, length, subst}
 use Rattle.std.specs.List.{AllZip, filter_map}
 use Rattle.hub_ledger.specs.declared.entry.NightEntry.{NightEntry}
 use Rattle.night_ends.specs.Outbox.{path_in}
-use Rattle.night_folder.specs.Files.{FileValue, bytes_or_none, first_line}
+use Rattle.night_folder.specs.Files.{FileValue}
 use Rattle.night_folder.specs.Nights.{IsRead, bad_in, entry_in}
 use Rattle.night_folder.specs.declared.night.NightRead.{NightRead}
 use Rattle.night_marks.specs.Order.{in_order}
 use Rattle.night_marks.specs.declared.bad.BadFile.{BadFile}
 use Rattle.night_marks.specs.declared.mark.NightMark.{NightMark}
-use Rattle.day_command.specs.GoingOn.{IsJudged}
-use Rattle.day_command.specs.Outcome.{IsReport}
-use Rattle.day_command.specs.Tables.{AreNights}
+use Rattle.night_review.specs.GoingOn.{IsJudged}
+use Rattle.day_command.specs.Outcome.{IsReport, named_last}
+use Rattle.night_review.specs.Nights.{AreNights}
 
 pub reported : (nights text : List ℕ) (status : ℕ) (marks order : List NightMark) (reads : List NightRead) (entries : List NightEntry)
     (bad : List BadFile) (last : FileValue) (limit named : List ℕ) → AreNights nights marks → order ≡ in_order (length marks) [] marks
     → AllZip (IsRead nights) order reads → last.path ≡ path_in nights (codes ".last") → entries ≡ filter_map entry_in reads
-    → bad ≡ filter_map bad_in reads → named ≡ first_line (bytes_or_none last.bytes) → IsJudged limit named order entries bad text status
+    → bad ≡ filter_map bad_in reads → named ≡ named_last last.bytes entries → IsJudged limit named order entries bad text status
     → IsReport nights text status
 reported nights text status marks order reads entries bad last limit named marks_are ordered read_by last_at entries_are bad_are named_is
     judged =
@@ -31,7 +31,8 @@ reported nights text status marks order reads entries bad last limit named marks
       last_at = last_at;
       limit = limit;
       judged =
-          subst (λ (n : List ℕ). IsJudged limit n order (filter_map entry_in reads) (filter_map bad_in reads) text status) named_is
+          subst (λ (n : List ℕ). IsJudged limit n order (filter_map entry_in reads) (filter_map bad_in reads) text status)
+          (named_is ∙ ap (λ (e : List NightEntry). named_last last.bytes e) entries_are)
           (subst (λ (b : List BadFile). IsJudged limit named order (filter_map entry_in reads) b text status) bad_are
           (subst (λ (e : List NightEntry). IsJudged limit named order e bad text status) entries_are judged));
     }

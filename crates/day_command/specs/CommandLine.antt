@@ -15,7 +15,7 @@ use Rattle.day_command.specs.declared.command.Asked.TheVariants as asked
 abbrev pub word_rule : Text → Rule
 word_rule name = record (new_rule name) { value_names = 1; required = true; action = Some Set }
 
--- the text to find, after the folder
+-- the text to find, or the night of a page, after the folder
 abbrev pub text_rule : Rule
 text_rule = record (new_rule (codes "text")) { value_names = 1; action = Some Set }
 
@@ -45,8 +45,9 @@ pub data Request : Type 0 where
   check : (nights : Text) → Request
   find : (nights text : Text) → Request
   export : (nights : Text) → Form → Request
+  page : (nights night : Text) → Request
 
--- a text that documents are searched for: it isn't empty, and is UTF-8
+-- a text that documents are searched for, or a night's name: it isn't empty, and is UTF-8
 abbrev pub is_text : Text → Bool
 is_text [] = false
 is_text (b ∷ bs) = not (is_marked (b ∷ bs))
@@ -60,13 +61,14 @@ is_given (Some value) = bytes_eq value (codes "true")
 abbrev pub form_of : (is_sheet : Bool) → Form
 form_of is_sheet = if is_sheet then form.Sheet else form.Plain
 
--- `find` takes a text, the others none; `export` takes `--sheet`
+-- `find` takes a text and `page` a night, the others none; `export` takes `--sheet`
 abbrev pub request_by : (command nights : Text) → (text : Option Text) → (is_sheet : Bool) → Option Request
 request_by command nights None is_sheet =
     if bytes_eq command (codes "export") then Some (export nights (form_of is_sheet))
     else if bytes_eq command (codes "check") && not is_sheet then Some (check nights) else None
 request_by command nights (Some text) is_sheet =
-    if bytes_eq command (codes "find") && (is_text text && not is_sheet) then Some (find nights text) else None
+    if bytes_eq command (codes "find") && (is_text text && not is_sheet) then Some (find nights text)
+    else if bytes_eq command (codes "page") && (is_text text && not is_sheet) then Some (page nights text) else None
 
 -- without a command or a folder they ask for nothing
 abbrev pub request_given : (command nights text sheet : Option Text) → Option Request
@@ -93,6 +95,7 @@ abbrev pub IsRequest : Option Request → Asked → Type 0
 IsRequest request (asked.Check nights) = request ≡ Some (check nights.now)
 IsRequest request (asked.Find nights text) = request ≡ Some (find nights.now text.now)
 IsRequest request (asked.Export nights form) = request ≡ Some (export nights.now form)
+IsRequest request (asked.Page nights night) = request ≡ Some (page nights.now night.now)
 IsRequest request (asked.Show text) = ⊥
 
 abbrev pub IsRequested : Option Request → Option Asked → Type 0
@@ -104,6 +107,7 @@ abbrev pub IsAsked : List Text → Asked → Type 0
 IsAsked words (asked.Check nights) = request_of (value_of words) ≡ Some (check nights.now)
 IsAsked words (asked.Find nights text) = request_of (value_of words) ≡ Some (find nights.now text.now)
 IsAsked words (asked.Export nights form) = request_of (value_of words) ≡ Some (export nights.now form)
+IsAsked words (asked.Page nights night) = request_of (value_of words) ≡ Some (page nights.now night.now)
 IsAsked words (asked.Show text) = AsksForText words
 
 -- private: the kind of what clap reports
@@ -111,4 +115,5 @@ abbrev pub IsShown : ErrorKind → Asked → Type 0
 IsShown kind (asked.Check nights) = ⊥
 IsShown kind (asked.Find nights text) = ⊥
 IsShown kind (asked.Export nights form) = ⊥
+IsShown kind (asked.Page nights night) = ⊥
 IsShown kind (asked.Show text) = (kind ≡ DisplayHelp) ⊎ (kind ≡ DisplayVersion)

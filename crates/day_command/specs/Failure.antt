@@ -1,5 +1,7 @@
 -- The program's failures (own): the line that each prints, and the status that it ends with.
 use Rattle.std.specs.Prelude.{ℕ, ◌==◌, ◌||◌, IsTrue, List, ◌++◌, codes}
+use Rattle.night_review.specs.declared.fault.ReviewFault.{ReviewFault}
+use Rattle.night_review.specs.declared.fault.ReviewFault.TheVariants as review
 use Rattle.day_command.specs.declared.failure.Failure.{Failure}
 use Rattle.day_command.specs.declared.failure.Failure.TheVariants as failure
 use Rattle.day_command.specs.declared.mistake.Mistake.{Mistake}
@@ -8,13 +10,21 @@ use Rattle.day_command.specs.declared.mistake.Mistake.TheVariants as mistake
 -- the line on standard error
 abbrev pub line_of : Failure → List ℕ
 line_of failure.Input = codes "nighthub_day: input: NIGHTS can't be listed, or has a name that isn't UTF-8\n"
+line_of failure.Night = codes "nighthub_day: input: the night has no track.csv and out/ that can be read\n"
 line_of failure.Clock = codes "nighthub_day: input: the clock can't be read\n"
 line_of failure.Stdout = codes "nighthub_day: output stdout\n"
 line_of failure.Stderr = codes "nighthub_day: output stderr\n"
 line_of failure.Memory = codes "nighthub_day: memory\n"
 
+-- the failure of nights that aren't looked at
+abbrev pub of_review : ReviewFault → Failure
+of_review review.Unlisted = failure.Input
+of_review review.Clock = failure.Clock
+of_review review.Memory = failure.Memory
+
 abbrev pub status_of : Failure → ℕ
 status_of failure.Input = 4
+status_of failure.Night = 4
 status_of failure.Clock = 4
 status_of failure.Stdout = 5
 status_of failure.Stderr = 5

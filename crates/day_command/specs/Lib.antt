@@ -1,7 +1,6 @@
 pub mod CommandLine
-pub mod Count
 pub mod Export
 pub mod Failure
-pub mod GoingOn
 pub mod Outcome
+pub mod Page
 pub mod Tables

@@ -1,10 +1,12 @@
 -- The program's results (own): what is printed of the nights in the folder that the arguments name, and the status.
-use Rattle.std.specs.Prelude.{ℕ, ◌≡◌, ◌↔◌, ◌⊎◌, true, List, [], Option, Some, codes, length}
+use Rattle.std.specs.Prelude.{ℕ, ◌≡◌, ◌↔◌, ◌⊎◌, true, List, [], Option, Some, None, codes, length}
 use Rattle.std.specs.List.{AllZip, filter_map}
 use Rattle.std.specs.Io.KnownBytes.{Appends}
 use Rattle.clap.specs.Words.{Text}
 use Rattle.night_ends.specs.Outbox.{path_in}
-use Rattle.night_folder.specs.Files.{FileValue, bytes_or_none, first_line}
+use Rattle.hub_ledger.specs.declared.entry.NightEntry.{NightEntry}
+use Rattle.night_breaches.specs.Breaches.{last_name}
+use Rattle.night_folder.specs.Files.{FileValue, first_line}
 use Rattle.night_folder.specs.Nights.{IsRead, bad_in, entry_in}
 use Rattle.night_marks.specs.Order.{in_order}
 use Rattle.night_marks.specs.declared.mark.NightMark.{NightMark}
@@ -13,10 +15,17 @@ use Rattle.night_search.specs.Lines.{unread_lines}
 use Rattle.night_search.specs.Search.{are_read, is_found, search_text}
 use Rattle.track_tables.specs.declared.export.Form.{Form}
 use Rattle.track_tables.specs.declared.night.NightTable.{NightTable}
-use Rattle.day_command.specs.CommandLine.{AsksForText, Request, check, export, find, request_of, value_of}
+use Rattle.day_command.specs.CommandLine.{AsksForText, Request, check, export, find, page, request_of, value_of}
 use Rattle.day_command.specs.Export.{export_text}
-use Rattle.day_command.specs.GoingOn.{IsJudged}
-use Rattle.day_command.specs.Tables.{AreNights, AreTables}
+use Rattle.night_review.specs.GoingOn.{IsJudged}
+use Rattle.day_command.specs.Page.{IsPageReport}
+use Rattle.night_review.specs.Nights.{AreNights}
+use Rattle.day_command.specs.Tables.{AreTables}
+
+-- the night that is named last; a folder without a file .last names the last night that was read
+abbrev pub named_last : (last : Option (List ℕ)) → List NightEntry → List ℕ
+named_last None entries = last_name entries
+named_last (Some bytes) entries = first_line bytes
 
 -- the folder was listed, its nights were read in their order, and this is what is said of them
 pub record IsReport (nights text : List ℕ) (status : ℕ) : Type 0 where
@@ -29,8 +38,8 @@ pub record IsReport (nights text : List ℕ) (status : ℕ) : Type 0 where
   pub last : FileValue
   pub last_at : last.path ≡ path_in nights (codes ".last")
   pub limit : List ℕ
-  pub judged : IsJudged limit (first_line (bytes_or_none last.bytes)) order (filter_map entry_in reads) (filter_map bad_in reads) text
-      status
+  pub judged : IsJudged limit (named_last last.bytes (filter_map entry_in reads)) order (filter_map entry_in reads)
+      (filter_map bad_in reads) text status
 
 -- such a text is what was printed
 pub record IsChecked (nights : List ℕ) (status : ℕ) (was is : Option (List ℕ)) : Type 0 where
@@ -67,6 +76,12 @@ pub record IsExported (nights : List ℕ) (form : Form) (status : ℕ) (was is e
   pub printed : Appends was is text
   pub named : Appends err_was err_is unread
 
+-- such a page is what was printed
+pub record IsPaged (nights night : List ℕ) (status : ℕ) (was is : Option (List ℕ)) : Type 0 where
+  pub text : List ℕ
+  pub report : IsPageReport nights night text status
+  pub printed : Appends was is text
+
 -- a text was shown that the arguments ask for
 pub record IsShownText (words : List Text) (status : ℕ) (was is : Option (List ℕ)) : Type 0 where
   pub asked : AsksForText words
@@ -78,6 +93,7 @@ pub record IsShownText (words : List Text) (status : ℕ) (was is : Option (List
 abbrev pub IsDone : Request → (status : ℕ) → (was is err_was err_is : Option (List ℕ)) → Type 0
 IsDone (check nights) status was is err_was err_is = IsChecked nights status was is
 IsDone (find nights wanted) status was is err_was err_is = IsSearched nights wanted status was is
+IsDone (page nights night) status was is err_was err_is = IsPaged nights night status was is
 IsDone (export nights form) status was is err_was err_is = IsExported nights form status was is err_was err_is
 
 -- what the arguments ask for was done, or such a text was shown

@@ -22,21 +22,28 @@ const STATUSES: &str = "Commands:
                           prints the rows of the nights' track.csv as one CSV,
                           the night in the first column; with --sheet no field
                           is a formula
+  page NIGHTS NIGHT       prints a page of HTML on the night NIGHT: what there
+                          is to do, what senders are told, all sets
+
+Also init, run and give-up, for the nights of a hub: nighthub_day run --help.
 
 Status:
   0  check: each night goes on from those before it; find: a row was found, and
-     each track.csv was read; export: each track.csv was read
+     each track.csv was read; export: each track.csv was read; page:
+     there is nothing to do at the hub
   1  check: one doesn't, a line for each breach; find: none was found, or a
-     track.csv wasn't read; export: a track.csv wasn't read
+     track.csv wasn't read; export: a track.csv wasn't read; page: there is
+     something to do
   2  usage
-  4  NIGHTS can't be read
+  4  NIGHTS can't be read; page: or the night's track.csv or out/
   5  standard output; export: or standard error
   6  no memory
 
 Examples:
   nighthub_day check nights
   nighthub_day find nights 4500012348
-  nighthub_day export nights >sets.csv";
+  nighthub_day export nights >sets.csv
+  nighthub_day page nights 20260301 >nights/20260301/page.html";
 
 /// What the arguments ask for.
 #[derive(Debug, Drop)]
@@ -47,6 +54,8 @@ pub enum Asked<'a> {
     Find(&'a str, &'a str),
     /// To export the tables of the nights in the folder at this path.
     Export(&'a str, Form),
+    /// To write the page of a night in the folder at this path.
+    Page(&'a str, &'a str),
     /// To show a text: help, or the version.
     Show(String),
 }
@@ -76,7 +85,7 @@ fn words_command<'a>(alloc: Global) -> Result<Command<'a>, AllocError>
     ensures { IfOk result (λ command. app_of command ≡ line.words_app) }
 {
     let command = Command::new(alloc, "nighthub_day")
-        .about("Checks, searches and exports the nights of a folder")
+        .about("Checks, searches and exports the nights of a folder, and writes pages of them")
         .version(RELEASE)
         .after_help(STATUSES)
         .no_binary_name(true);
@@ -84,7 +93,7 @@ fn words_command<'a>(alloc: Global) -> Result<Command<'a>, AllocError>
         alloc,
         "command",
         "COMMAND",
-        "check, find or export; each only reads",
+        "check, find, export or page; each only reads",
     );
     let command = with_argument(command, what)?;
     let nights = word(
@@ -115,7 +124,7 @@ fn text<'a>(alloc: Global) -> Arg<'a>
 {
     Arg::new(alloc, "text")
         .value_name("TEXT")
-        .help("find: a part of a document number")
+        .help("find: a part of a document number; page: a night's name")
         .required(false)
         .action(ArgAction::Set)
 }
@@ -173,6 +182,8 @@ fn with_text<'a>(command: &str, nights: &'a str, text: &'a str, is_sheet: bool) 
 {
     if command == "find" && (is_text(text) && !is_sheet) {
         Some(Asked::Find(nights, text))
+    } else if command == "page" && (is_text(text) && !is_sheet) {
+        Some(Asked::Page(nights, text))
     } else {
         None
     }
@@ -216,7 +227,7 @@ fn request_asked<'a>(alloc: Global, matches: &ArgMatches<'a>) -> Result<Asked<'a
         Some(asked) => Ok(asked),
         None => Err(Mistake::Usage(copy_text(
             alloc,
-            b"it takes check NIGHTS, find NIGHTS TEXT, where TEXT isn't empty, or export [--sheet] NIGHTS",
+            b"it takes check NIGHTS, find NIGHTS TEXT, where TEXT isn't empty, export [--sheet] NIGHTS, or page NIGHTS NIGHT",
         )?)),
     }
 }

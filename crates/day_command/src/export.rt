@@ -7,9 +7,10 @@ ghost use Rattle.day_command.specs.Outcome.{IsExportReport};
 ghost use Rattle.day_command.specs.Tables.{IsTableAt};
 
 use crate::failure::Failure;
-use crate::tables::{nights_at, table_at};
+use crate::tables::table_at;
 use hub_kinds::NoMemory;
 use night_marks::{NightMark, in_order};
+use night_review::nights_at;
 use night_search::append_unread;
 use std::alloc::Global;
 use std::rt::Files;

@@ -4,6 +4,7 @@ ghost use Rattle.day_command.specs.Failure.{line_of, status_of};
 
 use hub_kinds::NoMemory;
 use night_ends::print_text;
+use night_review::ReviewFault;
 use std::alloc::AllocError;
 use std::io;
 use std::io::Write;
@@ -20,6 +21,8 @@ pub struct Reported {
 pub enum Failure {
     /// The folder of all nights can't be listed, or has a name that isn't UTF-8.
     Input,
+    /// The night that is named has no table or no folder out/ that can be read.
+    Night,
     /// The clock can't be read.
     Clock,
     /// Standard output failed.
@@ -50,6 +53,8 @@ impl Failure {
         match self {
             Failure::Input =>
                 "nighthub_day: input: NIGHTS can't be listed, or has a name that isn't UTF-8\n",
+            Failure::Night =>
+                "nighthub_day: input: the night has no track.csv and out/ that can be read\n",
             Failure::Clock => "nighthub_day: input: the clock can't be read\n",
             Failure::Stdout => "nighthub_day: output stdout\n",
             Failure::Stderr => "nighthub_day: output stderr\n",
@@ -62,7 +67,7 @@ impl Failure {
         ensures values { (result ≡ 4) ⊎ ((result ≡ 5) ⊎ (result ≡ 6)) }
     {
         match self {
-            Failure::Input | Failure::Clock => 4,
+            Failure::Input | Failure::Night | Failure::Clock => 4,
             Failure::Stdout | Failure::Stderr => 5,
             Failure::Memory => 6,
         }
@@ -88,5 +93,20 @@ impl From<NoMemory> for Failure {
 
     fn from(_error: NoMemory) -> Failure {
         Failure::Memory
+    }
+}
+
+impl From<ReviewFault> for Failure {
+    ghost use Rattle.std.specs.Prelude.{◌≡◌};
+    ghost use Rattle.day_command.specs.Failure.{of_review};
+
+    ghost from_gives = { λ fault failure. failure ≡ of_review fault };
+
+    fn from(fault: ReviewFault) -> Failure {
+        match fault {
+            ReviewFault::Unlisted => Failure::Input,
+            ReviewFault::Clock => Failure::Clock,
+            ReviewFault::Memory => Failure::Memory,
+        }
     }
 }

@@ -7,10 +7,10 @@ ghost use Rattle.day_command.specs.Outcome.{IsSearchReport};
 ghost use Rattle.day_command.specs.Tables.{IsTableAt};
 
 use crate::failure::Failure;
-use crate::judge::Report;
-use crate::tables::{nights_at, table_at};
+use crate::tables::table_at;
 use hub_kinds::NoMemory;
 use night_marks::{NightMark, in_order};
+use night_review::{Report, nights_at};
 use night_search::Search;
 use std::rt::Files;
 

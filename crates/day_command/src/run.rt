@@ -1,19 +1,20 @@
 ghost use Rattle.std.specs.Prelude.{◌≡◌, ◌≢◌, ◌≤◌, ◌↔◌, ◌⊎◌, true, map, IfErr, IfOk};
 ghost use Rattle.std.specs.Io.KnownBytes.{Appends};
+ghost use Rattle.night_breaches.specs.Breaches.{last_name};
 ghost use Rattle.day_command.specs.CommandLine.{IsCommandLine};
 ghost use Rattle.day_command.specs.Failure.{IsBefore, IsStatus};
-ghost use Rattle.day_command.specs.Outcome.{AsksForExport, IsChecked, IsExported, IsReport, IsRun, IsSearched};
+ghost use Rattle.day_command.specs.Outcome.{AsksForExport, IsChecked, IsExported, IsPaged, IsReport, IsRun, IsSearched, named_last};
 
-use crate::clock::limit;
 use crate::command::{Asked, read_words};
 use crate::export::{Export, export_nights};
 use crate::failure::Failure;
 use crate::find::{find_nights, status_of};
-use crate::judge::{Report, judged};
-use crate::tables::nights_at;
+use crate::page::page_of;
+use hub_ledger::NightEntry;
 use night_ends::print_text;
-use night_folder::{entries_in, first_line, read_nights, read_paper};
+use night_folder::{PaperAt, entries_in, first_line, read_nights, read_paper};
 use night_marks::in_order;
+use night_review::{Report, judged, limit, nights_at};
 use std::convert::AsStr;
 use std::io::Write;
 use std::rt::{Clock, Files};
@@ -38,6 +39,7 @@ where
         Ok(Asked::Check(nights)) => check_nights(rt, nights, out, err),
         Ok(Asked::Find(nights, text)) => print_found(rt, nights, text, out, err),
         Ok(Asked::Export(nights, form)) => print_exported(rt, nights, form, out, err),
+        Ok(Asked::Page(nights, night)) => print_page(rt, nights, night, out, err),
         Ok(Asked::Show(text)) => finish(text.as_bytes(), 0, out, err),
         Err(mistake) => mistake.report(err).status,
     }
@@ -79,6 +81,24 @@ where
     }
 }
 
+/// Prints the page of the night `night` of the folder at the path `nights`.
+fn print_page<R, O, E>(rt: &R, nights: &str, night: &str, out: &mut O, err: &mut E) -> u8
+where
+    R: Files + AllocGlobal + Clone + Drop,
+    O: Write,
+    E: Write,
+    ensures status { IsStatus result }
+    ensures words { result ≢ 2 }
+    ensures silent { 2 ≤ result → result ≢ 5 → out.new ≡ out.old }
+    ensures quiet { result ≤ 1 → err.new ≡ err.old }
+    ensures printed { result ≤ 1 → IsPaged nights.now night.now result (O.contents out.old) (O.contents out.new) }
+{
+    match page_of(rt, nights, night) {
+        Ok(report) => finish(report.text.as_slice(), report.status, out, err),
+        Err(failure) => failure.report(err).status,
+    }
+}
+
 /// Prints the tables of the nights of the folder at the path `nights`, and on standard error those that weren't read.
 fn print_exported<R, O, E>(rt: &R, nights: &str, form: Form, out: &mut O, err: &mut E) -> u8
 where
@@ -113,6 +133,27 @@ fn finish_both<O: Write, E: Write>(all: &Export, out: &mut O, err: &mut E) -> u8
     status_of(all.all_read)
 }
 
+/// The name of the last of `entries`.
+fn last_name(entries: &[NightEntry]) -> &[u8]
+    ensures { result.now ≡ last_name entries.entry.now }
+{
+    match entries.last() {
+        None => b"",
+        Some(night) => night.name.as_slice(),
+    }
+}
+
+/// The night that is named last: by the file .last; if that can't be read, the last night that was read, since the nights of a hub have no
+/// such file.
+fn named_last<'a>(last: &'a PaperAt, entries: &'a [NightEntry]) -> &'a [u8]
+    ensures { result.now ≡ named_last last.entry.now.bytes entries.entry.now }
+{
+    match last.bytes() {
+        Some(bytes) => first_line(bytes),
+        None => last_name(entries),
+    }
+}
+
 /// What is printed of the nights in the folder at the path `nights`.
 fn report_of<R: Files + Clock + AllocGlobal + Clone + Drop>(
     rt: &R,
@@ -135,7 +176,7 @@ fn report_of<R: Files + Clock + AllocGlobal + Clone + Drop>(
         entries.as_slice(),
         bad.as_slice(),
         limit.as_bytes(),
-        first_line(last.bytes_or_none()),
+        named_last(&last, entries.as_slice()),
     )?;
     Ok(report)
 }

@@ -6,7 +6,7 @@ use guide_tree::Guide;
 use guide_widening::{are_widenings, differences};
 use hub_kinds::NoMemory;
 use std::alloc::Global;
-use widening_law::wider_guides_take_more;
+use widening_law::wider_guides_take_each_set;
 
 /// What is printed of two guides, and the status.
 #[derive(Debug, Drop)]
@@ -28,7 +28,10 @@ pub fn compared(alloc: Global, old: &Guide, new: &Guide) -> Result<Report, NoMem
     ensures compared { IfOk result (λ report. IsCompared old.now new.now report.text.items report.status) }
     ensures values { IfOk result (λ report. (report.status ≡ 0) ⊎ (report.status ≡ 1)) }
 {
-    wider_guides_take_more();
+    wider_guides_take_each_set();
+    // both guides are accepted
+    let _old = old.rows();
+    let _new = new.rows();
     let found = differences(alloc, old, new)?;
     let text = diff_text(alloc, old, new, found.as_slice())?;
     let status = status_of(are_widenings(found.as_slice()));

@@ -1,10 +1,11 @@
 -- What a reader gives is explained, or refused, as its text is.
-use Rattle.std.proofs.Common.{◌≡◌, ◌⊎◌, inl, inr, ℕ, List, Vec, Option, None, Some, Result, Ok, Err, subst, sym}
-use Rattle.std.specs.Prelude.{IfErr, IfOk, IfSome, IsErrAnd, IsOkAnd}
+use Rattle.std.proofs.Common.{◌≡◌, ◌⊎◌, inl, inr, ℕ, List, Vec, Option, None, Some, Result, Ok, Err, true, false, refl, subst, sym}
+use Rattle.std.specs.Prelude.{◌≢◌, IfErr, IfOk, IfSome, IsErrAnd, IsOkAnd, is_some}
 use Rattle.std.specs.declared.alloc.Global.{Global}
 use Rattle.std.specs.declared.io.Error.{Error}
 use Rattle.explain_command.specs.Failure.{IsOfInput, IsOfText}
 use Rattle.explain_command.specs.Outcome.{IsExplanationOf, IsSaidOf}
+use Rattle.explain_command.specs.declared.ends.CutOff.{CutOff}
 use Rattle.explain_command.specs.declared.explain.Account.{Account}
 use Rattle.explain_command.specs.declared.failure.Failure.{Failure}
 use Rattle.explain_command.specs.declared.failure.Failure.TheVariants as failure
@@ -27,6 +28,20 @@ of_reader (Some xs) text failure.Is997 same by = subst (λ (t : List ℕ). IsOfT
 of_reader (Some xs) text (failure.CutOff cut) same by = by
 of_reader (Some xs) text failure.Stdout same by = by
 of_reader (Some xs) text failure.Memory same by = tt
+
+-- out of memory says nothing of a text
+pub of_memory : {A : Type 0} (result : Result A Failure) (text : List ℕ) → IsErrAnd result (λ f. f ≡ failure.Memory)
+    → IfErr result (IsOfText text)
+of_memory (Ok a) text memory = tt
+of_memory (Err f) text memory = subst (λ (g : Failure). IsOfText text g) (sym memory) tt
+
+pub is_cut : (cut : Option CutOff) → is_some cut ≡ true → cut ≢ None
+is_cut None some = (let no : false ≡ true = some in cc)
+is_cut (Some c) some = λ e. cc
+
+pub is_whole : (cut : Option CutOff) → is_some cut ≡ false → cut ≡ None
+is_whole None none = refl
+is_whole (Some c) none = (let no : true ≡ false = none in cc)
 
 unread : (declared : Option (List ℕ)) (failed : Failure) → (failed ≡ failure.Memory) ⊎ (failed ≡ failure.Input)
     → IsOfInput declared failed

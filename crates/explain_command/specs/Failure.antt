@@ -5,7 +5,7 @@ use Rattle.std.specs.declared.io.ErrorKind.TheVariants.{OutOfMemory}
 use Rattle.ack_read.specs.Words.{IsRefused}
 use Rattle.ack_read.specs.declared.fault.ReadFault.{ReadFault}
 use Rattle.ack_read.specs.declared.fault.ReadFault.TheVariants as fault
-use Rattle.x12_bytes.specs.HeaderTest.{is_head}
+use Rattle.night_definition.specs.Header.{is_head}
 use Rattle.file_names.specs.Shown.{shown}
 use Rattle.explain_command.specs.Ends.{cut_of, is_997, other_set}
 use Rattle.explain_command.specs.declared.ends.CutOff.TheVariants as cut

@@ -1,7 +1,8 @@
 ghost use Rattle.std.specs.Prelude.{◌≡◌, false, length, true};
-ghost use Rattle.x12_bytes.specs.Bytes.{is_line_end};
 ghost use Rattle.std.specs.List.{list_any};
-ghost use Rattle.x12_segs.specs.Words.{views};
+ghost use Rattle.x12_segs.specs.Words.{elements_of};
+ghost use Rattle.night_definition.specs.Segments.{is_line_end};
+ghost use Rattle.night_definition.specs.ReadBack.{segments_in};
 ghost use Rattle.ack_read.specs.Words.{first_delims};
 ghost use Rattle.explain_command.specs.Ends as ends;
 
@@ -41,8 +42,9 @@ fn stays_begun(begun: bool, id: &[u8]) -> bool
 }
 
 /// Whether a set is begun, and no SE follows.
+#[tactic(auto, using(night_equal::proofs::ForAbove::segments_are))]
 fn ends_in_set(text: &[u8], delims: Delims) -> bool
-    ensures { result ≡ ends.ends_in_set false (views text.now delims) }
+    ensures { result ≡ ends.ends_in_set false (segments_in delims text.now) }
 {
     let mut begun = false;
     for segment in segments(text, delims) {
@@ -52,14 +54,15 @@ fn ends_in_set(text: &[u8], delims: Delims) -> bool
 }
 
 fn is_response(segment: &SegView<'_>) -> bool
-    ensures { result ≡ ends.is_response segment.now }
+    ensures { result ≡ ends.is_response (elements_of segment.now) }
 {
     segment.id() == b"AK5".as_slice()
 }
 
 /// Whether a text, read by these delimiters, has the response to a set that a 997 has.
+#[tactic(auto, using(night_equal::proofs::ForAbove::segments_are))]
 pub fn has_response(text: &[u8], delims: Delims) -> bool
-    ensures { result ≡ list_any ends.is_response (views text.now delims) }
+    ensures { result ≡ list_any ends.is_response (segments_in delims text.now) }
 {
     for segment in segments(text, delims) {
         if is_response(&segment) {
@@ -105,14 +108,15 @@ fn other_id(id: &[u8]) -> Option<SetId>
 }
 
 fn is_set(segment: &SegView<'_>) -> bool
-    ensures { result ≡ ends.is_set segment.now }
+    ensures { result ≡ ends.is_set (elements_of segment.now) }
 {
     segment.id() == b"ST".as_slice()
 }
 
 /// The id of the first set of a text, read by these delimiters, if that isn't an acknowledgment.
+#[tactic(auto, using(night_equal::proofs::ForAbove::segments_are))]
 pub fn other_set(text: &[u8], delims: Delims) -> Option<SetId>
-    ensures { result ≡ ends.other_in (views text.now delims) }
+    ensures { result ≡ ends.other_in (segments_in delims text.now) }
 {
     for segment in segments(text, delims) {
         if is_set(&segment) {

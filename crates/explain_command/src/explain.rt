@@ -4,7 +4,7 @@ ghost use Rattle.std.specs.IoError.{error_kind};
 ghost use Rattle.explain_command.specs.Failure.{IsMemoryOr, IsOfInput, IsOfText};
 ghost use Rattle.explain_command.specs.Outcome.{IsExplanationOf, IsSaidOf};
 ghost use Rattle.explain_command.specs.Ends.{cut_of, is_997};
-ghost use Rattle.x12_bytes.specs.HeaderTest.{is_head};
+ghost use Rattle.night_definition.specs.Header.{is_head};
 ghost use Rattle.ack_read.specs.Words.{first_delims};
 
 use crate::ends::{CutOff, cut_of, has_response, other_set};

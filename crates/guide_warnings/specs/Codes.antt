@@ -3,10 +3,10 @@ use Rattle.std.specs.Prelude.{ℕ, ◌==◌, Bool, false, ◌&&◌, ◌||◌, no
 use Rattle.std.specs.List.{find, list_any}
 use Rattle.std.specs.Option.{option_map_or}
 use Rattle.hub_kinds.specs.Words.{contains_text}
-use Rattle.elem_rules.specs.Values.{calendar_fault, is_form, value_length}
 use Rattle.guide_tree.specs.Words.{is_within}
 use Rattle.guide_tree.specs.declared.element.SimpleRow.{SimpleRow}
 use Rattle.guide_tree.specs.declared.slot.Slot.{Slot}
+use Rattle.night_definition.specs.Values.{calendar_fault, is_form, value_length}
 use Rattle.guide_warnings.specs.declared.warning.At.{At}
 use Rattle.guide_warnings.specs.declared.warning.CodeDoubt.{CodeDoubt}
 use Rattle.guide_warnings.specs.declared.warning.CodeDoubt.TheVariants as doubt

@@ -1,7 +1,8 @@
-ghost use Rattle.std.specs.Prelude.{◌≡◌, ◌≤◌, ◌++◌, ◌||◌, length, IfOk, OnOk, option_map};
+ghost use Rattle.std.specs.Prelude.{◌≡◌, ◌≤◌, ◌==◌, ◌++◌, ◌&&◌, ◌||◌, nat_le, false, length, IfOk, OnOk, option_map};
 ghost use Rattle.std.specs.Char.{is_ascii_digit};
 ghost use Rattle.std.specs.List.{count_by, find, list_all, list_any};
-ghost use Rattle.elem_rules.specs.Values.{is_character, is_decimal, is_point, is_whole, value_length, without_sign};
+ghost use Rattle.guide_tree.specs.declared.element.ElementType.TheVariants as element_type;
+ghost use Rattle.night_definition.specs.Values.{is_character, is_digits, is_form, value_length, without_sign};
 ghost use Rattle.guide_warnings.specs.Codes as codes;
 
 use crate::warning::{At, CodeDoubt, CodeWarning, Warning};
@@ -60,20 +61,20 @@ fn without_sign(text: &[u8]) -> &[u8]
 }
 
 fn is_whole(text: &[u8]) -> bool
-    ensures { result ≡ is_whole text.now }
+    ensures { result ≡ (is_digits text.now && nat_le 1 (length text.now)) }
 {
-    1 <= text.len() && is_digits(text)
+    is_digits(text) && 1 <= text.len()
 }
 
 fn points(text: &[u8]) -> usize
-    ensures value { result ≡ count_by is_point text.now }
+    ensures value { result ≡ count_by (λ byte. byte == 46) text.now }
     ensures bound { result ≤ length text.now }
 {
     text.iter().filter(|byte| **byte == b'.').count()
 }
 
 fn are_digits_or_points(text: &[u8]) -> bool
-    ensures { result ≡ list_all (λ byte. is_ascii_digit byte || is_point byte) text.now }
+    ensures { result ≡ list_all (λ byte. is_ascii_digit byte || byte == 46) text.now }
 {
     text.iter()
         .all(|byte| byte.is_ascii_digit() || *byte == b'.')
@@ -86,9 +87,9 @@ fn has_digit(text: &[u8]) -> bool
 }
 
 fn is_decimal(text: &[u8]) -> bool
-    ensures { result ≡ is_decimal text.now }
+    ensures { result ≡ is_form element_type.Decimal false text.now }
 {
-    are_digits_or_points(text) && points(text) <= 1 && has_digit(text)
+    are_digits_or_points(without_sign(text)) && points(text) <= 1 && has_digit(text)
 }
 
 /// Whether a value of a row may have the bytes of a code.
@@ -98,7 +99,7 @@ pub fn has_form(row: &SimpleRow, code: &[u8]) -> bool
     match row.data_type {
         ElementType::Text | ElementType::Identifier => are_characters(row.wide, code),
         ElementType::Number(_) => is_whole(without_sign(code)),
-        ElementType::Decimal => is_decimal(without_sign(code)),
+        ElementType::Decimal => is_decimal(code),
         ElementType::Date => is_digits(code) && is_date(code),
         ElementType::Time => is_digits(code) && is_time(code),
     }

@@ -9,7 +9,6 @@ use Rattle.guide_tree.specs.declared.element.Element.{Element}
 use Rattle.guide_tree.specs.declared.element.Element.TheVariants as element
 use Rattle.guide_tree.specs.declared.element.Requirement.{Requirement}
 use Rattle.guide_tree.specs.declared.element.SimpleRow.{SimpleRow}
-use Rattle.elem_rules.specs.Clean.{fits_empty, is_optional}
 use Rattle.guide_widening.specs.declared.difference.At.{At}
 use Rattle.guide_widening.specs.declared.difference.Change.TheVariants.{Narrower, Wider}
 use Rattle.guide_widening.specs.declared.difference.Key.TheVariants as key
@@ -18,6 +17,7 @@ use Rattle.guide_widening.specs.declared.difference.Value.TheVariants as value
 use Rattle.guide_widening.specs.Changes.{unless, least_change, most_change, asked_change, requirement_change, type_change}
 use Rattle.guide_widening.specs.RowDifferences as found
 use Rattle.guide_widening.specs.Rows.{is_wider_requirement, is_wider_type, are_texts_of, is_wider_codes, is_wider_range}
+use Rattle.guide_widening.specs.Rows.{fits_empty, is_optional}
 use Rattle.guide_widening.specs.Rows.{is_wider_alphabet}
 use Rattle.guide_widening.specs.Rows.{is_wider_row, fits_no_component, is_wider_component, are_wider_components, is_wider_composite}
 use Rattle.guide_widening.specs.Rows.{is_wider_element, are_wider_elements}

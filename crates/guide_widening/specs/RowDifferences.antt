@@ -9,8 +9,7 @@ use Rattle.guide_tree.specs.declared.element.Component.TheVariants as component
 use Rattle.guide_tree.specs.declared.element.CompositeRow.{CompositeRow}
 use Rattle.guide_tree.specs.declared.element.Element.{Element}
 use Rattle.guide_tree.specs.declared.element.Element.TheVariants as element
-use Rattle.elem_rules.specs.Clean.{fits_empty}
-use Rattle.guide_widening.specs.Rows.{fits_no_component}
+use Rattle.guide_widening.specs.Rows.{fits_empty, fits_no_component}
 use Rattle.guide_widening.specs.declared.difference.At.{At}
 use Rattle.guide_widening.specs.declared.difference.Change.{Change}
 use Rattle.guide_widening.specs.declared.difference.Change.TheVariants.{Narrower, Wider, Other}

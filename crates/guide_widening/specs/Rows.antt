@@ -13,7 +13,10 @@ use Rattle.guide_tree.specs.declared.element.CompositeRow.{CompositeRow}
 use Rattle.guide_tree.specs.declared.element.Element.{Element}
 use Rattle.guide_tree.specs.declared.element.Element.TheVariants as element
 use Rattle.hub_kinds.specs.Words.{contains_text}
-use Rattle.elem_rules.specs.Clean.{is_optional, fits_empty}
+
+abbrev pub is_optional : Requirement → Bool
+is_optional Mandatory = false
+is_optional Optional = true
 
 -- what is optional doesn't become mandatory
 abbrev pub is_wider_requirement : (old new : Requirement) → Bool
@@ -90,6 +93,12 @@ is_wider_composite old new =
     is_wider_requirement old.requirement new.requirement
     && nat_le old.repeat new.repeat
     && are_wider_components old.components new.components
+
+-- an element may be empty
+abbrev pub fits_empty : Element → Bool
+fits_empty (element.NotUsed reference) = true
+fits_empty (element.Simple row repeat) = is_optional row.requirement
+fits_empty (element.Composite row) = is_optional row.requirement
 
 -- an element that wasn't used must be optional if it is used; a simple one stays simple, a composite one composite
 abbrev pub is_wider_element : (old new : Element) → Bool

@@ -1,9 +1,8 @@
 ghost use Rattle.std.specs.Prelude.{◌≡◌, IfOk};
-ghost use Rattle.elem_rules.specs.Clean.{is_optional, fits_empty};
 ghost use Rattle.guide_widening.specs.Changes as changes;
 ghost use Rattle.guide_widening.specs.NodeDifferences as nodes;
 ghost use Rattle.guide_widening.specs.RowDifferences as rows;
-ghost use Rattle.guide_widening.specs.Rows.{fits_no_component};
+ghost use Rattle.guide_widening.specs.Rows.{fits_empty, fits_no_component, is_optional};
 
 use crate::difference::{At, Presence, Value};
 use guide_tree::{Component, Element, Requirement};

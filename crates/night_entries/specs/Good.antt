@@ -2,7 +2,7 @@
 use Rattle.std.specs.Prelude.{ℕ, ◌==◌, Bool, not, ◌&&◌, ◌||◌, nat_le, List, Option, codes, drop, is_some, length, take}
 use Rattle.std.specs.List.{list_any}
 use Rattle.std.specs.Str.{bytes_eq}
-use Rattle.x12_bytes.specs.HeaderTest.{is_head}
+use Rattle.night_definition.specs.Header.{is_head}
 use Rattle.hub_kinds.specs.Numbers.{is_number, value_of}
 use Rattle.hub_ledger.specs.declared.entry.AddressNumbers.{AddressNumbers}
 use Rattle.night_entries.specs.Keys.{cell, is_delivered}

@@ -4,7 +4,7 @@ use Rattle.std.specs.List.{filter_map}
 use Rattle.std.specs.Option.{unwrap_or}
 use Rattle.std.specs.Str.{bytes_eq}
 use Rattle.csv.specs.Records.{field_at}
-use Rattle.x12_bytes.specs.Header.{field_of, header_at}
+use Rattle.night_definition.specs.Header.{field, header_at}
 use Rattle.hub_kinds.specs.Numbers.{value_of}
 use Rattle.hub_ledger.specs.declared.entry.AddressNumbers.{AddressNumbers}
 use Rattle.night_entries.specs.Named.{named}
@@ -19,7 +19,7 @@ is_delivered row = bytes_eq (cell row 18) (codes "delivered")
 
 abbrev pub interchange_key : (header : List ℕ) → List ℕ
 interchange_key header =
-    field_of header 5 ++ (field_of header 6 ++ (field_of header 7 ++ (field_of header 8 ++ field_of header 13)))
+    field 5 header ++ (field 6 header ++ (field 7 header ++ (field 8 header ++ field 13 header)))
 
 abbrev pub address_or_none : Option AddressNumbers → List ℕ
 address_or_none None = []

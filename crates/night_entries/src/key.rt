@@ -3,7 +3,7 @@ ghost use Rattle.std.specs.Prelude.{IfErr, IfOk, IfSome, OnOk};
 ghost use Rattle.std.specs.List.{filter_map, list_all};
 ghost use Rattle.std.specs.Option.{option_to_list};
 ghost use Rattle.csv.specs.Records.{fields_of};
-ghost use Rattle.x12_bytes.specs.Header.{header_at};
+ghost use Rattle.night_definition.specs.Header.{header_at};
 ghost use Rattle.hub_kinds.specs.Numbers.{value_of};
 ghost use Rattle.night_entries.specs.Keys as keys;
 ghost use Rattle.night_entries.specs.Named.{found_in};

@@ -2,4 +2,5 @@ pub mod Envelopes
 pub mod ForAbove
 pub mod Headers
 pub mod Reaches
+pub mod Segments
 pub mod Summaries

@@ -34,7 +34,8 @@ use Rattle.night_equal_writing.specs.Texts.{TextsAreOne}
 use Rattle.night_equal_writing.proofs.ForAbove.{same_either}
 use Rattle.night_equal_read.specs.Known.{IsKnownAs, KnownTextsAreOne}
 use Rattle.night_equal_read.specs.Read.{BoxesAreRead}
-use Rattle.night_equal_read.proofs.Segments.{content_is, segments_are, sets_are}
+use Rattle.night_equal.proofs.ForAbove.{segments_are}
+use Rattle.night_equal_read.proofs.Segments.{content_is, sets_are}
 
 -- two functions that agree, over a list
 pub map_same : {A B : Type 0} (f g : A → B) → ((x : A) → f x ≡ g x) → (xs : List A) → map f xs ≡ map g xs

@@ -22,7 +22,7 @@ use Rattle.ack_999.proofs.ForAbove.{IsReadable, readable-999, segments_text-read
 use Rattle.night_law.proofs.ForAbove.{trimmed_at}
 use Rattle.night_definition.specs.Segments.{Elements, element}
 use Rattle.night_definition.specs.ReadBack.{Response, responses_after, segments_in}
-use Rattle.night_equal_read.proofs.Segments.{segments_are}
+use Rattle.night_equal.proofs.ForAbove.{segments_are}
 
 -- the later segments give these responses, whatever AK2 was before
 abbrev pub Gives : List Elements → List Response → Type 0

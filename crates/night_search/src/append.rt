@@ -4,8 +4,8 @@ ghost use Rattle.night_search.specs.Lines as lines;
 use file_names::append_shown;
 use hub_kinds::NoMemory;
 
-/// Appends `parts` to `out`, one after another.
-pub(crate) fn append_parts(out: &mut Vec<u8>, parts: &[&[u8]]) -> Result<(), NoMemory>
+/// Appends `parts` to `out`, one after another. The only error is out of memory.
+pub fn append_parts(out: &mut Vec<u8>, parts: &[&[u8]]) -> Result<(), NoMemory>
     ensures { OnOk result (out.new.items ≡ out.old.items ++ lines.joined (lines.read parts.now)) }
 {
     for part in parts {

@@ -39,8 +39,8 @@ fn append_other(out: &mut Vec<u8>, outcome: &[u8], receiver: &[u8]) -> Result<()
     }
 }
 
-/// Appends the outcome of `row`.
-fn append_outcome(out: &mut Vec<u8>, row: &ByteRecord) -> Result<(), NoMemory>
+/// Appends the outcome of `row` to `out`. The only error is out of memory.
+pub fn append_outcome(out: &mut Vec<u8>, row: &ByteRecord) -> Result<(), NoMemory>
     ensures { OnOk result (out.new.items ≡ out.old.items ++ lines.outcome_words (fields_of row.now)) }
 {
     let outcome = field(row, OUTCOME);

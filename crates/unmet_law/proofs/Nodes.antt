@@ -16,6 +16,7 @@ use Rattle.elem_rules.specs.ElementFaults.{IsElementFault, fault_at}
 use Rattle.elem_rules.specs.Rows.{nth}
 use Rattle.guide_warnings.specs.Unmet.{is_unmet_element, is_unmet_row, unmet_node, unmet_nodes, unmet_slot, unmet_warning}
 use Rattle.guide_warnings.specs.declared.warning.Warning.{Warning}
+use Rattle.night_equal_set.specs.Values.{ValuesAreOne}
 use Rattle.unmet_law.specs.Unmet.{HasElementFault}
 use Rattle.unmet_law.proofs.Rows.{at_fault}
 
@@ -54,10 +55,10 @@ slot_by s (Some place) found some =
     record { k = at.k; row = at.row; repeat = at.repeat; there = at.there; unmet = at.unmet }
 
 -- a segment of such a slot has an element at fault
-slot_fault : (delims : Delims) (s : Slot) (seg : Segment) → unmet_slot s ≢ [] → HasElementFault delims ((seg, s) ∷ [])
-slot_fault delims s seg some =
+slot_fault : ValuesAreOne → (delims : Delims) (s : Slot) (seg : Segment) → unmet_slot s ≢ [] → HasElementFault delims ((seg, s) ∷ [])
+slot_fault one delims s seg some =
     let at = slot_by s (position_from is_unmet_element 1 s.elements) refl some in
-    let wrong = at_fault delims at.row at.repeat (element_at seg (suc at.k)) at.unmet in
+    let wrong = at_fault one delims at.row at.repeat (element_at seg (suc at.k)) at.unmet in
     record {
       given = (seg, s);
       among = (0, omega arith, refl);
@@ -119,17 +120,17 @@ tree_fault delims t ts parts rest h least all own behind (inr is) =
 tree_fault delims t ts parts rest h least all own behind (inl is) =
     right delims (joined parts) rest (behind (λ e. h (ap (λ (ws : List Warning). ws ++ unmet_nodes ts) is ∙ e)))
 
-mutual
-  part_fault : (delims : Delims) (t : Tree) → unmet_node t ≢ [] → Faulty delims t
-  part_fault delims (segment s) h xs (seg, fits, is) =
-      subst (HasElementFault delims) (sym is)
-      (slot_fault delims s seg (min_by s.min (unmet_slot s) (s.min == 0) refl h).1)
-  part_fault delims (loop l ts) h xs derived =
-      nodes_fault delims ts (min_by l.min (unmet_nodes ts) (l.min == 0) refl h).1 xs derived
+module _ (one : ValuesAreOne) (delims : Delims) where
+  mutual
+    part_fault : (t : Tree) → unmet_node t ≢ [] → Faulty delims t
+    part_fault (segment s) h xs (seg, fits, is) =
+        subst (HasElementFault delims) (sym is)
+        (slot_fault one delims s seg (min_by s.min (unmet_slot s) (s.min == 0) refl h).1)
+    part_fault (loop l ts) h xs derived = nodes_fault ts (min_by l.min (unmet_nodes ts) (l.min == 0) refl h).1 xs derived
 
-  pub nodes_fault : (delims : Delims) (ts : Trees) → unmet_nodes ts ≢ [] → (xs : List Given) → Derives ts xs → HasElementFault delims xs
-  nodes_fault delims no_trees h xs derived = absurd (h refl)
-  nodes_fault delims (tree t ts) h xs (parts, rest, least, most, all, derived, is) =
-      subst (HasElementFault delims) (sym is)
-      (tree_fault delims t ts parts rest h least all (λ own. part_fault delims t own)
-      (λ behind. nodes_fault delims ts behind rest derived) (none_or_some (unmet_node t)))
+    pub nodes_fault : (ts : Trees) → unmet_nodes ts ≢ [] → (xs : List Given) → Derives ts xs → HasElementFault delims xs
+    nodes_fault no_trees h xs derived = absurd (h refl)
+    nodes_fault (tree t ts) h xs (parts, rest, least, most, all, derived, is) =
+        subst (HasElementFault delims) (sym is)
+        (tree_fault delims t ts parts rest h least all (λ own. part_fault t own)
+        (λ behind. nodes_fault ts behind rest derived) (none_or_some (unmet_node t)))

@@ -7,7 +7,6 @@ use Rattle.std.specs.Option.{option_map_or, option_or}
 use Rattle.std.specs.Str.{bytes_eq}
 use Rattle.std.proofs.lemmas.Bool.{and_parts}
 use Rattle.std.proofs.lemmas.Slice.Eq.{bytes_eq-Decides}
-use Rattle.hub_kinds.specs.Words.{contains_text}
 use Rattle.hub_kinds.specs.declared.codes.ElementCode.{ElementCode}
 use Rattle.hub_kinds.specs.declared.codes.ElementCode.TheVariants as ik403
 use Rattle.x12_bytes.specs.declared.delims.Delims.{Delims}
@@ -22,7 +21,10 @@ use Rattle.guide_tree.specs.declared.element.SimpleRow.{SimpleRow}
 use Rattle.elem_rules.specs.Divided.{component_in, has_more, is_empty, is_filled, occurrence_in}
 use Rattle.elem_rules.specs.ElementFaults.{IsWrong, Wrong, missing_fault, wrong_at}
 use Rattle.elem_rules.specs.Rows.{shown_repetition, simple_usage}
-use Rattle.elem_rules.specs.Values.{calendar_fault, code_fault, is_form, value_fault, value_length}
+use Rattle.elem_rules.specs.Values.{value_fault}
+use Rattle.night_definition.specs.Guides.{is_among}
+use Rattle.night_definition.specs.Values as room
+use Rattle.night_equal_set.specs.Values.{ValuesAreOne}
 use Rattle.guide_warnings.specs.Unmet.{is_mandatory, is_unmet_row, may_none_stand, may_stand}
 use Rattle.unmet_law.proofs.Parts.{IsAt, filled_component, filled_occurrence, first_or_behind}
 
@@ -51,20 +53,20 @@ pushed true unused none = refl
 pushed false true none = cc
 pushed false false none = cc
 
-is_listed : (c : CodeList) (text : List ℕ) → code_fault (Some c) text ≡ None → contains_text c.used text ≡ true
+is_listed : (c : CodeList) (text : List ℕ) → room.code_fault c text ≡ None → is_among c.used text ≡ true
 is_listed c text none =
-    pushed (contains_text c.used text) (option_map_or (λ unused. contains_text unused text) c.unused false) none
+    pushed (is_among c.used text) (option_map_or (λ unused. is_among unused text) c.unused false) none
 
-may_be : (row : SimpleRow) (text : List ℕ) → is_form row.data_type row.wide text ≡ true
-    → nat_lt (value_length row.data_type text) row.min ≡ false → nat_lt row.max (value_length row.data_type text) ≡ false
-    → calendar_fault row.data_type text ≡ None → may_stand row text ≡ true
+may_be : (row : SimpleRow) (text : List ℕ) → room.is_form row.data_type row.wide text ≡ true
+    → nat_lt (room.value_length row.data_type text) row.min ≡ false → nat_lt row.max (room.value_length row.data_type text) ≡ false
+    → room.calendar_fault row.data_type text ≡ None → may_stand row text ≡ true
 may_be row text form short long calendar = grind arith
 
 -- none of the codes may be the value
 same : (own text : List ℕ) → bytes_eq own text ≡ true → own ≡ text
 same own text is = (bytes_eq-Decides own text).0 is
 
-never : (row : SimpleRow) (c : CodeList) (text : List ℕ) → may_none_stand row c ≡ true → contains_text c.used text ≡ true
+never : (row : SimpleRow) (c : CodeList) (text : List ℕ) → may_none_stand row c ≡ true → is_among c.used text ≡ true
     → may_stand row text ≡ true → ⊥
 never row c text none listed may =
     let found = any_found (λ own. bytes_eq own text) c.used listed in
@@ -74,18 +76,19 @@ never row c text none listed may =
     cc
 
 value_by : (row : SimpleRow) (codes : Option CodeList) (text : List ℕ) → row.codes ≡ codes
-    → option_map_or (may_none_stand row) codes false ≡ true → Faulty (value_fault row text)
+    → option_map_or (may_none_stand row) codes false ≡ true → Faulty (room.value_fault row text)
 value_by row None text own none = cc
 value_by row (Some c) text own none =
     rw (own)
-    (by (is_form row.data_type row.wide text) (nat_lt (value_length row.data_type text) row.min)
-    (nat_lt row.max (value_length row.data_type text)) (code_fault (Some c) text) (calendar_fault row.data_type text)
+    (by (room.is_form row.data_type row.wide text) (nat_lt (room.value_length row.data_type text) row.min)
+    (nat_lt row.max (room.value_length row.data_type text)) (room.code_fault c text) (room.calendar_fault row.data_type text)
     (λ form short long listed calendar. never row c text none (is_listed c text listed) (may_be row text form short long calendar)))
 
-value : (row : SimpleRow) (text : List ℕ) → is_unmet_row row ≡ true → Faulty (value_fault row text)
-value row text unmet =
-    value_by row row.codes text refl
-    (and_parts (is_mandatory row.requirement) (option_map_or (may_none_stand row) row.codes false) unmet).1
+value : ValuesAreOne → (row : SimpleRow) (text : List ℕ) → is_unmet_row row ≡ true → Faulty (value_fault row text)
+value one row text unmet =
+    subst Faulty (one row text)
+    (value_by row row.codes text refl
+    (and_parts (is_mandatory row.requirement) (option_map_or (may_none_stand row) row.codes false) unmet).1)
 
 missing_by : (r : Requirement) → is_mandatory r ≡ true → missing_fault r ≡ Some ik403.RequiredMissing
 missing_by Mandatory is = refl
@@ -116,7 +119,7 @@ part_by : (row : SimpleRow) (text : List ℕ) (empty : Bool) (code : ElementCode
 part_by row text false code is fault = fault
 part_by row text true code is fault = cc
 
-module _ (delims : Delims) (row : SimpleRow) (repeat : ℕ) (text : List ℕ) (unmet : is_unmet_row row ≡ true) where
+module _ (one : ValuesAreOne) (delims : Delims) (row : SimpleRow) (repeat : ℕ) (text : List ℕ) (unmet : is_unmet_row row ≡ true) where
   empty : is_empty delims text ≡ true → AtFault delims row repeat text
   empty is = (
     wrong_at 0 0 ik403.RequiredMissing,
@@ -145,7 +148,7 @@ module _ (delims : Delims) (row : SimpleRow) (repeat : ℕ) (text : List ℕ) (u
       → is_empty delims (component_in delims (occurrence_in delims text n) 1) ≡ false → AtFault delims row repeat text
   component_wrong n from to filled few own =
       let part = component_in delims (occurrence_in delims text n) 1 in
-      let fault = value row part unmet in (
+      let fault = value one row part unmet in (
         wrong_at 0 (shown_repetition (simple_usage row repeat) n) fault.0,
         inr (inr (inr (record {
           n = n;

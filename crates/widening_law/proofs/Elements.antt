@@ -15,13 +15,12 @@ use Rattle.guide_tree.specs.declared.element.Component.{Component}
 use Rattle.guide_tree.specs.declared.element.Component.TheVariants as component
 use Rattle.guide_tree.specs.declared.element.Element.{Element}
 use Rattle.guide_tree.specs.declared.element.Element.TheVariants as element
-use Rattle.elem_rules.specs.Clean.{is_optional, fits_empty}
 use Rattle.elem_rules.specs.Divided.{is_empty, has_more, occurrence_in, component_in}
 use Rattle.elem_rules.specs.Rows.{Usage, simple_usage, composite_usage, use_of_element, nth, shown_repetition, shown_component}
 use Rattle.elem_rules.specs.Values.{value_fault}
 use Rattle.elem_rules.specs.ElementFaults.{missing_fault, component_fault, whole_fault, Wrong, wrong_at, IsWrong, IsWrongWhole}
 use Rattle.elem_rules.specs.ElementFaults.{IsTooOften, IsTooWide, IsWrongComponent}
-use Rattle.guide_widening.specs.Rows.{is_wider_requirement, is_wider_row, is_wider_component, are_wider_components}
+use Rattle.guide_widening.specs.Rows.{are_wider_components, fits_empty, is_optional, is_wider_component, is_wider_requirement, is_wider_row}
 use Rattle.guide_widening.specs.Rows.{fits_no_component, is_wider_element}
 use Rattle.widening_law.proofs.Empties.{empty_components, empty_occurrence, empty_component, empty_occurrences, none_more}
 use Rattle.widening_law.proofs.Empties.{past_empty, fewer_none}

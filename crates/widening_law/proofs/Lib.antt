@@ -1,4 +1,6 @@
+mod Conditioned
 mod Dependencies
+mod EachSet
 mod Elements
 mod Empties
 mod Given

@@ -16,13 +16,13 @@ use Rattle.widening_law.proofs.Hierarchies.{hierarchy_free}
 use Rattle.widening_law.proofs.Listed.{same_texts}
 use Rattle.widening_law.proofs.Nodes.{nodes_wider}
 
-record IsWiderGuide (old new : GuideTree) : Type 0 where
-  convention : is_wider_convention old.head.convention new.head.convention ≡ true
-  hierarchy : is_wider_hierarchy old.hl new.hl ≡ true
-  dependencies : are_wider_dependencies old.depends new.depends ≡ true
-  nodes : are_wider_nodes old.nodes new.nodes ≡ true
+pub record IsWiderGuide (old new : GuideTree) : Type 0 where
+  pub convention : is_wider_convention old.head.convention new.head.convention ≡ true
+  pub hierarchy : is_wider_hierarchy old.hl new.hl ≡ true
+  pub dependencies : are_wider_dependencies old.depends new.depends ≡ true
+  pub nodes : are_wider_nodes old.nodes new.nodes ≡ true
 
-guide_parts : (old new : GuideTree) → is_wider old new ≡ true → IsWiderGuide old new
+pub guide_parts : (old new : GuideTree) → is_wider old new ≡ true → IsWiderGuide old new
 guide_parts old new h =
     let a = and_parts _ _ h in
     let b = and_parts _ _ a.0 in

@@ -6,8 +6,8 @@ use Rattle.std.specs.List.{list_all}
 use Rattle.std.proofs.lemmas.Bool.{and_parts}
 use Rattle.guide_tree.specs.declared.element.Component.{Component}
 use Rattle.guide_tree.specs.declared.element.Element.{Element}
-use Rattle.elem_rules.specs.Clean.{fits_empty}
 use Rattle.guide_widening.specs.Rows.{is_wider_component, are_wider_components, fits_no_component, is_wider_element, are_wider_elements}
+use Rattle.guide_widening.specs.Rows.{fits_empty}
 
 pub record Before {X : Type 0} (wider : X → X → Bool) (old : List X) (k : ℕ) (row : X) : Type 0 where
   pub before : X

@@ -14,12 +14,11 @@ use Rattle.guide_tree.specs.declared.slot.Condition.{Condition}
 use Rattle.guide_tree.specs.declared.slot.Relation.{Relation}
 use Rattle.guide_tree.specs.declared.slot.Relation.TheVariants.{Paired, Required, Exclusion, Conditional, ListConditional}
 use Rattle.guide_tree.specs.Words.{Segment, element_at}
-use Rattle.elem_rules.specs.Clean.{fits_empty}
 use Rattle.elem_rules.specs.Conditions.{is_present, broken_at}
 use Rattle.elem_rules.specs.Divided.{is_empty, has_more}
 use Rattle.elem_rules.specs.Rows.{nth}
 use Rattle.elem_rules.specs.ElementFaults.{Wrong, IsWrong, IsElementFault, IsExtraElement, IsRowFault, IsConditionFault}
-use Rattle.guide_widening.specs.Rows.{is_wider_range, is_wider_element, are_wider_elements}
+use Rattle.guide_widening.specs.Rows.{are_wider_elements, fits_empty, is_wider_element, is_wider_range}
 use Rattle.guide_widening.specs.Nodes.{relation_number, is_same_condition, are_wider_conditions, are_wider_picks, is_same_text}
 use Rattle.guide_widening.specs.Nodes.{is_wider_slot}
 use Rattle.widening_law.proofs.Elements.{false_or_true}

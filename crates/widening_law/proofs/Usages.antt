@@ -13,11 +13,10 @@ use Rattle.guide_tree.specs.declared.element.Component.{Component}
 use Rattle.guide_tree.specs.declared.element.Component.TheVariants as component
 use Rattle.guide_tree.specs.declared.element.Element.{Element}
 use Rattle.guide_tree.specs.declared.element.Element.TheVariants as element
-use Rattle.elem_rules.specs.Clean.{is_optional, fits_empty}
 use Rattle.elem_rules.specs.Divided.{is_empty, has_more, occurrence_in, component_in}
 use Rattle.elem_rules.specs.Rows.{Usage, simple_usage, composite_usage, use_of_element}
 use Rattle.elem_rules.specs.ElementFaults.{missing_fault, component_fault, whole_fault, Wrong, wrong_at, IsWrong}
-use Rattle.guide_widening.specs.Rows.{is_wider_requirement, is_wider_row, is_wider_component, are_wider_components}
+use Rattle.guide_widening.specs.Rows.{are_wider_components, fits_empty, is_optional, is_wider_component, is_wider_requirement, is_wider_row}
 use Rattle.guide_widening.specs.Rows.{fits_no_component, is_wider_composite, is_wider_element}
 use Rattle.widening_law.proofs.Elements.{IsRight, right_from, right_to, component_free, left_out, missing_free, optional_free}
 use Rattle.widening_law.proofs.Elements.{if_free, when_empty, must_be_empty, row_needs, none_or_some}

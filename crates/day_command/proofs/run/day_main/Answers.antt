@@ -1,6 +1,6 @@
 use Rattle.std.proofs.Common.{arith, inl, inr, map}
-use Rattle.day_command.specs.CommandLine.{check, export, find}
-use Rattle.day_command.proofs.CommandLine.{check_asked, export_asked, find_asked, text_asked}
+use Rattle.day_command.specs.CommandLine.{check, export, find, page}
+use Rattle.day_command.proofs.CommandLine.{check_asked, export_asked, find_asked, page_asked, text_asked}
 use Rattle.day_command.proofs.run.day_main.Goals as goal
 
 pub returns-in-Ok-Check-clause-printed : goal.returns-in-Ok-Check-clause-printed
@@ -37,6 +37,15 @@ returns-in-Ok-Export-clause-quiet g c done =
       c.in-Ok-Export.form,
       export_asked (map g.S.AsStr.text c.args.words.now) c.in-Ok-Export.field-0 c.in-Ok-Export.nights c.in-Ok-Export.form
           c.in-Ok-Export.field-0-is c.in-Ok-Export.ensures.asked,
+    )
+
+pub returns-in-Ok-Page-clause-printed : goal.returns-in-Ok-Page-clause-printed
+returns-in-Ok-Page-clause-printed g c done =
+    inl (
+      page c.in-Ok-Page.nights.now c.in-Ok-Page.night.now,
+      page_asked (map g.S.AsStr.text c.args.words.now) c.in-Ok-Page.field-0 c.in-Ok-Page.nights c.in-Ok-Page.night c.in-Ok-Page.field-0-is
+          c.in-Ok-Page.ensures.asked,
+      c.print_page.ensures.printed done,
     )
 
 pub returns-in-Ok-Show-clause-printed : goal.returns-in-Ok-Show-clause-printed

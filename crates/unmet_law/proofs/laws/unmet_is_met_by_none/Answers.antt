@@ -10,6 +10,6 @@ the_guide g h e = cc
 pub returns : goal.returns
 returns c = λ guide some parts meets.
     let known = the_guide guide meets.known meets.guided in
-    let fault = nodes_fault parts.delims meets.known.nodes
+    let fault = nodes_fault c.values_are_one.ensures parts.delims meets.known.nodes
     (subst (λ (g : GuideTree). unmet_nodes g.nodes ≢ []) known some) meets.slots meets.derived in
     meets.elements fault.given fault.fault fault.among fault.is

@@ -1,6 +1,0 @@
-use Rattle.std.proofs.Common.{◌≡◌, map, take}
-use Rattle.day_command.specs.Count.{addresses_of}
-use Rattle.day_command.proofs.count.addresses_of.Given as goal
-
-abbrev pub invariant-loop-i : goal.invariant-loop-i
-invariant-loop-i l = map (λ a. a.now) l.list.items ≡ addresses_of (take l.i l.nights)

@@ -1,0 +1,85 @@
+-- The page of a night (own): the files that it is made of, in the night's folder, and what it says.
+use Rattle.std.specs.Prelude.{◌≡◌, ◌↔◌, ◌⊎◌, ℕ, ◌-◌, eqb, true, List, [], ◌∷◌, ◌++◌, Option, Some, None, codes, if◌then◌else◌, length, take}
+use Rattle.std.specs.List.{AllZip, ends_with, filter_map}
+use Rattle.ack_lines.specs.Words.{explanation}
+use Rattle.ack_read.specs.Words.{AreToldBy, IsRefused}
+use Rattle.ack_read.specs.declared.fault.ReadFault.TheVariants as fault
+use Rattle.ack_read.specs.declared.told.Told.{Told}
+use Rattle.night_ends.specs.Outbox.{path_in}
+use Rattle.night_folder.specs.Files.{FileValue, FolderValue, bytes_or_none, first_line}
+use Rattle.night_page.specs.Page.{IsPage, PageValue, has_todo}
+use Rattle.night_page.specs.Rows.{Row}
+use Rattle.night_page.specs.declared.told.PartnerTold.{PartnerTold}
+use Rattle.track_tables.specs.Table.{IsTable}
+
+-- the partner whose acknowledgments a file has, by its name
+abbrev pub partner_of : (name : List ℕ) → Option (List ℕ)
+partner_of name = if ends_with eqb name (codes ".ack") then Some (take (length name - 4) name) else None
+
+abbrev pub ack_name : (partner : List ℕ) → List ℕ
+ack_name partner = codes "out/" ++ (partner ++ codes ".ack")
+
+abbrev pub unread_lines : List ℕ
+unread_lines = codes "these acknowledgments can't be read\n"
+
+-- the lines on acknowledgments: what they report, or that they can't be read
+abbrev pub AreLinesOf : (text lines : List ℕ) → Type 0
+AreLinesOf text lines =
+    ((found : List Told) × AreToldBy text found × (lines ≡ explanation found))
+    ⊎ ((IsRefused text fault.NoHeader ⊎ IsRefused text fault.TellsNothing) × (lines ≡ unread_lines))
+
+-- a partner whom nobody answers has an empty file
+abbrev pub AreLinesRead : (text lines : List ℕ) → Type 0
+AreLinesRead [] lines = lines ≡ []
+AreLinesRead (b ∷ bs) lines = AreLinesOf (b ∷ bs) lines
+
+abbrev pub AreLinesIn : Option (List ℕ) → (lines : List ℕ) → Type 0
+AreLinesIn None lines = lines ≡ unread_lines
+AreLinesIn (Some text) lines = AreLinesRead text lines
+
+-- what a partner is told by its file in the folder of the night
+pub record IsToldAt (night partner : List ℕ) (told : PartnerTold) : Type 0 where
+  pub file : FileValue
+  pub path_is : file.path ≡ path_in night (ack_name partner)
+  pub name_is : told.partner ≡ partner
+  pub lines_are : AreLinesIn file.bytes told.lines
+
+abbrev pub partners_in : (names : List (List ℕ)) → List (List ℕ)
+partners_in names = filter_map partner_of names
+
+-- the folder out/ of the night was listed, and these are the partners whose acknowledgments it has
+pub record ArePartnersAt (night : List ℕ) (partners : List PartnerTold) : Type 0 where
+  pub out : FolderValue
+  pub out_at : out.path ≡ night ++ codes "/out"
+  pub names : List (List ℕ)
+  pub listed : out.names ≡ Some names
+  pub told : AllZip (IsToldAt night) (partners_in names) partners
+
+-- private: a list that has one more if there is a partner
+abbrev pub IsOneMore : (night : List ℕ) → Option (List ℕ) → (old new : List PartnerTold) → Type 0
+IsOneMore night None old new = new ≡ old
+IsOneMore night (Some partner) old new = (told : PartnerTold) × (new ≡ old ++ told ∷ []) × IsToldAt night partner told
+
+-- what the page of a night is made of
+abbrev pub page_value : (name at total : List ℕ) → List Row → List PartnerTold → PageValue
+page_value name at total rows partners =
+    record { night = name; moment = first_line at; total = first_line total; rows = rows; partners = partners }
+
+-- the page of a night by its files, and the status: 1 exactly if there is something to do at the hub
+pub record IsPageReport (nights name text : List ℕ) (status : ℕ) : Type 0 where
+  pub at : FileValue
+  pub at_is : at.path ≡ path_in (path_in nights name) (codes "from/at")
+  pub total : FileValue
+  pub total_is : total.path ≡ path_in (path_in nights name) (codes "total")
+  pub table : FileValue
+  pub table_is : table.path ≡ path_in (path_in nights name) (codes "track.csv")
+  pub bytes : List ℕ
+  pub bytes_are : table.bytes ≡ Some bytes
+  pub rows : List Row
+  pub rows_are : IsTable bytes rows
+  pub partners : List PartnerTold
+  pub partners_are : ArePartnersAt (path_in nights name) partners
+  pub head : List ℕ
+  pub foot : List ℕ
+  pub page : IsPage head foot (page_value name (bytes_or_none at.bytes) (bytes_or_none total.bytes) rows partners) text
+  pub todo : (status ≡ 1) ↔ (has_todo (page_value name (bytes_or_none at.bytes) (bytes_or_none total.bytes) rows partners) ≡ true)

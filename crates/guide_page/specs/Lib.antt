@@ -1,0 +1,6 @@
+pub mod Conditions
+pub mod Elements
+pub mod Nodes
+pub mod Page
+pub mod Rules
+pub mod Tags

@@ -1,0 +1,3 @@
+mod Conditioned
+mod OneSet
+mod Judged

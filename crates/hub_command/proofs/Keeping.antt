@@ -1,0 +1,58 @@
+-- What is kept is the night that was made.
+use Rattle.std.proofs.Common.{◌≡◌, ◌≤◌, ◌⊎◌, ◌∙◌, ℕ, Bool, true, false, List, Option, Some, Result, Ok, Err}
+use Rattle.std.proofs.Common.{ap, arith, codes, inl, inr, subst, sym}
+use Rattle.std.specs.Prelude.{IfOk, if◌then◌else◌}
+use Rattle.night_shelf.specs.Shelf.{Changes, IsKept, Place}
+use Rattle.night_shelf.specs.declared.night.KeptNight.{KeptNight}
+use Rattle.night_shelf.specs.declared.night.NightFile.{NightFile}
+use Rattle.hub_command.specs.Program.{IsMadeOrThere}
+use Rattle.hub_command.specs.Run.{IsDone, IsFoundAt, IsMadeAt, IsToldOf, MayKeep, MayLeaveOne}
+use Rattle.hub_command.specs.There.{IsStatusIn}
+use Rattle.hub_command.specs.There.IsStatusIn.{Clean, Look}
+use Rattle.hub_command.specs.declared.failure.Failure.{Failure}
+use Rattle.hub_command.specs.declared.night.Made.{Made}
+use Rattle.hub_command.specs.declared.run.Found.{Found}
+use Rattle.hub_command.specs.declared.run.Found.TheVariants as found
+use Rattle.hub_command.specs.declared.setting.Setting.{Setting}
+use Rattle.hub_command.specs.declared.told.Told.{Told}
+
+pub night_is : (name : List ℕ) (files : List NightFile) (night : KeptNight) → name ≡ night.name → files ≡ night.files
+    → record { name = name; files = files } ≡ night
+night_is name files night name_is files_are =
+    ap (λ (n : List ℕ). record { name = n; files = files }) name_is
+    ∙ ap (λ (fs : List NightFile). record { name = night.name; files = fs }) files_are
+
+pub made_at : (setting : Setting) (given : Found) (made : Made) → given ≡ found.Made made → IsFoundAt setting given → IsMadeAt setting made
+made_at setting given made is by = subst (λ (f : Found). IsFoundAt setting f) is by
+
+pub kept_now : (setting : Setting) (made : Made) (old new : Option Place) (result : Result Told Failure) → IsMadeAt setting made
+    → IfOk result (λ told. IsToldOf setting made told × Changes (IsKept made.night) old new) → IfOk result (IsDone setting old new)
+kept_now setting made old new (Ok told) at both = inl (record { made = made; made_at = at; kept = both.1; told_is = both.0 })
+kept_now setting made old new (Err failure) at both = tt
+
+pub may_leave : (setting : Setting) (made : Made) (old new : Option Place) → IsMadeAt setting made → MayKeep made.night old new
+    → MayLeaveOne setting old new
+may_leave setting made old new at (inl same) = inl same
+may_leave setting made old new at (inr left) = inr (record { made = made; made_at = at; left = left })
+
+one_at_most : (clean : Bool) (n : ℕ) → n ≡ (if clean then 0 else 1) → n ≤ 1
+one_at_most true n is = omega (arith, is)
+one_at_most false n is = omega (arith, is)
+
+written_at_most : (bytes : Option (List ℕ)) (n : ℕ) → IsStatusIn bytes n → n ≤ 1
+written_at_most bytes n (Clean said is) = omega (arith, is)
+written_at_most bytes n (Look said is) = omega (arith, is)
+
+-- the status of a night that is told is 0 or 1
+pub status_is_few : (setting : Setting) (old new : Option Place) (told : Told) → IsDone setting old new told → told.status ≤ 1
+status_is_few setting old new told (inl kept) =
+    let made = kept.made_at.made_is in
+    let tonight = made.draft_is.tonight_is.tonight_is in
+    one_at_most _ told.status (kept.told_is.status_is ∙ made.made_is.status_is ∙ made.draft_is.laid_is.status ∙ tonight.run.told)
+status_is_few setting old new told (inr was) =
+    subst (λ (n : ℕ). n ≤ 1) (sym was.told_is.status_is)
+    (written_at_most was.there_is.there_is.given.done.bytes was.there.status was.there_is.there_is.given.status_is)
+
+pub made_or_there : (setting : Setting) (old new : Option Place) (told : Told) → IsDone setting old new told → IsMadeOrThere setting told
+made_or_there setting old new told (inl kept) = inl (kept.made, kept.made_at, kept.told_is)
+made_or_there setting old new told (inr was) = inr (was.there, was.there_is, was.told_is)

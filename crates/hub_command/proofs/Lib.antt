@@ -1,0 +1,6 @@
+mod CommandLine
+mod Keeping
+mod Lists
+mod Sharing
+mod Telling
+mod Zips

@@ -1,0 +1,17 @@
+-- One more of each of two lists.
+use Rattle.std.proofs.Common.{◌≡◌, ℕ, ◌+◌, ◌<◌, List, [], ◌∷◌, ◌++◌, ◌∙◌, ap, get_or, length, subst, sym, take}
+use Rattle.std.specs.List.{AllZip}
+use Rattle.std.proofs.lemmas.List.{take_more}
+
+zip_push : {A B : Type 0} (R : A → B → Type 0) (xs : List A) (ys : List B) (x : A) (y : B) → AllZip R xs ys → R x y
+    → AllZip R (xs ++ x ∷ []) (ys ++ y ∷ [])
+zip_push R [] [] x y zip of = (of, tt)
+zip_push R [] (b ∷ bs) x y zip of = absurd zip
+zip_push R (a ∷ xs) [] x y zip of = absurd zip
+zip_push R (a ∷ xs) (b ∷ bs) x y zip of = (zip.0, zip_push R xs bs x y zip.1 of)
+
+pub zip_more : {A B : Type 0} (R : A → B → Type 0) (xs : List A) (ys : List B) (i : ℕ) (x : A) (y : B) → i < length xs
+    → x ≡ get_or xs i x → AllZip R (take i xs) ys → R x y → AllZip R (take (i + 1) xs) (ys ++ y ∷ [])
+zip_more R xs ys i x y low is zip of =
+    subst (λ l. AllZip R l (ys ++ y ∷ [])) (sym (take_more xs i x low ∙ ap (λ k. take i xs ++ k ∷ []) (sym is)))
+    (zip_push R (take i xs) ys x y zip of)

@@ -1,0 +1,59 @@
+-- What was read of the command line (no public clause but that of `read_words` cites these).
+use Rattle.std.specs.Prelude.{◌≡◌, ◌⊎◌, ℕ, List, Option, Some, None, Bool, option_map}
+use Rattle.clap.specs.Words.{Text}
+use Rattle.clap.specs.declared.error.kind.ErrorKind.{ErrorKind}
+use Rattle.clap.specs.declared.error.kind.ErrorKind.TheVariants.{DisplayHelp, DisplayVersion}
+use Rattle.night_command.specs.CommandLine.{piece_given, workers_given}
+use Rattle.night_command.specs.declared.sharing.Sharing.{Sharing}
+use Rattle.hub_command.specs.CommandLine.{AsksForText, Request, Rest, RunRequest, give_up, init, request_of, run, value_of}
+use Rattle.hub_command.specs.declared.command.Asked.{Asked}
+use Rattle.hub_command.specs.declared.command.Asked.TheVariants as asked
+use Rattle.hub_command.specs.declared.command.Options.{Options}
+use denote.Ref.{Bor}
+
+abbrev pub text_of : Option (Bor (List ℕ)) → Option Text
+text_of text = option_map (λ (t : Bor (List ℕ)). t.now) text
+
+-- the night that options say
+abbrev pub request_in : Options → RunRequest
+request_in options = record {
+  file = options.file.now;
+  at = options.at;
+  name = text_of options.name;
+  workers = options.sharing.workers;
+  piece = options.sharing.piece;
+}
+
+-- how a night is shared, if the arguments say how it can be
+abbrev pub AreShared : (workers piece : Option ℕ) → Option Sharing → Type 0
+AreShared workers piece None = (workers ≡ None) ⊎ (piece ≡ None)
+AreShared workers piece (Some sharing) = (workers ≡ Some sharing.workers) × (piece ≡ Some sharing.piece)
+
+-- as the rest of the arguments say it
+abbrev pub AreSharedBy : Rest → Option Sharing → Type 0
+AreSharedBy rest sharing = AreShared (workers_given rest.workers) (piece_given rest.piece) sharing
+
+-- a request as it was read
+abbrev pub IsRequest : Option Request → Asked → Type 0
+IsRequest request (asked.Init hub) = request ≡ Some (init hub.now)
+IsRequest request (asked.Run hub options) = request ≡ Some (run hub.now (request_in options))
+IsRequest request (asked.GiveUp hub not_sent) = request ≡ Some (give_up hub.now not_sent)
+IsRequest request (asked.Show text) = ⊥
+
+abbrev pub IsRequested : Option Request → Option Asked → Type 0
+IsRequested request None = request ≡ None
+IsRequested request (Some asked) = IsRequest request asked
+
+-- what the arguments ask for
+abbrev pub IsAsked : List Text → Asked → Type 0
+IsAsked words (asked.Init hub) = request_of (value_of words) ≡ Some (init hub.now)
+IsAsked words (asked.Run hub options) = request_of (value_of words) ≡ Some (run hub.now (request_in options))
+IsAsked words (asked.GiveUp hub not_sent) = request_of (value_of words) ≡ Some (give_up hub.now not_sent)
+IsAsked words (asked.Show text) = AsksForText words
+
+-- the kind of what clap reports
+abbrev pub IsShown : ErrorKind → Asked → Type 0
+IsShown kind (asked.Init hub) = ⊥
+IsShown kind (asked.Run hub options) = ⊥
+IsShown kind (asked.GiveUp hub not_sent) = ⊥
+IsShown kind (asked.Show text) = (kind ≡ DisplayHelp) ⊎ (kind ≡ DisplayVersion)

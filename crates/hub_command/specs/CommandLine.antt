@@ -1,0 +1,147 @@
+-- The command line (own), read as clap's definitions say: a command, the folder of a hub, and what the command takes besides.
+use Rattle.std.specs.Prelude.{◌≡◌, ◌≢◌, ◌⊎◌, ◌&&◌, ◌||◌, ℕ, Bool, true, false, not, List, [], ◌∷◌, Option, Some, None, codes, is_none}
+use Rattle.std.specs.Prelude.{if◌then◌else◌}
+use Rattle.std.specs.Str.{bytes_eq}
+use Rattle.clap.specs.Words.{App, Rule, Text, IsAmong, fault_of, first_of, matches_of, new_app, new_rule, takes, with_rule}
+use Rattle.clap.specs.declared.builder.action.ArgAction.TheVariants.{Set, SetTrue}
+use Rattle.clap.specs.declared.error.kind.ErrorKind.TheVariants.{DisplayHelp, DisplayVersion}
+use Rattle.file_names.specs.Given.{is_marked}
+use Rattle.moment.specs.Calendar.{is_moment}
+use Rattle.night_command.specs.CommandLine.{option_free, piece_given, piece_rule, workers_given, workers_rule}
+use Rattle.hub_command.specs.Names.{is_night_name}
+
+-- a word by its place, which may be wanted
+abbrev pub word_rule : Text → (required : Bool) → Rule
+word_rule name required = record (new_rule name) { value_names = 1; required = required; action = Some Set }
+
+-- the option that gives up a night of which nothing was sent
+abbrev pub not_sent_rule : Rule
+not_sent_rule = record (new_rule (codes "not-sent")) { long = Some (codes "not-sent"); action = Some SetTrue }
+
+-- its arguments don't begin with a program's name, and it has a version
+abbrev pub program : App
+program =
+    let bare = new_app (codes "nighthub_day") in
+    record bare { top = record bare.top { has_version = true; no_binary_name = true } }
+
+-- with the words that commands take
+abbrev pub words_app : App
+words_app =
+    with_rule (with_rule (with_rule program (word_rule (codes "command") true)) (word_rule (codes "hub") true)) (word_rule
+    (codes "file") false)
+
+-- and the options that say of a night when it is and what it is called
+abbrev pub with_night : App → App
+with_night app = with_rule (with_rule app (option_free (codes "at"))) (option_free (codes "name"))
+
+-- and all options
+abbrev pub hub_app : App
+hub_app = with_rule (with_rule (with_rule (with_night words_app) workers_rule) piece_rule) not_sent_rule
+
+-- the first word is a command of a hub
+abbrev pub is_command : Text → Bool
+is_command word = bytes_eq word (codes "init") || (bytes_eq word (codes "run") || bytes_eq word (codes "give-up"))
+
+abbrev pub is_of_hub : List Text → Bool
+is_of_hub [] = false
+is_of_hub (word ∷ words) = is_command word
+
+-- the value that the arguments give a name
+abbrev pub value_of : List Text → Text → Option Text
+value_of words name = first_of name (matches_of hub_app words)
+
+-- the night that is to be run
+pub record RunRequest : Type 0 where
+  pub file : Text
+  pub at : Text
+  pub name : Option Text
+  pub workers : ℕ
+  pub piece : ℕ
+
+-- what is to be done with a hub
+pub data Request : Type 0 where
+  init : (hub : Text) → Request
+  run : (hub : Text) → RunRequest → Request
+  give_up : (hub : Text) → (not_sent : Bool) → Request
+
+-- a path: it isn't empty, and is UTF-8
+abbrev pub is_path : Text → Bool
+is_path [] = false
+is_path (b ∷ bs) = not (is_marked (b ∷ bs))
+
+abbrev pub is_name_or_none : Option Text → Bool
+is_name_or_none None = true
+is_name_or_none (Some name) = is_night_name name
+
+-- `--not-sent` is given
+abbrev pub is_given : Option Text → Bool
+is_given None = false
+is_given (Some value) = bytes_eq value (codes "true")
+
+-- what a command is given besides the hub
+pub record Rest : Type 0 where
+  pub file : Option Text
+  pub at : Option Text
+  pub name : Option Text
+  pub workers : Option Text
+  pub piece : Option Text
+  pub not_sent : Bool
+
+abbrev pub is_bare : Rest → Bool
+is_bare rest = is_none rest.file && (is_none rest.at && (is_none rest.name && (is_none rest.workers && is_none rest.piece)))
+
+-- a run takes a file and a moment that there is; its name, if it has one, is one that a night can have
+abbrev pub run_given : (hub : Text) → (file at name : Option Text) → (workers piece : Option ℕ) → Option Request
+run_given hub None at name workers piece = None
+run_given hub (Some file) None name workers piece = None
+run_given hub (Some file) (Some at) name None piece = None
+run_given hub (Some file) (Some at) name (Some workers) None = None
+run_given hub (Some file) (Some at) name (Some workers) (Some piece) =
+    if is_path file && (is_moment at && is_name_or_none name)
+    then Some (run hub (record { file = file; at = at; name = name; workers = workers; piece = piece })) else None
+
+abbrev pub run_by : (hub : Text) → Rest → Option Request
+run_by hub rest = run_given hub rest.file rest.at rest.name (workers_given rest.workers) (piece_given rest.piece)
+
+-- the others take a hub alone; `give-up` takes `--not-sent`
+abbrev pub bare_by : (command hub : Text) → (not_sent : Bool) → Option Request
+bare_by command hub not_sent =
+    if bytes_eq command (codes "give-up") then Some (give_up hub not_sent)
+    else if bytes_eq command (codes "init") && not not_sent then Some (init hub) else None
+
+abbrev pub request_by : (command hub : Text) → Rest → Option Request
+request_by command hub rest =
+    if not (is_path hub) then None
+    else if bytes_eq command (codes "run") && not rest.not_sent then run_by hub rest
+    else if not (is_bare rest) then None
+    else bare_by command hub rest.not_sent
+
+-- without a command or a hub they ask for nothing
+abbrev pub request_given : (command hub : Option Text) → Rest → Option Request
+request_given None hub rest = None
+request_given (Some command) None rest = None
+request_given (Some command) (Some hub) rest = request_by command hub rest
+
+abbrev pub rest_of : (value : Text → Option Text) → Rest
+rest_of value = record {
+  file = value (codes "file");
+  at = value (codes "at");
+  name = value (codes "name");
+  workers = value (codes "workers");
+  piece = value (codes "piece");
+  not_sent = is_given (value (codes "not-sent"));
+}
+
+-- what the values of the arguments ask for
+abbrev pub request_of : (value : Text → Option Text) → Option Request
+request_of value = request_given (value (codes "command")) (value (codes "hub")) (rest_of value)
+
+-- nothing is wrong with the arguments, and they ask for something
+pub record IsCommandLine (words : List Text) : Type 0 where
+  pub taken : takes hub_app words ≡ true
+  pub asked : request_of (value_of words) ≢ None
+
+-- the arguments ask for help or for the version, and for nothing else
+pub record AsksForText (words : List Text) : Type 0 where
+  pub asked : IsAmong DisplayHelp (fault_of hub_app words) ⊎ IsAmong DisplayVersion (fault_of hub_app words)
+  pub no_run : takes hub_app words ≡ true → ⊥

@@ -1,0 +1,12 @@
+pub mod Asked
+pub mod Chain
+pub mod CommandLine
+pub mod Failure
+pub mod Lines
+pub mod Made
+pub mod Names
+pub mod Night
+pub mod Papers
+pub mod Program
+pub mod Run
+pub mod There

@@ -1,0 +1,151 @@
+-- A night of a hub (own): which nights are before it, what it is made of, and that all nights with it continue.
+use Rattle.std.specs.Prelude.{◌≡◌, ℕ, ◌+◌, ◌-◌, List, [], ◌∷◌, ◌++◌, Option, Some, None, codes, length, map, option_map, reverse, slice_get}
+use Rattle.std.specs.List.{AllZip, filter_map}
+use Rattle.hub_ledger.specs.declared.entry.NightEntry.{NightEntry}
+use Rattle.night_folder.specs.Files.{bytes_or_none}
+use Rattle.night_folder.specs.Nights.{IsRead, bad_in, entry_in}
+use Rattle.night_folder.specs.declared.night.NightRead.{NightRead}
+use Rattle.night_marks.specs.Order.{in_order}
+use Rattle.night_marks.specs.declared.bad.BadFile.{BadFile}
+use Rattle.night_marks.specs.declared.mark.NightMark.{NightMark}
+use Rattle.night_record.specs.Tables.{addresses_text, taken_text}
+use Rattle.night_record.specs.declared.addresses.AddressNext.{AddressNext}
+use Rattle.night_shelf.specs.declared.night.NightFile.{NightFile}
+use Rattle.kept_files.specs.Addresses.{IsNextOf}
+use Rattle.kept_files.specs.Files.{AreKeptFiles}
+use Rattle.kept_files.specs.Taken.{taken_of}
+use Rattle.kept_files.specs.declared.heading.Heading.{Heading}
+use Rattle.hub_tonight.specs.Tonight.{IsTonight}
+use Rattle.hub_tonight.specs.declared.call.HubFiles.{HubFiles}
+use Rattle.hub_tonight.specs.declared.night.Tonight.{Tonight}
+use Rattle.night_review.specs.GoingOn.{GoOn}
+use Rattle.hub_command.specs.Chain.{IsChain}
+use Rattle.hub_command.specs.Made.{IsEntryIn, given_files, made_files, table_files}
+use Rattle.hub_command.specs.Names.{folder_name}
+use Rattle.hub_command.specs.declared.chain.Chain.{Chain}
+use Rattle.hub_command.specs.declared.entry.NightBytes.{NightBytes}
+use Rattle.hub_command.specs.declared.night.Draft.{Draft}
+use Rattle.hub_command.specs.declared.night.Laid.{Laid}
+use Rattle.hub_command.specs.declared.night.Made.{Made}
+use Rattle.hub_command.specs.declared.night.Side.{Side}
+use Rattle.hub_command.specs.declared.older.Older.{Older}
+use Rattle.hub_command.specs.declared.papers.HubPapers.{HubPapers}
+use Rattle.hub_command.specs.declared.setting.Setting.{Setting}
+use denote.Ref.{Bor}
+
+abbrev pub map_now : List (Bor NightMark) → List NightMark
+map_now marks = map (λ (mark : Bor NightMark). mark.now) marks
+
+abbrev pub last_mark : List (Bor NightMark) → Option NightMark
+last_mark marks = option_map (λ (mark : Bor NightMark). mark.now) (slice_get marks (length marks - 1))
+
+-- the nights of a folder in their order, what is kept of each, and what the next one takes over of the last
+pub record IsOlder (nights : List ℕ) (marks : List NightMark) (older : Older) : Type 0 where
+  pub order_is : map_now older.order ≡ in_order (length marks) [] marks
+  pub reads : List NightRead
+  pub read_by : AllZip (IsRead nights) (map_now older.order) reads
+  pub entries_are : older.entries ≡ filter_map entry_in reads
+  pub bad_are : older.bad ≡ filter_map bad_in reads
+  pub chain_is : IsChain nights (last_mark older.order) older.chain
+
+-- the table of the interchanges of which a set was delivered, and that of all addresses
+pub record AreTablesOf (track : List ℕ) (delivered : List (List ℕ)) (older left : List AddressNext) (tables : List NightFile)
+    : Type 0 where
+  pub addresses : List AddressNext
+  pub addresses_are : IsNextOf older left addresses
+  pub tables_are : tables ≡ table_files track (taken_text (taken_of delivered)) (addresses_text addresses)
+
+-- tonight's mark: it names the night before
+abbrev pub mark_of : (folder at before : List ℕ) → NightMark
+mark_of folder at before = record { name = folder; moment = at; before = before }
+
+-- the heading of the night's record
+pub record IsHeadingOf (setting : Setting) (number : ℕ) (chain : Chain) (status : ℕ) (heading : Heading) : Type 0 where
+  pub number_is : heading.number ≡ number
+  pub name_is : heading.name.now ≡ setting.name.now
+  pub moment_is : heading.moment.now ≡ setting.at
+  pub before_is : heading.before.now ≡ chain.before
+  pub sum_is : option_map (λ sum. sum.now) heading.before_sum ≡ chain.before_sum
+  pub status_is : heading.status ≡ status
+
+-- the files of a hub as bytes
+pub record AreHubFiles (papers : HubPapers) (files : HubFiles) : Type 0 where
+  pub setup : files.setup.now ≡ bytes_or_none papers.setup.bytes
+  pub guides : files.guides.now ≡ papers.guides
+
+-- the night of an input, after nights of which the oldest comes first
+pub record IsTonightOf (setting : Setting) (papers : HubPapers) (nights : List NightEntry) (input : List ℕ) (tonight : Tonight)
+    : Type 0 where
+  pub files : HubFiles
+  pub files_are : AreHubFiles papers files
+  pub tonight_is : IsTonight files (reverse nights) (bytes_or_none papers.first.bytes) input setting.at tonight
+
+-- a night whose files are named as they are in its folder
+pub record IsLaidOf (tonight : Tonight) (laid : Laid) : Type 0 where
+  pub given : laid.given ≡ given_files tonight
+  pub counters : laid.counters ≡ tonight.counters
+  pub total : laid.total ≡ tonight.total
+  pub track : laid.track ≡ tonight.track
+  pub status : laid.status ≡ tonight.status
+  pub left : laid.left ≡ tonight.left
+
+-- what is kept of it in its folder
+pub record IsEntryOfNight (setting : Setting) (folder : List ℕ) (papers : HubPapers) (laid : Laid) (input : List ℕ) (entry : NightEntry)
+    : Type 0 where
+  pub night : NightBytes
+  pub name : night.name.now ≡ folder
+  pub at : night.at.now ≡ setting.at
+  pub setup : night.setup.now ≡ bytes_or_none papers.setup.bytes
+  pub counters : night.counters.now ≡ laid.counters
+  pub input_is : night.input.now ≡ input
+  pub track : night.track.now ≡ laid.track
+  pub given : night.given.now ≡ laid.given
+  pub entry_is : IsEntryIn night entry
+
+-- the files of its folder
+abbrev pub AreFilesOf : Heading → HubPapers → Laid → (tables : List NightFile) → (input : List ℕ) → List NightFile → Type 0
+AreFilesOf heading papers laid tables input files =
+    AreKeptFiles heading (made_files (bytes_or_none papers.setup.bytes) papers.guides laid.counters input) laid.given tables files
+
+-- the folder of the night after so many
+abbrev pub folder_after : (count : ℕ) → (name : List ℕ) → List ℕ
+folder_after count name = folder_name (count + 1) name
+
+-- A draft of a night: of the files of the hub and of an input, after the nights that the hub has.
+pub record IsDraftOf (setting : Setting) (older : Older) (papers : HubPapers) (input : List ℕ) (draft : Draft) : Type 0 where
+  pub tonight : Tonight
+  pub tonight_is : IsTonightOf setting papers older.entries input tonight
+  pub laid_is : IsLaidOf tonight draft.laid
+  pub number_is : draft.number ≡ length older.order + 1
+  pub folder_is : draft.folder ≡ folder_after (length older.order) setting.name.now
+  pub entry_is : IsEntryOfNight setting draft.folder papers draft.laid input draft.entry
+  pub tables_are : AreTablesOf draft.laid.track draft.entry.delivered older.chain.addresses draft.laid.left draft.tables
+
+-- all nights with it continue, and the next one takes over what the hub has of the last
+pub record IsSoundAfter (setting : Setting) (older : Older) (folder : List ℕ) (entry : NightEntry) (chain : Chain) : Type 0 where
+  pub chain_is : chain ≡ older.chain
+  pub go_on : GoOn setting.limit.now folder (map_now older.order ++ mark_of folder setting.at older.chain.before ∷ [])
+      (older.entries ++ entry ∷ []) older.bad
+
+-- its folder is to have just these files
+pub record IsMadeBy (setting : Setting) (chain : Chain) (papers : HubPapers) (number : ℕ) (laid : Laid) (side : Side) (made : Made)
+    : Type 0 where
+  pub number_is : made.number ≡ number
+  pub name_is : made.night.name ≡ side.folder
+  pub heading : Heading
+  pub heading_is : IsHeadingOf setting number chain laid.status heading
+  pub files_are : AreFilesOf heading papers laid side.tables side.input made.night.files
+  pub total_is : made.total ≡ laid.total
+  pub status_is : made.status ≡ laid.status
+
+-- A night is made: a draft with which all nights continue, and the files of its folder.
+pub record IsMadeOf (setting : Setting) (older : Older) (papers : HubPapers) (input : List ℕ) (made : Made) : Type 0 where
+  pub draft : Draft
+  pub draft_is : IsDraftOf setting older papers input draft
+  pub chain : Chain
+  pub sound : IsSoundAfter setting older draft.folder draft.entry chain
+  pub side : Side
+  pub folder_is : side.folder ≡ draft.folder
+  pub tables_are : side.tables ≡ draft.tables
+  pub input_is : side.input ≡ input
+  pub made_is : IsMadeBy setting chain papers draft.number draft.laid side made

@@ -1,0 +1,50 @@
+-- The last night of a hub is the one that is asked for (own): it is there already, and nothing is run.
+use Rattle.std.specs.Prelude.{◌≡◌, ℕ, true, List, Option, Some, codes, length}
+use Rattle.night_review.specs.GoingOn.{GoOn}
+use Rattle.night_ends.specs.Outbox.{path_in}
+use Rattle.night_folder.specs.Files.{FileValue, bytes_or_none, in_night}
+use Rattle.night_folder.specs.Nights.{is_summed}
+use Rattle.night_marks.specs.declared.mark.NightMark.{NightMark}
+use Rattle.hub_command.specs.Names.{folder_name}
+use Rattle.hub_command.specs.Night.{last_mark, map_now}
+use Rattle.hub_command.specs.declared.chain.Chain.{Chain}
+use Rattle.hub_command.specs.declared.older.Older.{Older}
+use Rattle.hub_command.specs.declared.setting.Setting.{Setting}
+use Rattle.hub_command.specs.declared.there.There.{There}
+
+-- a night has this number, and the name and the moment that are asked for
+pub record IsNamed (setting : Setting) (number : ℕ) (mark : NightMark) : Type 0 where
+  pub name_is : mark.name ≡ folder_name number setting.name.now
+  pub moment_is : mark.moment ≡ setting.at
+
+-- the status that is written down
+pub data IsStatusIn (bytes : Option (List ℕ)) (status : ℕ) : Type 0 where
+  Clean : bytes ≡ Some (codes "0\n") → status ≡ 0 → IsStatusIn bytes status
+  Look : bytes ≡ Some (codes "1\n") → status ≡ 1 → IsStatusIn bytes status
+
+-- what a night gave, by its files, and the sum of its record
+pub record IsGivenAt (nights name : List ℕ) (number : ℕ) (chain : Chain) (there : There) : Type 0 where
+  pub number_is : there.number ≡ number
+  pub folder_is : there.folder ≡ name
+  pub total : FileValue
+  pub total_at : total.path ≡ in_night nights name (codes "total")
+  pub total_is : total.bytes ≡ Some there.total
+  pub done : FileValue
+  pub done_at : done.path ≡ in_night nights name (codes "done")
+  pub status_is : IsStatusIn done.bytes there.status
+  pub sum_is : chain.before_sum ≡ Some there.record_sum
+
+-- a night was made of an input, by the sum that was written down
+pub record IsOf (folder input : List ℕ) : Type 0 where
+  pub written : FileValue
+  pub written_at : written.path ≡ path_in folder (codes "from/in.sum")
+  pub summed : is_summed input (bytes_or_none written.bytes) ≡ true
+
+-- the last night is the one that is asked for, and all nights continue
+pub record IsThereAt (nights : List ℕ) (older : Older) (setting : Setting) (input : List ℕ) (there : There) : Type 0 where
+  pub mark : NightMark
+  pub last_is : last_mark older.order ≡ Some mark
+  pub named : IsNamed setting (length older.order) mark
+  pub of : IsOf (path_in nights mark.name) input
+  pub go_on : GoOn setting.limit.now mark.name (map_now older.order) older.entries older.bad
+  pub given : IsGivenAt nights mark.name (length older.order) older.chain there

@@ -1,0 +1,312 @@
+ghost use Rattle.std.specs.Prelude.{◌≡◌, ◌≢◌, ℕ, Option, None, Some, false, true, not, map, option_map, IfOk, IfErr};
+ghost use Rattle.clap.specs.Words.{app_of, first_value, found_of, kind_of, rule_of};
+ghost use Rattle.hub_command.specs.Asked.{AreShared, AreSharedBy, IsAsked, IsRequest, IsRequested, IsShown, text_of};
+ghost use Rattle.hub_command.specs.CommandLine as line;
+ghost use Rattle.hub_command.specs.Failure.{IsUsage};
+
+use crate::help::{STATUSES, USAGE};
+use crate::mistake::Mistake;
+use crate::names::is_night_name;
+use clap::error::ErrorKind;
+use clap::{Arg, ArgAction, ArgMatches, Command, Error};
+use file_names::is_not_utf_8;
+use hub_kinds::copy_text;
+use moment::At;
+use night_command::{Sharing, option_free, piece_option, sharing_given, workers_option};
+use night_ends::{RELEASE, mistake_found, with_argument};
+use std::alloc::{AllocError, Global};
+use std::convert::AsStr;
+
+/// Whether the first word is a command of a hub.
+pub fn is_of_hub<S: AsStr>(words: &[S]) -> bool
+    ensures { result ≡ line.is_of_hub (map S.text words.now) }
+{
+    match words.first() {
+        None => false,
+        Some(word) => {
+            let command = word.as_str();
+            command == "init" || (command == "run" || command == "give-up")
+        }
+    }
+}
+
+/// A night that is to be run.
+#[derive(Clone, Copy)]
+pub struct Options<'a> {
+    /// The path of the file that came in.
+    pub file: &'a str,
+    /// The date and time that everything of the night bears.
+    pub at: At,
+    /// What the night is called, if the arguments say it.
+    pub name: Option<&'a str>,
+    /// How many workers share it.
+    pub sharing: Sharing,
+}
+
+/// What the arguments ask for, of the hub in the folder at a path.
+#[derive(Drop)]
+pub enum Asked<'a> {
+    /// To make the folder a hub.
+    Init(&'a str),
+    /// To run a night of the hub.
+    Run(&'a str, Options<'a>),
+    /// To give up what is under way; or the last night, if nothing of it was sent.
+    GiveUp(&'a str, bool),
+    /// To show a text: help, or the version.
+    Show(String),
+}
+
+/// Reads the program's arguments without its name.
+pub fn read_words<'a, S: AsStr>(alloc: Global, words: &'a [S]) -> Result<Asked<'a>, Mistake>
+    ensures asked { IfOk result (IsAsked (map S.text words.now)) }
+    ensures usage { IfErr result (λ mistake. IsUsage mistake → line.IsCommandLine (map S.text words.now) → ⊥) }
+{
+    let command = command(alloc)?;
+    match command.try_get_matches_from(words) {
+        Ok(matches) => request_asked(alloc, &matches),
+        Err(error) => shown(alloc, &error),
+    }
+}
+
+fn command<'a>(alloc: Global) -> Result<Command<'a>, AllocError>
+    ensures { IfOk result (λ command. app_of command ≡ line.hub_app) }
+{
+    let command = with_night(alloc, words_command(alloc)?)?;
+    let workers = workers_option(
+        alloc,
+        "run: how many workers share the night, 1 to 64 [default: 4]",
+    );
+    let command = with_argument(command, workers)?;
+    let piece = piece_option(
+        alloc,
+        "run: how many bytes of the input a worker takes at a time [default: 1048576]",
+    );
+    let command = with_argument(command, piece)?;
+    with_argument(command, not_sent(alloc))
+}
+
+/// The command with the options that say of a night when it is and what it is called.
+fn with_night<'a>(alloc: Global, command: Command<'a>) -> Result<Command<'a>, AllocError>
+    ensures { IfOk result (λ more. app_of more ≡ line.with_night (app_of command.entry)) }
+{
+    let at = option_free(
+        alloc,
+        "at",
+        "CCYYMMDDHHMM",
+        "run: the day and time that the night bears",
+    );
+    let command = with_argument(command, at)?;
+    let name = option_free(
+        alloc,
+        "name",
+        "NAME",
+        "run: what the night is called [default: its moment]",
+    );
+    with_argument(command, name)
+}
+
+/// The program with the words that commands take.
+fn words_command<'a>(alloc: Global) -> Result<Command<'a>, AllocError>
+    ensures { IfOk result (λ command. app_of command ≡ line.words_app) }
+{
+    let command = Command::new(alloc, "nighthub_day")
+        .about("Runs the nights of a hub, one after another")
+        .version(RELEASE)
+        .after_help(STATUSES)
+        .no_binary_name(true);
+    let what = word(alloc, "command", "COMMAND", "init, run or give-up", true);
+    let command = with_argument(command, what)?;
+    let hub = word(alloc, "hub", "HUB", "The folder of the hub", true);
+    let command = with_argument(command, hub)?;
+    let file = word(
+        alloc,
+        "file",
+        "FILE",
+        "run: the interchanges that came in",
+        false,
+    );
+    with_argument(command, file)
+}
+
+/// A word by its place, which may be wanted.
+fn word<'a>(alloc: Global, name: &'a str, shown: &'a str, help: &'a str, required: bool) -> Arg<'a>
+    ensures rule { rule_of result ≡ line.word_rule name.now required }
+    ensures local { result.global ≡ false }
+{
+    Arg::new(alloc, name)
+        .value_name(shown)
+        .help(help)
+        .required(required)
+        .action(ArgAction::Set)
+}
+
+fn not_sent<'a>(alloc: Global) -> Arg<'a>
+    ensures rule { rule_of result ≡ line.not_sent_rule }
+    ensures local { result.global ≡ false }
+{
+    Arg::new(alloc, "not-sent")
+        .long("not-sent")
+        .help("give-up: the last night, of which nothing was sent")
+        .action(ArgAction::SetTrue)
+}
+
+fn is_given(value: Option<&str>) -> bool
+    ensures { result ≡ line.is_given (option_map (λ v. v.now) value.entry) }
+{
+    match value {
+        None => false,
+        Some(text) => text == "true",
+    }
+}
+
+fn is_path(text: &str) -> bool
+    ensures { result ≡ line.is_path text.now }
+{
+    match text.as_bytes() {
+        [] => false,
+        [..] => !is_not_utf_8(text),
+    }
+}
+
+fn is_name_or_none(name: Option<&str>) -> bool
+    ensures { result ≡ line.is_name_or_none (option_map (λ n. n.now) name.entry) }
+{
+    match name {
+        None => true,
+        Some(name) => is_night_name(name.as_bytes()),
+    }
+}
+
+/// What a command is given besides the hub.
+#[derive(Clone, Copy)]
+pub(crate) struct Given<'a> {
+    pub(crate) file: Option<&'a str>,
+    pub(crate) at: Option<&'a str>,
+    pub(crate) name: Option<&'a str>,
+    pub(crate) sharing: Option<Sharing>,
+}
+
+fn run_given<'a>(hub: &'a str, given: Given<'a>) -> Option<Asked<'a>>
+    ensures { (workers piece : Option ℕ) → AreShared workers piece given.entry.sharing
+        → IsRequested (line.run_given hub.entry.now (text_of given.entry.file) (text_of given.entry.at) (text_of given.entry.name)
+        workers piece) result }
+{
+    let file = given.file?;
+    let at = given.at?;
+    let sharing = given.sharing?;
+    if !is_path(file) {
+        return None;
+    }
+    let at = At::read(at.as_bytes())?;
+    if is_name_or_none(given.name) {
+        Some(Asked::Run(
+            hub,
+            Options {
+                file,
+                at,
+                name: given.name,
+                sharing,
+            },
+        ))
+    } else {
+        None
+    }
+}
+
+/// Whether nothing but a hub is given.
+fn is_bare(matches: &ArgMatches<'_>) -> bool
+    ensures { result ≡ line.is_bare (line.rest_of (first_value (found_of matches.now))) }
+{
+    matches.get_str("file").is_none()
+        && (matches.get_str("at").is_none()
+            && (matches.get_str("name").is_none()
+                && (matches.get_str("workers").is_none() && matches.get_str("piece").is_none())))
+}
+
+fn given_of<'a>(matches: &ArgMatches<'a>) -> Given<'a>
+    ensures file { text_of result.file ≡ (line.rest_of (first_value (found_of matches.now))).file }
+    ensures at { text_of result.at ≡ (line.rest_of (first_value (found_of matches.now))).at }
+    ensures name { text_of result.name ≡ (line.rest_of (first_value (found_of matches.now))).name }
+    ensures sharing { AreSharedBy (line.rest_of (first_value (found_of matches.now))) result.sharing }
+{
+    Given {
+        file: matches.get_str("file"),
+        at: matches.get_str("at"),
+        name: matches.get_str("name"),
+        sharing: sharing_given(matches),
+    }
+}
+
+/// The run that the values ask for.
+fn run_found<'a>(hub: &'a str, matches: &ArgMatches<'a>) -> Option<Asked<'a>>
+    ensures { IsRequested (line.run_by hub.entry.now (line.rest_of (first_value (found_of matches.now)))) result }
+{
+    run_given(hub, given_of(matches))
+}
+
+/// What a command other than `run` asks for.
+fn bare_found<'a>(command: &str, hub: &'a str, is_sent: bool) -> Option<Asked<'a>>
+    ensures { IsRequested (line.bare_by command.now hub.entry.now (not is_sent)) result }
+{
+    if command == "give-up" {
+        Some(Asked::GiveUp(hub, !is_sent))
+    } else if command == "init" && is_sent {
+        Some(Asked::Init(hub))
+    } else {
+        None
+    }
+}
+
+/// What a command asks for of the folder at the path `hub`.
+fn request_by<'a>(command: &str, hub: &'a str, matches: &ArgMatches<'a>) -> Option<Asked<'a>>
+    ensures { IsRequested (line.request_by command.now hub.entry.now (line.rest_of (first_value (found_of matches.now)))) result }
+{
+    let not_sent = is_given(matches.get_str("not-sent"));
+    if !is_path(hub) {
+        None
+    } else if command == "run" && !not_sent {
+        run_found(hub, matches)
+    } else if !is_bare(matches) {
+        None
+    } else {
+        bare_found(command, hub, !not_sent)
+    }
+}
+
+/// What the values that clap found ask for.
+fn request_found<'a>(matches: &ArgMatches<'a>) -> Option<Asked<'a>>
+    ensures { IsRequested (line.request_of (first_value (found_of matches.now))) result }
+{
+    let Some(command) = matches.get_str("command") else {
+        return None;
+    };
+    let Some(hub) = matches.get_str("hub") else {
+        return None;
+    };
+    request_by(command, hub, matches)
+}
+
+fn request_asked<'a>(alloc: Global, matches: &ArgMatches<'a>) -> Result<Asked<'a>, Mistake>
+    ensures given { IfOk result (IsRequest (line.request_of (first_value (found_of matches.now)))) }
+    ensures usage { IfErr result (λ mistake. IsUsage mistake → line.request_of (first_value (found_of matches.now)) ≡ None) }
+{
+    match request_found(matches) {
+        Some(asked) => Ok(asked),
+        None => Err(Mistake::Usage(copy_text(alloc, USAGE)?)),
+    }
+}
+
+/// The text that is asked for, if the arguments have no mistake.
+fn shown<'a>(alloc: Global, error: &Error) -> Result<Asked<'a>, Mistake>
+    ensures shown { IfOk result (IsShown (kind_of error.now)) }
+    ensures usage { IfErr result (λ mistake. IsUsage mistake → kind_of error.now ≢ ErrorKind.OutOfMemory) }
+{
+    match error.kind() {
+        ErrorKind::DisplayHelp | ErrorKind::DisplayVersion => {
+            let text = format!(in alloc; "{error}")?;
+            Ok(Asked::Show(text))
+        }
+        ErrorKind::OutOfMemory => Err(Mistake::Memory),
+        _ => Err(Mistake::Usage(mistake_found(alloc, error)?)),
+    }
+}

@@ -1,0 +1,63 @@
+//! The nights of a hub, run one after another: each is made in memory of the hub's own files and of the file that came in, and is kept only
+//! if all nights with it continue.
+//!
+//! Proved:
+//! - `read_words` gives what the arguments ask for, as clap's definitions say, and calls usage only what is none;
+//! - a night that `run_on` keeps is the definition's run by just the bytes that are in its folder (`IsTonight`); it begins each address
+//!   where the last night that knows the address left it; and with it all nights continue (`GoOn`): no set is delivered to a receiver on
+//!   two nights, the numbers of each address begin where they were left, each file has the sum that is listed, and no moment is before
+//!   that of the night before or after a limit;
+//! - its folder has just the files of the definition (`AreKeptFiles`), the last of which is its record. This names the SHA-256 of the
+//!   record of the night before;
+//! - it is kept on the shelf by one rename, once all of it is on the disk (`IsKept`). Whatever `run_on` answers, a stop leaves the nights
+//!   as they were, or with this one (`stopped`);
+//! - if the night that is asked for is the last one already, of the same input, nothing is run, and the same is told;
+//! - with status 0 or 1 `hub_main` has printed just what its definition says, and nothing on standard error; it ends with 2 only if the
+//!   arguments are wrong.
+//!
+//! Only tested: that the lock keeps other runs away; that the system makes, syncs and renames what it is asked for (`FolderShelf` says what
+//! is trusted); that `init` and `give-up` change the folder as their lines say; what the clock says.
+//!
+//! A night, its input and its files are in memory together.
+//!
+//! Source: own.
+//!
+//! Tests: `.ci/hub`.
+#![tactic(auto)]
+
+mod chain;
+mod command;
+mod entry;
+mod failure;
+mod give_up;
+mod help;
+mod init;
+mod lock;
+mod made;
+mod mistake;
+mod names;
+mod night;
+mod older;
+mod papers;
+mod program;
+mod ready;
+mod run;
+mod setting;
+mod sound;
+mod stopping;
+mod tables;
+mod there;
+mod told;
+mod words;
+
+pub use chain::{Chain, chain_at};
+pub use command::{Asked, Options, is_of_hub, read_words};
+pub use failure::{Failure, Reported};
+pub use lock::{Lock, Lockable};
+pub use mistake::Mistake;
+pub use names::{folder_name, is_night_name};
+pub use papers::{HubPapers, papers_at};
+pub use program::hub_main;
+pub use run::run_on;
+pub use setting::Setting;
+pub use told::Told;

@@ -1,0 +1,209 @@
+ghost use Rattle.std.specs.Prelude.{◌≡◌, IfErr, IfOk};
+ghost use Rattle.night_shelf.specs.Shelf.{Changes, IsKept};
+ghost use Rattle.night_command.specs.CommandLine.{CanShare};
+ghost use Rattle.night_review.specs.Nights.{AreNights};
+ghost use Rattle.hub_command.specs.Failure.{IsBefore};
+ghost use Rattle.hub_command.specs.Run as run;
+
+use crate::failure::Failure;
+use crate::night::{Made, made_of};
+use crate::older::older_of;
+use crate::papers::{papers_at, path_in};
+use crate::ready::{Ready, ready_text};
+use crate::setting::Setting;
+use crate::there::{There, there_at};
+use crate::told::Told;
+use hub_kinds::{NoMemory, Text, copy_text};
+use night_ends::open_at;
+use night_entries::sum_of;
+use night_folder::paper_of;
+use night_marks::NightMark;
+use night_review::{ReviewFault, nights_at};
+use night_shelf::{NightFile, Shelf, ShelfFault, keep};
+use std::alloc::Global;
+use std::rt::Files;
+use std::str;
+use std::sync::Wait;
+use std::thread::Threads;
+use std::time::Clock;
+
+/// The bytes of the file that came in.
+fn input_at<R: Files + AllocGlobal>(rt: &R, path: &str) -> Result<Text, Failure>
+    ensures input { IfOk result (run.IsInputAt path.now) }
+    ensures before { IfErr result IsBefore }
+{
+    let file = paper_of(rt.alloc(), open_at(rt, path))?;
+    match file.bytes() {
+        Some(bytes) => Ok(copy_text(rt.alloc(), bytes)?),
+        None => Err(Failure::Unread(copy_text(rt.alloc(), path.as_bytes())?)),
+    }
+}
+
+/// The night that is asked for: there already, or made.
+#[derive(Drop)]
+pub(crate) enum Found {
+    There(There),
+    Made(Made),
+}
+
+fn of_day(fault: ReviewFault, hub: Text) -> Failure
+    ensures { IsBefore result }
+{
+    match fault {
+        ReviewFault::Clock => Failure::Clock,
+        ReviewFault::Memory => Failure::Memory,
+        _ => Failure::Nights(hub),
+    }
+}
+
+/// The nights in the folder at the path `nights` of the hub `hub`.
+fn marks_at<R: Files + AllocGlobal + Clone + Drop>(
+    rt: &R,
+    hub: &str,
+    nights: &[u8],
+) -> Result<Vec<NightMark>, Failure>
+    ensures nights { IfOk result (λ marks. AreNights nights.now marks.items) }
+    ensures before { IfErr result IsBefore }
+{
+    let hub = copy_text(rt.alloc(), hub.as_bytes())?;
+    let Ok(path) = str::from_utf8(nights) else {
+        return Err(Failure::Nights(hub));
+    };
+    match nights_at(rt, path) {
+        Ok(marks) => Ok(marks),
+        Err(fault) => Err(of_day(fault, hub)),
+    }
+}
+
+/// Finds the night that `setting` names, or makes it.
+fn found_at<R>(rt: &R, setting: &Setting<'_>) -> Result<Found, Failure>
+where
+    R: Files + AllocGlobal + Threads + Wait + Clock + Sync + Clone + Drop,
+    requires sharing { CanShare setting.now.sharing }
+    ensures found { IfOk result (run.IsFoundAt setting.now) }
+    ensures before { IfErr result IsBefore }
+{
+    let alloc = rt.alloc();
+    let nights = path_in(alloc, setting.hub.as_bytes(), b"nights")?;
+    let marks = marks_at(rt, setting.hub, nights.as_slice())?;
+    let older = older_of(rt, nights.as_slice(), marks.as_slice())?;
+    let input = input_at(rt, setting.file)?;
+    if let Some(there) = there_at(rt, nights.as_slice(), &older, setting, input.as_slice())? {
+        return Ok(Found::There(there));
+    }
+    let papers = papers_at(rt, setting.hub.as_bytes())?;
+    let made = made_of(rt, alloc, setting, older, &papers, input)?;
+    Ok(Found::Made(made))
+}
+
+/// The sum of the record of a night, which is the last of its files.
+fn record_sum(alloc: Global, files: &[NightFile]) -> Result<Text, NoMemory>
+    ensures { IfOk result (λ sum. sum ≡ run.record_sum files.now) }
+{
+    match files.last() {
+        None => copy_text(alloc, b""),
+        Some(record) => sum_of(alloc, record.bytes.as_slice()),
+    }
+}
+
+fn ready_of<'a>(setting: &'a Setting<'a>, made: &'a Made, record_sum: &'a [u8]) -> Ready<'a>
+    ensures { run.IsReadyOf setting.entry.now made.entry.now record_sum.entry.now result }
+{
+    Ready {
+        hub: setting.hub.as_bytes(),
+        number: made.number,
+        name: setting.name,
+        folder: made.night.name.as_slice(),
+        total: made.total.as_slice(),
+        record_sum,
+    }
+}
+
+/// What is said of a night that is made, once it is kept.
+fn told_of(alloc: Global, setting: &Setting<'_>, made: &Made) -> Result<Told, NoMemory>
+    ensures { IfOk result (run.IsToldOf setting.now made.now) }
+{
+    let sum = record_sum(alloc, made.night.files.as_slice())?;
+    let ready = ready_of(setting, made, sum.as_slice());
+    let text = ready_text(alloc, &ready)?;
+    Ok(Told {
+        text,
+        status: made.status,
+    })
+}
+
+fn ready_again<'a>(setting: &'a Setting<'a>, there: &'a There) -> Ready<'a>
+    ensures { run.IsReadyAgain setting.entry.now there.entry.now result }
+{
+    Ready {
+        hub: setting.hub.as_bytes(),
+        number: there.number,
+        name: setting.name,
+        folder: there.folder.as_slice(),
+        total: there.total.as_slice(),
+        record_sum: there.record_sum.as_slice(),
+    }
+}
+
+/// What is said of a night that is there already.
+fn told_again(alloc: Global, setting: &Setting<'_>, there: &There) -> Result<Told, NoMemory>
+    ensures { IfOk result (run.IsToldAgain setting.now there.now) }
+{
+    let ready = ready_again(setting, there);
+    let text = ready_text(alloc, &ready)?;
+    Ok(Told {
+        text,
+        status: there.status,
+    })
+}
+
+fn of_shelf(fault: ShelfFault) -> Failure
+    ensures { IsBefore result }
+{
+    match fault {
+        ShelfFault::Memory => Failure::Memory,
+        ShelfFault::Failed => Failure::Keep,
+    }
+}
+
+/// Keeps a night that is made, and gives what is said of it.
+fn keep_made<S: Shelf>(
+    alloc: Global,
+    shelf: &mut S,
+    setting: &Setting<'_>,
+    made: &Made,
+) -> Result<Told, Failure>
+    ensures kept { IfOk result (λ told. run.IsToldOf setting.now made.now told
+        × Changes (IsKept made.now.night) (S.place shelf.old) (S.place shelf.new)) }
+    ensures stopped { run.MayKeep made.now.night (S.place shelf.old) (S.place shelf.new) }
+    ensures before { IfErr result IsBefore }
+{
+    let told = told_of(alloc, setting, made)?;
+    match keep(
+        shelf,
+        made.night.name.as_slice(),
+        made.night.files.as_slice(),
+    ) {
+        Ok(()) => Ok(told),
+        Err(fault) => Err(of_shelf(fault)),
+    }
+}
+
+/// Runs the night of `setting` on the shelf of the hub. If the night is the last one already, nothing is run. What is given is printed, and
+/// the status that the program ends with. A night is only kept if all nights with it continue; a stop at any moment, and a failure, leave
+/// the nights as they were, or with this one.
+pub fn run_on<R, S>(rt: &R, shelf: &mut S, setting: &Setting<'_>) -> Result<Told, Failure>
+where
+    R: Files + AllocGlobal + Threads + Wait + Clock + Sync + Clone + Drop,
+    S: Shelf,
+    requires sharing { CanShare setting.now.sharing }
+    ensures done { IfOk result (run.IsDone setting.now (S.place shelf.old) (S.place shelf.new)) }
+    ensures stopped { run.MayLeaveOne setting.now (S.place shelf.old) (S.place shelf.new) }
+    ensures before { IfErr result IsBefore }
+{
+    let found = found_at(rt, setting)?;
+    match found {
+        Found::There(there) => Ok(told_again(rt.alloc(), setting, &there)?),
+        Found::Made(made) => keep_made(rt.alloc(), shelf, setting, &made),
+    }
+}

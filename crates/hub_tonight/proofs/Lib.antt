@@ -1,0 +1,5 @@
+mod Building
+mod Giving
+mod Mapping
+mod Refusing
+mod Running

@@ -1,0 +1,3 @@
+mod Below
+mod Conditioned
+mod Taking

@@ -1,0 +1,4 @@
+pub mod Among
+pub mod Causing
+pub mod Growing
+pub mod Naming

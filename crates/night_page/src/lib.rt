@@ -1,0 +1,33 @@
+//! The page of a night, for a browser: what there is to do at the hub, what its senders are told, its partners, and its sets.
+//!
+//! Proved:
+//! - the page is the text of the definition on what it is made of (`append_page`): counts of rows by their outcomes; each cause of
+//!   something to do once, in the order of bytes, with each row that has it; what acknowledgments say, for each partner of whom they say
+//!   anything; for each partner whether it sent or received something; and a line for each row, or above 5,000 rows for each that is no
+//!   delivery;
+//! - what others chose is in it as a text (`html_text`), so no name, number or document puts markup into it;
+//! - more than a hundred causes are counted, and the first hundred shown.
+//!
+//! It takes as much work as the rows have bytes, times the causes that are shown, and n log n to put partners and causes in order.
+//!
+//! Source: own.
+//!
+//! Tests: `.ci/find`.
+#![tactic(auto)]
+
+mod causes;
+mod fixed;
+mod name;
+mod page;
+mod partners;
+mod rows;
+mod sets;
+mod tags;
+mod title;
+mod todo;
+mod told;
+
+pub use fixed::{FOOT, HEAD};
+pub use name::Name;
+pub use page::{NightPage, append_page};
+pub use told::PartnerTold;

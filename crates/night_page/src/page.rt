@@ -1,0 +1,71 @@
+ghost use Rattle.std.specs.Prelude.{◌≡◌, ◌++◌, ◌||◌, not, IfOk, OnOk, List, ℕ};
+ghost use Rattle.night_page.specs.Names as names;
+ghost use Rattle.night_page.specs.Page as page;
+
+use crate::causes::causes_of;
+use crate::name::Name;
+use crate::partners::append_partners;
+use crate::sets::{append_counts, append_sets};
+use crate::tags::append_fixed;
+use crate::title::append_title;
+use crate::todo::{append_todo, is_all_inside};
+use crate::told::{PartnerTold, append_told};
+use csv::ByteRecord;
+use hub_kinds::NoMemory;
+use std::alloc::Global;
+
+/// What the page of a night is made of.
+#[derive(Drop)]
+pub struct NightPage<'a> {
+    /// The night's name.
+    pub night: &'a [u8],
+    /// Its moment, CCYYMMDDHHMM.
+    pub moment: &'a [u8],
+    /// The last line of its report.
+    pub total: &'a [u8],
+    /// The rows of its table.
+    pub rows: &'a [ByteRecord],
+    /// Its partners.
+    pub partners: &'a [PartnerTold],
+}
+
+fn is_filled(causes: &[Name]) -> bool
+    ensures { result ≡ names.is_filled causes.now }
+{
+    match causes {
+        [] => false,
+        [..] => true,
+    }
+}
+
+fn has_todo(inside: bool, causes: &[Name]) -> bool
+    ensures { result ≡ (not inside || names.is_filled causes.now) }
+{
+    !inside || is_filled(causes)
+}
+
+/// The page of `night` between `head` and `foot`, which are the same for all nights, and whether there is something to do at the hub. The
+/// only error is out of memory.
+pub fn append_page(
+    alloc: Global,
+    out: &mut Vec<u8>,
+    head: &[u8],
+    foot: &[u8],
+    night: &NightPage<'_>,
+) -> Result<bool, NoMemory>
+    ensures page { OnOk result ((text : List ℕ) × (out.new.items ≡ out.old.items ++ text)
+        × page.IsPage head.now foot.now (page.value_of night.now) text) }
+    ensures todo { IfOk result (λ todo. todo ≡ page.has_todo (page.value_of night.now)) }
+{
+    let causes = causes_of(alloc, night.rows)?;
+    let inside = is_all_inside(night.total);
+    append_fixed(out, head)?;
+    append_title(alloc, out, night)?;
+    append_counts(out, night.rows)?;
+    append_todo(alloc, out, inside, night.rows, causes.as_slice())?;
+    append_told(alloc, out, night.partners)?;
+    append_partners(alloc, out, night.rows, night.partners)?;
+    append_sets(alloc, out, night.rows)?;
+    append_fixed(out, foot)?;
+    Ok(has_todo(inside, causes.as_slice()))
+}

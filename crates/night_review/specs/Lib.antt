@@ -1,0 +1,4 @@
+pub mod Count
+pub mod Faults
+pub mod GoingOn
+pub mod Nights

@@ -1,0 +1,4 @@
+mod Answering
+mod CommandLine
+mod Putting
+mod Sampling

@@ -1,0 +1,52 @@
+-- own: samples that break a rule of a guide, what their files are called, and what is answered to them.
+use Rattle.std.specs.Prelude.{◌≡◌, ◌≤◌, ℕ, ◌+◌, nat_lt, List, [], ◌∷◌, ◌++◌, codes, decimal, length, map, if◌then◌else◌}
+use Rattle.std.specs.List.{All}
+use Rattle.guide_page.specs.declared.page.Answer.{Answer}
+use Rattle.guide_tree.specs.Words.{GuideTree}
+use Rattle.guide_samples.specs.Samples.{BreaksRule}
+use Rattle.guide_samples.specs.declared.rule.Rule.{Rule}
+
+-- the number of the rule that it breaks, from 0; its text; and what the 999 says of it
+pub record Sample : Type 0 where
+  pub number : ℕ
+  pub text : List ℕ
+  pub lines : List ℕ
+
+abbrev pub IsBreaking : GuideTree → List Rule → Sample → Type 0
+IsBreaking guide rules s = BreaksRule guide rules s.number s.text s.lines
+
+-- their numbers rise, from one that is at least `from` to one below `to`
+abbrev pub AreRising : (from to : ℕ) → List Sample → Type 0
+AreRising from to [] = from ≤ to
+AreRising from to (s ∷ ss) = (from ≤ s.number) × AreRising (s.number + 1) to ss
+
+-- samples for rules with such numbers: for each rule at most one, which breaks it alone
+pub record AreBreaking (guide : GuideTree) (rules : List Rule) (from to : ℕ) (samples : List Sample) : Type 0 where
+  pub each : All (IsBreaking guide rules) samples
+  pub rising : AreRising from to samples
+
+-- up to four digits
+abbrev pub zeros : ℕ → List ℕ
+zeros n =
+    if nat_lt n 10 then codes "000" else if nat_lt n 100 then codes "00" else if nat_lt n 1000 then codes "0" else []
+
+-- a file's name: the rule's number, from 1
+abbrev pub file_name : (number : ℕ) → List ℕ
+file_name number = zeros (number + 1) ++ (decimal (number + 1) ++ codes ".x12")
+
+-- the answer to a sample, as the page shows it
+abbrev pub answer_of : Sample → Answer
+answer_of s = record { name = file_name s.number; lines = s.lines }
+
+-- private: answers to samples for rules with these numbers are added
+pub record AddsAnswers (guide : GuideTree) (rules : List Rule) (from to : ℕ) (old new : List Answer) : Type 0 where
+  pub samples : List Sample
+  pub breaking : AreBreaking guide rules from to samples
+  pub added : new ≡ old ++ map answer_of samples
+
+-- answers to samples that break a rule of the guide
+pub record AreAnswers (guide : GuideTree) (answers : List Answer) : Type 0 where
+  pub rules : List Rule
+  pub samples : List Sample
+  pub breaking : AreBreaking guide rules 0 (length rules) samples
+  pub answers_are : answers ≡ map answer_of samples

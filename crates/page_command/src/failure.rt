@@ -1,0 +1,104 @@
+ghost use Rattle.std.specs.Prelude.{◌≡◌, ◌⊎◌, IfOk, OnOk};
+ghost use Rattle.std.specs.Io.KnownBytes.{Appends};
+ghost use Rattle.page_command.specs.Failure.{CantWrite, line_of, status_of};
+
+use file_names::append_shown;
+use hub_kinds::{Items, NoMemory, Text};
+use night_ends::print_text;
+use std::alloc::{AllocError, Global};
+use std::io;
+use std::io::Write;
+
+/// That a failure was reported: the status that the program ends with, and whether the line is printed.
+#[derive(Debug, Drop)]
+pub struct Reported {
+    pub status: u8,
+    pub printed: io::Result<()>,
+}
+
+/// Why a run failed.
+#[derive(Debug, Drop)]
+pub enum Failure {
+    /// No set was found that meets the guide.
+    NoSample,
+    /// The guide file is refused or can't be read, as this line says.
+    Guide(Text),
+    /// A file or the folder for samples can't be written, as this line says.
+    Output(Text),
+    /// Standard output failed.
+    Stdout,
+    /// Memory was refused.
+    Memory,
+}
+
+impl Failure {
+    /// Prints the failure's line, and gives the status that the program ends with, and whether it is printed. A fault of standard
+    /// error changes no status.
+    pub fn report<E: Write>(&self, err: &mut E) -> Reported
+        ensures status { result.status ≡ status_of self.now }
+        ensures values { (result.status ≡ 1) ⊎ ((result.status ≡ 3) ⊎ ((result.status ≡ 5) ⊎ (result.status ≡ 6))) }
+        ensures printed { OnOk result.printed (Appends (E.contents err.old) (E.contents err.new) (line_of self.now)) }
+    {
+        Reported {
+            printed: print_text(self.line(), err),
+            status: self.status(),
+        }
+    }
+
+    /// The failure of a file or a folder with a name that can't be written.
+    pub(crate) fn of_output(alloc: Global, name: &[u8]) -> Result<Failure, NoMemory>
+        ensures { IfOk result CantWrite }
+    {
+        let mut line = Vec::from_slice(alloc, b"nighthub_page: output ")?;
+        append_shown(&mut line, name)?;
+        line.push(b'\n')?;
+        Ok(Failure::Output(Items::from_vec(line)))
+    }
+
+    fn line(&self) -> &[u8]
+        ensures { result.now ≡ line_of self.now }
+    {
+        match self {
+            Failure::NoSample => b"nighthub_page: no set was found that meets the guide\n",
+            Failure::Guide(line) => line.as_slice(),
+            Failure::Output(line) => line.as_slice(),
+            Failure::Stdout => b"nighthub_page: output stdout\n",
+            Failure::Memory => b"nighthub_page: memory\n",
+        }
+    }
+
+    fn status(&self) -> u8
+        ensures status { result ≡ status_of self.now }
+        ensures values { (result ≡ 1) ⊎ ((result ≡ 3) ⊎ ((result ≡ 5) ⊎ (result ≡ 6))) }
+    {
+        match self {
+            Failure::NoSample => 1,
+            Failure::Guide(_) => 3,
+            Failure::Output(_) => 5,
+            Failure::Stdout => 5,
+            Failure::Memory => 6,
+        }
+    }
+}
+
+impl From<AllocError> for Failure {
+    ghost use Rattle.std.specs.Prelude.{◌≡◌};
+    ghost use Rattle.page_command.specs.declared.failure.Failure.TheVariants.{Memory};
+
+    ghost from_gives = { λ _ failure. failure ≡ Memory };
+
+    fn from(_error: AllocError) -> Failure {
+        Failure::Memory
+    }
+}
+
+impl From<NoMemory> for Failure {
+    ghost use Rattle.std.specs.Prelude.{◌≡◌};
+    ghost use Rattle.page_command.specs.declared.failure.Failure.TheVariants.{Memory};
+
+    ghost from_gives = { λ _ failure. failure ≡ Memory };
+
+    fn from(_error: NoMemory) -> Failure {
+        Failure::Memory
+    }
+}

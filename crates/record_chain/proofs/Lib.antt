@@ -1,0 +1,5 @@
+mod Appended
+mod Filed
+mod Naming
+mod Unbroken
+mod Worked
