@@ -1,12 +1,12 @@
 -- The program's results (own): what is printed of the sample files that the arguments name, and the status.
 use Rattle.std.specs.Prelude.{ℕ, ◌≡◌, ◌⊎◌, List, [], ◌∷◌, map, Option, Some, IsSomeAnd, option_and_then, option_map}
-use Rattle.std.specs.List.{All}
+use Rattle.std.specs.List.{All, Any}
 use Rattle.std.specs.Io.KnownBytes.{Appends}
 use Rattle.clap.specs.Words.{Text}
 use Rattle.guide_tree.specs.Tree.{GuideTree}
 use Rattle.night_definition.specs.GuideFile.{guide_of_table}
 use Rattle.night_definition.specs.Program.{table_in}
-use Rattle.learn_judge.specs.Samples.{TakesText}
+use Rattle.learn_judge.specs.Samples.{HasSet, TakesText}
 use Rattle.check_command.specs.Files.{path_of}
 use Rattle.check_command.specs.SetupFiles.{IsGuideRefused}
 use Rattle.check_command.specs.declared.files.Given.{Given}
@@ -29,10 +29,15 @@ pub record TakesFiles (files : List Given) (st01 : Option (List ℕ)) (text : Li
   pub described : guide_in text ≡ Some guide
   pub takes : All (IsTakenFile guide st01) files
 
--- files were read at these paths, and a text describes a guide that takes each
+-- the bytes of a file were read, and a set in them is asked for
+abbrev pub HasSetIn : (st01 : Option (List ℕ)) → Given → Type 0
+HasSetIn st01 file = IsSomeAnd file.bytes (HasSet st01)
+
+-- files were read at these paths, in one of which a set is asked for, and a text describes a guide that takes each
 pub record IsLearned (paths : List (List ℕ)) (st01 : Option (List ℕ)) (text : List ℕ) : Type 0 where
   pub files : List Given
   pub at : map path_of files ≡ paths
+  pub some : Any (HasSetIn st01) files
   pub takes : TakesFiles files st01 text
 
 -- such a text of the files of some options is what was printed

@@ -37,6 +37,11 @@ pub(crate) fn line_on(alloc: Global, path: &str, words: &[u8]) -> Result<Text, N
     Ok(Items::from_vec(out))
 }
 
+/// The line that says that no set is asked for.
+pub(crate) fn no_set(alloc: Global) -> Result<Text, NoMemory> {
+    line_of(alloc, b"there is no set to learn from")
+}
+
 /// The line that says that the sample file at `path` can't be read.
 pub(crate) fn unread(alloc: Global, path: &str) -> Result<Text, NoMemory> {
     line_on(alloc, path, b"it can't be read")

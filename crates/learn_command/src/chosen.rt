@@ -2,7 +2,7 @@
 ghost use Rattle.std.specs.Prelude.{IfErr};
 ghost use Rattle.learn_command.specs.Outcome.{IsUnlearned};
 
-use crate::causes::{append, append_number, line, line_of};
+use crate::causes::{append, append_number, line, no_set};
 use crate::failure::Failure;
 use file_names::append_shown;
 use hub_kinds::{Items, NoMemory, Text};
@@ -73,7 +73,7 @@ pub(crate) fn of_one_kind(alloc: Global, sets: &[Sample]) -> Result<(), Failure>
     ensures { IfErr result IsUnlearned }
 {
     if sets.is_empty() {
-        return Err(Failure::NoGuide(line_of(alloc, b"there is no set to learn from")?));
+        return Err(Failure::NoGuide(no_set(alloc)?));
     }
     let kinds = kinds_of(alloc, sets)?;
     if kinds.len() > 1 {

@@ -1,15 +1,15 @@
-//! Whether a proposed text is a guide that takes each sample file.
-ghost use Rattle.std.specs.Prelude.{◌≡◌, IfErr, IfOk, IfSome, option_map};
-ghost use Rattle.std.specs.List.{All};
+//! Whether a proposed text is a guide that takes each sample file, and some set is asked for.
+ghost use Rattle.std.specs.Prelude.{◌≡◌, IfErr, IfOk, IfSome, IsTrue, option_map};
+ghost use Rattle.std.specs.List.{All, Any};
 ghost use Rattle.guide_tree.specs.Words.{guide_of};
-ghost use Rattle.learn_command.specs.Outcome.{IsTakenFile, IsUnlearned, TakesFiles};
+ghost use Rattle.learn_command.specs.Outcome.{HasSetIn, IsTakenFile, IsUnlearned, TakesFiles};
 
-use crate::causes::{refused, unread, untaken};
+use crate::causes::{no_set, refused, unread, untaken};
 use crate::failure::Failure;
 use check_command::{Given, Judged, judge_guide};
 use guide_tree::Guide;
 use hub_kinds::{NoMemory, Text};
-use learn_judge::unmet_of;
+use learn_judge::{has_set, unmet_of};
 use learn_samples::{Samples, add_sets};
 use night_equal_guides::guide_bytes_are_one;
 use std::alloc::Global;
@@ -29,6 +29,33 @@ pub(crate) fn judged(
     match bytes {
         Some(text) => Ok(text),
         None => Err(Failure::Memory),
+    }
+}
+
+/// Asks that one of `files` has a set with the ST01 `st01`, or any set if there is none; otherwise it gives the failure.
+pub(crate) fn asks_for_some(
+    alloc: Global,
+    files: &[Given],
+    st01: Option<&[u8]>,
+) -> Result<(), Failure>
+    ensures some { IfOk result (λ _. Any (HasSetIn (option_map (λ t. t.now) st01.entry)) files.now) }
+    ensures unlearned { IfErr result IsUnlearned }
+{
+    for k in 0..files.len() {
+        if has_set_in(alloc, &files[k], st01)? {
+            return Ok(());
+        }
+    }
+    Err(Failure::NoGuide(no_set(alloc)?))
+}
+
+/// Whether `file` was read and has a set with the ST01 `st01`, or any set if there is none.
+fn has_set_in(alloc: Global, file: &Given, st01: Option<&[u8]>) -> Result<bool, NoMemory>
+    ensures { IfOk result (λ has. IsTrue has → HasSetIn (option_map (λ t. t.now) st01.entry) file.now) }
+{
+    match &file.bytes {
+        None => Ok(false),
+        Some(bytes) => has_set(alloc, bytes.as_slice(), st01),
     }
 }
 

@@ -4,7 +4,7 @@
 //! - `read_words` gives what the arguments ask for, as clap's definitions say, and calls usage only what is none;
 //! - if `learn_main` ends with 0, it has printed a text that was asked for; or a text that describes a guide, by the definition of guide
 //!   files, and this guide takes each file that was read at the paths: each set that is asked for, of each interchange without one of the
-//!   faults 1 to 7, has the guide's GS01, GS08 and ST01 and meets the guide, looked at alone;
+//!   faults 1 to 7, has the guide's GS01, GS08 and ST01 and meets the guide, looked at alone; and there is such a set;
 //! - it ends with 2 only if the arguments are wrong, and with 3 only if a guide that is said to be known is refused or can't be read;
 //! - it prints nothing on standard output unless it ends with 0 or 5, and with 0 nothing on standard error; the line and the status of a
 //!   failure are its own.

@@ -7,7 +7,7 @@ ghost use Rattle.learn_command.specs.Outcome.{IsBefore, IsLearned, IsPrinted, Is
 use crate::command::{Asked, Options, read_words};
 use crate::failure::Failure;
 use crate::files::{known_guides, read_files};
-use crate::judged::judged;
+use crate::judged::{asks_for_some, judged};
 use crate::proposed::proposed;
 use hub_kinds::Text;
 use night_ends::print_text;
@@ -68,6 +68,7 @@ fn learned<R: Files + AllocGlobal>(rt: &R, options: &Options) -> Result<Text, Fa
     let files = read_files(rt, options.files.as_slice())?;
     let st01 = bytes_of(options.st01);
     let text = proposed(rt.alloc(), files.as_slice(), st01, known.as_slice())?;
+    asks_for_some(rt.alloc(), files.as_slice(), st01)?;
     judged(rt.alloc(), text, files.as_slice(), st01)
 }
 
