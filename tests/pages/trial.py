@@ -1,5 +1,6 @@
 """A page's examples as calls of the built program, and what they count."""
 import os
+import re
 import shutil
 import subprocess
 import tempfile
@@ -71,3 +72,21 @@ def room():
     """A fresh folder, and how it is let go."""
     path = tempfile.mkdtemp(prefix="nighthub-page-")
     return path, lambda: shutil.rmtree(path, ignore_errors=True)
+
+
+def blocks(name):
+    """Each block of commands of a page of docs, with the indented lines that follow it, if some do."""
+    with open(os.path.join(TOP, "docs", name), encoding="utf-8") as it:
+        found = re.findall(r"^```sh\n(.*?)^```\n(?:\n((?:    [^\n]*\n)+))?", it.read(), re.M | re.S)
+    return [(commands, re.sub(r"^    ", "", lines, flags=re.M)) for commands, lines in found]
+
+
+def run_blocks(page, folder, environment, fails):
+    """Runs the blocks of a page in a folder. Each prints the lines that follow it, and nothing on standard error; it ends with 1 if it has
+    one of the words of `fails`, and else with 0."""
+    for commands, lines in blocks(page.name):
+        done = subprocess.run(["bash", "-c", commands], cwd=folder, stdin=subprocess.DEVNULL, capture_output=True, text=True, timeout=120,
+                              env=environment)
+        first = commands.splitlines()[0]
+        page.want(first, (done.stdout, done.stderr), (lines, ""))
+        page.want(f"{first}: its status", done.returncode, int(any(it in commands for it in fails)))

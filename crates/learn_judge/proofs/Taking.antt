@@ -29,7 +29,7 @@ use Rattle.learn_judge.specs.Indexed.{IsTakenIn, TakesEntry, TakesGroupIn}
 use Rattle.learn_judge.specs.Samples.{IsTaken, TakesGroup, TakesInterchange, TakesText, envelope_fault, is_asked}
 
 -- the least of the faults 1 to 7, as other proofs have it
-same_fault : (x : Interchange) (o : Option Segment) → x.content.iea ≡ o → envelope_fault x ≡ fault_to_seven x
+pub same_fault : (x : Interchange) (o : Option Segment) → x.content.iea ≡ o → envelope_fault x ≡ fault_to_seven x
 same_fault x None is = rw is refl
 same_fault x (Some iea) is = rw is refl
 

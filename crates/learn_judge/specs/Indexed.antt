@@ -1,7 +1,7 @@
--- Sets as the index has them: that a guide takes them. Private.
+-- Sets as the index has them: that a guide takes them, and that there is one that is asked for. Private.
 use Rattle.std.specs.Prelude.{◌≡◌, ℕ, Bool, true, IsTrue, List, Option, Some, None, bytes_eq}
 use Rattle.std.specs.Option.{option_map_or}
-use Rattle.std.specs.List.{All}
+use Rattle.std.specs.List.{All, Any}
 use Rattle.x12_bytes.specs.Header.{header_delims}
 use Rattle.x12_bytes.specs.declared.delims.Delims.{Delims}
 use Rattle.x12_segs.specs.Words.{SegValue, IsSetSpan, element_of}
@@ -34,3 +34,9 @@ TakesEntry guide st01 text e = e.fault ≡ None
 -- the sets of a group are in their spans
 abbrev pub HasSpansIn : (text : List ℕ) → Delims → GroupEntry → Type 0
 HasSpansIn text d g = All (λ e. IsSetSpan text (span_of d e)) g.sets
+
+abbrev pub GroupHasSetIn : (st01 : Option (List ℕ)) → GroupEntry → Type 0
+GroupHasSetIn st01 g = Any (λ e. IsTrue (is_asked_in st01 e.header)) g.sets
+
+abbrev pub EntryHasSet : (st01 : Option (List ℕ)) → IndexEntry → Type 0
+EntryHasSet st01 e = (e.fault ≡ None) × Any (GroupHasSetIn st01) e.interchange.content.groups

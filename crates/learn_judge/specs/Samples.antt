@@ -1,7 +1,7 @@
 -- own: what it means that a guide takes a sample file: each set in it is one for the guide and meets it.
 use Rattle.std.specs.Prelude.{◌≡◌, ℕ, Bool, true, IsTrue, List, Option, Some, None, bytes_eq}
 use Rattle.std.specs.Option.{option_map_or}
-use Rattle.std.specs.List.{All}
+use Rattle.std.specs.List.{All, Any}
 use Rattle.x12_bytes.specs.declared.delims.Delims.{Delims}
 use Rattle.guide_tree.specs.Tree.{GuideTree}
 use Rattle.hub_kinds.specs.declared.interchange.InterchangeFault.{InterchangeFault}
@@ -41,3 +41,15 @@ TakesInterchange guide st01 x = envelope_fault x ≡ None → All (TakesGroup gu
 -- a guide takes a text: each set of it that is asked for, but for those of interchanges with one of the faults 1 to 7
 abbrev pub TakesText : GuideTree → (st01 : Option (List ℕ)) → (text : List ℕ) → Type 0
 TakesText guide st01 text = All (TakesInterchange guide st01) (text_of text).interchanges
+
+-- a group has a set that is asked for
+abbrev pub GroupHasSet : (st01 : Option (List ℕ)) → Group → Type 0
+GroupHasSet st01 group = Any (λ set. IsTrue (is_asked st01 set)) group.sets
+
+-- an interchange has none of the faults 1 to 7, and a set that is asked for
+abbrev pub InterchangeHasSet : (st01 : Option (List ℕ)) → Interchange → Type 0
+InterchangeHasSet st01 x = (envelope_fault x ≡ None) × Any (GroupHasSet st01) x.content.groups
+
+-- a text has a set that is asked for, in an interchange without one of the faults 1 to 7
+abbrev pub HasSet : (st01 : Option (List ℕ)) → (text : List ℕ) → Type 0
+HasSet st01 text = Any (InterchangeHasSet st01) (text_of text).interchanges

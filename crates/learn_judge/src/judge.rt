@@ -174,7 +174,7 @@ fn unmet_set(
 }
 
 /// Whether a set with this ST is asked for.
-fn is_asked(st01: Option<&[u8]>, header: &SegView) -> bool
+pub(crate) fn is_asked(st01: Option<&[u8]>, header: &SegView) -> bool
     ensures { result ≡ is_asked_in (option_map (λ t. t.now) st01.entry) header.now }
 {
     match st01 {
