@@ -25,12 +25,15 @@ each refused interchange, as comma-separated values (RFC 4180).
 
 Status:
   0  a clean night
-  1  a whole night; see its report
+  1  a complete night; something was refused, rejected or held, or is outside
   2  usage
   3  a guide, the setup or the counters
   4  the input
   5  an output
-  6  no memory";
+  6  no memory
+
+Example:
+  nighthub_track --setup setup.toml --guide h850.toml --counters counters.toml --at 202603011530 --in in.x12 --track track.csv";
 
 /// The files and the moment of a night, and what is shown of it. Each file is named by its path.
 #[derive(Debug, Drop)]

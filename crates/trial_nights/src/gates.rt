@@ -68,25 +68,34 @@ fn has_come<R: Wait + Clock>(rt: &R, count: &AtomicU64, wanted: u64) -> bool {
     false
 }
 
-/// Jobs 0 and 1 of each phase come together.
+/// Jobs 0 and 1 of each phase come together, before and after.
 #[derive(Drop)]
 struct Together {
     entered: AtomicU64,
+    left: AtomicU64,
     missed: AtomicU64,
+}
+
+impl Together {
+    fn meet<R: Wait + Clock>(&self, rt: &R, count: &AtomicU64, job: u64) {
+        if job > 1 {
+            return;
+        }
+        let came = count.fetch_add(1, Ordering::SeqCst);
+        if !has_come(rt, count, (came | 1).wrapping_add(1)) {
+            self.missed.fetch_add(1, Ordering::SeqCst);
+        }
+    }
 }
 
 impl Gate for Together {
     fn enter<R: Wait + Clock>(&self, rt: &R, job: u64) {
-        if job > 1 {
-            return;
-        }
-        let came = self.entered.fetch_add(1, Ordering::SeqCst);
-        if !has_come(rt, &self.entered, (came | 1).wrapping_add(1)) {
-            self.missed.fetch_add(1, Ordering::SeqCst);
-        }
+        self.meet(rt, &self.entered, job);
     }
 
-    fn answered<R: Wait + Clock, D>(&self, _rt: &R, _job: u64, _done: &D) {}
+    fn answered<R: Wait + Clock, D>(&self, rt: &R, job: u64, _done: &D) {
+        self.meet(rt, &self.left, job);
+    }
 }
 
 /// An order of ACME, twice.
@@ -107,6 +116,7 @@ fn two_workers_come_together_in_each_phase(rt: HostRuntime) -> Result<(), Fail> 
     for workers in [2u64, 64] {
         let gate = Together {
             entered: AtomicU64::new(0),
+            left: AtomicU64::new(0),
             missed: AtomicU64::new(0),
         };
         run_night(
@@ -121,6 +131,7 @@ fn two_workers_come_together_in_each_phase(rt: HostRuntime) -> Result<(), Fail> 
         )?;
         assert_eq!(rt; gate.missed.load(Ordering::SeqCst), 0);
         assert_eq!(rt; gate.entered.load(Ordering::SeqCst), 8);
+        assert_eq!(rt; gate.left.load(Ordering::SeqCst), 8);
     }
     Ok(())
 }
