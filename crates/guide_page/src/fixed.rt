@@ -15,7 +15,12 @@ th, td { text-align: left; padding: .3em .8em .3em 0; border-bottom: 1px solid v
 td { overflow-wrap: anywhere; }
 code, pre { font-family: ui-monospace, monospace; font-size: .92em; }
 pre { overflow-x: auto; border: 1px solid var(--line); padding: .6em; }
-@media print { body { max-width: none; } h3, tr { break-inside: avoid; } }
+@media print {
+  body { max-width: none; }
+  pre { overflow: visible; white-space: pre-wrap; overflow-wrap: anywhere; }
+  h1, h2, h3 { break-after: avoid; }
+  tr { break-inside: avoid; }
+}
 </style>
 ";
 

@@ -89,7 +89,7 @@ pub(crate) fn append_head(
 {
     append_fixed(out, b"<p>Group (GS01) ")?;
     append_text(alloc, out, &head.group)?;
-    append_fixed(out, b"Version (GS08) ")?;
+    append_fixed(out, b"<br>\nVersion (GS08) ")?;
     append_text(alloc, out, &head.version)?;
     append_convention(alloc, out, &head.convention)
 }
