@@ -1,5 +1,5 @@
 -- What clap found in the arguments is what the definitions say of them.
-use Rattle.std.proofs.Common.{◌≡◌, ◌∙◌, ℕ, List, Option, None, Some, true, ap, codes, refl, String, sym, subst}
+use Rattle.std.proofs.Common.{◌≡◌, ◌∙◌, ℕ, List, Option, Some, true, ap, codes, refl, String, sym, subst}
 use Rattle.clap.specs.Words.{HasKind, HasMatchesOf, Text, fault_of, first_value, found_of, is_simple, is_simple_and_free, kind_of, takes}
 use Rattle.clap.specs.declared.error.Error.{Error}
 use Rattle.clap.specs.declared.error.kind.ErrorKind.TheVariants.{OutOfMemory}
@@ -9,7 +9,7 @@ use Rattle.std.specs.Borrow.{Bor}
 use Rattle.std.specs.declared.alloc.Global.{Global}
 use Rattle.night_ends.proofs.ForAbove.{asks_for_text, found}
 use Rattle.track_tables.specs.declared.export.Form.{Form}
-use Rattle.day_command.specs.CommandLine.{AsksForText, IsAsked, IsRequest, IsShown, Request, check, day_app, export, find, page}
+use Rattle.day_command.specs.CommandLine.{AsksForText, IsAsked, IsRequest, IsShown, check, day_app, export, find, page}
 use Rattle.day_command.specs.CommandLine.{request_given}
 use Rattle.day_command.specs.CommandLine.{request_of, value_of}
 use Rattle.day_command.specs.declared.command.Asked.{Asked}

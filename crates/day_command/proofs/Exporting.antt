@@ -4,7 +4,7 @@ use Rattle.std.specs.List.{flat_map, list_all}
 use Rattle.std.proofs.lemmas.Grind.{flat_map-append}
 use Rattle.std.proofs.lemmas.List.{append-nil}
 use Rattle.std.proofs.lemmas.List.Folds.{list_all-append}
-use Rattle.night_search.specs.Lines.{unread_line, unread_lines}
+use Rattle.night_search.specs.Lines.{unread_line}
 use Rattle.track_tables.specs.Export.{export_columns}
 use Rattle.track_tables.specs.Night.{is_read}
 use Rattle.track_tables.specs.declared.export.Form.{Form}

@@ -1,5 +1,5 @@
 -- The last night of a list is the one whose name is last.
-use Rattle.std.proofs.Common.{◌≡◌, ◌-◌, ◌∙◌, List, [], ◌∷◌, Option, Some, ap, arith, length, suc}
+use Rattle.std.proofs.Common.{◌≡◌, ◌-◌, ◌∙◌, List, [], ◌∷◌, Some, ap, arith, length, suc}
 use Rattle.std.specs.Prelude.{slice_get}
 use Rattle.hub_ledger.specs.declared.entry.NightEntry.{NightEntry}
 use Rattle.night_breaches.specs.Breaches.{last_name}

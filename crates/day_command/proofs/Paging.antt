@@ -1,8 +1,8 @@
 -- A page that is made of the files of a night.
-use Rattle.std.proofs.Common.{◌≡◌, ◌∙◌, ◌↔◌, ℕ, List, Option, Some, true, ap, subst}
+use Rattle.std.proofs.Common.{◌≡◌, ◌∙◌, ◌↔◌, ℕ, List, Some, true, ap, subst}
 use Rattle.std.specs.Prelude.{codes}
 use Rattle.night_ends.specs.Outbox.{path_in}
-use Rattle.night_folder.specs.Files.{FileValue, bytes_or_none, first_line}
+use Rattle.night_folder.specs.Files.{FileValue, bytes_or_none}
 use Rattle.night_page.specs.Page.{IsPage, PageValue, has_todo}
 use Rattle.night_page.specs.Rows.{Row}
 use Rattle.night_page.specs.declared.told.PartnerTold.{PartnerTold}

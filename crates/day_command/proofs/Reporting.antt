@@ -1,30 +1,22 @@
--- What is printed of nights is made of what was read of them.
-use Rattle.std.proofs.Common.{◌≡◌, ◌∙◌, ℕ, List, [], ap, codes, length, subst}
+-- What is said of nights is made of what was read of them.
+use Rattle.std.proofs.Common.{◌≡◌, ◌∙◌, ℕ, List, ap, codes, subst}
 use Rattle.std.specs.List.{AllZip, filter_map}
 use Rattle.hub_ledger.specs.declared.entry.NightEntry.{NightEntry}
 use Rattle.night_ends.specs.Outbox.{path_in}
 use Rattle.night_folder.specs.Files.{FileValue}
 use Rattle.night_folder.specs.Nights.{IsRead, bad_in, entry_in}
 use Rattle.night_folder.specs.declared.night.NightRead.{NightRead}
-use Rattle.night_marks.specs.Order.{in_order}
 use Rattle.night_marks.specs.declared.bad.BadFile.{BadFile}
 use Rattle.night_marks.specs.declared.mark.NightMark.{NightMark}
 use Rattle.night_review.specs.GoingOn.{IsJudged}
-use Rattle.day_command.specs.Outcome.{IsReport, named_last}
-use Rattle.night_review.specs.Nights.{AreNights}
+use Rattle.day_command.specs.Outcome.{AreJudged, named_last}
 
-pub reported : (nights text : List ℕ) (status : ℕ) (marks order : List NightMark) (reads : List NightRead) (entries : List NightEntry)
-    (bad : List BadFile) (last : FileValue) (limit named : List ℕ) → AreNights nights marks → order ≡ in_order (length marks) [] marks
-    → AllZip (IsRead nights) order reads → last.path ≡ path_in nights (codes ".last") → entries ≡ filter_map entry_in reads
-    → bad ≡ filter_map bad_in reads → named ≡ named_last last.bytes entries → IsJudged limit named order entries bad text status
-    → IsReport nights text status
-reported nights text status marks order reads entries bad last limit named marks_are ordered read_by last_at entries_are bad_are named_is
-    judged =
+pub reported : (nights text : List ℕ) (status : ℕ) (order : List NightMark) (reads : List NightRead) (entries : List NightEntry)
+    (bad : List BadFile) (last : FileValue) (limit named : List ℕ) → AllZip (IsRead nights) order reads
+    → last.path ≡ path_in nights (codes ".last") → entries ≡ filter_map entry_in reads → bad ≡ filter_map bad_in reads
+    → named ≡ named_last last.bytes entries → IsJudged limit named order entries bad text status → AreJudged nights order text status
+reported nights text status order reads entries bad last limit named read_by last_at entries_are bad_are named_is judged =
     record {
-      marks = marks;
-      marks_are = marks_are;
-      order = order;
-      ordered = ordered;
       reads = reads;
       read_by = read_by;
       last = last;

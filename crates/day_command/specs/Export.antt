@@ -1,5 +1,5 @@
 -- What is exported of the tables of nights (own), and how far an export has come.
-use Rattle.std.specs.Prelude.{◌≡◌, ℕ, Bool, List, ◌++◌}
+use Rattle.std.specs.Prelude.{◌≡◌, ℕ, List, ◌++◌}
 use Rattle.std.specs.List.{flat_map}
 use Rattle.night_search.specs.Lines.{unread_lines}
 use Rattle.night_search.specs.Search.{are_read}

@@ -1,5 +1,5 @@
 -- The program's results (own): what is printed of the nights in the folder that the arguments name, and the status.
-use Rattle.std.specs.Prelude.{ℕ, ◌≡◌, ◌↔◌, ◌⊎◌, true, List, [], Option, Some, None, codes, length}
+use Rattle.std.specs.Prelude.{ℕ, ◌≡◌, ◌↔◌, ◌⊎◌, ◌++◌, true, List, [], Option, Some, None, codes, length}
 use Rattle.std.specs.List.{AllZip, filter_map}
 use Rattle.std.specs.Io.KnownBytes.{Appends}
 use Rattle.clap.specs.Words.{Text}
@@ -21,18 +21,15 @@ use Rattle.night_review.specs.GoingOn.{IsJudged}
 use Rattle.day_command.specs.Page.{IsPageReport}
 use Rattle.night_review.specs.Nights.{AreNights}
 use Rattle.day_command.specs.Tables.{AreTables}
+use Rattle.record_review.specs.Reviewed.{AreReviewed}
 
 -- the night that is named last; a folder without a file .last names the last night that was read
 abbrev pub named_last : (last : Option (List ℕ)) → List NightEntry → List ℕ
 named_last None entries = last_name entries
 named_last (Some bytes) entries = first_line bytes
 
--- the folder was listed, its nights were read in their order, and this is what is said of them
-pub record IsReport (nights text : List ℕ) (status : ℕ) : Type 0 where
-  pub marks : List NightMark
-  pub marks_are : AreNights nights marks
-  pub order : List NightMark
-  pub ordered : order ≡ in_order (length marks) [] marks
+-- the nights `order` of a folder were read, and this is what is said of them
+pub record AreJudged (nights : List ℕ) (order : List NightMark) (text : List ℕ) (status : ℕ) : Type 0 where
   pub reads : List NightRead
   pub read_by : AllZip (IsRead nights) order reads
   pub last : FileValue
@@ -40,6 +37,25 @@ pub record IsReport (nights text : List ℕ) (status : ℕ) : Type 0 where
   pub limit : List ℕ
   pub judged : IsJudged limit (named_last last.bytes (filter_map entry_in reads)) order (filter_map entry_in reads)
       (filter_map bad_in reads) text status
+
+-- what is said of nights, and after it of their records; the status is 0 exactly if both are right
+pub record IsBoth (of_nights of_records : List ℕ) (nights_status records_status : ℕ) (text : List ℕ) (status : ℕ) : Type 0 where
+  pub text_is : text ≡ of_nights ++ of_records
+  pub clean : (status ≡ 0) ↔ ((nights_status ≡ 0) × (records_status ≡ 0))
+
+-- the folder was listed, its nights and their records were read in their order, and this is what is said of them
+pub record IsReport (nights text : List ℕ) (status : ℕ) : Type 0 where
+  pub marks : List NightMark
+  pub marks_are : AreNights nights marks
+  pub order : List NightMark
+  pub ordered : order ≡ in_order (length marks) [] marks
+  pub of_nights : List ℕ
+  pub nights_status : ℕ
+  pub judged : AreJudged nights order of_nights nights_status
+  pub of_records : List ℕ
+  pub records_status : ℕ
+  pub reviewed : AreReviewed nights order of_records records_status
+  pub both : IsBoth of_nights of_records nights_status records_status text status
 
 -- such a text is what was printed
 pub record IsChecked (nights : List ℕ) (status : ℕ) (was is : Option (List ℕ)) : Type 0 where

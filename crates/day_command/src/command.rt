@@ -15,7 +15,8 @@ use track_tables::Form;
 
 /// What the text of `--help` ends with.
 const STATUSES: &str = "Commands:
-  check NIGHTS            says whether each night goes on from those before it
+  check NIGHTS            says whether each night goes on from those before it,
+                          and each record (night.toml), if one can be read
   find NIGHTS TEXT        prints a line for each row of the nights' track.csv
                           whose document number contains TEXT
   export [--sheet] NIGHTS

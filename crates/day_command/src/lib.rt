@@ -6,8 +6,8 @@
 //!   its path, in the nights' order;
 //! - check prints a line a breach and a total. It ends with 0 exactly if the nights that were read continue: each of their files is what it
 //!   must be, each night names the one before it, no set is delivered to a receiver on two nights, the numbers of each address begin where
-//!   they were left, no moment is before that of the night before or after a limit, and the last night is the one that is named last;
-//!   else with 1;
+//!   they were left, no moment is before that of the night before or after a limit, and the last night is the one that is named last; and
+//!   if the records of these nights are chained, unless none can be read; else with 1;
 //! - find prints a line for each row whose document has the text, and for each table that wasn't read. It ends with 0 exactly if a row has
 //!   the text and each table was read; else with 1;
 //! - export prints one CSV of the rows of all tables that were read, each with its night, and names the others on standard error. It ends

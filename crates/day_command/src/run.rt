@@ -4,17 +4,20 @@ ghost use Rattle.night_breaches.specs.Breaches.{last_name};
 ghost use Rattle.day_command.specs.CommandLine.{IsCommandLine};
 ghost use Rattle.day_command.specs.Failure.{IsBefore, IsStatus};
 ghost use Rattle.day_command.specs.Outcome.{AsksForExport, IsChecked, IsExported, IsPaged, IsReport, IsRun, IsSearched, named_last};
+ghost use Rattle.day_command.specs.Outcome.{AreJudged, IsBoth};
 
 use crate::command::{Asked, read_words};
 use crate::export::{Export, export_nights};
 use crate::failure::Failure;
 use crate::find::{find_nights, status_of};
 use crate::page::page_of;
+use hub_kinds::NoMemory;
 use hub_ledger::NightEntry;
 use night_ends::print_text;
 use night_folder::{PaperAt, entries_in, first_line, read_nights, read_paper};
-use night_marks::in_order;
+use night_marks::{NightMark, in_order};
 use night_review::{Report, judged, limit, nights_at};
+use record_review::{RecordsReport, review_records};
 use std::convert::AsStr;
 use std::io::Write;
 use std::rt::{Clock, Files};
@@ -154,7 +157,50 @@ fn named_last<'a>(last: &'a PaperAt, entries: &'a [NightEntry]) -> &'a [u8]
     }
 }
 
-/// What is printed of the nights in the folder at the path `nights`.
+/// Reads the nights `order` of the folder at the path `nights`, and says whether they continue.
+fn nights_report<R: Files + Clock + AllocGlobal + Clone + Drop>(
+    rt: &R,
+    nights: &[u8],
+    order: &[&NightMark],
+) -> Result<Report, Failure>
+    ensures report { IfOk result (λ report.
+        AreJudged nights.now (map (λ n. n.now) order.now) report.text.items report.status) }
+    ensures values { IfOk result (λ report. (report.status ≡ 0) ⊎ (report.status ≡ 1)) }
+    ensures before { IfErr result IsBefore }
+{
+    let alloc = rt.alloc();
+    let limit = limit(rt)?;
+    let (entries, bad) = entries_in(alloc, read_nights(rt, nights, order)?)?;
+    let last = read_paper(rt, nights, b".last")?;
+    let report = judged(
+        alloc,
+        order,
+        entries.as_slice(),
+        bad.as_slice(),
+        limit.as_bytes(),
+        named_last(&last, entries.as_slice()),
+    )?;
+    Ok(report)
+}
+
+/// What is printed of nights, and after it what is printed of their `records`.
+fn with_records(report: Report, records: &RecordsReport) -> Result<Report, NoMemory>
+    ensures both { IfOk result (λ both.
+        IsBoth report.text.items records.now.text.items report.status records.now.status both.text.items both.status) }
+    ensures values { (report.status ≡ 0) ⊎ (report.status ≡ 1) → (records.now.status ≡ 0) ⊎ (records.now.status ≡ 1)
+        → IfOk result (λ both. (both.status ≡ 0) ⊎ (both.status ≡ 1)) }
+{
+    let status = if report.status == 0 {
+        records.status
+    } else {
+        report.status
+    };
+    let mut text = report.text;
+    text.extend_from_slice(records.text.as_slice())?;
+    Ok(Report { text, status })
+}
+
+/// What is printed of the nights in the folder at the path `nights`, and of their records.
 fn report_of<R: Files + Clock + AllocGlobal + Clone + Drop>(
     rt: &R,
     nights: &str,
@@ -163,22 +209,11 @@ fn report_of<R: Files + Clock + AllocGlobal + Clone + Drop>(
     ensures values { IfOk result (λ report. (report.status ≡ 0) ⊎ (report.status ≡ 1)) }
     ensures before { IfErr result IsBefore }
 {
-    let alloc = rt.alloc();
-    let limit = limit(rt)?;
     let marks = nights_at(rt, nights)?;
-    let order = in_order(alloc, marks.as_slice())?;
-    let nights = nights.as_bytes();
-    let (entries, bad) = entries_in(alloc, read_nights(rt, nights, order.as_slice())?)?;
-    let last = read_paper(rt, nights, b".last")?;
-    let report = judged(
-        alloc,
-        order.as_slice(),
-        entries.as_slice(),
-        bad.as_slice(),
-        limit.as_bytes(),
-        named_last(&last, entries.as_slice()),
-    )?;
-    Ok(report)
+    let order = in_order(rt.alloc(), marks.as_slice())?;
+    let report = nights_report(rt, nights.as_bytes(), order.as_slice())?;
+    let records = review_records(rt, nights.as_bytes(), order.as_slice())?;
+    Ok(with_records(report, &records)?)
 }
 
 /// Prints a text on standard output, and nothing else. Gives `status`, or the status of a failure of standard output.

@@ -30,7 +30,8 @@ dictionary_part (id ∷ ids) = known_part (id ∷ ids)
 
 abbrev pub head_part : GuideHead → List ℕ
 head_part h =
-    codes "<p>Group (GS01) " ++ (code_part h.group ++ (codes "<br>\nVersion (GS08) " ++ (code_part h.version ++ convention_part h.convention)))
+    codes "<p>Group (GS01) "
+    ++ (code_part h.group ++ (codes "<br>\nVersion (GS08) " ++ (code_part h.version ++ convention_part h.convention)))
 
 abbrev pub parent_part : Option (List ℕ) → List ℕ
 parent_part None = codes "at the top</li>\n"

@@ -1,9 +1,10 @@
 //! `nighthub_day init HUB`, `run HUB` and `give-up HUB` make a folder a hub and run its nights one after another: each is kept only if
 //! all nights with it continue. The other commands only read. `nighthub_day check NIGHTS` says whether each night of a folder continues
 //! from those before it: on standard output a line for each set that is delivered twice, each address whose numbers don't continue, each
-//! file that isn't what its night gave, and a last line of totals. `nighthub_day find NIGHTS TEXT` prints a line for each row of the
-//! nights' tables whose document has TEXT, and `nighthub_day export [--sheet] NIGHTS` prints these tables as one. Status 0 says of
-//! `check` that each night continues, of `find` that a row was found and each table was read, and of `export` that each table was read;
+//! file that isn't what its night gave, and a line of totals; then the same of the nights' records, if one can be read.
+//! `nighthub_day find NIGHTS TEXT` prints a line for each row of the nights' tables whose document has TEXT, and
+//! `nighthub_day export [--sheet] NIGHTS` prints these tables as one. Status 0 says of `check` that each night continues, of `find` that a
+//! row was found and each table was read, and of `export` that each table was read;
 //! otherwise it is 1. A run that fails prints one line on standard error and ends with 2, 4, 5 or 6 (docs/ERRORS.md).
 //!
 //! Proved: the program is safe on every input, and ends. If memory is refused for its arguments, it reports that. All else of a run is

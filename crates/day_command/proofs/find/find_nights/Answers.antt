@@ -1,9 +1,8 @@
-use Rattle.std.proofs.Common.{[], ◌≡◌, ◌∙◌, ℕ, List, ap, length, map, subst, sym}
+use Rattle.std.proofs.Common.{[], ◌≡◌, ◌∙◌, ℕ, List, ap, length, map, subst}
 use Rattle.std.specs.Borrow.{Bor}
 use Rattle.std.specs.List.{AllZip}
 use Rattle.night_marks.specs.Order.{in_order}
 use Rattle.night_marks.specs.declared.mark.NightMark.{NightMark}
-use Rattle.night_search.specs.Search.{IsSearch}
 use Rattle.track_tables.specs.declared.night.NightTable.{NightTable}
 use Rattle.day_command.specs.Tables.{IsTableAt}
 use Rattle.day_command.proofs.Finding.{searched}

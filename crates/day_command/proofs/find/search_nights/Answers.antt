@@ -1,4 +1,4 @@
-use Rattle.std.proofs.Common.{[], ◌+◌, ◌∷◌, ◌++◌, List, arith, get_or, map, refl, take}
+use Rattle.std.proofs.Common.{[], ◌∷◌, ◌++◌, List, arith}
 use Rattle.std.specs.Borrow.{Bor}
 use Rattle.night_marks.specs.declared.mark.NightMark.{NightMark}
 use Rattle.track_tables.specs.declared.night.NightTable.{NightTable}
