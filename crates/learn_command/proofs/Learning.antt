@@ -7,7 +7,6 @@ use Rattle.std.proofs.lemmas.Option.{same_Some}
 use Rattle.check_command.specs.Files.{path_of}
 use Rattle.guide_tree.specs.declared.rows.GuideRows.{GuideRows}
 use Rattle.guide_tree.specs.Words.{guide_of}
-use Rattle.guide_toml.specs.FileBytes.{IsGuideOf}
 use Rattle.night_equal_guides.specs.Laws.{GuideBytesAreOne}
 use Rattle.check_command.specs.declared.files.Given.{Given}
 use Rattle.check_command.specs.declared.judged.Judged.{Judged}

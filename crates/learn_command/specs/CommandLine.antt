@@ -1,5 +1,5 @@
 -- The command line (own), read as clap's definitions say: guides that are known, the sets that are asked for, and sample files.
-use Rattle.std.specs.Prelude.{◌≡◌, ◌≢◌, ◌⊎◌, ℕ, List, [], map, Option, Some, true, codes, option_map}
+use Rattle.std.specs.Prelude.{◌≡◌, ◌≢◌, ◌⊎◌, List, [], map, Option, Some, true, codes, option_map}
 use Rattle.clap.specs.Words.{App, Rule, Text, IsAmong, all_of, fault_of, first_of, matches_of, new_app, new_rule, takes, with_rule}
 use Rattle.clap.specs.declared.builder.action.ArgAction.TheVariants.{Append, Set}
 use Rattle.clap.specs.declared.error.kind.ErrorKind.{ErrorKind}
