@@ -1,5 +1,6 @@
 ghost use Rattle.std.specs.Prelude.{◌≡◌, IfOk, Some, string_bytes};
 ghost use Rattle.std.specs.List.{flat_map};
+ghost use Rattle.night_ends.specs.Paths.{AsksForNew};
 
 use crate::free::part_path;
 use hub_kinds::Lent;
@@ -58,13 +59,14 @@ fn put_whole<'f, R: Files + AllocGlobal>(
     put_in_place(rt, written, path)
 }
 
-/// Writes a file that was made, and closes it. Where that fails, it isn't left.
+/// Writes a file that was made where nothing was, and closes it. Where that fails, it isn't left.
 fn write_closed<'f, R: Files + AllocGlobal>(
     rt: &R,
     created: Created<R::File>,
     name: &'f [u8],
     parts: &'f [Lent<'f>],
 ) -> io::Result<Written<'f>>
+    requires { AsksForNew created.how }
     ensures { IfOk result (λ written. written.file ≡ (name.now, flat_map (λ part. part) parts.now)) }
 {
     let mut created = created;
