@@ -25,7 +25,11 @@ Status:
   3  a guide, the setup or the counters
   4  the input
   5  an output
-  6  no memory, or no thread";
+  6  no memory, or no thread
+
+Example:
+  nighthub --setup setup.toml --guide h850.toml --guide h856.toml
+      --counters counters.toml --in in.x12 --at 202603011530 --out out";
 
 /// The files and the moment of a night, and how it is shared. Each file is named by its path.
 #[derive(Debug, Drop)]
