@@ -38,8 +38,12 @@ interchange_words key =
 abbrev pub receipt_words : (key earlier : List ℕ) → List ℕ
 receipt_words key earlier = codes " was delivered to " ++ (receiver_of key ++ (codes " in night " ++ earlier))
 
+-- that a set was delivered in a night
+abbrev pub delivery_words : (key earlier : List ℕ) → List ℕ
+delivery_words key earlier = set_words key ++ (interchange_words key ++ receipt_words key earlier)
+
 abbrev pub delivered_words : SecondDelivery → List ℕ
-delivered_words b = night_words b.night ++ (set_words b.key ++ (interchange_words b.key ++ receipt_words b.key b.earlier))
+delivered_words b = night_words b.night ++ delivery_words b.key b.earlier
 
 -- numbers that don't begin where they were left
 abbrev pub number_words : Counters → List ℕ

@@ -18,10 +18,9 @@ fn append_delivered(out: &mut Vec<u8>, breach: &SecondDelivery<'_>) -> Result<()
     append_delivery(out, breach.key.bytes(), breach.earlier.bytes())
 }
 
-/// Appends which set was delivered in the night `earlier`.
-fn append_delivery(out: &mut Vec<u8>, key: &[u8], earlier: &[u8]) -> Result<(), NoMemory>
-    ensures { OnOk result (out.new.items ≡ out.old.items
-        ++ (lines.set_words key.now ++ (lines.interchange_words key.now ++ lines.receipt_words key.now earlier.now))) }
+/// Appends to `out` that the set of this `key` was delivered in the night `earlier`. The only error is out of memory.
+pub fn append_delivery(out: &mut Vec<u8>, key: &[u8], earlier: &[u8]) -> Result<(), NoMemory>
+    ensures { OnOk result (out.new.items ≡ out.old.items ++ lines.delivery_words key.now earlier.now) }
 {
     append_set(out, key)?;
     append_interchange(out, key)?;

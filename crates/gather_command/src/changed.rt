@@ -6,7 +6,7 @@ use std::io;
 use std::time::SystemTime;
 
 /// Whether a regular file is another after it was read: it has another length or time of change, or is gone.
-pub(crate) fn is_changed(before: &io::Result<Metadata>, after: &io::Result<Metadata>) -> bool
+pub fn is_changed(before: &io::Result<Metadata>, after: &io::Result<Metadata>) -> bool
     ensures { IfOk before.now (λ b. IfOk after.now (λ a. IsFile (file_type b) → metadata_len b ≢ metadata_len a → result ≡ true)) }
 {
     match before {

@@ -30,10 +30,12 @@ mod part;
 mod total;
 
 pub use all::{Gathering, gather_all};
+pub use changed::is_changed;
 pub use command::{Asked, Job, read_words};
 pub use failure::{Failure, Reported};
 pub use gather::gather_main;
+pub use lines::append_outcome;
 pub use mistake::Mistake;
-pub use outcome::Outcome;
+pub use outcome::{Outcome, taken_of};
 pub use part::Part;
 pub use total::Total;

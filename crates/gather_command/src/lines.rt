@@ -22,7 +22,9 @@ pub(crate) fn append_line(
     append_outcome(out, outcome, before)
 }
 
-fn append_outcome(out: &mut Vec<u8>, outcome: Outcome, before: u64) -> Result<(), NoMemory>
+/// Appends to `out` what became of a file, up to the end of its line. Before its first byte `before` bytes are gathered. The only error is
+/// out of memory.
+pub fn append_outcome(out: &mut Vec<u8>, outcome: Outcome, before: u64) -> Result<(), NoMemory>
     ensures { OnOk result (out.new.items ≡ out.old.items ++ outcome_words outcome before) }
 {
     match outcome {

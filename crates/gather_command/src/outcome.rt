@@ -15,7 +15,7 @@ pub enum Outcome {
 }
 
 /// How a file goes in, if it is taken.
-pub(crate) fn taken_of(outcome: Outcome) -> Option<Taken>
+pub fn taken_of(outcome: Outcome) -> Option<Taken>
     ensures { result ≡ taken_of outcome }
 {
     match outcome {

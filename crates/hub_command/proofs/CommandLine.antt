@@ -12,12 +12,13 @@ use Rattle.clap.proofs.OnLiterals.{clap_on_literals}
 use Rattle.std.specs.Borrow.{Bor}
 use Rattle.std.specs.declared.alloc.Global.{Global}
 use Rattle.night_command.specs.CommandLine.{CanShare, piece_given, workers_given}
-use Rattle.night_ends.proofs.ForAbove.{asks_for_text, found}
-use Rattle.hub_command.specs.Asked.{IsAsked, IsRequest, IsShown, request_in}
+use Rattle.night_ends.specs.Words.{or_none, values_found}
+use Rattle.night_ends.proofs.ForAbove.{all_found, asks_for_text, found}
+use Rattle.hub_command.specs.Asked.{IsAsked, IsRequest, IsShown, run_in}
 use Rattle.hub_command.proofs.Sharing.{given_within}
-use Rattle.hub_command.specs.CommandLine.{AsksForText, Request, Rest, RunRequest, bare_by, give_up, hub_app, init, is_bare, is_given}
-use Rattle.hub_command.specs.CommandLine.{is_name_or_none, is_path, request_by, request_given, request_of, rest_of, run, run_by, run_given}
-use Rattle.hub_command.specs.CommandLine.{value_of}
+use Rattle.hub_command.specs.CommandLine.{AsksForText, Request, Rest, RunRequest, are_none, bare_by, give_up, hub_app, init, is_bare}
+use Rattle.hub_command.specs.CommandLine.{is_given, is_name_or_none, is_path, request_by, request_given, request_in, request_of, rest_of}
+use Rattle.hub_command.specs.CommandLine.{run, run_by, run_given, value_of, values_of}
 use Rattle.hub_command.specs.declared.command.Asked.{Asked}
 use Rattle.hub_command.specs.declared.command.Asked.TheVariants.{GiveUp, Init, Run, Show}
 use Rattle.hub_command.specs.declared.command.Options.{Options}
@@ -30,52 +31,58 @@ pub free : is_simple_and_free hub_app ≡ true
 unfolding clap_on_literals
 free = refl
 
-rest_with : (file at name workers piece : Option Text) (not_sent : Bool) → Rest
-rest_with file at name workers piece not_sent =
-    record { file = file; at = at; name = name; workers = workers; piece = piece; not_sent = not_sent }
+rest_with : (files : List Text) (at name workers piece : Option Text) (not_sent : Bool) → Rest
+rest_with files at name workers piece not_sent =
+    record { files = files; at = at; name = name; workers = workers; piece = piece; not_sent = not_sent }
 
 one : (words : List Text) (m : ArgMatches) → HasMatchesOf hub_app words m → (name : Text)
     → first_value (found_of m) name ≡ value_of words name
 one words m has name = found hub_app simple words m name has
 
+several : (words : List Text) (m : ArgMatches) → HasMatchesOf hub_app words m → (name : Text)
+    → values_found (found_of m) name ≡ values_of words name
+several words m has name = all_found hub_app simple words m name has
+
 -- the rest that clap found is the rest that the arguments give
 same_rest : (words : List Text) (m : ArgMatches) → HasMatchesOf hub_app words m
-    → rest_of (first_value (found_of m)) ≡ rest_of (value_of words)
+    → rest_of (first_value (found_of m)) (values_found (found_of m)) ≡ rest_of (value_of words) (values_of words)
 unfolding rest_with
 same_rest words m has =
     let a : Text → Option Text = first_value (found_of m) in
     let b : Text → Option Text = value_of words in
-    ap (λ (x : Option Text). rest_with x (a (codes "at")) (a (codes "name")) (a (codes "workers")) (a (codes "piece")) (is_given (a
-    (codes "not-sent"))))
-    (one words m has (codes "file"))
-    ∙ ap (λ (x : Option Text). rest_with (b (codes "file")) x (a (codes "name")) (a (codes "workers")) (a (codes "piece")) (is_given (a
+    let files : List Text = or_none (values_of words (codes "file")) in
+    ap (λ (x : Option (List Text)). rest_with (or_none x) (a (codes "at")) (a (codes "name")) (a (codes "workers")) (a
+    (codes "piece")) (is_given (a (codes "not-sent"))))
+    (several words m has (codes "file"))
+    ∙ ap (λ (x : Option Text). rest_with files x (a (codes "name")) (a (codes "workers")) (a (codes "piece")) (is_given (a
     (codes "not-sent"))))
     (one words m has (codes "at"))
-    ∙ ap (λ (x : Option Text). rest_with (b (codes "file")) (b (codes "at")) x (a (codes "workers")) (a (codes "piece")) (is_given (a
+    ∙ ap (λ (x : Option Text). rest_with files (b (codes "at")) x (a (codes "workers")) (a (codes "piece")) (is_given (a
     (codes "not-sent"))))
     (one words m has (codes "name"))
-    ∙ ap (λ (x : Option Text). rest_with (b (codes "file")) (b (codes "at")) (b (codes "name")) x (a (codes "piece")) (is_given (a
+    ∙ ap (λ (x : Option Text). rest_with files (b (codes "at")) (b (codes "name")) x (a (codes "piece")) (is_given (a
     (codes "not-sent"))))
     (one words m has (codes "workers"))
-    ∙ ap (λ (x : Option Text). rest_with (b (codes "file")) (b (codes "at")) (b (codes "name")) (b (codes "workers")) x (is_given (a
+    ∙ ap (λ (x : Option Text). rest_with files (b (codes "at")) (b (codes "name")) (b (codes "workers")) x (is_given (a
     (codes "not-sent"))))
     (one words m has (codes "piece"))
-    ∙ ap (λ (x : Option Text). rest_with (b (codes "file")) (b (codes "at")) (b (codes "name")) (b (codes "workers")) (b
+    ∙ ap (λ (x : Option Text). rest_with files (b (codes "at")) (b (codes "name")) (b (codes "workers")) (b
     (codes "piece")) (is_given x))
     (one words m has (codes "not-sent"))
 
 -- what the values ask for that clap found is what the arguments ask for
 pub same : (words : List Text) (m : ArgMatches) → HasMatchesOf hub_app words m
-    → request_of (first_value (found_of m)) ≡ request_of (value_of words)
+    → request_of (first_value (found_of m)) (values_found (found_of m)) ≡ request_in words
 same words m has =
     let a : Text → Option Text = first_value (found_of m) in
     let b : Text → Option Text = value_of words in
-    ap (λ (x : Option Text). request_given x (a (codes "hub")) (rest_of a)) (one words m has (codes "command"))
-    ∙ ap (λ (x : Option Text). request_given (b (codes "command")) x (rest_of a)) (one words m has (codes "hub"))
+    let rest : Rest = rest_of a (values_found (found_of m)) in
+    ap (λ (x : Option Text). request_given x (a (codes "hub")) rest) (one words m has (codes "command"))
+    ∙ ap (λ (x : Option Text). request_given (b (codes "command")) x rest) (one words m has (codes "hub"))
     ∙ ap (λ (x : Rest). request_given (b (codes "command")) (b (codes "hub")) x) (same_rest words m has)
 
 pub asked : (words : List Text) (m : ArgMatches) (asked : Asked) → HasMatchesOf hub_app words m
-    → IsRequest (request_of (first_value (found_of m))) asked → IsAsked words asked
+    → IsRequest (request_of (first_value (found_of m)) (values_found (found_of m))) asked → IsAsked words asked
 asked words m (Init hub) has given = sym (same words m has) ∙ given
 asked words m (Run hub options) has given = sym (same words m has) ∙ given
 asked words m (GiveUp hub not_sent) has given = sym (same words m has) ∙ given
@@ -91,15 +98,15 @@ shown words e (Show text) kind passes is =
 
 -- what is asked for is what the arguments ask for
 pub init_asked : (words : List Text) (asked : Asked) (hub : Bor (List ℕ)) → asked ≡ Init hub → IsAsked words asked
-    → request_of (value_of words) ≡ Some (init hub.now)
+    → request_in words ≡ Some (init hub.now)
 init_asked words asked hub is by = subst (λ (a : Asked). IsAsked words a) is by
 
 pub run_asked : (words : List Text) (asked : Asked) (hub : Bor (List ℕ)) (options : Options) → asked ≡ Run hub options → IsAsked words asked
-    → request_of (value_of words) ≡ Some (run hub.now (request_in options))
+    → request_in words ≡ Some (run hub.now (run_in options))
 run_asked words asked hub options is by = subst (λ (a : Asked). IsAsked words a) is by
 
 pub given_up_asked : (words : List Text) (asked : Asked) (hub : Bor (List ℕ)) (not_sent : Bool) → asked ≡ GiveUp hub not_sent
-    → IsAsked words asked → request_of (value_of words) ≡ Some (give_up hub.now not_sent)
+    → IsAsked words asked → request_in words ≡ Some (give_up hub.now not_sent)
 given_up_asked words asked hub not_sent is by = subst (λ (a : Asked). IsAsked words a) is by
 
 -- the text that is asked for isn't shown in place of anything else
@@ -123,36 +130,35 @@ chosen true true bare one two x is = inl is
 chosen true false true one two x is = inr is
 chosen true false false one two x is = absurd (cc)
 
-run_shares : (hub : Text) (file at name workers piece : Option Text) (w p : Option ℕ) (to : Text) (options : Options)
+run_shares : (hub : Text) (files : List Text) (at name workers piece : Option Text) (w p : Option ℕ) (to : Text) (options : Options)
     → w ≡ workers_given workers
-    → p ≡ piece_given piece → run_given hub file at name w p ≡ Some (run to (request_in options)) → CanShare options.sharing
-run_shares hub None at name workers piece w p to options ws ps is = absurd (cc)
-run_shares hub (Some file) None name workers piece w p to options ws ps is = absurd (cc)
-run_shares hub (Some file) (Some at) name workers piece None p to options ws ps is = absurd (cc)
-run_shares hub (Some file) (Some at) name workers piece (Some w) None to options ws ps is = absurd (cc)
-run_shares hub (Some file) (Some at) name workers piece (Some w) (Some p) to options ws ps is =
-    let made : RunRequest = record { file = file; at = at; name = name; workers = w; piece = p } in
-    let same = run_is (is_path file && (is_moment at && is_name_or_none name)) hub to made (request_in options) is in
+    → p ≡ piece_given piece → run_given hub files at name w p ≡ Some (run to (run_in options)) → CanShare options.sharing
+run_shares hub files None name workers piece w p to options ws ps is = absurd (cc)
+run_shares hub files (Some at) name workers piece None p to options ws ps is = absurd (cc)
+run_shares hub files (Some at) name workers piece (Some w) None to options ws ps is = absurd (cc)
+run_shares hub files (Some at) name workers piece (Some w) (Some p) to options ws ps is =
+    let made : RunRequest = record { files = files; at = at; name = name; workers = w; piece = p } in
+    let same = run_is (not (are_none files) && (is_moment at && is_name_or_none name)) hub to made (run_in options) is in
     let some = given_within 4 64 w workers (omega arith) (omega arith) (sym ws) in
     let bytes = given_within 1048576 4294967295 p piece (omega arith) (omega arith) (sym ps) in
     subst (λ (r : RunRequest). CanShare (record { workers = r.workers; piece = r.piece })) same
     (record { some = some.0; few = some.1; piece = bytes.0; short = bytes.1 })
 
 by_shares : (command hub : Text) (rest : Rest) (to : Text) (options : Options)
-    → request_by command hub rest ≡ Some (run to (request_in options)) → CanShare options.sharing
+    → request_by command hub rest ≡ Some (run to (run_in options)) → CanShare options.sharing
 by_shares command hub rest to options is =
     elim (chosen (is_path hub) (bytes_eq command (codes "run") && not rest.not_sent) (is_bare rest) (run_by hub rest)
-    (bare_by command hub rest.not_sent) (run to (request_in options)) is) [
-      | inl one ↦ run_shares hub rest.file rest.at rest.name rest.workers rest.piece (workers_given rest.workers)
+    (bare_by command hub rest.not_sent) (run to (run_in options)) is) [
+      | inl one ↦ run_shares hub rest.files rest.at rest.name rest.workers rest.piece (workers_given rest.workers)
           (piece_given rest.piece) to
           options refl refl one
       | inr two ↦ absurd (never_bare (bytes_eq command (codes "give-up")) (bytes_eq command
           (codes "init") && not rest.not_sent) rest.not_sent
-          hub to (request_in options) two)
+          hub to (run_in options) two)
     ]
 
 given_shares : (command hub : Option Text) (rest : Rest) (to : Text) (options : Options)
-    → request_given command hub rest ≡ Some (run to (request_in options)) → CanShare options.sharing
+    → request_given command hub rest ≡ Some (run to (run_in options)) → CanShare options.sharing
 given_shares None hub rest to options is = absurd (cc)
 given_shares (Some command) None rest to options is = absurd (cc)
 given_shares (Some command) (Some hub) rest to options is = by_shares command hub rest to options is
@@ -162,4 +168,5 @@ pub can_share : (words : List Text) (asked : Asked) (hub : Bor (List ℕ)) (opti
     → CanShare options.sharing
 can_share words asked hub options is by =
     let value : Text → Option Text = value_of words in
-    given_shares (value (codes "command")) (value (codes "hub")) (rest_of value) hub.now options (run_asked words asked hub options is by)
+    given_shares (value (codes "command")) (value (codes "hub")) (rest_of value (values_of words)) hub.now options
+    (run_asked words asked hub options is by)

@@ -5,11 +5,14 @@ use Rattle.std.specs.Prelude.{IfOk, if◌then◌else◌}
 use Rattle.night_shelf.specs.Shelf.{Changes, IsKept, Place}
 use Rattle.night_shelf.specs.declared.night.KeptNight.{KeptNight}
 use Rattle.night_shelf.specs.declared.night.NightFile.{NightFile}
+use Rattle.hub_command.specs.Failure.{IsBefore, IsUnprinted}
+use Rattle.hub_command.specs.Night.{status_by}
 use Rattle.hub_command.specs.Program.{IsMadeOrThere}
-use Rattle.hub_command.specs.Run.{IsDone, IsFoundAt, IsMadeAt, IsToldOf, MayKeep, MayLeaveOne}
+use Rattle.hub_command.specs.Run.{AreAsideAt, IsDone, IsFailureOf, IsFoundAt, IsMadeAt, IsToldOf, MayKeep, MayLeaveOne}
 use Rattle.hub_command.specs.There.{IsStatusIn}
 use Rattle.hub_command.specs.There.IsStatusIn.{Clean, Look}
 use Rattle.hub_command.specs.declared.failure.Failure.{Failure}
+use Rattle.hub_command.specs.declared.failure.Failure.TheVariants as failure
 use Rattle.hub_command.specs.declared.night.Made.{Made}
 use Rattle.hub_command.specs.declared.run.Found.{Found}
 use Rattle.hub_command.specs.declared.run.Found.TheVariants as found
@@ -39,6 +42,10 @@ one_at_most : (clean : Bool) (n : ℕ) → n ≡ (if clean then 0 else 1) → n 
 one_at_most true n is = omega (arith, is)
 one_at_most false n is = omega (arith, is)
 
+no_more : (status : ℕ) (is_whole : Bool) → status ≤ 1 → status_by status is_whole ≤ 1
+no_more status true few = few
+no_more status false few = omega arith
+
 written_at_most : (bytes : Option (List ℕ)) (n : ℕ) → IsStatusIn bytes n → n ≤ 1
 written_at_most bytes n (Clean said is) = omega (arith, is)
 written_at_most bytes n (Look said is) = omega (arith, is)
@@ -48,7 +55,9 @@ pub status_is_few : (setting : Setting) (old new : Option Place) (told : Told) �
 status_is_few setting old new told (inl kept) =
     let made = kept.made_at.made_is in
     let tonight = made.draft_is.tonight_is.tonight_is in
-    one_at_most _ told.status (kept.told_is.status_is ∙ made.made_is.status_is ∙ made.draft_is.laid_is.status ∙ tonight.run.told)
+    let laid = one_at_most _ made.draft.laid.status (made.draft_is.laid_is.status ∙ tonight.run.told) in
+    subst (λ (n : ℕ). n ≤ 1) (sym (kept.told_is.status_is ∙ made.made_is.status_is ∙ made.side_is.status_is))
+    (no_more made.draft.laid.status kept.made_at.day.is_whole laid)
 status_is_few setting old new told (inr was) =
     subst (λ (n : ℕ). n ≤ 1) (sym was.told_is.status_is)
     (written_at_most was.there_is.there_is.given.done.bytes was.there.status was.there_is.there_is.given.status_is)
@@ -56,3 +65,78 @@ status_is_few setting old new told (inr was) =
 pub made_or_there : (setting : Setting) (old new : Option Place) (told : Told) → IsDone setting old new told → IsMadeOrThere setting told
 made_or_there setting old new told (inl kept) = inl (kept.made, kept.made_at, kept.told_is)
 made_or_there setting old new told (inr was) = inr (was.there, was.there_is, was.told_is)
+
+pub aside_at : (setting : Setting) (given : Found) (lines : List ℕ) → given ≡ found.Aside lines → IsFoundAt setting given
+    → AreAsideAt setting lines
+aside_at setting given lines is by = subst (λ (f : Found). IsFoundAt setting f) is by
+
+-- a failure that doesn't say that each file is set aside
+pub failed : (setting : Setting) (f : Failure) → IsBefore f → IsFailureOf setting f
+failed setting (failure.NoHub text) before = tt
+failed setting (failure.IsHub text) before = tt
+failed setting (failure.Busy text) before = tt
+failed setting (failure.Lock text) before = tt
+failed setting (failure.Nights text) before = tt
+failed setting (failure.Unread text) before = tt
+failed setting (failure.Refused text) before = tt
+failed setting (failure.Setup text) before = tt
+failed setting (failure.NotSound text) before = tt
+failed setting (failure.AllAside text) before = absurd before
+failed setting (failure.Chain text) before = tt
+failed setting (failure.Given text) before = tt
+failed setting failure.NoNight before = tt
+failed setting failure.TooMany before = tt
+failed setting failure.Record before = tt
+failed setting failure.InputTooLong before = tt
+failed setting failure.Clock before = tt
+failed setting failure.Keep before = tt
+failed setting failure.Stdout before = absurd before
+failed setting failure.Thread before = tt
+failed setting failure.Memory before = tt
+
+-- nothing was printed before any of them
+pub unprinted : (f : Failure) → IsBefore f → IsUnprinted f
+unprinted (failure.NoHub text) before = tt
+unprinted (failure.IsHub text) before = tt
+unprinted (failure.Busy text) before = tt
+unprinted (failure.Lock text) before = tt
+unprinted (failure.Nights text) before = tt
+unprinted (failure.Unread text) before = tt
+unprinted (failure.Refused text) before = tt
+unprinted (failure.Setup text) before = tt
+unprinted (failure.NotSound text) before = tt
+unprinted (failure.AllAside text) before = tt
+unprinted (failure.Chain text) before = tt
+unprinted (failure.Given text) before = tt
+unprinted failure.NoNight before = tt
+unprinted failure.TooMany before = tt
+unprinted failure.Record before = tt
+unprinted failure.InputTooLong before = tt
+unprinted failure.Clock before = tt
+unprinted failure.Keep before = tt
+unprinted failure.Stdout before = absurd before
+unprinted failure.Thread before = tt
+unprinted failure.Memory before = tt
+
+pub still_unprinted : (setting : Setting) (f : Failure) → IsFailureOf setting f → IsUnprinted f
+still_unprinted setting (failure.NoHub text) of = tt
+still_unprinted setting (failure.IsHub text) of = tt
+still_unprinted setting (failure.Busy text) of = tt
+still_unprinted setting (failure.Lock text) of = tt
+still_unprinted setting (failure.Nights text) of = tt
+still_unprinted setting (failure.Unread text) of = tt
+still_unprinted setting (failure.Refused text) of = tt
+still_unprinted setting (failure.Setup text) of = tt
+still_unprinted setting (failure.NotSound text) of = tt
+still_unprinted setting (failure.AllAside text) of = tt
+still_unprinted setting (failure.Chain text) of = tt
+still_unprinted setting (failure.Given text) of = tt
+still_unprinted setting failure.NoNight of = tt
+still_unprinted setting failure.TooMany of = tt
+still_unprinted setting failure.Record of = tt
+still_unprinted setting failure.InputTooLong of = tt
+still_unprinted setting failure.Clock of = tt
+still_unprinted setting failure.Keep of = tt
+still_unprinted setting failure.Stdout of = absurd of
+still_unprinted setting failure.Thread of = tt
+still_unprinted setting failure.Memory of = tt

@@ -1,4 +1,5 @@
 mod CommandLine
+mod Days
 mod Keeping
 mod Lists
 mod Sharing

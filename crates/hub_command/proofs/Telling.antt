@@ -2,13 +2,13 @@
 use Rattle.std.proofs.Common.{◌≡◌, ◌≤◌, ℕ, List, Option, Some, Result, Ok, Err, inl}
 use Rattle.std.specs.Prelude.{IfOk}
 use Rattle.clap.specs.Words.{Text}
-use Rattle.hub_command.specs.CommandLine.{Request, request_of, value_of}
+use Rattle.hub_command.specs.CommandLine.{Request, request_in}
 use Rattle.hub_command.specs.Program.{IsDone, IsDoneAndTold, IsPrinted, IsRun, IsTold}
 use Rattle.hub_command.specs.declared.failure.Failure.{Failure}
 use Rattle.hub_command.specs.declared.told.Told.{Told}
 
 pub done_and_told : (words : List Text) (request : Request) (result : Result Told Failure) (status : ℕ) (was is : Option (List ℕ))
-    → request_of (value_of words) ≡ Some request → IfOk result (IsDone request) → IsTold result status was is → IsRun words status was is
+    → request_in words ≡ Some request → IfOk result (IsDone request) → IsTold result status was is → IsRun words status was is
 done_and_told words request (Ok told) status was is asked done printed =
     inl (record { request = request; asked = asked; told = told; done = done; printed = printed })
 done_and_told words request (Err failure) status was is asked done printed = absurd printed

@@ -1,13 +1,14 @@
 -- What was read of the command line (no public clause but that of `read_words` cites these).
-use Rattle.std.specs.Prelude.{◌≡◌, ◌⊎◌, ℕ, List, Option, Some, None, Bool, option_map}
+use Rattle.std.specs.Prelude.{◌≡◌, ◌⊎◌, ℕ, List, Option, Some, None, Bool, map, option_map}
 use Rattle.clap.specs.Words.{Text}
 use Rattle.clap.specs.declared.error.kind.ErrorKind.{ErrorKind}
 use Rattle.clap.specs.declared.error.kind.ErrorKind.TheVariants.{DisplayHelp, DisplayVersion}
 use Rattle.night_command.specs.CommandLine.{piece_given, workers_given}
 use Rattle.night_command.specs.declared.sharing.Sharing.{Sharing}
-use Rattle.hub_command.specs.CommandLine.{AsksForText, Request, Rest, RunRequest, give_up, init, request_of, run, value_of}
+use Rattle.hub_command.specs.CommandLine.{AsksForText, Request, Rest, RunRequest, give_up, init, request_in, run}
 use Rattle.hub_command.specs.declared.command.Asked.{Asked}
 use Rattle.hub_command.specs.declared.command.Asked.TheVariants as asked
+use Rattle.hub_command.specs.declared.command.Given.{Given}
 use Rattle.hub_command.specs.declared.command.Options.{Options}
 use denote.Ref.{Bor}
 
@@ -15,9 +16,9 @@ abbrev pub text_of : Option (Bor (List ℕ)) → Option Text
 text_of text = option_map (λ (t : Bor (List ℕ)). t.now) text
 
 -- the night that options say
-abbrev pub request_in : Options → RunRequest
-request_in options = record {
-  file = options.file.now;
+abbrev pub run_in : Options → RunRequest
+run_in options = record {
+  files = map (λ f. f.now) options.files.items;
   at = options.at;
   name = text_of options.name;
   workers = options.sharing.workers;
@@ -33,10 +34,17 @@ AreShared workers piece (Some sharing) = (workers ≡ Some sharing.workers) × (
 abbrev pub AreSharedBy : Rest → Option Sharing → Type 0
 AreSharedBy rest sharing = AreShared (workers_given rest.workers) (piece_given rest.piece) sharing
 
+-- what is given besides a hub, as the rest of the arguments say it
+pub record IsGiven (rest : Rest) (given : Given) : Type 0 where
+  pub files : map (λ f. f.now) given.files.items ≡ rest.files
+  pub at : text_of given.at ≡ rest.at
+  pub name : text_of given.name ≡ rest.name
+  pub sharing : AreSharedBy rest given.sharing
+
 -- a request as it was read
 abbrev pub IsRequest : Option Request → Asked → Type 0
 IsRequest request (asked.Init hub) = request ≡ Some (init hub.now)
-IsRequest request (asked.Run hub options) = request ≡ Some (run hub.now (request_in options))
+IsRequest request (asked.Run hub options) = request ≡ Some (run hub.now (run_in options))
 IsRequest request (asked.GiveUp hub not_sent) = request ≡ Some (give_up hub.now not_sent)
 IsRequest request (asked.Show text) = ⊥
 
@@ -46,9 +54,9 @@ IsRequested request (Some asked) = IsRequest request asked
 
 -- what the arguments ask for
 abbrev pub IsAsked : List Text → Asked → Type 0
-IsAsked words (asked.Init hub) = request_of (value_of words) ≡ Some (init hub.now)
-IsAsked words (asked.Run hub options) = request_of (value_of words) ≡ Some (run hub.now (request_in options))
-IsAsked words (asked.GiveUp hub not_sent) = request_of (value_of words) ≡ Some (give_up hub.now not_sent)
+IsAsked words (asked.Init hub) = request_in words ≡ Some (init hub.now)
+IsAsked words (asked.Run hub options) = request_in words ≡ Some (run hub.now (run_in options))
+IsAsked words (asked.GiveUp hub not_sent) = request_in words ≡ Some (give_up hub.now not_sent)
 IsAsked words (asked.Show text) = AsksForText words
 
 -- the kind of what clap reports

@@ -1,18 +1,23 @@
 -- The command line (own), read as clap's definitions say: a command, the folder of a hub, and what the command takes besides.
-use Rattle.std.specs.Prelude.{◌≡◌, ◌≢◌, ◌⊎◌, ◌&&◌, ◌||◌, ℕ, Bool, true, false, not, List, [], ◌∷◌, Option, Some, None, codes, is_none}
-use Rattle.std.specs.Prelude.{if◌then◌else◌}
+use Rattle.std.specs.Prelude.{◌≡◌, ◌≢◌, ◌⊎◌, ◌&&◌, ◌||◌, ◌==◌, ℕ, Bool, true, false, not, List, [], ◌∷◌, Option, Some, None, codes, is_none}
+use Rattle.std.specs.Prelude.{if◌then◌else◌, length}
 use Rattle.std.specs.Str.{bytes_eq}
-use Rattle.clap.specs.Words.{App, Rule, Text, IsAmong, fault_of, first_of, matches_of, new_app, new_rule, takes, with_rule}
-use Rattle.clap.specs.declared.builder.action.ArgAction.TheVariants.{Set, SetTrue}
+use Rattle.clap.specs.Words.{App, Rule, Text, IsAmong, all_of, fault_of, first_of, matches_of, new_app, new_rule, takes, with_rule}
+use Rattle.clap.specs.declared.builder.action.ArgAction.TheVariants.{Append, Set, SetTrue}
 use Rattle.clap.specs.declared.error.kind.ErrorKind.TheVariants.{DisplayHelp, DisplayVersion}
 use Rattle.file_names.specs.Given.{is_marked}
 use Rattle.moment.specs.Calendar.{is_moment}
+use Rattle.night_ends.specs.Words.{or_none}
 use Rattle.night_command.specs.CommandLine.{option_free, piece_given, piece_rule, workers_given, workers_rule}
 use Rattle.hub_command.specs.Names.{is_night_name}
 
--- a word by its place, which may be wanted
-abbrev pub word_rule : Text → (required : Bool) → Rule
-word_rule name required = record (new_rule name) { value_names = 1; required = required; action = Some Set }
+-- a word by its place
+abbrev pub word_rule : Text → Rule
+word_rule name = record (new_rule name) { value_names = 1; required = true; action = Some Set }
+
+-- the files after the words
+abbrev pub file_rule : Rule
+file_rule = record (new_rule (codes "file")) { value_names = 1; action = Some Append }
 
 -- the option that gives up a night of which nothing was sent
 abbrev pub not_sent_rule : Rule
@@ -27,8 +32,7 @@ program =
 -- with the words that commands take
 abbrev pub words_app : App
 words_app =
-    with_rule (with_rule (with_rule program (word_rule (codes "command") true)) (word_rule (codes "hub") true)) (word_rule
-    (codes "file") false)
+    with_rule (with_rule (with_rule program (word_rule (codes "command"))) (word_rule (codes "hub"))) file_rule
 
 -- and the options that say of a night when it is and what it is called
 abbrev pub with_night : App → App
@@ -50,9 +54,13 @@ is_of_hub (word ∷ words) = is_command word
 abbrev pub value_of : List Text → Text → Option Text
 value_of words name = first_of name (matches_of hub_app words)
 
+-- the values that they give it, in their order
+abbrev pub values_of : List Text → Text → Option (List Text)
+values_of words name = all_of name (matches_of hub_app words)
+
 -- the night that is to be run
 pub record RunRequest : Type 0 where
-  pub file : Text
+  pub files : List Text
   pub at : Text
   pub name : Option Text
   pub workers : ℕ
@@ -80,28 +88,30 @@ is_given (Some value) = bytes_eq value (codes "true")
 
 -- what a command is given besides the hub
 pub record Rest : Type 0 where
-  pub file : Option Text
+  pub files : List Text
   pub at : Option Text
   pub name : Option Text
   pub workers : Option Text
   pub piece : Option Text
   pub not_sent : Bool
 
-abbrev pub is_bare : Rest → Bool
-is_bare rest = is_none rest.file && (is_none rest.at && (is_none rest.name && (is_none rest.workers && is_none rest.piece)))
+abbrev pub are_none : List Text → Bool
+are_none files = length files == 0
 
--- a run takes a file and a moment that there is; its name, if it has one, is one that a night can have
-abbrev pub run_given : (hub : Text) → (file at name : Option Text) → (workers piece : Option ℕ) → Option Request
-run_given hub None at name workers piece = None
-run_given hub (Some file) None name workers piece = None
-run_given hub (Some file) (Some at) name None piece = None
-run_given hub (Some file) (Some at) name (Some workers) None = None
-run_given hub (Some file) (Some at) name (Some workers) (Some piece) =
-    if is_path file && (is_moment at && is_name_or_none name)
-    then Some (run hub (record { file = file; at = at; name = name; workers = workers; piece = piece })) else None
+abbrev pub is_bare : Rest → Bool
+is_bare rest = are_none rest.files && (is_none rest.at && (is_none rest.name && (is_none rest.workers && is_none rest.piece)))
+
+-- a run takes files, at least one, and a moment that there is; its name, if it has one, is one that a night can have
+abbrev pub run_given : (hub : Text) → (files : List Text) → (at name : Option Text) → (workers piece : Option ℕ) → Option Request
+run_given hub files None name workers piece = None
+run_given hub files (Some at) name None piece = None
+run_given hub files (Some at) name (Some workers) None = None
+run_given hub files (Some at) name (Some workers) (Some piece) =
+    if not (are_none files) && (is_moment at && is_name_or_none name)
+    then Some (run hub (record { files = files; at = at; name = name; workers = workers; piece = piece })) else None
 
 abbrev pub run_by : (hub : Text) → Rest → Option Request
-run_by hub rest = run_given hub rest.file rest.at rest.name (workers_given rest.workers) (piece_given rest.piece)
+run_by hub rest = run_given hub rest.files rest.at rest.name (workers_given rest.workers) (piece_given rest.piece)
 
 -- the others take a hub alone; `give-up` takes `--not-sent`
 abbrev pub bare_by : (command hub : Text) → (not_sent : Bool) → Option Request
@@ -122,9 +132,9 @@ request_given None hub rest = None
 request_given (Some command) None rest = None
 request_given (Some command) (Some hub) rest = request_by command hub rest
 
-abbrev pub rest_of : (value : Text → Option Text) → Rest
-rest_of value = record {
-  file = value (codes "file");
+abbrev pub rest_of : (value : Text → Option Text) → (values : Text → Option (List Text)) → Rest
+rest_of value values = record {
+  files = or_none (values (codes "file"));
   at = value (codes "at");
   name = value (codes "name");
   workers = value (codes "workers");
@@ -133,13 +143,17 @@ rest_of value = record {
 }
 
 -- what the values of the arguments ask for
-abbrev pub request_of : (value : Text → Option Text) → Option Request
-request_of value = request_given (value (codes "command")) (value (codes "hub")) (rest_of value)
+abbrev pub request_of : (value : Text → Option Text) → (values : Text → Option (List Text)) → Option Request
+request_of value values = request_given (value (codes "command")) (value (codes "hub")) (rest_of value values)
+
+-- what the arguments ask for
+abbrev pub request_in : List Text → Option Request
+request_in words = request_of (value_of words) (values_of words)
 
 -- nothing is wrong with the arguments, and they ask for something
 pub record IsCommandLine (words : List Text) : Type 0 where
   pub taken : takes hub_app words ≡ true
-  pub asked : request_of (value_of words) ≢ None
+  pub asked : request_in words ≢ None
 
 -- the arguments ask for help or for the version, and for nothing else
 pub record AsksForText (words : List Text) : Type 0 where

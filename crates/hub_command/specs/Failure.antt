@@ -17,6 +17,7 @@ rest_of (failure.Unread path) = codes " can't be read\n"
 rest_of (failure.Refused path) = codes " is refused: nighthub_check says why\n"
 rest_of (failure.Setup hub) = codes ": its setup and its guides are refused together: nighthub_check says why\n"
 rest_of (failure.NotSound report) = codes "nighthub_day: with this night the nights don't go on, so it isn't kept\n"
+rest_of (failure.AllAside lines) = codes "nighthub_day: each file is set aside, so no night is made\n"
 rest_of (failure.Chain path) = codes " isn't what a night leaves\n"
 rest_of (failure.Given path) = codes " can't be moved to given-up\n"
 rest_of failure.NoNight = codes "nighthub_day: there is no night to give up\n"
@@ -48,9 +49,10 @@ abbrev pub named : (path : Option (List ℕ)) → (rest : List ℕ) → List ℕ
 named None rest = rest
 named (Some path) rest = codes "nighthub_day: " ++ (shown path ++ rest)
 
--- the lines of a check come before that of a night that isn't kept
+-- the lines of a check come before that of a night that isn't kept, and those on the files before that of a night that isn't made
 abbrev pub report_in : Failure → List ℕ
 report_in (failure.NotSound report) = report
+report_in (failure.AllAside lines) = lines
 report_in _ = []
 
 -- what is printed on standard error
@@ -67,6 +69,7 @@ status_of (failure.Unread path) = 4
 status_of (failure.Refused path) = 3
 status_of (failure.Setup hub) = 3
 status_of (failure.NotSound report) = 78
+status_of (failure.AllAside lines) = 78
 status_of (failure.Chain path) = 78
 status_of (failure.Given path) = 5
 status_of failure.NoNight = 78
@@ -98,6 +101,12 @@ IsUsage (mistake.Usage text) = Unit {0}
 IsUsage mistake.Memory = ⊥
 
 -- a failure that comes before anything is printed on standard output
+abbrev pub IsUnprinted : Failure → Type 0
+IsUnprinted failure.Stdout = ⊥
+IsUnprinted _ = Unit {0}
+
+-- and that doesn't say that each file is set aside
 abbrev pub IsBefore : Failure → Type 0
 IsBefore failure.Stdout = ⊥
+IsBefore (failure.AllAside lines) = ⊥
 IsBefore _ = Unit {0}

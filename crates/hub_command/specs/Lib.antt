@@ -1,6 +1,7 @@
 pub mod Asked
 pub mod Chain
 pub mod CommandLine
+pub mod Day
 pub mod Failure
 pub mod Lines
 pub mod Made

@@ -19,10 +19,10 @@ night_words ready = worded (codes "night ") (decimal ready.number) ++ worded (co
 abbrev pub place_words : Ready → List ℕ
 place_words ready = worded (codes ") is ready: ") (shown ready.hub.now) ++ worded (codes "/nights/") ready.folder.now
 
--- the last line of its report, which night it is, where it may be sent from, and the sum of its record
+-- a line for each file, the last line of its report, which night it is, where it may be sent from, and the sum of its record
 abbrev pub ready_text : Ready → List ℕ
 ready_text ready =
-    ready.total.now ++ (night_words ready ++ (place_words ready ++ ended (codes "/out, record ") ready.record_sum.now))
+    ready.lines.now ++ (ready.total.now ++ (night_words ready ++ (place_words ready ++ ended (codes "/out, record ") ready.record_sum.now)))
 
 -- a folder was made a hub
 abbrev pub init_text : (hub : List ℕ) → List ℕ

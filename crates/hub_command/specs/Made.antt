@@ -20,11 +20,12 @@ guide_name name = codes "from/guides/" ++ name
 abbrev pub guide_file : NightFile → NightFile
 guide_file guide = file (guide_name guide.name) guide.bytes
 
--- the files that a night is made of
-abbrev pub made_files : (setup : List ℕ) → (guides : List NightFile) → (counters input : List ℕ) → List NightFile
-made_files setup guides counters input =
+-- the files that a night is made of: `listing` is the list of the files of the day, `input` what goes in of them
+abbrev pub made_files : (setup : List ℕ) → (guides : List NightFile) → (counters listing input : List ℕ) → List NightFile
+made_files setup guides counters listing input =
     file (codes "from/setup.toml") setup
-    ∷ (map guide_file guides ++ file (codes "from/counters.toml") counters ∷ file (codes "from/in.x12") input ∷ [])
+    ∷ (map guide_file guides
+    ++ file (codes "from/counters.toml") counters ∷ file (codes "from/files.sum") listing ∷ file (codes "from/in.x12") input ∷ [])
 
 -- the files that it gives, of which its sums are
 abbrev pub given_files : Tonight → List NightFile

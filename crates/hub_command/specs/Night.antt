@@ -1,5 +1,6 @@
 -- A night of a hub (own): which nights are before it, what it is made of, and that all nights with it continue.
-use Rattle.std.specs.Prelude.{◌≡◌, ℕ, ◌+◌, ◌-◌, List, [], ◌∷◌, ◌++◌, Option, Some, None, codes, length, map, option_map, reverse, slice_get}
+use Rattle.std.specs.Prelude.{◌≡◌, ℕ, ◌+◌, ◌-◌, Bool, List, [], ◌∷◌, ◌++◌, Option, Some, None, codes, if◌then◌else◌, length, map}
+use Rattle.std.specs.Prelude.{option_map, reverse, slice_get}
 use Rattle.std.specs.List.{AllZip, filter_map}
 use Rattle.hub_ledger.specs.declared.entry.NightEntry.{NightEntry}
 use Rattle.night_folder.specs.Files.{bytes_or_none}
@@ -12,7 +13,7 @@ use Rattle.night_record.specs.Tables.{addresses_text, taken_text}
 use Rattle.night_record.specs.declared.addresses.AddressNext.{AddressNext}
 use Rattle.night_shelf.specs.declared.night.NightFile.{NightFile}
 use Rattle.kept_files.specs.Addresses.{IsNextOf}
-use Rattle.kept_files.specs.Files.{AreKeptFiles}
+use Rattle.kept_files.specs.Files.{AreKeptFiles, file}
 use Rattle.kept_files.specs.Taken.{taken_of}
 use Rattle.kept_files.specs.declared.heading.Heading.{Heading}
 use Rattle.hub_tonight.specs.Tonight.{IsTonight}
@@ -23,11 +24,12 @@ use Rattle.hub_command.specs.Chain.{IsChain}
 use Rattle.hub_command.specs.Made.{IsEntryIn, given_files, made_files, table_files}
 use Rattle.hub_command.specs.Names.{folder_name}
 use Rattle.hub_command.specs.declared.chain.Chain.{Chain}
+use Rattle.hub_command.specs.declared.day.Day.{Day}
 use Rattle.hub_command.specs.declared.entry.NightBytes.{NightBytes}
 use Rattle.hub_command.specs.declared.night.Draft.{Draft}
 use Rattle.hub_command.specs.declared.night.Laid.{Laid}
 use Rattle.hub_command.specs.declared.night.Made.{Made}
-use Rattle.hub_command.specs.declared.night.Side.{Side}
+use Rattle.hub_command.specs.declared.side.Side.{Side}
 use Rattle.hub_command.specs.declared.older.Older.{Older}
 use Rattle.hub_command.specs.declared.papers.HubPapers.{HubPapers}
 use Rattle.hub_command.specs.declared.setting.Setting.{Setting}
@@ -103,9 +105,9 @@ pub record IsEntryOfNight (setting : Setting) (folder : List ℕ) (papers : HubP
   pub entry_is : IsEntryIn night entry
 
 -- the files of its folder
-abbrev pub AreFilesOf : Heading → HubPapers → Laid → (tables : List NightFile) → (input : List ℕ) → List NightFile → Type 0
-AreFilesOf heading papers laid tables input files =
-    AreKeptFiles heading (made_files (bytes_or_none papers.setup.bytes) papers.guides laid.counters input) laid.given tables files
+abbrev pub AreFilesOf : Heading → HubPapers → Laid → (tables : List NightFile) → (listing input : List ℕ) → List NightFile → Type 0
+AreFilesOf heading papers laid tables listing input files =
+    AreKeptFiles heading (made_files (bytes_or_none papers.setup.bytes) papers.guides laid.counters listing input) laid.given tables files
 
 -- the folder of the night after so many
 abbrev pub folder_after : (count : ℕ) → (name : List ℕ) → List ℕ
@@ -127,25 +129,37 @@ pub record IsSoundAfter (setting : Setting) (older : Older) (folder : List ℕ) 
   pub go_on : GoOn setting.limit.now folder (map_now older.order ++ mark_of folder setting.at older.chain.before ∷ [])
       (older.entries ++ entry ∷ []) older.bad
 
+-- 1 if a file of the day didn't go in whole
+abbrev pub status_by : (status : ℕ) → (is_whole : Bool) → ℕ
+status_by status is_whole = if is_whole then status else 1
+
+-- what is kept beside what the night gives: the lines on the files of the day are files.txt
+pub record IsSideOf (folder : List ℕ) (tables : List NightFile) (status : ℕ) (day : Day) (side : Side) : Type 0 where
+  pub folder_is : side.folder ≡ folder
+  pub tables_are : side.tables ≡ tables ++ file (codes "files.txt") day.lines ∷ []
+  pub listing_is : side.listing ≡ day.listing
+  pub input_is : side.input ≡ day.input
+  pub lines_are : side.lines ≡ day.lines
+  pub status_is : side.status ≡ status_by status day.is_whole
+
 -- its folder is to have just these files
 pub record IsMadeBy (setting : Setting) (chain : Chain) (papers : HubPapers) (number : ℕ) (laid : Laid) (side : Side) (made : Made)
     : Type 0 where
   pub number_is : made.number ≡ number
   pub name_is : made.night.name ≡ side.folder
   pub heading : Heading
-  pub heading_is : IsHeadingOf setting number chain laid.status heading
-  pub files_are : AreFilesOf heading papers laid side.tables side.input made.night.files
+  pub heading_is : IsHeadingOf setting number chain side.status heading
+  pub files_are : AreFilesOf heading papers laid side.tables side.listing side.input made.night.files
+  pub lines_are : made.lines ≡ side.lines
   pub total_is : made.total ≡ laid.total
-  pub status_is : made.status ≡ laid.status
+  pub status_is : made.status ≡ side.status
 
--- A night is made: a draft with which all nights continue, and the files of its folder.
-pub record IsMadeOf (setting : Setting) (older : Older) (papers : HubPapers) (input : List ℕ) (made : Made) : Type 0 where
+-- A night is made of the files of a day: a draft with which all nights continue, and the files of its folder.
+pub record IsMadeOf (setting : Setting) (older : Older) (papers : HubPapers) (day : Day) (made : Made) : Type 0 where
   pub draft : Draft
-  pub draft_is : IsDraftOf setting older papers input draft
+  pub draft_is : IsDraftOf setting older papers day.input draft
   pub chain : Chain
   pub sound : IsSoundAfter setting older draft.folder draft.entry chain
   pub side : Side
-  pub folder_is : side.folder ≡ draft.folder
-  pub tables_are : side.tables ≡ draft.tables
-  pub input_is : side.input ≡ input
+  pub side_is : IsSideOf draft.folder draft.tables draft.laid.status day side
   pub made_is : IsMadeBy setting chain papers draft.number draft.laid side made

@@ -1,9 +1,9 @@
 -- The program's results (own): what is printed, and the status.
-use Rattle.std.specs.Prelude.{◌≡◌, ◌⊎◌, ◌==◌, ◌||◌, ℕ, IsTrue, List, Option, Some, None, Result, Ok, Err, unwrap_or}
+use Rattle.std.specs.Prelude.{◌≡◌, ◌⊎◌, ◌==◌, ◌||◌, ℕ, Bool, true, false, IsTrue, List, Option, Some, None, Result, Ok, Err, map, unwrap_or}
 use Rattle.std.specs.Io.KnownBytes.{Appends}
 use Rattle.clap.specs.Words.{Text}
 use Rattle.hub_command.specs.Asked.{text_of}
-use Rattle.hub_command.specs.CommandLine.{AsksForText, Request, RunRequest, give_up, init, request_of, run, value_of}
+use Rattle.hub_command.specs.CommandLine.{AsksForText, Request, RunRequest, give_up, init, request_in, run}
 use Rattle.hub_command.specs.Lines.{cleared_text, given_up_text, init_text}
 use Rattle.hub_command.specs.Run.{IsMadeAt, IsThere, IsToldAgain, IsToldOf}
 use Rattle.hub_command.specs.declared.command.Options.{Options}
@@ -27,7 +27,7 @@ called request = unwrap_or request.name request.at
 -- the night of a hub that is asked for
 pub record IsSettingOf (hub : Text) (request : RunRequest) (setting : Setting) : Type 0 where
   pub hub_is : setting.hub.now ≡ hub
-  pub file_is : setting.file.now ≡ request.file
+  pub files_are : map (λ f. f.now) setting.files.now ≡ request.files
   pub at_is : setting.at ≡ request.at
   pub name_is : setting.name.now ≡ called request
   pub workers_are : setting.sharing.workers ≡ request.workers
@@ -44,15 +44,16 @@ pub record IsNightRun (hub : Text) (request : RunRequest) (told : Told) : Type 0
   pub setting_is : IsSettingOf hub request setting
   pub done : IsMadeOrThere setting told
 
--- what was under way is removed, or the last night is moved aside
-abbrev pub IsGivenUp : (hub : Text) → Told → Type 0
-IsGivenUp hub told = (told.text.items ≡ cleared_text hub) ⊎ ((name : List ℕ) × (told.text.items ≡ given_up_text hub name))
+-- what was under way is removed; with `--not-sent` the last night is moved aside
+abbrev pub IsGivenUp : (hub : Text) → (not_sent : Bool) → Told → Type 0
+IsGivenUp hub false told = told.text.items ≡ cleared_text hub
+IsGivenUp hub true told = (name : List ℕ) × (told.text.items ≡ given_up_text hub name)
 
 -- what was done
 abbrev pub IsDone : Request → Told → Type 0
 IsDone (init hub) told = told.text.items ≡ init_text hub
 IsDone (run hub request) told = IsNightRun hub request told
-IsDone (give_up hub not_sent) told = IsGivenUp hub told
+IsDone (give_up hub not_sent) told = IsGivenUp hub not_sent told
 
 -- what is told is printed, and the status is its own
 pub record IsPrinted (told : Told) (status : ℕ) (was is : Option (List ℕ)) : Type 0 where
@@ -73,7 +74,7 @@ pub record IsShownText (words : List Text) (status : ℕ) (was is : Option (List
 -- what the arguments ask for was done and is told
 pub record IsDoneAndTold (words : List Text) (status : ℕ) (was is : Option (List ℕ)) : Type 0 where
   pub request : Request
-  pub asked : request_of (value_of words) ≡ Some request
+  pub asked : request_in words ≡ Some request
   pub told : Told
   pub done : IsDone request told
   pub printed : IsPrinted told status was is

@@ -1,17 +1,22 @@
 -- A run of a hub's night (own): the night is made and kept, or it is there already.
-use Rattle.std.specs.Prelude.{◌≡◌, ◌≤◌, ◌-◌, ◌⊎◌, ⊤, ℕ, List, [], Option, Some, None, codes, length, slice_get}
+use Rattle.std.specs.Prelude.{◌≡◌, ◌≤◌, ◌-◌, ◌⊎◌, ⊤, ℕ, List, [], Option, Some, None, codes, length, map, slice_get}
+use Rattle.std.specs.List.{AllZip}
+use Rattle.day_files.specs.declared.file.DayFile.{DayFile}
 use Rattle.kept_files.specs.Sums.{sum_text}
 use Rattle.night_ends.specs.Outbox.{path_in}
-use Rattle.night_folder.specs.Files.{FileValue}
 use Rattle.night_marks.specs.declared.mark.NightMark.{NightMark}
 use Rattle.night_shelf.specs.Shelf.{Changes, IsKept, MayLeave, Place}
 use Rattle.night_shelf.specs.declared.night.KeptNight.{KeptNight}
 use Rattle.night_shelf.specs.declared.night.NightFile.{NightFile}
 use Rattle.night_review.specs.Nights.{AreNights}
+use Rattle.hub_command.specs.Day.{AreAside, IsDayOf, IsFileAt}
 use Rattle.hub_command.specs.Lines.{ready_text}
 use Rattle.hub_command.specs.Night.{IsMadeOf, IsOlder}
 use Rattle.hub_command.specs.Papers.{ArePapersAt}
 use Rattle.hub_command.specs.There.{IsThereAt}
+use Rattle.hub_command.specs.declared.day.Day.{Day}
+use Rattle.hub_command.specs.declared.failure.Failure.{Failure}
+use Rattle.hub_command.specs.declared.failure.Failure.TheVariants as failure
 use Rattle.hub_command.specs.declared.night.Made.{Made}
 use Rattle.hub_command.specs.declared.older.Older.{Older}
 use Rattle.hub_command.specs.declared.papers.HubPapers.{HubPapers}
@@ -22,37 +27,49 @@ use Rattle.hub_command.specs.declared.setting.Setting.{Setting}
 use Rattle.hub_command.specs.declared.there.There.{There}
 use Rattle.hub_command.specs.declared.told.Told.{Told}
 
--- the bytes of a file that was opened at its path
-pub record IsInputAt (path bytes : List ℕ) : Type 0 where
-  pub file : FileValue
-  pub path_is : file.path ≡ path
-  pub read : file.bytes ≡ Some bytes
-
--- the nights of the hub's folder as they were read, and the file that came in
-pub record IsSeen (setting : Setting) (older : Older) (input : List ℕ) : Type 0 where
+-- the nights of the hub's folder and the files of the day, as they were read
+pub record IsSeen (setting : Setting) (older : Older) (files : List DayFile) : Type 0 where
   pub marks : List NightMark
   pub marks_are : AreNights (path_in setting.hub.now (codes "nights")) marks
   pub older_is : IsOlder (path_in setting.hub.now (codes "nights")) marks older
-  pub input_is : IsInputAt setting.file.now input
+  pub files_are : AllZip IsFileAt (map (λ f. f.now) setting.files.now) files
 
 -- a night is made of them, by the hub's own files
 pub record IsMadeAt (setting : Setting) (made : Made) : Type 0 where
   pub older : Older
-  pub input : List ℕ
-  pub seen : IsSeen setting older input
+  pub files : List DayFile
+  pub seen : IsSeen setting older files
   pub papers : HubPapers
   pub papers_are : ArePapersAt setting.hub.now papers
-  pub made_is : IsMadeOf setting older papers input made
+  pub day : Day
+  pub day_is : IsDayOf setting older papers files day
+  pub made_is : IsMadeOf setting older papers day made
+
+-- each of them is set aside
+pub record AreAsideAt (setting : Setting) (lines : List ℕ) : Type 0 where
+  pub older : Older
+  pub files : List DayFile
+  pub seen : IsSeen setting older files
+  pub papers : HubPapers
+  pub papers_are : ArePapersAt setting.hub.now papers
+  pub aside : AreAside setting older papers files lines
 
 -- the night is the last of them
 pub record IsThere (setting : Setting) (there : There) : Type 0 where
   pub older : Older
-  pub input : List ℕ
-  pub seen : IsSeen setting older input
-  pub there_is : IsThereAt (path_in setting.hub.now (codes "nights")) older setting input there
+  pub files : List DayFile
+  pub seen : IsSeen setting older files
+  pub there_is : IsThereAt (path_in setting.hub.now (codes "nights")) older setting files there
+
+-- a run fails before anything is printed; it says that each file is set aside only if each is
+abbrev pub IsFailureOf : Setting → Failure → Type 0
+IsFailureOf setting failure.Stdout = ⊥
+IsFailureOf setting (failure.AllAside lines) = AreAsideAt setting lines
+IsFailureOf setting _ = Unit {0}
 
 abbrev pub IsFoundAt : Setting → Found → Type 0
 IsFoundAt setting (found.There there) = IsThere setting there
+IsFoundAt setting (found.Aside lines) = AreAsideAt setting lines
 IsFoundAt setting (found.Made made) = IsMadeAt setting made
 
 abbrev pub sum_or_none : Option NightFile → List ℕ
@@ -69,6 +86,7 @@ pub record IsReadyOf (setting : Setting) (made : Made) (sum : List ℕ) (ready :
   pub number : ready.number ≡ made.number
   pub name : ready.name.now ≡ setting.name.now
   pub folder : ready.folder.now ≡ made.night.name
+  pub lines : ready.lines.now ≡ made.lines
   pub total : ready.total.now ≡ made.total
   pub sum_is : ready.record_sum.now ≡ sum
 
@@ -85,6 +103,7 @@ pub record IsReadyAgain (setting : Setting) (there : There) (ready : Ready) : Ty
   pub number : ready.number ≡ there.number
   pub name : ready.name.now ≡ setting.name.now
   pub folder : ready.folder.now ≡ there.folder
+  pub lines : ready.lines.now ≡ there.lines
   pub total : ready.total.now ≡ there.total
   pub sum_is : ready.record_sum.now ≡ there.record_sum
 

@@ -1,9 +1,10 @@
 -- The last night of a hub is the one that is asked for (own): it is there already, and nothing is run.
-use Rattle.std.specs.Prelude.{◌≡◌, ℕ, true, List, Option, Some, codes, length}
+use Rattle.std.specs.Prelude.{◌≡◌, ℕ, List, Option, Some, codes, length}
+use Rattle.day_files.specs.Listing.{listing_of}
+use Rattle.day_files.specs.declared.file.DayFile.{DayFile}
 use Rattle.night_review.specs.GoingOn.{GoOn}
 use Rattle.night_ends.specs.Outbox.{path_in}
-use Rattle.night_folder.specs.Files.{FileValue, bytes_or_none, in_night}
-use Rattle.night_folder.specs.Nights.{is_summed}
+use Rattle.night_folder.specs.Files.{FileValue, in_night}
 use Rattle.night_marks.specs.declared.mark.NightMark.{NightMark}
 use Rattle.hub_command.specs.Names.{folder_name}
 use Rattle.hub_command.specs.Night.{last_mark, map_now}
@@ -32,19 +33,22 @@ pub record IsGivenAt (nights name : List ℕ) (number : ℕ) (chain : Chain) (th
   pub done : FileValue
   pub done_at : done.path ≡ in_night nights name (codes "done")
   pub status_is : IsStatusIn done.bytes there.status
+  pub said : FileValue
+  pub said_at : said.path ≡ in_night nights name (codes "files.txt")
+  pub lines_are : said.bytes ≡ Some there.lines
   pub sum_is : chain.before_sum ≡ Some there.record_sum
 
--- a night was made of an input, by the sum that was written down
-pub record IsOf (folder input : List ℕ) : Type 0 where
+-- a night was made of the files of a list, which was written down
+pub record IsOf (folder listing : List ℕ) : Type 0 where
   pub written : FileValue
-  pub written_at : written.path ≡ path_in folder (codes "from/in.sum")
-  pub summed : is_summed input (bytes_or_none written.bytes) ≡ true
+  pub written_at : written.path ≡ path_in folder (codes "from/files.sum")
+  pub same : written.bytes ≡ Some listing
 
 -- the last night is the one that is asked for, and all nights continue
-pub record IsThereAt (nights : List ℕ) (older : Older) (setting : Setting) (input : List ℕ) (there : There) : Type 0 where
+pub record IsThereAt (nights : List ℕ) (older : Older) (setting : Setting) (files : List DayFile) (there : There) : Type 0 where
   pub mark : NightMark
   pub last_is : last_mark older.order ≡ Some mark
   pub named : IsNamed setting (length older.order) mark
-  pub of : IsOf (path_in nights mark.name) input
+  pub of : IsOf (path_in nights mark.name) (listing_of files)
   pub go_on : GoOn setting.limit.now mark.name (map_now older.order) older.entries older.bad
   pub given : IsGivenAt nights mark.name (length older.order) older.chain there

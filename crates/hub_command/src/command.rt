@@ -1,6 +1,7 @@
-ghost use Rattle.std.specs.Prelude.{◌≡◌, ◌≢◌, ℕ, Option, None, Some, false, true, not, map, option_map, IfOk, IfErr};
+ghost use Rattle.std.specs.Prelude.{◌≡◌, ◌≢◌, ℕ, Option, None, Some, codes, false, true, not, map, option_map, IfOk, IfErr};
 ghost use Rattle.clap.specs.Words.{app_of, first_value, found_of, kind_of, rule_of};
-ghost use Rattle.hub_command.specs.Asked.{AreShared, AreSharedBy, IsAsked, IsRequest, IsRequested, IsShown, text_of};
+ghost use Rattle.night_ends.specs.Words.{or_none, values_found};
+ghost use Rattle.hub_command.specs.Asked.{AreShared, IsAsked, IsGiven, IsRequest, IsRequested, IsShown, text_of};
 ghost use Rattle.hub_command.specs.CommandLine as line;
 ghost use Rattle.hub_command.specs.Failure.{IsUsage};
 
@@ -13,7 +14,7 @@ use file_names::is_not_utf_8;
 use hub_kinds::copy_text;
 use moment::At;
 use night_command::{Sharing, option_free, piece_option, sharing_given, workers_option};
-use night_ends::{RELEASE, mistake_found, with_argument};
+use night_ends::{RELEASE, mistake_found, texts_given, with_argument};
 use std::alloc::{AllocError, Global};
 use std::convert::AsStr;
 
@@ -31,10 +32,10 @@ pub fn is_of_hub<S: AsStr>(words: &[S]) -> bool
 }
 
 /// A night that is to be run.
-#[derive(Clone, Copy)]
+#[derive(Drop)]
 pub struct Options<'a> {
-    /// The path of the file that came in.
-    pub file: &'a str,
+    /// The paths of the files that came in.
+    pub files: Vec<&'a str>,
     /// The date and time that everything of the night bears.
     pub at: At,
     /// What the night is called, if the arguments say it.
@@ -114,30 +115,34 @@ fn words_command<'a>(alloc: Global) -> Result<Command<'a>, AllocError>
         .version(RELEASE)
         .after_help(STATUSES)
         .no_binary_name(true);
-    let what = word(alloc, "command", "COMMAND", "init, run or give-up", true);
+    let what = word(alloc, "command", "COMMAND", "init, run or give-up");
     let command = with_argument(command, what)?;
-    let hub = word(alloc, "hub", "HUB", "The folder of the hub", true);
+    let hub = word(alloc, "hub", "HUB", "The folder of the hub");
     let command = with_argument(command, hub)?;
-    let file = word(
-        alloc,
-        "file",
-        "FILE",
-        "run: the interchanges that came in",
-        false,
-    );
-    with_argument(command, file)
+    with_argument(command, files(alloc))
 }
 
-/// A word by its place, which may be wanted.
-fn word<'a>(alloc: Global, name: &'a str, shown: &'a str, help: &'a str, required: bool) -> Arg<'a>
-    ensures rule { rule_of result ≡ line.word_rule name.now required }
+/// A word by its place.
+fn word<'a>(alloc: Global, name: &'a str, shown: &'a str, help: &'a str) -> Arg<'a>
+    ensures rule { rule_of result ≡ line.word_rule name.now }
     ensures local { result.global ≡ false }
 {
     Arg::new(alloc, name)
         .value_name(shown)
         .help(help)
-        .required(required)
+        .required(true)
         .action(ArgAction::Set)
+}
+
+/// The files after the words.
+fn files<'a>(alloc: Global) -> Arg<'a>
+    ensures rule { rule_of result ≡ line.file_rule }
+    ensures local { result.global ≡ false }
+{
+    Arg::new(alloc, "file")
+        .value_name("FILE")
+        .help("run: the files that came in, in their order")
+        .action(ArgAction::Append)
 }
 
 fn not_sent<'a>(alloc: Global) -> Arg<'a>
@@ -178,9 +183,9 @@ fn is_name_or_none(name: Option<&str>) -> bool
 }
 
 /// What a command is given besides the hub.
-#[derive(Clone, Copy)]
+#[derive(Drop)]
 pub(crate) struct Given<'a> {
-    pub(crate) file: Option<&'a str>,
+    pub(crate) files: Vec<&'a str>,
     pub(crate) at: Option<&'a str>,
     pub(crate) name: Option<&'a str>,
     pub(crate) sharing: Option<Sharing>,
@@ -188,13 +193,12 @@ pub(crate) struct Given<'a> {
 
 fn run_given<'a>(hub: &'a str, given: Given<'a>) -> Option<Asked<'a>>
     ensures { (workers piece : Option ℕ) → AreShared workers piece given.entry.sharing
-        → IsRequested (line.run_given hub.entry.now (text_of given.entry.file) (text_of given.entry.at) (text_of given.entry.name)
-        workers piece) result }
+        → IsRequested (line.run_given hub.entry.now (map (λ f. f.now) given.entry.files.items) (text_of given.entry.at)
+        (text_of given.entry.name) workers piece) result }
 {
-    let file = given.file?;
     let at = given.at?;
     let sharing = given.sharing?;
-    if !is_path(file) {
+    if given.files.is_empty() {
         return None;
     }
     let at = At::read(at.as_bytes())?;
@@ -202,7 +206,7 @@ fn run_given<'a>(hub: &'a str, given: Given<'a>) -> Option<Asked<'a>>
         Some(Asked::Run(
             hub,
             Options {
-                file,
+                files: given.files,
                 at,
                 name: given.name,
                 sharing,
@@ -214,23 +218,23 @@ fn run_given<'a>(hub: &'a str, given: Given<'a>) -> Option<Asked<'a>>
 }
 
 /// Whether nothing but a hub is given.
-fn is_bare(matches: &ArgMatches<'_>) -> bool
-    ensures { result ≡ line.is_bare (line.rest_of (first_value (found_of matches.now))) }
+fn is_bare(files: &[&str], matches: &ArgMatches<'_>) -> bool
+    requires { map (λ f. f.now) files.now ≡ or_none (values_found (found_of matches.now) (codes "file")) }
+    ensures { result ≡ line.is_bare (line.rest_of (first_value (found_of matches.now)) (values_found (found_of matches.now))) }
 {
-    matches.get_str("file").is_none()
+    files.is_empty()
         && (matches.get_str("at").is_none()
             && (matches.get_str("name").is_none()
                 && (matches.get_str("workers").is_none() && matches.get_str("piece").is_none())))
 }
 
-fn given_of<'a>(matches: &ArgMatches<'a>) -> Given<'a>
-    ensures file { text_of result.file ≡ (line.rest_of (first_value (found_of matches.now))).file }
-    ensures at { text_of result.at ≡ (line.rest_of (first_value (found_of matches.now))).at }
-    ensures name { text_of result.name ≡ (line.rest_of (first_value (found_of matches.now))).name }
-    ensures sharing { AreSharedBy (line.rest_of (first_value (found_of matches.now))) result.sharing }
+/// What is given of a run of `files`.
+fn given_of<'a>(files: Vec<&'a str>, matches: &ArgMatches<'a>) -> Given<'a>
+    requires { map (λ f. f.now) files.items ≡ or_none (values_found (found_of matches.now) (codes "file")) }
+    ensures { IsGiven (line.rest_of (first_value (found_of matches.now)) (values_found (found_of matches.now))) result }
 {
     Given {
-        file: matches.get_str("file"),
+        files,
         at: matches.get_str("at"),
         name: matches.get_str("name"),
         sharing: sharing_given(matches),
@@ -238,10 +242,12 @@ fn given_of<'a>(matches: &ArgMatches<'a>) -> Given<'a>
 }
 
 /// The run that the values ask for.
-fn run_found<'a>(hub: &'a str, matches: &ArgMatches<'a>) -> Option<Asked<'a>>
-    ensures { IsRequested (line.run_by hub.entry.now (line.rest_of (first_value (found_of matches.now)))) result }
+fn run_found<'a>(hub: &'a str, files: Vec<&'a str>, matches: &ArgMatches<'a>) -> Option<Asked<'a>>
+    requires { map (λ f. f.now) files.items ≡ or_none (values_found (found_of matches.now) (codes "file")) }
+    ensures { IsRequested (line.run_by hub.entry.now (line.rest_of (first_value (found_of matches.now))
+        (values_found (found_of matches.now)))) result }
 {
-    run_given(hub, given_of(matches))
+    run_given(hub, given_of(files, matches))
 }
 
 /// What a command other than `run` asks for.
@@ -257,25 +263,33 @@ fn bare_found<'a>(command: &str, hub: &'a str, is_sent: bool) -> Option<Asked<'a
     }
 }
 
-/// What a command asks for of the folder at the path `hub`.
-fn request_by<'a>(command: &str, hub: &'a str, matches: &ArgMatches<'a>) -> Option<Asked<'a>>
-    ensures { IsRequested (line.request_by command.now hub.entry.now (line.rest_of (first_value (found_of matches.now)))) result }
+/// What a command asks for of the folder at the path `hub`, by `files` and the other values.
+fn request_by<'a>(
+    command: &str,
+    hub: &'a str,
+    files: Vec<&'a str>,
+    matches: &ArgMatches<'a>,
+) -> Option<Asked<'a>>
+    requires { map (λ f. f.now) files.items ≡ or_none (values_found (found_of matches.now) (codes "file")) }
+    ensures { IsRequested (line.request_by command.now hub.entry.now (line.rest_of (first_value (found_of matches.now))
+        (values_found (found_of matches.now)))) result }
 {
     let not_sent = is_given(matches.get_str("not-sent"));
     if !is_path(hub) {
         None
     } else if command == "run" && !not_sent {
-        run_found(hub, matches)
-    } else if !is_bare(matches) {
+        run_found(hub, files, matches)
+    } else if !is_bare(files.as_slice(), matches) {
         None
     } else {
         bare_found(command, hub, !not_sent)
     }
 }
 
-/// What the values that clap found ask for.
-fn request_found<'a>(matches: &ArgMatches<'a>) -> Option<Asked<'a>>
-    ensures { IsRequested (line.request_of (first_value (found_of matches.now))) result }
+/// What `files` and the other values that clap found ask for.
+fn request_found<'a>(files: Vec<&'a str>, matches: &ArgMatches<'a>) -> Option<Asked<'a>>
+    requires { map (λ f. f.now) files.items ≡ or_none (values_found (found_of matches.now) (codes "file")) }
+    ensures { IsRequested (line.request_of (first_value (found_of matches.now)) (values_found (found_of matches.now))) result }
 {
     let Some(command) = matches.get_str("command") else {
         return None;
@@ -283,14 +297,16 @@ fn request_found<'a>(matches: &ArgMatches<'a>) -> Option<Asked<'a>>
     let Some(hub) = matches.get_str("hub") else {
         return None;
     };
-    request_by(command, hub, matches)
+    request_by(command, hub, files, matches)
 }
 
 fn request_asked<'a>(alloc: Global, matches: &ArgMatches<'a>) -> Result<Asked<'a>, Mistake>
-    ensures given { IfOk result (IsRequest (line.request_of (first_value (found_of matches.now)))) }
-    ensures usage { IfErr result (λ mistake. IsUsage mistake → line.request_of (first_value (found_of matches.now)) ≡ None) }
+    ensures given { IfOk result (IsRequest (line.request_of (first_value (found_of matches.now)) (values_found (found_of matches.now)))) }
+    ensures usage { IfErr result (λ mistake. IsUsage mistake
+        → line.request_of (first_value (found_of matches.now)) (values_found (found_of matches.now)) ≡ None) }
 {
-    match request_found(matches) {
+    let files = texts_given(alloc, matches, "file")?;
+    match request_found(files, matches) {
         Some(asked) => Ok(asked),
         None => Err(Mistake::Usage(copy_text(alloc, USAGE)?)),
     }

@@ -38,6 +38,8 @@ pub enum Failure {
     Setup(Text),
     /// With the night that was made the nights don't go on. These lines say why.
     NotSound(Text),
+    /// Each file is set aside. These lines say why.
+    AllAside(Text),
     /// A file of the last night isn't what a night leaves.
     Chain(Text),
     /// The last night can't be moved.
@@ -86,12 +88,12 @@ impl Failure {
         }
     }
 
-    /// The lines of a check that come before.
+    /// The lines of a check, or on the files, that come before.
     fn report_in(&self) -> &[u8]
         ensures { result.now ≡ report_in self.now }
     {
         match self {
-            Failure::NotSound(report) => report.as_slice(),
+            Failure::NotSound(report) | Failure::AllAside(report) => report.as_slice(),
             _ => b"",
         }
     }
@@ -132,6 +134,7 @@ impl Failure {
                 ": its setup and its guides are refused together: nighthub_check says why\n",
             Failure::NotSound(_) =>
                 "nighthub_day: with this night the nights don't go on, so it isn't kept\n",
+            Failure::AllAside(_) => "nighthub_day: each file is set aside, so no night is made\n",
             Failure::Chain(_) => " isn't what a night leaves\n",
             Failure::Given(_) => " can't be moved to given-up\n",
             Failure::NoNight => "nighthub_day: there is no night to give up\n",
@@ -160,6 +163,7 @@ impl Failure {
             | Failure::IsHub(_)
             | Failure::Lock(_)
             | Failure::NotSound(_)
+            | Failure::AllAside(_)
             | Failure::Chain(_)
             | Failure::NoNight
             | Failure::TooMany

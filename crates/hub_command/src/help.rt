@@ -2,9 +2,11 @@
 pub(crate) const STATUSES: &str = "Commands:
   init HUB                makes the folder HUB, which has setup.toml and guides/,
                           a hub of no night
-  run HUB --at CCYYMMDDHHMM [--name NAME] FILE
-                          runs the next night on FILE, and keeps all of it in
-                          HUB/nights; where that is done already, says so again
+  run HUB --at CCYYMMDDHHMM [--name NAME] FILE..
+                          runs the next night on the files, one after another,
+                          and keeps all of it in HUB/nights; where that is done
+                          already, says so again. A file that has a set which
+                          an older night delivered is set aside
   give-up HUB [--not-sent]
                           removes a night that stopped before it was kept; with
                           --not-sent moves the last night to HUB/given-up
@@ -13,10 +15,11 @@ Also check, find, export and page: nighthub_day check --help.
 
 Status:
   0  done; run: the night is kept, and clean
-  1  run: the night is kept, see its report.txt
+  1  run: the night is kept, see its report.txt; or a file is truncated or
+     set aside
   2  usage
   3  the setup or a guide is refused: nighthub_check says why
-  4  FILE or a file of HUB can't be read, or FILE is too long
+  4  FILE or a file of HUB can't be read, or the files are too long
   5  a file can't be written, standard output
   6  no memory, or no thread
   75 another run has HUB
@@ -24,9 +27,9 @@ Status:
 
 Examples:
   nighthub_day init hub
-  nighthub_day run hub --at 202603010200 --name sunday in.x12
+  nighthub_day run hub --at 202603010200 --name sunday in/*.x12
   nighthub_day check hub/nights";
 
 /// What is said of arguments that ask for nothing.
 pub(crate) const USAGE: &[u8] =
-    b"it takes init HUB, run HUB --at CCYYMMDDHHMM [--name NAME] FILE, or give-up HUB [--not-sent]";
+    b"it takes init HUB, run HUB --at CCYYMMDDHHMM [--name NAME] FILE.., or give-up HUB [--not-sent]";

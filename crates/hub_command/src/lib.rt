@@ -1,5 +1,5 @@
-//! The nights of a hub, run one after another: each is made in memory of the hub's own files and of the file that came in, and is kept only
-//! if all nights with it continue.
+//! The nights of a hub, run one after another: each is made in memory of the hub's own files and of the files of a day, and is kept only if
+//! all nights with it continue.
 //!
 //! Proved:
 //! - `read_words` gives what the arguments ask for, as clap's definitions say, and calls usage only what is none;
@@ -7,18 +7,21 @@
 //!   where the last night that knows the address left it; and with it all nights continue (`GoOn`): no set is delivered to a receiver on
 //!   two nights, the numbers of each address begin where they were left, each file has the sum that is listed, and no moment is before
 //!   that of the night before or after a limit;
+//! - its input is just what goes in of the files of the day, which it reads each alone. A file that is gathered is set aside exactly if the
+//!   night of that file alone delivers a set that an older night delivered (`IsDayOf`, `IsMemberOf`). If each is set aside, no night is
+//!   made;
 //! - its folder has just the files of the definition (`AreKeptFiles`), the last of which is its record. This names the SHA-256 of the
 //!   record of the night before;
 //! - it is kept on the shelf by one rename, once all of it is on the disk (`IsKept`). Whatever `run_on` answers, a stop leaves the nights
 //!   as they were, or with this one (`stopped`);
-//! - if the night that is asked for is the last one already, of the same input, nothing is run, and the same is told;
+//! - if the night that is asked for is the last one already, of the same files, nothing is run, and the same lines are printed;
 //! - with status 0 or 1 `hub_main` has printed just what its definition says, and nothing on standard error; it ends with 2 only if the
 //!   arguments are wrong.
 //!
 //! Only tested: that the lock keeps other runs away; that the system makes, syncs and renames what it is asked for (`FolderShelf` says what
 //! is trusted); that `init` and `give-up` change the folder as their lines say; what the clock says.
 //!
-//! A night, its input and its files are in memory together.
+//! A night, the files of its day, its input and its own files are in memory together.
 //!
 //! Source: own.
 //!
@@ -27,6 +30,7 @@
 
 mod chain;
 mod command;
+mod day;
 mod entry;
 mod failure;
 mod give_up;
@@ -40,9 +44,11 @@ mod night;
 mod older;
 mod papers;
 mod program;
+mod reading;
 mod ready;
 mod run;
 mod setting;
+mod side;
 mod sound;
 mod stopping;
 mod tables;

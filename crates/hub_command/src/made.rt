@@ -58,14 +58,16 @@ pub(crate) fn made_files(
     setup: &[u8],
     guides: &[NightFile],
     counters: Text,
+    listing: Text,
     input: Text,
 ) -> Result<Vec<NightFile>, NoMemory>
-    ensures { IfOk result (λ files. files.items ≡ made.made_files setup.now guides.now counters input) }
+    ensures { IfOk result (λ files. files.items ≡ made.made_files setup.now guides.now counters listing input) }
 {
     let mut files = Vec::new(alloc);
     files.push(copied_file(alloc, b"from/setup.toml", setup)?)?;
     push_guides(alloc, &mut files, guides)?;
     files.push(file_of(alloc, b"from/counters.toml", counters)?)?;
+    files.push(file_of(alloc, b"from/files.sum", listing)?)?;
     files.push(file_of(alloc, b"from/in.x12", input)?)?;
     Ok(files)
 }

@@ -5,6 +5,7 @@ ghost use Rattle.hub_command.specs.Failure.{IsBefore};
 ghost use Rattle.hub_command.specs.Night as night;
 
 use crate::chain::Chain;
+use crate::day::Day;
 use crate::entry::{NightBytes, entry_in};
 use crate::failure::Failure;
 use crate::made::{file_of, made_files};
@@ -12,6 +13,7 @@ use crate::names::folder_name;
 use crate::older::Older;
 use crate::papers::HubPapers;
 use crate::setting::Setting;
+use crate::side::{Side, side_of};
 use crate::sound::check_sound;
 use crate::stopping::{failure_of, of_record};
 use crate::tables::tables_of;
@@ -37,9 +39,11 @@ pub struct Made {
     /// Its folder and its files.
     pub night: KeptNight,
     pub number: u32,
+    /// A line for each file of the day.
+    pub lines: Text,
     /// The last line of its report.
     pub total: Text,
-    /// 0 if it is clean, otherwise 1.
+    /// 0 if it is clean, and each file of the day went in whole; otherwise 1.
     pub status: u8,
 }
 
@@ -212,16 +216,17 @@ fn heading_of<'a>(
     }
 }
 
-/// All files of the night that is laid out, made of the files of the hub and of `input`.
+/// All files of the night that is laid out, made of the files of the hub, of `listing` and of `input`.
 fn all_files(
     alloc: Global,
     heading: &Heading<'_>,
     papers: &HubPapers,
     laid: Laid,
     tables: Vec<NightFile>,
+    listing: Text,
     input: Text,
 ) -> Result<Vec<NightFile>, Failure>
-    ensures files { IfOk result (λ files. night.AreFilesOf heading.now papers.now laid tables.items input files.items) }
+    ensures files { IfOk result (λ files. night.AreFilesOf heading.now papers.now laid tables.items listing input files.items) }
     ensures before { IfErr result IsBefore }
 {
     let Laid {
@@ -237,6 +242,7 @@ fn all_files(
         papers.setup.bytes_or_none(),
         papers.guides.as_slice(),
         counters,
+        listing,
         input,
     )?;
     files_of(alloc, heading, made, given, tables)
@@ -254,7 +260,7 @@ pub struct Draft {
 }
 
 /// The draft of the night of `setting` after the older ones, by the files of the hub and an input.
-fn draft_of<R: Threads + Wait + Clock + Sync>(
+pub(crate) fn draft_of<R: Threads + Wait + Clock + Sync>(
     rt: &R,
     alloc: Global,
     setting: &Setting<'_>,
@@ -333,45 +339,41 @@ fn made_by(
     let Side {
         folder,
         tables,
+        listing,
         input,
+        lines,
+        status,
     } = side;
-    let heading = heading_of(setting, number, chain, laid.status);
+    let heading = heading_of(setting, number, chain, status);
     let total = copy_text(alloc, laid.total.as_slice())?;
-    let status = laid.status;
-    let files = all_files(alloc, &heading, papers, laid, tables.into_vec(), input)?;
+    let tables = tables.into_vec();
+    let files = all_files(alloc, &heading, papers, laid, tables, listing, input)?;
     Ok(Made {
         night: KeptNight {
             name: folder,
             files: Items::from_vec(files),
         },
         number,
+        lines,
         total,
         status,
     })
 }
 
-/// What is kept of a night beside what it gives.
-#[derive(Drop)]
-pub struct Side {
-    pub folder: Text,
-    pub tables: Items<NightFile>,
-    pub input: Text,
-}
-
-/// Makes the night of `setting` after the older ones, by the files of the hub and an input, if all nights with it continue.
+/// Makes the night of `setting` after the older ones, by the files of the hub and those of the day, if all nights with it continue.
 pub(crate) fn made_of<R: Threads + Wait + Clock + Sync>(
     rt: &R,
     alloc: Global,
     setting: &Setting<'_>,
     older: Older<'_>,
     papers: &HubPapers,
-    input: Text,
+    day: Day,
 ) -> Result<Made, Failure>
     requires sharing { CanShare setting.now.sharing }
-    ensures made { IfOk result (night.IsMadeOf setting.now older.entry papers.now input) }
+    ensures made { IfOk result (night.IsMadeOf setting.now older.entry papers.now day) }
     ensures before { IfErr result IsBefore }
 {
-    let draft = draft_of(rt, alloc, setting, &older, papers, input.as_slice())?;
+    let draft = draft_of(rt, alloc, setting, &older, papers, day.input.as_slice())?;
     let Draft {
         number,
         folder,
@@ -380,10 +382,6 @@ pub(crate) fn made_of<R: Threads + Wait + Clock + Sync>(
         tables,
     } = draft;
     let chain = check_draft(alloc, setting, older, folder.as_slice(), entry)?;
-    let side = Side {
-        folder,
-        tables,
-        input,
-    };
+    let side = side_of(alloc, folder, tables, laid.status, day)?;
     made_by(alloc, setting, &chain, papers, number, laid, side)
 }

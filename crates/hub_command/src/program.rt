@@ -1,9 +1,9 @@
 ghost use Rattle.std.specs.Prelude.{◌≡◌, ◌≢◌, ◌≤◌, ◌⊎◌, IfErr, IfOk, map, option_map};
 ghost use Rattle.std.specs.Io.KnownBytes.{Appends};
 ghost use Rattle.night_command.specs.CommandLine.{CanShare};
-ghost use Rattle.hub_command.specs.Asked.{request_in};
+ghost use Rattle.hub_command.specs.Asked.{run_in};
 ghost use Rattle.hub_command.specs.CommandLine.{IsCommandLine};
-ghost use Rattle.hub_command.specs.Failure.{IsBefore};
+ghost use Rattle.hub_command.specs.Failure.{IsBefore, IsUnprinted};
 ghost use Rattle.hub_command.specs.Program as program;
 
 use crate::command::{Asked, Options, read_words};
@@ -61,7 +61,7 @@ fn end<O: Write, E: Write>(
     out: &mut O,
     err: &mut E,
 ) -> u8
-    requires before { IfErr told IsBefore }
+    requires before { IfErr told IsUnprinted }
     requires values { IfOk told (λ told. told.status ≤ 1) }
     ensures status { program.IsStatus result }
     ensures words { result ≢ 2 }
@@ -150,12 +150,12 @@ fn setting_of<'a>(
     limit: &'a [u8],
     clock: &'a [u8],
 ) -> Setting<'a>
-    ensures asked { program.IsSettingOf hub.entry.now (request_in options.entry.now) result }
+    ensures asked { program.IsSettingOf hub.entry.now (run_in options.entry.now) result }
     ensures sharing { result.sharing ≡ options.entry.now.sharing }
 {
     Setting {
         hub,
-        file: options.file,
+        files: options.files.as_slice(),
         at: options.at,
         name: name_of(options),
         sharing: options.sharing,
@@ -170,9 +170,9 @@ where
     R: Files + AllocGlobal + Threads + Wait + Clock + Sync + Clone + Drop,
     R::File: Lockable,
     requires sharing { CanShare options.now.sharing }
-    ensures told { IfOk result (program.IsNightRun hub.now (request_in options.now)) }
+    ensures told { IfOk result (program.IsNightRun hub.now (run_in options.now)) }
     ensures values { IfOk result (λ told. told.status ≤ 1) }
-    ensures before { IfErr result IsBefore }
+    ensures before { IfErr result IsUnprinted }
 {
     let _lock = taken(rt, hub)?;
     let limit = clock_text(limit(rt))?;
@@ -198,7 +198,7 @@ fn give_up<R>(rt: &R, hub: &str, not_sent: bool) -> Result<Told, Failure>
 where
     R: Files + AllocGlobal + Clone + Drop,
     R::File: Lockable,
-    ensures done { IfOk result (program.IsGivenUp hub.now) }
+    ensures done { IfOk result (program.IsGivenUp hub.now not_sent) }
     ensures values { IfOk result (λ told. told.status ≡ 0) }
     ensures before { IfErr result IsBefore }
 {

@@ -13,6 +13,8 @@ pub(crate) struct Ready<'a> {
     pub(crate) number: u32,
     pub(crate) name: &'a [u8],
     pub(crate) folder: &'a [u8],
+    /// A line for each file of the day.
+    pub(crate) lines: &'a [u8],
     /// The last line of its report.
     pub(crate) total: &'a [u8],
     /// The SHA-256 of its record.
@@ -38,7 +40,8 @@ fn append_place(out: &mut Vec<u8>, ready: &Ready<'_>) -> Result<(), NoMemory>
 pub(crate) fn ready_text(alloc: Global, ready: &Ready<'_>) -> Result<Vec<u8>, NoMemory>
     ensures { IfOk result (λ text. text.items ≡ lines.ready_text ready.now) }
 {
-    let mut text = Vec::from_slice(alloc, ready.total)?;
+    let mut text = Vec::from_slice(alloc, ready.lines)?;
+    text.extend_from_slice(ready.total)?;
     append_night(&mut text, ready)?;
     append_place(&mut text, ready)?;
     append_ended(&mut text, "/out, record ", ready.record_sum)?;

@@ -5,18 +5,19 @@ ghost use Rattle.night_review.specs.Nights.{AreNights};
 ghost use Rattle.hub_command.specs.Failure.{IsBefore};
 ghost use Rattle.hub_command.specs.Run as run;
 
+use crate::day::{Judged, day_of};
 use crate::failure::Failure;
 use crate::night::{Made, made_of};
 use crate::older::older_of;
 use crate::papers::{papers_at, path_in};
+use crate::reading::files_at;
 use crate::ready::{Ready, ready_text};
 use crate::setting::Setting;
 use crate::there::{There, there_at};
 use crate::told::Told;
+use day_files::listing_of;
 use hub_kinds::{NoMemory, Text, copy_text};
-use night_ends::open_at;
 use night_entries::sum_of;
-use night_folder::paper_of;
 use night_marks::NightMark;
 use night_review::{ReviewFault, nights_at};
 use night_shelf::{NightFile, Shelf, ShelfFault, keep};
@@ -27,22 +28,12 @@ use std::sync::Wait;
 use std::thread::Threads;
 use std::time::Clock;
 
-/// The bytes of the file that came in.
-fn input_at<R: Files + AllocGlobal>(rt: &R, path: &str) -> Result<Text, Failure>
-    ensures input { IfOk result (run.IsInputAt path.now) }
-    ensures before { IfErr result IsBefore }
-{
-    let file = paper_of(rt.alloc(), open_at(rt, path))?;
-    match file.bytes() {
-        Some(bytes) => Ok(copy_text(rt.alloc(), bytes)?),
-        None => Err(Failure::Unread(copy_text(rt.alloc(), path.as_bytes())?)),
-    }
-}
-
 /// The night that is asked for: there already, or made.
 #[derive(Drop)]
 pub(crate) enum Found {
     There(There),
+    /// Each file of the day is set aside. These are the lines on them.
+    Aside(Text),
     Made(Made),
 }
 
@@ -87,13 +78,24 @@ where
     let nights = path_in(alloc, setting.hub.as_bytes(), b"nights")?;
     let marks = marks_at(rt, setting.hub, nights.as_slice())?;
     let older = older_of(rt, nights.as_slice(), marks.as_slice())?;
-    let input = input_at(rt, setting.file)?;
-    if let Some(there) = there_at(rt, nights.as_slice(), &older, setting, input.as_slice())? {
+    let files = files_at(rt, setting.files)?;
+    let listing = listing_of(alloc, files.as_slice())?;
+    if let Some(there) = there_at(rt, nights.as_slice(), &older, setting, listing.as_slice())? {
         return Ok(Found::There(there));
     }
     let papers = papers_at(rt, setting.hub.as_bytes())?;
-    let made = made_of(rt, alloc, setting, older, &papers, input)?;
-    Ok(Found::Made(made))
+    match day_of(
+        rt,
+        alloc,
+        setting,
+        &older,
+        &papers,
+        files.as_slice(),
+        listing,
+    )? {
+        Judged::Aside(lines) => Ok(Found::Aside(lines)),
+        Judged::Day(day) => Ok(Found::Made(made_of(rt, alloc, setting, older, &papers, day)?)),
+    }
 }
 
 /// The sum of the record of a night, which is the last of its files.
@@ -114,6 +116,7 @@ fn ready_of<'a>(setting: &'a Setting<'a>, made: &'a Made, record_sum: &'a [u8]) 
         number: made.number,
         name: setting.name,
         folder: made.night.name.as_slice(),
+        lines: made.lines.as_slice(),
         total: made.total.as_slice(),
         record_sum,
     }
@@ -140,6 +143,7 @@ fn ready_again<'a>(setting: &'a Setting<'a>, there: &'a There) -> Ready<'a>
         number: there.number,
         name: setting.name,
         folder: there.folder.as_slice(),
+        lines: there.lines.as_slice(),
         total: there.total.as_slice(),
         record_sum: there.record_sum.as_slice(),
     }
@@ -189,9 +193,10 @@ fn keep_made<S: Shelf>(
     }
 }
 
-/// Runs the night of `setting` on the shelf of the hub. If the night is the last one already, nothing is run. What is given is printed, and
-/// the status that the program ends with. A night is only kept if all nights with it continue; a stop at any moment, and a failure, leave
-/// the nights as they were, or with this one.
+/// Runs the night of `setting` on the shelf of the hub. If the night is the last one already, nothing is run. Its input is what goes in of
+/// the files of the day, without those of which an older night delivered a set; if each is set aside, no night is made. What is given is
+/// printed, and the status that the program ends with. A night is only kept if all nights with it continue; a stop at any moment, and a
+/// failure, leave the nights as they were, or with this one.
 pub fn run_on<R, S>(rt: &R, shelf: &mut S, setting: &Setting<'_>) -> Result<Told, Failure>
 where
     R: Files + AllocGlobal + Threads + Wait + Clock + Sync + Clone + Drop,
@@ -199,11 +204,12 @@ where
     requires sharing { CanShare setting.now.sharing }
     ensures done { IfOk result (run.IsDone setting.now (S.place shelf.old) (S.place shelf.new)) }
     ensures stopped { run.MayLeaveOne setting.now (S.place shelf.old) (S.place shelf.new) }
-    ensures before { IfErr result IsBefore }
+    ensures before { IfErr result (run.IsFailureOf setting.now) }
 {
     let found = found_at(rt, setting)?;
     match found {
         Found::There(there) => Ok(told_again(rt.alloc(), setting, &there)?),
+        Found::Aside(lines) => Err(Failure::AllAside(lines)),
         Found::Made(made) => keep_made(rt.alloc(), shelf, setting, &made),
     }
 }

@@ -6,8 +6,8 @@ use night_command::Sharing;
 pub struct Setting<'a> {
     /// The path of the hub's folder.
     pub hub: &'a str,
-    /// The path of the file that came in.
-    pub file: &'a str,
+    /// The paths of the files that came in.
+    pub files: &'a [&'a str],
     /// The date and time that everything of the night bears.
     pub at: At,
     /// What the night is called.

@@ -1,6 +1,7 @@
-ghost use Rattle.std.specs.Prelude.{◌≡◌, ◌≤◌, IfErr, IfOk, IfSome, OnOk, true, length};
+ghost use Rattle.std.specs.Prelude.{◌≡◌, ◌≤◌, IfErr, IfOk, IfSome, List, OnOk, true};
 ghost use Rattle.night_review.specs.GoingOn.{GoOn};
-ghost use Rattle.night_folder.specs.Nights.{is_summed};
+ghost use Rattle.day_files.specs.Listing.{listing_of};
+ghost use Rattle.day_files.specs.declared.file.DayFile.{DayFile};
 ghost use Rattle.hub_command.specs.Failure.{IsBefore};
 ghost use Rattle.hub_command.specs.Night.{map_now};
 ghost use Rattle.hub_command.specs.There as there;
@@ -12,7 +13,6 @@ use crate::older::Older;
 use crate::papers::path_in;
 use crate::setting::Setting;
 use hub_kinds::{Items, NoMemory, Text, copy_text};
-use night_entries::sum_of;
 use night_folder::{PaperAt, read_paper};
 use night_marks::NightMark;
 use night_review::judged;
@@ -24,6 +24,8 @@ use std::rt::Files;
 pub(crate) struct There {
     pub(crate) number: u32,
     pub(crate) folder: Text,
+    /// A line for each file of the day.
+    pub(crate) lines: Text,
     /// The last line of its report.
     pub(crate) total: Text,
     pub(crate) status: u8,
@@ -95,6 +97,10 @@ fn given_at<R: Files + AllocGlobal>(
     let folder = path_in(rt.alloc(), nights, name)?;
     let total = read_paper(rt, folder.as_slice(), b"total")?;
     let done = read_paper(rt, folder.as_slice(), b"done")?;
+    let said = read_paper(rt, folder.as_slice(), b"files.txt")?;
+    let Some(lines) = said.bytes() else {
+        return Err(Failure::Chain(folder));
+    };
     let Some(text) = total.bytes() else {
         return Err(Failure::Chain(folder));
     };
@@ -107,30 +113,40 @@ fn given_at<R: Files + AllocGlobal>(
     Ok(There {
         number,
         folder: copy_text(rt.alloc(), name)?,
+        lines: copy_text(rt.alloc(), lines)?,
         total: copy_text(rt.alloc(), text)?,
         status,
         record_sum: copy_text(rt.alloc(), sum.as_slice())?,
     })
 }
 
-/// Whether the night of the folder at the path `folder` was made of `input`.
-fn is_of<R: Files + AllocGlobal>(rt: &R, folder: &[u8], input: &[u8]) -> Result<bool, NoMemory>
-    ensures { IfOk result (λ same. same ≡ true → there.IsOf folder.now input.now) }
+fn are_same(bytes: &[u8], listing: &[u8]) -> bool
+    ensures { result ≡ true → bytes.now ≡ listing.now }
 {
-    let written = read_paper(rt, folder, b"from/in.sum")?;
-    let sum = sum_of(rt.alloc(), input)?;
-    Ok(written.bytes_or_none().starts_with(sum.as_slice()))
+    bytes == listing
 }
 
-/// The night that `setting` names of `input`, if it is the last of the folder at the path `nights`, and these continue.
+/// Whether the night of the folder at the path `folder` was made of the files of `listing`.
+fn is_of<R: Files + AllocGlobal>(rt: &R, folder: &[u8], listing: &[u8]) -> Result<bool, NoMemory>
+    ensures { IfOk result (λ same. same ≡ true → there.IsOf folder.now listing.now) }
+{
+    let written = read_paper(rt, folder, b"from/files.sum")?;
+    match written.bytes() {
+        None => Ok(false),
+        Some(bytes) => Ok(are_same(bytes, listing)),
+    }
+}
+
+/// The night that `setting` names of the files of `listing`, if it is the last of the folder at the path `nights`, and these continue.
 pub(crate) fn there_at<R: Files + AllocGlobal>(
     rt: &R,
     nights: &[u8],
     older: &Older<'_>,
     setting: &Setting<'_>,
-    input: &[u8],
+    listing: &[u8],
 ) -> Result<Option<There>, Failure>
-    ensures there { IfOk result (λ found. IfSome found (there.IsThereAt nights.now older.now setting.now input.now)) }
+    ensures there { IfOk result (λ found. (files : List DayFile) → listing.now ≡ listing_of files
+        → IfSome found (there.IsThereAt nights.now older.now setting.now files)) }
     ensures before { IfErr result IsBefore }
 {
     let order = older.order.as_slice();
@@ -141,7 +157,7 @@ pub(crate) fn there_at<R: Files + AllocGlobal>(
         return Ok(None);
     }
     let folder = path_in(rt.alloc(), nights, last.name.as_slice())?;
-    if !is_of(rt, folder.as_slice(), input)? {
+    if !is_of(rt, folder.as_slice(), listing)? {
         return Ok(None);
     }
     check_all(rt.alloc(), older, last, setting.limit)?;

@@ -1,4 +1,5 @@
 pub mod Breaches
 pub mod Broken
+pub mod Deliveries
 pub mod Known
 pub mod Sound

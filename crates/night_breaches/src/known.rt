@@ -58,7 +58,7 @@ pub(crate) fn row_of<'a>(
 }
 
 /// Adds the sets that a night delivered.
-fn add_keys<'a>(
+pub(crate) fn add_keys<'a>(
     nights: &mut BTreeMap<&'a [u8], &'a [u8]>,
     name: &'a [u8],
     keys: &'a [Text],

@@ -7,7 +7,8 @@
 //!   no moment is before that of the night before, and none is after the limit;
 //! - what it gives is broken: it names nights that are there in this order, and what they have breaks that rule (`each`);
 //! - sound nights are nights of `hub_ledger` that continue (`sound_nights_go_on`);
-//! - `last_breach` says exactly whether the last night is another one than the one that is named last.
+//! - `last_breach` says exactly whether the last night is another one than the one that is named last;
+//! - `first_delivery` gives exactly the first of a list of sets that an older night delivered, and the newest night that did.
 //!
 //! Keys and addresses are found in ordered maps, so the cost is that of sorting them.
 //!
@@ -16,6 +17,7 @@
 
 mod breach;
 mod checked;
+mod deliveries;
 mod known;
 mod laws;
 mod rules;
@@ -24,4 +26,5 @@ pub use breach::{
     Breach, FileFault, LastNight, LateMoment, MomentBack, NumberBreak, SecondDelivery, WrongFile,
 };
 pub use checked::{breaches, last_breach};
+pub use deliveries::{Deliveries, Delivery, deliveries_of, first_delivery};
 pub use laws::sound_nights_go_on;

@@ -1,5 +1,6 @@
-use Rattle.std.proofs.Common.{◌∙◌, Option, ap, subst}
+use Rattle.std.proofs.Common.{◌∙◌, List, Option, ap, subst}
 use Rattle.clap.specs.Words.{Text, first_value, found_of}
+use Rattle.night_ends.specs.Words.{values_found}
 use Rattle.night_command.specs.CommandLine.{piece_given, workers_given}
 use Rattle.hub_command.specs.Asked.{IsRequested, text_of}
 use Rattle.hub_command.specs.CommandLine.{Request, Rest, rest_of, run_given}
@@ -8,12 +9,12 @@ use Rattle.hub_command.proofs.command.run_found.Goals as goal
 pub returns : goal.returns
 returns c =
     let hub = c.args.hub.now in
-    let rest : Rest = rest_of (first_value (found_of c.args.matches.now)) in
+    let rest : Rest = rest_of (first_value (found_of c.args.matches.now)) (values_found (found_of c.args.matches.now)) in
     let w = workers_given rest.workers in
     let p = piece_given rest.piece in
     let given = c.given_of.result in
     subst (λ (r : Option Request). IsRequested r c.run_given.result)
-    (ap (λ (f : Option Text). run_given hub f (text_of given.at) (text_of given.name) w p) c.given_of.ensures.file
-    ∙ ap (λ (a : Option Text). run_given hub rest.file a (text_of given.name) w p) c.given_of.ensures.at
-    ∙ ap (λ (n : Option Text). run_given hub rest.file rest.at n w p) c.given_of.ensures.name)
+    (ap (λ (f : List Text). run_given hub f (text_of given.at) (text_of given.name) w p) c.given_of.ensures.files
+    ∙ ap (λ (a : Option Text). run_given hub rest.files a (text_of given.name) w p) c.given_of.ensures.at
+    ∙ ap (λ (n : Option Text). run_given hub rest.files rest.at n w p) c.given_of.ensures.name)
     (c.run_given.ensures w p c.given_of.ensures.sharing)

@@ -1,5 +1,5 @@
 use Rattle.std.proofs.lemmas.Result.{IfOk-weaker}
-use Rattle.std.proofs.Common.{List, ℕ, refl, subst}
+use Rattle.std.proofs.Common.{List, ℕ, subst}
 use Rattle.hub_command.specs.Night.{IsDraftOf, IsSoundAfter}
 use Rattle.hub_command.proofs.night.made_of.Goals as goal
 
@@ -15,10 +15,8 @@ returns-clause-made g c =
       sound =
           subst (λ (f : List ℕ). IsSoundAfter c.args.setting.now c.args.older f c.in_ok-draft.draft.entry c.in_ok-chain.chain)
           c.as_slice-2.ensures c.in_ok-chain.ensures.sound;
-      side = record { folder = c.in_ok-draft.draft.folder; tables = c.in_ok-draft.draft.tables; input = c.args.input };
-      folder_is = refl;
-      tables_are = refl;
-      input_is = refl;
+      side = c.in_ok-side.side;
+      side_is = c.in_ok-side.ensures;
       made_is = is;
     })
     c.made_by.ensures.made

@@ -1,5 +1,5 @@
 use Rattle.std.proofs.Common.{arith, inl, inr, map}
-use Rattle.hub_command.specs.Asked.{request_in}
+use Rattle.hub_command.specs.Asked.{run_in}
 use Rattle.hub_command.specs.CommandLine.{give_up, init, run}
 use Rattle.hub_command.proofs.CommandLine.{can_share, given_up_asked, init_asked, run_asked, text_asked}
 use Rattle.hub_command.proofs.Telling.{done_and_told}
@@ -15,7 +15,7 @@ returns-in-Ok-Init-clause-printed g c done =
 pub returns-in-Ok-Run-clause-printed : goal.returns-in-Ok-Run-clause-printed
 returns-in-Ok-Run-clause-printed g c done =
     let words = map g.S.AsStr.text c.args.words.now in
-    done_and_told words (run c.in-Ok-Run.hub.now (request_in c.in-Ok-Run.options)) c.run_hub.result _ _ _
+    done_and_told words (run c.in-Ok-Run.hub.now (run_in c.in-Ok-Run.options)) c.run_hub.result _ _ _
     (run_asked words c.in-Ok-Run.field-0 c.in-Ok-Run.hub c.in-Ok-Run.options c.in-Ok-Run.field-0-is c.in-Ok-Run.ensures.asked)
     c.run_hub.ensures.told (c.end-in-Ok-Run.ensures.printed done)
 

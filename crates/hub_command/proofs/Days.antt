@@ -1,0 +1,43 @@
+-- The files of a day that were judged are gathered, and make its input.
+use Rattle.std.proofs.Common.{◌≡◌, ◌∙◌, ℕ, Bool, true, List, [], ◌∷◌, ap, map, subst, sym}
+use Rattle.std.specs.List.{All, AllZip, list_all, list_any}
+use Rattle.std.proofs.lemmas.List.Elements.{All-cons, All-nil}
+use Rattle.day_files.specs.Lines.{lines_of}
+use Rattle.day_files.specs.Listing.{listing_of}
+use Rattle.day_files.specs.Members.{IsGatheredMember, goes_in, input_of, is_whole, part_of}
+use Rattle.day_files.specs.declared.file.DayFile.{DayFile}
+use Rattle.day_files.specs.declared.member.Member.{Member}
+use Rattle.gather_equal.specs.Apart.{text_of_files}
+use Rattle.night_definition.specs.Interchanges.{text_of}
+use Rattle.hub_command.specs.Day.{IsDayOf, IsMemberOf}
+use Rattle.hub_command.specs.declared.day.Day.{Day}
+use Rattle.hub_command.specs.declared.older.Older.{Older}
+use Rattle.hub_command.specs.declared.papers.HubPapers.{HubPapers}
+use Rattle.hub_command.specs.declared.setting.Setting.{Setting}
+
+pub all_gathered : (setting : Setting) (older : Older) (papers : HubPapers) (files : List DayFile) (members : List Member)
+    → AllZip (IsMemberOf setting older papers) files members → All IsGatheredMember members
+all_gathered setting older papers [] [] zip = All-nil IsGatheredMember
+all_gathered setting older papers [] (m ∷ ms) zip = absurd zip
+all_gathered setting older papers (f ∷ fs) [] zip = absurd zip
+all_gathered setting older papers (f ∷ fs) (m ∷ ms) zip =
+    All-cons IsGatheredMember m ms (f.content, zip.0.gathered) (all_gathered setting older papers fs ms zip.1)
+
+-- what was made of them, of which `slice` is the list
+pub day_is : (setting : Setting) (older : Older) (papers : HubPapers) (files : List DayFile) (members slice : List Member) (day : Day)
+    (input lines : List ℕ) → slice ≡ members → AllZip (IsMemberOf setting older papers) files members → list_any goes_in members ≡ true
+    → day.listing ≡ listing_of files → day.input ≡ input → input ≡ input_of slice
+    → (All IsGatheredMember slice → text_of input ≡ text_of_files (map part_of slice)) → day.lines ≡ lines → lines ≡ lines_of 1 0 slice
+    → day.is_whole ≡ list_all is_whole members → IsDayOf setting older papers files day
+day_is setting older papers files members slice day input lines same zip some listed input_is joined alone lines_is said whole = record {
+  members = members;
+  members_are = zip;
+  some = some;
+  listing_is = listed;
+  input_is = input_is ∙ joined ∙ ap input_of same;
+  alone =
+      ap text_of input_is ∙ alone (subst (All IsGatheredMember) (sym same) (all_gathered setting older papers files members zip))
+      ∙ ap (λ (ms : List Member). text_of_files (map part_of ms)) same;
+  lines_are = lines_is ∙ said ∙ ap (lines_of 1 0) same;
+  whole_is = whole;
+}
