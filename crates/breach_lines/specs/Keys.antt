@@ -1,7 +1,8 @@
 -- The parts of a set's key, as `night_entries` writes it (own): ISA05 to ISA08 and ISA13 (X12.5), GS06 and ST02 (X12.6), each with a
 -- byte 0 after it, and the receiver's address.
-use Rattle.std.specs.Prelude.{ℕ, ◌+◌, ◌==◌, not, List, [], ◌∷◌, ◌++◌, codes, drop, filter, length, slice_range, if◌then◌else◌}
+use Rattle.std.specs.Prelude.{◌≡◌, ℕ, ◌+◌, ◌==◌, not, List, [], ◌∷◌, ◌++◌, codes, drop, filter, length, slice_range, if◌then◌else◌}
 use Rattle.std.specs.Prelude.{nat_le}
+use Rattle.breach_lines.specs.declared.key.KeyParts.{KeyParts}
 
 -- the bytes before the first `stop`, and those after it
 abbrev pub until : (stop : ℕ) → List ℕ → List ℕ
@@ -46,3 +47,15 @@ set_of key = until 0 (after 0 (numbers_of key))
 -- the receiver's address
 abbrev pub receiver_of : List ℕ → List ℕ
 receiver_of key = after 0 (after 0 (numbers_of key))
+
+-- ISA05 to ISA08
+abbrev pub ends_of : List ℕ → List ℕ
+ends_of key = part key 0 34
+
+-- the elements of a key
+pub record AreParts (key : List ℕ) (parts : KeyParts) : Type 0 where
+  pub ends : parts.ends.now ≡ ends_of key
+  pub isa13 : parts.isa13.now ≡ interchange_of key
+  pub gs06 : parts.gs06.now ≡ group_of key
+  pub st02 : parts.st02.now ≡ set_of key
+  pub receiver : parts.receiver.now ≡ receiver_of key

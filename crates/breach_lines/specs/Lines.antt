@@ -107,6 +107,7 @@ file_name file.Sums = codes "sums"
 file_name file.Track = codes "track.csv"
 file_name file.Input = codes "from/in.x12"
 file_name file.InputSum = codes "from/in.sum"
+file_name file.Again = codes "from/again.csv"
 file_name file.Out = codes "out"
 
 abbrev pub state_words : FileState → List ℕ

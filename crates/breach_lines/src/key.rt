@@ -111,3 +111,29 @@ pub(crate) fn append_receipt(out: &mut Vec<u8>, key: &[u8], earlier: &[u8]) -> R
     )?;
     append_after(out, " in night ", earlier)
 }
+
+/// The elements of a set's key.
+#[derive(Clone, Copy)]
+pub struct KeyParts<'a> {
+    /// ISA05 to ISA08.
+    pub ends: &'a [u8],
+    pub isa13: &'a [u8],
+    pub gs06: &'a [u8],
+    pub st02: &'a [u8],
+    /// The receiver's address.
+    pub receiver: &'a [u8],
+}
+
+/// The elements of `key`.
+pub fn key_parts(key: &[u8]) -> KeyParts<'_>
+    ensures { keys.AreParts key.now result }
+{
+    let numbers = numbers_of(key);
+    KeyParts {
+        ends: part(key, 0, 34),
+        isa13: part(key, 34, 43),
+        gs06: until(numbers, 0),
+        st02: until(after(numbers, 0), 0),
+        receiver: after(after(numbers, 0), 0),
+    }
+}

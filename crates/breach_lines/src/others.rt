@@ -49,6 +49,7 @@ fn file_name(file: NightFile) -> &'static str
         NightFile::Track => "track.csv",
         NightFile::Input => "from/in.x12",
         NightFile::InputSum => "from/in.sum",
+        NightFile::Again => "from/again.csv",
         NightFile::Out => "out",
     }
 }

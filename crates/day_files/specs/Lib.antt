@@ -1,3 +1,4 @@
+pub mod Again
 pub mod Lines
 pub mod Listing
 pub mod Members

@@ -24,9 +24,14 @@ fate_by (Some old) o before = old_words old
 abbrev pub fate_words : Member → (before : ℕ) → List ℕ
 fate_words m before = fate_by m.old m.outcome before
 
+-- a file that is asked for again says so
+abbrev pub again_words : Option (List (List ℕ)) → List ℕ
+again_words None = []
+again_words (Some keys) = codes " (again)"
+
 -- the line on a file, which is the one of this number
 abbrev pub line_of : (number : ℕ) → Member → (before : ℕ) → List ℕ
-line_of number m before = codes "file " ++ (decimal number ++ (codes " " ++ (shown m.path ++ fate_words m before)))
+line_of number m before = codes "file " ++ (decimal number ++ (codes " " ++ (shown m.path ++ (again_words m.again ++ fate_words m before))))
 
 -- the lines from this number on, after this many bytes
 abbrev pub lines_of : (number before : ℕ) → List Member → List ℕ

@@ -1,6 +1,6 @@
 -- The list of the files of a day (own; FIPS 180-4): each by its SHA-256 in hexadecimal digits and its path, as sha256sum prints it. A file
 -- whose bytes weren't read has a hyphen in place of the sum.
-use Rattle.std.specs.Prelude.{ℕ, List, ◌++◌, codes}
+use Rattle.std.specs.Prelude.{ℕ, Bool, List, ◌++◌, codes, if◌then◌else◌}
 use Rattle.std.specs.List.{flat_map}
 use Rattle.file_names.specs.Shown.{shown}
 use Rattle.hex.specs.Hex.{encode_lower}
@@ -14,8 +14,12 @@ sum_in (content.Read bytes) = encode_lower (sha256 bytes)
 sum_in content.Changed = codes "-"
 sum_in content.NameNotUtf8 = codes "-"
 
+-- an asterisk in place of the second space marks a file that is asked for again
+abbrev pub between : (is_again : Bool) → List ℕ
+between is_again = if is_again then codes " *" else codes "  "
+
 abbrev pub line_of : DayFile → List ℕ
-line_of file = sum_in file.content ++ (codes "  " ++ (shown file.path ++ codes "\n"))
+line_of file = sum_in file.content ++ (between file.is_again ++ (shown file.path ++ codes "\n"))
 
 abbrev pub listing_of : List DayFile → List ℕ
 listing_of files = flat_map line_of files

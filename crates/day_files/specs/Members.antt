@@ -1,6 +1,7 @@
 -- The files of a day (own): what was read of each, what became of it, and what of it goes into the night's input.
 use Rattle.std.specs.Prelude.{◌≡◌, ◌<◌, ◌==◌, ℕ, Bool, false, List, [], Option, Some, None, is_some, length}
 use Rattle.std.specs.List.{flat_map}
+use Rattle.std.specs.Option.{unwrap_or}
 use Rattle.hub_kinds.specs.declared.limits.TheConstants.{LONGEST_TEXT}
 use Rattle.gather_command.specs.Members.{IsRead, is_cut, taken_of}
 use Rattle.gather_command.specs.declared.outcome.Outcome.{Outcome}
@@ -60,3 +61,11 @@ is_whole_by (Some old) taken = false
 
 abbrev pub is_whole : Member → Bool
 is_whole m = is_whole_by m.old (taken_of m.outcome)
+
+-- the sets that a file delivers which is asked for again
+abbrev pub asked_by : Member → List (List ℕ)
+asked_by m = unwrap_or m.again []
+
+-- the sets of all files that are asked for again
+abbrev pub asked_again : List Member → List (List ℕ)
+asked_again members = flat_map asked_by members

@@ -17,4 +17,6 @@ pub struct DayFile {
     /// Its path, as the arguments name it.
     pub path: Text,
     pub content: Content,
+    /// Whether it is asked for again: older nights may have delivered its sets.
+    pub is_again: bool,
 }

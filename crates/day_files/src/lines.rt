@@ -6,7 +6,7 @@ use crate::member::{Member, OldSet};
 use breach_lines::append_delivery;
 use file_names::append_shown;
 use gather_command::append_outcome;
-use hub_kinds::NoMemory;
+use hub_kinds::{NoMemory, Texts};
 use itoa::Buffer;
 use std::alloc::Global;
 
@@ -64,6 +64,16 @@ fn append_fate(
     }
 }
 
+/// Appends that a file is asked for again, if it is.
+fn append_asked(out: &mut Vec<u8>, again: &Option<Texts>) -> Result<(), NoMemory>
+    ensures { OnOk result (out.new.items ≡ out.old.items ++ lines.again_words again.now) }
+{
+    match again {
+        None => Ok(()),
+        Some(_) => append_text(out, " (again)"),
+    }
+}
+
 /// Appends the line on the file `number`, before whose first byte `before` bytes are gathered.
 pub(crate) fn append_member(
     alloc: Global,
@@ -78,5 +88,6 @@ pub(crate) fn append_member(
     append_number(out, number)?;
     append_text(out, " ")?;
     append_shown(out, member.path.as_slice())?;
+    append_asked(out, &member.again)?;
     append_fate(alloc, out, member, before)
 }

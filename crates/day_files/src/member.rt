@@ -5,7 +5,7 @@ ghost use Rattle.day_files.specs.Members as day;
 
 use gather_command::{Outcome, taken_of};
 use gather_files::End;
-use hub_kinds::Text;
+use hub_kinds::{Text, Texts};
 
 /// A set that an older night delivered.
 #[derive(Debug, Drop)]
@@ -27,6 +27,8 @@ pub struct Member {
     pub closed: Text,
     /// The first set of it that an older night delivered, for which it is set aside.
     pub old: Option<OldSet>,
+    /// The keys of the sets that it delivers, if it is asked for again.
+    pub again: Option<Texts>,
 }
 
 /// What of a file goes into the night's input.

@@ -31,9 +31,9 @@ pub free : is_simple_and_free hub_app ≡ true
 unfolding clap_on_literals
 free = refl
 
-rest_with : (files : List Text) (at name workers piece : Option Text) (not_sent : Bool) → Rest
-rest_with files at name workers piece not_sent =
-    record { files = files; at = at; name = name; workers = workers; piece = piece; not_sent = not_sent }
+rest_with : (files again : List Text) (at name workers piece : Option Text) (not_sent : Bool) → Rest
+rest_with files again at name workers piece not_sent =
+    record { files = files; again = again; at = at; name = name; workers = workers; piece = piece; not_sent = not_sent }
 
 one : (words : List Text) (m : ArgMatches) → HasMatchesOf hub_app words m → (name : Text)
     → first_value (found_of m) name ≡ value_of words name
@@ -51,22 +51,26 @@ same_rest words m has =
     let a : Text → Option Text = first_value (found_of m) in
     let b : Text → Option Text = value_of words in
     let files : List Text = or_none (values_of words (codes "file")) in
-    ap (λ (x : Option (List Text)). rest_with (or_none x) (a (codes "at")) (a (codes "name")) (a (codes "workers")) (a
-    (codes "piece")) (is_given (a (codes "not-sent"))))
+    let again : List Text = or_none (values_of words (codes "again")) in
+    ap (λ (x : Option (List Text)). rest_with (or_none x) (or_none (values_found (found_of m) (codes "again"))) (a (codes "at")) (a
+    (codes "name")) (a (codes "workers")) (a (codes "piece")) (is_given (a (codes "not-sent"))))
     (several words m has (codes "file"))
-    ∙ ap (λ (x : Option Text). rest_with files x (a (codes "name")) (a (codes "workers")) (a (codes "piece")) (is_given (a
+    ∙ ap (λ (x : Option (List Text)). rest_with files (or_none x) (a (codes "at")) (a (codes "name")) (a (codes "workers")) (a
+    (codes "piece")) (is_given (a (codes "not-sent"))))
+    (several words m has (codes "again"))
+    ∙ ap (λ (x : Option Text). rest_with files again x (a (codes "name")) (a (codes "workers")) (a (codes "piece")) (is_given (a
     (codes "not-sent"))))
     (one words m has (codes "at"))
-    ∙ ap (λ (x : Option Text). rest_with files (b (codes "at")) x (a (codes "workers")) (a (codes "piece")) (is_given (a
+    ∙ ap (λ (x : Option Text). rest_with files again (b (codes "at")) x (a (codes "workers")) (a (codes "piece")) (is_given (a
     (codes "not-sent"))))
     (one words m has (codes "name"))
-    ∙ ap (λ (x : Option Text). rest_with files (b (codes "at")) (b (codes "name")) x (a (codes "piece")) (is_given (a
+    ∙ ap (λ (x : Option Text). rest_with files again (b (codes "at")) (b (codes "name")) x (a (codes "piece")) (is_given (a
     (codes "not-sent"))))
     (one words m has (codes "workers"))
-    ∙ ap (λ (x : Option Text). rest_with files (b (codes "at")) (b (codes "name")) (b (codes "workers")) x (is_given (a
+    ∙ ap (λ (x : Option Text). rest_with files again (b (codes "at")) (b (codes "name")) (b (codes "workers")) x (is_given (a
     (codes "not-sent"))))
     (one words m has (codes "piece"))
-    ∙ ap (λ (x : Option Text). rest_with files (b (codes "at")) (b (codes "name")) (b (codes "workers")) (b
+    ∙ ap (λ (x : Option Text). rest_with files again (b (codes "at")) (b (codes "name")) (b (codes "workers")) (b
     (codes "piece")) (is_given x))
     (one words m has (codes "not-sent"))
 
@@ -130,15 +134,15 @@ chosen true true bare one two x is = inl is
 chosen true false true one two x is = inr is
 chosen true false false one two x is = absurd (cc)
 
-run_shares : (hub : Text) (files : List Text) (at name workers piece : Option Text) (w p : Option ℕ) (to : Text) (options : Options)
+run_shares : (hub : Text) (files again : List Text) (at name workers piece : Option Text) (w p : Option ℕ) (to : Text) (options : Options)
     → w ≡ workers_given workers
-    → p ≡ piece_given piece → run_given hub files at name w p ≡ Some (run to (run_in options)) → CanShare options.sharing
-run_shares hub files None name workers piece w p to options ws ps is = absurd (cc)
-run_shares hub files (Some at) name workers piece None p to options ws ps is = absurd (cc)
-run_shares hub files (Some at) name workers piece (Some w) None to options ws ps is = absurd (cc)
-run_shares hub files (Some at) name workers piece (Some w) (Some p) to options ws ps is =
-    let made : RunRequest = record { files = files; at = at; name = name; workers = w; piece = p } in
-    let same = run_is (not (are_none files) && (is_moment at && is_name_or_none name)) hub to made (run_in options) is in
+    → p ≡ piece_given piece → run_given hub files again at name w p ≡ Some (run to (run_in options)) → CanShare options.sharing
+run_shares hub files again None name workers piece w p to options ws ps is = absurd (cc)
+run_shares hub files again (Some at) name workers piece None p to options ws ps is = absurd (cc)
+run_shares hub files again (Some at) name workers piece (Some w) None to options ws ps is = absurd (cc)
+run_shares hub files again (Some at) name workers piece (Some w) (Some p) to options ws ps is =
+    let made : RunRequest = record { files = files; again = again; at = at; name = name; workers = w; piece = p } in
+    let same = run_is (not (are_none files && are_none again) && (is_moment at && is_name_or_none name)) hub to made (run_in options) is in
     let some = given_within 4 64 w workers (omega arith) (omega arith) (sym ws) in
     let bytes = given_within 1048576 4294967295 p piece (omega arith) (omega arith) (sym ps) in
     subst (λ (r : RunRequest). CanShare (record { workers = r.workers; piece = r.piece })) same
@@ -149,7 +153,7 @@ by_shares : (command hub : Text) (rest : Rest) (to : Text) (options : Options)
 by_shares command hub rest to options is =
     elim (chosen (is_path hub) (bytes_eq command (codes "run") && not rest.not_sent) (is_bare rest) (run_by hub rest)
     (bare_by command hub rest.not_sent) (run to (run_in options)) is) [
-      | inl one ↦ run_shares hub rest.files rest.at rest.name rest.workers rest.piece (workers_given rest.workers)
+      | inl one ↦ run_shares hub rest.files rest.again rest.at rest.name rest.workers rest.piece (workers_given rest.workers)
           (piece_given rest.piece) to
           options refl refl one
       | inr two ↦ absurd (never_bare (bytes_eq command (codes "give-up")) (bytes_eq command

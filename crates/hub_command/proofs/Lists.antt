@@ -2,13 +2,12 @@
 use Rattle.std.proofs.Common.{◌≡◌, ◌+◌, ◌<◌, ◌++◌, ◌∷◌, ◌∙◌, [], List, ℕ, ap, append_assoc, get_or, length, map, sym, take}
 use Rattle.std.proofs.lemmas.List.{map-append, take_more}
 
-pub pushed : {X : Type 0} (none one some more most all : List X) (a b c d : X) (xs : List X) → none ≡ [] → one ≡ none ++ a ∷ []
-    → some ≡ one ++ xs → more ≡ some ++ b ∷ [] → most ≡ more ++ c ∷ [] → all ≡ most ++ d ∷ [] → all ≡ a ∷ (xs ++ b ∷ c ∷ d ∷ [])
-pushed {X} none one some more most all a b c d xs none_is one_is some_is more_is most_is all_is =
-    all_is ∙ ap (λ (l : List X). l ++ d ∷ []) (most_is ∙ ap (λ (l : List X). l ++ c ∷ []) (more_is
-    ∙ ap (λ (l : List X). l ++ b ∷ []) (some_is ∙ ap (λ (l : List X). l ++ xs) (one_is ∙ ap (λ (l : List X). l ++ a ∷ []) none_is))))
-    ∙ ap (λ (l : List X). a ∷ (l ++ d ∷ [])) (append_assoc xs (b ∷ []) (c ∷ []))
-    ∙ ap (λ (l : List X). a ∷ l) (append_assoc xs (b ∷ c ∷ []) (d ∷ []))
+pub laid : {X : Type 0} (none one some more all : List X) (a b : X) (xs ys : List X) → none ≡ [] → one ≡ none ++ a ∷ [] → some ≡ one ++ xs
+    → more ≡ some ++ b ∷ [] → all ≡ more ++ ys → all ≡ a ∷ (xs ++ b ∷ ys)
+laid {X} none one some more all a b xs ys none_is one_is some_is more_is all_is =
+    all_is ∙ ap (λ (l : List X). l ++ ys) (more_is ∙ ap (λ (l : List X). l ++ b ∷ []) (some_is
+    ∙ ap (λ (l : List X). l ++ xs) (one_is ∙ ap (λ (l : List X). l ++ a ∷ []) none_is)))
+    ∙ ap (λ (l : List X). a ∷ l) (append_assoc xs (b ∷ []) ys)
 
 pub three : (none x y z a b c : List ℕ) → none ≡ [] → x ≡ none ++ a → y ≡ x ++ b → z ≡ y ++ c → z ≡ a ++ (b ++ c)
 three none x y z a b c none_is x_is y_is z_is =

@@ -1,8 +1,10 @@
 -- What was read of the command line (no public clause but that of `read_words` cites these).
-use Rattle.std.specs.Prelude.{◌≡◌, ◌⊎◌, ℕ, List, Option, Some, None, Bool, map, option_map}
+use Rattle.std.specs.Prelude.{◌≡◌, ◌⊎◌, ℕ, List, Option, Some, None, Bool, codes, map, option_map}
 use Rattle.clap.specs.Words.{Text}
 use Rattle.clap.specs.declared.error.kind.ErrorKind.{ErrorKind}
 use Rattle.clap.specs.declared.error.kind.ErrorKind.TheVariants.{DisplayHelp, DisplayVersion}
+use Rattle.clap.specs.declared.parser.matches.Found.{Found}
+use Rattle.night_ends.specs.Words.{or_none, values_found}
 use Rattle.night_command.specs.CommandLine.{piece_given, workers_given}
 use Rattle.night_command.specs.declared.sharing.Sharing.{Sharing}
 use Rattle.hub_command.specs.CommandLine.{AsksForText, Request, Rest, RunRequest, give_up, init, request_in, run}
@@ -10,6 +12,7 @@ use Rattle.hub_command.specs.declared.command.Asked.{Asked}
 use Rattle.hub_command.specs.declared.command.Asked.TheVariants as asked
 use Rattle.hub_command.specs.declared.command.Given.{Given}
 use Rattle.hub_command.specs.declared.command.Options.{Options}
+use Rattle.hub_command.specs.declared.command.Paths.{Paths}
 use denote.Ref.{Bor}
 
 abbrev pub text_of : Option (Bor (List ℕ)) → Option Text
@@ -19,6 +22,7 @@ text_of text = option_map (λ (t : Bor (List ℕ)). t.now) text
 abbrev pub run_in : Options → RunRequest
 run_in options = record {
   files = map (λ f. f.now) options.files.items;
+  again = map (λ f. f.now) options.again.items;
   at = options.at;
   name = text_of options.name;
   workers = options.sharing.workers;
@@ -34,9 +38,15 @@ AreShared workers piece (Some sharing) = (workers ≡ Some sharing.workers) × (
 abbrev pub AreSharedBy : Rest → Option Sharing → Type 0
 AreSharedBy rest sharing = AreShared (workers_given rest.workers) (piece_given rest.piece) sharing
 
+-- the paths that clap found
+pub record ArePaths (found : Found) (paths : Paths) : Type 0 where
+  pub files : map (λ f. f.now) paths.files.items ≡ or_none (values_found found (codes "file"))
+  pub again : map (λ f. f.now) paths.again.items ≡ or_none (values_found found (codes "again"))
+
 -- what is given besides a hub, as the rest of the arguments say it
 pub record IsGiven (rest : Rest) (given : Given) : Type 0 where
-  pub files : map (λ f. f.now) given.files.items ≡ rest.files
+  pub files : map (λ f. f.now) given.paths.files.items ≡ rest.files
+  pub again : map (λ f. f.now) given.paths.again.items ≡ rest.again
   pub at : text_of given.at ≡ rest.at
   pub name : text_of given.name ≡ rest.name
   pub sharing : AreSharedBy rest given.sharing

@@ -8,7 +8,7 @@ use Rattle.clap.specs.declared.error.kind.ErrorKind.TheVariants.{DisplayHelp, Di
 use Rattle.file_names.specs.Given.{is_marked}
 use Rattle.moment.specs.Calendar.{is_moment}
 use Rattle.night_ends.specs.Words.{or_none}
-use Rattle.night_command.specs.CommandLine.{option_free, piece_given, piece_rule, workers_given, workers_rule}
+use Rattle.night_command.specs.CommandLine.{option_free, option_repeated, piece_given, piece_rule, workers_given, workers_rule}
 use Rattle.hub_command.specs.Names.{is_night_name}
 
 -- a word by its place
@@ -34,9 +34,13 @@ abbrev pub words_app : App
 words_app =
     with_rule (with_rule (with_rule program (word_rule (codes "command"))) (word_rule (codes "hub"))) file_rule
 
--- and the options that say of a night when it is and what it is called
+-- the option that names a file which is asked for again, as often as there are such files
+abbrev pub again_rule : Rule
+again_rule = record (option_repeated (codes "again")) { required = false }
+
+-- and the options that say of a night when it is, what it is called and which files are asked for again
 abbrev pub with_night : App → App
-with_night app = with_rule (with_rule app (option_free (codes "at"))) (option_free (codes "name"))
+with_night app = with_rule (with_rule (with_rule app (option_free (codes "at"))) (option_free (codes "name"))) again_rule
 
 -- and all options
 abbrev pub hub_app : App
@@ -61,6 +65,7 @@ values_of words name = all_of name (matches_of hub_app words)
 -- the night that is to be run
 pub record RunRequest : Type 0 where
   pub files : List Text
+  pub again : List Text
   pub at : Text
   pub name : Option Text
   pub workers : ℕ
@@ -89,6 +94,7 @@ is_given (Some value) = bytes_eq value (codes "true")
 -- what a command is given besides the hub
 pub record Rest : Type 0 where
   pub files : List Text
+  pub again : List Text
   pub at : Option Text
   pub name : Option Text
   pub workers : Option Text
@@ -99,19 +105,22 @@ abbrev pub are_none : List Text → Bool
 are_none files = length files == 0
 
 abbrev pub is_bare : Rest → Bool
-is_bare rest = are_none rest.files && (is_none rest.at && (is_none rest.name && (is_none rest.workers && is_none rest.piece)))
+is_bare rest =
+    (are_none rest.files && are_none rest.again)
+    && (is_none rest.at && (is_none rest.name && (is_none rest.workers && is_none rest.piece)))
 
--- a run takes files, at least one, and a moment that there is; its name, if it has one, is one that a night can have
-abbrev pub run_given : (hub : Text) → (files : List Text) → (at name : Option Text) → (workers piece : Option ℕ) → Option Request
-run_given hub files None name workers piece = None
-run_given hub files (Some at) name None piece = None
-run_given hub files (Some at) name (Some workers) None = None
-run_given hub files (Some at) name (Some workers) (Some piece) =
-    if not (are_none files) && (is_moment at && is_name_or_none name)
-    then Some (run hub (record { files = files; at = at; name = name; workers = workers; piece = piece })) else None
+-- a run takes files, at least one, some of which may be asked for again, and a moment that there is; its name, if it has one, is one that a
+-- night can have
+abbrev pub run_given : (hub : Text) → (files again : List Text) → (at name : Option Text) → (workers piece : Option ℕ) → Option Request
+run_given hub files again None name workers piece = None
+run_given hub files again (Some at) name None piece = None
+run_given hub files again (Some at) name (Some workers) None = None
+run_given hub files again (Some at) name (Some workers) (Some piece) =
+    if not (are_none files && are_none again) && (is_moment at && is_name_or_none name)
+    then Some (run hub (record { files = files; again = again; at = at; name = name; workers = workers; piece = piece })) else None
 
 abbrev pub run_by : (hub : Text) → Rest → Option Request
-run_by hub rest = run_given hub rest.files rest.at rest.name (workers_given rest.workers) (piece_given rest.piece)
+run_by hub rest = run_given hub rest.files rest.again rest.at rest.name (workers_given rest.workers) (piece_given rest.piece)
 
 -- the others take a hub alone; `give-up` takes `--not-sent`
 abbrev pub bare_by : (command hub : Text) → (not_sent : Bool) → Option Request
@@ -135,6 +144,7 @@ request_given (Some command) (Some hub) rest = request_by command hub rest
 abbrev pub rest_of : (value : Text → Option Text) → (values : Text → Option (List Text)) → Rest
 rest_of value values = record {
   files = or_none (values (codes "file"));
+  again = or_none (values (codes "again"));
   at = value (codes "at");
   name = value (codes "name");
   workers = value (codes "workers");

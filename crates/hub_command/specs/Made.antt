@@ -20,12 +20,16 @@ guide_name name = codes "from/guides/" ++ name
 abbrev pub guide_file : NightFile → NightFile
 guide_file guide = file (guide_name guide.name) guide.bytes
 
--- the files that a night is made of: `listing` is the list of the files of the day, `input` what goes in of them
-abbrev pub made_files : (setup : List ℕ) → (guides : List NightFile) → (counters listing input : List ℕ) → List NightFile
-made_files setup guides counters listing input =
-    file (codes "from/setup.toml") setup
-    ∷ (map guide_file guides
-    ++ file (codes "from/counters.toml") counters ∷ file (codes "from/files.sum") listing ∷ file (codes "from/in.x12") input ∷ [])
+-- the files of what came in: `listing` is the list of the files of the day, `again` the table of the sets that are asked for again,
+-- `input` what goes in of the files
+abbrev pub came_files : (listing again input : List ℕ) → List NightFile
+came_files listing again input =
+    file (codes "from/files.sum") listing ∷ file (codes "from/again.csv") again ∷ file (codes "from/in.x12") input ∷ []
+
+-- the files that a night is made of
+abbrev pub made_files : (setup : List ℕ) → (guides : List NightFile) → (counters : List ℕ) → (came : List NightFile) → List NightFile
+made_files setup guides counters came =
+    file (codes "from/setup.toml") setup ∷ (map guide_file guides ++ file (codes "from/counters.toml") counters ∷ came)
 
 -- the files that it gives, of which its sums are
 abbrev pub given_files : Tonight → List NightFile
@@ -53,6 +57,7 @@ pub record ArePapersIn (night : NightBytes) (papers : Papers) : Type 0 where
   pub sums_are : papers.sums.now ≡ flat_map sum_line (map named_sum night.given.now)
   pub input_is : papers.input.now ≡ night.input.now
   pub track_is : papers.track.now ≡ night.track.now
+  pub again_is : papers.again.now ≡ night.again.now
   pub found_are : papers.found.now ≡ map named_sum night.given.now
 
 -- what is kept of a night by these bytes

@@ -21,7 +21,7 @@ use Rattle.hub_tonight.specs.declared.call.HubFiles.{HubFiles}
 use Rattle.hub_tonight.specs.declared.night.Tonight.{Tonight}
 use Rattle.night_review.specs.GoingOn.{GoOn}
 use Rattle.hub_command.specs.Chain.{IsChain}
-use Rattle.hub_command.specs.Made.{IsEntryIn, given_files, made_files, table_files}
+use Rattle.hub_command.specs.Made.{IsEntryIn, came_files, given_files, made_files, table_files}
 use Rattle.hub_command.specs.Names.{folder_name}
 use Rattle.hub_command.specs.declared.chain.Chain.{Chain}
 use Rattle.hub_command.specs.declared.day.Day.{Day}
@@ -92,8 +92,8 @@ pub record IsLaidOf (tonight : Tonight) (laid : Laid) : Type 0 where
   pub left : laid.left ≡ tonight.left
 
 -- what is kept of it in its folder
-pub record IsEntryOfNight (setting : Setting) (folder : List ℕ) (papers : HubPapers) (laid : Laid) (input : List ℕ) (entry : NightEntry)
-    : Type 0 where
+pub record IsEntryOfNight (setting : Setting) (folder : List ℕ) (papers : HubPapers) (laid : Laid) (input again : List ℕ)
+    (entry : NightEntry) : Type 0 where
   pub night : NightBytes
   pub name : night.name.now ≡ folder
   pub at : night.at.now ≡ setting.at
@@ -101,26 +101,28 @@ pub record IsEntryOfNight (setting : Setting) (folder : List ℕ) (papers : HubP
   pub counters : night.counters.now ≡ laid.counters
   pub input_is : night.input.now ≡ input
   pub track : night.track.now ≡ laid.track
+  pub again_is : night.again.now ≡ again
   pub given : night.given.now ≡ laid.given
   pub entry_is : IsEntryIn night entry
 
 -- the files of its folder
-abbrev pub AreFilesOf : Heading → HubPapers → Laid → (tables : List NightFile) → (listing input : List ℕ) → List NightFile → Type 0
-AreFilesOf heading papers laid tables listing input files =
-    AreKeptFiles heading (made_files (bytes_or_none papers.setup.bytes) papers.guides laid.counters listing input) laid.given tables files
+abbrev pub AreFilesOf : Heading → HubPapers → Laid → (tables came files : List NightFile) → Type 0
+AreFilesOf heading papers laid tables came files =
+    AreKeptFiles heading (made_files (bytes_or_none papers.setup.bytes) papers.guides laid.counters came) laid.given tables files
 
 -- the folder of the night after so many
 abbrev pub folder_after : (count : ℕ) → (name : List ℕ) → List ℕ
 folder_after count name = folder_name (count + 1) name
 
--- A draft of a night: of the files of the hub and of an input, after the nights that the hub has.
-pub record IsDraftOf (setting : Setting) (older : Older) (papers : HubPapers) (input : List ℕ) (draft : Draft) : Type 0 where
+-- A draft of a night: of the files of the hub and of an input, after the nights that the hub has. The table `again` has the sets that are
+-- asked for again.
+pub record IsDraftOf (setting : Setting) (older : Older) (papers : HubPapers) (input again : List ℕ) (draft : Draft) : Type 0 where
   pub tonight : Tonight
   pub tonight_is : IsTonightOf setting papers older.entries input tonight
   pub laid_is : IsLaidOf tonight draft.laid
   pub number_is : draft.number ≡ length older.order + 1
   pub folder_is : draft.folder ≡ folder_after (length older.order) setting.name.now
-  pub entry_is : IsEntryOfNight setting draft.folder papers draft.laid input draft.entry
+  pub entry_is : IsEntryOfNight setting draft.folder papers draft.laid input again draft.entry
   pub tables_are : AreTablesOf draft.laid.track draft.entry.delivered older.chain.addresses draft.laid.left draft.tables
 
 -- all nights with it continue, and the next one takes over what the hub has of the last
@@ -133,12 +135,11 @@ pub record IsSoundAfter (setting : Setting) (older : Older) (folder : List ℕ) 
 abbrev pub status_by : (status : ℕ) → (is_whole : Bool) → ℕ
 status_by status is_whole = if is_whole then status else 1
 
--- what is kept beside what the night gives: the lines on the files of the day are files.txt
+-- what is kept beside what the night gives: what came in, and the lines on the files of the day are files.txt
 pub record IsSideOf (folder : List ℕ) (tables : List NightFile) (status : ℕ) (day : Day) (side : Side) : Type 0 where
   pub folder_is : side.folder ≡ folder
   pub tables_are : side.tables ≡ tables ++ file (codes "files.txt") day.lines ∷ []
-  pub listing_is : side.listing ≡ day.listing
-  pub input_is : side.input ≡ day.input
+  pub came_are : side.came ≡ came_files day.listing day.again day.input
   pub lines_are : side.lines ≡ day.lines
   pub status_is : side.status ≡ status_by status day.is_whole
 
@@ -149,7 +150,7 @@ pub record IsMadeBy (setting : Setting) (chain : Chain) (papers : HubPapers) (nu
   pub name_is : made.night.name ≡ side.folder
   pub heading : Heading
   pub heading_is : IsHeadingOf setting number chain side.status heading
-  pub files_are : AreFilesOf heading papers laid side.tables side.listing side.input made.night.files
+  pub files_are : AreFilesOf heading papers laid side.tables side.came made.night.files
   pub lines_are : made.lines ≡ side.lines
   pub total_is : made.total ≡ laid.total
   pub status_is : made.status ≡ side.status
@@ -157,7 +158,7 @@ pub record IsMadeBy (setting : Setting) (chain : Chain) (papers : HubPapers) (nu
 -- A night is made of the files of a day: a draft with which all nights continue, and the files of its folder.
 pub record IsMadeOf (setting : Setting) (older : Older) (papers : HubPapers) (day : Day) (made : Made) : Type 0 where
   pub draft : Draft
-  pub draft_is : IsDraftOf setting older papers day.input draft
+  pub draft_is : IsDraftOf setting older papers day.input day.again draft
   pub chain : Chain
   pub sound : IsSoundAfter setting older draft.folder draft.entry chain
   pub side : Side

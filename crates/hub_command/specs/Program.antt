@@ -28,6 +28,7 @@ called request = unwrap_or request.name request.at
 pub record IsSettingOf (hub : Text) (request : RunRequest) (setting : Setting) : Type 0 where
   pub hub_is : setting.hub.now ≡ hub
   pub files_are : map (λ f. f.now) setting.files.now ≡ request.files
+  pub again_are : map (λ f. f.now) setting.again.now ≡ request.again
   pub at_is : setting.at ≡ request.at
   pub name_is : setting.name.now ≡ called request
   pub workers_are : setting.sharing.workers ≡ request.workers

@@ -9,7 +9,7 @@ use Rattle.night_shelf.specs.Shelf.{Changes, IsKept, MayLeave, Place}
 use Rattle.night_shelf.specs.declared.night.KeptNight.{KeptNight}
 use Rattle.night_shelf.specs.declared.night.NightFile.{NightFile}
 use Rattle.night_review.specs.Nights.{AreNights}
-use Rattle.hub_command.specs.Day.{AreAside, IsDayOf, IsFileAt}
+use Rattle.hub_command.specs.Day.{AreAside, AreFilesAt, IsDayOf}
 use Rattle.hub_command.specs.Lines.{ready_text}
 use Rattle.hub_command.specs.Night.{IsMadeOf, IsOlder}
 use Rattle.hub_command.specs.Papers.{ArePapersAt}
@@ -32,7 +32,7 @@ pub record IsSeen (setting : Setting) (older : Older) (files : List DayFile) : T
   pub marks : List NightMark
   pub marks_are : AreNights (path_in setting.hub.now (codes "nights")) marks
   pub older_is : IsOlder (path_in setting.hub.now (codes "nights")) marks older
-  pub files_are : AllZip IsFileAt (map (λ f. f.now) setting.files.now) files
+  pub files_are : AreFilesAt setting files
 
 -- a night is made of them, by the hub's own files
 pub record IsMadeAt (setting : Setting) (made : Made) : Type 0 where

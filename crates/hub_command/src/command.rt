@@ -1,7 +1,7 @@
-ghost use Rattle.std.specs.Prelude.{◌≡◌, ◌≢◌, ℕ, Option, None, Some, codes, false, true, not, map, option_map, IfOk, IfErr};
+ghost use Rattle.std.specs.Prelude.{◌≡◌, ◌≢◌, ◌&&◌, ℕ, Option, None, Some, codes, false, true, not, map, option_map, IfOk, IfErr};
 ghost use Rattle.clap.specs.Words.{app_of, first_value, found_of, kind_of, rule_of};
 ghost use Rattle.night_ends.specs.Words.{or_none, values_found};
-ghost use Rattle.hub_command.specs.Asked.{AreShared, IsAsked, IsGiven, IsRequest, IsRequested, IsShown, text_of};
+ghost use Rattle.hub_command.specs.Asked.{ArePaths, AreShared, IsAsked, IsGiven, IsRequest, IsRequested, IsShown, text_of};
 ghost use Rattle.hub_command.specs.CommandLine as line;
 ghost use Rattle.hub_command.specs.Failure.{IsUsage};
 
@@ -13,7 +13,9 @@ use clap::{Arg, ArgAction, ArgMatches, Command, Error};
 use file_names::is_not_utf_8;
 use hub_kinds::copy_text;
 use moment::At;
-use night_command::{Sharing, option_free, piece_option, sharing_given, workers_option};
+use night_command::{
+    Sharing, option_free, option_repeated, piece_option, sharing_given, workers_option,
+};
 use night_ends::{RELEASE, mistake_found, texts_given, with_argument};
 use std::alloc::{AllocError, Global};
 use std::convert::AsStr;
@@ -36,6 +38,8 @@ pub fn is_of_hub<S: AsStr>(words: &[S]) -> bool
 pub struct Options<'a> {
     /// The paths of the files that came in.
     pub files: Vec<&'a str>,
+    /// The paths of those that are asked for again.
+    pub again: Vec<&'a str>,
     /// The date and time that everything of the night bears.
     pub at: At,
     /// What the night is called, if the arguments say it.
@@ -86,7 +90,7 @@ fn command<'a>(alloc: Global) -> Result<Command<'a>, AllocError>
     with_argument(command, not_sent(alloc))
 }
 
-/// The command with the options that say of a night when it is and what it is called.
+/// The command with the options that say of a night when it is, what it is called and which files are asked for again.
 fn with_night<'a>(alloc: Global, command: Command<'a>) -> Result<Command<'a>, AllocError>
     ensures { IfOk result (λ more. app_of more ≡ line.with_night (app_of command.entry)) }
 {
@@ -103,7 +107,8 @@ fn with_night<'a>(alloc: Global, command: Command<'a>) -> Result<Command<'a>, Al
         "NAME",
         "run: what the night is called [default: its moment]",
     );
-    with_argument(command, name)
+    let command = with_argument(command, name)?;
+    with_argument(command, again(alloc))
 }
 
 /// The program with the words that commands take.
@@ -145,6 +150,20 @@ fn files<'a>(alloc: Global) -> Arg<'a>
         .action(ArgAction::Append)
 }
 
+/// The option that names a file which is asked for again.
+fn again<'a>(alloc: Global) -> Arg<'a>
+    ensures rule { rule_of result ≡ line.again_rule }
+    ensures local { result.global ≡ false }
+{
+    option_repeated(
+        alloc,
+        "again",
+        "FILE",
+        "run: a file that goes in although older nights delivered its sets",
+    )
+    .required(false)
+}
+
 fn not_sent<'a>(alloc: Global) -> Arg<'a>
     ensures rule { rule_of result ≡ line.not_sent_rule }
     ensures local { result.global ≡ false }
@@ -182,23 +201,38 @@ fn is_name_or_none(name: Option<&str>) -> bool
     }
 }
 
+/// The paths of files.
+#[derive(Drop)]
+pub(crate) struct Paths<'a> {
+    pub(crate) files: Vec<&'a str>,
+    /// Those that are asked for again.
+    pub(crate) again: Vec<&'a str>,
+}
+
 /// What a command is given besides the hub.
 #[derive(Drop)]
 pub(crate) struct Given<'a> {
-    pub(crate) files: Vec<&'a str>,
+    pub(crate) paths: Paths<'a>,
     pub(crate) at: Option<&'a str>,
     pub(crate) name: Option<&'a str>,
     pub(crate) sharing: Option<Sharing>,
 }
 
+/// Whether no file is named.
+fn names_none(paths: &Paths<'_>) -> bool
+    ensures { result ≡ (line.are_none (map (λ f. f.now) paths.now.files.items) && line.are_none (map (λ f. f.now) paths.now.again.items)) }
+{
+    paths.files.is_empty() && paths.again.is_empty()
+}
+
 fn run_given<'a>(hub: &'a str, given: Given<'a>) -> Option<Asked<'a>>
     ensures { (workers piece : Option ℕ) → AreShared workers piece given.entry.sharing
-        → IsRequested (line.run_given hub.entry.now (map (λ f. f.now) given.entry.files.items) (text_of given.entry.at)
-        (text_of given.entry.name) workers piece) result }
+        → IsRequested (line.run_given hub.entry.now (map (λ f. f.now) given.entry.paths.files.items)
+        (map (λ f. f.now) given.entry.paths.again.items) (text_of given.entry.at) (text_of given.entry.name) workers piece) result }
 {
     let at = given.at?;
     let sharing = given.sharing?;
-    if given.files.is_empty() {
+    if names_none(&given.paths) {
         return None;
     }
     let at = At::read(at.as_bytes())?;
@@ -206,7 +240,8 @@ fn run_given<'a>(hub: &'a str, given: Given<'a>) -> Option<Asked<'a>>
         Some(Asked::Run(
             hub,
             Options {
-                files: given.files,
+                files: given.paths.files,
+                again: given.paths.again,
                 at,
                 name: given.name,
                 sharing,
@@ -218,23 +253,23 @@ fn run_given<'a>(hub: &'a str, given: Given<'a>) -> Option<Asked<'a>>
 }
 
 /// Whether nothing but a hub is given.
-fn is_bare(files: &[&str], matches: &ArgMatches<'_>) -> bool
-    requires { map (λ f. f.now) files.now ≡ or_none (values_found (found_of matches.now) (codes "file")) }
+fn is_bare(paths: &Paths<'_>, matches: &ArgMatches<'_>) -> bool
+    requires { ArePaths (found_of matches.now) paths.now }
     ensures { result ≡ line.is_bare (line.rest_of (first_value (found_of matches.now)) (values_found (found_of matches.now))) }
 {
-    files.is_empty()
+    (paths.files.is_empty() && paths.again.is_empty())
         && (matches.get_str("at").is_none()
             && (matches.get_str("name").is_none()
                 && (matches.get_str("workers").is_none() && matches.get_str("piece").is_none())))
 }
 
-/// What is given of a run of `files`.
-fn given_of<'a>(files: Vec<&'a str>, matches: &ArgMatches<'a>) -> Given<'a>
-    requires { map (λ f. f.now) files.items ≡ or_none (values_found (found_of matches.now) (codes "file")) }
+/// What is given of a run of the files `paths`.
+fn given_of<'a>(paths: Paths<'a>, matches: &ArgMatches<'a>) -> Given<'a>
+    requires { ArePaths (found_of matches.now) paths }
     ensures { IsGiven (line.rest_of (first_value (found_of matches.now)) (values_found (found_of matches.now))) result }
 {
     Given {
-        files,
+        paths,
         at: matches.get_str("at"),
         name: matches.get_str("name"),
         sharing: sharing_given(matches),
@@ -242,12 +277,12 @@ fn given_of<'a>(files: Vec<&'a str>, matches: &ArgMatches<'a>) -> Given<'a>
 }
 
 /// The run that the values ask for.
-fn run_found<'a>(hub: &'a str, files: Vec<&'a str>, matches: &ArgMatches<'a>) -> Option<Asked<'a>>
-    requires { map (λ f. f.now) files.items ≡ or_none (values_found (found_of matches.now) (codes "file")) }
+fn run_found<'a>(hub: &'a str, paths: Paths<'a>, matches: &ArgMatches<'a>) -> Option<Asked<'a>>
+    requires { ArePaths (found_of matches.now) paths }
     ensures { IsRequested (line.run_by hub.entry.now (line.rest_of (first_value (found_of matches.now))
         (values_found (found_of matches.now)))) result }
 {
-    run_given(hub, given_of(files, matches))
+    run_given(hub, given_of(paths, matches))
 }
 
 /// What a command other than `run` asks for.
@@ -263,14 +298,14 @@ fn bare_found<'a>(command: &str, hub: &'a str, is_sent: bool) -> Option<Asked<'a
     }
 }
 
-/// What a command asks for of the folder at the path `hub`, by `files` and the other values.
+/// What a command asks for of the folder at the path `hub`, by `paths` and the other values.
 fn request_by<'a>(
     command: &str,
     hub: &'a str,
-    files: Vec<&'a str>,
+    paths: Paths<'a>,
     matches: &ArgMatches<'a>,
 ) -> Option<Asked<'a>>
-    requires { map (λ f. f.now) files.items ≡ or_none (values_found (found_of matches.now) (codes "file")) }
+    requires { ArePaths (found_of matches.now) paths }
     ensures { IsRequested (line.request_by command.now hub.entry.now (line.rest_of (first_value (found_of matches.now))
         (values_found (found_of matches.now)))) result }
 {
@@ -278,17 +313,17 @@ fn request_by<'a>(
     if !is_path(hub) {
         None
     } else if command == "run" && !not_sent {
-        run_found(hub, files, matches)
-    } else if !is_bare(files.as_slice(), matches) {
+        run_found(hub, paths, matches)
+    } else if !is_bare(&paths, matches) {
         None
     } else {
         bare_found(command, hub, !not_sent)
     }
 }
 
-/// What `files` and the other values that clap found ask for.
-fn request_found<'a>(files: Vec<&'a str>, matches: &ArgMatches<'a>) -> Option<Asked<'a>>
-    requires { map (λ f. f.now) files.items ≡ or_none (values_found (found_of matches.now) (codes "file")) }
+/// What `paths` and the other values that clap found ask for.
+fn request_found<'a>(paths: Paths<'a>, matches: &ArgMatches<'a>) -> Option<Asked<'a>>
+    requires { ArePaths (found_of matches.now) paths }
     ensures { IsRequested (line.request_of (first_value (found_of matches.now)) (values_found (found_of matches.now))) result }
 {
     let Some(command) = matches.get_str("command") else {
@@ -297,7 +332,7 @@ fn request_found<'a>(files: Vec<&'a str>, matches: &ArgMatches<'a>) -> Option<As
     let Some(hub) = matches.get_str("hub") else {
         return None;
     };
-    request_by(command, hub, files, matches)
+    request_by(command, hub, paths, matches)
 }
 
 fn request_asked<'a>(alloc: Global, matches: &ArgMatches<'a>) -> Result<Asked<'a>, Mistake>
@@ -305,8 +340,11 @@ fn request_asked<'a>(alloc: Global, matches: &ArgMatches<'a>) -> Result<Asked<'a
     ensures usage { IfErr result (λ mistake. IsUsage mistake
         → line.request_of (first_value (found_of matches.now)) (values_found (found_of matches.now)) ≡ None) }
 {
-    let files = texts_given(alloc, matches, "file")?;
-    match request_found(files, matches) {
+    let paths = Paths {
+        files: texts_given(alloc, matches, "file")?,
+        again: texts_given(alloc, matches, "again")?,
+    };
+    match request_found(paths, matches) {
         Some(asked) => Ok(asked),
         None => Err(Mistake::Usage(copy_text(alloc, USAGE)?)),
     }

@@ -1,23 +1,26 @@
-ghost use Rattle.std.specs.Prelude.{◌≡◌, ◌++◌, ◌∷◌, [], IfErr, IfOk, OnOk, reverse};
+ghost use Rattle.std.specs.Prelude.{◌≡◌, ◌++◌, ◌∷◌, [], List, IfErr, IfOk, OnOk, reverse};
 ghost use Rattle.std.specs.List.{AllZip};
 ghost use Rattle.day_files.specs.Listing.{listing_of};
 ghost use Rattle.day_files.specs.Members.{IsGathered};
 ghost use Rattle.gather_command.specs.Members.{taken_of};
+ghost use Rattle.hub_ledger.specs.declared.entry.NightEntry.{NightEntry};
 ghost use Rattle.night_breaches.specs.Deliveries.{AreDeliveries};
 ghost use Rattle.night_command.specs.CommandLine.{CanShare};
 ghost use Rattle.hub_command.specs.Day as day;
 ghost use Rattle.hub_command.specs.Failure.{IsBefore};
 
 use crate::failure::Failure;
-use crate::night::draft_of;
+use crate::night::{Draft, draft_of};
 use crate::older::Older;
 use crate::papers::HubPapers;
 use crate::setting::Setting;
 use day_files::{
-    Content, DayFault, DayFile, GatheredFile, Member, OldSet, are_whole, gather, join, some_goes_in,
+    Content, DayFault, DayFile, GatheredFile, Member, OldSet, again_table, are_whole, gather, join,
+    some_goes_in,
 };
 use gather_command::taken_of;
-use hub_kinds::{Items, NoMemory, Text, copy_text};
+use hub_kinds::{Items, NoMemory, Text, Texts, copy_text};
+use hub_ledger::NightEntry;
 use night_breaches::{Deliveries, Delivery, deliveries_of, first_delivery};
 use std::alloc::Global;
 use std::sync::Wait;
@@ -29,6 +32,8 @@ use std::time::Clock;
 pub struct Day {
     /// The list of the files.
     pub listing: Text,
+    /// The table of the sets that are asked for again.
+    pub again: Text,
     /// The night's input.
     pub input: Text,
     /// A line for each file.
@@ -68,53 +73,77 @@ fn old_set(alloc: Global, delivery: Option<Delivery<'_, '_>>) -> Result<Option<O
     }
 }
 
-/// The first set that the night of `closed` alone delivers, and that an older night delivered, as `known` says.
-fn judged_alone<R: Threads + Wait + Clock + Sync>(
+/// The keys of the sets that the night of `closed` alone delivers.
+fn delivered_alone<R: Threads + Wait + Clock + Sync>(
     rt: &R,
     alloc: Global,
     setting: &Setting<'_>,
     older: &Older<'_>,
     papers: &HubPapers,
-    known: &Deliveries<'_>,
     closed: &[u8],
-) -> Result<Option<OldSet>, Failure>
+) -> Result<Texts, Failure>
     requires sharing { CanShare setting.now.sharing }
-    requires known { AreDeliveries (reverse older.now.entries) known.now }
-    ensures judged { IfOk result (day.IsJudgedAlone setting.now older.now papers.now closed.now) }
+    ensures delivered { IfOk result (day.AreDeliveredAlone setting.now older.now papers.now closed.now) }
     ensures before { IfErr result IsBefore }
 {
-    let draft = draft_of(rt, alloc, setting, older, papers, closed)?;
-    let delivery = first_delivery(known, draft.entry.delivered.as_slice());
-    Ok(old_set(alloc, delivery)?)
+    let draft = draft_of(rt, alloc, setting, older, papers, closed, b"")?;
+    let Draft {
+        number: _,
+        folder: _,
+        laid: _,
+        entry,
+        tables: _,
+    } = draft;
+    let NightEntry {
+        name: _,
+        moment: _,
+        delivered,
+        again: _,
+        addresses: _,
+        files: _,
+    } = entry;
+    Ok(delivered)
 }
 
-/// The first old set of a file that was gathered; one that isn't taken has no night.
-fn judged_by_itself<R: Threads + Wait + Clock + Sync>(
+/// The keys of the sets that a file which was gathered delivers alone; one that isn't taken has no night.
+fn keys_alone<R: Threads + Wait + Clock + Sync>(
     rt: &R,
     alloc: Global,
     setting: &Setting<'_>,
     older: &Older<'_>,
     papers: &HubPapers,
-    known: &Deliveries<'_>,
     file: &GatheredFile,
-) -> Result<Option<OldSet>, Failure>
+) -> Result<Texts, Failure>
     requires sharing { CanShare setting.now.sharing }
-    requires known { AreDeliveries (reverse older.now.entries) known.now }
-    ensures judged { IfOk result (day.IsJudged setting.now older.now papers.now (taken_of file.now.outcome) file.now.closed) }
+    ensures keys { IfOk result (day.AreKeysAlone setting.now older.now papers.now (taken_of file.now.outcome) file.now.closed) }
     ensures before { IfErr result IsBefore }
 {
     match taken_of(file.outcome) {
-        None => Ok(None),
-        Some(_) => judged_alone(
-            rt,
-            alloc,
-            setting,
-            older,
-            papers,
-            known,
-            file.closed.as_slice(),
-        ),
+        None => Ok(Items::from_vec(Vec::new(alloc))),
+        Some(_) => delivered_alone(rt, alloc, setting, older, papers, file.closed.as_slice()),
     }
+}
+
+/// The first of `keys` that an older night delivered, as `known` says; none of a file that is asked for again.
+fn old_of(
+    alloc: Global,
+    known: &Deliveries<'_>,
+    keys: &[Text],
+    is_again: bool,
+) -> Result<Option<OldSet>, NoMemory>
+    ensures { (older : List NightEntry) → AreDeliveries older known.now → IfOk result (λ old. old ≡ day.old_by older is_again keys.now) }
+{
+    if is_again {
+        return Ok(None);
+    }
+    old_set(alloc, first_delivery(known, keys))
+}
+
+/// The keys that a file which is asked for again frees.
+fn freed_by(keys: Texts, is_again: bool) -> Option<Texts>
+    ensures { result ≡ day.freed_by is_again keys }
+{
+    if is_again { Some(keys) } else { None }
 }
 
 fn member_of<R: Threads + Wait + Clock + Sync>(
@@ -132,12 +161,14 @@ fn member_of<R: Threads + Wait + Clock + Sync>(
     ensures before { IfErr result IsBefore }
 {
     let taken = gathered(alloc, &file.content)?;
-    let old = judged_by_itself(rt, alloc, setting, older, papers, known, &taken)?;
+    let keys = keys_alone(rt, alloc, setting, older, papers, &taken)?;
+    let old = old_of(alloc, known, keys.as_slice(), file.is_again)?;
     Ok(Member {
         path: copy_text(alloc, file.path.as_slice())?,
         outcome: taken.outcome,
         closed: taken.closed,
         old,
+        again: freed_by(keys, file.is_again),
     })
 }
 
@@ -191,8 +222,10 @@ pub(crate) fn day_of<R: Threads + Wait + Clock + Sync>(
     if !some_goes_in(members.as_slice()) {
         return Ok(Judged::Aside(lines));
     }
+    let again = again_table(alloc, members.as_slice())?;
     Ok(Judged::Day(Day {
         listing: Items::from_vec(listing),
+        again: Items::from_vec(again),
         input: Items::from_vec(joined.input),
         lines,
         is_whole: are_whole(members.as_slice()),

@@ -65,6 +65,8 @@ pub(crate) struct NightBytes<'a> {
     pub(crate) counters: &'a [u8],
     pub(crate) input: &'a [u8],
     pub(crate) track: &'a [u8],
+    /// The table of the sets that it was asked for again.
+    pub(crate) again: &'a [u8],
     /// The files that it gives: those of the run, of which the last has the counters that it leaves, and the total.
     pub(crate) given: &'a [NightFile],
 }
@@ -86,6 +88,7 @@ pub(crate) fn entry_in(alloc: Global, night: &NightBytes<'_>) -> Result<NightEnt
         sums: sums.as_slice(),
         input: night.input,
         track: night.track,
+        again: night.again,
         found: found.as_slice(),
     };
     match entry_of(alloc, &papers) {

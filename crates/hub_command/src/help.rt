@@ -2,11 +2,12 @@
 pub(crate) const STATUSES: &str = "Commands:
   init HUB                makes the folder HUB, which has setup.toml and guides/,
                           a hub of no night
-  run HUB --at CCYYMMDDHHMM [--name NAME] FILE..
+  run HUB --at CCYYMMDDHHMM [--name NAME] [--again FILE].. FILE..
                           runs the next night on the files, one after another,
                           and keeps all of it in HUB/nights; where that is done
                           already, says so again. A file that has a set which
-                          an older night delivered is set aside
+                          an older night delivered is set aside; one that
+                          --again names goes in, after the others
   give-up HUB [--not-sent]
                           removes a night that stopped before it was kept; with
                           --not-sent moves the last night to HUB/given-up
@@ -28,8 +29,9 @@ Status:
 Examples:
   nighthub_day init hub
   nighthub_day run hub --at 202603010200 --name sunday in/*.x12
+  nighthub_day run hub --at 202603020200 --again lost.x12 in/*.x12
   nighthub_day check hub/nights";
 
 /// What is said of arguments that ask for nothing.
 pub(crate) const USAGE: &[u8] =
-    b"it takes init HUB, run HUB --at CCYYMMDDHHMM [--name NAME] FILE.., or give-up HUB [--not-sent]";
+    b"it takes init HUB, run HUB --at CCYYMMDDHHMM [--name NAME] [--again FILE].. FILE.., or give-up HUB [--not-sent]";

@@ -5,11 +5,13 @@
 //! - `read_words` gives what the arguments ask for, as clap's definitions say, and calls usage only what is none;
 //! - a night that `run_on` keeps is the definition's run by just the bytes that are in its folder (`IsTonight`); it begins each address
 //!   where the last night that knows the address left it; and with it all nights continue (`GoOn`): no set is delivered to a receiver on
-//!   two nights, the numbers of each address begin where they were left, each file has the sum that is listed, and no moment is before
-//!   that of the night before or after a limit;
+//!   two nights, but one that the later night was asked for again, the numbers of each address begin where they were left, each file has
+//!   the sum that is listed, and no moment is before that of the night before or after a limit;
 //! - its input is just what goes in of the files of the day, which it reads each alone. A file that is gathered is set aside exactly if the
-//!   night of that file alone delivers a set that an older night delivered (`IsDayOf`, `IsMemberOf`). If each is set aside, no night is
-//!   made;
+//!   night of that file alone delivers a set that an older night delivered, and it isn't asked for again (`IsDayOf`, `IsMemberOf`). If each
+//!   is set aside, no night is made;
+//! - the sets that it was asked for again are just those that the files which are asked for again deliver, each in the night of that file
+//!   alone. They are in its folder, and later nights read them there (`AreAgainKeys`);
 //! - its folder has just the files of the definition (`AreKeptFiles`), the last of which is its record. This names the SHA-256 of the
 //!   record of the night before;
 //! - it is kept on the shelf by one rename, once all of it is on the disk (`IsKept`). Whatever `run_on` answers, a stop leaves the nights

@@ -52,23 +52,38 @@ fn push_guides(
     Ok(())
 }
 
-/// The files that a night is made of.
+/// The files of what came in: the list of the files of the day, the table of the sets that are asked for again, and the input.
+pub(crate) fn came_files(
+    alloc: Global,
+    listing: Text,
+    again: Text,
+    input: Text,
+) -> Result<Vec<NightFile>, NoMemory>
+    ensures { IfOk result (λ files. files.items ≡ made.came_files listing again input) }
+{
+    let mut files = Vec::new(alloc);
+    files.push(file_of(alloc, b"from/files.sum", listing)?)?;
+    files.push(file_of(alloc, b"from/again.csv", again)?)?;
+    files.push(file_of(alloc, b"from/in.x12", input)?)?;
+    Ok(files)
+}
+
+/// The files that a night is made of: those of the hub, the counters, and what came in.
 pub(crate) fn made_files(
     alloc: Global,
     setup: &[u8],
     guides: &[NightFile],
     counters: Text,
-    listing: Text,
-    input: Text,
+    came: Items<NightFile>,
 ) -> Result<Vec<NightFile>, NoMemory>
-    ensures { IfOk result (λ files. files.items ≡ made.made_files setup.now guides.now counters listing input) }
+    ensures { IfOk result (λ files. files.items ≡ made.made_files setup.now guides.now counters came) }
 {
     let mut files = Vec::new(alloc);
     files.push(copied_file(alloc, b"from/setup.toml", setup)?)?;
     push_guides(alloc, &mut files, guides)?;
     files.push(file_of(alloc, b"from/counters.toml", counters)?)?;
-    files.push(file_of(alloc, b"from/files.sum", listing)?)?;
-    files.push(file_of(alloc, b"from/in.x12", input)?)?;
+    let mut came = came.into_vec();
+    files.append(&mut came)?;
     Ok(files)
 }
 

@@ -141,8 +141,9 @@ fn entry_of_night(
     papers: &HubPapers,
     laid: &Laid,
     input: &[u8],
+    again: &[u8],
 ) -> Result<NightEntry, Failure>
-    ensures entry { IfOk result (night.IsEntryOfNight setting.now folder.now papers.now laid.now input.now) }
+    ensures entry { IfOk result (night.IsEntryOfNight setting.now folder.now papers.now laid.now input.now again.now) }
     ensures before { IfErr result IsBefore }
 {
     entry_in(
@@ -154,6 +155,7 @@ fn entry_of_night(
             counters: laid.counters.as_slice(),
             input,
             track: laid.track.as_slice(),
+            again,
             given: laid.given.as_slice(),
         },
     )
@@ -216,17 +218,16 @@ fn heading_of<'a>(
     }
 }
 
-/// All files of the night that is laid out, made of the files of the hub, of `listing` and of `input`.
+/// All files of the night that is laid out, made of the files of the hub and of what came in.
 fn all_files(
     alloc: Global,
     heading: &Heading<'_>,
     papers: &HubPapers,
     laid: Laid,
     tables: Vec<NightFile>,
-    listing: Text,
-    input: Text,
+    came: Items<NightFile>,
 ) -> Result<Vec<NightFile>, Failure>
-    ensures files { IfOk result (λ files. night.AreFilesOf heading.now papers.now laid tables.items listing input files.items) }
+    ensures files { IfOk result (λ files. night.AreFilesOf heading.now papers.now laid tables.items came files.items) }
     ensures before { IfErr result IsBefore }
 {
     let Laid {
@@ -242,8 +243,7 @@ fn all_files(
         papers.setup.bytes_or_none(),
         papers.guides.as_slice(),
         counters,
-        listing,
-        input,
+        came,
     )?;
     files_of(alloc, heading, made, given, tables)
 }
@@ -259,7 +259,8 @@ pub struct Draft {
     pub tables: Items<NightFile>,
 }
 
-/// The draft of the night of `setting` after the older ones, by the files of the hub and an input.
+/// The draft of the night of `setting` after the older ones, by the files of the hub and an input. The table `again` has the sets that are
+/// asked for again.
 pub(crate) fn draft_of<R: Threads + Wait + Clock + Sync>(
     rt: &R,
     alloc: Global,
@@ -267,15 +268,24 @@ pub(crate) fn draft_of<R: Threads + Wait + Clock + Sync>(
     older: &Older<'_>,
     papers: &HubPapers,
     input: &[u8],
+    again: &[u8],
 ) -> Result<Draft, Failure>
     requires sharing { CanShare setting.now.sharing }
-    ensures draft { IfOk result (night.IsDraftOf setting.now older.now papers.now input.now) }
+    ensures draft { IfOk result (night.IsDraftOf setting.now older.now papers.now input.now again.now) }
     ensures before { IfErr result IsBefore }
 {
     let (number, folder) = next_folder(alloc, older.order.as_slice().len(), setting.name)?;
     let made = tonight_of(rt, alloc, setting, papers, older.entries.as_slice(), input)?;
     let laid = laid_out(alloc, made)?;
-    let entry = entry_of_night(alloc, setting, folder.as_slice(), papers, &laid, input)?;
+    let entry = entry_of_night(
+        alloc,
+        setting,
+        folder.as_slice(),
+        papers,
+        &laid,
+        input,
+        again,
+    )?;
     let track = copy_text(alloc, laid.track.as_slice())?;
     let tables = tables_of(
         alloc,
@@ -339,15 +349,14 @@ fn made_by(
     let Side {
         folder,
         tables,
-        listing,
-        input,
+        came,
         lines,
         status,
     } = side;
     let heading = heading_of(setting, number, chain, status);
     let total = copy_text(alloc, laid.total.as_slice())?;
     let tables = tables.into_vec();
-    let files = all_files(alloc, &heading, papers, laid, tables, listing, input)?;
+    let files = all_files(alloc, &heading, papers, laid, tables, came)?;
     Ok(Made {
         night: KeptNight {
             name: folder,
@@ -373,7 +382,15 @@ pub(crate) fn made_of<R: Threads + Wait + Clock + Sync>(
     ensures made { IfOk result (night.IsMadeOf setting.now older.entry papers.now day) }
     ensures before { IfErr result IsBefore }
 {
-    let draft = draft_of(rt, alloc, setting, &older, papers, day.input.as_slice())?;
+    let draft = draft_of(
+        rt,
+        alloc,
+        setting,
+        &older,
+        papers,
+        day.input.as_slice(),
+        day.again.as_slice(),
+    )?;
     let Draft {
         number,
         folder,

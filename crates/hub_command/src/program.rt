@@ -156,6 +156,7 @@ fn setting_of<'a>(
     Setting {
         hub,
         files: options.files.as_slice(),
+        again: options.again.as_slice(),
         at: options.at,
         name: name_of(options),
         sharing: options.sharing,

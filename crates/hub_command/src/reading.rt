@@ -1,9 +1,10 @@
 ghost use Rattle.std.specs.Prelude.{◌≡◌, ◌++◌, ◌∷◌, [], IfErr, IfOk, OnOk, map};
 ghost use Rattle.std.specs.List.{AllZip};
-ghost use Rattle.hub_command.specs.Day.{IsContentAt, IsFileAt, IsInputAt};
+ghost use Rattle.hub_command.specs.Day.{AreFilesAt, IsContentAt, IsFileAt, IsInputAt};
 ghost use Rattle.hub_command.specs.Failure.{IsBefore};
 
 use crate::failure::Failure;
+use crate::setting::Setting;
 use day_files::{Content, DayFile};
 use file_names::is_not_utf_8;
 use gather_command::is_changed;
@@ -64,13 +65,14 @@ fn content_at<R: Files + AllocGlobal>(rt: &R, path: &str) -> Result<Content, Fai
     }
 }
 
-fn file_at<R: Files + AllocGlobal>(rt: &R, path: &str) -> Result<DayFile, Failure>
-    ensures file { IfOk result (IsFileAt path.now) }
+fn file_at<R: Files + AllocGlobal>(rt: &R, path: &str, is_again: bool) -> Result<DayFile, Failure>
+    ensures file { IfOk result (IsFileAt is_again path.now) }
     ensures before { IfErr result IsBefore }
 {
     Ok(DayFile {
         path: copy_text(rt.alloc(), path.as_bytes())?,
         content: content_at(rt, path)?,
+        is_again,
     })
 }
 
@@ -81,17 +83,32 @@ fn push(files: &mut Vec<DayFile>, file: DayFile) -> Result<(), NoMemory>
     Ok(())
 }
 
-/// Reads the files at `paths`.
-pub(crate) fn files_at<R: Files + AllocGlobal>(
+/// Reads the files at `paths`, which are asked for again if `is_again`.
+fn files_at<R: Files + AllocGlobal>(
     rt: &R,
     paths: &[&str],
+    is_again: bool,
 ) -> Result<Vec<DayFile>, Failure>
-    ensures files { IfOk result (λ files. AllZip IsFileAt (map (λ p. p.now) paths.now) files.items) }
+    ensures files { IfOk result (λ files. AllZip (IsFileAt is_again) (map (λ p. p.now) paths.now) files.items) }
     ensures before { IfErr result IsBefore }
 {
     let mut files = Vec::new(rt.alloc());
     for i in 0..paths.len() {
-        push(&mut files, file_at(rt, paths[i])?)?;
+        push(&mut files, file_at(rt, paths[i], is_again)?)?;
     }
+    Ok(files)
+}
+
+/// Reads the files of the day: those of the arguments, and after them those that are asked for again.
+pub(crate) fn day_files_at<R: Files + AllocGlobal>(
+    rt: &R,
+    setting: &Setting<'_>,
+) -> Result<Vec<DayFile>, Failure>
+    ensures files { IfOk result (λ files. AreFilesAt setting.now files.items) }
+    ensures before { IfErr result IsBefore }
+{
+    let mut files = files_at(rt, setting.files, false)?;
+    let mut again = files_at(rt, setting.again, true)?;
+    files.append(&mut again)?;
     Ok(files)
 }

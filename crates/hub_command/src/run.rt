@@ -10,7 +10,7 @@ use crate::failure::Failure;
 use crate::night::{Made, made_of};
 use crate::older::older_of;
 use crate::papers::{papers_at, path_in};
-use crate::reading::files_at;
+use crate::reading::day_files_at;
 use crate::ready::{Ready, ready_text};
 use crate::setting::Setting;
 use crate::there::{There, there_at};
@@ -78,7 +78,7 @@ where
     let nights = path_in(alloc, setting.hub.as_bytes(), b"nights")?;
     let marks = marks_at(rt, setting.hub, nights.as_slice())?;
     let older = older_of(rt, nights.as_slice(), marks.as_slice())?;
-    let files = files_at(rt, setting.files)?;
+    let files = day_files_at(rt, setting)?;
     let listing = listing_of(alloc, files.as_slice())?;
     if let Some(there) = there_at(rt, nights.as_slice(), &older, setting, listing.as_slice())? {
         return Ok(Found::There(there));
@@ -194,9 +194,9 @@ fn keep_made<S: Shelf>(
 }
 
 /// Runs the night of `setting` on the shelf of the hub. If the night is the last one already, nothing is run. Its input is what goes in of
-/// the files of the day, without those of which an older night delivered a set; if each is set aside, no night is made. What is given is
-/// printed, and the status that the program ends with. A night is only kept if all nights with it continue; a stop at any moment, and a
-/// failure, leave the nights as they were, or with this one.
+/// the files of the day, without those of which an older night delivered a set and that aren't asked for again. If each is set aside, no
+/// night is made. What is given is printed, and the status that the program ends with. A night is only kept if all nights with it
+/// continue; a stop at any moment, and a failure, leave the nights as they were, or with this one.
 pub fn run_on<R, S>(rt: &R, shelf: &mut S, setting: &Setting<'_>) -> Result<Told, Failure>
 where
     R: Files + AllocGlobal + Threads + Wait + Clock + Sync + Clone + Drop,

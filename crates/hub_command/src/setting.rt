@@ -8,6 +8,8 @@ pub struct Setting<'a> {
     pub hub: &'a str,
     /// The paths of the files that came in.
     pub files: &'a [&'a str],
+    /// The paths of those that are asked for again.
+    pub again: &'a [&'a str],
     /// The date and time that everything of the night bears.
     pub at: At,
     /// What the night is called.

@@ -1,5 +1,5 @@
 -- What a hub keeps of its nights, and when a night continues from those before it (own). The newest night comes first.
-use Rattle.std.specs.Prelude.{◌≡◌, ℕ, true, false, List, [], ◌∷◌, Option, Some, None, IfSome, if◌then◌else◌}
+use Rattle.std.specs.Prelude.{◌≡◌, ℕ, true, false, not, List, [], ◌∷◌, Option, Some, None, IfSome, filter, if◌then◌else◌}
 use Rattle.std.specs.List.{AllByRecursion, flat_map}
 use Rattle.std.specs.Option.{option_or}
 use Rattle.std.specs.Str.{bytes_eq}
@@ -34,10 +34,18 @@ last_known address (night ∷ older) = option_or (known_row night (row_of addres
 abbrev pub BeginsWhereLeft : List NightEntry → AddressNumbers → Type 0
 BeginsWhereLeft older row = IfSome (last_known row.address older) (λ known. row.begun ≡ known.row.left)
 
+-- the keys of the sets that a night delivered, without those that it was asked for again
+abbrev pub fresh_keys : NightEntry → List (List ℕ)
+fresh_keys night = filter (λ key. not (contains_text night.again key)) night.delivered
+
+-- a night delivers no set that older ones delivered, but those that it was asked for again
+abbrev pub IsApart : List NightEntry → NightEntry → Type 0
+IsApart older night = (key : List ℕ) → contains_text (fresh_keys night) key ≡ true → contains_text (keys_of older) key ≡ false
+
 -- a night continues from older ones
 pub record GoesOn (older : List NightEntry) (night : NightEntry) : Type 0 where
-  -- no set goes to a receiver that had it
-  pub keys : (key : List ℕ) → contains_text night.delivered key ≡ true → contains_text (keys_of older) key ≡ false
+  -- no set goes to a receiver that had it, but one that was asked for again
+  pub keys : IsApart older night
   -- each address is numbered from where it was
   pub numbers : AllByRecursion (BeginsWhereLeft older) night.addresses
 
@@ -46,8 +54,15 @@ abbrev pub GoOn : List NightEntry → Type 0
 GoOn [] = Unit {0}
 GoOn (night ∷ older) = GoesOn older night × GoOn older
 
--- no key is delivered on two nights
+-- no key is delivered on two nights, but one that the later night was asked for again
 abbrev pub AreApart : List NightEntry → Type 0
 AreApart [] = Unit {0}
-AreApart (night ∷ older) =
-    ((key : List ℕ) → contains_text night.delivered key ≡ true → contains_text (keys_of older) key ≡ false) × AreApart older
+AreApart (night ∷ older) = IsApart older night × AreApart older
+
+-- no key is delivered on two nights
+abbrev pub IsNew : List NightEntry → NightEntry → Type 0
+IsNew older night = (key : List ℕ) → contains_text night.delivered key ≡ true → contains_text (keys_of older) key ≡ false
+
+abbrev pub AreNew : List NightEntry → Type 0
+AreNew [] = Unit {0}
+AreNew (night ∷ older) = IsNew older night × AreNew older

@@ -35,6 +35,8 @@ pub struct NightEntry {
     pub moment: Text,
     /// The keys of the sets that it delivered: where each came from, and who received it.
     pub delivered: Texts,
+    /// The keys of the sets that it was asked for again: it may deliver them although older nights did.
+    pub again: Texts,
     /// The numbers of each partner of its setup.
     pub addresses: Items<AddressNumbers>,
     /// Its files.

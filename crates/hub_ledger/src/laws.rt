@@ -1,8 +1,14 @@
-ghost use Rattle.hub_ledger.specs.Laws.{DeliversOnce, GoingOnDeliversOnce, NumbersGoOn, ShowsCommitted};
+ghost use Rattle.hub_ledger.specs.Laws.{DeliversNew, DeliversOnce, GoingOnDeliversOnce, NumbersGoOn, ShowsCommitted};
 
-/// Whatever stops the hub and whenever, no set is delivered to a receiver on two nights.
+/// Whatever stops the hub and whenever, no set is delivered to a receiver on two nights, but one that the later night was asked for
+/// again.
 pub fn delivers_once()
     ensures { DeliversOnce }
+{}
+
+/// Nights of which none was asked for a set again deliver none to a receiver twice.
+pub fn delivers_new()
+    ensures { DeliversNew }
 {}
 
 /// What may be sent is written down.
@@ -15,7 +21,8 @@ pub fn numbers_go_on()
     ensures { NumbersGoOn }
 {}
 
-/// Nights that continue deliver no set to a receiver twice, and number what an address is sent without a gap.
+/// Nights that continue deliver no set to a receiver twice, but one that was asked for again, and number what an address is sent without
+/// a gap.
 pub fn nights_that_go_on()
     ensures { GoingOnDeliversOnce }
 {}

@@ -11,7 +11,7 @@ use Rattle.hub_kinds.specs.Words.{contains_text}
 use Rattle.hub_ledger.specs.declared.entry.AddressNumbers.{AddressNumbers}
 use Rattle.hub_ledger.specs.declared.entry.FileSum.{FileSum}
 use Rattle.hub_ledger.specs.declared.entry.NightEntry.{NightEntry}
-use Rattle.hub_ledger.specs.Entries.{KnownRow, last_known}
+use Rattle.hub_ledger.specs.Entries.{KnownRow, fresh_keys, last_known}
 use Rattle.night_breaches.specs.declared.breach.Breach.{Breach}
 use Rattle.night_breaches.specs.declared.breach.Breach.TheVariants as breach
 use Rattle.night_breaches.specs.declared.breach.FileFault.{FileFault}
@@ -75,14 +75,14 @@ delivered_by key (night ∷ older) name is = first_or_later (contains_text night
           delivered = found.delivered;
         }
 
-second_broken : (limit : List ℕ) (older : List NightEntry) (night : NightEntry) (key : List ℕ) → Contains night.delivered key
+second_broken : (limit : List ℕ) (older : List NightEntry) (night : NightEntry) (key : List ℕ) → Contains (fresh_keys night) key
     → (o : Option (List ℕ)) → night_with key older ≡ o → AllByRecursion (IsBroken limit older night) (second_delivery night.name key o)
 second_broken limit older night key has None is = tt
 second_broken limit older night key has (Some earlier) is =
     let found = delivered_by key older earlier is in (
       record {
         night_is = refl;
-        delivered = is_there night.delivered key has;
+        delivered = is_there (fresh_keys night) key has;
         before = found.before;
         older_night = found.older_night;
         earlier_is = found.name_is;
@@ -194,7 +194,7 @@ night_broken : (limit : List ℕ) (older : List NightEntry) (night : NightEntry)
     → AllByRecursion (IsBroken limit older night) (breaches_on limit older night)
 night_broken limit older night =
     let P : Breach → Type 0 = IsBroken limit older night in
-    both P _ _ (flat P (λ key. second_delivery night.name key (night_with key older)) night.delivered
+    both P _ _ (flat P (λ key. second_delivery night.name key (night_with key older)) (fresh_keys night)
     (λ key has. second_broken limit older night key has (night_with key older) refl))
     (both P _ _ (flat P (λ (row : AddressNumbers). number_break night.name row (last_known row.address older)) night.addresses
     (λ row has. number_broken limit older night row has (last_known row.address older) refl))

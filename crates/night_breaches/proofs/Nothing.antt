@@ -12,7 +12,7 @@ use Rattle.hub_kinds.specs.Words.{contains_text}
 use Rattle.hub_ledger.specs.declared.entry.AddressNumbers.{AddressNumbers}
 use Rattle.hub_ledger.specs.declared.entry.FileSum.{FileSum}
 use Rattle.hub_ledger.specs.declared.entry.NightEntry.{NightEntry}
-use Rattle.hub_ledger.specs.Entries.{BeginsWhereLeft, KnownRow, keys_of, last_known}
+use Rattle.hub_ledger.specs.Entries.{BeginsWhereLeft, KnownRow, fresh_keys, keys_of, last_known}
 use Rattle.night_breaches.specs.declared.breach.Breach.{Breach}
 use Rattle.night_breaches.specs.declared.breach.FileFault.{FileFault}
 use Rattle.night_breaches.specs.declared.breach.FileFault.TheVariants as fault
@@ -225,7 +225,7 @@ none_back (Some before) night is = not_if (is_before night.moment before.moment)
 -- a night, and nights
 sound_of : (limit : List ℕ) (older : List NightEntry) (night : NightEntry) → breaches_on limit older night ≡ [] → IsSound limit older night
 sound_of limit older night none =
-    let second = second_deliveries (λ key. night_with key older) night.name night.delivered in
+    let second = second_deliveries (λ key. night_with key older) night.name (fresh_keys night) in
     let broken = number_breaks (λ address. last_known address older) night.name night.addresses in
     let wrong = wrong_files night.name night.files in
     let back = moment_back (newest older) night in
@@ -235,7 +235,7 @@ sound_of limit older night none =
     let after_wrong : back ++ late ≡ [] = right_none wrong _ after_broken in
     record {
       goes_on = record {
-        keys = keys_new older night.name night.delivered (left_none second _ none);
+        keys = keys_new older night.name (fresh_keys night) (left_none second _ none);
         numbers = all_begin older night.name night.addresses (left_none broken _ after_second);
       };
       files = all_listed night.name night.files (left_none wrong _ after_broken);
@@ -245,12 +245,12 @@ sound_of limit older night none =
 
 none_of : (limit : List ℕ) (older : List NightEntry) (night : NightEntry) → IsSound limit older night → breaches_on limit older night ≡ []
 none_of limit older night sound =
-    let second = second_deliveries (λ key. night_with key older) night.name night.delivered in
+    let second = second_deliveries (λ key. night_with key older) night.name (fresh_keys night) in
     let broken = number_breaks (λ address. last_known address older) night.name night.addresses in
     let wrong = wrong_files night.name night.files in
     let back = moment_back (newest older) night in
     let late = late_moment limit night in
-    both_none second (broken ++ (wrong ++ (back ++ late))) (none_new older night.name night.delivered sound.goes_on.keys)
+    both_none second (broken ++ (wrong ++ (back ++ late))) (none_new older night.name (fresh_keys night) sound.goes_on.keys)
     (both_none broken (wrong ++ (back ++ late)) (none_breaks older night.name night.addresses sound.goes_on.numbers)
     (both_none wrong (back ++ late) (none_wrong night.name night.files sound.files)
     (both_none back late (none_back (newest older) night sound.not_back) (not_if (is_before limit night.moment) _ sound.not_late))))

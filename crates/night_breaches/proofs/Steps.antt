@@ -6,7 +6,7 @@ use Rattle.std.specs.Prelude.{reverse}
 use Rattle.std.proofs.lemmas.List.{drop_all, drop_more, reverse-append, take_more}
 use Rattle.hub_ledger.specs.declared.entry.AddressNumbers.{AddressNumbers}
 use Rattle.hub_ledger.specs.declared.entry.NightEntry.{NightEntry}
-use Rattle.hub_ledger.specs.Entries.{KnownRow, last_known}
+use Rattle.hub_ledger.specs.Entries.{KnownRow, fresh_keys, last_known}
 use Rattle.night_breaches.specs.declared.breach.Breach.{Breach}
 use Rattle.night_breaches.specs.declared.known.Known.{Known}
 use Rattle.night_breaches.specs.Breaches.{breaches_after, breaches_by, breaches_on, last_name, late_moment, moment_back}
@@ -32,11 +32,11 @@ by_known : (known : Known) (older : List NightEntry) (limit : List ℕ) (night :
 by_known known older limit night knows =
     ap (λ (l : List Breach). l ++ (number_breaks (row_in known.rows) night.name night.addresses
     ++ (wrong_files night.name night.files ++ (moment_back (night_before known.before) night ++ late_moment limit night))))
-    (seconds_same (night_in known.nights) (λ key. night_with key older) knows.nights night.name night.delivered)
-    ∙ ap (λ (l : List Breach). second_deliveries (λ key. night_with key older) night.name night.delivered
+    (seconds_same (night_in known.nights) (λ key. night_with key older) knows.nights night.name (fresh_keys night))
+    ∙ ap (λ (l : List Breach). second_deliveries (λ key. night_with key older) night.name (fresh_keys night)
     ++ (l ++ (wrong_files night.name night.files ++ (moment_back (night_before known.before) night ++ late_moment limit night))))
     (breaks_same (row_in known.rows) (λ address. last_known address older) knows.rows night.name night.addresses)
-    ∙ ap (λ (o : Option NightEntry). second_deliveries (λ key. night_with key older) night.name night.delivered
+    ∙ ap (λ (o : Option NightEntry). second_deliveries (λ key. night_with key older) night.name (fresh_keys night)
     ++ (number_breaks (λ address. last_known address older) night.name night.addresses
     ++ (wrong_files night.name night.files ++ (moment_back o night ++ late_moment limit night)))) knows.before
 

@@ -9,7 +9,7 @@ use Rattle.hub_kinds.specs.Words.{contains_text}
 use Rattle.hub_ledger.specs.declared.entry.AddressNumbers.{AddressNumbers}
 use Rattle.hub_ledger.specs.declared.entry.FileSum.{FileSum}
 use Rattle.hub_ledger.specs.declared.entry.NightEntry.{NightEntry}
-use Rattle.hub_ledger.specs.Entries.{KnownRow, last_known}
+use Rattle.hub_ledger.specs.Entries.{KnownRow, fresh_keys, last_known}
 use Rattle.night_breaches.specs.declared.breach.Breach.{Breach}
 use Rattle.night_breaches.specs.declared.breach.Breach.TheVariants as breach
 use Rattle.night_breaches.specs.declared.breach.FileFault.{FileFault}
@@ -24,7 +24,7 @@ abbrev pub second_delivery : (night key : List ℕ) → (earlier : Option (List 
 second_delivery night key None = []
 second_delivery night key (Some earlier) = breach.DeliveredTwice (record { night = night; key = key; earlier = earlier }) ∷ []
 
--- the sets of a night that were delivered before, by the last night that delivered a key
+-- the sets of these keys that were delivered before, by the last night that delivered a key
 abbrev pub second_deliveries : (with : List ℕ → Option (List ℕ)) → (night : List ℕ) → (keys : List (List ℕ)) → List Breach
 second_deliveries with night keys = flat_map (λ key. second_delivery night key (with key)) keys
 
@@ -92,7 +92,7 @@ newest (night ∷ older) = Some night
 abbrev pub breaches_by : (with : List ℕ → Option (List ℕ)) → (known : List ℕ → Option KnownRow) → (before : Option NightEntry)
     → (limit : List ℕ) → NightEntry → List Breach
 breaches_by with known before limit night =
-    second_deliveries with night.name night.delivered
+    second_deliveries with night.name (fresh_keys night)
     ++ (number_breaks known night.name night.addresses
     ++ (wrong_files night.name night.files ++ (moment_back before night ++ late_moment limit night)))
 

@@ -4,7 +4,7 @@ use Rattle.hub_kinds.specs.Words.{contains_text}
 use Rattle.hub_ledger.specs.declared.entry.AddressNumbers.{AddressNumbers}
 use Rattle.hub_ledger.specs.declared.entry.FileSum.{FileSum}
 use Rattle.hub_ledger.specs.declared.entry.NightEntry.{NightEntry}
-use Rattle.hub_ledger.specs.Entries.{KnownRow, last_known}
+use Rattle.hub_ledger.specs.Entries.{KnownRow, fresh_keys, last_known}
 use Rattle.night_breaches.specs.declared.breach.Breach.{Breach}
 use Rattle.night_breaches.specs.declared.breach.Breach.TheVariants as breach
 use Rattle.night_breaches.specs.declared.breach.FileFault.{FileFault}
@@ -16,10 +16,10 @@ use Rattle.night_breaches.specs.declared.breach.SecondDelivery.{SecondDelivery}
 use Rattle.night_breaches.specs.declared.breach.WrongFile.{WrongFile}
 use Rattle.night_breaches.specs.Breaches.{is_before, newest}
 
--- a set of a night that an older one delivered, too
+-- a set of a night that an older one delivered, too, and that wasn't asked for again
 pub record WasDelivered (older : List NightEntry) (night : NightEntry) (b : SecondDelivery) : Type 0 where
   pub night_is : b.night ≡ night.name
-  pub delivered : contains_text night.delivered b.key ≡ true
+  pub delivered : contains_text (fresh_keys night) b.key ≡ true
   pub before : NightEntry
   pub older_night : Contains older before
   pub earlier_is : b.earlier ≡ before.name

@@ -25,7 +25,7 @@ pub fn breaches<'a>(
     let mut known = nothing_known(alloc);
     for i in 0..nights.len() {
         let night = &nights[i];
-        add_breaches(&mut found, &known, limit, night)?;
+        add_breaches(alloc, &mut found, &known, limit, night)?;
         add_night(&mut known, night)?;
     }
     Ok(found)

@@ -3,8 +3,8 @@
 //! Proved:
 //! - `breaches` gives just what the definition says, night by night (`found`);
 //! - it gives none exactly if the nights are sound (`none`): each continues from those before it (no set is delivered to a receiver on two
-//!   nights, the numbers of each address begin where the last night that knows it left them), each file has the sum that was listed,
-//!   no moment is before that of the night before, and none is after the limit;
+//!   nights, but one that the later night was asked for again; the numbers of each address begin where the last night that knows it left
+//!   them), each file has the sum that was listed, no moment is before that of the night before, and none is after the limit;
 //! - what it gives is broken: it names nights that are there in this order, and what they have breaks that rule (`each`);
 //! - sound nights are nights of `hub_ledger` that continue (`sound_nights_go_on`);
 //! - `last_breach` says exactly whether the last night is another one than the one that is named last;

@@ -1,14 +1,16 @@
 //! What a night breaks, rule by rule.
-ghost use Rattle.std.specs.Prelude.{◌≡◌, ◌++◌, ◌∷◌, ℕ, List, OnOk, option_map};
+ghost use Rattle.std.specs.Prelude.{◌≡◌, ◌++◌, ◌∷◌, ℕ, List, IfOk, OnOk, filter, is_some, map, not, option_map};
+ghost use Rattle.hub_ledger.specs.Entries.{fresh_keys};
 ghost use Rattle.night_breaches.specs.Breaches as spec;
 ghost use Rattle.night_breaches.specs.Known.{known_of, night_before, night_in, row_in};
 
 use crate::breach::{
     Breach, FileFault, LateMoment, MomentBack, NumberBreak, SecondDelivery, WrongFile,
 };
-use crate::known::{Known, RowOfNight, night_with, row_of};
+use crate::known::{Known, RowOfNight, add_keys, night_with, row_of};
 use hub_kinds::{Counters, Lent, NoMemory, Text};
 use hub_ledger::{AddressNumbers, FileSum, NightEntry};
+use std::alloc::Global;
 use std::cmp::Ordering;
 use std::collections::BTreeMap;
 
@@ -31,18 +33,46 @@ fn add_second_delivery<'a>(
     Ok(())
 }
 
-/// Adds the sets of a night that were delivered before.
+/// The keys of a night that it wasn't asked for again, of which the map `again` has the others.
+fn keys_without<'a>(
+    alloc: Global,
+    again: &BTreeMap<&'a [u8], &'a [u8]>,
+    keys: &'a [Text],
+) -> Result<Vec<&'a [u8]>, NoMemory>
+    ensures { IfOk result (λ fresh. map (λ key. key.now) fresh.items
+        ≡ filter (λ key. not (is_some (night_in again.now key))) keys.entry.now) }
+{
+    let mut fresh = Vec::new(alloc);
+    for i in 0..keys.len() {
+        let key = keys[i].as_slice();
+        if night_with(again, key).is_none() {
+            fresh.push(key)?;
+        }
+    }
+    Ok(fresh)
+}
+
+/// The keys of the sets that a night delivered, without those that it was asked for again.
+fn fresh_keys<'a>(alloc: Global, night: &'a NightEntry) -> Result<Vec<&'a [u8]>, NoMemory>
+    ensures { IfOk result (λ keys. map (λ key. key.now) keys.items ≡ fresh_keys night.entry.now) }
+{
+    let mut again = BTreeMap::new(alloc);
+    add_keys(&mut again, night.name.as_slice(), night.again.as_slice())?;
+    keys_without(alloc, &again, night.delivered.as_slice())
+}
+
+/// Adds the sets of these keys that were delivered before.
 fn add_second_deliveries<'a>(
     found: &mut Vec<Breach<'a>>,
     nights: &BTreeMap<&'a [u8], &'a [u8]>,
     night: &'a [u8],
-    keys: &'a [Text],
+    keys: &[&'a [u8]],
 ) -> Result<(), NoMemory>
     ensures { OnOk result (found.new.items
-        ≡ found.old.items ++ spec.second_deliveries (night_in nights.now) night.entry.now keys.entry.now) }
+        ≡ found.old.items ++ spec.second_deliveries (night_in nights.now) night.entry.now (map (λ key. key.now) keys.now)) }
 {
     for i in 0..keys.len() {
-        let key = keys[i].as_slice();
+        let key = keys[i];
         add_second_delivery(found, night, key, night_with(nights, key))?;
     }
     Ok(())
@@ -194,6 +224,7 @@ fn add_late_moment<'a>(
 
 /// Adds what a night breaks, by what is known of those before it.
 pub(crate) fn add_breaches<'a>(
+    alloc: Global,
     found: &mut Vec<Breach<'a>>,
     known: &Known<'a>,
     limit: &[u8],
@@ -203,7 +234,8 @@ pub(crate) fn add_breaches<'a>(
         ++ spec.breaches_by (night_in known.now.nights) (row_in known.now.rows) (night_before known.now.before) limit.now night.entry.now) }
 {
     let name = night.name.as_slice();
-    add_second_deliveries(found, &known.nights, name, night.delivered.as_slice())?;
+    let keys = fresh_keys(alloc, night)?;
+    add_second_deliveries(found, &known.nights, name, keys.as_slice())?;
     add_number_breaks(found, &known.rows, name, night.addresses.as_slice())?;
     add_wrong_files(found, name, night.files.as_slice())?;
     add_moment_back(found, known.before, night)?;

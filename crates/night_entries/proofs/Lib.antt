@@ -1,3 +1,4 @@
+mod Asking
 pub mod BadRows
 pub mod BadSums
 pub mod Naming

@@ -9,6 +9,7 @@ use Rattle.partner_setup.specs.SetupFile.{setup_of_table}
 use Rattle.partner_setup.specs.declared.rows.CounterRow.{CounterRow}
 use Rattle.partner_setup.specs.declared.rows.SetupRows.{SetupRows}
 use Rattle.hub_ledger.specs.declared.entry.NightEntry.{NightEntry}
+use Rattle.night_entries.specs.Again.{AreAgainKeys}
 use Rattle.night_entries.specs.Files.{files_of, given_names, sum_line}
 use Rattle.night_entries.specs.Good.{is_moment, is_row}
 use Rattle.night_entries.specs.Keys.{delivered_keys, receiver_named}
@@ -42,4 +43,5 @@ pub record IsEntry (papers : Papers) (entry : NightEntry) : Type 0 where
   pub addresses_are : entry.addresses ≡ address_rows begun left setup.partners
   pub rows : list_all (is_row papers.input.now (receiver_named entry.addresses)) table ≡ true
   pub delivered_are : entry.delivered ≡ delivered_keys papers.input.now entry.addresses table
+  pub again_are : AreAgainKeys papers.again.now entry.again
   pub files_are : entry.files ≡ files_of (given_names entry.addresses) listed papers.found.now

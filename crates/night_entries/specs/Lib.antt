@@ -1,3 +1,4 @@
+pub mod Again
 pub mod Entry
 pub mod Files
 pub mod Good

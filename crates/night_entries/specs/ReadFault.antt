@@ -6,6 +6,9 @@ use Rattle.csv.specs.declared.error.ErrorKind.TheVariants as kind
 use Rattle.toml_keys.specs.Refusals.{Refusal}
 use Rattle.toml_keys.specs.declared.file_fault.FileFault.{FileFault}
 use Rattle.toml_keys.specs.declared.file_fault.FileFault.TheVariants as file
+use Rattle.night_record.specs.declared.fault.TableFault.{TableFault}
+use Rattle.night_record.specs.declared.fault.TableFault.TheVariants as table
+use Rattle.night_entries.specs.Again.{IsNoTable}
 use Rattle.night_entries.specs.Refused.{IsFileRefused}
 use Rattle.night_entries.specs.declared.fault.EntryFault.{EntryFault}
 use Rattle.night_entries.specs.declared.fault.EntryFault.TheVariants as fault
@@ -34,6 +37,18 @@ IsSumFault bad (fault.Unreadable other) = (other ≡ paper.Sums) × bad
 abbrev pub IsTrackFault : (good : Bool) → EntryFault → Type 0
 IsTrackFault good fault.Memory = ⊤
 IsTrackFault good (fault.Unreadable other) = (other ≡ paper.Track) × (good ≡ false)
+
+-- out of memory, or the sets that were asked for again, whose table the bytes aren't
+abbrev pub IsAgainFault : (bytes : List ℕ) → EntryFault → Type 0
+IsAgainFault bytes fault.Memory = ⊤
+IsAgainFault bytes (fault.Unreadable other) = (other ≡ paper.Again) × IsNoTable bytes
+
+-- a table of sets that were asked for again
+abbrev pub again_fault : TableFault → EntryFault
+again_fault table.Memory = fault.Memory
+again_fault table.Columns = fault.Unreadable paper.Again
+again_fault table.Rows = fault.Unreadable paper.Again
+again_fault table.Order = fault.Unreadable paper.Again
 
 -- a table; a reader of bytes that are there fails in no other way
 abbrev pub table_fault : ErrorKind → EntryFault

@@ -11,6 +11,7 @@ use Rattle.partner_setup.specs.CountersFile.{counters_of_table}
 use Rattle.partner_setup.specs.SetupFile.{setup_of_table}
 use Rattle.partner_setup.specs.declared.rows.CounterRow.{CounterRow}
 use Rattle.partner_setup.specs.declared.rows.SetupRows.{SetupRows}
+use Rattle.night_entries.specs.Again.{IsNoTable}
 use Rattle.night_entries.specs.Entry.{AreCounters, IsSetup}
 use Rattle.night_entries.specs.Files.{sum_line}
 use Rattle.night_entries.specs.Good.{has_byte, is_moment, is_row, is_sum_line}
@@ -56,6 +57,7 @@ IsRefused papers paper.Counters = IsFileRefused counters_of_table papers.counter
 IsRefused papers paper.NextCounters = IsFileRefused counters_of_table papers.next_counters.now
 IsRefused papers paper.Sums = HasBadSum papers.sums.now
 IsRefused papers paper.Track = HasBadRow papers
+IsRefused papers paper.Again = IsNoTable papers.again.now
 
 abbrev pub IsEntryFault : Papers → EntryFault → Type 0
 IsEntryFault papers fault.Memory = ⊤

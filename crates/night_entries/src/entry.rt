@@ -7,6 +7,7 @@ ghost use Rattle.night_entries.specs.declared.fault.Paper.TheVariants as paper;
 ghost use Rattle.partner_setup.specs.CountersFile.{counters_of_table};
 ghost use Rattle.partner_setup.specs.SetupFile.{setup_of_table};
 
+use crate::again::again_keys;
 use crate::fault::{EntryFault, Paper};
 use crate::files::{NamedSum, files_of};
 use crate::key::delivered_keys;
@@ -35,6 +36,8 @@ pub struct Papers<'a> {
     pub input: &'a [u8],
     /// The table of its sets.
     pub track: &'a [u8],
+    /// The table of the sets that it was asked for again; empty if there is none.
+    pub again: &'a [u8],
     /// The sums of the files that are there.
     pub found: &'a [NamedSum],
 }
@@ -80,7 +83,7 @@ fn is_moment(text: &[u8]) -> bool
 }
 
 /// What is kept of a night, by `papers`. Errors: the first file that isn't what a night leaves, in the order moment, setup, counters, next
-/// counters, sums and table; or out of memory.
+/// counters, sums, table and what was asked for again; or out of memory.
 pub fn entry_of(alloc: Global, papers: &Papers<'_>) -> Result<NightEntry, EntryFault>
     ensures entry { IfOk result (IsEntry papers.now) }
     ensures refused { IfErr result (IsEntryFault papers.now) }
@@ -100,11 +103,13 @@ pub fn entry_of(alloc: Global, papers: &Papers<'_>) -> Result<NightEntry, EntryF
         left.as_slice(),
     )?;
     let delivered = delivered_keys(alloc, papers.input, rows.as_slice(), table.as_slice())?;
+    let again = again_keys(alloc, papers.again)?;
     let files = files_of(alloc, rows.as_slice(), listed.as_slice(), papers.found)?;
     Ok(NightEntry {
         name: copy_text(alloc, papers.name)?,
         moment: copy_text(alloc, papers.moment)?,
         delivered: Items::from_vec(delivered),
+        again: Items::from_vec(again),
         addresses: Items::from_vec(rows),
         files: Items::from_vec(files),
     })

@@ -11,6 +11,8 @@ pub enum Paper {
     NextCounters,
     Sums,
     Track,
+    /// The sets that it was asked for again.
+    Again,
 }
 
 /// Why there isn't an entry.

@@ -6,6 +6,7 @@
 //!   the night and those that it left have under the partner's name;
 //! - it has the key of each row of the table that says delivered, in their order: ISA05 to ISA08 and ISA13 at the row's offset in the
 //!   input, the row's GS06 and ST02, and the address of its receiver;
+//! - it has the keys of the sets that the night was asked for again, in the order of their table; none if the table is empty;
 //! - it has a file for each name that the night gives, that its sums list or that was found, with what is listed and the sum found;
 //! - sums that are read are written as the bytes that they were read from (`read_sums`); the sum of bytes is their SHA-256 (`sum_of`).
 //!
@@ -14,6 +15,7 @@
 //! Source: own; X12.5, interchange control header; RFC 4180; FIPS 180-4.
 #![tactic(auto)]
 
+mod again;
 mod entry;
 mod fault;
 mod files;

@@ -57,6 +57,7 @@ pub record AreMadeOfAt (folder : List ℕ) (made : MadeOf) : Type 0 where
   pub counters : made.counters.path ≡ path_in folder (codes "from/counters.toml")
   pub input : made.input.path ≡ path_in folder (codes "from/in.x12")
   pub input_sum : made.input_sum.path ≡ path_in folder (codes "from/in.sum")
+  pub again : made.again.path ≡ path_in folder (codes "from/again.csv")
 
 -- the files that a night left, and the sums of what it gave
 pub record AreLeftAt (folder : List ℕ) (left : Left) : Type 0 where
@@ -107,6 +108,7 @@ pub record ArePapersOf (mark : NightMark) (files : NightFiles) (papers : Papers)
   pub sums : papers.sums.now ≡ bytes_or_none files.left.sums.bytes
   pub input : papers.input.now ≡ bytes_or_none files.made.input.bytes
   pub track : papers.track.now ≡ bytes_or_none files.left.track.bytes
+  pub again : papers.again.now ≡ bytes_or_none files.made.again.bytes
   pub found : papers.found.now ≡ sums_or_none files.left.found
 
 abbrev pub is_as_summed : MadeOf → Bool
@@ -133,6 +135,7 @@ IsWrong mark files file.Setup = IsRefusedIn mark files paper.Setup
 IsWrong mark files file.Counters = IsRefusedIn mark files paper.Counters
 IsWrong mark files file.Input = is_as_summed files.made ≡ false
 IsWrong mark files file.InputSum = ⊥
+IsWrong mark files file.Again = IsRefusedIn mark files paper.Again
 IsWrong mark files file.NextCounters = IsRefusedIn mark files paper.NextCounters
 IsWrong mark files file.Sums = IsRefusedIn mark files paper.Sums
 IsWrong mark files file.Track = IsRefusedIn mark files paper.Track

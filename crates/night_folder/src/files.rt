@@ -16,6 +16,8 @@ pub struct MadeOf {
     pub input: PaperAt,
     /// The sum of its input.
     pub input_sum: PaperAt,
+    /// The sets that it was asked for again; a night without this file was asked for none.
+    pub again: PaperAt,
 }
 
 /// The files that a night left.
@@ -46,6 +48,7 @@ fn read_made_of<R: Files + AllocGlobal>(rt: &R, folder: &[u8]) -> Result<MadeOf,
         counters: read_paper(rt, folder, b"from/counters.toml")?,
         input: read_paper(rt, folder, b"from/in.x12")?,
         input_sum: read_paper(rt, folder, b"from/in.sum")?,
+        again: read_paper(rt, folder, b"from/again.csv")?,
     })
 }
 

@@ -113,6 +113,7 @@ fn papers_of<'a>(mark: &'a NightMark, files: &'a NightFiles) -> Papers<'a>
         sums: files.left.sums.bytes_or_none(),
         input: files.made.input.bytes_or_none(),
         track: files.left.track.bytes_or_none(),
+        again: files.made.again.bytes_or_none(),
         found: sums_or_none(&files.left),
     }
 }
@@ -135,6 +136,7 @@ fn file_of(paper: Paper) -> NightFile
         Paper::NextCounters => NightFile::NextCounters,
         Paper::Sums => NightFile::Sums,
         Paper::Track => NightFile::Track,
+        Paper::Again => NightFile::Again,
     }
 }
 

@@ -13,6 +13,8 @@ pub enum NightFile {
     Input,
     /// Where the sum of its input is written.
     InputSum,
+    /// The sets that it was asked for again.
+    Again,
     Out,
 }
 

@@ -1,3 +1,4 @@
+mod AgainRows
 mod Appended
 mod Begun
 mod Between

@@ -1,8 +1,10 @@
 -- What is written has one reading (own).
 use Rattle.std.specs.Prelude.{◌≡◌, true, List}
+use Rattle.night_record.specs.Again.{again_text}
 use Rattle.night_record.specs.Record.{CanBe, record_text}
 use Rattle.night_record.specs.Tables.{addresses_text, are_addresses, taken_text}
 use Rattle.night_record.specs.declared.addresses.AddressNext.{AddressNext}
+use Rattle.night_record.specs.declared.again.AgainSet.{AgainSet}
 use Rattle.night_record.specs.declared.record.NightRecord.{NightRecord}
 use Rattle.night_record.specs.declared.taken.TakenInterchange.{TakenInterchange}
 
@@ -16,3 +18,6 @@ TakenReadBack = (list other : List TakenInterchange) → taken_text list ≡ tak
 abbrev pub AddressesReadBack : Type 0
 AddressesReadBack = (list other : List AddressNext) → are_addresses list ≡ true → are_addresses other ≡ true
     → addresses_text list ≡ addresses_text other → list ≡ other
+
+abbrev pub AgainReadsBack : Type 0
+AgainReadsBack = (list other : List AgainSet) → again_text list ≡ again_text other → list ≡ other

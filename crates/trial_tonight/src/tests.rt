@@ -36,6 +36,7 @@ fn night_of(alloc: Global, left: Counters) -> Result<NightEntry, Fail> {
         name: copy_text(alloc, b"mon")?,
         moment: copy_text(alloc, b"202602281530")?,
         delivered: Items::from_vec(Vec::new(alloc)),
+        again: Items::from_vec(Vec::new(alloc)),
         addresses: Items::from_vec(rows),
         files: Items::from_vec(Vec::new(alloc)),
     })

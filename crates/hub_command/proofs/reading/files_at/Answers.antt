@@ -11,6 +11,6 @@ loop-i-preserved g c =
     let path : Bor (List ℕ) → List ℕ = λ (p : Bor (List ℕ)). p.now in
     let none : Bor (List ℕ) = record { ref_ptr = (0, 0); now = [] } in
     let low : c.loop-i.i < length paths = c.loop-i-test.true in
-    subst (AllZip IsFileAt (map path (take (c.loop-i.i + 1) paths))) (sym c.in_ok-push.ensures)
-    (zip_mapped path IsFileAt paths c.loop-i.files.items c.loop-i.i none c.in_ok-file_at.field-0 low c.loop-i.invariant
+    subst (AllZip (IsFileAt c.args.is_again) (map path (take (c.loop-i.i + 1) paths))) (sym c.in_ok-push.ensures)
+    (zip_mapped path (IsFileAt c.args.is_again) paths c.loop-i.files.items c.loop-i.i none c.in_ok-file_at.field-0 low c.loop-i.invariant
     c.in_ok-file_at.ensures.file)

@@ -4,4 +4,4 @@ use Rattle.hub_command.specs.Day.{IsFileAt}
 use Rattle.hub_command.proofs.reading.files_at.Given as goal
 
 abbrev pub invariant-loop-i : goal.invariant-loop-i
-invariant-loop-i g l = AllZip IsFileAt (map (λ p. p.now) (take l.i l.paths)) l.files.items
+invariant-loop-i g l = AllZip (IsFileAt l.is_again) (map (λ p. p.now) (take l.i l.paths)) l.files.items

@@ -7,4 +7,5 @@ returns g c =
       counters = c.in_ok-read_paper-2.ensures;
       input = c.in_ok-read_paper-3.ensures;
       input_sum = c.in_ok-read_paper-4.ensures;
+      again = c.in_ok-read_paper-5.ensures;
     }
