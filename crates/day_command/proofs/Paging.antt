@@ -2,7 +2,7 @@
 use Rattle.std.proofs.Common.{◌≡◌, ◌∙◌, ◌↔◌, ℕ, List, Option, Some, true, ap, subst}
 use Rattle.std.specs.Prelude.{codes}
 use Rattle.night_ends.specs.Outbox.{path_in}
-use Rattle.night_folder.specs.Files.{FileValue, bytes_or_none}
+use Rattle.night_folder.specs.Files.{FileValue}
 use Rattle.night_page.specs.Page.{IsPage, PageValue, has_todo}
 use Rattle.night_page.specs.Rows.{Row}
 use Rattle.night_page.specs.declared.record.RecordShown.{RecordShown}
@@ -36,8 +36,7 @@ pub paged : (nights name text : List ℕ) (status : ℕ) (folder : List ℕ) (at
     → files.path ≡ path_in folder (codes "files.txt")
     → table.path ≡ path_in folder (codes "track.csv") → table.bytes ≡ Some bytes → IsTable bytes rows → ArePartnersAt folder partners
     → IsShownAt folder shown
-    → made ≡ page_value name (record { at = bytes_or_none at.bytes; total = bytes_or_none total.bytes; files = files.bytes }) rows partners
-        shown
+    → made ≡ page_value name at total files rows partners shown
     → IsPage head foot made text → (status ≡ 1) ↔ (has_todo made ≡ true) → IsPageReport nights name text status
 paged nights name text status folder at total files table bytes rows partners shown head foot made is at_is total_is files_are table_is
     bytes_are rows_are partners_are shown_is made_is page todo = record {

@@ -62,18 +62,13 @@ abbrev pub IsOneMore : (night : List ℕ) → Option (List ℕ) → (old new : L
 IsOneMore night None old new = new ≡ old
 IsOneMore night (Some partner) old new = (told : PartnerTold) × (new ≡ old ++ told ∷ []) × IsToldAt night partner told
 
--- what the page of a night is made of: its name, and the bytes of its files
-pub record PageFiles : Type 0 where
-  pub at : List ℕ
-  pub total : List ℕ
-  pub files : Option (List ℕ)
-
-abbrev pub page_value : (name : List ℕ) → PageFiles → List Row → List PartnerTold → Option RecordShown → PageValue
-page_value name of rows partners shown = record {
+-- what the page of a night is made of
+abbrev pub page_value : (name : List ℕ) → (at total files : FileValue) → List Row → List PartnerTold → Option RecordShown → PageValue
+page_value name at total files rows partners shown = record {
   night = name;
-  moment = first_line of.at;
-  total = first_line of.total;
-  files = of.files;
+  moment = first_line (bytes_or_none at.bytes);
+  total = first_line (bytes_or_none total.bytes);
+  files = files.bytes;
   rows = rows;
   partners = partners;
   shown = shown;
@@ -98,8 +93,7 @@ pub record IsPageReport (nights name text : List ℕ) (status : ℕ) : Type 0 wh
   pub shown : Option RecordShown
   pub shown_is : IsShownAt (path_in nights name) shown
   pub value : PageValue
-  pub value_is : value ≡ page_value name
-      (record { at = bytes_or_none at.bytes; total = bytes_or_none total.bytes; files = files.bytes }) rows partners shown
+  pub value_is : value ≡ page_value name at total files rows partners shown
   pub head : List ℕ
   pub foot : List ℕ
   pub page : IsPage head foot value text

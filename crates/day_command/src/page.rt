@@ -57,15 +57,17 @@ pub(crate) fn page_of<R: Files + AllocGlobal + Clone + Drop>(
     };
     let partners = partners_at(rt, night)?;
     let shown = record_at(rt, night)?;
+    let said = files.bytes();
+    let seen = shown.as_ref();
     let mut text = Vec::new(alloc);
     let page = NightPage {
         night: name.as_bytes(),
         moment: first_line(at.bytes_or_none()),
         total: first_line(total.bytes_or_none()),
-        files: files.bytes(),
+        files: said,
         rows: rows.as_slice(),
         partners: partners.as_slice(),
-        record: shown.as_ref(),
+        record: seen,
     };
     let todo = append_page(alloc, &mut text, HEAD.as_bytes(), FOOT.as_bytes(), &page)?;
     Ok(Report {

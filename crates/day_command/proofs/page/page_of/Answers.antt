@@ -18,8 +18,8 @@ returns-clause-report g c =
     let rows = map fields_of c.in-Some-2.rows.items in
     let head : List ℕ = c.as_bytes-4.result.now in
     let foot : List ℕ = c.as_bytes-5.result.now in
-    let files : Option (List ℕ) = option_map (λ (b : Bor (List ℕ)). b.now) c.bytes-2.result in
-    let seen : Option RecordShown = option_map (λ (r : Bor RecordShown). r.now) c.as_ref.result in
+    let files : Option (List ℕ) = option_map (λ (b : Bor (List ℕ)). b.now) c.bytes-said.result in
+    let seen : Option RecordShown = option_map (λ (r : Bor RecordShown). r.now) c.as_ref-seen.result in
     let made = value c.as_bytes-3.result.now c.first_line.result.now c.first_line-2.result.now files
     (map fields_of c.as_slice.result.now) c.as_slice-2.result.now seen in
     let page = c.in_ok-todo.ensures.page in
@@ -37,7 +37,7 @@ returns-clause-report g c =
     (map fields_of c.as_slice.result.now) rows
     c.as_slice-2.result.now c.in_ok-partners.partners.items seen c.in_ok-shown.shown c.as_bytes-3.ensures.value
     (c.first_line.ensures ∙ ap first_line c.bytes_or_none.ensures) (c.first_line-2.ensures ∙ ap first_line c.bytes_or_none-2.ensures)
-    c.bytes-2.ensures
-    (ap (map fields_of) c.as_slice.ensures.value) c.as_slice-2.ensures.value c.as_ref.ensures)
+    c.bytes-said.ensures
+    (ap (map fields_of) c.as_slice.ensures.value) c.as_slice-2.ensures.value c.as_ref-seen.ensures)
     (subst (λ (t : List ℕ). IsPage head foot made t) (sym text_is) page.2)
     (λ one. sym todo ∙ c.status_of.ensures.one.0 one, λ has. c.status_of.ensures.one.1 (todo ∙ has))
