@@ -27,7 +27,7 @@ loop-i-preserved c =
     let fit : Bool = c.loop-i.fit in
     let first = c.parted.ensures.first ∙ ap (λ l. take n l) c.rest_from-rest.ensures in
     let last = c.parted.ensures.others ∙ ap (λ l. drop n l) c.rest_from-rest.ensures in
-    ap (λ (b : Bool). b && groups_fit (drop (i + 1) groups) (map f (drop (length rows - length after) rows))) c.both.ensures
+    ap (λ (b : Bool). b && groups_fit (drop (i + 1) groups) (map f (drop (length rows - length after) rows))) c.both-fit.ensures
     ∙ ap (λ l. (c.sets_fit.result && fit) && groups_fit (drop (i + 1) groups) (map f l))
     (rest_at rows rest after c.loop-i.at n refl last)
     ∙ both_fit c.sets_fit.result one fit others (groups_fit (drop i groups) (map f rest)) _ c.sets_fit.ensures
