@@ -3,4 +3,5 @@ pub mod Export
 pub mod Failure
 pub mod Outcome
 pub mod Page
+pub mod Record
 pub mod Tables

@@ -9,8 +9,10 @@ use Rattle.night_ends.specs.Outbox.{path_in}
 use Rattle.night_folder.specs.Files.{FileValue, FolderValue, bytes_or_none, first_line}
 use Rattle.night_page.specs.Page.{IsPage, PageValue, has_todo}
 use Rattle.night_page.specs.Rows.{Row}
+use Rattle.night_page.specs.declared.record.RecordShown.{RecordShown}
 use Rattle.night_page.specs.declared.told.PartnerTold.{PartnerTold}
 use Rattle.track_tables.specs.Table.{IsTable}
+use Rattle.day_command.specs.Record.{IsShownAt}
 
 -- the partner whose acknowledgments a file has, by its name
 abbrev pub partner_of : (name : List ℕ) → Option (List ℕ)
@@ -61,9 +63,16 @@ IsOneMore night None old new = new ≡ old
 IsOneMore night (Some partner) old new = (told : PartnerTold) × (new ≡ old ++ told ∷ []) × IsToldAt night partner told
 
 -- what the page of a night is made of
-abbrev pub page_value : (name at total : List ℕ) → List Row → List PartnerTold → PageValue
-page_value name at total rows partners =
-    record { night = name; moment = first_line at; total = first_line total; rows = rows; partners = partners }
+abbrev pub page_value : (name : List ℕ) → (at total files : FileValue) → List Row → List PartnerTold → Option RecordShown → PageValue
+page_value name at total files rows partners shown = record {
+  night = name;
+  moment = first_line (bytes_or_none at.bytes);
+  total = first_line (bytes_or_none total.bytes);
+  files = files.bytes;
+  rows = rows;
+  partners = partners;
+  shown = shown;
+}
 
 -- the page of a night by its files, and the status: 1 exactly if there is something to do at the hub
 pub record IsPageReport (nights name text : List ℕ) (status : ℕ) : Type 0 where
@@ -71,6 +80,8 @@ pub record IsPageReport (nights name text : List ℕ) (status : ℕ) : Type 0 wh
   pub at_is : at.path ≡ path_in (path_in nights name) (codes "from/at")
   pub total : FileValue
   pub total_is : total.path ≡ path_in (path_in nights name) (codes "total")
+  pub files : FileValue
+  pub files_are : files.path ≡ path_in (path_in nights name) (codes "files.txt")
   pub table : FileValue
   pub table_is : table.path ≡ path_in (path_in nights name) (codes "track.csv")
   pub bytes : List ℕ
@@ -79,7 +90,11 @@ pub record IsPageReport (nights name text : List ℕ) (status : ℕ) : Type 0 wh
   pub rows_are : IsTable bytes rows
   pub partners : List PartnerTold
   pub partners_are : ArePartnersAt (path_in nights name) partners
+  pub shown : Option RecordShown
+  pub shown_is : IsShownAt (path_in nights name) shown
+  pub value : PageValue
+  pub value_is : value ≡ page_value name at total files rows partners shown
   pub head : List ℕ
   pub foot : List ℕ
-  pub page : IsPage head foot (page_value name (bytes_or_none at.bytes) (bytes_or_none total.bytes) rows partners) text
-  pub todo : (status ≡ 1) ↔ (has_todo (page_value name (bytes_or_none at.bytes) (bytes_or_none total.bytes) rows partners) ≡ true)
+  pub page : IsPage head foot value text
+  pub todo : (status ≡ 1) ↔ (has_todo value ≡ true)

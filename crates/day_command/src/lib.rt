@@ -12,8 +12,9 @@
 //!   the text and each table was read; else with 1;
 //! - export prints one CSV of the rows of all tables that were read, each with its night, and names the others on standard error. It ends
 //!   with 0 exactly if each table was read; else with 1;
-//! - page prints the page of the definition on one night, of its table and of the acknowledgments in its folder out/. It ends with 1
-//!   exactly if there is something to do at the hub, and with 4 if the table or the folder can't be read;
+//! - page prints the page of the definition on one night, of its table, of the acknowledgments in its folder out/, and of its files
+//!   files.txt and night.toml, if it has them. It ends with 1 exactly if there is something to do at the hub, and with 4 if the table or
+//!   the folder can't be read;
 //! - it ends with 2 only if the arguments are wrong, and prints nothing on standard output if the folder or the clock can't be read, or if
 //!   memory is refused; with 0 or 1 nothing but an export prints on standard error;
 //! - the line of a failure is the one that belongs to it, and so is its status.
@@ -32,6 +33,7 @@ mod failure;
 mod find;
 mod mistake;
 mod page;
+mod record;
 mod run;
 mod tables;
 mod told;

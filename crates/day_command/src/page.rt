@@ -4,6 +4,7 @@ ghost use Rattle.day_command.specs.Failure.{IsBefore};
 ghost use Rattle.day_command.specs.Page.{IsPageReport};
 
 use crate::failure::Failure;
+use crate::record::record_at;
 use crate::told::partners_at;
 use hub_kinds::NoMemory;
 use night_folder::{first_line, read_paper};
@@ -46,6 +47,7 @@ pub(crate) fn page_of<R: Files + AllocGlobal + Clone + Drop>(
     let night = path.as_slice();
     let at = read_paper(rt, night, b"from/at")?;
     let total = read_paper(rt, night, b"total")?;
+    let files = read_paper(rt, night, b"files.txt")?;
     let table = read_paper(rt, night, b"track.csv")?;
     let Some(bytes) = table.bytes() else {
         return Err(Failure::Night);
@@ -54,13 +56,18 @@ pub(crate) fn page_of<R: Files + AllocGlobal + Clone + Drop>(
         return Err(Failure::Night);
     };
     let partners = partners_at(rt, night)?;
+    let shown = record_at(rt, night)?;
+    let said = files.bytes();
+    let seen = shown.as_ref();
     let mut text = Vec::new(alloc);
     let page = NightPage {
         night: name.as_bytes(),
         moment: first_line(at.bytes_or_none()),
         total: first_line(total.bytes_or_none()),
+        files: said,
         rows: rows.as_slice(),
         partners: partners.as_slice(),
+        record: seen,
     };
     let todo = append_page(alloc, &mut text, HEAD.as_bytes(), FOOT.as_bytes(), &page)?;
     Ok(Report {

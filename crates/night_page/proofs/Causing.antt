@@ -1,5 +1,5 @@
 -- There is something to do exactly if there is a cause.
-use Rattle.std.proofs.Common.{◌≡◌, ◌∙◌, ◌↔◌, ℕ, Bool, true, false, not, ◌||◌, List, [], ◌∷◌, Option, Some, None, ap, arith, map, refl}
+use Rattle.std.proofs.Common.{◌≡◌, ◌↔◌, ℕ, Bool, ◌||◌, List, [], ◌∷◌, Option, Some, None, arith, refl}
 use Rattle.std.specs.Prelude.{is_some}
 use Rattle.std.specs.List.{Contains, cons_option, filter_map, list_any}
 use Rattle.night_page.specs.Names.{is_filled, texts_of}

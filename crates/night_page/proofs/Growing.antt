@@ -1,7 +1,7 @@
 -- Lists and texts with one more, and counts over what rows have.
-use Rattle.std.proofs.Common.{◌≡◌, ◌∙◌, ℕ, ◌+◌, ◌<◌, Bool, cond, List, [], ◌∷◌, ◌++◌, ap, append_assoc, get_or, length, map, refl, sym}
+use Rattle.std.proofs.Common.{◌≡◌, ◌∙◌, ℕ, ◌+◌, ◌<◌, Bool, ◌||◌, cond, List, [], ◌∷◌, ◌++◌, ap, append_assoc, get_or, length, map, refl, sym}
 use Rattle.std.proofs.Common.{take}
-use Rattle.std.specs.List.{count_by, fold}
+use Rattle.std.specs.List.{count_by, fold, list_any}
 use Rattle.std.specs.Prelude.{nat_lt}
 use Rattle.std.proofs.lemmas.List.{length-map, map-append, take_more}
 
@@ -25,6 +25,10 @@ counted_on p f n (x ∷ xs) = counted_on p f (n + cond (p (f x)) 1 0) xs
 
 pub counted : {X Y : Type 0} (p : Y → Bool) (f : X → Y) (xs : List X) → count_by (λ x. p (f x)) xs ≡ count_by p (map f xs)
 counted p f xs = counted_on p f 0 xs
+
+pub any_mapped : {X Y : Type 0} (p : Y → Bool) (f : X → Y) (xs : List X) → list_any (λ x. p (f x)) xs ≡ list_any p (map f xs)
+any_mapped p f [] = refl
+any_mapped p f (x ∷ xs) = ap (λ (b : Bool). p (f x) || b) (any_mapped p f xs)
 
 fold_more : {X A : Type 0} (f : A → X → A) (a : A) (xs : List X) (x : X) → fold f a (xs ++ x ∷ []) ≡ f (fold f a xs) x
 fold_more f a [] x = refl

@@ -1,5 +1,5 @@
 -- Names that are in order are searched by halves, and are just the texts that they were made of.
-use Rattle.std.proofs.Common.{◌≡◌, ◌∙◌, ◌↔◌, ℕ, ◌+◌, ◌<◌, Bool, true, false, ◌||◌, List, [], ◌∷◌, ap, arith, get_or, inl, inr, length, map}
+use Rattle.std.proofs.Common.{◌≡◌, ◌∙◌, ◌↔◌, ℕ, ◌+◌, Bool, true, false, ◌||◌, List, [], ◌∷◌, ap, arith, get_or, inl, inr, length, map}
 use Rattle.std.proofs.Common.{refl, sym}
 use Rattle.std.specs.Cmp.{IsTotalOrder}
 use Rattle.std.specs.Cmp.Lexicographic.{on_texts, slice_cmp}

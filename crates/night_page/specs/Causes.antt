@@ -1,6 +1,6 @@
 -- What there is to do at a hub after a night (own): each cause once, and the rows that it has.
-use Rattle.std.specs.Prelude.{◌↔◌, ℕ, ◌&&◌, Bool, false, List, [], ◌∷◌, Option, Some, None, codes, if◌then◌else◌}
-use Rattle.std.specs.List.{Contains, filter_map}
+use Rattle.std.specs.Prelude.{ℕ, ◌&&◌, Bool, false, List, [], ◌∷◌, Option, Some, None, codes, if◌then◌else◌}
+use Rattle.std.specs.List.{filter_map}
 use Rattle.std.specs.Option.{option_map_or}
 use Rattle.std.specs.Str.{bytes_eq}
 use Rattle.night_search.specs.Lines.{joined, receiver}

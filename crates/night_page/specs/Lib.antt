@@ -1,5 +1,7 @@
 pub mod Causes
+pub mod Files
 pub mod Names
 pub mod Page
+pub mod Record
 pub mod Rows
 pub mod Tags

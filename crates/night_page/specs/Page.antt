@@ -1,25 +1,31 @@
 -- The page of a night (own): what it is made of, and its parts, one after another.
-use Rattle.std.specs.Prelude.{◌≡◌, ℕ, ◌-◌, ◌==◌, ◌&&◌, ◌||◌, nat_lt, not, eqb, Bool, true, false, List, [], ◌∷◌, ◌++◌, codes, decimal}
-use Rattle.std.specs.Prelude.{filter, length, map, slice_range, take, if◌then◌else◌, is_some}
+use Rattle.std.specs.Prelude.{◌≡◌, ℕ, ◌-◌, ◌&&◌, ◌||◌, nat_lt, not, eqb, Bool, true, false, List, [], ◌∷◌, ◌++◌, codes, decimal}
+use Rattle.std.specs.Prelude.{Option, filter, length, map, option_map, take, if◌then◌else◌, is_some}
 use Rattle.std.specs.List.{count_by, ends_with, flat_map, list_any}
 use Rattle.std.specs.Str.{bytes_eq}
 use Rattle.csv.specs.Records.{fields_of}
-use Rattle.html_text.specs.Html.{html_bytes, html_text}
-use Rattle.night_search.specs.Lines.{document, joined, receiver, sender, st01, verdict}
+use Rattle.html_text.specs.Html.{html_bytes}
+use Rattle.night_search.specs.Lines.{document, receiver, sender, st01, verdict}
 use Rattle.night_page.specs.Causes.{AreCauses, cause_of, has_cause}
+use Rattle.night_page.specs.Files.{are_whole, aside_part, files_part, lines_of}
+use Rattle.night_page.specs.Record.{moment_words, record_part}
 use Rattle.night_page.specs.Rows.{Row, end_words, group_words, has_outcome, is_delivered, is_refused, isa13, st02, subject_words}
 use Rattle.night_page.specs.Tags.{count_box, item, table_head, table_row, tagged}
 use Rattle.night_page.specs.declared.name.Name.{Name}
 use Rattle.night_page.specs.declared.page.NightPage.{NightPage}
+use Rattle.night_page.specs.declared.record.RecordShown.{RecordShown}
 use Rattle.night_page.specs.declared.told.PartnerTold.{PartnerTold}
 
--- the night's name, its moment (CCYYMMDDHHMM), the last line of its report, the rows of its table, and what partners are told
+-- the night's name, its moment (CCYYMMDDHHMM), the last line of its report, the text on the files of the day, the rows of its table, what
+-- partners are told, and what is shown of its record
 pub record PageValue : Type 0 where
   pub night : List ℕ
   pub moment : List ℕ
   pub total : List ℕ
+  pub files : Option (List ℕ)
   pub rows : List Row
   pub partners : List PartnerTold
+  pub shown : Option RecordShown
 
 -- private: what a page that is lent is made of
 abbrev pub value_of : NightPage → PageValue
@@ -27,17 +33,11 @@ value_of page = record {
   night = page.night.now;
   moment = page.moment.now;
   total = page.total.now;
+  files = option_map (λ text. text.now) page.files;
   rows = map fields_of page.rows.now;
   partners = page.partners.now;
+  shown = option_map (λ shown. shown.now) page.record;
 }
-
--- date and time of day
-abbrev pub moment_words : (moment : List ℕ) → List ℕ
-moment_words m =
-    if length m == 12
-    then joined (slice_range m 0 4 ∷ codes "-" ∷ slice_range m 4 6 ∷ codes "-" ∷ slice_range m 6 8 ∷ codes " "
-    ∷ slice_range m 8 10 ∷ codes ":" ∷ slice_range m 10 12 ∷ [])
-    else m
 
 abbrev pub title_part : PageValue → List ℕ
 title_part page =
@@ -89,13 +89,18 @@ abbrev pub outside_part : (inside : Bool) → List ℕ
 outside_part true = []
 outside_part false = codes "<p class=\"todo\">Some bytes are in no interchange: see outside, in the line above.</p>\n"
 
-abbrev pub none_part : (inside : Bool) → List Name → List ℕ
+abbrev pub none_part : (calm : Bool) → List Name → List ℕ
 none_part true [] = codes "<p>Nothing.</p>\n"
-none_part inside causes = []
+none_part calm causes = []
 
-abbrev pub todo_part : (inside : Bool) → List Row → List Name → List ℕ
-todo_part inside rows causes =
-    codes "<h2>To do at the hub</h2>\n" ++ (outside_part inside ++ (none_part inside causes ++ causes_part rows causes))
+-- no byte is outside, and each file of the day went in whole
+abbrev pub is_calm : (inside : Bool) → (lines : List (List ℕ)) → Bool
+is_calm inside lines = inside && are_whole lines
+
+abbrev pub todo_part : (inside : Bool) → (lines : List (List ℕ)) → List Row → List Name → List ℕ
+todo_part inside lines rows causes =
+    codes "<h2>To do at the hub</h2>\n" ++ (aside_part lines ++ (outside_part inside
+    ++ (none_part (is_calm inside lines) causes ++ causes_part rows causes)))
 
 abbrev pub lines_part : (partner lines : List ℕ) → List ℕ
 lines_part partner lines =
@@ -181,14 +186,16 @@ sets_part rows =
 -- the page between a head and a foot, which are the same for all nights
 abbrev pub page_text : (head foot : List ℕ) → PageValue → (causes : List Name) → List ℕ
 page_text head foot page causes =
-    head ++ (title_part page ++ (counts_part page.rows ++ (todo_part (is_all_inside page.total) page.rows causes ++ (told_part page.partners
-    ++ (partners_part page.rows page.partners ++ (sets_part page.rows ++ foot))))))
+    head ++ (title_part page ++ (counts_part page.rows
+    ++ (todo_part (is_all_inside page.total) (lines_of page.files) page.rows causes ++ (files_part page.files ++ (told_part page.partners
+    ++ (partners_part page.rows page.partners ++ (sets_part page.rows ++ (record_part page.shown ++ foot))))))))
 
 pub record IsPage (head foot : List ℕ) (page : PageValue) (text : List ℕ) : Type 0 where
   pub causes : List Name
   pub causes_are : AreCauses page.rows causes
   pub text_is : text ≡ page_text head foot page causes
 
--- there is something to do: a byte is outside, or a row is a cause
+-- there is something to do: a byte is outside, a file is set aside or isn't whole, or a row is a cause
 abbrev pub has_todo : PageValue → Bool
-has_todo page = not (is_all_inside page.total) || list_any (λ row. is_some (cause_of row)) page.rows
+has_todo page =
+    not (is_calm (is_all_inside page.total) (lines_of page.files)) || list_any (λ row. is_some (cause_of row)) page.rows

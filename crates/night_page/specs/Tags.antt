@@ -1,5 +1,5 @@
 -- Pieces of a page (HTML): tags round texts that others chose.
-use Rattle.std.specs.Prelude.{ℕ, List, [], ◌∷◌, ◌++◌, codes, decimal}
+use Rattle.std.specs.Prelude.{ℕ, List, ◌++◌, codes, decimal}
 use Rattle.std.specs.List.{flat_map}
 use Rattle.html_text.specs.Html.{html_text}
 

@@ -23,6 +23,8 @@ input { font: inherit; max-width: 26em; padding: .3em .5em; }
 summary { cursor: pointer; }
 .todo > summary { font-weight: 600; }
 pre { overflow-x: auto; }
+summary:focus-visible, a:focus-visible, input:focus-visible { outline: 2px solid; outline-offset: 2px; }
+footer { margin-top: 2em; font-size: .9em; overflow-wrap: anywhere; }
 @media print { .find { display: none; } }
 </style>
 ";
@@ -54,6 +56,8 @@ heads.forEach((head, k) => {
         body.append(...rows);
     };
 });
+// what is printed is all open
+addEventListener('beforeprint', () => document.querySelectorAll('details').forEach(it => { it.open = true; }));
 </script>
 </body>
 </html>

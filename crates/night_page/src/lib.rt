@@ -6,7 +6,9 @@
 //!   anything; for each partner whether it sent or received something; and a line for each row, or above 5,000 rows for each that is no
 //!   delivery;
 //! - what others chose is in it as a text (`html_text`), so no name, number or document puts markup into it;
-//! - more than a hundred causes are counted, and the first hundred shown.
+//! - more than a hundred causes are counted, and the first hundred shown;
+//! - the lines of `files.txt`, if the night has it, are in it; those that don't say that a file went in whole are among what there is to
+//!   do, before all else. A night with a record has its sum, and what the clock of the host said, at the end.
 //!
 //! It takes as much work as the rows have bytes, times the causes that are shown, and n log n to put partners and causes in order.
 //!
@@ -16,10 +18,13 @@
 #![tactic(auto)]
 
 mod causes;
+mod files;
 mod fixed;
+mod lines;
 mod name;
 mod page;
 mod partners;
+mod record;
 mod rows;
 mod sets;
 mod tags;
@@ -30,4 +35,5 @@ mod told;
 pub use fixed::{FOOT, HEAD};
 pub use name::Name;
 pub use page::{NightPage, append_page};
+pub use record::RecordShown;
 pub use told::PartnerTold;

@@ -3,12 +3,15 @@ ghost use Rattle.night_page.specs.Names as names;
 ghost use Rattle.night_page.specs.Page as page;
 
 use crate::causes::causes_of;
+use crate::files::append_files;
+use crate::lines::lines_of;
 use crate::name::Name;
 use crate::partners::append_partners;
+use crate::record::{RecordShown, append_record};
 use crate::sets::{append_counts, append_sets};
 use crate::tags::append_fixed;
 use crate::title::append_title;
-use crate::todo::{append_todo, is_all_inside};
+use crate::todo::{append_todo, is_all_inside, is_calm};
 use crate::told::{PartnerTold, append_told};
 use csv::ByteRecord;
 use hub_kinds::NoMemory;
@@ -23,10 +26,14 @@ pub struct NightPage<'a> {
     pub moment: &'a [u8],
     /// The last line of its report.
     pub total: &'a [u8],
+    /// The text on the files of the day; none if the night has no such file.
+    pub files: Option<&'a [u8]>,
     /// The rows of its table.
     pub rows: &'a [ByteRecord],
     /// Its partners.
     pub partners: &'a [PartnerTold],
+    /// What is shown of its record, if it has one.
+    pub record: Option<&'a RecordShown>,
 }
 
 fn is_filled(causes: &[Name]) -> bool
@@ -38,10 +45,10 @@ fn is_filled(causes: &[Name]) -> bool
     }
 }
 
-fn has_todo(inside: bool, causes: &[Name]) -> bool
-    ensures { result ≡ (not inside || names.is_filled causes.now) }
+fn has_todo(calm: bool, causes: &[Name]) -> bool
+    ensures { result ≡ (not calm || names.is_filled causes.now) }
 {
-    !inside || is_filled(causes)
+    !calm || is_filled(causes)
 }
 
 /// The page of `night` between `head` and `foot`, which are the same for all nights, and whether there is something to do at the hub. The
@@ -59,13 +66,23 @@ pub fn append_page(
 {
     let causes = causes_of(alloc, night.rows)?;
     let inside = is_all_inside(night.total);
+    let lines = lines_of(alloc, night.files)?;
     append_fixed(out, head)?;
     append_title(alloc, out, night)?;
     append_counts(out, night.rows)?;
-    append_todo(alloc, out, inside, night.rows, causes.as_slice())?;
+    append_todo(
+        alloc,
+        out,
+        inside,
+        lines.as_slice(),
+        night.rows,
+        causes.as_slice(),
+    )?;
+    append_files(alloc, out, night.files, lines.as_slice())?;
     append_told(alloc, out, night.partners)?;
     append_partners(alloc, out, night.rows, night.partners)?;
     append_sets(alloc, out, night.rows)?;
+    append_record(alloc, out, night.record)?;
     append_fixed(out, foot)?;
-    Ok(has_todo(inside, causes.as_slice()))
+    Ok(has_todo(is_calm(inside, lines.as_slice()), causes.as_slice()))
 }

@@ -1,5 +1,6 @@
 ghost use Rattle.std.specs.Prelude.{◌≡◌, ◌++◌, [], IfOk, OnOk, codes};
 ghost use Rattle.night_page.specs.Page as page;
+ghost use Rattle.night_page.specs.Record as shown;
 ghost use Rattle.night_page.specs.Tags.{tagged};
 
 use crate::page::NightPage;
@@ -8,8 +9,9 @@ use crate::tags::append_tagged;
 use hub_kinds::NoMemory;
 use std::alloc::Global;
 
-fn moment_words(alloc: Global, moment: &[u8]) -> Result<Vec<u8>, NoMemory>
-    ensures { IfOk result (λ words. words.items ≡ page.moment_words moment.now) }
+/// Date and time of day, of CCYYMMDDHHMM.
+pub(crate) fn moment_words(alloc: Global, moment: &[u8]) -> Result<Vec<u8>, NoMemory>
+    ensures { IfOk result (λ words. words.items ≡ shown.moment_words moment.now) }
 {
     if moment.len() == 12 {
         words_of(
@@ -32,7 +34,7 @@ fn moment_words(alloc: Global, moment: &[u8]) -> Result<Vec<u8>, NoMemory>
 }
 
 fn append_moment(alloc: Global, out: &mut Vec<u8>, moment: &[u8]) -> Result<(), NoMemory>
-    ensures { OnOk result (out.new.items ≡ out.old.items ++ tagged [] (page.moment_words moment.now) (codes "; ")) }
+    ensures { OnOk result (out.new.items ≡ out.old.items ++ tagged [] (shown.moment_words moment.now) (codes "; ")) }
 {
     let words = moment_words(alloc, moment)?;
     append_tagged(alloc, out, b"", words.as_slice(), b"; ")

@@ -1,10 +1,13 @@
 ghost use Rattle.std.specs.Prelude.{◌≡◌, ◌≤◌, ◌++◌, IfOk, OnOk, cond, decimal, map, take};
 ghost use Rattle.std.specs.List.{count_by, flat_map};
 ghost use Rattle.csv.specs.Records.{fields_of};
+ghost use Rattle.night_search.specs.Lines.{read};
 ghost use Rattle.night_page.specs.Causes as causes;
 ghost use Rattle.night_page.specs.Page as page;
 
 use crate::causes::has_cause;
+use crate::files::append_aside;
+use crate::lines::are_whole;
 use crate::name::Name;
 use crate::rows::subject_words;
 use crate::tags::{append_fixed, append_item, append_number, append_tagged};
@@ -171,11 +174,11 @@ fn append_outside(out: &mut Vec<u8>, inside: bool) -> Result<(), NoMemory>
     }
 }
 
-fn append_none(out: &mut Vec<u8>, inside: bool, causes: &[Name]) -> Result<(), NoMemory>
-    ensures { OnOk result (out.new.items ≡ out.old.items ++ page.none_part inside causes.now) }
+fn append_none(out: &mut Vec<u8>, calm: bool, causes: &[Name]) -> Result<(), NoMemory>
+    ensures { OnOk result (out.new.items ≡ out.old.items ++ page.none_part calm causes.now) }
 {
     match causes {
-        [] if inside => append_fixed(out, b"<p>Nothing.</p>\n"),
+        [] if calm => append_fixed(out, b"<p>Nothing.</p>\n"),
         _ => append_fixed(out, b""),
     }
 }
@@ -193,19 +196,29 @@ fn append_shown(
     append_causes(alloc, out, rows, first_causes(causes))
 }
 
-/// Appends what there is to do at the hub because of `rows`, for these causes, and because of bytes outside.
+/// Whether no byte is outside, and each of the `lines` on files says that it went in whole.
+pub(crate) fn is_calm(inside: bool, lines: &[&[u8]]) -> bool
+    ensures { result ≡ page.is_calm inside (read lines.now) }
+{
+    inside && are_whole(lines)
+}
+
+/// Appends what there is to do at the hub because of files of the day, by the `lines` on them, because of bytes outside, and because of
+/// `rows`, for these causes.
 pub(crate) fn append_todo(
     alloc: Global,
     out: &mut Vec<u8>,
     inside: bool,
+    lines: &[&[u8]],
     rows: &[ByteRecord],
     causes: &[Name],
 ) -> Result<(), NoMemory>
-    ensures { OnOk result (out.new.items ≡ out.old.items ++ page.todo_part inside (map fields_of rows.now) causes.now) }
+    ensures { OnOk result (out.new.items ≡ out.old.items ++ page.todo_part inside (read lines.now) (map fields_of rows.now) causes.now) }
 {
     append_fixed(out, b"<h2>To do at the hub</h2>\n")?;
+    append_aside(alloc, out, lines)?;
     append_outside(out, inside)?;
-    append_none(out, inside, causes)?;
+    append_none(out, is_calm(inside, lines), causes)?;
     append_shown(alloc, out, rows, causes)?;
     append_others(out, causes.len())
 }

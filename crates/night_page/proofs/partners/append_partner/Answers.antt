@@ -1,5 +1,5 @@
-use Rattle.std.proofs.Common.{◌++◌, List, [], map}
-use Rattle.std.specs.Prelude.{ℕ, codes}
+use Rattle.std.proofs.Common.{◌++◌}
+use Rattle.std.specs.Prelude.{codes}
 use Rattle.night_page.specs.Page.{answer_words, link_part}
 use Rattle.night_page.specs.Tags.{tagged}
 use Rattle.std.proofs.lemmas.Result.{on_ok_weaker}

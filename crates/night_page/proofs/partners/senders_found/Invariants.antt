@@ -1,4 +1,4 @@
-use Rattle.std.proofs.Common.{◌≡◌, filter, map, take}
+use Rattle.std.proofs.Common.{◌≡◌, map, take}
 use Rattle.csv.specs.Records.{fields_of}
 use Rattle.night_search.specs.Lines.{sender}
 use Rattle.night_page.specs.Names.{texts_of}

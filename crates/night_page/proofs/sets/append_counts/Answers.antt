@@ -1,13 +1,10 @@
-use Rattle.std.proofs.Common.{◌++◌, List, [], map}
-use Rattle.std.specs.Prelude.{ℕ, codes}
+use Rattle.std.proofs.Common.{◌++◌, map}
+use Rattle.std.specs.Prelude.{codes}
 use Rattle.csv.specs.Records.{fields_of}
-use Rattle.std.specs.List.{flat_map}
 use Rattle.std.specs.List.{count_by}
 use Rattle.night_page.specs.Page.{is_held, is_rejected}
 use Rattle.night_page.specs.Rows.{is_delivered, is_refused}
 use Rattle.night_page.specs.Tags.{count_box}
-use Rattle.std.proofs.Common.{◌∙◌, ap}
-use Rattle.night_page.proofs.Growing.{counted}
 use Rattle.std.proofs.lemmas.Result.{on_ok_weaker}
 use Rattle.night_page.proofs.Growing.{two}
 use Rattle.night_page.proofs.sets.append_counts.Goals as goal

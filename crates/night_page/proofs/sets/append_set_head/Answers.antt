@@ -1,5 +1,5 @@
-use Rattle.std.proofs.Common.{◌++◌, List, [], map}
-use Rattle.std.specs.Prelude.{ℕ, codes}
+use Rattle.std.proofs.Common.{◌++◌}
+use Rattle.std.specs.Prelude.{codes}
 use Rattle.night_page.specs.Page.{find_part, set_columns}
 use Rattle.night_page.specs.Tags.{table_head}
 use Rattle.std.proofs.lemmas.Result.{on_ok_weaker}

@@ -1,5 +1,5 @@
-use Rattle.std.proofs.Common.{◌++◌, List, [], map, sym}
-use Rattle.std.specs.Prelude.{ℕ, codes}
+use Rattle.std.proofs.Common.{◌++◌, map, sym}
+use Rattle.std.specs.Prelude.{codes}
 use Rattle.csv.specs.Records.{fields_of}
 use Rattle.std.specs.List.{flat_map}
 use Rattle.night_page.specs.Page.{set_row_or_none, set_table, sets_head}

@@ -1,6 +1,6 @@
-use Rattle.std.proofs.Common.{◌++◌, List, [], map}
+use Rattle.std.proofs.Common.{◌++◌, List, []}
 use Rattle.std.specs.Prelude.{ℕ, codes}
-use Rattle.night_page.specs.Page.{moment_words}
+use Rattle.night_page.specs.Record.{moment_words}
 use Rattle.night_page.specs.Tags.{tagged}
 use Rattle.std.proofs.lemmas.Result.{on_ok_weaker}
 use Rattle.night_page.proofs.Growing.{two}

@@ -1,4 +1,4 @@
-use Rattle.std.proofs.Common.{◌++◌, List, [], map}
+use Rattle.std.proofs.Common.{◌++◌, List, map}
 use Rattle.std.specs.Prelude.{ℕ, codes}
 use Rattle.csv.specs.Records.{fields_of}
 use Rattle.std.specs.List.{flat_map}

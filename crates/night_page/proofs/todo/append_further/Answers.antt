@@ -1,4 +1,4 @@
-use Rattle.std.specs.Prelude.{ℕ, ◌++◌, codes, decimal}
+use Rattle.std.specs.Prelude.{◌++◌, codes, decimal}
 use Rattle.std.proofs.lemmas.Result.{on_ok_weaker}
 use Rattle.night_page.proofs.Growing.{two}
 use Rattle.night_page.proofs.todo.append_further.Goals as goal

@@ -1,4 +1,4 @@
-use Rattle.std.proofs.Common.{◌+◌, arith, map, take}
+use Rattle.std.proofs.Common.{◌+◌, arith, take}
 use Rattle.night_search.proofs.ForAbove.{lines_more}
 use Rattle.night_page.specs.Page.{told_one}
 use Rattle.night_page.proofs.Growing.{one_more}
