@@ -277,15 +277,8 @@ pub(crate) fn draft_of<R: Threads + Wait + Clock + Sync>(
     let (number, folder) = next_folder(alloc, older.order.as_slice().len(), setting.name)?;
     let made = tonight_of(rt, alloc, setting, papers, older.entries.as_slice(), input)?;
     let laid = laid_out(alloc, made)?;
-    let entry = entry_of_night(
-        alloc,
-        setting,
-        folder.as_slice(),
-        papers,
-        &laid,
-        input,
-        again,
-    )?;
+    let name = folder.as_slice();
+    let entry = entry_of_night(alloc, setting, name, papers, &laid, input, again)?;
     let track = copy_text(alloc, laid.track.as_slice())?;
     let tables = tables_of(
         alloc,

@@ -1,5 +1,6 @@
 -- Lists and texts with one more, and counts over what rows have.
-use Rattle.std.proofs.Common.{◌≡◌, ◌∙◌, ℕ, ◌+◌, ◌<◌, Bool, ◌||◌, cond, List, [], ◌∷◌, ◌++◌, ap, append_assoc, get_or, length, map, refl, sym}
+use Rattle.std.proofs.Common.{◌≡◌, ◌∙◌, ℕ, ◌+◌, ◌<◌, Bool, ◌||◌, cond, List, [], ◌∷◌, ◌++◌, ap, append_assoc, get_or}
+use Rattle.std.proofs.Common.{length, map, refl, sym}
 use Rattle.std.proofs.Common.{take}
 use Rattle.std.specs.List.{count_by, fold, list_any}
 use Rattle.std.specs.Prelude.{nat_lt}

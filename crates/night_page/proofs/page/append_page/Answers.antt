@@ -4,7 +4,8 @@ use Rattle.night_search.specs.Lines.{read}
 use Rattle.night_page.specs.Causes.{cause_of}
 use Rattle.night_page.specs.Files.{files_part, lines_of}
 use Rattle.night_page.specs.Names.{is_filled, texts_of}
-use Rattle.night_page.specs.Page.{counts_part, is_all_inside, is_calm, page_text, partners_part, sets_part, title_part, todo_part, told_part}
+use Rattle.night_page.specs.Page.{counts_part, is_all_inside, is_calm, page_text, partners_part, sets_part, title_part, todo_part}
+use Rattle.night_page.specs.Page.{told_part}
 use Rattle.night_page.specs.Page.{value_of}
 use Rattle.night_page.specs.Record.{record_part}
 use Rattle.night_page.specs.declared.name.Name.{Name}
@@ -38,7 +39,8 @@ returns-clause-page c =
       page_text c.args.head.now foot value causes,
       two c.args.out.now.items c.append_fixed.new.out.items end c.args.head.now
           (title_part value ++ (counts_part rows ++ (todo_text ++ after_todo))) c.in_ok-append_fixed.ensures
-          (two c.append_fixed.new.out.items c.append_title.new.out.items end (title_part value) (counts_part rows ++ (todo_text ++ after_todo))
+          (two c.append_fixed.new.out.items c.append_title.new.out.items end (title_part value)
+          (counts_part rows ++ (todo_text ++ after_todo))
           c.in_ok-append_title.ensures
           (two c.append_title.new.out.items c.append_counts.new.out.items end (counts_part rows) (todo_text ++ after_todo)
           c.in_ok-append_counts.ensures
