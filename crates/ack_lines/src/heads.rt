@@ -136,22 +136,14 @@ fn append_further_name(out: &mut Vec<u8>, name: Option<&[u8]>) -> Result<(), NoM
     }
 }
 
-fn append_element_name(
-    out: &mut Vec<u8>,
-    names: &Names,
-    reference: &[u8],
-) -> Result<(), NoMemory>
+fn append_element_name(out: &mut Vec<u8>, names: &Names, reference: &[u8]) -> Result<(), NoMemory>
     ensures { OnOk result (out.new.items ≡ out.old.items ++ lines.further_name (element_name names.now reference.now)) }
 {
     append_further_name(out, names.element(reference))
 }
 
 #[tactic(auto, unfolding(crate::specs::Lines::number_said))]
-fn append_element_number(
-    out: &mut Vec<u8>,
-    names: &Names,
-    reference: &[u8],
-) -> Result<(), NoMemory>
+fn append_element_number(out: &mut Vec<u8>, names: &Names, reference: &[u8]) -> Result<(), NoMemory>
     ensures { OnOk result (out.new.items ≡ out.old.items ++ lines.number_said names.now reference.now) }
 {
     append_text(out, " (")?;
@@ -173,7 +165,8 @@ fn append_reference(out: &mut Vec<u8>, names: &Names, reference: &[u8]) -> Resul
 /// Writes which segment is in error.
 #[tactic(auto, unfolding(crate::specs::Lines::segment_place))]
 pub(crate) fn append_segment_place(
-    out: &mut Vec<u8>, names: &Names,
+    out: &mut Vec<u8>,
+    names: &Names,
     segment: &SegmentTold<'_>,
 ) -> Result<(), NoMemory>
     ensures { OnOk result (out.new.items ≡ out.old.items ++ lines.segment_place names.now segment.now) }
@@ -228,7 +221,8 @@ fn append_missing_name(out: &mut Vec<u8>, names: &Names, id: &[u8]) -> Result<()
 
 /// Writes what the words of a segment's code are said of.
 pub(crate) fn append_segment_subject(
-    out: &mut Vec<u8>, names: &Names,
+    out: &mut Vec<u8>,
+    names: &Names,
     segment: &SegmentTold<'_>,
 ) -> Result<(), NoMemory>
     ensures { OnOk result (out.new.items ≡ out.old.items ++ lines.segment_subject names.now segment.now) }
@@ -244,7 +238,8 @@ pub(crate) fn append_segment_subject(
 /// Writes which element is.
 #[tactic(auto, unfolding(crate::specs::Lines::element_place))]
 pub(crate) fn append_element_place(
-    out: &mut Vec<u8>, names: &Names,
+    out: &mut Vec<u8>,
+    names: &Names,
     element: &ElementTold<'_>,
 ) -> Result<(), NoMemory>
     ensures { OnOk result (out.new.items ≡ out.old.items ++ lines.element_place names.now element.now) }

@@ -133,7 +133,8 @@ fn append_group_codes(out: &mut Vec<u8>, head: &[u8], group: &GroupTold<'_>) -> 
 /// Writes the lines of a set that isn't accepted, with these words of its verdict.
 fn append_set_lines(
     alloc: Global,
-    out: &mut Vec<u8>, names: &Names,
+    out: &mut Vec<u8>,
+    names: &Names,
     sender: &[u8],
     verdict: &str,
     set: &SetTold<'_>,
@@ -163,7 +164,8 @@ fn fallen_verdict(code: &[u8]) -> &'static str
 /// Writes the lines of a set, whose group is rejected, or isn't.
 fn append_set(
     alloc: Global,
-    out: &mut Vec<u8>, names: &Names,
+    out: &mut Vec<u8>,
+    names: &Names,
     sender: &[u8],
     set: &SetTold<'_>,
     falls: bool,
@@ -211,7 +213,8 @@ pub(crate) fn is_accepted(code: &[u8]) -> bool
 /// Writes the lines of what is reported of this interchange of the sender.
 pub(crate) fn append_reported(
     alloc: Global,
-    out: &mut Vec<u8>, names: &Names,
+    out: &mut Vec<u8>,
+    names: &Names,
     sender: &[u8],
     one: &Reported<'_>,
 ) -> Result<(), NoMemory>

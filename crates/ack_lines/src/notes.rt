@@ -10,7 +10,11 @@ use guide_names::Names;
 use hub_kinds::{ElementCode, NoMemory, SegmentCode};
 
 /// Writes what an IK3 says.
-fn append_segment_words(out: &mut Vec<u8>, names: &Names, segment: &SegmentTold<'_>) -> Result<(), NoMemory>
+fn append_segment_words(
+    out: &mut Vec<u8>,
+    names: &Names,
+    segment: &SegmentTold<'_>,
+) -> Result<(), NoMemory>
     ensures { OnOk result (out.new.items ≡ out.old.items ++ lines.note_words_of names.now (OfSegment segment.now)) }
 {
     append_segment_subject(out, names, segment)?;
@@ -56,7 +60,8 @@ fn append_element_fault(out: &mut Vec<u8>, element: &ElementTold<'_>) -> Result<
 
 /// Writes what an IK4 says, after this IK3.
 fn append_element_words(
-    out: &mut Vec<u8>, names: &Names,
+    out: &mut Vec<u8>,
+    names: &Names,
     segment: &SegmentTold<'_>,
     element: &ElementTold<'_>,
 ) -> Result<(), NoMemory>
@@ -69,13 +74,20 @@ fn append_element_words(
 }
 
 /// Writes the line of a note.
-fn append_note_line(out: &mut Vec<u8>, names: &Names, head: &[u8], note: &NoteTold<'_>) -> Result<(), NoMemory>
+fn append_note_line(
+    out: &mut Vec<u8>,
+    names: &Names,
+    head: &[u8],
+    note: &NoteTold<'_>,
+) -> Result<(), NoMemory>
     ensures { OnOk result (out.new.items ≡ out.old.items ++ lines.note_line names.now head.now note.now) }
 {
     out.extend_from_slice(head)?;
     match note {
         NoteTold::OfSegment(segment) => append_segment_words(out, names, segment)?,
-        NoteTold::OfElement(segment, element) => append_element_words(out, names, segment, element)?,
+        NoteTold::OfElement(segment, element) => append_element_words(
+            out, names, segment, element,
+        )?,
     }
     append_text(out, "\n")
 }
@@ -89,7 +101,8 @@ fn is_told_by_next(note: &NoteTold<'_>, behind: &[NoteTold<'_>]) -> bool
 
 /// Writes the lines of notes.
 pub(crate) fn append_note_lines(
-    out: &mut Vec<u8>, names: &Names,
+    out: &mut Vec<u8>,
+    names: &Names,
     head: &[u8],
     notes: &[NoteTold<'_>],
 ) -> Result<(), NoMemory>

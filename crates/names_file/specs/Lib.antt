@@ -1,3 +1,4 @@
+pub mod Files
 pub mod GuideSubjects
 pub mod Refused
 pub mod Warnings

@@ -1,13 +1,15 @@
 ghost use Rattle.std.specs.Prelude.{◌≡◌, ◌++◌, IfOk, OnOk};
 ghost use Rattle.check_command.specs.SetupFiles.{unreadable};
+ghost use Rattle.names_file.specs.Files.{AreJudged};
 ghost use Rattle.names_file.specs.Refused as refused;
 
-use check_command::Judged;
+use check_command::{Judged, read_file};
 use guide_names::{Cause, Names, NamesFault, Refused, read_names};
 use hub_kinds::{Items, NoMemory, Text};
 use key_words::{append_key, no_table_text};
 use refusal_words::append;
 use std::alloc::Global;
+use std::rt::Files;
 
 fn cause_text(why: Cause) -> &'static [u8]
     ensures { result.now ≡ refused.cause_text why }
@@ -73,6 +75,14 @@ fn unread(alloc: Global) -> Result<Text, NoMemory>
     ensures { IfOk result (λ text. text ≡ unreadable) }
 {
     Ok(Items::from_vec(Vec::from_slice(alloc, b"it can't be read")?))
+}
+
+/// The words of the names file at `path`, or why it is refused.
+pub fn names_at<R: Files + AllocGlobal>(rt: &R, path: &str) -> Result<Judged<Names>, NoMemory>
+    ensures { IfOk result (AreJudged path.now) }
+{
+    let file = read_file(rt, path)?;
+    judge_names(rt.alloc(), &file.bytes)
 }
 
 /// What a names file with these `bytes` is judged as; none if it can't be read. The only error is out of memory.

@@ -18,5 +18,5 @@ mod judge;
 mod slot_subjects;
 mod warnings;
 
-pub use judge::judge_names;
+pub use judge::{judge_names, names_at};
 pub use warnings::warnings;

@@ -5,8 +5,9 @@ use Rattle.guide_tree.specs.Words.{GuideTree, guide_of}
 use Rattle.guide_tree.specs.declared.rows.GuideRows.{GuideRows}
 use Rattle.check_command.specs.declared.judged.Judged.{Judged}
 use Rattle.check_command.specs.declared.judged.Judged.TheVariants as judged
+use Rattle.names_file.specs.Files.{AreJudged}
 use Rattle.page_command.specs.Failure.{status_of}
-use Rattle.page_command.specs.Outcome.{AreJudged, IsBefore, IsJudged, IsNamedPage, IsPageAt, IsPageOf, IsRefusedFile, IsUnmade, IsUnnamed}
+use Rattle.page_command.specs.Outcome.{IsBefore, IsJudged, IsNamedPage, IsPageAt, IsPageOf, IsRefusedFile, IsUnmade, IsUnnamed}
 use Rattle.page_command.specs.Outcome.{refused_line}
 use Rattle.page_command.specs.declared.failure.Failure.{Failure}
 use Rattle.page_command.specs.declared.failure.Failure.TheVariants as failure

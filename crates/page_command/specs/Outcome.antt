@@ -4,7 +4,7 @@ use Rattle.std.specs.Io.KnownBytes.{Appends}
 use Rattle.clap.specs.Words.{Text}
 use Rattle.file_names.specs.Shown.{shown}
 use Rattle.guide_toml.specs.FileBytes.{IsGuideOf}
-use Rattle.guide_names.specs.Names.{Words, no_words}
+use Rattle.guide_names.specs.Names.{Words}
 use Rattle.guide_page.specs.Page.{page_text}
 use Rattle.guide_page.specs.declared.page.Answer.{Answer}
 use Rattle.guide_tree.specs.Words.{GuideTree, guide_of}
@@ -15,7 +15,7 @@ use Rattle.check_command.specs.declared.files.Given.{Given}
 use Rattle.check_command.specs.declared.judged.Judged.{Judged}
 use Rattle.check_command.specs.declared.judged.Judged.TheVariants as judged
 use Rattle.guide_samples.specs.Samples.{IsSample}
-use Rattle.names_file.specs.Refused.{IsNamesRefused, IsTaken}
+use Rattle.names_file.specs.Files.{AreRefused, AreWords}
 use Rattle.page_command.specs.CommandLine.{AsksForText, IsGuide, names_given, value_of}
 use Rattle.page_command.specs.Samples.{AreAnswers}
 use Rattle.page_command.specs.declared.failure.Failure.{Failure}
@@ -37,28 +37,6 @@ pub record IsRefused (path text : List ℕ) : Type 0 where
 abbrev pub IsJudged : (path : List ℕ) → Judged GuideRows → Type 0
 IsJudged path (judged.Taken guide) = IsRead path guide
 IsJudged path (judged.Refused text) = IsRefused path text
-
--- the file that was read at a path writes these words
-pub record AreRead (path : List ℕ) (words : Words) : Type 0 where
-  pub file : Given
-  pub at : path_of file ≡ path
-  pub written : IsTaken file.bytes words
-
--- the file that was read at a path, or couldn't be read, is refused as a names file in these words
-pub record AreRefused (path text : List ℕ) : Type 0 where
-  pub file : Given
-  pub at : path_of file ≡ path
-  pub refused : IsNamesRefused file.bytes text
-
--- what was read at the path of a names file
-abbrev pub AreJudged : (path : List ℕ) → Judged Words → Type 0
-AreJudged path (judged.Taken words) = AreRead path words
-AreJudged path (judged.Refused text) = AreRefused path text
-
--- the words for a guide; without a names file there are none
-abbrev pub AreWords : (names : Option (List ℕ)) → Words → Type 0
-AreWords None words = words ≡ no_words
-AreWords (Some path) words = AreRead path words
 
 -- the page of a guide, with words for it, a sample that meets it, and the answers to samples that break a rule
 pub record IsPageOf (words : Words) (guide : GuideTree) (text : List ℕ) : Type 0 where

@@ -6,7 +6,7 @@ ghost use Rattle.guide_names.specs.Names.{no_words};
 ghost use Rattle.names_file.specs.Warnings.{warnings};
 ghost use Rattle.page_command.specs.CommandLine.{IsCommandLine, names_given, names_of};
 ghost use Rattle.page_command.specs.Failure.{CantWrite, IsStatus};
-ghost use Rattle.page_command.specs.Outcome.{AreJudged, IsBefore, IsJudged, IsNamedPage, IsPage, IsPageAt, IsPageOf, IsRefusal};
+ghost use Rattle.page_command.specs.Outcome.{IsBefore, IsJudged, IsNamedPage, IsPage, IsPageAt, IsPageOf, IsRefusal};
 ghost use Rattle.page_command.specs.Outcome.{IsRefusedFile, IsRun, IsUnmade, IsUnnamed, refused_line};
 ghost use Rattle.page_command.specs.declared.failure.Failure.TheVariants as kind;
 
@@ -20,7 +20,7 @@ use guide_names::Names;
 use guide_samples::complete;
 use guide_tree::Guide;
 use hub_kinds::{Items, NoMemory, Text};
-use names_file::{judge_names, warnings};
+use names_file::{names_at, warnings};
 use night_ends::{Directory, print_text};
 use std::alloc::Global;
 use std::convert::AsStr;
@@ -215,14 +215,6 @@ fn append(out: &mut Vec<u8>, text: &[u8]) -> Result<(), NoMemory>
 {
     out.extend_from_slice(text)?;
     Ok(())
-}
-
-/// The words of the names file at `path`, or why it is refused.
-fn names_at<R: Files + AllocGlobal>(rt: &R, path: &str) -> Result<Judged<Names>, NoMemory>
-    ensures { IfOk result (AreJudged path.now) }
-{
-    let file = read_file(rt, path)?;
-    judge_names(rt.alloc(), &file.bytes)
 }
 
 /// The failure of a guide at a path that is refused in these words.
