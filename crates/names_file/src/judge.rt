@@ -1,12 +1,13 @@
 ghost use Rattle.std.specs.Prelude.{◌≡◌, ◌++◌, IfOk, OnOk};
 ghost use Rattle.check_command.specs.SetupFiles.{unreadable};
+ghost use Rattle.refusal_words.specs.Places.{key_text};
 ghost use Rattle.names_file.specs.Files.{AreJudged};
 ghost use Rattle.names_file.specs.Refused as refused;
 
 use check_command::{Judged, read_file};
 use guide_names::{Cause, Names, NamesFault, Refused, read_names};
 use hub_kinds::{Items, NoMemory, Text};
-use key_words::{append_key, no_table_text};
+use key_words::no_table_text;
 use refusal_words::append;
 use std::alloc::Global;
 use std::rt::Files;
@@ -44,11 +45,19 @@ fn append_tables(out: &mut Vec<u8>, keys: &[Text]) -> Result<(), NoMemory>
     }
 }
 
+fn append_quoted_key(out: &mut Vec<u8>, key: &[u8]) -> Result<(), NoMemory>
+    ensures { OnOk result (out.new.items ≡ out.old.items ++ key_text key.now) }
+{
+    append(out, b"`")?;
+    append(out, key)?;
+    append(out, b"`")
+}
+
 fn append_refused(out: &mut Vec<u8>, key: &Refused) -> Result<(), NoMemory>
     ensures { OnOk result (out.new.items ≡ out.old.items ++ refused.refused_text key.now) }
 {
     append_tables(out, key.tables.as_slice())?;
-    append_key(out, key.key.as_slice())?;
+    append_quoted_key(out, key.key.as_slice())?;
     append(out, cause_text(key.why))
 }
 

@@ -117,11 +117,7 @@ fn push_components(
     Ok(())
 }
 
-fn push_composite(
-    alloc: Global,
-    found: &mut Vec<Text>,
-    row: &CompositeRow,
-) -> Result<(), NoMemory>
+fn push_composite(alloc: Global, found: &mut Vec<Text>, row: &CompositeRow) -> Result<(), NoMemory>
     ensures { OnOk result (found.new.items ≡ found.old.items ++ subjects.composite_of row.now) }
 {
     found.push(element_subject(alloc, row.reference.as_slice())?)?;
@@ -138,11 +134,7 @@ fn push_element(alloc: Global, found: &mut Vec<Text>, element: &Element) -> Resu
     }
 }
 
-fn push_elements(
-    alloc: Global,
-    found: &mut Vec<Text>,
-    elements: &[Element],
-) -> Result<(), NoMemory>
+fn push_elements(alloc: Global, found: &mut Vec<Text>, elements: &[Element]) -> Result<(), NoMemory>
     ensures { OnOk result (found.new.items ≡ found.old.items ++ flat_map subjects.element_of elements.now) }
 {
     for i in 0..elements.len() {
