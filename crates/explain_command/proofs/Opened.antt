@@ -22,7 +22,8 @@ so result P t is holds = subst (λ r. IfOk r P) (sym is) holds
 -- a refusal words is reported, or memory was refused
 refusal : {E : Type 0} (words : Words) (declared : Option (List ℕ)) (f : Failure) (result : Result Told E) → IsOfInput declared f
     → IsReported (Err f) result → IfOk result (IsTold words declared)
-refusal words declared failure.Input result of by = so result (IsTold words declared) (told.Refused failure.Input) (by.1 (λ e. cc)) (of, (λ e. cc))
+refusal words declared failure.Input result of by = so result (IsTold words declared) (told.Refused failure.Input) (by.1 (λ e. cc)) (of,
+    (λ e. cc))
 refusal words declared failure.NoHeader result of by =
     so result (IsTold words declared) (told.Refused failure.NoHeader) (by.1 (λ e. cc)) (of, (λ e. cc))
 refusal words declared failure.TellsNothing result of by =

@@ -8,7 +8,8 @@ use Rattle.guide_names.specs.Names.{Words}
 use Rattle.explain_command.specs.Ends.{cut_of, is_997}
 use Rattle.explain_command.specs.declared.ends.CutOff.{CutOff}
 
--- these lines say in words, with the names of a names file, what the acknowledgments of a text report, and where it is cut off: a text without a byte is that of a partner
+-- these lines say in words, with the names of a names file, what the acknowledgments of a text report, and where it is cut off: a text
+-- without a byte is that of a partner
 -- whom nobody answers; one that is cut off may report nothing yet
 pub data IsSaidOf (words : Words) (text lines : List ℕ) (cut : Option CutOff) : Type 0 where
   Unanswered : text ≡ [] → lines ≡ codes "no acknowledgments\n" → cut ≡ None → IsSaidOf words text lines cut

@@ -1,7 +1,8 @@
 ghost use Rattle.std.specs.Prelude.{◌≡◌, ◌≢◌, false, map, IfOk, IfErr};
 ghost use Rattle.clap.specs.Words.{app_of, first_value, found_of, kind_of, rule_of};
 ghost use Rattle.night_ends.specs.Words.{values_found};
-ghost use Rattle.explain_command.specs.CommandLine.{IsAsked, IsCommandLine, IsGiven, IsShown, NamesNone, explain_app, file_rule, names_rule};
+ghost use Rattle.explain_command.specs.CommandLine.{IsAsked, IsCommandLine, IsGiven, IsShown, NamesNone};
+ghost use Rattle.explain_command.specs.CommandLine.{explain_app, file_rule, names_rule};
 ghost use Rattle.explain_command.specs.Failure.{IsUsage};
 
 use crate::mistake::Mistake;

@@ -1,5 +1,6 @@
 -- A text that is no UTF-8 is no key of a table.
-use Rattle.std.proofs.Common.{◌≡◌, ℕ, List, [], ◌∷◌, Option, None, Some, String, Global, Ordering, Less, Equal, Greater, nat_cmp, string_bytes, refl, sym, subst}
+use Rattle.std.proofs.Common.{◌≡◌, ℕ, List, [], ◌∷◌, Option, None, Some, String}
+use Rattle.std.proofs.Common.{Global, Ordering, Less, Equal, Greater, nat_cmp, string_bytes, refl, sym, subst}
 use Rattle.std.specs.Str.{IsUtf8}
 use Rattle.std.specs.Cmp.Lexicographic.{slice_cmp}
 use Rattle.std.specs.Ordering.{match_ordering}

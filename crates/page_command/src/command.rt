@@ -1,6 +1,7 @@
 ghost use Rattle.std.specs.Prelude.{◌≡◌, ◌≢◌, false, map, IfOk, IfErr};
 ghost use Rattle.clap.specs.Words.{app_of, first_value, found_of, kind_of, rule_of};
-ghost use Rattle.page_command.specs.CommandLine.{IsAsked, IsCommandLine, IsGiven, IsShown, NamesNone, guide_rule, names_rule, page_app, samples_rule};
+ghost use Rattle.page_command.specs.CommandLine.{IsAsked, IsCommandLine, IsGiven, IsShown, NamesNone};
+ghost use Rattle.page_command.specs.CommandLine.{guide_rule, names_rule, page_app, samples_rule};
 ghost use Rattle.page_command.specs.Failure.{IsUsage};
 
 use crate::mistake::Mistake;

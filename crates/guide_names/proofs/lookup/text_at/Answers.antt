@@ -8,7 +8,8 @@ use Rattle.guide_names.proofs.lookup.text_at.Goals as goal
 
 pub returns-in-None-value_under : goal.returns-in-None-value_under
 returns-in-None-value_under c =
-    rw (c.in-Some.is) (ap (option_and_then as_str) c.in-None-value_under.ensures ∙ sym (text_of_member c.args.key.now (table_view c.in-Some.table.now)))
+    rw (c.in-Some.is) (ap (option_and_then as_str) c.in-None-value_under.ensures ∙ sym (text_of_member c.args.key.now (table_view
+    c.in-Some.table.now)))
 
 pub returns-in-Some-value_under : goal.returns-in-Some-value_under
 returns-in-Some-value_under c =

@@ -8,6 +8,8 @@ use Rattle.guide_page.proofs.elements.append_composite.Goals as goal
 
 pub returns : goal.returns
 returns c =
-    on_ok_weaker c.append_component_rows.result (λ adds. (two c.args.out.now.items c.append_composite_row.new.out.items c.append_component_rows.new.out.items (composite_row c.args.names.now c.args.name.now c.args.row.now) (component_rows c.args.names.now c.args.name.now 1 c.args.row.now.components)
+    on_ok_weaker c.append_component_rows.result (λ adds. (two c.args.out.now.items c.append_composite_row.new.out.items
+    c.append_component_rows.new.out.items (composite_row c.args.names.now c.args.name.now c.args.row.now) (component_rows
+    c.args.names.now c.args.name.now 1 c.args.row.now.components)
     c.in_ok-append_composite_row.ensures adds))
     c.append_component_rows.ensures

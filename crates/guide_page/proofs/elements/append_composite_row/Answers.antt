@@ -10,10 +10,19 @@ use Rattle.guide_page.proofs.elements.append_composite_row.Goals as goal
 
 pub returns : goal.returns
 returns c =
-    on_ok_weaker c.append_fixed-2.result (λ adds. (two c.args.out.now.items c.append_row_head.new.out.items c.append_fixed-2.new.out.items (row_head c.args.name.now) ((reference_cell c.args.names.now c.args.row.now.reference) ++ ((use_cell c.args.row.now.requirement) ++ ((codes "<td>composite</td><td></td>") ++ ((number_cell c.args.row.now.repeat) ++ (codes "<td></td></tr>\n")))))
-    c.in_ok-append_row_head.ensures (two c.append_row_head.new.out.items c.append_composite_reference.new.out.items c.append_fixed-2.new.out.items (reference_cell c.args.names.now c.args.row.now.reference) ((use_cell c.args.row.now.requirement) ++ ((codes "<td>composite</td><td></td>") ++ ((number_cell c.args.row.now.repeat) ++ (codes "<td></td></tr>\n"))))
-    c.in_ok-append_composite_reference.ensures (two c.append_composite_reference.new.out.items c.append_use_cell.new.out.items c.append_fixed-2.new.out.items (use_cell c.args.row.now.requirement) ((codes "<td>composite</td><td></td>") ++ ((number_cell c.args.row.now.repeat) ++ (codes "<td></td></tr>\n")))
-    c.in_ok-append_use_cell.ensures (two c.append_use_cell.new.out.items c.append_fixed.new.out.items c.append_fixed-2.new.out.items (codes "<td>composite</td><td></td>") ((number_cell c.args.row.now.repeat) ++ (codes "<td></td></tr>\n"))
-    c.in_ok-append_fixed.ensures (two c.append_fixed.new.out.items c.append_number_cell.new.out.items c.append_fixed-2.new.out.items (number_cell c.args.row.now.repeat) (codes "<td></td></tr>\n")
+    on_ok_weaker c.append_fixed-2.result (λ adds. (two c.args.out.now.items c.append_row_head.new.out.items
+    c.append_fixed-2.new.out.items (row_head c.args.name.now) ((reference_cell c.args.names.now c.args.row.now.reference) ++ ((use_cell
+    c.args.row.now.requirement) ++ ((codes "<td>composite</td><td></td>") ++ ((number_cell c.args.row.now.repeat) ++ (codes
+    "<td></td></tr>\n")))))
+    c.in_ok-append_row_head.ensures (two c.append_row_head.new.out.items c.append_composite_reference.new.out.items
+    c.append_fixed-2.new.out.items (reference_cell c.args.names.now c.args.row.now.reference) ((use_cell c.args.row.now.requirement) ++
+    ((codes "<td>composite</td><td></td>") ++ ((number_cell c.args.row.now.repeat) ++ (codes "<td></td></tr>\n"))))
+    c.in_ok-append_composite_reference.ensures (two c.append_composite_reference.new.out.items c.append_use_cell.new.out.items
+    c.append_fixed-2.new.out.items (use_cell c.args.row.now.requirement) ((codes "<td>composite</td><td></td>") ++ ((number_cell
+    c.args.row.now.repeat) ++ (codes "<td></td></tr>\n")))
+    c.in_ok-append_use_cell.ensures (two c.append_use_cell.new.out.items c.append_fixed.new.out.items c.append_fixed-2.new.out.items
+    (codes "<td>composite</td><td></td>") ((number_cell c.args.row.now.repeat) ++ (codes "<td></td></tr>\n"))
+    c.in_ok-append_fixed.ensures (two c.append_fixed.new.out.items c.append_number_cell.new.out.items c.append_fixed-2.new.out.items
+    (number_cell c.args.row.now.repeat) (codes "<td></td></tr>\n")
     c.in_ok-append_number_cell.ensures adds))))))
     c.append_fixed-2.ensures

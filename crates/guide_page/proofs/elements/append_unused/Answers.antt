@@ -8,6 +8,8 @@ use Rattle.guide_page.proofs.elements.append_unused.Goals as goal
 
 pub returns : goal.returns
 returns c =
-    on_ok_weaker c.append_named_codes.result (λ adds. (two c.args.out.now.items c.append_fixed.new.out.items c.append_named_codes.new.out.items (codes "<br>not used: ") (flat_map (named_code c.args.names.now c.args.reference.now) c.args.codes.now)
+    on_ok_weaker c.append_named_codes.result (λ adds. (two c.args.out.now.items c.append_fixed.new.out.items
+    c.append_named_codes.new.out.items (codes "<br>not used: ") (flat_map (named_code c.args.names.now c.args.reference.now)
+    c.args.codes.now)
     c.in_ok-append_fixed.ensures adds))
     c.append_named_codes.ensures

@@ -9,7 +9,11 @@ use Rattle.guide_page.proofs.elements.append_unused_row.Goals as goal
 
 pub returns : goal.returns
 returns c =
-    on_ok_weaker c.append_fixed.result (λ adds. (two c.args.out.now.items c.append_row_head.new.out.items c.append_fixed.new.out.items (row_head c.args.name.now) ((reference_cell c.args.names.now c.args.reference.now) ++ (codes "<td>not used</td><td></td><td></td><td></td><td></td></tr>\n"))
-    c.in_ok-append_row_head.ensures (two c.append_row_head.new.out.items c.append_reference_cell.new.out.items c.append_fixed.new.out.items (reference_cell c.args.names.now c.args.reference.now) (codes "<td>not used</td><td></td><td></td><td></td><td></td></tr>\n")
+    on_ok_weaker c.append_fixed.result (λ adds. (two c.args.out.now.items c.append_row_head.new.out.items c.append_fixed.new.out.items
+    (row_head c.args.name.now) ((reference_cell c.args.names.now c.args.reference.now) ++ (codes
+    "<td>not used</td><td></td><td></td><td></td><td></td></tr>\n"))
+    c.in_ok-append_row_head.ensures (two c.append_row_head.new.out.items c.append_reference_cell.new.out.items
+    c.append_fixed.new.out.items (reference_cell c.args.names.now c.args.reference.now) (codes
+    "<td>not used</td><td></td><td></td><td></td><td></td></tr>\n")
     c.in_ok-append_reference_cell.ensures adds)))
     c.append_fixed.ensures

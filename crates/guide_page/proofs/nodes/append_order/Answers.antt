@@ -10,7 +10,9 @@ use Rattle.guide_page.proofs.nodes.append_order.Goals as goal
 
 pub returns : goal.returns
 returns c =
-    on_ok_weaker c.append_table_end.result (λ adds. (two c.args.out.now.items c.append_order_head.new.out.items c.append_table_end.new.out.items (order_head) ((all_order_rows c.args.names.now [] (nodes_view c.args.nodes.now)) ++ (table_end))
-    c.in_ok-append_order_head.ensures (two c.append_order_head.new.out.items c.append_nodes.new.out.items c.append_table_end.new.out.items (all_order_rows c.args.names.now [] (nodes_view c.args.nodes.now)) (table_end)
+    on_ok_weaker c.append_table_end.result (λ adds. (two c.args.out.now.items c.append_order_head.new.out.items
+    c.append_table_end.new.out.items (order_head) ((all_order_rows c.args.names.now [] (nodes_view c.args.nodes.now)) ++ (table_end))
+    c.in_ok-append_order_head.ensures (two c.append_order_head.new.out.items c.append_nodes.new.out.items
+    c.append_table_end.new.out.items (all_order_rows c.args.names.now [] (nodes_view c.args.nodes.now)) (table_end)
     c.in_ok-append_nodes.ensures adds)))
     c.append_table_end.ensures

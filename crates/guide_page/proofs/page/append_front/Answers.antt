@@ -12,10 +12,20 @@ use Rattle.guide_page.proofs.page.append_front.Goals as goal
 
 pub returns : goal.returns
 returns c =
-    on_ok_weaker c.append_set.result (λ adds. (two c.args.out.now.items c.append_title.new.out.items c.append_set.new.out.items (title_part c.args.rows.now.head.name c.args.rows.now.head.set) ((set_words c.args.names.now) ++ ((head_part c.args.rows.now.head) ++ ((dictionary_part c.args.rows.now.head.dictionary) ++ ((order_part c.args.names.now (nodes_view c.args.rows.now.nodes.items)) ++ (set_part (guide_of c.args.rows.now))))))
-    c.in_ok-append_title.ensures (two c.append_title.new.out.items c.append_set_words.new.out.items c.append_set.new.out.items (set_words c.args.names.now) ((head_part c.args.rows.now.head) ++ ((dictionary_part c.args.rows.now.head.dictionary) ++ ((order_part c.args.names.now (nodes_view c.args.rows.now.nodes.items)) ++ (set_part (guide_of c.args.rows.now)))))
-    c.in_ok-append_set_words.ensures (two c.append_set_words.new.out.items c.append_head.new.out.items c.append_set.new.out.items (head_part c.args.rows.now.head) ((dictionary_part c.args.rows.now.head.dictionary) ++ ((order_part c.args.names.now (nodes_view c.args.rows.now.nodes.items)) ++ (set_part (guide_of c.args.rows.now))))
-    c.in_ok-append_head.ensures (two c.append_head.new.out.items c.append_dictionary.new.out.items c.append_set.new.out.items (dictionary_part c.args.rows.now.head.dictionary) ((order_part c.args.names.now (nodes_view c.args.rows.now.nodes.items)) ++ (set_part (guide_of c.args.rows.now)))
-    c.in_ok-append_dictionary.ensures (two c.append_dictionary.new.out.items c.append_all_rows.new.out.items c.append_set.new.out.items (order_part c.args.names.now (nodes_view c.args.rows.now.nodes.items)) (set_part (guide_of c.args.rows.now))
+    on_ok_weaker c.append_set.result (λ adds. (two c.args.out.now.items c.append_title.new.out.items c.append_set.new.out.items
+    (title_part c.args.rows.now.head.name c.args.rows.now.head.set) ((set_words c.args.names.now) ++ ((head_part c.args.rows.now.head) ++
+    ((dictionary_part c.args.rows.now.head.dictionary) ++ ((order_part c.args.names.now (nodes_view c.args.rows.now.nodes.items)) ++
+    (set_part (guide_of c.args.rows.now))))))
+    c.in_ok-append_title.ensures (two c.append_title.new.out.items c.append_set_words.new.out.items c.append_set.new.out.items (set_words
+    c.args.names.now) ((head_part c.args.rows.now.head) ++ ((dictionary_part c.args.rows.now.head.dictionary) ++ ((order_part
+    c.args.names.now (nodes_view c.args.rows.now.nodes.items)) ++ (set_part (guide_of c.args.rows.now)))))
+    c.in_ok-append_set_words.ensures (two c.append_set_words.new.out.items c.append_head.new.out.items c.append_set.new.out.items
+    (head_part c.args.rows.now.head) ((dictionary_part c.args.rows.now.head.dictionary) ++ ((order_part c.args.names.now (nodes_view
+    c.args.rows.now.nodes.items)) ++ (set_part (guide_of c.args.rows.now))))
+    c.in_ok-append_head.ensures (two c.append_head.new.out.items c.append_dictionary.new.out.items c.append_set.new.out.items
+    (dictionary_part c.args.rows.now.head.dictionary) ((order_part c.args.names.now (nodes_view c.args.rows.now.nodes.items)) ++
+    (set_part (guide_of c.args.rows.now)))
+    c.in_ok-append_dictionary.ensures (two c.append_dictionary.new.out.items c.append_all_rows.new.out.items c.append_set.new.out.items
+    (order_part c.args.names.now (nodes_view c.args.rows.now.nodes.items)) (set_part (guide_of c.args.rows.now))
     c.in_ok-append_all_rows.ensures adds))))))
     c.append_set.ensures
