@@ -6,7 +6,7 @@ use Rattle.std.specs.List.{list_all}
 use Rattle.std.specs.Io.KnownBytes.{Appends}
 use Rattle.clap.specs.Words.{Text}
 use Rattle.guide_names.specs.Names.{Words}
-use Rattle.names_file.specs.Files.{AreRefused, AreWords}
+use Rattle.names_given.specs.Files.{AreRefused, AreWords}
 use Rattle.explain_command.specs.CommandLine.{AsksForText, NamesFiles, names_given}
 use Rattle.file_names.specs.Shown.{shown}
 use Rattle.explain_command.specs.Failure.{IsOfInput, line_in, line_of}

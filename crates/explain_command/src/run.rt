@@ -8,11 +8,11 @@ use crate::command::{Asked, Paths, read_words};
 use crate::explain::finish;
 use crate::failure::Failure;
 use crate::files::{FileTold, append, failure_lines, lines_of, status_of, tell_files};
-use check_command::Judged;
 use file_names::append_shown;
 use guide_names::Names;
 use hub_kinds::NoMemory;
-use names_file::names_at;
+use names_file::JudgedNames;
+use names_given::names_at;
 use night_ends::print_text;
 use std::alloc::Global;
 use std::convert::AsStr;
@@ -93,8 +93,8 @@ where
         → IsNamedRun (Some names.now) (map (λ p. p.now) paths.now) result (O.contents out.old) (O.contents out.new) }
 {
     match names_at(rt, names) {
-        Ok(Judged::Taken(words)) => explain_files(rt, &words, paths, out, err),
-        Ok(Judged::Refused(text)) => refuse_names(rt.alloc(), names, text.as_slice(), err),
+        Ok(JudgedNames::Taken(words)) => explain_files(rt, &words, paths, out, err),
+        Ok(JudgedNames::Refused(text)) => refuse_names(rt.alloc(), names, text.as_slice(), err),
         Err(_) => Failure::Memory.report(err).status,
     }
 }

@@ -1,4 +1,3 @@
-pub mod Files
 pub mod GuideSubjects
 pub mod Refused
 pub mod Warnings

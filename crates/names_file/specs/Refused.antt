@@ -9,9 +9,11 @@ use Rattle.guide_names.specs.declared.fault.Cause.TheVariants as cause
 use Rattle.guide_names.specs.declared.fault.NamesFault.{NamesFault}
 use Rattle.guide_names.specs.declared.fault.NamesFault.TheVariants as fault
 use Rattle.guide_names.specs.declared.fault.Refused.{Refused}
-use Rattle.check_command.specs.SetupFiles.{unreadable}
-use Rattle.check_command.specs.declared.judged.Judged.{Judged}
-use Rattle.check_command.specs.declared.judged.Judged.TheVariants as judged
+use Rattle.names_file.specs.declared.judge.JudgedNames.{JudgedNames}
+use Rattle.names_file.specs.declared.judge.JudgedNames.TheVariants as judged
+
+abbrev pub unreadable : List ℕ
+unreadable = codes "it can't be read"
 
 abbrev pub cause_text : Cause → List ℕ
 cause_text cause.Unknown = codes " isn't a key of its table"
@@ -46,6 +48,6 @@ IsTaken None words = ⊥
 IsTaken (Some bytes) words = AreNamesOf bytes words
 
 -- what a names file is judged as
-abbrev pub IsNamesJudged : Option (List ℕ) → Judged Words → Type 0
+abbrev pub IsNamesJudged : Option (List ℕ) → JudgedNames → Type 0
 IsNamesJudged bytes (judged.Taken words) = IsTaken bytes words
 IsNamesJudged bytes (judged.Refused text) = IsNamesRefused bytes text

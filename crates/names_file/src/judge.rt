@@ -1,16 +1,21 @@
 ghost use Rattle.std.specs.Prelude.{◌≡◌, ◌++◌, IfOk, OnOk};
-ghost use Rattle.check_command.specs.SetupFiles.{unreadable};
 ghost use Rattle.refusal_words.specs.Places.{key_text};
-ghost use Rattle.names_file.specs.Files.{AreJudged};
 ghost use Rattle.names_file.specs.Refused as refused;
 
-use check_command::{Judged, read_file};
 use guide_names::{Cause, Names, NamesFault, Refused, read_names};
 use hub_kinds::{Items, NoMemory, Text};
 use key_words::no_table_text;
 use refusal_words::append;
 use std::alloc::Global;
-use std::rt::Files;
+
+/// What a names file is judged as.
+#[derive(Drop)]
+pub enum JudgedNames {
+    /// The words that it has.
+    Taken(Names),
+    /// Why it is refused, in words.
+    Refused(Text),
+}
 
 fn cause_text(why: Cause) -> &'static [u8]
     ensures { result.now ≡ refused.cause_text why }
@@ -81,28 +86,20 @@ fn refusal_of(alloc: Global, bytes: &[u8], fault: &NamesFault) -> Result<Text, N
 }
 
 fn unread(alloc: Global) -> Result<Text, NoMemory>
-    ensures { IfOk result (λ text. text ≡ unreadable) }
+    ensures { IfOk result (λ text. text ≡ refused.unreadable) }
 {
     Ok(Items::from_vec(Vec::from_slice(alloc, b"it can't be read")?))
 }
 
-/// The words of the names file at `path`, or why it is refused.
-pub fn names_at<R: Files + AllocGlobal>(rt: &R, path: &str) -> Result<Judged<Names>, NoMemory>
-    ensures { IfOk result (AreJudged path.now) }
-{
-    let file = read_file(rt, path)?;
-    judge_names(rt.alloc(), &file.bytes)
-}
-
 /// What a names file with these `bytes` is judged as; none if it can't be read. The only error is out of memory.
-pub fn judge_names(alloc: Global, bytes: &Option<Text>) -> Result<Judged<Names>, NoMemory>
+pub fn judge_names(alloc: Global, bytes: &Option<Text>) -> Result<JudgedNames, NoMemory>
     ensures { IfOk result (refused.IsNamesJudged bytes.now) }
 {
     let Some(bytes) = bytes else {
-        return Ok(Judged::Refused(unread(alloc)?));
+        return Ok(JudgedNames::Refused(unread(alloc)?));
     };
     match read_names(alloc, bytes.as_slice()) {
-        Ok(names) => Ok(Judged::Taken(names)),
-        Err(fault) => Ok(Judged::Refused(refusal_of(alloc, bytes.as_slice(), &fault)?)),
+        Ok(names) => Ok(JudgedNames::Taken(names)),
+        Err(fault) => Ok(JudgedNames::Refused(refusal_of(alloc, bytes.as_slice(), &fault)?)),
     }
 }

@@ -4,7 +4,7 @@
 //! - a file is taken with just the words that its bytes write, or refused in the words of its first fault; a file that can't be read is
 //!   refused (`judge_names`);
 //! - the warnings are a line for each segment, element, code and label that the file has words for and the guide doesn't have, in the
-//!   file's order, and no other (`warnings`).
+//!   file's order, and no other (`warning_lines`).
 //!
 //! The warnings take as many steps as both files have names, times the logarithm of that.
 //!
@@ -18,5 +18,5 @@ mod judge;
 mod slot_subjects;
 mod warnings;
 
-pub use judge::{judge_names, names_at};
-pub use warnings::warnings;
+pub use judge::{JudgedNames, judge_names};
+pub use warnings::warning_lines;

@@ -65,7 +65,7 @@ fn known_in(alloc: Global, rows: &GuideRows) -> Result<Codes, NoMemory>
 }
 
 /// The lines that warn of what `names`, the words of the file at `path`, has words for, and a guide with these `rows` doesn't have.
-pub fn warnings(
+pub fn warning_lines(
     alloc: Global,
     rows: &GuideRows,
     names: &Names,

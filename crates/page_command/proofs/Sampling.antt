@@ -5,7 +5,9 @@ use Rattle.guide_tree.specs.Words.{GuideTree, guide_of}
 use Rattle.guide_tree.specs.declared.rows.GuideRows.{GuideRows}
 use Rattle.check_command.specs.declared.judged.Judged.{Judged}
 use Rattle.check_command.specs.declared.judged.Judged.TheVariants as judged
-use Rattle.names_file.specs.Files.{AreJudged}
+use Rattle.names_given.specs.Files.{AreJudged}
+use Rattle.names_file.specs.declared.judge.JudgedNames.{JudgedNames}
+use Rattle.names_file.specs.declared.judge.JudgedNames.TheVariants as told
 use Rattle.page_command.specs.Failure.{status_of}
 use Rattle.page_command.specs.Outcome.{IsBefore, IsJudged, IsNamedPage, IsPageAt, IsPageOf, IsRefusedFile, IsUnmade, IsUnnamed}
 use Rattle.page_command.specs.Outcome.{refused_line}
@@ -19,7 +21,7 @@ at path names text j guide is read page = record { guide = guide; read = subst (
 pub nameless : (guide : GuideTree) (text : List ℕ) → IsPageOf no_words guide text → IsNamedPage None guide text
 nameless guide text page = record { words = no_words; are = refl; page = page }
 
-pub named : (path : List ℕ) (guide : GuideTree) (text : List ℕ) (j : Judged Words) (words : Words) → j ≡ judged.Taken words
+pub named : (path : List ℕ) (guide : GuideTree) (text : List ℕ) (j : JudgedNames) (words : Words) → j ≡ told.Taken words
     → AreJudged path j → IsPageOf words guide text → IsNamedPage (Some path) guide text
 named path guide text j words is read page = record { words = words; are = subst (AreJudged path) is read; page = page }
 
@@ -44,7 +46,7 @@ pub refused : (path : List ℕ) (names : Option (List ℕ)) (text : List ℕ) (j
 refused path names text j f is read said =
     subst (IsBefore path names) (sym said) (record { text = text; refused = subst (IsJudged path) is read; said = refl })
 
-pub names_refused : (path text : List ℕ) (j : Judged Words) (f : Failure) → j ≡ judged.Refused text → AreJudged path j
+pub names_refused : (path text : List ℕ) (j : JudgedNames) (f : Failure) → j ≡ told.Refused text → AreJudged path j
     → f ≡ failure.Names (refused_line path text) → IsUnnamed (Some path) f
 names_refused path text j f is read said =
     subst (IsUnnamed (Some path)) (sym said) (record { text = text; refused = subst (AreJudged path) is read; said = refl })

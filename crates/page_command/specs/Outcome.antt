@@ -15,7 +15,7 @@ use Rattle.check_command.specs.declared.files.Given.{Given}
 use Rattle.check_command.specs.declared.judged.Judged.{Judged}
 use Rattle.check_command.specs.declared.judged.Judged.TheVariants as judged
 use Rattle.guide_samples.specs.Samples.{IsSample}
-use Rattle.names_file.specs.Files.{AreRefused, AreWords}
+use Rattle.names_given.specs.Files.{AreRefused, AreWords}
 use Rattle.page_command.specs.CommandLine.{AsksForText, IsGuide, names_given, value_of}
 use Rattle.page_command.specs.Samples.{AreAnswers}
 use Rattle.page_command.specs.declared.failure.Failure.{Failure}

@@ -20,7 +20,8 @@ use guide_names::Names;
 use guide_samples::complete;
 use guide_tree::Guide;
 use hub_kinds::{Items, NoMemory, Text};
-use names_file::{names_at, warnings};
+use names_file::{JudgedNames, warning_lines};
+use names_given::names_at;
 use night_ends::{Directory, print_text};
 use std::alloc::Global;
 use std::convert::AsStr;
@@ -144,8 +145,8 @@ fn page_with_file<R: Files + AllocGlobal>(
     ensures before { IfErr result (IsUnnamed (Some path.now)) }
 {
     match names_at(rt, path)? {
-        Judged::Refused(text) => Err(names_refusal(rt.alloc(), path, text.as_slice())?),
-        Judged::Taken(names) => page_with_words(rt, guide, &names, path, folder),
+        JudgedNames::Refused(text) => Err(names_refusal(rt.alloc(), path, text.as_slice())?),
+        JudgedNames::Taken(names) => page_with_words(rt, guide, &names, path, folder),
     }
 }
 
@@ -161,7 +162,7 @@ fn page_with_words<R: Files + AllocGlobal>(
     ensures warned { IfOk result (λ made. made.warnings.items ≡ warnings (guide_of guide.now) names.now path.now) }
     ensures before { IfErr result IsUnmade }
 {
-    let warnings = warnings(rt.alloc(), guide.rows(), names, path.as_bytes())?;
+    let warnings = warning_lines(rt.alloc(), guide.rows(), names, path.as_bytes())?;
     let text = page_with_samples(rt, guide, names, folder)?;
     Ok(Made { text, warnings })
 }

@@ -2,10 +2,10 @@
 use Rattle.std.specs.Prelude.{◌≡◌, ℕ, List, Option, None, Some}
 use Rattle.check_command.specs.Files.{path_of}
 use Rattle.check_command.specs.declared.files.Given.{Given}
-use Rattle.check_command.specs.declared.judged.Judged.{Judged}
-use Rattle.check_command.specs.declared.judged.Judged.TheVariants as judged
 use Rattle.guide_names.specs.Names.{Words, no_words}
 use Rattle.names_file.specs.Refused.{IsNamesRefused, IsTaken}
+use Rattle.names_file.specs.declared.judge.JudgedNames.{JudgedNames}
+use Rattle.names_file.specs.declared.judge.JudgedNames.TheVariants as judged
 
 -- the file that was read at a path writes these words
 pub record AreRead (path : List ℕ) (words : Words) : Type 0 where
@@ -20,7 +20,7 @@ pub record AreRefused (path text : List ℕ) : Type 0 where
   pub refused : IsNamesRefused file.bytes text
 
 -- what was read at the path of a names file
-abbrev pub AreJudged : (path : List ℕ) → Judged Words → Type 0
+abbrev pub AreJudged : (path : List ℕ) → JudgedNames → Type 0
 AreJudged path (judged.Taken words) = AreRead path words
 AreJudged path (judged.Refused text) = AreRefused path text
 
