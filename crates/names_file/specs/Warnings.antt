@@ -8,10 +8,10 @@ use Rattle.guide_names.specs.Names.{Words}
 use Rattle.guide_names.specs.Subjects.{subjects}
 use Rattle.names_file.specs.GuideSubjects.{subjects_of}
 
-abbrev pub warning_line : (path subject : List ℕ) → List ℕ
+unfoldable pub warning_line : (path subject : List ℕ) → List ℕ
 warning_line path subject = codes "nighthub_page: " ++ (shown path ++ (codes ": the guide has no " ++ (shown subject ++ codes "\n")))
 
-abbrev pub line_unless_known : (known : List (List ℕ)) → (path subject : List ℕ) → List ℕ
+unfoldable pub line_unless_known : (known : List (List ℕ)) → (path subject : List ℕ) → List ℕ
 line_unless_known known path subject = if contains_text known subject then [] else warning_line path subject
 
 -- the warnings of the names file at a path

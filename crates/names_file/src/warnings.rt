@@ -18,6 +18,7 @@ fn append(out: &mut Vec<u8>, text: &[u8]) -> Result<(), NoMemory>
     Ok(())
 }
 
+#[tactic(auto, unfolding(crate::specs::Warnings::warning_line))]
 fn append_line(out: &mut Vec<u8>, path: &[u8], subject: &[u8]) -> Result<(), NoMemory>
     ensures { OnOk result (out.new.items ≡ out.old.items ++ warnings.warning_line path.now subject.now) }
 {
@@ -28,6 +29,7 @@ fn append_line(out: &mut Vec<u8>, path: &[u8], subject: &[u8]) -> Result<(), NoM
     append(out, b"\n")
 }
 
+#[tactic(auto, unfolding(crate::specs::Warnings::line_unless_known))]
 fn append_unless_known(
     out: &mut Vec<u8>,
     known: &Codes,
