@@ -90,3 +90,16 @@ def sum_each_crate_once(rtlib):
         return kept[key]
 
     rtlib.Crate.stamp = stamp
+
+
+def list_below_once(rtlib):
+    """Has the toolchain list the libraries below a crate once. It goes down each way that leads to a library: a hundred thousand ways, for
+    the highest crate, at each question."""
+    list_below = rtlib.Crate.below
+
+    def below(crate):
+        if not hasattr(crate, "listed_below"):
+            crate.listed_below = list_below(crate)
+        return list(crate.listed_below)
+
+    rtlib.Crate.below = below

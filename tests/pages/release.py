@@ -76,16 +76,14 @@ def examples():
         page.want("./install", bash(f"./install {prefix} && ./install {prefix}", release)[0], 0)
         for name in sorted(os.listdir(os.path.join(prefix, "bin"))):
             described(page, prefix, name)
-        config = os.path.join(here, "config")
-        os.makedirs(os.path.join(config, "guides"))
+        hub = os.path.join(here, "hub")
+        os.makedirs(os.path.join(hub, "guides"))
         shared = os.path.join(prefix, "share", "nighthub", "examples")
         for name, into in (("guides/h850.toml", "guides"), ("guides/h856.toml", "guides"), ("night/setup.toml", ""), ("night/counters.toml", "")):
-            shutil.copy(os.path.join(shared, name), os.path.join(config, into))
-        shutil.copy(os.path.join(release, "examples", "night", "two_partners.x12"), os.path.join(here, "in.x12"))
-        nights = os.path.join(here, "nights")
-        os.mkdir(nights)
-        run = next(it for it in commands("docs/OPERATIONS.md", "run_night 20260302").splitlines() if it.startswith("run_night --first "))
-        found = bash(run, here, NIGHTS=nights, CONFIG=config, NIGHTHUB=os.path.join(prefix, "bin", "nighthub"),
-                     PATH=os.path.join(prefix, "bin") + os.pathsep + os.environ["PATH"])
-        page.want("a night of run_night, installed", found, (0, f"{nights}/20260301/out\n", ""))
+            shutil.copy(os.path.join(shared, name), os.path.join(hub, into))
+        os.mkdir(os.path.join(here, "sunday"))
+        shutil.copy(os.path.join(release, "examples", "night", "two_partners.x12"), os.path.join(here, "sunday", "all.x12"))
+        run = "\n".join(commands("docs/OPERATIONS.md", "nighthub_day init hub").splitlines()[:2])
+        status, said, failed = bash(run, here, PATH=os.path.join(prefix, "bin") + os.pathsep + os.environ["PATH"])
+        page.holds("a night of a hub, installed", (status, failed) == (0, "") and " is ready: hub/nights/000001-20260301/out, record " in said, f"{status} {said} {failed}")
     return page

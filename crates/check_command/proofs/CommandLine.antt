@@ -2,16 +2,14 @@
 use Rattle.std.proofs.Common.{◌≡◌, ◌∙◌, ℕ, List, [], ◌∷◌, length, map, Option, None, Some, option_map, true, false, codes}
 use Rattle.std.proofs.Common.{ap, arith, is_some, refl, subst, sym}
 use Rattle.std.specs.Borrow.{Bor}
-use Rattle.clap.specs.Words.{HasKind, HasMatchesOf, Text, fault_of, first_value, found_of}
-use Rattle.clap.specs.Words.{is_simple, is_simple_and_free, kind_of, takes}
-use Rattle.clap.specs.declared.error.Error.{Error}
-use Rattle.clap.specs.declared.error.kind.ErrorKind.TheVariants.{OutOfMemory}
+use Rattle.clap.specs.Words.{HasMatchesOf, Text, first_value, found_of, is_simple, is_simple_and_free}
 use Rattle.clap.specs.declared.parser.matches.ArgMatches.{ArgMatches}
 use Rattle.clap.proofs.OnLiterals.{clap_on_literals}
 use Rattle.night_ends.specs.Words.{or_none, values_found}
-use Rattle.night_ends.proofs.ForAbove.{all_found, asks_for_text, found}
-use Rattle.check_command.specs.CommandLine.{AreNone, AreOptions, AsksForText, IsAsked, IsGiven, IsShown, check_app, names_none}
-use Rattle.check_command.specs.CommandLine.{is_all, option_value, values_of}
+use Rattle.night_ends.proofs.ForAbove.{all_found, found}
+use Rattle.program_frame.specs.Arguments.{value_in, values_in}
+use Rattle.program_frame.specs.Matching.{AsksForText}
+use Rattle.check_command.specs.CommandLine.{AreNone, AreOptions, IsAsked, IsGiven, check_app, is_all, names_none}
 use Rattle.check_command.specs.declared.command.Asked.{Asked}
 use Rattle.check_command.specs.declared.command.Asked.TheVariants.{Check, Show}
 use Rattle.check_command.specs.declared.command.Options.{Options}
@@ -37,17 +35,11 @@ asked words m (Check o) has given = record {
 }
 asked words m (Show text) has given = absurd given
 
-pub shown : (words : List Text) (e : Error) (asked : Asked) → HasKind (fault_of check_app words) e
-    → (takes check_app words ≡ true → kind_of e ≡ OutOfMemory) → IsShown (kind_of e) asked → IsAsked words asked
-shown words e (Check o) kind passes is = absurd is
-shown words e (Show text) kind passes is =
-    let asks = asks_for_text check_app words e kind passes is in record { asked = asks.0; no_run = asks.1 }
-
 no_text : (text : String Global) (o : Options) → Show text ≡ Check o → ⊥
 no_text text o e = cc
 
 -- the text that is asked for isn't shown in place of a check
-pub text_asked : (words : List Text) (asked : Asked) (text : String Global) → asked ≡ Show text → IsAsked words asked → AsksForText words
+pub text_asked : (words : List Text) (asked : Asked) (text : String Global) → asked ≡ Show text → IsAsked words asked → AsksForText check_app words
 text_asked words asked text is by = subst (λ (a : Asked). IsAsked words a) is by
 
 none_setup : (o : Option (Bor (List ℕ))) (v : Option Text) → v ≡ option_map (λ s. s.now) o → is_some o ≡ false → v ≡ None
@@ -70,7 +62,7 @@ none_given value values o none setup guides counters = record {
 
 -- and the arguments give them none
 pub none_valued : (words : List Text) (m : ArgMatches) → HasMatchesOf check_app words m
-    → AreNone (first_value (found_of m)) (values_found (found_of m)) → AreNone (option_value words) (values_of words)
+    → AreNone (first_value (found_of m)) (values_found (found_of m)) → AreNone (value_in check_app words) (values_in check_app words)
 none_valued words m has none = record {
   setup = sym (found check_app simple words m (codes "setup") has) ∙ none.setup;
   guides = sym (ap or_none (all_found check_app simple words m (codes "guide") has)) ∙ none.guides;
@@ -79,7 +71,7 @@ none_valued words m has none = record {
 
 -- arguments by which files are checked name them
 pub named : (words : List Text) (asked : Asked) (o : Options) → asked ≡ Check o → IsAsked words asked
-    → AreOptions (option_value words) (values_of words) o
+    → AreOptions (value_in check_app words) (values_in check_app words) o
 named words (Check p) o e is =
-    let same : p ≡ o = cc in subst (λ (x : Options). AreOptions (option_value words) (values_of words) x) same is
+    let same : p ≡ o = cc in subst (λ (x : Options). AreOptions (value_in check_app words) (values_in check_app words) x) same is
 named words (Show text) o e is = absurd (no_text text o e)

@@ -1,5 +1,4 @@
 pub mod CommandLine
-pub mod Failure
 pub mod Files
 pub mod Further
 pub mod Judged

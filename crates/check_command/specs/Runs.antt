@@ -2,7 +2,9 @@
 use Rattle.std.specs.Prelude.{ℕ, ◌≡◌, ◌⊎◌, Bool, List, Option, IfSome, is_some}
 use Rattle.std.specs.Io.KnownBytes.{Appends}
 use Rattle.clap.specs.Words.{Text}
-use Rattle.check_command.specs.CommandLine.{AreOptions, AsksForText, option_value, values_of}
+use Rattle.program_frame.specs.Arguments.{value_in, values_in}
+use Rattle.program_frame.specs.Matching.{AsksForText}
+use Rattle.check_command.specs.CommandLine.{AreOptions, check_app}
 use Rattle.check_command.specs.Files.{paths_in, paths_of}
 use Rattle.check_command.specs.Further.{AreSaid, Sentences}
 use Rattle.check_command.specs.Lines.{status_with, text_of}
@@ -33,6 +35,6 @@ pub record IsChecked (paths : List (List ℕ)) (all : Bool) (status : ℕ) (was 
 -- the files that the arguments name were checked, or a text was shown that they ask for
 abbrev pub IsPrinted : (words : List Text) → (status : ℕ) → (was is : Option (List ℕ)) → Type 0
 IsPrinted words status was is =
-    ((options : Options) × AreOptions (option_value words) (values_of words) options × IsChecked
+    ((options : Options) × AreOptions (value_in check_app words) (values_in check_app words) options × IsChecked
     (paths_in options) options.all status was is)
-    ⊎ (AsksForText words × (status ≡ 0))
+    ⊎ (AsksForText check_app words × (status ≡ 0))

@@ -1,17 +1,20 @@
-ghost use Rattle.std.specs.Prelude.{◌≡◌, ◌≢◌, codes, false, map, option_map, IfOk, IfErr};
-ghost use Rattle.clap.specs.Words.{app_of, first_value, found_of, kind_of, rule_of};
+ghost use Rattle.std.specs.Prelude.{◌≡◌, map, option_map, IfOk, IfErr};
+ghost use Rattle.clap.specs.Words.{app_of, first_value, found_of};
 ghost use Rattle.night_ends.specs.Words.{values_found};
-ghost use Rattle.check_command.specs.CommandLine.{AreNone, IsAsked, IsCommandLine, IsGiven, IsShown, check_app, files_app, is_all};
-ghost use Rattle.check_command.specs.CommandLine.{option_flag, option_free, option_repeated};
-ghost use Rattle.check_command.specs.Failure.{IsUsage};
+ghost use Rattle.program_frame.specs.Mistake.{IsUsage};
+ghost use Rattle.check_command.specs.CommandLine.{AreNone, IsAsked, IsCommandLine, IsGiven, check_app, files_app, is_all};
 
-use crate::mistake::Mistake;
-use clap::error::ErrorKind;
-use clap::{Arg, ArgAction, ArgMatches, Command, Error};
+use clap::{ArgMatches, Command};
 use hub_kinds::copy_text;
-use night_ends::{RELEASE, mistake_found, texts_given, with_argument};
+use night_ends::{texts_given, with_argument};
+use program_frame::{
+    Matched, Mistake, match_words, option_flag, option_free, option_repeated, program,
+};
 use std::alloc::{AllocError, Global};
 use std::convert::AsStr;
+
+/// The name of the program.
+pub const PROGRAM: &str = "nighthub_check";
 
 /// What the text of `--help` ends with.
 const STATUSES: &str = "Status:
@@ -64,9 +67,9 @@ pub fn read_words<'a, S: AsStr>(alloc: Global, words: &'a [S]) -> Result<Asked<'
     ensures usage { IfErr result (λ mistake. IsUsage mistake → IsCommandLine (map S.text words.now) → ⊥) }
 {
     let command = command(alloc)?;
-    match command.try_get_matches_from(words) {
-        Ok(matches) => options_given(alloc, &matches),
-        Err(error) => shown(alloc, &error),
+    match match_words(alloc, command, words)? {
+        Matched::Values(values) => options_given(alloc, &values),
+        Matched::Text(text) => Ok(Asked::Show(text)),
     }
 }
 
@@ -74,56 +77,30 @@ fn command<'a>(alloc: Global) -> Result<Command<'a>, AllocError>
     ensures { IfOk result (λ command. app_of command ≡ check_app) }
 {
     let command = files_command(alloc)?;
-    with_argument(command, flag(alloc))
+    let all = option_flag(
+        alloc,
+        "all",
+        "Says all that is wrong with each table, row and node by itself",
+    );
+    with_argument(command, all)
 }
 
 /// The program with the options that name files.
 fn files_command<'a>(alloc: Global) -> Result<Command<'a>, AllocError>
     ensures { IfOk result (λ command. app_of command ≡ files_app) }
 {
-    let command = Command::new(alloc, "nighthub_check")
-        .about("Says what is wrong with the files of a setup")
-        .version(RELEASE)
-        .after_help(STATUSES)
-        .no_binary_name(true);
-    let setup = option(alloc, "setup", "The partners and routes");
+    let command = program(
+        alloc,
+        PROGRAM,
+        "Says what is wrong with the files of a setup",
+        STATUSES,
+    );
+    let setup = option_free(alloc, "setup", "FILE", "The partners and routes");
     let command = with_argument(command, setup)?;
-    let guide = repeated(alloc, "guide", "A guide, given once for each");
+    let guide = option_repeated(alloc, "guide", "FILE", "A guide, given once for each");
     let command = with_argument(command, guide)?;
-    let counters = option(alloc, "counters", "The numbers to go on from");
+    let counters = option_free(alloc, "counters", "FILE", "The numbers to go on from");
     with_argument(command, counters)
-}
-
-/// An option of this name that takes one file, and is optional.
-fn option<'a>(alloc: Global, name: &'a str, help: &'a str) -> Arg<'a>
-    ensures rule { rule_of result ≡ option_free name.now }
-    ensures local { result.global ≡ false }
-{
-    Arg::new(alloc, name)
-        .long(name)
-        .value_name("FILE")
-        .help(help)
-        .required(false)
-        .action(ArgAction::Set)
-}
-
-/// The option without a value, by which a check continues after a refusal.
-fn flag<'a>(alloc: Global) -> Arg<'a>
-    ensures rule { rule_of result ≡ option_flag (codes "all") }
-    ensures local { result.global ≡ false }
-{
-    Arg::new(alloc, "all")
-        .long("all")
-        .help("Says all that is wrong with each table, row and node by itself")
-        .action(ArgAction::SetTrue)
-}
-
-/// An option that may be given again.
-fn repeated<'a>(alloc: Global, name: &'a str, help: &'a str) -> Arg<'a>
-    ensures rule { rule_of result ≡ option_repeated name.now }
-    ensures local { result.global ≡ false }
-{
-    option(alloc, name, help).action(ArgAction::Append)
 }
 
 fn options_given<'a>(alloc: Global, matches: &ArgMatches<'a>) -> Result<Asked<'a>, Mistake>
@@ -150,20 +127,5 @@ fn is_all(value: Option<&str>) -> bool
     match value {
         None => false,
         Some(text) => text.as_bytes() == b"true".as_slice(),
-    }
-}
-
-/// The text that is asked for, where the arguments have no mistake.
-fn shown<'a>(alloc: Global, error: &Error) -> Result<Asked<'a>, Mistake>
-    ensures shown { IfOk result (IsShown (kind_of error.now)) }
-    ensures usage { IfErr result (λ mistake. IsUsage mistake → kind_of error.now ≢ ErrorKind.OutOfMemory) }
-{
-    match error.kind() {
-        ErrorKind::DisplayHelp | ErrorKind::DisplayVersion => {
-            let text = format!(in alloc; "{error}")?;
-            Ok(Asked::Show(text))
-        }
-        ErrorKind::OutOfMemory => Err(Mistake::Memory),
-        _ => Err(Mistake::Usage(mistake_found(alloc, error)?)),
     }
 }

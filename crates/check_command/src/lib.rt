@@ -30,23 +30,19 @@
 
 mod all_lines;
 mod command;
-mod failure;
 mod files;
 mod further;
 mod judge;
 mod judged;
 mod lines;
-mod mistake;
 mod run;
 mod told;
 mod warned;
 
-pub use command::{Asked, Options, read_words};
-pub use failure::{Failure, Reported};
+pub use command::{Asked, Options, PROGRAM, read_words};
 pub use files::{Given, GivenFiles, read_file};
 pub use further::said_of_files;
 pub use judge::{SetupTold, judge_setup, tell_files};
 pub use judged::{Judged, judge_guide};
-pub use mistake::Mistake;
 pub use run::check_main;
 pub use told::{FileTold, Listed, Told};

@@ -1,20 +1,18 @@
 ghost use Rattle.std.specs.Prelude.{◌≡◌, ◌≢◌, ◌≤◌, ◌⊎◌, IfOk, map};
-ghost use Rattle.std.specs.Io.KnownBytes.{Appends};
 ghost use Rattle.check_command.specs.CommandLine.{IsCommandLine};
 ghost use Rattle.check_command.specs.Files.{paths_in};
 ghost use Rattle.check_command.specs.Runs.{IsChecked, IsPrinted, IsReport};
 ghost use Rattle.check_command.specs.Lines as lines;
 
 use crate::all_lines::{all_lines, all_status};
-use crate::command::{Asked, Options, read_words};
-use crate::failure::Failure;
+use crate::command::{Asked, Options, PROGRAM, read_words};
 use crate::files::read_files;
 use crate::further::said_if;
 use crate::judge::tell_files;
 use crate::lines::{lines_of, status_of};
 use crate::told::FileTold;
 use hub_kinds::{Items, NoMemory, Texts};
-use night_ends::print_text;
+use program_frame::{print_out, report_memory};
 use std::alloc::Global;
 use std::convert::AsStr;
 use std::io::Write;
@@ -44,8 +42,8 @@ where
 {
     match read_words(rt.alloc(), words) {
         Ok(Asked::Check(options)) => check(rt, &options, out, err),
-        Ok(Asked::Show(text)) => finish(text.as_bytes(), 0, out, err),
-        Err(mistake) => mistake.report(err).status,
+        Ok(Asked::Show(text)) => print_out(PROGRAM, text.as_bytes(), 0, out, err),
+        Err(mistake) => mistake.report(PROGRAM, err).status,
     }
 }
 
@@ -62,8 +60,8 @@ where
         → IsChecked (paths_in options.now) options.now.all result (O.contents out.old) (O.contents out.new) }
 {
     match report_of(rt, options) {
-        Ok(report) => finish(report.text.as_slice(), report.status, out, err),
-        Err(_) => Failure::Memory.report(err).status,
+        Ok(report) => print_out(PROGRAM, report.text.as_slice(), report.status, out, err),
+        Err(_) => report_memory(PROGRAM, err).status,
     }
 }
 
@@ -102,16 +100,4 @@ fn status_with(told: &[FileTold<'_>], said: &Option<Items<Texts>>) -> u8
         None => status_of(told),
         Some(all) => all_status(told, all.as_slice()),
     }
-}
-
-/// Prints a text, and gives this status, or that of a failure of standard output.
-fn finish<O: Write, E: Write>(text: &[u8], status: u8, out: &mut O, err: &mut E) -> u8
-    ensures printed { result ≢ 5 → Appends (O.contents out.old) (O.contents out.new) text.now }
-    ensures status { result ≢ 5 → result ≡ status }
-    ensures quiet { result ≢ 5 → err.new ≡ err.old }
-{
-    if print_text(text, out).is_err() {
-        return Failure::Stdout.report(err).status;
-    }
-    status
 }

@@ -1,15 +1,15 @@
 -- What clap found in the arguments is what the definitions say of them.
 use Rattle.std.proofs.Common.{◌≡◌, ◌∙◌, List, true, codes, refl, String, sym, ap, subst}
-use Rattle.clap.specs.Words.{HasKind, HasMatchesOf, Text, fault_of, first_value, found_of, is_simple, is_simple_and_free, kind_of, takes}
-use Rattle.clap.specs.declared.error.Error.{Error}
-use Rattle.clap.specs.declared.error.kind.ErrorKind.TheVariants.{OutOfMemory}
+use Rattle.clap.specs.Words.{HasMatchesOf, Text, first_value, found_of, is_simple, is_simple_and_free}
 use Rattle.clap.specs.declared.parser.matches.ArgMatches.{ArgMatches}
 use Rattle.clap.proofs.OnLiterals.{clap_on_literals}
 use Rattle.std.specs.declared.alloc.Global.{Global}
 use Rattle.night_ends.specs.Words.{or_none, values_found}
-use Rattle.night_ends.proofs.ForAbove.{all_found, asks_for_text, found}
+use Rattle.night_ends.proofs.ForAbove.{all_found, found}
 use Rattle.gather_command.specs.declared.command.Job.{Job}
-use Rattle.gather_command.specs.CommandLine.{AsksForText, IsAsked, IsJob, IsGiven, IsShown, NamesNone, gather_app, option_value, values_of}
+use Rattle.program_frame.specs.Arguments.{value_in, values_in}
+use Rattle.program_frame.specs.Matching.{AsksForText}
+use Rattle.gather_command.specs.CommandLine.{IsAsked, IsGiven, IsJob, NamesNone, gather_app}
 use Rattle.gather_command.specs.declared.command.Asked.{Asked}
 use Rattle.gather_command.specs.declared.command.Asked.TheVariants.{Gather, Show}
 
@@ -31,20 +31,15 @@ asked words m (Show text) has given = absurd given
 
 -- where clap found no file to make, the arguments name none
 pub none_named : (words : List Text) (m : ArgMatches) → HasMatchesOf gather_app words m → NamesNone (first_value (found_of m))
-    → NamesNone (option_value words)
+    → NamesNone (value_in gather_app words)
 none_named words m has none = sym (found gather_app simple words m (codes "out") has) ∙ none
-
-pub shown : (words : List Text) (e : Error) (asked : Asked) → HasKind (fault_of gather_app words) e
-    → (takes gather_app words ≡ true → kind_of e ≡ OutOfMemory) → IsShown (kind_of e) asked → IsAsked words asked
-shown words e (Gather job) kind passes is = absurd is
-shown words e (Show text) kind passes is =
-    let both = asks_for_text gather_app words e kind passes is in record { asked = both.0; no_run = both.1 }
 
 -- the job that is asked for is the one that the arguments name
 pub job_named : (words : List Text) (asked : Asked) (job : Job) → asked ≡ Gather job → IsAsked words asked
-    → IsJob (option_value words) (values_of words) job
+    → IsJob (value_in gather_app words) (values_in gather_app words) job
 job_named words asked job is by = subst (λ (a : Asked). IsAsked words a) is by
 
 -- the text that is asked for isn't shown in place of a job
-pub text_asked : (words : List Text) (asked : Asked) (text : String Global) → asked ≡ Show text → IsAsked words asked → AsksForText words
+pub text_asked : (words : List Text) (asked : Asked) (text : String Global) → asked ≡ Show text → IsAsked words asked
+    → AsksForText gather_app words
 text_asked words asked text is by = subst (λ (a : Asked). IsAsked words a) is by

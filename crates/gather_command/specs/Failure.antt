@@ -8,8 +8,6 @@ use Rattle.gather_files.specs.declared.fault.GatherFault.TheVariants as fault
 use Rattle.file_names.specs.Shown.{shown}
 use Rattle.gather_command.specs.declared.failure.Failure.{Failure}
 use Rattle.gather_command.specs.declared.failure.Failure.TheVariants as failure
-use Rattle.gather_command.specs.declared.mistake.Mistake.{Mistake}
-use Rattle.gather_command.specs.declared.mistake.Mistake.TheVariants as mistake
 
 -- what the line says before a path, the path, and what after it
 abbrev pub before_path : Failure → List ℕ
@@ -18,7 +16,6 @@ before_path (failure.TooLong path) = codes "nighthub_gather: input "
 before_path (failure.Output path) = codes "nighthub_gather: output "
 before_path (failure.There path) = codes "nighthub_gather: output "
 before_path (failure.PartThere path) = codes "nighthub_gather: output "
-before_path failure.Stdout = codes "nighthub_gather: output stdout"
 before_path failure.Memory = codes "nighthub_gather: memory"
 
 abbrev pub path_of : Failure → List ℕ
@@ -27,7 +24,6 @@ path_of (failure.TooLong path) = path.now
 path_of (failure.Output path) = path.now
 path_of (failure.There path) = path.now
 path_of (failure.PartThere path) = path.now
-path_of failure.Stdout = []
 path_of failure.Memory = []
 
 abbrev pub after_path : Failure → List ℕ
@@ -36,7 +32,6 @@ after_path (failure.TooLong path) = codes " too long\n"
 after_path (failure.Output path) = codes "\n"
 after_path (failure.There path) = codes " is there already\n"
 after_path (failure.PartThere path) = codes ".part is there already\n"
-after_path failure.Stdout = codes "\n"
 after_path failure.Memory = codes "\n"
 
 -- the line on standard error
@@ -49,26 +44,11 @@ status_of (failure.TooLong path) = 4
 status_of (failure.Output path) = 5
 status_of (failure.There path) = 5
 status_of (failure.PartThere path) = 5
-status_of failure.Stdout = 5
 status_of failure.Memory = 6
 
 -- a status: 0 or 1, or that of a failure
 abbrev pub IsStatus : ℕ → Type 0
 IsStatus n = IsTrue (n == 0 || (n == 1 || (n == 2 || (n == 4 || (n == 5 || n == 6)))))
-
--- the line and the status of a mistake in the arguments
-abbrev pub mistake_line : Mistake → List ℕ
-mistake_line (mistake.Usage text) = codes "nighthub_gather: usage: " ++ (text ++ codes "; see --help\n")
-mistake_line mistake.Memory = line_of failure.Memory
-
-abbrev pub mistake_status : Mistake → ℕ
-mistake_status (mistake.Usage text) = 2
-mistake_status mistake.Memory = 6
-
--- the arguments are wrong
-abbrev pub IsUsage : Mistake → Type 0
-IsUsage (mistake.Usage text) = Unit {0}
-IsUsage mistake.Memory = ⊥
 
 -- a fault of the system is out of memory, or represents another failure
 pub record IsMemoryOr (kind : ErrorKind) (other failed : Failure) : Type 0 where

@@ -2,12 +2,12 @@
 use Rattle.std.specs.Prelude.{◌≡◌, ℕ, ◌==◌, ◌&&◌, List, ◌++◌, Option, Some, codes, map, if◌then◌else◌}
 use Rattle.std.specs.Io.KnownBytes.{Appends}
 use Rattle.clap.specs.Words.{Text}
-use Rattle.gather_command.specs.CommandLine.{AsksForText, IsJob, option_value, values_of}
+use Rattle.program_frame.specs.Arguments.{value_in, values_in}
+use Rattle.program_frame.specs.Matching.{AsksForText}
+use Rattle.gather_command.specs.CommandLine.{IsJob, gather_app}
 use Rattle.gather_command.specs.Members.{AreGathered, total_line}
 use Rattle.gather_command.specs.declared.all.Gathering.{Gathering}
 use Rattle.gather_command.specs.declared.command.Job.{Job}
-use Rattle.gather_command.specs.declared.failure.Failure.{Failure}
-use Rattle.gather_command.specs.declared.failure.Failure.TheVariants as failure
 use Rattle.gather_command.specs.declared.total.Total.{Total}
 
 -- 0 where each file is taken whole
@@ -39,15 +39,10 @@ pub record IsPrinted (paths : List (List ℕ)) (status : ℕ) (was is : Option (
 
 -- what these arguments may have printed: a text where they ask for one, otherwise the lines on the files that they name
 pub data IsOutcome (words : List Text) (status : ℕ) (was is : Option (List ℕ)) : Type 0 where
-  Shown : (asked : AsksForText words) (text : List ℕ) → Appends was is text → status ≡ 0 → IsOutcome words status was is
-  Made : (job : Job) → IsJob (option_value words) (values_of words) job → IsPrinted (paths_of job) status was is
+  Shown : (asked : AsksForText gather_app words) (text : List ℕ) → Appends was is text → status ≡ 0 → IsOutcome words status was is
+  Made : (job : Job) → IsJob (value_in gather_app words) (values_in gather_app words) job → IsPrinted (paths_of job) status was is
       → IsOutcome words status was is
 
 -- the arguments name a file to make
 abbrev pub NamesOut : List Text → Type 0
-NamesOut words = (out : List ℕ) × (option_value words (codes "out") ≡ Some out)
-
--- what making the file may fail by
-abbrev pub IsOfRun : Failure → Type 0
-IsOfRun failure.Stdout = ⊥
-IsOfRun _ = Unit {0}
+NamesOut words = (out : List ℕ) × (value_in gather_app words (codes "out") ≡ Some out)

@@ -4,7 +4,6 @@ ghost use Rattle.gather_files.specs.Gathering.{IsGathered};
 ghost use Rattle.gather_command.specs.Failure.{IsMemoryOr, IsOfFile};
 ghost use Rattle.gather_command.specs.Members.{AddsFile, AreGathered, PutsFile};
 ghost use Rattle.gather_command.specs.Part.{TakesBack};
-ghost use Rattle.gather_command.specs.Outcome.{IsOfRun};
 
 use crate::changed::is_changed;
 use crate::failure::Failure;
@@ -42,7 +41,6 @@ pub fn gather_all<'a, R: Files + AllocGlobal, W: Part>(
 ) -> Result<Gathering, Failure<'a>>
     ensures gathered { IfOk result (λ g. AreGathered (map (λ p. p.now) paths.now) (W.contents out.old) (W.contents out.new)
         g.lines.items g.total) }
-    ensures err { IfErr result IsOfRun }
 {
     let mut lines = Vec::new(rt.alloc());
     let mut total = no_total();
@@ -65,7 +63,6 @@ fn gather_path<'a, R: Files + AllocGlobal, W: Part>(
     out: &mut W,
 ) -> Result<Outcome, Failure<'a>>
     ensures gathered { IfOk result (AddsFile None (W.contents out.old) (W.contents out.new)) }
-    ensures err { IfErr result IsOfRun }
 {
     if is_not_utf_8(path) {
         return Ok(Outcome::NameNotUtf8);
@@ -86,7 +83,6 @@ fn settled<'a, W: Part>(
     ensures settled { IfOk result (λ outcome. (declared was : Option (List ℕ)) → PutsFile declared was (W.contents out.old) gathered
         → AddsFile None was (W.contents out.new) outcome) }
     ensures unchanged { changed ≡ false → result ≡ Ok (Outcome.Read gathered) }
-    ensures err { IfErr result IsOfRun }
 {
     if !changed {
         return Ok(Outcome::Read(gathered));
@@ -99,7 +95,6 @@ fn settled<'a, W: Part>(
 
 fn take_back<'a, W: Part>(job_out: &'a str, len: u64, out: &mut W) -> Result<Outcome, Failure<'a>>
     ensures back { IfOk result (λ outcome. (outcome ≡ Outcome.Changed) × TakesBack (W.contents out.old) (W.contents out.new) len) }
-    ensures err { IfErr result IsOfRun }
 {
     match out.take_back(len) {
         Ok(()) => Ok(Outcome::Changed),
@@ -121,7 +116,6 @@ fn gather_opened<'a, I: Read + Drop, W: Write>(
     ensures puts { IfOk result (PutsFile None (W.contents out.old) (W.contents out.new)) }
     ensures closed { IfErr opened.entry.answer (λ error. IsErrAnd result (IsMemoryOr (error_kind error) (Failure.Input path.entry))) }
     ensures failed { IfOk opened.entry.answer (λ _. IfErr result (IsOfFile path.entry job_out.entry)) }
-    ensures err { IfErr result IsOfRun }
 {
     match opened.into_answer() {
         Ok(file) => gather_reader(alloc, job_out, path, file, out),
@@ -139,7 +133,6 @@ fn gather_reader<'a, I: Read + Drop, W: Write>(
 ) -> Result<Gathered, Failure<'a>>
     ensures gathered { IfOk result (IsGathered (I.remaining file) (W.contents out.old) (W.contents out.new)) }
     ensures failed { IfErr result (IsOfFile path.entry job_out.entry) }
-    ensures err { IfErr result IsOfRun }
 {
     let mut reader = Reader::new(file);
     match gather_file(alloc, &mut reader, out, WINDOW) {

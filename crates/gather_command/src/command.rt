@@ -1,16 +1,18 @@
-ghost use Rattle.std.specs.Prelude.{◌≡◌, ◌≢◌, false, map, IfOk, IfErr};
-ghost use Rattle.clap.specs.Words.{app_of, first_value, found_of, kind_of, rule_of};
+ghost use Rattle.std.specs.Prelude.{◌≡◌, map, IfOk, IfErr};
+ghost use Rattle.clap.specs.Words.{app_of, first_value, found_of};
 ghost use Rattle.night_ends.specs.Words.{values_found};
-ghost use Rattle.gather_command.specs.CommandLine.{IsAsked, IsCommandLine, IsGiven, IsShown, NamesNone, file_rule, gather_app, out_rule};
-ghost use Rattle.gather_command.specs.Failure.{IsUsage};
+ghost use Rattle.program_frame.specs.Mistake.{IsUsage};
+ghost use Rattle.gather_command.specs.CommandLine.{IsAsked, IsCommandLine, IsGiven, NamesNone, gather_app};
 
-use crate::mistake::Mistake;
-use clap::error::ErrorKind;
-use clap::{Arg, ArgAction, ArgMatches, Command, Error};
+use clap::{ArgMatches, Command};
 use hub_kinds::copy_text;
-use night_ends::{RELEASE, mistake_found, texts_given, with_argument};
+use night_ends::{texts_given, with_argument};
+use program_frame::{Matched, Mistake, match_words, program, word, words};
 use std::alloc::{AllocError, Global};
 use std::convert::AsStr;
+
+/// The name of the program.
+pub const PROGRAM: &str = "nighthub_gather";
 
 /// What the text of `--help` ends with.
 const STATUSES: &str = "Status:
@@ -48,46 +50,30 @@ pub fn read_words<'a, S: AsStr>(alloc: Global, words: &'a [S]) -> Result<Asked<'
     ensures usage { IfErr result (λ mistake. IsUsage mistake → IsCommandLine (map S.text words.now) → ⊥) }
 {
     let command = command(alloc)?;
-    match command.try_get_matches_from(words) {
-        Ok(matches) => job_given(alloc, &matches),
-        Err(error) => shown(alloc, &error),
+    match match_words(alloc, command, words)? {
+        Matched::Values(values) => job_given(alloc, &values),
+        Matched::Text(text) => Ok(Asked::Show(text)),
     }
 }
 
 fn command<'a>(alloc: Global) -> Result<Command<'a>, AllocError>
     ensures { IfOk result (λ command. app_of command ≡ gather_app) }
 {
-    let command = Command::new(alloc, "nighthub_gather")
-        .about("Puts the files of a day one after another, so that none touches its neighbour")
-        .version(RELEASE)
-        .after_help(STATUSES)
-        .no_binary_name(true);
-    let command = with_argument(command, out(alloc))?;
-    with_argument(command, files(alloc))
-}
-
-/// The file that is made.
-fn out<'a>(alloc: Global) -> Arg<'a>
-    ensures rule { rule_of result ≡ out_rule }
-    ensures local { result.global ≡ false }
-{
-    Arg::new(alloc, "out")
-        .value_name("OUT")
-        .help("The file that is made; it must not be there")
-        .required(true)
-        .action(ArgAction::Set)
-}
-
-/// The files that are gathered.
-fn files<'a>(alloc: Global) -> Arg<'a>
-    ensures rule { rule_of result ≡ file_rule }
-    ensures local { result.global ≡ false }
-{
-    Arg::new(alloc, "file")
-        .value_name("FILE")
-        .help("The files of a day, in their order")
-        .required(true)
-        .action(ArgAction::Append)
+    let command = program(
+        alloc,
+        PROGRAM,
+        "Puts the files of a day one after another, so that none touches its neighbour",
+        STATUSES,
+    );
+    let out = word(
+        alloc,
+        "out",
+        "OUT",
+        "The file that is made; it must not be there",
+    );
+    let command = with_argument(command, out)?;
+    let files = words(alloc, "file", "FILE", "The files of a day, in their order");
+    with_argument(command, files)
 }
 
 fn job_given<'a>(alloc: Global, matches: &ArgMatches<'a>) -> Result<Asked<'a>, Mistake>
@@ -99,19 +85,4 @@ fn job_given<'a>(alloc: Global, matches: &ArgMatches<'a>) -> Result<Asked<'a>, M
     };
     let files = texts_given(alloc, matches, "file")?;
     Ok(Asked::Gather(Job { out, files }))
-}
-
-/// The text that is asked for, where the arguments have no mistake.
-fn shown<'a>(alloc: Global, error: &Error) -> Result<Asked<'a>, Mistake>
-    ensures shown { IfOk result (IsShown (kind_of error.now)) }
-    ensures usage { IfErr result (λ mistake. IsUsage mistake → kind_of error.now ≢ ErrorKind.OutOfMemory) }
-{
-    match error.kind() {
-        ErrorKind::DisplayHelp | ErrorKind::DisplayVersion => {
-            let text = format!(in alloc; "{error}")?;
-            Ok(Asked::Show(text))
-        }
-        ErrorKind::OutOfMemory => Err(Mistake::Memory),
-        _ => Err(Mistake::Usage(mistake_found(alloc, error)?)),
-    }
 }

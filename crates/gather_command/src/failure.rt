@@ -8,16 +8,10 @@ use file_names::print_shown;
 use gather_files::GatherFault;
 use hub_kinds::NoMemory;
 use night_ends::print_text;
+use program_frame::Reported;
 use std::alloc::{AllocError, Global};
 use std::io;
 use std::io::Write;
-
-/// That a failure was reported: the status that the program ends with, and whether the line is printed.
-#[derive(Debug, Drop)]
-pub struct Reported {
-    pub status: u8,
-    pub printed: io::Result<()>,
-}
 
 /// Why a run failed.
 #[derive(Clone, Copy, Debug, PartialEq, Eq)]
@@ -32,8 +26,6 @@ pub enum Failure<'a> {
     There(&'a str),
     /// What is written beside it is there already: another run's, or somebody's own file.
     PartThere(&'a str),
-    /// Standard output failed.
-    Stdout,
     /// Memory was asked for and refused.
     Memory,
 }
@@ -96,7 +88,6 @@ impl<'a> Failure<'a> {
             Failure::Input(_) | Failure::TooLong(_) => "nighthub_gather: input ",
             Failure::Output(_) | Failure::There(_) | Failure::PartThere(_) =>
                 "nighthub_gather: output ",
-            Failure::Stdout => "nighthub_gather: output stdout",
             Failure::Memory => "nighthub_gather: memory",
         }
     }
@@ -110,7 +101,7 @@ impl<'a> Failure<'a> {
             | Failure::Output(path)
             | Failure::There(path)
             | Failure::PartThere(path) => path,
-            Failure::Stdout | Failure::Memory => "",
+            Failure::Memory => "",
         }
     }
 
@@ -121,7 +112,7 @@ impl<'a> Failure<'a> {
             Failure::TooLong(_) => " too long\n",
             Failure::There(_) => " is there already\n",
             Failure::PartThere(_) => ".part is there already\n",
-            Failure::Input(_) | Failure::Output(_) | Failure::Stdout | Failure::Memory => "\n",
+            Failure::Input(_) | Failure::Output(_) | Failure::Memory => "\n",
         }
     }
 
@@ -131,7 +122,7 @@ impl<'a> Failure<'a> {
     {
         match self {
             Failure::Input(_) | Failure::TooLong(_) => 4,
-            Failure::Output(_) | Failure::There(_) | Failure::PartThere(_) | Failure::Stdout => 5,
+            Failure::Output(_) | Failure::There(_) | Failure::PartThere(_) => 5,
             Failure::Memory => 6,
         }
     }

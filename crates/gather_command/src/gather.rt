@@ -1,17 +1,16 @@
 ghost use Rattle.std.specs.Prelude.{◌≡◌, ◌≢◌, ◌≤◌, ◌⊎◌, IfErr, IfOk, IsErrOf, IsOk, Ok, false, map, true};
-ghost use Rattle.std.specs.Io.KnownBytes.{Appends};
 ghost use Rattle.night_ends.specs.Paths.{AsksForNew};
 ghost use Rattle.gather_command.specs.CommandLine.{IsCommandLine};
 ghost use Rattle.gather_command.specs.Failure.{IsStatus};
-ghost use Rattle.gather_command.specs.Outcome.{IsMade, IsOfRun, IsOutcome, IsPrinted, NamesOut, paths_of, status_by};
+ghost use Rattle.gather_command.specs.Outcome.{IsMade, IsOutcome, IsPrinted, NamesOut, paths_of, status_by};
 
 use crate::all::{Gathering, gather_all};
-use crate::command::{Asked, Job, read_words};
+use crate::command::{Asked, Job, PROGRAM, read_words};
 use crate::failure::Failure;
 use crate::part::PartFile;
 use crate::total::{Total, append_total};
-use night_ends::{Absent, Created, Looked, Presence, create_new_at, look_at, print_text};
-use std::alloc::Global;
+use night_ends::{Absent, Created, Looked, Presence, create_new_at, look_at};
+use program_frame::print_out;
 use std::convert::AsStr;
 use std::fs::OpenFile;
 use std::io::{ErrorKind, Seek, Write};
@@ -35,8 +34,8 @@ where
 {
     match read_words(rt.alloc(), words) {
         Ok(Asked::Gather(job)) => gather(rt, &job, out, err),
-        Ok(Asked::Show(text)) => finish(rt.alloc(), text.as_bytes(), 0, out, err),
-        Err(mistake) => mistake.report(rt.alloc(), err).status,
+        Ok(Asked::Show(text)) => print_out(PROGRAM, text.as_bytes(), 0, out, err),
+        Err(mistake) => mistake.report(PROGRAM, err).status,
     }
 }
 
@@ -53,8 +52,8 @@ where
     ensures printed { result ≤ 1 → IsPrinted (paths_of job.now) result (O.contents out.old) (O.contents out.new) }
 {
     match made(rt, job) {
-        Ok(gathering) => finish(
-            rt.alloc(),
+        Ok(gathering) => print_out(
+            PROGRAM,
             gathering.lines.as_slice(),
             status_by(&gathering.total),
             out,
@@ -75,7 +74,6 @@ fn status_by(total: &Total) -> u8
 /// Makes the file: beside its place first, and there by one rename once all of it is kept.
 fn made<'a, R: Files + AllocGlobal>(rt: &R, job: &Job<'a>) -> Result<Gathering, Failure<'a>>
     ensures made { IfOk result (IsMade job.now) }
-    ensures err { IfErr result IsOfRun }
 {
     let absent = absent_by(look_at(rt, job.out), job.out)?;
     let beside = format!(in rt.alloc(); "{}.part", job.out)?;
@@ -91,9 +89,7 @@ fn made<'a, R: Files + AllocGlobal>(rt: &R, job: &Job<'a>) -> Result<Gathering, 
 }
 
 /// The failure where what is written beside the file can't be opened. Nothing that is there is written over.
-fn unopened<'a>(kind: ErrorKind, out: &'a str) -> Failure<'a>
-    ensures { IsOfRun result }
-{
+fn unopened<'a>(kind: ErrorKind, out: &'a str) -> Failure<'a> {
     match kind {
         ErrorKind::AlreadyExists => Failure::PartThere(out),
         _ => Failure::Output(out),
@@ -107,7 +103,6 @@ fn absent_by<'a>(looked: Looked<'a>, path: &'a str) -> Result<Absent<'a>, Failur
     ensures free { IfOk result (λ _. looked.entry.answer ≡ Ok false) }
     ensures absent { looked.entry.answer ≡ Ok false → IsOk result }
     ensures there { looked.entry.answer ≡ Ok true → IsErrOf result (Failure.There path.entry) }
-    ensures err { IfErr result IsOfRun }
 {
     match looked.presence() {
         Presence::Nothing(absent) => Ok(absent),
@@ -126,7 +121,6 @@ fn written<'a, R: Files + AllocGlobal>(
 ) -> Result<Gathering, Failure<'a>>
     requires { _absent ≡ job.now.out.now }
     ensures made { IfOk result (IsMade job.now) }
-    ensures err { IfErr result IsOfRun }
 {
     let created = match create_new_at(rt, String::from_str(rt.alloc(), beside)?) {
         Ok(created) => created,
@@ -149,7 +143,6 @@ fn written_to<'a, R: Files + AllocGlobal, F: Write + OpenFile + Seek + Drop>(
 ) -> Result<Gathering, Failure<'a>>
     requires { AsksForNew created.how }
     ensures made { IfOk result (IsMade job.now) }
-    ensures err { IfErr result IsOfRun }
 {
     let mut file = PartFile::of(created.into_file());
     let mut gathering = gather_all(rt, job.out, job.files.as_slice(), &mut file)?;
@@ -173,24 +166,4 @@ fn folder_of(path: &str) -> &str {
         Some(0) => "/",
         Some(at) => &path[..at],
     }
-}
-
-/// Prints a text on standard output, and nothing else, where the writer declares what it has. Gives the status, or that of a failure of
-/// standard output.
-fn finish<O: Write, E: Write>(
-    alloc: Global,
-    text: &[u8],
-    status: u8,
-    out: &mut O,
-    err: &mut E,
-) -> u8
-    requires { status ≤ 1 }
-    ensures status { (result ≡ status) ⊎ (result ≡ 5) }
-    ensures printed { result ≢ 5 → Appends (O.contents out.old) (O.contents out.new) text.now }
-    ensures quiet { result ≢ 5 → err.new ≡ err.old }
-{
-    if print_text(text, out).is_err() {
-        return Failure::Stdout.report(alloc, err).status;
-    }
-    status
 }

@@ -1,14 +1,16 @@
 -- What clap found in the arguments is what the definitions say of them.
 use Rattle.std.proofs.Common.{◌≡◌, ◌∙◌, List, true, codes, refl, String, sym, ap, subst}
-use Rattle.clap.specs.Words.{HasKind, HasMatchesOf, Text, fault_of, first_value, found_of, is_simple, is_simple_and_free, kind_of, takes}
-use Rattle.clap.specs.declared.error.Error.{Error}
-use Rattle.clap.specs.declared.error.kind.ErrorKind.TheVariants.{OutOfMemory}
+use Rattle.clap.specs.Words.{HasMatchesOf, Text, first_value, found_of, is_simple, is_simple_and_free}
 use Rattle.clap.specs.declared.parser.matches.ArgMatches.{ArgMatches}
 use Rattle.clap.proofs.OnLiterals.{clap_on_literals}
 use Rattle.std.specs.declared.alloc.Global.{Global}
 use Rattle.night_ends.specs.Words.{or_none, values_found}
-use Rattle.night_ends.proofs.ForAbove.{all_found, asks_for_text, found}
-use Rattle.learn_command.specs.CommandLine.{AreOptions, AsksForText, IsAsked, IsGiven, IsShown, NamesNone, learn_app, value_of, values_of}
+use Rattle.night_ends.proofs.ForAbove.{all_found, found}
+use Rattle.program_frame.specs.Arguments.{value_in, values_in}
+use Rattle.program_frame.specs.Matching.{AsksForText, IsMatched}
+use Rattle.program_frame.specs.declared.matching.Matched.{Matched}
+use Rattle.program_frame.specs.declared.matching.Matched.TheVariants as matched
+use Rattle.learn_command.specs.CommandLine.{AreOptions, IsAsked, IsGiven, NamesNone, learn_app}
 use Rattle.learn_command.specs.declared.command.Asked.{Asked}
 use Rattle.learn_command.specs.declared.command.Asked.TheVariants.{Learn, Show}
 use Rattle.learn_command.specs.declared.command.Options.{Options}
@@ -33,20 +35,15 @@ asked words m (Show text) has given = absurd given
 
 -- where clap found no file, the arguments name none
 pub none_named : (words : List Text) (m : ArgMatches) → HasMatchesOf learn_app words m → NamesNone (values_found (found_of m))
-    → NamesNone (values_of words)
+    → NamesNone (values_in learn_app words)
 none_named words m has none = sym (ap or_none (all_found learn_app simple words m (codes "file") has)) ∙ none
-
-pub shown : (words : List Text) (e : Error) (asked : Asked) → HasKind (fault_of learn_app words) e
-    → (takes learn_app words ≡ true → kind_of e ≡ OutOfMemory) → IsShown (kind_of e) asked → IsAsked words asked
-shown words e (Learn options) kind passes is = absurd is
-shown words e (Show text) kind passes is =
-    let both = asks_for_text learn_app words e kind passes is in record { asked = both.0; no_run = both.1 }
 
 -- the options that are asked for are those of the arguments
 pub options_named : (words : List Text) (asked : Asked) (options : Options) → asked ≡ Learn options → IsAsked words asked
-    → AreOptions (value_of words) (values_of words) options
+    → AreOptions (value_in learn_app words) (values_in learn_app words) options
 options_named words asked options is by = subst (λ (a : Asked). IsAsked words a) is by
 
 -- the text that is asked for isn't shown in place of a guide
-pub text_asked : (words : List Text) (asked : Asked) (text : String Global) → asked ≡ Show text → IsAsked words asked → AsksForText words
+pub text_asked : (words : List Text) (asked : Asked) (text : String Global) → asked ≡ Show text → IsAsked words asked
+    → AsksForText learn_app words
 text_asked words asked text is by = subst (λ (a : Asked). IsAsked words a) is by

@@ -33,7 +33,6 @@ pub before : (known : List (List ℕ)) (f : Failure) → IsUnlearned f → IsBef
 before known (failure.NoGuide line) is = tt
 before known (failure.Known line) is = absurd is
 before known (failure.Sample line) is = tt
-before known failure.Stdout is = is
 before known failure.Memory is = tt
 
 -- a failure that ends with 3 is of a guide that is known
@@ -41,7 +40,6 @@ pub of_known : (known : List (List ℕ)) (f : Failure) → IsBefore known f → 
 of_known known (failure.NoGuide line) is three = cc
 of_known known (failure.Known line) is three = is
 of_known known (failure.Sample line) is three = cc
-of_known known failure.Stdout is three = absurd is
 of_known known failure.Memory is three = cc
 
 -- the guide at one of some paths is refused

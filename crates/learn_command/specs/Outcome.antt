@@ -10,7 +10,9 @@ use Rattle.learn_judge.specs.Samples.{HasSet, TakesText}
 use Rattle.check_command.specs.Files.{path_of}
 use Rattle.check_command.specs.SetupFiles.{IsGuideRefused}
 use Rattle.check_command.specs.declared.files.Given.{Given}
-use Rattle.learn_command.specs.CommandLine.{AreOptions, AsksForText, value_of, values_of}
+use Rattle.program_frame.specs.Arguments.{value_in, values_in}
+use Rattle.program_frame.specs.Matching.{AsksForText}
+use Rattle.learn_command.specs.CommandLine.{AreOptions, learn_app}
 use Rattle.learn_command.specs.declared.command.Options.{Options}
 use Rattle.learn_command.specs.declared.failure.Failure.{Failure}
 use Rattle.learn_command.specs.declared.failure.Failure.TheVariants as failure
@@ -48,14 +50,15 @@ pub record IsPrinted (options : Options) (was is : Option (List ℕ)) : Type 0 w
 
 -- a text was shown that the arguments ask for
 pub record IsShownText (words : List Text) (was is : Option (List ℕ)) : Type 0 where
-  pub asked : AsksForText words
+  pub asked : AsksForText learn_app words
   pub text : List ℕ
   pub printed : Appends was is text
 
 -- a guide for the files that the arguments name was printed, or such a text
 abbrev pub IsRun : (words : List Text) → (was is : Option (List ℕ)) → Type 0
 IsRun words was is =
-    ((options : Options) × AreOptions (value_of words) (values_of words) options × IsPrinted options was is) ⊎ IsShownText words was is
+    ((options : Options) × AreOptions (value_in learn_app words) (values_in learn_app words) options × IsPrinted options was is)
+    ⊎ IsShownText words was is
 
 -- the file that was read at a path, or couldn't be read, is refused as a guide
 pub record IsRefused (path : List ℕ) : Type 0 where
@@ -74,7 +77,6 @@ abbrev pub IsUnlearned : Failure → Type 0
 IsUnlearned (failure.NoGuide line) = Unit {0}
 IsUnlearned (failure.Known line) = ⊥
 IsUnlearned (failure.Sample line) = Unit {0}
-IsUnlearned failure.Stdout = ⊥
 IsUnlearned failure.Memory = Unit {0}
 
 -- why no guide is learned: a guide that is said to be known is refused only if one of them is
@@ -82,10 +84,10 @@ abbrev pub IsBefore : (known : List (List ℕ)) → Failure → Type 0
 IsBefore known (failure.NoGuide line) = Unit {0}
 IsBefore known (failure.Known line) = IsSomeRefused known
 IsBefore known (failure.Sample line) = Unit {0}
-IsBefore known failure.Stdout = ⊥
 IsBefore known failure.Memory = Unit {0}
 
 -- a guide that the arguments say is known is refused
 abbrev pub IsRefusal : (words : List Text) → Type 0
 IsRefusal words =
-    (options : Options) × AreOptions (value_of words) (values_of words) options × IsSomeRefused (map (λ p. p.now) options.known.items)
+    (options : Options) × AreOptions (value_in learn_app words) (values_in learn_app words) options
+    × IsSomeRefused (map (λ p. p.now) options.known.items)

@@ -1,17 +1,18 @@
-ghost use Rattle.std.specs.Prelude.{◌≡◌, ◌≢◌, false, map, IfOk, IfErr};
-ghost use Rattle.clap.specs.Words.{app_of, first_value, found_of, kind_of, rule_of};
+ghost use Rattle.std.specs.Prelude.{◌≡◌, map, IfOk, IfErr};
+ghost use Rattle.clap.specs.Words.{app_of, first_value, found_of};
 ghost use Rattle.night_ends.specs.Words.{values_found};
-ghost use Rattle.learn_command.specs.CommandLine.{IsAsked, IsCommandLine, IsGiven, IsShown, NamesNone};
-ghost use Rattle.learn_command.specs.CommandLine.{file_rule, known_rule, learn_app, set_rule};
-ghost use Rattle.learn_command.specs.Failure.{IsUsage};
+ghost use Rattle.program_frame.specs.Mistake.{IsUsage};
+ghost use Rattle.learn_command.specs.CommandLine.{IsAsked, IsCommandLine, IsGiven, NamesNone, learn_app};
 
-use crate::mistake::Mistake;
-use clap::error::ErrorKind;
-use clap::{Arg, ArgAction, ArgMatches, Command, Error};
+use clap::{ArgMatches, Command};
 use hub_kinds::copy_text;
-use night_ends::{RELEASE, mistake_found, texts_given, with_argument};
+use night_ends::{texts_given, with_argument};
+use program_frame::{Matched, Mistake, match_words, option_free, option_repeated, program, words};
 use std::alloc::{AllocError, Global};
 use std::convert::AsStr;
+
+/// The name of the program.
+pub const PROGRAM: &str = "nighthub_learn";
 
 /// What the text of `--help` ends with.
 const STATUSES: &str = "Status:
@@ -52,61 +53,42 @@ pub fn read_words<'a, S: AsStr>(alloc: Global, words: &'a [S]) -> Result<Asked<'
     ensures usage { IfErr result (λ mistake. IsUsage mistake → IsCommandLine (map S.text words.now) → ⊥) }
 {
     let command = command(alloc)?;
-    match command.try_get_matches_from(words) {
-        Ok(matches) => options_given(alloc, &matches),
-        Err(error) => shown(alloc, &error),
+    match match_words(alloc, command, words)? {
+        Matched::Values(values) => options_given(alloc, &values),
+        Matched::Text(text) => Ok(Asked::Show(text)),
     }
 }
 
 fn command<'a>(alloc: Global) -> Result<Command<'a>, AllocError>
     ensures { IfOk result (λ command. app_of command ≡ learn_app) }
 {
-    let command = Command::new(alloc, "nighthub_learn")
-        .about("Writes a guide that each set of sample files meets")
-        .version(RELEASE)
-        .after_help(STATUSES)
-        .no_binary_name(true);
-    let command = with_argument(command, known(alloc))?;
-    let command = with_argument(command, set(alloc))?;
-    with_argument(command, file(alloc))
-}
-
-/// The argument for a guide that is known.
-fn known<'a>(alloc: Global) -> Arg<'a>
-    ensures rule { rule_of result ≡ known_rule }
-    ensures local { result.global ≡ false }
-{
-    Arg::new(alloc, "known")
-        .long("known")
-        .value_name("GUIDE")
-        .help(
-            "A guide file from which types and lengths of elements are taken; it can be given again",
-        )
-        .action(ArgAction::Append)
-}
-
-/// The argument for the ST01 of the sets that are asked for.
-fn set<'a>(alloc: Global) -> Arg<'a>
-    ensures rule { rule_of result ≡ set_rule }
-    ensures local { result.global ≡ false }
-{
-    Arg::new(alloc, "set")
-        .long("set")
-        .value_name("ST01")
-        .help("Learn from the sets with this ST01 alone")
-        .action(ArgAction::Set)
-}
-
-/// The argument for sample files: one or more.
-fn file<'a>(alloc: Global) -> Arg<'a>
-    ensures rule { rule_of result ≡ file_rule }
-    ensures local { result.global ≡ false }
-{
-    Arg::new(alloc, "file")
-        .value_name("FILE")
-        .help("Sample files: interchanges whose sets the guide is to take")
-        .required(true)
-        .action(ArgAction::Append)
+    let command = program(
+        alloc,
+        PROGRAM,
+        "Writes a guide that each set of sample files meets",
+        STATUSES,
+    );
+    let known = option_repeated(
+        alloc,
+        "known",
+        "GUIDE",
+        "A guide file from which types and lengths of elements are taken; it can be given again",
+    );
+    let command = with_argument(command, known)?;
+    let set = option_free(
+        alloc,
+        "set",
+        "ST01",
+        "Learn from the sets with this ST01 alone",
+    );
+    let command = with_argument(command, set)?;
+    let file = words(
+        alloc,
+        "file",
+        "FILE",
+        "Sample files: interchanges whose sets the guide is to take",
+    );
+    with_argument(command, file)
 }
 
 fn options_given<'a>(alloc: Global, matches: &ArgMatches<'a>) -> Result<Asked<'a>, Mistake>
@@ -122,19 +104,4 @@ fn options_given<'a>(alloc: Global, matches: &ArgMatches<'a>) -> Result<Asked<'a
         st01: matches.get_str("set"),
         files,
     }))
-}
-
-/// The text that the arguments ask for, by clap's `error`, or the mistake that it reports.
-fn shown<'a>(alloc: Global, error: &Error) -> Result<Asked<'a>, Mistake>
-    ensures shown { IfOk result (IsShown (kind_of error.now)) }
-    ensures usage { IfErr result (λ mistake. IsUsage mistake → kind_of error.now ≢ ErrorKind.OutOfMemory) }
-{
-    match error.kind() {
-        ErrorKind::DisplayHelp | ErrorKind::DisplayVersion => {
-            let text = format!(in alloc; "{error}")?;
-            Ok(Asked::Show(text))
-        }
-        ErrorKind::OutOfMemory => Err(Mistake::Memory),
-        _ => Err(Mistake::Usage(mistake_found(alloc, error)?)),
-    }
 }

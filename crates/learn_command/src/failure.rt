@@ -4,16 +4,9 @@ ghost use Rattle.learn_command.specs.Failure.{line_of, status_of};
 
 use hub_kinds::{NoMemory, Text};
 use night_ends::print_text;
+use program_frame::Reported;
 use std::alloc::AllocError;
-use std::io;
 use std::io::Write;
-
-/// What the report of a failure gave: the status that the program ends with, and whether the line is printed.
-#[derive(Debug, Drop)]
-pub struct Reported {
-    pub status: u8,
-    pub printed: io::Result<()>,
-}
 
 /// Why a run failed.
 #[derive(Debug, Drop)]
@@ -24,8 +17,6 @@ pub enum Failure {
     Known(Text),
     /// A sample file can't be read or has no interchange, as this line says.
     Sample(Text),
-    /// Standard output failed.
-    Stdout,
     /// Memory was refused.
     Memory,
 }
@@ -35,7 +26,7 @@ impl Failure {
     /// error changes no status.
     pub fn report<E: Write>(&self, err: &mut E) -> Reported
         ensures status { result.status ≡ status_of self.now }
-        ensures values { (result.status ≡ 1) ⊎ ((result.status ≡ 3) ⊎ ((result.status ≡ 4) ⊎ ((result.status ≡ 5) ⊎ (result.status ≡ 6)))) }
+        ensures values { (result.status ≡ 1) ⊎ ((result.status ≡ 3) ⊎ ((result.status ≡ 4) ⊎ (result.status ≡ 6))) }
         ensures printed { OnOk result.printed (Appends (E.contents err.old) (E.contents err.new) (line_of self.now)) }
     {
         Reported {
@@ -51,20 +42,18 @@ impl Failure {
             Failure::NoGuide(line) => line.as_slice(),
             Failure::Known(line) => line.as_slice(),
             Failure::Sample(line) => line.as_slice(),
-            Failure::Stdout => b"nighthub_learn: output stdout\n",
             Failure::Memory => b"nighthub_learn: memory\n",
         }
     }
 
     fn status(&self) -> u8
         ensures status { result ≡ status_of self.now }
-        ensures values { (result ≡ 1) ⊎ ((result ≡ 3) ⊎ ((result ≡ 4) ⊎ ((result ≡ 5) ⊎ (result ≡ 6)))) }
+        ensures values { (result ≡ 1) ⊎ ((result ≡ 3) ⊎ ((result ≡ 4) ⊎ (result ≡ 6))) }
     {
         match self {
             Failure::NoGuide(_) => 1,
             Failure::Known(_) => 3,
             Failure::Sample(_) => 4,
-            Failure::Stdout => 5,
             Failure::Memory => 6,
         }
     }

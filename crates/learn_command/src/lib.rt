@@ -23,11 +23,9 @@ mod command;
 mod failure;
 mod files;
 mod judged;
-mod mistake;
 mod proposed;
 mod run;
 
-pub use command::{Asked, Options, read_words};
-pub use failure::{Failure, Reported};
-pub use mistake::Mistake;
+pub use command::{Asked, Options, PROGRAM, read_words};
+pub use failure::Failure;
 pub use run::learn_main;

@@ -1,16 +1,15 @@
-ghost use Rattle.std.specs.Prelude.{◌≡◌, ◌≢◌, ◌≤◌, ◌⊎◌, IfErr, IfOk, map, option_map};
-ghost use Rattle.std.specs.Io.KnownBytes.{Appends};
+ghost use Rattle.std.specs.Prelude.{◌≡◌, ◌≢◌, ◌≤◌, IfErr, IfOk, map, option_map};
 ghost use Rattle.learn_command.specs.CommandLine.{IsCommandLine};
 ghost use Rattle.learn_command.specs.Failure.{IsStatus};
 ghost use Rattle.learn_command.specs.Outcome.{IsBefore, IsLearned, IsPrinted, IsRefusal, IsRun, IsSomeRefused};
 
-use crate::command::{Asked, Options, read_words};
+use crate::command::{Asked, Options, PROGRAM, read_words};
 use crate::failure::Failure;
 use crate::files::{known_guides, read_files};
 use crate::judged::{asks_for_some, judged};
 use crate::proposed::proposed;
 use hub_kinds::Text;
-use night_ends::print_text;
+use program_frame::print_out;
 use std::convert::AsStr;
 use std::io::Write;
 use std::rt::Files;
@@ -32,8 +31,8 @@ where
 {
     match read_words(rt.alloc(), words) {
         Ok(Asked::Learn(options)) => print_guide(rt, &options, out, err),
-        Ok(Asked::Show(text)) => finish(text.as_bytes(), out, err),
-        Err(mistake) => mistake.report(err).status,
+        Ok(Asked::Show(text)) => print_out(PROGRAM, text.as_bytes(), 0, out, err),
+        Err(mistake) => mistake.report(PROGRAM, err).status,
     }
 }
 
@@ -52,7 +51,7 @@ where
     ensures printed { result ≡ 0 → IsPrinted options.now (O.contents out.old) (O.contents out.new) }
 {
     match learned(rt, options) {
-        Ok(text) => finish(text.as_slice(), out, err),
+        Ok(text) => print_out(PROGRAM, text.as_slice(), 0, out, err),
         Err(failure) => failure.report(err).status,
     }
 }
@@ -80,16 +79,4 @@ fn bytes_of(text: Option<&str>) -> Option<&[u8]>
         None => None,
         Some(text) => Some(text.as_bytes()),
     }
-}
-
-/// Prints `text` on `out`, and nothing else. Gives 0, or the status of a failure of standard output.
-fn finish<O: Write, E: Write>(text: &[u8], out: &mut O, err: &mut E) -> u8
-    ensures status { (result ≡ 0) ⊎ (result ≡ 5) }
-    ensures printed { result ≢ 5 → Appends (O.contents out.old) (O.contents out.new) text.now }
-    ensures quiet { result ≢ 5 → err.new ≡ err.old }
-{
-    if print_text(text, out).is_err() {
-        return Failure::Stdout.report(err).status;
-    }
-    0
 }

@@ -6,8 +6,9 @@
 //! `check_command::check_main`, called on the arguments without the program's name, and what is proved of it is said there.
 #![tactic(auto)]
 
-use check_command::{Failure, check_main};
+use check_command::{PROGRAM, check_main};
 use file_names::arguments;
+use program_frame::report_memory;
 use std::io;
 use std::process::ExitCode;
 
@@ -17,7 +18,7 @@ fn main(rt: HostRuntime) -> ExitCode {
     let mut err = io::writer(&stderr);
     let status = match arguments(&rt) {
         Ok(words) => check_main(&rt, words.as_slice(), &mut out, &mut err),
-        Err(_) => Failure::Memory.report(&mut err).status,
+        Err(_) => report_memory(PROGRAM, &mut err).status,
     };
     ExitCode::from(status)
 }

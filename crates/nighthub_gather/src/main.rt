@@ -8,8 +8,8 @@
 #![tactic(auto)]
 
 use file_names::arguments;
-use gather_command::{Failure, gather_main};
-use std::alloc::Global;
+use gather_command::{PROGRAM, gather_main};
+use program_frame::report_memory;
 use std::io;
 use std::process::ExitCode;
 
@@ -19,7 +19,7 @@ fn main(rt: HostRuntime) -> ExitCode {
     let mut err = io::writer(&stderr);
     let status = match arguments(&rt) {
         Ok(words) => gather_main(&rt, words.as_slice(), &mut out, &mut err),
-        Err(_) => Failure::Memory.report(rt.alloc(), &mut err).status,
+        Err(_) => report_memory(PROGRAM, &mut err).status,
     };
     ExitCode::from(status)
 }

@@ -8,7 +8,8 @@
 #![tactic(auto)]
 
 use file_names::arguments;
-use learn_command::{Failure, learn_main};
+use learn_command::{PROGRAM, learn_main};
+use program_frame::report_memory;
 use std::io;
 use std::process::ExitCode;
 
@@ -18,7 +19,7 @@ fn main(rt: HostRuntime) -> ExitCode {
     let mut err = io::writer(&stderr);
     let status = match arguments(&rt) {
         Ok(words) => learn_main(&rt, words.as_slice(), &mut out, &mut err),
-        Err(_) => Failure::Memory.report(&mut err).status,
+        Err(_) => report_memory(PROGRAM, &mut err).status,
     };
     ExitCode::from(status)
 }
