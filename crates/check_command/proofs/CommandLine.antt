@@ -39,7 +39,8 @@ no_text : (text : String Global) (o : Options) → Show text ≡ Check o → ⊥
 no_text text o e = cc
 
 -- the text that is asked for isn't shown in place of a check
-pub text_asked : (words : List Text) (asked : Asked) (text : String Global) → asked ≡ Show text → IsAsked words asked → AsksForText check_app words
+pub text_asked : (words : List Text) (asked : Asked) (text : String Global) → asked ≡ Show text → IsAsked words asked
+    → AsksForText check_app words
 text_asked words asked text is by = subst (λ (a : Asked). IsAsked words a) is by
 
 none_setup : (o : Option (Bor (List ℕ))) (v : Option Text) → v ≡ option_map (λ s. s.now) o → is_some o ≡ false → v ≡ None

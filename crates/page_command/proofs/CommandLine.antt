@@ -1,5 +1,5 @@
 -- What clap found in the arguments is what the definitions say of them.
-use Rattle.std.proofs.Common.{◌≡◌, ◌∙◌, ℕ, List, true, codes, refl, String, sym, subst}
+use Rattle.std.proofs.Common.{◌≡◌, ◌∙◌, List, true, codes, refl, String, sym, subst}
 use Rattle.clap.specs.Words.{HasKind, HasMatchesOf, Text, fault_of, first_value, found_of, is_simple, is_simple_and_free, kind_of, takes}
 use Rattle.clap.specs.declared.error.Error.{Error}
 use Rattle.clap.specs.declared.error.kind.ErrorKind.TheVariants.{OutOfMemory}
@@ -24,8 +24,8 @@ pub asked : (words : List Text) (m : ArgMatches) (asked : Asked) → HasMatchesO
     → IsAsked words asked
 asked words m (Page paths) has given = (
   sym (found page_app simple words m (codes "guide") has) ∙ given.0,
-  sym (found page_app simple words m (codes "names") has) ∙ given.1.0,
-  sym (found page_app simple words m (codes "samples") has) ∙ given.1.1,
+  sym (found page_app simple words m (codes "names") has) ∙ given.1,
+  sym (found page_app simple words m (codes "samples") has) ∙ given.2,
 )
 asked words m (Show text) has given = absurd given
 

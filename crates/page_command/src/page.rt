@@ -22,6 +22,13 @@ pub(crate) fn page_of(
 {
     let answers = answers_of(alloc, guide)?;
     let mut text = Vec::new(alloc);
-    append_page(alloc, &mut text, names, guide.rows(), sample, answers.as_slice())?;
+    append_page(
+        alloc,
+        &mut text,
+        names,
+        guide.rows(),
+        sample,
+        answers.as_slice(),
+    )?;
     Ok(text)
 }

@@ -16,5 +16,8 @@ returns-in-Ok-Show-clause-printed g c words stdout memory =
     inr (
       text_asked (map g.S.AsStr.text c.args.words.now) c.in-Ok-Show.field-0 c.in-Ok-Show.text c.in-Ok-Show.field-0-is
           c.in-Ok-Show.ensures.asked,
-      c.print_out.ensures.status stdout,
+      elim c.print_out.ensures.status [
+        | inl zero ↦ zero
+        | inr five ↦ absurd (stdout five)
+      ],
     )

@@ -9,5 +9,5 @@ returns-in-Ok-clause-printed g c done = record {
   learned =
       subst (λ (t : List ℕ). IsLearned (map (λ p. p.now) c.args.options.now.files.items)
       (option_map (λ s. s.now) c.args.options.now.st01) t) (sym c.as_slice.ensures) c.in-Ok.ensures.learned;
-  printed = c.finish.ensures.printed (omega (arith, done));
+  printed = c.print_out.ensures.printed (omega (arith, done));
 }

@@ -1,4 +1,4 @@
-use Rattle.std.proofs.Common.{◌≡◌, ◌∙◌, ◌++◌, ℕ, List, ap}
+use Rattle.std.proofs.Common.{◌∙◌, ◌++◌, ℕ, List, ap}
 use Rattle.guide_page.specs.Page.{page_text}
 use Rattle.guide_page.specs.declared.page.Answer.{Answer}
 use Rattle.guide_tree.specs.Words.{guide_of}

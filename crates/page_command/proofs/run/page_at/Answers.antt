@@ -1,6 +1,6 @@
-use Rattle.std.proofs.lemmas.Result.{IfErr-weaker, IfOk-weaker}
+use Rattle.std.proofs.lemmas.Result.{IfOk-weaker}
 use Rattle.page_command.specs.CommandLine.{names_of}
-use Rattle.page_command.proofs.Sampling.{at, unnamed}
+use Rattle.page_command.proofs.Sampling.{at}
 use Rattle.page_command.proofs.run.page_at.Goals as goal
 
 pub returns-in-Taken-clause-page : goal.returns-in-Taken-clause-page
