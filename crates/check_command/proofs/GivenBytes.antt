@@ -1,5 +1,5 @@
 -- The bytes of a file that was opened are all that it declared.
-use Rattle.std.proofs.Common.{◌≡◌, ◌∙◌, ℕ, List, Vec, Option, None, Some, Result, Ok, Err, sym, subst}
+use Rattle.std.proofs.Common.{◌≡◌, ℕ, List, Vec, Option, None, Some, Result, Ok, Err, sym, subst}
 use Rattle.std.specs.Prelude.{IfErr, IfOk, IfSome, IsErrOf}
 use Rattle.std.specs.declared.alloc.Global.{Global}
 use Rattle.std.specs.declared.io.Error.{Error}

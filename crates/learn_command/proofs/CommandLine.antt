@@ -7,9 +7,7 @@ use Rattle.std.specs.declared.alloc.Global.{Global}
 use Rattle.night_ends.specs.Words.{or_none, values_found}
 use Rattle.night_ends.proofs.ForAbove.{all_found, found}
 use Rattle.program_frame.specs.Arguments.{value_in, values_in}
-use Rattle.program_frame.specs.Matching.{AsksForText, IsMatched}
-use Rattle.program_frame.specs.declared.matching.Matched.{Matched}
-use Rattle.program_frame.specs.declared.matching.Matched.TheVariants as matched
+use Rattle.program_frame.specs.Matching.{AsksForText}
 use Rattle.learn_command.specs.CommandLine.{AreOptions, IsAsked, IsGiven, NamesNone, learn_app}
 use Rattle.learn_command.specs.declared.command.Asked.{Asked}
 use Rattle.learn_command.specs.declared.command.Asked.TheVariants.{Learn, Show}

@@ -1,5 +1,5 @@
 -- The command line (own), read as clap's definitions say: guides that are known, the sets that are asked for, and sample files.
-use Rattle.std.specs.Prelude.{◌≡◌, ◌≢◌, List, [], map, Option, Some, true, codes, option_map}
+use Rattle.std.specs.Prelude.{◌≡◌, ◌≢◌, List, [], map, Option, true, codes, option_map}
 use Rattle.clap.specs.Words.{App, Text, takes, with_rule}
 use Rattle.night_ends.specs.Words.{or_none}
 use Rattle.program_frame.specs.Arguments.{option_free, option_repeated, program, value_in, values_in, words}

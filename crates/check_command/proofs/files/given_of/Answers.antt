@@ -1,6 +1,5 @@
-use Rattle.std.proofs.Common.{◌≡◌, ℕ, List, None, Option, Result, subst}
+use Rattle.std.proofs.Common.{◌≡◌, None, subst}
 use Rattle.std.specs.Prelude.{IfErr, IfOk}
-use Rattle.std.specs.declared.io.Error.{Error}
 use Rattle.check_command.specs.Files.{AreBytesOf}
 use Rattle.check_command.proofs.GivenBytes.{closed, given}
 use Rattle.check_command.proofs.files.given_of.Goals as goal
