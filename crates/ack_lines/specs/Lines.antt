@@ -1,6 +1,6 @@
 -- Own: the lines that say in words what an acknowledgment reports (X12.5, TA1; 999 guide, AK1 to AK9): one for each TA1, for each group and
 -- set that isn't accepted one a fault, and a last one of totals.
-use Rattle.std.specs.Prelude.{ℕ, Bool, true, false, not, ◌==◌, ◌&&◌, List, [], ◌∷◌, ◌++◌, codes, decimal, if◌then◌else◌}
+use Rattle.std.specs.Prelude.{ℕ, Bool, true, false, not, ◌==◌, ◌&&◌, Option, None, Some, List, [], ◌∷◌, ◌++◌, codes, decimal, if◌then◌else◌}
 use Rattle.std.specs.List.{count_by, flat_map}
 use Rattle.std.specs.Str.{bytes_eq}
 use Rattle.hub_kinds.specs.Words as texts
@@ -16,6 +16,7 @@ use Rattle.ack_read.specs.declared.told.SegmentTold.{SegmentTold}
 use Rattle.ack_read.specs.declared.told.SetTold.{SetTold}
 use Rattle.ack_read.specs.declared.told.Ta1Told.{Ta1Told}
 use Rattle.ack_read.specs.declared.told.Told.{Told}
+use Rattle.guide_names.specs.Names.{Words, element_name, no_words, segment_name}
 use Rattle.ack_lines.specs.Reported.{is_rejected, reported_of}
 use Rattle.ack_lines.specs.Shown.{shown, shown_if}
 use Rattle.ack_lines.specs.declared.reported.Reported.{Reported}
@@ -91,17 +92,39 @@ abbrev pub code_lines : (head verdict own_element own_code : List ℕ) → (said
 code_lines head verdict own_element own_code said element [] = head ++ (coded verdict own_element own_code ++ codes "\n")
 code_lines head verdict own_element own_code said element (c ∷ cs) = flat_map (code_line head verdict said element) (c ∷ cs)
 
+-- the name of a segment, if a names file has one
+abbrev pub name_said : Option (List ℕ) → List ℕ
+name_said None = []
+name_said (Some name) = shown_if (codes " (") name (codes ")")
+
 -- a segment in error, and its innermost loop
-unfoldable pub segment_place : SegmentTold → List ℕ
-segment_place s = codes "segment " ++ (shown s.position ++ (codes " " ++ (shown s.id ++ shown_if (codes " in loop ") s.loop_id [])))
+unfoldable pub segment_place : Words → SegmentTold → List ℕ
+segment_place words s =
+    codes "segment "
+    ++ (shown s.position
+    ++ (codes " " ++ (shown s.id ++ (name_said (segment_name words s.id) ++ shown_if (codes " in loop ") s.loop_id []))))
+
+-- the name of an element after its number
+abbrev pub further_name : Option (List ℕ) → List ℕ
+further_name None = []
+further_name (Some name) = shown_if (codes ", ") name []
+
+unfoldable pub number_said : Words → (reference : List ℕ) → List ℕ
+number_said words reference =
+    codes " (" ++ (shown reference ++ (further_name (element_name words reference) ++ codes ")"))
+
+-- the number of an element, if there is one, and its name
+abbrev pub reference_said : Words → (reference : List ℕ) → List ℕ
+reference_said words [] = []
+reference_said words (b ∷ bs) = number_said words (b ∷ bs)
 
 -- an element in error
-unfoldable pub element_place : ElementTold → List ℕ
-element_place e =
+unfoldable pub element_place : Words → ElementTold → List ℕ
+element_place words e =
     codes ", element "
     ++ (shown e.element
     ++ (shown_if (codes ", component ") e.component []
-    ++ (shown_if (codes ", repetition ") e.repetition [] ++ shown_if (codes " (") e.reference (codes ")"))))
+    ++ (shown_if (codes ", repetition ") e.repetition [] ++ reference_said words e.reference)))
 
 -- IK304 3, I6, I7 and I8: the segment is missing before the one that is at its position
 abbrev pub is_of_missing : (code : List ℕ) → Bool
@@ -117,13 +140,13 @@ segment_at position = codes "segment " ++ shown position
 unfoldable pub gap_place : SegmentTold → List ℕ
 gap_place s = codes "before " ++ (segment_at s.position ++ shown_if (codes " in loop ") s.loop_id [])
 
-unfoldable pub missing_name : (id : List ℕ) → List ℕ
-missing_name id = codes ": " ++ (shown id ++ codes " ")
+unfoldable pub missing_name : Words → (id : List ℕ) → List ℕ
+missing_name words id = codes ": " ++ (shown id ++ (name_said (segment_name words id) ++ codes " "))
 
 -- what the words of IK304 are said of
-abbrev pub segment_subject : SegmentTold → List ℕ
-segment_subject s =
-    if is_of_missing s.code then gap_place s ++ missing_name s.id else segment_place s ++ codes ": "
+abbrev pub segment_subject : Words → SegmentTold → List ℕ
+segment_subject words s =
+    if is_of_missing s.code then gap_place s ++ missing_name words s.id else segment_place words s ++ codes ": "
 
 -- IK403 4 to 9 and I6: the words are said of the value, which the copy shows
 abbrev pub is_of_value : (code : List ℕ) → Bool
@@ -146,12 +169,13 @@ element_fault e =
     then shown_if [] e.copy (value_verb e.code) ++ coded (element_said e.code) (codes "IK403") e.code
     else coded (element_said e.code) (codes "IK403") e.code ++ shown_if (codes ": ") e.copy []
 
-abbrev pub note_words_of : NoteTold → List ℕ
-note_words_of (note.OfSegment s) = segment_subject s ++ coded (segment_said s.code) (codes "IK304") s.code
-note_words_of (note.OfElement s e) = segment_place s ++ (element_place e ++ (codes ": " ++ element_fault e))
+abbrev pub note_words_of : Words → NoteTold → List ℕ
+note_words_of words (note.OfSegment s) = segment_subject words s ++ coded (segment_said s.code) (codes "IK304") s.code
+note_words_of words (note.OfElement s e) =
+    segment_place words s ++ (element_place words e ++ (codes ": " ++ element_fault e))
 
-abbrev pub note_line : (head : List ℕ) → NoteTold → List ℕ
-note_line head n = head ++ (note_words_of n ++ codes "\n")
+abbrev pub note_line : Words → (head : List ℕ) → NoteTold → List ℕ
+note_line words head n = head ++ (note_words_of words n ++ codes "\n")
 
 -- an IK3 with an IK4 after it is reported by that
 abbrev pub is_of_element : List NoteTold → Bool
@@ -166,9 +190,10 @@ is_of_segment (note.OfElement s e) = false
 abbrev pub is_told_by_next : NoteTold → (behind : List NoteTold) → Bool
 is_told_by_next n behind = is_of_segment n && is_of_element behind
 
-abbrev pub note_lines : (head : List ℕ) → List NoteTold → List ℕ
-note_lines head [] = []
-note_lines head (n ∷ notes) = (if is_told_by_next n notes then [] else note_line head n) ++ note_lines head notes
+abbrev pub note_lines : Words → (head : List ℕ) → List NoteTold → List ℕ
+note_lines words head [] = []
+note_lines words head (n ∷ notes) =
+    (if is_told_by_next n notes then [] else note_line words head n) ++ note_lines words head notes
 
 -- a verdict of a set or a group: accepted without errors
 abbrev pub is_accepted : (code : List ℕ) → Bool
@@ -187,28 +212,28 @@ set_code_lines head verdict s [] = code_lines head verdict (codes "IK501") s.cod
 set_code_lines head verdict s (n ∷ notes) = flat_map (further_code_line head verdict) s.codes
 
 -- a set with these words of its verdict: its notes, then its codes
-abbrev pub faulty_set_lines : (sender verdict : List ℕ) → SetTold → List ℕ
-faulty_set_lines sender verdict s =
-    note_lines (set_head sender s ++ (verdict ++ codes ": ")) s.notes ++ set_code_lines (set_head sender s) verdict s s.notes
+abbrev pub faulty_set_lines : Words → (sender verdict : List ℕ) → SetTold → List ℕ
+faulty_set_lines words sender verdict s =
+    note_lines words (set_head sender s ++ (verdict ++ codes ": ")) s.notes ++ set_code_lines (set_head sender s) verdict s s.notes
 
 -- the verdict on a set whose group is rejected
 abbrev pub fallen_verdict : (code : List ℕ) → List ℕ
 fallen_verdict code = if is_rejected code then set_verdict_said code else codes "rejected with its group"
 
 -- a set that isn't accepted, by itself or since its group is rejected
-abbrev pub set_lines : (sender : List ℕ) → SetTold → (falls : Bool) → List ℕ
-set_lines sender s true = faulty_set_lines sender (fallen_verdict s.code) s
-set_lines sender s false = if is_accepted s.code then [] else faulty_set_lines sender (set_verdict_said s.code) s
+abbrev pub set_lines : Words → (sender : List ℕ) → SetTold → (falls : Bool) → List ℕ
+set_lines words sender s true = faulty_set_lines words sender (fallen_verdict s.code) s
+set_lines words sender s false = if is_accepted s.code then [] else faulty_set_lines words sender (set_verdict_said s.code) s
 
 abbrev pub faulty_group_lines : (sender : List ℕ) → GroupTold → List ℕ
 faulty_group_lines sender g =
     code_lines (group_head g.interchange sender g.functional_id g.control ++ codes ": ") (group_verdict_said g.code) (codes "AK901") g.code
     group_said (codes "AK905") g.codes
 
-abbrev pub reported_lines : (sender : List ℕ) → Reported → List ℕ
-reported_lines sender (reported.OfInterchange t) = ta1_line t
-reported_lines sender (reported.OfGroup g) = if is_accepted g.code then [] else faulty_group_lines sender g
-reported_lines sender (reported.OfSet s falls) = set_lines sender s falls
+abbrev pub reported_lines : Words → (sender : List ℕ) → Reported → List ℕ
+reported_lines words sender (reported.OfInterchange t) = ta1_line t
+reported_lines words sender (reported.OfGroup g) = if is_accepted g.code then [] else faulty_group_lines sender g
+reported_lines words sender (reported.OfSet s falls) = set_lines words sender s falls
 
 -- the last TA1 so far: in which interchange it is, and which one of the sender it answers
 pub record Asked : Type 0 where
@@ -232,9 +257,10 @@ interchange_of (reported.OfSet s falls) = s.interchange
 abbrev pub sender_of : Asked → (interchange : ℕ) → List ℕ
 sender_of at n = if at.interchange == n then at.control else []
 
-abbrev pub lines_behind : Asked → List Reported → List ℕ
-lines_behind at [] = []
-lines_behind at (r ∷ rs) = reported_lines (sender_of at (interchange_of r)) r ++ lines_behind (asked_behind at r) rs
+abbrev pub lines_behind : Words → Asked → List Reported → List ℕ
+lines_behind words at [] = []
+lines_behind words at (r ∷ rs) =
+    reported_lines words (sender_of at (interchange_of r)) r ++ lines_behind words (asked_behind at r) rs
 
 -- the totals: TA1s, groups, sets, and sets that are accepted, with or without errors (AK904)
 abbrev pub is_ta1 : Reported → Bool
@@ -268,10 +294,14 @@ total_line ta1s groups sets accepted =
     ++ (counted (codes "sets") sets ++ (counted (codes "accepted") accepted ++ codes "\n"))))
 
 -- all of it
-abbrev pub all_lines : List Reported → List ℕ
-all_lines all =
-    lines_behind none_asked all
+abbrev pub all_lines : Words → List Reported → List ℕ
+all_lines words all =
+    lines_behind words none_asked all
     ++ total_line (count_by is_ta1 all) (count_by is_group all) (count_by is_set all) (count_by is_accepted_set all)
 
+abbrev pub named_explanation : Words → List Told → List ℕ
+named_explanation words found = all_lines words (reported_of found)
+
+-- without names
 abbrev pub explanation : List Told → List ℕ
-explanation found = all_lines (reported_of found)
+explanation found = named_explanation no_words found

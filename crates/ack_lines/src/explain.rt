@@ -7,26 +7,46 @@ use crate::lines::{append_reported, is_accepted};
 use crate::reported::{Reported, reported_of};
 use crate::shown::{append_number, append_text};
 use ack_read::Told;
+use guide_names::Names;
 use hub_kinds::{Lent, NoMemory};
 use std::alloc::Global;
 
 /// The lines that say in words what is reported: one for each TA1, for each group and set that isn't accepted one a fault, and a last one
 /// of totals. A group that is rejected comes before its sets, none of which is accepted. The lines are printable ASCII, each ends with LF,
 /// and no text of the acknowledgment is shown longer than 99 bytes, so that their length follows that of what is reported.
-#[tactic(auto, using(crate::proofs::Once::once))]
 pub fn explanation<'a>(alloc: Global, found: Vec<Told<'a>>) -> Result<Vec<u8>, NoMemory>
     ensures lines { IfOk result (λ text. text.items ≡ lines.explanation found.entry.items) }
     ensures once { IsPermutation found.entry.items (map told_of (reported_of found.entry.items)) }
 {
+    let names = Names::none(alloc);
+    named_explanation(alloc, &names, found)
+}
+
+/// The lines that `explanation` gives, with the name of each segment and element that has one in `names`. A name is shown as a text of the
+/// acknowledgment is.
+#[tactic(auto, using(crate::proofs::Once::once))]
+pub fn named_explanation<'a>(
+    alloc: Global,
+    names: &Names,
+    found: Vec<Told<'a>>,
+) -> Result<Vec<u8>, NoMemory>
+    ensures lines { IfOk result (λ text. text.items ≡ lines.named_explanation names.now found.entry.items) }
+    ensures once { IsPermutation found.entry.items (map told_of (reported_of found.entry.items)) }
+{
     let all = reported_of(alloc, found)?;
     let mut out = Vec::new(alloc);
-    append_each(alloc, &mut out, all.as_slice())?;
+    append_each(alloc, &mut out, names, all.as_slice())?;
     append_totals(&mut out, all.as_slice())?;
     Ok(out)
 }
 
-fn append_each(alloc: Global, out: &mut Vec<u8>, all: &[Reported<'_>]) -> Result<(), NoMemory>
-    ensures { OnOk result (out.new.items ≡ out.old.items ++ lines.lines_behind lines.none_asked all.now) }
+fn append_each(
+    alloc: Global,
+    out: &mut Vec<u8>,
+    names: &Names,
+    all: &[Reported<'_>],
+) -> Result<(), NoMemory>
+    ensures { OnOk result (out.new.items ≡ out.old.items ++ lines.lines_behind names.now lines.none_asked all.now) }
 {
     let mut left = all;
     let mut asked = (0, Lent::new(b""));
@@ -36,7 +56,7 @@ fn append_each(alloc: Global, out: &mut Vec<u8>, all: &[Reported<'_>]) -> Result
         } else {
             b""
         };
-        append_reported(alloc, out, sender, one)?;
+        append_reported(alloc, out, names, sender, one)?;
         if let Reported::OfInterchange(ta1) = one {
             asked = (ta1.interchange, Lent::new(ta1.control.bytes()));
         }

@@ -1,10 +1,12 @@
-ghost use Rattle.std.specs.Prelude.{◌≡◌, ◌++◌, OnOk, codes};
+ghost use Rattle.std.specs.Prelude.{◌≡◌, ◌++◌, OnOk, codes, option_map};
+ghost use Rattle.guide_names.specs.Names.{element_name, segment_name};
 ghost use Rattle.ack_lines.specs.Lines as lines;
 
 use crate::interchanges::{InterchangeVerdict, NoteCode};
 use crate::shown::{append_coded, append_if, append_number, append_shown, append_text};
 use crate::worded::words_of;
 use ack_read::{ElementTold, SegmentTold, SetTold, Ta1Told};
+use guide_names::Names;
 use hub_kinds::NoMemory;
 
 /// Writes in which interchange something is reported.
@@ -107,18 +109,73 @@ pub(crate) fn append_ta1_line(out: &mut Vec<u8>, ta1: &Ta1Told<'_>) -> Result<()
     append_ta1_words(out, ta1.code.bytes(), ta1.note.bytes())
 }
 
+/// Writes a name, if there is one.
+fn append_name(out: &mut Vec<u8>, name: Option<&[u8]>) -> Result<(), NoMemory>
+    ensures { OnOk result (out.new.items ≡ out.old.items ++ lines.name_said (option_map (λ t. t.now) name.entry)) }
+{
+    match name {
+        None => Ok(()),
+        Some(name) => append_if(out, " (", name, ")"),
+    }
+}
+
+/// Writes the name of the segment with an `id`, if it has one.
+fn append_segment_name(out: &mut Vec<u8>, names: &Names, id: &[u8]) -> Result<(), NoMemory>
+    ensures { OnOk result (out.new.items ≡ out.old.items ++ lines.name_said (segment_name names.now id.now)) }
+{
+    append_name(out, names.segment(id))
+}
+
+/// Writes a name after a number, if there is one.
+fn append_further_name(out: &mut Vec<u8>, name: Option<&[u8]>) -> Result<(), NoMemory>
+    ensures { OnOk result (out.new.items ≡ out.old.items ++ lines.further_name (option_map (λ t. t.now) name.entry)) }
+{
+    match name {
+        None => Ok(()),
+        Some(name) => append_if(out, ", ", name, ""),
+    }
+}
+
+fn append_element_name(out: &mut Vec<u8>, names: &Names, reference: &[u8]) -> Result<(), NoMemory>
+    ensures { OnOk result (out.new.items ≡ out.old.items ++ lines.further_name (element_name names.now reference.now)) }
+{
+    append_further_name(out, names.element(reference))
+}
+
+#[tactic(auto, unfolding(crate::specs::Lines::number_said))]
+fn append_element_number(out: &mut Vec<u8>, names: &Names, reference: &[u8]) -> Result<(), NoMemory>
+    ensures { OnOk result (out.new.items ≡ out.old.items ++ lines.number_said names.now reference.now) }
+{
+    append_text(out, " (")?;
+    append_shown(out, reference)?;
+    append_element_name(out, names, reference)?;
+    append_text(out, ")")
+}
+
+/// Writes the number of an element, if it has one, and its name.
+fn append_reference(out: &mut Vec<u8>, names: &Names, reference: &[u8]) -> Result<(), NoMemory>
+    ensures { OnOk result (out.new.items ≡ out.old.items ++ lines.reference_said names.now reference.now) }
+{
+    match reference {
+        [] => Ok(()),
+        [..] => append_element_number(out, names, reference),
+    }
+}
+
 /// Writes which segment is in error.
 #[tactic(auto, unfolding(crate::specs::Lines::segment_place))]
 pub(crate) fn append_segment_place(
     out: &mut Vec<u8>,
+    names: &Names,
     segment: &SegmentTold<'_>,
 ) -> Result<(), NoMemory>
-    ensures { OnOk result (out.new.items ≡ out.old.items ++ lines.segment_place segment.now) }
+    ensures { OnOk result (out.new.items ≡ out.old.items ++ lines.segment_place names.now segment.now) }
 {
     append_text(out, "segment ")?;
     append_shown(out, segment.position.bytes())?;
     append_text(out, " ")?;
     append_shown(out, segment.id.bytes())?;
+    append_segment_name(out, names, segment.id.bytes())?;
     append_if(out, " in loop ", segment.loop_id.bytes(), "")
 }
 
@@ -153,26 +210,28 @@ fn append_gap_place(out: &mut Vec<u8>, segment: &SegmentTold<'_>) -> Result<(), 
 
 /// Writes which one that is.
 #[tactic(auto, unfolding(crate::specs::Lines::missing_name))]
-fn append_missing_name(out: &mut Vec<u8>, id: &[u8]) -> Result<(), NoMemory>
-    ensures { OnOk result (out.new.items ≡ out.old.items ++ lines.missing_name id.now) }
+fn append_missing_name(out: &mut Vec<u8>, names: &Names, id: &[u8]) -> Result<(), NoMemory>
+    ensures { OnOk result (out.new.items ≡ out.old.items ++ lines.missing_name names.now id.now) }
 {
     append_text(out, ": ")?;
     append_shown(out, id)?;
+    append_segment_name(out, names, id)?;
     append_text(out, " ")
 }
 
 /// Writes what the words of a segment's code are said of.
 pub(crate) fn append_segment_subject(
     out: &mut Vec<u8>,
+    names: &Names,
     segment: &SegmentTold<'_>,
 ) -> Result<(), NoMemory>
-    ensures { OnOk result (out.new.items ≡ out.old.items ++ lines.segment_subject segment.now) }
+    ensures { OnOk result (out.new.items ≡ out.old.items ++ lines.segment_subject names.now segment.now) }
 {
     if is_of_missing(segment.code.bytes()) {
         append_gap_place(out, segment)?;
-        return append_missing_name(out, segment.id.bytes());
+        return append_missing_name(out, names, segment.id.bytes());
     }
-    append_segment_place(out, segment)?;
+    append_segment_place(out, names, segment)?;
     append_text(out, ": ")
 }
 
@@ -180,13 +239,14 @@ pub(crate) fn append_segment_subject(
 #[tactic(auto, unfolding(crate::specs::Lines::element_place))]
 pub(crate) fn append_element_place(
     out: &mut Vec<u8>,
+    names: &Names,
     element: &ElementTold<'_>,
 ) -> Result<(), NoMemory>
-    ensures { OnOk result (out.new.items ≡ out.old.items ++ lines.element_place element.now) }
+    ensures { OnOk result (out.new.items ≡ out.old.items ++ lines.element_place names.now element.now) }
 {
     append_text(out, ", element ")?;
     append_shown(out, element.element.bytes())?;
     append_if(out, ", component ", element.component.bytes(), "")?;
     append_if(out, ", repetition ", element.repetition.bytes(), "")?;
-    append_if(out, " (", element.reference.bytes(), ")")
+    append_reference(out, names, element.reference.bytes())
 }

@@ -1,5 +1,5 @@
 //! The lines that say in words what acknowledgments report: of each interchange that is answered, of each group and set that isn't
-//! accepted, with each fault by its segment, its element and its code; and a last line of totals.
+//! accepted, with each fault by its segment, its element and its code, and their names if a names file has them; and a last line of totals.
 //!
 //! The words of the codes are here too: what is wrong with a segment, an element, a set or a group, the verdicts on sets and groups, and
 //! the note on an interchange. They are those of docs/ACKNOWLEDGMENT.md.
@@ -8,9 +8,9 @@
 //! - `words_of` gives the words of the code that a text writes, and other words where it writes none;
 //! - each code is in the list of its codes, as the first with its text;
 //! - a note that the hub gives on an interchange is one of the notes that have words, and its code one of the verdicts;
-//! - `explanation` is just these lines, of what is reported in its order, but a group that is rejected before its sets, byte for byte;
-//!   texts of the acknowledgment are shown without bytes that don't print, and cut to 99 bytes; all that they report is in the lines,
-//!   each once.
+//! - `explanation` and `named_explanation` are just these lines, of what is reported in its order, but a group that is rejected before its
+//!   sets, byte for byte; texts of the acknowledgment and names are shown without bytes that don't print, and cut to 99 bytes; all that
+//!   they report is in the lines, each once.
 //!
 //! Source: own; X12.5, TA1, TA104 and TA105; 999 guide (005010X231), AK1, AK2, IK3, IK4, IK5 and AK9, and the code lists of IK304, IK403,
 //! IK501, IK502, AK901 and AK905.
@@ -32,5 +32,5 @@ mod sets;
 mod shown;
 mod worded;
 
-pub use explain::explanation;
+pub use explain::{explanation, named_explanation};
 pub use laws::notes_have_words;

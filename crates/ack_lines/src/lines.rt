@@ -9,6 +9,7 @@ use crate::reported::{Reported, is_rejected};
 use crate::shown::{append_coded, append_text};
 use crate::worded::{Worded, words_of};
 use ack_read::{GroupTold, SetTold};
+use guide_names::Names;
 use hub_kinds::{GroupCode, GroupVerdict, Lent, NoMemory, SetCode, Verdict};
 use std::alloc::Global;
 
@@ -133,11 +134,12 @@ fn append_group_codes(out: &mut Vec<u8>, head: &[u8], group: &GroupTold<'_>) -> 
 fn append_set_lines(
     alloc: Global,
     out: &mut Vec<u8>,
+    names: &Names,
     sender: &[u8],
     verdict: &str,
     set: &SetTold<'_>,
 ) -> Result<(), NoMemory>
-    ensures { OnOk result (out.new.items ≡ out.old.items ++ lines.faulty_set_lines sender.now verdict.now set.now) }
+    ensures { OnOk result (out.new.items ≡ out.old.items ++ lines.faulty_set_lines names.now sender.now verdict.now set.now) }
 {
     let mut head = Vec::new(alloc);
     append_set_head(&mut head, sender, set)?;
@@ -145,7 +147,7 @@ fn append_set_lines(
     append_set_head(&mut noted, sender, set)?;
     append_text(&mut noted, verdict)?;
     append_text(&mut noted, ": ")?;
-    append_note_lines(out, noted.as_slice(), set.notes.as_slice())?;
+    append_note_lines(out, names, noted.as_slice(), set.notes.as_slice())?;
     append_set_codes(out, head.as_slice(), verdict, set)
 }
 
@@ -163,20 +165,21 @@ fn fallen_verdict(code: &[u8]) -> &'static str
 fn append_set(
     alloc: Global,
     out: &mut Vec<u8>,
+    names: &Names,
     sender: &[u8],
     set: &SetTold<'_>,
     falls: bool,
 ) -> Result<(), NoMemory>
-    ensures { OnOk result (out.new.items ≡ out.old.items ++ lines.set_lines sender.now set.now falls) }
+    ensures { OnOk result (out.new.items ≡ out.old.items ++ lines.set_lines names.now sender.now set.now falls) }
 {
     let code = set.code.bytes();
     if falls {
-        return append_set_lines(alloc, out, sender, fallen_verdict(code), set);
+        return append_set_lines(alloc, out, names, sender, fallen_verdict(code), set);
     }
     if is_accepted(code) {
         return Ok(());
     }
-    append_set_lines(alloc, out, sender, words_of::<Verdict>(code), set)
+    append_set_lines(alloc, out, names, sender, words_of::<Verdict>(code), set)
 }
 
 /// Writes the lines of a group that isn't accepted.
@@ -211,14 +214,15 @@ pub(crate) fn is_accepted(code: &[u8]) -> bool
 pub(crate) fn append_reported(
     alloc: Global,
     out: &mut Vec<u8>,
+    names: &Names,
     sender: &[u8],
     one: &Reported<'_>,
 ) -> Result<(), NoMemory>
-    ensures { OnOk result (out.new.items ≡ out.old.items ++ lines.reported_lines sender.now one.now) }
+    ensures { OnOk result (out.new.items ≡ out.old.items ++ lines.reported_lines names.now sender.now one.now) }
 {
     match one {
         Reported::OfInterchange(ta1) => append_ta1_line(out, ta1),
-        Reported::OfSet(set, falls) => append_set(alloc, out, sender, set, *falls),
+        Reported::OfSet(set, falls) => append_set(alloc, out, names, sender, set, *falls),
         Reported::OfGroup(group) if !is_accepted(group.code.bytes()) => append_group_lines(
             alloc, out, sender, group,
         ),

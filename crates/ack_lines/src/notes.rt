@@ -6,13 +6,18 @@ use crate::heads::{append_element_place, append_segment_place, append_segment_su
 use crate::shown::{append_coded, append_if, append_text};
 use crate::worded::words_of;
 use ack_read::{ElementTold, NoteTold, SegmentTold};
+use guide_names::Names;
 use hub_kinds::{ElementCode, NoMemory, SegmentCode};
 
 /// Writes what an IK3 says.
-fn append_segment_words(out: &mut Vec<u8>, segment: &SegmentTold<'_>) -> Result<(), NoMemory>
-    ensures { OnOk result (out.new.items ≡ out.old.items ++ lines.note_words_of (OfSegment segment.now)) }
+fn append_segment_words(
+    out: &mut Vec<u8>,
+    names: &Names,
+    segment: &SegmentTold<'_>,
+) -> Result<(), NoMemory>
+    ensures { OnOk result (out.new.items ≡ out.old.items ++ lines.note_words_of names.now (OfSegment segment.now)) }
 {
-    append_segment_subject(out, segment)?;
+    append_segment_subject(out, names, segment)?;
     let code = segment.code.bytes();
     append_coded(out, words_of::<SegmentCode>(code), "IK304", code)
 }
@@ -56,25 +61,33 @@ fn append_element_fault(out: &mut Vec<u8>, element: &ElementTold<'_>) -> Result<
 /// Writes what an IK4 says, after this IK3.
 fn append_element_words(
     out: &mut Vec<u8>,
+    names: &Names,
     segment: &SegmentTold<'_>,
     element: &ElementTold<'_>,
 ) -> Result<(), NoMemory>
-    ensures { OnOk result (out.new.items ≡ out.old.items ++ lines.note_words_of (OfElement segment.now element.now)) }
+    ensures { OnOk result (out.new.items ≡ out.old.items ++ lines.note_words_of names.now (OfElement segment.now element.now)) }
 {
-    append_segment_place(out, segment)?;
-    append_element_place(out, element)?;
+    append_segment_place(out, names, segment)?;
+    append_element_place(out, names, element)?;
     append_text(out, ": ")?;
     append_element_fault(out, element)
 }
 
 /// Writes the line of a note.
-fn append_note_line(out: &mut Vec<u8>, head: &[u8], note: &NoteTold<'_>) -> Result<(), NoMemory>
-    ensures { OnOk result (out.new.items ≡ out.old.items ++ lines.note_line head.now note.now) }
+fn append_note_line(
+    out: &mut Vec<u8>,
+    names: &Names,
+    head: &[u8],
+    note: &NoteTold<'_>,
+) -> Result<(), NoMemory>
+    ensures { OnOk result (out.new.items ≡ out.old.items ++ lines.note_line names.now head.now note.now) }
 {
     out.extend_from_slice(head)?;
     match note {
-        NoteTold::OfSegment(segment) => append_segment_words(out, segment)?,
-        NoteTold::OfElement(segment, element) => append_element_words(out, segment, element)?,
+        NoteTold::OfSegment(segment) => append_segment_words(out, names, segment)?,
+        NoteTold::OfElement(segment, element) => append_element_words(
+            out, names, segment, element,
+        )?,
     }
     append_text(out, "\n")
 }
@@ -89,15 +102,16 @@ fn is_told_by_next(note: &NoteTold<'_>, behind: &[NoteTold<'_>]) -> bool
 /// Writes the lines of notes.
 pub(crate) fn append_note_lines(
     out: &mut Vec<u8>,
+    names: &Names,
     head: &[u8],
     notes: &[NoteTold<'_>],
 ) -> Result<(), NoMemory>
-    ensures { OnOk result (out.new.items ≡ out.old.items ++ lines.note_lines head.now notes.now) }
+    ensures { OnOk result (out.new.items ≡ out.old.items ++ lines.note_lines names.now head.now notes.now) }
 {
     let mut left = notes;
     while let [note, behind @ ..] = left {
         if !is_told_by_next(note, behind) {
-            append_note_line(out, head, note)?;
+            append_note_line(out, names, head, note)?;
         }
         left = behind;
     }

@@ -1,15 +1,16 @@
 -- What clap found in the arguments is what the definitions say of them.
-use Rattle.std.proofs.Common.{◌≡◌, ◌∙◌, ℕ, List, Vec, true, codes, map, refl, String, sym, ap, subst}
-use Rattle.clap.specs.Words.{HasKind, HasMatchesOf, Text, fault_of, found_of, is_simple, is_simple_and_free, kind_of, takes}
+use Rattle.std.proofs.Common.{◌≡◌, ◌∙◌, ℕ, List, true, codes, refl, String, sym, ap, subst}
+use Rattle.clap.specs.Words.{HasKind, HasMatchesOf, Text, fault_of, first_value, found_of, is_simple, is_simple_and_free, kind_of, takes}
 use Rattle.clap.specs.declared.error.Error.{Error}
 use Rattle.clap.specs.declared.error.kind.ErrorKind.TheVariants.{OutOfMemory}
 use Rattle.clap.specs.declared.parser.matches.ArgMatches.{ArgMatches}
 use Rattle.clap.proofs.OnLiterals.{clap_on_literals}
-use Rattle.std.specs.Borrow.{Bor}
 use Rattle.std.specs.declared.alloc.Global.{Global}
 use Rattle.night_ends.specs.Words.{or_none, values_found}
-use Rattle.night_ends.proofs.ForAbove.{all_found, asks_for_text}
-use Rattle.explain_command.specs.CommandLine.{AsksForText, IsAsked, IsGiven, IsShown, NamesFiles, NamesNone, explain_app, values_of}
+use Rattle.night_ends.proofs.ForAbove.{all_found, asks_for_text, found}
+use Rattle.explain_command.specs.CommandLine.{AsksForText, IsAsked, IsGiven, IsShown, NamesFiles, NamesNone, explain_app, names_given}
+use Rattle.explain_command.specs.CommandLine.{names_in, paths_in, values_of}
+use Rattle.explain_command.specs.declared.command.Paths.{Paths}
 use Rattle.explain_command.specs.declared.command.Asked.{Asked}
 use Rattle.explain_command.specs.declared.command.Asked.TheVariants.{Explain, Show}
 
@@ -22,11 +23,14 @@ unfolding clap_on_literals
 free = refl
 
 pub asked : (words : List Text) (m : ArgMatches) (asked : Asked) → HasMatchesOf explain_app words m
-    → IsGiven (values_found (found_of m)) asked → IsAsked words asked
-asked words m (Explain paths) has given = record {
-  given = sym (ap or_none (all_found explain_app simple words m (codes "file") has)) ∙ given.given;
-  some = given.some;
-}
+    → IsGiven (values_found (found_of m)) (first_value (found_of m)) asked → IsAsked words asked
+asked words m (Explain paths) has given = (
+  record {
+    given = sym (ap or_none (all_found explain_app simple words m (codes "file") has)) ∙ given.0.given;
+    some = given.0.some;
+  },
+  sym (found explain_app simple words m (codes "names") has) ∙ given.1,
+)
 asked words m (Show text) has given = absurd given
 
 -- where clap found no file, the arguments name none
@@ -41,8 +45,8 @@ shown words e (Show text) kind passes is =
     let both = asks_for_text explain_app words e kind passes is in record { asked = both.0; no_run = both.1 }
 
 -- the files that are asked for are those that the arguments name
-pub files_named : (words : List Text) (asked : Asked) (paths : Vec (Bor (List ℕ)) Global) → asked ≡ Explain paths → IsAsked words asked
-    → NamesFiles words (map (λ (p : Bor (List ℕ)). p.now) paths.items)
+pub files_named : (words : List Text) (asked : Asked) (paths : Paths) → asked ≡ Explain paths → IsAsked words asked
+    → NamesFiles words (paths_in paths) × (names_given words ≡ names_in paths)
 files_named words asked paths is by = subst (λ (a : Asked). IsAsked words a) is by
 
 -- the text that is asked for isn't shown in place of a file

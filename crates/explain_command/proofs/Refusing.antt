@@ -3,6 +3,7 @@ use Rattle.std.proofs.Common.{◌≡◌, ◌⊎◌, inl, inr, ℕ, List, Vec, Op
 use Rattle.std.specs.Prelude.{◌≢◌, IfErr, IfOk, IfSome, IsErrAnd, IsOkAnd, is_some}
 use Rattle.std.specs.declared.alloc.Global.{Global}
 use Rattle.std.specs.declared.io.Error.{Error}
+use Rattle.guide_names.specs.Names.{Words}
 use Rattle.explain_command.specs.Failure.{IsOfInput, IsOfText}
 use Rattle.explain_command.specs.Outcome.{IsExplanationOf, IsSaidOf}
 use Rattle.explain_command.specs.declared.ends.CutOff.{CutOff}
@@ -48,14 +49,14 @@ unread : (declared : Option (List ℕ)) (failed : Failure) → (failed ≡ failu
 unread declared failed (inl memory) = subst (λ (f : Failure). IsOfInput declared f) (sym memory) tt
 unread declared failed (inr input) = subst (λ (f : Failure). IsOfInput declared f) (sym input) tt
 
-pub said : (read : Result (Vec ℕ Global) Error) (declared : Option (List ℕ)) (result : Result Account Failure)
-    → IfOk result (λ (a : Account). IsOkAnd read (λ text. IsSaidOf text.items a.lines.items a.cut))
+pub said : (words : Words) (read : Result (Vec ℕ Global) Error) (declared : Option (List ℕ)) (result : Result Account Failure)
+    → IfOk result (λ (a : Account). IsOkAnd read (λ text. IsSaidOf words text.items a.lines.items a.cut))
     → IfOk read (λ text. IfSome declared (λ xs. text.items ≡ xs))
-    → IfOk result (λ (a : Account). IsExplanationOf declared a.lines.items a.cut)
-said (Ok text) declared (Ok a) by all = record { text = text.items; told_all = all; said = by }
-said (Ok text) declared (Err f) by all = tt
-said (Err e) declared (Ok a) by all = absurd by
-said (Err e) declared (Err f) by all = tt
+    → IfOk result (λ (a : Account). IsExplanationOf words declared a.lines.items a.cut)
+said words (Ok text) declared (Ok a) by all = record { text = text.items; told_all = all; said = by }
+said words (Ok text) declared (Err f) by all = tt
+said words (Err e) declared (Ok a) by all = absurd by
+said words (Err e) declared (Err f) by all = tt
 
 pub refused : (read : Result (Vec ℕ Global) Error) (declared : Option (List ℕ)) (result : Result Account Failure)
     → IfOk read (λ text. IfErr result (IsOfText text.items))

@@ -67,13 +67,17 @@ status_of failure.Memory = 6
 
 -- a status: 0, or that of a failure
 abbrev pub IsStatus : ℕ → Type 0
-IsStatus n = IsTrue (n == 0 || (n == 2 || (n == 4 || (n == 5 || n == 6))))
+IsStatus n = IsTrue (n == 0 || (n == 2 || (n == 3 || (n == 4 || (n == 5 || n == 6)))))
 
 -- what a text fails by that isn't read as acknowledgments
 abbrev pub read_failure : ReadFault → Failure
 read_failure fault.NoHeader = failure.NoHeader
 read_failure fault.TellsNothing = failure.TellsNothing
 read_failure fault.NoMemory = failure.Memory
+
+-- the line on a names file that is refused
+abbrev pub names_line : (path text : List ℕ) → List ℕ
+names_line path text = codes "nighthub_explain: " ++ (shown path ++ (codes ": " ++ (shown text ++ codes "\n")))
 
 -- the line and the status of a mistake in the arguments
 abbrev pub mistake_line : Mistake → List ℕ

@@ -5,7 +5,9 @@ use Rattle.std.specs.Prelude.{is_none, option_map, if◌then◌else◌}
 use Rattle.std.specs.List.{list_all}
 use Rattle.std.specs.Io.KnownBytes.{Appends}
 use Rattle.clap.specs.Words.{Text}
-use Rattle.explain_command.specs.CommandLine.{AsksForText, NamesFiles}
+use Rattle.guide_names.specs.Names.{Words}
+use Rattle.names_given.specs.Files.{AreRefused, AreWords}
+use Rattle.explain_command.specs.CommandLine.{AsksForText, NamesFiles, names_given}
 use Rattle.file_names.specs.Shown.{shown}
 use Rattle.explain_command.specs.Failure.{IsOfInput, line_in, line_of}
 use Rattle.explain_command.specs.Outcome.{IsExplanationOf}
@@ -17,18 +19,18 @@ use Rattle.explain_command.specs.declared.files.Told.{Told}
 use Rattle.explain_command.specs.declared.files.Told.TheVariants as told
 
 -- a file that declared these bytes of itself, or none, is explained, or is refused for what it holds, or since it can't be read
-abbrev pub IsTold : (declared : Option (List ℕ)) → Told → Type 0
-IsTold declared (told.Explained a) = IsExplanationOf declared a.lines.items a.cut
-IsTold declared (told.Refused f) = IsOfInput declared f × (f ≢ failure.Memory)
+abbrev pub IsTold : Words → (declared : Option (List ℕ)) → Told → Type 0
+IsTold words declared (told.Explained a) = IsExplanationOf words declared a.lines.items a.cut
+IsTold words declared (told.Refused f) = IsOfInput declared f × (f ≢ failure.Memory)
 
 -- what explaining a file gave is what is reported of it; out of memory says nothing of the file
 abbrev pub IsReported : {E : Type 0} → Result Account Failure → Result Told E → Type 0
 IsReported (Ok a) result = result ≡ Ok (told.Explained a)
 IsReported (Err f) result = (f ≡ failure.Memory → IsErr result) × (f ≢ failure.Memory → result ≡ Ok (told.Refused f))
 
-abbrev pub AreTold : List FileTold → Type 0
-AreTold [] = ⊤
-AreTold (f ∷ fs) = IsTold None f.told × AreTold fs
+abbrev pub AreTold : Words → List FileTold → Type 0
+AreTold words [] = ⊤
+AreTold words (f ∷ fs) = IsTold words None f.told × AreTold words fs
 
 abbrev pub paths_of : List FileTold → List (List ℕ)
 paths_of fs = map (λ (f : FileTold). f.path.now) fs
@@ -83,19 +85,19 @@ abbrev pub are_several : {A : Type 0} → List A → Bool
 are_several paths = nat_lt 1 (length paths)
 
 -- a text is the lines on the files at these paths, another those on the files that are cut off or refused, and this is their status
-pub record IsReport (paths : List (List ℕ)) (text failures : List ℕ) (status : ℕ) : Type 0 where
+pub record IsReport (words : Words) (paths : List (List ℕ)) (text failures : List ℕ) (status : ℕ) : Type 0 where
   pub told : List FileTold
   pub files : paths_of told ≡ paths
-  pub is : AreTold told
+  pub is : AreTold words told
   pub lines : text ≡ lines_of (are_several paths) told
   pub refusals : failures ≡ failure_lines (are_several paths) told
   pub own_status : status ≡ status_of told
 
 -- such a text is what was printed
-pub record IsExplained (paths : List (List ℕ)) (status : ℕ) (was is : Option (List ℕ)) : Type 0 where
+pub record IsExplained (words : Words) (paths : List (List ℕ)) (status : ℕ) (was is : Option (List ℕ)) : Type 0 where
   pub text : List ℕ
   pub failures : List ℕ
-  pub report : IsReport paths text failures status
+  pub report : IsReport words paths text failures status
   pub printed : Appends was is text
 
 -- a text was shown that the arguments ask for
@@ -105,7 +107,19 @@ pub record IsShownText (words : List Text) (status : ℕ) (was is : Option (List
   pub printed : Appends was is text
   pub own_status : status ≡ 0
 
+-- the files at these paths were explained, with the words of the names file at a path, if there is one
+pub record IsNamedRun (names : Option (List ℕ)) (paths : List (List ℕ)) (status : ℕ) (was is : Option (List ℕ)) : Type 0 where
+  pub words : Words
+  pub are : AreWords names words
+  pub explained : IsExplained words paths status was is
+
 -- the files that the arguments name were explained, or such a text was shown
 abbrev pub IsRun : (words : List Text) → (status : ℕ) → (was is : Option (List ℕ)) → Type 0
 IsRun words status was is =
-    ((paths : List (List ℕ)) × NamesFiles words paths × IsExplained paths status was is) ⊎ IsShownText words status was is
+    ((paths : List (List ℕ)) × NamesFiles words paths × IsNamedRun (names_given words) paths status was is)
+    ⊎ IsShownText words status was is
+
+-- there is a names file, and it is refused
+abbrev pub IsNamesRefusal : (names : Option (List ℕ)) → Type 0
+IsNamesRefusal None = ⊥
+IsNamesRefusal (Some path) = (text : List ℕ) × AreRefused path text

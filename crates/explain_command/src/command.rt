@@ -1,7 +1,8 @@
 ghost use Rattle.std.specs.Prelude.{◌≡◌, ◌≢◌, false, map, IfOk, IfErr};
-ghost use Rattle.clap.specs.Words.{app_of, found_of, kind_of, rule_of};
+ghost use Rattle.clap.specs.Words.{app_of, first_value, found_of, kind_of, rule_of};
 ghost use Rattle.night_ends.specs.Words.{values_found};
-ghost use Rattle.explain_command.specs.CommandLine.{IsAsked, IsCommandLine, IsGiven, IsShown, NamesNone, explain_app, file_rule};
+ghost use Rattle.explain_command.specs.CommandLine.{IsAsked, IsCommandLine, IsGiven, IsShown, NamesNone};
+ghost use Rattle.explain_command.specs.CommandLine.{explain_app, file_rule, names_rule};
 ghost use Rattle.explain_command.specs.Failure.{IsUsage};
 
 use crate::mistake::Mistake;
@@ -16,18 +17,28 @@ use std::convert::AsStr;
 const STATUSES: &str = "Status:
   0  the acknowledgments are explained
   2  usage
+  3  FILE is refused, or can't be read
   4  a file can't be read, holds no acknowledgments, or is truncated
   5  standard output
   6  no memory
 
 Example:
-  nighthub_explain out/ACME.ack";
+  nighthub_explain --names h850.names.toml out/ACME.ack";
+
+/// The files that the arguments name.
+#[derive(Debug, Drop)]
+pub struct Paths<'a> {
+    /// The names file, if there is one.
+    pub names: Option<&'a str>,
+    /// The files of acknowledgments, in their order; there is one or more.
+    pub files: Vec<&'a str>,
+}
 
 /// What the arguments ask for.
 #[derive(Debug, Drop)]
 pub enum Asked<'a> {
-    /// To explain the acknowledgments in the files at these paths, in their order; there is one or more.
-    Explain(Vec<&'a str>),
+    /// To explain the acknowledgments in these files.
+    Explain(Paths<'a>),
     /// To show a text: help, or the version.
     Show(String),
 }
@@ -52,7 +63,20 @@ fn command<'a>(alloc: Global) -> Result<Command<'a>, AllocError>
         .version(RELEASE)
         .after_help(STATUSES)
         .no_binary_name(true);
+    let command = with_argument(command, names(alloc))?;
     with_argument(command, file(alloc))
+}
+
+/// The names file.
+fn names<'a>(alloc: Global) -> Arg<'a>
+    ensures rule { rule_of result ≡ names_rule }
+    ensures local { result.global ≡ false }
+{
+    Arg::new(alloc, "names")
+        .long("names")
+        .value_name("FILE")
+        .help("Say the names of segments and elements that the names file FILE has")
+        .action(ArgAction::Set)
 }
 
 /// The files of acknowledgments, of which one is wanted.
@@ -70,14 +94,17 @@ fn file<'a>(alloc: Global) -> Arg<'a>
 }
 
 fn files_asked<'a>(alloc: Global, matches: &ArgMatches<'a>) -> Result<Asked<'a>, Mistake>
-    ensures given { IfOk result (IsGiven (values_found (found_of matches.now))) }
+    ensures given { IfOk result (IsGiven (values_found (found_of matches.now)) (first_value (found_of matches.now))) }
     ensures usage { IfErr result (λ mistake. IsUsage mistake → NamesNone (values_found (found_of matches.now))) }
 {
-    let paths = texts_given(alloc, matches, "file")?;
-    if paths.is_empty() {
+    let files = texts_given(alloc, matches, "file")?;
+    if files.is_empty() {
         return Err(Mistake::Usage(copy_text(alloc, b"no file is named")?));
     }
-    Ok(Asked::Explain(paths))
+    Ok(Asked::Explain(Paths {
+        names: matches.get_str("names"),
+        files,
+    }))
 }
 
 /// The text that is asked for, where the arguments have no mistake.

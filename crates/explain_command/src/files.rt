@@ -8,6 +8,7 @@ use crate::ends::SetId;
 use crate::explain::{Account, explained_file};
 use crate::failure::Failure;
 use file_names::append_shown;
+use guide_names::Names;
 use hub_kinds::NoMemory;
 use night_ends::{Opened, open_at};
 use std::alloc::Global;
@@ -68,51 +69,53 @@ fn reported(account: Result<Account, Failure>) -> Result<Told, NoMemory>
 }
 
 /// What is reported of a file that was opened, which `opened` gives. The only error is out of memory.
-pub fn tell_opened<I: Read + Drop>(alloc: Global, opened: io::Result<I>) -> Result<Told, NoMemory>
-    ensures told { IfOk opened (λ input. IfOk result (reports.IsTold (I.remaining input))) }
+pub fn tell_opened<I: Read + Drop>(alloc: Global, names: &Names, opened: io::Result<I>) -> Result<Told, NoMemory>
+    ensures told { IfOk opened (λ input. IfOk result (reports.IsTold names.now (I.remaining input))) }
     ensures closed { IfErr opened (λ error. IfOk result (λ told. told ≡ Told.Refused Failure.Input)) }
 {
-    reported(explained_file(alloc, opened))
+    reported(explained_file(alloc, names, opened))
 }
 
 /// What is reported of the file at `path`. The only error is out of memory.
-fn told_at<'a, R: Files + AllocGlobal>(rt: &R, path: &'a str) -> Result<FileTold<'a>, NoMemory>
-    ensures told { IfOk result (λ file. reports.IsTold None file.told) }
+fn told_at<'a, R: Files + AllocGlobal>(rt: &R, names: &Names, path: &'a str) -> Result<FileTold<'a>, NoMemory>
+    ensures told { IfOk result (λ file. reports.IsTold names.now None file.told) }
     ensures path { IfOk result (λ file. file.path.now ≡ path.entry.now) }
 {
-    told_of(rt.alloc(), path, open_at(rt, path))
+    told_of(rt.alloc(), names, path, open_at(rt, path))
 }
 
 /// What is reported of the file at `path`, which `opened` gives. The only error is out of memory.
 fn told_of<'a, I: Read + Drop>(
     alloc: Global,
+    names: &Names,
     path: &'a str,
     opened: Opened<'a, I>,
 ) -> Result<FileTold<'a>, NoMemory>
     requires { opened.path ≡ path.now }
-    ensures told { IfOk result (λ file. reports.IsTold None file.told) }
+    ensures told { IfOk result (λ file. reports.IsTold names.now None file.told) }
     ensures path { IfOk result (λ file. file.path.now ≡ path.entry.now) }
 {
-    let told = tell_opened(alloc, opened.into_answer())?;
+    let told = tell_opened(alloc, names, opened.into_answer())?;
     Ok(FileTold { path, told })
 }
 
 /// What is reported of the files at these paths, in their order. The only error is out of memory.
 pub fn tell_files<'a, R: Files + AllocGlobal>(
     rt: &R,
+    names: &Names,
     paths: &[&'a str],
 ) -> Result<Vec<FileTold<'a>>, NoMemory>
-    ensures told { IfOk result (λ told. reports.AreTold told.items) }
+    ensures told { IfOk result (λ told. reports.AreTold names.now told.items) }
     ensures paths { IfOk result (λ told. reports.paths_of told.items ≡ map (λ p. p.now) paths.now) }
 {
     let mut files = Vec::new(rt.alloc());
     for path in paths {
-        files.push(told_at(rt, path)?)?;
+        files.push(told_at(rt, names, path)?)?;
     }
     Ok(files)
 }
 
-fn append(out: &mut Vec<u8>, text: &[u8]) -> Result<(), NoMemory>
+pub(crate) fn append(out: &mut Vec<u8>, text: &[u8]) -> Result<(), NoMemory>
     ensures { OnOk result (out.new.items ≡ out.old.items ++ text.now) }
 {
     out.extend_from_slice(text)?;

@@ -5,6 +5,8 @@
 //! - `explain_main` prints just the lines on the files that the arguments name, in their order, of several each with its file's path in
 //!   front, or a text that was asked for. It ends with 0 where each file is explained, and whole, with 4 where one is refused or cut off,
 //!   and with 2 only where the arguments are no command line; where memory is refused it prints nothing on standard output;
+//! - where a names file is given, the lines have the names that its bytes write; it ends with 3 only where that file is refused or can't
+//!   be read, and then prints nothing on standard output;
 //! - a file is cut off just where a byte but CR and LF is after its last terminator, or else an ST without an SE after it;
 //! - what is reported of a file is what all of its bytes say, where it was opened and declares them, and `input` where it couldn't be
 //!   opened (`tell_opened`, of which what is printed of a file is one call);
@@ -27,7 +29,7 @@ mod files;
 mod mistake;
 mod run;
 
-pub use command::{Asked, read_words};
+pub use command::{Asked, Paths, read_words};
 pub use ends::{CutOff, SetId};
 pub use explain::{Account, explained, explained_file};
 pub use failure::{Failure, Reported};

@@ -12,7 +12,10 @@ use Rattle.guide_tree.specs.declared.element.Component.{Component}
 use Rattle.guide_tree.specs.declared.element.Component.TheVariants as component
 use Rattle.guide_tree.specs.declared.element.Element.{Element}
 use Rattle.guide_tree.specs.declared.element.Element.TheVariants as element
-use Rattle.guide_page.specs.Tags.{cell, codes_part, row_head}
+use Rattle.std.specs.List.{flat_map}
+use Rattle.guide_names.specs.Names.{Words}
+use Rattle.guide_page.specs.Named.{named_code, reference_cell}
+use Rattle.guide_page.specs.Tags.{cell, row_head}
 
 abbrev pub requirement_words : Requirement → List ℕ
 requirement_words Mandatory = codes "must"
@@ -38,19 +41,19 @@ wide_words false = []
 abbrev pub range_words : (least most : ℕ) → List ℕ
 range_words least most = if least == most then decimal most else decimal least ++ (codes " to " ++ decimal most)
 
-abbrev pub unused_texts : (texts : List (List ℕ)) → List ℕ
-unused_texts texts = codes "<br>not used: " ++ codes_part texts
+abbrev pub unused_texts : Words → (reference : List ℕ) → List (List ℕ) → List ℕ
+unused_texts names reference texts = codes "<br>not used: " ++ flat_map (named_code names reference) texts
 
-abbrev pub unused_part : Option (List (List ℕ)) → List ℕ
-unused_part None = []
-unused_part (Some texts) = unused_texts texts
+abbrev pub unused_part : Words → (reference : List ℕ) → Option (List (List ℕ)) → List ℕ
+unused_part names reference None = []
+unused_part names reference (Some texts) = unused_texts names reference texts
 
-abbrev pub values_of : CodeList → List ℕ
-values_of list = codes_part list.used ++ unused_part list.unused
+abbrev pub values_of : Words → (reference : List ℕ) → CodeList → List ℕ
+values_of names reference list = flat_map (named_code names reference) list.used ++ unused_part names reference list.unused
 
-abbrev pub values_part : Option CodeList → List ℕ
-values_part None = []
-values_part (Some list) = values_of list
+abbrev pub values_part : Words → (reference : List ℕ) → Option CodeList → List ℕ
+values_part names reference None = []
+values_part names reference (Some list) = values_of names reference list
 
 -- a position in two digits or more
 abbrev pub two_digits : ℕ → List ℕ
@@ -75,38 +78,41 @@ range_cell least most = cell (range_words least most)
 abbrev pub number_cell : ℕ → List ℕ
 number_cell n = cell (decimal n)
 
-abbrev pub value_cell : Option CodeList → List ℕ
-value_cell list = codes "<td>" ++ (values_part list ++ codes "</td></tr>\n")
+abbrev pub value_cell : Words → (reference : List ℕ) → Option CodeList → List ℕ
+value_cell names reference list = codes "<td>" ++ (values_part names reference list ++ codes "</td></tr>\n")
 
-abbrev pub unused_row : (name reference : List ℕ) → List ℕ
-unused_row name reference =
-    row_head name ++ (cell reference ++ codes "<td>not used</td><td></td><td></td><td></td><td></td></tr>\n")
+abbrev pub unused_row : Words → (name reference : List ℕ) → List ℕ
+unused_row names name reference =
+    row_head name
+    ++ (reference_cell names reference ++ codes "<td>not used</td><td></td><td></td><td></td><td></td></tr>\n")
 
-abbrev pub simple_row : (name : List ℕ) → SimpleRow → (times : ℕ) → List ℕ
-simple_row name r times =
-    row_head name ++ (cell r.reference ++ (use_cell r.requirement ++ (type_cell r ++ (range_cell r.min r.max ++ (number_cell times
-    ++ value_cell r.codes)))))
+abbrev pub simple_row : Words → (name : List ℕ) → SimpleRow → (times : ℕ) → List ℕ
+simple_row names name r times =
+    row_head name ++ (reference_cell names r.reference ++ (use_cell r.requirement ++ (type_cell r ++ (range_cell r.min r.max
+    ++ (number_cell times ++ value_cell names r.reference r.codes)))))
 
-abbrev pub composite_row : (name : List ℕ) → CompositeRow → List ℕ
-composite_row name r =
-    row_head name ++ (cell r.reference ++ (use_cell r.requirement ++ (codes "<td>composite</td><td></td>" ++ (number_cell r.repeat
-    ++ codes "<td></td></tr>\n"))))
+abbrev pub composite_row : Words → (name : List ℕ) → CompositeRow → List ℕ
+composite_row names name r =
+    row_head name ++ (reference_cell names r.reference ++ (use_cell r.requirement ++ (codes "<td>composite</td><td></td>"
+    ++ (number_cell r.repeat ++ codes "<td></td></tr>\n"))))
 
-abbrev pub component_row : (name : List ℕ) → Component → List ℕ
-component_row name (component.NotUsed reference) = unused_row name reference
-component_row name (component.Simple r) = simple_row name r 1
+abbrev pub component_row : Words → (name : List ℕ) → Component → List ℕ
+component_row names name (component.NotUsed reference) = unused_row names name reference
+component_row names name (component.Simple r) = simple_row names name r 1
 
 -- components from a position on
-abbrev pub component_rows : (name : List ℕ) → (position : ℕ) → List Component → List ℕ
-component_rows name position [] = []
-component_rows name position (c ∷ cs) = component_row (component_name name position) c ++ component_rows name (position + 1) cs
+abbrev pub component_rows : Words → (name : List ℕ) → (position : ℕ) → List Component → List ℕ
+component_rows names name position [] = []
+component_rows names name position (c ∷ cs) =
+    component_row names (component_name name position) c ++ component_rows names name (position + 1) cs
 
-abbrev pub element_rows_of : (name : List ℕ) → Element → List ℕ
-element_rows_of name (element.NotUsed reference) = unused_row name reference
-element_rows_of name (element.Simple r repeat) = simple_row name r repeat
-element_rows_of name (element.Composite r) = composite_row name r ++ component_rows name 1 r.components
+abbrev pub element_rows_of : Words → (name : List ℕ) → Element → List ℕ
+element_rows_of names name (element.NotUsed reference) = unused_row names name reference
+element_rows_of names name (element.Simple r repeat) = simple_row names name r repeat
+element_rows_of names name (element.Composite r) = composite_row names name r ++ component_rows names name 1 r.components
 
 -- elements from a position on
-abbrev pub element_rows : (id : List ℕ) → (position : ℕ) → List Element → List ℕ
-element_rows id position [] = []
-element_rows id position (e ∷ es) = element_rows_of (element_name id position) e ++ element_rows id (position + 1) es
+abbrev pub element_rows : Words → (id : List ℕ) → (position : ℕ) → List Element → List ℕ
+element_rows names id position [] = []
+element_rows names id position (e ∷ es) =
+    element_rows_of names (element_name id position) e ++ element_rows names id (position + 1) es

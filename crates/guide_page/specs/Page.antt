@@ -3,6 +3,8 @@ use Rattle.std.specs.Prelude.{ℕ, List, ◌++◌, codes}
 use Rattle.std.specs.List.{flat_map}
 use Rattle.html_text.specs.Html.{html_bytes}
 use Rattle.guide_tree.specs.Words.{GuideTree}
+use Rattle.guide_names.specs.Names.{Words}
+use Rattle.guide_page.specs.Named.{set_words}
 use Rattle.guide_page.specs.Nodes.{order_part, sections_part}
 use Rattle.guide_page.specs.Rules.{depends_part, dictionary_part, head_part, levels_part, title_part, tolerated_part}
 use Rattle.guide_page.specs.Tags.{cell, row_end, row_head, table_end}
@@ -30,10 +32,11 @@ abbrev pub set_part : GuideTree → List ℕ
 set_part g =
     levels_part g.hl ++ (depends_part g.depends ++ tolerated_part g.head.tolerate_segment g.head.tolerate_element)
 
-abbrev pub front_part : GuideTree → List ℕ
-front_part g =
+abbrev pub front_part : Words → GuideTree → List ℕ
+front_part names g =
     title_part g.head.name g.head.set
-    ++ (head_part g.head ++ (dictionary_part g.head.dictionary ++ (order_part g.nodes ++ set_part g)))
+    ++ (set_words names
+    ++ (head_part g.head ++ (dictionary_part g.head.dictionary ++ (order_part names g.nodes ++ set_part g))))
 
 -- the head and the foot are the same for all guides
 abbrev pub head_text : List ℕ
@@ -42,7 +45,8 @@ head_text = HEAD.now
 abbrev pub foot_text : List ℕ
 foot_text = FOOT.now
 
--- the page of a guide: with a sample that meets it, and the answers to samples that break a rule
-abbrev pub page_text : GuideTree → (sample : List ℕ) → List Answer → List ℕ
-page_text g sample answers =
-    head_text ++ (front_part g ++ (sample_part sample ++ (sections_part g.nodes ++ (answers_part answers ++ foot_text))))
+-- the page of a guide: with words for it, a sample that meets it, and the answers to samples that break a rule
+abbrev pub page_text : Words → GuideTree → (sample : List ℕ) → List Answer → List ℕ
+page_text names g sample answers =
+    head_text
+    ++ (front_part names g ++ (sample_part sample ++ (sections_part names g.nodes ++ (answers_part answers ++ foot_text))))

@@ -3,11 +3,13 @@ ghost use Rattle.guide_tree.specs.Words.{nodes_view, view};
 ghost use Rattle.guide_page.specs.Nodes as order;
 
 use crate::elements::append_range_cell;
+use crate::named::append_slot_name;
 use crate::tags::{
     append_cell, append_fixed, append_row_end, append_row_head, append_small, append_table_end,
     append_tagged,
 };
 use crate::words::use_words;
+use guide_names::Names;
 use guide_tree::{Loop, Node, Slot};
 use hub_kinds::NoMemory;
 use std::alloc::Global;
@@ -51,34 +53,49 @@ fn append_loop_row(
     append_row_end(out)
 }
 
-fn append_link(alloc: Global, out: &mut Vec<u8>, number: u32, path: &[u8]) -> Result<(), NoMemory>
-    ensures { OnOk result (out.new.items ≡ out.old.items ++ order.link_part number path.now) }
+fn append_link(
+    alloc: Global,
+    out: &mut Vec<u8>,
+    names: &Names,
+    path: &[u8],
+    slot: &Slot,
+) -> Result<(), NoMemory>
+    ensures { OnOk result (out.new.items ≡ out.old.items ++ order.link_part names.now path.now slot.now) }
 {
     append_fixed(out, b"<tr><th scope=\"row\"><a href=\"#s")?;
-    append_small(out, number)?;
-    append_tagged(alloc, out, b"\">", path, b"</a></th>")
+    append_small(out, slot.number)?;
+    append_tagged(alloc, out, b"\">", path, b"</a>")?;
+    append_slot_name(alloc, out, names, slot)?;
+    append_fixed(out, b"</th>")
 }
 
 fn append_slot_row(
     alloc: Global,
     out: &mut Vec<u8>,
+    names: &Names,
     path: &[u8],
     slot: &Slot,
 ) -> Result<(), NoMemory>
-    ensures { OnOk result (out.new.items ≡ out.old.items ++ order.slot_row path.now slot.now) }
+    ensures { OnOk result (out.new.items ≡ out.old.items ++ order.slot_row names.now path.now slot.now) }
 {
-    append_link(alloc, out, slot.number, path)?;
+    append_link(alloc, out, names, path, slot)?;
     append_fixed(out, b"<td>segment</td>")?;
     append_use_cell(alloc, out, slot.min, slot.max)?;
     append_range_cell(alloc, out, slot.min, slot.max)?;
     append_row_end(out)
 }
 
-fn append_slot(alloc: Global, out: &mut Vec<u8>, above: &[u8], slot: &Slot) -> Result<(), NoMemory>
-    ensures { OnOk result (out.new.items ≡ out.old.items ++ order.slot_row (order.path_of above.now slot.now.id) slot.now) }
+fn append_slot(
+    alloc: Global,
+    out: &mut Vec<u8>,
+    names: &Names,
+    above: &[u8],
+    slot: &Slot,
+) -> Result<(), NoMemory>
+    ensures { OnOk result (out.new.items ≡ out.old.items ++ order.slot_row names.now (order.path_of above.now slot.now.id) slot.now) }
 {
     let path = path_of(alloc, above, slot.id.as_slice())?;
-    append_slot_row(alloc, out, path.as_slice(), slot)
+    append_slot_row(alloc, out, names, path.as_slice(), slot)
 }
 
 fn append_loop(alloc: Global, out: &mut Vec<u8>, above: &[u8], head: &Loop) -> Result<(), NoMemory>
@@ -90,15 +107,21 @@ fn append_loop(alloc: Global, out: &mut Vec<u8>, above: &[u8], head: &Loop) -> R
 
 /// Appends the rows of a node and of what is in it.
 #[cycle(order)]
-fn append_node(alloc: Global, out: &mut Vec<u8>, above: &[u8], node: &Node) -> Result<(), NoMemory>
-    ensures { OnOk result (out.new.items ≡ out.old.items ++ order.order_rows above.now (view node.now)) }
+fn append_node(
+    alloc: Global,
+    out: &mut Vec<u8>,
+    names: &Names,
+    above: &[u8],
+    node: &Node,
+) -> Result<(), NoMemory>
+    ensures { OnOk result (out.new.items ≡ out.old.items ++ order.order_rows names.now above.now (view node.now)) }
 {
     match node {
-        Node::Segment(slot) => append_slot(alloc, out, above, slot),
+        Node::Segment(slot) => append_slot(alloc, out, names, above, slot),
         Node::Loop(head, inner) => {
             append_loop(alloc, out, above, head)?;
             let inside = path_in(alloc, above, head.id.as_slice())?;
-            append_nodes(alloc, out, inside.as_slice(), inner)
+            append_nodes(alloc, out, names, inside.as_slice(), inner)
         }
     }
 }
@@ -108,13 +131,14 @@ fn append_node(alloc: Global, out: &mut Vec<u8>, above: &[u8], node: &Node) -> R
 fn append_nodes(
     alloc: Global,
     out: &mut Vec<u8>,
+    names: &Names,
     above: &[u8],
     nodes: &[Node],
 ) -> Result<(), NoMemory>
-    ensures { OnOk result (out.new.items ≡ out.old.items ++ order.all_order_rows above.now (nodes_view nodes.now)) }
+    ensures { OnOk result (out.new.items ≡ out.old.items ++ order.all_order_rows names.now above.now (nodes_view nodes.now)) }
 {
     for node in nodes {
-        append_node(alloc, out, above, node)?;
+        append_node(alloc, out, names, above, node)?;
     }
     Ok(())
 }
@@ -133,10 +157,15 @@ fn append_order_head(out: &mut Vec<u8>) -> Result<(), NoMemory>
 }
 
 /// Appends the table of segments and loops in their order.
-pub(crate) fn append_order(alloc: Global, out: &mut Vec<u8>, nodes: &[Node]) -> Result<(), NoMemory>
-    ensures { OnOk result (out.new.items ≡ out.old.items ++ order.order_part (nodes_view nodes.now)) }
+pub(crate) fn append_order(
+    alloc: Global,
+    out: &mut Vec<u8>,
+    names: &Names,
+    nodes: &[Node],
+) -> Result<(), NoMemory>
+    ensures { OnOk result (out.new.items ≡ out.old.items ++ order.order_part names.now (nodes_view nodes.now)) }
 {
     append_order_head(out)?;
-    append_nodes(alloc, out, b"", nodes)?;
+    append_nodes(alloc, out, names, b"", nodes)?;
     append_table_end(out)
 }

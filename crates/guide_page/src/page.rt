@@ -6,6 +6,7 @@ ghost use Rattle.guide_page.specs.Page as page;
 ghost use Rattle.guide_page.specs.Tags.{row_head};
 
 use crate::fixed::{FOOT, HEAD};
+use crate::named::append_set_words;
 use crate::nodes::append_order;
 use crate::rules::{
     append_depends, append_dictionary, append_head, append_levels, append_title, append_tolerated,
@@ -14,6 +15,7 @@ use crate::sections::append_sections;
 use crate::tags::{
     append_fixed, append_row_end, append_row_head, append_table_end, append_text_cell,
 };
+use guide_names::Names;
 use guide_tree::GuideRows;
 use html_text::append_lines;
 use hub_kinds::{NoMemory, Text};
@@ -80,16 +82,26 @@ fn append_answers(alloc: Global, out: &mut Vec<u8>, answers: &[Answer]) -> Resul
     append_table_end(out)
 }
 
-fn append_all_sections(alloc: Global, out: &mut Vec<u8>, rows: &GuideRows) -> Result<(), NoMemory>
-    ensures { OnOk result (out.new.items ≡ out.old.items ++ sections_part (nodes_view rows.now.nodes.items)) }
+fn append_all_sections(
+    alloc: Global,
+    out: &mut Vec<u8>,
+    names: &Names,
+    rows: &GuideRows,
+) -> Result<(), NoMemory>
+    ensures { OnOk result (out.new.items ≡ out.old.items ++ sections_part names.now (nodes_view rows.now.nodes.items)) }
 {
-    append_sections(alloc, out, &rows.nodes)
+    append_sections(alloc, out, names, &rows.nodes)
 }
 
-fn append_all_rows(alloc: Global, out: &mut Vec<u8>, rows: &GuideRows) -> Result<(), NoMemory>
-    ensures { OnOk result (out.new.items ≡ out.old.items ++ order_part (nodes_view rows.now.nodes.items)) }
+fn append_all_rows(
+    alloc: Global,
+    out: &mut Vec<u8>,
+    names: &Names,
+    rows: &GuideRows,
+) -> Result<(), NoMemory>
+    ensures { OnOk result (out.new.items ≡ out.old.items ++ order_part names.now (nodes_view rows.now.nodes.items)) }
 {
-    append_order(alloc, out, &rows.nodes)
+    append_order(alloc, out, names, &rows.nodes)
 }
 
 /// Appends what holds of a set as a whole.
@@ -102,13 +114,19 @@ fn append_set(alloc: Global, out: &mut Vec<u8>, rows: &GuideRows) -> Result<(), 
 }
 
 /// Appends what comes before the sample.
-fn append_front(alloc: Global, out: &mut Vec<u8>, rows: &GuideRows) -> Result<(), NoMemory>
-    ensures { OnOk result (out.new.items ≡ out.old.items ++ page.front_part (guide_of rows.now)) }
+fn append_front(
+    alloc: Global,
+    out: &mut Vec<u8>,
+    names: &Names,
+    rows: &GuideRows,
+) -> Result<(), NoMemory>
+    ensures { OnOk result (out.new.items ≡ out.old.items ++ page.front_part names.now (guide_of rows.now)) }
 {
     append_title(alloc, out, &rows.head)?;
+    append_set_words(alloc, out, names)?;
     append_head(alloc, out, &rows.head)?;
     append_dictionary(alloc, out, &rows.head)?;
-    append_all_rows(alloc, out, rows)?;
+    append_all_rows(alloc, out, names, rows)?;
     append_set(alloc, out, rows)
 }
 
@@ -124,21 +142,22 @@ fn append_foot_text(out: &mut Vec<u8>) -> Result<(), NoMemory>
     append_fixed(out, FOOT.as_bytes())
 }
 
-/// Appends to `out` the page of a guide with these `rows`, with a `sample` that meets it, and `answers` to samples that break a rule. The
-/// only error is out of memory.
+/// Appends to `out` the page of a guide with these `rows`, with the words of `names`, a `sample` that meets the guide, and `answers` to
+/// samples that break a rule. The only error is out of memory.
 pub fn append_page(
     alloc: Global,
     out: &mut Vec<u8>,
+    names: &Names,
     rows: &GuideRows,
     sample: &[u8],
     answers: &[Answer],
 ) -> Result<(), NoMemory>
-    ensures { OnOk result (out.new.items ≡ out.old.items ++ page.page_text (guide_of rows.now) sample.now answers.now) }
+    ensures { OnOk result (out.new.items ≡ out.old.items ++ page.page_text names.now (guide_of rows.now) sample.now answers.now) }
 {
     append_head_text(out)?;
-    append_front(alloc, out, rows)?;
+    append_front(alloc, out, names, rows)?;
     append_sample(out, sample)?;
-    append_all_sections(alloc, out, rows)?;
+    append_all_sections(alloc, out, names, rows)?;
     append_answers(alloc, out, answers)?;
     append_foot_text(out)
 }

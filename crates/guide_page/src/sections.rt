@@ -6,8 +6,10 @@ ghost use Rattle.guide_page.specs.Tags.{list_part};
 
 use crate::conditions::{append_conditions, append_picks};
 use crate::elements::append_elements;
+use crate::named::{append_label_note, append_slot_name};
 use crate::nodes::{path_in, path_of};
 use crate::tags::{append_code, append_fixed, append_small, append_table_end, append_tagged};
+use guide_names::Names;
 use guide_tree::{Element, Node, Slot};
 use hub_kinds::{NoMemory, Text};
 use std::alloc::Global;
@@ -15,26 +17,44 @@ use std::alloc::Global;
 fn append_section_head(
     alloc: Global,
     out: &mut Vec<u8>,
-    number: u32,
+    names: &Names,
     path: &[u8],
+    slot: &Slot,
 ) -> Result<(), NoMemory>
-    ensures { OnOk result (out.new.items ≡ out.old.items ++ order.section_head number path.now) }
+    ensures { OnOk result (out.new.items ≡ out.old.items ++ order.section_head names.now path.now slot.now) }
 {
     append_fixed(out, b"<h3 id=\"s")?;
-    append_small(out, number)?;
-    append_tagged(alloc, out, b"\">", path, b"</h3>\n")
+    append_small(out, slot.number)?;
+    append_tagged(alloc, out, b"\">", path, b"")?;
+    append_slot_name(alloc, out, names, slot)?;
+    append_fixed(out, b"</h3>\n")
 }
 
-fn append_label(alloc: Global, out: &mut Vec<u8>, label: &Option<Text>) -> Result<(), NoMemory>
-    ensures { OnOk result (out.new.items ≡ out.old.items ++ order.label_part label.now) }
+fn append_named(
+    alloc: Global,
+    out: &mut Vec<u8>,
+    names: &Names,
+    label: &[u8],
+) -> Result<(), NoMemory>
+    ensures { OnOk result (out.new.items ≡ out.old.items ++ order.named_part names.now label.now) }
+{
+    append_fixed(out, b"<p>Named ")?;
+    append_code(alloc, out, label)?;
+    append_fixed(out, b"in dependencies.</p>\n")?;
+    append_label_note(alloc, out, names, label)
+}
+
+fn append_label(
+    alloc: Global,
+    out: &mut Vec<u8>,
+    names: &Names,
+    label: &Option<Text>,
+) -> Result<(), NoMemory>
+    ensures { OnOk result (out.new.items ≡ out.old.items ++ order.label_part names.now label.now) }
 {
     match label {
         None => Ok(()),
-        Some(label) => {
-            append_fixed(out, b"<p>Named ")?;
-            append_code(alloc, out, label.as_slice())?;
-            append_fixed(out, b"in dependencies.</p>\n")
-        }
+        Some(label) => append_named(alloc, out, names, label.as_slice()),
     }
 }
 
@@ -58,20 +78,32 @@ fn append_element_head(out: &mut Vec<u8>) -> Result<(), NoMemory>
 fn append_element_table(
     alloc: Global,
     out: &mut Vec<u8>,
+    names: &Names,
     id: &[u8],
     elements: &[Element],
 ) -> Result<(), NoMemory>
-    ensures { OnOk result (out.new.items ≡ out.old.items ++ order.element_table id.now elements.now) }
+    ensures { OnOk result (out.new.items ≡ out.old.items ++ order.element_table names.now id.now elements.now) }
 {
     append_element_head(out)?;
-    append_elements(alloc, out, id, elements)?;
+    append_elements(alloc, out, names, id, elements)?;
     append_table_end(out)
 }
 
-fn append_slot_elements(alloc: Global, out: &mut Vec<u8>, slot: &Slot) -> Result<(), NoMemory>
-    ensures { OnOk result (out.new.items ≡ out.old.items ++ order.element_table slot.now.id slot.now.elements) }
+fn append_slot_elements(
+    alloc: Global,
+    out: &mut Vec<u8>,
+    names: &Names,
+    slot: &Slot,
+) -> Result<(), NoMemory>
+    ensures { OnOk result (out.new.items ≡ out.old.items ++ order.element_table names.now slot.now.id slot.now.elements) }
 {
-    append_element_table(alloc, out, slot.id.as_slice(), slot.elements.as_slice())
+    append_element_table(
+        alloc,
+        out,
+        names,
+        slot.id.as_slice(),
+        slot.elements.as_slice(),
+    )
 }
 
 fn append_slot_picks(alloc: Global, out: &mut Vec<u8>, slot: &Slot) -> Result<(), NoMemory>
@@ -96,34 +128,47 @@ fn append_rules(alloc: Global, out: &mut Vec<u8>, slot: &Slot) -> Result<(), NoM
 fn append_section(
     alloc: Global,
     out: &mut Vec<u8>,
+    names: &Names,
     path: &[u8],
     slot: &Slot,
 ) -> Result<(), NoMemory>
-    ensures { OnOk result (out.new.items ≡ out.old.items ++ order.section path.now slot.now) }
+    ensures { OnOk result (out.new.items ≡ out.old.items ++ order.section names.now path.now slot.now) }
 {
-    append_section_head(alloc, out, slot.number, path)?;
-    append_label(alloc, out, &slot.label)?;
-    append_slot_elements(alloc, out, slot)?;
+    append_section_head(alloc, out, names, path, slot)?;
+    append_label(alloc, out, names, &slot.label)?;
+    append_slot_elements(alloc, out, names, slot)?;
     append_rules(alloc, out, slot)
 }
 
-fn append_slot(alloc: Global, out: &mut Vec<u8>, above: &[u8], slot: &Slot) -> Result<(), NoMemory>
-    ensures { OnOk result (out.new.items ≡ out.old.items ++ order.section (order.path_of above.now slot.now.id) slot.now) }
+fn append_slot(
+    alloc: Global,
+    out: &mut Vec<u8>,
+    names: &Names,
+    above: &[u8],
+    slot: &Slot,
+) -> Result<(), NoMemory>
+    ensures { OnOk result (out.new.items ≡ out.old.items ++ order.section names.now (order.path_of above.now slot.now.id) slot.now) }
 {
     let path = path_of(alloc, above, slot.id.as_slice())?;
-    append_section(alloc, out, path.as_slice(), slot)
+    append_section(alloc, out, names, path.as_slice(), slot)
 }
 
 /// Appends the sections of a node's segments.
 #[cycle(walk)]
-fn append_node(alloc: Global, out: &mut Vec<u8>, above: &[u8], node: &Node) -> Result<(), NoMemory>
-    ensures { OnOk result (out.new.items ≡ out.old.items ++ order.sections above.now (view node.now)) }
+fn append_node(
+    alloc: Global,
+    out: &mut Vec<u8>,
+    names: &Names,
+    above: &[u8],
+    node: &Node,
+) -> Result<(), NoMemory>
+    ensures { OnOk result (out.new.items ≡ out.old.items ++ order.sections names.now above.now (view node.now)) }
 {
     match node {
-        Node::Segment(slot) => append_slot(alloc, out, above, slot),
+        Node::Segment(slot) => append_slot(alloc, out, names, above, slot),
         Node::Loop(head, inner) => {
             let inside = path_in(alloc, above, head.id.as_slice())?;
-            append_nodes(alloc, out, inside.as_slice(), inner)
+            append_nodes(alloc, out, names, inside.as_slice(), inner)
         }
     }
 }
@@ -133,13 +178,14 @@ fn append_node(alloc: Global, out: &mut Vec<u8>, above: &[u8], node: &Node) -> R
 fn append_nodes(
     alloc: Global,
     out: &mut Vec<u8>,
+    names: &Names,
     above: &[u8],
     nodes: &[Node],
 ) -> Result<(), NoMemory>
-    ensures { OnOk result (out.new.items ≡ out.old.items ++ order.all_sections above.now (nodes_view nodes.now)) }
+    ensures { OnOk result (out.new.items ≡ out.old.items ++ order.all_sections names.now above.now (nodes_view nodes.now)) }
 {
     for node in nodes {
-        append_node(alloc, out, above, node)?;
+        append_node(alloc, out, names, above, node)?;
     }
     Ok(())
 }
@@ -148,10 +194,11 @@ fn append_nodes(
 pub(crate) fn append_sections(
     alloc: Global,
     out: &mut Vec<u8>,
+    names: &Names,
     nodes: &[Node],
 ) -> Result<(), NoMemory>
-    ensures { OnOk result (out.new.items ≡ out.old.items ++ order.sections_part (nodes_view nodes.now)) }
+    ensures { OnOk result (out.new.items ≡ out.old.items ++ order.sections_part names.now (nodes_view nodes.now)) }
 {
     append_fixed(out, b"<h2>Each segment</h2>\n")?;
-    append_nodes(alloc, out, b"", nodes)
+    append_nodes(alloc, out, names, b"", nodes)
 }

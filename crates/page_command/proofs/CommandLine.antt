@@ -1,14 +1,14 @@
 -- What clap found in the arguments is what the definitions say of them.
-use Rattle.std.proofs.Common.{◌≡◌, ◌∙◌, ℕ, List, Option, true, codes, refl, String, sym, subst}
+use Rattle.std.proofs.Common.{◌≡◌, ◌∙◌, List, true, codes, refl, String, sym, subst}
 use Rattle.clap.specs.Words.{HasKind, HasMatchesOf, Text, fault_of, first_value, found_of, is_simple, is_simple_and_free, kind_of, takes}
 use Rattle.clap.specs.declared.error.Error.{Error}
 use Rattle.clap.specs.declared.error.kind.ErrorKind.TheVariants.{OutOfMemory}
 use Rattle.clap.specs.declared.parser.matches.ArgMatches.{ArgMatches}
 use Rattle.clap.proofs.OnLiterals.{clap_on_literals}
-use Rattle.std.specs.Borrow.{Bor}
 use Rattle.std.specs.declared.alloc.Global.{Global}
 use Rattle.night_ends.proofs.ForAbove.{asks_for_text, found}
-use Rattle.page_command.specs.CommandLine.{AsksForText, IsAsked, IsGiven, IsGuide, IsShown, NamesNone, page_app, value_of}
+use Rattle.page_command.specs.declared.command.Paths.{Paths}
+use Rattle.page_command.specs.CommandLine.{ArePaths, AsksForText, IsAsked, IsGiven, IsShown, NamesNone, page_app, value_of}
 use Rattle.page_command.specs.declared.command.Asked.{Asked}
 use Rattle.page_command.specs.declared.command.Asked.TheVariants.{Page, Show}
 
@@ -22,9 +22,10 @@ free = refl
 
 pub asked : (words : List Text) (m : ArgMatches) (asked : Asked) → HasMatchesOf page_app words m → IsGiven (first_value (found_of m)) asked
     → IsAsked words asked
-asked words m (Page path folder) has given = (
+asked words m (Page paths) has given = (
   sym (found page_app simple words m (codes "guide") has) ∙ given.0,
-  sym (found page_app simple words m (codes "samples") has) ∙ given.1,
+  sym (found page_app simple words m (codes "names") has) ∙ given.1,
+  sym (found page_app simple words m (codes "samples") has) ∙ given.2,
 )
 asked words m (Show text) has given = absurd given
 
@@ -35,14 +36,14 @@ none_named words m has none = sym (found page_app simple words m (codes "guide")
 
 pub shown : (words : List Text) (e : Error) (asked : Asked) → HasKind (fault_of page_app words) e
     → (takes page_app words ≡ true → kind_of e ≡ OutOfMemory) → IsShown (kind_of e) asked → IsAsked words asked
-shown words e (Page path folder) kind passes is = absurd is
+shown words e (Page paths) kind passes is = absurd is
 shown words e (Show text) kind passes is =
     let both = asks_for_text page_app words e kind passes is in record { asked = both.0; no_run = both.1 }
 
--- the guide that is asked for is the one that the arguments name
-pub guide_named : (words : List Text) (asked : Asked) (path : Bor (List ℕ)) (folder : Option (Bor (List ℕ))) → asked ≡ Page path folder
-    → IsAsked words asked → IsGuide (value_of words) path.now
-guide_named words asked path folder is by = (subst (λ (a : Asked). IsAsked words a) is by).0
+-- the files that are asked for are those that the arguments name
+pub paths_named : (words : List Text) (asked : Asked) (paths : Paths) → asked ≡ Page paths → IsAsked words asked
+    → ArePaths (value_of words) paths
+paths_named words asked paths is by = subst (λ (a : Asked). IsAsked words a) is by
 
 -- the text that is asked for isn't shown in place of a sample
 pub text_asked : (words : List Text) (asked : Asked) (text : String Global) → asked ≡ Show text → IsAsked words asked → AsksForText words

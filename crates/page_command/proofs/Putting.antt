@@ -29,7 +29,6 @@ use Rattle.guide_samples.specs.Samples.{BreaksRule, IsSample}
 use Rattle.guide_samples.specs.declared.rule.Rule.{Rule}
 use Rattle.night_ends.specs.Outbox.{AddsFiles, File}
 use Rattle.page_command.specs.Folder.{AddsBroken, AddsSamples, file_of, files_of, index_text, row_of}
-use Rattle.page_command.specs.Samples.{AreBreaking, Sample}
 use Rattle.page_command.proofs.Answering.{joined, none, single}
 
 abbrev pub file_made : (name text : List ℕ) → File

@@ -9,6 +9,7 @@ use Rattle.page_command.specs.declared.mistake.Mistake.TheVariants as mistake
 abbrev pub line_of : Failure → List ℕ
 line_of failure.NoSample = codes "nighthub_page: no set was found that meets the guide\n"
 line_of (failure.Guide line) = line
+line_of (failure.Names line) = line
 line_of (failure.Output line) = line
 line_of failure.Stdout = codes "nighthub_page: output stdout\n"
 line_of failure.Memory = codes "nighthub_page: memory\n"
@@ -16,6 +17,7 @@ line_of failure.Memory = codes "nighthub_page: memory\n"
 abbrev pub status_of : Failure → ℕ
 status_of failure.NoSample = 1
 status_of (failure.Guide line) = 3
+status_of (failure.Names line) = 3
 status_of (failure.Output line) = 5
 status_of failure.Stdout = 5
 status_of failure.Memory = 6
@@ -42,6 +44,7 @@ IsUsage mistake.Memory = ⊥
 abbrev pub CantWrite : Failure → Type 0
 CantWrite failure.NoSample = ⊥
 CantWrite (failure.Guide line) = ⊥
+CantWrite (failure.Names line) = ⊥
 CantWrite (failure.Output line) = Unit {0}
 CantWrite failure.Stdout = ⊥
 CantWrite failure.Memory = Unit {0}

@@ -1,6 +1,7 @@
 ghost use Rattle.std.specs.Prelude.{◌≡◌, ◌≢◌, false, map, IfOk, IfErr};
 ghost use Rattle.clap.specs.Words.{app_of, first_value, found_of, kind_of, rule_of};
-ghost use Rattle.page_command.specs.CommandLine.{IsAsked, IsCommandLine, IsGiven, IsShown, NamesNone, guide_rule, page_app, samples_rule};
+ghost use Rattle.page_command.specs.CommandLine.{IsAsked, IsCommandLine, IsGiven, IsShown, NamesNone};
+ghost use Rattle.page_command.specs.CommandLine.{guide_rule, names_rule, page_app, samples_rule};
 ghost use Rattle.page_command.specs.Failure.{IsUsage};
 
 use crate::mistake::Mistake;
@@ -16,18 +17,29 @@ const STATUSES: &str = "Status:
   0  the page was printed
   1  no set was found that meets GUIDE
   2  usage
-  3  GUIDE is refused, or can't be read
+  3  GUIDE or FILE is refused, or can't be read
   5  standard output, or DIR: it must not exist
   6  no memory
 
 Example:
-  nighthub_page --samples samples guides/h850.toml > h850.html";
+  nighthub_page --names h850.names.toml --samples samples guides/h850.toml > h850.html";
+
+/// The files that the arguments name.
+#[derive(Clone, Copy, Debug)]
+pub struct Paths<'a> {
+    /// The guide file.
+    pub guide: &'a str,
+    /// The names file, if there is one.
+    pub names: Option<&'a str>,
+    /// The folder for samples, if there is one.
+    pub samples: Option<&'a str>,
+}
 
 /// What the arguments ask for.
 #[derive(Debug, Drop)]
 pub enum Asked<'a> {
-    /// To print the page of the guide file at the first path, and to put samples into a folder at the second, if there is one.
-    Page(&'a str, Option<&'a str>),
+    /// To print the page of a guide, with words of a names file, and to put samples into a folder.
+    Page(Paths<'a>),
     /// To show a text: help, or the version.
     Show(String),
 }
@@ -52,8 +64,21 @@ fn command<'a>(alloc: Global) -> Result<Command<'a>, AllocError>
         .version(RELEASE)
         .after_help(STATUSES)
         .no_binary_name(true);
+    let command = with_argument(command, names(alloc))?;
     let command = with_argument(command, samples(alloc))?;
     with_argument(command, guide(alloc))
+}
+
+/// The names file.
+fn names<'a>(alloc: Global) -> Arg<'a>
+    ensures rule { rule_of result ≡ names_rule }
+    ensures local { result.global ≡ false }
+{
+    Arg::new(alloc, "names")
+        .long("names")
+        .value_name("FILE")
+        .help("Say the words of the names file FILE beside ids, numbers and codes")
+        .action(ArgAction::Set)
 }
 
 /// The folder for samples.
@@ -87,7 +112,11 @@ fn guide_given<'a>(alloc: Global, matches: &ArgMatches<'a>) -> Result<Asked<'a>,
     let Some(path) = matches.get_str("guide") else {
         return Err(Mistake::Usage(copy_text(alloc, b"GUIDE is missing")?));
     };
-    Ok(Asked::Page(path, matches.get_str("samples")))
+    Ok(Asked::Page(Paths {
+        guide: path,
+        names: matches.get_str("names"),
+        samples: matches.get_str("samples"),
+    }))
 }
 
 /// The text that is asked for, if the arguments have no mistake.

@@ -23,6 +23,8 @@ pub enum Failure {
     NoSample,
     /// The guide file is refused or can't be read, as this line says.
     Guide(Text),
+    /// The names file is refused or can't be read, as this line says.
+    Names(Text),
     /// A file or the folder for samples can't be written, as this line says.
     Output(Text),
     /// Standard output failed.
@@ -61,6 +63,7 @@ impl Failure {
         match self {
             Failure::NoSample => b"nighthub_page: no set was found that meets the guide\n",
             Failure::Guide(line) => line.as_slice(),
+            Failure::Names(line) => line.as_slice(),
             Failure::Output(line) => line.as_slice(),
             Failure::Stdout => b"nighthub_page: output stdout\n",
             Failure::Memory => b"nighthub_page: memory\n",
@@ -74,6 +77,7 @@ impl Failure {
         match self {
             Failure::NoSample => 1,
             Failure::Guide(_) => 3,
+            Failure::Names(_) => 3,
             Failure::Output(_) => 5,
             Failure::Stdout => 5,
             Failure::Memory => 6,

@@ -1,27 +1,39 @@
-ghost use Rattle.std.specs.Prelude.{◌≡◌, ◌≢◌, ◌≤◌, ◌⊎◌, ◌++◌, ℕ, List, IfErr, IfOk, OnOk, map};
+ghost use Rattle.std.specs.Prelude.{◌≡◌, ◌≢◌, ◌≤◌, ◌⊎◌, ◌++◌, [], None, Some, IfErr, IfOk, OnOk, map};
 ghost use Rattle.std.specs.Io.KnownBytes.{Appends};
 ghost use Rattle.guide_tree.specs.Words.{guide_of};
 ghost use Rattle.guide_samples.specs.Samples.{IsSample};
-ghost use Rattle.page_command.specs.CommandLine.{IsCommandLine};
+ghost use Rattle.guide_names.specs.Names.{no_words};
+ghost use Rattle.names_file.specs.Warnings.{warnings};
+ghost use Rattle.page_command.specs.CommandLine.{IsCommandLine, names_given, names_of};
 ghost use Rattle.page_command.specs.Failure.{CantWrite, IsStatus};
-ghost use Rattle.page_command.specs.Outcome.{IsBefore, IsJudged, IsPage, IsPageAt, IsPageOf, IsRefusal, IsRefusedBy};
-ghost use Rattle.page_command.specs.Outcome.{IsRun, IsUnmade, refused_line};
+ghost use Rattle.page_command.specs.Outcome.{IsBefore, IsJudged, IsNamedPage, IsPage, IsPageAt, IsPageOf, IsRefusal};
+ghost use Rattle.page_command.specs.Outcome.{IsRefusedFile, IsRun, IsUnmade, IsUnnamed, refused_line};
 ghost use Rattle.page_command.specs.declared.failure.Failure.TheVariants as kind;
 
-use crate::command::{Asked, read_words};
+use crate::command::{Asked, Paths, read_words};
 use crate::failure::Failure;
 use crate::folder::put_samples;
 use crate::page::page_of;
 use check_command::{Judged, judge_guide, read_file};
 use file_names::append_shown;
+use guide_names::Names;
 use guide_samples::complete;
 use guide_tree::Guide;
-use hub_kinds::{Items, NoMemory};
+use hub_kinds::{Items, NoMemory, Text};
+use names_file::{JudgedNames, warning_lines};
+use names_given::names_at;
 use night_ends::{Directory, print_text};
 use std::alloc::Global;
 use std::convert::AsStr;
 use std::io::Write;
 use std::rt::Files;
+
+/// A page, and the lines that warn of its names file.
+#[derive(Drop)]
+struct Made {
+    text: Vec<u8>,
+    warnings: Vec<u8>,
+}
 
 /// Runs the program on its arguments, without its name, and gives its exit status: 0 if it has printed the page of the guide, or a text
 /// that was asked for; otherwise that of the failure whose line it has printed on `err`.
@@ -33,20 +45,21 @@ where
     E: Write,
     ensures status { IsStatus result }
     ensures silent { 1 ≤ result → result ≢ 5 → out.new ≡ out.old }
-    ensures quiet { result ≡ 0 → err.new ≡ err.old }
+    ensures quiet { result ≡ 0 → names_given (map S.text words.now) ≡ None → err.new ≡ err.old }
     ensures usage { result ≡ 2 → IsCommandLine (map S.text words.now) → ⊥ }
     ensures refused { result ≡ 3 → IsRefusal (map S.text words.now) }
     ensures printed { result ≡ 0 → IsRun (map S.text words.now) (O.contents out.old) (O.contents out.new) }
 {
     match read_words(rt.alloc(), words) {
-        Ok(Asked::Page(path, folder)) => print_page(rt, path, folder, out, err),
+        Ok(Asked::Page(paths)) => print_page(rt, &paths, out, err),
         Ok(Asked::Show(text)) => finish(text.as_bytes(), out, err),
         Err(mistake) => mistake.report(err).status,
     }
 }
 
-/// Prints the page of the guide in the file at a path, after samples are put into a folder, if one is given.
-fn print_page<R, O, E>(rt: &R, path: &str, folder: Option<&str>, out: &mut O, err: &mut E) -> u8
+/// Prints the page of a guide, after samples are put into a folder, if one is given, and after the warnings of its names file. A fault of
+/// standard error changes no status.
+fn print_page<R, O, E>(rt: &R, paths: &Paths<'_>, out: &mut O, err: &mut E) -> u8
 where
     R: Files + AllocGlobal,
     O: Write,
@@ -54,45 +67,121 @@ where
     ensures status { IsStatus result }
     ensures words { result ≢ 2 }
     ensures silent { 1 ≤ result → result ≢ 5 → out.new ≡ out.old }
-    ensures quiet { result ≡ 0 → err.new ≡ err.old }
-    ensures refused { result ≡ 3 → (line : List ℕ) × IsRefusedBy path.now line }
-    ensures printed { result ≡ 0 → IsPage path.now (O.contents out.old) (O.contents out.new) }
+    ensures quiet { result ≡ 0 → names_of paths.now ≡ None → err.new ≡ err.old }
+    ensures refused { result ≡ 3 → IsRefusedFile paths.now.guide.now (names_of paths.now) }
+    ensures printed { result ≡ 0 → IsPage paths.now.guide.now (names_of paths.now) (O.contents out.old) (O.contents out.new) }
 {
-    match page_at(rt, path, folder) {
-        Ok(text) => finish(text.as_slice(), out, err),
+    match page_at(rt, paths) {
+        Ok(made) => {
+            warn(made.warnings.as_slice(), err);
+            finish(made.text.as_slice(), out, err)
+        }
         Err(failure) => failure.report(err).status,
     }
 }
 
+/// Prints warnings on standard error, if there are any.
+fn warn<E: Write>(warnings: &[u8], err: &mut E)
+    ensures { warnings.now ≡ [] → err.new ≡ err.old }
+{
+    if !warnings.is_empty() {
+        let _ = print_text(warnings, err);
+    }
+}
+
 /// The page of the guide in the file at a path, after samples are put into a folder, if one is given.
-fn page_at<R: Files + AllocGlobal>(
+fn page_at<R: Files + AllocGlobal>(rt: &R, paths: &Paths<'_>) -> Result<Made, Failure>
+    ensures page { IfOk result (λ made. IsPageAt paths.now.guide.now (names_of paths.now) made.text.items) }
+    ensures quiet { IfOk result (λ made. names_of paths.now ≡ None → made.warnings.items ≡ []) }
+    ensures before { IfErr result (IsBefore paths.now.guide.now (names_of paths.now)) }
+{
+    match guide_at(rt, paths.guide)? {
+        Judged::Refused(text) => Err(refusal(rt.alloc(), paths.guide, text.as_slice())?),
+        Judged::Taken(guide) => page_with_names(rt, &guide, paths),
+    }
+}
+
+/// The page of a guide with the words of a names file, if one is given.
+fn page_with_names<R: Files + AllocGlobal>(
     rt: &R,
+    guide: &Guide,
+    paths: &Paths<'_>,
+) -> Result<Made, Failure>
+    ensures page { IfOk result (λ made. IsNamedPage (names_of paths.now) (guide_of guide.now) made.text.items) }
+    ensures quiet { IfOk result (λ made. names_of paths.now ≡ None → made.warnings.items ≡ []) }
+    ensures before { IfErr result (IsUnnamed (names_of paths.now)) }
+{
+    match paths.names {
+        None => page_without_names(rt, guide, paths.samples),
+        Some(path) => page_with_file(rt, guide, path, paths.samples),
+    }
+}
+
+fn page_without_names<R: Files + AllocGlobal>(
+    rt: &R,
+    guide: &Guide,
+    folder: Option<&str>,
+) -> Result<Made, Failure>
+    ensures page { IfOk result (λ made. IsPageOf no_words (guide_of guide.now) made.text.items) }
+    ensures quiet { IfOk result (λ made. made.warnings.items ≡ []) }
+    ensures before { IfErr result IsUnmade }
+{
+    let names = Names::none(rt.alloc());
+    let text = page_with_samples(rt, guide, &names, folder)?;
+    Ok(Made {
+        text,
+        warnings: Vec::new(rt.alloc()),
+    })
+}
+
+/// The page of a guide with the words of the names file at `path`, and the file's warnings.
+fn page_with_file<R: Files + AllocGlobal>(
+    rt: &R,
+    guide: &Guide,
     path: &str,
     folder: Option<&str>,
-) -> Result<Vec<u8>, Failure>
-    ensures page { IfOk result (λ text. IsPageAt path.now text.items) }
-    ensures before { IfErr result (IsBefore path.now) }
+) -> Result<Made, Failure>
+    ensures page { IfOk result (λ made. IsNamedPage (Some path.now) (guide_of guide.now) made.text.items) }
+    ensures before { IfErr result (IsUnnamed (Some path.now)) }
 {
-    match guide_at(rt, path)? {
-        Judged::Refused(text) => Err(refusal(rt.alloc(), path, text.as_slice())?),
-        Judged::Taken(guide) => page_with_samples(rt, &guide, folder),
+    match names_at(rt, path)? {
+        JudgedNames::Refused(text) => Err(names_refusal(rt.alloc(), path, text.as_slice())?),
+        JudgedNames::Taken(names) => page_with_words(rt, guide, &names, path, folder),
     }
+}
+
+/// The page of a guide with the words of `names`, which are those of the file at `path`, and the file's warnings.
+fn page_with_words<R: Files + AllocGlobal>(
+    rt: &R,
+    guide: &Guide,
+    names: &Names,
+    path: &str,
+    folder: Option<&str>,
+) -> Result<Made, Failure>
+    ensures page { IfOk result (λ made. IsPageOf names.now (guide_of guide.now) made.text.items) }
+    ensures warned { IfOk result (λ made. made.warnings.items ≡ warnings (guide_of guide.now) names.now path.now) }
+    ensures before { IfErr result IsUnmade }
+{
+    let warnings = warning_lines(rt.alloc(), guide.rows(), names, path.as_bytes())?;
+    let text = page_with_samples(rt, guide, names, folder)?;
+    Ok(Made { text, warnings })
 }
 
 /// The page of a guide, after samples are put into a folder, if one is given.
 fn page_with_samples<R: Files + AllocGlobal>(
     rt: &R,
     guide: &Guide,
+    names: &Names,
     folder: Option<&str>,
 ) -> Result<Vec<u8>, Failure>
-    ensures page { IfOk result (λ text. IsPageOf (guide_of guide.now) text.items) }
+    ensures page { IfOk result (λ text. IsPageOf names.now (guide_of guide.now) text.items) }
     ensures before { IfErr result IsUnmade }
 {
     let Some(sample) = complete(rt.alloc(), guide)? else {
         return Err(Failure::NoSample);
     };
     write_samples(rt, guide, sample.as_slice(), folder)?;
-    Ok(page_of(rt.alloc(), guide, sample.as_slice())?)
+    Ok(page_of(rt.alloc(), guide, names, sample.as_slice())?)
 }
 
 /// Makes a folder at a path, if one is given, and puts samples of a guide there.
@@ -133,13 +222,27 @@ fn append(out: &mut Vec<u8>, text: &[u8]) -> Result<(), NoMemory>
 fn refusal(alloc: Global, path: &str, text: &[u8]) -> Result<Failure, NoMemory>
     ensures { IfOk result (λ failure. failure ≡ kind.Guide (refused_line path.now text.now)) }
 {
+    Ok(Failure::Guide(refused_line(alloc, path, text)?))
+}
+
+/// The failure of a names file at a path that is refused in these words.
+fn names_refusal(alloc: Global, path: &str, text: &[u8]) -> Result<Failure, NoMemory>
+    ensures { IfOk result (λ failure. failure ≡ kind.Names (refused_line path.now text.now)) }
+{
+    Ok(Failure::Names(refused_line(alloc, path, text)?))
+}
+
+/// The line of a file at a path that is refused in these words.
+fn refused_line(alloc: Global, path: &str, text: &[u8]) -> Result<Text, NoMemory>
+    ensures { IfOk result (λ line. line ≡ refused_line path.now text.now) }
+{
     let mut line = Vec::new(alloc);
     append(&mut line, b"nighthub_page: ")?;
     append_shown(&mut line, path.as_bytes())?;
     append(&mut line, b": ")?;
     append_shown(&mut line, text)?;
     append(&mut line, b"\n")?;
-    Ok(Failure::Guide(Items::from_vec(line)))
+    Ok(Items::from_vec(line))
 }
 
 /// Prints a text on standard output, and nothing else. Gives 0, or the status of a failure of standard output.

@@ -2,6 +2,7 @@
 use crate::examples::{LINES, OPEN, TOLD};
 use crate::readers::{lines_on, same, whole};
 use explain_command::{CutOff, Failure, explained};
+use guide_names::Names;
 use std::alloc::Global;
 use std::test::Fail;
 
@@ -168,7 +169,7 @@ fn says_where_a_text_is_cut_off(rt: HostRuntime) -> Result<(), Fail> {
     for (segments, cut) in ENDS {
         let mut text = Vec::from_slice(rt.alloc(), HEADER)?;
         text.extend_from_slice(segments)?;
-        match explained(rt.alloc(), whole(text.as_slice())) {
+        match explained(rt.alloc(), &Names::none(rt.alloc()), whole(text.as_slice())) {
             Ok(account) => assert!(rt; account.cut == *cut, "another end"),
             Err(_) => return Err("refused".into()),
         }
@@ -180,7 +181,7 @@ fn says_where_a_text_is_cut_off(rt: HostRuntime) -> Result<(), Fail> {
 fn refuses_a_997(rt: HostRuntime) -> Result<(), Fail> {
     let mut text = Vec::from_slice(rt.alloc(), HEADER)?;
     text.extend_from_slice(b"ST*997*0001~AK1*PO*12~AK2*850*0001~AK5*A~AK9*A*1*1*1~SE*6*0001~")?;
-    let answer = explained(rt.alloc(), whole(text.as_slice()));
+    let answer = explained(rt.alloc(), &Names::none(rt.alloc()), whole(text.as_slice()));
     assert!(rt; matches!(&answer, Err(Failure::Is997)), "a 997 is read");
     Ok(())
 }

@@ -2,6 +2,7 @@
 use crate::examples::{LINES, TOLD};
 use crate::readers::{Slow, same};
 use explain_command::{Failure, explain_main, explained};
+use guide_names::Names;
 use std::io::{ErrorKind, Write};
 use std::rt::Files;
 use std::test::Fail;
@@ -20,10 +21,10 @@ fn slow(reads: usize) -> Slow<'static> {
 fn a_file_that_fails_at_some_read_is_not_explained(rt: HostRuntime) -> Result<(), Fail> {
     let all = TOLD.len().div_ceil(100) + 1;
     for reads in 0..all {
-        let answer = explained(rt.alloc(), slow(reads));
+        let answer = explained(rt.alloc(), &Names::none(rt.alloc()), slow(reads));
         assert!(rt; matches!(&answer, Err(Failure::Input)), "at read {reads}");
     }
-    match explained(rt.alloc(), slow(1000)) {
+    match explained(rt.alloc(), &Names::none(rt.alloc()), slow(1000)) {
         Ok(account) => same(rt.alloc(), account.lines.as_slice(), LINES),
         Err(_) => Err("refused".into()),
     }

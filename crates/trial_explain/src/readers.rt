@@ -1,5 +1,6 @@
 //! A reader of bytes, and what is compared.
 use explain_command::{Failure, explained};
+use guide_names::Names;
 use std::alloc::Global;
 use std::io;
 use std::io::{ErrorKind, Read};
@@ -38,7 +39,7 @@ pub fn whole(text: &[u8]) -> Slow<'_> {
 
 /// The lines on these acknowledgments.
 pub fn lines_on(alloc: Global, text: &[u8]) -> Result<Vec<u8>, Failure> {
-    Ok(explained(alloc, whole(text))?.lines)
+    Ok(explained(alloc, &Names::none(alloc), whole(text))?.lines)
 }
 
 /// Whether a text is the one that is wanted; if not, it is shown.

@@ -19,8 +19,8 @@ loop-path-preserved g c =
     let file : FileTold = c.in_ok-told_at.field-0 in
     record {
       told =
-          subst AreTold (sym c.in_ok-push.ensures.items)
-          (one_more old file c.loop-path.invariant.told c.in_ok-told_at.ensures.told);
+          subst (AreTold c.args.names.now) (sym c.in_ok-push.ensures.items)
+          (one_more c.args.names.now old file c.loop-path.invariant.told c.in_ok-told_at.ensures.told);
       paths =
           ap (λ (fs : List FileTold). paths_of fs ++ left) c.in_ok-push.ensures.items
           ∙ ap (λ (ns : List (List ℕ)). ns ++ left) (map-append (λ (f : FileTold). f.path.now) old (file ∷ []))

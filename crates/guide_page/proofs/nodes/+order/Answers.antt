@@ -16,6 +16,6 @@ append_node-returns-in_ok-inside-in-Loop t c =
     c.as_slice-in-Loop.ensures.value ∙ c.in_ok-inside-in-Loop.ensures ∙ ap (path_in above) c.as_slice.ensures in
     rw (view_loop c.args.node.now c.in-Loop.head c.in-Loop.inner c.in-Loop.is) (on_ok_weaker c.append_nodes.result
     (λ adds. two c.args.out.now.items mid c.append_nodes.new.out.items (loop_row (path_of above id) c.in-Loop.head)
-    (all_order_rows (path_in above id) (nodes_view c.in-Loop.inner.items)) c.in_ok-append_loop-in-Loop.ensures
-    (adds ∙ ap₂ (λ (p : List ℕ) (ns : List Node). mid ++ all_order_rows p (nodes_view ns)) path c.deref.ensures.value))
+    (all_order_rows c.args.names.now (path_in above id) (nodes_view c.in-Loop.inner.items)) c.in_ok-append_loop-in-Loop.ensures
+    (adds ∙ ap₂ (λ (p : List ℕ) (ns : List Node). mid ++ all_order_rows c.args.names.now p (nodes_view ns)) path c.deref.ensures.value))
     c.append_nodes.ensures)

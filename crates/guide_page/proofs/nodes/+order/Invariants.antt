@@ -5,5 +5,6 @@ use Rattle.guide_page.proofs.nodes.+order.Given as goal
 
 abbrev pub invariant-append_nodes-loop-node : goal.invariant-append_nodes-loop-node
 invariant-append_nodes-loop-node l =
-    l.out.items ++ all_order_rows l.above (nodes_view (drop l.node-index l.nodes)) ≡ l.initial.out.items ++ all_order_rows l.above
+    l.out.items ++ all_order_rows l.names l.above (nodes_view (drop l.node-index l.nodes)) ≡ l.initial.out.items ++ all_order_rows
+    l.names l.above
     (nodes_view l.nodes)

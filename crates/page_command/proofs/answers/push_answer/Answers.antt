@@ -1,4 +1,4 @@
-use Rattle.std.proofs.Common.{◌≡◌, ◌∙◌, ℕ, List, ap}
+use Rattle.std.proofs.Common.{◌∙◌, ℕ, List, ap}
 use Rattle.guide_tree.specs.Words.{guide_of}
 use Rattle.page_command.proofs.Answering.{answer_made, one_answer}
 use Rattle.page_command.proofs.answers.push_answer.Goals as goal

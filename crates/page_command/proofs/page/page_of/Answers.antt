@@ -1,4 +1,4 @@
-use Rattle.std.proofs.Common.{◌≡◌, ◌∙◌, ◌++◌, ℕ, List, ap}
+use Rattle.std.proofs.Common.{◌∙◌, ◌++◌, ℕ, List, ap}
 use Rattle.guide_page.specs.Page.{page_text}
 use Rattle.guide_page.specs.declared.page.Answer.{Answer}
 use Rattle.guide_tree.specs.Words.{guide_of}
@@ -15,7 +15,7 @@ returns c =
       sample_is = c.requires;
       answers_are = c.in_ok-answers.ensures;
       text_is = c.in_ok-append_page.ensures
-          ∙ ap (λ (t : List ℕ). t ++ page_text (guide_of c.rows.result.now) sample listed) c.new-text.ensures.items
-          ∙ ap (λ (r : GuideRows). page_text (guide_of r) sample listed) c.rows.ensures.same
-          ∙ ap (λ (a : List Answer). page_text (guide_of c.args.guide.now) sample a) c.as_slice.ensures.value;
+          ∙ ap (λ (t : List ℕ). t ++ page_text c.args.names.now (guide_of c.rows.result.now) sample listed) c.new-text.ensures.items
+          ∙ ap (λ (r : GuideRows). page_text c.args.names.now (guide_of r) sample listed) c.rows.ensures.same
+          ∙ ap (λ (a : List Answer). page_text c.args.names.now (guide_of c.args.guide.now) sample a) c.as_slice.ensures.value;
     }

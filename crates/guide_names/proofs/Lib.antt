@@ -1,0 +1,3 @@
+mod NoKey
+mod Tables
+mod Written

@@ -1,0 +1,3 @@
+pub mod GuideSubjects
+pub mod Refused
+pub mod Warnings
