@@ -1,7 +1,6 @@
 -- What is reported of a file that was opened is what explaining it gave.
 use Rattle.std.proofs.Common.{false, true, ◌≡◌, ◌⊎◌, inl, inr, ℕ, List, Option, None, Result, Ok, Err, refl, subst, sym, ◌∙◌}
 use Rattle.std.specs.Prelude.{IfErr, IfOk, IsErr, IsOkAnd}
-use Rattle.hub_kinds.specs.declared.memory.NoMemory.{NoMemory}
 use Rattle.guide_names.specs.Names.{Words}
 use Rattle.explain_command.specs.Failure.{IsOfInput}
 use Rattle.explain_command.specs.Outcome.{IsExplanationOf}
@@ -22,8 +21,10 @@ so result P t is holds = subst (λ r. IfOk r P) (sym is) holds
 -- a refusal words is reported, or memory was refused
 refusal : {E : Type 0} (words : Words) (declared : Option (List ℕ)) (f : Failure) (result : Result Told E) → IsOfInput declared f
     → IsReported (Err f) result → IfOk result (IsTold words declared)
-refusal words declared failure.Input result of by = so result (IsTold words declared) (told.Refused failure.Input) (by.1 (λ e. cc)) (of,
-    (λ e. cc))
+refusal words declared failure.Input result of by = so result (IsTold words declared) (told.Refused failure.Input) (by.1 (λ e. cc)) (
+  of,
+  (λ e. cc),
+)
 refusal words declared failure.NoHeader result of by =
     so result (IsTold words declared) (told.Refused failure.NoHeader) (by.1 (λ e. cc)) (of, (λ e. cc))
 refusal words declared failure.TellsNothing result of by =

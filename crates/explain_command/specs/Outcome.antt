@@ -1,5 +1,5 @@
 -- The program's results (own): what is printed.
-use Rattle.std.specs.Prelude.{◌≡◌, ◌≢◌, ℕ, List, [], Option, None, Some, IfSome, codes, false}
+use Rattle.std.specs.Prelude.{◌≡◌, ◌≢◌, ℕ, List, [], Option, None, IfSome, codes, false}
 use Rattle.ack_read.specs.Words.{AreToldBy, IsRefused}
 use Rattle.ack_read.specs.declared.fault.ReadFault.TheVariants as fault
 use Rattle.ack_read.specs.declared.told.Told.{Told}

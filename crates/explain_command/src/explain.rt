@@ -27,7 +27,8 @@ pub struct Account {
 
 /// The lines on the acknowledgments of a file that was opened, which `opened` gives.
 pub fn explained_file<I: Read + Drop>(
-    alloc: Global, names: &Names,
+    alloc: Global,
+    names: &Names,
     opened: io::Result<I>,
 ) -> Result<Account, Failure>
     ensures lines { IfOk result (λ a. IsOkAnd opened (λ input. IsExplanationOf names.now (I.remaining input) a.lines.items a.cut)) }
@@ -85,7 +86,8 @@ fn account_of(alloc: Global, names: &Names, text: &[u8]) -> Result<Account, Fail
 
 /// The lines on the acknowledgments of a text that begins with a header, is no 997, and is cut off at `cut`.
 fn account_by(
-    alloc: Global, names: &Names,
+    alloc: Global,
+    names: &Names,
     text: &[u8],
     delims: Delims,
     cut: Option<CutOff>,

@@ -69,7 +69,11 @@ fn reported(account: Result<Account, Failure>) -> Result<Told, NoMemory>
 }
 
 /// What is reported of a file that was opened, which `opened` gives. The only error is out of memory.
-pub fn tell_opened<I: Read + Drop>(alloc: Global, names: &Names, opened: io::Result<I>) -> Result<Told, NoMemory>
+pub fn tell_opened<I: Read + Drop>(
+    alloc: Global,
+    names: &Names,
+    opened: io::Result<I>,
+) -> Result<Told, NoMemory>
     ensures told { IfOk opened (λ input. IfOk result (reports.IsTold names.now (I.remaining input))) }
     ensures closed { IfErr opened (λ error. IfOk result (λ told. told ≡ Told.Refused Failure.Input)) }
 {
@@ -77,7 +81,11 @@ pub fn tell_opened<I: Read + Drop>(alloc: Global, names: &Names, opened: io::Res
 }
 
 /// What is reported of the file at `path`. The only error is out of memory.
-fn told_at<'a, R: Files + AllocGlobal>(rt: &R, names: &Names, path: &'a str) -> Result<FileTold<'a>, NoMemory>
+fn told_at<'a, R: Files + AllocGlobal>(
+    rt: &R,
+    names: &Names,
+    path: &'a str,
+) -> Result<FileTold<'a>, NoMemory>
     ensures told { IfOk result (λ file. reports.IsTold names.now None file.told) }
     ensures path { IfOk result (λ file. file.path.now ≡ path.entry.now) }
 {

@@ -74,13 +74,7 @@ where
 }
 
 /// Explains the acknowledgments in the files at these paths, with the names of the names file at `names`.
-fn explain_with_file<R, O, E>(
-    rt: &R,
-    names: &str,
-    paths: &[&str],
-    out: &mut O,
-    err: &mut E,
-) -> u8
+fn explain_with_file<R, O, E>(rt: &R, names: &str, paths: &[&str], out: &mut O, err: &mut E) -> u8
 where
     R: Files + AllocGlobal,
     O: Write,
@@ -126,13 +120,7 @@ fn refuse_names<E: Write>(alloc: Global, path: &str, text: &[u8], err: &mut E) -
 }
 
 /// Explains the acknowledgments in the files at these paths, with the words of `names`.
-fn explain_files<R, O, E>(
-    rt: &R,
-    names: &Names,
-    paths: &[&str],
-    out: &mut O,
-    err: &mut E,
-) -> u8
+fn explain_files<R, O, E>(rt: &R, names: &Names, paths: &[&str], out: &mut O, err: &mut E) -> u8
 where
     R: Files + AllocGlobal,
     O: Write,

@@ -8,12 +8,12 @@ use Rattle.explain_command.specs.Outcome.{Answered, Begun}
 use Rattle.explain_command.proofs.Refusing.{is_cut, is_whole, of_memory}
 use Rattle.explain_command.proofs.explain.account_by.Goals as goal
 
-pub returns-in_ok-explanation-in-Ok-clause-said : goal.returns-in_ok-explanation-in-Ok-clause-said
-returns-in_ok-explanation-in-Ok-clause-said c =
-    Answered c.in-Ok.found.items c.in-Ok.ensures.told c.requires.read c.in_ok-explanation-in-Ok.ensures.lines c.requires.ends
+pub returns-in_ok-named_explanation-in-Ok-clause-said : goal.returns-in_ok-named_explanation-in-Ok-clause-said
+returns-in_ok-named_explanation-in-Ok-clause-said c =
+    Answered c.in-Ok.found.items c.in-Ok.ensures.told c.requires.read c.in_ok-named_explanation-in-Ok.ensures.lines c.requires.ends
 
-pub returns-in_err-explanation-in-Ok-clause-refused : goal.returns-in_err-explanation-in-Ok-clause-refused
-returns-in_err-explanation-in-Ok-clause-refused c = of_memory c.from_residual.result c.args.text.now c.from_residual.ensures.1
+pub returns-in_err-named_explanation-in-Ok-clause-refused : goal.returns-in_err-named_explanation-in-Ok-clause-refused
+returns-in_err-named_explanation-in-Ok-clause-refused c = of_memory c.from_residual.result c.args.text.now c.from_residual.ensures.1
 
 pub returns-in-Err-TellsNothing-clause-said : goal.returns-in-Err-TellsNothing-clause-said
 returns-in-Err-TellsNothing-clause-said c =
