@@ -37,8 +37,8 @@ short_item line = if is_short line then item line else []
 -- what there is to do because of files
 abbrev pub short_part : (lines : List (List ℕ)) → List ℕ
 short_part lines =
-    codes "<details class=\"todo\"><summary>Files that are set aside, or that aren't whole: see each line (" ++ (decimal (count_by is_short lines)
-    ++ (codes ")</summary>\n<ul>\n" ++ (flat_map short_item lines ++ codes "</ul></details>\n")))
+    codes "<details class=\"todo\"><summary>Files that are set aside, or that aren't whole: see each line ("
+    ++ (decimal (count_by is_short lines) ++ (codes ")</summary>\n<ul>\n" ++ (flat_map short_item lines ++ codes "</ul></details>\n")))
 
 abbrev pub aside_part : (lines : List (List ℕ)) → List ℕ
 aside_part lines = if are_whole lines then [] else short_part lines
