@@ -1,6 +1,6 @@
 -- A page that is made of the files of a night.
-use Rattle.std.proofs.Common.{◌≡◌, ◌∙◌, ◌↔◌, ℕ, List, Option, Some, true, ap, subst}
-use Rattle.std.specs.Prelude.{codes}
+use Rattle.std.proofs.Common.{◌≡◌, ◌∙◌, ◌↔◌, ℕ, List, Option, Some, Result, Ok, Err, true, ap, subst, sym}
+use Rattle.std.specs.Prelude.{IfErr, IsErrAnd, codes}
 use Rattle.night_ends.specs.Outbox.{path_in}
 use Rattle.night_folder.specs.Files.{FileValue}
 use Rattle.night_page.specs.Page.{IsPage, PageValue, has_todo}
@@ -8,6 +8,9 @@ use Rattle.night_page.specs.Rows.{Row}
 use Rattle.night_page.specs.declared.record.RecordShown.{RecordShown}
 use Rattle.night_page.specs.declared.told.PartnerTold.{PartnerTold}
 use Rattle.track_tables.specs.Table.{IsTable}
+use Rattle.day_command.specs.Failure.{IsBefore}
+use Rattle.day_command.specs.declared.failure.Failure.{Failure}
+use Rattle.day_command.specs.declared.failure.Failure.TheVariants as failure
 use Rattle.day_command.specs.Page.{ArePartnersAt, IsPageReport, page_value}
 use Rattle.day_command.specs.Record.{IsShownAt}
 
@@ -63,3 +66,8 @@ paged nights name text status folder at total files table bytes rows partners sh
       page = page;
       todo = todo;
     }
+
+-- out of memory comes before anything is printed
+pub of_memory : {A : Type 0} (result : Result A Failure) → IsErrAnd result (λ f. f ≡ failure.Memory) → IfErr result IsBefore
+of_memory (Ok a) memory = tt
+of_memory (Err f) memory = subst IsBefore (sym memory) tt

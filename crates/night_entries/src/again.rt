@@ -37,8 +37,9 @@ fn fault_of(fault: TableFault) -> EntryFault
 {
     match fault {
         TableFault::Memory => EntryFault::Memory,
-        TableFault::Columns | TableFault::Rows | TableFault::Order =>
-            EntryFault::Unreadable(Paper::Again),
+        TableFault::Columns | TableFault::Rows | TableFault::Order => EntryFault::Unreadable(
+            Paper::Again,
+        ),
     }
 }
 

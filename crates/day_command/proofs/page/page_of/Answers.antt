@@ -7,7 +7,7 @@ use Rattle.night_folder.specs.Files.{bytes_or_none, first_line}
 use Rattle.night_page.specs.Page.{IsPage}
 use Rattle.night_page.specs.declared.record.RecordShown.{RecordShown}
 use Rattle.track_tables.specs.Table.{IsTable}
-use Rattle.day_command.proofs.Paging.{paged, same_value, value}
+use Rattle.day_command.proofs.Paging.{of_memory, paged, same_value, value}
 use Rattle.day_command.proofs.page.page_of.Goals as goal
 
 pub returns-clause-report : goal.returns-clause-report
@@ -38,6 +38,10 @@ returns-clause-report g c =
     c.as_slice-2.result.now c.in_ok-partners.partners.items seen c.in_ok-shown.shown c.as_bytes-3.ensures.value
     (c.first_line.ensures ∙ ap first_line c.bytes_or_none.ensures) (c.first_line-2.ensures ∙ ap first_line c.bytes_or_none-2.ensures)
     c.bytes-said.ensures
-    (ap (map fields_of) c.as_slice.ensures.value) c.as_slice-2.ensures.value c.as_ref-seen.ensures)
+    (ap (map fields_of) c.as_slice.ensures.value) c.as_slice-2.ensures.value c.as_ref-seen.ensures.value)
     (subst (λ (t : List ℕ). IsPage head foot made t) (sym text_is) page.2)
     (λ one. sym todo ∙ c.status_of.ensures.one.0 one, λ has. c.status_of.ensures.one.1 (todo ∙ has))
+
+pub returns-in_err-todo-clause-before : goal.returns-in_err-todo-clause-before
+returns-in_err-todo-clause-before g c =
+    of_memory c.from_residual-in_err-todo.result c.from_residual-in_err-todo.ensures.1
