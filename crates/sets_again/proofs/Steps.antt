@@ -1,5 +1,6 @@
 -- A step over a set, a group or an interchange: what its definitions say of it, and of those after it.
-use Rattle.std.proofs.Common.{◌≡◌, ◌∙◌, ◌&&◌, ℕ, ◌+◌, ◌≤◌, Bool, true, false, cond, List, [], ◌∷◌, ◌++◌, Some, ap, ap₂, arith, drop, length, map, refl, sym, take}
+use Rattle.std.proofs.Common.{◌≡◌, ◌∙◌, ◌&&◌, ℕ, ◌+◌, ◌≤◌, Bool, true, false, cond, List, [], ◌∷◌, ◌++◌, Some}
+use Rattle.std.proofs.Common.{ap, ap₂, arith, drop, length, map, refl, sym, take}
 use Rattle.std.specs.Prelude.{◌==◌, if◌then◌else◌, slice_get}
 use Rattle.std.proofs.lemmas.List.{drop-map, take-map}
 use Rattle.x12_bytes.specs.declared.delims.Delims.{Delims}

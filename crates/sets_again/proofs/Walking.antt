@@ -1,5 +1,6 @@
 -- Lists that are walked from the front: what is left at a place; and tests of what a list is mapped to.
-use Rattle.std.proofs.Common.{◌≡◌, ◌∙◌, ℕ, ◌+◌, ◌-◌, ◌<◌, ◌≤◌, Bool, cond, List, [], ◌∷◌, ◌++◌, ◌||◌, Some, add-one, ap, append_assoc, arith, drop, drop-cons}
+use Rattle.std.proofs.Common.{◌≡◌, ◌∙◌, ℕ, ◌+◌, ◌-◌, ◌<◌, ◌≤◌, Bool, cond, List, [], ◌∷◌, ◌++◌}
+use Rattle.std.proofs.Common.{◌||◌, Some, add-one, ap, append_assoc, arith, drop, drop-cons}
 use Rattle.std.proofs.Common.{get_or, length, map, refl, suc, sym, zero}
 use Rattle.std.specs.Prelude.{slice_get}
 use Rattle.std.specs.List.{list_any, prefix_len}

@@ -1,5 +1,6 @@
 -- The rows of a night's table by the sets that they are about (own): a set has a row for each receiver of its route, or one.
-use Rattle.std.specs.Prelude.{ℕ, ◌==◌, ◌&&◌, not, Bool, false, List, [], ◌∷◌, Option, Some, None, codes, decimal, if◌then◌else◌, length, take, drop}
+use Rattle.std.specs.Prelude.{ℕ, ◌==◌, ◌&&◌, not, Bool, false, List, [], ◌∷◌, Option, Some, None}
+use Rattle.std.specs.Prelude.{codes, decimal, if◌then◌else◌, length, take, drop}
 use Rattle.std.specs.List.{list_any, prefix_len}
 use Rattle.std.specs.Str.{bytes_eq}
 use Rattle.track_tables.specs.Table.{field}

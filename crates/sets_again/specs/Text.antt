@@ -1,6 +1,7 @@
 -- The sets that go in again, as an interchange (X12.5, interchange; X12.6, functional group): each as it stands in the input, in its group,
 -- and under the header of its interchange. GE01 and IEA01 are counted anew.
-use Rattle.std.specs.Prelude.{ℕ, ◌+◌, Bool, true, false, List, [], ◌∷◌, ◌++◌, codes, cond, decimal, drop, if◌then◌else◌, length, slice_range, take}
+use Rattle.std.specs.Prelude.{ℕ, ◌+◌, Bool, true, false, List, [], ◌∷◌, ◌++◌, codes, cond}
+use Rattle.std.specs.Prelude.{decimal, drop, if◌then◌else◌, length, slice_range, take}
 use Rattle.std.specs.List.{count_by, flat_map, list_any}
 use Rattle.x12_bytes.specs.Header.{field_of, header_at, header_delims}
 use Rattle.x12_bytes.specs.declared.delims.Delims.{Delims}
