@@ -1,5 +1,6 @@
 ghost use Rattle.std.specs.Prelude.{◌≡◌, ◌++◌, IfOk, OnOk, if◌then◌else◌};
 ghost use Rattle.diff_lines.specs.Lines as lines;
+ghost use Rattle.file_names.specs.Shown.{shown};
 
 use crate::paths::path_at;
 use crate::values::{append, append_number, append_value};
@@ -80,6 +81,21 @@ fn text_of(
     Ok(text)
 }
 
+/// The line of `difference` without its end, of guides whose nodes have the paths `old` and `new`. The only error is out of memory.
+pub fn line_of(
+    alloc: Global,
+    old: &[Text],
+    new: &[Text],
+    difference: &Difference,
+) -> Result<Vec<u8>, NoMemory>
+    ensures { IfOk result (λ line. line.items ≡ shown (lines.difference_text old.now new.now difference.now)) }
+{
+    let text = text_of(alloc, old, new, difference)?;
+    let mut line = Vec::new(alloc);
+    append_shown(&mut line, text.as_slice())?;
+    Ok(line)
+}
+
 /// Adds the line of `difference`, of guides whose nodes have the paths `old` and `new`.
 pub fn append_line(
     alloc: Global,
@@ -90,7 +106,7 @@ pub fn append_line(
 ) -> Result<(), NoMemory>
     ensures { OnOk result (out.new.items ≡ out.old.items ++ lines.difference_line old.now new.now difference.now) }
 {
-    let text = text_of(alloc, old, new, difference)?;
-    append_shown(out, text.as_slice())?;
+    let line = line_of(alloc, old, new, difference)?;
+    append(out, line.as_slice())?;
     append(out, b"\n")
 }

@@ -68,7 +68,7 @@ fn push_nodes(
     Ok(())
 }
 
-/// The paths of a guide's nodes, in the order of their numbers.
+/// The paths of `nodes`, which are those of a guide, in the order of their numbers. The only error is out of memory.
 pub fn paths_of(alloc: Global, nodes: &[Node]) -> Result<Vec<Text>, NoMemory>
     ensures { IfOk result (λ paths. paths.items ≡ paths_of (nodes_view nodes.now)) }
 {

@@ -41,3 +41,4 @@ mod written;
 
 pub use difference::{At, Change, Difference, Key, Presence, Value};
 pub use guides::{are_widenings, differences};
+pub use written::{condition_written, dependency_written, pair_written};

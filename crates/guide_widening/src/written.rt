@@ -80,7 +80,7 @@ fn append_positions(out: &mut Vec<u8>, positions: &[u32]) -> Result<(), NoMemory
     Ok(())
 }
 
-/// A relational condition as a value.
+/// What a guide says of a relational `condition`, as guide files write it. The only error is out of memory.
 pub fn condition_written(alloc: Global, condition: &Condition) -> Result<Value, NoMemory>
     ensures { IfOk result (λ v. v ≡ nodes.condition_value condition.now) }
 {
@@ -99,7 +99,7 @@ fn level_text(level: &Option<Text>) -> &[u8]
     }
 }
 
-/// A pair of levels as a value.
+/// What a guide says of a `pair` of levels, the parent's first. The only error is out of memory.
 pub fn pair_written(alloc: Global, pair: &HlPair) -> Result<Value, NoMemory>
     ensures { IfOk result (λ v. v ≡ guides.pair_value pair.now) }
 {
@@ -177,7 +177,7 @@ fn append_target(out: &mut Vec<u8>, depend: &Dependency) -> Result<(), NoMemory>
     append(out, b"}")
 }
 
-/// A dependency as a value.
+/// What a guide says of a dependency, `depend`, as guide files write it. The only error is out of memory.
 pub fn dependency_written(alloc: Global, depend: &Dependency) -> Result<Value, NoMemory>
     ensures { IfOk result (λ v. v ≡ guides.dependency_value depend.now) }
 {
