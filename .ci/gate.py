@@ -1,7 +1,9 @@
 """What parts of the gate share: where things are, the words of a night, programs whose calls are counted or fail, and the last line."""
 import os
+import re
 import subprocess
 import tempfile
+import tomllib
 
 TOP = os.path.dirname(os.path.dirname(os.path.abspath(__file__)))
 NIGHT, GUIDES = os.path.join(TOP, "examples", "night"), os.path.join(TOP, "examples", "guides")
@@ -33,6 +35,48 @@ def words_of_bundled(path=os.path.join(NIGHT, "two_partners.x12")):
     """The options for the bundled guides, setup and counters, the moment, and an input."""
     return ["--setup", f"{NIGHT}/setup.toml", "--guide", f"{GUIDES}/h850.toml", "--guide", f"{GUIDES}/h856.toml",
             "--counters", f"{NIGHT}/counters.toml", "--at", AT, "--in", path]
+
+
+SUPPLIER = """[hub]
+qualifier = "ZZ"
+id = "HUB"
+code = "HUB"
+usage = "T"
+[[partner]]
+name = "SUPPLIER"
+qualifier = "ZZ"
+id = "SUPPLIER"
+code = "SUPPLIER"
+element = "*"
+component = ">"
+repetition = "^"
+terminator = "~"
+cap = 1
+guides = ["{name}"]
+"""
+
+
+def written(path, text):
+    """The path, where a text or bytes were written."""
+    with open(path, "wb") as it:
+        it.write(text if isinstance(text, bytes) else text.encode())
+    return path
+
+
+def answers(hub, work, guide, samples):
+    """What the acknowledgment has of each sample from AK2 to IK5: all samples in one night with the guide, with an ISA13 each."""
+    name = tomllib.loads(read(guide).decode())["name"]
+    body = b"".join(text.replace(b"*000000001*0*T*", b"*%09d*0*T*" % number).replace(b"IEA*1*000000001~", b"IEA*1*%09d~" % number)
+                    for number, text in enumerate(samples, 1))
+    with tempfile.TemporaryDirectory(dir=work) as folder:
+        out = os.path.join(folder, "out")
+        os.mkdir(out)
+        words = ["--setup", written(f"{folder}/setup.toml", SUPPLIER.format(name=name)), "--guide", guide, "--counters",
+                 written(f"{folder}/counters.toml", "version = 2\n"), "--at", "202603011530", "--in", written(f"{folder}/in.x12", body), "--out", out]
+        done = subprocess.run([hub, *words], stdin=subprocess.DEVNULL, capture_output=True, timeout=600)
+        if done.returncode > 1:
+            raise SystemExit(f"a night ends with {done}")
+        return re.findall(r"AK2\*[^~]*~(?:IK[34]\*[^~]*~)*IK5\*[^~]*~", read(out, "SUPPLIER.ack").decode())
 
 
 def library(folder):

@@ -1,10 +1,10 @@
 -- What was read at two paths.
-use Rattle.std.proofs.Common.{◌≡◌, ℕ, List, ◌++◌, inl, inr, refl, subst, sym}
+use Rattle.std.proofs.Common.{◌≡◌, ℕ, List, ◌++◌, arith, inl, inr, refl, subst, sym}
 use Rattle.guide_tree.specs.declared.rows.GuideRows.{GuideRows}
 use Rattle.check_command.specs.declared.judged.Judged.{Judged}
 use Rattle.check_command.specs.declared.judged.Judged.TheVariants as judged
 use Rattle.diff_report.specs.Compared.{IsCompared}
-use Rattle.diff_command.specs.Failure.{status_of}
+use Rattle.diff_command.specs.Failure.{CantWrite, status_of}
 use Rattle.diff_command.specs.Outcome.{AreRefused, IsBefore, IsJudged, IsRead, IsRefused, IsReport, refused_line}
 use Rattle.diff_command.specs.declared.failure.Failure.{Failure}
 use Rattle.diff_command.specs.declared.failure.Failure.TheVariants as failure
@@ -33,10 +33,16 @@ new_refused old new a b text lines bt ja jb said =
 -- a failure that ends with 3 is of a guide
 pub of_guide : (old new : List ℕ) (f : Failure) → IsBefore old new f → status_of f ≡ 3 → (lines : List ℕ) × AreRefused old new lines
 of_guide old new (failure.Guide lines) is three = (lines, is)
-of_guide old new failure.Stdout is three = absurd is
-of_guide old new failure.Memory is three = cc
+of_guide old new (failure.Output line) is three = absurd (omega (arith, three))
+of_guide old new failure.Memory is three = absurd (omega (arith, three))
 
 pub new_before : (old new : List ℕ) (a b : Judged GuideRows) (text : List ℕ) (f : Failure) → b ≡ judged.Refused text → IsJudged old a
     → IsJudged new b → f ≡ failure.Guide (refused_line old a ++ refused_line new b) → IsBefore old new f
 new_before old new a b text f bt ja jb is =
     subst (IsBefore old new) (sym is) (new_refused old new a b text (refused_line old a ++ refused_line new b) bt ja jb refl)
+
+-- a sample that can't be written is such a cause
+pub unwritten : (old new : List ℕ) (f : Failure) → CantWrite f → IsBefore old new f
+unwritten old new (failure.Guide lines) is = absurd is
+unwritten old new (failure.Output line) is = tt
+unwritten old new failure.Memory is = tt

@@ -11,7 +11,8 @@ use Rattle.check_command.specs.declared.files.Given.{Given}
 use Rattle.check_command.specs.declared.judged.Judged.{Judged}
 use Rattle.check_command.specs.declared.judged.Judged.TheVariants as judged
 use Rattle.diff_report.specs.Compared.{IsCompared}
-use Rattle.diff_command.specs.CommandLine.{AreGuides, AsksForText, value_of}
+use Rattle.program_frame.specs.Matching.{AsksForText}
+use Rattle.diff_command.specs.CommandLine.{AreGuides, diff_app, value_of}
 use Rattle.diff_command.specs.declared.failure.Failure.{Failure}
 use Rattle.diff_command.specs.declared.failure.Failure.TheVariants as failure
 
@@ -48,7 +49,7 @@ pub record IsDiff (old new : List ℕ) (status : ℕ) (was is : Option (List ℕ
 
 -- a text was shown that the arguments ask for
 pub record IsShownText (words : List Text) (status : ℕ) (was is : Option (List ℕ)) : Type 0 where
-  pub asked : AsksForText words
+  pub asked : AsksForText diff_app words
   pub text : List ℕ
   pub printed : Appends was is text
   pub own_status : status ≡ 0
@@ -73,10 +74,10 @@ pub record AreRefused (old new : List ℕ) (lines : List ℕ) : Type 0 where
   pub some : ((text : List ℕ) × IsRefused old text) ⊎ ((text : List ℕ) × IsRefused new text)
   pub said : lines ≡ refused_line old was ++ refused_line new is
 
--- why two guides aren't compared: memory was refused, or a guide is
+-- why two guides aren't compared: memory was refused, or a guide is, or a sample can't be written
 abbrev pub IsBefore : (old new : List ℕ) → Failure → Type 0
 IsBefore old new (failure.Guide lines) = AreRefused old new lines
-IsBefore old new failure.Stdout = ⊥
+IsBefore old new (failure.Output line) = Unit {0}
 IsBefore old new failure.Memory = Unit {0}
 
 -- one of the guides that the arguments name is refused

@@ -1,15 +1,17 @@
-ghost use Rattle.std.specs.Prelude.{◌≡◌, ◌≢◌, false, map, IfOk, IfErr};
-ghost use Rattle.clap.specs.Words.{app_of, first_value, found_of, kind_of, rule_of};
-ghost use Rattle.diff_command.specs.CommandLine.{IsAsked, IsCommandLine, IsGiven, IsShown, NamesTooFew, diff_app, guide_rule};
-ghost use Rattle.diff_command.specs.Failure.{IsUsage};
+ghost use Rattle.std.specs.Prelude.{◌≡◌, map, IfOk, IfErr};
+ghost use Rattle.clap.specs.Words.{app_of, first_value, found_of};
+ghost use Rattle.program_frame.specs.Mistake.{IsUsage};
+ghost use Rattle.diff_command.specs.CommandLine.{IsAsked, IsCommandLine, IsGiven, NamesTooFew, diff_app};
 
-use crate::mistake::Mistake;
-use clap::error::ErrorKind;
-use clap::{Arg, ArgAction, ArgMatches, Command, Error};
+use clap::{ArgMatches, Command};
 use hub_kinds::copy_text;
-use night_ends::{RELEASE, mistake_found, with_argument};
+use night_ends::with_argument;
+use program_frame::{Matched, Mistake, match_words, option_free, program, word};
 use std::alloc::{AllocError, Global};
 use std::convert::AsStr;
+
+/// The name of the program.
+pub const PROGRAM: &str = "nighthub_diff";
 
 /// What the text of `--help` ends with.
 const STATUSES: &str = "Status:
@@ -17,17 +19,28 @@ const STATUSES: &str = "Status:
   1  a line is narrower or other
   2  usage
   3  a guide is refused, or can't be read
-  5  standard output
+  5  standard output, or DIR: it must not exist
   6  no memory
 
 Example:
-  nighthub_diff guides/h850.toml h850.toml";
+  nighthub_diff --samples refused guides/h850.toml h850.toml";
+
+/// The files that the arguments name.
+#[derive(Clone, Copy, Debug)]
+pub struct Paths<'a> {
+    /// The old guide file.
+    pub old: &'a str,
+    /// The new guide file.
+    pub new: &'a str,
+    /// The folder for samples, if there is one.
+    pub samples: Option<&'a str>,
+}
 
 /// What the arguments ask for.
 #[derive(Debug, Drop)]
 pub enum Asked<'a> {
-    /// To compare the old guide file at the first path with the new one at the second.
-    Compare(&'a str, &'a str),
+    /// To compare two guides, and to put samples of their differences into a folder.
+    Compare(Paths<'a>),
     /// To show a text: help, or the version.
     Show(String),
 }
@@ -38,37 +51,34 @@ pub fn read_words<'a, S: AsStr>(alloc: Global, words: &'a [S]) -> Result<Asked<'
     ensures usage { IfErr result (λ mistake. IsUsage mistake → IsCommandLine (map S.text words.now) → ⊥) }
 {
     let command = command(alloc)?;
-    match command.try_get_matches_from(words) {
-        Ok(matches) => guides_given(alloc, &matches),
-        Err(error) => shown(alloc, &error),
+    match match_words(alloc, command, words)? {
+        Matched::Values(values) => paths_given(alloc, &values),
+        Matched::Text(text) => Ok(Asked::Show(text)),
     }
 }
 
 fn command<'a>(alloc: Global) -> Result<Command<'a>, AllocError>
     ensures { IfOk result (λ command. app_of command ≡ diff_app) }
 {
-    let command = Command::new(alloc, "nighthub_diff")
-        .about("Compares two guides, and says what the new one may refuse that the old one takes")
-        .version(RELEASE)
-        .after_help(STATUSES)
-        .no_binary_name(true);
-    let command = with_argument(command, guide(alloc, "old", "OLD", "The guide as it was"))?;
-    with_argument(command, guide(alloc, "new", "NEW", "The changed guide"))
+    let command = program(
+        alloc,
+        PROGRAM,
+        "Compares two guides, and says what the new one may refuse that the old one takes",
+        STATUSES,
+    );
+    let samples = option_free(
+        alloc,
+        "samples",
+        "DIR",
+        "Make the folder DIR, and put sets there that OLD takes and NEW refuses",
+    );
+    let command = with_argument(command, samples)?;
+    let old = word(alloc, "old", "OLD", "The guide as it was");
+    let command = with_argument(command, old)?;
+    with_argument(command, word(alloc, "new", "NEW", "The changed guide"))
 }
 
-/// A guide file that is given by its place, and is shown as `shown`.
-fn guide<'a>(alloc: Global, name: &'a str, shown: &'a str, help: &'a str) -> Arg<'a>
-    ensures rule { rule_of result ≡ guide_rule name.now }
-    ensures local { result.global ≡ false }
-{
-    Arg::new(alloc, name)
-        .value_name(shown)
-        .help(help)
-        .required(true)
-        .action(ArgAction::Set)
-}
-
-fn guides_given<'a>(alloc: Global, matches: &ArgMatches<'a>) -> Result<Asked<'a>, Mistake>
+fn paths_given<'a>(alloc: Global, matches: &ArgMatches<'a>) -> Result<Asked<'a>, Mistake>
     ensures given { IfOk result (IsGiven (first_value (found_of matches.now))) }
     ensures usage { IfErr result (λ mistake. IsUsage mistake → NamesTooFew (first_value (found_of matches.now))) }
 {
@@ -78,20 +88,9 @@ fn guides_given<'a>(alloc: Global, matches: &ArgMatches<'a>) -> Result<Asked<'a>
     let Some(new) = matches.get_str("new") else {
         return Err(Mistake::Usage(copy_text(alloc, b"NEW is missing")?));
     };
-    Ok(Asked::Compare(old, new))
-}
-
-/// The text that is asked for, if the arguments have no mistake.
-fn shown<'a>(alloc: Global, error: &Error) -> Result<Asked<'a>, Mistake>
-    ensures shown { IfOk result (IsShown (kind_of error.now)) }
-    ensures usage { IfErr result (λ mistake. IsUsage mistake → kind_of error.now ≢ ErrorKind.OutOfMemory) }
-{
-    match error.kind() {
-        ErrorKind::DisplayHelp | ErrorKind::DisplayVersion => {
-            let text = format!(in alloc; "{error}")?;
-            Ok(Asked::Show(text))
-        }
-        ErrorKind::OutOfMemory => Err(Mistake::Memory),
-        _ => Err(Mistake::Usage(mistake_found(alloc, error)?)),
-    }
+    Ok(Asked::Compare(Paths {
+        old,
+        new,
+        samples: matches.get_str("samples"),
+    }))
 }

@@ -1,27 +1,21 @@
-ghost use Rattle.std.specs.Prelude.{◌≡◌, ◌⊎◌, OnOk};
+ghost use Rattle.std.specs.Prelude.{◌≡◌, ◌⊎◌, IfOk, OnOk};
 ghost use Rattle.std.specs.Io.KnownBytes.{Appends};
-ghost use Rattle.diff_command.specs.Failure.{line_of, status_of};
+ghost use Rattle.diff_command.specs.Failure.{CantWrite, line_of, status_of};
 
-use hub_kinds::{NoMemory, Text};
+use file_names::append_shown;
+use hub_kinds::{Items, NoMemory, Text};
 use night_ends::print_text;
-use std::alloc::AllocError;
-use std::io;
+use program_frame::Reported;
+use std::alloc::{AllocError, Global};
 use std::io::Write;
-
-/// That a failure was reported: the status that the program ends with, and whether the lines are printed.
-#[derive(Debug, Drop)]
-pub struct Reported {
-    pub status: u8,
-    pub printed: io::Result<()>,
-}
 
 /// Why a run failed.
 #[derive(Debug, Drop)]
 pub enum Failure {
     /// A guide file is refused or can't be read, as these lines say.
     Guide(Text),
-    /// Standard output failed.
-    Stdout,
+    /// A sample or the folder for samples can't be written, as this line says.
+    Output(Text),
     /// Memory was refused.
     Memory,
 }
@@ -40,12 +34,22 @@ impl Failure {
         }
     }
 
+    /// The failure of a file or a folder with a name that can't be written.
+    pub(crate) fn of_output(alloc: Global, name: &[u8]) -> Result<Failure, NoMemory>
+        ensures { IfOk result CantWrite }
+    {
+        let mut line = Vec::from_slice(alloc, b"nighthub_diff: output ")?;
+        append_shown(&mut line, name)?;
+        line.push(b'\n')?;
+        Ok(Failure::Output(Items::from_vec(line)))
+    }
+
     fn line(&self) -> &[u8]
         ensures { result.now ≡ line_of self.now }
     {
         match self {
             Failure::Guide(lines) => lines.as_slice(),
-            Failure::Stdout => b"nighthub_diff: output stdout\n",
+            Failure::Output(line) => line.as_slice(),
             Failure::Memory => b"nighthub_diff: memory\n",
         }
     }
@@ -56,7 +60,7 @@ impl Failure {
     {
         match self {
             Failure::Guide(_) => 3,
-            Failure::Stdout => 5,
+            Failure::Output(_) => 5,
             Failure::Memory => 6,
         }
     }

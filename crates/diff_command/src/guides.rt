@@ -2,6 +2,7 @@ ghost use Rattle.std.specs.Prelude.{◌≡◌, ◌++◌, IfOk, OnOk};
 ghost use Rattle.diff_command.specs.Outcome.{IsJudged, refused_line};
 ghost use Rattle.diff_command.specs.declared.failure.Failure.TheVariants as kind;
 
+use crate::command::Paths;
 use crate::failure::Failure;
 use check_command::{Judged, judge_guide, read_file};
 use file_names::append_shown;
@@ -42,19 +43,18 @@ fn append_refused(out: &mut Vec<u8>, path: &str, guide: &Judged<Guide>) -> Resul
     append(out, b"\n")
 }
 
-/// The failure of guides at two paths of which one is refused, or both.
+/// The failure of the guides at `paths` of which one is refused, or both.
 pub(crate) fn refusal(
     alloc: Global,
-    old_path: &str,
+    paths: &Paths<'_>,
     old: &Judged<Guide>,
-    new_path: &str,
     new: &Judged<Guide>,
 ) -> Result<Failure, NoMemory>
     ensures { IfOk result (λ failure.
-        failure ≡ kind.Guide (refused_line old_path.now old.now ++ refused_line new_path.now new.now)) }
+        failure ≡ kind.Guide (refused_line paths.now.old.now old.now ++ refused_line paths.now.new.now new.now)) }
 {
     let mut lines = Vec::new(alloc);
-    append_refused(&mut lines, old_path, old)?;
-    append_refused(&mut lines, new_path, new)?;
+    append_refused(&mut lines, paths.old, old)?;
+    append_refused(&mut lines, paths.new, new)?;
     Ok(Failure::Guide(Items::from_vec(lines)))
 }

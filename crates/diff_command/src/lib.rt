@@ -1,4 +1,4 @@
-//! A run of `nighthub_diff`, from its arguments to its status: the arguments, the two guide files, what is printed.
+//! A run of `nighthub_diff`, from its arguments to its status: the arguments, the two guide files, what is printed, and samples.
 //!
 //! Proved:
 //! - `read_words` gives what the arguments ask for, as clap's definitions say, and calls usage only what is none;
@@ -10,7 +10,8 @@
 //!   `nighthub_check`; then, and if memory is refused, nothing is printed on standard output;
 //! - with 0 or 1 nothing is printed on standard error; the lines of a failure are those that belong to it, and so is its status.
 //!
-//! Only tested: that the system opens the file that it is asked for.
+//! What is put into the folder is proved in `diff_samples`. Only tested: that the system opens the file that it is asked for, that the
+//! folder is a new one, and that samples are put there before the lines are printed.
 //!
 //! Source: own.
 //!
@@ -20,10 +21,9 @@
 mod command;
 mod failure;
 mod guides;
-mod mistake;
 mod run;
+mod samples;
 
-pub use command::{Asked, read_words};
-pub use failure::{Failure, Reported};
-pub use mistake::Mistake;
+pub use command::{Asked, PROGRAM, Paths, read_words};
+pub use failure::Failure;
 pub use run::diff_main;

@@ -1,15 +1,15 @@
 ghost use Rattle.std.specs.Prelude.{◌≡◌, ◌≢◌, ◌≤◌, ◌⊎◌, ℕ, List, IfErr, IfOk, map};
-ghost use Rattle.std.specs.Io.KnownBytes.{Appends};
 ghost use Rattle.diff_command.specs.CommandLine.{IsCommandLine};
 ghost use Rattle.diff_command.specs.Failure.{IsStatus};
 ghost use Rattle.diff_command.specs.Outcome.{AreRefused, IsBefore, IsDiff, IsRefusal, IsReport, IsRun};
 
-use crate::command::{Asked, read_words};
+use crate::command::{Asked, PROGRAM, Paths, read_words};
 use crate::failure::Failure;
 use crate::guides::{guide_at, refusal};
+use crate::samples::report_with;
 use check_command::Judged;
-use diff_report::{Report, compared};
-use night_ends::print_text;
+use diff_report::Report;
+use program_frame::print_out;
 use std::convert::AsStr;
 use std::io::Write;
 use std::rt::Files;
@@ -31,14 +31,14 @@ where
     ensures printed { result ≤ 1 → IsRun (map S.text words.now) result (O.contents out.old) (O.contents out.new) }
 {
     match read_words(rt.alloc(), words) {
-        Ok(Asked::Compare(old, new)) => compare_files(rt, old, new, out, err),
-        Ok(Asked::Show(text)) => finish(text.as_bytes(), 0, out, err),
-        Err(mistake) => mistake.report(err).status,
+        Ok(Asked::Compare(paths)) => compare_files(rt, &paths, out, err),
+        Ok(Asked::Show(text)) => print_out(PROGRAM, text.as_bytes(), 0, out, err),
+        Err(mistake) => mistake.report(PROGRAM, err).status,
     }
 }
 
-/// Compares the guide files at the paths `old` and `new`.
-fn compare_files<R, O, E>(rt: &R, old: &str, new: &str, out: &mut O, err: &mut E) -> u8
+/// Compares the guide files at two paths.
+fn compare_files<R, O, E>(rt: &R, paths: &Paths<'_>, out: &mut O, err: &mut E) -> u8
 where
     R: Files + AllocGlobal,
     O: Write,
@@ -47,41 +47,28 @@ where
     ensures words { result ≢ 2 }
     ensures silent { 2 ≤ result → result ≢ 5 → out.new ≡ out.old }
     ensures quiet { result ≤ 1 → err.new ≡ err.old }
-    ensures refused { result ≡ 3 → (lines : List ℕ) × AreRefused old.now new.now lines }
-    ensures printed { result ≤ 1 → IsDiff old.now new.now result (O.contents out.old) (O.contents out.new) }
+    ensures refused { result ≡ 3 → (lines : List ℕ) × AreRefused paths.now.old.now paths.now.new.now lines }
+    ensures printed { result ≤ 1 → IsDiff paths.now.old.now paths.now.new.now result (O.contents out.old) (O.contents out.new) }
 {
-    match report_of(rt, old, new) {
-        Ok(report) => finish(report.text.as_slice(), report.status, out, err),
+    match report_of(rt, paths) {
+        Ok(report) => print_out(PROGRAM, report.text.as_slice(), report.status, out, err),
         Err(failure) => failure.report(err).status,
     }
 }
 
-/// What is printed of the guide files at the paths `old` and `new`.
-fn report_of<R: Files + AllocGlobal>(rt: &R, old: &str, new: &str) -> Result<Report, Failure>
-    ensures report { IfOk result (λ report. IsReport old.now new.now report.text.items report.status) }
+/// What is printed of the guide files at two paths, after samples are put into a folder, if one is given.
+fn report_of<R: Files + AllocGlobal>(rt: &R, paths: &Paths<'_>) -> Result<Report, Failure>
+    ensures report { IfOk result (λ report. IsReport paths.now.old.now paths.now.new.now report.text.items report.status) }
     ensures values { IfOk result (λ report. (report.status ≡ 0) ⊎ (report.status ≡ 1)) }
-    ensures before { IfErr result (IsBefore old.now new.now) }
+    ensures before { IfErr result (IsBefore paths.now.old.now paths.now.new.now) }
 {
-    let before = guide_at(rt, old)?;
-    let after = guide_at(rt, new)?;
+    let before = guide_at(rt, paths.old)?;
+    let after = guide_at(rt, paths.new)?;
     match &before {
-        Judged::Refused(_) => Err(refusal(rt.alloc(), old, &before, new, &after)?),
+        Judged::Refused(_) => Err(refusal(rt.alloc(), paths, &before, &after)?),
         Judged::Taken(was) => match &after {
-            Judged::Refused(_) => Err(refusal(rt.alloc(), old, &before, new, &after)?),
-            Judged::Taken(is) => Ok(compared(rt.alloc(), was, is)?),
+            Judged::Refused(_) => Err(refusal(rt.alloc(), paths, &before, &after)?),
+            Judged::Taken(is) => report_with(rt, was, is, paths.samples),
         },
     }
-}
-
-/// Prints a text on standard output, and nothing else. Gives `status`, or the status of a failure of standard output.
-fn finish<O: Write, E: Write>(text: &[u8], status: u8, out: &mut O, err: &mut E) -> u8
-    requires { status ≤ 1 }
-    ensures status { (result ≡ status) ⊎ (result ≡ 5) }
-    ensures printed { result ≢ 5 → Appends (O.contents out.old) (O.contents out.new) text.now }
-    ensures quiet { result ≢ 5 → err.new ≡ err.old }
-{
-    if print_text(text, out).is_err() {
-        return Failure::Stdout.report(err).status;
-    }
-    status
 }

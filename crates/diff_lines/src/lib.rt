@@ -2,7 +2,8 @@
 //!
 //! Proved: `diff_text` gives just the text of the definition. Each difference has its line, in their order: what it does to the sets that
 //! meet the guide, where it is, and what both guides say. The place is the path of loops and ids to the segment or loop, in the old guide
-//! if the new one has it no more, with its number there. The last line counts the differences of each kind. `line_of` gives one of the lines.
+//! if the new one has it no more, with its number there. The last line counts the differences of each kind.
+//! `line_of` gives one of the lines.
 //!
 //! In each line bytes that control a terminal are escaped, so that it is one line whatever a guide's author wrote.
 //!

@@ -1,14 +1,13 @@
 -- What clap found in the arguments is what the definitions say of them.
 use Rattle.std.proofs.Common.{◌≡◌, ◌∙◌, List, true, codes, refl, String, sym, ap, subst}
-use Rattle.clap.specs.Words.{HasKind, HasMatchesOf, Text, fault_of, first_value, found_of, is_simple, is_simple_and_free, kind_of, takes}
-use Rattle.clap.specs.declared.error.Error.{Error}
-use Rattle.clap.specs.declared.error.kind.ErrorKind.TheVariants.{OutOfMemory}
+use Rattle.clap.specs.Words.{HasMatchesOf, Text, first_value, found_of, is_simple, is_simple_and_free}
 use Rattle.clap.specs.declared.parser.matches.ArgMatches.{ArgMatches}
 use Rattle.clap.proofs.OnLiterals.{clap_on_literals}
 use Rattle.std.specs.declared.alloc.Global.{Global}
 use Rattle.night_ends.specs.Words.{or_none, values_found}
-use Rattle.night_ends.proofs.ForAbove.{all_found, asks_for_text, found}
-use Rattle.explain_command.specs.CommandLine.{AsksForText, IsAsked, IsGiven, IsShown, NamesFiles, NamesNone, explain_app, names_given}
+use Rattle.night_ends.proofs.ForAbove.{all_found, found}
+use Rattle.program_frame.specs.Matching.{AsksForText}
+use Rattle.explain_command.specs.CommandLine.{IsAsked, IsGiven, NamesFiles, NamesNone, explain_app, names_given}
 use Rattle.explain_command.specs.CommandLine.{names_in, paths_in, values_of}
 use Rattle.explain_command.specs.declared.command.Paths.{Paths}
 use Rattle.explain_command.specs.declared.command.Asked.{Asked}
@@ -38,17 +37,12 @@ pub none_named : (words : List Text) (m : ArgMatches) → HasMatchesOf explain_a
     → NamesNone (values_of words)
 none_named words m has none = sym (ap or_none (all_found explain_app simple words m (codes "file") has)) ∙ none
 
-pub shown : (words : List Text) (e : Error) (asked : Asked) → HasKind (fault_of explain_app words) e
-    → (takes explain_app words ≡ true → kind_of e ≡ OutOfMemory) → IsShown (kind_of e) asked → IsAsked words asked
-shown words e (Explain paths) kind passes is = absurd is
-shown words e (Show text) kind passes is =
-    let both = asks_for_text explain_app words e kind passes is in record { asked = both.0; no_run = both.1 }
-
 -- the files that are asked for are those that the arguments name
 pub files_named : (words : List Text) (asked : Asked) (paths : Paths) → asked ≡ Explain paths → IsAsked words asked
     → NamesFiles words (paths_in paths) × (names_given words ≡ names_in paths)
 files_named words asked paths is by = subst (λ (a : Asked). IsAsked words a) is by
 
 -- the text that is asked for isn't shown in place of a file
-pub text_asked : (words : List Text) (asked : Asked) (text : String Global) → asked ≡ Show text → IsAsked words asked → AsksForText words
+pub text_asked : (words : List Text) (asked : Asked) (text : String Global) → asked ≡ Show text → IsAsked words asked
+    → AsksForText explain_app words
 text_asked words asked text is by = subst (λ (a : Asked). IsAsked words a) is by

@@ -34,7 +34,6 @@ refusal words declared (failure.OtherSet id) result of by =
 refusal words declared failure.Is997 result of by =
     so result (IsTold words declared) (told.Refused failure.Is997) (by.1 (λ e. cc)) (of, (λ e. cc))
 refusal words declared (failure.CutOff cut) result of by = absurd of
-refusal words declared failure.Stdout result of by = absurd of
 refusal words declared failure.Memory result of by = none result (IsTold words declared) (by.0 refl)
 
 pub told_of : {A E F : Type 0} (words : Words) (opened : Result A F) (declared : A → Option (List ℕ)) (account : Result Account Failure)
@@ -75,7 +74,6 @@ untold words declared (told.Refused f) by = (unrefused f by.0, by.1)
     unrefused (failure.OtherSet id) of = tt
     unrefused failure.Is997 of = tt
     unrefused (failure.CutOff cut) of = of
-    unrefused failure.Stdout of = of
     unrefused failure.Memory of = tt
 
 pub told_at : {A F : Type 0} (words : Words) (opened : Result A F) (declared : A → Option (List ℕ)) (t : Told)

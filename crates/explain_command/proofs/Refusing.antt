@@ -19,7 +19,6 @@ of_reader None text failure.TellsNothing same by = tt
 of_reader None text (failure.OtherSet id) same by = tt
 of_reader None text failure.Is997 same by = tt
 of_reader None text (failure.CutOff cut) same by = by
-of_reader None text failure.Stdout same by = by
 of_reader None text failure.Memory same by = tt
 of_reader (Some xs) text failure.Input same by = tt
 of_reader (Some xs) text failure.NoHeader same by = subst (λ (t : List ℕ). IsOfText t failure.NoHeader) same by
@@ -27,7 +26,6 @@ of_reader (Some xs) text failure.TellsNothing same by = subst (λ (t : List ℕ)
 of_reader (Some xs) text (failure.OtherSet id) same by = subst (λ (t : List ℕ). IsOfText t (failure.OtherSet id)) same by
 of_reader (Some xs) text failure.Is997 same by = subst (λ (t : List ℕ). IsOfText t failure.Is997) same by
 of_reader (Some xs) text (failure.CutOff cut) same by = by
-of_reader (Some xs) text failure.Stdout same by = by
 of_reader (Some xs) text failure.Memory same by = tt
 
 -- out of memory says nothing of a text

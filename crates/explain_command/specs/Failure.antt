@@ -12,8 +12,6 @@ use Rattle.explain_command.specs.declared.ends.CutOff.TheVariants as cut
 use Rattle.explain_command.specs.declared.ends.SetId.{SetId}
 use Rattle.explain_command.specs.declared.failure.Failure.{Failure}
 use Rattle.explain_command.specs.declared.failure.Failure.TheVariants as failure
-use Rattle.explain_command.specs.declared.mistake.Mistake.{Mistake}
-use Rattle.explain_command.specs.declared.mistake.Mistake.TheVariants as mistake
 
 -- what failed, up to what the file has
 abbrev pub lead_of : Failure → List ℕ
@@ -24,7 +22,6 @@ lead_of (failure.OtherSet id) = codes "ST is "
 lead_of failure.Is997 = codes "this is a 997, which is not read here"
 lead_of (failure.CutOff cut.InSegment) = codes "the text ends inside a segment"
 lead_of (failure.CutOff cut.In999) = codes "the text ends inside a 999"
-lead_of failure.Stdout = codes "output stdout"
 lead_of failure.Memory = codes "memory"
 
 abbrev pub other_words : SetId → List ℕ
@@ -38,7 +35,6 @@ rest_of failure.TellsNothing = codes "\n"
 rest_of (failure.OtherSet id) = other_words id
 rest_of failure.Is997 = codes "\n"
 rest_of (failure.CutOff c) = codes "\n"
-rest_of failure.Stdout = codes "\n"
 rest_of failure.Memory = codes "\n"
 
 abbrev pub subject_line : Failure → List ℕ
@@ -55,17 +51,7 @@ said_in path f = shown path ++ (codes ": " ++ subject_line f)
 abbrev pub line_in : (path : List ℕ) → Failure → List ℕ
 line_in path f = codes "nighthub_explain: " ++ said_in path f
 
-abbrev pub status_of : Failure → ℕ
-status_of failure.Input = 4
-status_of failure.NoHeader = 4
-status_of failure.TellsNothing = 4
-status_of (failure.OtherSet id) = 4
-status_of failure.Is997 = 4
-status_of (failure.CutOff c) = 4
-status_of failure.Stdout = 5
-status_of failure.Memory = 6
-
--- a status: 0, or that of a failure
+-- a status: 0, 3 or 4, or that of a mistake or a failure of the system
 abbrev pub IsStatus : ℕ → Type 0
 IsStatus n = IsTrue (n == 0 || (n == 2 || (n == 3 || (n == 4 || (n == 5 || n == 6)))))
 
@@ -78,20 +64,6 @@ read_failure fault.NoMemory = failure.Memory
 -- the line on a names file that is refused
 abbrev pub names_line : (path text : List ℕ) → List ℕ
 names_line path text = codes "nighthub_explain: " ++ (shown path ++ (codes ": " ++ (shown text ++ codes "\n")))
-
--- the line and the status of a mistake in the arguments
-abbrev pub mistake_line : Mistake → List ℕ
-mistake_line (mistake.Usage text) = codes "nighthub_explain: usage: " ++ (text ++ codes "; see --help\n")
-mistake_line mistake.Memory = line_of failure.Memory
-
-abbrev pub mistake_status : Mistake → ℕ
-mistake_status (mistake.Usage text) = 2
-mistake_status mistake.Memory = 6
-
--- the arguments are wrong
-abbrev pub IsUsage : Mistake → Type 0
-IsUsage (mistake.Usage text) = Unit {0}
-IsUsage mistake.Memory = ⊥
 
 -- what a text that was read may fail by: it has bytes that are no acknowledgments, or memory is refused
 abbrev pub IsOfText : (text : List ℕ) → Failure → Type 0
@@ -110,7 +82,6 @@ IsOfInput declared failure.TellsNothing = IfSome declared (λ text. IsOfText tex
 IsOfInput declared (failure.OtherSet id) = IfSome declared (λ text. IsOfText text (failure.OtherSet id))
 IsOfInput declared failure.Is997 = IfSome declared (λ text. IsOfText text failure.Is997)
 IsOfInput declared (failure.CutOff cut) = ⊥
-IsOfInput declared failure.Stdout = ⊥
 IsOfInput declared failure.Memory = Unit {0}
 
 -- a fault of the system is out of memory, or represents another failure

@@ -7,7 +7,8 @@ use Rattle.std.specs.Io.KnownBytes.{Appends}
 use Rattle.clap.specs.Words.{Text}
 use Rattle.guide_names.specs.Names.{Words}
 use Rattle.names_given.specs.Files.{AreRefused, AreWords}
-use Rattle.explain_command.specs.CommandLine.{AsksForText, NamesFiles, names_given}
+use Rattle.program_frame.specs.Matching.{AsksForText}
+use Rattle.explain_command.specs.CommandLine.{NamesFiles, explain_app, names_given}
 use Rattle.file_names.specs.Shown.{shown}
 use Rattle.explain_command.specs.Failure.{IsOfInput, line_in, line_of}
 use Rattle.explain_command.specs.Outcome.{IsExplanationOf}
@@ -102,7 +103,7 @@ pub record IsExplained (words : Words) (paths : List (List ℕ)) (status : ℕ) 
 
 -- a text was shown that the arguments ask for
 pub record IsShownText (words : List Text) (status : ℕ) (was is : Option (List ℕ)) : Type 0 where
-  pub asked : AsksForText words
+  pub asked : AsksForText explain_app words
   pub text : List ℕ
   pub printed : Appends was is text
   pub own_status : status ≡ 0

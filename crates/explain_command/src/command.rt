@@ -1,17 +1,18 @@
-ghost use Rattle.std.specs.Prelude.{◌≡◌, ◌≢◌, false, map, IfOk, IfErr};
-ghost use Rattle.clap.specs.Words.{app_of, first_value, found_of, kind_of, rule_of};
+ghost use Rattle.std.specs.Prelude.{◌≡◌, map, IfOk, IfErr};
+ghost use Rattle.clap.specs.Words.{app_of, first_value, found_of};
 ghost use Rattle.night_ends.specs.Words.{values_found};
-ghost use Rattle.explain_command.specs.CommandLine.{IsAsked, IsCommandLine, IsGiven, IsShown, NamesNone};
-ghost use Rattle.explain_command.specs.CommandLine.{explain_app, file_rule, names_rule};
-ghost use Rattle.explain_command.specs.Failure.{IsUsage};
+ghost use Rattle.program_frame.specs.Mistake.{IsUsage};
+ghost use Rattle.explain_command.specs.CommandLine.{IsAsked, IsCommandLine, IsGiven, NamesNone, explain_app};
 
-use crate::mistake::Mistake;
-use clap::error::ErrorKind;
-use clap::{Arg, ArgAction, ArgMatches, Command, Error};
+use clap::{ArgMatches, Command};
 use hub_kinds::copy_text;
-use night_ends::{RELEASE, mistake_found, texts_given, with_argument};
+use night_ends::{texts_given, with_argument};
+use program_frame::{Matched, Mistake, match_words, option_free, program, words};
 use std::alloc::{AllocError, Global};
 use std::convert::AsStr;
+
+/// The name of the program.
+pub const PROGRAM: &str = "nighthub_explain";
 
 /// What the text of `--help` ends with.
 const STATUSES: &str = "Status:
@@ -49,48 +50,35 @@ pub fn read_words<'a, S: AsStr>(alloc: Global, words: &'a [S]) -> Result<Asked<'
     ensures usage { IfErr result (λ mistake. IsUsage mistake → IsCommandLine (map S.text words.now) → ⊥) }
 {
     let command = command(alloc)?;
-    match command.try_get_matches_from(words) {
-        Ok(matches) => files_asked(alloc, &matches),
-        Err(error) => shown(alloc, &error),
+    match match_words(alloc, command, words)? {
+        Matched::Values(values) => files_asked(alloc, &values),
+        Matched::Text(text) => Ok(Asked::Show(text)),
     }
 }
 
 fn command<'a>(alloc: Global) -> Result<Command<'a>, AllocError>
     ensures { IfOk result (λ command. app_of command ≡ explain_app) }
 {
-    let command = Command::new(alloc, "nighthub_explain")
-        .about("Says in words what a partner's acknowledgments tell")
-        .version(RELEASE)
-        .after_help(STATUSES)
-        .no_binary_name(true);
-    let command = with_argument(command, names(alloc))?;
-    with_argument(command, file(alloc))
-}
-
-/// The names file.
-fn names<'a>(alloc: Global) -> Arg<'a>
-    ensures rule { rule_of result ≡ names_rule }
-    ensures local { result.global ≡ false }
-{
-    Arg::new(alloc, "names")
-        .long("names")
-        .value_name("FILE")
-        .help("Say the names of segments and elements that the names file FILE has")
-        .action(ArgAction::Set)
-}
-
-/// The files of acknowledgments, of which one is wanted.
-fn file<'a>(alloc: Global) -> Arg<'a>
-    ensures rule { rule_of result ≡ file_rule }
-    ensures local { result.global ≡ false }
-{
-    Arg::new(alloc, "file")
-        .value_name("NAME.ack")
-        .help(
-            "A partner's acknowledgments, as nighthub writes them; of several files each line has its file's name in front",
-        )
-        .required(true)
-        .action(ArgAction::Append)
+    let command = program(
+        alloc,
+        PROGRAM,
+        "Says in words what a partner's acknowledgments tell",
+        STATUSES,
+    );
+    let names = option_free(
+        alloc,
+        "names",
+        "FILE",
+        "Say the names of segments and elements that the names file FILE has",
+    );
+    let command = with_argument(command, names)?;
+    let file = words(
+        alloc,
+        "file",
+        "NAME.ack",
+        "A partner's acknowledgments, as nighthub writes them; of several files each line has its file's name in front",
+    );
+    with_argument(command, file)
 }
 
 fn files_asked<'a>(alloc: Global, matches: &ArgMatches<'a>) -> Result<Asked<'a>, Mistake>
@@ -105,19 +93,4 @@ fn files_asked<'a>(alloc: Global, matches: &ArgMatches<'a>) -> Result<Asked<'a>,
         names: matches.get_str("names"),
         files,
     }))
-}
-
-/// The text that is asked for, where the arguments have no mistake.
-fn shown<'a>(alloc: Global, error: &Error) -> Result<Asked<'a>, Mistake>
-    ensures shown { IfOk result (IsShown (kind_of error.now)) }
-    ensures usage { IfErr result (λ mistake. IsUsage mistake → kind_of error.now ≢ ErrorKind.OutOfMemory) }
-{
-    match error.kind() {
-        ErrorKind::DisplayHelp | ErrorKind::DisplayVersion => {
-            let text = format!(in alloc; "{error}")?;
-            Ok(Asked::Show(text))
-        }
-        ErrorKind::OutOfMemory => Err(Mistake::Memory),
-        _ => Err(Mistake::Usage(mistake_found(alloc, error)?)),
-    }
 }

@@ -1,5 +1,4 @@
 ghost use Rattle.std.specs.Prelude.{◌≡◌, ◌≢◌, ◌⊎◌, true, false, [], IfOk, IfErr, IsErrAnd, IsOkAnd};
-ghost use Rattle.std.specs.Io.KnownBytes.{Appends};
 ghost use Rattle.std.specs.IoError.{error_kind};
 ghost use Rattle.explain_command.specs.Failure.{IsMemoryOr, IsOfInput, IsOfText};
 ghost use Rattle.explain_command.specs.Outcome.{IsExplanationOf, IsSaidOf};
@@ -12,10 +11,10 @@ use crate::failure::Failure;
 use ack_lines::named_explanation;
 use ack_read::{ReadFault, read_acknowledgments};
 use guide_names::Names;
-use night_ends::{print_text, read_whole};
+use night_ends::read_whole;
 use std::alloc::Global;
 use std::io;
-use std::io::{Read, Write};
+use std::io::Read;
 use x12_bytes::{Delims, read_header};
 
 /// The lines on acknowledgments, and where their text is cut off.
@@ -115,17 +114,4 @@ fn account_by(
         },
         Err(fault) => Err(Failure::from(fault)),
     }
-}
-
-/// Prints a text on standard output, and nothing else, where the writer declares what it has. Gives 0, or the status of a failure of
-/// standard output.
-pub(crate) fn finish<O: Write, E: Write>(text: &[u8], out: &mut O, err: &mut E) -> u8
-    ensures status { (result ≡ 0) ⊎ (result ≡ 5) }
-    ensures printed { result ≢ 5 → Appends (O.contents out.old) (O.contents out.new) text.now }
-    ensures quiet { result ≢ 5 → err.new ≡ err.old }
-{
-    if print_text(text, out).is_err() {
-        return Failure::Stdout.report(err).status;
-    }
-    0
 }

@@ -233,7 +233,6 @@ fn append_rest(out: &mut Vec<u8>, failure: Failure) -> Result<(), NoMemory>
         | Failure::TellsNothing
         | Failure::Is997
         | Failure::CutOff(_)
-        | Failure::Stdout
         | Failure::Memory => append(out, b"\n"),
     }
 }

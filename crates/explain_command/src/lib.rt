@@ -14,7 +14,7 @@
 //!   cut off; never as one that can't be read (`explained`);
 //! - the lines that are printed on standard error are those of just the files that are cut off or refused, in their order; in each path
 //!   that is printed, bytes that control a terminal are escaped;
-//! - the line of a failure is the one that belongs to it, and so is its status; a report says whether the line is printed.
+//! - of a mistake in the arguments, of memory and of standard output it says what `program_frame` proves.
 //!
 //! Source: own.
 //!
@@ -26,13 +26,11 @@ mod ends;
 mod explain;
 mod failure;
 mod files;
-mod mistake;
 mod run;
 
-pub use command::{Asked, Paths, read_words};
+pub use command::{Asked, PROGRAM, Paths, read_words};
 pub use ends::{CutOff, SetId};
 pub use explain::{Account, explained, explained_file};
-pub use failure::{Failure, Reported};
+pub use failure::Failure;
 pub use files::{FileTold, Told, tell_opened};
-pub use mistake::Mistake;
 pub use run::explain_main;

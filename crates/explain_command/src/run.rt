@@ -4,9 +4,7 @@ ghost use Rattle.explain_command.specs.CommandLine.{IsCommandLine, names_given, 
 ghost use Rattle.explain_command.specs.Failure.{IsStatus, names_line};
 ghost use Rattle.explain_command.specs.Reports.{IsExplained, IsNamedRun, IsNamesRefusal, IsReport, IsRun, status_of};
 
-use crate::command::{Asked, Paths, read_words};
-use crate::explain::finish;
-use crate::failure::Failure;
+use crate::command::{Asked, PROGRAM, Paths, read_words};
 use crate::files::{FileTold, append, failure_lines, lines_of, status_of, tell_files};
 use file_names::append_shown;
 use guide_names::Names;
@@ -14,6 +12,7 @@ use hub_kinds::NoMemory;
 use names_file::JudgedNames;
 use names_given::names_at;
 use night_ends::print_text;
+use program_frame::{print_out, report_memory};
 use std::alloc::Global;
 use std::convert::AsStr;
 use std::io::Write;
@@ -46,8 +45,8 @@ where
 {
     match read_words(rt.alloc(), words) {
         Ok(Asked::Explain(paths)) => explain_paths(rt, &paths, out, err),
-        Ok(Asked::Show(text)) => finish(text.as_bytes(), out, err),
-        Err(mistake) => mistake.report(err).status,
+        Ok(Asked::Show(text)) => print_out(PROGRAM, text.as_bytes(), 0, out, err),
+        Err(mistake) => mistake.report(PROGRAM, err).status,
     }
 }
 
@@ -89,7 +88,7 @@ where
     match names_at(rt, names) {
         Ok(JudgedNames::Taken(words)) => explain_files(rt, &words, paths, out, err),
         Ok(JudgedNames::Refused(text)) => refuse_names(rt.alloc(), names, text.as_slice(), err),
-        Err(_) => Failure::Memory.report(err).status,
+        Err(_) => report_memory(PROGRAM, err).status,
     }
 }
 
@@ -115,7 +114,7 @@ fn refuse_names<E: Write>(alloc: Global, path: &str, text: &[u8], err: &mut E) -
             let _ = print_text(line.as_slice(), err);
             3
         }
-        Err(_) => Failure::Memory.report(err).status,
+        Err(_) => report_memory(PROGRAM, err).status,
     }
 }
 
@@ -133,7 +132,7 @@ where
 {
     match report_of(rt, names, paths) {
         Ok(report) => give_report(&report, out, err),
-        Err(_) => Failure::Memory.report(err).status,
+        Err(_) => report_memory(PROGRAM, err).status,
     }
 }
 
@@ -162,11 +161,9 @@ fn give_report<O: Write, E: Write>(report: &Report<'_>, out: &mut O, err: &mut E
     ensures printed { result ≢ 5 → Appends (O.contents out.old) (O.contents out.new) report.now.text.items }
     ensures quiet { result ≡ 0 → err.new ≡ err.old }
 {
-    if print_text(report.text.as_slice(), out).is_err() {
-        return Failure::Stdout.report(err).status;
-    }
-    let status = status_of(report.told.as_slice());
-    if status != 0 {
+    let wanted = status_of(report.told.as_slice());
+    let status = print_out(PROGRAM, report.text.as_slice(), wanted, out, err);
+    if status == 4 {
         let _ = print_text(report.failures.as_slice(), err);
     }
     status

@@ -60,7 +60,6 @@ use Rattle.night_equal_text.specs.Seen.{seen}
 use Rattle.night_equal_text.specs.Spanned.{IsSetOf}
 use Rattle.night_equal_writing.specs.Acknowledgments.{AcknowledgmentsAreOne, HasItsCode, seen as seen_segment, set_answer}
 use Rattle.night_equal_writing.specs.Texts.{TextsAreOne}
-use Rattle.guide_samples.specs.declared.rule.Rule.{Rule}
 use Rattle.guide_samples.specs.Alone.{IsFaultAlone, IsOnlySpan}
 use Rattle.guide_samples.specs.Samples.{HasOneFault, IsSample, answer_by, lines_by}
 use Rattle.guide_samples.proofs.Conditioned.{conditioned}
@@ -156,9 +155,9 @@ answered same_codes same_verdicts g c set guided that faults each =
 
 pub one_fault : FaultsAreOne → SetCodesAreOne → VerdictsAreOne → AcknowledgmentsAreOne → TextsAreOne → (rows : GuideRows)
     → IsAccepted rows → (c : Checked) (text : List ℕ) → c.text ≡ text → c.guide ≡ Some rows → IsOnlySpan text c.span
-    → AreSetFaults (guide_in c) (parts_in c) c.faults → AreRising c.faults → (rule : Rule) → IsFaultAlone rule c.faults
-    → (out : List ℕ) → out ≡ set_text c.span.delims (answer_to c false) → HasOneFault (guide_of rows) rule text out
-one_fault faults same_codes same_verdicts acks texts rows accepted c text same guided only are up rule one out said =
+    → AreSetFaults (guide_in c) (parts_in c) c.faults → AreRising c.faults → (IsSuch : Fault → Type 0) → IsFaultAlone IsSuch c.faults
+    → (out : List ℕ) → out ≡ set_text c.span.delims (answer_to c false) → HasOneFault (guide_of rows) IsSuch text out
+one_fault faults same_codes same_verdicts acks texts rows accepted c text same guided only are up IsSuch one out said =
     let g : GuideTree = guide_of rows in
     let d : Delims = c.span.delims in
     let here : IsOnlySpan c.text c.span = subst (λ t. IsOnlySpan t c.span) (sym same) only in
@@ -177,13 +176,13 @@ one_fault faults same_codes same_verdicts acks texts rows accepted c text same g
     ap (flat_map (written d)) (acks.set d (answer_by g d here.set) have)
     ∙ written_all texts d (old.set_segments d (set_answer (answer_by g d here.set)))
     ∙ ap (λ (a : SetAnswer). set_text d a) (answered same_codes same_verdicts g c here.set guide that is each) in
-    let found : HasOneFault g rule c.text out = record {
+    let found : HasOneFault g IsSuch c.text out = record {
       delims = d;
       set = here.set;
       only = here.only;
       fault = one.fault;
       alone = is ∙ one.alone;
-      breaks = one.breaks;
+      such = one.such;
       said = said ∙ sym lines;
     } in
-    subst (λ t. HasOneFault g rule t out) same found
+    subst (λ t. HasOneFault g IsSuch t out) same found

@@ -8,8 +8,7 @@ use Rattle.night_equal_text.specs.Spanned.{IsSetOf}
 use Rattle.hub_kinds.specs.declared.codes.SegmentCode.TheVariants.{ElementErrors}
 use Rattle.hub_kinds.specs.declared.fault.Fault.{Fault}
 use Rattle.night_equal_writing.specs.Acknowledgments.{HasItsCode}
-use Rattle.guide_samples.specs.Samples.{HasOneSet, IsFaultOf}
-use Rattle.guide_samples.specs.declared.rule.Rule.{Rule}
+use Rattle.guide_samples.specs.Samples.{HasOneSet}
 
 -- the text's one set has the parts that are read in the span
 pub record IsOnlySpan (text : List ℕ) (span : SetSpan) : Type 0 where
@@ -18,10 +17,10 @@ pub record IsOnlySpan (text : List ℕ) (span : SetSpan) : Type 0 where
   pub only : HasOneSet text span.delims set
   pub same : IsSetOf set (set_parts text span)
 
--- a set has one fault, which breaks the rule, and is reported under its own code
-pub record IsFaultAlone (rule : Rule) (faults : List Fault) : Type 0 where
+-- a set has one fault, which is such a one, and is reported under its own code
+pub record IsFaultAlone (IsSuch : Fault → Type 0) (faults : List Fault) : Type 0 where
   pub fault : Fault
   pub alone : faults ≡ fault ∷ []
-  pub breaks : IsFaultOf rule fault
+  pub such : IsSuch fault
   pub has : HasItsCode fault
   pub own : fault.elem ≡ None → fault.code ≢ ElementErrors

@@ -45,14 +45,14 @@ answer_by guide d set =
 abbrev pub lines_by : GuideTree → Delims → Set → List ℕ
 lines_by guide d set = flat_map (written d) (set_segments d (answer_by guide d set))
 
--- a text has one set, which by the guide has one fault, and this breaks the rule; the lines are what a 999 says of the set
-pub record HasOneFault (guide : GuideTree) (rule : Rule) (text lines : List ℕ) : Type 0 where
+-- a text has one set, which by the guide has one fault, and this is such a one; the lines are what a 999 says of the set
+pub record HasOneFault (guide : GuideTree) (IsSuch : Fault → Type 0) (text lines : List ℕ) : Type 0 where
   pub delims : Delims
   pub set : Set
   pub only : HasOneSet text delims set
   pub fault : Fault
   pub alone : faults_by guide delims set ≡ fault ∷ []
-  pub breaks : IsFaultOf rule fault
+  pub such : IsSuch fault
   pub said : lines ≡ lines_by guide delims set
 
 -- a guide, and the rules of it that are tried
@@ -64,7 +64,7 @@ pub record Tried : Type 0 where
 pub record BreaksRule (guide : GuideTree) (rules : List Rule) (number : ℕ) (text lines : List ℕ) : Type 0 where
   pub rule : Rule
   pub there : slice_get rules number ≡ Some rule
-  pub fault : HasOneFault guide rule text lines
+  pub fault : HasOneFault guide (IsFaultOf rule) text lines
 
 -- a sample is known
 abbrev pub IsKnown : GuideTree → Type 0

@@ -1,6 +1,6 @@
 ghost use Rattle.std.specs.Prelude.{◌≡◌, IsTrue, [], IfOk, IfSome, map};
 ghost use Rattle.guide_tree.specs.Words.{guide_of};
-ghost use Rattle.guide_samples.specs.Samples.{HasOneFault, IsKnown, IsSampled};
+ghost use Rattle.guide_samples.specs.Samples.{HasOneFault, IsFaultOf, IsKnown, IsSampled};
 
 use crate::build::Piece;
 use crate::judge::{meets, only_fault};
@@ -89,7 +89,8 @@ fn broken_by(
     pieces: &[Piece],
     trial: &Trial,
 ) -> Result<Option<Broken>, NoMemory>
-    ensures { IfOk result (λ found. IfSome found (λ b. HasOneFault (guide_of guide.now) trial.now.expected.rule b.text b.lines)) }
+    ensures { IfOk result (λ found. IfSome found
+        (λ b. HasOneFault (guide_of guide.now) (IsFaultOf trial.now.expected.rule) b.text b.lines)) }
 {
     let text = text_of(alloc, guide.rows(), pieces, trial.changes.as_slice())?;
     match only_fault(alloc, text.as_slice(), guide, &trial.expected)? {

@@ -57,7 +57,7 @@ fn unused_code(row: &SimpleRow) -> &[u8] {
 }
 
 /// That many times a byte.
-fn repeated(alloc: Global, byte: u8, count: u32) -> Result<Vec<u8>, NoMemory> {
+pub(crate) fn repeated(alloc: Global, byte: u8, count: u32) -> Result<Vec<u8>, NoMemory> {
     let mut text = Vec::new(alloc);
     for _ in 0..count {
         text.push(byte)?;
@@ -222,13 +222,13 @@ fn push_simple(
 }
 
 /// The component of a text with an index, from 0.
-fn component_at(text: &[u8], index: usize) -> &[u8] {
+pub(crate) fn component_at(text: &[u8], index: usize) -> &[u8] {
     let mut parts = text.split(|byte| *byte == b'>');
     parts.nth(index).unwrap_or(b"")
 }
 
 /// A composite text of `count` components at most, with another one at an index.
-fn with_component(
+pub(crate) fn with_component(
     alloc: Global,
     text: &[u8],
     count: usize,

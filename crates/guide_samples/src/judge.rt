@@ -2,6 +2,7 @@
 ghost use Rattle.std.specs.Prelude.{◌≡◌, ◌≢◌, false, length, IsTrue, None, IfOk, IfSome, Some};
 ghost use Rattle.ack_999.specs.Report.{set_text};
 ghost use Rattle.hub_kinds.specs.Words.{AreRising};
+ghost use Rattle.difference_faults.specs.Shows.{shows};
 ghost use Rattle.guide_tree.specs.Words.{guide_of};
 ghost use Rattle.night_equal_writing.specs.Acknowledgments.{HasItsCode};
 ghost use Rattle.set_check.specs.Answer.{answer_to};
@@ -13,8 +14,10 @@ ghost use Rattle.guide_samples.specs.Samples.{HasOneFault, IsFaultOf, IsSample};
 use crate::presence::has;
 use crate::trial::Expected;
 use ack_999::append_set;
+use difference_faults::{Part, shows};
 use env_index::{GroupEnvelope, Interchange, index_plain};
 use guide_tree::Guide;
+use guide_widening::Difference;
 use hub_kinds::{ElementCode, Fault, NoMemory, SegmentCode, Text, within_limit};
 use night_equal_faults::faults_are_one;
 use night_equal_set::{meetings_are_one, set_codes_are_one, verdicts_are_one};
@@ -43,7 +46,7 @@ pub(crate) fn only_fault(
     guide: &Guide,
     expected: &Expected,
 ) -> Result<Option<Text>, NoMemory>
-    ensures { IfOk result (λ found. IfSome found (HasOneFault (guide_of guide.now) expected.now.rule text.now)) }
+    ensures { IfOk result (λ found. IfSome found (HasOneFault (guide_of guide.now) (IsFaultOf expected.now.rule) text.now)) }
 {
     faults_are_one();
     set_codes_are_one();
@@ -60,9 +63,59 @@ pub(crate) fn only_fault(
     Ok(Some(answer_to(alloc, set)?))
 }
 
+/// What the 999 says of the set of a text that has one set with one fault, if the fault shows a `difference`, which is of
+/// `part`; none otherwise.
+pub(crate) fn fault_between(
+    alloc: Global,
+    text: &[u8],
+    guide: &Guide,
+    part: &Part<'_>,
+    difference: &Difference,
+) -> Result<Option<Text>, NoMemory>
+    ensures { IfOk result (λ found. IfSome found
+        (HasOneFault (guide_of guide.now) (λ f. IsTrue (shows part.now difference.now f)) text.now)) }
+{
+    faults_are_one();
+    set_codes_are_one();
+    verdicts_are_one();
+    acknowledgments_are_one();
+    texts_are_one();
+    let _rows = guide.rows();
+    let Some(set) = checked(alloc, text, guide)? else {
+        return Ok(None);
+    };
+    if !shows_alone(&set, part, difference) {
+        return Ok(None);
+    }
+    Ok(Some(answer_to(alloc, set)?))
+}
+
+/// Whether a set has one fault, and this shows a difference.
+fn shows_alone(set: &CheckedSet, part: &Part<'_>, difference: &Difference) -> bool
+    ensures alone { IsTrue result → IsFaultAlone (λ f. IsTrue (shows part.now difference.now f)) set.now.faults }
+    ensures exact { AreSetFaults (guide_in set.now) (parts_in set.now) set.now.faults }
+    ensures rising { AreRising set.now.faults }
+{
+    match set.faults() {
+        [fault] => has_its_code(fault) && shows(part, difference, fault),
+        _ => false,
+    }
+}
+
+/// Whether the code of a fault is that of element errors just if the fault is one of an element.
+fn has_its_code(fault: &Fault) -> bool
+    ensures code { IsTrue result → HasItsCode fault.now }
+    ensures own { IsTrue result → fault.now.elem ≡ None → fault.now.code ≢ SegmentCode.ElementErrors }
+{
+    match &fault.elem {
+        None => fault.code != SegmentCode::ElementErrors,
+        Some(_) => fault.code == SegmentCode::ElementErrors,
+    }
+}
+
 /// Whether a set has one fault, and this is the one that is expected.
 fn has_fault(set: &CheckedSet, expected: &Expected) -> bool
-    ensures alone { IsTrue result → IsFaultAlone expected.now.rule set.now.faults }
+    ensures alone { IsTrue result → IsFaultAlone (IsFaultOf expected.now.rule) set.now.faults }
     ensures exact { AreSetFaults (guide_in set.now) (parts_in set.now) set.now.faults }
     ensures rising { AreRising set.now.faults }
 {

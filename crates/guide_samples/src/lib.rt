@@ -6,6 +6,9 @@
 //! - a text that `Rules::broken` gives has one set, and by the guide this set has one fault, which is one of the rule with that number;
 //!   the lines beside it are the IK3 and IK4 of a 999 for just this fault (`BreaksRule`);
 //! - `Rules::count` is the number of rules that are tried, and there is one only if a sample is known;
+//! - a text that `sample_between` gives for a difference of two guides has one set, which meets the old guide, looked at alone; by the new
+//!   guide this set has one fault, which the difference makes, where the guides differ; the lines beside it are those of a 999
+//!   (`ShowsDifference`);
 //! - each call ends. Where none is given, nothing is said of the guide.
 //!
 //! All is said in the words of `night_definition`.
@@ -17,6 +20,8 @@
 //! samples contain is own.
 #![tactic(auto)]
 
+mod attempts;
+mod between;
 mod broken;
 mod build;
 mod element_trials;
@@ -30,10 +35,13 @@ mod rule;
 mod samples;
 mod set_trials;
 mod slot_trials;
+mod spot_trials;
+mod stray_trials;
 mod trial;
 mod values;
 mod write;
 
+pub use between::sample_between;
 pub use broken::{Broken, Rules};
 pub use rule::Rule;
 pub use samples::{complete, smallest};

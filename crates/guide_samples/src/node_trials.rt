@@ -194,3 +194,24 @@ pub(crate) fn push_nodes(
     }
     Ok(())
 }
+
+/// Trials of the node with a number among nodes and what is in them.
+pub(crate) fn push_numbered(
+    alloc: Global,
+    trials: &mut Vec<Trial>,
+    sample: &Sample,
+    nodes: &[Node],
+    number: u32,
+    of_loop: bool,
+) -> Result<(), NoMemory> {
+    let mut begins_loop = of_loop;
+    for node in nodes {
+        if node.number() == number {
+            push_node(alloc, trials, sample, node, begins_loop)?;
+        } else if let Node::Loop(_, inner) = node {
+            push_numbered(alloc, trials, sample, inner, number, true)?;
+        }
+        begins_loop = false;
+    }
+    Ok(())
+}

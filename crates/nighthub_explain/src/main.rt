@@ -6,8 +6,9 @@
 //! `explain_command::explain_main`, called on the arguments without the program's name, and what is proved of it is said there.
 #![tactic(auto)]
 
-use explain_command::{Failure, explain_main};
+use explain_command::{PROGRAM, explain_main};
 use file_names::arguments;
+use program_frame::report_memory;
 use std::io;
 use std::process::ExitCode;
 
@@ -17,7 +18,7 @@ fn main(rt: HostRuntime) -> ExitCode {
     let mut err = io::writer(&stderr);
     let status = match arguments(&rt) {
         Ok(words) => explain_main(&rt, words.as_slice(), &mut out, &mut err),
-        Err(_) => Failure::Memory.report(&mut err).status,
+        Err(_) => report_memory(PROGRAM, &mut err).status,
     };
     ExitCode::from(status)
 }

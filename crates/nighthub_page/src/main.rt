@@ -9,7 +9,8 @@
 #![tactic(auto)]
 
 use file_names::arguments;
-use page_command::{Failure, page_main};
+use page_command::{PROGRAM, page_main};
+use program_frame::report_memory;
 use std::io;
 use std::process::ExitCode;
 
@@ -19,7 +20,7 @@ fn main(rt: HostRuntime) -> ExitCode {
     let mut err = io::writer(&stderr);
     let status = match arguments(&rt) {
         Ok(words) => page_main(&rt, words.as_slice(), &mut out, &mut err),
-        Err(_) => Failure::Memory.report(&mut err).status,
+        Err(_) => report_memory(PROGRAM, &mut err).status,
     };
     ExitCode::from(status)
 }

@@ -1,14 +1,13 @@
 -- What clap found in the arguments is what the definitions say of them.
 use Rattle.std.proofs.Common.{◌≡◌, ◌∙◌, List, true, codes, refl, String, sym, subst}
-use Rattle.clap.specs.Words.{HasKind, HasMatchesOf, Text, fault_of, first_value, found_of, is_simple, is_simple_and_free, kind_of, takes}
-use Rattle.clap.specs.declared.error.Error.{Error}
-use Rattle.clap.specs.declared.error.kind.ErrorKind.TheVariants.{OutOfMemory}
+use Rattle.clap.specs.Words.{HasMatchesOf, Text, first_value, found_of, is_simple, is_simple_and_free}
 use Rattle.clap.specs.declared.parser.matches.ArgMatches.{ArgMatches}
 use Rattle.clap.proofs.OnLiterals.{clap_on_literals}
 use Rattle.std.specs.declared.alloc.Global.{Global}
-use Rattle.night_ends.proofs.ForAbove.{asks_for_text, found}
+use Rattle.night_ends.proofs.ForAbove.{found}
+use Rattle.program_frame.specs.Matching.{AsksForText}
 use Rattle.page_command.specs.declared.command.Paths.{Paths}
-use Rattle.page_command.specs.CommandLine.{ArePaths, AsksForText, IsAsked, IsGiven, IsShown, NamesNone, page_app, value_of}
+use Rattle.page_command.specs.CommandLine.{ArePaths, IsAsked, IsGiven, NamesNone, page_app, value_of}
 use Rattle.page_command.specs.declared.command.Asked.{Asked}
 use Rattle.page_command.specs.declared.command.Asked.TheVariants.{Page, Show}
 
@@ -34,17 +33,12 @@ pub none_named : (words : List Text) (m : ArgMatches) → HasMatchesOf page_app 
     → NamesNone (value_of words)
 none_named words m has none = sym (found page_app simple words m (codes "guide") has) ∙ none
 
-pub shown : (words : List Text) (e : Error) (asked : Asked) → HasKind (fault_of page_app words) e
-    → (takes page_app words ≡ true → kind_of e ≡ OutOfMemory) → IsShown (kind_of e) asked → IsAsked words asked
-shown words e (Page paths) kind passes is = absurd is
-shown words e (Show text) kind passes is =
-    let both = asks_for_text page_app words e kind passes is in record { asked = both.0; no_run = both.1 }
-
 -- the files that are asked for are those that the arguments name
 pub paths_named : (words : List Text) (asked : Asked) (paths : Paths) → asked ≡ Page paths → IsAsked words asked
     → ArePaths (value_of words) paths
 paths_named words asked paths is by = subst (λ (a : Asked). IsAsked words a) is by
 
 -- the text that is asked for isn't shown in place of a sample
-pub text_asked : (words : List Text) (asked : Asked) (text : String Global) → asked ≡ Show text → IsAsked words asked → AsksForText words
+pub text_asked : (words : List Text) (asked : Asked) (text : String Global) → asked ≡ Show text → IsAsked words asked
+    → AsksForText page_app words
 text_asked words asked text is by = subst (λ (a : Asked). IsAsked words a) is by

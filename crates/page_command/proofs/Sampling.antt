@@ -30,7 +30,6 @@ unmade names failure.NoSample is = tt
 unmade names (failure.Guide line) is = absurd is
 unmade names (failure.Names line) is = absurd is
 unmade names (failure.Output line) is = tt
-unmade names failure.Stdout is = absurd is
 unmade names failure.Memory is = tt
 
 pub unnamed : (path : List ℕ) (names : Option (List ℕ)) (f : Failure) → IsUnnamed names f → IsBefore path names f
@@ -38,7 +37,6 @@ unnamed path names failure.NoSample is = tt
 unnamed path names (failure.Guide line) is = absurd is
 unnamed path names (failure.Names line) is = is
 unnamed path names (failure.Output line) is = tt
-unnamed path names failure.Stdout is = absurd is
 unnamed path names failure.Memory is = tt
 
 pub refused : (path : List ℕ) (names : Option (List ℕ)) (text : List ℕ) (j : Judged GuideRows) (f : Failure) → j ≡ judged.Refused text
@@ -58,5 +56,4 @@ of_file path names failure.NoSample is three = absurd (omega (arith, three))
 of_file path names (failure.Guide line) is three = inl (line, is)
 of_file path names (failure.Names line) is three = inr (line, is)
 of_file path names (failure.Output line) is three = absurd (omega (arith, three))
-of_file path names failure.Stdout is three = absurd is
 of_file path names failure.Memory is three = absurd (omega (arith, three))

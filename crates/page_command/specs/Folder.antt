@@ -6,7 +6,8 @@ use Rattle.guide_tree.specs.Words.{GuideTree}
 use Rattle.guide_samples.specs.Samples.{IsSample}
 use Rattle.guide_samples.specs.declared.rule.Rule.{Rule}
 use Rattle.night_ends.specs.Outbox.{AddsFiles, File}
-use Rattle.page_command.specs.Samples.{AreBreaking, Sample, file_name}
+use Rattle.page_command.specs.Samples.{AreBreaking, Sample}
+use Rattle.sample_folder.specs.Names.{file_name}
 
 abbrev pub file_of : Sample → File
 file_of s = (file_name s.number, s.text)

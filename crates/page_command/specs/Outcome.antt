@@ -15,8 +15,9 @@ use Rattle.check_command.specs.declared.files.Given.{Given}
 use Rattle.check_command.specs.declared.judged.Judged.{Judged}
 use Rattle.check_command.specs.declared.judged.Judged.TheVariants as judged
 use Rattle.guide_samples.specs.Samples.{IsSample}
+use Rattle.program_frame.specs.Matching.{AsksForText}
 use Rattle.names_given.specs.Files.{AreRefused, AreWords}
-use Rattle.page_command.specs.CommandLine.{AsksForText, IsGuide, names_given, value_of}
+use Rattle.page_command.specs.CommandLine.{IsGuide, names_given, page_app, value_of}
 use Rattle.page_command.specs.Samples.{AreAnswers}
 use Rattle.page_command.specs.declared.failure.Failure.{Failure}
 use Rattle.page_command.specs.declared.failure.Failure.TheVariants as failure
@@ -66,7 +67,7 @@ pub record IsPage (path : List ℕ) (names was is : Option (List ℕ)) : Type 0 
 
 -- a text was shown that the arguments ask for
 pub record IsShownText (words : List Text) (was is : Option (List ℕ)) : Type 0 where
-  pub asked : AsksForText words
+  pub asked : AsksForText page_app words
   pub text : List ℕ
   pub printed : Appends was is text
 
@@ -102,7 +103,6 @@ IsBefore path names failure.NoSample = Unit {0}
 IsBefore path names (failure.Guide line) = IsRefusedBy path line
 IsBefore path names (failure.Names line) = IsNamesLine names line
 IsBefore path names (failure.Output line) = Unit {0}
-IsBefore path names failure.Stdout = ⊥
 IsBefore path names failure.Memory = Unit {0}
 
 -- private: such a failure after the guide was taken
@@ -111,7 +111,6 @@ IsUnnamed names failure.NoSample = Unit {0}
 IsUnnamed names (failure.Guide line) = ⊥
 IsUnnamed names (failure.Names line) = IsNamesLine names line
 IsUnnamed names (failure.Output line) = Unit {0}
-IsUnnamed names failure.Stdout = ⊥
 IsUnnamed names failure.Memory = Unit {0}
 
 -- private: such a failure after the names were taken, too
@@ -120,7 +119,6 @@ IsUnmade failure.NoSample = Unit {0}
 IsUnmade (failure.Guide line) = ⊥
 IsUnmade (failure.Names line) = ⊥
 IsUnmade (failure.Output line) = Unit {0}
-IsUnmade failure.Stdout = ⊥
 IsUnmade failure.Memory = Unit {0}
 
 -- the guide at a path is refused, or the names file

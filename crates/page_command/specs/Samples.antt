@@ -1,10 +1,11 @@
--- own: samples that break a rule of a guide, what their files are called, and what is answered to them.
-use Rattle.std.specs.Prelude.{◌≡◌, ◌≤◌, ℕ, ◌+◌, nat_lt, List, [], ◌∷◌, ◌++◌, codes, decimal, length, map, if◌then◌else◌}
+-- own: samples that break a rule of a guide, and what is answered to them.
+use Rattle.std.specs.Prelude.{◌≡◌, ◌≤◌, ℕ, ◌+◌, List, [], ◌∷◌, ◌++◌, length, map}
 use Rattle.std.specs.List.{All}
 use Rattle.guide_page.specs.declared.page.Answer.{Answer}
 use Rattle.guide_tree.specs.Words.{GuideTree}
 use Rattle.guide_samples.specs.Samples.{BreaksRule}
 use Rattle.guide_samples.specs.declared.rule.Rule.{Rule}
+use Rattle.sample_folder.specs.Names.{file_name}
 
 -- the number of the rule that it breaks, from 0; its text; and what the 999 says of it
 pub record Sample : Type 0 where
@@ -24,15 +25,6 @@ AreRising from to (s ∷ ss) = (from ≤ s.number) × AreRising (s.number + 1) t
 pub record AreBreaking (guide : GuideTree) (rules : List Rule) (from to : ℕ) (samples : List Sample) : Type 0 where
   pub each : All (IsBreaking guide rules) samples
   pub rising : AreRising from to samples
-
--- up to four digits
-abbrev pub zeros : ℕ → List ℕ
-zeros n =
-    if nat_lt n 10 then codes "000" else if nat_lt n 100 then codes "00" else if nat_lt n 1000 then codes "0" else []
-
--- a file's name: the rule's number, from 1
-abbrev pub file_name : (number : ℕ) → List ℕ
-file_name number = zeros (number + 1) ++ (decimal (number + 1) ++ codes ".x12")
 
 -- the answer to a sample, as the page shows it
 abbrev pub answer_of : Sample → Answer

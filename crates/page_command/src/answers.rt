@@ -2,11 +2,11 @@ ghost use Rattle.std.specs.Prelude.{◌≡◌, ◌+◌, ◌<◌, IfOk, OnOk};
 ghost use Rattle.guide_tree.specs.Words.{guide_of};
 ghost use Rattle.page_command.specs.Samples.{AddsAnswers, AreAnswers};
 
-use crate::name::file_name;
 use guide_page::Answer;
 use guide_samples::Rules;
 use guide_tree::Guide;
 use hub_kinds::{Items, NoMemory};
+use sample_folder::file_name;
 use std::alloc::Global;
 
 /// Adds the answer to the sample for the rule with a `number`, from 0, if one is known.

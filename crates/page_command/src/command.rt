@@ -1,16 +1,17 @@
-ghost use Rattle.std.specs.Prelude.{◌≡◌, ◌≢◌, false, map, IfOk, IfErr};
-ghost use Rattle.clap.specs.Words.{app_of, first_value, found_of, kind_of, rule_of};
-ghost use Rattle.page_command.specs.CommandLine.{IsAsked, IsCommandLine, IsGiven, IsShown, NamesNone};
-ghost use Rattle.page_command.specs.CommandLine.{guide_rule, names_rule, page_app, samples_rule};
-ghost use Rattle.page_command.specs.Failure.{IsUsage};
+ghost use Rattle.std.specs.Prelude.{◌≡◌, map, IfOk, IfErr};
+ghost use Rattle.clap.specs.Words.{app_of, first_value, found_of};
+ghost use Rattle.program_frame.specs.Mistake.{IsUsage};
+ghost use Rattle.page_command.specs.CommandLine.{IsAsked, IsCommandLine, IsGiven, NamesNone, page_app};
 
-use crate::mistake::Mistake;
-use clap::error::ErrorKind;
-use clap::{Arg, ArgAction, ArgMatches, Command, Error};
+use clap::{ArgMatches, Command};
 use hub_kinds::copy_text;
-use night_ends::{RELEASE, mistake_found, with_argument};
+use night_ends::with_argument;
+use program_frame::{Matched, Mistake, match_words, option_free, program, word};
 use std::alloc::{AllocError, Global};
 use std::convert::AsStr;
+
+/// The name of the program.
+pub const PROGRAM: &str = "nighthub_page";
 
 /// What the text of `--help` ends with.
 const STATUSES: &str = "Status:
@@ -50,59 +51,36 @@ pub fn read_words<'a, S: AsStr>(alloc: Global, words: &'a [S]) -> Result<Asked<'
     ensures usage { IfErr result (λ mistake. IsUsage mistake → IsCommandLine (map S.text words.now) → ⊥) }
 {
     let command = command(alloc)?;
-    match command.try_get_matches_from(words) {
-        Ok(matches) => guide_given(alloc, &matches),
-        Err(error) => shown(alloc, &error),
+    match match_words(alloc, command, words)? {
+        Matched::Values(values) => guide_given(alloc, &values),
+        Matched::Text(text) => Ok(Asked::Show(text)),
     }
 }
 
 fn command<'a>(alloc: Global) -> Result<Command<'a>, AllocError>
     ensures { IfOk result (λ command. app_of command ≡ page_app) }
 {
-    let command = Command::new(alloc, "nighthub_page")
-        .about("Prints a page for a browser on a guide")
-        .version(RELEASE)
-        .after_help(STATUSES)
-        .no_binary_name(true);
-    let command = with_argument(command, names(alloc))?;
-    let command = with_argument(command, samples(alloc))?;
-    with_argument(command, guide(alloc))
-}
-
-/// The names file.
-fn names<'a>(alloc: Global) -> Arg<'a>
-    ensures rule { rule_of result ≡ names_rule }
-    ensures local { result.global ≡ false }
-{
-    Arg::new(alloc, "names")
-        .long("names")
-        .value_name("FILE")
-        .help("Say the words of the names file FILE beside ids, numbers and codes")
-        .action(ArgAction::Set)
-}
-
-/// The folder for samples.
-fn samples<'a>(alloc: Global) -> Arg<'a>
-    ensures rule { rule_of result ≡ samples_rule }
-    ensures local { result.global ≡ false }
-{
-    Arg::new(alloc, "samples")
-        .long("samples")
-        .value_name("DIR")
-        .help("Make the folder DIR, and put samples there")
-        .action(ArgAction::Set)
-}
-
-/// The guide file, given by its place.
-fn guide<'a>(alloc: Global) -> Arg<'a>
-    ensures rule { rule_of result ≡ guide_rule }
-    ensures local { result.global ≡ false }
-{
-    Arg::new(alloc, "guide")
-        .value_name("GUIDE")
-        .help("The guide file")
-        .required(true)
-        .action(ArgAction::Set)
+    let command = program(
+        alloc,
+        PROGRAM,
+        "Prints a page for a browser on a guide",
+        STATUSES,
+    );
+    let names = option_free(
+        alloc,
+        "names",
+        "FILE",
+        "Say the words of the names file FILE beside ids, numbers and codes",
+    );
+    let command = with_argument(command, names)?;
+    let samples = option_free(
+        alloc,
+        "samples",
+        "DIR",
+        "Make the folder DIR, and put samples there",
+    );
+    let command = with_argument(command, samples)?;
+    with_argument(command, word(alloc, "guide", "GUIDE", "The guide file"))
 }
 
 fn guide_given<'a>(alloc: Global, matches: &ArgMatches<'a>) -> Result<Asked<'a>, Mistake>
@@ -117,19 +95,4 @@ fn guide_given<'a>(alloc: Global, matches: &ArgMatches<'a>) -> Result<Asked<'a>,
         names: matches.get_str("names"),
         samples: matches.get_str("samples"),
     }))
-}
-
-/// The text that is asked for, if the arguments have no mistake.
-fn shown<'a>(alloc: Global, error: &Error) -> Result<Asked<'a>, Mistake>
-    ensures shown { IfOk result (IsShown (kind_of error.now)) }
-    ensures usage { IfErr result (λ mistake. IsUsage mistake → kind_of error.now ≢ ErrorKind.OutOfMemory) }
-{
-    match error.kind() {
-        ErrorKind::DisplayHelp | ErrorKind::DisplayVersion => {
-            let text = format!(in alloc; "{error}")?;
-            Ok(Asked::Show(text))
-        }
-        ErrorKind::OutOfMemory => Err(Mistake::Memory),
-        _ => Err(Mistake::Usage(mistake_found(alloc, error)?)),
-    }
 }

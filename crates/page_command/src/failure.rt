@@ -5,16 +5,9 @@ ghost use Rattle.page_command.specs.Failure.{CantWrite, line_of, status_of};
 use file_names::append_shown;
 use hub_kinds::{Items, NoMemory, Text};
 use night_ends::print_text;
+use program_frame::Reported;
 use std::alloc::{AllocError, Global};
-use std::io;
 use std::io::Write;
-
-/// That a failure was reported: the status that the program ends with, and whether the line is printed.
-#[derive(Debug, Drop)]
-pub struct Reported {
-    pub status: u8,
-    pub printed: io::Result<()>,
-}
 
 /// Why a run failed.
 #[derive(Debug, Drop)]
@@ -27,8 +20,6 @@ pub enum Failure {
     Names(Text),
     /// A file or the folder for samples can't be written, as this line says.
     Output(Text),
-    /// Standard output failed.
-    Stdout,
     /// Memory was refused.
     Memory,
 }
@@ -65,7 +56,6 @@ impl Failure {
             Failure::Guide(line) => line.as_slice(),
             Failure::Names(line) => line.as_slice(),
             Failure::Output(line) => line.as_slice(),
-            Failure::Stdout => b"nighthub_page: output stdout\n",
             Failure::Memory => b"nighthub_page: memory\n",
         }
     }
@@ -79,7 +69,6 @@ impl Failure {
             Failure::Guide(_) => 3,
             Failure::Names(_) => 3,
             Failure::Output(_) => 5,
-            Failure::Stdout => 5,
             Failure::Memory => 6,
         }
     }

@@ -7,14 +7,12 @@ ghost use Rattle.page_command.specs.Folder.{AddsBroken, AddsSamples};
 
 use crate::failure::Failure;
 use crate::index::{append_row, titles};
-use crate::name::file_name;
 use guide_samples::{Rules, smallest};
 use guide_tree::Guide;
-use hub_kinds::{Lent, NoMemory, Text, copy_text};
+use hub_kinds::{NoMemory, Text, copy_text};
 use night_ends::Outbox;
+use sample_folder::{NotPut, file_name};
 use std::alloc::Global;
-use std::io;
-use std::io::ErrorKind;
 
 /// Puts samples of `guide` into `folder`: `complete`, which meets it, as `complete.x12`; a smaller one as `smallest.x12`; a file for each
 /// rule that a text is known to break alone; and `index.csv`, which lists what the 999 says of each of these.
@@ -100,20 +98,17 @@ fn put<B: Outbox>(alloc: Global, folder: &mut B, name: &[u8], bytes: &[u8]) -> R
     ensures file { OnOk result (AddsFiles (B.contents folder.old) (B.contents folder.new) ((name.now, bytes.now) ∷ [])) }
     ensures faults { OnOk result (B.faults folder.new ≡ B.faults folder.old) }
 {
-    let failure = Failure::of_output(alloc, name)?;
-    match folder.put(name, &[Lent::new(bytes)]) {
-        Ok(_) => Ok(()),
-        Err(error) => Err(put_failure(&error, failure)),
+    match sample_folder::put(alloc, folder, name, bytes) {
+        Ok(()) => Ok(()),
+        Err(failure) => Err(not_put(alloc, &failure)?),
     }
 }
 
-/// The failure of a put: out of memory is never one of the file.
-fn put_failure(error: &io::Error, failure: Failure) -> Failure
-    requires { CantWrite failure }
-    ensures { CantWrite result }
+fn not_put(alloc: Global, failure: &NotPut) -> Result<Failure, NoMemory>
+    ensures { IfOk result CantWrite }
 {
-    match error.kind() {
-        ErrorKind::OutOfMemory => Failure::Memory,
-        _ => failure,
+    match failure {
+        NotPut::File(name) => Failure::of_output(alloc, name.as_slice()),
+        NotPut::Memory => Ok(Failure::Memory),
     }
 }

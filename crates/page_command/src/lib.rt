@@ -27,13 +27,10 @@ mod command;
 mod failure;
 mod folder;
 mod index;
-mod mistake;
-mod name;
 mod page;
 mod run;
 
-pub use command::{Asked, Paths, read_words};
-pub use failure::{Failure, Reported};
+pub use command::{Asked, PROGRAM, Paths, read_words};
+pub use failure::Failure;
 pub use folder::put_samples;
-pub use mistake::Mistake;
 pub use run::page_main;

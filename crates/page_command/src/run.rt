@@ -1,5 +1,4 @@
-ghost use Rattle.std.specs.Prelude.{◌≡◌, ◌≢◌, ◌≤◌, ◌⊎◌, ◌++◌, [], None, Some, IfErr, IfOk, OnOk, map};
-ghost use Rattle.std.specs.Io.KnownBytes.{Appends};
+ghost use Rattle.std.specs.Prelude.{◌≡◌, ◌≢◌, ◌≤◌, ◌++◌, [], None, Some, IfErr, IfOk, OnOk, map};
 ghost use Rattle.guide_tree.specs.Words.{guide_of};
 ghost use Rattle.guide_samples.specs.Samples.{IsSample};
 ghost use Rattle.guide_names.specs.Names.{no_words};
@@ -10,7 +9,7 @@ ghost use Rattle.page_command.specs.Outcome.{IsBefore, IsJudged, IsNamedPage, Is
 ghost use Rattle.page_command.specs.Outcome.{IsRefusedFile, IsRun, IsUnmade, IsUnnamed, refused_line};
 ghost use Rattle.page_command.specs.declared.failure.Failure.TheVariants as kind;
 
-use crate::command::{Asked, Paths, read_words};
+use crate::command::{Asked, PROGRAM, Paths, read_words};
 use crate::failure::Failure;
 use crate::folder::put_samples;
 use crate::page::page_of;
@@ -23,6 +22,7 @@ use hub_kinds::{Items, NoMemory, Text};
 use names_file::{JudgedNames, warning_lines};
 use names_given::names_at;
 use night_ends::{Directory, print_text};
+use program_frame::print_out;
 use std::alloc::Global;
 use std::convert::AsStr;
 use std::io::Write;
@@ -52,8 +52,8 @@ where
 {
     match read_words(rt.alloc(), words) {
         Ok(Asked::Page(paths)) => print_page(rt, &paths, out, err),
-        Ok(Asked::Show(text)) => finish(text.as_bytes(), out, err),
-        Err(mistake) => mistake.report(err).status,
+        Ok(Asked::Show(text)) => print_out(PROGRAM, text.as_bytes(), 0, out, err),
+        Err(mistake) => mistake.report(PROGRAM, err).status,
     }
 }
 
@@ -74,7 +74,7 @@ where
     match page_at(rt, paths) {
         Ok(made) => {
             warn(made.warnings.as_slice(), err);
-            finish(made.text.as_slice(), out, err)
+            print_out(PROGRAM, made.text.as_slice(), 0, out, err)
         }
         Err(failure) => failure.report(err).status,
     }
@@ -243,16 +243,4 @@ fn refused_line(alloc: Global, path: &str, text: &[u8]) -> Result<Text, NoMemory
     append_shown(&mut line, text)?;
     append(&mut line, b"\n")?;
     Ok(Items::from_vec(line))
-}
-
-/// Prints a text on standard output, and nothing else. Gives 0, or the status of a failure of standard output.
-fn finish<O: Write, E: Write>(text: &[u8], out: &mut O, err: &mut E) -> u8
-    ensures status { (result ≡ 0) ⊎ (result ≡ 5) }
-    ensures printed { result ≢ 5 → Appends (O.contents out.old) (O.contents out.new) text.now }
-    ensures quiet { result ≢ 5 → err.new ≡ err.old }
-{
-    if print_text(text, out).is_err() {
-        return Failure::Stdout.report(err).status;
-    }
-    0
 }

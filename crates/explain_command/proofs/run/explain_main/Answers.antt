@@ -31,6 +31,6 @@ returns-in-Ok-Show-clause-printed g c words names stdout memory =
           text_asked (map g.S.AsStr.text c.args.words.now) c.in-Ok-Show.field-0 c.in-Ok-Show.text c.in-Ok-Show.field-0-is
           c.in-Ok-Show.ensures.asked;
       text = c.as_bytes.result.now;
-      printed = c.finish.ensures.printed stdout;
+      printed = c.print_out.ensures.printed stdout;
       own_status = search rules;
     })
