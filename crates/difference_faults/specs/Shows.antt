@@ -68,7 +68,7 @@ abbrev pub shows_target : Dependency → (slot : ℕ) → Fault → Bool
 shows_target r slot f =
     slot == f.slot
     && option_map_or (λ e. r.element == e.element && is_target_element r.kind e.code) f.elem
-        (r.element == 0 && is_target_code r.kind f.code)
+    (r.element == 0 && is_target_code r.kind f.code)
 
 -- the condition is broken at one of its positions, in the segment that has it
 abbrev pub shows_condition : Condition → (node : ℕ) → Fault → Bool
