@@ -1,5 +1,5 @@
 //! Headers inside interchanges that are refused. An interchange that lost its end, or whose bytes were damaged, may take what comes after
-//! it for its own: what the headers there begin isn't read, so nobody is told of it.
+//! it for its own: what the headers there begin isn't read, so no answer mentions it.
 //!
 //! Proved:
 //! - `inner_lines` gives for a text the lines of the definition: one for each interchange of its index that has one of the faults 1 to 7
