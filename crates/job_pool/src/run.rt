@@ -64,7 +64,7 @@ fn run_at<T: Task + Sync, H: Hall + Send + Sync, R: Threads + Wait + Clock + Syn
     } = worked;
     // what the whole seat got is known by its weight
     let _ = seat.weight();
-    let done = in_order::<T>(done, desk.count())?;
+    let done = in_order::<T>(done, desk.count());
     Ok(Ran { seat, owns, done })
 }
 

@@ -1,9 +1,9 @@
 -- The jobs of an index are at its places, and their sets stand in their spans.
-use Rattle.std.proofs.Common.{◌≡◌, ℕ, ◌+◌, List, [], ◌∷◌, ◌++◌, map, Option, Some, None, option_map, refl, sym, ap, ◌∙◌, subst}
-use Rattle.std.specs.Prelude.{is_none}
+use Rattle.std.proofs.Common.{◌≡◌, ℕ, ◌+◌, List, [], ◌∷◌, ◌++◌, map, Option, Some, None, option_map, refl, sym, ap, ◌∙◌, subst, arith}
+use Rattle.std.specs.Prelude.{Contains, is_none}
 use Rattle.std.specs.List.{All, AllByRecursion}
 use Rattle.std.proofs.lemmas.List.{map-append}
-use Rattle.std.proofs.lemmas.List.Elements.{All-from_recursion, recursion_from_All}
+use Rattle.std.proofs.lemmas.List.Elements.{All-from_recursion, Contains-append_right, recursion_from_All}
 use Rattle.hub_kinds.specs.declared.interchange.InterchangeFault.{InterchangeFault}
 use Rattle.hub_kinds.specs.declared.place.Place.{Place}
 use Rattle.x12_bytes.specs.Header.{header_delims}
@@ -16,11 +16,12 @@ use Rattle.partner_setup.specs.Setup.{SetupValue, sender_of}
 use Rattle.checked_text.specs.Answers.{SentValue}
 use Rattle.checked_text.specs.CheckedText.{sent_by}
 use Rattle.checked_text.specs.Settled.{fault_alone, fault_with_sender}
-use Rattle.worker_pool.specs.Jobs.{JobValue, SetAsked, job_value, set_asked}
+use Rattle.worker_pool.specs.Jobs.{DoneValue, JobValue, SetAsked, job_of, job_value, place_of, set_asked}
 use Rattle.worker_pool.specs.Spans.{AreSpans, IsJobSpan, IsSpanOf}
 use Rattle.worker_pool.specs.declared.job.CheckJob.{CheckJob}
 use Rattle.worker_pool.specs.declared.job.SetJob.{SetJob}
 use Rattle.night_findings.specs.Alone.{entries_alone}
+use Rattle.night_findings.specs.Findings.{done_place}
 use Rattle.night_findings.specs.Jobs.{entry_jobs, entry_jobs_by, group_jobs, job_place, jobs_behind, jobs_of, set_jobs}
 
 set_places : (sent : SentValue) (isa gs st : ℕ) (header : SegValue) (sets : List SetEnvelope)
@@ -51,7 +52,7 @@ entry_places text setup n e None None = refl
 entry_places text setup n e None (Some sender) =
     ap (λ (l : List Place). place_at n 0 0 ∷ l) (group_places (sent_by text setup sender e) n 1 e.interchange.content.groups)
 
-alone_places : (text : List ℕ) (setup : SetupValue) (n : ℕ) (es : List IndexEntry)
+pub alone_places : (text : List ℕ) (setup : SetupValue) (n : ℕ) (es : List IndexEntry)
     → map job_place (jobs_behind text setup n (entries_alone setup es)) ≡ map place_in (places_behind n (entries_alone setup es))
 alone_places text setup n [] = refl
 alone_places text setup n (e ∷ es) =
@@ -69,6 +70,21 @@ alone_places text setup n (e ∷ es) =
 places_map : (jobs : List CheckJob) → map (λ (j : CheckJob). j.place) jobs ≡ map job_place (map job_value jobs)
 places_map [] = refl
 places_map (j ∷ jobs) = ap (λ (l : List Place). j.place ∷ l) (places_map jobs)
+
+pub done_map : (ds : List DoneValue) → map done_place ds ≡ map job_place (map job_of ds)
+done_map [] = refl
+done_map (d ∷ ds) = ap (λ (l : List Place). d.place ∷ l) (done_map ds)
+
+pub done_places : (jobs : List CheckJob) (ds : List DoneValue) → map job_of ds ≡ map job_value jobs
+    → map done_place ds ≡ map place_of jobs
+done_places jobs ds is = done_map ds ∙ ap (map job_place) is ∙ sym (places_map jobs)
+
+pub inside : (before after all : List DoneValue) (d : DoneValue) (places : List Place) → all ≡ before ++ d ∷ after
+    → map done_place all ≡ places → Contains places d.place
+inside before after all d places is at =
+    subst (λ (l : List Place). Contains l d.place)
+    (sym (map-append done_place before (d ∷ after)) ∙ sym (ap (map done_place) is) ∙ at)
+    (Contains-append_right (map done_place before) (d.place ∷ map done_place after) d.place (0, omega arith, refl))
 
 pub places_are : (setup : SetupValue) (index : IndexValue) (jobs : List CheckJob)
     → map job_value jobs ≡ jobs_of index.text setup index.entries

@@ -2,9 +2,10 @@
 use Rattle.std.proofs.Common.{◌≡◌, ◌⊎◌, inl, inr, ℕ, zero, suc, ◌+◌, ◌≤◌, List, [], ◌∷◌, ◌++◌, Bool, true, false, Option, Some, None}
 use Rattle.std.proofs.Common.{map, option_map, refl, sym, ap, ◌∙◌, subst, arith}
 use Rattle.std.specs.Prelude.{◌↔◌, is_none}
-use Rattle.std.specs.List.{All, AllByRecursion, AllZip, zip}
+use Rattle.std.specs.List.{All, AllByRecursion, AllZip}
 use Rattle.std.proofs.lemmas.List.Elements.{recursion_from_All}
 use Rattle.hub_kinds.specs.declared.interchange.InterchangeFault.{InterchangeFault}
+use Rattle.hub_kinds.specs.declared.place.Place.{Place}
 use Rattle.x12_segs.specs.Words.{SegValue}
 use Rattle.env_index.specs.Words.{GroupEntry, IndexEntry, IndexValue, IsEntryOf, IsIndex, Numbered, place_in, places_behind}
 use Rattle.env_index.specs.Words.{with_fault, with_faults}
@@ -18,10 +19,11 @@ use Rattle.checked_text.specs.Settled.{fault_alone, fault_with_sender}
 use Rattle.set_check.specs.Checked.{Checked}
 use Rattle.worker_pool.specs.Jobs.{DoneValue, JobValue, SetAsked as SetWork, asked_by, job_of}
 use Rattle.night_findings.specs.Alone.{AreSettledBy, entries_alone, index_alone}
-use Rattle.night_findings.specs.Findings.{AreFound, AreWorkedOut, finding_of, findings_of}
+use Rattle.night_findings.specs.Findings.{AreFound, AreWorkedOut, IsFindingOf, done_place}
 use Rattle.night_findings.specs.Flags.{IsToldBy}
-use Rattle.night_findings.specs.Jobs.{entry_jobs_by, group_jobs, jobs_behind, set_jobs}
+use Rattle.night_findings.specs.Jobs.{entry_jobs_by, group_jobs, job_place, jobs_behind, set_jobs}
 use Rattle.night_findings.proofs.Asking.{IsAskedBy, all_asked, differs, has_is}
+use Rattle.night_findings.proofs.Placing.{alone_places, done_map}
 use Rattle.night_findings.proofs.Zipped.{zip_append}
 
 abbrev pub IsSameSet : Option SetWork → Option SetAsked → Type 0
@@ -99,35 +101,34 @@ module _ (index : IndexValue) (faults : List (Option InterchangeFault)) where
     | inr some ↦ one_meaning asked.earlier flag _ (ask.within some) (told.within some)
   ]
 
-  found_all : (ns : List Numbered) (asked : List Asked) (ds : List DoneValue) (flags : List Bool)
+  found_all : (ns : List Numbered) (asked : List Asked) (ds : List DoneValue) (fs : List Finding)
       → AllZip (IsAskedBy places faults) ns asked → AllZip IsSame (map job_of ds) asked
-      → AllZip (IsToldBy index faults) (map place_in ns) flags → AllZip IsFound asked (findings_of ds flags)
-  found_all [] [] [] flags ask same told = tt
-  found_all [] [] (d ∷ ds) flags ask same told = absurd same
-  found_all [] (a ∷ asked) ds flags ask same told = absurd ask
-  found_all (n ∷ ns) [] ds flags ask same told = absurd ask
-  found_all (n ∷ ns) (a ∷ asked) [] flags ask same told = absurd same
-  found_all (n ∷ ns) (a ∷ asked) (d ∷ ds) [] ask same told = absurd told
-  found_all (n ∷ ns) (a ∷ asked) (d ∷ ds) (flag ∷ flags) ask same told = (
-    record { earlier = flag_is n a flag ask.0 told.0; set = set_found d.checked a.set same.0 },
-    found_all ns asked ds flags ask.1 same.1 told.1,
-  )
+      → map done_place ds ≡ map place_in ns → AllZip (IsFindingOf index faults) ds fs → AllZip IsFound asked fs
+  found_all [] [] [] [] ask same at found = tt
+  found_all [] [] [] (f ∷ fs) ask same at found = absurd found
+  found_all [] [] (d ∷ ds) fs ask same at found = absurd same
+  found_all [] (a ∷ asked) ds fs ask same at found = absurd ask
+  found_all (n ∷ ns) [] ds fs ask same at found = absurd ask
+  found_all (n ∷ ns) (a ∷ asked) [] fs ask same at found = absurd same
+  found_all (n ∷ ns) (a ∷ asked) (d ∷ ds) [] ask same at found = absurd found
+  found_all (n ∷ ns) (a ∷ asked) (d ∷ ds) (f ∷ fs) ask same at found =
+      let here : d.place ≡ n.place = cc in
+      let rest : map done_place ds ≡ map place_in ns = cc in
+      let told : IsToldBy index faults n.place f.earlier = subst (λ (p : Place). IsToldBy index faults p f.earlier) here found.0.earlier in
+      let check : IsCheckedAs a.set f.checked
+      = subst (λ (c : Option Checked). IsCheckedAs a.set c) (sym found.0.checked) (set_found d.checked a.set same.0) in
+      (record { earlier = flag_is n a f.earlier ask.0 told; set = check }, found_all ns asked ds fs ask.1 same.1 rest found.1)
 
 pub all_found : (text : List ℕ) (setup : SetupValue) (index : IndexValue) (faults : List (Option InterchangeFault))
-    (results : List DoneValue) (flags : List Bool) → IsIndex text index → AreWorkedOut setup index faults results flags
-    → AreFound setup index faults (findings_of results flags)
-all_found text setup index faults results flags is out =
+    (results : List DoneValue) (findings : List Finding) → IsIndex text index → AreWorkedOut setup index faults results findings
+    → AreFound setup index faults findings
+all_found text setup index faults results findings is out =
     let es : List IndexEntry = index.entries in
     let all = subst (λ (t : List ℕ). All (IsEntryOf t) es) (sym is.same) is.entries in
     let asked : List Asked = asked_of index.text setup (with_faults es faults) in
-    found_all (index_alone setup index) faults (places_behind 1 (entries_alone setup es)) asked results flags
+    found_all (index_alone setup index) faults (places_behind 1 (entries_alone setup es)) asked results findings
     (all_asked index.text setup es faults all out.settled)
     (subst (λ (l : List JobValue). AllZip IsSame l asked) (sym out.done)
     (entries_same index.text setup 1 es faults (recursion_from_All (IsEntryOf index.text) es all) out.settled))
-    out.told
-
-pub paired : (ds : List DoneValue) (flags : List Bool)
-    → map (λ (p : DoneValue × Bool). finding_of p.0 p.1) (zip ds flags) ≡ findings_of ds flags
-paired [] flags = refl
-paired (d ∷ ds) [] = refl
-paired (d ∷ ds) (flag ∷ flags) = ap (λ (l : List Finding). finding_of d flag ∷ l) (paired ds flags)
+    (done_map results ∙ ap (map job_place) out.done ∙ alone_places index.text setup 1 es)
+    out.found

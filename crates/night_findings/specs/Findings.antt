@@ -1,33 +1,31 @@
 -- X12.5, interchange; X12.6, functional group and transaction set: what was found out at the places of a text's index (own).
-use Rattle.std.specs.Prelude.{◌≡◌, Bool, List, [], ◌∷◌, map, Option}
+use Rattle.std.specs.Prelude.{◌≡◌, List, map, Option}
 use Rattle.std.specs.List.{AllZip}
 use Rattle.hub_kinds.specs.declared.interchange.InterchangeFault.{InterchangeFault}
-use Rattle.env_index.specs.Words.{IndexValue, places_of, with_faults}
+use Rattle.hub_kinds.specs.declared.place.Place.{Place}
+use Rattle.env_index.specs.Words.{IndexValue, with_faults}
 use Rattle.partner_setup.specs.Setup.{SetupValue}
 use Rattle.checked_text.specs.Asked.{IsFound, asked_of}
 use Rattle.checked_text.specs.declared.finding.Finding.{Finding}
 use Rattle.worker_pool.specs.Jobs.{DoneValue, job_of}
 use Rattle.night_findings.specs.Alone.{AreSettledBy, entries_alone, index_alone}
-use Rattle.night_findings.specs.Flags.{AreToldBy}
+use Rattle.night_findings.specs.Flags.{IsToldBy}
 use Rattle.night_findings.specs.Jobs.{jobs_of}
 
--- what was done at a place, and whether an earlier one has its number
-abbrev pub finding_of : DoneValue → Bool → Finding
-finding_of d earlier = record { checked = d.checked; earlier = earlier }
+abbrev pub done_place : DoneValue → Place
+done_place d = d.place
 
--- place by place, as far as both are there
-abbrev pub findings_of : List DoneValue → List Bool → List Finding
-findings_of [] flags = []
-findings_of (d ∷ ds) [] = []
-findings_of (d ∷ ds) (flag ∷ flags) = finding_of d flag ∷ findings_of ds flags
+-- what was found out at a place where this was done: of a set its check, and whether an earlier place has the place's number
+pub record IsFindingOf (index : IndexValue) (faults : List (Option InterchangeFault)) (d : DoneValue) (f : Finding) : Type 0 where
+  pub checked : f.checked ≡ d.checked
+  pub earlier : IsToldBy index faults d.place f.earlier
 
--- with these faults 1 to 9 of its interchanges, each place of an index was done, and of each it was said whether an earlier one has its
--- number
+-- with these faults 1 to 9 of its interchanges, each place of an index was done, and this was found out at each
 pub record AreWorkedOut (setup : SetupValue) (index : IndexValue) (faults : List (Option InterchangeFault)) (results : List DoneValue)
-    (flags : List Bool) : Type 0 where
+    (findings : List Finding) : Type 0 where
   pub settled : AreSettledBy setup index.entries faults
   pub done : map job_of results ≡ jobs_of index.text setup (entries_alone setup index.entries)
-  pub told : AreToldBy (index_alone setup index) faults (places_of (index_alone setup index)) flags
+  pub found : AllZip (IsFindingOf (index_alone setup index) faults) results findings
 
 -- all is found out that is asked before the text is answered, where its interchanges have these faults
 abbrev pub AreFound : SetupValue → IndexValue → List (Option InterchangeFault) → List Finding → Type 0

@@ -1,6 +1,5 @@
 -- X12.5, interchange control number, and X12.6, group and set control numbers: whether an earlier place has a place's number (own).
 use Rattle.std.specs.Prelude.{◌≡◌, ◌↔◌, ◌≤◌, ◌-◌, ℕ, Bool, true, false, List, Option, Some, None, is_some, slice_get}
-use Rattle.std.specs.List.{AllZip}
 use Rattle.hub_kinds.specs.declared.interchange.InterchangeFault.{InterchangeFault}
 use Rattle.hub_kinds.specs.declared.place.Place.{Place}
 use Rattle.env_index.specs.Words.{IndexValue, IsFirstUse}
@@ -22,7 +21,3 @@ has_fault faults isa = has_some (slice_get faults (isa - 1))
 pub record IsToldBy (index : IndexValue) (faults : List (Option InterchangeFault)) (place : Place) (earlier : Bool) : Type 0 where
   pub interchange : place.gs ≡ 0 → earlier ≡ has_fault faults place.isa
   pub within : 1 ≤ place.gs → IsTold index place earlier
-
--- of each place
-abbrev pub AreToldBy : IndexValue → List (Option InterchangeFault) → List Place → List Bool → Type 0
-AreToldBy index faults places flags = AllZip (IsToldBy index faults) places flags

@@ -1,32 +1,44 @@
-ghost use Rattle.std.specs.Prelude.{◌≡◌, List, ℕ, Option, IfOk};
-ghost use Rattle.hub_kinds.specs.declared.interchange.InterchangeFault.{InterchangeFault as Fault};
-ghost use Rattle.env_index.specs.Words.{IndexValue, IsIndex};
-ghost use Rattle.partner_setup.specs.Setup.{SetupValue};
-ghost use Rattle.night_findings.specs.Findings.{AreFound, AreWorkedOut, findings_of};
+ghost use Rattle.std.specs.Prelude.{◌≡◌, Contains, map, IfOk};
+ghost use Rattle.std.specs.List.{AllZip};
+ghost use Rattle.env_index.specs.Words.{places_of};
+ghost use Rattle.night_findings.specs.Findings.{IsFindingOf, done_place};
 
+use crate::flags::flag_of;
 use checked_text::Finding;
-use hub_kinds::NoMemory;
+use hub_kinds::{InterchangeFault, NoMemory};
+use number_register::FullRegister;
 use std::alloc::Global;
 use worker_pool::CheckDone;
 
-/// What was found out at places: of each what was done there, of a set its check, and whether an earlier place has its number. Where that
-/// was worked out for all places of a text's index, it is all that is asked before the text is answered. The only error is out
-/// of memory.
+/// What was found out at a place: of a set its check, and whether an earlier place has the place's number.
+fn finding_of<'a>(
+    full: &FullRegister<'_, '_>,
+    faults: &[Option<InterchangeFault>],
+    done: CheckDone<'a>,
+) -> Finding<'a>
+    requires { Contains (places_of full.now.index) done.place }
+    ensures { IsFindingOf full.now.index faults.now done.entry result }
+{
+    let earlier = flag_of(full, faults, done.place());
+    Finding {
+        checked: done.into_checked(),
+        earlier,
+    }
+}
+
+/// What was found out at the places of the register's index, in their order. The only error is out of memory.
 pub(crate) fn findings_of<'a>(
     alloc: Global,
+    full: &FullRegister<'_, '_>,
+    faults: &[Option<InterchangeFault>],
     done: Vec<CheckDone<'a>>,
-    flags: Vec<bool>,
 ) -> Result<Vec<Finding<'a>>, NoMemory>
-    ensures findings { IfOk result (λ v. v.items ≡ findings_of done.entry.items flags.items) }
-    ensures found { IfOk result (λ v. (text : List ℕ) (setup : SetupValue) (index : IndexValue) (faults : List (Option Fault))
-        → IsIndex text index → AreWorkedOut setup index faults done.entry.items flags.items → AreFound setup index faults v.items) }
+    requires { map done_place done.items ≡ places_of full.now.index }
+    ensures { IfOk result (λ v. AllZip (IsFindingOf full.now.index faults.now) done.entry.items v.items) }
 {
-    let mut findings = Vec::with_capacity(alloc, flags.len())?;
-    for (done, earlier) in done.into_iter().zip(flags) {
-        findings.push(Finding {
-            checked: done.into_checked(),
-            earlier,
-        })?;
+    let mut findings = Vec::with_capacity(alloc, done.len())?;
+    for one in done {
+        findings.push(finding_of(full, faults, one))?;
     }
     Ok(findings)
 }

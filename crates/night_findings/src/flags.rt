@@ -1,11 +1,9 @@
-ghost use Rattle.std.specs.Prelude.{◌≡◌, Contains, IfOk};
-ghost use Rattle.std.specs.List.{All};
+ghost use Rattle.std.specs.Prelude.{◌≡◌, Contains};
 ghost use Rattle.env_index.specs.Words.{places_of};
-ghost use Rattle.night_findings.specs.Flags.{AreToldBy, IsTold, IsToldBy, has_fault};
+ghost use Rattle.night_findings.specs.Flags.{IsTold, IsToldBy, has_fault};
 
-use hub_kinds::{InterchangeFault, NoMemory, Place};
+use hub_kinds::{InterchangeFault, Place};
 use number_register::FullRegister;
-use std::alloc::Global;
 
 /// Whether an interchange has a fault, counted from 1.
 fn has_fault(faults: &[Option<InterchangeFault>], isa: u32) -> bool
@@ -25,7 +23,14 @@ fn is_told(full: &FullRegister<'_, '_>, place: Place) -> bool
     full.earlier_of(place).is_some()
 }
 
-fn flag_of(full: &FullRegister<'_, '_>, faults: &[Option<InterchangeFault>], place: Place) -> bool
+/// Whether an earlier place of the register's index has the number of `place`: of a group or a set exactly where the first use of its
+/// number is an earlier place (X12.6, group and set control numbers), of an interchange where it has a fault of 1 to 9, which can only be
+/// 9, since one with another has no place (X12.5, interchange control number).
+pub(crate) fn flag_of(
+    full: &FullRegister<'_, '_>,
+    faults: &[Option<InterchangeFault>],
+    place: Place,
+) -> bool
     requires { Contains (places_of full.now.index) place }
     ensures { IsToldBy full.now.index faults.now place result }
 {
@@ -34,23 +39,4 @@ fn flag_of(full: &FullRegister<'_, '_>, faults: &[Option<InterchangeFault>], pla
     } else {
         is_told(full, place)
     }
-}
-
-/// Says of each of some places of the register's index whether an earlier place has its number: of a group or a set exactly where the
-/// first use of its number is an earlier place (X12.6, group and set control numbers), of an interchange where it has a fault of 1 to 9,
-/// which can only be 9, since one with another has no place (X12.5, interchange control number). The only error is out of memory.
-pub(crate) fn flags_of(
-    alloc: Global,
-    full: &FullRegister<'_, '_>,
-    faults: &[Option<InterchangeFault>],
-    places: &[Place],
-) -> Result<Vec<bool>, NoMemory>
-    requires { All (λ place. Contains (places_of full.now.index) place) places.now }
-    ensures { IfOk result (λ v. AreToldBy full.now.index faults.now places.now v.items) }
-{
-    let mut flags = Vec::with_capacity(alloc, places.len())?;
-    for i in 0..places.len() {
-        flags.push(flag_of(full, faults, places[i]))?;
-    }
-    Ok(flags)
 }

@@ -1,47 +1,24 @@
-ghost use Rattle.std.specs.Prelude.{◌≡◌, ◌≤◌, ℕ, List, length, map, IfOk};
+ghost use Rattle.std.specs.Prelude.{◌≡◌, ◌≤◌, ℕ, List, length, IfOk};
 ghost use Rattle.hub_kinds.specs.declared.limits.TheConstants.{LONGEST_TEXT};
 ghost use Rattle.env_index.specs.Words.{IndexValue, IsIndex};
 ghost use Rattle.partner_setup.specs.Setup.{SetupValue};
-ghost use Rattle.night_findings.specs.Alone.{AreSettledBy, entries_alone, index_alone};
+ghost use Rattle.night_findings.specs.Alone.{AreSettledBy, index_alone};
 ghost use Rattle.night_findings.specs.Findings.{AreFound};
-ghost use Rattle.night_findings.specs.Jobs.{jobs_of};
-ghost use Rattle.worker_pool.specs.Jobs.{job_of};
 
 use crate::checking::{Done, checks_by};
 use crate::findings::findings_of;
-use crate::flags::flags_of;
 use crate::guides::FastGuides;
 use crate::jobs::check_jobs;
 use checked_text::Finding;
 use env_index::Index;
-use hub_kinds::{InterchangeFault, NoMemory};
+use hub_kinds::InterchangeFault;
 use job_pool::PoolFault;
-use number_register::FullRegister;
 use partner_setup::Setup;
 use std::alloc::Global;
 use std::sync::Wait;
 use std::thread::Threads;
 use std::time::Clock;
-use worker_pool::{CheckDone, Gate};
-
-/// Puts together what was done at the places of an index and what its register says of their numbers.
-fn put_together<'a>(
-    alloc: Global,
-    index: &Index<'_>,
-    faults: &[Option<InterchangeFault>],
-    done: Vec<CheckDone<'a>>,
-    full: &FullRegister<'_, '_>,
-) -> Result<Vec<Finding<'a>>, NoMemory>
-    requires { full.now.index ≡ index.now }
-    ensures { IfOk result (λ v. (text : List ℕ) (setup : SetupValue) (plain : IndexValue) → IsIndex text plain
-        → index.now ≡ index_alone setup plain → AreSettledBy setup plain.entries faults.now
-        → map job_of done.entry.items ≡ jobs_of plain.text setup (entries_alone setup plain.entries)
-        → AreFound setup plain faults.now v.items) }
-{
-    let places = index.places(alloc)?;
-    let flags = flags_of(alloc, full, faults, places.as_slice())?;
-    findings_of(alloc, done, flags)
-}
+use worker_pool::Gate;
 
 /// All that is asked of the places of an index, which is settled with the faults 1 to 8, where it has these faults of 1 to 9.
 pub(crate) fn worked_out<'g: 'a, 'a, G: Gate + Sync, R: Threads + Wait + Clock + Sync>(
@@ -66,7 +43,7 @@ pub(crate) fn worked_out<'g: 'a, 'a, G: Gate + Sync, R: Threads + Wait + Clock +
         return Err(PoolFault::NoMemory);
     };
     let Done { done, full, .. } = checks_by(rt, alloc, index, jobs.as_slice(), workers, gate)?;
-    match put_together(alloc, index, faults, done, &full) {
+    match findings_of(alloc, &full, faults, done) {
         Ok(findings) => Ok(findings),
         Err(_) => Err(PoolFault::NoMemory),
     }

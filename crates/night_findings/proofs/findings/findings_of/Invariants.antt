@@ -1,7 +1,10 @@
-use Rattle.std.proofs.Common.{◌≡◌, map, Bool}
-use Rattle.worker_pool.specs.Jobs.{DoneValue}
-use Rattle.night_findings.specs.Findings.{finding_of}
+use Rattle.std.proofs.Common.{◌≡◌, ◌++◌}
+use Rattle.std.specs.List.{AllZip}
+use Rattle.night_findings.specs.Findings.{IsFindingOf}
 use Rattle.night_findings.proofs.findings.findings_of.Given as goal
 
-abbrev pub invariant-loop-done : goal.invariant-loop-done
-invariant-loop-done l = l.findings.items ≡ map (λ (p : DoneValue × Bool). finding_of p.0 p.1) l.yielded
+abbrev pub invariant-loop-one : goal.invariant-loop-one
+invariant-loop-one l = record {
+  rest : l.fn.done.items ≡ l.yielded ++ l.one-iterator.rest.items;
+  so_far : AllZip (IsFindingOf l.full.index l.faults) l.yielded l.findings.items;
+}

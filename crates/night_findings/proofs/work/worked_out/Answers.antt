@@ -1,10 +1,15 @@
-use Rattle.std.proofs.Common.{◌≡◌, List, ap, map, sym, subst}
-use Rattle.std.specs.List.{All}
+use Rattle.std.proofs.Common.{◌≡◌, List, ap, map, sym, subst, ◌∙◌}
+use Rattle.std.specs.List.{All, AllZip}
 use Rattle.env_index.specs.Words.{IndexValue, places_of}
-use Rattle.worker_pool.specs.Jobs.{place_of}
+use Rattle.worker_pool.specs.Jobs.{job_of, job_value, place_of}
 use Rattle.worker_pool.specs.Spans.{AreSpans}
 use Rattle.worker_pool.specs.declared.job.CheckJob.{CheckJob}
 use Rattle.night_findings.proofs.FewSets.{HasFewSets, HasItsSpans, few_sets, spans_alone}
+use Rattle.night_findings.proofs.Placing.{done_places}
+use Rattle.night_findings.proofs.Same.{all_found}
+use Rattle.night_findings.specs.Alone.{entries_alone, index_alone}
+use Rattle.night_findings.specs.Findings.{IsFindingOf}
+use Rattle.night_findings.specs.Jobs.{jobs_of}
 use Rattle.night_findings.proofs.work.worked_out.Goals as goal
 
 pub check_jobs-requires-clause-sets : goal.check_jobs-requires-clause-sets
@@ -24,3 +29,26 @@ checks_by-requires-clause-places g c κs within =
     let s = c.requires.settled in
     subst (λ (jobs : List CheckJob). map place_of jobs ≡ places_of c.args.index.now) (sym c.as_slice.ensures.value)
     (c.in-Ok.ensures.places s.1.entries (ap (λ (i : IndexValue). i.entries) s.4))
+
+pub findings_of-requires : goal.findings_of-requires
+findings_of-requires g c =
+    let s = c.requires.settled in
+    let done = c.in_ok-done.field-0 in
+    done_places c.in-Ok.jobs.items done.done.items
+    (c.in_ok-done.ensures.done ∙ ap (λ (l : List CheckJob). map job_value l) c.as_slice.ensures.value)
+    ∙ c.in-Ok.ensures.places s.1.entries (ap (λ (i : IndexValue). i.entries) s.4)
+    ∙ ap places_of (sym c.in_ok-done.ensures.full)
+
+pub returns-in-Ok-findings_of : goal.returns-in-Ok-findings_of
+returns-in-Ok-findings_of g c text plain is settled by =
+    let setup = c.args.setup.now in
+    let faults = c.args.faults.now in
+    let done = c.in_ok-done.field-0.done.items in
+    let findings = c.in-Ok-findings_of.findings.items in
+    let asked : map job_of done ≡ jobs_of plain.text setup (entries_alone setup plain.entries)
+    = c.in_ok-done.ensures.done ∙ ap (λ (l : List CheckJob). map job_value l) c.as_slice.ensures.value
+    ∙ c.in-Ok.ensures.jobs ∙ ap (λ (i : IndexValue). jobs_of i.text setup i.entries) settled in
+    let found : AllZip (IsFindingOf (index_alone setup plain) faults) done findings
+    = subst (λ (i : IndexValue). AllZip (IsFindingOf i faults) done findings) (c.in_ok-done.ensures.full ∙ settled)
+    c.in-Ok-findings_of.ensures in
+    all_found text setup plain faults done findings is (record { settled = by; done = asked; found = found })
