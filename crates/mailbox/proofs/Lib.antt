@@ -1,9 +1,11 @@
 pub mod Accounting
 pub mod BoxTexts
 pub mod Clear
+pub mod Crossing
 pub mod ForAbove
 pub mod GroupTexts
 pub mod Groups
+pub mod Halved
 pub mod Growing
 pub mod Keeping
 pub mod Parted

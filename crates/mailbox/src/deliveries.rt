@@ -41,6 +41,15 @@ impl<'j, 'i, 'a> Delivered<'j, 'i, 'a> {
         Ok(())
     }
 
+    /// Adds sets after the others.
+    pub(crate) fn append(&mut self, more: Delivered<'j, 'i, 'a>) -> Result<(), NoMemory>
+        ensures { OnOk result (self.new ≡ self.old ++ more.entry) }
+    {
+        let Delivered { mut sets } = more;
+        self.sets.append(&mut sets)?;
+        Ok(())
+    }
+
     /// The sets.
     pub fn sets(&self) -> &[PlacedSet<'j, 'i, 'a>]
         ensures { result.now ≡ self.now }

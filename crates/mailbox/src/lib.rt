@@ -7,7 +7,8 @@
 //! - `is_deliverable` and `outcome_at` are their definitions: which verdicts, groups and interchanges a set may be delivered from,
 //!   and whether a byte that is kept of it is in the way;
 //! - `deliver` gives each partner exactly the sets that are delivered to it by the definition, front to back, in one pass over the
-//!   sets: those of its routes that may be delivered and aren't held;
+//!   sets: those of its routes that may be delivered and aren't held; by many threads (`Writers::deliver_all`) these are the same, whoever
+//!   looked at which interchanges;
 //! - `render_set` appends a set with ST02 and SE written anew and each delimiter changed to the receiver's; where memory is refused it
 //!   leaves what was there, and a part after it;
 //! - `render_deliveries` writes for each partner the sets that are delivered to it after those that were written before, numbered on
@@ -36,6 +37,7 @@ mod eligible;
 mod gapless;
 mod group_text;
 mod grouping;
+mod halving;
 mod inner;
 mod kept;
 mod laws;

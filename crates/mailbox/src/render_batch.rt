@@ -4,7 +4,6 @@ ghost use Rattle.mailbox.specs.Rendered.{HaveRendered, RenderedValue, rendered_f
 ghost use Rattle.mailbox.specs.Rendering.{AreWritten};
 
 use crate::deliveries::Delivered;
-use crate::delivering::deliver;
 use crate::rendered_sets::RenderedSets;
 use crate::writers::Writers;
 use hub_kinds::NoMemory;
@@ -75,6 +74,6 @@ pub fn render_deliveries<W: Writers>(
     requires boxes { length boxes.old ≡ length setup.now.partners }
     ensures { OnOk result (HaveRendered setup.now interchanges.now boxes.old boxes.new) }
 {
-    let lists = deliver(alloc, setup, interchanges)?;
+    let lists = writers.deliver_all(alloc, setup, interchanges)?;
     render_each(alloc, writers, setup, lists.as_slice(), boxes)
 }

@@ -14,6 +14,7 @@ use crate::crew::Crew;
 use crate::stopped::Stopped;
 use batch_cut::{Advanced, Scout, advance, forget};
 use hub_kinds::NoMemory;
+use job_pool::ManyThreads;
 use moment::At;
 use night_findings::FastGuides;
 use night_writing::Night;
@@ -138,7 +139,11 @@ fn finish<G: Gate + Sync, R: Threads + Wait + Clock + Sync>(
     let all = add_batch(crew, alloc, setup, guides, at, base, carried, held.bytes())?;
     drop(held);
     let Carried { writing, .. } = all;
-    let night = writing.close(alloc, setup, at)?;
+    let writers = ManyThreads {
+        rt: crew.rt,
+        workers: crew.workers,
+    };
+    let night = writing.close_by(alloc, &writers, setup, at)?;
     Ok(night)
 }
 

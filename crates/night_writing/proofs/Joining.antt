@@ -1,8 +1,8 @@
 -- What was written at each partner's place, closed, makes the night.
-use Rattle.std.proofs.Common.{◌≡◌, ◌<◌, ℕ, suc, ◌+◌, List, [], ◌∷◌, ◌++◌, Some, get_or, length, map, refl, sym, ap, subst, ◌∙◌}
-use Rattle.std.specs.Prelude.{option_map, slice_get, slice_index_or}
+use Rattle.std.proofs.Common.{◌≡◌, ℕ, suc, ◌+◌, List, [], ◌∷◌, ◌++◌, Some, length, map, refl, sym, ap, subst, ◌∙◌}
+use Rattle.std.specs.Prelude.{option_map, slice_get}
 use Rattle.std.proofs.lemmas.List.{length-map}
-use Rattle.std.proofs.lemmas.Option.{get_or_from_slice_get, slice_get-map, slice_get_read}
+use Rattle.std.proofs.lemmas.Option.{get_or_from_slice_get, slice_get-map}
 use Rattle.partner_setup.specs.declared.partner.Partner.{Partner}
 use Rattle.partner_setup.specs.Setup.{SetupValue}
 use Rattle.mailbox.specs.Deliveries.{delivered_to}
@@ -13,8 +13,6 @@ use Rattle.night_report.specs.Lines.{total_line}
 use Rattle.night_report.specs.Report.{all_lines}
 use Rattle.night_report.specs.declared.totals.Totals.{Totals}
 use Rattle.checked_text.specs.CheckedText.{CheckedInterchange, AreAcknowledgments, SentValues, acknowledgments_to, nothing_sent}
-use Rattle.checked_text.specs.Pairs.{ArePairs}
-use Rattle.checked_text.proofs.ForAbove.{pairs_more}
 use Rattle.night_writing.specs.declared.night.Night.{Night}
 use Rattle.night_writing.specs.ByPlace.{box_behind, box_by, next_behind, next_by, sent_at, sets_at}
 use Rattle.night_writing.specs.Night.{AreForPartners, IsNightOf, acks_of, box_of, counters_by, judgements, next_of}
@@ -90,16 +88,3 @@ module _ (text : List ℕ) (setup : SetupValue) (at : List ℕ) (known : List Ch
         ∙ ap (λ (t : Totals). all_lines setup 0 1 (judgements text known) ++ total_line t w.outside) written.told.totals;
     next = for_partners setup (next_by w.files w.boxes) (next_of text setup known) night.next next_is by.next;
   }
-
--- one partner more
-pub one_more : {A : Type 0} (setup : SetupValue) (f : ℕ → Partner → A) (xs : List A) (x : A) (i : ℕ) (p : Partner)
-    → ArePairs (λ (n : ℕ) (q : Partner) (y : A). y ≡ f n q) setup.partners xs → length xs ≡ i → slice_get setup.partners i ≡ Some p
-    → x ≡ f i p
-    → ArePairs (λ (n : ℕ) (q : Partner) (y : A). y ≡ f n q) setup.partners (xs ++ x ∷ [])
-one_more {A} setup f xs x i p pairs count at_p is =
-    pairs_more (λ (n : ℕ) (q : Partner) (y : A). y ≡ f n q) setup.partners xs p x pairs
-    (ap (slice_get setup.partners) count ∙ at_p) (is ∙ ap (λ (n : ℕ). f n p) (sym count))
-
--- an item that was read is the one at its place
-pub read_at : {A : Type 0} (xs : List A) (i : ℕ) (x d : A) → i < length xs → x ≡ get_or xs i x → x ≡ slice_index_or xs i d
-read_at xs i x d within is = sym (get_or_from_slice_get xs i x d (slice_get_read xs (length xs) i x refl within is))

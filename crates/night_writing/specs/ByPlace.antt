@@ -1,5 +1,5 @@
 -- A partner's mailbox and next counters (own), by what is kept at its place: its acknowledgments and the sets that were written for it.
-use Rattle.std.specs.Prelude.{ℕ, List, [], length, slice_index_or}
+use Rattle.std.specs.Prelude.{ℕ, ◌≡◌, ◌+◌, List, [], Some, length, slice_get, slice_index_or}
 use Rattle.hub_kinds.specs.declared.counters.Counters.{Counters}
 use Rattle.partner_setup.specs.declared.partner.Partner.{Partner}
 use Rattle.partner_setup.specs.Setup.{SetupValue}
@@ -29,3 +29,13 @@ next_behind sent sets partner =
 
 abbrev pub next_by : List SentValues → List (List RenderedValue) → (place : ℕ) → Partner → Counters
 next_by files boxes place partner = next_behind (sent_at files place) (sets_at boxes place) partner
+
+-- of the partners from a place on, with these sets, the mailboxes and the counters
+pub record AreClosedFrom (setup : SetupValue) (at : List ℕ) (files : List SentValues) (from : ℕ) (boxes : List (List RenderedValue))
+    (texts : List (List ℕ)) (counters : List Counters) : Type 0 where
+  pub texts_count : length texts ≡ length boxes
+  pub counters_count : length counters ≡ length boxes
+  pub text : (k : ℕ) (partner : Partner) (sets : List RenderedValue) → slice_get setup.partners (from + k) ≡ Some partner
+      → slice_get boxes k ≡ Some sets → slice_get texts k ≡ Some (box_behind setup at (sent_at files (from + k)) sets partner)
+  pub next : (k : ℕ) (partner : Partner) (sets : List RenderedValue) → slice_get setup.partners (from + k) ≡ Some partner
+      → slice_get boxes k ≡ Some sets → slice_get counters k ≡ Some (next_behind (sent_at files (from + k)) sets partner)

@@ -1,16 +1,18 @@
-ghost use Rattle.std.specs.Prelude.{◌≡◌, ◌<◌, ◌≤◌, Some, IfOk, length, slice_get};
+ghost use Rattle.std.specs.Prelude.{◌≡◌, ◌<◌, ◌≤◌, ◌+◌, ◌++◌, Some, IfOk, length, slice_get};
+ghost use Rattle.std.specs.Thread.{IsSync};
 ghost use Rattle.partner_setup.specs.declared.partner.Partner.{Partner};
 ghost use Rattle.partner_setup.specs.Sound.{AreCounters};
-ghost use Rattle.night_writing.specs.ByPlace.{box_behind, box_by, next_behind, next_by};
-ghost use Rattle.night_writing.specs.Night.{AreForPartners, counters_by};
+ghost use Rattle.night_writing.specs.ByPlace.{AreClosedFrom, box_behind, next_behind, sent_at};
+ghost use Rattle.night_writing.specs.Night.{counters_by};
 
 use checked_text::Acknowledgments;
 use count_numbers::{interchange_count, num};
-use hub_kinds::{Counters, Items, NoMemory};
+use hub_kinds::{Counters, NoMemory};
 use mailbox::{RenderedSets, Woven, close};
 use moment::At;
 use partner_setup::Setup;
 use std::alloc::Global;
+use std::thread::{Threads, join};
 
 /// What a night closes with for one partner.
 #[derive(Drop)]
@@ -19,13 +21,13 @@ struct Closed {
     next: Counters,
 }
 
-/// What a night closes with: for each partner its mailbox, and the counters from which its next night continues.
+/// What a night closes with for partners, one after the other: the mailbox of each, and the counters from which its next night continues.
 #[derive(Drop)]
 pub(crate) struct AllClosed {
     /// The mailboxes.
-    pub(crate) boxes: Items<Woven>,
+    pub(crate) boxes: Vec<Woven>,
     /// The next counters.
-    pub(crate) next: Items<Counters>,
+    pub(crate) next: Vec<Counters>,
 }
 
 /// The counters after this many acknowledgments, which have this many groups, and after this many delivered sets, which have this many.
@@ -100,29 +102,90 @@ fn close_at(
     })
 }
 
-/// The mailbox and the next counters of each partner, by its acknowledgments and the sets that were written for it.
-pub(crate) fn close_all(
+/// What a night closes with for the partners from the place `from` on, by the sets that were written for each.
+pub(crate) fn close_from(
     alloc: Global,
     setup: &Setup,
     at: &At,
     files: &[Acknowledgments],
+    from: usize,
     boxes: Vec<RenderedSets>,
 ) -> Result<AllClosed, NoMemory>
     requires files { length files.now ≡ length setup.now.partners }
-    requires boxes { length boxes.items ≡ length setup.now.partners }
-    ensures boxes { IfOk result (λ closed. AreForPartners setup.now (box_by setup.now at.now files.now boxes.items) closed.boxes) }
-    ensures next { IfOk result (λ closed. AreForPartners setup.now (next_by files.now boxes.items) closed.next) }
+    requires boxes { from + length boxes.items ≤ length setup.now.partners }
+    ensures { IfOk result (λ closed. AreClosedFrom setup.now at.now files.now from boxes.items
+        closed.boxes.items closed.next.items) }
 {
     let mut texts = Vec::new(alloc);
     let mut counters = Vec::new(alloc);
     for sets in boxes {
-        let place = counters.len();
+        let count = counters.len();
+        let place = from + count;
         let closed = close_at(alloc, setup, place, at, &files[place], sets)?;
         texts.push(closed.text)?;
         counters.push(closed.next)?;
     }
     Ok(AllClosed {
-        boxes: Items::from_vec(texts),
-        next: Items::from_vec(counters),
+        boxes: texts,
+        next: counters,
     })
+}
+
+/// What a night closes with for partners, and after it for more.
+fn with_more(first: AllClosed, more: AllClosed) -> Result<AllClosed, NoMemory>
+    ensures boxes { IfOk result (λ all. all.boxes.items ≡ first.boxes.items ++ more.boxes.items) }
+    ensures next { IfOk result (λ all. all.next.items ≡ first.next.items ++ more.next.items) }
+{
+    let AllClosed {
+        mut boxes,
+        mut next,
+    } = first;
+    let AllClosed {
+        boxes: mut more_boxes,
+        next: mut more_next,
+    } = more;
+    boxes.append(&mut more_boxes)?;
+    next.append(&mut more_next)?;
+    Ok(AllClosed { boxes, next })
+}
+
+/// The same as `close_from`, by this many threads at the most: each half of the partners by half of them.
+#[cycle(halves)]
+pub(crate) fn close_by<R: Threads + Sync>(
+    rt: &R,
+    setup: &Setup,
+    at: &At,
+    files: &[Acknowledgments],
+    from: usize,
+    boxes: Vec<RenderedSets>,
+    threads: u64,
+) -> Result<AllClosed, NoMemory>
+    requires files { length files.now ≡ length setup.now.partners }
+    requires boxes { from + length boxes.items ≤ length setup.now.partners }
+    ensures { IfOk result (λ closed. AreClosedFrom setup.now at.now files.now from boxes.items
+        closed.boxes.items closed.next.items) }
+{
+    if threads < 2 || boxes.len() < 2 {
+        let alloc = *boxes.allocator();
+        return close_from(alloc, setup, at, files, from, boxes);
+    }
+    let mut low = boxes;
+    let half = low.len() / 2;
+    let high = low.split_off(half)?;
+    let behind = from + half;
+    let front = move || -> Result<AllClosed, NoMemory>
+        requires { IsSync R.row × (2 ≤ threads) × (length files.now ≡ length setup.now.partners)
+            × (from + length low.items ≤ length setup.now.partners) }
+        ensures { IfOk result (λ closed. AreClosedFrom setup.entry.now at.entry.now files.entry.now from low.items
+            closed.boxes.items closed.next.items) }
+    { close_by(rt, setup, at, files, from, low, threads / 2) };
+    let back = move || -> Result<AllClosed, NoMemory>
+        requires { IsSync R.row × (2 ≤ threads) × (length files.now ≡ length setup.now.partners)
+            × (behind + length high.items ≤ length setup.now.partners) }
+        ensures { IfOk result (λ closed. AreClosedFrom setup.entry.now at.entry.now files.entry.now behind high.items
+            closed.boxes.items closed.next.items) }
+    { close_by(rt, setup, at, files, behind, high, threads - threads / 2) };
+    let (first, second) = join(rt, front, back);
+    let all = with_more(first?, second?)?;
+    Ok(all)
 }

@@ -4,8 +4,9 @@ ghost use Rattle.env_index.specs.Words.{HasSpans};
 ghost use Rattle.mailbox.specs.Rendered.{HaveRendered};
 ghost use Rattle.checked_text.specs.Asked.{IsFound, asked_of};
 ghost use Rattle.checked_text.specs.CheckedText.{HaveRoom, IsCheckedBehind};
+ghost use Rattle.night_report.specs.Told.{told_text};
 
-use crate::closing::close_all;
+use crate::closing::{AllClosed, close_by, close_from};
 use crate::night::Night;
 use checked_text::{
     Acknowledgments, CheckedText, Finding, ReportWriters, answer_found, check_text,
@@ -13,7 +14,7 @@ use checked_text::{
 };
 use env_index::Index;
 use hub_kinds::{Items, NoMemory, Texts};
-use job_pool::OneThread;
+use job_pool::{ManyThreads, OneThread};
 use judged_text::JudgedInterchange;
 use mailbox::{RenderedSets, Writers, nothing_rendered, render_deliveries};
 use moment::At;
@@ -21,6 +22,7 @@ use night_report::ReportLines;
 use partner_setup::Setup;
 use std::alloc::Global;
 use std::marker::Model;
+use std::thread::Threads;
 
 /// The bytes of each partner's acknowledgments.
 fn texts_of(alloc: Global, files: Vec<Acknowledgments>) -> Result<Texts, NoMemory>
@@ -31,6 +33,30 @@ fn texts_of(alloc: Global, files: Vec<Acknowledgments>) -> Result<Texts, NoMemor
         texts.push(file.into_text())?;
     }
     Ok(Items::from_vec(texts))
+}
+
+/// The night of what was written, once its mailboxes are closed.
+fn night_of(
+    alloc: Global,
+    outside: u64,
+    files: Vec<Acknowledgments>,
+    lines: ReportLines,
+    closed: AllClosed,
+) -> Result<Night, NoMemory>
+    ensures acks { IfOk result (λ night. night.acks ≡ map (λ f. f.text) files.items) }
+    ensures boxes { IfOk result (λ night. night.boxes ≡ closed.boxes.items) }
+    ensures report { IfOk result (λ night. night.report ≡ told_text lines outside) }
+    ensures next { IfOk result (λ night. night.next ≡ closed.next.items) }
+{
+    let AllClosed { boxes, next } = closed;
+    let report = lines.close(outside)?;
+    let acks = texts_of(alloc, files)?;
+    Ok(Night {
+        acks,
+        boxes: Items::from_vec(boxes),
+        report,
+        next: Items::from_vec(next),
+    })
 }
 
 /// The sets that were written for each partner, and after them those that are delivered of these interchanges.
@@ -241,14 +267,39 @@ impl Writing {
             lines,
             boxes,
         } = self;
-        let report = lines.close(outside)?;
-        let closed = close_all(alloc, setup, at, files.as_slice(), boxes)?;
-        let acks = texts_of(alloc, files)?;
-        Ok(Night {
-            acks,
-            boxes: closed.boxes,
-            report,
-            next: closed.next,
-        })
+        let closed = close_from(alloc, setup, at, files.as_slice(), 0, boxes)?;
+        let night = night_of(alloc, outside, files, lines, closed)?;
+        Ok(night)
+    }
+
+    /// The same as `close`, the mailboxes side by side by as many threads as there are workers. The only error is out of memory.
+    pub fn close_by<R: Threads + Sync>(
+        self,
+        alloc: Global,
+        writers: &ManyThreads<'_, R>,
+        setup: &Setup,
+        at: &At,
+    ) -> Result<Night, NoMemory>
+        requires files { length self.files ≡ length setup.now.partners }
+        requires boxes { length self.boxes ≡ length setup.now.partners }
+        ensures { IfOk result (IsClosedBy setup.now at.now self) }
+    {
+        let Writing {
+            outside,
+            files,
+            lines,
+            boxes,
+        } = self;
+        let closed = close_by(
+            writers.rt,
+            setup,
+            at,
+            files.as_slice(),
+            0,
+            boxes,
+            writers.workers,
+        )?;
+        let night = night_of(alloc, outside, files, lines, closed)?;
+        Ok(night)
     }
 }
