@@ -16,6 +16,7 @@ use Rattle.ack_read.specs.declared.told.SegmentTold.{SegmentTold}
 use Rattle.ack_read.specs.declared.told.SetTold.{SetTold}
 use Rattle.ack_read.specs.declared.told.Ta1Told.{Ta1Told}
 use Rattle.ack_read.specs.declared.told.Told.{Told}
+use Rattle.ack_read.specs.declared.told.Told.TheVariants as told
 use Rattle.guide_names.specs.Names.{Words, element_name, no_words, segment_name}
 use Rattle.ack_lines.specs.Reported.{is_rejected, reported_of}
 use Rattle.ack_lines.specs.Shown.{shown, shown_if}
@@ -305,3 +306,13 @@ named_explanation words found = all_lines words (reported_of found)
 -- without names
 abbrev pub explanation : List Told → List ℕ
 explanation found = named_explanation no_words found
+
+-- the notes on a set, each in a line
+abbrev pub faults_said : Words → Told → List ℕ
+faults_said words (told.OfInterchange t) = []
+faults_said words (told.OfSet s) = note_lines words [] s.notes
+faults_said words (told.OfGroup g) = []
+
+-- the notes on all sets that are reported
+abbrev pub fault_lines : Words → List Told → List ℕ
+fault_lines words found = flat_map (faults_said words) found

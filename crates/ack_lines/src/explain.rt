@@ -1,9 +1,10 @@
 ghost use Rattle.std.specs.Prelude.{◌≡◌, ◌++◌, OnOk, IfOk, IsPermutation, codes, map};
-ghost use Rattle.std.specs.List.{count_by};
+ghost use Rattle.std.specs.List.{count_by, flat_map};
 ghost use Rattle.ack_lines.specs.Lines as lines;
 ghost use Rattle.ack_lines.specs.Reported.{reported_of, told_of};
 
 use crate::lines::{append_reported, is_accepted};
+use crate::notes::append_note_lines;
 use crate::reported::{Reported, reported_of};
 use crate::shown::{append_number, append_text};
 use ack_read::Told;
@@ -153,4 +154,33 @@ fn accepted_count(all: &[Reported<'_>]) -> usize
         }
     }
     count
+}
+
+/// Writes what the notes on a set say.
+fn append_faults(out: &mut Vec<u8>, names: &Names, one: &Told<'_>) -> Result<(), NoMemory>
+    ensures { OnOk result (out.new.items ≡ out.old.items ++ lines.faults_said names.now one.now) }
+{
+    match one {
+        Told::OfSet(set) => append_note_lines(out, names, b"", set.notes.as_slice()),
+        Told::OfInterchange(_) | Told::OfGroup(_) => Ok(()),
+    }
+}
+
+fn append_fault_lines(out: &mut Vec<u8>, names: &Names, found: &[Told<'_>]) -> Result<(), NoMemory>
+    ensures { OnOk result (out.new.items ≡ out.old.items ++ flat_map (lines.faults_said names.now) found.now) }
+{
+    for one in found {
+        append_faults(out, names, one)?;
+    }
+    Ok(())
+}
+
+/// The lines on the segments and elements of sets among what `found` reports, in its order: one for each IK4, and one for each IK3 that no
+/// IK4 follows, with the names that `names` has. Each ends with LF. The only error is out of memory.
+pub fn fault_lines(alloc: Global, names: &Names, found: &[Told<'_>]) -> Result<Vec<u8>, NoMemory>
+    ensures { IfOk result (λ text. text.items ≡ lines.fault_lines names.now found.now) }
+{
+    let mut out = Vec::new(alloc);
+    append_fault_lines(&mut out, names, found)?;
+    Ok(out)
 }

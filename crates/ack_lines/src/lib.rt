@@ -10,7 +10,8 @@
 //! - a note that the hub gives on an interchange is one of the notes that have words, and its code one of the verdicts;
 //! - `explanation` and `named_explanation` are just these lines, of what is reported in its order, but a group that is rejected before its
 //!   sets, byte for byte; texts of the acknowledgment and names are shown without bytes that don't print, and cut to 99 bytes; all that
-//!   they report is in the lines, each once.
+//!   they report is in the lines, each once;
+//! - `fault_lines` gives the lines on segments and elements alone, of part of an acknowledgment, too.
 //!
 //! Source: own; X12.5, TA1, TA104 and TA105; 999 guide (005010X231), AK1, AK2, IK3, IK4, IK5 and AK9, and the code lists of IK304, IK403,
 //! IK501, IK502, AK901 and AK905.
@@ -32,5 +33,5 @@ mod sets;
 mod shown;
 mod worded;
 
-pub use explain::{explanation, named_explanation};
+pub use explain::{explanation, fault_lines, named_explanation};
 pub use laws::notes_have_words;

@@ -6,6 +6,7 @@
 //! - the sets that it gives are the responses of the text, and the interchanges its TA1s, as the contract of a night says what is read
 //!   back (`responses_in`, `ta1s_in`);
 //! - it refuses just a text that doesn't begin with a header, and one that reports nothing;
+//! - `read_by` reads any text so, by delimiters that it is given, and refuses none;
 //! - `ack_kind` says by a segment's id what it reports.
 //!
 //! Source: X12.5, interchange control header, TA1; 999 guide (005010X231), AK1, AK2, IK3, IK4, IK5 and AK9.
@@ -22,5 +23,5 @@ mod told;
 
 pub use fault::ReadFault;
 pub use kind::{AckKind, ack_kind};
-pub use read::read_acknowledgments;
+pub use read::{read_acknowledgments, read_by};
 pub use told::{ElementTold, GroupTold, NoteTold, SegmentTold, SetTold, Ta1Told, Told};

@@ -23,16 +23,17 @@ pub fn read_acknowledgments<'a>(alloc: Global, text: &'a [u8]) -> Result<Vec<Tol
     let Some(header) = read_header(text, 0) else {
         return Err(ReadFault::NoHeader);
     };
-    let found = told_in(alloc, header.delims(), text)?;
+    let found = read_by(alloc, header.delims(), text)?;
     if found.is_empty() {
         return Err(ReadFault::TellsNothing);
     }
     Ok(found)
 }
 
-/// What a text reports, read by these delimiters.
+/// What `text` reports, in its order, read by the delimiters `delims`, whatever it begins with: so a part of an acknowledgment can be read
+/// alone. The only error is out of memory.
 #[tactic(auto, using(night_equal::proofs::ForAbove::segments_are))]
-fn told_in<'a>(alloc: Global, delims: Delims, text: &'a [u8]) -> Result<Vec<Told<'a>>, NoMemory>
+pub fn read_by<'a>(alloc: Global, delims: Delims, text: &'a [u8]) -> Result<Vec<Told<'a>>, NoMemory>
     ensures { IfOk result (λ found. found.items ≡ told_in delims text.now) }
 {
     let mut found = Vec::new(alloc);

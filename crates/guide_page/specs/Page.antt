@@ -7,21 +7,21 @@ use Rattle.guide_names.specs.Names.{Words}
 use Rattle.guide_page.specs.Named.{set_words}
 use Rattle.guide_page.specs.Nodes.{order_part, sections_part}
 use Rattle.guide_page.specs.Rules.{depends_part, dictionary_part, head_part, levels_part, title_part, tolerated_part}
-use Rattle.guide_page.specs.Tags.{cell, row_end, row_head, table_end}
+use Rattle.guide_page.specs.Tags.{cell, lines_cell, row_end, row_head, table_end}
 use Rattle.guide_page.specs.declared.page.Answer.{Answer}
 use Rattle.guide_page.specs.declared.fixed.TheConstants.{FOOT, HEAD}
 
 abbrev pub sample_part : (sample : List ℕ) → List ℕ
 sample_part sample = codes "<h2>A complete sample</h2>\n<pre>" ++ (html_bytes sample ++ codes "</pre>\n")
 
--- the name of a sample that breaks a rule, and what the 999 says of it
+-- the name of a sample that breaks a rule, and what the 999 says of it, in words and as it is written
 abbrev pub answer_row : Answer → List ℕ
-answer_row a = row_head a.name ++ (cell a.lines ++ row_end)
+answer_row a = row_head a.name ++ (lines_cell a.words ++ (cell a.lines ++ row_end))
 
 abbrev pub answers_head : List ℕ
 answers_head =
     codes "<h2>What is answered</h2>\n<p>Each of these samples breaks one rule alone.</p>\n<table>\n<thead><tr>"
-    ++ codes "<th scope=\"col\">Sample</th><th scope=\"col\">In the 999</th></tr></thead>\n<tbody>\n"
+    ++ codes "<th scope=\"col\">Sample</th><th scope=\"col\">What is wrong</th><th scope=\"col\">In the 999</th></tr></thead>\n<tbody>\n"
 
 abbrev pub answers_part : List Answer → List ℕ
 answers_part answers =

@@ -1,7 +1,7 @@
 -- Pieces of a page (HTML): tags round texts of a guide, each of which is shown as a text.
 use Rattle.std.specs.Prelude.{ℕ, List, [], ◌∷◌, ◌++◌, codes}
 use Rattle.std.specs.List.{flat_map}
-use Rattle.html_text.specs.Html.{html_text}
+use Rattle.html_text.specs.Html.{html_bytes, html_text}
 
 -- a text between two fixed ones
 abbrev pub tagged : (before text after : List ℕ) → List ℕ
@@ -16,6 +16,10 @@ codes_part texts = flat_map code_part texts
 
 abbrev pub cell : (text : List ℕ) → List ℕ
 cell text = tagged (codes "<td>") text (codes "</td>")
+
+-- a text of several lines
+abbrev pub lines_cell : (text : List ℕ) → List ℕ
+lines_cell text = codes "<td>" ++ (html_bytes text ++ codes "</td>")
 
 -- the head of a row
 abbrev pub row_head : (head : List ℕ) → List ℕ

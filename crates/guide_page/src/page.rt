@@ -13,7 +13,8 @@ use crate::rules::{
 };
 use crate::sections::append_sections;
 use crate::tags::{
-    append_fixed, append_row_end, append_row_head, append_table_end, append_text_cell,
+    append_fixed, append_lines_cell, append_row_end, append_row_head, append_table_end,
+    append_text_cell,
 };
 use guide_names::Names;
 use guide_tree::GuideRows;
@@ -26,7 +27,9 @@ use std::alloc::Global;
 pub struct Answer {
     /// The name of the sample's file.
     pub name: Text,
-    /// What the 999 says of it.
+    /// What is wrong with its set, in words.
+    pub words: Text,
+    /// What the 999 says of its set, as written.
     pub lines: Text,
 }
 
@@ -48,6 +51,7 @@ fn append_answer(alloc: Global, out: &mut Vec<u8>, answer: &Answer) -> Result<()
     ensures { OnOk result (out.new.items ≡ out.old.items ++ page.answer_row answer.now) }
 {
     append_name(alloc, out, answer)?;
+    append_lines_cell(out, &answer.words)?;
     append_text_cell(alloc, out, &answer.lines)?;
     append_row_end(out)
 }
@@ -70,7 +74,7 @@ fn append_answers_head(out: &mut Vec<u8>) -> Result<(), NoMemory>
     )?;
     append_fixed(
         out,
-        b"<th scope=\"col\">Sample</th><th scope=\"col\">In the 999</th></tr></thead>\n<tbody>\n",
+        b"<th scope=\"col\">Sample</th><th scope=\"col\">What is wrong</th><th scope=\"col\">In the 999</th></tr></thead>\n<tbody>\n",
     )
 }
 

@@ -2,7 +2,7 @@ ghost use Rattle.std.specs.Prelude.{◌≡◌, ◌++◌, OnOk, decimal};
 ghost use Rattle.guide_page.specs.Tags as tags;
 
 use guide_tree::Codes;
-use html_text::append_html;
+use html_text::{append_html, append_lines};
 use hub_kinds::{NoMemory, Text};
 use itoa::Buffer;
 use std::alloc::Global;
@@ -64,6 +64,15 @@ pub(crate) fn append_cell(alloc: Global, out: &mut Vec<u8>, text: &[u8]) -> Resu
     ensures { OnOk result (out.new.items ≡ out.old.items ++ tags.cell text.now) }
 {
     append_tagged(alloc, out, b"<td>", text, b"</td>")
+}
+
+/// Appends a cell with a text of several lines.
+pub(crate) fn append_lines_cell(out: &mut Vec<u8>, text: &Text) -> Result<(), NoMemory>
+    ensures { OnOk result (out.new.items ≡ out.old.items ++ tags.lines_cell text.now) }
+{
+    append_fixed(out, b"<td>")?;
+    append_lines(out, text.as_slice())?;
+    append_fixed(out, b"</td>")
 }
 
 /// Appends the head of a row.

@@ -2,6 +2,7 @@
 use Rattle.std.proofs.Common.{◌≡◌, ◌∙◌, ◌≤◌, ◌+◌, ℕ, List, [], ◌∷◌, ◌++◌, append_assoc, ap, arith, length, map, sym}
 use Rattle.std.proofs.lemmas.List.{append-nil, map-append}
 use Rattle.std.proofs.lemmas.List.Elements.{All-append, All-cons, All-nil}
+use Rattle.guide_names.specs.Names.{Words}
 use Rattle.guide_page.specs.declared.page.Answer.{Answer}
 use Rattle.guide_tree.specs.Words.{GuideTree}
 use Rattle.guide_samples.specs.Samples.{BreaksRule}
@@ -36,39 +37,41 @@ joined g rules a b c ss more first next = record {
   rising = rise a b c ss more first.rising next.rising;
 }
 
-pub no_answer : (g : GuideTree) (rules : List Rule) (a b : ℕ) (answers : List Answer) → a ≤ b → AddsAnswers g rules a b answers answers
-no_answer g rules a b answers low =
+pub no_answer : (w : Words) (g : GuideTree) (rules : List Rule) (a b : ℕ) (answers : List Answer) → a ≤ b
+    → AddsAnswers w g rules a b answers answers
+no_answer w g rules a b answers low =
     record { samples = []; breaking = none g rules a b low; added = sym (append-nil answers) }
 
-pub one_answer : (g : GuideTree) (rules : List Rule) (n : ℕ) (text lines : List ℕ) (old new : List Answer) (a : Answer)
-    → BreaksRule g rules n text lines → a ≡ answer_of (record { number = n; text = text; lines = lines }) → new ≡ old ++ a ∷ []
-    → AddsAnswers g rules n (n + 1) old new
-one_answer g rules n text lines old new a breaks is adds = record {
+pub one_answer : (w : Words) (g : GuideTree) (rules : List Rule) (n : ℕ) (text lines : List ℕ) (old new : List Answer) (a : Answer)
+    → BreaksRule g rules n text lines → a ≡ answer_of w (record { number = n; text = text; lines = lines }) → new ≡ old ++ a ∷ []
+    → AddsAnswers w g rules n (n + 1) old new
+one_answer w g rules n text lines old new a breaks is adds = record {
   samples = record { number = n; text = text; lines = lines } ∷ [];
   breaking = single g rules n text lines breaks;
   added = adds ∙ ap (λ (x : Answer). old ++ x ∷ []) is;
 }
 
-pub more_answers : (g : GuideTree) (rules : List Rule) (a b c : ℕ) (old mid new : List Answer) → AddsAnswers g rules a b old mid
-    → AddsAnswers g rules b c mid new → AddsAnswers g rules a c old new
-more_answers g rules a b c old mid new first next = record {
+pub more_answers : (w : Words) (g : GuideTree) (rules : List Rule) (a b c : ℕ) (old mid new : List Answer)
+    → AddsAnswers w g rules a b old mid
+    → AddsAnswers w g rules b c mid new → AddsAnswers w g rules a c old new
+more_answers w g rules a b c old mid new first next = record {
   samples = first.samples ++ next.samples;
   breaking = joined g rules a b c first.samples next.samples first.breaking next.breaking;
-  added = next.added ∙ ap (λ (l : List Answer). l ++ map answer_of next.samples) first.added
-      ∙ append_assoc old (map answer_of first.samples) (map answer_of next.samples)
-      ∙ ap (λ (l : List Answer). old ++ l) (sym (map-append answer_of first.samples next.samples));
+  added = next.added ∙ ap (λ (l : List Answer). l ++ map (answer_of w) next.samples) first.added
+      ∙ append_assoc old (map (answer_of w) first.samples) (map (answer_of w) next.samples)
+      ∙ ap (λ (l : List Answer). old ++ l) (sym (map-append (answer_of w) first.samples next.samples));
 }
 
-abbrev pub answer_made : (name lines : List ℕ) → Answer
-answer_made name lines = record { name = name; lines = lines }
+abbrev pub answer_made : (lines name words : List ℕ) → Answer
+answer_made lines name words = record { name = name; words = words; lines = lines }
 
 to_more : (a b c : ℕ) (ss : List Sample) → b ≤ c → AreRising a b ss → AreRising a c ss
 to_more a b c [] low up = omega (arith, low, up)
 to_more a b c (s ∷ ss) low up = (up.0, to_more (s.number + 1) b c ss low up.1)
 
-pub all_answers : (g : GuideTree) (rules : List Rule) (n : ℕ) (answers : List Answer) → n ≤ length rules
-    → AddsAnswers g rules 0 n [] answers → AreAnswers g answers
-all_answers g rules n answers low adds = record {
+pub all_answers : (w : Words) (g : GuideTree) (rules : List Rule) (n : ℕ) (answers : List Answer) → n ≤ length rules
+    → AddsAnswers w g rules 0 n [] answers → AreAnswers w g answers
+all_answers w g rules n answers low adds = record {
   rules = rules;
   samples = adds.samples;
   breaking = record { each = adds.breaking.each; rising = to_more 0 n (length rules) adds.samples low adds.breaking.rising };

@@ -44,7 +44,7 @@ pub record IsPageOf (words : Words) (guide : GuideTree) (text : List ℕ) : Type
   pub sample : List ℕ
   pub answers : List Answer
   pub sample_is : IsSample guide sample
-  pub answers_are : AreAnswers guide answers
+  pub answers_are : AreAnswers words guide answers
   pub text_is : text ≡ page_text words guide sample answers
 
 -- the page of a guide, with the words of the names file at a path, if there is one

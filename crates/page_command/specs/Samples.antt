@@ -1,6 +1,11 @@
 -- own: samples that break a rule of a guide, and what is answered to them.
-use Rattle.std.specs.Prelude.{◌≡◌, ◌≤◌, ℕ, ◌+◌, List, [], ◌∷◌, ◌++◌, length, map}
+use Rattle.std.specs.Prelude.{◌≡◌, ◌≤◌, ℕ, ◌+◌, List, [], ◌∷◌, ◌++◌, length, map, if◌then◌else◌}
 use Rattle.std.specs.List.{All}
+use Rattle.night_definition.specs.Header.{is_head}
+use Rattle.ack_read.specs.Reading.{first_delims}
+use Rattle.ack_read.specs.Told.{told_in}
+use Rattle.ack_lines.specs.Lines.{fault_lines}
+use Rattle.guide_names.specs.Names.{Words}
 use Rattle.guide_page.specs.declared.page.Answer.{Answer}
 use Rattle.guide_tree.specs.Words.{GuideTree}
 use Rattle.guide_samples.specs.Samples.{BreaksRule}
@@ -26,19 +31,24 @@ pub record AreBreaking (guide : GuideTree) (rules : List Rule) (from to : ℕ) (
   pub each : All (IsBreaking guide rules) samples
   pub rising : AreRising from to samples
 
+-- what the lines of a 999 on a sample say of segments and elements, read by the delimiters of the sample's header
+abbrev pub words_said : Words → (sample lines : List ℕ) → List ℕ
+words_said words sample lines =
+    if is_head sample 0 then fault_lines words (told_in (first_delims sample) lines) else []
+
 -- the answer to a sample, as the page shows it
-abbrev pub answer_of : Sample → Answer
-answer_of s = record { name = file_name s.number; lines = s.lines }
+abbrev pub answer_of : Words → Sample → Answer
+answer_of words s = record { name = file_name s.number; words = words_said words s.text s.lines; lines = s.lines }
 
 -- private: answers to samples for rules with these numbers are added
-pub record AddsAnswers (guide : GuideTree) (rules : List Rule) (from to : ℕ) (old new : List Answer) : Type 0 where
+pub record AddsAnswers (words : Words) (guide : GuideTree) (rules : List Rule) (from to : ℕ) (old new : List Answer) : Type 0 where
   pub samples : List Sample
   pub breaking : AreBreaking guide rules from to samples
-  pub added : new ≡ old ++ map answer_of samples
+  pub added : new ≡ old ++ map (answer_of words) samples
 
--- answers to samples that break a rule of the guide
-pub record AreAnswers (guide : GuideTree) (answers : List Answer) : Type 0 where
+-- answers to samples that break a rule of the guide, with words for it
+pub record AreAnswers (words : Words) (guide : GuideTree) (answers : List Answer) : Type 0 where
   pub rules : List Rule
   pub samples : List Sample
   pub breaking : AreBreaking guide rules 0 (length rules) samples
-  pub answers_are : answers ≡ map answer_of samples
+  pub answers_are : answers ≡ map (answer_of words) samples

@@ -5,7 +5,8 @@
 //! - `read_words` gives what the arguments ask for, as clap's definitions say, and calls usage only what is none;
 //! - if `page_main` ends with 0, it has printed the page of the guide that the file at the path writes (`IsPage`), with the words that the
 //!   names file writes, if one is given, or a text that was asked for; without a names file nothing on standard error. The sample in the
-//!   page meets the guide, and each answer in it is what a 999 says of a text that breaks one rule of the guide, and no other;
+//!   page meets the guide, and each answer in it is what a 999 says of a text that breaks one rule of the guide, and no other; beside it
+//!   are the words that `nighthub_explain` has for it;
 //! - it ends with 2 only if the arguments are wrong, and with 3 only if the guide is refused or can't be read, in the words of
 //!   `nighthub_check`, or the names file is, in the words of `names_file`; unless standard output itself failed, nothing is printed there
 //!   then;
@@ -29,6 +30,7 @@ mod folder;
 mod index;
 mod page;
 mod run;
+mod words;
 
 pub use command::{Asked, PROGRAM, Paths, read_words};
 pub use failure::Failure;

@@ -20,7 +20,7 @@ pub(crate) fn page_of(
     requires { IsSample (guide_of guide.now) sample.now }
     ensures { IfOk result (λ text. IsPageOf names.now (guide_of guide.now) text.items) }
 {
-    let answers = answers_of(alloc, guide)?;
+    let answers = answers_of(alloc, names, guide)?;
     let mut text = Vec::new(alloc);
     append_page(
         alloc,

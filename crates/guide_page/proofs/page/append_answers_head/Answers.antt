@@ -8,6 +8,6 @@ pub returns : goal.returns
 returns c =
     on_ok_weaker c.append_fixed-2.result (λ adds. two c.args.out.now.items c.append_fixed.new.out.items c.append_fixed-2.new.out.items
     (codes "<h2>What is answered</h2>\n<p>Each of these samples breaks one rule alone.</p>\n<table>\n<thead><tr>") (codes
-    "<th scope=\"col\">Sample</th><th scope=\"col\">In the 999</th></tr></thead>\n<tbody>\n")
+    "<th scope=\"col\">Sample</th><th scope=\"col\">What is wrong</th><th scope=\"col\">In the 999</th></tr></thead>\n<tbody>\n")
     c.in_ok-append_fixed.ensures adds)
     c.append_fixed-2.ensures

@@ -1,7 +1,7 @@
 use Rattle.std.proofs.Common.{◌≡◌, ◌+◌, ◌≤◌, ◌++◌, length, map}
 use Rattle.x12_segs.specs.Words.{elements_of}
 use Rattle.ack_read.specs.Told.{told_behind, told_in}
-use Rattle.ack_read.proofs.read.told_in.Given as goal
+use Rattle.ack_read.proofs.read.read_by.Given as goal
 
 abbrev pub invariant-loop-segment : goal.invariant-loop-segment
 invariant-loop-segment l =
