@@ -1,18 +1,19 @@
 -- The program's failures (own): the line that each prints, and the status that it ends with.
-use Rattle.std.specs.Prelude.{ℕ, ◌==◌, ◌||◌, IsTrue, List, ◌++◌, codes}
+use Rattle.std.specs.Prelude.{ℕ, ◌==◌, ◌||◌, IsTrue, List, codes}
 use Rattle.night_review.specs.declared.fault.ReviewFault.{ReviewFault}
 use Rattle.night_review.specs.declared.fault.ReviewFault.TheVariants as review
+use Rattle.sets_again.specs.declared.fault.AgainFault.{AgainFault}
+use Rattle.sets_again.specs.declared.fault.AgainFault.TheVariants as again
 use Rattle.day_command.specs.declared.failure.Failure.{Failure}
 use Rattle.day_command.specs.declared.failure.Failure.TheVariants as failure
-use Rattle.day_command.specs.declared.mistake.Mistake.{Mistake}
-use Rattle.day_command.specs.declared.mistake.Mistake.TheVariants as mistake
 
 -- the line on standard error
 abbrev pub line_of : Failure → List ℕ
 line_of failure.Input = codes "nighthub_day: input: NIGHTS can't be listed, or has a name that isn't UTF-8\n"
 line_of failure.Night = codes "nighthub_day: input: the night has no track.csv and out/ that can be read\n"
+line_of failure.Papers = codes "nighthub_day: input: the night has no from/in.x12 and track.csv that can be read\n"
+line_of failure.Unfit = codes "nighthub_day: input: the night's track.csv isn't the table of its from/in.x12\n"
 line_of failure.Clock = codes "nighthub_day: input: the clock can't be read\n"
-line_of failure.Stdout = codes "nighthub_day: output stdout\n"
 line_of failure.Stderr = codes "nighthub_day: output stderr\n"
 line_of failure.Memory = codes "nighthub_day: memory\n"
 
@@ -22,11 +23,17 @@ of_review review.Unlisted = failure.Input
 of_review review.Clock = failure.Clock
 of_review review.Memory = failure.Memory
 
+-- the failure of sets that don't go in again
+abbrev pub of_again : AgainFault → Failure
+of_again again.Unfit = failure.Unfit
+of_again again.Memory = failure.Memory
+
 abbrev pub status_of : Failure → ℕ
 status_of failure.Input = 4
 status_of failure.Night = 4
+status_of failure.Papers = 4
+status_of failure.Unfit = 4
 status_of failure.Clock = 4
-status_of failure.Stdout = 5
 status_of failure.Stderr = 5
 status_of failure.Memory = 6
 
@@ -34,22 +41,7 @@ status_of failure.Memory = 6
 abbrev pub IsStatus : ℕ → Type 0
 IsStatus n = IsTrue (n == 0 || (n == 1 || (n == 2 || (n == 4 || (n == 5 || n == 6)))))
 
--- the line and the status of a mistake in the arguments
-abbrev pub mistake_line : Mistake → List ℕ
-mistake_line (mistake.Usage text) = codes "nighthub_day: usage: " ++ (text ++ codes "; see --help\n")
-mistake_line mistake.Memory = line_of failure.Memory
-
-abbrev pub mistake_status : Mistake → ℕ
-mistake_status (mistake.Usage text) = 2
-mistake_status mistake.Memory = 6
-
--- the arguments are wrong
-abbrev pub IsUsage : Mistake → Type 0
-IsUsage (mistake.Usage text) = Unit {0}
-IsUsage mistake.Memory = ⊥
-
 -- a failure before anything is printed
 abbrev pub IsBefore : Failure → Type 0
-IsBefore failure.Stdout = ⊥
 IsBefore failure.Stderr = ⊥
 IsBefore _ = Unit {0}

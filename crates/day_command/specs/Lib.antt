@@ -1,3 +1,4 @@
+pub mod Again
 pub mod CommandLine
 pub mod Export
 pub mod Failure

@@ -13,10 +13,14 @@ use Rattle.night_marks.specs.declared.mark.NightMark.{NightMark}
 use Rattle.night_folder.specs.declared.night.NightRead.{NightRead}
 use Rattle.night_search.specs.Lines.{unread_lines}
 use Rattle.night_search.specs.Search.{are_read, is_found, search_text}
+use Rattle.program_frame.specs.Matching.{AsksForText}
+use Rattle.sets_again.specs.declared.wanted.Wanted.{Wanted}
 use Rattle.track_tables.specs.declared.export.Form.{Form}
 use Rattle.track_tables.specs.declared.night.NightTable.{NightTable}
-use Rattle.day_command.specs.CommandLine.{AsksForText, Request, check, export, find, page, request_of, value_of}
+use Rattle.day_command.specs.CommandLine.{Request, again, check, day_app, export, find, page, request_of, value_of}
+use Rattle.day_command.specs.Again.{IsAgainOf}
 use Rattle.day_command.specs.Export.{export_text}
+use Rattle.day_command.specs.declared.again.Again.{Again}
 use Rattle.night_review.specs.GoingOn.{IsJudged}
 use Rattle.day_command.specs.Page.{IsPageReport}
 use Rattle.night_review.specs.Nights.{AreNights}
@@ -98,9 +102,17 @@ pub record IsPaged (nights night : List ℕ) (status : ℕ) (was is : Option (Li
   pub report : IsPageReport nights night text status
   pub printed : Appends was is text
 
+-- the sets that go in again were printed, or the line that there is none; the status is 0 exactly if there is one
+pub record IsPrintedAgain (nights night : List ℕ) (which : Wanted) (status : ℕ) (was is err_was err_is : Option (List ℕ)) : Type 0 where
+  pub sets : Again
+  pub sets_are : IsAgainOf nights night which sets
+  pub found : (status ≡ 0) ↔ (sets.is_found ≡ true)
+  pub printed : Appends was is sets.text.items
+  pub said : Appends err_was err_is sets.line.items
+
 -- a text was shown that the arguments ask for
 pub record IsShownText (words : List Text) (status : ℕ) (was is : Option (List ℕ)) : Type 0 where
-  pub asked : AsksForText words
+  pub asked : AsksForText day_app words
   pub text : List ℕ
   pub printed : Appends was is text
   pub own_status : status ≡ 0
@@ -110,6 +122,7 @@ abbrev pub IsDone : Request → (status : ℕ) → (was is err_was err_is : Opti
 IsDone (check nights) status was is err_was err_is = IsChecked nights status was is
 IsDone (find nights wanted) status was is err_was err_is = IsSearched nights wanted status was is
 IsDone (page nights night) status was is err_was err_is = IsPaged nights night status was is
+IsDone (again nights night which) status was is err_was err_is = IsPrintedAgain nights night which status was is err_was err_is
 IsDone (export nights form) status was is err_was err_is = IsExported nights form status was is err_was err_is
 
 -- what the arguments ask for was done, or such a text was shown
@@ -121,3 +134,8 @@ IsRun words status was is err_was err_is =
 -- the arguments ask for an export
 abbrev pub AsksForExport : (words : List Text) → Type 0
 AsksForExport words = (nights : List ℕ) × (form : Form) × (request_of (value_of words) ≡ Some (export nights form))
+
+-- or for sets that go in again
+abbrev pub AsksForAgain : (words : List Text) → Type 0
+AsksForAgain words =
+    (nights : List ℕ) × (night : List ℕ) × (which : Wanted) × (request_of (value_of words) ≡ Some (again nights night which))

@@ -1,10 +1,13 @@
 -- The page of a night (own): the files that it is made of, in the night's folder, and what it says.
-use Rattle.std.specs.Prelude.{◌≡◌, ◌↔◌, ◌⊎◌, ℕ, ◌-◌, eqb, true, List, [], ◌∷◌, ◌++◌, Option, Some, None, codes, if◌then◌else◌, length, take}
+use Rattle.std.specs.Prelude.{◌≡◌, ◌≤◌, ◌<◌, ◌↔◌, ◌⊎◌, ℕ, ◌-◌, eqb, true, List, [], ◌∷◌, ◌++◌, Option, Some, None, codes}
+use Rattle.std.specs.Prelude.{if◌then◌else◌, length, take}
 use Rattle.std.specs.List.{AllZip, ends_with, filter_map}
 use Rattle.ack_lines.specs.Words.{explanation}
 use Rattle.ack_read.specs.Words.{AreToldBy, IsRefused}
 use Rattle.ack_read.specs.declared.fault.ReadFault.TheVariants as fault
 use Rattle.ack_read.specs.declared.told.Told.{Told}
+use Rattle.hub_kinds.specs.declared.limits.TheConstants.{LONGEST_TEXT}
+use Rattle.inner_headers.specs.Inner.{AreInnerLines}
 use Rattle.night_ends.specs.Outbox.{path_in}
 use Rattle.night_folder.specs.Files.{FileValue, FolderValue, bytes_or_none, first_line}
 use Rattle.night_page.specs.Page.{IsPage, PageValue, has_todo}
@@ -13,6 +16,7 @@ use Rattle.night_page.specs.declared.record.RecordShown.{RecordShown}
 use Rattle.night_page.specs.declared.told.PartnerTold.{PartnerTold}
 use Rattle.track_tables.specs.Table.{IsTable}
 use Rattle.day_command.specs.Record.{IsShownAt}
+use Rattle.day_command.specs.declared.papers.PagePapers.{PagePapers}
 
 -- the partner whose acknowledgments a file has, by its name
 abbrev pub partner_of : (name : List ℕ) → Option (List ℕ)
@@ -57,22 +61,57 @@ pub record ArePartnersAt (night : List ℕ) (partners : List PartnerTold) : Type
   pub listed : out.names ≡ Some names
   pub told : AllZip (IsToldAt night) (partners_in names) partners
 
+-- the lines on an input; one that is longer than an input may be has none
+abbrev pub AreInnerOf : (text : List ℕ) → (lines : List (List ℕ)) → Type 0
+AreInnerOf text lines = ((length text ≤ LONGEST_TEXT) × AreInnerLines text lines) ⊎ ((LONGEST_TEXT < length text) × (lines ≡ []))
+
+-- a night without the file has none
+abbrev pub AreInnerIn : Option (List ℕ) → (lines : List (List ℕ)) → Type 0
+AreInnerIn None lines = lines ≡ []
+AreInnerIn (Some text) lines = AreInnerOf text lines
+
+-- the lines on the input of the night in a folder
+pub record AreInnerAt (night : List ℕ) (lines : List (List ℕ)) : Type 0 where
+  pub file : FileValue
+  pub path_is : file.path ≡ path_in night (codes "from/in.x12")
+  pub lines_are : AreInnerIn file.bytes lines
+
 -- private: a list that has one more if there is a partner
 abbrev pub IsOneMore : (night : List ℕ) → Option (List ℕ) → (old new : List PartnerTold) → Type 0
 IsOneMore night None old new = new ≡ old
 IsOneMore night (Some partner) old new = (told : PartnerTold) × (new ≡ old ++ told ∷ []) × IsToldAt night partner told
 
 -- what the page of a night is made of
-abbrev pub page_value : (name : List ℕ) → (at total files : FileValue) → List Row → List PartnerTold → Option RecordShown → PageValue
-page_value name at total files rows partners shown = record {
+abbrev pub page_value : (name : List ℕ) → (at total files : FileValue) → (inner : List (List ℕ)) → List Row → List PartnerTold
+    → Option RecordShown → PageValue
+page_value name at total files inner rows partners shown = record {
   night = name;
   moment = first_line (bytes_or_none at.bytes);
   total = first_line (bytes_or_none total.bytes);
   files = files.bytes;
+  inner = inner;
   rows = rows;
   partners = partners;
   shown = shown;
 }
+
+-- private: these are the files in the folder of the night, and what is shown of its input and its record
+pub record ArePapersAt (night : List ℕ) (papers : PagePapers) : Type 0 where
+  pub at_is : papers.at.path ≡ path_in night (codes "from/at")
+  pub total_is : papers.total.path ≡ path_in night (codes "total")
+  pub files_are : papers.files.path ≡ path_in night (codes "files.txt")
+  pub inner_are : AreInnerAt night papers.inner.items
+  pub record_is : IsShownAt night papers.record
+
+-- private: the page that is made of these, and the status
+pub record IsPageOf (name : List ℕ) (papers : PagePapers) (rows : List Row) (partners : List PartnerTold) (text : List ℕ) (status : ℕ)
+    : Type 0 where
+  pub value : PageValue
+  pub value_is : value ≡ page_value name papers.at papers.total papers.files papers.inner.items rows partners papers.record
+  pub head : List ℕ
+  pub foot : List ℕ
+  pub page : IsPage head foot value text
+  pub todo : (status ≡ 1) ↔ (has_todo value ≡ true)
 
 -- the page of a night by its files, and the status: 1 exactly if there is something to do at the hub
 pub record IsPageReport (nights name text : List ℕ) (status : ℕ) : Type 0 where
@@ -82,6 +121,8 @@ pub record IsPageReport (nights name text : List ℕ) (status : ℕ) : Type 0 wh
   pub total_is : total.path ≡ path_in (path_in nights name) (codes "total")
   pub files : FileValue
   pub files_are : files.path ≡ path_in (path_in nights name) (codes "files.txt")
+  pub inner : List (List ℕ)
+  pub inner_are : AreInnerAt (path_in nights name) inner
   pub table : FileValue
   pub table_is : table.path ≡ path_in (path_in nights name) (codes "track.csv")
   pub bytes : List ℕ
@@ -93,7 +134,7 @@ pub record IsPageReport (nights name text : List ℕ) (status : ℕ) : Type 0 wh
   pub shown : Option RecordShown
   pub shown_is : IsShownAt (path_in nights name) shown
   pub value : PageValue
-  pub value_is : value ≡ page_value name at total files rows partners shown
+  pub value_is : value ≡ page_value name at total files inner rows partners shown
   pub head : List ℕ
   pub foot : List ℕ
   pub page : IsPage head foot value text

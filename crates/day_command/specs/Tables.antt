@@ -8,6 +8,7 @@ use Rattle.night_marks.specs.declared.mark.NightMark.{NightMark}
 use Rattle.night_review.specs.Nights.{AreNights}
 use Rattle.track_tables.specs.Night.{IsStateOf}
 use Rattle.track_tables.specs.declared.night.NightTable.{NightTable}
+use Rattle.track_tables.specs.declared.night.TableState.{TableState}
 
 -- the table of a night, by its file track.csv
 pub record IsTableAt (nights : List ℕ) (mark : NightMark) (table : NightTable) : Type 0 where
@@ -15,6 +16,12 @@ pub record IsTableAt (nights : List ℕ) (mark : NightMark) (table : NightTable)
   pub path_is : file.path ≡ path_in nights (mark.name ++ codes "/track.csv")
   pub night_is : table.night ≡ mark.name
   pub state_is : IsStateOf file.bytes table.state
+
+-- what was read of the table of the night in a folder
+pub record IsStateAt (night : List ℕ) (state : TableState) : Type 0 where
+  pub file : FileValue
+  pub path_is : file.path ≡ path_in night (codes "track.csv")
+  pub state_is : IsStateOf file.bytes state
 
 -- the tables of the nights of a folder, in the nights' order
 pub record AreTables (nights : List ℕ) (tables : List NightTable) : Type 0 where

@@ -1,17 +1,20 @@
-ghost use Rattle.std.specs.Prelude.{◌≡◌, ◌≢◌, None, Some, false, map, option_map, codes, IfOk, IfErr};
-ghost use Rattle.clap.specs.Words.{app_of, first_value, found_of, kind_of, rule_of};
+ghost use Rattle.std.specs.Prelude.{◌≡◌, None, Some, false, map, option_map, IfOk, IfErr};
+ghost use Rattle.clap.specs.Words.{app_of, first_value, found_of, rule_of};
+ghost use Rattle.program_frame.specs.Mistake.{IsUsage};
 ghost use Rattle.day_command.specs.CommandLine as line;
-ghost use Rattle.day_command.specs.Failure.{IsUsage};
 
-use crate::mistake::Mistake;
-use clap::error::ErrorKind;
-use clap::{Arg, ArgAction, ArgMatches, Command, Error};
+use clap::{Arg, ArgAction, ArgMatches, Command};
 use file_names::is_not_utf_8;
 use hub_kinds::copy_text;
-use night_ends::{RELEASE, mistake_found, with_argument};
+use night_ends::with_argument;
+use program_frame::{Matched, Mistake, match_words, option_flag, program, word};
+use sets_again::Wanted;
 use std::alloc::{AllocError, Global};
 use std::convert::AsStr;
 use track_tables::Form;
+
+/// The name of the program.
+pub(crate) const PROGRAM: &str = "nighthub_day";
 
 /// What the text of `--help` ends with.
 const STATUSES: &str = "Commands:
@@ -25,26 +28,32 @@ const STATUSES: &str = "Commands:
                           is a formula
   page NIGHTS NIGHT       prints a page of HTML on the night NIGHT: what there
                           is to do, what senders are told, all sets
+  again [--rejected] NIGHTS NIGHT
+                          prints an input of the sets of the night NIGHT that
+                          were held for lack of a route, or were rejected
 
 Also init, run and give-up, for the nights of a hub: nighthub_day run --help.
 
 Status:
   0  check: each night goes on from those before it; find: a row was found, and
      each track.csv was read; export: each track.csv was read; page:
-     there is nothing to do at the hub
+     there is nothing to do at the hub; again: a set is printed
   1  check: one doesn't, a line for each breach; find: none was found, or a
      track.csv wasn't read; export: a track.csv wasn't read; page: there is
-     something to do
+     something to do; again: there is no such set, says a line on standard
+     error
   2  usage
-  4  NIGHTS can't be read; page: or the night's track.csv or out/
-  5  standard output; export: or standard error
+  4  NIGHTS can't be read; page: or the night's track.csv or out/; again: or
+     the night's from/in.x12 or track.csv, or they don't fit one another
+  5  standard output; export, again: or standard error
   6  no memory
 
 Examples:
   nighthub_day check nights
   nighthub_day find nights 4500012348
   nighthub_day export nights >sets.csv
-  nighthub_day page nights 20260301 >nights/20260301/page.html";
+  nighthub_day page nights 20260301 >nights/20260301/page.html
+  nighthub_day again nights 20260301 >again.x12";
 
 /// What the arguments ask for.
 #[derive(Debug, Drop)]
@@ -57,6 +66,8 @@ pub enum Asked<'a> {
     Export(&'a str, Form),
     /// To write the page of a night in the folder at this path.
     Page(&'a str, &'a str),
+    /// To print the sets of a night that go in again, in the folder at this path.
+    Again(&'a str, &'a str, Wanted),
     /// To show a text: help, or the version.
     Show(String),
 }
@@ -67,9 +78,9 @@ pub fn read_words<'a, S: AsStr>(alloc: Global, words: &'a [S]) -> Result<Asked<'
     ensures usage { IfErr result (λ mistake. IsUsage mistake → line.IsCommandLine (map S.text words.now) → ⊥) }
 {
     let command = command(alloc)?;
-    match command.try_get_matches_from(words) {
-        Ok(matches) => request_asked(alloc, &matches),
-        Err(error) => shown(alloc, &error),
+    match match_words(alloc, command, words)? {
+        Matched::Values(values) => request_asked(alloc, &values),
+        Matched::Text(text) => Ok(Asked::Show(text)),
     }
 }
 
@@ -78,44 +89,44 @@ fn command<'a>(alloc: Global) -> Result<Command<'a>, AllocError>
 {
     let command = words_command(alloc)?;
     let command = with_argument(command, text(alloc))?;
-    with_argument(command, sheet(alloc))
+    let sheet = option_flag(
+        alloc,
+        "sheet",
+        "export: an apostrophe before each field that begins with = + - or @",
+    );
+    let command = with_argument(command, sheet)?;
+    let rejected = option_flag(
+        alloc,
+        "rejected",
+        "again: the sets that were rejected, in place of those without a route",
+    );
+    with_argument(command, rejected)
 }
 
 /// The program with the words that each command takes.
 fn words_command<'a>(alloc: Global) -> Result<Command<'a>, AllocError>
     ensures { IfOk result (λ command. app_of command ≡ line.words_app) }
 {
-    let command = Command::new(alloc, "nighthub_day")
-        .about("Checks, searches and exports the nights of a folder, and writes pages of them")
-        .version(RELEASE)
-        .after_help(STATUSES)
-        .no_binary_name(true);
+    let command = program(
+        alloc,
+        PROGRAM,
+        "Checks, searches and exports the nights of a folder, and writes pages of them",
+        STATUSES,
+    );
     let what = word(
         alloc,
         "command",
         "COMMAND",
-        "check, find, export or page; each only reads",
+        "check, find, export, page or again; each only reads",
     );
     let command = with_argument(command, what)?;
     let nights = word(
         alloc,
         "nights",
         "NIGHTS",
-        "The folder of all nights, as run_night makes it",
+        "The folder of all nights, as nighthub_day run makes it",
     );
     with_argument(command, nights)
-}
-
-/// A word by its place.
-fn word<'a>(alloc: Global, name: &'a str, shown: &'a str, help: &'a str) -> Arg<'a>
-    ensures rule { rule_of result ≡ line.word_rule name.now }
-    ensures local { result.global ≡ false }
-{
-    Arg::new(alloc, name)
-        .value_name(shown)
-        .help(help)
-        .required(true)
-        .action(ArgAction::Set)
 }
 
 /// The text to find.
@@ -125,19 +136,9 @@ fn text<'a>(alloc: Global) -> Arg<'a>
 {
     Arg::new(alloc, "text")
         .value_name("TEXT")
-        .help("find: a part of a document number; page: a night's name")
+        .help("find: a part of a document number; page, again: a night's name")
         .required(false)
         .action(ArgAction::Set)
-}
-
-fn sheet<'a>(alloc: Global) -> Arg<'a>
-    ensures rule { rule_of result ≡ line.sheet_rule }
-    ensures local { result.global ≡ false }
-{
-    Arg::new(alloc, "sheet")
-        .long("sheet")
-        .help("export: an apostrophe before each field that begins with = + - or @")
-        .action(ArgAction::SetTrue)
 }
 
 fn is_given(value: Option<&str>) -> bool
@@ -164,13 +165,28 @@ fn form_of(is_sheet: bool) -> Form
     if is_sheet { Form::Sheet } else { Form::Plain }
 }
 
-/// What a command without a text asks for.
-fn without_text<'a>(command: &str, nights: &'a str, is_sheet: bool) -> Option<Asked<'a>>
-    ensures { line.IsRequested (line.request_by command.now nights.entry.now None is_sheet) result }
+fn wanted_of(is_rejected: bool) -> Wanted
+    ensures { result ≡ line.wanted_of is_rejected }
 {
-    if command == "export" {
+    if is_rejected {
+        Wanted::Rejected
+    } else {
+        Wanted::HeldForRoute
+    }
+}
+
+/// What a command without a text asks for.
+fn without_text<'a>(
+    command: &str,
+    nights: &'a str,
+    is_sheet: bool,
+    is_rejected: bool,
+) -> Option<Asked<'a>>
+    ensures { line.IsRequested (line.request_by command.now nights.entry.now None is_sheet is_rejected) result }
+{
+    if command == "export" && !is_rejected {
         Some(Asked::Export(nights, form_of(is_sheet)))
-    } else if command == "check" && !is_sheet {
+    } else if command == "check" && (!is_sheet && !is_rejected) {
         Some(Asked::Check(nights))
     } else {
         None
@@ -178,12 +194,20 @@ fn without_text<'a>(command: &str, nights: &'a str, is_sheet: bool) -> Option<As
 }
 
 /// What a command with a text asks for.
-fn with_text<'a>(command: &str, nights: &'a str, text: &'a str, is_sheet: bool) -> Option<Asked<'a>>
-    ensures { line.IsRequested (line.request_by command.now nights.entry.now (Some text.entry.now) is_sheet) result }
+fn with_text<'a>(
+    command: &str,
+    nights: &'a str,
+    text: &'a str,
+    is_sheet: bool,
+    is_rejected: bool,
+) -> Option<Asked<'a>>
+    ensures { line.IsRequested (line.request_by command.now nights.entry.now (Some text.entry.now) is_sheet is_rejected) result }
 {
-    if command == "find" && (is_text(text) && !is_sheet) {
+    if command == "again" && (is_text(text) && !is_sheet) {
+        Some(Asked::Again(nights, text, wanted_of(is_rejected)))
+    } else if command == "find" && (is_text(text) && (!is_sheet && !is_rejected)) {
         Some(Asked::Find(nights, text))
-    } else if command == "page" && (is_text(text) && !is_sheet) {
+    } else if command == "page" && (is_text(text) && (!is_sheet && !is_rejected)) {
         Some(Asked::Page(nights, text))
     } else {
         None
@@ -196,13 +220,14 @@ fn request<'a>(
     nights: &'a str,
     text: Option<&'a str>,
     is_sheet: bool,
+    is_rejected: bool,
 ) -> Option<Asked<'a>>
     ensures { line.IsRequested
-        (line.request_by command.now nights.entry.now (option_map (λ t. t.now) text.entry) is_sheet) result }
+        (line.request_by command.now nights.entry.now (option_map (λ t. t.now) text.entry) is_sheet is_rejected) result }
 {
     match text {
-        None => without_text(command, nights, is_sheet),
-        Some(text) => with_text(command, nights, text, is_sheet),
+        None => without_text(command, nights, is_sheet, is_rejected),
+        Some(text) => with_text(command, nights, text, is_sheet, is_rejected),
     }
 }
 
@@ -217,7 +242,14 @@ fn request_found<'a>(matches: &ArgMatches<'a>) -> Option<Asked<'a>>
         return None;
     };
     let is_sheet = is_given(matches.get_str("sheet"));
-    request(command, nights, matches.get_str("text"), is_sheet)
+    let is_rejected = is_given(matches.get_str("rejected"));
+    request(
+        command,
+        nights,
+        matches.get_str("text"),
+        is_sheet,
+        is_rejected,
+    )
 }
 
 fn request_asked<'a>(alloc: Global, matches: &ArgMatches<'a>) -> Result<Asked<'a>, Mistake>
@@ -228,22 +260,8 @@ fn request_asked<'a>(alloc: Global, matches: &ArgMatches<'a>) -> Result<Asked<'a
         Some(asked) => Ok(asked),
         None => Err(Mistake::Usage(copy_text(
             alloc,
-            b"it takes check NIGHTS, find NIGHTS TEXT, where TEXT isn't empty, export [--sheet] NIGHTS, or page NIGHTS NIGHT",
+            b"it takes check NIGHTS, find NIGHTS TEXT, where TEXT isn't empty, export [--sheet] NIGHTS, page NIGHTS NIGHT, \
+              or again [--rejected] NIGHTS NIGHT",
         )?)),
-    }
-}
-
-/// The text that is asked for, if the arguments have no mistake.
-fn shown<'a>(alloc: Global, error: &Error) -> Result<Asked<'a>, Mistake>
-    ensures shown { IfOk result (line.IsShown (kind_of error.now)) }
-    ensures usage { IfErr result (λ mistake. IsUsage mistake → kind_of error.now ≢ ErrorKind.OutOfMemory) }
-{
-    match error.kind() {
-        ErrorKind::DisplayHelp | ErrorKind::DisplayVersion => {
-            let text = format!(in alloc; "{error}")?;
-            Ok(Asked::Show(text))
-        }
-        ErrorKind::OutOfMemory => Err(Mistake::Memory),
-        _ => Err(Mistake::Usage(mistake_found(alloc, error)?)),
     }
 }

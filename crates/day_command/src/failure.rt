@@ -5,16 +5,10 @@ ghost use Rattle.day_command.specs.Failure.{line_of, status_of};
 use hub_kinds::NoMemory;
 use night_ends::print_text;
 use night_review::ReviewFault;
+use program_frame::Reported;
+use sets_again::AgainFault;
 use std::alloc::AllocError;
-use std::io;
 use std::io::Write;
-
-/// That a failure was reported: the status that the program ends with, and whether the line is printed.
-#[derive(Debug, Drop)]
-pub struct Reported {
-    pub status: u8,
-    pub printed: io::Result<()>,
-}
 
 /// Why a run failed.
 #[derive(Clone, Copy, Debug, PartialEq, Eq)]
@@ -23,10 +17,12 @@ pub enum Failure {
     Input,
     /// The night that is named has no table or no folder out/ that can be read.
     Night,
+    /// The night has no input or no table that can be read.
+    Papers,
+    /// The table of the night isn't that of its input.
+    Unfit,
     /// The clock can't be read.
     Clock,
-    /// Standard output failed.
-    Stdout,
     /// Standard error failed, on which an export names tables.
     Stderr,
     /// Memory was refused.
@@ -55,8 +51,11 @@ impl Failure {
                 "nighthub_day: input: NIGHTS can't be listed, or has a name that isn't UTF-8\n",
             Failure::Night =>
                 "nighthub_day: input: the night has no track.csv and out/ that can be read\n",
+            Failure::Papers =>
+                "nighthub_day: input: the night has no from/in.x12 and track.csv that can be read\n",
+            Failure::Unfit =>
+                "nighthub_day: input: the night's track.csv isn't the table of its from/in.x12\n",
             Failure::Clock => "nighthub_day: input: the clock can't be read\n",
-            Failure::Stdout => "nighthub_day: output stdout\n",
             Failure::Stderr => "nighthub_day: output stderr\n",
             Failure::Memory => "nighthub_day: memory\n",
         }
@@ -67,8 +66,9 @@ impl Failure {
         ensures values { (result ≡ 4) ⊎ ((result ≡ 5) ⊎ (result ≡ 6)) }
     {
         match self {
-            Failure::Input | Failure::Night | Failure::Clock => 4,
-            Failure::Stdout | Failure::Stderr => 5,
+            Failure::Input | Failure::Night | Failure::Papers | Failure::Unfit | Failure::Clock =>
+                4,
+            Failure::Stderr => 5,
             Failure::Memory => 6,
         }
     }
@@ -93,6 +93,20 @@ impl From<NoMemory> for Failure {
 
     fn from(_error: NoMemory) -> Failure {
         Failure::Memory
+    }
+}
+
+impl From<AgainFault> for Failure {
+    ghost use Rattle.std.specs.Prelude.{◌≡◌};
+    ghost use Rattle.day_command.specs.Failure.{of_again};
+
+    ghost from_gives = { λ fault failure. failure ≡ of_again fault };
+
+    fn from(fault: AgainFault) -> Failure {
+        match fault {
+            AgainFault::Unfit => Failure::Unfit,
+            AgainFault::Memory => Failure::Memory,
+        }
     }
 }
 

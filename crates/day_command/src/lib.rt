@@ -13,10 +13,13 @@
 //! - export prints one CSV of the rows of all tables that were read, each with its night, and names the others on standard error. It ends
 //!   with 0 exactly if each table was read; else with 1;
 //! - page prints the page of the definition on one night, of its table, of the acknowledgments in its folder out/, and of its files
-//!   files.txt and night.toml, if it has them. It ends with 1 exactly if there is something to do at the hub, and with 4 if the table or
-//!   the folder can't be read;
+//!   files.txt, night.toml and from/in.x12, if it has them. It ends with 1 exactly if there is something to do at the hub, and with 4 if
+//!   the table or the folder can't be read;
+//! - again prints the sets of a night that were held for lack of a route, or that were rejected, as an input, by the night's input and its
+//!   table. It ends with 0 exactly if there is such a set; else with 1 and a line on standard error; and with 4 if the input or the table
+//!   can't be read, or the table isn't that of the input;
 //! - it ends with 2 only if the arguments are wrong, and prints nothing on standard output if the folder or the clock can't be read, or if
-//!   memory is refused; with 0 or 1 nothing but an export prints on standard error;
+//!   memory is refused; with 0 or 1 nothing but export and again prints on standard error;
 //! - the line of a failure is the one that belongs to it, and so is its status.
 //!
 //! One night's table is in memory at a time. What is printed is kept in memory until all nights were read, so that a run which fails prints
@@ -27,18 +30,19 @@
 //! Tests: `.ci/nights_go_on`, `.ci/find`.
 #![tactic(auto)]
 
+mod again;
 mod command;
 mod export;
 mod failure;
 mod find;
-mod mistake;
+mod inner;
 mod page;
+mod papers;
 mod record;
 mod run;
 mod tables;
 mod told;
 
 pub use command::{Asked, read_words};
-pub use failure::{Failure, Reported};
-pub use mistake::Mistake;
+pub use failure::Failure;
 pub use run::day_main;

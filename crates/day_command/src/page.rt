@@ -1,21 +1,24 @@
-ghost use Rattle.std.specs.Prelude.{◌≡◌, ◌↔◌, ◌⊎◌, IfErr, IfOk, true};
+ghost use Rattle.std.specs.Prelude.{◌≡◌, ◌↔◌, ◌⊎◌, IfErr, IfOk, map, true};
+ghost use Rattle.csv.specs.Records.{fields_of};
 ghost use Rattle.night_ends.specs.Outbox.{path_in};
 ghost use Rattle.day_command.specs.Failure.{IsBefore};
-ghost use Rattle.day_command.specs.Page.{IsPageReport};
+ghost use Rattle.day_command.specs.Page.{IsPageOf, IsPageReport};
 
 use crate::failure::Failure;
-use crate::record::record_at;
+use crate::papers::{PagePapers, papers_at};
+use crate::tables::state_at;
 use crate::told::partners_at;
+use csv::ByteRecord;
 use hub_kinds::NoMemory;
-use night_folder::{first_line, read_paper};
-use night_page::{FOOT, HEAD, NightPage, append_page};
+use night_folder::first_line;
+use night_page::{FOOT, HEAD, NightPage, PartnerTold, append_page};
 use night_review::Report;
 use std::alloc::Global;
 use std::rt::Files;
-use track_tables::read_table;
+use track_tables::TableState;
 
 /// The path of the night `name` in the folder at the path `nights`.
-fn night_path(alloc: Global, nights: &[u8], name: &[u8]) -> Result<Vec<u8>, NoMemory>
+pub(crate) fn night_path(alloc: Global, nights: &[u8], name: &[u8]) -> Result<Vec<u8>, NoMemory>
     ensures { IfOk result (λ path. path.items ≡ path_in nights.now name.now) }
 {
     let mut path = Vec::from_slice(alloc, nights)?;
@@ -32,6 +35,38 @@ fn status_of(todo: bool) -> u8
     if todo { 1 } else { 0 }
 }
 
+/// The page of the night `name`, which is made of `papers`, the `rows` of its table and its `partners`, and the status.
+fn report_of(
+    alloc: Global,
+    name: &[u8],
+    papers: &PagePapers,
+    rows: &[ByteRecord],
+    partners: &[PartnerTold],
+) -> Result<Report, NoMemory>
+    ensures page { IfOk result (λ report.
+        IsPageOf name.now papers.now (map fields_of rows.now) partners.now report.text.items report.status) }
+    ensures values { IfOk result (λ report. (report.status ≡ 0) ⊎ (report.status ≡ 1)) }
+{
+    let files = papers.files.bytes();
+    let record = papers.record.as_ref();
+    let mut text = Vec::new(alloc);
+    let page = NightPage {
+        night: name,
+        moment: first_line(papers.at.bytes_or_none()),
+        total: first_line(papers.total.bytes_or_none()),
+        files,
+        inner: papers.inner.as_slice(),
+        rows,
+        partners,
+        record,
+    };
+    let todo = append_page(alloc, &mut text, HEAD.as_bytes(), FOOT.as_bytes(), &page)?;
+    Ok(Report {
+        text,
+        status: status_of(todo),
+    })
+}
+
 /// The page of the night `name` of the folder at the path `nights`, and the status.
 pub(crate) fn page_of<R: Files + AllocGlobal + Clone + Drop>(
     rt: &R,
@@ -45,33 +80,17 @@ pub(crate) fn page_of<R: Files + AllocGlobal + Clone + Drop>(
     let alloc = rt.alloc();
     let path = night_path(alloc, nights.as_bytes(), name.as_bytes())?;
     let night = path.as_slice();
-    let at = read_paper(rt, night, b"from/at")?;
-    let total = read_paper(rt, night, b"total")?;
-    let files = read_paper(rt, night, b"files.txt")?;
-    let table = read_paper(rt, night, b"track.csv")?;
-    let Some(bytes) = table.bytes() else {
-        return Err(Failure::Night);
-    };
-    let Some(rows) = read_table(alloc, bytes)? else {
+    let TableState::Rows(rows) = state_at(rt, night)? else {
         return Err(Failure::Night);
     };
     let partners = partners_at(rt, night)?;
-    let shown = record_at(rt, night)?;
-    let said = files.bytes();
-    let seen = shown.as_ref();
-    let mut text = Vec::new(alloc);
-    let page = NightPage {
-        night: name.as_bytes(),
-        moment: first_line(at.bytes_or_none()),
-        total: first_line(total.bytes_or_none()),
-        files: said,
-        rows: rows.as_slice(),
-        partners: partners.as_slice(),
-        record: seen,
-    };
-    let todo = append_page(alloc, &mut text, HEAD.as_bytes(), FOOT.as_bytes(), &page)?;
-    Ok(Report {
-        text,
-        status: status_of(todo),
-    })
+    let papers = papers_at(rt, night)?;
+    let report = report_of(
+        alloc,
+        name.as_bytes(),
+        &papers,
+        rows.as_slice(),
+        partners.as_slice(),
+    )?;
+    Ok(report)
 }

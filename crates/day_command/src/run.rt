@@ -3,10 +3,11 @@ ghost use Rattle.std.specs.Io.KnownBytes.{Appends};
 ghost use Rattle.night_breaches.specs.Breaches.{last_name};
 ghost use Rattle.day_command.specs.CommandLine.{IsCommandLine};
 ghost use Rattle.day_command.specs.Failure.{IsBefore, IsStatus};
-ghost use Rattle.day_command.specs.Outcome.{AsksForExport, IsChecked, IsExported, IsPaged, IsReport, IsRun, IsSearched, named_last};
-ghost use Rattle.day_command.specs.Outcome.{AreJudged, IsBoth};
+ghost use Rattle.day_command.specs.Outcome.{AreJudged, AsksForAgain, AsksForExport, IsBoth, IsChecked, IsExported, IsPaged};
+ghost use Rattle.day_command.specs.Outcome.{IsPrintedAgain, IsReport, IsRun, IsSearched, named_last};
 
-use crate::command::{Asked, read_words};
+use crate::again::{Again, again_of};
+use crate::command::{Asked, PROGRAM, read_words};
 use crate::export::{Export, export_nights};
 use crate::failure::Failure;
 use crate::find::{find_nights, status_of};
@@ -17,7 +18,9 @@ use night_ends::print_text;
 use night_folder::{PaperAt, entries_in, first_line, read_nights, read_paper};
 use night_marks::{NightMark, in_order};
 use night_review::{Report, judged, limit, nights_at};
+use program_frame::print_out;
 use record_review::{RecordsReport, review_records};
+use sets_again::Wanted;
 use std::convert::AsStr;
 use std::io::Write;
 use std::rt::{Clock, Files};
@@ -33,7 +36,7 @@ where
     E: Write,
     ensures status { IsStatus result }
     ensures silent { 2 ≤ result → result ≢ 5 → out.new ≡ out.old }
-    ensures quiet { result ≤ 1 → (err.new ≡ err.old) ⊎ AsksForExport (map S.text words.now) }
+    ensures quiet { result ≤ 1 → (err.new ≡ err.old) ⊎ (AsksForExport (map S.text words.now) ⊎ AsksForAgain (map S.text words.now)) }
     ensures usage { result ≡ 2 → IsCommandLine (map S.text words.now) → ⊥ }
     ensures printed { result ≤ 1 → IsRun (map S.text words.now) result (O.contents out.old) (O.contents out.new)
         (E.contents err.old) (E.contents err.new) }
@@ -43,8 +46,11 @@ where
         Ok(Asked::Find(nights, text)) => print_found(rt, nights, text, out, err),
         Ok(Asked::Export(nights, form)) => print_exported(rt, nights, form, out, err),
         Ok(Asked::Page(nights, night)) => print_page(rt, nights, night, out, err),
-        Ok(Asked::Show(text)) => finish(text.as_bytes(), 0, out, err),
-        Err(mistake) => mistake.report(err).status,
+        Ok(Asked::Again(nights, night, wanted)) => {
+            print_again(rt, nights, night, wanted, out, err)
+        }
+        Ok(Asked::Show(text)) => print_out(PROGRAM, text.as_bytes(), 0, out, err),
+        Err(mistake) => mistake.report(PROGRAM, err).status,
     }
 }
 
@@ -61,7 +67,7 @@ where
     ensures printed { result ≤ 1 → IsChecked nights.now result (O.contents out.old) (O.contents out.new) }
 {
     match report_of(rt, nights) {
-        Ok(report) => finish(report.text.as_slice(), report.status, out, err),
+        Ok(report) => print_out(PROGRAM, report.text.as_slice(), report.status, out, err),
         Err(failure) => failure.report(err).status,
     }
 }
@@ -79,7 +85,7 @@ where
     ensures printed { result ≤ 1 → IsSearched nights.now text.now result (O.contents out.old) (O.contents out.new) }
 {
     match find_nights(rt, nights, text) {
-        Ok(report) => finish(report.text.as_slice(), report.status, out, err),
+        Ok(report) => print_out(PROGRAM, report.text.as_slice(), report.status, out, err),
         Err(failure) => failure.report(err).status,
     }
 }
@@ -97,7 +103,32 @@ where
     ensures printed { result ≤ 1 → IsPaged nights.now night.now result (O.contents out.old) (O.contents out.new) }
 {
     match page_of(rt, nights, night) {
-        Ok(report) => finish(report.text.as_slice(), report.status, out, err),
+        Ok(report) => print_out(PROGRAM, report.text.as_slice(), report.status, out, err),
+        Err(failure) => failure.report(err).status,
+    }
+}
+
+/// Prints the sets that go in again of the night `night` of the folder at the path `nights`; if there is none, a line on standard error.
+fn print_again<R, O, E>(
+    rt: &R,
+    nights: &str,
+    night: &str,
+    wanted: Wanted,
+    out: &mut O,
+    err: &mut E,
+) -> u8
+where
+    R: Files + AllocGlobal + Clone + Drop,
+    O: Write,
+    E: Write,
+    ensures status { IsStatus result }
+    ensures words { result ≢ 2 }
+    ensures silent { 2 ≤ result → result ≢ 5 → out.new ≡ out.old }
+    ensures printed { result ≤ 1 → IsPrintedAgain nights.now night.now wanted result (O.contents out.old) (O.contents out.new)
+        (E.contents err.old) (E.contents err.new) }
+{
+    match again_of(rt, nights, night, wanted) {
+        Ok(sets) => finish_again(&sets, out, err),
         Err(failure) => failure.report(err).status,
     }
 }
@@ -120,6 +151,25 @@ where
     }
 }
 
+/// Prints the line that there is no set, or the sets that go in again, and gives the status, or that of a failure of an output.
+fn finish_again<O: Write, E: Write>(sets: &Again, out: &mut O, err: &mut E) -> u8
+    ensures values { (result ≡ 0) ⊎ ((result ≡ 1) ⊎ (result ≡ 5)) }
+    ensures status { result ≢ 5 → ((result ≡ 0) ↔ (sets.now.is_found ≡ true)) }
+    ensures printed { result ≢ 5 → Appends (O.contents out.old) (O.contents out.new) sets.now.text.items }
+    ensures said { result ≢ 5 → Appends (E.contents err.old) (E.contents err.new) sets.now.line.items }
+{
+    if print_text(sets.line.as_slice(), err).is_err() {
+        return Failure::Stderr.report(err).status;
+    }
+    print_out(
+        PROGRAM,
+        sets.text.as_slice(),
+        status_of(sets.is_found),
+        out,
+        err,
+    )
+}
+
 /// Prints an export, first the tables that weren't read, and gives its status, or that of a failure of an output.
 fn finish_both<O: Write, E: Write>(all: &Export, out: &mut O, err: &mut E) -> u8
     ensures values { (result ≡ 0) ⊎ ((result ≡ 1) ⊎ (result ≡ 5)) }
@@ -130,10 +180,13 @@ fn finish_both<O: Write, E: Write>(all: &Export, out: &mut O, err: &mut E) -> u8
     if print_text(all.unread.as_slice(), err).is_err() {
         return Failure::Stderr.report(err).status;
     }
-    if print_text(all.text.as_slice(), out).is_err() {
-        return Failure::Stdout.report(err).status;
-    }
-    status_of(all.all_read)
+    print_out(
+        PROGRAM,
+        all.text.as_slice(),
+        status_of(all.all_read),
+        out,
+        err,
+    )
 }
 
 /// The name of the last of `entries`.
@@ -214,17 +267,4 @@ fn report_of<R: Files + Clock + AllocGlobal + Clone + Drop>(
     let report = nights_report(rt, nights.as_bytes(), order.as_slice())?;
     let records = review_records(rt, nights.as_bytes(), order.as_slice())?;
     Ok(with_records(report, &records)?)
-}
-
-/// Prints a text on standard output, and nothing else. Gives `status`, or the status of a failure of standard output.
-fn finish<O: Write, E: Write>(text: &[u8], status: u8, out: &mut O, err: &mut E) -> u8
-    requires { status ≤ 1 }
-    ensures status { (result ≡ status) ⊎ (result ≡ 5) }
-    ensures printed { result ≢ 5 → Appends (O.contents out.old) (O.contents out.new) text.now }
-    ensures quiet { result ≢ 5 → err.new ≡ err.old }
-{
-    if print_text(text, out).is_err() {
-        return Failure::Stdout.report(err).status;
-    }
-    status
 }

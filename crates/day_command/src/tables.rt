@@ -6,7 +6,7 @@ use night_folder::read_paper;
 use night_marks::NightMark;
 use std::alloc::Global;
 use std::rt::Files;
-use track_tables::{NightTable, read_state};
+use track_tables::{NightTable, TableState, read_state};
 
 /// The name of the table of the night `night` in the folder of all nights.
 fn table_name(alloc: Global, night: &[u8]) -> Result<Text, NoMemory>
@@ -32,4 +32,12 @@ pub(crate) fn table_at<R: Files + AllocGlobal>(
         night: copy_text(rt.alloc(), night)?,
         state: read_state(rt.alloc(), file.bytes())?,
     })
+}
+
+/// Reads the table of the night in the folder at the path `night`. The only error is out of memory.
+pub(crate) fn state_at<R: Files + AllocGlobal>(rt: &R, night: &[u8]) -> Result<TableState, NoMemory>
+    ensures { IfOk result (tables.IsStateAt night.now) }
+{
+    let file = read_paper(rt, night, b"track.csv")?;
+    read_state(rt.alloc(), file.bytes())
 }

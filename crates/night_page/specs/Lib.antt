@@ -1,5 +1,6 @@
 pub mod Causes
 pub mod Files
+pub mod Inner
 pub mod Names
 pub mod Page
 pub mod Record

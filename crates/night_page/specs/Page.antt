@@ -8,6 +8,8 @@ use Rattle.html_text.specs.Html.{html_bytes}
 use Rattle.night_search.specs.Lines.{document, receiver, sender, st01, verdict}
 use Rattle.night_page.specs.Causes.{AreCauses, cause_of, has_cause}
 use Rattle.night_page.specs.Files.{are_whole, aside_part, files_part, lines_of}
+use Rattle.night_page.specs.Inner.{inner_part}
+use Rattle.night_page.specs.Names.{is_filled}
 use Rattle.night_page.specs.Record.{moment_words, record_part}
 use Rattle.night_page.specs.Rows.{Row, end_words, group_words, has_outcome, is_delivered, is_refused, isa13, st02, subject_words}
 use Rattle.night_page.specs.Tags.{count_box, item, table_head, table_row, tagged}
@@ -16,13 +18,14 @@ use Rattle.night_page.specs.declared.page.NightPage.{NightPage}
 use Rattle.night_page.specs.declared.record.RecordShown.{RecordShown}
 use Rattle.night_page.specs.declared.told.PartnerTold.{PartnerTold}
 
--- the night's name, its moment (CCYYMMDDHHMM), the last line of its report, the text on the files of the day, the rows of its table, what
--- partners are told, and what is shown of its record
+-- the night's name, its moment (CCYYMMDDHHMM), the last line of its report, the text on the files of the day, a line for each refused
+-- interchange with further headers, the rows of its table, what partners are told, and what is shown of its record
 pub record PageValue : Type 0 where
   pub night : List ℕ
   pub moment : List ℕ
   pub total : List ℕ
   pub files : Option (List ℕ)
+  pub inner : List (List ℕ)
   pub rows : List Row
   pub partners : List PartnerTold
   pub shown : Option RecordShown
@@ -34,6 +37,7 @@ value_of page = record {
   moment = page.moment.now;
   total = page.total.now;
   files = option_map (λ text. text.now) page.files;
+  inner = page.inner.now;
   rows = map fields_of page.rows.now;
   partners = page.partners.now;
   shown = option_map (λ shown. shown.now) page.record;
@@ -93,14 +97,14 @@ abbrev pub none_part : (calm : Bool) → List Name → List ℕ
 none_part true [] = codes "<p>Nothing.</p>\n"
 none_part calm causes = []
 
--- no byte is outside, and each file of the day went in whole
-abbrev pub is_calm : (inside : Bool) → (lines : List (List ℕ)) → Bool
-is_calm inside lines = inside && are_whole lines
+-- no byte is outside, each file of the day went in whole, and no refused interchange has further headers
+abbrev pub is_calm : (inside : Bool) → (lines inner : List (List ℕ)) → Bool
+is_calm inside lines inner = inside && (are_whole lines && not (is_filled inner))
 
-abbrev pub todo_part : (inside : Bool) → (lines : List (List ℕ)) → List Row → List Name → List ℕ
-todo_part inside lines rows causes =
-    codes "<h2>To do at the hub</h2>\n" ++ (aside_part lines ++ (outside_part inside
-    ++ (none_part (is_calm inside lines) causes ++ causes_part rows causes)))
+abbrev pub todo_part : (inside : Bool) → (lines inner : List (List ℕ)) → List Row → List Name → List ℕ
+todo_part inside lines inner rows causes =
+    codes "<h2>To do at the hub</h2>\n" ++ (aside_part lines ++ (inner_part inner ++ (outside_part inside
+    ++ (none_part (is_calm inside lines inner) causes ++ causes_part rows causes))))
 
 abbrev pub lines_part : (partner lines : List ℕ) → List ℕ
 lines_part partner lines =
@@ -187,15 +191,17 @@ sets_part rows =
 abbrev pub page_text : (head foot : List ℕ) → PageValue → (causes : List Name) → List ℕ
 page_text head foot page causes =
     head ++ (title_part page ++ (counts_part page.rows
-    ++ (todo_part (is_all_inside page.total) (lines_of page.files) page.rows causes ++ (files_part page.files ++ (told_part page.partners
-    ++ (partners_part page.rows page.partners ++ (sets_part page.rows ++ (record_part page.shown ++ foot))))))))
+    ++ (todo_part (is_all_inside page.total) (lines_of page.files) page.inner page.rows causes
+    ++ (files_part page.files ++ (told_part page.partners ++ (partners_part page.rows page.partners
+    ++ (sets_part page.rows ++ (record_part page.shown ++ foot))))))))
 
 pub record IsPage (head foot : List ℕ) (page : PageValue) (text : List ℕ) : Type 0 where
   pub causes : List Name
   pub causes_are : AreCauses page.rows causes
   pub text_is : text ≡ page_text head foot page causes
 
--- there is something to do: a byte is outside, a file is set aside or isn't whole, or a row is a cause
+-- there is something to do: a byte is outside, a file is set aside or isn't whole, a refused interchange has further headers, or a row is
+-- a cause
 abbrev pub has_todo : PageValue → Bool
 has_todo page =
-    not (is_calm (is_all_inside page.total) (lines_of page.files)) || list_any (λ row. is_some (cause_of row)) page.rows
+    not (is_calm (is_all_inside page.total) (lines_of page.files) page.inner) || list_any (λ row. is_some (cause_of row)) page.rows

@@ -8,7 +8,8 @@
 //! - what others chose is in it as a text (`html_text`), so no name, number or document puts markup into it;
 //! - more than a hundred causes are counted, and the first hundred shown;
 //! - the lines of `files.txt`, if the night has it, are in it; those that don't say that a file went in whole are among what there is to
-//!   do, before all else. A night with a record has its sum, and what the clock of the host said, at the end.
+//!   do, before all else. After them come the lines on refused interchanges in which further headers begin. A night with a record has its
+//!   sum, and what the clock of the host said, at the end.
 //!
 //! It takes as much work as the rows have bytes, times the causes that are shown, and n log n to put partners and causes in order.
 //!
@@ -20,6 +21,7 @@
 mod causes;
 mod files;
 mod fixed;
+mod inner;
 mod lines;
 mod name;
 mod page;

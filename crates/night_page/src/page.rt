@@ -14,7 +14,7 @@ use crate::title::append_title;
 use crate::todo::{append_todo, is_all_inside, is_calm};
 use crate::told::{PartnerTold, append_told};
 use csv::ByteRecord;
-use hub_kinds::NoMemory;
+use hub_kinds::{NoMemory, Text};
 use std::alloc::Global;
 
 /// What the page of a night is made of.
@@ -28,6 +28,8 @@ pub struct NightPage<'a> {
     pub total: &'a [u8],
     /// The text on the files of the day; none if the night has no such file.
     pub files: Option<&'a [u8]>,
+    /// A line for each refused interchange of its input in which further headers begin.
+    pub inner: &'a [Text],
     /// The rows of its table.
     pub rows: &'a [ByteRecord],
     /// Its partners.
@@ -75,6 +77,7 @@ pub fn append_page(
         out,
         inside,
         lines.as_slice(),
+        night.inner,
         night.rows,
         causes.as_slice(),
     )?;
@@ -84,5 +87,6 @@ pub fn append_page(
     append_sets(alloc, out, night.rows)?;
     append_record(alloc, out, night.record)?;
     append_fixed(out, foot)?;
-    Ok(has_todo(is_calm(inside, lines.as_slice()), causes.as_slice()))
+    let calm = is_calm(inside, lines.as_slice(), night.inner);
+    Ok(has_todo(calm, causes.as_slice()))
 }

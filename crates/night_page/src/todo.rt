@@ -7,12 +7,13 @@ ghost use Rattle.night_page.specs.Page as page;
 
 use crate::causes::has_cause;
 use crate::files::append_aside;
+use crate::inner::append_inner;
 use crate::lines::are_whole;
 use crate::name::Name;
 use crate::rows::subject_words;
 use crate::tags::{append_fixed, append_item, append_number, append_tagged};
 use csv::ByteRecord;
-use hub_kinds::NoMemory;
+use hub_kinds::{NoMemory, Text};
 use std::alloc::Global;
 
 /// So many causes are shown; further ones are counted.
@@ -196,29 +197,32 @@ fn append_shown(
     append_causes(alloc, out, rows, first_causes(causes))
 }
 
-/// Whether no byte is outside, and each of the `lines` on files says that it went in whole.
-pub(crate) fn is_calm(inside: bool, lines: &[&[u8]]) -> bool
-    ensures { result ≡ page.is_calm inside (read lines.now) }
+/// Whether no byte is outside, each of the `lines` on files says that it went in whole, and there is no line in `inner`.
+pub(crate) fn is_calm(inside: bool, lines: &[&[u8]], inner: &[Text]) -> bool
+    ensures { result ≡ page.is_calm inside (read lines.now) inner.now }
 {
-    inside && are_whole(lines)
+    inside && (are_whole(lines) && inner.is_empty())
 }
 
-/// Appends what there is to do at the hub because of files of the day, by the `lines` on them, because of bytes outside, and because of
-/// `rows`, for these causes.
+/// Appends what there is to do at the hub because of files of the day, by the `lines` on them, because of refused interchanges with further
+/// headers, by those in `inner`, because of bytes outside, and because of `rows`, for these causes.
 pub(crate) fn append_todo(
     alloc: Global,
     out: &mut Vec<u8>,
     inside: bool,
     lines: &[&[u8]],
+    inner: &[Text],
     rows: &[ByteRecord],
     causes: &[Name],
 ) -> Result<(), NoMemory>
-    ensures { OnOk result (out.new.items ≡ out.old.items ++ page.todo_part inside (read lines.now) (map fields_of rows.now) causes.now) }
+    ensures { OnOk result (out.new.items
+        ≡ out.old.items ++ page.todo_part inside (read lines.now) inner.now (map fields_of rows.now) causes.now) }
 {
     append_fixed(out, b"<h2>To do at the hub</h2>\n")?;
     append_aside(alloc, out, lines)?;
+    append_inner(alloc, out, inner)?;
     append_outside(out, inside)?;
-    append_none(out, is_calm(inside, lines), causes)?;
+    append_none(out, is_calm(inside, lines, inner), causes)?;
     append_shown(alloc, out, rows, causes)?;
     append_others(out, causes.len())
 }

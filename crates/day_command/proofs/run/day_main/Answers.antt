@@ -1,6 +1,6 @@
 use Rattle.std.proofs.Common.{arith, inl, inr, map}
-use Rattle.day_command.specs.CommandLine.{check, export, find, page}
-use Rattle.day_command.proofs.CommandLine.{check_asked, export_asked, find_asked, page_asked, text_asked}
+use Rattle.day_command.specs.CommandLine.{again, check, export, find, page}
+use Rattle.day_command.proofs.CommandLine.{again_asked, check_asked, export_asked, find_asked, page_asked, text_asked}
 use Rattle.day_command.proofs.run.day_main.Goals as goal
 
 pub returns-in-Ok-Check-clause-printed : goal.returns-in-Ok-Check-clause-printed
@@ -32,11 +32,30 @@ returns-in-Ok-Export-clause-printed g c done =
 
 pub returns-in-Ok-Export-clause-quiet : goal.returns-in-Ok-Export-clause-quiet
 returns-in-Ok-Export-clause-quiet g c done =
-    inr (
+    inr (inl (
       c.in-Ok-Export.nights.now,
       c.in-Ok-Export.form,
       export_asked (map g.S.AsStr.text c.args.words.now) c.in-Ok-Export.field-0 c.in-Ok-Export.nights c.in-Ok-Export.form
           c.in-Ok-Export.field-0-is c.in-Ok-Export.ensures.asked,
+    ))
+
+pub returns-in-Ok-Again-clause-quiet : goal.returns-in-Ok-Again-clause-quiet
+returns-in-Ok-Again-clause-quiet g c done =
+    inr (inr (
+      c.in-Ok-Again.nights.now,
+      c.in-Ok-Again.night.now,
+      c.in-Ok-Again.wanted,
+      again_asked (map g.S.AsStr.text c.args.words.now) c.in-Ok-Again.field-0 c.in-Ok-Again.nights c.in-Ok-Again.night
+          c.in-Ok-Again.wanted c.in-Ok-Again.field-0-is c.in-Ok-Again.ensures.asked,
+    ))
+
+pub returns-in-Ok-Again-clause-printed : goal.returns-in-Ok-Again-clause-printed
+returns-in-Ok-Again-clause-printed g c done =
+    inl (
+      again c.in-Ok-Again.nights.now c.in-Ok-Again.night.now c.in-Ok-Again.wanted,
+      again_asked (map g.S.AsStr.text c.args.words.now) c.in-Ok-Again.field-0 c.in-Ok-Again.nights c.in-Ok-Again.night
+          c.in-Ok-Again.wanted c.in-Ok-Again.field-0-is c.in-Ok-Again.ensures.asked,
+      c.print_again.ensures.printed done,
     )
 
 pub returns-in-Ok-Page-clause-printed : goal.returns-in-Ok-Page-clause-printed
@@ -55,8 +74,8 @@ returns-in-Ok-Show-clause-printed g c done =
           text_asked (map g.S.AsStr.text c.args.words.now) c.in-Ok-Show.field-0 c.in-Ok-Show.text c.in-Ok-Show.field-0-is
           c.in-Ok-Show.ensures.asked;
       text = c.as_bytes.result.now;
-      printed = c.finish.ensures.printed (omega (arith, done));
-      own_status = elim c.finish.ensures.status [
+      printed = c.print_out.ensures.printed (omega (arith, done));
+      own_status = elim c.print_out.ensures.status [
         | inl zero ↦ zero
         | inr five ↦ absurd (omega (arith, done, five))
       ];

@@ -21,13 +21,14 @@ returns-clause-page c =
     let value = value_of c.args.night.now in
     let rows = value.rows in
     let partners = value.partners in
+    let inner : List (List ℕ) = value.inner in
     let inside = is_all_inside value.total in
     let lines : List (List ℕ) = lines_of value.files in
     let causes = c.in_ok-causes.causes.items in
     let todo =
-    ap₂ (λ (i : Bool) (l : List Name). todo_part i (read c.as_slice.result.now) rows l) c.is_all_inside-inside.ensures
+    ap₂ (λ (i : Bool) (l : List Name). todo_part i (read c.as_slice.result.now) inner rows l) c.is_all_inside-inside.ensures
     c.as_slice-2.ensures.value
-    ∙ ap (λ (l : List (List ℕ)). todo_part inside l rows causes) (ap read c.as_slice.ensures.value ∙ c.in_ok-lines.ensures) in
+    ∙ ap (λ (l : List (List ℕ)). todo_part inside l inner rows causes) (ap read c.as_slice.ensures.value ∙ c.in_ok-lines.ensures) in
     let end : List ℕ = c.append_fixed-2.new.out.items in
     let foot : List ℕ = c.args.foot.now in
     let last : List ℕ = record_part value.shown ++ foot in
@@ -35,7 +36,7 @@ returns-clause-page c =
     let after_told : List ℕ = partners_part rows partners ++ sets in
     let after_files : List ℕ = told_part partners ++ after_told in
     let after_todo : List ℕ = files_part value.files ++ after_files in
-    let todo_text : List ℕ = todo_part inside lines rows causes in (
+    let todo_text : List ℕ = todo_part inside lines inner rows causes in (
       page_text c.args.head.now foot value causes,
       two c.args.out.now.items c.append_fixed.new.out.items end c.args.head.now
           (title_part value ++ (counts_part rows ++ (todo_text ++ after_todo))) c.in_ok-append_fixed.ensures
@@ -63,9 +64,10 @@ returns-clause-todo c =
     let causes = c.in_ok-causes.causes.items in
     let inside = is_all_inside value.total in
     let lines : List (List ℕ) = lines_of value.files in
-    let calm : Bool = is_calm inside lines in
+    let inner : List (List ℕ) = value.inner in
+    let calm : Bool = is_calm inside lines inner in
     let calm_is =
-    c.is_calm.ensures ∙ ap₂ (λ (i : Bool) (l : List (List ℕ)). is_calm i l) c.is_all_inside-inside.ensures
+    c.is_calm-calm.ensures ∙ ap₂ (λ (i : Bool) (l : List (List ℕ)). is_calm i l inner) c.is_all_inside-inside.ensures
     (ap read c.as_slice-4.ensures.value ∙ c.in_ok-lines.ensures) in
     c.has_todo.ensures
     ∙ ap₂ (λ (i : Bool) (l : List Name). not i || is_filled l) calm_is c.as_slice-5.ensures.value
