@@ -1,51 +1,41 @@
--- The guide G2 of worked nights.
+-- The guide G0 of worked nights.
 use Rattle.std.specs.Prelude.{true, false, [], ◌∷◌, codes, Some, None}
 use Rattle.guide_tree.specs.Tree.{GuideTree}
 use Rattle.guide_tree.specs.declared.slot.Relation.TheVariants as relation
-use Rattle.guide_tree.specs.declared.rows.DependencyKind.TheVariants as depends
-use Rattle.guide_tree.specs.declared.element.Requirement.TheVariants.{Mandatory}
+use Rattle.guide_tree.specs.declared.element.Requirement.TheVariants.{Mandatory, Optional}
 use Rattle.guide_tree.specs.declared.element.ElementType.TheVariants as types
 use Rattle.guide_tree.specs.declared.element.Element.TheVariants as row
+use Rattle.guide_tree.specs.declared.element.Component.TheVariants as part
 use Rattle.hub_kinds.specs.declared.codes.ElementCode.TheVariants as ik403
 use Rattle.night_examples.specs.GuideRows.{simple, slot, trees}
 
 abbrev pub guide_20 : GuideTree
 guide_20 = record {
   head = record {
-    name = codes "G2";
-    group = codes "PO";
+    name = codes "G0";
+    group = codes "QQ";
     set = codes "856";
     version = codes "005010";
     convention = Some (codes "CONV1");
-    dictionary = (codes "ZZ1" ∷ codes "PER" ∷ []);
+    dictionary = (codes "REF" ∷ codes "EE" ∷ []);
     tolerate_segment = [];
-    tolerate_element = (ik403.CodeNotUsed ∷ []);
+    tolerate_element = (ik403.PatternFailure ∷ ik403.NotUsedPresent ∷ ik403.ExclusionViolated ∷ ik403.DependentMissing
+        ∷ ik403.CodeNotUsed ∷ []);
   };
   hl = None;
-  depends = (record {
-    kind = depends.Need;
-    slot = codes "L1";
-    at = 1;
-    codes = (codes "01" ∷ codes "A" ∷ codes "B" ∷ []);
-    target = codes "L1";
-    element = 0;
-  } ∷ record {
-    kind = depends.Need;
-    slot = codes "L1";
-    at = 1;
-    codes = (codes "B" ∷ codes "01"
-        ∷ codes "1" ∷ []);
-    target = codes "L1";
-    element = 0;
-  } ∷ []);
+  depends = [];
   nodes = trees (
-      slot 1 (codes "BB") (Some (codes "L1")) 0 3 (record { position = 2; codes = (codes "CC" ∷ []) } ∷ []) (row.Simple (simple
-      (codes "9732") Mandatory types.Text 2 4 true None) 1
-      ∷ row.NotUsed (codes "2763")
-      ∷ row.Simple (simple (codes "3849") Mandatory types.Text 1 4 false None) 1
+      slot 1 (codes "BB") None 0 3 [] (row.Simple (simple ([]) Optional (types.Number 0) 1 5 false None) 2
+      ∷ row.NotUsed (codes "5322")
+      ∷ row.Composite (record {
+        reference = [];
+        requirement = Optional;
+        repeat = 1;
+        components = (part.Simple (simple
+            ([]) Mandatory types.Time 4 4 true None) ∷ part.Simple (simple ([]) Mandatory types.Date 8 8 false None) ∷ []);
+      })
+      ∷ row.Simple (simple (codes "3702") Optional types.Decimal 1 5 true None) 1
       ∷ [])
-      (record { relation = relation.Paired; positions = (1 ∷ 3 ∷ 2 ∷ []) } ∷ [])
-      ∷ slot 2 (codes "EE") None 1 1 [] ([])
-      []
+      (record { relation = relation.Required; positions = (2 ∷ 4 ∷ 1 ∷ []) } ∷ [])
       ∷ []);
 }

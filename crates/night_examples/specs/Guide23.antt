@@ -1,60 +1,70 @@
--- The guide G1 of worked nights.
-use Rattle.std.specs.Prelude.{true, false, [], ◌∷◌, codes, Some, None}
-use Rattle.guide_tree.specs.Tree.{loop, GuideTree}
+-- The guide G0 of worked nights.
+use Rattle.std.specs.Prelude.{false, [], ◌∷◌, codes, Some, None}
+use Rattle.guide_tree.specs.Tree.{GuideTree}
 use Rattle.guide_tree.specs.declared.slot.Relation.TheVariants as relation
 use Rattle.guide_tree.specs.declared.rows.DependencyKind.TheVariants as depends
 use Rattle.guide_tree.specs.declared.element.Requirement.TheVariants.{Mandatory, Optional}
 use Rattle.guide_tree.specs.declared.element.ElementType.TheVariants as types
 use Rattle.guide_tree.specs.declared.element.Element.TheVariants as row
+use Rattle.guide_tree.specs.declared.element.Component.TheVariants as part
+use Rattle.hub_kinds.specs.declared.codes.ElementCode.TheVariants as ik403
 use Rattle.hub_kinds.specs.declared.codes.SegmentCode.TheVariants as ik304
 use Rattle.night_examples.specs.GuideRows.{simple, slot, trees}
 
 abbrev pub guide_23 : GuideTree
 guide_23 = record {
   head = record {
-    name = codes "G1";
-    group = codes "SH";
-    set = codes "850";
+    name = codes "G0";
+    group = codes "QQ";
+    set = codes "856";
     version = codes "005010";
-    convention = None;
-    dictionary = [];
-    tolerate_segment = (ik304.SegmentTooSeldom ∷ []);
-    tolerate_element = [];
+    convention = Some (codes "CONV1");
+    dictionary = (codes "ZZ1" ∷ codes "PER" ∷ []);
+    tolerate_segment = (ik304.NotInSet ∷ ik304.RequiredSegmentMissing ∷ ik304.OutOfSequence ∷ ik304.NotUsedPresent
+        ∷ ik304.UnexpectedSegment ∷ []);
+    tolerate_element = (ik403.ConditionalMissing ∷ ik403.RequiredMissing ∷ ik403.DependentMissing ∷ ik403.ExclusionViolated
+        ∷ ik403.InvalidTime ∷ ik403.TooManyElements ∷ []);
   };
-  hl = Some (record {
-    pairs = (record { parent = Some (codes "B"); child = codes "CC" } ∷ record { parent = None; child = codes "01" }
-        ∷ record { parent = None; child = codes "B" } ∷ record { parent = Some (codes "A"); child = codes "B" } ∷ []);
-    sequential = true;
-  });
+  hl = None;
   depends = (record {
     kind = depends.Need;
-    slot = codes "L3";
-    at = 1;
-    codes = (codes "01" ∷ codes "A" ∷ codes "CC" ∷ []);
-    target = codes "L1";
-    element = 4;
-  } ∷ record {
-    kind = depends.Need;
-    slot = codes "L1";
+    slot = codes "L2";
     at = 3;
-    codes = (codes "CC" ∷ codes "A"
-        ∷ codes "01" ∷ []);
-    target = codes "L3";
-    element = 1;
+    codes = (codes "CC" ∷ codes "01" ∷ codes "A" ∷ []);
+    target = codes "L2";
+    element = 0;
+  } ∷ record {
+    kind = depends.Ban;
+    slot = codes "L2";
+    at = 4;
+    codes = (codes "CC" ∷ codes "1"
+        ∷ codes "A" ∷ []);
+    target = codes "L2";
+    element = 2;
   } ∷ []);
   nodes = trees (
-      slot 1 (codes "HL") (Some (codes "L1")) 0 3 (record { position = 4; codes = (codes "CC" ∷ []) } ∷ []) (row.Simple (simple
-      (codes "407") Optional types.Text 1 3 false None) 1
-      ∷ row.Simple (simple (codes "472") Optional types.Text 1 3 false None) 1
-      ∷ row.Simple (simple (codes "332") Optional types.Text 1 3 false None) 1
-      ∷ row.Simple (simple (codes "558") Optional types.Text 1 3 false None) 1
+      slot 1 (codes "DD") None 0 0 [] (row.Composite (record {
+        reference = codes "3084";
+        requirement = Mandatory;
+        repeat = 2;
+        components =
+            (part.Simple (simple ([]) Optional types.Identifier 3 4 false None) ∷ part.Simple (simple (codes "4958") Optional
+            (types.Number 0) 1 5 false None) ∷ part.Simple (simple ([]) Optional (types.Number 2) 1 4 false None) ∷ []);
+      })
+      ∷ row.Simple (simple (codes "2984") Optional types.Date 1 9 false None) 1
+      ∷ row.Simple (simple ([]) Mandatory types.Date 1 9 false None) 1
+      ∷ row.NotUsed ([])
       ∷ [])
       []
-      ∷ loop (record { number = 2; id = codes "L2"; min = 0; max = 3 }) (trees (slot 3 (codes "CC1") (Some (codes "L3")) 1 1 []
-      (row.Simple (simple (codes "349") Optional types.Text 1 5 false None) 1
-      ∷ row.Simple (simple (codes "34") Mandatory types.Time 1 9 true None) 1
+      ∷ slot 2 (codes "AAA") (Some (codes "L2")) 0 1 (record { position = 1; codes = (codes "CC" ∷ []) } ∷ []) (row.Simple (simple
+      ([]) Mandatory types.Decimal 3 6 false None) 1
+      ∷ row.Simple (simple (codes "8510") Mandatory types.Text 3 5 false None) 1
+      ∷ row.Simple (simple (codes "786") Mandatory (types.Number 2) 1 1 false None) 1
+      ∷ row.Simple (simple (codes "6074") Optional types.Identifier 1 3 false (Some (record {
+        used = (codes "X" ∷ []);
+        unused = None;
+      }))) 1
       ∷ [])
-      (record { relation = relation.ListConditional; positions = (2 ∷ 1 ∷ []) } ∷ [])
-      ∷ []))
+      (record { relation = relation.Paired; positions = (4 ∷ 1 ∷ []) } ∷ [])
       ∷ []);
 }

@@ -1,8 +1,7 @@
--- The guide G1 of worked nights.
-use Rattle.std.specs.Prelude.{true, false, [], ◌∷◌, codes, Some, None}
+-- The guide G0 of worked nights.
+use Rattle.std.specs.Prelude.{false, [], ◌∷◌, codes, Some, None}
 use Rattle.guide_tree.specs.Tree.{GuideTree}
 use Rattle.guide_tree.specs.declared.slot.Relation.TheVariants as relation
-use Rattle.guide_tree.specs.declared.rows.DependencyKind.TheVariants as depends
 use Rattle.guide_tree.specs.declared.element.Requirement.TheVariants.{Mandatory, Optional}
 use Rattle.guide_tree.specs.declared.element.ElementType.TheVariants as types
 use Rattle.guide_tree.specs.declared.element.Element.TheVariants as row
@@ -14,67 +13,42 @@ use Rattle.night_examples.specs.GuideRows.{simple, slot, trees}
 abbrev pub guide_27 : GuideTree
 guide_27 = record {
   head = record {
-    name = codes "G1";
-    group = codes "PO";
-    set = codes "991";
+    name = codes "G0";
+    group = codes "QQ";
+    set = codes "990";
     version = codes "005010";
-    convention = None;
+    convention = Some (codes "CONV1");
     dictionary = [];
-    tolerate_segment = (ik304.DependentNotUsedPresent ∷ ik304.SegmentTooOften ∷ ik304.OutOfSequence ∷ []);
-    tolerate_element = (ik403.InvalidTime ∷ []);
+    tolerate_segment = (ik304.SegmentTooOften ∷ []);
+    tolerate_element = (ik403.ExclusionViolated ∷ ik403.PatternFailure ∷ ik403.TooManyComponents ∷ []);
   };
-  hl = Some (record {
-    pairs = (record { parent = None; child = codes "B" } ∷ record { parent = Some (codes "A"); child = codes "B" }
-        ∷ record { parent = Some (codes "A"); child = codes "A" } ∷ record { parent = None; child = codes "01" } ∷ []);
-    sequential = true;
-  });
-  depends = (record {
-    kind = depends.Ban;
-    slot = codes "L1";
-    at = 2;
-    codes = (codes "01" ∷ codes "B" ∷ codes "1" ∷ []);
-    target = codes "L1";
-    element = 0;
-  } ∷ []);
+  hl = None;
+  depends = [];
   nodes = trees (
-      slot 1 (codes "EE") (Some (codes "L1")) 0 0 [] (row.Composite (record {
-        reference = codes "2640";
-        requirement = Optional;
-        repeat = 1;
-        components = (part.Simple (simple (codes "5117") Mandatory (types.Number 2) 1 5 true None) ∷ part.Simple (simple
-            ([]) Optional types.Time 1 9 false None) ∷ []);
-      })
-      ∷ row.Composite (record {
+      slot 1 (codes "BB") None 2 99 [] (row.Simple (simple (codes "4305") Mandatory types.Date 1 9 false None) 1
+      ∷ row.Simple (simple (codes "9455") Mandatory types.Identifier 1 4 false (Some (record {
+        used = (codes "01" ∷ codes "X"
+            ∷ codes "A" ∷ codes "B" ∷ []);
+        unused = None;
+      }))) 1
+      ∷ row.Simple (simple (codes "5931") Optional types.Decimal 3 7 false None) 2
+      ∷ [])
+      (record { relation = relation.Conditional; positions = (3 ∷ 2 ∷ []) } ∷ [])
+      ∷ slot 2 (codes "DD") None 1 1 [] (row.Composite (record {
         reference = [];
         requirement = Optional;
         repeat = 1;
-        components = (part.Simple (simple
-            (codes "3940") Optional types.Identifier 2 4 true (Some (record {
-              used = (codes "CC" ∷ []);
-              unused = Some (codes "A"
-                  ∷ codes "ZZ" ∷ []);
-            }))) ∷ []);
+        components =
+            (part.Simple (simple ([]) Mandatory types.Identifier 3 6 false None) ∷ part.Simple (simple ([]) Mandatory types.Text 1 3 false
+            (Some (record { used = (codes "02" ∷ codes "01" ∷ codes "X" ∷ []); unused = Some (codes "ZZ" ∷ codes "A" ∷ []) }))) ∷ []);
       })
+      ∷ row.Simple (simple (codes "6421") Mandatory types.Time 4 4 false None) 1
+      ∷ row.Simple (simple ([]) Optional (types.Number 0) 3 4 false None) 1
+      ∷ row.Simple (simple ([]) Mandatory types.Text 2 4 false (Some (record {
+        used = (codes "X" ∷ codes "B" ∷ codes "01" ∷ []);
+        unused = Some (codes "A" ∷ codes "99" ∷ []);
+      }))) 1
       ∷ [])
-      (record { relation = relation.Required; positions = (1 ∷ 2 ∷ []) } ∷ [])
-      ∷ slot 2 (codes "HL") None 1 3 (record { position = 2; codes = (codes "01" ∷ []) } ∷ []) (row.Simple (simple
-      (codes "574") Optional types.Text 1 3 false None) 1
-      ∷ row.Simple (simple (codes "55") Optional types.Text 1 3 false None) 1
-      ∷ row.Simple (simple (codes "2") Optional types.Text 1 3 false None) 1
-      ∷ row.Simple (simple (codes "587") Optional types.Text 1 3 false None) 1
-      ∷ [])
-      (record { relation = relation.ListConditional; positions = (2 ∷ 3 ∷ []) } ∷ [])
-      ∷ slot 3 (codes "N1") None 0 2 [] (row.Composite (record {
-        reference = codes "6499";
-        requirement = Mandatory;
-        repeat = 2;
-        components = (part.Simple (simple ([]) Mandatory (types.Number 2) 1 1 false None) ∷ part.Simple (simple
-            ([]) Mandatory types.Text 2 6 false None) ∷ part.Simple (simple (codes "4152") Optional types.Time 4 4 false None) ∷ []);
-      })
-      ∷ row.NotUsed (codes "1579")
-      ∷ row.Simple (simple (codes "5508") Optional types.Decimal 3 3 true None) 3
-      ∷ row.Simple (simple ([]) Mandatory types.Decimal 2 2 true None) 3
-      ∷ [])
-      []
+      (record { relation = relation.Conditional; positions = (3 ∷ 4 ∷ []) } ∷ [])
       ∷ []);
 }

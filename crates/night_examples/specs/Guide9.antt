@@ -1,41 +1,36 @@
 -- The guide G0 of worked nights.
-use Rattle.std.specs.Prelude.{true, false, [], ◌∷◌, codes, Some, None}
-use Rattle.guide_tree.specs.Tree.{GuideTree}
-use Rattle.guide_tree.specs.declared.slot.Relation.TheVariants as relation
-use Rattle.guide_tree.specs.declared.element.Requirement.TheVariants.{Mandatory, Optional}
+use Rattle.std.specs.Prelude.{true, [], ◌∷◌, codes, None}
+use Rattle.guide_tree.specs.Tree.{loop, GuideTree}
+use Rattle.guide_tree.specs.declared.element.Requirement.TheVariants.{Mandatory}
 use Rattle.guide_tree.specs.declared.element.ElementType.TheVariants as types
 use Rattle.guide_tree.specs.declared.element.Element.TheVariants as row
-use Rattle.guide_tree.specs.declared.element.Component.TheVariants as part
 use Rattle.hub_kinds.specs.declared.codes.ElementCode.TheVariants as ik403
+use Rattle.hub_kinds.specs.declared.codes.SegmentCode.TheVariants as ik304
 use Rattle.night_examples.specs.GuideRows.{simple, slot, trees}
 
 abbrev pub guide_9 : GuideTree
 guide_9 = record {
   head = record {
     name = codes "G0";
-    group = codes "QQ";
+    group = codes "PO";
     set = codes "856";
     version = codes "005010";
-    convention = Some (codes "CONV1");
-    dictionary = (codes "REF" ∷ codes "EE" ∷ []);
-    tolerate_segment = [];
-    tolerate_element = (ik403.PatternFailure ∷ ik403.NotUsedPresent ∷ ik403.ExclusionViolated ∷ ik403.DependentMissing
-        ∷ ik403.CodeNotUsed ∷ []);
+    convention = None;
+    dictionary = (codes "QQ" ∷ codes "PER" ∷ []);
+    tolerate_segment = (ik304.DependentNotUsedPresent ∷ ik304.LoopTooSeldom ∷ ik304.OutOfSequence ∷ ik304.UnrecognizedSegment
+        ∷ ik304.NotUsedPresent ∷ []);
+    tolerate_element = (ik403.InvalidCharacter ∷ []);
   };
   hl = None;
   depends = [];
   nodes = trees (
-      slot 1 (codes "BB") None 0 3 [] (row.Simple (simple ([]) Optional (types.Number 0) 1 5 false None) 2
-      ∷ row.NotUsed (codes "5322")
-      ∷ row.Composite (record {
-        reference = [];
-        requirement = Optional;
-        repeat = 1;
-        components = (part.Simple (simple
-            ([]) Mandatory types.Time 4 4 true None) ∷ part.Simple (simple ([]) Mandatory types.Date 8 8 false None) ∷ []);
-      })
-      ∷ row.Simple (simple (codes "3702") Optional types.Decimal 1 5 true None) 1
+      loop (record { number = 1; id = codes "L1"; min = 0; max = 0 }) (trees (slot 2 (codes "DD") None 1 1 (record {
+        position = 1;
+        codes =
+            (codes "CC" ∷ []);
+      } ∷ []) (row.Simple (simple ([]) Mandatory types.Text 1 4 true None) 3
       ∷ [])
-      (record { relation = relation.Required; positions = (2 ∷ 4 ∷ 1 ∷ []) } ∷ [])
+      []
+      ∷ []))
       ∷ []);
 }

@@ -35,18 +35,18 @@ ghost use Rattle.night_examples.specs.NightNumbersBeginAgain.{Computes as Number
 ghost use Rattle.night_examples.specs.NightOneOrder.{Computes as OneOrder};
 ghost use Rattle.night_examples.specs.NightOneRepetitionTooMany.{Computes as OneRepetitionTooMany};
 ghost use Rattle.night_examples.specs.NightPackWithoutItsMarks.{Computes as PackWithoutItsMarks};
-ghost use Rattle.night_examples.specs.NightRandom06.{Computes as Random06};
-ghost use Rattle.night_examples.specs.NightRandom12.{Computes as Random12};
-ghost use Rattle.night_examples.specs.NightRandom18.{Computes as Random18};
-ghost use Rattle.night_examples.specs.NightRandom21.{Computes as Random21};
-ghost use Rattle.night_examples.specs.NightRandom29.{Computes as Random29};
-ghost use Rattle.night_examples.specs.NightRandom30.{Computes as Random30};
-ghost use Rattle.night_examples.specs.NightRandom33.{Computes as Random33};
-ghost use Rattle.night_examples.specs.NightRandom37.{Computes as Random37};
-ghost use Rattle.night_examples.specs.NightRandom52.{Computes as Random52};
-ghost use Rattle.night_examples.specs.NightRandom64.{Computes as Random64};
-ghost use Rattle.night_examples.specs.NightRandom72.{Computes as Random72};
-ghost use Rattle.night_examples.specs.NightRandom94.{Computes as Random94};
+ghost use Rattle.night_examples.specs.NightRandomGroupWithoutSets.{Computes as RandomGroupWithoutSets};
+ghost use Rattle.night_examples.specs.NightRandomIea01Wrong.{Computes as RandomIea01Wrong};
+ghost use Rattle.night_examples.specs.NightRandomInterchangeTruncated.{Computes as RandomInterchangeTruncated};
+ghost use Rattle.night_examples.specs.NightRandomIsa13WithoutDigits.{Computes as RandomIsa13WithoutDigits};
+ghost use Rattle.night_examples.specs.NightRandomSegmentNotUsed.{Computes as RandomSegmentNotUsed};
+ghost use Rattle.night_examples.specs.NightRandomSegmentTooSeldom.{Computes as RandomSegmentTooSeldom};
+ghost use Rattle.night_examples.specs.NightRandomSenderUnknown.{Computes as RandomSenderUnknown};
+ghost use Rattle.night_examples.specs.NightRandomSetDelivered.{Computes as RandomSetDelivered};
+ghost use Rattle.night_examples.specs.NightRandomSetHeld.{Computes as RandomSetHeld};
+ghost use Rattle.night_examples.specs.NightRandomSetNumbersDiffer.{Computes as RandomSetNumbersDiffer};
+ghost use Rattle.night_examples.specs.NightRandomUnusedElement.{Computes as RandomUnusedElement};
+ghost use Rattle.night_examples.specs.NightRandomWrongCharacter.{Computes as RandomWrongCharacter};
 ghost use Rattle.night_examples.specs.NightReceivedAcknowledgments.{Computes as ReceivedAcknowledgments};
 ghost use Rattle.night_examples.specs.NightSetNumberTwice.{Computes as SetNumberTwice};
 ghost use Rattle.night_examples.specs.NightSetWithoutAGuide.{Computes as SetWithoutAGuide};
@@ -246,64 +246,64 @@ pub fn pack_without_its_marks()
     ensures { PackWithoutItsMarks }
 {}
 
-/// The night `random_06`, computed by the definition.
-pub fn random_06()
-    ensures { Random06 }
+/// The night `random_group_without_sets`, computed by the definition.
+pub fn random_group_without_sets()
+    ensures { RandomGroupWithoutSets }
 {}
 
-/// The night `random_12`, computed by the definition.
-pub fn random_12()
-    ensures { Random12 }
+/// The night `random_iea01_wrong`, computed by the definition.
+pub fn random_iea01_wrong()
+    ensures { RandomIea01Wrong }
 {}
 
-/// The night `random_18`, computed by the definition.
-pub fn random_18()
-    ensures { Random18 }
+/// The night `random_interchange_truncated`, computed by the definition.
+pub fn random_interchange_truncated()
+    ensures { RandomInterchangeTruncated }
 {}
 
-/// The night `random_21`, computed by the definition.
-pub fn random_21()
-    ensures { Random21 }
+/// The night `random_isa13_without_digits`, computed by the definition.
+pub fn random_isa13_without_digits()
+    ensures { RandomIsa13WithoutDigits }
 {}
 
-/// The night `random_29`, computed by the definition.
-pub fn random_29()
-    ensures { Random29 }
+/// The night `random_segment_not_used`, computed by the definition.
+pub fn random_segment_not_used()
+    ensures { RandomSegmentNotUsed }
 {}
 
-/// The night `random_30`, computed by the definition.
-pub fn random_30()
-    ensures { Random30 }
+/// The night `random_segment_too_seldom`, computed by the definition.
+pub fn random_segment_too_seldom()
+    ensures { RandomSegmentTooSeldom }
 {}
 
-/// The night `random_33`, computed by the definition.
-pub fn random_33()
-    ensures { Random33 }
+/// The night `random_sender_unknown`, computed by the definition.
+pub fn random_sender_unknown()
+    ensures { RandomSenderUnknown }
 {}
 
-/// The night `random_37`, computed by the definition.
-pub fn random_37()
-    ensures { Random37 }
+/// The night `random_set_delivered`, computed by the definition.
+pub fn random_set_delivered()
+    ensures { RandomSetDelivered }
 {}
 
-/// The night `random_52`, computed by the definition.
-pub fn random_52()
-    ensures { Random52 }
+/// The night `random_set_held`, computed by the definition.
+pub fn random_set_held()
+    ensures { RandomSetHeld }
 {}
 
-/// The night `random_64`, computed by the definition.
-pub fn random_64()
-    ensures { Random64 }
+/// The night `random_set_numbers_differ`, computed by the definition.
+pub fn random_set_numbers_differ()
+    ensures { RandomSetNumbersDiffer }
 {}
 
-/// The night `random_72`, computed by the definition.
-pub fn random_72()
-    ensures { Random72 }
+/// The night `random_unused_element`, computed by the definition.
+pub fn random_unused_element()
+    ensures { RandomUnusedElement }
 {}
 
-/// The night `random_94`, computed by the definition.
-pub fn random_94()
-    ensures { Random94 }
+/// The night `random_wrong_character`, computed by the definition.
+pub fn random_wrong_character()
+    ensures { RandomWrongCharacter }
 {}
 
 /// The night `received_acknowledgments`, computed by the definition.

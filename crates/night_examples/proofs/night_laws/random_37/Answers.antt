@@ -1,7 +1,0 @@
-use Rattle.std.specs.Prelude.{refl}
-use Rattle.std.specs.Fmt.{digits}
-use Rattle.night_examples.proofs.night_laws.random_37.Goals as goal
-
-pub returns : goal.returns
-unfolding digits
-returns c = refl
