@@ -33,7 +33,7 @@ first_here text c n h is = record {
   left = refl;
 }
 
-heads_here : (text : List ℕ) (c n : ℕ) → c < n → is_head text c ≡ true → heads_in text c n ≡ head_at text c ∷ heads_in text (c + 1) n
+pub heads_here : (text : List ℕ) (c n : ℕ) → c < n → is_head text c ≡ true → heads_in text c n ≡ head_at text c ∷ heads_in text (c + 1) n
 heads_here text c n h is = heads_both text c (c + 1) n (omega arith) (omega arith)
     ∙ ap (λ (l : List HeadAt). l ++ heads_in text (c + 1) n) (head_one text c is)
 
@@ -107,22 +107,3 @@ all_judged text (e ∷ es) all =
 pub same_extents : (es : List IndexEntry) → extents_of (with_faults es (faults_of es)) ≡ extents_of es
 same_extents [] = refl
 same_extents (e ∷ es) = ap (λ (xs : List Extent). extent_of e ∷ xs) (same_extents es)
-
--- the header at an index of the list
-pub head_found : (text : List ℕ) (list : List HeadAt) (i seen : ℕ) → i < length list → seen ≤ length text
-    → drop i list ≡ heads_in text seen (length text)
-    → IsFirstHead text seen (length text) (get_or list i (record { start = 0; pair = record { element = 0; terminator = 0 } }))
-    (drop (i + 1) list)
-head_found text list i seen lt le left =
-    heads_first (length text - seen) text seen (length text) _ (drop (i + 1) list) (omega arith) le (sym left ∙ drop_more list i _ lt)
-
--- after the last header there is none
-pub none_left : (text : List ℕ) (list : List HeadAt) (i seen at : ℕ) → length list ≤ i → drop i list ≡ heads_in text seen (length text)
-    → ((q : ℕ) → at ≤ q → q < seen → is_head text q ≡ false) → (q : ℕ) → at ≤ q → is_head text q ≡ false
-none_left text list i seen at end left none q low = elim (cases_lt q seen) [
-  | inl lt ↦ none q low lt
-  | inr ge ↦ elim (cases_lt q (length text)) [
-    | inl w ↦ heads_empty (length text - seen) text seen (length text) (omega arith) (sym left ∙ drop_all i list end) q ge w
-    | inr w ↦ no_head_past text q w
-  ]
-]

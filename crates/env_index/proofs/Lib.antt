@@ -5,6 +5,7 @@ pub mod EndingTrees
 pub mod Few
 pub mod Finishing
 pub mod ForAbove
+pub mod HeadShares
 pub mod IndexPlacing
 pub mod Indexing
 pub mod KnownSegs
@@ -16,6 +17,7 @@ pub mod OneIndex
 pub mod OneTree
 pub mod Placing
 pub mod Settling
+pub mod Sharing
 pub mod Spanned
 pub mod Standing
 pub mod Steps

@@ -13,6 +13,7 @@ pub mod Placed
 pub mod Places
 pub mod Reading
 pub mod Settled
+pub mod Shares
 pub mod Source
 pub mod Spans
 pub mod Summary

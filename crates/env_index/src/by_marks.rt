@@ -6,16 +6,18 @@ ghost use Rattle.x12_bytes.specs.HeaderTest.{is_head};
 ghost use Rattle.isa_scan.specs.Heads.{heads_in};
 ghost use Rattle.env_index.specs.Index.{IsReadIn};
 ghost use Rattle.env_index.specs.Known.{AreMarks};
+ghost use Rattle.env_index.specs.Shares.{IsReadAt, IsShare};
 ghost use Rattle.env_index.specs.Unjudged.{IsUnjudged};
 
 use crate::index::{Index, IndexedInterchange};
 use crate::interchange::Interchange;
 use crate::mark_parts::{MarkParts, piece_at};
 use crate::plain::count_others;
+use crate::share::Share;
 use crate::walk::read_body;
 use env_marks::Marks;
 use hub_kinds::NoMemory;
-use isa_scan::PieceHeads;
+use isa_scan::{HeadAt, PieceHeads};
 use std::alloc::Global;
 use x12_bytes::{HEADER_LEN, header_there};
 
@@ -42,6 +44,42 @@ fn read_marked<'a>(
     Ok(Interchange::new(text, header, start, body))
 }
 
+/// The interchanges that begin at some headers of a text from an offset on; a header inside of one before it begins none.
+pub(crate) fn read_share<'a>(
+    alloc: Global,
+    text: &'a [u8],
+    heads: &[HeadAt],
+    marks: &[Marks],
+    from: usize,
+) -> Result<Share<'a>, NoMemory>
+    requires { IsShare text.now from heads.now marks.now }
+    ensures { IfOk result (λ share. IsReadAt text.entry.now from heads.entry.now share) }
+{
+    let mut interchanges = Vec::new(alloc);
+    let mut outside = 0;
+    let mut at = from;
+    let mut piece = piece_at(marks, 0, from);
+    for index in 0..heads.len() {
+        let start = heads[index].start;
+        if start < at {
+            continue;
+        }
+        let interchange = read_marked(alloc, text, start, marks, piece)?;
+        outside += count_others(&text[at..start]);
+        at = interchange.end();
+        piece = piece_at(marks, piece, at);
+        interchanges.push(IndexedInterchange {
+            interchange,
+            fault: None,
+        })?;
+    }
+    Ok(Share {
+        interchanges,
+        outside,
+        end: at,
+    })
+}
+
 /// The index of a text by the headers and the marks of its pieces, before any interchange is judged. A piece may have no
 /// marks, or marks under another pair: the text is read there.
 ///
@@ -58,31 +96,6 @@ pub fn index_of<'a>(
     requires marked { All (AreMarks text.now) marks.now }
     ensures { IfOk result (λ index. IsUnjudged text.entry.now index) }
 {
-    let mut interchanges = Vec::new(alloc);
-    let mut outside = 0;
-    let mut at = 0;
-    let mut piece = 0;
-    let mut seen = 0;
-    let list = heads.list();
-    for index in 0..list.len() {
-        let start = list[index].start;
-        seen = start + 1;
-        if start < at {
-            continue;
-        }
-        let interchange = read_marked(alloc, text, start, marks, piece)?;
-        outside += count_others(&text[at..start]);
-        at = interchange.end();
-        piece = piece_at(marks, piece, at);
-        interchanges.push(IndexedInterchange {
-            interchange,
-            fault: None,
-        })?;
-    }
-    outside += count_others(&text[at..]);
-    Ok(Index {
-        text,
-        interchanges,
-        outside,
-    })
+    let share = read_share(alloc, text, heads.list(), marks, 0)?;
+    Ok(share.into_index(text))
 }

@@ -13,6 +13,7 @@
 //! - `index_of` answers the same interchanges from the headers and the marks of the text's pieces, before they are judged: marks
 //!   under another pair, or none, do no harm. Settled with what `judge` answers for each, that is what `index_plain`
 //!   answers (`judged_is_index`);
+//! - `index_by_threads` answers the same by several threads;
 //! - `judge` answers the least of the faults 1 to 7 of an interchange of an index, `judge_interchange` that of any, and none
 //!   exactly where it has none;
 //! - `Index::settle` gives each interchange of an index the fault that is handed in for it, and leaves all else;
@@ -43,6 +44,7 @@
 
 mod builder;
 mod by_marks;
+mod by_threads;
 mod entry;
 mod envelopes;
 mod faults;
@@ -61,10 +63,12 @@ mod plain;
 mod read;
 mod segment_at;
 mod settle;
+mod share;
 mod source;
 mod walk;
 
 pub use by_marks::index_of;
+pub use by_threads::index_by_threads;
 pub use entry::SetEnvelope;
 pub use faults::judge_interchange;
 pub use header_elements::{GroupElements, group_elements};
