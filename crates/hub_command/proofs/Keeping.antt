@@ -53,7 +53,7 @@ written_at_most bytes n (Look said is) = omega (arith, is)
 -- the status of a night that is told is 0 or 1
 pub status_is_few : (setting : Setting) (old new : Option Place) (told : Told) → IsDone setting old new told → told.status ≤ 1
 status_is_few setting old new told (inl kept) =
-    let made = kept.made_at.made_is in
+    let made = kept.made_at.made_is.made_is in
     let tonight = made.draft_is.tonight_is.tonight_is in
     let laid = one_at_most _ made.draft.laid.status (made.draft_is.laid_is.status ∙ tonight.run.told) in
     subst (λ (n : ℕ). n ≤ 1) (sym (kept.told_is.status_is ∙ made.made_is.status_is ∙ made.side_is.status_is))

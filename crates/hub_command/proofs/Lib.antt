@@ -1,7 +1,8 @@
 mod CommandLine
 mod Days
+pub mod ForAbove
 mod Keeping
 mod Lists
-mod Sharing
+pub mod Sharing
 mod Telling
-mod Zips
+pub mod Zips

@@ -1,5 +1,6 @@
 pub mod Asked
 pub mod Chain
+pub mod Changed
 pub mod CommandLine
 pub mod Day
 pub mod Failure

@@ -135,12 +135,16 @@ pub record IsSoundAfter (setting : Setting) (older : Older) (folder : List ℕ) 
 abbrev pub status_by : (status : ℕ) → (is_whole : Bool) → ℕ
 status_by status is_whole = if is_whole then status else 1
 
--- what is kept beside what the night gives: what came in, and the lines on the files of the day are files.txt
-pub record IsSideOf (folder : List ℕ) (tables : List NightFile) (status : ℕ) (day : Day) (side : Side) : Type 0 where
+-- the lines on guides that have changed are guides.txt, those on the files of the day files.txt
+abbrev pub with_lines : (tables : List NightFile) → (guides files : List ℕ) → List NightFile
+with_lines tables guides files = (tables ++ file (codes "guides.txt") guides ∷ []) ++ file (codes "files.txt") files ∷ []
+
+-- what is kept beside what the night gives: what came in, and the lines that are printed
+pub record IsSideOf (folder : List ℕ) (tables : List NightFile) (status : ℕ) (day : Day) (changes : List ℕ) (side : Side) : Type 0 where
   pub folder_is : side.folder ≡ folder
-  pub tables_are : side.tables ≡ tables ++ file (codes "files.txt") day.lines ∷ []
+  pub tables_are : side.tables ≡ with_lines tables changes day.lines
   pub came_are : side.came ≡ came_files day.listing day.again day.input
-  pub lines_are : side.lines ≡ day.lines
+  pub lines_are : side.lines ≡ changes ++ day.lines
   pub status_is : side.status ≡ status_by status day.is_whole
 
 -- its folder is to have just these files
@@ -155,12 +159,13 @@ pub record IsMadeBy (setting : Setting) (chain : Chain) (papers : HubPapers) (nu
   pub total_is : made.total ≡ laid.total
   pub status_is : made.status ≡ side.status
 
--- A night is made of the files of a day: a draft with which all nights continue, and the files of its folder.
-pub record IsMadeOf (setting : Setting) (older : Older) (papers : HubPapers) (day : Day) (made : Made) : Type 0 where
+-- A night is made of the files of a day: a draft with which all nights continue, and the files of its folder. The lines `changes` say
+-- which guides have changed.
+pub record IsMadeOf (setting : Setting) (older : Older) (papers : HubPapers) (day : Day) (changes : List ℕ) (made : Made) : Type 0 where
   pub draft : Draft
   pub draft_is : IsDraftOf setting older papers day.input day.again draft
   pub chain : Chain
   pub sound : IsSoundAfter setting older draft.folder draft.entry chain
   pub side : Side
-  pub side_is : IsSideOf draft.folder draft.tables draft.laid.status day side
+  pub side_is : IsSideOf draft.folder draft.tables draft.laid.status day changes side
   pub made_is : IsMadeBy setting chain papers draft.number draft.laid side made

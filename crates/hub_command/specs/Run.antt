@@ -9,6 +9,7 @@ use Rattle.night_shelf.specs.Shelf.{Changes, IsKept, MayLeave, Place}
 use Rattle.night_shelf.specs.declared.night.KeptNight.{KeptNight}
 use Rattle.night_shelf.specs.declared.night.NightFile.{NightFile}
 use Rattle.night_review.specs.Nights.{AreNights}
+use Rattle.hub_command.specs.Changed.{AreChangesAt}
 use Rattle.hub_command.specs.Day.{AreAside, AreFilesAt, IsDayOf}
 use Rattle.hub_command.specs.Lines.{ready_text}
 use Rattle.hub_command.specs.Night.{IsMadeOf, IsOlder}
@@ -34,6 +35,12 @@ pub record IsSeen (setting : Setting) (older : Older) (files : List DayFile) : T
   pub older_is : IsOlder (path_in setting.hub.now (codes "nights")) marks older
   pub files_are : AreFilesAt setting files
 
+-- a night is made of the files of a day, with what is said of guides that have changed since the last night
+pub record IsMadeWith (setting : Setting) (older : Older) (papers : HubPapers) (day : Day) (made : Made) : Type 0 where
+  pub changes : List ℕ
+  pub changes_are : AreChangesAt setting.hub.now older.chain.before papers.guides changes
+  pub made_is : IsMadeOf setting older papers day changes made
+
 -- a night is made of them, by the hub's own files
 pub record IsMadeAt (setting : Setting) (made : Made) : Type 0 where
   pub older : Older
@@ -43,7 +50,7 @@ pub record IsMadeAt (setting : Setting) (made : Made) : Type 0 where
   pub papers_are : ArePapersAt setting.hub.now papers
   pub day : Day
   pub day_is : IsDayOf setting older papers files day
-  pub made_is : IsMadeOf setting older papers day made
+  pub made_is : IsMadeWith setting older papers day made
 
 -- each of them is set aside
 pub record AreAsideAt (setting : Setting) (lines : List ℕ) : Type 0 where

@@ -1,10 +1,10 @@
 -- The last night of a hub is the one that is asked for (own): it is there already, and nothing is run.
-use Rattle.std.specs.Prelude.{◌≡◌, ℕ, List, Option, Some, codes, length}
+use Rattle.std.specs.Prelude.{◌≡◌, ◌++◌, ℕ, List, Option, Some, codes, length}
 use Rattle.day_files.specs.Listing.{listing_of}
 use Rattle.day_files.specs.declared.file.DayFile.{DayFile}
 use Rattle.night_review.specs.GoingOn.{GoOn}
 use Rattle.night_ends.specs.Outbox.{path_in}
-use Rattle.night_folder.specs.Files.{FileValue, in_night}
+use Rattle.night_folder.specs.Files.{FileValue, bytes_or_none, in_night}
 use Rattle.night_marks.specs.declared.mark.NightMark.{NightMark}
 use Rattle.hub_command.specs.Names.{folder_name}
 use Rattle.hub_command.specs.Night.{last_mark, map_now}
@@ -23,6 +23,16 @@ pub data IsStatusIn (bytes : Option (List ℕ)) (status : ℕ) : Type 0 where
   Clean : bytes ≡ Some (codes "0\n") → status ≡ 0 → IsStatusIn bytes status
   Look : bytes ≡ Some (codes "1\n") → status ≡ 1 → IsStatusIn bytes status
 
+-- the lines that were kept of a night: on guides that had changed, where there were any, and on each file of the day
+pub record AreLinesAt (folder : List ℕ) (lines : List ℕ) : Type 0 where
+  pub guides : FileValue
+  pub guides_at : guides.path ≡ path_in folder (codes "guides.txt")
+  pub said : FileValue
+  pub said_at : said.path ≡ path_in folder (codes "files.txt")
+  pub files : List ℕ
+  pub files_are : said.bytes ≡ Some files
+  pub lines_are : lines ≡ bytes_or_none guides.bytes ++ files
+
 -- what a night gave, by its files, and the sum of its record
 pub record IsGivenAt (nights name : List ℕ) (number : ℕ) (chain : Chain) (there : There) : Type 0 where
   pub number_is : there.number ≡ number
@@ -33,9 +43,7 @@ pub record IsGivenAt (nights name : List ℕ) (number : ℕ) (chain : Chain) (th
   pub done : FileValue
   pub done_at : done.path ≡ in_night nights name (codes "done")
   pub status_is : IsStatusIn done.bytes there.status
-  pub said : FileValue
-  pub said_at : said.path ≡ in_night nights name (codes "files.txt")
-  pub lines_are : said.bytes ≡ Some there.lines
+  pub lines : AreLinesAt (path_in nights name) there.lines
   pub sum_is : chain.before_sum ≡ Some there.record_sum
 
 -- a night was made of the files of a list, which was written down

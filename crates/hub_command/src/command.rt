@@ -183,7 +183,8 @@ fn is_given(value: Option<&str>) -> bool
     }
 }
 
-fn is_path(text: &str) -> bool
+/// Whether `text` is a path: it isn't empty, and is UTF-8.
+pub fn is_path(text: &str) -> bool
     ensures { result ≡ line.is_path text.now }
 {
     match text.as_bytes() {

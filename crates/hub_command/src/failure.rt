@@ -172,8 +172,8 @@ impl Failure {
     }
 }
 
-/// Prints a line that names `path`.
-fn print_named<E: Write>(alloc: Global, path: &[u8], rest: &[u8], err: &mut E) -> io::Result<()>
+/// Prints a line of the program that names `path`, and says `rest` after it.
+pub fn print_named<E: Write>(alloc: Global, path: &[u8], rest: &[u8], err: &mut E) -> io::Result<()>
     ensures { OnOk result (Appends (E.contents err.old) (E.contents err.new)
         (codes "nighthub_day: " ++ (shown path.now ++ rest.now))) }
 {

@@ -31,6 +31,7 @@
 #![tactic(auto)]
 
 mod chain;
+mod changed;
 mod command;
 mod day;
 mod entry;
@@ -59,13 +60,16 @@ mod told;
 mod words;
 
 pub use chain::{Chain, chain_at};
-pub use command::{Asked, Options, is_of_hub, read_words};
-pub use failure::{Failure, Reported};
+pub use command::{Asked, Options, is_of_hub, is_path, read_words};
+pub use day::Day;
+pub use failure::{Failure, Reported, print_named};
 pub use lock::{Lock, Lockable};
 pub use mistake::Mistake;
 pub use names::{folder_name, is_night_name};
-pub use papers::{HubPapers, papers_at};
-pub use program::hub_main;
-pub use run::run_on;
+pub use night::{Made, made_of};
+pub use older::{Older, older_of};
+pub use papers::{HubPapers, papers_at, path_in};
+pub use program::{hub_main, lock_hub};
+pub use run::{marks_at, run_on};
 pub use setting::Setting;
 pub use told::Told;

@@ -39,7 +39,7 @@ pub struct Made {
     /// Its folder and its files.
     pub night: KeptNight,
     pub number: u32,
-    /// A line for each file of the day.
+    /// The lines on guides that have changed, and a line for each file of the day.
     pub lines: Text,
     /// The last line of its report.
     pub total: Text,
@@ -362,17 +362,19 @@ fn made_by(
     })
 }
 
-/// Makes the night of `setting` after the older ones, by the files of the hub and those of the day, if all nights with it continue.
-pub(crate) fn made_of<R: Threads + Wait + Clock + Sync>(
+/// Makes the night of `setting` after the older ones, by the files of the hub and those of the day, if all nights with it continue. The
+/// lines `changes` say which guides have changed.
+pub fn made_of<R: Threads + Wait + Clock + Sync>(
     rt: &R,
     alloc: Global,
     setting: &Setting<'_>,
     older: Older<'_>,
     papers: &HubPapers,
     day: Day,
+    changes: &[u8],
 ) -> Result<Made, Failure>
     requires sharing { CanShare setting.now.sharing }
-    ensures made { IfOk result (night.IsMadeOf setting.now older.entry papers.now day) }
+    ensures made { IfOk result (night.IsMadeOf setting.now older.entry papers.now day changes.now) }
     ensures before { IfErr result IsBefore }
 {
     let draft = draft_of(
@@ -392,6 +394,6 @@ pub(crate) fn made_of<R: Threads + Wait + Clock + Sync>(
         tables,
     } = draft;
     let chain = check_draft(alloc, setting, older, folder.as_slice(), entry)?;
-    let side = side_of(alloc, folder, tables, laid.status, day)?;
+    let side = side_of(alloc, folder, tables, laid.status, day, changes)?;
     made_by(alloc, setting, &chain, papers, number, laid, side)
 }

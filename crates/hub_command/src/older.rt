@@ -31,7 +31,7 @@ fn last_of<'a>(order: &[&'a NightMark]) -> Option<&'a NightMark>
 }
 
 /// Reads the nights `marks` of the folder at the path `nights`.
-pub(crate) fn older_of<'a, R: Files + AllocGlobal + Clone + Drop>(
+pub fn older_of<'a, R: Files + AllocGlobal + Clone + Drop>(
     rt: &R,
     nights: &[u8],
     marks: &'a [NightMark],

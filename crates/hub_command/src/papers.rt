@@ -25,7 +25,7 @@ pub struct HubPapers {
 }
 
 /// The path of `name` in `folder`.
-pub(crate) fn path_in(alloc: Global, folder: &[u8], name: &[u8]) -> Result<Text, NoMemory>
+pub fn path_in(alloc: Global, folder: &[u8], name: &[u8]) -> Result<Text, NoMemory>
     ensures { IfOk result (λ path. path ≡ path_in folder.now name.now) }
 {
     let mut path = Vec::from_slice(alloc, folder)?;

@@ -118,8 +118,8 @@ where
     }
 }
 
-/// Sees to it that the folder `hub` is a hub, and takes its lock.
-fn taken<R: Files + AllocGlobal>(rt: &R, hub: &str) -> Result<R::File, Failure>
+/// Sees to it that the folder `hub` is a hub, and takes its lock, which is held as long as the file is open.
+pub fn lock_hub<R: Files + AllocGlobal>(rt: &R, hub: &str) -> Result<R::File, Failure>
 where
     R::File: Lockable,
     ensures before { IfErr result IsBefore }
@@ -175,7 +175,7 @@ where
     ensures values { IfOk result (λ told. told.status ≤ 1) }
     ensures before { IfErr result IsUnprinted }
 {
-    let _lock = taken(rt, hub)?;
+    let _lock = lock_hub(rt, hub)?;
     let limit = clock_text(limit(rt))?;
     let clock = clock_text(moment_now(rt))?;
     let mut shelf = FolderShelf::at(rt, hub);
@@ -203,7 +203,7 @@ where
     ensures values { IfOk result (λ told. told.status ≡ 0) }
     ensures before { IfErr result IsBefore }
 {
-    let _lock = taken(rt, hub)?;
+    let _lock = lock_hub(rt, hub)?;
     if not_sent {
         give_up_last(rt, hub)
     } else {

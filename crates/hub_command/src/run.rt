@@ -5,11 +5,12 @@ ghost use Rattle.night_review.specs.Nights.{AreNights};
 ghost use Rattle.hub_command.specs.Failure.{IsBefore};
 ghost use Rattle.hub_command.specs.Run as run;
 
-use crate::day::{Judged, day_of};
+use crate::changed::changes_at;
+use crate::day::{Day, Judged, day_of};
 use crate::failure::Failure;
 use crate::night::{Made, made_of};
-use crate::older::older_of;
-use crate::papers::{papers_at, path_in};
+use crate::older::{Older, older_of};
+use crate::papers::{HubPapers, papers_at, path_in};
 use crate::reading::day_files_at;
 use crate::ready::{Ready, ready_text};
 use crate::setting::Setting;
@@ -48,7 +49,7 @@ fn of_day(fault: ReviewFault, hub: Text) -> Failure
 }
 
 /// The nights in the folder at the path `nights` of the hub `hub`.
-fn marks_at<R: Files + AllocGlobal + Clone + Drop>(
+pub fn marks_at<R: Files + AllocGlobal + Clone + Drop>(
     rt: &R,
     hub: &str,
     nights: &[u8],
@@ -64,6 +65,37 @@ fn marks_at<R: Files + AllocGlobal + Clone + Drop>(
         Ok(marks) => Ok(marks),
         Err(fault) => Err(of_day(fault, hub)),
     }
+}
+
+/// Makes the night of `setting`, with what is said of guides that have changed since the last one.
+fn made_at<R>(
+    rt: &R,
+    setting: &Setting<'_>,
+    older: Older<'_>,
+    papers: &HubPapers,
+    day: Day,
+) -> Result<Made, Failure>
+where
+    R: Files + AllocGlobal + Threads + Wait + Clock + Sync + Clone + Drop,
+    requires sharing { CanShare setting.now.sharing }
+    ensures made { IfOk result (run.IsMadeWith setting.now older.entry papers.now day) }
+    ensures before { IfErr result IsBefore }
+{
+    let changes = changes_at(
+        rt,
+        setting.hub.as_bytes(),
+        older.chain.before.as_slice(),
+        papers.guides.as_slice(),
+    )?;
+    made_of(
+        rt,
+        rt.alloc(),
+        setting,
+        older,
+        papers,
+        day,
+        changes.as_slice(),
+    )
 }
 
 /// Finds the night that `setting` names, or makes it.
@@ -94,7 +126,7 @@ where
         listing,
     )? {
         Judged::Aside(lines) => Ok(Found::Aside(lines)),
-        Judged::Day(day) => Ok(Found::Made(made_of(rt, alloc, setting, older, &papers, day)?)),
+        Judged::Day(day) => Ok(Found::Made(made_at(rt, setting, older, &papers, day)?)),
     }
 }
 

@@ -12,6 +12,7 @@ use crate::names::folder_name;
 use crate::older::Older;
 use crate::papers::path_in;
 use crate::setting::Setting;
+use crate::side::joined;
 use hub_kinds::{Items, NoMemory, Text, copy_text};
 use night_folder::{PaperAt, read_paper};
 use night_marks::NightMark;
@@ -24,7 +25,7 @@ use std::rt::Files;
 pub(crate) struct There {
     pub(crate) number: u32,
     pub(crate) folder: Text,
-    /// A line for each file of the day.
+    /// The lines on guides that had changed, and a line for each file of the day.
     pub(crate) lines: Text,
     /// The last line of its report.
     pub(crate) total: Text,
@@ -83,6 +84,19 @@ fn check_all(
     }
 }
 
+/// The lines that were kept of the night in the folder at the path `folder`.
+fn lines_at<R: Files + AllocGlobal>(rt: &R, folder: &[u8]) -> Result<Text, Failure>
+    ensures lines { IfOk result (there.AreLinesAt folder.now) }
+    ensures before { IfErr result IsBefore }
+{
+    let guides = read_paper(rt, folder, b"guides.txt")?;
+    let said = read_paper(rt, folder, b"files.txt")?;
+    let Some(files) = said.bytes() else {
+        return Err(Failure::Chain(copy_text(rt.alloc(), folder)?));
+    };
+    Ok(joined(rt.alloc(), guides.bytes_or_none(), files)?)
+}
+
 /// What the night `number` gave, in the folder `name` of the folder at the path `nights`.
 fn given_at<R: Files + AllocGlobal>(
     rt: &R,
@@ -97,10 +111,7 @@ fn given_at<R: Files + AllocGlobal>(
     let folder = path_in(rt.alloc(), nights, name)?;
     let total = read_paper(rt, folder.as_slice(), b"total")?;
     let done = read_paper(rt, folder.as_slice(), b"done")?;
-    let said = read_paper(rt, folder.as_slice(), b"files.txt")?;
-    let Some(lines) = said.bytes() else {
-        return Err(Failure::Chain(folder));
-    };
+    let lines = lines_at(rt, folder.as_slice())?;
     let Some(text) = total.bytes() else {
         return Err(Failure::Chain(folder));
     };
@@ -113,7 +124,7 @@ fn given_at<R: Files + AllocGlobal>(
     Ok(There {
         number,
         folder: copy_text(rt.alloc(), name)?,
-        lines: copy_text(rt.alloc(), lines)?,
+        lines,
         total: copy_text(rt.alloc(), text)?,
         status,
         record_sum: copy_text(rt.alloc(), sum.as_slice())?,

@@ -1,0 +1,5 @@
+mod Adopting
+mod Comparing
+mod CommandLine
+mod Numbering
+mod Telling

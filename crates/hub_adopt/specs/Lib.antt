@@ -1,0 +1,9 @@
+pub mod Adopt
+pub mod Again
+pub mod Asked
+pub mod CommandLine
+pub mod Given
+pub mod Lines
+pub mod Old
+pub mod Program
+pub mod Refusal

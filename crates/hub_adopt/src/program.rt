@@ -1,0 +1,102 @@
+ghost use Rattle.std.specs.Prelude.{◌≡◌, ◌≢◌, ◌≤◌, ◌⊎◌, IfErr, IfOk, map};
+ghost use Rattle.std.specs.Io.KnownBytes.{Appends};
+ghost use Rattle.night_command.specs.CommandLine.{CanShare};
+ghost use Rattle.hub_adopt.specs.Asked.{request_as};
+ghost use Rattle.hub_adopt.specs.CommandLine.{IsCommandLine};
+ghost use Rattle.hub_adopt.specs.Program as program;
+
+use crate::adopt::adopt_on;
+use crate::adoption::Adoption;
+use crate::command::{Asked, Options, PROGRAM, read_words};
+use crate::refusal::Refusal;
+use hub_command::{Failure, Lockable, Told, lock_hub};
+use night_review::{ReviewFault, limit, moment_now};
+use night_shelf::FolderShelf;
+use program_frame::print_out;
+use std::alloc::Global;
+use std::convert::AsStr;
+use std::io::Write;
+use std::rt::Files;
+use std::sync::Wait;
+use std::thread::Threads;
+use std::time::Clock;
+
+/// Runs the program on its arguments, without its name, if these begin with `adopt`, and gives its exit status: 0, or that of the refusal
+/// whose lines it has printed on `err`.
+pub fn adopt_main<R, S, O, E>(rt: &R, words: &[S], out: &mut O, err: &mut E) -> u8
+where
+    R: Files + AllocGlobal + Threads + Wait + Clock + Sync + Clone + Drop,
+    R::File: Lockable,
+    S: AsStr,
+    O: Write,
+    E: Write,
+    ensures status { program.IsStatus result }
+    ensures silent { result ≢ 0 → result ≢ 5 → out.new ≡ out.old }
+    ensures quiet { result ≡ 0 → err.new ≡ err.old }
+    ensures usage { result ≡ 2 → IsCommandLine (map S.text words.now) → ⊥ }
+    ensures printed { result ≡ 0 → program.IsRun (map S.text words.now) (O.contents out.old) (O.contents out.new) }
+{
+    match read_words(rt.alloc(), words) {
+        Ok(Asked::Adopt(options)) => end(rt.alloc(), adopt(rt, &options), out, err),
+        Ok(Asked::Show(text)) => print_out(PROGRAM, text.as_bytes(), 0, out, err),
+        Err(mistake) => mistake.report(PROGRAM, err).status,
+    }
+}
+
+/// Prints what is told, or reports the refusal, and gives the status.
+fn end<O: Write, E: Write>(
+    alloc: Global,
+    told: Result<Told, Refusal>,
+    out: &mut O,
+    err: &mut E,
+) -> u8
+    ensures status { program.IsStatus result }
+    ensures words { result ≢ 2 }
+    ensures silent { result ≢ 0 → result ≢ 5 → out.new ≡ out.old }
+    ensures quiet { result ≡ 0 → err.new ≡ err.old }
+    ensures printed { result ≡ 0 → program.IsTold told (O.contents out.old) (O.contents out.new) }
+{
+    match told {
+        Ok(told) => print_out(PROGRAM, told.text.as_slice(), 0, out, err),
+        Err(refusal) => refusal.report(alloc, err).status,
+    }
+}
+
+/// A text of the clock.
+fn clock_text(text: Result<String, ReviewFault>) -> Result<String, Failure> {
+    match text {
+        Ok(text) => Ok(text),
+        Err(ReviewFault::Memory) => Err(Failure::Memory),
+        Err(_) => Err(Failure::Clock),
+    }
+}
+
+/// The adoption that the options name.
+fn adoption_of<'a>(options: &'a Options<'a>, limit: &'a [u8], clock: &'a [u8]) -> Adoption<'a>
+    ensures asked { program.IsAdoptionOf (request_as options.entry.now) result }
+    ensures sharing { result.sharing ≡ options.entry.now.sharing }
+{
+    Adoption {
+        hub: options.hub,
+        nights: options.nights,
+        sharing: options.sharing,
+        limit,
+        clock,
+    }
+}
+
+/// Adopts the old nights that the options name, with the hub's lock.
+fn adopt<R>(rt: &R, options: &Options<'_>) -> Result<Told, Refusal>
+where
+    R: Files + AllocGlobal + Threads + Wait + Clock + Sync + Clone + Drop,
+    R::File: Lockable,
+    requires sharing { CanShare options.now.sharing }
+    ensures { IfOk result (program.AreNightsOfHub (request_as options.now)) }
+{
+    let _lock = lock_hub(rt, options.hub)?;
+    let limit = clock_text(limit(rt))?;
+    let clock = clock_text(moment_now(rt))?;
+    let mut shelf = FolderShelf::at(rt, options.hub);
+    let adoption = adoption_of(options, limit.as_bytes(), clock.as_bytes());
+    adopt_on(rt, &mut shelf, &adoption)
+}
