@@ -6,7 +6,7 @@ use crate::heads::heads_by;
 use crate::judged::judged_by;
 use crate::marks::marks_by;
 use cut_plan::Cuts;
-use env_index::{Index, index_of, judged_is_index};
+use env_index::{Index, index_by_threads, judged_is_index};
 use job_pool::PoolFault;
 use std::alloc::Global;
 use std::sync::Wait;
@@ -30,7 +30,7 @@ pub(crate) fn index_by<'a, G: Gate + Sync, R: Threads + Wait + Clock + Sync>(
 {
     let heads = heads_by(rt, alloc, text, cuts, workers, gate)?;
     let marks = marks_by(rt, alloc, text, cuts, &heads, workers, gate)?;
-    let Ok(mut index) = index_of(alloc, text, &heads, marks.as_slice()) else {
+    let Ok(mut index) = index_by_threads(rt, alloc, text, &heads, marks.as_slice(), workers) else {
         return Err(PoolFault::NoMemory);
     };
     let faults = judged_by(rt, alloc, &index, workers, gate)?;
