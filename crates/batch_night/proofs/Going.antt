@@ -25,8 +25,9 @@ use Rattle.batch_night.specs.MovedSets.{moved_judged, moved_placed}
 use Rattle.mailbox.specs.Rendered.{RenderedValue, rendered_from}
 use Rattle.batch_night.proofs.Placed.{delivered_moved}
 use Rattle.batch_night.specs.Within.{IsWithinText}
-use Rattle.batch_night.proofs.Lines.{lines_joined, lines_moved}
-use Rattle.batch_night.proofs.Totals.{totals_joined, totals_moved}
+use Rattle.batch_night.proofs.Lines.{lines_moved}
+use Rattle.batch_night.proofs.Totals.{totals_moved}
+use Rattle.night_report.proofs.ForAbove.{lines_joined, totals_joined}
 use Rattle.batch_night.specs.MovedAnswers.{moved_answered}
 use Rattle.batch_night.proofs.Answering.{all_moved, judged_moved}
 use Rattle.batch_night.proofs.Filing.{filed_moved}

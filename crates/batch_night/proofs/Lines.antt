@@ -141,13 +141,3 @@ module _ (setup : SetupValue) (before behind : List ℕ) where
   lines_moved n (x ∷ xs) all =
       ap (λ (t : List ℕ). t ++ all_lines setup 0 (n + 1) (map judged xs)) (one_moved n x (sets_before IsWithinText x xs all))
       ∙ ap (λ (t : List ℕ). interchange_lines setup by n x ++ t) (lines_moved (n + 1) xs (sets_behind IsWithinText x xs all))
-
-pub lines_joined : (setup : SetupValue) (base n : ℕ) (xs ys : List JudgedValue)
-    → all_lines setup base n (xs ++ ys) ≡ all_lines setup base n xs ++ all_lines setup base (n + length xs) ys
-lines_joined setup base n [] ys = ap (λ (k : ℕ). all_lines setup base k ys) (omega arith)
-lines_joined setup base n (x ∷ xs) ys =
-    let further : n + 1 + length xs ≡ n + suc (length xs) = omega arith in
-    ap (λ (t : List ℕ). interchange_lines setup base n x ++ t) (lines_joined setup base (n + 1) xs ys
-    ∙ ap (λ (k : ℕ). all_lines setup base (n + 1) xs ++ all_lines setup base k ys) further)
-    ∙ sym (append_assoc (interchange_lines setup base n x) (all_lines setup base (n + 1) xs)
-    (all_lines setup base (n + suc (length xs)) ys))

@@ -26,33 +26,6 @@ refusal x = cond (is_refused x) 1 0
 abbrev made : ℕ → ℕ → ℕ → ℕ → ℕ → ℕ → Totals
 made a b c d e f = record { interchanges = a; refused = b; groups = c; sets = d; accepted = e; held = f }
 
-counted_joined : (xs ys : List JudgedValue) → counted_groups (xs ++ ys) ≡ counted_groups xs ++ counted_groups ys
-counted_joined xs ys =
-    ap (filter is_counted) (flat_map-append groups_shown xs ys)
-    ∙ filter-append is_counted (flat_map groups_shown xs) (flat_map groups_shown ys)
-
-pub totals_joined : (setup : SetupValue) (xs ys : List JudgedValue)
-    → report_totals setup (xs ++ ys) ≡ together (report_totals setup xs) (report_totals setup ys)
-totals_joined setup xs ys =
-    let gs : List ShownGroup = counted_groups xs in
-    let hs : List ShownGroup = counted_groups ys in
-    let groups : List ShownGroup → Totals = λ l. made (length (xs ++ ys)) (count_by is_refused (xs ++ ys)) (length l) (sum_by set_count l)
-    (sum_by accepted_count l) (sum_by (held_count setup) (all_sets (xs ++ ys))) in
-    ap groups (counted_joined xs ys)
-    ∙ ap (λ (n : ℕ). made n (count_by is_refused (xs ++ ys)) (length (gs ++ hs)) (sum_by set_count (gs ++ hs))
-    (sum_by accepted_count (gs ++ hs)) (sum_by (held_count setup) (all_sets (xs ++ ys)))) (length-append xs ys)
-    ∙ ap (λ (n : ℕ). made (length xs + length ys) n (length (gs ++ hs)) (sum_by set_count (gs ++ hs))
-    (sum_by accepted_count (gs ++ hs)) (sum_by (held_count setup) (all_sets (xs ++ ys)))) (sum_by-append refusal xs ys)
-    ∙ ap (λ (n : ℕ). made (length xs + length ys) (count_by is_refused xs + count_by is_refused ys) n (sum_by set_count (gs ++ hs))
-    (sum_by accepted_count (gs ++ hs)) (sum_by (held_count setup) (all_sets (xs ++ ys)))) (length-append gs hs)
-    ∙ ap (λ (n : ℕ). made (length xs + length ys) (count_by is_refused xs + count_by is_refused ys) (length gs + length hs) n
-    (sum_by accepted_count (gs ++ hs)) (sum_by (held_count setup) (all_sets (xs ++ ys)))) (sum_by-append set_count gs hs)
-    ∙ ap (λ (n : ℕ). made (length xs + length ys) (count_by is_refused xs + count_by is_refused ys) (length gs + length hs)
-    (sum_by set_count gs + sum_by set_count hs) n (sum_by (held_count setup) (all_sets (xs ++ ys)))) (sum_by-append accepted_count gs hs)
-    ∙ ap (λ (n : ℕ). made (length xs + length ys) (count_by is_refused xs + count_by is_refused ys) (length gs + length hs)
-    (sum_by set_count gs + sum_by set_count hs) (sum_by accepted_count gs + sum_by accepted_count hs) n)
-    (ap (sum_by (held_count setup)) (flat_map-append sets_of xs ys) ∙ sum_by-append (held_count setup) (all_sets xs) (all_sets ys))
-
 module _ (setup : SetupValue) (before behind : List ℕ) where
   abbrev by : ℕ
   by = length before

@@ -9,6 +9,7 @@ use checked_text::{Finding, ReportWriters};
 use env_index::Index;
 use hub_kinds::NoMemory;
 use mailbox::Writers;
+use night_report::LineWriters;
 use moment::At;
 use night_writing::{Night, Writing};
 use partner_setup::Setup;
@@ -61,7 +62,7 @@ pub(crate) fn write_night<'a>(
 }
 
 /// Writes by what was found out about the places of the index.
-pub(crate) fn write_found<'a, W: Writers + ReportWriters>(
+pub(crate) fn write_found<'a, W: Writers + ReportWriters + LineWriters>(
     alloc: Global,
     writers: &W,
     setup: &'a Setup,
@@ -71,6 +72,7 @@ pub(crate) fn write_found<'a, W: Writers + ReportWriters>(
 ) -> Result<Night, NoMemory>
     requires ready { W.is_ready writers.now }
     requires reports { W.can_report writers.now }
+    requires lines { W.can_tell writers.now }
     requires spans { All (λ e. HasSpans index.now.text e.interchange) index.now.entries }
     requires found { AllZip IsFound (asked_of index.now.text setup.now index.now.entries) found.items }
     ensures { IfOk result (IsNightIn index.now setup.now at.now) }

@@ -2,6 +2,7 @@ pub mod Adding
 pub mod ForAbove
 mod Counting
 mod Ending
+mod Joined
 mod Spacing
 mod Walking
 mod WorkedClean

@@ -24,6 +24,22 @@ told_behind setup base told xs = record {
   count = told.count + length xs;
 }
 
+-- what is told of these interchanges alone, which are numbered on after `before` others
+abbrev pub told_alone : SetupValue → (base before : ℕ) → List JudgedValue → ToldValue
+told_alone setup base before xs = record {
+  lines = all_lines setup base (before + 1) xs;
+  totals = report_totals setup xs;
+  count = length xs;
+}
+
+-- what is told of interchanges, and of those behind them
+abbrev pub joined : ToldValue → ToldValue → ToldValue
+joined first more = record {
+  lines = first.lines ++ more.lines;
+  totals = together first.totals more.totals;
+  count = first.count + more.count;
+}
+
 -- the whole report, with the bytes outside interchanges
 abbrev pub told_text : ToldValue → (outside : ℕ) → List ℕ
 told_text told outside = told.lines ++ total_line told.totals outside

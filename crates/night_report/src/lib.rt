@@ -5,6 +5,7 @@
 //! - `report_text` is the report of what is known of a text, byte for byte;
 //! - `ReportLines` continues from text to text: `append` reports more interchanges, numbered on, at the offsets of the whole, and `close`
 //!   ends with all that was counted;
+//! - `LineWriters` write the same by one thread, or by many: each half of the interchanges by half of them;
 //! - `is_clean` is false exactly where a line of the report shows something refused or held, or its last line doesn't
 //!   say that nothing is outside interchanges.
 //!
@@ -15,6 +16,7 @@
 
 mod clean;
 mod groups;
+mod halving;
 mod held;
 mod lines;
 mod named;
@@ -22,7 +24,9 @@ mod report;
 mod spaced;
 mod told;
 mod totals;
+mod writers;
 
 pub use clean::is_clean;
 pub use report::report_text;
 pub use told::ReportLines;
+pub use writers::LineWriters;

@@ -30,7 +30,7 @@ impl Model for ReportLines {
 
 impl ReportLines {
     ghost use Rattle.std.specs.Prelude.{◌≡◌, ◌+◌, ◌<◌, ◌^◌, IfOk, length};
-    ghost use Rattle.night_report.specs.Told.{nothing_told, told_behind, told_text};
+    ghost use Rattle.night_report.specs.Told.{joined, nothing_told, told_alone, told_behind, told_text};
 
     /// The lines of an empty report.
     pub fn new(alloc: Global) -> ReportLines
@@ -41,6 +41,43 @@ impl ReportLines {
             totals: Totals::none(),
             told: 0,
         }
+    }
+
+    /// Reports these interchanges alone, those of a text that begins at the offset `base`; they are numbered on after `before` others.
+    pub(crate) fn of(
+        alloc: Global,
+        setup: &Setup,
+        base: u64,
+        before: u64,
+        interchanges: &[JudgedInterchange<'_, '_>],
+    ) -> Result<ReportLines, NoMemory>
+        requires { before + length interchanges.now < 2 ^ 64 }
+        ensures { IfOk result (λ lines. lines ≡ told_alone setup.now base before interchanges.now) }
+    {
+        let mut text = Vec::new(alloc);
+        let totals = append_all(&mut text, setup, base, before, interchanges)?;
+        let told = interchanges.len() as u64;
+        Ok(ReportLines { text, totals, told })
+    }
+
+    /// These lines, and after them `more`, those of later interchanges.
+    pub(crate) fn followed_by(self, more: ReportLines) -> Result<ReportLines, NoMemory>
+        requires { self.count + more.count < 2 ^ 64 }
+        ensures { IfOk result (λ all. all ≡ joined self more) }
+    {
+        let ReportLines { text, totals, told } = self;
+        let ReportLines {
+            text: mut behind,
+            totals: others,
+            told: count,
+        } = more;
+        let mut text = text;
+        text.append(&mut behind)?;
+        Ok(ReportLines {
+            text,
+            totals: totals.with(&others),
+            told: told + count,
+        })
     }
 
     /// How many interchanges were reported.

@@ -18,7 +18,7 @@ use job_pool::{ManyThreads, OneThread};
 use judged_text::JudgedInterchange;
 use mailbox::{RenderedSets, Writers, nothing_rendered, render_deliveries};
 use moment::At;
-use night_report::ReportLines;
+use night_report::{LineWriters, ReportLines};
 use partner_setup::Setup;
 use std::alloc::Global;
 use std::marker::Model;
@@ -153,7 +153,7 @@ impl Writing {
     }
 
     /// Adds interchanges after those before, of which there may be none.
-    fn add_interchanges<'a, W: Writers + ReportWriters>(
+    fn add_interchanges<'a, W: Writers + ReportWriters + LineWriters>(
         self,
         alloc: Global,
         writers: &W,
@@ -165,6 +165,7 @@ impl Writing {
     ) -> Result<Writing, NoMemory>
         requires ready { W.is_ready writers.now }
         requires reports { W.can_report writers.now }
+        requires lines { W.can_tell writers.now }
         requires spans { All (λ e. HasSpans index.now.text e.interchange) index.now.entries }
         requires found { IfSome found (λ v. AllZip IsFound (asked_of index.now.text setup.now index.now.entries) v.items) }
         requires room { HasRoomFor setup.now at.now (length index.now.entries) index.now.outside self }
@@ -178,7 +179,7 @@ impl Writing {
         } = self;
         let checked = answered(alloc, writers, setup, at, index, found, files)?;
         let interchanges = checked.interchanges.as_slice();
-        let lines = lines.append(setup, base, interchanges)?;
+        let lines = writers.append_lines(alloc, lines, setup, base, interchanges)?;
         let boxes = rendered_behind(alloc, writers, setup, interchanges, boxes)?;
         Ok(Writing {
             outside: outside + index.outside(),
@@ -190,7 +191,7 @@ impl Writing {
 
     /// Adds a batch, by what was found out about its places, or else checked here. One without interchanges adds its bytes outside
     /// alone.
-    fn add_answered<'a, W: Writers + ReportWriters>(
+    fn add_answered<'a, W: Writers + ReportWriters + LineWriters>(
         self,
         alloc: Global,
         writers: &W,
@@ -202,6 +203,7 @@ impl Writing {
     ) -> Result<Writing, NoMemory>
         requires ready { W.is_ready writers.now }
         requires reports { W.can_report writers.now }
+        requires lines { W.can_tell writers.now }
         requires spans { All (λ e. HasSpans index.now.text e.interchange) index.now.entries }
         requires found { IfSome found (λ v. AllZip IsFound (asked_of index.now.text setup.now index.now.entries) v.items) }
         requires room { HasRoomFor setup.now at.now (length index.now.entries) index.now.outside self }
@@ -235,7 +237,7 @@ impl Writing {
     /// Writes a batch of which all was found out before: of each place of its index whether its number is used earlier, and of each
     /// set how it was checked; these writers write the delivered sets and the 999s. The only error is out of memory; then what was
     /// written before is dropped.
-    pub fn add_found<'a, W: Writers + ReportWriters>(
+    pub fn add_found<'a, W: Writers + ReportWriters + LineWriters>(
         self,
         alloc: Global,
         writers: &W,
@@ -247,6 +249,7 @@ impl Writing {
     ) -> Result<Writing, NoMemory>
         requires ready { W.is_ready writers.now }
         requires reports { W.can_report writers.now }
+        requires lines { W.can_tell writers.now }
         requires spans { All (λ e. HasSpans index.now.text e.interchange) index.now.entries }
         requires found { AllZip IsFound (asked_of index.now.text setup.now index.now.entries) found.items }
         requires room { HasRoomFor setup.now at.now (length index.now.entries) index.now.outside self }

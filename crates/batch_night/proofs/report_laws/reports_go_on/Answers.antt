@@ -1,6 +1,7 @@
 use Rattle.batch_night.proofs.Placed.{delivered_moved}
-use Rattle.batch_night.proofs.Lines.{lines_joined, lines_moved}
-use Rattle.batch_night.proofs.Totals.{totals_joined, totals_moved}
+use Rattle.batch_night.proofs.Lines.{lines_moved}
+use Rattle.batch_night.proofs.Totals.{totals_moved}
+use Rattle.night_report.proofs.ForAbove.{lines_joined, totals_joined}
 use Rattle.batch_night.proofs.report_laws.reports_go_on.Goals as goal
 
 pub returns-clause-moved : goal.returns-clause-moved
