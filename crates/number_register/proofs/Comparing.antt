@@ -1,7 +1,6 @@
 -- Keys that compare as equal are those of one number.
 use Rattle.std.proofs.Common.{◌≡◌, ℕ, ◌<◌, inl, inr, true, List, [], ◌∷◌, refl, sym, ap, ◌∙◌, true≢false, arith}
 use Rattle.std.specs.Cmp.{nat_cmp_is}
-use Rattle.std.specs.Cmp.Lexicographic.{slice_cmp}
 use Rattle.std.specs.Ordering.{is_eq, nat_cmp, ordering_then}
 use Rattle.std.specs.declared.cmp.Ordering.{Ordering}
 use Rattle.std.specs.declared.cmp.Ordering.TheVariants.{Less, Equal, Greater}
@@ -9,7 +8,7 @@ use Rattle.std.proofs.lemmas.Bool.{cases_lt}
 use Rattle.std.proofs.lemmas.Map.Text.{is_eq-slice_cmp}
 use Rattle.std.proofs.lemmas.Slice.Eq.{bytes_eq-Decides}
 use Rattle.hub_kinds.specs.Words.{by_text}
-use Rattle.number_register.specs.Slots.{text_of, texts_of}
+use Rattle.number_register.specs.Slots.{code_in, InterchangeKey, text_of}
 use denote.Ref.{Bor}
 
 pub lent_same : (a b : Bor (List ℕ)) → is_eq (by_text a b) ≡ true → text_of a ≡ text_of b
@@ -45,21 +44,37 @@ equal_both Less p h g = h
 equal_both Equal p h g = g
 equal_both Greater p h g = h
 
-pub lents_same : (xs ys : List (Bor (List ℕ))) → is_eq (slice_cmp by_text xs ys) ≡ true → texts_of xs ≡ texts_of ys
-lents_same [] [] h = refl
-lents_same [] (b ∷ ys) h = absurd (true≢false (sym h))
-lents_same (a ∷ xs) [] h = absurd (true≢false (sym h))
-lents_same (a ∷ xs) (b ∷ ys) h =
-    let both = both_equal (by_text a b) (slice_cmp by_text xs ys) h in
-    let x = lent_same a b both.0 in
-    let y = lents_same xs ys both.1 in
-    λ i. x i ∷ y i
+-- how keys of interchanges compare
+abbrev pub by_code : InterchangeKey → InterchangeKey → Ordering
+by_code a b =
+    ordering_then (ordering_then (ordering_then (ordering_then (ordering_then (nat_cmp a.0 b.0) (by_text a.1 b.1)) (by_text a.2 b.2))
+    (by_text a.3 b.3)) (by_text a.4 b.4)) (by_text a.5 b.5)
 
-pub lents_equal : (xs ys : List (Bor (List ℕ))) → texts_of xs ≡ texts_of ys → is_eq (slice_cmp by_text xs ys) ≡ true
-lents_equal [] [] e = refl
-lents_equal [] (b ∷ ys) e = cc
-lents_equal (a ∷ xs) [] e = cc
-lents_equal (a ∷ xs) (b ∷ ys) e =
-    let x : text_of a ≡ text_of b = cc in
-    let y : texts_of xs ≡ texts_of ys = cc in
-    equal_both (by_text a b) (slice_cmp by_text xs ys) (lent_equal a b x) (lents_equal xs ys y)
+pub codes_same : (a b : InterchangeKey) → is_eq (by_code a b) ≡ true → code_in a ≡ code_in b
+codes_same a b h =
+    let five = both_equal _ (by_text a.5 b.5) h in
+    let four = both_equal _ (by_text a.4 b.4) five.0 in
+    let three = both_equal _ (by_text a.3 b.3) four.0 in
+    let two = both_equal _ (by_text a.2 b.2) three.0 in
+    let one = both_equal (nat_cmp a.0 b.0) (by_text a.1 b.1) two.0 in
+    let n = code_same a.0 b.0 one.0 in
+    let v = lent_same a.1 b.1 one.1 in
+    let w = lent_same a.2 b.2 two.1 in
+    let x = lent_same a.3 b.3 three.1 in
+    let y = lent_same a.4 b.4 four.1 in
+    let z = lent_same a.5 b.5 five.1 in
+    λ i. (n i, v i ∷ w i ∷ x i ∷ y i ∷ z i ∷ [])
+
+pub codes_equal : (a b : InterchangeKey) → code_in a ≡ code_in b → is_eq (by_code a b) ≡ true
+codes_equal a b e =
+    let fields : text_of a.1 ∷ text_of a.2 ∷ text_of a.3 ∷ text_of a.4 ∷ text_of a.5 ∷ []
+    ≡ text_of b.1 ∷ text_of b.2 ∷ text_of b.3 ∷ text_of b.4 ∷ text_of b.5 ∷ []
+    = ap (λ (c : ℕ × List (List ℕ)). c.1) e in
+    let v : text_of a.1 ≡ text_of b.1 = cc in
+    let w : text_of a.2 ≡ text_of b.2 = cc in
+    let x : text_of a.3 ≡ text_of b.3 = cc in
+    let y : text_of a.4 ≡ text_of b.4 = cc in
+    let z : text_of a.5 ≡ text_of b.5 = cc in
+    equal_both _ (by_text a.5 b.5) (equal_both _ (by_text a.4 b.4) (equal_both _ (by_text a.3 b.3) (equal_both _ (by_text a.2 b.2)
+    (equal_both (nat_cmp a.0 b.0) (by_text a.1 b.1) (code_equal a.0 b.0 (ap (λ (c : ℕ × List (List ℕ)). c.0) e)) (lent_equal a.1 b.1 v))
+    (lent_equal a.2 b.2 w)) (lent_equal a.3 b.3 x)) (lent_equal a.4 b.4 y)) (lent_equal a.5 b.5 z)

@@ -2,7 +2,6 @@
 use Rattle.std.proofs.Common.{◌≡◌, ℕ, ◌+◌, ◌-◌, ◌<◌, ◌≤◌, Bool, true, false, List, []}
 use Rattle.std.proofs.Common.{map, get_or, cond, ltb, Option, Some, None, refl, sym, ap, subst, ◌∙◌}
 use Rattle.std.specs.Prelude.{Contains, option_map, slice_get}
-use Rattle.std.specs.Cmp.Lexicographic.{slice_cmp}
 use Rattle.std.specs.Ordering.{nat_cmp}
 use Rattle.std.proofs.lemmas.Bool.{ltb-true}
 use Rattle.std.proofs.lemmas.Option.{none-some}
@@ -11,12 +10,12 @@ use Rattle.hub_kinds.specs.declared.place.Place.{Place}
 use Rattle.number_register.specs.Books.{book_at}
 use Rattle.number_register.specs.First.{first_of, where_before}
 use Rattle.work_core.specs.Core.{was_recorded}
-use Rattle.env_index.specs.Words.{IndexValue, OfInterchange, OfGroup, OfSet, places_of}
+use Rattle.env_index.specs.Words.{IndexValue, OfGroup, OfSet, places_of}
 use Rattle.number_register.specs.Recording.{IsEarlierIn}
-use Rattle.number_register.specs.Slots.{AreHeld, fields_of, group_code, group_place, groups_of, interchange_place, same_code}
-use Rattle.number_register.specs.Slots.{set_control, set_place, sets_of, text_of, texts_of}
-use Rattle.number_register.proofs.Comparing.{code_equal, code_same, lent_equal, lent_same, lents_equal, lents_same}
-use Rattle.number_register.proofs.Families.{group_uses, interchange_uses, number_by, set_uses}
+use Rattle.number_register.specs.Slots.{AreHeld, code_in, group_code, group_place, groups_of, interchange_code, interchange_place, InterchangeKey}
+use Rattle.number_register.specs.Slots.{same_code, set_control, set_place, sets_of, text_of}
+use Rattle.number_register.proofs.Comparing.{by_code, code_equal, code_same, codes_equal, codes_same, lent_equal, lent_same}
+use Rattle.number_register.proofs.Families.{group_uses, interchange_by, interchange_uses, number_by, set_uses}
 use Rattle.number_register.proofs.Firsts.{first_before, key_there}
 use Rattle.number_register.proofs.Places.{placed}
 use Rattle.number_register.proofs.Standing.{at_group, at_interchange, at_set, item}
@@ -32,40 +31,39 @@ pub where_low : (at m : ℕ) (o : Option ℕ) → where_before at o ≡ Some m �
 where_low at m None h = absurd (none-some m h)
 where_low at m (Some o) h = low_by (ltb o at) at m o refl h
 
-module _ (index : IndexValue) (recorded : List Place) (inter : List (Option (List (Bor (List ℕ))))) (group : List (List (Option ℕ)))
+module _ (index : IndexValue) (recorded : List Place) (inter : List (Option (InterchangeKey))) (group : List (List (Option ℕ)))
     (set : List (List (List (Option (Bor (List ℕ)))))) (held : AreHeld index.entries recorded inter group set)
     (listed : (q : Place) → was_recorded recorded q ≡ true → Contains (places_of index) q)
     (full : (q : Place) → Contains (places_of index) q → was_recorded recorded q ≡ true) (p : Place)
     (there : Contains (places_of index) p)
   where
     pub interchange_key : p.gs ≡ 0
-        → (key : List (Bor (List ℕ))) × (slice_get inter (p.isa - 1) ≡ Some (Some key))
-        × (texts_of key ≡ get_or (map fields_of index.entries) (p.isa - 1) [])
+        → (key : InterchangeKey) × (slice_get inter (p.isa - 1) ≡ Some (Some key))
+        × (code_in key ≡ get_or (map interchange_code index.entries) (p.isa - 1) (0, []))
     interchange_key gs =
         let at = placed index p there in
         let alone = at.alone gs in
-        key_there (slice_cmp by_text) texts_of (map fields_of index.entries) interchange_place recorded inter held.interchanges
+        key_there (by_code) code_in (map interchange_code index.entries) interchange_place recorded inter held.interchanges
         (p.isa - 1)
-        (get_or (map fields_of index.entries) (p.isa - 1) []) (item fields_of index.entries (p.isa - 1) [] alone.1)
+        (get_or (map interchange_code index.entries) (p.isa - 1) (0, [])) (item interchange_code index.entries (p.isa - 1) (0, []) alone.1)
         (ap (was_recorded recorded) (sym (at_interchange p at.isa gs alone.0)) ∙ full p there)
 
     pub interchange_earlier : p.gs ≡ 0 → (result : Option ℕ)
-        → ((key : List (Bor (List ℕ))) → slice_get inter (p.isa - 1) ≡ Some (Some key)
-        → result ≡ where_before (p.isa - 1) (first_of (slice_cmp by_text) inter key))
+        → ((key : InterchangeKey) → slice_get inter (p.isa - 1) ≡ Some (Some key)
+        → result ≡ where_before (p.isa - 1) (first_of (by_code) inter key))
         → (found : Option Place) → found ≡ option_map interchange_place result → IsEarlierIn index p found
     interchange_earlier gs result answers found is =
         let at = placed index p there in
         let alone = at.alone gs in
         let place = at_interchange p at.isa gs alone.0 in
         let key = interchange_key gs in
-        let numbers = map fields_of index.entries in
-        let v = get_or numbers (p.isa - 1) [] in
-        let own = item fields_of index.entries (p.isa - 1) [] alone.1 in
-        let first = first_before (slice_cmp by_text) texts_of numbers interchange_place recorded inter held.interchanges lents_same
-        lents_equal
-        (p.isa - 1) v key.0 own key.2 result (answers key.0 key.1) in
+        let numbers = map interchange_code index.entries in
+        let v = get_or numbers (p.isa - 1) (0, []) in
+        let own = item interchange_code index.entries (p.isa - 1) (0, []) alone.1 in
+        let first = first_before (by_code) code_in numbers interchange_place recorded inter held.interchanges codes_same
+        codes_equal (p.isa - 1) v key.0 own key.2 result (answers key.0 key.1) in
         subst (λ (q : Place). IsEarlierIn index q found) (sym place)
-        (is_earlier index interchange_place OfInterchange numbers (interchange_uses index) recorded listed full (p.isa - 1) v own
+        (is_earlier index interchange_place interchange_by numbers (interchange_uses index) recorded listed full (p.isa - 1) v own
         (subst (λ (q : Place). Contains (places_of index) q) place there) result first found is)
 
     pub group_key_there : 1 ≤ p.gs → p.st ≡ 0

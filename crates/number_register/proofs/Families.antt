@@ -1,16 +1,17 @@
 -- The interchanges of an index, the groups of an interchange and the sets of a group each are places whose numbers are listed.
-use Rattle.std.proofs.Common.{◌≡◌, ℕ, zero, suc, ◌+◌, inl, inr, List}
+use Rattle.std.proofs.Common.{◌≡◌, ℕ, zero, suc, ◌+◌, inl, inr, List, [], ◌∷◌}
 use Rattle.std.proofs.Common.{Option, Some, None, map, refl, sym, ap, ◌∙◌, arith}
 use Rattle.std.specs.Prelude.{Contains, option_map, slice_get}
-use Rattle.std.proofs.lemmas.Option.{slice_get-map}
+use Rattle.std.proofs.lemmas.Option.{none-some, slice_get-map}
 use Rattle.hub_kinds.specs.Words.{number_of}
 use Rattle.hub_kinds.specs.declared.limits.TheConstants.{MOST_CONTROL_DIGITS}
 use Rattle.hub_kinds.specs.declared.place.Place.{Place}
+use Rattle.x12_bytes.specs.Header.{field_of}
 use Rattle.x12_segs.specs.Words.{element_of}
 use Rattle.env_index.specs.Words.{IndexEntry, IndexValue, Number, OfInterchange, OfGroup, OfSet, Numbered, place_at, GroupEntry}
 use Rattle.env_index.specs.declared.entry.SetEnvelope.{SetEnvelope}
 use Rattle.number_register.specs.Recording.{numbered_in}
-use Rattle.number_register.specs.Slots.{code_of, fields_of, group_code, group_place}
+use Rattle.number_register.specs.Slots.{code_of, fields_of, group_code, group_place, interchange_code}
 use Rattle.number_register.specs.Slots.{groups_of, interchange_place, set_control, set_place, sets_of}
 use Rattle.number_register.proofs.Ordering.{groups_in_order, interchanges_in_order, sets_in_order}
 use Rattle.number_register.proofs.ForAbove.{numbered}
@@ -136,41 +137,60 @@ code_by : (v : ℕ) → code_of (number_by v) ≡ v
 code_by zero = refl
 code_by (suc n) = omega arith
 
+-- a key of an interchange's number, which its fields determine
+abbrev pub interchange_by : ℕ × List (List ℕ) → Number
+interchange_by v = OfInterchange v.1
+
+code_by_fields : (e f : IndexEntry) → fields_of e ≡ fields_of f → interchange_code e ≡ interchange_code f
+code_by_fields e f same =
+    let thirteen : field_of e.interchange.header 13 ≡ field_of f.interchange.header 13 = cc in
+    let code = ap (λ (t : List ℕ). code_of (number_of MOST_CONTROL_DIGITS t)) thirteen in
+    λ i. (code i, same i)
+
+of_map : {A B : Type 0} (f : A → B) (xs : List A) (i : ℕ) (y : B) → slice_get (map f xs) i ≡ Some y → (x : A) × (f x ≡ y)
+of_map f [] i y is = absurd (none-some y is)
+of_map f (x ∷ xs) zero y is = let e : f x ≡ y = cc in (x, e)
+of_map f (x ∷ xs) (suc i) y is = of_map f xs i y is
+
 module _ (index : IndexValue) where
-  pub interchange_uses : AreUses index interchange_place OfInterchange (map fields_of index.entries)
+  pub interchange_uses : AreUses index interchange_place interchange_by (map interchange_code index.entries)
   interchange_uses = record {
     order = interchanges_in_order;
     single = λ m other h. single m other (item index _ h);
-    only = λ r v h. only r v (item index _ h);
+    only = λ i r v own h. only i r v own (item index _ h);
   } where
     single : (m : ℕ) (other : Number) → IsItem index.entries (numbered (interchange_place m) other)
-        → (v : List (List ℕ)) × (slice_get (map fields_of index.entries) m ≡ Some v) × (other ≡ OfInterchange v)
+        → (v : ℕ × List (List ℕ)) × (slice_get (map interchange_code index.entries) m ≡ Some v) × (other ≡ interchange_by v)
     single m other (AnInterchange x) =
         let e = same_up m x.n (ap (λ (p : Place). p.isa) x.place) in (
-          fields_of x.e,
-          ap (slice_get (map fields_of index.entries)) e ∙ at_map fields_of index.entries x.n x.e x.there,
+          interchange_code x.e,
+          ap (slice_get (map interchange_code index.entries)) e ∙ at_map interchange_code index.entries x.n x.e x.there,
           x.number,
         )
     single m other (AGroupOf x) = absurd (not_nought x.k (sym (ap (λ (p : Place). p.gs) x.place)))
     single m other (ASetOf x) = absurd (not_nought x.k (sym (ap (λ (p : Place). p.gs) x.place)))
 
-    only : (r : Place) (v : List (List ℕ)) → IsItem index.entries (numbered r (OfInterchange v))
-        → (m : ℕ) × (r ≡ interchange_place m) × (slice_get (map fields_of index.entries) m ≡ Some v)
-    only r v (AnInterchange x) = (
-      x.n,
-      x.place,
-      at_map fields_of index.entries x.n x.e x.there
-          ∙ ap (λ (f : List (List ℕ)). Some f) (sym (interchange_parts v (fields_of x.e) x.number)),
-    )
-    only r v (AGroupOf x) = absurd (group_is_no_interchange (x.n + 1) (control_of x.g) v (sym x.number))
-    only r v (ASetOf x) = absurd (set_is_no_interchange (x.n + 1) (x.k + 1) (set_control x.s) v (sym x.number))
+    only : (i : ℕ) (r : Place) (v : ℕ × List (List ℕ)) → slice_get (map interchange_code index.entries) i ≡ Some v
+        → IsItem index.entries (numbered r (interchange_by v))
+        → (m : ℕ) × (r ≡ interchange_place m) × (slice_get (map interchange_code index.entries) m ≡ Some v)
+    only i r v own (AnInterchange x) =
+        let of = of_map interchange_code index.entries i v own in
+        let fields : fields_of x.e ≡ fields_of of.0 =
+        sym (ap (λ (w : ℕ × List (List ℕ)). w.1) of.1 ∙ interchange_parts v.1 (fields_of x.e) x.number) in (
+          x.n,
+          x.place,
+          at_map interchange_code index.entries x.n x.e x.there
+              ∙ ap (λ (w : ℕ × List (List ℕ)). Some w) (code_by_fields x.e of.0 fields ∙ of.1),
+        )
+    only i r v own (AGroupOf x) = absurd (group_is_no_interchange (x.n + 1) (control_of x.g) v.1 (sym x.number))
+    only i r v own (ASetOf x) = absurd (set_is_no_interchange (x.n + 1) (x.k + 1) (set_control x.s) v.1 (sym x.number))
 
   pub group_uses : (n : ℕ) → AreUses index (group_place n) (λ c. OfGroup (n + 1) (number_by c))
       (map group_code (groups_of index.entries n))
   group_uses n = record {
     order = groups_in_order (n + 1);
     single = λ m other h. single m other (item index _ h);
-    only = λ r v h. only r v (item index _ h);
+    only = λ _ r v own h. only r v (item index _ h);
   } where
     at : (x : ℕ) (k : ℕ) (g : GroupEntry) → n ≡ x → slice_get (groups_of index.entries x) k ≡ Some g
         → slice_get (map group_code (groups_of index.entries n)) k ≡ Some (group_code g)
@@ -206,7 +226,7 @@ module _ (index : IndexValue) where
   set_uses n k = record {
     order = sets_in_order (n + 1) (k + 1);
     single = λ m other h. single m other (item index _ h);
-    only = λ r v h. only r v (item index _ h);
+    only = λ _ r v own h. only r v (item index _ h);
   } where
     at : (x y j : ℕ) (s : SetEnvelope) → n ≡ x → k ≡ y → slice_get (sets_of index.entries x y) j ≡ Some s
         → slice_get (map set_control (sets_of index.entries n k)) j ≡ Some (set_control s)

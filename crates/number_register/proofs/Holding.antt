@@ -10,8 +10,8 @@ use Rattle.number_register.specs.Books.{book_at}
 use Rattle.work_core.specs.Core.{was_recorded}
 use Rattle.env_index.specs.Words.{IndexEntry, GroupEntry}
 use Rattle.number_register.specs.Fresh.{fresh_books, fresh_groups, fresh_sets}
-use Rattle.number_register.specs.Slots.{AreHeld, AreSlots, fields_of, group_code, group_place, groups_of, interchange_place, same_code}
-use Rattle.number_register.specs.Slots.{set_control, set_place, sets_at, sets_of, text_of, texts_of}
+use Rattle.number_register.specs.Slots.{AreHeld, AreSlots, code_in, group_code, group_place, groups_of, interchange_code, interchange_place, InterchangeKey}
+use Rattle.number_register.specs.Slots.{same_code, set_control, set_place, sets_at, sets_of, text_of}
 use Rattle.number_register.proofs.Fill.{absent_at}
 use Rattle.number_register.proofs.Slotting.{apart, apart_too, other_gs, other_isa, other_st, slot_absent, slots_more, slots_stay, up}
 use denote.Ref.{Bor}
@@ -33,7 +33,7 @@ set_book (g ∷ gs) (suc k) = set_book gs k
 
 pub fresh_held : (es : List IndexEntry) → AreHeld es [] (replicate (length es) None) (map fresh_groups es) (map fresh_books es)
 fresh_held es = record {
-  interchanges = λ j v is. ap (option_map (option_map texts_of)) (absent_at fields_of es j v is);
+  interchanges = λ j v is. ap (option_map (option_map code_in)) (absent_at interchange_code es j v is);
   groups = λ n j v is. ap (λ (b : List (Option ℕ)). option_map (option_map same_code) (slice_get b j)) (group_book es n)
       ∙ ap (option_map (option_map same_code)) (absent_at group_code (groups_of es n) j v is);
   sets = λ n k j v is.
@@ -60,14 +60,14 @@ with_set set n k j key = slice_set (get_or set n []) k (slice_set (book_at (get_
 abbrev AreFor : List IndexEntry → List Place → (m i : ℕ) → List (List (Option (Bor (List ℕ)))) → Type 0
 AreFor es recorded m i bs = AreSlots text_of (map set_control (sets_of es m i)) (set_place m i) recorded (book_at bs i)
 
-module _ (es : List IndexEntry) (recorded : List Place) (inter : List (Option (List (Bor (List ℕ))))) (group : List (List (Option ℕ)))
+module _ (es : List IndexEntry) (recorded : List Place) (inter : List (Option (InterchangeKey))) (group : List (List (Option ℕ)))
     (set : List (List (List (Option (Bor (List ℕ)))))) (held : AreHeld es recorded inter group set) where
-  pub interchange_more : (n : ℕ) (key : List (Bor (List ℕ))) → slice_get (map fields_of es) n ≡ Some (texts_of key)
+  pub interchange_more : (n : ℕ) (key : InterchangeKey) → slice_get (map interchange_code es) n ≡ Some (code_in key)
       → was_recorded recorded (interchange_place n) ≡ false
       → AreHeld es (recorded ++ interchange_place n ∷ []) (slice_set inter n (Some key)) group set
   interchange_more n key is fresh = record {
-    interchanges = slots_more texts_of (map fields_of es) interchange_place recorded inter n key (texts_of key)
-        (slot_absent texts_of (map fields_of es) interchange_place recorded inter n (texts_of key) held.interchanges is fresh)
+    interchanges = slots_more code_in (map interchange_code es) interchange_place recorded inter n key (code_in key)
+        (slot_absent code_in (map interchange_code es) interchange_place recorded inter n (code_in key) held.interchanges is fresh)
         is refl (λ j e. other_isa (interchange_place j) (interchange_place n) (up j n e)) held.interchanges;
     groups = λ m. slots_stay same_code (map group_code (groups_of es m)) (group_place m) recorded (interchange_place n) (book_at group m)
         (λ k. other_gs (group_place m k) (interchange_place n) (apart k)) (held.groups m);
@@ -86,16 +86,16 @@ module _ (es : List IndexEntry) (recorded : List Place) (inter : List (Option (L
       slot_absent text_of (map set_control (sets_of es n k)) (set_place n k) recorded (book_at (get_or set n []) k) j key
       (held.sets n k) is fresh
 
-  pub interchange_absent : (n : ℕ) (key : List (List ℕ)) → slice_get (map fields_of es) n ≡ Some key
+  pub interchange_absent : (n : ℕ) (key : ℕ × List (List ℕ)) → slice_get (map interchange_code es) n ≡ Some key
       → was_recorded recorded (interchange_place n) ≡ false → slice_get inter n ≡ Some None
   interchange_absent n key is fresh =
-      slot_absent texts_of (map fields_of es) interchange_place recorded inter n key held.interchanges is fresh
+      slot_absent code_in (map interchange_code es) interchange_place recorded inter n key held.interchanges is fresh
 
   pub group_more : (n k : ℕ) (key : ℕ) → slice_get (map group_code (groups_of es n)) k ≡ Some key
       → was_recorded recorded (group_place n k) ≡ false
       → AreHeld es (recorded ++ group_place n k ∷ []) inter (slice_set group n (slice_set (book_at group n) k (Some key))) set
   group_more n k key is fresh = record {
-    interchanges = slots_stay texts_of (map fields_of es) interchange_place recorded (group_place n k) inter
+    interchanges = slots_stay code_in (map interchange_code es) interchange_place recorded (group_place n k) inter
         (λ j. other_gs (interchange_place j) (group_place n k) (apart_too k)) held.interchanges;
     groups = λ m. at_group m (cases_eq m n);
     sets = λ m i. slots_stay text_of (map set_control (sets_of es m i)) (set_place m i) recorded (group_place n k)
@@ -126,7 +126,7 @@ module _ (es : List IndexEntry) (recorded : List Place) (inter : List (Option (L
       → AreHeld es (recorded ++ set_place n k j ∷ []) inter group
       (slice_set set n (with_set set n k j key))
   set_more n k j key is fresh = record {
-    interchanges = slots_stay texts_of (map fields_of es) interchange_place recorded (set_place n k j) inter
+    interchanges = slots_stay code_in (map interchange_code es) interchange_place recorded (set_place n k j) inter
         (λ m. other_gs (interchange_place m) (set_place n k j) (apart_too k)) held.interchanges;
     groups = λ m. slots_stay same_code (map group_code (groups_of es m)) (group_place m) recorded (set_place n k j) (book_at group m)
         (λ i. other_st (group_place m i) (set_place n k j) (apart_too j)) (held.groups m);

@@ -5,22 +5,22 @@ use Rattle.hub_kinds.specs.declared.place.Place.{Place}
 use Rattle.number_register.specs.Books.{book_at}
 use Rattle.work_core.specs.Core.{was_recorded}
 use Rattle.env_index.specs.Words.{IndexEntry}
-use Rattle.number_register.specs.Slots.{AreHeld, fields_of, group_code, groups_of, set_control, sets_of, texts_of}
+use Rattle.number_register.specs.Slots.{AreHeld, code_in, group_code, groups_of, interchange_code, InterchangeKey, set_control, sets_of}
 use Rattle.number_register.proofs.Holding.{group_absent, group_more, interchange_absent, interchange_more, set_absent, set_more, with_set}
 use Rattle.number_register.proofs.Standing.{at_group, at_interchange, at_set}
 use denote.Ref.{Bor}
 
-module _ (es : List IndexEntry) (recorded : List Place) (inter : List (Option (List (Bor (List ℕ))))) (group : List (List (Option ℕ)))
+module _ (es : List IndexEntry) (recorded : List Place) (inter : List (Option (InterchangeKey))) (group : List (List (Option ℕ)))
     (set : List (List (List (Option (Bor (List ℕ)))))) (held : AreHeld es recorded inter group set) (p : Place)
     (fresh : was_recorded recorded p ≡ false) (isa : 1 ≤ p.isa) where
-  pub interchange_absent_at : p.gs ≡ 0 → p.st ≡ 0 → (key : List (List ℕ)) → slice_get (map fields_of es) (p.isa - 1) ≡ Some key
+  pub interchange_absent_at : p.gs ≡ 0 → p.st ≡ 0 → (key : ℕ × List (List ℕ)) → slice_get (map interchange_code es) (p.isa - 1) ≡ Some key
       → slice_get inter (p.isa - 1) ≡ Some None
   interchange_absent_at gs st key is =
       interchange_absent es recorded inter group set held (p.isa - 1) key is
       (ap (was_recorded recorded) (sym (at_interchange p isa gs st)) ∙ fresh)
 
-  pub interchange_more_at : p.gs ≡ 0 → p.st ≡ 0 → (key : List (Bor (List ℕ)))
-      → slice_get (map fields_of es) (p.isa - 1) ≡ Some (texts_of key)
+  pub interchange_more_at : p.gs ≡ 0 → p.st ≡ 0 → (key : InterchangeKey)
+      → slice_get (map interchange_code es) (p.isa - 1) ≡ Some (code_in key)
       → AreHeld es (recorded ++ p ∷ []) (slice_set inter (p.isa - 1) (Some key)) group set
   interchange_more_at gs st key is =
       subst (λ (q : Place). AreHeld es (recorded ++ q ∷ []) (slice_set inter (p.isa - 1) (Some key)) group set)

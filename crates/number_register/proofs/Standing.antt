@@ -9,8 +9,8 @@ use Rattle.number_register.specs.Books.{book_at}
 use Rattle.work_core.specs.Core.{was_recorded}
 use Rattle.env_index.specs.Words.{IndexEntry, place_at}
 use Rattle.number_register.specs.Placing.{IsPlaced}
-use Rattle.number_register.specs.Slots.{AreHeld, fields_of, group_code, group_place, groups_of, interchange_place, same_code}
-use Rattle.number_register.specs.Slots.{set_control, set_place, sets_of, text_of, texts_of}
+use Rattle.number_register.specs.Slots.{AreHeld, code_in, group_code, group_place, groups_of, interchange_code, interchange_place, InterchangeKey}
+use Rattle.number_register.specs.Slots.{same_code, set_control, set_place, sets_of, text_of}
 use Rattle.number_register.proofs.Slotting.{slot_there}
 use denote.Ref.{Bor}
 
@@ -38,13 +38,13 @@ item f xs i d h = slice_get-get_or (map f xs) i d (let e = length-map xs f in om
 abbrev pub IsThere : {A : Type 0} → List (Option A) → ℕ → Bool → Type 0
 IsThere {A} keys i b = (k : Option A) × (slice_get keys i ≡ Some k) × (is_some k ≡ b)
 
-module _ (es : List IndexEntry) (recorded : List Place) (inter : List (Option (List (Bor (List ℕ))))) (group : List (List (Option ℕ)))
+module _ (es : List IndexEntry) (recorded : List Place) (inter : List (Option (InterchangeKey))) (group : List (List (Option ℕ)))
     (set : List (List (List (Option (Bor (List ℕ)))))) (held : AreHeld es recorded inter group set) (p : Place) (at : IsPlaced es p) where
   pub interchange_there : p.gs ≡ 0 → IsThere inter (p.isa - 1) (was_recorded recorded p)
   interchange_there gs =
       let alone = at.alone gs in
-      let r = slot_there texts_of (map fields_of es) interchange_place recorded inter (p.isa - 1) (get_or (map fields_of es) (p.isa - 1) [])
-      held.interchanges (item fields_of es (p.isa - 1) [] alone.1) in
+      let r = slot_there code_in (map interchange_code es) interchange_place recorded inter (p.isa - 1) (get_or (map interchange_code es) (p.isa - 1) (0, []))
+      held.interchanges (item interchange_code es (p.isa - 1) (0, []) alone.1) in
       (r.0, r.1, r.2 ∙ ap (was_recorded recorded) (sym (at_interchange p at.isa gs alone.0)))
 
   pub group_there : 1 ≤ p.gs → p.st ≡ 0 → IsThere (book_at group (p.isa - 1)) (p.gs - 1) (was_recorded recorded p)

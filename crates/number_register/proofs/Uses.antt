@@ -18,7 +18,7 @@ pub record AreUses (index : IndexValue) (at : ℕ → Place) {V : Type 0} (numbe
   pub order : AreInOrder at
   pub single : (m : ℕ) (other : Number) → Contains (numbered_in index) (numbered (at m) other)
       → (v : V) × (slice_get numbers m ≡ Some v) × (other ≡ number v)
-  pub only : (r : Place) (v : V) → Contains (numbered_in index) (numbered r (number v))
+  pub only : (i : ℕ) (r : Place) (v : V) → slice_get numbers i ≡ Some v → Contains (numbered_in index) (numbered r (number v))
       → (m : ℕ) × (r ≡ at m) × (slice_get numbers m ≡ Some v)
 
 module _ (index : IndexValue) (at : ℕ → Place) {V : Type 0} (number : V → Number) (numbers : List V)
@@ -47,7 +47,7 @@ module _ (index : IndexValue) (at : ℕ → Place) {V : Type 0} (number : V → 
       let s = uses.single i used.number used.mine in
       let value : used.number ≡ number v = s.2 ∙ ap number (same_value i v s.0 own s.1) in
       let its = subst (λ (x : Number). Contains (numbered_in index) (numbered q x)) value used.its in
-      let m = uses.only q v its in
+      let m = uses.only i q v own its in
       let low = before_is_less at uses.order m.0 i (subst (λ (x : Place). is_before x (at i) ≡ true) m.1 used.before) in
       first m.0 low m.2 (subst (λ (x : Place). was_recorded recorded x ≡ true) m.1
       (full q (mapped_in place_in (numbered_in index) (numbered q (number v)) its)))
@@ -61,7 +61,7 @@ module _ (index : IndexValue) (at : ℕ → Place) {V : Type 0} (number : V → 
         its = has_number m v first.1 (listed (at m) first.2);
         before = uses.order.less m i first.0;
         least = λ r there.
-            let l = uses.only r v there in
+            let l = uses.only i r v own there in
             let rec = subst (λ (x : Place). was_recorded recorded x ≡ true) l.1
             (full r (mapped_in place_in (numbered_in index) (numbered r (number v)) there)) in
             subst (λ (x : Place). is_before x (at m) ≡ false) (sym l.1)

@@ -4,7 +4,7 @@ use Rattle.hub_kinds.specs.declared.place.Place.{Place}
 use Rattle.env_index.specs.Words.{IndexEntry}
 use Rattle.number_register.specs.declared.key.Key.{Key}
 use Rattle.number_register.specs.declared.key.Key.TheVariants.{OfInterchange, OfGroup, OfSet}
-use Rattle.number_register.specs.Slots.{group_code, groups_of, set_control, sets_of}
+use Rattle.number_register.specs.Slots.{code_in, group_code, groups_of, interchange_code, set_control, sets_of}
 
 -- an interchange, a group of one, or a set of one is there
 pub record IsPlaced (es : List IndexEntry) (p : Place) : Type 0 where
@@ -15,7 +15,8 @@ pub record IsPlaced (es : List IndexEntry) (p : Place) : Type 0 where
 
 -- a key is that of the number at a place
 abbrev pub IsKeyAt : List IndexEntry → Place → Key → Type 0
-IsKeyAt es p OfInterchange = (1 ≤ p.isa) × (p.gs ≡ 0) × (p.st ≡ 0) × (p.isa - 1 < length es)
+IsKeyAt es p (OfInterchange key) =
+    (1 ≤ p.isa) × (p.gs ≡ 0) × (p.st ≡ 0) × (slice_get (map interchange_code es) (p.isa - 1) ≡ Some (code_in key))
 IsKeyAt es p (OfGroup code) =
     (1 ≤ p.isa) × (1 ≤ p.gs) × (p.st ≡ 0) × (slice_get (map group_code (groups_of es (p.isa - 1))) (p.gs - 1) ≡ Some code)
 IsKeyAt es p (OfSet control) =

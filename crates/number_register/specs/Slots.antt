@@ -26,12 +26,9 @@ groups_of es n = groups_at (slice_get es n)
 abbrev pub sets_of : List IndexEntry → ℕ → ℕ → List SetEnvelope
 sets_of es n k = sets_at (slice_get (groups_of es n) k)
 
--- a lent text, and some of them
+-- a lent text
 abbrev pub text_of : Bor (List ℕ) → List ℕ
 text_of b = b.now
-
-abbrev pub texts_of : List (Bor (List ℕ)) → List (List ℕ)
-texts_of bs = map text_of bs
 
 -- ISA05 to ISA08 and ISA13
 abbrev pub fields_of : IndexEntry → List (List ℕ)
@@ -39,11 +36,22 @@ fields_of e =
     let header = e.interchange.header in
     field_of header 5 ∷ field_of header 6 ∷ field_of header 7 ∷ field_of header 8 ∷ field_of header 13 ∷ []
 
--- GS06 as a number: 0 for none, and 1 more than the number
+-- a text as a number: 0 for none, and 1 more than the number
 abbrev pub code_of : Option ℕ → ℕ
 code_of None = 0
 code_of (Some n) = n + 1
 
+-- ISA13 as a number, and then the fields
+abbrev pub interchange_code : IndexEntry → ℕ × List (List ℕ)
+interchange_code e = (code_of (number_of MOST_CONTROL_DIGITS (field_of e.interchange.header 13)), fields_of e)
+
+abbrev pub InterchangeKey : Type 0
+InterchangeKey = ℕ × Bor (List ℕ) × Bor (List ℕ) × Bor (List ℕ) × Bor (List ℕ) × Bor (List ℕ)
+
+abbrev pub code_in : InterchangeKey → ℕ × List (List ℕ)
+code_in key = (key.0, text_of key.1 ∷ text_of key.2 ∷ text_of key.3 ∷ text_of key.4 ∷ text_of key.5 ∷ [])
+
+-- GS06 as a number
 abbrev pub group_code : GroupEntry → ℕ
 group_code group = code_of (number_of MOST_CONTROL_DIGITS (element_of group.header 6))
 
@@ -73,8 +81,8 @@ AreSlots {K} {V} read numbers at recorded keys = (j : ℕ) (v : V) → slice_get
 abbrev pub same_code : ℕ → ℕ
 same_code n = n
 
-pub record AreHeld (es : List IndexEntry) (recorded : List Place) (inter : List (Option (List (Bor (List ℕ)))))
+pub record AreHeld (es : List IndexEntry) (recorded : List Place) (inter : List (Option (InterchangeKey)))
     (group : List (List (Option ℕ))) (set : List (List (List (Option (Bor (List ℕ)))))) : Type 0 where
-  pub interchanges : AreSlots texts_of (map fields_of es) interchange_place recorded inter
+  pub interchanges : AreSlots code_in (map interchange_code es) interchange_place recorded inter
   pub groups : (n : ℕ) → AreSlots same_code (map group_code (groups_of es n)) (group_place n) recorded (book_at group n)
   pub sets : (n k : ℕ) → AreSlots text_of (map set_control (sets_of es n k)) (set_place n k) recorded (book_at (get_or set n []) k)

@@ -5,8 +5,8 @@ ghost use Rattle.number_register.specs.First.{lesser};
 use std::alloc::AllocError;
 use std::collections::BTreeMap;
 
-/// Keeps the lesser of a key's position and this one.
-pub(crate) fn note<K: Ord + Drop>(
+/// Keeps the lesser of a key's position and this one. A new key costs one search.
+pub(crate) fn note<K: Ord + Copy + Drop>(
     least: &mut BTreeMap<K, usize>,
     key: K,
     position: usize,
@@ -15,11 +15,10 @@ pub(crate) fn note<K: Ord + Drop>(
         ≡ cond (is_at (K.cmp key) q) (lesser position (get K.cmp least.old key)) (get K.cmp least.old q)) }
     ensures err { OnErr result (least.new.entries ≡ least.old.entries) }
 {
-    if let Some(other) = least.get(&key) {
-        if *other <= position {
-            return Ok(());
+    if let Some(other) = least.insert(key, position)? {
+        if other < position {
+            least.insert(key, other)?;
         }
     }
-    least.insert(key, position)?;
     Ok(())
 }

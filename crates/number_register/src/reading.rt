@@ -1,22 +1,25 @@
 //! Numbers as the index has them, by place, counted from 0.
 ghost use Rattle.std.specs.Prelude.{◌≡◌, ◌<◌, IfSome, Some, length, map, slice_get};
-ghost use Rattle.number_register.specs.Slots.{code_of, fields_of, group_code, groups_of, set_control, sets_of, texts_of};
+ghost use Rattle.number_register.specs.Slots.{code_in, code_of, group_code, groups_of, interchange_code, set_control, sets_of};
 
+use crate::key::InterchangeKey;
 use env_index::{GroupEnvelope, Index};
 use hub_kinds::{MOST_CONTROL_DIGITS, read_number};
 
-pub(crate) fn interchange_key<'a>(index: &Index<'a>, n: usize) -> [&'a [u8]; 5]
+pub(crate) fn interchange_key<'a>(index: &Index<'a>, n: usize) -> InterchangeKey<'a>
     requires { n < length index.now.entries }
-    ensures { slice_get (map fields_of index.now.entries) n ≡ Some (texts_of result) }
+    ensures { slice_get (map interchange_code index.now.entries) n ≡ Some (code_in result) }
 {
     let header = index.interchanges()[n].interchange().header();
-    [
+    let number = header.field(13);
+    (
+        code(read_number(number, MOST_CONTROL_DIGITS)),
         header.field(5),
         header.field(6),
         header.field(7),
         header.field(8),
-        header.field(13),
-    ]
+        number,
+    )
 }
 
 pub(crate) fn group_at<'x, 'a>(index: &'x Index<'a>, n: usize, k: usize) -> GroupEnvelope<'x, 'a>

@@ -11,9 +11,8 @@ use crate::book::Book;
 use crate::books::Books;
 use crate::fault::RecordFault;
 use crate::full::{FullRegister, Short};
-use crate::key::{Key, key_at};
+use crate::key::{InterchangeKey, Key, key_at};
 use crate::making::{group_books, set_books};
-use crate::reading::interchange_key;
 use env_index::Index;
 use hub_kinds::{Items, NoMemory, Place};
 use std::alloc::Global;
@@ -25,7 +24,7 @@ pub struct Records<'i, 'a> {
     index: &'i Index<'a>,
     places: Items<Place>,
     recorded: Vec<Place>,
-    interchanges: Book<[&'a [u8]; 5]>,
+    interchanges: Book<InterchangeKey<'a>>,
     groups: Books<u64>,
     sets: Vec<Books<&'a [u8]>>,
 }
@@ -138,24 +137,23 @@ impl<'i, 'a> Records<'i, 'a> {
         ensures err { OnErr result (self.new.recorded ≡ self.old.recorded) }
     {
         match key {
-            Key::OfInterchange => self.put_interchange(place),
+            Key::OfInterchange(number) => self.put_interchange(place, number),
             Key::OfGroup(code) => self.put_group(place, code),
             Key::OfSet(control) => self.put_set(place, control),
         }
     }
 
-    fn put_interchange(&mut self, place: Place) -> Result<(), NoMemory>
+    fn put_interchange(&mut self, place: Place, number: InterchangeKey<'a>) -> Result<(), NoMemory>
         requires place { Contains (places_of self.old.index) place }
-        requires key { IsKeyAt self.old.index.entries place OfInterchange }
+        requires key { IsKeyAt self.old.index.entries place (OfInterchange number) }
         requires fresh { was_recorded self.old.recorded place ≡ false }
         ensures index { self.new.index ≡ self.old.index }
         ensures ok { OnOk result (self.new.recorded ≡ self.old.recorded ++ place ∷ []) }
         ensures err { OnErr result (self.new.recorded ≡ self.old.recorded) }
     {
         let n = place.isa as usize - 1;
-        let fields = interchange_key(self.index, n);
         self.recorded.reserve(1)?;
-        self.interchanges.add(n, fields)?;
+        self.interchanges.add(n, number)?;
         self.recorded.push_reserved(place);
         Ok(())
     }

@@ -1,14 +1,12 @@
-use Rattle.std.proofs.Common.{◌≡◌, ℕ, ◌+◌, ◌-◌, List, None, Some, ap, refl, sym, subst, ◌∙◌, arith}
+use Rattle.std.proofs.Common.{◌≡◌, ℕ, ◌+◌, ◌-◌, None, Some, ap, refl, sym, subst, ◌∙◌, arith}
 use Rattle.std.specs.Prelude.{Contains, option_map, slice_get}
-use Rattle.std.specs.Cmp.Lexicographic.{slice_cmp}
 use Rattle.std.proofs.lemmas.Option.{slice_get_within}
 use Rattle.env_index.specs.Words.{places_of}
 use Rattle.number_register.specs.First.{first_of, where_before}
 use Rattle.number_register.specs.Recording.{IsEarlierIn, IsFull, Recording}
-use Rattle.number_register.specs.Slots.{interchange_place}
-use Rattle.hub_kinds.specs.Words.{by_text}
+use Rattle.number_register.specs.Slots.{InterchangeKey, interchange_place}
 use Rattle.number_register.proofs.Places.{placed}
-use denote.Ref.{Bor}
+use Rattle.number_register.proofs.Comparing.{by_code}
 use Rattle.number_register.proofs.Earlier.{interchange_key, interchange_earlier, where_low}
 use Rattle.number_register.proofs.records.Records.earlier_interchange.Goals as goal
 
@@ -40,8 +38,8 @@ overflow_cast-result c =
     let p = c.args.place in
     let there = subst (λ (r : Recording). Contains (places_of r.index) c.args.place) (sym c.self.view_is) c.requires.place in
     let full = subst (λ (r : Recording). IsFull r) (sym c.self.view_is) c.requires.full in
-    let answers = subst (λ (x : ℕ). (key : List (Bor (List ℕ))) → slice_get s.interchanges (x - 1) ≡ Some (Some key)
-    → c.earlier.result ≡ where_before (x - 1) (first_of (slice_cmp by_text) s.interchanges key)) c.requires.kind.0 c.earlier.ensures in
+    let answers = subst (λ (x : ℕ). (key : InterchangeKey) → slice_get s.interchanges (x - 1) ≡ Some (Some key)
+    → c.earlier.result ≡ where_before (x - 1) (first_of by_code s.interchanges key)) c.requires.kind.0 c.earlier.ensures in
     let key = interchange_key index s.recorded.items s.interchanges s.groups s.sets.items c.self.invariant.held
     c.self.invariant.listed full p there c.requires.kind.1 in
     let low = where_low (p.isa - 1) c.in-Some.first _ (sym (answers key.0 key.1) ∙ c.in-Some.is) in
@@ -55,8 +53,8 @@ overflow_add-result c =
     let p = c.args.place in
     let there = subst (λ (r : Recording). Contains (places_of r.index) c.args.place) (sym c.self.view_is) c.requires.place in
     let full = subst (λ (r : Recording). IsFull r) (sym c.self.view_is) c.requires.full in
-    let answers = subst (λ (x : ℕ). (key : List (Bor (List ℕ))) → slice_get s.interchanges (x - 1) ≡ Some (Some key)
-    → c.earlier.result ≡ where_before (x - 1) (first_of (slice_cmp by_text) s.interchanges key)) c.requires.kind.0 c.earlier.ensures in
+    let answers = subst (λ (x : ℕ). (key : InterchangeKey) → slice_get s.interchanges (x - 1) ≡ Some (Some key)
+    → c.earlier.result ≡ where_before (x - 1) (first_of by_code s.interchanges key)) c.requires.kind.0 c.earlier.ensures in
     let key = interchange_key index s.recorded.items s.interchanges s.groups s.sets.items c.self.invariant.held
     c.self.invariant.listed full p there c.requires.kind.1 in
     let low = where_low (p.isa - 1) c.in-Some.first _ (sym (answers key.0 key.1) ∙ c.in-Some.is) in
@@ -70,8 +68,8 @@ returns-in-None c =
     let p = c.args.place in
     let there = subst (λ (r : Recording). Contains (places_of r.index) c.args.place) (sym c.self.view_is) c.requires.place in
     let full = subst (λ (r : Recording). IsFull r) (sym c.self.view_is) c.requires.full in
-    let answers = subst (λ (x : ℕ). (key : List (Bor (List ℕ))) → slice_get s.interchanges (x - 1) ≡ Some (Some key)
-    → c.earlier.result ≡ where_before (x - 1) (first_of (slice_cmp by_text) s.interchanges key)) c.requires.kind.0 c.earlier.ensures in
+    let answers = subst (λ (x : ℕ). (key : InterchangeKey) → slice_get s.interchanges (x - 1) ≡ Some (Some key)
+    → c.earlier.result ≡ where_before (x - 1) (first_of by_code s.interchanges key)) c.requires.kind.0 c.earlier.ensures in
     let key = interchange_key index s.recorded.items s.interchanges s.groups s.sets.items c.self.invariant.held
     c.self.invariant.listed full p there c.requires.kind.1 in
     subst (λ (r : Recording). IsEarlierIn r.index p None) c.self.view_is
@@ -85,8 +83,8 @@ returns-in-Some c =
     let p = c.args.place in
     let there = subst (λ (r : Recording). Contains (places_of r.index) c.args.place) (sym c.self.view_is) c.requires.place in
     let full = subst (λ (r : Recording). IsFull r) (sym c.self.view_is) c.requires.full in
-    let answers = subst (λ (x : ℕ). (key : List (Bor (List ℕ))) → slice_get s.interchanges (x - 1) ≡ Some (Some key)
-    → c.earlier.result ≡ where_before (x - 1) (first_of (slice_cmp by_text) s.interchanges key)) c.requires.kind.0 c.earlier.ensures in
+    let answers = subst (λ (x : ℕ). (key : InterchangeKey) → slice_get s.interchanges (x - 1) ≡ Some (Some key)
+    → c.earlier.result ≡ where_before (x - 1) (first_of by_code s.interchanges key)) c.requires.kind.0 c.earlier.ensures in
     let key = interchange_key index s.recorded.items s.interchanges s.groups s.sets.items c.self.invariant.held
     c.self.invariant.listed full p there c.requires.kind.1 in
     let found : Some (record { isa = c.in-Some.first + 1; gs = 0; st = 0 }) ≡ Some ((interchange_place) c.in-Some.first) = refl in

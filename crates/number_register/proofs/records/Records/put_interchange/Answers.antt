@@ -16,22 +16,22 @@ use Rattle.number_register.proofs.records.Records.put_interchange.Goals as goal
 pub add-requires : goal.add-requires
 add-requires c =
     let s = c.self.inside in
-    let key = subst (λ (r : Recording). IsKeyAt r.index.entries c.args.place OfInterchange) (sym c.self.view_is) c.requires.key in
+    let key = subst (λ (r : Recording). IsKeyAt r.index.entries c.args.place (OfInterchange c.args.number)) (sym c.self.view_is) c.requires.key in
     let fresh = subst (λ (r : Recording). was_recorded r.recorded c.args.place ≡ false) (sym c.self.view_is) c.requires.fresh in
     interchange_absent_at s.index.now.entries s.recorded.items s.interchanges s.groups s.sets.items c.self.invariant.held c.args.place fresh
-    key.0 key.1 key.2 _ c.interchange_key-fields.ensures
+    key.0 key.1 key.2 _ key.3
 
 pub invariant_of-self-2 : goal.invariant_of-self-2
 invariant_of-self-2 c =
     let s = c.self.inside in
     let es = s.index.now.entries in
     let p = c.args.place in
-    let key = subst (λ (r : Recording). IsKeyAt r.index.entries c.args.place OfInterchange) (sym c.self.view_is) c.requires.key in
+    let key = subst (λ (r : Recording). IsKeyAt r.index.entries c.args.place (OfInterchange c.args.number)) (sym c.self.view_is) c.requires.key in
     let fresh = subst (λ (r : Recording). was_recorded r.recorded c.args.place ≡ false) (sym c.self.view_is) c.requires.fresh in
     let more = interchange_more_at es s.recorded.items s.interchanges s.groups s.sets.items c.self.invariant.held p fresh key.0 key.1 key.2
-    c.interchange_key-fields.result c.interchange_key-fields.ensures in
+    c.args.number key.3 in
     let listed : c.push_reserved.new.self.items ≡ s.recorded.items ++ p ∷ [] = search rules in
-    let added : c.add.new.self ≡ slice_set s.interchanges (p.isa - 1) (Some c.interchange_key-fields.result) = search rules in record {
+    let added : c.add.new.self ≡ slice_set s.interchanges (p.isa - 1) (Some c.args.number) = search rules in record {
       places = c.self.invariant.places;
       listed = subst (λ r. (q : Place) → was_recorded r q ≡ true → Contains (places_of s.index.now) q) (sym listed)
           (listed_more (λ q. Contains (places_of s.index.now) q) s.recorded.items p c.self.invariant.listed
