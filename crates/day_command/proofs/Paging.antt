@@ -1,5 +1,5 @@
 -- A page that is made of the files of a night.
-use Rattle.std.proofs.Common.{◌≡◌, ◌∙◌, ℕ, List, Option, None, Some, Result, Ok, Err, Vec, ap, map, refl, subst, sym}
+use Rattle.std.proofs.Common.{◌≡◌, ◌∙◌, ℕ, List, Option, None, Some, Result, Ok, Err, Vec, ap, map, refl, subst, sym, true}
 use Rattle.std.specs.Prelude.{IfErr, IsErrAnd}
 use Rattle.std.specs.declared.alloc.Global.{Global}
 use Rattle.csv.specs.Records.{fields_of}
@@ -7,6 +7,7 @@ use Rattle.csv.specs.declared.record.ByteRecord.{ByteRecord}
 use Rattle.night_ends.specs.Outbox.{path_in}
 use Rattle.night_page.specs.Page.{PageValue}
 use Rattle.night_page.specs.Rows.{Row}
+use Rattle.night_page.specs.Totals.{gives_totals}
 use Rattle.night_page.specs.declared.record.RecordShown.{RecordShown}
 use Rattle.night_page.specs.declared.told.PartnerTold.{PartnerTold}
 use Rattle.track_tables.specs.Night.{IsStateOf}
@@ -15,7 +16,7 @@ use Rattle.track_tables.specs.declared.night.TableState.TheVariants as state
 use Rattle.day_command.specs.Failure.{IsBefore}
 use Rattle.day_command.specs.declared.failure.Failure.{Failure}
 use Rattle.day_command.specs.declared.failure.Failure.TheVariants as failure
-use Rattle.day_command.specs.Page.{ArePapersAt, ArePartnersAt, IsPageOf, IsPageReport}
+use Rattle.day_command.specs.Page.{ArePapersAt, ArePartnersAt, IsPageOf, IsPageReport, total_of}
 use Rattle.day_command.specs.Tables.{IsStateAt}
 use Rattle.day_command.specs.declared.papers.PagePapers.{PagePapers}
 
@@ -59,9 +60,9 @@ rows_read (Some text) rows is = (text, refl, is)
 
 pub paged : (nights name folder : List ℕ) (papers : PagePapers) (rows : Vec ByteRecord Global) (partners : List PartnerTold) (text : List ℕ)
     (status : ℕ) → folder ≡ path_in nights name → ArePapersAt folder papers → IsStateAt folder (state.Rows rows)
-    → ArePartnersAt folder partners
+    → gives_totals (total_of papers.total) (map fields_of rows.items) ≡ true → ArePartnersAt folder partners
     → IsPageOf name papers (map fields_of rows.items) partners text status → IsPageReport nights name text status
-paged nights name folder papers rows partners text status is papers_are state_is partners_are page =
+paged nights name folder papers rows partners text status is papers_are state_is totals_are partners_are page =
     let at = subst (λ (f : List ℕ). ArePapersAt f papers) is papers_are in
     let table = subst (λ (f : List ℕ). IsStateAt f (state.Rows rows)) is state_is in
     let read = rows_read table.file.bytes rows table.state_is in
@@ -80,6 +81,7 @@ paged nights name folder papers rows partners text status is papers_are state_is
       bytes_are = read.1;
       rows = map fields_of rows.items;
       rows_are = read.2;
+      totals_are = totals_are;
       partners = partners;
       partners_are = subst (λ (f : List ℕ). ArePartnersAt f partners) is partners_are;
       shown = papers.record;

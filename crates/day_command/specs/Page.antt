@@ -12,6 +12,7 @@ use Rattle.night_ends.specs.Outbox.{path_in}
 use Rattle.night_folder.specs.Files.{FileValue, FolderValue, bytes_or_none, first_line}
 use Rattle.night_page.specs.Page.{IsPage, PageValue, has_todo}
 use Rattle.night_page.specs.Rows.{Row}
+use Rattle.night_page.specs.Totals.{gives_totals}
 use Rattle.night_page.specs.declared.record.RecordShown.{RecordShown}
 use Rattle.night_page.specs.declared.told.PartnerTold.{PartnerTold}
 use Rattle.track_tables.specs.Table.{IsTable}
@@ -81,13 +82,17 @@ abbrev pub IsOneMore : (night : List ℕ) → Option (List ℕ) → (old new : L
 IsOneMore night None old new = new ≡ old
 IsOneMore night (Some partner) old new = (told : PartnerTold) × (new ≡ old ++ told ∷ []) × IsToldAt night partner told
 
+-- the last line of a night's report, by its file total
+abbrev pub total_of : (total : FileValue) → List ℕ
+total_of total = first_line (bytes_or_none total.bytes)
+
 -- what the page of a night is made of
 abbrev pub page_value : (name : List ℕ) → (at total files : FileValue) → (inner : List (List ℕ)) → List Row → List PartnerTold
     → Option RecordShown → PageValue
 page_value name at total files inner rows partners shown = record {
   night = name;
   moment = first_line (bytes_or_none at.bytes);
-  total = first_line (bytes_or_none total.bytes);
+  total = total_of total;
   files = files.bytes;
   inner = inner;
   rows = rows;
@@ -113,7 +118,8 @@ pub record IsPageOf (name : List ℕ) (papers : PagePapers) (rows : List Row) (p
   pub page : IsPage head foot value text
   pub todo : (status ≡ 1) ↔ (has_todo value ≡ true)
 
--- the page of a night by its files, and the status: 1 exactly if there is something to do at the hub
+-- the page of a night by its files, whose table gives the totals of the report, and the status: 1 exactly if there is something to do at
+-- the hub
 pub record IsPageReport (nights name text : List ℕ) (status : ℕ) : Type 0 where
   pub at : FileValue
   pub at_is : at.path ≡ path_in (path_in nights name) (codes "from/at")
@@ -129,6 +135,7 @@ pub record IsPageReport (nights name text : List ℕ) (status : ℕ) : Type 0 wh
   pub bytes_are : table.bytes ≡ Some bytes
   pub rows : List Row
   pub rows_are : IsTable bytes rows
+  pub totals_are : gives_totals (total_of total) rows ≡ true
   pub partners : List PartnerTold
   pub partners_are : ArePartnersAt (path_in nights name) partners
   pub shown : Option RecordShown

@@ -43,8 +43,9 @@ Status:
      something to do; again: there is no such set, says a line on standard
      error
   2  usage
-  4  NIGHTS can't be read; page: or the night's track.csv or out/; again: or
-     the night's from/in.x12 or track.csv, or they don't fit one another
+  4  NIGHTS can't be read; page: or the night's track.csv or out/, or the table
+     doesn't give the totals in the file total; again: or the night's
+     from/in.x12 or track.csv, or they don't fit one another
   5  standard output; export, again: or standard error
   6  no memory
 

@@ -21,6 +21,8 @@ pub enum Failure {
     Papers,
     /// The table of the night isn't that of its input.
     Unfit,
+    /// The table of the night doesn't give the totals of its report.
+    Totals,
     /// The clock can't be read.
     Clock,
     /// Standard error failed, on which an export names tables.
@@ -55,6 +57,8 @@ impl Failure {
                 "nighthub_day: input: the night has no from/in.x12 and track.csv that can be read\n",
             Failure::Unfit =>
                 "nighthub_day: input: the night's track.csv isn't the table of its from/in.x12\n",
+            Failure::Totals =>
+                "nighthub_day: input: the night's track.csv doesn't give the totals in its file total\n",
             Failure::Clock => "nighthub_day: input: the clock can't be read\n",
             Failure::Stderr => "nighthub_day: output stderr\n",
             Failure::Memory => "nighthub_day: memory\n",
@@ -66,8 +70,12 @@ impl Failure {
         ensures values { (result ≡ 4) ⊎ ((result ≡ 5) ⊎ (result ≡ 6)) }
     {
         match self {
-            Failure::Input | Failure::Night | Failure::Papers | Failure::Unfit | Failure::Clock =>
-                4,
+            Failure::Input
+            | Failure::Night
+            | Failure::Papers
+            | Failure::Unfit
+            | Failure::Totals
+            | Failure::Clock => 4,
             Failure::Stderr => 5,
             Failure::Memory => 6,
         }

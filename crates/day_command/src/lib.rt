@@ -14,7 +14,7 @@
 //!   with 0 exactly if each table was read; else with 1;
 //! - page prints the page of the definition on one night, of its table, of the acknowledgments in its folder out/, and of its files
 //!   files.txt, night.toml and from/in.x12, if it has them. It ends with 1 exactly if there is something to do at the hub, and with 4 if
-//!   the table or the folder can't be read;
+//!   the table or the folder can't be read, or if the table doesn't give the totals of the night's report, by its file total;
 //! - again prints the sets of a night that were held for lack of a route, or that were rejected, as an input, by the night's input and its
 //!   table. It ends with 0 exactly if there is such a set; else with 1 and a line on standard error; and with 4 if the input or the table
 //!   can't be read, or the table isn't that of the input;

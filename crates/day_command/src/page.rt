@@ -2,7 +2,8 @@ ghost use Rattle.std.specs.Prelude.{◌≡◌, ◌↔◌, ◌⊎◌, IfErr, IfOk
 ghost use Rattle.csv.specs.Records.{fields_of};
 ghost use Rattle.night_ends.specs.Outbox.{path_in};
 ghost use Rattle.day_command.specs.Failure.{IsBefore};
-ghost use Rattle.day_command.specs.Page.{IsPageOf, IsPageReport};
+ghost use Rattle.day_command.specs.Page.{ArePapersAt, IsPageOf, IsPageReport, total_of};
+ghost use Rattle.night_page.specs.Totals.{gives_totals};
 
 use crate::failure::Failure;
 use crate::papers::{PagePapers, papers_at};
@@ -11,7 +12,7 @@ use crate::told::partners_at;
 use csv::ByteRecord;
 use hub_kinds::NoMemory;
 use night_folder::first_line;
-use night_page::{FOOT, HEAD, NightPage, PartnerTold, append_page};
+use night_page::{FOOT, HEAD, NightPage, PartnerTold, append_page, gives_totals};
 use night_review::Report;
 use std::alloc::Global;
 use std::rt::Files;
@@ -67,6 +68,25 @@ fn report_of(
     })
 }
 
+/// What the page of the night in the folder at the path `night` is made of, if `rows`, those of its table, give the totals of its report.
+fn papers_of<R: Files + AllocGlobal>(
+    rt: &R,
+    night: &[u8],
+    rows: &[ByteRecord],
+) -> Result<PagePapers, Failure>
+    ensures papers { IfOk result (ArePapersAt night.now) }
+    ensures totals { IfOk result (λ papers. gives_totals (total_of papers.total) (map fields_of rows.now) ≡ true) }
+    ensures before { IfErr result IsBefore }
+{
+    let papers = papers_at(rt, night)?;
+    let total = first_line(papers.total.bytes_or_none());
+    if gives_totals(rt.alloc(), total, rows)? {
+        Ok(papers)
+    } else {
+        Err(Failure::Totals)
+    }
+}
+
 /// The page of the night `name` of the folder at the path `nights`, and the status.
 pub(crate) fn page_of<R: Files + AllocGlobal + Clone + Drop>(
     rt: &R,
@@ -84,7 +104,7 @@ pub(crate) fn page_of<R: Files + AllocGlobal + Clone + Drop>(
         return Err(Failure::Night);
     };
     let partners = partners_at(rt, night)?;
-    let papers = papers_at(rt, night)?;
+    let papers = papers_of(rt, night, rows.as_slice())?;
     let report = report_of(
         alloc,
         name.as_bytes(),

@@ -1,4 +1,6 @@
 pub mod Among
 pub mod Causing
+pub mod FirstRows
 pub mod Growing
 pub mod Naming
+mod Worked

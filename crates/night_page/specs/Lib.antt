@@ -6,3 +6,4 @@ pub mod Page
 pub mod Record
 pub mod Rows
 pub mod Tags
+pub mod Totals

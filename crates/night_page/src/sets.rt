@@ -29,7 +29,7 @@ fn delivered(rows: &[ByteRecord]) -> usize
     count
 }
 
-fn held(rows: &[ByteRecord]) -> usize
+pub(crate) fn held(rows: &[ByteRecord]) -> usize
     ensures { result ≡ count_by (λ row. page.is_held (fields_of row)) rows.now }
 {
     let mut count = 0;
@@ -53,7 +53,7 @@ fn rejected(rows: &[ByteRecord]) -> usize
     count
 }
 
-fn refused(rows: &[ByteRecord]) -> usize
+pub(crate) fn refused(rows: &[ByteRecord]) -> usize
     ensures { result ≡ count_by (λ row. is_refused (fields_of row)) rows.now }
 {
     let mut count = 0;

@@ -1,10 +1,11 @@
-use Rattle.std.proofs.Common.{List, ℕ, ◌∙◌, ap₂, map, subst}
+use Rattle.std.proofs.Common.{List, ℕ, ◌≡◌, ◌∙◌, ap₂, map, subst, true}
 use Rattle.csv.specs.Records.{fields_of}
 use Rattle.csv.specs.declared.record.ByteRecord.{ByteRecord}
 use Rattle.night_ends.specs.Outbox.{path_in}
+use Rattle.night_page.specs.Totals.{gives_totals}
 use Rattle.night_page.specs.declared.told.PartnerTold.{PartnerTold}
 use Rattle.track_tables.specs.declared.night.TableState.{TableState}
-use Rattle.day_command.specs.Page.{IsPageOf}
+use Rattle.day_command.specs.Page.{IsPageOf, total_of}
 use Rattle.day_command.specs.Tables.{IsStateAt}
 use Rattle.day_command.proofs.Paging.{paged}
 use Rattle.day_command.proofs.page.page_of.Goals as goal
@@ -21,9 +22,11 @@ returns-clause-report g c =
     let status : ℕ = c.in_ok-report.report.status in
     paged nights name folder papers rows partners text status
     (c.as_slice-night.ensures.value ∙ c.in_ok-path.ensures ∙ ap₂ path_in c.as_bytes.ensures.value c.as_bytes-2.ensures.value)
-    c.in_ok-papers.ensures (subst (λ (s : TableState). IsStateAt folder s) c.in-Rows.is c.in_ok-rows.ensures) c.in_ok-partners.ensures.told
+    c.in_ok-papers.ensures.papers (subst (λ (s : TableState). IsStateAt folder s) c.in-Rows.is c.in_ok-rows.ensures)
+    (subst (λ (l : List ByteRecord). gives_totals (total_of papers.total) (map fields_of l) ≡ true) c.as_slice.ensures.value
+    c.in_ok-papers.ensures.totals) c.in_ok-partners.ensures.told
     (subst (λ (n : List ℕ). IsPageOf n papers (map fields_of rows.items) partners text status) c.as_bytes-3.ensures.value
     (subst (λ (l : List ByteRecord). IsPageOf c.as_bytes-3.result.now papers (map fields_of l) partners text status)
-    c.as_slice.ensures.value
-    (subst (λ (l : List PartnerTold). IsPageOf c.as_bytes-3.result.now papers (map fields_of c.as_slice.result.now) l text status)
-    c.as_slice-2.ensures.value c.in_ok-report.ensures.page)))
+    c.as_slice-2.ensures.value
+    (subst (λ (l : List PartnerTold). IsPageOf c.as_bytes-3.result.now papers (map fields_of c.as_slice-2.result.now) l text status)
+    c.as_slice-3.ensures.value c.in_ok-report.ensures.page)))
