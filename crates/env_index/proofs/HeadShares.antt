@@ -35,7 +35,8 @@ from_first text a n h rest first is = record {
 pub cut_at : (k : ℕ) (text : List ℕ) (a n : ℕ) (heads : List HeadAt) → a ≤ n → k < length heads → heads ≡ heads_in text a n
     → IsCutAt text a n heads k (get_or heads k no_header).start
 cut_at k text a n [] order lt is = absurd (omega (arith, lt))
-cut_at zero text a n (h ∷ rest) order lt is = from_first text a n h rest (heads_first (n - a) text a n h rest (omega arith) order (sym is)) is
+cut_at zero text a n (h ∷ rest) order lt is =
+    from_first text a n h rest (heads_first (n - a) text a n h rest (omega arith) order (sym is)) is
 cut_at (suc k) text a n (h ∷ rest) order lt is =
     let first = heads_first (n - a) text a n h rest (omega arith) order (sym is) in
     let later = cut_at k text (h.start + 1) n rest (omega (arith, first.high)) (omega (arith, lt)) first.left in
@@ -171,8 +172,8 @@ pub record IsNextLeft (text : List ℕ) (from : ℕ) (h : HeadAt) (rest : List H
 pub first_left : (text : List ℕ) (from : ℕ) (heads : List HeadAt) (i : ℕ) → i < length heads → AreHeadsFrom text from (drop i heads)
     → IsNextLeft text from (get_or heads i no_header) (drop (i + 1) heads)
 first_left text from heads i lt was =
-    let first = heads_first (was.to - was.since) text was.since was.to (get_or heads i no_header) (drop (i + 1) heads) (omega arith) was.order
-    (sym was.are ∙ drop_more heads i no_header lt) in
+    let first = heads_first (was.to - was.since) text was.since was.to (get_or heads i no_header) (drop (i + 1) heads) (omega arith)
+    was.order (sym was.are ∙ drop_more heads i no_header lt) in
     record {
       inside = omega (arith, first.high, was.within);
       head = first.head;

@@ -40,7 +40,8 @@ share_begins text from es none within =
     })
 
 -- a header inside the last interchange
-pub share_skips : (text : List ℕ) (from : ℕ) (done : List HeadAt) (h : HeadAt) (s : ShareValue) → h.start < s.end → IsReadAt text from done s
+pub share_skips : (text : List ℕ) (from : ℕ) (done : List HeadAt) (h : HeadAt) (s : ShareValue) → h.start < s.end
+    → IsReadAt text from done s
     → IsReadAt text from (done ++ h ∷ []) s
 share_skips text from done h s lt was = record {
   within = was.within;

@@ -1,4 +1,5 @@
-use Rattle.std.proofs.Common.{◌≡◌, ◌+◌, ◌≤◌, ◌<◌, ◌++◌, ℕ, not, List, [], ◌∷◌, length, drop, take, get_or, None, true, arith, refl, rules, sym, ap, subst, ◌∙◌}
+use Rattle.std.proofs.Common.{◌≡◌, ◌+◌, ◌≤◌, ◌<◌, ◌++◌, ℕ, not, List, [], ◌∷◌, length, drop, take, get_or, None, true, arith, refl, rules}
+use Rattle.std.proofs.Common.{sym, ap, subst, ◌∙◌}
 use Rattle.std.specs.Prelude.{count_by, slice_range}
 use Rattle.std.proofs.lemmas.List.{take_all}
 use Rattle.x12_bytes.specs.HeaderTest.{is_head}
