@@ -12,7 +12,8 @@ use Rattle.number_register.specs.First.{first_of, where_before}
 use Rattle.work_core.specs.Core.{was_recorded}
 use Rattle.env_index.specs.Words.{IndexValue, OfGroup, OfSet, places_of}
 use Rattle.number_register.specs.Recording.{IsEarlierIn}
-use Rattle.number_register.specs.Slots.{AreHeld, code_in, group_code, group_place, groups_of, interchange_code, interchange_place, InterchangeKey}
+use Rattle.number_register.specs.Slots.{AreHeld, InterchangeKey, code_in, group_code, group_place, groups_of, interchange_code}
+use Rattle.number_register.specs.Slots.{interchange_place}
 use Rattle.number_register.specs.Slots.{same_code, set_control, set_place, sets_of, text_of}
 use Rattle.number_register.proofs.Comparing.{by_code, code_equal, code_same, codes_equal, codes_same, lent_equal, lent_same}
 use Rattle.number_register.proofs.Families.{group_uses, interchange_by, interchange_uses, number_by, set_uses}

@@ -10,7 +10,8 @@ use Rattle.number_register.specs.Books.{book_at}
 use Rattle.work_core.specs.Core.{was_recorded}
 use Rattle.env_index.specs.Words.{IndexEntry, GroupEntry}
 use Rattle.number_register.specs.Fresh.{fresh_books, fresh_groups, fresh_sets}
-use Rattle.number_register.specs.Slots.{AreHeld, AreSlots, code_in, group_code, group_place, groups_of, interchange_code, interchange_place, InterchangeKey}
+use Rattle.number_register.specs.Slots.{AreHeld, AreSlots, InterchangeKey, code_in, group_code, group_place, groups_of}
+use Rattle.number_register.specs.Slots.{interchange_code, interchange_place}
 use Rattle.number_register.specs.Slots.{same_code, set_control, set_place, sets_at, sets_of, text_of}
 use Rattle.number_register.proofs.Fill.{absent_at}
 use Rattle.number_register.proofs.Slotting.{apart, apart_too, other_gs, other_isa, other_st, slot_absent, slots_more, slots_stay, up}

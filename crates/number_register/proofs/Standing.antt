@@ -9,7 +9,8 @@ use Rattle.number_register.specs.Books.{book_at}
 use Rattle.work_core.specs.Core.{was_recorded}
 use Rattle.env_index.specs.Words.{IndexEntry, place_at}
 use Rattle.number_register.specs.Placing.{IsPlaced}
-use Rattle.number_register.specs.Slots.{AreHeld, code_in, group_code, group_place, groups_of, interchange_code, interchange_place, InterchangeKey}
+use Rattle.number_register.specs.Slots.{AreHeld, InterchangeKey, code_in, group_code, group_place, groups_of, interchange_code}
+use Rattle.number_register.specs.Slots.{interchange_place}
 use Rattle.number_register.specs.Slots.{same_code, set_control, set_place, sets_of, text_of}
 use Rattle.number_register.proofs.Slotting.{slot_there}
 use denote.Ref.{Bor}
@@ -43,7 +44,8 @@ module _ (es : List IndexEntry) (recorded : List Place) (inter : List (Option (I
   pub interchange_there : p.gs ≡ 0 → IsThere inter (p.isa - 1) (was_recorded recorded p)
   interchange_there gs =
       let alone = at.alone gs in
-      let r = slot_there code_in (map interchange_code es) interchange_place recorded inter (p.isa - 1) (get_or (map interchange_code es) (p.isa - 1) (0, []))
+      let r = slot_there code_in (map interchange_code es) interchange_place recorded inter (p.isa - 1)
+      (get_or (map interchange_code es) (p.isa - 1) (0, []))
       held.interchanges (item interchange_code es (p.isa - 1) (0, []) alone.1) in
       (r.0, r.1, r.2 ∙ ap (was_recorded recorded) (sym (at_interchange p at.isa gs alone.0)))
 

@@ -4,8 +4,8 @@ use Rattle.hub_adopt.proofs.given.first_other.Goals as goal
 
 pub loop-i-preserved : goal.loop-i-preserved
 loop-i-preserved c =
-    one_more c.args.these.now c.args.those.now c.loop-i.i c.index-these-i.result c.index-those-i.result (omega (arith)) (omega (arith))
-    c.index-these-i.is c.index-those-i.is (sym c.is_same.ensures ∙ c.if-not-is_same.false) c.loop-i.invariant
+    one_more c.args.these.now c.args.those.now c.loop-i.i c.index-these-i-in-loop-i.result c.index-those-i.result (omega (arith))
+    (omega (arith)) c.index-these-i-in-loop-i.is c.index-those-i.is (sym c.is_same.ensures ∙ c.if-not-is_same.false) c.loop-i.invariant
 
 pub returns : goal.returns
 returns c none =

@@ -16,7 +16,8 @@ use Rattle.number_register.proofs.records.Records.put_interchange.Goals as goal
 pub add-requires : goal.add-requires
 add-requires c =
     let s = c.self.inside in
-    let key = subst (λ (r : Recording). IsKeyAt r.index.entries c.args.place (OfInterchange c.args.number)) (sym c.self.view_is) c.requires.key in
+    let key = subst (λ (r : Recording). IsKeyAt r.index.entries c.args.place (OfInterchange c.args.number)) (sym c.self.view_is)
+    c.requires.key in
     let fresh = subst (λ (r : Recording). was_recorded r.recorded c.args.place ≡ false) (sym c.self.view_is) c.requires.fresh in
     interchange_absent_at s.index.now.entries s.recorded.items s.interchanges s.groups s.sets.items c.self.invariant.held c.args.place fresh
     key.0 key.1 key.2 _ key.3
@@ -26,7 +27,8 @@ invariant_of-self-2 c =
     let s = c.self.inside in
     let es = s.index.now.entries in
     let p = c.args.place in
-    let key = subst (λ (r : Recording). IsKeyAt r.index.entries c.args.place (OfInterchange c.args.number)) (sym c.self.view_is) c.requires.key in
+    let key = subst (λ (r : Recording). IsKeyAt r.index.entries c.args.place (OfInterchange c.args.number)) (sym c.self.view_is)
+    c.requires.key in
     let fresh = subst (λ (r : Recording). was_recorded r.recorded c.args.place ≡ false) (sym c.self.view_is) c.requires.fresh in
     let more = interchange_more_at es s.recorded.items s.interchanges s.groups s.sets.items c.self.invariant.held p fresh key.0 key.1 key.2
     c.args.number key.3 in
