@@ -1,11 +1,9 @@
 -- Old nights that are adopted one after another.
-use Rattle.std.proofs.Common.{◌≡◌, ◌∙◌, ◌⊎◌, ℕ, suc, ◌+◌, ◌<◌, List, Option, Some, Result, Ok, Err}
-use Rattle.std.proofs.Common.{ap, arith, get_or, inl, inr, length, option_map, slice_get, subst, sym}
-use Rattle.std.specs.Prelude.{IfOk, OnOk}
-use Rattle.std.proofs.lemmas.List.{length-map}
+use Rattle.std.proofs.Common.{◌≡◌, ◌∙◌, ℕ, suc, ◌+◌, ◌<◌, List, Option, Some}
+use Rattle.std.proofs.Common.{ap, arith, get_or, length, option_map, slice_get, subst, sym}
 use Rattle.std.proofs.lemmas.Option.{slice_get-get_or, slice_get-map}
 use Rattle.night_marks.specs.declared.mark.NightMark.{NightMark}
-use Rattle.night_shelf.specs.Shelf.{Changes, IsKept, MayLeave, Place}
+use Rattle.night_shelf.specs.Shelf.{Place}
 use Rattle.night_shelf.specs.declared.night.KeptNight.{KeptNight}
 use Rattle.night_shelf.specs.declared.night.NightFile.{NightFile}
 use Rattle.hub_command.specs.Night.{map_now}

@@ -1,5 +1,5 @@
 -- An old night made again (own): by its own files, after the nights that the hub has, and it gives what it gave.
-use Rattle.std.specs.Prelude.{◌≡◌, ℕ, true, false, List, [], ◌∷◌, Option, Some, codes, length}
+use Rattle.std.specs.Prelude.{◌≡◌, ℕ, true, false, List, [], ◌∷◌, Some, codes, length}
 use Rattle.std.specs.List.Sorted.{IsPermutation}
 use Rattle.day_files.specs.Listing.{listing_of}
 use Rattle.day_files.specs.declared.file.Content.TheVariants as content

@@ -1,4 +1,4 @@
-use Rattle.std.proofs.Common.{◌≡◌, ◌∙◌, ℕ, arith, inl, inr, length, refl, subst}
+use Rattle.std.proofs.Common.{◌≡◌, ℕ, arith, inl, inr, length, subst}
 use Rattle.std.proofs.lemmas.List.{length-map}
 use Rattle.night_marks.specs.declared.mark.NightMark.{NightMark}
 use Rattle.hub_command.specs.Night.{map_now}

@@ -1,4 +1,4 @@
-use Rattle.std.proofs.Common.{List, ℕ, subst}
+use Rattle.std.proofs.Common.{subst}
 use Rattle.night_shelf.specs.Shelf.{Changes, IsKept, MayLeave}
 use Rattle.night_shelf.specs.declared.night.KeptNight.{KeptNight}
 use Rattle.hub_adopt.proofs.Adopting.{night_is}

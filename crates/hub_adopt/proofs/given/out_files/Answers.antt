@@ -1,6 +1,5 @@
 use Rattle.std.proofs.Common.{◌+◌, List, ℕ, arith, subst, sym, take}
 use Rattle.std.specs.List.{AllZip}
-use Rattle.night_shelf.specs.declared.night.NightFile.{NightFile}
 use Rattle.hub_command.proofs.ForAbove.{zip_more}
 use Rattle.hub_adopt.specs.Given.{IsOutFile}
 use Rattle.hub_adopt.proofs.given.out_files.Goals as goal
