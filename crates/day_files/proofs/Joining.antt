@@ -7,8 +7,8 @@ use Rattle.std.proofs.lemmas.List.Elements.{All-cons, All-head, All-nil, All-tai
 use Rattle.night_definition.specs.Interchanges.{text_of}
 use Rattle.gather_command.specs.Members.{IsRead}
 use Rattle.gather_command.specs.declared.outcome.Outcome.{Outcome}
-use Rattle.gather_equal.specs.Apart.{MayComeAfter, StandsAlone, text_of_files}
-use Rattle.gather_equal.proofs.ForAbove.{files_are_read, nothing_alone}
+use Rattle.gather_files.specs.Apart.{MayComeAfter, StandsAlone, text_of_files}
+use Rattle.gather_files.proofs.ForAbove.{files_are_read, nothing_alone}
 use Rattle.gather_files.specs.declared.gather.Gathered.{Gathered}
 use Rattle.gather_files.specs.declared.gather.Gathered.TheVariants as gathered
 use Rattle.day_files.specs.Lines.{line_of, lines_of}

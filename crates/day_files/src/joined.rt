@@ -1,7 +1,7 @@
 ghost use Rattle.std.specs.Prelude.{◌≡◌, ◌+◌, ◌++◌, ℕ, List, IfOk, OnOk, length, map};
 ghost use Rattle.std.specs.List.{All};
 ghost use Rattle.night_definition.specs.Interchanges.{text_of};
-ghost use Rattle.gather_equal.specs.Apart.{text_of_files};
+ghost use Rattle.gather_files.specs.Apart.{text_of_files};
 ghost use Rattle.day_files.specs.Lines.{line_of, lines_of};
 ghost use Rattle.day_files.specs.Members.{IsGatheredMember, input_of, part_of};
 

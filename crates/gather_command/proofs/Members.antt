@@ -6,8 +6,8 @@ use Rattle.std.specs.Io.KnownBytes.{Appends}
 use Rattle.std.proofs.lemmas.List.{append_assoc, append-nil, length-append, map-append, take_at}
 use Rattle.std.proofs.lemmas.List.Elements.{All-append, All-cons, All-head, All-nil, All-tail}
 use Rattle.night_definition.specs.Interchanges.{text_of}
-use Rattle.gather_equal.specs.Apart.{MayComeAfter, StandsAlone, text_of_files}
-use Rattle.gather_equal.proofs.ForAbove.{files_are_read, nothing_alone}
+use Rattle.gather_files.specs.Apart.{MayComeAfter, StandsAlone, text_of_files}
+use Rattle.gather_files.proofs.ForAbove.{files_are_read, nothing_alone}
 use Rattle.gather_files.specs.Gathering.{GoesIn, IsGathered}
 use Rattle.gather_files.specs.declared.cause.Cause.{Cause}
 use Rattle.gather_files.specs.declared.gather.Gathered.{Gathered}

@@ -5,7 +5,7 @@ use Rattle.std.specs.List.{All}
 use Rattle.std.specs.Io.KnownBytes.{Appends}
 use Rattle.night_definition.specs.Header.{is_head}
 use Rattle.night_definition.specs.Interchanges.{text_of}
-use Rattle.gather_equal.specs.Apart.{text_of_files}
+use Rattle.gather_files.specs.Apart.{text_of_files}
 use Rattle.gather_files.specs.Causes.{cause_of}
 use Rattle.gather_files.specs.Gathering.{GoesIn}
 use Rattle.gather_files.specs.Lead.{led}

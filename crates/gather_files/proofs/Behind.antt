@@ -11,7 +11,7 @@ use Rattle.batch_law.proofs.ForAbove.{head_more, header_kept}
 use Rattle.night_equal.proofs.ForAbove.{heads}
 use Rattle.batch_cut.specs.Scouting.{IsInside}
 use Rattle.batch_cut.specs.declared.scout.Inside.{Inside}
-use Rattle.gather_law.specs.Closing.{blanks}
+use Rattle.gather_files.specs.ClosingBytes.{blanks}
 use Rattle.gather_files.specs.Closing.{IsOwnTerminator, PutsBehind}
 
 pub nothing_behind : (file : List ℕ) → PutsBehind file file 0

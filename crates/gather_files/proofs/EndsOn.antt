@@ -12,8 +12,8 @@ use Rattle.batch_law.specs.Batches.{ChainUpTo, end_by, end_from, whole_end}
 use Rattle.batch_law.specs.Moved.{moved_extent, moved_view}
 use Rattle.batch_law.proofs.ForAbove.{chain_joined, chain_past, drop_past, head_past, header_past, kind_moved, rest_past, segs_past}
 use Rattle.batch_law.proofs.ForAbove.{views_moved}
-use Rattle.gather_law.specs.Gathered.{GoesUpTo, IsWholeBefore}
-use Rattle.gather_law.proofs.ForAbove.{goes_up}
+use Rattle.gather_files.specs.Gathered.{GoesUpTo, IsWholeBefore}
+use Rattle.gather_files.proofs.Parts.{goes_up}
 use Rattle.gather_files.specs.EndsByLayers.{EndsByLayers, EndsInHeaderByLayers, EndsOpenByLayers}
 use Rattle.gather_files.specs.Trailer.{open_end}
 use Rattle.gather_files.specs.declared.gather.End.{End}

@@ -10,10 +10,10 @@ use Rattle.x12_bytes.specs.Header.{terminator_of}
 use Rattle.x12_bytes.specs.HeaderTest.{is_head}
 use Rattle.env_index.proofs.ForAbove.{head_within}
 use Rattle.batch_law.proofs.ForAbove.{head_kept, head_more, header_past}
-use Rattle.gather_equal.proofs.ForAbove.{head_moved}
+use Rattle.gather_files.proofs.Onward.{head_moved}
 use Rattle.stream_read.specs.Held.{HeldValue}
-use Rattle.gather_law.specs.Gathered.{HoldsInterchanges, IsWholeBefore, StandsApart}
-use Rattle.gather_law.proofs.ForAbove.{holds_on, keeps, reads_on}
+use Rattle.gather_files.specs.Gathered.{HoldsInterchanges, IsWholeBefore, StandsApart}
+use Rattle.gather_files.proofs.Parts.{holds_on, keeps, reads_on}
 use Rattle.gather_files.specs.Closing.{IsClosedSo, IsOwnTerminator, PutsBehind, PutsInPlace, StaysApart}
 use Rattle.gather_files.specs.EndsByLayers.{EndsByLayers}
 use Rattle.gather_files.specs.Gathering.{AreEnds, IsPassed, IsTakenByLayers}

@@ -18,8 +18,8 @@ use Rattle.batch_law.proofs.ForAbove.{header_kept, head_past, first_byte}
 use Rattle.batch_cut.specs.Open.{IsOpen}
 use Rattle.batch_cut.specs.Scouting.{IsInside}
 use Rattle.batch_cut.specs.declared.scout.Inside.{Inside}
-use Rattle.gather_law.specs.Gathered.{HoldsInterchanges, MayFollow}
-use Rattle.gather_law.proofs.ForAbove.{head_no_letter}
+use Rattle.gather_files.specs.Gathered.{HoldsInterchanges, MayFollow}
+use Rattle.gather_files.proofs.Apart.{head_no_letter}
 
 -- the end of an interchange is known where the first of what is to come begins at a header
 known_at_head : (text : List ℕ) (d : Delims) (segs : List Seg) (rest : Seg) (f : ℕ) → is_head text f ≡ true

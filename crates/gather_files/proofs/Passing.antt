@@ -16,8 +16,8 @@ use Rattle.batch_cut.specs.declared.scout.Advanced.{Advanced}
 use Rattle.batch_cut.specs.declared.scout.Inside.{Inside}
 use Rattle.stream_read.specs.Held.{HasRead, HeldValue}
 use Rattle.stream_read.proofs.ForAbove.{consumes_on}
-use Rattle.gather_law.specs.Gathered.{IsWholeBefore, PassesInterchanges}
-use Rattle.gather_law.proofs.ForAbove.{gives_up, reads_on}
+use Rattle.gather_files.specs.Gathered.{IsWholeBefore, PassesInterchanges}
+use Rattle.gather_files.proofs.Parts.{gives_up, reads_on}
 use Rattle.gather_files.specs.Gathering.{IsPassed, is_end, kept_of}
 use Rattle.gather_files.specs.Lead.{led}
 use Rattle.gather_files.specs.declared.gather.Passing.{Passing}

@@ -10,10 +10,14 @@ use Rattle.batch_law.specs.Batches.{whole_end}
 use Rattle.batch_law.specs.Begun.{may_begin}
 use Rattle.batch_law.proofs.ForAbove.{header_past}
 use Rattle.night_equal.proofs.ForAbove.{heads}
-use Rattle.gather_law.specs.Gathered.{GoesUpTo}
-use Rattle.gather_equal.specs.Apart.{IsComplete}
-use Rattle.gather_equal.proofs.ForAbove.{alone_is_one, begun_is_one, begun_past, complete_is_one, count_is_one, head_past, lack_is_one}
-use Rattle.gather_equal.proofs.ForAbove.{open_is_one, open_past}
+use Rattle.gather_files.specs.Gathered.{GoesUpTo}
+use Rattle.gather_files.specs.Apart.{IsComplete}
+use Rattle.gather_files.proofs.Alone.{alone_is_one, complete_is_one, count_is_one}
+use Rattle.gather_files.proofs.Completing.{begun_is_one}
+use Rattle.gather_files.proofs.Lacking.{lack_is_one}
+use Rattle.gather_files.proofs.Past.{begun_past, head_past}
+use Rattle.gather_files.proofs.Opening.{open_is_one}
+use Rattle.gather_files.proofs.Past.{open_past}
 use Rattle.gather_files.specs.Ends.{EndsInHeader, EndsOpen, EndsSo}
 use Rattle.gather_files.specs.EndsByLayers.{EndsByLayers, EndsInHeaderByLayers, EndsOpenByLayers}
 use Rattle.gather_files.specs.Gathering.{GoesIn, GoesInByLayers, IsTaken, IsTakenByLayers}

@@ -20,7 +20,7 @@ use Rattle.batch_cut.specs.Open.{GoesOn}
 use Rattle.batch_cut.specs.Scouting.{IsInside}
 use Rattle.batch_cut.specs.declared.scout.Inside.{Inside}
 use Rattle.batch_cut.proofs.ForAbove.{goes_now, ends_at_head, one_whole}
-use Rattle.gather_law.specs.Gathered.{HoldsInterchanges}
+use Rattle.gather_files.specs.Gathered.{HoldsInterchanges}
 use Rattle.gather_files.specs.Closing.{IsLastSegment}
 use Rattle.gather_files.proofs.Keeps.{holds_inside}
 use Rattle.gather_files.proofs.LastFound.{HasLast, last_of, no_end}

@@ -24,7 +24,7 @@ use Rattle.batch_cut.specs.Open.{IsAsFar, IsShort}
 use Rattle.batch_cut.specs.Scouting.{Advances, IsFarthest, IsInside, IsLeft, Stands}
 use Rattle.batch_cut.specs.declared.scout.Advanced.{Advanced}
 use Rattle.batch_cut.specs.declared.scout.Inside.{Inside}
-use Rattle.gather_law.specs.Gathered.{IsClosed, IsClosedFile, IsWholeBefore, StandsApart, open_from}
+use Rattle.gather_files.specs.Gathered.{IsClosed, IsClosedFile, IsWholeBefore, StandsApart, open_from}
 use Rattle.gather_files.specs.Closing.{IsHeldApart}
 use Rattle.gather_files.proofs.LastFound.{no_end}
 

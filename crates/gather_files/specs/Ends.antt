@@ -1,8 +1,8 @@
 -- X12.5, interchange: how a file ends (own).
 use Rattle.std.specs.Prelude.{ℕ, ◌≡◌, ◌≢◌, ◌≤◌, ◌⊎◌, true, List, [], ◌++◌}
 use Rattle.night_definition.specs.Header.{delims_of, header_at, is_head}
-use Rattle.gather_equal.specs.Apart.{AreReadAlone, IsComplete}
-use Rattle.gather_equal.specs.Ends.{IsOpen, MayBegin}
+use Rattle.gather_files.specs.Apart.{AreReadAlone, IsComplete}
+use Rattle.gather_files.specs.Unfinished.{IsOpen, MayBegin}
 use Rattle.gather_files.specs.Trailer.{open_end}
 use Rattle.gather_files.specs.declared.gather.End.{End}
 use Rattle.gather_files.specs.declared.gather.End.TheVariants as end

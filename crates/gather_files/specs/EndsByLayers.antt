@@ -4,7 +4,7 @@ use Rattle.x12_bytes.specs.Header.{header_at, header_delims}
 use Rattle.x12_bytes.specs.HeaderTest.{is_head}
 use Rattle.batch_law.specs.Batches.{whole_end}
 use Rattle.batch_law.specs.Begun.{may_begin}
-use Rattle.gather_law.specs.Gathered.{GoesUpTo}
+use Rattle.gather_files.specs.Gathered.{GoesUpTo}
 use Rattle.gather_files.specs.Trailer.{open_end}
 use Rattle.gather_files.specs.declared.gather.End.{End}
 use Rattle.gather_files.specs.declared.gather.End.TheVariants as end

@@ -10,11 +10,11 @@ use Rattle.stream_read.specs.Held.{HeldValue}
 use Rattle.stream_read.specs.declared.held.StreamFault.{StreamFault}
 use Rattle.stream_read.specs.declared.held.StreamFault.TheVariants as stream
 use Rattle.batch_cut.specs.Scouting.{Stands}
-use Rattle.gather_law.specs.Gathered.{HoldsInterchanges, IsWholeBefore, KeepsToItself, StandsApart}
+use Rattle.gather_files.specs.Gathered.{HoldsInterchanges, IsWholeBefore, KeepsToItself, StandsApart}
 use Rattle.night_definition.specs.Header.{is_head}
 use Rattle.night_definition.specs.Interchanges.{text_of}
-use Rattle.gather_equal.specs.Apart.{StandsAlone}
-use Rattle.gather_equal.specs.Ends.{LacksNothing}
+use Rattle.gather_files.specs.Apart.{StandsAlone}
+use Rattle.gather_files.specs.Unfinished.{LacksNothing}
 use Rattle.gather_files.specs.Causes.{cause_of}
 use Rattle.gather_files.specs.Closing.{Closes, IsUntouched}
 use Rattle.gather_files.specs.Ends.{EndsSo}

@@ -1,8 +1,13 @@
+pub mod Apart
 pub mod Causes
 pub mod Closing
+pub mod ClosingBytes
 pub mod Ends
 pub mod EndsByLayers
+pub mod Gathered
 pub mod Gathering
 pub mod Laws
 pub mod Lead
+pub mod Moved
 pub mod Trailer
+pub mod Unfinished

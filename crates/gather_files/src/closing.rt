@@ -1,7 +1,7 @@
 ghost use Rattle.std.specs.Prelude.{◌≡◌, ◌≢◌, ◌≤◌, ℕ, IfOk, List, Some, true, length, take};
 ghost use Rattle.x12_bytes.specs.Bytes.{is_line_end};
 ghost use Rattle.batch_cut.specs.Scouting.{Advances};
-ghost use Rattle.gather_law.specs.Gathered.{HoldsInterchanges};
+ghost use Rattle.gather_files.specs.Gathered.{HoldsInterchanges};
 ghost use Rattle.gather_files.specs.Closing.{IsClosedBy, IsClosedSo, IsLastSegment, StaysApart};
 ghost use Rattle.gather_files.specs.EndsByLayers.{EndsByLayers, EndsInHeaderByLayers};
 

@@ -8,7 +8,7 @@ use Rattle.day_files.specs.Listing.{listing_of}
 use Rattle.day_files.specs.Members.{IsGatheredMember, asked_again, goes_in, input_of, is_whole, part_of}
 use Rattle.day_files.specs.declared.file.DayFile.{DayFile}
 use Rattle.day_files.specs.declared.member.Member.{Member}
-use Rattle.gather_equal.specs.Apart.{text_of_files}
+use Rattle.gather_files.specs.Apart.{text_of_files}
 use Rattle.night_definition.specs.Interchanges.{text_of}
 use Rattle.night_record.specs.Again.{again_text}
 use Rattle.hub_command.specs.Day.{IsDayOf, IsMemberOf}

@@ -12,7 +12,7 @@ use Rattle.day_files.specs.declared.member.Member.{Member}
 use Rattle.day_files.specs.declared.member.OldSet.{OldSet}
 use Rattle.file_names.specs.Given.{is_marked}
 use Rattle.gather_command.specs.Members.{taken_of}
-use Rattle.gather_equal.specs.Apart.{text_of_files}
+use Rattle.gather_files.specs.Apart.{text_of_files}
 use Rattle.gather_files.specs.declared.gather.Taken.{Taken}
 use Rattle.hub_ledger.specs.declared.entry.NightEntry.{NightEntry}
 use Rattle.night_breaches.specs.Deliveries.{first_delivery}

@@ -1,5 +1,5 @@
 use Rattle.std.proofs.Common.{◌≤◌, ℕ, List, length, refl, sym, subst, arith, inl}
-use Rattle.gather_law.specs.Gathered.{HoldsInterchanges}
+use Rattle.gather_files.specs.Gathered.{HoldsInterchanges}
 use Rattle.gather_files.specs.Closing.{PutsBehind}
 use Rattle.gather_files.specs.EndsByLayers.{EndsByLayers}
 use Rattle.gather_files.proofs.Behind.{nothing_behind}

@@ -3,7 +3,7 @@ use Rattle.env_index.proofs.ForAbove.{head_within}
 use Rattle.batch_cut.specs.Scouting.{Advances, IsInside, Stands}
 use Rattle.batch_cut.specs.declared.scout.Advanced.{Advanced}
 use Rattle.batch_cut.specs.declared.scout.Inside.{Inside}
-use Rattle.gather_law.specs.Gathered.{HoldsInterchanges}
+use Rattle.gather_files.specs.Gathered.{HoldsInterchanges}
 use Rattle.gather_files.specs.Closing.{IsClosedBy}
 use Rattle.gather_files.specs.declared.closing.OpenInterchange.{OpenInterchange}
 use Rattle.gather_files.proofs.Behind.{inside_own}

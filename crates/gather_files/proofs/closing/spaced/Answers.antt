@@ -8,9 +8,9 @@ use Rattle.batch_law.specs.Begun.{may_begin}
 use Rattle.batch_cut.specs.Scouting.{Advances, IsInside, IsLeft, Stands}
 use Rattle.batch_cut.specs.declared.scout.Advanced.{Advanced}
 use Rattle.batch_cut.specs.declared.scout.Inside.{Inside}
-use Rattle.gather_law.specs.Closing.{blanks}
-use Rattle.gather_law.specs.Gathered.{HoldsInterchanges}
-use Rattle.gather_law.proofs.ForAbove.{blanks_break}
+use Rattle.gather_files.specs.ClosingBytes.{blanks}
+use Rattle.gather_files.specs.Gathered.{HoldsInterchanges}
+use Rattle.gather_files.proofs.Blanks.{blanks_break}
 use Rattle.gather_files.specs.Closing.{PutsBehind}
 use Rattle.gather_files.specs.EndsByLayers.{EndsByLayers}
 use Rattle.gather_files.proofs.Behind.{blanks_behind, inside_own, one_more}

@@ -2,7 +2,7 @@ use Rattle.std.proofs.Common.{◌≡◌, ◌∙◌, ◌++◌, ◌∷◌, [], ◌
 use Rattle.std.proofs.lemmas.List.{length-append}
 use Rattle.env_index.proofs.ForAbove.{head_within}
 use Rattle.night_equal.proofs.ForAbove.{heads}
-use Rattle.gather_law.specs.Gathered.{HoldsInterchanges}
+use Rattle.gather_files.specs.Gathered.{HoldsInterchanges}
 use Rattle.gather_files.specs.Closing.{PutsBehind}
 use Rattle.gather_files.specs.EndsByLayers.{EndsByLayers}
 use Rattle.gather_files.proofs.Behind.{nothing_behind, one_more}

@@ -1,5 +1,0 @@
-use Rattle.gather_equal.proofs.Completing.{begun_is_one}
-use Rattle.gather_equal.proofs.laws.begun_is_one.Goals as goal
-
-pub returns : goal.returns
-returns c = begun_is_one

@@ -1,5 +1,0 @@
-use Rattle.gather_equal.proofs.Alone.{complete_is_one}
-use Rattle.gather_equal.proofs.laws.complete_is_one.Goals as goal
-
-pub returns : goal.returns
-returns c = complete_is_one

@@ -1,5 +1,0 @@
-use Rattle.gather_equal.proofs.Alone.{count_is_one}
-use Rattle.gather_equal.proofs.laws.count_is_one.Goals as goal
-
-pub returns : goal.returns
-returns c = count_is_one

@@ -1,5 +1,0 @@
-use Rattle.gather_equal.proofs.Lacking.{lack_is_one}
-use Rattle.gather_equal.proofs.laws.lack_is_one.Goals as goal
-
-pub returns : goal.returns
-returns c = lack_is_one

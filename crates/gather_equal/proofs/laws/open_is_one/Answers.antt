@@ -1,5 +1,0 @@
-use Rattle.gather_equal.proofs.Opening.{open_is_one}
-use Rattle.gather_equal.proofs.laws.open_is_one.Goals as goal
-
-pub returns : goal.returns
-returns c = open_is_one

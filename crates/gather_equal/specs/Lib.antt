@@ -1,4 +1,0 @@
-pub mod Apart
-pub mod Ends
-pub mod Laws
-pub mod Moved
