@@ -9,10 +9,10 @@ use Rattle.x12_bytes.specs.declared.delims.Delims.{Delims}
 use Rattle.x12_segs.specs.Words.{moved_by, Seg, rest_from, segs_from, SegValue, view_of, kind_of}
 use Rattle.env_index.specs.Words.{behind, ends_interchange}
 use Rattle.env_index.proofs.ForAbove.{head_within}
-use Rattle.batch_law.specs.Begun.{is_begun, may_begin}
-use Rattle.batch_law.specs.Batches.{end_by, end_from}
-use Rattle.batch_law.specs.Moved.{moved_view}
-use Rattle.batch_law.proofs.ForAbove.{drop_past, head_past, header_past, kind_moved, rest_past, segs_past, views_moved}
+use Rattle.batch_cut.specs.Begun.{is_begun, may_begin}
+use Rattle.batch_cut.specs.Batches.{end_by, end_from}
+use Rattle.batch_cut.specs.Moved.{moved_view}
+use Rattle.batch_cut.proofs.Moving.{drop_past, head_past, header_past, kind_moved, rest_past, segs_past, views_moved}
 use Rattle.batch_cut.specs.Open.{IsOpen}
 use Rattle.batch_cut.specs.Scouting.{IsInside}
 use Rattle.batch_cut.specs.declared.scout.Inside.{Inside}

@@ -17,8 +17,8 @@ use Rattle.x12_segs.specs.declared.kind.Kind.TheVariants.{Other}
 use Rattle.x12_segs.proofs.ForAbove.{parts-none, id_found}
 use Rattle.env_index.specs.Words.{ends_interchange}
 use Rattle.env_index.proofs.ForAbove.{head_within}
-use Rattle.batch_law.specs.Begun.{are_delims_begun, are_fields_begun, is_begun, may_begin}
-use Rattle.batch_law.proofs.ForAbove.{first_byte}
+use Rattle.batch_cut.specs.Begun.{are_delims_begun, are_fields_begun, is_begun, may_begin}
+use Rattle.batch_cut.proofs.Split.{first_byte}
 
 -- these letters stand at an offset
 stands : (read letters : List ℕ) (n q : ℕ) → length letters ≡ n → q + n ≤ length read → take n (drop q read) ≡ letters

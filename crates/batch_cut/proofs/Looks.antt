@@ -13,9 +13,10 @@ use Rattle.x12_bytes.specs.declared.delims.Delims.{Delims}
 use Rattle.x12_segs.specs.Words.{Seg, seg_at, view_of, kind_of}
 use Rattle.env_index.specs.Words.{ends_interchange}
 use Rattle.env_index.proofs.ForAbove.{no_head_past}
-use Rattle.batch_law.specs.Begun.{may_begin}
-use Rattle.batch_law.specs.Batches.{end_from}
-use Rattle.batch_law.proofs.ForAbove.{none_behind, Leads}
+use Rattle.batch_cut.specs.Begun.{may_begin}
+use Rattle.batch_cut.specs.Batches.{end_from}
+use Rattle.batch_cut.proofs.Chains.{none_behind}
+use Rattle.batch_cut.proofs.First.{Leads}
 use Rattle.batch_cut.specs.Open.{GoesOn, IsOpen}
 use Rattle.batch_cut.specs.Steps.{Steps, Waits}
 use Rattle.batch_cut.specs.declared.following.OpenPart.{OpenPart}

@@ -14,9 +14,11 @@ use Rattle.x12_segs.specs.Words.{Seg, rest_from, seg_at, segs_from, without_line
 use Rattle.x12_segs.proofs.ForAbove.{IsCut, cut_found, part_at-none, part_at-some, rest_from-found, rest_from-none, segs_from-found}
 use Rattle.x12_segs.proofs.ForAbove.{segs_from-none, without_line_ends-slice}
 use Rattle.env_index.specs.Words.{behind, ends_interchange}
-use Rattle.batch_law.specs.Begun.{is_begun, may_begin}
-use Rattle.batch_law.specs.Batches.{end_by, end_from}
-use Rattle.batch_law.proofs.ForAbove.{begun_cut, Leads, first_is, first_start, first_byte, from_rest}
+use Rattle.batch_cut.specs.Begun.{is_begun, may_begin}
+use Rattle.batch_cut.specs.Batches.{end_by, end_from}
+use Rattle.batch_cut.proofs.BegunHeaders.{begun_cut}
+use Rattle.batch_cut.proofs.First.{Leads, first_is, first_start}
+use Rattle.batch_cut.proofs.Split.{first_byte, from_rest}
 
 -- a part that a terminator ends
 pub record IsPart (text : List ℕ) (t at lead end : ℕ) : Type 0 where

@@ -11,9 +11,9 @@ use Rattle.x12_bytes.specs.HeaderTest.{is_head}
 use Rattle.x12_bytes.specs.declared.delims.Delims.{Delims}
 use Rattle.x12_segs.specs.Words.{kind_of, seg_at, view_of}
 use Rattle.env_index.specs.Words.{ends_interchange}
-use Rattle.batch_law.specs.Begun.{may_begin}
-use Rattle.batch_law.specs.Batches.{end_from}
-use Rattle.batch_law.proofs.ForAbove.{first_byte, from_rest}
+use Rattle.batch_cut.specs.Begun.{may_begin}
+use Rattle.batch_cut.specs.Batches.{end_from}
+use Rattle.batch_cut.proofs.Split.{first_byte, from_rest}
 use Rattle.batch_cut.specs.Open.{GoesOn, IsOpen}
 use Rattle.batch_cut.specs.Passing.{AreSearched}
 use Rattle.batch_cut.specs.declared.passing.Searched.{Searched}

@@ -6,8 +6,8 @@ use Rattle.x12_bytes.specs.Header.{header_delims, header_at}
 use Rattle.x12_bytes.specs.HeaderTest.{is_head}
 use Rattle.env_index.specs.Words.{Extent, IsNextHead, reach_at}
 use Rattle.env_index.proofs.ForAbove.{head_within}
-use Rattle.batch_law.specs.Batches.{ChainUpTo, WholeUpTo, end_from, whole_end}
-use Rattle.batch_law.proofs.ForAbove.{chain_joined, end_behind, end_within, whole_chain}
+use Rattle.batch_cut.specs.Batches.{ChainUpTo, WholeUpTo, end_from, whole_end}
+use Rattle.batch_cut.proofs.Chains.{chain_joined, end_behind, end_within, whole_chain}
 use Rattle.batch_cut.specs.declared.scout.Entered.{Entered}
 use Rattle.batch_cut.specs.declared.scout.Entered.TheVariants.{Open, Wait}
 use Rattle.batch_cut.specs.Scouting.{Advances, Enters, EntersAt, EntersNone, IsGap, IsInside, Stands}
@@ -41,7 +41,7 @@ gap_of read from at whole = λ more. whole_chain read more from at [] whole
 pub gap_to : (read : List ℕ) (from start : ℕ) → IsNextHead read from start → start + 106 ≤ length read → IsGap read from start
 gap_to read from start next fits = λ more. (
   next.behind,
-  λ q low lt. Rattle.batch_law.proofs.ForAbove.not_before read more start q fits lt (next.least q low lt),
+  λ q low lt. Rattle.batch_cut.proofs.Chains.not_before read more start q fits lt (next.least q low lt),
 )
 
 -- the end of the interchange that is open
@@ -55,7 +55,7 @@ pub one_whole : (read : List ℕ) (at end : ℕ) → is_head read at ≡ true �
     → ChainUpTo (read ++ more) at end ((let x : Extent = record { start = at; end = end } in x) ∷ []))
 one_whole read at end head is =
     let next : IsNextHead read at at = record { behind = omega arith; head = head; least = λ q low lt. absurd (omega (arith, low, lt)) } in
-    let ends : end ≡ (reach_at read at).end = Rattle.batch_law.proofs.ForAbove.end_now read at end head is in
+    let ends : end ≡ (reach_at read at).end = Rattle.batch_cut.proofs.Chains.end_now read at end head is in
     let within : end ≤ length read = omega (arith, ends, end_within read at head) in (
       omega (arith, ends, end_behind read at head),
       within,

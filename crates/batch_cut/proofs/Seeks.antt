@@ -10,8 +10,8 @@ use Rattle.memchr.specs.Find.{Nowhere, Passes, is_byte}
 use Rattle.x12_bytes.specs.HeaderTest.{is_head}
 use Rattle.env_index.specs.Words.{IsNextHead}
 use Rattle.env_index.proofs.ForAbove.{no_head_ahead, head_within}
-use Rattle.batch_law.specs.Begun.{are_delims_begun, are_fields_begun, is_begun, may_begin}
-use Rattle.batch_law.specs.Batches.{WholeUpTo}
+use Rattle.batch_cut.specs.Begun.{are_delims_begun, are_fields_begun, is_begun, may_begin}
+use Rattle.batch_cut.specs.Batches.{WholeUpTo}
 use Rattle.batch_cut.specs.Seeking.{NoneRead}
 
 -- what a header may begin with begins with the letter I, if a byte is there

@@ -6,8 +6,8 @@ use Rattle.x12_bytes.specs.Bytes.{is_line_end}
 use Rattle.x12_bytes.specs.Header.{header_delims, header_at}
 use Rattle.x12_bytes.specs.HeaderTest.{is_head}
 use Rattle.env_index.proofs.ForAbove.{head_within}
-use Rattle.batch_law.specs.Batches.{end_from}
-use Rattle.batch_law.proofs.ForAbove.{head_kept, header_kept}
+use Rattle.batch_cut.specs.Batches.{end_from}
+use Rattle.batch_cut.proofs.Heads.{head_kept, header_kept}
 use Rattle.batch_cut.specs.Open.{IsOpen}
 use Rattle.batch_cut.specs.Scouting.{IsInside, Stands}
 use Rattle.batch_cut.specs.declared.scout.Inside.{Inside}

@@ -4,7 +4,7 @@ use Rattle.x12_bytes.specs.Header.{header_delims, header_at}
 use Rattle.x12_bytes.specs.HeaderTest.{is_head}
 use Rattle.x12_bytes.specs.declared.layout.TheConstants.{HEADER_LEN}
 use Rattle.env_index.specs.Words.{Extent}
-use Rattle.batch_law.specs.Batches.{ChainUpTo, whole_end}
+use Rattle.batch_cut.specs.Batches.{ChainUpTo, whole_end}
 use Rattle.batch_cut.specs.Open.{GoesOn, IsAsFar, IsOpen, IsShort}
 use Rattle.batch_cut.specs.declared.scout.Advanced.{Advanced}
 use Rattle.batch_cut.specs.declared.scout.Entered.{Entered}

@@ -2,7 +2,7 @@
 use Rattle.std.specs.Prelude.{◌≡◌, ℕ, ◌≤◌, List, [], false}
 use Rattle.x12_bytes.specs.HeaderTest.{is_head}
 use Rattle.env_index.specs.Words.{IsNextHead}
-use Rattle.batch_law.specs.Batches.{WholeUpTo}
+use Rattle.batch_cut.specs.Batches.{WholeUpTo}
 use Rattle.batch_cut.specs.Open.{IsAsFar}
 use Rattle.batch_cut.specs.declared.seeking.Sought.{Sought}
 use Rattle.batch_cut.specs.declared.seeking.Sought.TheVariants.{Header, Wait}

@@ -3,7 +3,7 @@ ghost use Rattle.std.specs.List.{list_all};
 ghost use Rattle.std.specs.Str.{bytes_eq};
 ghost use Rattle.x12_bytes.specs.Bytes.{is_letter_or_digit, is_line_end, may_separate};
 ghost use Rattle.x12_bytes.specs.Header.{element_separator_of};
-ghost use Rattle.batch_law.specs.Begun.{are_delims_begun, are_fields_begun, is_begun, is_field_begun, may_begin};
+ghost use Rattle.batch_cut.specs.Begun.{are_delims_begun, are_fields_begun, is_begun, is_field_begun, may_begin};
 
 use crate::layout::{field_so_far, separator_place};
 use x12_bytes::HEADER_LEN;
@@ -16,7 +16,7 @@ pub fn may_begin(read: &[u8], at: usize) -> bool
     is_begun(&read[at..])
 }
 
-#[tactic(auto, unfolding(batch_law::specs::Begun::is_begun))]
+#[tactic(auto, unfolding(crate::specs::Begun::is_begun))]
 fn is_begun(bytes: &[u8]) -> bool
     ensures { result ≡ is_begun bytes.now }
 {

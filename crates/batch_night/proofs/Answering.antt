@@ -15,8 +15,8 @@ use Rattle.set_check.specs.Answer.{answer_to}
 use Rattle.set_check.specs.Checked.{Checked}
 use Rattle.set_check.specs.Codes.{control_of}
 use Rattle.ack_999.specs.Group.{are_same_number, group_codes_of, group_verdict_of, verdicts_of}
-use Rattle.batch_law.specs.Moved.{moved_entry, moved_group, moved_set, moved_span, moved_view}
-use Rattle.batch_law.proofs.ForAbove.{span_of_moved}
+use Rattle.batch_cut.specs.Moved.{moved_entry, moved_group, moved_set, moved_span, moved_view}
+use Rattle.batch_cut.proofs.ForAbove.{span_of_moved}
 use Rattle.batch_night.specs.MovedSets.{moved_checked, moved_judged}
 use Rattle.batch_night.proofs.Sets.{answer_moved, checked_moved}
 use Rattle.checked_text.specs.declared.answered.AnsweredGroup.{AnsweredGroup}

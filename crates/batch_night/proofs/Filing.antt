@@ -11,7 +11,7 @@ use Rattle.partner_setup.specs.declared.partner.Partner.{Partner}
 use Rattle.partner_setup.specs.Envelopes.{envelope_to}
 use Rattle.partner_setup.specs.Setup.{SetupValue}
 use Rattle.judged_text.specs.Answered.{is_repeatable}
-use Rattle.batch_law.specs.Moved.{moved_group}
+use Rattle.batch_cut.specs.Moved.{moved_group}
 use Rattle.checked_text.specs.Acknowledgments.{Acknowledgment, acknowledgment_text, acknowledgment_group_count}
 use Rattle.checked_text.specs.CheckedText.{AreAcknowledgments, CheckedInterchange, SentValues, acknowledged_to, acknowledgment_of}
 use Rattle.checked_text.specs.CheckedText.{acknowledgments_from, acknowledgments_to, groups_to, is_acknowledged_to, is_partner}

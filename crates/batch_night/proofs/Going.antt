@@ -18,9 +18,9 @@ use Rattle.checked_text.specs.CheckedText.{AreAcknowledgments, AreCheckedAs, IsC
 use Rattle.checked_text.specs.CheckedText.{judged}
 use Rattle.checked_text.specs.Settled.{faults_from, faults_with, kept_keys, settled_faults}
 use Rattle.checked_text.proofs.ForAbove.{by_numbers}
-use Rattle.batch_law.specs.Batches.{ChainUpTo}
-use Rattle.batch_law.specs.Moved.{IsIndexUpTo, moved_entry}
-use Rattle.batch_law.proofs.ForAbove.{ends, starts, steps}
+use Rattle.batch_cut.specs.Batches.{ChainUpTo}
+use Rattle.batch_cut.specs.Moved.{IsIndexUpTo, moved_entry}
+use Rattle.batch_cut.proofs.ForAbove.{ends, starts, steps}
 use Rattle.batch_night.specs.MovedSets.{moved_judged, moved_placed}
 use Rattle.mailbox.specs.Rendered.{RenderedValue, rendered_from}
 use Rattle.batch_night.proofs.Placed.{delivered_moved}

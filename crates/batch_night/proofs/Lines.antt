@@ -20,7 +20,7 @@ use Rattle.night_report.specs.Lines.{answered_line, control_shown, fa_line, inte
 use Rattle.night_report.specs.Report.{all_lines, answer_line, content_lines, first_line, group_line, group_lines, held_lines}
 use Rattle.night_report.specs.Report.{interchange_lines}
 use Rattle.night_report.specs.Report.{outcome_line, sender_name, shown_from}
-use Rattle.batch_law.specs.Moved.{moved_group, moved_set}
+use Rattle.batch_cut.specs.Moved.{moved_group, moved_set}
 use Rattle.batch_night.specs.MovedSets.{moved_judged, moved_placed}
 use Rattle.batch_night.proofs.Placed.{outcomes_moved}
 use Rattle.batch_night.specs.Within.{IsWithinText}

@@ -20,8 +20,8 @@ use Rattle.mailbox.specs.Deliveries.{is_text_in_the_way, kept_parts, outcome_at,
 use Rattle.judged_text.specs.Judged.{JudgedValue, PlacedValue, all_sets, delims_in, sets_of_groups_from, segments_in, sets_from, sets_of}
 use Rattle.judged_text.specs.Judged.{standing_at}
 use Rattle.mailbox.specs.Mailbox.{inner_text, set_header_text, set_text, set_trailer_text}
-use Rattle.batch_law.specs.Moved.{moved_group, moved_set, moved_view}
-use Rattle.batch_law.proofs.ForAbove.{span_of_moved}
+use Rattle.batch_cut.specs.Moved.{moved_group, moved_set, moved_view}
+use Rattle.batch_cut.proofs.ForAbove.{span_of_moved}
 use Rattle.batch_night.specs.MovedSets.{moved_judged, moved_placed}
 use Rattle.batch_night.specs.Within.{IsWithinText}
 use Rattle.batch_night.proofs.Sets.{views_moved_in}

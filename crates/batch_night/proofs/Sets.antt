@@ -19,8 +19,8 @@ use Rattle.set_check.specs.Verdict.{verdict_on}
 use Rattle.set_check.specs.Checked.{Checked, IsChecked, guide_in, parts_in}
 use Rattle.set_check.specs.SetFaults.{AreSetFaults, IsErrorIn, IsFaultUnder, set_codes_where, codes_with}
 use Rattle.set_check.specs.SetParts.{SetParts, before_trailer, inner_of, parts_of, set_parts, set_trailer_of}
-use Rattle.batch_law.specs.Moved.{moved_span, moved_view}
-use Rattle.batch_law.proofs.ForAbove.{span_views_past}
+use Rattle.batch_cut.specs.Moved.{moved_span, moved_view}
+use Rattle.batch_cut.proofs.ForAbove.{span_views_past}
 use Rattle.batch_night.specs.MovedSets.{moved_checked, moved_parts}
 
 -- what stands after the batch isn't looked at

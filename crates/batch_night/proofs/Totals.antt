@@ -15,7 +15,7 @@ use Rattle.night_report.specs.Adding.{together}
 use Rattle.night_report.specs.Report.{ShownGroup, accepted_count, counted_groups, groups_shown, held_count, is_counted, set_count}
 use Rattle.night_report.specs.Report.{shown_from, report_totals}
 use Rattle.night_report.specs.declared.totals.Totals.{Totals}
-use Rattle.batch_law.specs.Moved.{moved_group, moved_set}
+use Rattle.batch_cut.specs.Moved.{moved_group, moved_set}
 use Rattle.batch_night.specs.MovedSets.{moved_judged, moved_placed}
 use Rattle.batch_night.proofs.Placed.{all_sets_moved, outcomes_moved}
 use Rattle.batch_night.specs.Within.{IsWithinText}

@@ -1,6 +1,6 @@
 -- X12.5, interchange: what is answered to an interchange of a batch, in the whole text.
 use Rattle.std.specs.Prelude.{ℕ}
-use Rattle.batch_law.specs.Moved.{moved_entry}
+use Rattle.batch_cut.specs.Moved.{moved_entry}
 use Rattle.checked_text.specs.CheckedText.{CheckedInterchange}
 
 -- the same interchange where this many bytes are before the batch

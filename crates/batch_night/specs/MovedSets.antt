@@ -3,7 +3,7 @@ use Rattle.std.specs.Prelude.{ℕ, List, ◌++◌, length, option_map}
 use Rattle.set_check.specs.Checked.{Checked}
 use Rattle.set_check.specs.SetParts.{SetParts}
 use Rattle.judged_text.specs.Judged.{JudgedValue, PlacedValue}
-use Rattle.batch_law.specs.Moved.{moved_group, moved_interchange, moved_set, moved_span, moved_view}
+use Rattle.batch_cut.specs.Moved.{moved_group, moved_interchange, moved_set, moved_span, moved_view}
 
 -- the same set where these bytes are before and after the batch
 abbrev pub moved_checked : (before behind : List ℕ) → Checked → Checked

@@ -5,7 +5,7 @@ use Rattle.env_index.specs.Words.{HasSpans, IndexEntry, IndexValue, IsIndex, wit
 use Rattle.partner_setup.specs.Setup.{SetupValue}
 use Rattle.checked_text.specs.CheckedText.{AreCheckedAs, CheckedInterchange}
 use Rattle.checked_text.specs.Settled.{faults_with, kept_keys, settled_entries}
-use Rattle.batch_law.specs.Moved.{IsIndexUpTo, moved_entry}
+use Rattle.batch_cut.specs.Moved.{IsIndexUpTo, moved_entry}
 use Rattle.batch_night.specs.MovedAnswers.{moved_answered}
 use Rattle.night_writing.specs.Writing.{IsBatchWritten, IsWrittenOf, WritingValue, nothing_written}
 

@@ -2,7 +2,7 @@ ghost use Rattle.std.specs.Prelude.{◌≡◌, ◌++◌, ℕ, List, length, map}
 ghost use Rattle.std.specs.List.{All};
 ghost use Rattle.env_index.specs.Words.{HasSpans, IndexEntry, with_faults};
 ghost use Rattle.partner_setup.specs.Setup.{SetupValue};
-ghost use Rattle.batch_law.specs.Moved.{moved_entry};
+ghost use Rattle.batch_cut.specs.Moved.{moved_entry};
 ghost use Rattle.batch_night.specs.MovedSets.{moved_judged};
 ghost use Rattle.checked_text.specs.CheckedText.{AreAcknowledgments, AreCheckedAs, CheckedInterchange, SentValues, judged};
 ghost use Rattle.checked_text.specs.Settled.{faults_from, faults_with, kept_keys, settled_faults};

@@ -3,7 +3,7 @@ ghost use Rattle.env_index.specs.Words.{Extent, IndexValue, IsIndex};
 ghost use Rattle.partner_setup.specs.Setup.{SetupValue};
 ghost use Rattle.night_writing.specs.declared.night.Night.{Night};
 ghost use Rattle.night_writing.specs.Night.{IsNight};
-ghost use Rattle.batch_law.specs.Batches.{ChainUpTo};
+ghost use Rattle.batch_cut.specs.Batches.{ChainUpTo};
 ghost use Rattle.batch_night.specs.UpTo.{IsBatchDone, IsBatchOf, IsNightUpTo, IsWhole, NightSoFar, behind_batch, none_yet};
 ghost use Rattle.night_writing.specs.Writing.{IsClosedBy, WritingValue};
 

@@ -12,7 +12,7 @@ use Rattle.std.proofs.lemmas.List.Folds.{list_all_at}
 use Rattle.x12_bytes.specs.Bytes.{may_separate, may_terminate}
 use Rattle.x12_bytes.specs.Header.{element_separator_of, component_separator_of, terminator_of, field_of, separator_place, width_of}
 use Rattle.x12_bytes.specs.HeaderTest.{is_field_byte, is_field_at, has_fields, has_delims, is_header}
-use Rattle.batch_law.specs.Begun.{is_field_begun, are_fields_begun, are_delims_begun}
+use Rattle.batch_cut.specs.Begun.{is_field_begun, are_fields_begun, are_delims_begun}
 use Rattle.gather_files.proofs.Mixed.{mixed, mixed_first, mixed_second, mixed_length, mixed_take, stretch_all, both_all}
 use Rattle.gather_files.proofs.Sample.{is_plain_field, are_plain_fields, all_plain, made, made_component, made_terminator}
 use Rattle.gather_files.proofs.Sample.{made_length, made_separator, made_field}

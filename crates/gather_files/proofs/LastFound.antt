@@ -9,9 +9,9 @@ use Rattle.x12_bytes.specs.HeaderTest.{is_head}
 use Rattle.x12_bytes.specs.declared.delims.Delims.{Delims}
 use Rattle.x12_segs.specs.Words.{seg_at, view_of, kind_of}
 use Rattle.env_index.specs.Words.{ends_interchange}
-use Rattle.batch_law.specs.Begun.{may_begin}
-use Rattle.batch_law.specs.Batches.{end_from}
-use Rattle.batch_law.proofs.ForAbove.{first_byte}
+use Rattle.batch_cut.specs.Begun.{may_begin}
+use Rattle.batch_cut.specs.Batches.{end_from}
+use Rattle.batch_cut.proofs.ForAbove.{first_byte}
 use Rattle.batch_cut.specs.Open.{GoesOn, IsOpen}
 use Rattle.batch_cut.specs.Steps.{Waits}
 use Rattle.batch_cut.proofs.ForAbove.{ends_here, goes_now, lead_found, lead_stops, on_empty, passes_on, waits_unended}

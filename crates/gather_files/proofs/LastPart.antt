@@ -9,9 +9,9 @@ use Rattle.x12_bytes.specs.HeaderTest.{is_head}
 use Rattle.x12_bytes.specs.declared.delims.Delims.{Delims}
 use Rattle.x12_segs.specs.Words.{Seg, seg_at, view_of, kind_of}
 use Rattle.env_index.specs.Words.{ends_interchange}
-use Rattle.batch_law.specs.Begun.{may_begin}
-use Rattle.batch_law.specs.Batches.{end_from}
-use Rattle.batch_law.proofs.ForAbove.{none_behind}
+use Rattle.batch_cut.specs.Begun.{may_begin}
+use Rattle.batch_cut.specs.Batches.{end_from}
+use Rattle.batch_cut.proofs.ForAbove.{none_behind}
 use Rattle.batch_cut.specs.Open.{GoesOn}
 use Rattle.batch_cut.proofs.ForAbove.{IsPart, closed_stays, end_at_segment, part_stays, passes_empty}
 

@@ -8,8 +8,8 @@ use Rattle.std.specs.List.{suffix_len}
 use Rattle.x12_bytes.specs.Header.{header_at, terminator_of}
 use Rattle.x12_bytes.specs.HeaderTest.{is_head}
 use Rattle.env_index.proofs.ForAbove.{head_within}
-use Rattle.batch_law.specs.Batches.{ChainUpTo}
-use Rattle.batch_law.proofs.ForAbove.{head_more, header_kept}
+use Rattle.batch_cut.specs.Batches.{ChainUpTo}
+use Rattle.batch_cut.proofs.ForAbove.{head_more, header_kept}
 use Rattle.batch_cut.proofs.ForAbove.{stands_on}
 use Rattle.batch_cut.specs.Scouting.{Advances, Stands}
 use Rattle.batch_cut.specs.declared.scout.Advanced.{Advanced}

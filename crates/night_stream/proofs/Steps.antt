@@ -12,8 +12,8 @@ use Rattle.partner_setup.specs.Setup.{SetupValue}
 use Rattle.checked_text.specs.CheckedText.{judged}
 use Rattle.number_register.specs.SeenNumbers.{HaveSeen}
 use Rattle.checked_text.specs.Settled.{faults_with, kept_keys, settled_faults}
-use Rattle.batch_law.specs.Batches.{ChainUpTo}
-use Rattle.batch_law.proofs.ForAbove.{chain_up_to_end}
+use Rattle.batch_cut.specs.Batches.{ChainUpTo}
+use Rattle.batch_cut.proofs.ForAbove.{chain_up_to_end}
 use Rattle.batch_night.proofs.ForAbove.{keys_behind, closed, night_starts, night_steps, batch_shown}
 use Rattle.batch_cut.proofs.ForAbove.{stands_on}
 use Rattle.batch_cut.specs.Scouting.{Advances, Stands}

@@ -2,7 +2,7 @@ use Rattle.std.proofs.Common.{◌≡◌, ◌+◌, true, false, refl, sym, subst,
 use Rattle.x12_bytes.specs.HeaderTest.{is_head}
 use Rattle.x12_segs.specs.Words.{seg_at, view_of, kind_of}
 use Rattle.env_index.specs.Words.{ends_interchange}
-use Rattle.batch_law.specs.Begun.{may_begin}
+use Rattle.batch_cut.specs.Begun.{may_begin}
 use Rattle.batch_cut.specs.Steps.{Steps}
 use Rattle.batch_cut.proofs.Looks.{ends_here, passes_on, waits_begun, waits_unended}
 use Rattle.batch_cut.proofs.following.step_at.Goals as goal

@@ -1,5 +1,5 @@
 use Rattle.std.proofs.Common.{◌≡◌, ◌∙◌, Some, rules}
-use Rattle.batch_law.specs.Batches.{end_from}
+use Rattle.batch_cut.specs.Batches.{end_from}
 use Rattle.batch_cut.proofs.Looks.{goes_now}
 use Rattle.batch_cut.proofs.following.walk.Goals as goal
 

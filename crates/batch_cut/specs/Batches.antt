@@ -7,7 +7,7 @@ use Rattle.x12_bytes.specs.declared.layout.TheConstants.{HEADER_LEN}
 use Rattle.x12_bytes.specs.declared.delims.Delims.{Delims}
 use Rattle.x12_segs.specs.Words.{Seg, segs_from, rest_from, SegValue, view_of, kind_of}
 use Rattle.env_index.specs.Words.{Extent, IsNextHead, behind, ends_interchange, reach_at}
-use Rattle.batch_law.specs.Begun.{may_begin}
+use Rattle.batch_cut.specs.Begun.{may_begin}
 
 -- where an interchange ends, by what is read of the text: at a header that is read where a segment or the rest begins, or after the
 -- terminator of its IEA, if no segment before can still turn out to begin at a header; else that isn't known yet

@@ -9,11 +9,11 @@ use Rattle.x12_bytes.specs.declared.delims.Delims.{Delims}
 use Rattle.x12_segs.specs.Words.{Seg, segs_from, rest_from, SegValue, view_of, kind_of}
 use Rattle.x12_segs.proofs.ForAbove.{StandInOrder, segs_in_order}
 use Rattle.env_index.specs.Words.{Reach, behind, ends_interchange, onto_reach, reach_of, reach_from}
-use Rattle.batch_law.specs.Begun.{may_begin}
-use Rattle.batch_law.specs.Batches.{end_by, end_from}
-use Rattle.batch_law.proofs.First.{first_is, first_start, leads_to_head, reach_at_first}
-use Rattle.batch_law.proofs.Heads.{head_fits, head_more, none_begins}
-use Rattle.batch_law.proofs.Split.{IsSplit, first_byte, split_at}
+use Rattle.batch_cut.specs.Begun.{may_begin}
+use Rattle.batch_cut.specs.Batches.{end_by, end_from}
+use Rattle.batch_cut.proofs.First.{first_is, first_start, leads_to_head, reach_at_first}
+use Rattle.batch_cut.proofs.Heads.{head_fits, head_more, none_begins}
+use Rattle.batch_cut.proofs.Split.{IsSplit, first_byte, split_at}
 
 none_is_some : (e : ℕ) → ◌≡◌ {A = Option ℕ} None (Some e) → ⊥
 none_is_some e is = (cc)

@@ -5,7 +5,7 @@ use Rattle.x12_segs.specs.Words.{SegValue}
 use Rattle.x12_segs.specs.declared.set_span.SetSpan.{SetSpan}
 use Rattle.env_index.specs.declared.entry.SetEnvelope.{SetEnvelope}
 use Rattle.env_index.specs.Words.{Extent, is_filler, IndexEntry, IsEntryOf, extents_of, InterchangeEntry, GroupEntry, Summary}
-use Rattle.batch_law.specs.Batches.{ChainUpTo}
+use Rattle.batch_cut.specs.Batches.{ChainUpTo}
 
 abbrev pub moved_view : (by : ℕ) → SegValue → SegValue
 moved_view by x = record { start = by + x.start; bytes = x.bytes; delims = x.delims }

@@ -27,10 +27,10 @@ use Rattle.hub_kinds.specs.declared.interchange.InterchangeFault.TheVariants.{Gr
 use Rattle.env_index.specs.Summary.{GroupEntry, Summary, group_entry, groups_in, has_misplaced, has_misplaced_in_group, ta1_member_count}
 use Rattle.env_index.specs.Summary.{set_entry, sets_in, summary_of}
 use Rattle.env_index.proofs.ForAbove.{derives_mapped}
-use Rattle.batch_law.specs.Batches.{ChainUpTo}
-use Rattle.batch_law.specs.Moved.{moved_entry, moved_extent, moved_group, moved_interchange, moved_set, moved_span, moved_summary}
-use Rattle.batch_law.specs.Moved.{moved_view}
-use Rattle.batch_law.proofs.Moving.{head_past, header_past, kind_moved, moved_reach, reach_at_past, segs_past, views_moved}
+use Rattle.batch_cut.specs.Batches.{ChainUpTo}
+use Rattle.batch_cut.specs.Moved.{moved_entry, moved_extent, moved_group, moved_interchange, moved_set, moved_span, moved_summary}
+use Rattle.batch_cut.specs.Moved.{moved_view}
+use Rattle.batch_cut.proofs.Moving.{head_past, header_past, kind_moved, moved_reach, reach_at_past, segs_past, views_moved}
 
 -- the tree, further on
 module _ (by : ℕ) where

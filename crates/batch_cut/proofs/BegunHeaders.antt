@@ -11,7 +11,7 @@ use Rattle.std.proofs.lemmas.List.{drop-take, drop_all, get_or-take, length-take
 use Rattle.x12_bytes.specs.Bytes.{may_separate, may_terminate}
 use Rattle.x12_bytes.specs.Header.{element_separator_of, component_separator_of, terminator_of, field_of, separator_place, width_of}
 use Rattle.x12_bytes.specs.HeaderTest.{is_field_byte, is_field_at, has_fields, has_delims, is_header}
-use Rattle.batch_law.specs.Begun.{is_field_begun, are_fields_begun, are_delims_begun, is_begun}
+use Rattle.batch_cut.specs.Begun.{is_field_begun, are_fields_begun, are_delims_begun, is_begun}
 
 take_comm : (m n : ℕ) (xs : List ℕ) → take m (take n xs) ≡ take n (take m xs)
 take_comm zero zero xs = refl

@@ -10,11 +10,11 @@ use Rattle.x12_segs.specs.Words.{segs_from, rest_from}
 use Rattle.x12_segs.proofs.ForAbove.{segs_in_order}
 use Rattle.env_index.specs.Words.{Extent, IsNextHead, ChainFrom, Reach, reach_at, reach_from}
 use Rattle.env_index.proofs.ForAbove.{least_end, head_within, no_head_past}
-use Rattle.batch_law.specs.Begun.{may_begin}
-use Rattle.batch_law.specs.Batches.{ChainUpTo, WholeUpTo, end_from, whole_end}
-use Rattle.batch_law.proofs.Heads.{head_fits, head_kept, head_more, header_kept, none_begins, none_more}
-use Rattle.batch_law.proofs.Take.{Clears, low_end, same_reach}
-use Rattle.batch_law.proofs.Whole.{end_is}
+use Rattle.batch_cut.specs.Begun.{may_begin}
+use Rattle.batch_cut.specs.Batches.{ChainUpTo, WholeUpTo, end_from, whole_end}
+use Rattle.batch_cut.proofs.Heads.{head_fits, head_kept, head_more, header_kept, none_begins, none_more}
+use Rattle.batch_cut.proofs.Take.{Clears, low_end, same_reach}
+use Rattle.batch_cut.proofs.Whole.{end_is}
 
 -- an interchange holds its header
 pub end_behind : (text : List ℕ) (start : ℕ) → is_head text start ≡ true → start + 106 ≤ (reach_at text start).end

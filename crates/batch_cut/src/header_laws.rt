@@ -1,7 +1,7 @@
 ghost use Rattle.std.specs.Prelude.{◌≡◌, ◌≤◌, ◌<◌, ◌++◌, ℕ, List, length, true};
 ghost use Rattle.std.specs.List.{All};
 ghost use Rattle.x12_bytes.specs.HeaderTest.{is_head};
-ghost use Rattle.batch_law.specs.Begun.{may_begin};
+ghost use Rattle.batch_cut.specs.Begun.{may_begin};
 
 /// A theorem, with nothing to run: where a header may begin by what is read of a text, some bytes that follow make it one.
 pub fn begun_headers_can_be_completed()

@@ -12,11 +12,11 @@ use Rattle.std.proofs.lemmas.List.Folds.{list_all_at}
 use Rattle.x12_bytes.specs.Bytes.{may_separate, may_terminate}
 use Rattle.x12_bytes.specs.Header.{element_separator_of, component_separator_of, terminator_of, field_of, separator_place, width_of}
 use Rattle.x12_bytes.specs.HeaderTest.{is_field_byte, is_field_at, has_fields, has_delims, is_header}
-use Rattle.batch_law.specs.Begun.{is_field_begun, are_fields_begun, are_delims_begun}
-use Rattle.batch_law.proofs.Absent.{is_absent}
-use Rattle.batch_law.proofs.Mixed.{mixed, mixed_first, mixed_second, mixed_length, mixed_take, stretch_all, both_all}
-use Rattle.batch_law.proofs.Sample.{is_plain_field, are_plain_fields, all_plain, made, made_component, made_terminator}
-use Rattle.batch_law.proofs.Sample.{made_length, made_separator, made_field}
+use Rattle.batch_cut.specs.Begun.{is_field_begun, are_fields_begun, are_delims_begun}
+use Rattle.batch_cut.proofs.Absent.{is_absent}
+use Rattle.batch_cut.proofs.Mixed.{mixed, mixed_first, mixed_second, mixed_length, mixed_take, stretch_all, both_all}
+use Rattle.batch_cut.proofs.Sample.{is_plain_field, are_plain_fields, all_plain, made, made_component, made_terminator}
+use Rattle.batch_cut.proofs.Sample.{made_length, made_separator, made_field}
 
 -- no letter, digit or space is that high
 pub high_terminates : (t : ℕ) → 128 ≤ t → t < 256 → may_terminate t ≡ true

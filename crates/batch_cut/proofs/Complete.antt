@@ -9,11 +9,11 @@ use Rattle.std.proofs.lemmas.List.{append_assoc, drop-append-le, length-append, 
 use Rattle.std.proofs.lemmas.List.Elements.{All-append, All-cons, All-drop, All-get_or, All-nil}
 use Rattle.x12_bytes.specs.Header.{element_separator_of, header_at}
 use Rattle.x12_bytes.specs.HeaderTest.{is_head, is_header}
-use Rattle.batch_law.specs.Begun.{are_fields_begun, are_delims_begun, is_begun, may_begin}
-use Rattle.batch_law.proofs.Absent.{IsAbsentFrom, one_is_absent}
-use Rattle.batch_law.proofs.Mixed.{mixed, mixed_is}
-use Rattle.batch_law.proofs.Sample.{made_small}
-use Rattle.batch_law.proofs.Header.{IsOpen, header_done, header_size, other_of, other_small, rest}
+use Rattle.batch_cut.specs.Begun.{are_fields_begun, are_delims_begun, is_begun, may_begin}
+use Rattle.batch_cut.proofs.Absent.{IsAbsentFrom, one_is_absent}
+use Rattle.batch_cut.proofs.Mixed.{mixed, mixed_is}
+use Rattle.batch_cut.proofs.Sample.{made_small}
+use Rattle.batch_cut.proofs.Header.{IsOpen, header_done, header_size, other_of, other_small, rest}
 
 abbrev AreBytes : List ℕ → Type 0
 AreBytes xs = All (λ b. b < 256) xs

@@ -1,9 +1,9 @@
 ghost use Rattle.std.specs.Prelude.{◌≡◌, ◌≤◌, ◌+◌, ◌++◌, ℕ, List, take, length, map, true, false, []};
 ghost use Rattle.x12_bytes.specs.HeaderTest.{is_head};
 ghost use Rattle.env_index.specs.Words.{Extent, ChainFrom, IndexEntry, IndexValue, IsIndex};
-ghost use Rattle.batch_law.specs.Begun.{may_begin};
-ghost use Rattle.batch_law.specs.Batches.{ChainUpTo, WholeUpTo};
-ghost use Rattle.batch_law.specs.Moved.{IsIndexUpTo, moved_entry};
+ghost use Rattle.batch_cut.specs.Begun.{may_begin};
+ghost use Rattle.batch_cut.specs.Batches.{ChainUpTo, WholeUpTo};
+ghost use Rattle.batch_cut.specs.Moved.{IsIndexUpTo, moved_entry};
 
 /// A theorem, with nothing to run: a header whose last bytes aren't read yet shows in those that are.
 pub fn header_shows_early()

@@ -6,9 +6,9 @@ use Rattle.std.proofs.lemmas.List.{length-take-le, take-take}
 use Rattle.x12_bytes.specs.Header.{header_at}
 use Rattle.x12_bytes.specs.HeaderTest.{is_head, is_header}
 use Rattle.env_index.proofs.ForAbove.{head_within}
-use Rattle.batch_law.specs.Begun.{is_begun, may_begin}
-use Rattle.batch_law.proofs.Begin.{header_begun}
-use Rattle.batch_law.proofs.Split.{read_range, read_rest}
+use Rattle.batch_cut.specs.Begun.{is_begun, may_begin}
+use Rattle.batch_cut.proofs.BegunHeaders.{header_begun}
+use Rattle.batch_cut.proofs.Split.{read_range, read_rest}
 
 module _ (text : List ℕ) (c : ℕ) (within : c ≤ length text) where
   pub size : length (take c text) ≡ c

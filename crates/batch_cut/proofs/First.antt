@@ -12,7 +12,7 @@ use Rattle.x12_bytes.specs.declared.delims.Delims.{Delims}
 use Rattle.x12_segs.specs.Words.{Seg, segs_from, rest_from, view_of, kind_of}
 use Rattle.x12_segs.proofs.ForAbove.{IsCut, cut_found, segs_from-found, segs_from-none, rest_from-none, part_at-some}
 use Rattle.env_index.specs.Words.{Reach, behind, ends_interchange, onto_reach, reach_of}
-use Rattle.batch_law.proofs.Split.{from_rest}
+use Rattle.batch_cut.proofs.Split.{from_rest}
 
 -- where the first of these begins
 abbrev pub first_start : List Seg → Seg → ℕ

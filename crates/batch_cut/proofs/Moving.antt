@@ -12,7 +12,7 @@ use Rattle.x12_segs.specs.Kinds.{kind_of}
 use Rattle.x12_segs.specs.Words.{parts, moved_by, Seg, rest_from, rest_of, segs_from, without_line_ends, SegValue, view_of}
 use Rattle.x12_segs.proofs.ForAbove.{segs_of-moved}
 use Rattle.env_index.specs.Words.{Reach, behind, ends_interchange, onto_reach, reach_at, reach_from, reach_of}
-use Rattle.batch_law.specs.Moved.{moved_view}
+use Rattle.batch_cut.specs.Moved.{moved_view}
 
 pub drop_past : (before text : List ℕ) (q : ℕ) → drop (length before + q) (before ++ text) ≡ drop q text
 drop_past before text q =

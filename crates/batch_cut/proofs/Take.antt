@@ -13,10 +13,10 @@ use Rattle.x12_segs.specs.Words.{Seg, segs_from, rest_from, without_line_ends, v
 use Rattle.x12_segs.proofs.ForAbove.{IsFirstSeg, first_seg, StandInOrder, segs_in_order}
 use Rattle.env_index.specs.Words.{Reach, behind, ends_interchange, onto_reach, reach_of, reach_from}
 use Rattle.env_index.proofs.ForAbove.{head_letter, no_head_past}
-use Rattle.batch_law.proofs.First.{first_is, first_start, leads_to_head, reach_at_first}
-use Rattle.batch_law.proofs.Heads.{head_kept, none_more}
-use Rattle.batch_law.proofs.Split.{IsSplit, first_byte, split_at}
-use Rattle.batch_law.proofs.Whole.{low_within, reach_ends, reach_goes_on}
+use Rattle.batch_cut.proofs.First.{first_is, first_start, leads_to_head, reach_at_first}
+use Rattle.batch_cut.proofs.Heads.{head_kept, none_more}
+use Rattle.batch_cut.proofs.Split.{IsSplit, first_byte, split_at}
+use Rattle.batch_cut.proofs.Whole.{low_within, reach_ends, reach_goes_on}
 
 -- an interchange ends after what it begins with
 pub low_end : (text : List ℕ) (d : Delims) (low : ℕ) (segs : List Seg) (rest : Seg) → StandInOrder low segs rest (length text)

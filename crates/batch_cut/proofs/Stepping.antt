@@ -15,11 +15,11 @@ use Rattle.env_index.specs.Words.{DerivesInterchange, Extent, Reach, count_outsi
 use Rattle.env_index.specs.Words.{IsEntryOf, IsIndex, extent_of, extents_of, InterchangeEntry, HasSpans, span_of, GroupEntry}
 use Rattle.env_index.specs.Words.{Summary, summary_of}
 use Rattle.env_index.proofs.ForAbove.{chain_from_is_one}
-use Rattle.batch_law.specs.Batches.{ChainUpTo}
-use Rattle.batch_law.specs.Moved.{IsIndexUpTo, count_up_to, moved_entry, moved_extent}
-use Rattle.batch_law.proofs.Chains.{chain_ends, chain_joined, chain_order, chain_read, reach_kept}
-use Rattle.batch_law.proofs.Moving.{range_past}
-use Rattle.batch_law.proofs.MovingEntries.{chain_past, entries_past, extents_moved}
+use Rattle.batch_cut.specs.Batches.{ChainUpTo}
+use Rattle.batch_cut.specs.Moved.{IsIndexUpTo, count_up_to, moved_entry, moved_extent}
+use Rattle.batch_cut.proofs.Chains.{chain_ends, chain_joined, chain_order, chain_read, reach_kept}
+use Rattle.batch_cut.proofs.Moving.{range_past}
+use Rattle.batch_cut.proofs.MovingEntries.{chain_past, entries_past, extents_moved}
 
 -- a span of what is read is one of the text
 module _ (text : List ℕ) (c : ℕ) (within : c ≤ length text) where
@@ -128,12 +128,12 @@ count_past before text from to (x ∷ xs) =
 -- of what is read up to there, the same bytes stand outside
 count_read : (text : List ℕ) (c : ℕ) → c ≤ length text → (from : ℕ) (xs : List Extent) → ChainUpTo text from c xs
     → count_outside (take c text) from xs ≡ count_up_to text from c xs
-count_read text c within from [] chain = ap others (Rattle.batch_law.proofs.Split.read_rest text c from chain.0)
+count_read text c within from [] chain = ap others (Rattle.batch_cut.proofs.Split.read_rest text c from chain.0)
 count_read text c within from (x ∷ xs) chain =
     let last : x.end ≤ c = chain_order text x.end c xs chain.2 in
-    let start : x.start ≤ x.end = omega (arith, chain.1, Rattle.batch_law.proofs.Chains.end_behind text x.start chain.0.head) in
+    let start : x.start ≤ x.end = omega (arith, chain.1, Rattle.batch_cut.proofs.Chains.end_behind text x.start chain.0.head) in
     ap (λ (n : ℕ). n + count_outside (take c text) x.end xs)
-    (ap others (Rattle.batch_law.proofs.Split.read_range text c from x.start chain.0.behind (omega arith)))
+    (ap others (Rattle.batch_cut.proofs.Split.read_range text c from x.start chain.0.behind (omega arith)))
     ∙ ap (λ (n : ℕ). others (slice_range text from x.start) + n) (count_read text c within x.end xs chain.2)
 
 count_all : (text : List ℕ) (from : ℕ) (xs : List Extent) → count_up_to text from (length text) xs ≡ count_outside text from xs
