@@ -1,3 +1,15 @@
+pub mod Answering
 pub mod Bounds
+pub mod Closed
+pub mod Filing
 pub mod Found
+pub mod Going
+pub mod Lines
+pub mod Numbering
+pub mod Pairs
+pub mod Placed
+pub mod Sets
+pub mod Shown
 pub mod Steps
+pub mod Totals
+pub mod Written

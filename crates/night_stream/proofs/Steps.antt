@@ -14,12 +14,15 @@ use Rattle.number_register.specs.SeenNumbers.{HaveSeen}
 use Rattle.checked_text.specs.Settled.{faults_with, kept_keys, settled_faults}
 use Rattle.batch_cut.specs.Batches.{ChainUpTo}
 use Rattle.batch_cut.proofs.ForAbove.{chain_up_to_end}
-use Rattle.batch_night.proofs.ForAbove.{keys_behind, closed, night_starts, night_steps, batch_shown}
+use Rattle.night_stream.proofs.Closed.{closed}
+use Rattle.night_stream.proofs.Going.{night_starts, night_steps}
+use Rattle.night_stream.proofs.Numbering.{keys_behind}
+use Rattle.night_stream.proofs.Shown.{batch_shown}
 use Rattle.batch_cut.proofs.ForAbove.{stands_on}
 use Rattle.batch_cut.specs.Scouting.{Advances, Stands}
 use Rattle.batch_cut.specs.declared.scout.Advanced.{Advanced}
 use Rattle.batch_cut.specs.declared.scout.Inside.{Inside}
-use Rattle.batch_night.specs.UpTo.{IsBatchOf, IsNightUpTo, NightSoFar, behind_batch, none_yet}
+use Rattle.night_stream.specs.UpTo.{IsBatchOf, IsNightUpTo, NightSoFar, behind_batch, none_yet}
 use Rattle.night_writing.specs.Writing.{IsBatchWritten, IsClosedBy, WritingValue, nothing_written}
 use Rattle.night_writing.specs.declared.night.Night.{Night}
 use Rattle.stream_read.specs.Held.{HasRead, HeldValue}

@@ -8,7 +8,7 @@ use Rattle.night_writing.specs.declared.night.Night.{Night}
 use Rattle.number_register.specs.SeenNumbers.{HaveSeen}
 use Rattle.checked_text.specs.Settled.{kept_keys}
 use Rattle.batch_cut.specs.Scouting.{Stands}
-use Rattle.batch_night.specs.UpTo.{IsNightUpTo, NightSoFar}
+use Rattle.night_stream.specs.UpTo.{IsNightUpTo, NightSoFar}
 use Rattle.stream_read.specs.Held.{HeldValue}
 use Rattle.night_stream.specs.declared.stream.Reading.{Reading}
 

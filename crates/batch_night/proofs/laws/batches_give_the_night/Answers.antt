@@ -1,5 +1,0 @@
-use Rattle.batch_night.proofs.Closed.{closed}
-use Rattle.batch_night.proofs.laws.batches_give_the_night.Goals as goal
-
-pub returns : goal.returns
-returns c = λ text setup at n night is by. closed text setup at n night is by
