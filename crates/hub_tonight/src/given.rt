@@ -25,7 +25,7 @@ use std::sync::Wait;
 use std::thread::Threads;
 use std::time::Clock;
 use track_equal::tracks_are_one;
-use track_night::track_plain;
+use track_table::track_plain;
 
 /// The night of the input of `call` by `setup`.
 pub(crate) fn night_by<R>(

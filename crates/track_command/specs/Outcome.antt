@@ -8,7 +8,7 @@ use Rattle.night_command.specs.SetupFiles.{IsSetupAt}
 use Rattle.partner_setup.specs.Setup.{SetupValue}
 use Rattle.set_documents.specs.Documents.{DocumentValue}
 use Rattle.track_equal.specs.Table.{IsTableOf}
-use Rattle.track_night.specs.declared.track.Track.{Track}
+use Rattle.track_table.specs.declared.track.Track.{Track}
 use Rattle.track_command.specs.CommandLine.{AreOptions, AsksForText, guide_paths, option_value, values_of}
 use Rattle.track_command.specs.declared.command.Options.{Options}
 

@@ -26,7 +26,7 @@ use std::io::{Read, Write};
 use std::rt::Files;
 use stream_read::{Held, Source, StreamFault};
 use track_equal::tracks_are_one;
-use track_night::{Track, track_plain};
+use track_table::{Track, track_plain};
 
 /// More bytes than an input may have.
 const ALL: usize = 4_294_967_296;

@@ -18,12 +18,12 @@ use Rattle.mailbox.specs.Deliveries as old_deliveries
 use Rattle.mailbox.specs.Mailbox.{group_total}
 use Rattle.checked_text.specs.CheckedText.{CheckedInterchange}
 use Rattle.set_documents.specs.Documents.{DocumentValue}
-use Rattle.track_answers.specs.Noted.{notes_of}
-use Rattle.track_night.specs.Track.{tracked_by}
-use Rattle.track_rows.specs.Cells as old_cells
-use Rattle.track_rows.specs.Mailed as old_mailed
-use Rattle.track_rows.specs.Rows as old
-use Rattle.track_rows.specs.Hindrance as old_hindrance
+use Rattle.track_table.specs.Noted.{notes_of}
+use Rattle.track_table.specs.Track.{tracked_by}
+use Rattle.track_table.specs.Cells as old_cells
+use Rattle.track_table.specs.Mailed as old_mailed
+use Rattle.track_table.specs.Rows as old
+use Rattle.track_table.specs.Hindrance as old_hindrance
 use Rattle.night_definition.specs.Setup.{Setup}
 use Rattle.night_definition.specs.Answers.{AnsweredGroup, Answered}
 use Rattle.night_definition.specs.Acknowledgments as room_acks

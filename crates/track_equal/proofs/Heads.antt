@@ -17,8 +17,8 @@ use Rattle.judged_text.specs.Answered.{ta1_note}
 use Rattle.judged_text.specs.Judged.{JudgedValue, PlacedValue, is_fa, segments_in, verdict_by_standing}
 use Rattle.night_report.specs.Report.{ShownGroup}
 use Rattle.set_documents.specs.Documents.{DocumentValue}
-use Rattle.track_notes.specs.declared.notes.SetNotes.{SetNotes}
-use Rattle.track_rows.specs.Cells as old
+use Rattle.track_table.specs.declared.notes.SetNotes.{SetNotes}
+use Rattle.track_table.specs.Cells as old
 use Rattle.night_definition.specs.Header.{field}
 use Rattle.night_definition.specs.Segments.{Elements, element}
 use Rattle.night_definition.specs.Codes as room_codes

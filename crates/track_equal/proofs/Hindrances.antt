@@ -15,8 +15,8 @@ use Rattle.night_definition.specs.Acknowledgments.{is_delimiter}
 use Rattle.night_definition.specs.Deliveries.{Sent}
 use Rattle.night_equal_writing.specs.Deliveries.{IsSeen}
 use Rattle.night_equal_writing.proofs.ForAbove.{in_way, inner_are, own_is_none, segs_in}
-use Rattle.track_rows.specs.Hindrance as old
-use Rattle.track_rows.specs.declared.hindrance.Hindrance as layer
+use Rattle.track_table.specs.Hindrance as old
+use Rattle.track_table.specs.declared.hindrance.Hindrance as layer
 use Rattle.track_definition.specs.Hindrance as room
 
 -- what is found in one list, or else in another
@@ -138,7 +138,7 @@ hindrance_is to p s is =
 
 -- the fields that show it
 pub cells_are : (o : Option layer.Hindrance)
-    → Rattle.track_rows.specs.Cells.hindrance_cells o
+    → Rattle.track_table.specs.Cells.hindrance_cells o
     ≡ option_map_or (λ (h : room.Hindrance). (h.0 ∷ []) ∷ decimal h.1 ∷ []) (seen o) ([] ∷ [] ∷ [])
 cells_are None = refl
 cells_are (Some h) = refl

@@ -18,10 +18,10 @@ use Rattle.count_numbers.specs.Layout as layout
 use Rattle.checked_text.specs.Acknowledgments.{acknowledgment_group_count, has_reports, is_there}
 use Rattle.checked_text.specs.CheckedText.{CheckedInterchange, acknowledged_to, acknowledgment_of, groups_to, is_partner, recipient_by}
 use Rattle.checked_text.specs.CheckedText.{recipient_of}
-use Rattle.track_answers.specs.Noted.{notes_of}
-use Rattle.track_notes.specs.declared.notes.Notes.{Notes}
-use Rattle.track_rows.specs.Mailed as old
-use Rattle.track_rows.specs.Rows as old_rows
+use Rattle.track_table.specs.Noted.{notes_of}
+use Rattle.track_table.specs.declared.notes.Notes.{Notes}
+use Rattle.track_table.specs.Mailed as old
+use Rattle.track_table.specs.Rows as old_rows
 use Rattle.night_definition.specs.Elements.{numbered}
 use Rattle.night_definition.specs.Setup.{Setup}
 use Rattle.night_definition.specs.Answers.{AnsweredGroup, Answered}

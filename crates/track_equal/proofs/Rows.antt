@@ -16,14 +16,14 @@ use Rattle.judged_text.specs.Judged.{JudgedValue, PlacedValue, is_fa, is_refused
 use Rattle.checked_text.specs.CheckedText.{CheckedInterchange, judged}
 use Rattle.night_report.specs.Report.{ShownGroup, groups_shown, shown_from}
 use Rattle.set_documents.specs.Documents.{DocumentValue}
-use Rattle.track_notes.specs.Notes.{no_notes}
-use Rattle.track_notes.specs.declared.notes.GroupNotes.{GroupNotes}
-use Rattle.track_notes.specs.declared.notes.SetNotes.{SetNotes}
-use Rattle.track_answers.specs.Noted.{notes_of}
-use Rattle.track_answers.specs.Notes as old_notes
-use Rattle.track_night.specs.Track.{tracked_by}
-use Rattle.track_rows.specs.Cells as old_cells
-use Rattle.track_rows.specs.Rows as old
+use Rattle.track_table.specs.Notes.{no_notes}
+use Rattle.track_table.specs.declared.notes.GroupNotes.{GroupNotes}
+use Rattle.track_table.specs.declared.notes.SetNotes.{SetNotes}
+use Rattle.track_table.specs.Noted.{notes_of}
+use Rattle.track_table.specs.AnswerNotes as old_notes
+use Rattle.track_table.specs.Track.{tracked_by}
+use Rattle.track_table.specs.Cells as old_cells
+use Rattle.track_table.specs.Rows as old
 use Rattle.night_definition.specs.Elements.{numbered}
 use Rattle.night_definition.specs.Setup.{Setup}
 use Rattle.night_definition.specs.Answers.{Answer, AnsweredGroup, Answered}

@@ -18,10 +18,10 @@ use Rattle.night_report.specs.Clean as old_clean
 use Rattle.night_writing.specs.Night.{IsKnown, judgements}
 use Rattle.night_law.proofs.ForAbove.{IsThere}
 use Rattle.set_documents.specs.Documents.{DocumentValue}
-use Rattle.track_answers.specs.Noted.{notes_of}
-use Rattle.track_night.specs.Track.{IsTrack, tracked_by}
-use Rattle.track_night.specs.declared.track.Track.{Track}
-use Rattle.track_rows.specs.Rows as old
+use Rattle.track_table.specs.Noted.{notes_of}
+use Rattle.track_table.specs.Track.{IsTrack, tracked_by}
+use Rattle.track_table.specs.declared.track.Track.{Track}
+use Rattle.track_table.specs.Rows as old
 use Rattle.night_definition.specs.Envelopes.{Group, Set}
 use Rattle.night_definition.specs.Interchanges.{Interchange, text_of}
 use Rattle.night_definition.specs.Setup.{Judged, Setup, judged_after}

@@ -2,8 +2,8 @@
 use Rattle.std.specs.Prelude.{◌≡◌, List, ℕ}
 use Rattle.partner_setup.specs.Setup.{SetupValue}
 use Rattle.set_documents.specs.Documents.{DocumentValue}
-use Rattle.track_night.specs.Track.{IsTrack}
-use Rattle.track_night.specs.declared.track.Track.{Track}
+use Rattle.track_table.specs.Track.{IsTrack}
+use Rattle.track_table.specs.declared.track.Track.{Track}
 use Rattle.night_definition.specs.Night.{night_of}
 use Rattle.night_definition.specs.SetupFile.{is_clean}
 use Rattle.night_equal_text.specs.LookedUp.{seen_setup}

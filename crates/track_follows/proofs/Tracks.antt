@@ -5,8 +5,8 @@ use Rattle.partner_setup.specs.Setup.{SetupValue}
 use Rattle.set_documents.specs.Documents.{DocumentValue}
 use Rattle.night_writing.specs.Night.{IsNight}
 use Rattle.night_writing.specs.declared.night.Night.{Night}
-use Rattle.track_night.specs.Track.{IsTrack}
-use Rattle.track_night.specs.declared.track.Track.{Track}
+use Rattle.track_table.specs.Track.{IsTrack}
+use Rattle.track_table.specs.declared.track.Track.{Track}
 use Rattle.track_equal.specs.Table.{IsTableOf}
 use Rattle.track_equal.proofs.ForAbove.{Laws, clean_report, table_is}
 use Rattle.layers_exist.specs.Laws.{EachTextHasANight}

@@ -22,14 +22,14 @@ use Rattle.mailbox.specs.Deliveries.{is_blocked, is_deliverable, is_delivered_to
 use Rattle.mailbox.specs.Delivering.{is_sent_by}
 use Rattle.mailbox.specs.Deliveries.{outcome_by, outcomes_on}
 use Rattle.mailbox.proofs.ForAbove.{not_sent, to_target}
-use Rattle.track_notes.specs.declared.notes.GroupNotes.{GroupNotes}
-use Rattle.track_notes.specs.declared.notes.Notes.{Notes}
-use Rattle.track_rows.specs.Cells.{delivered_end, head_cells, held_end}
-use Rattle.track_rows.specs.Hindrance.{hindrance_to}
-use Rattle.track_rows.specs.Rows.{TrackedBy, delivered_of, groups_rows, interchange_rows, notes_at, other_end, outcome_cells, refused_row}
-use Rattle.track_rows.specs.Rows.{rows_from, set_rows, sets_at, sets_rows}
-use Rattle.track_rows.specs.Mailed.{acknowledgments_to, groups_to, mailed_behind}
-use Rattle.track_rows.proofs.ForAbove.{apart_from, groups_stay}
+use Rattle.track_table.specs.declared.notes.GroupNotes.{GroupNotes}
+use Rattle.track_table.specs.declared.notes.Notes.{Notes}
+use Rattle.track_table.specs.Cells.{delivered_end, head_cells, held_end}
+use Rattle.track_table.specs.Hindrance.{hindrance_to}
+use Rattle.track_table.specs.Rows.{TrackedBy, delivered_of, groups_rows, interchange_rows, notes_at, other_end, outcome_cells, refused_row}
+use Rattle.track_table.specs.Rows.{rows_from, set_rows, sets_at, sets_rows}
+use Rattle.track_table.specs.Mailed.{acknowledgments_to, groups_to, mailed_behind}
+use Rattle.track_table.proofs.ForAbove.{apart_from, groups_stay}
 use Rattle.track_law.specs.Entries.{AreRowsOf, Entry, OfRefused, OfSet, Row, each_or_nobody, entries_from, interchange_entries}
 use Rattle.track_law.specs.Entries.{set_entries}
 use Rattle.track_law.specs.Named.{Delivery, deliveries_to, delivery_of}

@@ -22,12 +22,12 @@ use Rattle.night_writing.specs.Night.{IsNight, box_of, judgements, sets_to}
 use Rattle.night_law.proofs.ForAbove.{at_index, chunks_all, known_once, numbered_all, pairs_weaker_at}
 use Rattle.files_law.proofs.ForAbove.{IsSent, sets_sent, sources_known}
 use Rattle.set_documents.specs.Documents.{DocumentValue}
-use Rattle.track_notes.specs.declared.notes.Notes.{Notes}
-use Rattle.track_answers.specs.Noted.{notes_of}
-use Rattle.track_rows.specs.Mailed.{acknowledgments_to, groups_to, is_to, mailed_behind}
-use Rattle.track_rows.specs.Rows.{TrackedBy, rows_from, track_text}
-use Rattle.track_night.specs.Track.{IsTrack, tracked_by}
-use Rattle.track_night.specs.declared.track.Track.{Track}
+use Rattle.track_table.specs.declared.notes.Notes.{Notes}
+use Rattle.track_table.specs.Noted.{notes_of}
+use Rattle.track_table.specs.Mailed.{acknowledgments_to, groups_to, is_to, mailed_behind}
+use Rattle.track_table.specs.Rows.{TrackedBy, rows_from, track_text}
+use Rattle.track_table.specs.Track.{IsTrack, tracked_by}
+use Rattle.track_table.specs.declared.track.Track.{Track}
 use Rattle.track_law.specs.Entries.{Row, entries_from}
 use Rattle.track_law.specs.Found.{found_in, numbers_of}
 use Rattle.track_law.specs.Named.{Delivery, IsNamedBy, NamesWhatIsFound, deliveries_to}

@@ -16,9 +16,9 @@ use Rattle.partner_setup.specs.declared.partner.Partner.{Partner}
 use Rattle.judged_text.specs.Judged.{PlacedValue}
 use Rattle.mailbox.specs.Mailbox.{group_total}
 use Rattle.mailbox.specs.Numbered.{NumberedValue, goes_with, groups_of, group_key_of, numbered_from, onto_groups}
-use Rattle.track_rows.specs.Mailed.{mailed_behind}
-use Rattle.track_rows.specs.Walking.{last_key}
-use Rattle.track_rows.proofs.ForAbove.{begins, group_total_snoc, last_snoc}
+use Rattle.track_table.specs.Mailed.{mailed_behind}
+use Rattle.track_table.specs.Walking.{last_key}
+use Rattle.track_table.proofs.ForAbove.{begins, group_total_snoc, last_snoc}
 use Rattle.track_law.proofs.Told.{numbers_told}
 
 abbrev Numbers : Type 0

@@ -7,9 +7,9 @@ use Rattle.night_report.specs.Clean.{is_clean}
 use Rattle.night_report.specs.Report.{report_text}
 use Rattle.night_law.proofs.ForAbove.{known_once}
 use Rattle.set_documents.specs.Documents.{DocumentValue}
-use Rattle.track_rows.specs.Rows.{track_text}
-use Rattle.track_night.specs.Track.{IsTrack, tracked_by}
-use Rattle.track_night.specs.declared.track.Track.{Track}
+use Rattle.track_table.specs.Rows.{track_text}
+use Rattle.track_table.specs.Track.{IsTrack, tracked_by}
+use Rattle.track_table.specs.declared.track.Track.{Track}
 
 parts_are_all : (a b : Track) → a.table ≡ b.table → a.clean ≡ b.clean → a ≡ b
 parts_are_all a b table clean =

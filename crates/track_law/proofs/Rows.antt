@@ -21,19 +21,19 @@ use Rattle.mailbox.proofs.ForAbove.{there_is}
 use Rattle.checked_text.specs.CheckedText.{CheckedInterchange, judged}
 use Rattle.night_writing.specs.Night.{judgements}
 use Rattle.set_documents.specs.Documents.{DocumentValue, document_number}
-use Rattle.track_notes.specs.declared.notes.GroupNotes.{GroupNotes}
-use Rattle.track_notes.specs.declared.notes.Notes.{Notes}
-use Rattle.track_answers.specs.Noted.{notes_of}
-use Rattle.track_rows.specs.Cells.{delivered_end, head_cells, held_end, interchange_cells, no_set_notes, plain_end}
-use Rattle.track_rows.specs.Cells.{shown, spaced_words}
-use Rattle.track_rows.specs.Hindrance.{hindrance_to}
-use Rattle.track_rows.specs.declared.hindrance.Hindrance.{Hindrance}
-use Rattle.track_rows.specs.Mailed.{acknowledgments_to, groups_to, mailed_behind}
-use Rattle.track_rows.specs.declared.mailed.Mailed.{Mailed}
-use Rattle.track_rows.specs.Rows.{TrackedBy, delivered_cells, delivered_of, groups_rows, held_cells, interchange_rows, notes_at, other_end}
-use Rattle.track_rows.specs.Rows.{outcome_cells, refused_row, rows_from, set_rows, sets_at, sets_rows}
-use Rattle.track_night.specs.Track.{IsTrack, tracked_by}
-use Rattle.track_night.specs.declared.track.Track.{Track}
+use Rattle.track_table.specs.declared.notes.GroupNotes.{GroupNotes}
+use Rattle.track_table.specs.declared.notes.Notes.{Notes}
+use Rattle.track_table.specs.Noted.{notes_of}
+use Rattle.track_table.specs.Cells.{delivered_end, head_cells, held_end, interchange_cells, no_set_notes, plain_end}
+use Rattle.track_table.specs.Cells.{shown, spaced_words}
+use Rattle.track_table.specs.Hindrance.{hindrance_to}
+use Rattle.track_table.specs.declared.hindrance.Hindrance.{Hindrance}
+use Rattle.track_table.specs.Mailed.{acknowledgments_to, groups_to, mailed_behind}
+use Rattle.track_table.specs.declared.mailed.Mailed.{Mailed}
+use Rattle.track_table.specs.Rows.{TrackedBy, delivered_cells, delivered_of, groups_rows, held_cells, interchange_rows, notes_at, other_end}
+use Rattle.track_table.specs.Rows.{outcome_cells, refused_row, rows_from, set_rows, sets_at, sets_rows}
+use Rattle.track_table.specs.Track.{IsTrack, tracked_by}
+use Rattle.track_table.specs.declared.track.Track.{Track}
 use Rattle.track_law.specs.Entries.{AreRowsOf, Entry, HasRowsOfSets, IsRefusedRow, IsRowOf, NamesSet, OfRefused, OfSet, Row}
 use Rattle.track_law.specs.Entries.{each_or_nobody, entries_from, field, interchange_entries, outcome_in, receiver_in, set_entries}
 

@@ -2,7 +2,7 @@
 use Rattle.std.proofs.Common.{ℕ, List, [], ◌∷◌}
 use Rattle.std.specs.Prelude.{decimal}
 use Rattle.x12_write.specs.Number.{padded_number}
-use Rattle.track_rows.specs.declared.mailed.Mailed.{Mailed}
+use Rattle.track_table.specs.declared.mailed.Mailed.{Mailed}
 
 abbrev pub numbers_told : Mailed → List (List ℕ)
 numbers_told m = padded_number 9 m.interchange ∷ decimal m.group ∷ padded_number 4 m.set ∷ []

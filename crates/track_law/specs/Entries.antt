@@ -12,8 +12,8 @@ use Rattle.mailbox.specs.Deliveries.{is_deliverable}
 use Rattle.checked_text.specs.CheckedText.{CheckedInterchange}
 use Rattle.night_writing.specs.Night.{IsKnown, judgements}
 use Rattle.csv_fields.specs.Csv.{table_text}
-use Rattle.track_rows.specs.Cells.{column_names}
-use Rattle.track_night.specs.declared.track.Track.{Track}
+use Rattle.track_table.specs.Cells.{column_names}
+use Rattle.track_table.specs.declared.track.Track.{Track}
 
 -- the fields of a row
 abbrev pub Row : Type 0

@@ -9,8 +9,8 @@ use Rattle.checked_text.specs.CheckedText.{CheckedInterchange}
 use Rattle.checked_text.specs.Pairs.{AreAllPairs}
 use Rattle.night_writing.specs.Night.{IsKnown, judgements, sets_to}
 use Rattle.csv_fields.specs.Csv.{table_text}
-use Rattle.track_rows.specs.Cells.{column_names}
-use Rattle.track_night.specs.declared.track.Track.{Track}
+use Rattle.track_table.specs.Cells.{column_names}
+use Rattle.track_table.specs.declared.track.Track.{Track}
 use Rattle.track_law.specs.Entries.{AreRowsOf, Entry, Row, entries_from, outcome_in}
 use Rattle.track_law.specs.Entries.{OfRefused, OfSet}
 use Rattle.track_law.specs.Found.{found_in, numbers_of}

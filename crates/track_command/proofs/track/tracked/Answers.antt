@@ -1,5 +1,5 @@
 use Rattle.std.proofs.lemmas.Result.{IfOk-weaker}
-use Rattle.track_night.specs.Track.{IsTrack}
+use Rattle.track_table.specs.Track.{IsTrack}
 use Rattle.track_equal.specs.Table.{IsTableOf}
 use Rattle.track_command.proofs.track.tracked.Goals as goal
 

@@ -1,6 +1,0 @@
-use Rattle.std.proofs.Common.{◌≡◌, drop}
-use Rattle.checked_text.specs.Acknowledgments.{has_any, present}
-use Rattle.track_answers.proofs.noted.has_any.Given as goal
-
-abbrev pub invariant-loop-group : goal.invariant-loop-group
-invariant-loop-group l = has_any (present (drop l.group-index l.groups)) ≡ has_any (present l.groups)

@@ -1,6 +1,0 @@
-use Rattle.std.proofs.Common.{◌≡◌}
-use Rattle.track_rows.specs.Hindrance.{byte_in_parts}
-use Rattle.track_rows.proofs.hindrance.byte_in_parts.Given as goal
-
-abbrev pub invariant-loop-part : goal.invariant-loop-part
-invariant-loop-part l = byte_in_parts l.from l.to l.part-iterator ≡ byte_in_parts l.from l.to l.fn.parts

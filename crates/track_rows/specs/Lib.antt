@@ -1,5 +1,0 @@
-pub mod Cells
-pub mod Hindrance
-pub mod Mailed
-pub mod Rows
-pub mod Walking

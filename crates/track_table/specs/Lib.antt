@@ -1,0 +1,9 @@
+pub mod AnswerNotes
+pub mod Cells
+pub mod Hindrance
+pub mod Mailed
+pub mod Noted
+pub mod Notes
+pub mod Rows
+pub mod Track
+pub mod Walking
