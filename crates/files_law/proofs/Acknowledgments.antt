@@ -30,10 +30,10 @@ use Rattle.partner_setup.specs.Sound.{IsSoundPartner}
 use Rattle.partner_setup.proofs.ForAbove.{sendable}
 use Rattle.night_law.proofs.ForAbove.{ge, gs, gs_elements, iea, readable_ge, readable_gs, readable_iea, readable_ta1, repeated, ta1}
 use Rattle.night_law.proofs.ForAbove.{trimmed_at}
-use Rattle.written_law.specs.Whole.{Elements, IsWholeGroup, IsWholeSet, Whole, WholeGroup, WholeSet, group_segments, is_gs, kind_by}
-use Rattle.written_law.specs.Whole.{set_segments, whole_segments}
-use Rattle.written_law.specs.Written.{BeginsOtherwise, IsWritten, Written, written_text}
-use Rattle.written_law.proofs.ForAbove.{decimal_read}
+use Rattle.files_law.specs.Whole.{Elements, IsWholeGroup, IsWholeSet, Whole, WholeGroup, WholeSet, group_segments, is_gs, kind_by}
+use Rattle.files_law.specs.Whole.{set_segments, whole_segments}
+use Rattle.files_law.specs.Written.{BeginsOtherwise, IsWritten, Written, written_text}
+use Rattle.files_law.proofs.Digits.{decimal_read}
 use Rattle.files_law.proofs.Rows.{IsRow, both_rows, no_row, one_row}
 
 -- a text is an interchange that is written, with no segment that begins as a header

@@ -14,9 +14,10 @@ use Rattle.checked_text.specs.CheckedText.{acknowledged_to, groups_to}
 use Rattle.night_writing.specs.declared.night.Night.{Night}
 use Rattle.night_writing.specs.Night.{IsNight, box_of, sets_to}
 use Rattle.night_law.proofs.ForAbove.{at_index, pairs_weaker_at}
-use Rattle.written_law.specs.Files.{HasInterchanges}
-use Rattle.written_law.specs.Written.{NoInnerHeads, texts_of}
-use Rattle.written_law.proofs.ForAbove.{interchanges_read, within_clear}
+use Rattle.files_law.specs.Files.{HasInterchanges}
+use Rattle.files_law.specs.Written.{NoInnerHeads, texts_of}
+use Rattle.files_law.proofs.Interchanges.{interchanges_read}
+use Rattle.files_law.proofs.Within.{within_clear}
 use Rattle.files_law.specs.Mailboxes.{AreMailboxesRead, mailbox_texts, texts_for}
 use Rattle.files_law.proofs.Mailboxes.{box_delivered}
 use Rattle.files_law.proofs.Placed.{sets_sent, sources_known}

@@ -31,12 +31,12 @@ use Rattle.hub_kinds.specs.Words.{is_number, is_word}
 use Rattle.x12_write.specs.Header.{header_text}
 use Rattle.ack_999.specs.ReadBack.{written_parts}
 use Rattle.partner_setup.proofs.ForAbove.{sendable}
-use Rattle.written_law.specs.Whole.{Elements, IsWholeGroup, IsWholeSet, Whole, WholeGroup, WholeSet, group_segments, is_gs, set_segments}
-use Rattle.written_law.specs.Whole.{kind_by, whole_segments}
+use Rattle.files_law.specs.Whole.{Elements, IsWholeGroup, IsWholeSet, Whole, WholeGroup, WholeSet, group_segments, is_gs, set_segments}
+use Rattle.files_law.specs.Whole.{kind_by, whole_segments}
 use Rattle.x12_segs.specs.declared.kind.Kind.TheVariants.{Ta1}
 use Rattle.files_law.specs.Mailboxes.{mailbox_texts}
-use Rattle.written_law.specs.Written.{IsWritten, Written, written_text}
-use Rattle.written_law.proofs.ForAbove.{decimal_read}
+use Rattle.files_law.specs.Written.{IsWritten, Written, written_text}
+use Rattle.files_law.proofs.Digits.{decimal_read}
 use Rattle.files_law.proofs.Acknowledgments.{iea_row}
 use Rattle.files_law.proofs.Faults.{kept_word}
 use Rattle.files_law.proofs.Numbers.{num_small}

@@ -33,10 +33,11 @@ use Rattle.night_law.specs.Told.{groups_told, is_told_to}
 use Rattle.night_law.proofs.ForAbove.{IsAnsweredGroup, IsGroupRead, IsRead, acknowledged_as_told, all_read, answered_anywhere, answers_here}
 use Rattle.night_law.proofs.ForAbove.{at_index, component, elements_undivided, group_quoted, groups_read, pairs_tail, pairs_weaker_at}
 use Rattle.night_law.proofs.ForAbove.{settled_headers, settled_sound}
-use Rattle.written_law.specs.Files.{HasInterchanges}
-use Rattle.written_law.specs.Whole.{IsWholeSet, WholeSet, set_segments}
-use Rattle.written_law.specs.Written.{BeginsOtherwise, IsWritten, Written, texts_of}
-use Rattle.written_law.proofs.ForAbove.{otherwise_clear, interchanges_read}
+use Rattle.files_law.specs.Files.{HasInterchanges}
+use Rattle.files_law.specs.Whole.{IsWholeSet, WholeSet, set_segments}
+use Rattle.files_law.specs.Written.{BeginsOtherwise, IsWritten, Written, texts_of}
+use Rattle.files_law.proofs.Clear.{otherwise_clear}
+use Rattle.files_law.proofs.Interchanges.{interchanges_read}
 use Rattle.files_law.specs.Acknowledgments.{AreAcknowledgmentsRead, HasAcknowledgments, acknowledgment_texts}
 use Rattle.files_law.proofs.Acknowledgments.{AreReports, AsWritten, interchange_written, ta1_row}
 use Rattle.files_law.proofs.Numbers.{few_groups, num_small}

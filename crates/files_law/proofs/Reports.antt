@@ -20,8 +20,8 @@ use Rattle.ack_999.specs.Report.{group_response, head_segments, segments_999, se
 use Rattle.ack_999.specs.Report as report
 use Rattle.ack_999.proofs.ForAbove.{readable-999}
 use Rattle.night_law.proofs.ForAbove.{trimmed_at}
-use Rattle.written_law.specs.Whole.{Elements, IsWholeSet, WholeSet, kind_by, is_st, set_segments}
-use Rattle.written_law.proofs.ForAbove.{padded_word}
+use Rattle.files_law.specs.Whole.{Elements, IsWholeSet, WholeSet, kind_by, is_st, set_segments}
+use Rattle.files_law.proofs.Digits.{padded_word}
 use Rattle.files_law.proofs.Rows.{IsOther, IsRow, list_row}
 
 -- a segment that may stand between ST and SE

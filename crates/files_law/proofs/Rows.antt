@@ -15,8 +15,8 @@ use Rattle.x12_write.specs.Undivided.{CanDivide}
 use Rattle.ack_999.specs.ReadBack.{written_parts}
 use Rattle.ack_999.proofs.ForAbove.{IsReadable}
 use Rattle.night_law.proofs.ForAbove.{IsBody, IsDivided, body_of, divided, divided_body, divided_parts}
-use Rattle.written_law.specs.Whole.{Elements}
-use Rattle.written_law.specs.Written.{BeginsOtherwise, IsOneSegment, segments_in_row}
+use Rattle.files_law.specs.Whole.{Elements}
+use Rattle.files_law.specs.Written.{BeginsOtherwise, IsOneSegment, segments_in_row}
 
 -- a text is made of segments with these elements, none of which begins as a header
 pub record IsRow (d : Delims) (text : List ℕ) (es : List Elements) : Type 0 where

@@ -19,8 +19,8 @@ use Rattle.mailbox.specs.Mailbox.{mapped, set_text}
 use Rattle.night_law.specs.SetsRead.{has_id}
 use Rattle.night_law.proofs.ForAbove as set
 use Rattle.night_law.proofs.ForAbove.{IsFit, IsMarked, all_both, divided_parts, inner_id}
-use Rattle.written_law.specs.Whole.{Elements, IsWholeSet, WholeSet, is_st, kind_by, set_segments}
-use Rattle.written_law.proofs.ForAbove.{padded_word}
+use Rattle.files_law.specs.Whole.{Elements, IsWholeSet, WholeSet, is_st, kind_by, set_segments}
+use Rattle.files_law.proofs.Digits.{padded_word}
 use Rattle.files_law.proofs.Texts.{IsMadeOf}
 
 -- an id that is none of a control segment but TA1

@@ -7,8 +7,8 @@ use Rattle.std.proofs.lemmas.List.Elements.{All-append, All-nil, All-weaker}
 use Rattle.x12_bytes.specs.declared.delims.Delims.{Delims}
 use Rattle.x12_segs.specs.Words.{parts}
 use Rattle.night_law.proofs.ForAbove.{IsBody, bodies_text}
-use Rattle.written_law.specs.Whole.{Elements}
-use Rattle.written_law.specs.Written.{IsOneSegment}
+use Rattle.files_law.specs.Whole.{Elements}
+use Rattle.files_law.specs.Written.{IsOneSegment}
 use Rattle.files_law.proofs.Rows.{IsRow}
 
 pub record IsMadeOf (d : Delims) (text : List ℕ) (es : List Elements) : Type 0 where

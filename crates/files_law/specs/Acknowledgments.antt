@@ -10,7 +10,7 @@ use Rattle.checked_text.specs.Pairs.{AreAllPairs}
 use Rattle.checked_text.specs.Settled.{settled_entries}
 use Rattle.night_writing.specs.Night.{IsKnown}
 use Rattle.night_law.specs.Quotable.{AreQuotable}
-use Rattle.written_law.specs.Files.{HasInterchanges}
+use Rattle.files_law.specs.Files.{HasInterchanges}
 
 -- the acknowledgments of some interchanges, each for itself, before which the partner is sent k acknowledgments and g groups
 abbrev pub acknowledgment_texts : SetupValue → Partner → (at : List ℕ) → (k g : ℕ) → List CheckedInterchange → List (List ℕ)

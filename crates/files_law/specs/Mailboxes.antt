@@ -9,8 +9,8 @@ use Rattle.mailbox.specs.Numbered.{NumberedValue, groups_of, numbered_from}
 use Rattle.checked_text.specs.CheckedText.{CheckedInterchange, acknowledged_to, groups_to}
 use Rattle.checked_text.specs.Pairs.{AreAllPairs}
 use Rattle.night_writing.specs.Night.{IsKnown, sets_to}
-use Rattle.written_law.specs.Files.{HasInterchanges}
-use Rattle.written_law.specs.Written.{NoInnerHeads}
+use Rattle.files_law.specs.Files.{HasInterchanges}
+use Rattle.files_law.specs.Written.{NoInnerHeads}
 
 -- delivered interchanges, each for itself, the first of them as number k of those that the partner is sent
 abbrev pub mailbox_texts : SetupValue → Partner → (at : List ℕ) → (k before : ℕ) → List (List NumberedValue) → List (List ℕ)

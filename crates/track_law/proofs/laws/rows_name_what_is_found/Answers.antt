@@ -1,5 +1,0 @@
-use Rattle.track_law.proofs.Joined.{named_by_night}
-use Rattle.track_law.proofs.laws.rows_name_what_is_found.Goals as goal
-
-pub returns : goal.returns
-returns c = named_by_night

@@ -1,5 +1,0 @@
-use Rattle.written_law.proofs.Clear.{otherwise_clear}
-use Rattle.written_law.proofs.laws.other_segments_are_clear.Goals as goal
-
-pub returns : goal.returns
-returns c = λ ws written all. otherwise_clear ws written all

@@ -1,5 +1,0 @@
-use Rattle.written_law.proofs.Lone.{written_alone}
-use Rattle.written_law.proofs.laws.written_interchange_is_alone.Goals as goal
-
-pub returns : goal.returns
-returns c = λ w written clear. written_alone w written clear

@@ -1,5 +1,0 @@
-use Rattle.written_law.proofs.Interchanges.{interchanges_read}
-use Rattle.written_law.proofs.laws.written_interchanges_are_read.Goals as goal
-
-pub returns : goal.returns
-returns c = λ ws written clear. interchanges_read ws written clear
