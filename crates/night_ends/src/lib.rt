@@ -24,7 +24,7 @@
 //!
 //! Source: own.
 //!
-//! Tests: `trial_ends`, `trial_track`.
+//! Tests: `trial_streams`, `trial_track`.
 #![tactic(auto)]
 
 mod creating;

@@ -12,7 +12,7 @@
 //!
 //! Source: own.
 //!
-//! Tests: `trial_ends`, `trial_nights`, `trial_streams`.
+//! Tests: `trial_nights`, `trial_streams`.
 #![tactic(auto)]
 
 mod held;

@@ -18,7 +18,7 @@ use std::test::Fail;
 use std::thread::Threads;
 use std::time::Clock;
 use std::{fs, io};
-use trial_ends::drive::{Drive, Log, Sheet};
+use trial_streams::drive::{Drive, Log, Sheet};
 
 /// A reader of bytes, at most seven at once, that fails after this many reads.
 #[derive(Drop)]

@@ -10,8 +10,8 @@ use std::io;
 use std::io::{ErrorKind, Read};
 use std::test::Fail;
 use track_command::track_in;
-use trial_ends::drive::{Drive, Log, Sheet};
-use trial_ends::parts::joined;
+use trial_streams::drive::{Drive, Log, Sheet};
+use trial_streams::parts::joined;
 
 /// Whether a text is the one that is wanted; if not, it is shown.
 pub(crate) fn same(alloc: Global, found: &[u8], wanted: &[u8]) -> Result<(), Fail> {
