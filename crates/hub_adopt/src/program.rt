@@ -9,7 +9,7 @@ use crate::adopt::adopt_on;
 use crate::adoption::Adoption;
 use crate::command::{Asked, Options, PROGRAM, read_words};
 use crate::refusal::Refusal;
-use hub_command::{Failure, Lockable, Told, lock_hub};
+use hub_command::{Failure, Lockable, Told, lock_hub, note, see_intact};
 use night_review::{ReviewFault, limit, moment_now};
 use night_shelf::FolderShelf;
 use program_frame::print_out;
@@ -85,7 +85,8 @@ fn adoption_of<'a>(options: &'a Options<'a>, limit: &'a [u8], clock: &'a [u8]) -
     }
 }
 
-/// Adopts the old nights that the options name, with the hub's lock.
+/// Adopts the old nights that `options` names, with the hub's lock, if the nights that the hub has are intact, and writes down which one is
+/// the last.
 fn adopt<R>(rt: &R, options: &Options<'_>) -> Result<Told, Refusal>
 where
     R: Files + AllocGlobal + Threads + Wait + Clock + Sync + Clone + Drop,
@@ -94,9 +95,12 @@ where
     ensures { IfOk result (program.AreNightsOfHub (request_as options.now)) }
 {
     let _lock = lock_hub(rt, options.hub)?;
+    see_intact(rt, options.hub)?;
     let limit = clock_text(limit(rt))?;
     let clock = clock_text(moment_now(rt))?;
     let mut shelf = FolderShelf::at(rt, options.hub);
     let adoption = adoption_of(options, limit.as_bytes(), clock.as_bytes());
-    adopt_on(rt, &mut shelf, &adoption)
+    let told = adopt_on(rt, &mut shelf, &adoption)?;
+    note(rt, options.hub)?;
+    Ok(told)
 }
