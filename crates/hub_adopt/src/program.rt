@@ -9,7 +9,7 @@ use crate::adopt::adopt_on;
 use crate::adoption::Adoption;
 use crate::command::{Asked, Options, PROGRAM, read_words};
 use crate::refusal::Refusal;
-use hub_command::{Failure, Lockable, Told, lock_hub, note, see_intact};
+use hub_command::{Failure, Lockable, Told, lock_hub, note_last_night, see_intact};
 use night_review::{ReviewFault, limit, moment_now};
 use night_shelf::FolderShelf;
 use program_frame::print_out;
@@ -101,6 +101,6 @@ where
     let mut shelf = FolderShelf::at(rt, options.hub);
     let adoption = adoption_of(options, limit.as_bytes(), clock.as_bytes());
     let told = adopt_on(rt, &mut shelf, &adoption)?;
-    note(rt, options.hub)?;
+    note_last_night(rt, options.hub)?;
     Ok(told)
 }

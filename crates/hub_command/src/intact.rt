@@ -36,7 +36,10 @@ pub fn see_intact<R: Files + AllocGlobal + Clone + Drop>(rt: &R, hub: &str) -> R
 }
 
 /// Writes down which night of the hub `hub` is the last.
-pub fn note<R: Files + AllocGlobal + Clone + Drop>(rt: &R, hub: &str) -> Result<(), Failure>
+pub fn note_last_night<R: Files + AllocGlobal + Clone + Drop>(
+    rt: &R,
+    hub: &str,
+) -> Result<(), Failure>
     ensures before { IfErr result IsBefore }
 {
     let named = copy_text(rt.alloc(), hub.as_bytes())?;

@@ -64,7 +64,7 @@ pub use chain::{Chain, chain_at};
 pub use command::{Asked, Options, is_of_hub, is_path, read_words};
 pub use day::Day;
 pub use failure::{Failure, Reported, print_named};
-pub use intact::{note, see_intact};
+pub use intact::{note_last_night, see_intact};
 pub use lock::{Lock, Lockable};
 pub use mistake::Mistake;
 pub use names::{folder_name, is_night_name};

@@ -10,7 +10,7 @@ use crate::command::{Asked, Options, read_words};
 use crate::failure::Failure;
 use crate::give_up::{give_up_last, give_up_tonight};
 use crate::init::init_hub;
-use crate::intact::{note, see_intact};
+use crate::intact::{note_last_night, see_intact};
 use crate::lock::{Lock, Lockable};
 use crate::papers::path_in;
 use crate::run::run_on;
@@ -184,7 +184,7 @@ where
     let mut shelf = FolderShelf::at(rt, hub);
     let setting = setting_of(hub, options, limit.as_bytes(), clock.as_bytes());
     let told = run_on(rt, &mut shelf, &setting)?;
-    note(rt, hub)?;
+    note_last_night(rt, hub)?;
     Ok(told)
 }
 
