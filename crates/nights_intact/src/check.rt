@@ -99,8 +99,10 @@ fn check_last<R: Files + AllocGlobal>(
     ensures there { OnOk result (intact.IsLastThere hub.now marks.now) }
     ensures fault { IfErr result (intact.IsFaultOf hub.now marks.now) }
 {
-    let file = last_file(rt, hub)?;
-    check_named(rt.alloc(), hub, marks, &file)
+    match last_file(rt, hub) {
+        Ok(file) => check_named(rt.alloc(), hub, marks, &file),
+        Err(fault) => Err(fault),
+    }
 }
 
 /// Sees to it that the records of the nights `marks` of `hub` go on.
