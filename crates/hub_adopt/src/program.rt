@@ -9,7 +9,7 @@ use crate::adopt::adopt_on;
 use crate::adoption::Adoption;
 use crate::command::{Asked, Options, PROGRAM, read_words};
 use crate::refusal::Refusal;
-use hub_command::{Failure, Lockable, Told, lock_hub, note_last_night, see_intact};
+use hub_command::{Failure, Lockable, Told, lock_hub};
 use night_review::{ReviewFault, limit, moment_now};
 use night_shelf::FolderShelf;
 use program_frame::print_out;
@@ -85,8 +85,7 @@ fn adoption_of<'a>(options: &'a Options<'a>, limit: &'a [u8], clock: &'a [u8]) -
     }
 }
 
-/// Adopts the old nights that `options` names, with the hub's lock, if the nights that the hub has are intact, and writes down which one is
-/// the last.
+/// Adopts the old nights that the options name, with the hub's lock.
 fn adopt<R>(rt: &R, options: &Options<'_>) -> Result<Told, Refusal>
 where
     R: Files + AllocGlobal + Threads + Wait + Clock + Sync + Clone + Drop,
@@ -95,12 +94,9 @@ where
     ensures { IfOk result (program.AreNightsOfHub (request_as options.now)) }
 {
     let _lock = lock_hub(rt, options.hub)?;
-    see_intact(rt, options.hub)?;
     let limit = clock_text(limit(rt))?;
     let clock = clock_text(moment_now(rt))?;
     let mut shelf = FolderShelf::at(rt, options.hub);
     let adoption = adoption_of(options, limit.as_bytes(), clock.as_bytes());
-    let told = adopt_on(rt, &mut shelf, &adoption)?;
-    note_last_night(rt, options.hub)?;
-    Ok(told)
+    adopt_on(rt, &mut shelf, &adoption)
 }

@@ -20,9 +20,6 @@ rest_of (failure.NotSound report) = codes "nighthub_day: with this night the nig
 rest_of (failure.AllAside lines) = codes "nighthub_day: each file is set aside, so no night is made\n"
 rest_of (failure.Chain path) = codes " isn't what a night leaves\n"
 rest_of (failure.Given path) = codes " can't be moved to given-up\n"
-rest_of (failure.Gone path) = codes " was the last night, and isn't there\n"
-rest_of (failure.Records report) = codes "nighthub_day: the nights aren't what their records say, so no night is made\n"
-rest_of (failure.Noted hub) = codes ": its file last can't be written\n"
 rest_of failure.NoNight = codes "nighthub_day: there is no night to give up\n"
 rest_of failure.TooMany = codes "nighthub_day: a hub has no more than 999999 nights\n"
 rest_of failure.Record = codes "nighthub_day: the name of a guide file can't be written down\n"
@@ -45,8 +42,6 @@ path_in (failure.Refused path) = Some path
 path_in (failure.Setup hub) = Some hub
 path_in (failure.Chain path) = Some path
 path_in (failure.Given path) = Some path
-path_in (failure.Gone path) = Some path
-path_in (failure.Noted hub) = Some hub
 path_in _ = None
 
 -- a line names a path, after the program
@@ -54,11 +49,10 @@ abbrev pub named : (path : Option (List ℕ)) → (rest : List ℕ) → List ℕ
 named None rest = rest
 named (Some path) rest = codes "nighthub_day: " ++ (shown path ++ rest)
 
--- the lines of a check come before that of a night that isn't kept, and those on files or records before that of a night that isn't made
+-- the lines of a check come before that of a night that isn't kept, and those on the files before that of a night that isn't made
 abbrev pub report_in : Failure → List ℕ
 report_in (failure.NotSound report) = report
 report_in (failure.AllAside lines) = lines
-report_in (failure.Records report) = report
 report_in _ = []
 
 -- what is printed on standard error
@@ -78,9 +72,6 @@ status_of (failure.NotSound report) = 78
 status_of (failure.AllAside lines) = 78
 status_of (failure.Chain path) = 78
 status_of (failure.Given path) = 5
-status_of (failure.Gone path) = 78
-status_of (failure.Records report) = 78
-status_of (failure.Noted hub) = 5
 status_of failure.NoNight = 78
 status_of failure.TooMany = 78
 status_of failure.Record = 78

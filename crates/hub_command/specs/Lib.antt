@@ -4,7 +4,6 @@ pub mod Changed
 pub mod CommandLine
 pub mod Day
 pub mod Failure
-pub mod Intact
 pub mod Lines
 pub mod Made
 pub mod Names

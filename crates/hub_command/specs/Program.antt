@@ -4,7 +4,6 @@ use Rattle.std.specs.Io.KnownBytes.{Appends}
 use Rattle.clap.specs.Words.{Text}
 use Rattle.hub_command.specs.Asked.{text_of}
 use Rattle.hub_command.specs.CommandLine.{AsksForText, Request, RunRequest, give_up, init, request_in, run}
-use Rattle.hub_command.specs.Intact.{AreIntactAt}
 use Rattle.hub_command.specs.Lines.{cleared_text, given_up_text, init_text}
 use Rattle.hub_command.specs.Run.{IsMadeAt, IsThere, IsToldAgain, IsToldOf}
 use Rattle.hub_command.specs.declared.command.Options.{Options}
@@ -44,7 +43,6 @@ IsMadeOrThere setting told =
 pub record IsNightRun (hub : Text) (request : RunRequest) (told : Told) : Type 0 where
   pub setting : Setting
   pub setting_is : IsSettingOf hub request setting
-  pub intact : AreIntactAt hub
   pub done : IsMadeOrThere setting told
 
 -- what was under way is removed; with `--not-sent` the last night is moved aside

@@ -11,7 +11,6 @@ use hub_kinds::{NoMemory, Text, copy_text};
 use night_marks::in_order;
 use night_review::nights_at;
 use night_shelf::{FolderShelf, Shelf, ShelfFault};
-use nights_intact::{forget_last, note_last};
 use std::alloc::Global;
 use std::fs::OpenFile;
 use std::rt::Files;
@@ -38,11 +37,8 @@ pub(crate) fn give_up_tonight<R: Files + AllocGlobal + Clone + Drop>(
     Ok(Told { text, status: 0 })
 }
 
-/// The names of the last night, and of the one before it, if there is one.
-fn last_names<R: Files + AllocGlobal + Clone + Drop>(
-    rt: &R,
-    hub: &str,
-) -> Result<(Text, Option<Text>), Failure>
+/// The name of the last night.
+fn last_name<R: Files + AllocGlobal + Clone + Drop>(rt: &R, hub: &str) -> Result<Text, Failure>
     ensures before { IfErr result IsBefore }
 {
     let named = copy_text(rt.alloc(), hub.as_bytes())?;
@@ -53,32 +49,9 @@ fn last_names<R: Files + AllocGlobal + Clone + Drop>(
         return Err(Failure::Nights(named));
     };
     let order = in_order(rt.alloc(), marks.as_slice())?;
-    match order.as_slice() {
-        [] => Err(Failure::NoNight),
-        [one] => Ok((copy_text(rt.alloc(), one.name.as_slice())?, None)),
-        [.., before, last] => Ok((
-            copy_text(rt.alloc(), last.name.as_slice())?,
-            Some(copy_text(rt.alloc(), before.name.as_slice())?),
-        )),
-    }
-}
-
-/// The name of the last night of the hub `hub`.
-pub(crate) fn last_name<R: Files + AllocGlobal + Clone + Drop>(
-    rt: &R,
-    hub: &str,
-) -> Result<Text, Failure>
-    ensures before { IfErr result IsBefore }
-{
-    let (last, _) = last_names(rt, hub)?;
-    Ok(last)
-}
-
-/// Writes down which night of the hub `hub` is the last once the present one is given up.
-fn note_before<R: Files + AllocGlobal>(rt: &R, hub: &str, before: Option<&Text>) -> io::Result<()> {
-    match before {
-        Some(name) => note_last(rt, hub, name.as_slice()),
-        None => forget_last(rt, hub),
+    match order.last() {
+        None => Err(Failure::NoNight),
+        Some(mark) => Ok(copy_text(rt.alloc(), mark.name.as_slice())?),
     }
 }
 
@@ -108,7 +81,7 @@ fn text_of(alloc: Global, hub: &[u8], name: &[u8]) -> Result<Vec<u8>, NoMemory>
     Ok(text)
 }
 
-/// Moves the last night of the hub `hub` aside, of which nothing was sent: the night before it is the last again.
+/// Moves the last night aside, of which nothing was sent: the night before it is the last again.
 pub(crate) fn give_up_last<R: Files + AllocGlobal + Clone + Drop>(
     rt: &R,
     hub: &str,
@@ -117,11 +90,8 @@ pub(crate) fn give_up_last<R: Files + AllocGlobal + Clone + Drop>(
     ensures status { IfOk result (λ told. told.status ≡ 0) }
     ensures before { IfErr result IsBefore }
 {
-    let (name, before) = last_names(rt, hub)?;
+    let name = last_name(rt, hub)?;
     let text = text_of(rt.alloc(), hub.as_bytes(), name.as_slice())?;
-    if note_before(rt, hub, before.as_ref()).is_err() {
-        return Err(Failure::Noted(copy_text(rt.alloc(), hub.as_bytes())?));
-    }
     match move_night(rt, hub, name.as_slice()) {
         Ok(()) => Ok(Told { text, status: 0 }),
         Err(_) => Err(Failure::Given(name)),

@@ -10,7 +10,6 @@ use crate::command::{Asked, Options, read_words};
 use crate::failure::Failure;
 use crate::give_up::{give_up_last, give_up_tonight};
 use crate::init::init_hub;
-use crate::intact::{note_last_night, see_intact};
 use crate::lock::{Lock, Lockable};
 use crate::papers::path_in;
 use crate::run::run_on;
@@ -166,8 +165,7 @@ fn setting_of<'a>(
     }
 }
 
-/// Runs the night that `options` name of the hub `hub`, with its lock, if the nights that it has are intact, and writes down which one is
-/// the last.
+/// Runs the night that the options name, with the hub's lock.
 fn run_hub<R>(rt: &R, hub: &str, options: &Options<'_>) -> Result<Told, Failure>
 where
     R: Files + AllocGlobal + Threads + Wait + Clock + Sync + Clone + Drop,
@@ -178,14 +176,11 @@ where
     ensures before { IfErr result IsUnprinted }
 {
     let _lock = lock_hub(rt, hub)?;
-    see_intact(rt, hub)?;
     let limit = clock_text(limit(rt))?;
     let clock = clock_text(moment_now(rt))?;
     let mut shelf = FolderShelf::at(rt, hub);
     let setting = setting_of(hub, options, limit.as_bytes(), clock.as_bytes());
-    let told = run_on(rt, &mut shelf, &setting)?;
-    note_last_night(rt, hub)?;
-    Ok(told)
+    run_on(rt, &mut shelf, &setting)
 }
 
 /// A text of the clock.
