@@ -1,7 +1,7 @@
 //! Whether the nights of a hub are all there, and are what their records say, before a run adds one.
 //!
-//! A hub's file `last` is to name the night that was the last when a run ended. It is outside the folder of nights: if that folder's disk isn't
-//! mounted, or was restored from an older copy, the night that it names isn't there.
+//! A hub's file `last` is to name the night that was the last when a run ended. It is outside the folder of nights: if that folder's disk
+//! isn't mounted, or was restored from an older copy, the night that it names isn't there.
 //!
 //! Proved:
 //! - `check_intact` accepts nights exactly if the night that `last` names is among them, or the system said that nothing is at its path, and
