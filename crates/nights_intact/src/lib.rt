@@ -4,8 +4,9 @@
 //! isn't mounted, or was restored from an older copy, the night that it names isn't there.
 //!
 //! Proved:
-//! - `check_intact` accepts nights exactly if the night that `last` names is among them, or the system said that nothing is at its path, and
-//!   their records go on: each has the next number, names the record before it, and lists the files in its night's folder with their sums;
+//! - `check_intact` accepts nights exactly if the night that `last` names is among them, or the system said that nothing is at its path,
+//!   and their records go on: each has the next number, names the record before it, and lists the files in its night's folder with their
+//!   sums;
 //! - it names the first cause for which it refuses them: the night that is gone, or the lines on their records.
 //!
 //! Nothing writes the file `last` yet, and no program calls this crate.
