@@ -1,10 +1,10 @@
 /* Stands between a program and the C library, counts its calls and lets the one of a given number fail. `.ci/gate.py` builds it.
  *
  * FAIL_FOLDER    calls at paths of this folder count, and at paths that are relative
- * FAIL_KINDS     which calls count: i an open for reading, o one for writing, r read, w write, s fsync, c close, n rename, 1 a write to
- *                standard output
+ * FAIL_KINDS     which calls count: i an open for reading, o one for writing, r read, w write, s fsync, c close, n rename, d mkdir, u unlink
+ *                or rmdir, 1 a write to standard output
  * FAIL_CALL      the number of the call that fails, from 1 on; 0 is none
- * FAIL_WITH      the fault of the system that it gives (errno)
+ * FAIL_WITH      the fault of the system that it gives (errno); 0 kills the process in place of the call
  * REFUSE_REQUEST the number of the request for memory that is refused, from 1 on; 0 is none
  * COUNT_THREADS  tells of each thread that is started
  *
@@ -15,12 +15,14 @@
 #include <errno.h>
 #include <fcntl.h>
 #include <pthread.h>
+#include <signal.h>
 #include <stdarg.h>
 #include <stdatomic.h>
 #include <stddef.h>
 #include <stdio.h>
 #include <stdlib.h>
 #include <string.h>
+#include <sys/stat.h>
 #include <sys/types.h>
 #include <unistd.h>
 #define NEXT(name, type) static __typeof__(type) *next; if (!next) next = (__typeof__(type) *)dlsym(RTLD_NEXT, name)
@@ -52,6 +54,7 @@ static int fails(char shown, const char *path) {
     tell(line);
     if (atomic_fetch_add(&calls, 1) + 1 != number_of("FAIL_CALL")) return 0;
     errno = (int)number_of("FAIL_WITH");
+    if (!errno) kill(getpid(), SIGKILL);
     return 1;
 }
 
@@ -94,6 +97,17 @@ int rename(const char *from, const char *to) {
 int renameat(int a, const char *from, int b, const char *to) {
     NEXT("renameat", int (int, const char *, int, const char *));
     return counts('n') && fails('n', to) ? -1 : next(a, from, b, to);
+}
+int mkdir(const char *path, mode_t mode) { NEXT("mkdir", int (const char *, mode_t)); return counts('d') && fails('d', path) ? -1 : next(path, mode); }
+int mkdirat(int folder, const char *path, mode_t mode) {
+    NEXT("mkdirat", int (int, const char *, mode_t));
+    return counts('d') && fails('d', path) ? -1 : next(folder, path, mode);
+}
+int rmdir(const char *path) { NEXT("rmdir", int (const char *)); return counts('u') && fails('u', path) ? -1 : next(path); }
+int unlink(const char *path) { NEXT("unlink", int (const char *)); return counts('u') && fails('u', path) ? -1 : next(path); }
+int unlinkat(int folder, const char *path, int how) {
+    NEXT("unlinkat", int (int, const char *, int));
+    return counts('u') && fails('u', path) ? -1 : next(folder, path, how);
 }
 int close(int fd) {
     NEXT("close", int (int));

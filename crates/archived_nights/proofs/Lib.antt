@@ -1,1 +1,7 @@
 mod Archiving
+mod Delivering
+mod Entered
+mod Leaving
+mod Made
+mod Naming
+mod Reading

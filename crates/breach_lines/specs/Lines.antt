@@ -109,6 +109,8 @@ file_name file.Input = codes "from/in.x12"
 file_name file.InputSum = codes "from/in.sum"
 file_name file.Again = codes "from/again.csv"
 file_name file.Out = codes "out"
+file_name file.Delivered = codes "delivered.csv"
+file_name file.Addresses = codes "addresses.csv"
 
 abbrev pub state_words : FileState → List ℕ
 state_words state.Unread = codes " can't be read"

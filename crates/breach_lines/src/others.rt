@@ -51,6 +51,8 @@ fn file_name(file: NightFile) -> &'static str
         NightFile::InputSum => "from/in.sum",
         NightFile::Again => "from/again.csv",
         NightFile::Out => "out",
+        NightFile::Delivered => "delivered.csv",
+        NightFile::Addresses => "addresses.csv",
     }
 }
 

@@ -1,4 +1,4 @@
--- An old night made again (own): by its own files, after the nights that the hub has, and it gives what it gave.
+-- An old night made again (own): by the files in its folder, after the nights that the hub has, and it gives what it gave.
 use Rattle.std.specs.Prelude.{◌≡◌, ℕ, true, false, List, [], ◌∷◌, Some, codes, length}
 use Rattle.std.specs.List.Sorted.{IsPermutation}
 use Rattle.day_files.specs.Listing.{listing_of}
@@ -41,6 +41,7 @@ pub record IsSettingAgain (adoption : Adoption) (from : List ℕ) (mark : NightM
   pub sharing_is : setting.sharing ≡ adoption.sharing
   pub limit_is : setting.limit.now ≡ adoption.limit.now
   pub clock_is : setting.clock.now ≡ adoption.clock.now
+  pub program_is : setting.program.now ≡ adoption.program.now
 
 -- an input at its path, as a file of a day
 abbrev pub day_file : (path input : List ℕ) → DayFile
@@ -80,7 +81,7 @@ pub record GivesTheSame (adoption : Adoption) (mark : NightMark) (given : List N
   pub old_are : AreGivenIn (old_folder adoption mark) old
   pub same : IsPermutation given old
 
--- an old night is made again by its own files, after the nights of the hub, which are `count`, and gives the same
+-- an old night is made again by the files in its folder, after the nights of the hub, which are `count`, and gives the same
 pub record IsMadeAgain (adoption : Adoption) (count : ℕ) (mark : NightMark) (made : Made) : Type 0 where
   pub marks : List NightMark
   pub marks_are : AreNights (hub_nights adoption) marks

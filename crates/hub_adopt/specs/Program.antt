@@ -4,6 +4,8 @@ use Rattle.std.specs.Io.KnownBytes.{Appends}
 use Rattle.clap.specs.Words.{Text}
 use Rattle.night_shelf.specs.Shelf.{Place}
 use Rattle.program_frame.specs.Matching.{AsksForText}
+use Rattle.hub_command.specs.Intact.{AreIntactAt}
+use Rattle.hub_command.specs.Programs.{IsProgramLine}
 use Rattle.hub_command.specs.declared.told.Told.{Told}
 use Rattle.hub_adopt.specs.Adopt.{IsDone}
 use Rattle.hub_adopt.specs.CommandLine.{Request, adopt_app, request_in}
@@ -20,14 +22,20 @@ pub record IsAdoptionOf (request : Request) (adoption : Adoption) : Type 0 where
   pub nights_are : adoption.nights.now ≡ request.nights
   pub workers_are : adoption.sharing.workers ≡ request.workers
   pub piece_is : adoption.sharing.piece ≡ request.piece
+  pub program_is : IsProgramLine adoption.program.now
 
--- each old night is a night of the hub
-pub record AreNightsOfHub (request : Request) (told : Told) : Type 0 where
+-- each old night is made a night of the hub
+pub record AreMadeNights (request : Request) (told : Told) : Type 0 where
   pub adoption : Adoption
   pub adoption_is : IsAdoptionOf request adoption
   pub old : Option Place
   pub new : Option Place
   pub done : IsDone adoption old new told
+
+-- each old night is a night of the hub, whose own nights were intact
+pub record AreNightsOfHub (request : Request) (told : Told) : Type 0 where
+  pub intact : AreIntactAt request.hub
+  pub made : AreMadeNights request told
 
 -- the old nights that the arguments ask for are nights of the hub, and their lines are printed
 pub record IsDoneAndTold (words : List Text) (was is : Option (List ℕ)) : Type 0 where
@@ -47,7 +55,7 @@ pub record IsShownText (words : List Text) (was is : Option (List ℕ)) : Type 0
 abbrev pub IsRun : (words : List Text) → (was is : Option (List ℕ)) → Type 0
 IsRun words was is = IsDoneAndTold words was is ⊎ IsShownText words was is
 
--- Private. What is told is printed.
+-- Private. The lines are printed.
 abbrev pub IsTold : Result Told Refusal → (was is : Option (List ℕ)) → Type 0
 IsTold (Ok told) was is = Appends was is told.text.items
 IsTold (Err refusal) was is = ⊥

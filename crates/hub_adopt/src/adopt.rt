@@ -209,7 +209,7 @@ fn check_all<R: Files + AllocGlobal + Clone + Drop>(
 /// Makes each old night of a folder a night of the hub, in their order: it is made again by its own files, compared with what the old night
 /// gave, and kept on the shelf of the hub. A night that is there already isn't made again. What is given is printed. Nothing is kept unless
 /// all old nights continue. A stop at any moment, and a failure, leave the nights as they were, or with some first old nights; the same
-/// call goes on from there.
+/// call continues from there.
 pub fn adopt_on<R, S>(rt: &R, shelf: &mut S, adoption: &Adoption<'_>) -> Result<Told, Refusal>
 where
     R: Files + AllocGlobal + Threads + Wait + Clock + Sync + Clone + Drop,

@@ -13,4 +13,6 @@ pub struct Adoption<'a> {
     pub limit: &'a [u8],
     /// What the clock says.
     pub clock: &'a [u8],
+    /// The sum of the program that makes the nights.
+    pub program: &'a [u8],
 }

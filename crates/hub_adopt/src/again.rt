@@ -92,6 +92,7 @@ fn setting_of<'a>(
         sharing: adoption.sharing,
         limit: adoption.limit,
         clock: adoption.clock,
+        program: adoption.program,
     })
 }
 
@@ -116,7 +117,7 @@ where
     Ok(made_of(rt, rt.alloc(), &setting, older, &papers, day, b"")?)
 }
 
-/// The night of `mark` that is made again after `older`, by its own files.
+/// The night of `mark` that is made again after `older`, by the files in its folder.
 fn made_after<R>(
     rt: &R,
     adoption: &Adoption<'_>,

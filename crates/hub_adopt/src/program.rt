@@ -2,6 +2,7 @@ ghost use Rattle.std.specs.Prelude.{◌≡◌, ◌≢◌, ◌≤◌, ◌⊎◌, 
 ghost use Rattle.std.specs.Io.KnownBytes.{Appends};
 ghost use Rattle.night_command.specs.CommandLine.{CanShare};
 ghost use Rattle.hub_adopt.specs.Asked.{request_as};
+ghost use Rattle.hub_command.specs.Programs.{IsProgramLine};
 ghost use Rattle.hub_adopt.specs.CommandLine.{IsCommandLine};
 ghost use Rattle.hub_adopt.specs.Program as program;
 
@@ -9,7 +10,7 @@ use crate::adopt::adopt_on;
 use crate::adoption::Adoption;
 use crate::command::{Asked, Options, PROGRAM, read_words};
 use crate::refusal::Refusal;
-use hub_command::{Failure, Lockable, Told, lock_hub};
+use hub_command::{Failure, Lockable, Told, lock_hub, note_last_night, program_line, see_intact};
 use night_review::{ReviewFault, limit, moment_now};
 use night_shelf::FolderShelf;
 use program_frame::print_out;
@@ -43,7 +44,7 @@ where
     }
 }
 
-/// Prints what is told, or reports the refusal, and gives the status.
+/// Prints the lines, or reports the refusal, and gives the status.
 fn end<O: Write, E: Write>(
     alloc: Global,
     told: Result<Told, Refusal>,
@@ -71,8 +72,14 @@ fn clock_text(text: Result<String, ReviewFault>) -> Result<String, Failure> {
     }
 }
 
-/// The adoption that the options name.
-fn adoption_of<'a>(options: &'a Options<'a>, limit: &'a [u8], clock: &'a [u8]) -> Adoption<'a>
+/// The adoption that the options name, by the program of the sum `sum`.
+fn adoption_of<'a>(
+    options: &'a Options<'a>,
+    limit: &'a [u8],
+    clock: &'a [u8],
+    sum: &'a [u8],
+) -> Adoption<'a>
+    requires program { IsProgramLine sum.now }
     ensures asked { program.IsAdoptionOf (request_as options.entry.now) result }
     ensures sharing { result.sharing ≡ options.entry.now.sharing }
 {
@@ -82,10 +89,32 @@ fn adoption_of<'a>(options: &'a Options<'a>, limit: &'a [u8], clock: &'a [u8]) -
         sharing: options.sharing,
         limit,
         clock,
+        program: sum,
     }
 }
 
-/// Adopts the old nights that the options name, with the hub's lock.
+/// Makes the old nights that `options` names nights of the hub.
+fn adopt_old<R>(rt: &R, options: &Options<'_>) -> Result<Told, Refusal>
+where
+    R: Files + AllocGlobal + Threads + Wait + Clock + Sync + Clone + Drop,
+    requires sharing { CanShare options.now.sharing }
+    ensures { IfOk result (program.AreMadeNights (request_as options.now)) }
+{
+    let limit = clock_text(limit(rt))?;
+    let clock = clock_text(moment_now(rt))?;
+    let program = program_line(rt)?;
+    let mut shelf = FolderShelf::at(rt, options.hub);
+    let adoption = adoption_of(
+        options,
+        limit.as_bytes(),
+        clock.as_bytes(),
+        program.as_slice(),
+    );
+    adopt_on(rt, &mut shelf, &adoption)
+}
+
+/// Adopts the old nights that `options` names, with the hub's lock, if the nights that the hub has are intact, and writes down which one is
+/// the last.
 fn adopt<R>(rt: &R, options: &Options<'_>) -> Result<Told, Refusal>
 where
     R: Files + AllocGlobal + Threads + Wait + Clock + Sync + Clone + Drop,
@@ -94,9 +123,8 @@ where
     ensures { IfOk result (program.AreNightsOfHub (request_as options.now)) }
 {
     let _lock = lock_hub(rt, options.hub)?;
-    let limit = clock_text(limit(rt))?;
-    let clock = clock_text(moment_now(rt))?;
-    let mut shelf = FolderShelf::at(rt, options.hub);
-    let adoption = adoption_of(options, limit.as_bytes(), clock.as_bytes());
-    adopt_on(rt, &mut shelf, &adoption)
+    see_intact(rt, options.hub)?;
+    let told = adopt_old(rt, options)?;
+    note_last_night(rt, options.hub)?;
+    Ok(told)
 }

@@ -2,9 +2,10 @@ ghost use Rattle.std.specs.Prelude.{◌≡◌, ◌++◌, ◌⊎◌, OnOk};
 ghost use Rattle.std.specs.Io.KnownBytes.{Appends};
 ghost use Rattle.hub_adopt.specs.Refusal.{IsStatus, cause_status, line_of, lines_of, rest_of, status_of};
 
-use hub_command::{Failure, Reported, print_named};
+use hub_command::{Failure, print_named};
 use hub_kinds::{NoMemory, Text};
 use night_ends::print_text;
+use program_frame::Reported;
 use std::alloc::{AllocError, Global};
 use std::io;
 use std::io::Write;

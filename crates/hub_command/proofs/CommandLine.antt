@@ -1,24 +1,25 @@
 -- What clap found in the arguments is what the definitions say of them.
 use Rattle.std.proofs.Common.{◌≡◌, ◌∙◌, ◌&&◌, ◌⊎◌, ℕ, Bool, List, Option, None, Some, true, false}
-use Rattle.std.proofs.Common.{ap, codes, refl, String, sym, subst, arith}
+use Rattle.std.proofs.Common.{Result, Ok, Err, ap, codes, refl, String, sym, subst, arith}
 use Rattle.std.proofs.Common.{if◌then◌else◌, inl, inr, not}
+use Rattle.std.specs.Result.{IfErr, IsErrAnd}
 use Rattle.std.specs.Str.{bytes_eq}
 use Rattle.moment.specs.Calendar.{is_moment}
-use Rattle.clap.specs.Words.{HasKind, HasMatchesOf, Text, fault_of, first_value, found_of, is_simple, is_simple_and_free, kind_of, takes}
-use Rattle.clap.specs.declared.error.Error.{Error}
-use Rattle.clap.specs.declared.error.kind.ErrorKind.TheVariants.{OutOfMemory}
+use Rattle.clap.specs.Words.{HasMatchesOf, Text, first_value, found_of, is_simple, is_simple_and_free}
 use Rattle.clap.specs.declared.parser.matches.ArgMatches.{ArgMatches}
 use Rattle.clap.proofs.OnLiterals.{clap_on_literals}
 use Rattle.std.specs.Borrow.{Bor}
 use Rattle.std.specs.declared.alloc.Global.{Global}
 use Rattle.night_command.specs.CommandLine.{CanShare, piece_given, workers_given}
 use Rattle.night_ends.specs.Words.{or_none, values_found}
-use Rattle.night_ends.proofs.ForAbove.{all_found, asks_for_text, found}
-use Rattle.hub_command.specs.Asked.{IsAsked, IsRequest, IsShown, run_in}
+use Rattle.night_ends.proofs.ForAbove.{all_found, found}
+use Rattle.program_frame.specs.Arguments.{value_in, values_in}
+use Rattle.program_frame.specs.Matching.{AsksForText}
+use Rattle.hub_command.specs.Asked.{IsAsked, IsRequest, run_in}
 use Rattle.hub_command.proofs.Sharing.{given_within}
-use Rattle.hub_command.specs.CommandLine.{AsksForText, Request, Rest, RunRequest, are_none, bare_by, give_up, hub_app, init, is_bare}
+use Rattle.hub_command.specs.CommandLine.{Request, Rest, RunRequest, are_none, bare_by, give_up, hub_app, init, is_bare}
 use Rattle.hub_command.specs.CommandLine.{is_given, is_name_or_none, is_path, request_by, request_given, request_in, request_of, rest_of}
-use Rattle.hub_command.specs.CommandLine.{run, run_by, run_given, value_of, values_of}
+use Rattle.hub_command.specs.CommandLine.{run, run_by, run_given}
 use Rattle.hub_command.specs.declared.command.Asked.{Asked}
 use Rattle.hub_command.specs.declared.command.Asked.TheVariants.{GiveUp, Init, Run, Show}
 use Rattle.hub_command.specs.declared.command.Options.{Options}
@@ -36,22 +37,22 @@ rest_with files again at name workers piece not_sent =
     record { files = files; again = again; at = at; name = name; workers = workers; piece = piece; not_sent = not_sent }
 
 one : (words : List Text) (m : ArgMatches) → HasMatchesOf hub_app words m → (name : Text)
-    → first_value (found_of m) name ≡ value_of words name
+    → first_value (found_of m) name ≡ value_in hub_app words name
 one words m has name = found hub_app simple words m name has
 
 several : (words : List Text) (m : ArgMatches) → HasMatchesOf hub_app words m → (name : Text)
-    → values_found (found_of m) name ≡ values_of words name
+    → values_found (found_of m) name ≡ values_in hub_app words name
 several words m has name = all_found hub_app simple words m name has
 
 -- the rest that clap found is the rest that the arguments give
 same_rest : (words : List Text) (m : ArgMatches) → HasMatchesOf hub_app words m
-    → rest_of (first_value (found_of m)) (values_found (found_of m)) ≡ rest_of (value_of words) (values_of words)
+    → rest_of (first_value (found_of m)) (values_found (found_of m)) ≡ rest_of (value_in hub_app words) (values_in hub_app words)
 unfolding rest_with
 same_rest words m has =
     let a : Text → Option Text = first_value (found_of m) in
-    let b : Text → Option Text = value_of words in
-    let files : List Text = or_none (values_of words (codes "file")) in
-    let again : List Text = or_none (values_of words (codes "again")) in
+    let b : Text → Option Text = value_in hub_app words in
+    let files : List Text = or_none (values_in hub_app words (codes "file")) in
+    let again : List Text = or_none (values_in hub_app words (codes "again")) in
     ap (λ (x : Option (List Text)). rest_with (or_none x) (or_none (values_found (found_of m) (codes "again"))) (a (codes "at")) (a
     (codes "name")) (a (codes "workers")) (a (codes "piece")) (is_given (a (codes "not-sent"))))
     (several words m has (codes "file"))
@@ -79,7 +80,7 @@ pub same : (words : List Text) (m : ArgMatches) → HasMatchesOf hub_app words m
     → request_of (first_value (found_of m)) (values_found (found_of m)) ≡ request_in words
 same words m has =
     let a : Text → Option Text = first_value (found_of m) in
-    let b : Text → Option Text = value_of words in
+    let b : Text → Option Text = value_in hub_app words in
     let rest : Rest = rest_of a (values_found (found_of m)) in
     ap (λ (x : Option Text). request_given x (a (codes "hub")) rest) (one words m has (codes "command"))
     ∙ ap (λ (x : Option Text). request_given (b (codes "command")) x rest) (one words m has (codes "hub"))
@@ -91,14 +92,6 @@ asked words m (Init hub) has given = sym (same words m has) ∙ given
 asked words m (Run hub options) has given = sym (same words m has) ∙ given
 asked words m (GiveUp hub not_sent) has given = sym (same words m has) ∙ given
 asked words m (Show text) has given = absurd given
-
-pub shown : (words : List Text) (e : Error) (asked : Asked) → HasKind (fault_of hub_app words) e
-    → (takes hub_app words ≡ true → kind_of e ≡ OutOfMemory) → IsShown (kind_of e) asked → IsAsked words asked
-shown words e (Init hub) kind passes is = absurd is
-shown words e (Run hub options) kind passes is = absurd is
-shown words e (GiveUp hub not_sent) kind passes is = absurd is
-shown words e (Show text) kind passes is =
-    let both = asks_for_text hub_app words e kind passes is in record { asked = both.0; no_run = both.1 }
 
 -- what is asked for is what the arguments ask for
 pub init_asked : (words : List Text) (asked : Asked) (hub : Bor (List ℕ)) → asked ≡ Init hub → IsAsked words asked
@@ -114,8 +107,14 @@ pub given_up_asked : (words : List Text) (asked : Asked) (hub : Bor (List ℕ)) 
 given_up_asked words asked hub not_sent is by = subst (λ (a : Asked). IsAsked words a) is by
 
 -- the text that is asked for isn't shown in place of anything else
-pub text_asked : (words : List Text) (asked : Asked) (text : String Global) → asked ≡ Show text → IsAsked words asked → AsksForText words
+pub text_asked : (words : List Text) (asked : Asked) (text : String Global) → asked ≡ Show text → IsAsked words asked
+    → AsksForText hub_app words
 text_asked words asked text is by = subst (λ (a : Asked). IsAsked words a) is by
+
+-- a mistake that is handed on
+pub handed_on : {A E : Type 0} (r : Result A E) (e : E) (P : E → Type 0) → IsErrAnd r (λ f. f ≡ e) → P e → IfErr r P
+handed_on (Ok x) e P same holds = tt
+handed_on (Err f) e P same holds = subst P (sym same) holds
 
 run_is : (b : Bool) (hub to : Text) (r q : RunRequest) → (if b then Some (run hub r) else None) ≡ Some (run to q) → r ≡ q
 run_is true hub to r q is = cc
@@ -171,6 +170,6 @@ given_shares (Some command) (Some hub) rest to options is = by_shares command hu
 pub can_share : (words : List Text) (asked : Asked) (hub : Bor (List ℕ)) (options : Options) → asked ≡ Run hub options → IsAsked words asked
     → CanShare options.sharing
 can_share words asked hub options is by =
-    let value : Text → Option Text = value_of words in
-    given_shares (value (codes "command")) (value (codes "hub")) (rest_of value (values_of words)) hub.now options
+    let value : Text → Option Text = value_in hub_app words in
+    given_shares (value (codes "command")) (value (codes "hub")) (rest_of value (values_in hub_app words)) hub.now options
     (run_asked words asked hub options is by)

@@ -5,4 +5,5 @@ mod Keeping
 mod Lists
 pub mod Sharing
 mod Telling
+mod Worked
 pub mod Zips

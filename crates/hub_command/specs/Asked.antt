@@ -1,13 +1,12 @@
 -- What was read of the command line (no public clause but that of `read_words` cites these).
 use Rattle.std.specs.Prelude.{◌≡◌, ◌⊎◌, ℕ, List, Option, Some, None, Bool, codes, map, option_map}
 use Rattle.clap.specs.Words.{Text}
-use Rattle.clap.specs.declared.error.kind.ErrorKind.{ErrorKind}
-use Rattle.clap.specs.declared.error.kind.ErrorKind.TheVariants.{DisplayHelp, DisplayVersion}
 use Rattle.clap.specs.declared.parser.matches.Found.{Found}
 use Rattle.night_ends.specs.Words.{or_none, values_found}
 use Rattle.night_command.specs.CommandLine.{piece_given, workers_given}
 use Rattle.night_command.specs.declared.sharing.Sharing.{Sharing}
-use Rattle.hub_command.specs.CommandLine.{AsksForText, Request, Rest, RunRequest, give_up, init, request_in, run}
+use Rattle.program_frame.specs.Matching.{AsksForText}
+use Rattle.hub_command.specs.CommandLine.{Request, Rest, RunRequest, give_up, hub_app, init, request_in, run}
 use Rattle.hub_command.specs.declared.command.Asked.{Asked}
 use Rattle.hub_command.specs.declared.command.Asked.TheVariants as asked
 use Rattle.hub_command.specs.declared.command.Given.{Given}
@@ -67,11 +66,4 @@ abbrev pub IsAsked : List Text → Asked → Type 0
 IsAsked words (asked.Init hub) = request_in words ≡ Some (init hub.now)
 IsAsked words (asked.Run hub options) = request_in words ≡ Some (run hub.now (run_in options))
 IsAsked words (asked.GiveUp hub not_sent) = request_in words ≡ Some (give_up hub.now not_sent)
-IsAsked words (asked.Show text) = AsksForText words
-
--- the kind of what clap reports
-abbrev pub IsShown : ErrorKind → Asked → Type 0
-IsShown kind (asked.Init hub) = ⊥
-IsShown kind (asked.Run hub options) = ⊥
-IsShown kind (asked.GiveUp hub not_sent) = ⊥
-IsShown kind (asked.Show text) = (kind ≡ DisplayHelp) ⊎ (kind ≡ DisplayVersion)
+IsAsked words (asked.Show text) = AsksForText hub_app words

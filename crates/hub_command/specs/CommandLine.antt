@@ -1,50 +1,35 @@
 -- The command line (own), read as clap's definitions say: a command, the folder of a hub, and what the command takes besides.
-use Rattle.std.specs.Prelude.{◌≡◌, ◌≢◌, ◌⊎◌, ◌&&◌, ◌||◌, ◌==◌, ℕ, Bool, true, false, not, List, [], ◌∷◌, Option, Some, None, codes, is_none}
+use Rattle.std.specs.Prelude.{◌≡◌, ◌≢◌, ◌&&◌, ◌||◌, ◌==◌, ℕ, Bool, true, false, not, List, [], ◌∷◌, Option, Some, None, codes, is_none}
 use Rattle.std.specs.Prelude.{if◌then◌else◌, length}
 use Rattle.std.specs.Str.{bytes_eq}
-use Rattle.clap.specs.Words.{App, Rule, Text, IsAmong, all_of, fault_of, first_of, matches_of, new_app, new_rule, takes, with_rule}
-use Rattle.clap.specs.declared.builder.action.ArgAction.TheVariants.{Append, Set, SetTrue}
-use Rattle.clap.specs.declared.error.kind.ErrorKind.TheVariants.{DisplayHelp, DisplayVersion}
+use Rattle.clap.specs.Words.{App, Rule, Text, takes, with_rule}
 use Rattle.file_names.specs.Given.{is_marked}
 use Rattle.moment.specs.Calendar.{is_moment}
 use Rattle.night_ends.specs.Words.{or_none}
-use Rattle.night_command.specs.CommandLine.{option_free, option_repeated, piece_given, piece_rule, workers_given, workers_rule}
+use Rattle.night_command.specs.CommandLine.{piece_given, piece_rule, workers_given, workers_rule}
+use Rattle.program_frame.specs.Arguments.{option_flag, option_free, option_repeated, program, value_in, values_in, word, words as places}
 use Rattle.hub_command.specs.Names.{is_night_name}
 
--- a word by its place
-abbrev pub word_rule : Text → Rule
-word_rule name = record (new_rule name) { value_names = 1; required = true; action = Some Set }
-
--- the files after the words
+-- the files after the words, which not each command wants
 abbrev pub file_rule : Rule
-file_rule = record (new_rule (codes "file")) { value_names = 1; action = Some Append }
-
--- the option that gives up a night of which nothing was sent
-abbrev pub not_sent_rule : Rule
-not_sent_rule = record (new_rule (codes "not-sent")) { long = Some (codes "not-sent"); action = Some SetTrue }
-
--- its arguments don't begin with a program's name, and it has a version
-abbrev pub program : App
-program =
-    let bare = new_app (codes "nighthub_day") in
-    record bare { top = record bare.top { has_version = true; no_binary_name = true } }
+file_rule = record (places (codes "file")) { required = false }
 
 -- with the words that commands take
 abbrev pub words_app : App
 words_app =
-    with_rule (with_rule (with_rule program (word_rule (codes "command"))) (word_rule (codes "hub"))) file_rule
+    with_rule (with_rule (with_rule (program (codes "nighthub_day")) (word (codes "command"))) (word (codes "hub"))) file_rule
 
 -- the option that names a file which is asked for again, as often as there are such files
 abbrev pub again_rule : Rule
-again_rule = record (option_repeated (codes "again")) { required = false }
+again_rule = option_repeated (codes "again")
 
 -- and the options that say of a night when it is, what it is called and which files are asked for again
 abbrev pub with_night : App → App
 with_night app = with_rule (with_rule (with_rule app (option_free (codes "at"))) (option_free (codes "name"))) again_rule
 
--- and all options
+-- and all options: the last one is for a night of which nothing was sent
 abbrev pub hub_app : App
-hub_app = with_rule (with_rule (with_rule (with_night words_app) workers_rule) piece_rule) not_sent_rule
+hub_app = with_rule (with_rule (with_rule (with_night words_app) workers_rule) piece_rule) (option_flag (codes "not-sent"))
 
 -- the first word is a command of a hub
 abbrev pub is_command : Text → Bool
@@ -53,14 +38,6 @@ is_command word = bytes_eq word (codes "init") || (bytes_eq word (codes "run") |
 abbrev pub is_of_hub : List Text → Bool
 is_of_hub [] = false
 is_of_hub (word ∷ words) = is_command word
-
--- the value that the arguments give a name
-abbrev pub value_of : List Text → Text → Option Text
-value_of words name = first_of name (matches_of hub_app words)
-
--- the values that they give it, in their order
-abbrev pub values_of : List Text → Text → Option (List Text)
-values_of words name = all_of name (matches_of hub_app words)
 
 -- the night that is to be run
 pub record RunRequest : Type 0 where
@@ -158,14 +135,9 @@ request_of value values = request_given (value (codes "command")) (value (codes 
 
 -- what the arguments ask for
 abbrev pub request_in : List Text → Option Request
-request_in words = request_of (value_of words) (values_of words)
+request_in words = request_of (value_in hub_app words) (values_in hub_app words)
 
 -- nothing is wrong with the arguments, and they ask for something
 pub record IsCommandLine (words : List Text) : Type 0 where
   pub taken : takes hub_app words ≡ true
   pub asked : request_in words ≢ None
-
--- the arguments ask for help or for the version, and for nothing else
-pub record AsksForText (words : List Text) : Type 0 where
-  pub asked : IsAmong DisplayHelp (fault_of hub_app words) ⊎ IsAmong DisplayVersion (fault_of hub_app words)
-  pub no_run : takes hub_app words ≡ true → ⊥

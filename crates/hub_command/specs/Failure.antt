@@ -3,8 +3,6 @@ use Rattle.std.specs.Prelude.{ℕ, ◌==◌, ◌||◌, IsTrue, List, [], ◌++�
 use Rattle.file_names.specs.Shown.{shown}
 use Rattle.hub_command.specs.declared.failure.Failure.{Failure}
 use Rattle.hub_command.specs.declared.failure.Failure.TheVariants as failure
-use Rattle.hub_command.specs.declared.mistake.Mistake.{Mistake}
-use Rattle.hub_command.specs.declared.mistake.Mistake.TheVariants as mistake
 
 -- what a line says after the path that it names, or all of it if it names none
 abbrev pub rest_of : Failure → List ℕ
@@ -20,6 +18,9 @@ rest_of (failure.NotSound report) = codes "nighthub_day: with this night the nig
 rest_of (failure.AllAside lines) = codes "nighthub_day: each file is set aside, so no night is made\n"
 rest_of (failure.Chain path) = codes " isn't what a night leaves\n"
 rest_of (failure.Given path) = codes " can't be moved to given-up\n"
+rest_of (failure.Gone path) = codes " was the last night, and isn't there\n"
+rest_of (failure.Records report) = codes "nighthub_day: the nights aren't what their records say, so no night is made\n"
+rest_of (failure.Noted hub) = codes ": its file last can't be written\n"
 rest_of failure.NoNight = codes "nighthub_day: there is no night to give up\n"
 rest_of failure.TooMany = codes "nighthub_day: a hub has no more than 999999 nights\n"
 rest_of failure.Record = codes "nighthub_day: the name of a guide file can't be written down\n"
@@ -42,6 +43,8 @@ path_in (failure.Refused path) = Some path
 path_in (failure.Setup hub) = Some hub
 path_in (failure.Chain path) = Some path
 path_in (failure.Given path) = Some path
+path_in (failure.Gone path) = Some path
+path_in (failure.Noted hub) = Some hub
 path_in _ = None
 
 -- a line names a path, after the program
@@ -49,10 +52,11 @@ abbrev pub named : (path : Option (List ℕ)) → (rest : List ℕ) → List ℕ
 named None rest = rest
 named (Some path) rest = codes "nighthub_day: " ++ (shown path ++ rest)
 
--- the lines of a check come before that of a night that isn't kept, and those on the files before that of a night that isn't made
+-- the lines of a check come before that of a night that isn't kept, and those on files or records before that of a night that isn't made
 abbrev pub report_in : Failure → List ℕ
 report_in (failure.NotSound report) = report
 report_in (failure.AllAside lines) = lines
+report_in (failure.Records report) = report
 report_in _ = []
 
 -- what is printed on standard error
@@ -72,6 +76,9 @@ status_of (failure.NotSound report) = 78
 status_of (failure.AllAside lines) = 78
 status_of (failure.Chain path) = 78
 status_of (failure.Given path) = 5
+status_of (failure.Gone path) = 78
+status_of (failure.Records report) = 78
+status_of (failure.Noted hub) = 5
 status_of failure.NoNight = 78
 status_of failure.TooMany = 78
 status_of failure.Record = 78
@@ -85,20 +92,6 @@ status_of failure.Memory = 6
 -- the statuses of failures
 abbrev pub IsStatus : ℕ → Type 0
 IsStatus n = IsTrue (n == 2 || (n == 3 || (n == 4 || (n == 5 || (n == 6 || (n == 75 || n == 78))))))
-
--- the line and the status of a mistake in the arguments
-abbrev pub mistake_line : Mistake → List ℕ
-mistake_line (mistake.Usage text) = codes "nighthub_day: usage: " ++ (text ++ codes "; see --help\n")
-mistake_line mistake.Memory = lines_of failure.Memory
-
-abbrev pub mistake_status : Mistake → ℕ
-mistake_status (mistake.Usage text) = 2
-mistake_status mistake.Memory = 6
-
--- the arguments are wrong
-abbrev pub IsUsage : Mistake → Type 0
-IsUsage (mistake.Usage text) = Unit {0}
-IsUsage mistake.Memory = ⊥
 
 -- a failure that comes before anything is printed on standard output
 abbrev pub IsUnprinted : Failure → Type 0

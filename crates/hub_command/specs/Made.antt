@@ -20,11 +20,12 @@ guide_name name = codes "from/guides/" ++ name
 abbrev pub guide_file : NightFile → NightFile
 guide_file guide = file (guide_name guide.name) guide.bytes
 
--- the files of what came in: `listing` is the list of the files of the day, `again` the table of the sets that are asked for again,
--- `input` what goes in of the files
-abbrev pub came_files : (listing again input : List ℕ) → List NightFile
-came_files listing again input =
-    file (codes "from/files.sum") listing ∷ file (codes "from/again.csv") again ∷ file (codes "from/in.x12") input ∷ []
+-- the sum of the program, and the files of what came in: `listing` is the list of the files of the day, `again` the table of the sets that
+-- are asked for again, `input` what goes in of the files. The input is the last file, as `AreKeptFiles` wants it
+abbrev pub came_files : (listing again input program : List ℕ) → List NightFile
+came_files listing again input program =
+    file (codes "from/program.sum") program ∷ file (codes "from/files.sum") listing ∷ file (codes "from/again.csv") again
+    ∷ file (codes "from/in.x12") input ∷ []
 
 -- the files that a night is made of
 abbrev pub made_files : (setup : List ℕ) → (guides : List NightFile) → (counters : List ℕ) → (came : List NightFile) → List NightFile

@@ -1,11 +1,12 @@
 -- A night of a hub (own): which nights are before it, what it is made of, and that all nights with it continue.
-use Rattle.std.specs.Prelude.{◌≡◌, ℕ, ◌+◌, ◌-◌, Bool, List, [], ◌∷◌, ◌++◌, Option, Some, None, codes, if◌then◌else◌, length, map}
+use Rattle.std.specs.Prelude.{◌≡◌, ℕ, ◌+◌, ◌-◌, Bool, false, List, [], ◌∷◌, ◌++◌, Option, Some, None, codes, if◌then◌else◌, length, map}
 use Rattle.std.specs.Prelude.{option_map, reverse, slice_get}
 use Rattle.std.specs.List.{AllZip, filter_map}
 use Rattle.hub_ledger.specs.declared.entry.NightEntry.{NightEntry}
 use Rattle.night_folder.specs.Files.{bytes_or_none}
 use Rattle.night_folder.specs.Nights.{IsRead, bad_in, entry_in}
 use Rattle.night_folder.specs.declared.night.NightRead.{NightRead}
+use Rattle.night_marks.specs.Count.{night_count}
 use Rattle.night_marks.specs.Order.{in_order}
 use Rattle.night_marks.specs.declared.bad.BadFile.{BadFile}
 use Rattle.night_marks.specs.declared.mark.NightMark.{NightMark}
@@ -59,7 +60,7 @@ pub record AreTablesOf (track : List ℕ) (delivered : List (List ℕ)) (older l
 
 -- tonight's mark: it names the night before
 abbrev pub mark_of : (folder at before : List ℕ) → NightMark
-mark_of folder at before = record { name = folder; moment = at; before = before }
+mark_of folder at before = record { name = folder; moment = at; before = before; is_archived = false }
 
 -- the heading of the night's record
 pub record IsHeadingOf (setting : Setting) (number : ℕ) (chain : Chain) (status : ℕ) (heading : Heading) : Type 0 where
@@ -110,7 +111,7 @@ abbrev pub AreFilesOf : Heading → HubPapers → Laid → (tables came files : 
 AreFilesOf heading papers laid tables came files =
     AreKeptFiles heading (made_files (bytes_or_none papers.setup.bytes) papers.guides laid.counters came) laid.given tables files
 
--- the folder of the night after so many
+-- the folder of the night after `count` others, those that are archived among them
 abbrev pub folder_after : (count : ℕ) → (name : List ℕ) → List ℕ
 folder_after count name = folder_name (count + 1) name
 
@@ -120,8 +121,8 @@ pub record IsDraftOf (setting : Setting) (older : Older) (papers : HubPapers) (i
   pub tonight : Tonight
   pub tonight_is : IsTonightOf setting papers older.entries input tonight
   pub laid_is : IsLaidOf tonight draft.laid
-  pub number_is : draft.number ≡ length older.order + 1
-  pub folder_is : draft.folder ≡ folder_after (length older.order) setting.name.now
+  pub number_is : draft.number ≡ night_count (map_now older.order) + 1
+  pub folder_is : draft.folder ≡ folder_after (night_count (map_now older.order)) setting.name.now
   pub entry_is : IsEntryOfNight setting draft.folder papers draft.laid input again draft.entry
   pub tables_are : AreTablesOf draft.laid.track draft.entry.delivered older.chain.addresses draft.laid.left draft.tables
 
@@ -139,11 +140,12 @@ status_by status is_whole = if is_whole then status else 1
 abbrev pub with_lines : (tables : List NightFile) → (guides files : List ℕ) → List NightFile
 with_lines tables guides files = (tables ++ file (codes "guides.txt") guides ∷ []) ++ file (codes "files.txt") files ∷ []
 
--- what is kept beside what the night gives: what came in, and the lines that are printed
-pub record IsSideOf (folder : List ℕ) (tables : List NightFile) (status : ℕ) (day : Day) (changes : List ℕ) (side : Side) : Type 0 where
+-- what is kept beside what the night gives: what came in, the sum of the program, and the lines that are printed
+pub record IsSideOf (folder : List ℕ) (tables : List NightFile) (status : ℕ) (day : Day) (changes program : List ℕ) (side : Side)
+    : Type 0 where
   pub folder_is : side.folder ≡ folder
   pub tables_are : side.tables ≡ with_lines tables changes day.lines
-  pub came_are : side.came ≡ came_files day.listing day.again day.input
+  pub came_are : side.came ≡ came_files day.listing day.again day.input program
   pub lines_are : side.lines ≡ changes ++ day.lines
   pub status_is : side.status ≡ status_by status day.is_whole
 
@@ -167,5 +169,5 @@ pub record IsMadeOf (setting : Setting) (older : Older) (papers : HubPapers) (da
   pub chain : Chain
   pub sound : IsSoundAfter setting older draft.folder draft.entry chain
   pub side : Side
-  pub side_is : IsSideOf draft.folder draft.tables draft.laid.status day changes side
+  pub side_is : IsSideOf draft.folder draft.tables draft.laid.status day changes setting.program.now side
   pub made_is : IsMadeBy setting chain papers draft.number draft.laid side made

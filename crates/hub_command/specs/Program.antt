@@ -2,9 +2,12 @@
 use Rattle.std.specs.Prelude.{◌≡◌, ◌⊎◌, ◌==◌, ◌||◌, ℕ, Bool, true, false, IsTrue, List, Option, Some, None, Result, Ok, Err, map, unwrap_or}
 use Rattle.std.specs.Io.KnownBytes.{Appends}
 use Rattle.clap.specs.Words.{Text}
+use Rattle.program_frame.specs.Matching.{AsksForText}
 use Rattle.hub_command.specs.Asked.{text_of}
-use Rattle.hub_command.specs.CommandLine.{AsksForText, Request, RunRequest, give_up, init, request_in, run}
+use Rattle.hub_command.specs.CommandLine.{Request, RunRequest, give_up, hub_app, init, request_in, run}
+use Rattle.hub_command.specs.Intact.{AreIntactAt}
 use Rattle.hub_command.specs.Lines.{cleared_text, given_up_text, init_text}
+use Rattle.hub_command.specs.Programs.{IsProgramLine}
 use Rattle.hub_command.specs.Run.{IsMadeAt, IsThere, IsToldAgain, IsToldOf}
 use Rattle.hub_command.specs.declared.command.Options.{Options}
 use Rattle.hub_command.specs.declared.failure.Failure.{Failure}
@@ -33,6 +36,7 @@ pub record IsSettingOf (hub : Text) (request : RunRequest) (setting : Setting) :
   pub name_is : setting.name.now ≡ called request
   pub workers_are : setting.sharing.workers ≡ request.workers
   pub piece_is : setting.sharing.piece ≡ request.piece
+  pub program_is : IsProgramLine setting.program.now
 
 -- it was made and kept, and all nights with it continue; or it was there
 abbrev pub IsMadeOrThere : Setting → Told → Type 0
@@ -43,6 +47,7 @@ IsMadeOrThere setting told =
 pub record IsNightRun (hub : Text) (request : RunRequest) (told : Told) : Type 0 where
   pub setting : Setting
   pub setting_is : IsSettingOf hub request setting
+  pub intact : AreIntactAt hub
   pub done : IsMadeOrThere setting told
 
 -- what was under way is removed; with `--not-sent` the last night is moved aside
@@ -56,7 +61,7 @@ IsDone (init hub) told = told.text.items ≡ init_text hub
 IsDone (run hub request) told = IsNightRun hub request told
 IsDone (give_up hub not_sent) told = IsGivenUp hub not_sent told
 
--- what is told is printed, and the status is its own
+-- the lines are printed, and the status is theirs
 pub record IsPrinted (told : Told) (status : ℕ) (was is : Option (List ℕ)) : Type 0 where
   pub printed : Appends was is told.text.items
   pub own_status : status ≡ told.status
@@ -67,12 +72,12 @@ IsTold (Err failure) status was is = ⊥
 
 -- a text was shown that the arguments ask for
 pub record IsShownText (words : List Text) (status : ℕ) (was is : Option (List ℕ)) : Type 0 where
-  pub asked : AsksForText words
+  pub asked : AsksForText hub_app words
   pub text : List ℕ
   pub printed : Appends was is text
   pub own_status : status ≡ 0
 
--- what the arguments ask for was done and is told
+-- what the arguments ask for was done, and its lines are printed
 pub record IsDoneAndTold (words : List Text) (status : ℕ) (was is : Option (List ℕ)) : Type 0 where
   pub request : Request
   pub asked : request_in words ≡ Some request

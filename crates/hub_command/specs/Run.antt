@@ -87,7 +87,7 @@ sum_or_none (Some file) = sum_text file.bytes
 abbrev pub record_sum : List NightFile → List ℕ
 record_sum files = sum_or_none (slice_get files (length files - 1))
 
--- what is told of a night that is made
+-- what is said of a night that is made
 pub record IsReadyOf (setting : Setting) (made : Made) (sum : List ℕ) (ready : Ready) : Type 0 where
   pub hub : ready.hub.now ≡ setting.hub.now
   pub number : ready.number ≡ made.number
@@ -104,7 +104,7 @@ pub record IsToldOf (setting : Setting) (made : Made) (told : Told) : Type 0 whe
   pub text_is : told.text.items ≡ ready_text ready
   pub status_is : told.status ≡ made.status
 
--- what is told of the last night
+-- what is said of the last night
 pub record IsReadyAgain (setting : Setting) (there : There) (ready : Ready) : Type 0 where
   pub hub : ready.hub.now ≡ setting.hub.now
   pub number : ready.number ≡ there.number

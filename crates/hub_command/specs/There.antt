@@ -1,10 +1,11 @@
 -- The last night of a hub is the one that is asked for (own): it is there already, and nothing is run.
-use Rattle.std.specs.Prelude.{◌≡◌, ◌++◌, ℕ, List, Option, Some, codes, length}
+use Rattle.std.specs.Prelude.{◌≡◌, ◌++◌, ℕ, false, List, Option, Some, codes}
 use Rattle.day_files.specs.Listing.{listing_of}
 use Rattle.day_files.specs.declared.file.DayFile.{DayFile}
 use Rattle.night_review.specs.GoingOn.{GoOn}
 use Rattle.night_ends.specs.Outbox.{path_in}
 use Rattle.night_folder.specs.Files.{FileValue, bytes_or_none, in_night}
+use Rattle.night_marks.specs.Count.{night_count}
 use Rattle.night_marks.specs.declared.mark.NightMark.{NightMark}
 use Rattle.hub_command.specs.Names.{folder_name}
 use Rattle.hub_command.specs.Night.{last_mark, map_now}
@@ -13,10 +14,11 @@ use Rattle.hub_command.specs.declared.older.Older.{Older}
 use Rattle.hub_command.specs.declared.setting.Setting.{Setting}
 use Rattle.hub_command.specs.declared.there.There.{There}
 
--- a night has this number, and the name and the moment that are asked for
+-- a night that isn't archived has this number, and the name and the moment that are asked for
 pub record IsNamed (setting : Setting) (number : ℕ) (mark : NightMark) : Type 0 where
   pub name_is : mark.name ≡ folder_name number setting.name.now
   pub moment_is : mark.moment ≡ setting.at
+  pub unarchived : mark.is_archived ≡ false
 
 -- the status that is written down
 pub data IsStatusIn (bytes : Option (List ℕ)) (status : ℕ) : Type 0 where
@@ -56,7 +58,7 @@ pub record IsOf (folder listing : List ℕ) : Type 0 where
 pub record IsThereAt (nights : List ℕ) (older : Older) (setting : Setting) (files : List DayFile) (there : There) : Type 0 where
   pub mark : NightMark
   pub last_is : last_mark older.order ≡ Some mark
-  pub named : IsNamed setting (length older.order) mark
+  pub named : IsNamed setting (night_count (map_now older.order)) mark
   pub of : IsOf (path_in nights mark.name) (listing_of files)
   pub go_on : GoOn setting.limit.now mark.name (map_now older.order) older.entries older.bad
-  pub given : IsGivenAt nights mark.name (length older.order) older.chain there
+  pub given : IsGivenAt nights mark.name (night_count (map_now older.order)) older.chain there

@@ -7,7 +7,7 @@ use crate::failure::Failure;
 use crate::papers::path_in;
 use hub_kinds::{Items, Text, copy_text};
 use night_entries::sum_of;
-use night_folder::{PaperAt, read_paper};
+use night_folder::{PaperAt, home_of, read_paper};
 use night_marks::NightMark;
 use night_record::{AddressNext, TableFault, read_addresses};
 use std::alloc::Global;
@@ -60,15 +60,12 @@ fn addresses_in(alloc: Global, file: &PaperAt) -> Result<Vec<AddressNext>, Failu
     }
 }
 
-fn chain_of<R: Files + AllocGlobal>(
-    rt: &R,
-    nights: &[u8],
-    last: &NightMark,
-) -> Result<Chain, Failure>
-    ensures chain { IfOk result (ContinuesChain nights.now last.now) }
+/// What is taken over of the night `last`, whose folder is in the one at the path `home`.
+fn chain_of<R: Files + AllocGlobal>(rt: &R, home: &[u8], last: &NightMark) -> Result<Chain, Failure>
+    ensures chain { IfOk result (ContinuesChain home.now last.now) }
     ensures before { IfErr result IsBefore }
 {
-    let folder = path_in(rt.alloc(), nights, last.name.as_slice())?;
+    let folder = path_in(rt.alloc(), home, last.name.as_slice())?;
     let record = read_paper(rt, folder.as_slice(), b"night.toml")?;
     let sum = sum_in(rt.alloc(), &record)?;
     let table = read_paper(rt, folder.as_slice(), b"addresses.csv")?;
@@ -90,7 +87,10 @@ pub fn chain_at<R: Files + AllocGlobal>(
     ensures before { IfErr result IsBefore }
 {
     match last {
-        Some(mark) => chain_of(rt, nights, mark),
+        Some(mark) => {
+            let home = home_of(rt.alloc(), nights, mark)?;
+            chain_of(rt, home.as_slice(), mark)
+        }
         None => Ok(Chain {
             before: Items::from_vec(Vec::new(rt.alloc())),
             before_sum: None,

@@ -1,24 +1,26 @@
-ghost use Rattle.std.specs.Prelude.{◌≡◌, ◌≢◌, ◌&&◌, ℕ, Option, None, Some, codes, false, true, not, map, option_map, IfOk, IfErr};
-ghost use Rattle.clap.specs.Words.{app_of, first_value, found_of, kind_of, rule_of};
+ghost use Rattle.std.specs.Prelude.{◌≡◌, ◌&&◌, ℕ, Option, None, codes, false, true, not, map, option_map, IfOk, IfErr};
+ghost use Rattle.clap.specs.Words.{app_of, first_value, found_of, rule_of};
 ghost use Rattle.night_ends.specs.Words.{or_none, values_found};
-ghost use Rattle.hub_command.specs.Asked.{ArePaths, AreShared, IsAsked, IsGiven, IsRequest, IsRequested, IsShown, text_of};
+ghost use Rattle.program_frame.specs.Mistake.{IsUsage};
+ghost use Rattle.hub_command.specs.Asked.{ArePaths, AreShared, IsAsked, IsGiven, IsRequest, IsRequested, text_of};
 ghost use Rattle.hub_command.specs.CommandLine as line;
-ghost use Rattle.hub_command.specs.Failure.{IsUsage};
 
 use crate::help::{STATUSES, USAGE};
-use crate::mistake::Mistake;
 use crate::names::is_night_name;
-use clap::error::ErrorKind;
-use clap::{Arg, ArgAction, ArgMatches, Command, Error};
+use clap::{Arg, ArgMatches, Command};
 use file_names::is_not_utf_8;
 use hub_kinds::copy_text;
 use moment::At;
-use night_command::{
-    Sharing, option_free, option_repeated, piece_option, sharing_given, workers_option,
+use night_command::{Sharing, piece_option, sharing_given, workers_option};
+use night_ends::{texts_given, with_argument};
+use program_frame::{
+    Matched, Mistake, match_words, option_flag, option_free, option_repeated, program, word, words,
 };
-use night_ends::{RELEASE, mistake_found, texts_given, with_argument};
 use std::alloc::{AllocError, Global};
 use std::convert::AsStr;
+
+/// The name of the program.
+pub(crate) const PROGRAM: &str = "nighthub_day";
 
 /// Whether the first word is a command of a hub.
 pub fn is_of_hub<S: AsStr>(words: &[S]) -> bool
@@ -67,9 +69,9 @@ pub fn read_words<'a, S: AsStr>(alloc: Global, words: &'a [S]) -> Result<Asked<'
     ensures usage { IfErr result (λ mistake. IsUsage mistake → line.IsCommandLine (map S.text words.now) → ⊥) }
 {
     let command = command(alloc)?;
-    match command.try_get_matches_from(words) {
-        Ok(matches) => request_asked(alloc, &matches),
-        Err(error) => shown(alloc, &error),
+    match match_words(alloc, command, words)? {
+        Matched::Values(values) => request_asked(alloc, &values),
+        Matched::Text(text) => Ok(Asked::Show(text)),
     }
 }
 
@@ -87,7 +89,12 @@ fn command<'a>(alloc: Global) -> Result<Command<'a>, AllocError>
         "run: how many bytes of the input a worker takes at a time [default: 1048576]",
     );
     let command = with_argument(command, piece)?;
-    with_argument(command, not_sent(alloc))
+    let not_sent = option_flag(
+        alloc,
+        "not-sent",
+        "give-up: the last night, of which nothing was sent",
+    );
+    with_argument(command, not_sent)
 }
 
 /// The command with the options that say of a night when it is, what it is called and which files are asked for again.
@@ -108,18 +115,25 @@ fn with_night<'a>(alloc: Global, command: Command<'a>) -> Result<Command<'a>, Al
         "run: what the night is called [default: its moment]",
     );
     let command = with_argument(command, name)?;
-    with_argument(command, again(alloc))
+    let again = option_repeated(
+        alloc,
+        "again",
+        "FILE",
+        "run: a file that goes in although older nights delivered its sets",
+    );
+    with_argument(command, again)
 }
 
 /// The program with the words that commands take.
 fn words_command<'a>(alloc: Global) -> Result<Command<'a>, AllocError>
     ensures { IfOk result (λ command. app_of command ≡ line.words_app) }
 {
-    let command = Command::new(alloc, "nighthub_day")
-        .about("Runs the nights of a hub, one after another")
-        .version(RELEASE)
-        .after_help(STATUSES)
-        .no_binary_name(true);
+    let command = program(
+        alloc,
+        PROGRAM,
+        "Runs the nights of a hub, one after another",
+        STATUSES,
+    );
     let what = word(alloc, "command", "COMMAND", "init, run or give-up");
     let command = with_argument(command, what)?;
     let hub = word(alloc, "hub", "HUB", "The folder of the hub");
@@ -127,51 +141,18 @@ fn words_command<'a>(alloc: Global) -> Result<Command<'a>, AllocError>
     with_argument(command, files(alloc))
 }
 
-/// A word by its place.
-fn word<'a>(alloc: Global, name: &'a str, shown: &'a str, help: &'a str) -> Arg<'a>
-    ensures rule { rule_of result ≡ line.word_rule name.now }
-    ensures local { result.global ≡ false }
-{
-    Arg::new(alloc, name)
-        .value_name(shown)
-        .help(help)
-        .required(true)
-        .action(ArgAction::Set)
-}
-
-/// The files after the words.
+/// The files after the words, which not each command wants.
 fn files<'a>(alloc: Global) -> Arg<'a>
     ensures rule { rule_of result ≡ line.file_rule }
     ensures local { result.global ≡ false }
 {
-    Arg::new(alloc, "file")
-        .value_name("FILE")
-        .help("run: the files that came in, in their order")
-        .action(ArgAction::Append)
-}
-
-/// The option that names a file which is asked for again.
-fn again<'a>(alloc: Global) -> Arg<'a>
-    ensures rule { rule_of result ≡ line.again_rule }
-    ensures local { result.global ≡ false }
-{
-    option_repeated(
+    let files = words(
         alloc,
-        "again",
+        "file",
         "FILE",
-        "run: a file that goes in although older nights delivered its sets",
-    )
-    .required(false)
-}
-
-fn not_sent<'a>(alloc: Global) -> Arg<'a>
-    ensures rule { rule_of result ≡ line.not_sent_rule }
-    ensures local { result.global ≡ false }
-{
-    Arg::new(alloc, "not-sent")
-        .long("not-sent")
-        .help("give-up: the last night, of which nothing was sent")
-        .action(ArgAction::SetTrue)
+        "run: the files that came in, in their order",
+    );
+    files.required(false)
 }
 
 fn is_given(value: Option<&str>) -> bool
@@ -348,20 +329,5 @@ fn request_asked<'a>(alloc: Global, matches: &ArgMatches<'a>) -> Result<Asked<'a
     match request_found(paths, matches) {
         Some(asked) => Ok(asked),
         None => Err(Mistake::Usage(copy_text(alloc, USAGE)?)),
-    }
-}
-
-/// The text that is asked for, if the arguments have no mistake.
-fn shown<'a>(alloc: Global, error: &Error) -> Result<Asked<'a>, Mistake>
-    ensures shown { IfOk result (IsShown (kind_of error.now)) }
-    ensures usage { IfErr result (λ mistake. IsUsage mistake → kind_of error.now ≢ ErrorKind.OutOfMemory) }
-{
-    match error.kind() {
-        ErrorKind::DisplayHelp | ErrorKind::DisplayVersion => {
-            let text = format!(in alloc; "{error}")?;
-            Ok(Asked::Show(text))
-        }
-        ErrorKind::OutOfMemory => Err(Mistake::Memory),
-        _ => Err(Mistake::Usage(mistake_found(alloc, error)?)),
     }
 }

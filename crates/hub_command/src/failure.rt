@@ -6,16 +6,10 @@ ghost use Rattle.hub_command.specs.Failure.{IsStatus, lines_of, path_in, report_
 use file_names::print_shown;
 use hub_kinds::{NoMemory, Text};
 use night_ends::print_text;
+use program_frame::Reported;
 use std::alloc::{AllocError, Global};
 use std::io;
 use std::io::Write;
-
-/// That a failure was reported: the status that the program ends with, and whether its lines are printed.
-#[derive(Debug, Drop)]
-pub struct Reported {
-    pub status: u8,
-    pub printed: io::Result<()>,
-}
 
 /// Why a run failed. The paths are those of the hub, of one of its files, or of the input.
 #[derive(Debug, Drop)]
@@ -44,6 +38,12 @@ pub enum Failure {
     Chain(Text),
     /// The last night can't be moved.
     Given(Text),
+    /// The night at this path was the last, and isn't there.
+    Gone(Text),
+    /// The nights aren't what their records say. These lines say why.
+    Records(Text),
+    /// The night is kept, and the hub's file that names its last night can't be written.
+    Noted(Text),
     /// There is no night to give up.
     NoNight,
     /// The hub has 999,999 nights.
@@ -93,7 +93,9 @@ impl Failure {
         ensures { result.now ≡ report_in self.now }
     {
         match self {
-            Failure::NotSound(report) | Failure::AllAside(report) => report.as_slice(),
+            Failure::NotSound(report) | Failure::AllAside(report) | Failure::Records(report) => {
+                report.as_slice()
+            }
             _ => b"",
         }
     }
@@ -112,7 +114,9 @@ impl Failure {
             | Failure::Refused(path)
             | Failure::Setup(path)
             | Failure::Chain(path)
-            | Failure::Given(path) => Some(path.as_slice()),
+            | Failure::Given(path)
+            | Failure::Gone(path)
+            | Failure::Noted(path) => Some(path.as_slice()),
             _ => None,
         }
     }
@@ -137,6 +141,10 @@ impl Failure {
             Failure::AllAside(_) => "nighthub_day: each file is set aside, so no night is made\n",
             Failure::Chain(_) => " isn't what a night leaves\n",
             Failure::Given(_) => " can't be moved to given-up\n",
+            Failure::Gone(_) => " was the last night, and isn't there\n",
+            Failure::Records(_) =>
+                "nighthub_day: the nights aren't what their records say, so no night is made\n",
+            Failure::Noted(_) => ": its file last can't be written\n",
             Failure::NoNight => "nighthub_day: there is no night to give up\n",
             Failure::TooMany => "nighthub_day: a hub has no more than 999999 nights\n",
             Failure::Record => "nighthub_day: the name of a guide file can't be written down\n",
@@ -156,7 +164,7 @@ impl Failure {
         match self {
             Failure::Refused(_) | Failure::Setup(_) => 3,
             Failure::Nights(_) | Failure::Unread(_) | Failure::InputTooLong | Failure::Clock => 4,
-            Failure::Given(_) | Failure::Keep | Failure::Stdout => 5,
+            Failure::Given(_) | Failure::Noted(_) | Failure::Keep | Failure::Stdout => 5,
             Failure::Thread | Failure::Memory => 6,
             Failure::Busy(_) => 75,
             Failure::NoHub(_)
@@ -165,6 +173,8 @@ impl Failure {
             | Failure::NotSound(_)
             | Failure::AllAside(_)
             | Failure::Chain(_)
+            | Failure::Gone(_)
+            | Failure::Records(_)
             | Failure::NoNight
             | Failure::TooMany
             | Failure::Record => 78,

@@ -4,6 +4,7 @@ ghost use Rattle.hub_command.specs.Lines as lines;
 
 use crate::failure::Failure;
 use crate::init::path_text;
+use crate::last::{forget_last, note_last};
 use crate::told::Told;
 use crate::words::{append_ended, append_hub, append_words};
 use file_names::append_shown;
@@ -37,8 +38,11 @@ pub(crate) fn give_up_tonight<R: Files + AllocGlobal + Clone + Drop>(
     Ok(Told { text, status: 0 })
 }
 
-/// The name of the last night.
-fn last_name<R: Files + AllocGlobal + Clone + Drop>(rt: &R, hub: &str) -> Result<Text, Failure>
+/// The names of the last night of the hub `hub`, which isn't archived, and of the one before it, if there is one.
+fn last_names<R: Files + AllocGlobal + Clone + Drop>(
+    rt: &R,
+    hub: &str,
+) -> Result<(Text, Option<Text>), Failure>
     ensures before { IfErr result IsBefore }
 {
     let named = copy_text(rt.alloc(), hub.as_bytes())?;
@@ -49,13 +53,37 @@ fn last_name<R: Files + AllocGlobal + Clone + Drop>(rt: &R, hub: &str) -> Result
         return Err(Failure::Nights(named));
     };
     let order = in_order(rt.alloc(), marks.as_slice())?;
-    match order.last() {
-        None => Err(Failure::NoNight),
-        Some(mark) => Ok(copy_text(rt.alloc(), mark.name.as_slice())?),
+    match order.as_slice() {
+        [] => Err(Failure::NoNight),
+        [.., last] if last.is_archived => Err(Failure::NoNight),
+        [one] => Ok((copy_text(rt.alloc(), one.name.as_slice())?, None)),
+        [.., before, last] => Ok((
+            copy_text(rt.alloc(), last.name.as_slice())?,
+            Some(copy_text(rt.alloc(), before.name.as_slice())?),
+        )),
     }
 }
 
-/// Moves the folder `name` of the nights to the folder of those that were given up, and syncs both.
+/// The name of the last night of the hub `hub`.
+pub(crate) fn last_name<R: Files + AllocGlobal + Clone + Drop>(
+    rt: &R,
+    hub: &str,
+) -> Result<Text, Failure>
+    ensures before { IfErr result IsBefore }
+{
+    let (last, _) = last_names(rt, hub)?;
+    Ok(last)
+}
+
+/// Writes down which night of the hub `hub` is the last once the present one is moved.
+fn note_before<R: Files + AllocGlobal>(rt: &R, hub: &str, before: Option<&Text>) -> io::Result<()> {
+    match before {
+        Some(name) => note_last(rt, hub, name.as_slice()),
+        None => forget_last(rt, hub),
+    }
+}
+
+/// Moves the folder `name` of the nights to the folder given-up, and syncs both.
 fn move_night<R: Files + AllocGlobal>(rt: &R, hub: &str, name: &[u8]) -> io::Result<()> {
     let nights = path_text(rt.alloc(), hub, b"nights")?;
     let aside = path_text(rt.alloc(), hub, b"given-up")?;
@@ -70,7 +98,7 @@ fn move_night<R: Files + AllocGlobal>(rt: &R, hub: &str, name: &[u8]) -> io::Res
     fs::open(rt, aside.as_str())?.sync_all()
 }
 
-/// What is printed of a night that is given up.
+/// What is printed of a night that is moved to given-up.
 fn text_of(alloc: Global, hub: &[u8], name: &[u8]) -> Result<Vec<u8>, NoMemory>
     ensures { IfOk result (λ text. text.items ≡ lines.given_up_text hub.now name.now) }
 {
@@ -81,7 +109,7 @@ fn text_of(alloc: Global, hub: &[u8], name: &[u8]) -> Result<Vec<u8>, NoMemory>
     Ok(text)
 }
 
-/// Moves the last night aside, of which nothing was sent: the night before it is the last again.
+/// Moves the last night of the hub `hub` aside, of which nothing was sent: the night before it is the last again.
 pub(crate) fn give_up_last<R: Files + AllocGlobal + Clone + Drop>(
     rt: &R,
     hub: &str,
@@ -90,8 +118,11 @@ pub(crate) fn give_up_last<R: Files + AllocGlobal + Clone + Drop>(
     ensures status { IfOk result (λ told. told.status ≡ 0) }
     ensures before { IfErr result IsBefore }
 {
-    let name = last_name(rt, hub)?;
+    let (name, before) = last_names(rt, hub)?;
     let text = text_of(rt.alloc(), hub.as_bytes(), name.as_slice())?;
+    if note_before(rt, hub, before.as_ref()).is_err() {
+        return Err(Failure::Noted(copy_text(rt.alloc(), hub.as_bytes())?));
+    }
     match move_night(rt, hub, name.as_slice()) {
         Ok(()) => Ok(Told { text, status: 0 }),
         Err(_) => Err(Failure::Given(name)),

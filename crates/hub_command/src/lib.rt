@@ -17,11 +17,14 @@
 //! - it is kept on the shelf by one rename, once all of it is on the disk (`IsKept`). Whatever `run_on` answers, a stop leaves the nights
 //!   as they were, or with this one (`stopped`);
 //! - if the night that is asked for is the last one already, of the same files, nothing is run, and the same lines are printed;
+//! - before `hub_main` prints lines of a night, the night that the hub's file `last` names was among the nights, and each night was what
+//!   its record says (`AreIntactAt`). The night's folder has the sum of the program's file, if that file can be read (`IsProgramLine`);
 //! - with status 0 or 1 `hub_main` has printed just what its definition says, and nothing on standard error; it ends with 2 only if the
 //!   arguments are wrong.
 //!
 //! Only tested: that the lock keeps other runs away; that the system makes, syncs and renames what it is asked for (`FolderShelf` says what
-//! is trusted); that `init` and `give-up` change the folder as their lines say; what the clock says.
+//! is trusted); that `init` and `give-up` change the folder as their lines say; that a run writes `last` once its night is kept, and
+//! `give-up` before it moves one; what the clock says; what a terminal is shown.
 //!
 //! A night, the files of its day, its input and its own files are in memory together.
 //!
@@ -39,14 +42,17 @@ mod failure;
 mod give_up;
 mod help;
 mod init;
+mod intact;
+mod last;
 mod lock;
 mod made;
-mod mistake;
 mod names;
 mod night;
 mod older;
 mod papers;
 mod program;
+mod program_sum;
+mod progress;
 mod reading;
 mod ready;
 mod run;
@@ -62,14 +68,16 @@ mod words;
 pub use chain::{Chain, chain_at};
 pub use command::{Asked, Options, is_of_hub, is_path, read_words};
 pub use day::Day;
-pub use failure::{Failure, Reported, print_named};
+pub use failure::{Failure, print_named};
+pub use intact::{note_last_night, see_intact};
 pub use lock::{Lock, Lockable};
-pub use mistake::Mistake;
 pub use names::{folder_name, is_night_name};
 pub use night::{Made, made_of};
 pub use older::{Older, older_of};
 pub use papers::{HubPapers, papers_at, path_in};
 pub use program::{hub_main, lock_hub};
+pub use program_sum::program_line;
+pub use progress::Terminal;
 pub use run::{marks_at, run_on};
 pub use setting::Setting;
 pub use told::Told;

@@ -52,16 +52,19 @@ fn push_guides(
     Ok(())
 }
 
-/// The files of what came in: the list of the files of the day, the table of the sets that are asked for again, and the input.
+/// The sum of the program, `program`, and the files of what came in: `listing`, the list of the files of the day; `again`, the table of the
+/// sets that are asked for again; and the input, which is the last file.
 pub(crate) fn came_files(
     alloc: Global,
     listing: Text,
     again: Text,
     input: Text,
+    program: &[u8],
 ) -> Result<Vec<NightFile>, NoMemory>
-    ensures { IfOk result (λ files. files.items ≡ made.came_files listing again input) }
+    ensures { IfOk result (λ files. files.items ≡ made.came_files listing again input program.now) }
 {
     let mut files = Vec::new(alloc);
+    files.push(copied_file(alloc, b"from/program.sum", program)?)?;
     files.push(file_of(alloc, b"from/files.sum", listing)?)?;
     files.push(file_of(alloc, b"from/again.csv", again)?)?;
     files.push(file_of(alloc, b"from/in.x12", input)?)?;

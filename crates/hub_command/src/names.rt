@@ -1,10 +1,16 @@
-ghost use Rattle.std.specs.Prelude.{◌≡◌, ◌≤◌, IfOk, drop};
+ghost use Rattle.std.specs.Prelude.{◌≡◌, ◌≤◌, ◌+◌, IfErr, IfOk, drop};
 ghost use Rattle.std.specs.List.{list_all};
+ghost use Rattle.hub_command.specs.Failure.{IsBefore};
 ghost use Rattle.hub_command.specs.Names as names;
+ghost use Rattle.hub_command.specs.Night.{folder_after};
 
+use crate::failure::Failure;
 use hub_kinds::{Items, NoMemory, Text};
 use itoa::Buffer;
 use std::alloc::Global;
+
+/// The most nights that a hub has.
+const MOST_NIGHTS: u64 = 999_999;
 
 fn is_night_byte(byte: u8) -> bool
     ensures { result ≡ names.is_night_byte byte }
@@ -49,4 +55,17 @@ pub fn folder_name(alloc: Global, number: u32, name: &[u8]) -> Result<Text, NoMe
     folder.extend_from_slice(b"-")?;
     folder.extend_from_slice(name)?;
     Ok(Items::from_vec(folder))
+}
+
+/// The number and the folder of the next night, which is called `name`, after `count` nights.
+pub(crate) fn next_folder(alloc: Global, count: u64, name: &[u8]) -> Result<(u32, Text), Failure>
+    ensures number { IfOk result (λ next. next.0 ≡ count + 1) }
+    ensures folder { IfOk result (λ next. next.1 ≡ folder_after count name.now) }
+    ensures before { IfErr result IsBefore }
+{
+    if MOST_NIGHTS <= count {
+        return Err(Failure::TooMany);
+    }
+    let number = count as u32 + 1;
+    Ok((number, folder_name(alloc, number, name)?))
 }

@@ -1,4 +1,4 @@
-ghost use Rattle.std.specs.Prelude.{◌≡◌, ◌+◌, IfErr, IfOk};
+ghost use Rattle.std.specs.Prelude.{◌≡◌, IfErr, IfOk};
 ghost use Rattle.kept_files.specs.Files.{AreKeptFiles};
 ghost use Rattle.night_command.specs.CommandLine.{CanShare};
 ghost use Rattle.hub_command.specs.Failure.{IsBefore};
@@ -9,8 +9,7 @@ use crate::day::Day;
 use crate::entry::{NightBytes, entry_in};
 use crate::failure::Failure;
 use crate::made::{file_of, made_files};
-use crate::names::folder_name;
-use crate::older::Older;
+use crate::older::{Older, next_after};
 use crate::papers::HubPapers;
 use crate::setting::Setting;
 use crate::side::{Side, side_of};
@@ -29,9 +28,6 @@ use std::alloc::Global;
 use std::sync::Wait;
 use std::thread::Threads;
 use std::time::Clock;
-
-/// The most nights that a hub has.
-const MOST_NIGHTS: usize = 999_999;
 
 /// A night that is made, and isn't kept yet.
 #[derive(Drop)]
@@ -120,19 +116,6 @@ fn laid_out(alloc: Global, tonight: Tonight) -> Result<Laid, NoMemory>
     })
 }
 
-/// The number and the folder of the next night, after `count` nights.
-fn next_folder(alloc: Global, count: usize, name: &[u8]) -> Result<(u32, Text), Failure>
-    ensures number { IfOk result (λ next. next.0 ≡ count + 1) }
-    ensures folder { IfOk result (λ next. next.1 ≡ night.folder_after count name.now) }
-    ensures before { IfErr result IsBefore }
-{
-    if MOST_NIGHTS <= count {
-        return Err(Failure::TooMany);
-    }
-    let number = count as u32 + 1;
-    Ok((number, folder_name(alloc, number, name)?))
-}
-
 /// What is kept of the night in the folder `folder`.
 fn entry_of_night(
     alloc: Global,
@@ -174,6 +157,7 @@ fn mark_of(
         name: copy_text(alloc, folder)?,
         moment: copy_text(alloc, setting.at.digits())?,
         before: copy_text(alloc, before)?,
+        is_archived: false,
     })
 }
 
@@ -274,7 +258,7 @@ pub(crate) fn draft_of<R: Threads + Wait + Clock + Sync>(
     ensures draft { IfOk result (night.IsDraftOf setting.now older.now papers.now input.now again.now) }
     ensures before { IfErr result IsBefore }
 {
-    let (number, folder) = next_folder(alloc, older.order.as_slice().len(), setting.name)?;
+    let (number, folder) = next_after(alloc, older, setting.name)?;
     let made = tonight_of(rt, alloc, setting, papers, older.entries.as_slice(), input)?;
     let laid = laid_out(alloc, made)?;
     let name = folder.as_slice();
@@ -394,6 +378,14 @@ pub fn made_of<R: Threads + Wait + Clock + Sync>(
         tables,
     } = draft;
     let chain = check_draft(alloc, setting, older, folder.as_slice(), entry)?;
-    let side = side_of(alloc, folder, tables, laid.status, day, changes)?;
+    let side = side_of(
+        alloc,
+        folder,
+        tables,
+        laid.status,
+        day,
+        changes,
+        setting.program,
+    )?;
     made_by(alloc, setting, &chain, papers, number, laid, side)
 }

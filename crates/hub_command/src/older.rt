@@ -1,13 +1,16 @@
-ghost use Rattle.std.specs.Prelude.{◌≡◌, IfErr, IfOk, option_map};
+ghost use Rattle.std.specs.Prelude.{◌≡◌, ◌+◌, IfErr, IfOk, option_map};
+ghost use Rattle.night_marks.specs.Count.{night_count};
 ghost use Rattle.hub_command.specs.Failure.{IsBefore};
-ghost use Rattle.hub_command.specs.Night.{IsOlder, last_mark};
+ghost use Rattle.hub_command.specs.Night.{IsOlder, folder_after, last_mark, map_now};
 
 use crate::chain::{Chain, chain_at};
 use crate::failure::Failure;
-use hub_kinds::Items;
+use crate::names::next_folder;
+use hub_kinds::{Items, Text};
 use hub_ledger::NightEntry;
 use night_folder::{entries_in, read_nights};
-use night_marks::{BadFile, NightMark, in_order};
+use night_marks::{BadFile, NightMark, in_order, night_count};
+use std::alloc::Global;
 use std::rt::Files;
 
 /// The nights of a hub, and what was read of them.
@@ -49,4 +52,19 @@ pub fn older_of<'a, R: Files + AllocGlobal + Clone + Drop>(
         bad: Items::from_vec(bad),
         chain,
     })
+}
+
+/// The number and the folder of the night called `name` after `older`.
+pub(crate) fn next_after(
+    alloc: Global,
+    older: &Older<'_>,
+    name: &[u8],
+) -> Result<(u32, Text), Failure>
+    ensures number { IfOk result (λ next. next.0 ≡ night_count (map_now older.now.order) + 1) }
+    ensures folder { IfOk result (λ next. next.1 ≡ folder_after (night_count (map_now older.now.order)) name.now) }
+    ensures before { IfErr result IsBefore }
+{
+    let count = night_count(alloc, older.order.as_slice())?;
+    let (number, folder) = next_folder(alloc, count, name)?;
+    Ok((number, folder))
 }

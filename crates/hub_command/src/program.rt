@@ -5,21 +5,25 @@ ghost use Rattle.hub_command.specs.Asked.{run_in};
 ghost use Rattle.hub_command.specs.CommandLine.{IsCommandLine};
 ghost use Rattle.hub_command.specs.Failure.{IsBefore, IsUnprinted};
 ghost use Rattle.hub_command.specs.Program as program;
+ghost use Rattle.hub_command.specs.Programs.{IsProgramLine};
 
-use crate::command::{Asked, Options, read_words};
+use crate::command::{Asked, Options, PROGRAM, read_words};
 use crate::failure::Failure;
 use crate::give_up::{give_up_last, give_up_tonight};
 use crate::init::init_hub;
+use crate::intact::{note_last_night, see_intact};
 use crate::lock::{Lock, Lockable};
 use crate::papers::path_in;
+use crate::program_sum::program_line;
+use crate::progress::{clear, show};
 use crate::run::run_on;
 use crate::setting::Setting;
 use crate::told::Told;
 use hub_kinds::copy_text;
-use night_ends::print_text;
 use night_folder::read_paper;
 use night_review::{ReviewFault, limit, moment_now};
 use night_shelf::FolderShelf;
+use program_frame::print_out;
 use std::alloc::Global;
 use std::convert::AsStr;
 use std::fs::OpenOptions;
@@ -31,14 +35,15 @@ use std::thread::Threads;
 use std::time::Clock;
 
 /// Runs the program on its arguments, without its name, if these begin with a command of a hub, and gives its exit status: that of what is
-/// told, or of the failure whose lines it has printed on `err`.
-pub fn hub_main<R, S, O, E>(rt: &R, words: &[S], out: &mut O, err: &mut E) -> u8
+/// told, or of the failure whose lines it has printed on `err`. A run shows on `shown` at which step it is, and clears it at the end.
+pub fn hub_main<R, S, O, E, P>(rt: &R, words: &[S], out: &mut O, err: &mut E, shown: &mut P) -> u8
 where
     R: Files + AllocGlobal + Threads + Wait + Clock + Sync + Clone + Drop,
     R::File: Lockable,
     S: AsStr,
     O: Write,
     E: Write,
+    P: Write,
     ensures status { program.IsStatus result }
     ensures silent { 2 ≤ result → result ≢ 5 → out.new ≡ out.old }
     ensures quiet { result ≤ 1 → err.new ≡ err.old }
@@ -47,14 +52,19 @@ where
 {
     match read_words(rt.alloc(), words) {
         Ok(Asked::Init(hub)) => end(rt.alloc(), init_hub(rt, hub), out, err),
-        Ok(Asked::Run(hub, options)) => end(rt.alloc(), run_hub(rt, hub, &options), out, err),
+        Ok(Asked::Run(hub, options)) => end(
+            rt.alloc(),
+            run_hub(rt, hub, &options, shown),
+            out,
+            err,
+        ),
         Ok(Asked::GiveUp(hub, not_sent)) => end(rt.alloc(), give_up(rt, hub, not_sent), out, err),
-        Ok(Asked::Show(text)) => finish(rt.alloc(), text.as_bytes(), 0, out, err),
-        Err(mistake) => mistake.report(rt.alloc(), err).status,
+        Ok(Asked::Show(text)) => print_out(PROGRAM, text.as_bytes(), 0, out, err),
+        Err(mistake) => mistake.report(PROGRAM, err).status,
     }
 }
 
-/// Prints what is told, or reports the failure, and gives the status.
+/// Prints the lines, or reports the failure, and gives the status.
 fn end<O: Write, E: Write>(
     alloc: Global,
     told: Result<Told, Failure>,
@@ -70,28 +80,9 @@ fn end<O: Write, E: Write>(
     ensures printed { result ≤ 1 → program.IsTold told result (O.contents out.old) (O.contents out.new) }
 {
     match told {
-        Ok(told) => finish(alloc, told.text.as_slice(), told.status, out, err),
+        Ok(told) => print_out(PROGRAM, told.text.as_slice(), told.status, out, err),
         Err(failure) => failure.report(alloc, err).status,
     }
-}
-
-/// Prints a text on standard output. Gives `status`, or the status of a failure of standard output.
-fn finish<O: Write, E: Write>(
-    alloc: Global,
-    text: &[u8],
-    status: u8,
-    out: &mut O,
-    err: &mut E,
-) -> u8
-    requires { status ≤ 1 }
-    ensures status { (result ≡ status) ⊎ (result ≡ 5) }
-    ensures printed { result ≢ 5 → Appends (O.contents out.old) (O.contents out.new) text.now }
-    ensures quiet { result ≢ 5 → err.new ≡ err.old }
-{
-    if print_text(text, out).is_err() {
-        return Failure::Stdout.report(alloc, err).status;
-    }
-    status
 }
 
 /// Takes the lock of the hub `hub`, which is held as long as the file is open.
@@ -143,13 +134,15 @@ fn name_of<'a>(options: &'a Options<'_>) -> &'a [u8]
     }
 }
 
-/// The night of the hub `hub` that the options name.
+/// The night of the hub `hub` that the options name, which the program of the sum `sum` makes.
 fn setting_of<'a>(
     hub: &'a str,
     options: &'a Options<'a>,
     limit: &'a [u8],
     clock: &'a [u8],
+    sum: &'a [u8],
 ) -> Setting<'a>
+    requires program { IsProgramLine sum.now }
     ensures asked { program.IsSettingOf hub.entry.now (run_in options.entry.now) result }
     ensures sharing { result.sharing ≡ options.entry.now.sharing }
 {
@@ -162,25 +155,60 @@ fn setting_of<'a>(
         sharing: options.sharing,
         limit,
         clock,
+        program: sum,
     }
 }
 
-/// Runs the night that the options name, with the hub's lock.
-fn run_hub<R>(rt: &R, hub: &str, options: &Options<'_>) -> Result<Told, Failure>
+/// Runs the night that `options` name of the hub `hub`, with its lock, if the nights that it has are intact, and writes down which one is
+/// the last.
+fn run_locked<R, P>(
+    rt: &R,
+    hub: &str,
+    options: &Options<'_>,
+    shown: &mut P,
+) -> Result<Told, Failure>
 where
     R: Files + AllocGlobal + Threads + Wait + Clock + Sync + Clone + Drop,
     R::File: Lockable,
+    P: Write,
     requires sharing { CanShare options.now.sharing }
     ensures told { IfOk result (program.IsNightRun hub.now (run_in options.now)) }
     ensures values { IfOk result (λ told. told.status ≤ 1) }
     ensures before { IfErr result IsUnprinted }
 {
     let _lock = lock_hub(rt, hub)?;
+    show(shown, "looking at the nights of the hub");
+    see_intact(rt, hub)?;
     let limit = clock_text(limit(rt))?;
     let clock = clock_text(moment_now(rt))?;
+    let program = program_line(rt)?;
     let mut shelf = FolderShelf::at(rt, hub);
-    let setting = setting_of(hub, options, limit.as_bytes(), clock.as_bytes());
-    run_on(rt, &mut shelf, &setting)
+    let setting = setting_of(
+        hub,
+        options,
+        limit.as_bytes(),
+        clock.as_bytes(),
+        program.as_slice(),
+    );
+    let told = run_on(rt, &mut shelf, &setting, shown)?;
+    note_last_night(rt, hub)?;
+    Ok(told)
+}
+
+/// Runs the night that `options` name of the hub `hub`, and clears what `shown` shows of it.
+fn run_hub<R, P>(rt: &R, hub: &str, options: &Options<'_>, shown: &mut P) -> Result<Told, Failure>
+where
+    R: Files + AllocGlobal + Threads + Wait + Clock + Sync + Clone + Drop,
+    R::File: Lockable,
+    P: Write,
+    requires sharing { CanShare options.now.sharing }
+    ensures told { IfOk result (program.IsNightRun hub.now (run_in options.now)) }
+    ensures values { IfOk result (λ told. told.status ≤ 1) }
+    ensures before { IfErr result IsUnprinted }
+{
+    let told = run_locked(rt, hub, options, shown);
+    clear(shown);
+    told
 }
 
 /// A text of the clock.

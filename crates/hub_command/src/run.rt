@@ -11,6 +11,7 @@ use crate::failure::Failure;
 use crate::night::{Made, made_of};
 use crate::older::{Older, older_of};
 use crate::papers::{HubPapers, papers_at, path_in};
+use crate::progress::show;
 use crate::reading::day_files_at;
 use crate::ready::{Ready, ready_text};
 use crate::setting::Setting;
@@ -23,6 +24,7 @@ use night_marks::NightMark;
 use night_review::{ReviewFault, nights_at};
 use night_shelf::{NightFile, Shelf, ShelfFault, keep};
 use std::alloc::Global;
+use std::io::Write;
 use std::rt::Files;
 use std::str;
 use std::sync::Wait;
@@ -99,9 +101,10 @@ where
 }
 
 /// Finds the night that `setting` names, or makes it.
-fn found_at<R>(rt: &R, setting: &Setting<'_>) -> Result<Found, Failure>
+fn found_at<R, P>(rt: &R, setting: &Setting<'_>, shown: &mut P) -> Result<Found, Failure>
 where
     R: Files + AllocGlobal + Threads + Wait + Clock + Sync + Clone + Drop,
+    P: Write,
     requires sharing { CanShare setting.now.sharing }
     ensures found { IfOk result (run.IsFoundAt setting.now) }
     ensures before { IfErr result IsBefore }
@@ -110,12 +113,14 @@ where
     let nights = path_in(alloc, setting.hub.as_bytes(), b"nights")?;
     let marks = marks_at(rt, setting.hub, nights.as_slice())?;
     let older = older_of(rt, nights.as_slice(), marks.as_slice())?;
+    show(shown, "reading the files of the day");
     let files = day_files_at(rt, setting)?;
     let listing = listing_of(alloc, files.as_slice())?;
     if let Some(there) = there_at(rt, nights.as_slice(), &older, setting, listing.as_slice())? {
         return Ok(Found::There(there));
     }
     let papers = papers_at(rt, setting.hub.as_bytes())?;
+    show(shown, "working on each file alone");
     match day_of(
         rt,
         alloc,
@@ -126,7 +131,10 @@ where
         listing,
     )? {
         Judged::Aside(lines) => Ok(Found::Aside(lines)),
-        Judged::Day(day) => Ok(Found::Made(made_at(rt, setting, older, &papers, day)?)),
+        Judged::Day(day) => {
+            show(shown, "making the night");
+            Ok(Found::Made(made_at(rt, setting, older, &papers, day)?))
+        }
     }
 }
 
@@ -228,20 +236,30 @@ fn keep_made<S: Shelf>(
 /// Runs the night of `setting` on the shelf of the hub. If the night is the last one already, nothing is run. Its input is what goes in of
 /// the files of the day, without those of which an older night delivered a set and that aren't asked for again. If each is set aside, no
 /// night is made. What is given is printed, and the status that the program ends with. A night is only kept if all nights with it
-/// continue; a stop at any moment, and a failure, leave the nights as they were, or with this one.
-pub fn run_on<R, S>(rt: &R, shelf: &mut S, setting: &Setting<'_>) -> Result<Told, Failure>
+/// continue; a stop at any moment, and a failure, leave the nights as they were, or with this one. What is shown on `shown` says at which
+/// step the run is.
+pub fn run_on<R, S, P>(
+    rt: &R,
+    shelf: &mut S,
+    setting: &Setting<'_>,
+    shown: &mut P,
+) -> Result<Told, Failure>
 where
     R: Files + AllocGlobal + Threads + Wait + Clock + Sync + Clone + Drop,
     S: Shelf,
+    P: Write,
     requires sharing { CanShare setting.now.sharing }
     ensures done { IfOk result (run.IsDone setting.now (S.place shelf.old) (S.place shelf.new)) }
     ensures stopped { run.MayLeaveOne setting.now (S.place shelf.old) (S.place shelf.new) }
     ensures before { IfErr result (run.IsFailureOf setting.now) }
 {
-    let found = found_at(rt, setting)?;
+    let found = found_at(rt, setting, shown)?;
     match found {
         Found::There(there) => Ok(told_again(rt.alloc(), setting, &there)?),
         Found::Aside(lines) => Err(Failure::AllAside(lines)),
-        Found::Made(made) => keep_made(rt.alloc(), shelf, setting, &made),
+        Found::Made(made) => {
+            show(shown, "writing the night");
+            keep_made(rt.alloc(), shelf, setting, &made)
+        }
     }
 }

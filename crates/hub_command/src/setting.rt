@@ -20,4 +20,6 @@ pub struct Setting<'a> {
     pub limit: &'a [u8],
     /// What the clock says.
     pub clock: &'a [u8],
+    /// The sum of the program that makes the night.
+    pub program: &'a [u8],
 }

@@ -12,7 +12,7 @@ use std::alloc::Global;
 pub struct Side {
     pub folder: Text,
     pub tables: Items<NightFile>,
-    /// What came in: the list of the files, what is asked for again, and the input.
+    /// What came in: the list of the files, what is asked for again, and the input; and the sum of the program.
     pub came: Items<NightFile>,
     /// The lines on guides that have changed, and a line for each file of the day.
     pub lines: Text,
@@ -50,8 +50,8 @@ fn with_lines(
     Ok(all)
 }
 
-/// What is kept of the night in the folder `folder` beside what it gives: what came in, and with `tables` the lines `changes`, on guides
-/// that have changed, and those on the files of the day.
+/// What is kept of the night in the folder `folder` beside what it gives: what came in, the sum `program`, and with `tables` the lines
+/// `changes`, on guides that have changed, and those on the files of the day.
 pub(crate) fn side_of(
     alloc: Global,
     folder: Text,
@@ -59,8 +59,9 @@ pub(crate) fn side_of(
     status: u8,
     day: Day,
     changes: &[u8],
+    program: &[u8],
 ) -> Result<Side, NoMemory>
-    ensures { IfOk result (night.IsSideOf folder tables status day changes.now) }
+    ensures { IfOk result (night.IsSideOf folder tables status day changes.now program.now) }
 {
     let Day {
         listing,
@@ -69,7 +70,7 @@ pub(crate) fn side_of(
         lines,
         is_whole,
     } = day;
-    let came = came_files(alloc, listing, again, input)?;
+    let came = came_files(alloc, listing, again, input, program)?;
     let tables = with_lines(alloc, tables, changes, lines.as_slice())?;
     Ok(Side {
         folder,

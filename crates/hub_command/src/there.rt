@@ -15,7 +15,7 @@ use crate::setting::Setting;
 use crate::side::joined;
 use hub_kinds::{Items, NoMemory, Text, copy_text};
 use night_folder::{PaperAt, read_paper};
-use night_marks::NightMark;
+use night_marks::{NightMark, night_count};
 use night_review::judged;
 use std::alloc::Global;
 use std::rt::Files;
@@ -45,7 +45,8 @@ fn is_named(
     ensures { IfOk result (λ named. named ≡ true → there.IsNamed setting.now number mark.now) }
 {
     let folder = folder_name(alloc, number, setting.name)?;
-    Ok(mark.name.as_slice() == folder.as_slice() && mark.moment.as_slice() == setting.at.digits())
+    let is_night = mark.name.as_slice() == folder.as_slice() && !mark.is_archived;
+    Ok(is_night && mark.moment.as_slice() == setting.at.digits())
 }
 
 /// The status that a file `done` says.
@@ -164,7 +165,8 @@ pub(crate) fn there_at<R: Files + AllocGlobal>(
     let Some(last) = order.last() else {
         return Ok(None);
     };
-    if 999_999 < order.len() || !is_named(rt.alloc(), setting, order.len() as u32, last)? {
+    let count = night_count(rt.alloc(), order)?;
+    if 999_999 < count || !is_named(rt.alloc(), setting, count as u32, last)? {
         return Ok(None);
     }
     let folder = path_in(rt.alloc(), nights, last.name.as_slice())?;
@@ -172,7 +174,6 @@ pub(crate) fn there_at<R: Files + AllocGlobal>(
         return Ok(None);
     }
     check_all(rt.alloc(), older, last, setting.limit)?;
-    let number = order.len() as u32;
-    let there = given_at(rt, nights, last.name.as_slice(), number, &older.chain)?;
+    let there = given_at(rt, nights, last.name.as_slice(), count as u32, &older.chain)?;
     Ok(Some(there))
 }

@@ -1,6 +1,7 @@
 -- Files and folders that were asked for by their paths (own): what was read of each.
 use Rattle.std.specs.Prelude.{ℕ, ◌==◌, List, [], ◌∷◌, Option, Some, None, if◌then◌else◌}
 use Rattle.night_ends.specs.Outbox.{path_in}
+use Rattle.night_marks.specs.declared.bad.NightFile.{NightFile}
 
 -- a file: its bytes, if it can be read
 pub record FileValue : Type 0 where
@@ -11,6 +12,11 @@ pub record FileValue : Type 0 where
 pub record FolderValue : Type 0 where
   pub path : List ℕ
   pub names : Option (List (List ℕ))
+
+-- a file that can't be read
+abbrev pub unread : {X : Type 0} → NightFile → Option X → Option NightFile
+unread file None = Some file
+unread file (Some bytes) = None
 
 abbrev pub bytes_or_none : Option (List ℕ) → List ℕ
 bytes_or_none None = []

@@ -24,6 +24,7 @@ pub record IsMark (nights name : List ℕ) (mark : NightMark) : Type 0 where
   pub name_is : mark.name ≡ name
   pub moment_is : mark.moment ≡ bytes_or_none at.bytes
   pub named_is : mark.before ≡ first_line (bytes_or_none before.bytes)
+  pub unarchived : mark.is_archived ≡ false
 
 -- a name in the folder is that of a night, or it is passed over: it is hidden, or has no file `done`
 abbrev pub IsFound : (nights name : List ℕ) → Option NightMark → Type 0

@@ -1,5 +1,5 @@
 -- What was read of each night (own): what is kept of it, or the first file that isn't what a night leaves.
-use Rattle.std.specs.Prelude.{◌≡◌, ⊤, ℕ, Bool, true, false, eqb, List, [], ◌∷◌, ◌++◌, Option, Some, None, IfSome, codes, map}
+use Rattle.std.specs.Prelude.{◌≡◌, ⊤, ℕ, Bool, true, false, eqb, List, [], ◌∷◌, ◌++◌, Option, Some, None, IfSome, MatchBool, codes, map}
 use Rattle.std.specs.List.{AllZip, starts_with}
 use Rattle.hex.specs.Hex.{encode_lower}
 use Rattle.sha2.specs.Sha256.{sha256}
@@ -12,7 +12,8 @@ use Rattle.night_entries.specs.declared.fault.Paper.{Paper}
 use Rattle.night_entries.specs.declared.fault.Paper.TheVariants as paper
 use Rattle.night_entries.specs.declared.files.NamedSum.{NamedSum}
 use Rattle.std.specs.Option.{option_or}
-use Rattle.night_folder.specs.Files.{FileValue, FolderValue, bytes_or_none}
+use Rattle.night_folder.specs.Archived.{IsArchiveRead}
+use Rattle.night_folder.specs.Files.{FileValue, FolderValue, bytes_or_none, unread}
 use Rattle.night_marks.specs.declared.bad.BadFile.{BadFile}
 use Rattle.night_marks.specs.declared.bad.FileState.{FileState}
 use Rattle.night_marks.specs.declared.bad.FileState.TheVariants as state
@@ -73,11 +74,6 @@ pub record AreFilesAt (folder : List ℕ) (files : NightFiles) : Type 0 where
 -- the input is the one whose sum was written down
 abbrev pub is_summed : (input written : List ℕ) → Bool
 is_summed input written = starts_with eqb written (encode_lower (sha256 input))
-
--- a file that can't be read
-abbrev pub unread : {X : Type 0} → NightFile → Option X → Option NightFile
-unread file None = Some file
-unread file (Some bytes) = None
 
 -- the first one that can't be read, of those of which a night was made, and of those that it left
 abbrev pub unread_of : MadeOf → Option NightFile
@@ -140,6 +136,8 @@ IsWrong mark files file.NextCounters = IsRefusedIn mark files paper.NextCounters
 IsWrong mark files file.Sums = IsRefusedIn mark files paper.Sums
 IsWrong mark files file.Track = IsRefusedIn mark files paper.Track
 IsWrong mark files file.Out = ⊥
+IsWrong mark files file.Delivered = ⊥
+IsWrong mark files file.Addresses = ⊥
 
 abbrev pub IsBad : NightMark → NightFiles → NightFile → FileState → Type 0
 IsBad mark files file state.Unread = first_unread files ≡ Some file
@@ -155,11 +153,15 @@ abbrev pub IsReadOf : NightMark → NightFiles → NightRead → Type 0
 IsReadOf mark files (read.Entry entry) = IsEntryOf mark files entry
 IsReadOf mark files (read.Bad bad) = (bad.night ≡ mark.name) × IsBad mark files bad.file bad.state
 
--- a night of the folder `nights`, as it was read
-pub record IsRead (nights : List ℕ) (mark : NightMark) (read : NightRead) : Type 0 where
+-- a night of the folder `nights` that isn't archived, as it was read
+pub record IsNightRead (nights : List ℕ) (mark : NightMark) (read : NightRead) : Type 0 where
   pub files : NightFiles
   pub at : AreFilesAt (path_in nights mark.name) files
   pub read_is : IsReadOf mark files read
+
+-- a night of the folder `nights`, as it was read; one that stands for archived nights has other files
+abbrev pub IsRead : (nights : List ℕ) → NightMark → NightRead → Type 0
+IsRead nights mark read = MatchBool mark.is_archived (IsArchiveRead nights mark read) (IsNightRead nights mark read)
 
 -- the nights of which an entry is kept, and the files of the others
 abbrev pub entry_in : NightRead → Option NightEntry

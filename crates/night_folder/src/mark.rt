@@ -21,7 +21,7 @@ fn is_hidden(name: &[u8]) -> bool
 }
 
 /// Whether something may be at `path`.
-fn is_there<R: Files>(rt: &R, path: &[u8]) -> bool
+pub fn is_there<R: Files>(rt: &R, path: &[u8]) -> bool
     ensures { result ≡ false → marks.IsAbsent path.now }
 {
     match str::from_utf8(path) {
@@ -48,6 +48,7 @@ fn mark_at<R: Files + AllocGlobal>(
         name: copy_text(rt.alloc(), name)?,
         moment: copy_text(rt.alloc(), at.bytes_or_none())?,
         before: copy_text(rt.alloc(), first_line(before.bytes_or_none()))?,
+        is_archived: false,
     })
 }
 

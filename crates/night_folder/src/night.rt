@@ -1,12 +1,14 @@
 ghost use Rattle.std.specs.Prelude.{◌≡◌, None, false, true, IfErr, IfOk, OnOk, map};
 ghost use Rattle.std.specs.List.{AllZip, filter_map};
 ghost use Rattle.std.specs.Option.{option_or};
+ghost use Rattle.night_folder.specs.Files.{unread};
 ghost use Rattle.night_folder.specs.Nights as spec;
 ghost use Rattle.night_folder.specs.declared.files.NightFiles.{NightFiles};
 ghost use Rattle.night_marks.specs.declared.mark.NightMark.{NightMark};
 ghost use Rattle.night_entries.specs.Refused.{IsEntryFault};
 ghost use Rattle.night_entries.specs.declared.entry.Papers.{Papers};
 
+use crate::archived::read_archived;
 use crate::files::{Left, MadeOf, NightFiles, read_files};
 use crate::paper::{PaperAt, path_in};
 use hub_kinds::{NoMemory, copy_text};
@@ -44,8 +46,8 @@ impl From<NoMemory> for NightFault {
 }
 
 /// The file, if it can't be read.
-fn unread(paper: &PaperAt, file: NightFile) -> Option<NightFile>
-    ensures { result ≡ spec.unread file paper.now.bytes }
+pub(crate) fn unread(paper: &PaperAt, file: NightFile) -> Option<NightFile>
+    ensures { result ≡ unread file paper.now.bytes }
 {
     match paper.bytes() {
         Some(_) => None,
@@ -53,7 +55,7 @@ fn unread(paper: &PaperAt, file: NightFile) -> Option<NightFile>
     }
 }
 
-fn or(first: Option<NightFile>, second: Option<NightFile>) -> Option<NightFile>
+pub(crate) fn or(first: Option<NightFile>, second: Option<NightFile>) -> Option<NightFile>
     ensures { result ≡ option_or first second }
 {
     match first {
@@ -74,7 +76,7 @@ fn unread_of(made: &MadeOf) -> Option<NightFile>
 }
 
 fn unlisted(left: &Left) -> Option<NightFile>
-    ensures { result ≡ spec.unread NightFile.Out left.now.found }
+    ensures { result ≡ unread NightFile.Out left.now.found }
 {
     match &left.found {
         Some(_) => None,
@@ -195,7 +197,20 @@ fn read_of(alloc: Global, mark: &NightMark, files: &NightFiles) -> Result<NightR
     }
 }
 
-/// Reads a night of the folder at the path `nights`.
+/// Reads the night `mark` of the folder at the path `nights`, which isn't archived.
+fn read_unarchived<R: Files + AllocGlobal + Clone + Drop>(
+    rt: &R,
+    nights: &[u8],
+    mark: &NightMark,
+) -> Result<NightRead, NoMemory>
+    ensures { IfOk result (spec.IsNightRead nights.now mark.now) }
+{
+    let folder = path_in(rt.alloc(), nights, mark.name.as_slice())?;
+    let files = read_files(rt, folder.as_slice())?;
+    read_of(rt.alloc(), mark, &files)
+}
+
+/// Reads the night `mark` of the folder at the path `nights`.
 fn read_night<R: Files + AllocGlobal + Clone + Drop>(
     rt: &R,
     nights: &[u8],
@@ -203,9 +218,11 @@ fn read_night<R: Files + AllocGlobal + Clone + Drop>(
 ) -> Result<NightRead, NoMemory>
     ensures { IfOk result (spec.IsRead nights.now mark.now) }
 {
-    let folder = path_in(rt.alloc(), nights, mark.name.as_slice())?;
-    let files = read_files(rt, folder.as_slice())?;
-    read_of(rt.alloc(), mark, &files)
+    if mark.is_archived {
+        read_archived(rt, nights, mark)
+    } else {
+        read_unarchived(rt, nights, mark)
+    }
 }
 
 /// Reads these nights of the folder at the path `nights`, in their order. The only error is out of memory.

@@ -16,6 +16,10 @@ pub enum NightFile {
     /// The sets that it was asked for again.
     Again,
     Out,
+    /// The sets that archived nights delivered.
+    Delivered,
+    /// What comes next for each address that archived nights know.
+    Addresses,
 }
 
 /// What is wrong with a file.

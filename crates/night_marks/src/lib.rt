@@ -3,7 +3,9 @@
 //! Proved:
 //! - the order is the one of the definition: each night is followed by the first that names it as the one before it, or else by the
 //!   earliest that is left (`in_order`);
-//! - the nights that don't name the one before them are known exactly (`broken_links`).
+//! - the nights that don't name the one before them are known exactly (`broken_links`);
+//! - the nights that aren't archived, and those that stand for archived ones, are known exactly (`unarchived`, `archived`), and how many
+//!   nights there are together (`night_count`).
 //!
 //! The cost of the order grows with the square of the number of nights, in comparisons of names.
 //!
@@ -11,11 +13,13 @@
 #![tactic(auto)]
 
 mod bad;
+mod count;
 mod link;
 mod mark;
 mod order;
 
 pub use bad::{BadFile, FileState, NightFile};
+pub use count::{archived, archived_count, night_count, number_in, unarchived};
 pub use link::{BrokenLink, broken_links};
 pub use mark::NightMark;
 pub use order::in_order;

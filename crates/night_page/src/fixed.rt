@@ -25,7 +25,12 @@ summary { cursor: pointer; }
 pre { overflow-x: auto; }
 summary:focus-visible, a:focus-visible, input:focus-visible { outline: 2px solid; outline-offset: 2px; }
 footer { margin-top: 2em; font-size: .9em; overflow-wrap: anywhere; }
-@media print { .find { display: none; } }
+@media print {
+  .find { display: none; }
+  pre { white-space: pre-wrap; overflow: visible; overflow-wrap: anywhere; }
+  h2, summary { break-after: avoid; }
+  tr, dl { break-inside: avoid; }
+}
 </style>
 ";
 

@@ -10,12 +10,13 @@ use Rattle.night_breaches.specs.Breaches.{last_breach, last_name}
 use Rattle.night_breaches.specs.Sound.{AreSound}
 use Rattle.night_breaches.specs.declared.breach.Breach.{Breach}
 use Rattle.night_breaches.specs.declared.breach.Breach.TheVariants as breach
+use Rattle.night_marks.specs.Count.{archived_count, unarchived}
 use Rattle.night_marks.specs.Links.{broken_link, broken_links}
 use Rattle.night_marks.specs.declared.bad.BadFile.{BadFile}
 use Rattle.night_marks.specs.declared.link.BrokenLink.{BrokenLink}
 use Rattle.night_marks.specs.declared.mark.NightMark.{NightMark}
 use Rattle.night_review.specs.Count.{addresses_of, different}
-use Rattle.night_review.specs.GoingOn.{AreLinked, GoOn, IsJudged, all_breaches}
+use Rattle.night_review.specs.GoingOn.{AreLinked, GoOn, IsJudged, all_breaches, archived_line}
 
 nil_both : {X : Type 0} (xs ys : List X) → xs ++ ys ≡ [] → (xs ≡ []) × (ys ≡ [])
 nil_both [] ys is = (refl, is)
@@ -75,20 +76,28 @@ clean limit named order entries bad links found status zero links_are none = (go
         )
 
 -- what is printed is the text of what was found
-pub judged_by : (limit named : List ℕ) (order : List (Bor NightMark)) (entries : List NightEntry) (bad : List BadFile) (text : List ℕ)
-    (status addresses : ℕ) (links : List BrokenLink) (found : List Breach) → text ≡ report_text (length order) addresses bad links found
+pub judged_by : (limit named : List ℕ) (order nights : List (Bor NightMark)) (entries : List NightEntry) (bad : List BadFile)
+    (text lines : List ℕ) (status addresses count left : ℕ) (links : List BrokenLink) (found : List Breach)
+    → text ≡ archived_line count ++ lines → count ≡ archived_count (map (λ (n : Bor NightMark). n.now) order)
+    → lines ≡ report_text left addresses bad links found → left ≡ length nights
+    → map (λ (n : Bor NightMark). n.now) nights ≡ unarchived (map (λ (n : Bor NightMark). n.now) order)
     → addresses ≡ different [] (addresses_of entries) → links ≡ broken_links [] (map (λ (n : Bor NightMark). n.now) order)
     → found ≡ all_breaches limit named entries → ((found ≡ []) ↔ (AreSound limit [] entries × (last_name entries ≡ named)))
     → ((status ≡ 0) ↔ ((length bad ≡ 0) × (length links ≡ 0) × (length found ≡ 0)))
     → IsJudged limit named (map (λ (n : Bor NightMark). n.now) order) entries bad text status
-judged_by limit named order entries bad text status addresses links found text_by addresses_are links_are found_are none zero =
-    let nights : List NightMark = map (λ (n : Bor NightMark). n.now) order in
-    let count : ℕ = different [] (addresses_of entries) in
+judged_by limit named order nights entries bad text lines status addresses count left links found text_by count_is lines_by left_is
+    nights_are addresses_are links_are found_are none zero =
+    let marks : List NightMark = map (λ (n : Bor NightMark). n.now) order in
+    let known : ℕ = different [] (addresses_of entries) in
+    let many : left ≡ length (unarchived marks) =
+    left_is ∙ sym (length-map nights (λ (n : Bor NightMark). n.now)) ∙ ap (λ (l : List NightMark). length l) nights_are in
     record {
       text_is =
-          text_by ∙ ap (λ (n : ℕ). report_text n addresses bad links found) (sym (length-map order (λ (n : Bor NightMark). n.now)))
-          ∙ ap (λ (n : ℕ). report_text (length nights) n bad links found) addresses_are
-          ∙ ap (λ (l : List BrokenLink). report_text (length nights) count bad l found) links_are
-          ∙ ap (λ (f : List Breach). report_text (length nights) count bad (broken_links [] nights) f) found_are;
-      clean = clean limit named nights entries bad links found status zero links_are none;
+          text_by ∙ ap (λ (n : ℕ). archived_line n ++ lines) count_is
+          ∙ ap (λ (l : List ℕ). archived_line (archived_count marks) ++ l) (lines_by
+          ∙ ap (λ (n : ℕ). report_text n addresses bad links found) many
+          ∙ ap (λ (n : ℕ). report_text (length (unarchived marks)) n bad links found) addresses_are
+          ∙ ap (λ (l : List BrokenLink). report_text (length (unarchived marks)) known bad l found) links_are
+          ∙ ap (λ (f : List Breach). report_text (length (unarchived marks)) known bad (broken_links [] marks) f) found_are);
+      clean = clean limit named marks entries bad links found status zero links_are none;
     }

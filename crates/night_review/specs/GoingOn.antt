@@ -1,9 +1,10 @@
 -- Nights that were read continue (own), and what is printed of nights.
-use Rattle.std.specs.Prelude.{ℕ, ◌≡◌, ◌↔◌, ⊤, List, [], ◌∷◌, ◌++◌, length}
+use Rattle.std.specs.Prelude.{ℕ, ◌≡◌, ◌↔◌, ◌==◌, ⊤, List, [], ◌∷◌, ◌++◌, codes, decimal, if◌then◌else◌, length}
 use Rattle.hub_ledger.specs.declared.entry.NightEntry.{NightEntry}
 use Rattle.night_breaches.specs.Breaches.{breaches_after, last_breach, last_name}
 use Rattle.night_breaches.specs.Sound.{AreSound}
 use Rattle.night_breaches.specs.declared.breach.Breach.{Breach}
+use Rattle.night_marks.specs.Count.{archived_count, unarchived}
 use Rattle.night_marks.specs.Links.{broken_links}
 use Rattle.night_marks.specs.declared.bad.BadFile.{BadFile}
 use Rattle.night_marks.specs.declared.mark.NightMark.{NightMark}
@@ -26,10 +27,16 @@ pub record GoOn (limit named : List ℕ) (order : List NightMark) (entries : Lis
 abbrev pub all_breaches : (limit named : List ℕ) → List NightEntry → List Breach
 all_breaches limit named entries = breaches_after limit [] entries ++ last_breach named entries
 
--- what is printed
+-- how many nights are archived
+abbrev pub archived_line : (count : ℕ) → List ℕ
+archived_line count = if count == 0 then [] else codes "nights 1 to " ++ (decimal count ++ codes " are archived\n")
+
+-- what is printed; the nights that are counted are those that aren't archived
 abbrev pub day_text : (limit named : List ℕ) → List NightMark → List NightEntry → List BadFile → List ℕ
 day_text limit named order entries bad =
-    report_text (length order) (different [] (addresses_of entries)) bad (broken_links [] order) (all_breaches limit named entries)
+    archived_line (archived_count order)
+    ++ report_text (length (unarchived order)) (different [] (addresses_of entries)) bad (broken_links [] order)
+    (all_breaches limit named entries)
 
 -- what is printed of nights, and the status: 0 exactly if they continue
 pub record IsJudged (limit named : List ℕ) (order : List NightMark) (entries : List NightEntry) (bad : List BadFile)

@@ -2,14 +2,15 @@ ghost use Rattle.std.specs.Prelude.{◌≡◌, ◌↔◌, ◌⊎◌, ◌++◌, �
 ghost use Rattle.night_breaches.specs.Breaches.{last_name};
 ghost use Rattle.night_breaches.specs.Sound.{AreSound};
 ghost use Rattle.night_marks.specs.Links.{broken_links};
-ghost use Rattle.night_review.specs.GoingOn.{AreLinked, IsJudged, all_breaches};
+ghost use Rattle.night_review.specs.GoingOn.{AreLinked, IsJudged, all_breaches, archived_line};
 
 use crate::count::count_addresses;
 use breach_lines::report_text;
 use hub_kinds::NoMemory;
 use hub_ledger::NightEntry;
+use itoa::Buffer;
 use night_breaches::{Breach, breaches, last_breach};
-use night_marks::{BadFile, NightMark, broken_links};
+use night_marks::{BadFile, NightMark, archived_count, broken_links, unarchived};
 use std::alloc::Global;
 
 /// What is printed of nights, and the status.
@@ -47,6 +48,21 @@ fn is_clean(bad: usize, links: usize, found: usize) -> u8
     }
 }
 
+/// The line on archived nights, of which there are `count`, and after it `lines`.
+fn with_archived(alloc: Global, count: u64, lines: Vec<u8>) -> Result<Vec<u8>, NoMemory>
+    ensures { IfOk result (λ text. text.items ≡ archived_line count ++ lines.items) }
+{
+    if count == 0 {
+        return Ok(lines);
+    }
+    let mut digits = Buffer::new();
+    let mut text = Vec::from_slice(alloc, b"nights 1 to ")?;
+    text.extend_from_slice(digits.format(count).as_bytes())?;
+    text.extend_from_slice(b" are archived\n")?;
+    text.extend_from_slice(lines.as_slice())?;
+    Ok(text)
+}
+
 /// What is printed of the nights `order`, of which `entries` and `bad` were read. No moment may be after `limit`, and the last night must
 /// be the one called `named`.
 pub fn judged(
@@ -63,14 +79,16 @@ pub fn judged(
 {
     let links = broken_links(alloc, order)?;
     let found = all_breaches(alloc, entries, limit, named)?;
-    let text = report_text(
+    let nights = unarchived(alloc, order)?;
+    let lines = report_text(
         alloc,
-        order.len() as u64,
+        nights.len() as u64,
         count_addresses(alloc, entries)?,
         bad,
         links.as_slice(),
         found.as_slice(),
     )?;
+    let text = with_archived(alloc, archived_count(order), lines)?;
     Ok(Report {
         text,
         status: is_clean(bad.len(), links.len(), found.len()),

@@ -16,20 +16,26 @@
 use day_command::{Failure, day_main};
 use file_names::arguments;
 use hub_adopt::{adopt_main, begins_adopt};
-use hub_command::{hub_main, is_of_hub};
+use hub_command::{Terminal, hub_main, is_of_hub};
 use std::io;
+use std::io::IsTerminal;
 use std::process::ExitCode;
 
 fn main(rt: HostRuntime) -> ExitCode {
     let mut out = io::writer(&rt);
     let stderr = rt.stderr();
     let mut err = io::writer(&stderr);
+    let mut shown = Terminal {
+        to: io::writer(&stderr),
+        is_terminal: stderr.is_terminal(),
+    };
     let status = match arguments(&rt) {
         Ok(words) if is_of_hub(words.as_slice()) => hub_main(
             &rt,
             words.as_slice(),
             &mut out,
             &mut err,
+            &mut shown,
         ),
         Ok(words) if begins_adopt(words.as_slice()) => adopt_main(
             &rt,

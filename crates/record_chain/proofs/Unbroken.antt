@@ -160,6 +160,7 @@ none_after before (night ∷ nights) chained =
     both_none (breaks_on before night) (breaks_after (Some night) nights) (none_of before night chained.0)
     (none_after (Some night) nights chained.1)
 
-pub unbroken : (nights : List ReadNight) (found : List ChainBreak) → found ≡ breaks_after None nights
-    → (found ≡ []) ↔ AreChained None nights
-unbroken nights found is = (λ none. chained_after None nights (sym is ∙ none), λ chained. is ∙ none_after None nights chained)
+pub unbroken : (before : Option ReadNight) (nights : List ReadNight) (found : List ChainBreak) → found ≡ breaks_after before nights
+    → (found ≡ []) ↔ AreChained before nights
+unbroken before nights found is =
+    (λ none. chained_after before nights (sym is ∙ none), λ chained. is ∙ none_after before nights chained)

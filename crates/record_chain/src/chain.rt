@@ -1,4 +1,4 @@
-ghost use Rattle.std.specs.Prelude.{◌≡◌, ◌++◌, ◌↔◌, [], None, IfOk, OnOk, option_map};
+ghost use Rattle.std.specs.Prelude.{◌≡◌, ◌++◌, ◌↔◌, [], IfOk, OnOk, option_map};
 ghost use Rattle.record_chain.specs.Breaks as breaks;
 ghost use Rattle.record_chain.specs.Chained.{AreChained};
 
@@ -22,20 +22,22 @@ fn add_breaks<'a>(
     add_file_breaks(alloc, found, night)
 }
 
-/// What breaks the chain of `nights`, which are in their order, the first night of the hub first. The only error is out of memory.
+/// What breaks the chain of `nights`, which are in their order, after the night `before`; the first night of a hub has none before it. The
+/// only error is out of memory.
 pub fn chain_breaks<'a>(
     alloc: Global,
+    before: Option<&'a ReadNight>,
     nights: &'a [ReadNight],
 ) -> Result<Vec<ChainBreak<'a>>, NoMemory>
-    ensures breaks { IfOk result (λ found. found.items ≡ breaks.breaks_after None nights.entry.now) }
-    ensures chained { IfOk result (λ found. (found.items ≡ []) ↔ AreChained None nights.entry.now) }
+    ensures breaks { IfOk result (λ found. found.items ≡ breaks.breaks_after (option_map (λ b. b.now) before.entry) nights.entry.now) }
+    ensures chained { IfOk result (λ found. (found.items ≡ []) ↔ AreChained (option_map (λ b. b.now) before.entry) nights.entry.now) }
 {
     let mut found = Vec::new(alloc);
-    let mut before = None;
+    let mut last = before;
     for i in 0..nights.len() {
         let night = &nights[i];
-        add_breaks(alloc, &mut found, before, night)?;
-        before = Some(night);
+        add_breaks(alloc, &mut found, last, night)?;
+        last = Some(night);
     }
     Ok(found)
 }

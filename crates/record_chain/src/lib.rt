@@ -1,8 +1,9 @@
 //! The chain of a hub's records: each night's record has the next number, names the record before it, and lists the files of its night.
 //!
 //! Proved:
-//! - `chain_breaks` gives exactly what breaks the chain, night by night: a number that isn't one more than the one before, a record that
-//!   isn't the one which the next night names, and each file that is gone, is changed or isn't listed in the night's record;
+//! - `chain_breaks` gives exactly what breaks the chain after a night that is before it, night by night: a number that isn't one more than
+//!   the one before, a record that isn't the one which the next night names, and each file that is gone, is changed or isn't listed in the
+//!   night's record;
 //! - it gives nothing exactly if the nights are chained;
 //! - `append_breaks` writes a line for each of them, in which no name ends the line.
 //!

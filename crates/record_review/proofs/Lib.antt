@@ -1,3 +1,4 @@
 mod Last
 mod Nights
+mod Reviewing
 mod Zips

@@ -1,40 +1,30 @@
-use Rattle.std.proofs.Common.{◌≡◌, ◌∙◌, ap, subst, sym, map, true}
+use Rattle.std.proofs.Common.{◌∙◌, ap, map, sym}
 use Rattle.std.proofs.lemmas.Result.{IfErr-weaker, IfOk-weaker}
-use Rattle.clap.specs.Words.{App, HasKind, HasMatchesOf, app_of, fault_of, is_simple_and_free, kind_of, takes}
-use Rattle.clap.specs.declared.error.kind.ErrorKind.TheVariants.{OutOfMemory}
-use Rattle.hub_command.specs.CommandLine.{hub_app}
-use Rattle.hub_command.proofs.CommandLine.{asked, free, same, shown}
+use Rattle.clap.specs.Words.{App, app_of, takes}
+use Rattle.program_frame.proofs.ForAbove.{values_matched}
+use Rattle.program_frame.specs.Mistake.{IsUsage}
+use Rattle.hub_command.specs.CommandLine.{IsCommandLine, hub_app}
+use Rattle.hub_command.proofs.CommandLine.{asked, handed_on, same}
 use Rattle.hub_command.proofs.command.read_words.Goals as goal
 
-pub returns-in-Ok-clause-asked : goal.returns-in-Ok-clause-asked
-returns-in-Ok-clause-asked g c =
-    let app : app_of c.in_ok-command.command ≡ hub_app = c.in_ok-command.ensures in
+pub returns-in_err-values-clause-usage : goal.returns-in_err-values-clause-usage
+returns-in_err-values-clause-usage g c =
     let words = map g.S.AsStr.text c.args.words.now in
-    let has = subst (λ (a : App). HasMatchesOf a words c.in-Ok.matches) app c.in-Ok.ensures.matches in
-    IfOk-weaker c.request_asked.result _ _ (λ a given. asked words c.in-Ok.matches a has given) c.request_asked.ensures.given
+    handed_on c.from_residual-in_err-values.result c.in_err-values.field-0.0 (λ m. IsUsage m → IsCommandLine words → ⊥)
+    c.from_residual-in_err-values.ensures.1
+    (λ usage line. c.in_err-values.ensures.usage usage (ap (λ (a : App). takes a words) c.in_ok-command.ensures ∙ line.taken))
 
-pub returns-in-Err-clause-asked : goal.returns-in-Err-clause-asked
-returns-in-Err-clause-asked g c =
-    let app : app_of c.in_ok-command.command ≡ hub_app = c.in_ok-command.ensures in
+pub returns-in-Values-clause-asked : goal.returns-in-Values-clause-asked
+returns-in-Values-clause-asked g c =
     let words = map g.S.AsStr.text c.args.words.now in
-    let kind = subst (λ (a : App). HasKind (fault_of a words) c.in-Err.error) app
-    (c.in-Err.ensures.kinds (ap is_simple_and_free app ∙ free)) in
-    let passes : takes hub_app words ≡ true → kind_of c.in-Err.error ≡ OutOfMemory =
-    λ taken. c.in-Err.ensures.passes (ap (λ (a : App). takes a words) app ∙ taken) in
-    IfOk-weaker c.shown.result _ _ (λ a is. shown words c.in-Err.error a kind passes is) c.shown.ensures.shown
+    let has = values_matched (app_of c.in_ok-command.command) hub_app words c.in_ok-values.field-0 c.in-Values.values
+    c.in_ok-command.ensures c.in-Values.is c.in_ok-values.ensures.matched in
+    IfOk-weaker c.request_asked.result _ _ (λ a given. asked words c.in-Values.values a has given) c.request_asked.ensures.given
 
-pub returns-in-Ok-clause-usage : goal.returns-in-Ok-clause-usage
-returns-in-Ok-clause-usage g c =
-    let app : app_of c.in_ok-command.command ≡ hub_app = c.in_ok-command.ensures in
+pub returns-in-Values-clause-usage : goal.returns-in-Values-clause-usage
+returns-in-Values-clause-usage g c =
     let words = map g.S.AsStr.text c.args.words.now in
-    let m = c.in-Ok.matches in
-    let has = subst (λ (a : App). HasMatchesOf a words m) app c.in-Ok.ensures.matches in
-    IfErr-weaker c.request_asked.result _ _ (λ x is usage line. line.asked (sym (same words m has) ∙ is usage))
+    let has = values_matched (app_of c.in_ok-command.command) hub_app words c.in_ok-values.field-0 c.in-Values.values
+    c.in_ok-command.ensures c.in-Values.is c.in_ok-values.ensures.matched in
+    IfErr-weaker c.request_asked.result _ _ (λ x is usage line. line.asked (sym (same words c.in-Values.values has) ∙ is usage))
     c.request_asked.ensures.usage
-
-pub returns-in-Err-clause-usage : goal.returns-in-Err-clause-usage
-returns-in-Err-clause-usage g c =
-    let app : app_of c.in_ok-command.command ≡ hub_app = c.in_ok-command.ensures in
-    let words = map g.S.AsStr.text c.args.words.now in
-    IfErr-weaker c.shown.result _ _
-    (λ x is usage line. is usage (c.in-Err.ensures.passes (ap (λ (a : App). takes a words) app ∙ line.taken))) c.shown.ensures.usage

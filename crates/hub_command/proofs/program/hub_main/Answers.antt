@@ -34,8 +34,8 @@ returns-in-Ok-Show-clause-printed g c done =
           text_asked (map g.S.AsStr.text c.args.words.now) c.in-Ok-Show.field-0 c.in-Ok-Show.text c.in-Ok-Show.field-0-is
           c.in-Ok-Show.ensures.asked;
       text = c.as_bytes.result.now;
-      printed = c.finish.ensures.printed (omega (arith, done));
-      own_status = elim c.finish.ensures.status [
+      printed = c.print_out.ensures.printed (omega (arith, done));
+      own_status = elim c.print_out.ensures.status [
         | inl zero ↦ zero
         | inr five ↦ absurd (omega (arith, done, five))
       ];

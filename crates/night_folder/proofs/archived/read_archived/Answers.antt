@@ -1,0 +1,20 @@
+use Rattle.std.proofs.Common.{◌∙◌, ℕ, List, ap, subst}
+use Rattle.std.proofs.lemmas.Result.{IfOk-weaker}
+use Rattle.night_ends.specs.Outbox.{path_in}
+use Rattle.night_folder.specs.Archived.{AreArchiveFilesAt}
+use Rattle.night_folder.proofs.archived.read_archived.Goals as goal
+
+pub returns : goal.returns
+returns g c =
+    IfOk-weaker c.read_of.result _ _
+    (λ read of. record {
+      files = c.in_ok-files.files;
+      at =
+          subst (λ (folder : List ℕ). AreArchiveFilesAt folder c.in_ok-files.files)
+          (c.as_slice-3.ensures ∙ c.in_ok-folder.ensures
+          ∙ ap (λ (home : List ℕ). path_in home c.as_slice-2.result.now) (c.as_slice.ensures ∙ c.in_ok-home.ensures)
+          ∙ ap (path_in _) c.as_slice-2.ensures)
+          c.in_ok-files.ensures;
+      read_is = of;
+    })
+    c.read_of.ensures

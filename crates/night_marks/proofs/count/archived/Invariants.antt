@@ -1,0 +1,6 @@
+use Rattle.std.proofs.Common.{◌≡◌, map, take}
+use Rattle.night_marks.specs.Count.{archived}
+use Rattle.night_marks.proofs.count.archived.Given as goal
+
+abbrev pub invariant-loop-i : goal.invariant-loop-i
+invariant-loop-i l = map (λ n. n.now) l.found.items ≡ archived (map (λ n. n.now) (take l.i l.nights))
