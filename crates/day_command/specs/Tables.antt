@@ -3,6 +3,7 @@ use Rattle.std.specs.Prelude.{◌≡◌, ℕ, List, [], ◌++◌, codes, length}
 use Rattle.std.specs.List.{AllZip}
 use Rattle.night_ends.specs.Outbox.{path_in}
 use Rattle.night_folder.specs.Files.{FileValue}
+use Rattle.night_marks.specs.Count.{unarchived}
 use Rattle.night_marks.specs.Order.{in_order}
 use Rattle.night_marks.specs.declared.mark.NightMark.{NightMark}
 use Rattle.night_review.specs.Nights.{AreNights}
@@ -23,8 +24,8 @@ pub record IsStateAt (night : List ℕ) (state : TableState) : Type 0 where
   pub path_is : file.path ≡ path_in night (codes "track.csv")
   pub state_is : IsStateOf file.bytes state
 
--- the tables of the nights of a folder, in the nights' order
+-- the tables of the nights of a folder that aren't archived, in the nights' order
 pub record AreTables (nights : List ℕ) (tables : List NightTable) : Type 0 where
   pub marks : List NightMark
   pub marks_are : AreNights nights marks
-  pub read_by : AllZip (IsTableAt nights) (in_order (length marks) [] marks) tables
+  pub read_by : AllZip (IsTableAt nights) (unarchived (in_order (length marks) [] marks)) tables

@@ -9,7 +9,7 @@ ghost use Rattle.day_command.specs.Tables.{IsTableAt};
 use crate::failure::Failure;
 use crate::tables::table_at;
 use hub_kinds::NoMemory;
-use night_marks::{NightMark, in_order};
+use night_marks::{NightMark, in_order, unarchived};
 use night_review::nights_at;
 use night_search::append_unread;
 use std::alloc::Global;
@@ -86,5 +86,6 @@ pub(crate) fn export_nights<R: Files + AllocGlobal + Clone + Drop>(
 {
     let marks = nights_at(rt, nights)?;
     let order = in_order(rt.alloc(), marks.as_slice())?;
-    Ok(export_tables(rt, nights.as_bytes(), order.as_slice(), form)?)
+    let left = unarchived(rt.alloc(), order.as_slice())?;
+    Ok(export_tables(rt, nights.as_bytes(), left.as_slice(), form)?)
 }

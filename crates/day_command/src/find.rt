@@ -9,7 +9,7 @@ ghost use Rattle.day_command.specs.Tables.{IsTableAt};
 use crate::failure::Failure;
 use crate::tables::table_at;
 use hub_kinds::NoMemory;
-use night_marks::{NightMark, in_order};
+use night_marks::{NightMark, in_order, unarchived};
 use night_review::{Report, nights_at};
 use night_search::Search;
 use std::rt::Files;
@@ -52,9 +52,10 @@ pub(crate) fn find_nights<R: Files + AllocGlobal + Clone + Drop>(
 {
     let marks = nights_at(rt, nights)?;
     let order = in_order(rt.alloc(), marks.as_slice())?;
+    let left = unarchived(rt.alloc(), order.as_slice())?;
     let path = nights.as_bytes();
     let wanted = text.as_bytes();
-    let search = search_nights(rt, path, order.as_slice(), wanted)?;
+    let search = search_nights(rt, path, left.as_slice(), wanted)?;
     let found = search.report(rt.alloc(), wanted)?;
     Ok(Report {
         text: found.text,

@@ -6,8 +6,8 @@ use Rattle.night_marks.specs.declared.mark.NightMark.{NightMark}
 use Rattle.night_shelf.specs.Shelf.{Place}
 use Rattle.night_shelf.specs.declared.night.KeptNight.{KeptNight}
 use Rattle.night_shelf.specs.declared.night.NightFile.{NightFile}
-use Rattle.hub_command.specs.Night.{map_now}
-use Rattle.hub_command.specs.declared.night.Made.{Made}
+use Rattle.hub_folder.specs.Older.{map_now}
+use Rattle.hub_night.specs.declared.night.Made.{Made}
 use Rattle.hub_adopt.specs.Adopt as adopt
 use Rattle.hub_adopt.specs.Again.{IsMadeAgain}
 use Rattle.hub_adopt.specs.declared.adoption.Adoption.{Adoption}

@@ -10,8 +10,8 @@ use Rattle.night_command.specs.CommandLine.{CanShare, piece_given, workers_given
 use Rattle.night_ends.proofs.ForAbove.{found}
 use Rattle.program_frame.specs.Arguments.{value_in}
 use Rattle.program_frame.specs.Matching.{AsksForText}
-use Rattle.hub_command.specs.CommandLine.{is_path}
-use Rattle.hub_command.proofs.ForAbove.{given_within}
+use Rattle.hub_folder.specs.Names.{is_path}
+use Rattle.hub_night.proofs.ForAbove.{given_within}
 use Rattle.hub_adopt.specs.Asked.{IsAsked, IsRequest, request_as}
 use Rattle.hub_adopt.specs.CommandLine.{Request, adopt_app, is_adopt, request_by, request_given, request_in, request_of}
 use Rattle.hub_adopt.specs.declared.command.Asked.{Asked}

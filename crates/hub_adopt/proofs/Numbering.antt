@@ -3,7 +3,7 @@ use Rattle.std.proofs.Common.{◌≡◌, ◌∙◌, ℕ, ◌+◌, ◌<◌, List,
 use Rattle.std.proofs.Common.{sym, take}
 use Rattle.std.proofs.lemmas.List.{length-map, length-take, map-append, take_more}
 use Rattle.night_marks.specs.declared.mark.NightMark.{NightMark}
-use Rattle.hub_command.specs.Night.{map_now}
+use Rattle.hub_folder.specs.Older.{map_now}
 use Rattle.hub_adopt.specs.Lines.{line_of, lines_of}
 use denote.Ref.{Bor}
 

@@ -2,7 +2,7 @@
 use Rattle.std.proofs.Common.{◌≡◌, List, Option, Some, Result, Ok, Err, inl, ℕ}
 use Rattle.std.specs.Prelude.{IfOk}
 use Rattle.clap.specs.Words.{Text}
-use Rattle.hub_command.specs.declared.told.Told.{Told}
+use Rattle.hub_folder.specs.declared.told.Told.{Told}
 use Rattle.hub_adopt.specs.CommandLine.{Request, request_in}
 use Rattle.hub_adopt.specs.Program.{AreNightsOfHub, IsRun, IsTold}
 use Rattle.hub_adopt.specs.declared.refusal.Refusal.{Refusal}

@@ -7,9 +7,9 @@ use Rattle.night_review.specs.Nights.{AreNights}
 use Rattle.night_shelf.specs.Shelf as shelf
 use Rattle.night_shelf.specs.Shelf.{Changes, IsKept, Place}
 use Rattle.night_shelf.specs.declared.night.NightFile.{NightFile}
-use Rattle.hub_command.specs.Names.{folder_name}
-use Rattle.hub_command.specs.declared.night.Made.{Made}
-use Rattle.hub_command.specs.declared.told.Told.{Told}
+use Rattle.hub_folder.specs.Names.{folder_name}
+use Rattle.hub_night.specs.declared.night.Made.{Made}
+use Rattle.hub_folder.specs.declared.told.Told.{Told}
 use Rattle.hub_adopt.specs.Again.{GivesTheSame, IsMadeAgain, hub_nights}
 use Rattle.hub_adopt.specs.Given.{AreGivenIn}
 use Rattle.hub_adopt.specs.Lines.{lines_of}

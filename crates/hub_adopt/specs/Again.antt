@@ -9,14 +9,15 @@ use Rattle.night_folder.specs.Files.{FileValue}
 use Rattle.night_marks.specs.declared.mark.NightMark.{NightMark}
 use Rattle.night_review.specs.Nights.{AreNights}
 use Rattle.night_shelf.specs.declared.night.NightFile.{NightFile}
-use Rattle.hub_command.specs.Names.{is_night_name}
-use Rattle.hub_command.specs.Night.{IsMadeOf, IsOlder}
-use Rattle.hub_command.specs.Papers.{ArePapersAt}
-use Rattle.hub_command.specs.declared.day.Day.{Day}
-use Rattle.hub_command.specs.declared.night.Made.{Made}
-use Rattle.hub_command.specs.declared.older.Older.{Older}
-use Rattle.hub_command.specs.declared.papers.HubPapers.{HubPapers}
-use Rattle.hub_command.specs.declared.setting.Setting.{Setting}
+use Rattle.hub_folder.specs.Names.{is_night_name}
+use Rattle.hub_night.specs.Night.{IsMadeOf}
+use Rattle.hub_folder.specs.Older.{IsOlder}
+use Rattle.hub_folder.specs.Papers.{ArePapersAt}
+use Rattle.hub_night.specs.declared.day.Day.{Day}
+use Rattle.hub_night.specs.declared.night.Made.{Made}
+use Rattle.hub_folder.specs.declared.older.Older.{Older}
+use Rattle.hub_folder.specs.declared.papers.HubPapers.{HubPapers}
+use Rattle.hub_night.specs.declared.setting.Setting.{Setting}
 use Rattle.hub_adopt.specs.Given.{AreGivenIn, given_in}
 use Rattle.hub_adopt.specs.declared.adoption.Adoption.{Adoption}
 

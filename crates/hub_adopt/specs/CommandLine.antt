@@ -5,7 +5,7 @@ use Rattle.std.specs.Str.{bytes_eq}
 use Rattle.clap.specs.Words.{App, Text, takes, with_rule}
 use Rattle.night_command.specs.CommandLine.{piece_given, piece_rule, workers_given, workers_rule}
 use Rattle.program_frame.specs.Arguments.{program, value_in, word}
-use Rattle.hub_command.specs.CommandLine.{is_path}
+use Rattle.hub_folder.specs.Names.{is_path}
 
 -- the words by their places
 abbrev pub words_app : App

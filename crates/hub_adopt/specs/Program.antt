@@ -4,9 +4,9 @@ use Rattle.std.specs.Io.KnownBytes.{Appends}
 use Rattle.clap.specs.Words.{Text}
 use Rattle.night_shelf.specs.Shelf.{Place}
 use Rattle.program_frame.specs.Matching.{AsksForText}
-use Rattle.hub_command.specs.Intact.{AreIntactAt}
-use Rattle.hub_command.specs.Programs.{IsProgramLine}
-use Rattle.hub_command.specs.declared.told.Told.{Told}
+use Rattle.hub_folder.specs.Intact.{AreIntactAt}
+use Rattle.hub_folder.specs.Programs.{IsProgramLine}
+use Rattle.hub_folder.specs.declared.told.Told.{Told}
 use Rattle.hub_adopt.specs.Adopt.{IsDone}
 use Rattle.hub_adopt.specs.CommandLine.{Request, adopt_app, request_in}
 use Rattle.hub_adopt.specs.declared.adoption.Adoption.{Adoption}

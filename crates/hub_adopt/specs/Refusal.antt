@@ -1,6 +1,6 @@
 -- Why old nights aren't adopted (own): the lines that are printed, and the status.
 use Rattle.std.specs.Prelude.{ℕ, ◌==◌, ◌||◌, IsTrue, List, ◌++◌, Some, codes}
-use Rattle.hub_command.specs.Failure as hub
+use Rattle.hub_folder.specs.Failure as hub
 use Rattle.hub_adopt.specs.declared.refusal.Cause.{Cause}
 use Rattle.hub_adopt.specs.declared.refusal.Cause.TheVariants as cause
 use Rattle.hub_adopt.specs.declared.refusal.Refusal.{Refusal}

@@ -1,8 +1,8 @@
 ghost use Rattle.std.specs.Prelude.{◌≡◌, ◌≤◌, ◌+◌, ◌⊎◌, IfOk, OnOk, length, option_map, slice_get, true};
 ghost use Rattle.night_command.specs.CommandLine.{CanShare};
 ghost use Rattle.night_shelf.specs.Shelf.{Changes, IsKept, MayLeave};
-ghost use Rattle.hub_command.specs.Names as names;
-ghost use Rattle.hub_command.specs.Night.{map_now};
+ghost use Rattle.hub_folder.specs.Names as names;
+ghost use Rattle.hub_folder.specs.Older.{map_now};
 ghost use Rattle.hub_adopt.specs.Adopt as adopt;
 ghost use Rattle.hub_adopt.specs.Again.{hub_nights};
 
@@ -13,8 +13,9 @@ use crate::lines::lines_of;
 use crate::next::Next;
 use crate::old::{check_old, old_marks};
 use crate::refusal::{Cause, Refusal};
-use hub_command::{Failure, Made, Told, folder_name, marks_at, path_in};
+use hub_folder::{Failure, Told, folder_name, marks_at, path_in};
 use hub_kinds::{NoMemory, copy_text};
+use hub_night::Made;
 use night_marks::{NightMark, in_order};
 use night_shelf::{Shelf, ShelfFault, keep};
 use std::alloc::Global;

@@ -1,7 +1,7 @@
 ghost use Rattle.std.specs.Prelude.{◌≡◌, [], None, IfOk, IfSome, OnOk, length};
 ghost use Rattle.night_command.specs.CommandLine.{CanShare};
 ghost use Rattle.night_review.specs.Nights.{AreNights};
-ghost use Rattle.hub_command.specs.Night.{IsOlder};
+ghost use Rattle.hub_folder.specs.Older.{IsOlder};
 ghost use Rattle.hub_adopt.specs.Again as again;
 ghost use Rattle.hub_adopt.specs.Given.{given_in};
 
@@ -9,10 +9,9 @@ use crate::adoption::Adoption;
 use crate::given::{first_other, given_at, given_in};
 use crate::refusal::{Cause, Refusal};
 use day_files::{Content, DayFile, listing_of};
-use hub_command::{
-    Day, Failure, Made, Older, Setting, is_night_name, made_of, older_of, papers_at, path_in,
-};
+use hub_folder::{Failure, Older, is_night_name, older_of, papers_at, path_in};
 use hub_kinds::{Items, NoMemory, Text, copy_text};
+use hub_night::{Day, Made, Setting, made_of};
 use moment::At;
 use night_folder::read_paper;
 use night_marks::NightMark;

@@ -6,7 +6,7 @@ ghost use Rattle.hub_adopt.specs.CommandLine as line;
 
 use crate::help::{STATUSES, USAGE};
 use clap::{ArgMatches, Command};
-use hub_command::is_path;
+use hub_folder::is_path;
 use hub_kinds::copy_text;
 use night_command::{Sharing, piece_option, sharing_given, workers_option};
 use night_ends::with_argument;

@@ -6,7 +6,7 @@ ghost use Rattle.std.specs.Ordering.{nat_cmp};
 ghost use Rattle.hub_adopt.specs.Given as given;
 
 use crate::refusal::Refusal;
-use hub_command::{Failure, path_in};
+use hub_folder::{Failure, path_in};
 use hub_kinds::{NoMemory, Text, copy_text};
 use night_folder::{list_at, read_paper};
 use night_shelf::NightFile;

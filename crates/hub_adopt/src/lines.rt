@@ -1,5 +1,5 @@
 ghost use Rattle.std.specs.Prelude.{◌≡◌, ◌++◌, IfOk, OnOk};
-ghost use Rattle.hub_command.specs.Night.{map_now};
+ghost use Rattle.hub_folder.specs.Older.{map_now};
 ghost use Rattle.hub_adopt.specs.Lines as lines;
 
 use hub_kinds::NoMemory;

@@ -1,4 +1,4 @@
-use hub_command::Made;
+use hub_night::Made;
 
 /// What is next for an old night.
 #[derive(Drop)]

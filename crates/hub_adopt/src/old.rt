@@ -2,11 +2,11 @@ ghost use Rattle.std.specs.Prelude.{◌≡◌, IfOk, OnOk, true};
 ghost use Rattle.std.specs.List.{list_all};
 ghost use Rattle.night_folder.specs.Marks.{is_hidden};
 ghost use Rattle.night_review.specs.GoingOn.{GoOn};
-ghost use Rattle.hub_command.specs.Night.{map_now};
+ghost use Rattle.hub_folder.specs.Older.{map_now};
 ghost use Rattle.hub_adopt.specs.Old as old;
 
 use crate::refusal::{Cause, Refusal};
-use hub_command::{Failure, path_in};
+use hub_folder::{Failure, path_in};
 use hub_kinds::{Items, Text, copy_text};
 use hub_ledger::NightEntry;
 use night_folder::{entries_in, first_line, list_at, read_nights, read_paper};

@@ -2,7 +2,7 @@ ghost use Rattle.std.specs.Prelude.{◌≡◌, ◌≢◌, ◌≤◌, ◌⊎◌, 
 ghost use Rattle.std.specs.Io.KnownBytes.{Appends};
 ghost use Rattle.night_command.specs.CommandLine.{CanShare};
 ghost use Rattle.hub_adopt.specs.Asked.{request_as};
-ghost use Rattle.hub_command.specs.Programs.{IsProgramLine};
+ghost use Rattle.hub_folder.specs.Programs.{IsProgramLine};
 ghost use Rattle.hub_adopt.specs.CommandLine.{IsCommandLine};
 ghost use Rattle.hub_adopt.specs.Program as program;
 
@@ -10,8 +10,8 @@ use crate::adopt::adopt_on;
 use crate::adoption::Adoption;
 use crate::command::{Asked, Options, PROGRAM, read_words};
 use crate::refusal::Refusal;
-use hub_command::{Failure, Lockable, Told, lock_hub, note_last_night, program_line, see_intact};
-use night_review::{ReviewFault, limit, moment_now};
+use hub_folder::{Lockable, Told, clock_text, lock_hub, note_last_night, program_line, see_intact};
+use night_review::{limit, moment_now};
 use night_shelf::FolderShelf;
 use program_frame::print_out;
 use std::alloc::Global;
@@ -60,15 +60,6 @@ fn end<O: Write, E: Write>(
     match told {
         Ok(told) => print_out(PROGRAM, told.text.as_slice(), 0, out, err),
         Err(refusal) => refusal.report(alloc, err).status,
-    }
-}
-
-/// A text of the clock.
-fn clock_text(text: Result<String, ReviewFault>) -> Result<String, Failure> {
-    match text {
-        Ok(text) => Ok(text),
-        Err(ReviewFault::Memory) => Err(Failure::Memory),
-        Err(_) => Err(Failure::Clock),
     }
 }
 

@@ -2,7 +2,7 @@ ghost use Rattle.std.specs.Prelude.{◌≡◌, ◌++◌, ◌⊎◌, OnOk};
 ghost use Rattle.std.specs.Io.KnownBytes.{Appends};
 ghost use Rattle.hub_adopt.specs.Refusal.{IsStatus, cause_status, line_of, lines_of, rest_of, status_of};
 
-use hub_command::{Failure, print_named};
+use hub_folder::{Failure, print_named};
 use hub_kinds::{NoMemory, Text};
 use night_ends::print_text;
 use program_frame::Reported;
@@ -116,7 +116,7 @@ impl From<Failure> for Refusal {
 impl From<NoMemory> for Refusal {
     ghost use Rattle.std.specs.Prelude.{◌≡◌};
     ghost use Rattle.hub_adopt.specs.declared.refusal.Refusal.TheVariants.{Hub};
-    ghost use Rattle.hub_command.specs.declared.failure.Failure.TheVariants.{Memory};
+    ghost use Rattle.hub_folder.specs.declared.failure.Failure.TheVariants.{Memory};
 
     ghost from_gives = { λ _ refusal. refusal ≡ Hub Memory };
 
@@ -128,7 +128,7 @@ impl From<NoMemory> for Refusal {
 impl From<AllocError> for Refusal {
     ghost use Rattle.std.specs.Prelude.{◌≡◌};
     ghost use Rattle.hub_adopt.specs.declared.refusal.Refusal.TheVariants.{Hub};
-    ghost use Rattle.hub_command.specs.declared.failure.Failure.TheVariants.{Memory};
+    ghost use Rattle.hub_folder.specs.declared.failure.Failure.TheVariants.{Memory};
 
     ghost from_gives = { λ _ refusal. refusal ≡ Hub Memory };
 

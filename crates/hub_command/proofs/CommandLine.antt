@@ -16,9 +16,10 @@ use Rattle.night_ends.proofs.ForAbove.{all_found, found}
 use Rattle.program_frame.specs.Arguments.{value_in, values_in}
 use Rattle.program_frame.specs.Matching.{AsksForText}
 use Rattle.hub_command.specs.Asked.{IsAsked, IsRequest, run_in}
-use Rattle.hub_command.proofs.Sharing.{given_within}
+use Rattle.hub_night.proofs.ForAbove.{given_within}
 use Rattle.hub_command.specs.CommandLine.{Request, Rest, RunRequest, are_none, bare_by, give_up, hub_app, init, is_bare}
-use Rattle.hub_command.specs.CommandLine.{is_given, is_name_or_none, is_path, request_by, request_given, request_in, request_of, rest_of}
+use Rattle.hub_command.specs.CommandLine.{is_given, is_name_or_none, request_by, request_given, request_in, request_of, rest_of}
+use Rattle.hub_folder.specs.Names.{is_path}
 use Rattle.hub_command.specs.CommandLine.{run, run_by, run_given}
 use Rattle.hub_command.specs.declared.command.Asked.{Asked}
 use Rattle.hub_command.specs.declared.command.Asked.TheVariants.{GiveUp, Init, Run, Show}

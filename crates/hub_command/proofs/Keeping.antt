@@ -5,19 +5,19 @@ use Rattle.std.specs.Prelude.{IfOk, if◌then◌else◌}
 use Rattle.night_shelf.specs.Shelf.{Changes, IsKept, Place}
 use Rattle.night_shelf.specs.declared.night.KeptNight.{KeptNight}
 use Rattle.night_shelf.specs.declared.night.NightFile.{NightFile}
-use Rattle.hub_command.specs.Failure.{IsBefore, IsUnprinted}
-use Rattle.hub_command.specs.Night.{status_by}
+use Rattle.hub_folder.specs.Failure.{IsBefore, IsUnprinted}
+use Rattle.hub_night.specs.Night.{status_by}
 use Rattle.hub_command.specs.Program.{IsMadeOrThere}
 use Rattle.hub_command.specs.Run.{AreAsideAt, IsDone, IsFailureOf, IsFoundAt, IsMadeAt, IsToldOf, MayKeep, MayLeaveOne}
 use Rattle.hub_command.specs.There.{IsStatusIn}
 use Rattle.hub_command.specs.There.IsStatusIn.{Clean, Look}
-use Rattle.hub_command.specs.declared.failure.Failure.{Failure}
-use Rattle.hub_command.specs.declared.failure.Failure.TheVariants as failure
-use Rattle.hub_command.specs.declared.night.Made.{Made}
+use Rattle.hub_folder.specs.declared.failure.Failure.{Failure}
+use Rattle.hub_folder.specs.declared.failure.Failure.TheVariants as failure
+use Rattle.hub_night.specs.declared.night.Made.{Made}
 use Rattle.hub_command.specs.declared.run.Found.{Found}
 use Rattle.hub_command.specs.declared.run.Found.TheVariants as found
-use Rattle.hub_command.specs.declared.setting.Setting.{Setting}
-use Rattle.hub_command.specs.declared.told.Told.{Told}
+use Rattle.hub_night.specs.declared.setting.Setting.{Setting}
+use Rattle.hub_folder.specs.declared.told.Told.{Told}
 
 pub night_is : (name : List ℕ) (files : List NightFile) (night : KeptNight) → name ≡ night.name → files ≡ night.files
     → record { name = name; files = files } ≡ night

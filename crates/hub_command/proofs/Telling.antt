@@ -4,8 +4,8 @@ use Rattle.std.specs.Prelude.{IfOk}
 use Rattle.clap.specs.Words.{Text}
 use Rattle.hub_command.specs.CommandLine.{Request, request_in}
 use Rattle.hub_command.specs.Program.{IsDone, IsDoneAndTold, IsPrinted, IsRun, IsTold}
-use Rattle.hub_command.specs.declared.failure.Failure.{Failure}
-use Rattle.hub_command.specs.declared.told.Told.{Told}
+use Rattle.hub_folder.specs.declared.failure.Failure.{Failure}
+use Rattle.hub_folder.specs.declared.told.Told.{Told}
 
 pub done_and_told : (words : List Text) (request : Request) (result : Result Told Failure) (status : ℕ) (was is : Option (List ℕ))
     → request_in words ≡ Some request → IfOk result (IsDone request) → IsTold result status was is → IsRun words status was is

@@ -3,12 +3,11 @@ use Rattle.std.specs.Prelude.{◌≡◌, ◌≢◌, ◌&&◌, ◌||◌, ◌==◌
 use Rattle.std.specs.Prelude.{if◌then◌else◌, length}
 use Rattle.std.specs.Str.{bytes_eq}
 use Rattle.clap.specs.Words.{App, Rule, Text, takes, with_rule}
-use Rattle.file_names.specs.Given.{is_marked}
 use Rattle.moment.specs.Calendar.{is_moment}
 use Rattle.night_ends.specs.Words.{or_none}
 use Rattle.night_command.specs.CommandLine.{piece_given, piece_rule, workers_given, workers_rule}
 use Rattle.program_frame.specs.Arguments.{option_flag, option_free, option_repeated, program, value_in, values_in, word, words as places}
-use Rattle.hub_command.specs.Names.{is_night_name}
+use Rattle.hub_folder.specs.Names.{is_night_name, is_path}
 
 -- the files after the words, which not each command wants
 abbrev pub file_rule : Rule
@@ -53,11 +52,6 @@ pub data Request : Type 0 where
   init : (hub : Text) → Request
   run : (hub : Text) → RunRequest → Request
   give_up : (hub : Text) → (not_sent : Bool) → Request
-
--- a path: it isn't empty, and is UTF-8
-abbrev pub is_path : Text → Bool
-is_path [] = false
-is_path (b ∷ bs) = not (is_marked (b ∷ bs))
 
 abbrev pub is_name_or_none : Option Text → Bool
 is_name_or_none None = true

@@ -1,16 +1,7 @@
 pub mod Asked
-pub mod Chain
 pub mod Changed
 pub mod CommandLine
-pub mod Day
-pub mod Failure
-pub mod Intact
 pub mod Lines
-pub mod Made
-pub mod Names
-pub mod Night
-pub mod Papers
 pub mod Program
-pub mod Programs
 pub mod Run
 pub mod There

@@ -5,16 +5,16 @@ use Rattle.clap.specs.Words.{Text}
 use Rattle.program_frame.specs.Matching.{AsksForText}
 use Rattle.hub_command.specs.Asked.{text_of}
 use Rattle.hub_command.specs.CommandLine.{Request, RunRequest, give_up, hub_app, init, request_in, run}
-use Rattle.hub_command.specs.Intact.{AreIntactAt}
+use Rattle.hub_folder.specs.Intact.{AreIntactAt}
 use Rattle.hub_command.specs.Lines.{cleared_text, given_up_text, init_text}
-use Rattle.hub_command.specs.Programs.{IsProgramLine}
+use Rattle.hub_folder.specs.Programs.{IsProgramLine}
 use Rattle.hub_command.specs.Run.{IsMadeAt, IsThere, IsToldAgain, IsToldOf}
 use Rattle.hub_command.specs.declared.command.Options.{Options}
-use Rattle.hub_command.specs.declared.failure.Failure.{Failure}
-use Rattle.hub_command.specs.declared.night.Made.{Made}
-use Rattle.hub_command.specs.declared.setting.Setting.{Setting}
+use Rattle.hub_folder.specs.declared.failure.Failure.{Failure}
+use Rattle.hub_night.specs.declared.night.Made.{Made}
+use Rattle.hub_night.specs.declared.setting.Setting.{Setting}
 use Rattle.hub_command.specs.declared.there.There.{There}
-use Rattle.hub_command.specs.declared.told.Told.{Told}
+use Rattle.hub_folder.specs.declared.told.Told.{Told}
 
 -- the statuses of the program
 abbrev pub IsStatus : ℕ → Type 0

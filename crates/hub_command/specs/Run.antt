@@ -10,23 +10,24 @@ use Rattle.night_shelf.specs.declared.night.KeptNight.{KeptNight}
 use Rattle.night_shelf.specs.declared.night.NightFile.{NightFile}
 use Rattle.night_review.specs.Nights.{AreNights}
 use Rattle.hub_command.specs.Changed.{AreChangesAt}
-use Rattle.hub_command.specs.Day.{AreAside, AreFilesAt, IsDayOf}
+use Rattle.hub_night.specs.Day.{AreAside, AreFilesAt, IsDayOf}
 use Rattle.hub_command.specs.Lines.{ready_text}
-use Rattle.hub_command.specs.Night.{IsMadeOf, IsOlder}
-use Rattle.hub_command.specs.Papers.{ArePapersAt}
+use Rattle.hub_night.specs.Night.{IsMadeOf}
+use Rattle.hub_folder.specs.Older.{IsOlder}
+use Rattle.hub_folder.specs.Papers.{ArePapersAt}
 use Rattle.hub_command.specs.There.{IsThereAt}
-use Rattle.hub_command.specs.declared.day.Day.{Day}
-use Rattle.hub_command.specs.declared.failure.Failure.{Failure}
-use Rattle.hub_command.specs.declared.failure.Failure.TheVariants as failure
-use Rattle.hub_command.specs.declared.night.Made.{Made}
-use Rattle.hub_command.specs.declared.older.Older.{Older}
-use Rattle.hub_command.specs.declared.papers.HubPapers.{HubPapers}
+use Rattle.hub_night.specs.declared.day.Day.{Day}
+use Rattle.hub_folder.specs.declared.failure.Failure.{Failure}
+use Rattle.hub_folder.specs.declared.failure.Failure.TheVariants as failure
+use Rattle.hub_night.specs.declared.night.Made.{Made}
+use Rattle.hub_folder.specs.declared.older.Older.{Older}
+use Rattle.hub_folder.specs.declared.papers.HubPapers.{HubPapers}
 use Rattle.hub_command.specs.declared.ready.Ready.{Ready}
 use Rattle.hub_command.specs.declared.run.Found.{Found}
 use Rattle.hub_command.specs.declared.run.Found.TheVariants as found
-use Rattle.hub_command.specs.declared.setting.Setting.{Setting}
+use Rattle.hub_night.specs.declared.setting.Setting.{Setting}
 use Rattle.hub_command.specs.declared.there.There.{There}
-use Rattle.hub_command.specs.declared.told.Told.{Told}
+use Rattle.hub_folder.specs.declared.told.Told.{Told}
 
 -- the nights of the hub's folder and the files of the day, as they were read
 pub record IsSeen (setting : Setting) (older : Older) (files : List DayFile) : Type 0 where

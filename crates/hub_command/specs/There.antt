@@ -7,11 +7,11 @@ use Rattle.night_ends.specs.Outbox.{path_in}
 use Rattle.night_folder.specs.Files.{FileValue, bytes_or_none, in_night}
 use Rattle.night_marks.specs.Count.{night_count}
 use Rattle.night_marks.specs.declared.mark.NightMark.{NightMark}
-use Rattle.hub_command.specs.Names.{folder_name}
-use Rattle.hub_command.specs.Night.{last_mark, map_now}
-use Rattle.hub_command.specs.declared.chain.Chain.{Chain}
-use Rattle.hub_command.specs.declared.older.Older.{Older}
-use Rattle.hub_command.specs.declared.setting.Setting.{Setting}
+use Rattle.hub_folder.specs.Names.{folder_name}
+use Rattle.hub_folder.specs.Older.{last_mark, map_now}
+use Rattle.hub_folder.specs.declared.chain.Chain.{Chain}
+use Rattle.hub_folder.specs.declared.older.Older.{Older}
+use Rattle.hub_night.specs.declared.setting.Setting.{Setting}
 use Rattle.hub_command.specs.declared.there.There.{There}
 
 -- a night that isn't archived has this number, and the name and the moment that are asked for

@@ -1,11 +1,10 @@
 //! Guides that have changed since the last night.
 ghost use Rattle.std.specs.Prelude.{◌≡◌, IfErr, IfOk};
 ghost use Rattle.hub_command.specs.Changed as changed;
-ghost use Rattle.hub_command.specs.Failure.{IsBefore};
+ghost use Rattle.hub_folder.specs.Failure.{IsBefore};
 
-use crate::failure::Failure;
-use crate::papers::path_in;
 use guide_changes::guide_changes;
+use hub_folder::{Failure, path_in};
 use hub_kinds::{NoMemory, Text};
 use night_shelf::NightFile;
 use std::alloc::Global;

@@ -6,9 +6,8 @@ ghost use Rattle.hub_command.specs.Asked.{ArePaths, AreShared, IsAsked, IsGiven,
 ghost use Rattle.hub_command.specs.CommandLine as line;
 
 use crate::help::{STATUSES, USAGE};
-use crate::names::is_night_name;
 use clap::{Arg, ArgMatches, Command};
-use file_names::is_not_utf_8;
+use hub_folder::{is_night_name, is_path};
 use hub_kinds::copy_text;
 use moment::At;
 use night_command::{Sharing, piece_option, sharing_given, workers_option};
@@ -161,16 +160,6 @@ fn is_given(value: Option<&str>) -> bool
     match value {
         None => false,
         Some(text) => text == "true",
-    }
-}
-
-/// Whether `text` is a path: it isn't empty, and is UTF-8.
-pub fn is_path(text: &str) -> bool
-    ensures { result ≡ line.is_path text.now }
-{
-    match text.as_bytes() {
-        [] => false,
-        [..] => !is_not_utf_8(text),
     }
 }
 

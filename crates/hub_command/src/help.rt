@@ -8,6 +8,8 @@ pub(crate) const STATUSES: &str = "Commands:
                           already, says so again. A file that has a set which
                           an older night delivered is set aside; one that
                           --again names goes in, after the others
+  archive HUB --keep N    moves all nights of HUB but the last N to HUB/archive;
+                          later runs still know what they delivered
   adopt HUB NIGHTS        makes the nights of run_night, the script of earlier
                           releases, nights of HUB: nighthub_day adopt --help
   give-up HUB [--not-sent]

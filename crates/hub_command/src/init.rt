@@ -1,12 +1,10 @@
 ghost use Rattle.std.specs.Prelude.{◌≡◌, ◌++◌, IfErr, IfOk, OnOk, codes};
 ghost use Rattle.file_names.specs.Shown.{shown};
-ghost use Rattle.hub_command.specs.Failure.{IsBefore};
+ghost use Rattle.hub_folder.specs.Failure.{IsBefore};
 ghost use Rattle.hub_command.specs.Lines as lines;
 
-use crate::failure::Failure;
-use crate::papers::papers_at;
-use crate::told::Told;
 use file_names::append_shown;
+use hub_folder::{Failure, Told, papers_at, path_text};
 use hub_kinds::{Lent, NoMemory, copy_text};
 use night_ends::{create_new_at, write_and_sync};
 use std::alloc::Global;
@@ -16,18 +14,6 @@ use std::{fs, io};
 
 /// What the file hub.toml says.
 const MARK: &[u8] = b"version = 1\n";
-
-/// A path as text.
-pub(crate) fn path_text(alloc: Global, folder: &str, name: &[u8]) -> io::Result<String> {
-    let mut path = Vec::new(alloc);
-    path.extend_from_slice(folder.as_bytes())?;
-    path.push(b'/')?;
-    path.extend_from_slice(name)?;
-    match String::from_utf8(path) {
-        Ok(path) => Ok(path),
-        Err(_) => Err(io::Error::from(io::ErrorKind::InvalidInput)),
-    }
-}
 
 /// Makes the folder of nights, or sees to it that it is there and empty.
 fn make_nights<R: Files + AllocGlobal + Clone + Drop>(rt: &R, hub: &str) -> io::Result<()> {

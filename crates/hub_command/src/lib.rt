@@ -33,51 +33,20 @@
 //! Tests: `.ci/hub`.
 #![tactic(auto)]
 
-mod chain;
 mod changed;
 mod command;
-mod day;
-mod entry;
-mod failure;
 mod give_up;
 mod help;
 mod init;
-mod intact;
-mod last;
-mod lock;
-mod made;
-mod names;
-mod night;
-mod older;
-mod papers;
 mod program;
-mod program_sum;
 mod progress;
 mod reading;
 mod ready;
 mod run;
-mod setting;
-mod side;
-mod sound;
-mod stopping;
-mod tables;
 mod there;
-mod told;
 mod words;
 
-pub use chain::{Chain, chain_at};
-pub use command::{Asked, Options, is_of_hub, is_path, read_words};
-pub use day::Day;
-pub use failure::{Failure, print_named};
-pub use intact::{note_last_night, see_intact};
-pub use lock::{Lock, Lockable};
-pub use names::{folder_name, is_night_name};
-pub use night::{Made, made_of};
-pub use older::{Older, older_of};
-pub use papers::{HubPapers, papers_at, path_in};
-pub use program::{hub_main, lock_hub};
-pub use program_sum::program_line;
+pub use command::{Asked, Options, is_of_hub, read_words};
+pub use program::hub_main;
 pub use progress::Terminal;
-pub use run::{marks_at, run_on};
-pub use setting::Setting;
-pub use told::Told;
+pub use run::run_on;

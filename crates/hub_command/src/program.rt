@@ -3,33 +3,26 @@ ghost use Rattle.std.specs.Io.KnownBytes.{Appends};
 ghost use Rattle.night_command.specs.CommandLine.{CanShare};
 ghost use Rattle.hub_command.specs.Asked.{run_in};
 ghost use Rattle.hub_command.specs.CommandLine.{IsCommandLine};
-ghost use Rattle.hub_command.specs.Failure.{IsBefore, IsUnprinted};
+ghost use Rattle.hub_folder.specs.Failure.{IsBefore, IsUnprinted};
 ghost use Rattle.hub_command.specs.Program as program;
-ghost use Rattle.hub_command.specs.Programs.{IsProgramLine};
+ghost use Rattle.hub_folder.specs.Programs.{IsProgramLine};
 
 use crate::command::{Asked, Options, PROGRAM, read_words};
-use crate::failure::Failure;
 use crate::give_up::{give_up_last, give_up_tonight};
 use crate::init::init_hub;
-use crate::intact::{note_last_night, see_intact};
-use crate::lock::{Lock, Lockable};
-use crate::papers::path_in;
-use crate::program_sum::program_line;
 use crate::progress::{clear, show};
 use crate::run::run_on;
-use crate::setting::Setting;
-use crate::told::Told;
-use hub_kinds::copy_text;
-use night_folder::read_paper;
-use night_review::{ReviewFault, limit, moment_now};
+use hub_folder::{
+    Failure, Lockable, Told, clock_text, lock_hub, note_last_night, program_line, see_intact,
+};
+use hub_night::Setting;
+use night_review::{limit, moment_now};
 use night_shelf::FolderShelf;
 use program_frame::print_out;
 use std::alloc::Global;
 use std::convert::AsStr;
-use std::fs::OpenOptions;
 use std::io::Write;
 use std::rt::Files;
-use std::str;
 use std::sync::Wait;
 use std::thread::Threads;
 use std::time::Clock;
@@ -83,45 +76,6 @@ fn end<O: Write, E: Write>(
         Ok(told) => print_out(PROGRAM, told.text.as_slice(), told.status, out, err),
         Err(failure) => failure.report(alloc, err).status,
     }
-}
-
-/// Takes the lock of the hub `hub`, which is held as long as the file is open.
-fn locked<R: Files + AllocGlobal>(rt: &R, hub: &str) -> Result<R::File, Failure>
-where
-    R::File: Lockable,
-    ensures before { IfErr result IsBefore }
-{
-    let named = copy_text(rt.alloc(), hub.as_bytes())?;
-    let path = path_in(rt.alloc(), hub.as_bytes(), b"lock")?;
-    let Ok(path) = str::from_utf8(path.as_slice()) else {
-        return Err(Failure::Lock(named));
-    };
-    let mut how = OpenOptions::new();
-    how.write(true);
-    how.create(true);
-    let Ok(file) = how.open(rt, path) else {
-        return Err(Failure::Lock(named));
-    };
-    match file.take() {
-        Lock::Taken => Ok(file),
-        Lock::Busy => Err(Failure::Busy(named)),
-        Lock::Failed => Err(Failure::Lock(named)),
-    }
-}
-
-/// Sees to it that the folder `hub` is a hub, and takes its lock, which is held as long as the file is open.
-pub fn lock_hub<R: Files + AllocGlobal>(rt: &R, hub: &str) -> Result<R::File, Failure>
-where
-    R::File: Lockable,
-    ensures before { IfErr result IsBefore }
-{
-    if read_paper(rt, hub.as_bytes(), b"hub.toml")?
-        .bytes()
-        .is_none()
-    {
-        return Err(Failure::NoHub(copy_text(rt.alloc(), hub.as_bytes())?));
-    }
-    locked(rt, hub)
 }
 
 /// What the night is called.
@@ -209,17 +163,6 @@ where
     let told = run_locked(rt, hub, options, shown);
     clear(shown);
     told
-}
-
-/// A text of the clock.
-fn clock_text(text: Result<String, ReviewFault>) -> Result<String, Failure>
-    ensures before { IfErr result IsBefore }
-{
-    match text {
-        Ok(text) => Ok(text),
-        Err(ReviewFault::Memory) => Err(Failure::Memory),
-        Err(_) => Err(Failure::Clock),
-    }
 }
 
 /// Gives up what is under way, or the last night.

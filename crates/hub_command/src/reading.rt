@@ -1,14 +1,14 @@
 ghost use Rattle.std.specs.Prelude.{◌≡◌, ◌++◌, ◌∷◌, [], IfErr, IfOk, OnOk, map};
 ghost use Rattle.std.specs.List.{AllZip};
-ghost use Rattle.hub_command.specs.Day.{AreFilesAt, IsContentAt, IsFileAt, IsInputAt};
-ghost use Rattle.hub_command.specs.Failure.{IsBefore};
+ghost use Rattle.hub_night.specs.Day.{AreFilesAt, IsContentAt, IsFileAt, IsInputAt};
+ghost use Rattle.hub_folder.specs.Failure.{IsBefore};
 
-use crate::failure::Failure;
-use crate::setting::Setting;
 use day_files::{Content, DayFile};
 use file_names::is_not_utf_8;
 use gather_command::is_changed;
+use hub_folder::Failure;
 use hub_kinds::{NoMemory, Text, copy_text};
+use hub_night::Setting;
 use night_ends::open_at;
 use night_folder::paper_of;
 use std::fs::Metadata;

@@ -1,32 +1,23 @@
 ghost use Rattle.std.specs.Prelude.{◌≡◌, IfErr, IfOk};
 ghost use Rattle.night_shelf.specs.Shelf.{Changes, IsKept};
 ghost use Rattle.night_command.specs.CommandLine.{CanShare};
-ghost use Rattle.night_review.specs.Nights.{AreNights};
-ghost use Rattle.hub_command.specs.Failure.{IsBefore};
+ghost use Rattle.hub_folder.specs.Failure.{IsBefore};
 ghost use Rattle.hub_command.specs.Run as run;
 
 use crate::changed::changes_at;
-use crate::day::{Day, Judged, day_of};
-use crate::failure::Failure;
-use crate::night::{Made, made_of};
-use crate::older::{Older, older_of};
-use crate::papers::{HubPapers, papers_at, path_in};
 use crate::progress::show;
 use crate::reading::day_files_at;
 use crate::ready::{Ready, ready_text};
-use crate::setting::Setting;
 use crate::there::{There, there_at};
-use crate::told::Told;
 use day_files::listing_of;
+use hub_folder::{Failure, HubPapers, Older, Told, marks_at, older_of, papers_at, path_in};
 use hub_kinds::{NoMemory, Text, copy_text};
+use hub_night::{Day, Judged, Made, Setting, day_of, made_of};
 use night_entries::sum_of;
-use night_marks::NightMark;
-use night_review::{ReviewFault, nights_at};
 use night_shelf::{NightFile, Shelf, ShelfFault, keep};
 use std::alloc::Global;
 use std::io::Write;
 use std::rt::Files;
-use std::str;
 use std::sync::Wait;
 use std::thread::Threads;
 use std::time::Clock;
@@ -38,35 +29,6 @@ pub(crate) enum Found {
     /// Each file of the day is set aside. These are the lines on them.
     Aside(Text),
     Made(Made),
-}
-
-fn of_day(fault: ReviewFault, hub: Text) -> Failure
-    ensures { IsBefore result }
-{
-    match fault {
-        ReviewFault::Clock => Failure::Clock,
-        ReviewFault::Memory => Failure::Memory,
-        _ => Failure::Nights(hub),
-    }
-}
-
-/// The nights in the folder at the path `nights` of the hub `hub`.
-pub fn marks_at<R: Files + AllocGlobal + Clone + Drop>(
-    rt: &R,
-    hub: &str,
-    nights: &[u8],
-) -> Result<Vec<NightMark>, Failure>
-    ensures nights { IfOk result (λ marks. AreNights nights.now marks.items) }
-    ensures before { IfErr result IsBefore }
-{
-    let hub = copy_text(rt.alloc(), hub.as_bytes())?;
-    let Ok(path) = str::from_utf8(nights) else {
-        return Err(Failure::Nights(hub));
-    };
-    match nights_at(rt, path) {
-        Ok(marks) => Ok(marks),
-        Err(fault) => Err(of_day(fault, hub)),
-    }
 }
 
 /// Makes the night of `setting`, with what is said of guides that have changed since the last one.

@@ -2,18 +2,13 @@ ghost use Rattle.std.specs.Prelude.{◌≡◌, ◌≤◌, IfErr, IfOk, IfSome, L
 ghost use Rattle.night_review.specs.GoingOn.{GoOn};
 ghost use Rattle.day_files.specs.Listing.{listing_of};
 ghost use Rattle.day_files.specs.declared.file.DayFile.{DayFile};
-ghost use Rattle.hub_command.specs.Failure.{IsBefore};
-ghost use Rattle.hub_command.specs.Night.{map_now};
+ghost use Rattle.hub_folder.specs.Failure.{IsBefore};
+ghost use Rattle.hub_folder.specs.Older.{map_now};
 ghost use Rattle.hub_command.specs.There as there;
 
-use crate::chain::Chain;
-use crate::failure::Failure;
-use crate::names::folder_name;
-use crate::older::Older;
-use crate::papers::path_in;
-use crate::setting::Setting;
-use crate::side::joined;
+use hub_folder::{Chain, Failure, Older, folder_name, path_in};
 use hub_kinds::{Items, NoMemory, Text, copy_text};
+use hub_night::{Setting, joined};
 use night_folder::{PaperAt, read_paper};
 use night_marks::{NightMark, night_count};
 use night_review::judged;

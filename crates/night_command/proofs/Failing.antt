@@ -3,7 +3,8 @@ use Rattle.std.proofs.Common.{◌≡◌, ◌≢◌, ◌≤◌, ◌⊎◌, inl, i
 use Rattle.std.specs.declared.alloc.Global.{Global}
 use Rattle.std.specs.Io.KnownBytes.{Appends}
 use Rattle.clap.specs.Words.{Text}
-use Rattle.night_command.specs.CommandLine.{AsksForText, IsAsked, NamesNight}
+use Rattle.program_frame.specs.Matching.{AsksForText}
+use Rattle.night_command.specs.CommandLine.{IsAsked, NamesNight, hub_app}
 use Rattle.night_command.specs.Outcome.{IsOutcome, IsPrinted, status_of, text_of}
 use Rattle.night_command.specs.declared.command.Asked.{Asked}
 use Rattle.night_command.specs.declared.command.Asked.TheVariants.{Run, Show}
@@ -32,5 +33,6 @@ text_shown words asked text status was is so by most (inl own) printed =
 text_shown words asked text status was is so by most (inr five) printed = absurd (omega (arith, five, most))
 
 -- arguments that ask for a text ask for it
-pub asked_for : (words : List Text) (asked : Asked) (text : String Global) → asked ≡ Show text → IsAsked words asked → AsksForText words
+pub asked_for : (words : List Text) (asked : Asked) (text : String Global) → asked ≡ Show text → IsAsked words asked
+    → AsksForText hub_app words
 asked_for words asked text so by = subst (λ (a : Asked). IsAsked words a) so by

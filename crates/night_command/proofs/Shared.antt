@@ -4,7 +4,8 @@ use Rattle.std.proofs.Common.{rules, tests}
 use Rattle.std.specs.Prelude.{nat_le}
 use Rattle.hub_kinds.specs.Words.{number_of}
 use Rattle.clap.specs.Words.{Text}
-use Rattle.night_command.specs.CommandLine.{AreOptions, CanShare, IsAsked, number_given, up_to_most, option_value, values_of}
+use Rattle.program_frame.specs.Arguments.{value_in, values_in}
+use Rattle.night_command.specs.CommandLine.{AreOptions, CanShare, IsAsked, hub_app, number_given, up_to_most}
 use Rattle.night_command.specs.declared.command.Asked.{Asked}
 use Rattle.night_command.specs.declared.command.Asked.TheVariants.{Run}
 use Rattle.night_command.specs.declared.command.Options.{Options}
@@ -41,4 +42,4 @@ options_share value values options are =
 pub can_share : (words : List Text) (asked : Asked) (options : Options) → asked ≡ Run options → IsAsked words asked
     → CanShare options.sharing
 can_share words asked options is by =
-    options_share (option_value words) (values_of words) options (subst (λ (a : Asked). IsAsked words a) is by)
+    options_share (value_in hub_app words) (values_in hub_app words) options (subst (λ (a : Asked). IsAsked words a) is by)

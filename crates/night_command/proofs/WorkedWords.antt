@@ -3,7 +3,8 @@ use Rattle.std.proofs.Common.{◌≡◌, List, [], ◌∷◌, Some, None, true, 
 use Rattle.clap.specs.Words.{Text, fault_of, takes}
 use Rattle.clap.specs.declared.error.kind.ErrorKind.TheVariants.{DisplayHelp, DisplayVersion}
 use Rattle.clap.proofs.OnLiterals.{clap_on_literals}
-use Rattle.night_command.specs.CommandLine.{hub_app, piece_given, option_value, values_of, workers_given}
+use Rattle.program_frame.specs.Arguments.{value_in, values_in}
+use Rattle.night_command.specs.CommandLine.{hub_app, piece_given, workers_given}
 
 -- all arguments but those that name guides
 abbrev others : List Text
@@ -17,15 +18,15 @@ taken : takes hub_app words ≡ true
 unfolding clap_on_literals
 taken = refl
 
-guides : values_of words (codes "guide") ≡ Some (codes "g" ∷ codes "h" ∷ [])
+guides : values_in hub_app words (codes "guide") ≡ Some (codes "g" ∷ codes "h" ∷ [])
 unfolding clap_on_literals
 guides = refl
 
-setup : option_value words (codes "setup") ≡ Some (codes "s")
+setup : value_in hub_app words (codes "setup") ≡ Some (codes "s")
 unfolding clap_on_literals
 setup = refl
 
-output : option_value words (codes "out") ≡ Some (codes "o")
+output : value_in hub_app words (codes "out") ≡ Some (codes "o")
 unfolding clap_on_literals
 output = refl
 
@@ -65,11 +66,11 @@ workers_twice : takes hub_app (codes "--workers" ∷ codes "7" ∷ codes "--work
 unfolding clap_on_literals
 workers_twice = refl
 
-seven : option_value (codes "--workers" ∷ codes "7" ∷ words) (codes "workers") ≡ Some (codes "7")
+seven : value_in hub_app (codes "--workers" ∷ codes "7" ∷ words) (codes "workers") ≡ Some (codes "7")
 unfolding clap_on_literals
 seven = refl
 
-no_workers : option_value words (codes "workers") ≡ None
+no_workers : value_in hub_app words (codes "workers") ≡ None
 unfolding clap_on_literals
 no_workers = refl
 

@@ -3,31 +3,25 @@
 use Rattle.std.specs.Prelude.{◌≡◌, ◌⊎◌, ◌≤◌, ℕ, Option, Some, None, true, false, List, codes, map, nat_le, ◌&&◌}
 use Rattle.std.specs.Prelude.{if◌then◌else◌}
 use Rattle.hub_kinds.specs.Words.{number_of}
-use Rattle.clap.specs.Words.{App, Rule, Text, IsAmong, all_of, fault_of, first_of, first_value, matches_of, new_app, new_rule, takes}
-use Rattle.clap.specs.Words.{with_rule}
-use Rattle.clap.specs.declared.builder.action.ArgAction.TheVariants.{Append, Set}
+use Rattle.clap.specs.Words.{App, Rule, Text, first_value, takes, with_rule}
 use Rattle.clap.specs.declared.builder.value_parser.ValueParser.TheVariants.{Unsigned}
-use Rattle.clap.specs.declared.error.kind.ErrorKind.{ErrorKind}
-use Rattle.clap.specs.declared.error.kind.ErrorKind.TheVariants.{DisplayHelp, DisplayVersion}
 use Rattle.clap.specs.declared.parser.matches.Found.{Found}
 use Rattle.moment.specs.Moment.{IsMoment}
 use Rattle.night_ends.specs.Words.{values_found}
+use Rattle.program_frame.specs.Arguments.{option_free, option_repeated, program, value_in, values_in}
+use Rattle.program_frame.specs.Matching.{AsksForText}
 use Rattle.night_command.specs.declared.command.Asked.{Asked}
 use Rattle.night_command.specs.declared.command.Asked.TheVariants.{Run, Show}
 use Rattle.night_command.specs.declared.command.Options.{Options}
 use Rattle.night_command.specs.declared.sharing.Sharing.{Sharing}
 
 -- an option of this name, given once
-abbrev pub option_named : Text → Rule
-option_named name = record (new_rule name) { long = Some name; value_names = 1; required = true; action = Some Set }
+abbrev pub option_wanted : Text → Rule
+option_wanted name = record (option_free name) { required = true }
 
 -- an option of this name, given once or more
-abbrev pub option_repeated : Text → Rule
-option_repeated name = record (option_named name) { action = Some Append }
-
--- an option of this name, given once or not at all
-abbrev pub option_free : Text → Rule
-option_free name = record (option_named name) { required = false }
+abbrev pub options_wanted : Text → Rule
+options_wanted name = record (option_repeated name) { required = true }
 
 -- how many workers: 1 to 64
 abbrev pub workers_rule : Rule
@@ -37,24 +31,19 @@ workers_rule = record (option_free (codes "workers")) { parser = Some (Unsigned 
 abbrev pub piece_rule : Rule
 piece_rule = record (option_free (codes "piece")) { parser = Some (Unsigned 1 4294967295) }
 
--- the program without its options: its arguments don't begin with a program's name, and it has a version
-abbrev pub program : App
-program =
-    let bare = new_app (codes "nighthub") in
-    record bare { top = record bare.top { has_version = true; no_binary_name = true } }
-
 -- the options that name the setup
 abbrev pub with_setup : App → App
 with_setup app =
-    with_rule (with_rule (with_rule app (option_named (codes "setup"))) (option_repeated (codes "guide"))) (option_named (codes "counters"))
+    with_rule (with_rule (with_rule app (option_wanted (codes "setup"))) (options_wanted (codes "guide")))
+    (option_wanted (codes "counters"))
 
 -- and those that name the moment and the input of a night
 abbrev pub with_night : App → App
-with_night app = with_rule (with_rule (with_setup app) (option_named (codes "at"))) (option_named (codes "in"))
+with_night app = with_rule (with_rule (with_setup app) (option_wanted (codes "at"))) (option_wanted (codes "in"))
 
 -- the night
 abbrev pub night_app : App
-night_app = with_rule (with_night program) (option_named (codes "out"))
+night_app = with_rule (with_night (program (codes "nighthub"))) (option_wanted (codes "out"))
 
 -- and how it is shared among workers
 abbrev pub hub_app : App
@@ -77,19 +66,6 @@ workers_given text = number_given 4 64 text
 -- how many bytes a piece has that a worker takes: 1 to 4,294,967,295, or 1,048,576
 abbrev pub piece_given : Option Text → Option ℕ
 piece_given text = number_given 1048576 4294967295 text
-
--- the value that the arguments give an option
-abbrev pub option_value : List Text → Text → Option Text
-option_value words name = first_of name (matches_of hub_app words)
-
--- the values that they give an option, in their order
-abbrev pub values_of : List Text → Text → Option (List Text)
-values_of words name = all_of name (matches_of hub_app words)
-
--- the arguments ask for help or for the version, and are none to run by
-pub record AsksForText (words : List Text) : Type 0 where
-  pub asked : IsAmong DisplayHelp (fault_of hub_app words) ⊎ IsAmong DisplayVersion (fault_of hub_app words)
-  pub no_run : takes hub_app words ≡ true → ⊥
 
 -- the paths of the guides
 abbrev pub guide_paths : Options → List Text
@@ -129,25 +105,22 @@ pub record AreGiven (value : Text → Option Text) (values : Text → Option (Li
 -- the arguments give each option that is wanted, and nothing is wrong with them
 pub record IsCommandLine (words : List Text) : Type 0 where
   pub taken : takes hub_app words ≡ true
-  pub given : AreGiven (option_value words) (values_of words)
+  pub given : AreGiven (value_in hub_app words) (values_in hub_app words)
 
 -- the arguments name the files and the moment of a night
 pub record NamesNight (words : List Text) : Type 0 where
   pub options : Options
-  pub named : AreOptions (option_value words) (values_of words) options
+  pub named : AreOptions (value_in hub_app words) (values_in hub_app words) options
 
 -- what the arguments ask for
 abbrev pub IsAsked : List Text → Asked → Type 0
-IsAsked words (Run options) = AreOptions (option_value words) (values_of words) options
-IsAsked words (Show text) = AsksForText words
+IsAsked words (Run options) = AreOptions (value_in hub_app words) (values_in hub_app words) options
+IsAsked words (Show text) = AsksForText hub_app words
 
--- the same of what clap found, and of the kind of what it reports (no public clause of a program cites these)
+-- private: the same of what clap found
 abbrev pub IsGiven : Found → Asked → Type 0
 IsGiven found (Run options) = AreOptions (first_value found) (values_found found) options
 IsGiven found (Show text) = ⊥
-
-abbrev pub IsOfText : ErrorKind → Type 0
-IsOfText kind = (kind ≡ DisplayHelp) ⊎ (kind ≡ DisplayVersion)
 
 -- how a night is shared by the values of its options; not at all where one of them can't be taken
 abbrev pub IsShared : (value : Text → Option Text) → Option Sharing → Type 0

@@ -9,7 +9,9 @@ use Rattle.night_writing.specs.declared.night.Night.{Night}
 use Rattle.night_report.specs.Clean.{is_clean, last_of, lines_of}
 use Rattle.partner_setup.specs.Setup.{SetupValue}
 use Rattle.clap.specs.Words.{Text}
-use Rattle.night_command.specs.CommandLine.{AreOptions, AsksForText, guide_paths, option_value, values_of}
+use Rattle.program_frame.specs.Arguments.{value_in, values_in}
+use Rattle.program_frame.specs.Matching.{AsksForText}
+use Rattle.night_command.specs.CommandLine.{AreOptions, guide_paths, hub_app}
 use Rattle.night_command.specs.Outbox.{AddsFiles, AddsSome, File, KeepsFiles}
 use Rattle.night_command.specs.Failure.{put_failure}
 use Rattle.night_command.specs.NightFiles.{night_files}
@@ -78,8 +80,9 @@ pub record IsGiven (told : Option (List ℕ)) (setup : SetupValue) (at : List �
 
 -- what these arguments may have printed: a text where they ask for one, otherwise a night by the options that they give
 abbrev pub IsOutcome : List Text → Outcome → Type 0
-IsOutcome words (Shown text) = AsksForText words
-IsOutcome words (Ran night) = (options : Options) × AreOptions (option_value words) (values_of words) options × IsNightBy options night
+IsOutcome words (Shown text) = AsksForText hub_app words
+IsOutcome words (Ran night) =
+    (options : Options) × AreOptions (value_in hub_app words) (values_in hub_app words) options × IsNightBy options night
 
 -- the first of the files of a night were put into an outbox, and then something failed
 pub record PutsSome (told : Option (List ℕ)) (setup : SetupValue) (at : List ℕ) (had has : Option (List File)) (failed : Failure)

@@ -1,16 +1,17 @@
-ghost use Rattle.std.specs.Prelude.{◌≡◌, ◌≢◌, map, IfOk, IfErr, IsErrOf};
-ghost use Rattle.clap.specs.Words.{app_of, first_value, found_of, kind_of};
-ghost use Rattle.night_command.specs.CommandLine.{AreGiven, IsAsked, IsCommandLine, IsGiven, IsOfText, hub_app, night_app};
+ghost use Rattle.std.specs.Prelude.{◌≡◌, map, IfOk, IfErr, IsErrOf};
+ghost use Rattle.clap.specs.Words.{app_of, first_value, found_of};
+ghost use Rattle.program_frame.specs.Mistake.{IsUsage};
+ghost use Rattle.night_command.specs.CommandLine.{AreGiven, IsAsked, IsCommandLine, IsGiven, hub_app, night_app};
 ghost use Rattle.night_command.specs.Failure.{IsOfWords};
 ghost use Rattle.night_ends.specs.Words.{values_found};
 
 use crate::failure::Failure;
-use crate::options::{moment_given, option_named, with_night};
+use crate::options::{moment_given, option_wanted, with_night};
 use crate::sharing::{Sharing, piece_option, sharing_given, workers_option};
-use clap::error::ErrorKind;
-use clap::{ArgMatches, Command, Error};
+use clap::{ArgMatches, Command};
 use moment::At;
-use night_ends::{RELEASE, copied, with_argument};
+use night_ends::{copied, with_argument};
+use program_frame::{Matched, Mistake, match_words, program};
 use std::alloc::{AllocError, Global};
 use std::convert::AsStr;
 
@@ -66,12 +67,10 @@ pub fn read_words<'a, S: AsStr>(alloc: Global, words: &'a [S]) -> Result<Asked<'
     ensures err { IfErr result IsOfWords }
 {
     let command = command(alloc)?;
-    match command.try_get_matches_from(words) {
-        Ok(matches) => run_asked(alloc, &matches),
-        Err(error) => match text_asked(alloc, &error) {
-            Ok(text) => Ok(Asked::Show(text)),
-            Err(mistake) => Err(mistake),
-        },
+    match match_words(alloc, command, words) {
+        Ok(Matched::Values(values)) => run_asked(alloc, &values),
+        Ok(Matched::Text(text)) => Ok(Asked::Show(text)),
+        Err(mistake) => Err(of_mistake(&mistake)),
     }
 }
 
@@ -95,13 +94,14 @@ fn command<'a>(alloc: Global) -> Result<Command<'a>, AllocError>
 fn night_command<'a>(alloc: Global) -> Result<Command<'a>, AllocError>
     ensures { IfOk result (λ command. app_of command ≡ night_app) }
 {
-    let command = Command::new(alloc, "nighthub")
-        .about("Acknowledges the X12 interchanges of a night and delivers their sets")
-        .version(RELEASE)
-        .after_help(FILES_AND_STATUSES)
-        .no_binary_name(true);
+    let command = program(
+        alloc,
+        "nighthub",
+        "Acknowledges the X12 interchanges of a night and delivers their sets",
+        FILES_AND_STATUSES,
+    );
     let command = with_night(alloc, command)?;
-    let output = option_named(
+    let output = option_wanted(
         alloc,
         "out",
         "DIR",
@@ -149,18 +149,13 @@ fn run_asked<'a>(alloc: Global, matches: &ArgMatches<'a>) -> Result<Asked<'a>, F
     }))
 }
 
-/// The text that is asked for, where the arguments have no mistake.
-pub fn text_asked<'a>(alloc: Global, error: &Error) -> Result<String, Failure<'a>>
-    ensures shown { IfOk result (λ _. IsOfText (kind_of error.now)) }
-    ensures usage { IsErrOf result Failure.Usage → kind_of error.now ≢ ErrorKind.OutOfMemory }
-    ensures err { IfErr result IsOfWords }
+/// The failure that a mistake in the arguments is.
+fn of_mistake<'a>(mistake: &Mistake) -> Failure<'a>
+    ensures usage { result ≡ Failure.Usage → IsUsage mistake.now }
+    ensures words { IsOfWords result }
 {
-    match error.kind() {
-        ErrorKind::DisplayHelp | ErrorKind::DisplayVersion => {
-            let text = format!(in alloc; "{error}")?;
-            Ok(text)
-        }
-        ErrorKind::OutOfMemory => Err(Failure::Memory),
-        _ => Err(Failure::Usage),
+    match mistake {
+        Mistake::Usage(_) => Failure::Usage,
+        Mistake::Memory => Failure::Memory,
     }
 }

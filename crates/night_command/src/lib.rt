@@ -66,8 +66,9 @@ mod put_fault;
 mod setup;
 mod setup_files;
 mod sharing;
+mod words;
 
-pub use command::{Asked, Options, read_words, text_asked};
+pub use command::{Asked, Options, read_words};
 pub use failure::Failure;
 pub use input::source_of;
 pub use night::{give_night, give_opened, night_in, night_main};
@@ -76,9 +77,10 @@ pub use night_ends::{
     write_and_sync,
 };
 pub use night_files::put_night;
-pub use options::{moment_given, option_free, option_named, option_repeated, with_night};
+pub use options::{moment_given, option_wanted, with_night};
 pub use outcome::{Outcome, finish};
 pub use put_fault::PutFault;
 pub use setup::{setup_at, setup_of};
 pub use setup_files::{FileAt, SetupFiles, read_at};
 pub use sharing::{Sharing, piece_option, sharing_given, workers_option};
+pub use words::program_words;

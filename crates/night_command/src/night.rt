@@ -2,7 +2,8 @@ ghost use Rattle.std.specs.Prelude.{◌≡◌, ◌≢◌, ◌<◌, ◌≤◌, �
 ghost use Rattle.std.specs.Io.KnownBytes.{Appends};
 ghost use Rattle.stream_read.specs.Source.{GivenUp, HasFailed, TriedAgain};
 ghost use Rattle.night_ends.specs.Outbox.{path_in};
-ghost use Rattle.night_command.specs.CommandLine.{AsksForText, CanShare, IsCommandLine, NamesNight, guide_paths};
+ghost use Rattle.program_frame.specs.Matching.{AsksForText};
+ghost use Rattle.night_command.specs.CommandLine.{CanShare, IsCommandLine, NamesNight, guide_paths, hub_app};
 ghost use Rattle.night_command.specs.Failure.{IsOfNight};
 ghost use Rattle.night_command.specs.NightFiles.{night_files};
 ghost use Rattle.night_command.specs.Outbox.{AddsFiles, KeepsFiles};
@@ -51,7 +52,7 @@ where
     ensures usage { result ≡ 2 → IsCommandLine (map S.text words.now) → ⊥ }
     ensures setup { result ≡ 3 → NamesNight (map S.text words.now) }
     ensures input { result ≡ 4 → NamesNight (map S.text words.now) }
-    ensures output { result ≡ 5 → NamesNight (map S.text words.now) ⊎ AsksForText (map S.text words.now) }
+    ensures output { result ≡ 5 → NamesNight (map S.text words.now) ⊎ AsksForText hub_app (map S.text words.now) }
     ensures printed { result ≤ 1 → (o : Outcome) × IsOutcome (map S.text words.now) o
         × (result ≡ status_of o) × Appends (O.contents out.old) (O.contents out.new) (text_of o) }
 {

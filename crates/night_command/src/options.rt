@@ -1,11 +1,12 @@
 ghost use Rattle.std.specs.Prelude.{◌≡◌, ℕ, List, Some, false, codes, IfNone, IfOk, IfSome};
 ghost use Rattle.moment.specs.Moment.{IsMoment};
 ghost use Rattle.clap.specs.Words.{app_of, first_value, found_of, rule_of};
-ghost use Rattle.night_command.specs.CommandLine.{option_free, option_named, option_repeated, with_night, with_setup};
+ghost use Rattle.night_command.specs.CommandLine.{option_wanted, options_wanted, with_night, with_setup};
 
-use clap::{Arg, ArgAction, ArgMatches, Command};
+use clap::{Arg, ArgMatches, Command};
 use moment::At;
 use night_ends::with_argument;
+use program_frame::{option_free, option_repeated};
 use std::alloc::{AllocError, Global};
 
 /// The command with the options that name the setup, the moment and the input of a night.
@@ -13,14 +14,14 @@ pub fn with_night<'a>(alloc: Global, command: Command<'a>) -> Result<Command<'a>
     ensures { IfOk result (λ more. app_of more ≡ with_night (app_of command.entry)) }
 {
     let command = with_setup(alloc, command)?;
-    let at = option_named(
+    let at = option_wanted(
         alloc,
         "at",
         "CCYYMMDDHHMM",
         "The day and time that the night bears",
     );
     let command = with_argument(command, at)?;
-    let input = option_named(alloc, "in", "FILE", "The interchanges that came in");
+    let input = option_wanted(alloc, "in", "FILE", "The interchanges that came in");
     with_argument(command, input)
 }
 
@@ -28,41 +29,28 @@ pub fn with_night<'a>(alloc: Global, command: Command<'a>) -> Result<Command<'a>
 fn with_setup<'a>(alloc: Global, command: Command<'a>) -> Result<Command<'a>, AllocError>
     ensures { IfOk result (λ more. app_of more ≡ with_setup (app_of command.entry)) }
 {
-    let setup = option_named(alloc, "setup", "FILE", "The partners and routes");
+    let setup = option_wanted(alloc, "setup", "FILE", "The partners and routes");
     let command = with_argument(command, setup)?;
-    let guide = option_repeated(alloc, "guide", "FILE", "A guide, given once for each");
+    let guide = options_wanted(alloc, "guide", "FILE", "A guide, given once for each");
     let command = with_argument(command, guide)?;
-    let counters = option_named(alloc, "counters", "FILE", "The numbers to go on from");
+    let counters = option_wanted(alloc, "counters", "FILE", "The numbers to go on from");
     with_argument(command, counters)
 }
 
-/// An option of this name that takes one value, and is wanted.
-pub fn option_named<'a>(alloc: Global, name: &'a str, value: &'a str, help: &'a str) -> Arg<'a>
-    ensures rule { rule_of result ≡ option_named name.now }
+/// The option `--name`, which is wanted and is given once. Help shows its value as `value`, and says `help`.
+pub fn option_wanted<'a>(alloc: Global, name: &'a str, value: &'a str, help: &'a str) -> Arg<'a>
+    ensures rule { rule_of result ≡ option_wanted name.now }
     ensures local { result.global ≡ false }
 {
-    Arg::new(alloc, name)
-        .long(name)
-        .value_name(value)
-        .help(help)
-        .required(true)
-        .action(ArgAction::Set)
+    option_free(alloc, name, value, help).required(true)
 }
 
-/// An option of this name that takes one value, and is optional.
-pub fn option_free<'a>(alloc: Global, name: &'a str, value: &'a str, help: &'a str) -> Arg<'a>
-    ensures rule { rule_of result ≡ option_free name.now }
+/// The option `--name`, which is wanted and is given once or more. Help shows its value as `value`, and says `help`.
+fn options_wanted<'a>(alloc: Global, name: &'a str, value: &'a str, help: &'a str) -> Arg<'a>
+    ensures rule { rule_of result ≡ options_wanted name.now }
     ensures local { result.global ≡ false }
 {
-    option_named(alloc, name, value, help).required(false)
-}
-
-/// An option of this name that takes one value each time, and is wanted once or more.
-pub fn option_repeated<'a>(alloc: Global, name: &'a str, value: &'a str, help: &'a str) -> Arg<'a>
-    ensures rule { rule_of result ≡ option_repeated name.now }
-    ensures local { result.global ≡ false }
-{
-    option_named(alloc, name, value, help).action(ArgAction::Append)
+    option_repeated(alloc, name, value, help).required(true)
 }
 
 /// The moment that the arguments name, if there is such a one.

@@ -2,9 +2,9 @@ ghost use Rattle.std.specs.Prelude.{◌≡◌, false, option_map};
 ghost use Rattle.clap.specs.Words.{first_value, found_of, rule_of};
 ghost use Rattle.night_command.specs.CommandLine.{IsShared, number_given, piece_rule, up_to_most, workers_rule};
 
-use crate::options::option_free;
 use clap::{Arg, ArgMatches, value_parser};
 use hub_kinds::{LONGEST_TEXT, read_number};
+use program_frame::option_free;
 use std::alloc::Global;
 
 /// How many workers share a night where the arguments don't say it.

@@ -6,43 +6,21 @@
 //! standard error and ends with 2 to 6 (docs/ERRORS.md).
 //!
 //! Proved: the program is safe on every input; it waits for its workers, and so isn't claimed to end. Where its arguments can't be had,
-//! that is reported as usage or as out of memory, and as nothing else (`words`). All else of a run is `night_command::night_main`, called
-//! on the arguments without the program's name, and what is proved of it is said there.
+//! that is reported as usage or as out of memory, and as nothing else (`program_words`). All else of a run is `night_command::night_main`,
+//! called on the arguments without the program's name, and what is proved of it is said there.
 #![tactic(auto)]
 
-ghost use Rattle.std.specs.Prelude.{IfErr};
-ghost use Rattle.night_command.specs.Failure.{IsOfWords};
-
-use night_command::{Failure, night_main};
-use std::alloc::Global;
+use night_command::{night_main, program_words};
+use std::io;
 use std::process::ExitCode;
-use std::rt::Env;
-use std::{env, io};
 
 fn main(rt: HostRuntime) -> ExitCode {
     let mut out = io::writer(&rt);
     let stderr = rt.stderr();
     let mut err = io::writer(&stderr);
-    let status = match words(&rt) {
+    let status = match program_words(&rt) {
         Ok(words) => night_main(&rt, words.as_slice(), &mut out, &mut err),
         Err(failure) => failure.report(&mut err),
     };
     ExitCode::from(status)
-}
-
-/// The program's arguments, without its name.
-fn words<R: Env + AllocGlobal>(rt: &R) -> Result<Vec<String>, Failure<'static>>
-    ensures { IfErr result IsOfWords }
-{
-    let words = env::args(rt).map_err(of_words)?;
-    words
-        .skip(1)
-        .collect::<Vec<String>>(rt.alloc())
-        .map_err(|_| Failure::Memory)
-}
-
-fn of_words(error: io::Error) -> Failure<'static>
-    ensures { IsOfWords result }
-{
-    Failure::of_fault(error, Failure::Usage)
 }

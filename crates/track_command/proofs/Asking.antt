@@ -3,14 +3,16 @@ use Rattle.std.proofs.Common.{◌≡◌, ◌≢◌, ◌≤◌, ◌⊎◌, inl, i
 use Rattle.std.specs.declared.alloc.Global.{Global}
 use Rattle.std.specs.Io.KnownBytes.{Appends}
 use Rattle.clap.specs.Words.{Text}
-use Rattle.track_command.specs.CommandLine.{AreOptions, AsksForText, IsAsked, NamesNight, option_value, values_of}
+use Rattle.program_frame.specs.Arguments.{value_in, values_in}
+use Rattle.program_frame.specs.Matching.{AsksForText}
+use Rattle.track_command.specs.CommandLine.{AreOptions, IsAsked, NamesNight, track_app}
 use Rattle.track_command.specs.Outcome.{IsOutcome, Shown}
 use Rattle.track_command.specs.declared.command.Asked.{Asked}
 use Rattle.track_command.specs.declared.command.Asked.TheVariants.{Run, Show}
 use Rattle.track_command.specs.declared.command.Options.{Options}
 
 pub options_named : (words : List Text) (asked : Asked) (options : Options) → asked ≡ Run options → IsAsked words asked
-    → AreOptions (option_value words) (values_of words) options
+    → AreOptions (value_in track_app words) (values_in track_app words) options
 options_named words asked options is by = subst (λ (a : Asked). IsAsked words a) is by
 
 -- arguments by which a night is tracked name it
@@ -18,7 +20,8 @@ pub names : (words : List Text) (asked : Asked) (options : Options) → asked �
 names words asked options is by = record { options = options; named = options_named words asked options is by }
 
 -- a text that they ask for
-pub asked_for : (words : List Text) (asked : Asked) (text : String Global) → asked ≡ Show text → IsAsked words asked → AsksForText words
+pub asked_for : (words : List Text) (asked : Asked) (text : String Global) → asked ≡ Show text → IsAsked words asked
+    → AsksForText track_app words
 asked_for words asked text is by = subst (λ (a : Asked). IsAsked words a) is by
 
 pub text_shown : (words : List Text) (asked : Asked) (text : String Global) (printed : List ℕ) (status : ℕ) (was is : Option (List ℕ))

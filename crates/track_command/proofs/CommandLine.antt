@@ -1,16 +1,14 @@
 -- What clap found in the arguments is what the definitions say of them.
 use Rattle.std.proofs.Common.{◌≡◌, ◌∙◌, List, true, codes, refl, sym, ap}
-use Rattle.clap.specs.Words.{HasKind, HasMatchesOf, Text, fault_of, first_value, found_of, is_simple, is_simple_and_free, kind_of, takes}
-use Rattle.clap.specs.declared.error.Error.{Error}
-use Rattle.clap.specs.declared.error.kind.ErrorKind.TheVariants.{OutOfMemory}
+use Rattle.clap.specs.Words.{HasMatchesOf, Text, first_value, found_of, is_simple, is_simple_and_free}
 use Rattle.clap.specs.declared.parser.matches.ArgMatches.{ArgMatches}
 use Rattle.clap.proofs.OnLiterals.{clap_on_literals}
 use Rattle.night_ends.specs.Words.{values_found}
-use Rattle.night_ends.proofs.ForAbove.{all_found, asks_for_text, found}
-use Rattle.night_command.specs.CommandLine.{IsOfText, piece_given, workers_given}
+use Rattle.night_ends.proofs.ForAbove.{all_found, found}
+use Rattle.program_frame.specs.Arguments.{value_in, values_in}
+use Rattle.night_command.specs.CommandLine.{piece_given, workers_given}
 use Rattle.set_documents.specs.Given.{documents_given}
-use Rattle.track_command.specs.CommandLine.{AreGiven, AreOptions, AsksForText, IsAsked, IsGiven, IsTextOf, track_app, option_value}
-use Rattle.track_command.specs.CommandLine.{values_of}
+use Rattle.track_command.specs.CommandLine.{AreGiven, AreOptions, IsAsked, IsGiven, track_app}
 use Rattle.track_command.specs.declared.command.Asked.{Asked}
 use Rattle.track_command.specs.declared.command.Asked.TheVariants.{Run, Show}
 use Rattle.track_command.specs.declared.command.Options.{Options}
@@ -24,7 +22,8 @@ unfolding clap_on_literals
 free = refl
 
 options : (words : List Text) (m : ArgMatches) (o : Options) → HasMatchesOf track_app words m
-    → AreOptions (first_value (found_of m)) (values_found (found_of m)) o → AreOptions (option_value words) (values_of words) o
+    → AreOptions (first_value (found_of m)) (values_found (found_of m)) o
+    → AreOptions (value_in track_app words) (values_in track_app words) o
 options words m o has given = record {
   setup = sym (found track_app simple words m (codes "setup") has) ∙ given.setup;
   guides = sym (all_found track_app simple words m (codes "guide") has) ∙ given.guides;
@@ -43,7 +42,8 @@ asked words m (Run o) has given = options words m o has given
 asked words m (Show text) has given = absurd given
 
 -- what the arguments give is found
-pub all_given : (words : List Text) (m : ArgMatches) → HasMatchesOf track_app words m → AreGiven (option_value words) (values_of words)
+pub all_given : (words : List Text) (m : ArgMatches) → HasMatchesOf track_app words m
+    → AreGiven (value_in track_app words) (values_in track_app words)
     → AreGiven (first_value (found_of m)) (values_found (found_of m))
 all_given words m has given = record {
   setup = given.setup;
@@ -66,12 +66,3 @@ all_given words m has given = record {
   workers_named = ap workers_given (found track_app simple words m (codes "workers") has) ∙ given.workers_named;
   piece_named = ap piece_given (found track_app simple words m (codes "piece") has) ∙ given.piece_named;
 }
-
-shown : (words : List Text) (e : Error) → HasKind (fault_of track_app words) e
-    → (takes track_app words ≡ true → kind_of e ≡ OutOfMemory) → IsOfText (kind_of e) → AsksForText words
-shown words e kind passes is = let both = asks_for_text track_app words e kind passes is in record { asked = both.0; no_run = both.1 }
-
-pub shown_asked : (words : List Text) (e : Error) (asked : Asked) → HasKind (fault_of track_app words) e
-    → (takes track_app words ≡ true → kind_of e ≡ OutOfMemory) → IsTextOf (kind_of e) asked → IsAsked words asked
-shown_asked words e (Run options) kind passes is = absurd is
-shown_asked words e (Show text) kind passes is = shown words e kind passes is

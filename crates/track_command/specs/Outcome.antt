@@ -9,7 +9,9 @@ use Rattle.partner_setup.specs.Setup.{SetupValue}
 use Rattle.set_documents.specs.Documents.{DocumentValue}
 use Rattle.track_equal.specs.Table.{IsTableOf}
 use Rattle.track_table.specs.declared.track.Track.{Track}
-use Rattle.track_command.specs.CommandLine.{AreOptions, AsksForText, guide_paths, option_value, values_of}
+use Rattle.program_frame.specs.Arguments.{value_in, values_in}
+use Rattle.program_frame.specs.Matching.{AsksForText}
+use Rattle.track_command.specs.CommandLine.{AreOptions, guide_paths, track_app}
 use Rattle.track_command.specs.declared.command.Options.{Options}
 
 -- 0 where the night is clean
@@ -45,6 +47,7 @@ pub record IsTrackBy (options : Options) (status : ℕ) : Type 0 where
 -- what a run of these arguments has done that didn't fail: printed a text where they ask for one; otherwise it has put a table by the
 -- options that they give, and printed nothing
 pub data IsOutcome (words : List Text) (status : ℕ) (was is : Option (List ℕ)) : Type 0 where
-  Shown : (asked : AsksForText words) (text : List ℕ) → Appends was is text → status ≡ 0 → IsOutcome words status was is
-  Tracked : (options : Options) → AreOptions (option_value words) (values_of words) options → IsTrackBy options status → was ≡ is
+  Shown : (asked : AsksForText track_app words) (text : List ℕ) → Appends was is text → status ≡ 0 → IsOutcome words status was is
+  Tracked : (options : Options) → AreOptions (value_in track_app words) (values_in track_app words) options → IsTrackBy options status
+      → was ≡ is
       → IsOutcome words status was is

@@ -1,19 +1,20 @@
-ghost use Rattle.std.specs.Prelude.{◌≡◌, ◌≢◌, false, map, IfOk, IfErr};
-ghost use Rattle.clap.specs.Words.{app_of, first_value, found_of, kind_of, rule_of};
+ghost use Rattle.std.specs.Prelude.{◌≡◌, false, map, IfOk, IfErr};
+ghost use Rattle.clap.specs.Words.{app_of, first_value, found_of, rule_of};
 ghost use Rattle.night_ends.specs.Words.{values_found};
-ghost use Rattle.track_command.specs.CommandLine.{AreGiven, IsAsked, IsCommandLine, IsGiven, IsTextOf, document_rule, night_app, track_app};
+ghost use Rattle.program_frame.specs.Mistake.{IsUsage};
+ghost use Rattle.track_command.specs.CommandLine.{AreGiven, IsAsked, IsCommandLine, IsGiven, document_rule, night_app, track_app};
 ghost use Rattle.track_command.specs.Failure.{IsOfWords, status_of};
 
 use crate::failure::TrackFailure;
-use clap::error::ErrorKind;
-use clap::{Arg, ArgMatches, Command, Error};
+use clap::{Arg, ArgMatches, Command};
 use hub_kinds::copy_text;
 use moment::At;
 use night_command::{
-    Failure, Sharing, moment_given, option_named, option_repeated, piece_option, sharing_given,
-    text_asked, with_night, workers_option,
+    Failure, Sharing, moment_given, option_wanted, piece_option, sharing_given, with_night,
+    workers_option,
 };
-use night_ends::{RELEASE, copied, mistake_found, with_argument};
+use night_ends::{copied, with_argument};
+use program_frame::{Matched, Mistake, match_words, option_repeated, program};
 use set_documents::{Document, documents_given};
 use std::alloc::{AllocError, Global};
 use std::convert::AsStr;
@@ -75,22 +76,21 @@ pub fn read_words<'a, S: AsStr>(
     ensures err { IfErr result IsOfWords }
 {
     let command = command(alloc)?;
-    match command.try_get_matches_from(words) {
-        Ok(matches) => run_asked(alloc, &matches),
-        Err(error) => show_asked(alloc, &error),
+    match match_words(alloc, command, words) {
+        Ok(Matched::Values(values)) => run_asked(alloc, &values),
+        Ok(Matched::Text(text)) => Ok(Asked::Show(text)),
+        Err(mistake) => Err(of_mistake(mistake)),
     }
 }
 
-/// The text that is asked for, where the arguments have no mistake.
-fn show_asked<'a>(alloc: Global, error: &Error) -> Result<Asked<'a>, TrackFailure<'a>>
-    ensures shown { IfOk result (IsTextOf (kind_of error.now)) }
-    ensures usage { IfErr result (λ failed. status_of failed ≡ 2 → kind_of error.now ≢ ErrorKind.OutOfMemory) }
-    ensures err { IfErr result IsOfWords }
+/// The failure that a mistake in the arguments is.
+fn of_mistake<'a>(mistake: Mistake) -> TrackFailure<'a>
+    ensures usage { status_of result ≡ 2 → IsUsage mistake }
+    ensures words { IsOfWords result }
 {
-    match text_asked(alloc, error) {
-        Ok(text) => Ok(Asked::Show(text)),
-        Err(Failure::Usage) => Err(TrackFailure::Usage(mistake_found(alloc, error)?)),
-        Err(_) => Err(TrackFailure::Night(Failure::Memory)),
+    match mistake {
+        Mistake::Usage(text) => TrackFailure::Usage(text),
+        Mistake::Memory => TrackFailure::Night(Failure::Memory),
     }
 }
 
@@ -109,13 +109,14 @@ fn command<'a>(alloc: Global) -> Result<Command<'a>, AllocError>
 fn night_command<'a>(alloc: Global) -> Result<Command<'a>, AllocError>
     ensures { IfOk result (λ command. app_of command ≡ night_app) }
 {
-    let command = Command::new(alloc, "nighthub_track")
-        .about("Says where each set of a night is")
-        .version(RELEASE)
-        .after_help(COLUMNS_AND_STATUSES)
-        .no_binary_name(true);
+    let command = program(
+        alloc,
+        "nighthub_track",
+        "Says where each set of a night is",
+        COLUMNS_AND_STATUSES,
+    );
     let command = with_night(alloc, command)?;
-    let output = option_named(
+    let output = option_wanted(
         alloc,
         "track",
         "FILE",
@@ -135,7 +136,6 @@ fn document<'a>(alloc: Global) -> Arg<'a>
         "SET=SEGELEMENT",
         "Where a set has its document's number, as 850=BEG03, once for each set",
     )
-    .required(false)
 }
 
 fn run_asked<'a>(alloc: Global, matches: &ArgMatches<'a>) -> Result<Asked<'a>, TrackFailure<'a>>

@@ -6,7 +6,8 @@ ghost use Rattle.stream_read.specs.Source.{HasFailed};
 ghost use Rattle.night_command.specs.Outbox.{AddsFiles, KeepsFiles};
 ghost use Rattle.night_command.specs.SetupFiles.{IsSetupAt};
 ghost use Rattle.track_equal.specs.Table.{IsTableOf};
-ghost use Rattle.track_command.specs.CommandLine.{AsksForText, IsCommandLine, NamesNight, guide_paths};
+ghost use Rattle.program_frame.specs.Matching.{AsksForText};
+ghost use Rattle.track_command.specs.CommandLine.{IsCommandLine, NamesNight, guide_paths, track_app};
 ghost use Rattle.track_command.specs.Failure.{IsOfTrack, stream_failure};
 ghost use Rattle.track_command.specs.Outcome.{IsGiven, IsOutcome, IsTrackBy, IsTrackOfSource, status_of};
 
@@ -45,7 +46,7 @@ where
     ensures usage { result ≡ 2 → IsCommandLine (map S.text words.now) → ⊥ }
     ensures setup { result ≡ 3 → NamesNight (map S.text words.now) }
     ensures input { result ≡ 4 → NamesNight (map S.text words.now) }
-    ensures output { result ≡ 5 → NamesNight (map S.text words.now) ⊎ AsksForText (map S.text words.now) }
+    ensures output { result ≡ 5 → NamesNight (map S.text words.now) ⊎ AsksForText track_app (map S.text words.now) }
     ensures tracked { result ≤ 1 → IsOutcome (map S.text words.now) result (O.contents out.old) (O.contents out.new) }
 {
     match read_words(rt.alloc(), words) {

@@ -1,7 +1,7 @@
 use Rattle.std.proofs.Common.{◌≡◌, ℕ, arith, inl, inr, length, subst}
 use Rattle.std.proofs.lemmas.List.{length-map}
 use Rattle.night_marks.specs.declared.mark.NightMark.{NightMark}
-use Rattle.hub_command.specs.Night.{map_now}
+use Rattle.hub_folder.specs.Older.{map_now}
 use Rattle.hub_adopt.specs.Adopt.{AreAdopted}
 use Rattle.hub_adopt.proofs.Adopting.{mark_at, one_more}
 use Rattle.hub_adopt.proofs.adopt.adopt_all.Goals as goal

@@ -1,4 +1,4 @@
-use Rattle.hub_command.specs.Night.{map_now}
+use Rattle.hub_folder.specs.Older.{map_now}
 use Rattle.hub_adopt.specs.Adopt.{AreAdopted}
 use Rattle.hub_adopt.proofs.adopt.adopt_all.Given as goal
 

@@ -1,7 +1,7 @@
 use Rattle.std.proofs.Common.{◌∙◌, [], List, ap, inr, length, subst}
 use Rattle.night_marks.specs.Order.{in_order}
 use Rattle.night_marks.specs.declared.mark.NightMark.{NightMark}
-use Rattle.hub_command.specs.Night.{map_now}
+use Rattle.hub_folder.specs.Older.{map_now}
 use Rattle.hub_adopt.specs.Adopt.{CanBeAdopted, MayLeaveFirst}
 use Rattle.hub_adopt.proofs.adopt.adopt_on.Goals as goal
 use denote.Ref.{Bor}

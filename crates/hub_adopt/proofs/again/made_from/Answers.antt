@@ -1,5 +1,5 @@
 use Rattle.std.proofs.Common.{List, ℕ, subst}
-use Rattle.hub_command.specs.Papers.{ArePapersAt}
+use Rattle.hub_folder.specs.Papers.{ArePapersAt}
 use Rattle.hub_adopt.specs.Again.{IsDayAgain}
 use Rattle.hub_adopt.proofs.again.made_from.Goals as goal
 

@@ -1,6 +1,6 @@
 use Rattle.std.proofs.Common.{◌+◌, List, ℕ, arith, subst, sym, take}
 use Rattle.std.specs.List.{AllZip}
-use Rattle.hub_command.proofs.ForAbove.{zip_more}
+use Rattle.hub_folder.proofs.ForAbove.{zip_more}
 use Rattle.hub_adopt.specs.Given.{IsOutFile}
 use Rattle.hub_adopt.proofs.given.out_files.Goals as goal
 

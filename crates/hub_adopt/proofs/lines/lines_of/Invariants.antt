@@ -1,5 +1,5 @@
 use Rattle.std.proofs.Common.{◌≡◌, take}
-use Rattle.hub_command.specs.Night.{map_now}
+use Rattle.hub_folder.specs.Older.{map_now}
 use Rattle.hub_adopt.specs.Lines.{lines_of}
 use Rattle.hub_adopt.proofs.lines.lines_of.Given as goal
 

@@ -7,7 +7,7 @@ use Rattle.night_folder.specs.Files.{first_line}
 use Rattle.night_folder.specs.Nights.{IsRead, bad_in, entry_in}
 use Rattle.night_marks.specs.declared.bad.BadFile.{BadFile}
 use Rattle.night_review.specs.GoingOn.{GoOn}
-use Rattle.hub_command.specs.Night.{map_now}
+use Rattle.hub_folder.specs.Older.{map_now}
 use Rattle.hub_adopt.proofs.old.check_old.Goals as goal
 
 pub returns : goal.returns

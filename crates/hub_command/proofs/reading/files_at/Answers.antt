@@ -1,8 +1,8 @@
 use Rattle.std.proofs.Common.{◌+◌, ◌<◌, [], List, ℕ, length, map, subst, sym, take}
 use Rattle.std.specs.Borrow.{Bor}
 use Rattle.std.specs.List.{AllZip}
-use Rattle.hub_command.specs.Day.{IsFileAt}
-use Rattle.hub_command.proofs.Zips.{zip_mapped}
+use Rattle.hub_night.specs.Day.{IsFileAt}
+use Rattle.hub_folder.proofs.ForAbove.{zip_mapped}
 use Rattle.hub_command.proofs.reading.files_at.Goals as goal
 
 pub loop-i-preserved : goal.loop-i-preserved

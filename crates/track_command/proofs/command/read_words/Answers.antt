@@ -1,39 +1,28 @@
-use Rattle.std.proofs.Common.{◌≡◌, ◌∙◌, ap, subst, map, true}
+use Rattle.std.proofs.Common.{◌∙◌, ap, map}
 use Rattle.std.proofs.lemmas.Result.{IfErr-weaker, IfOk-weaker}
-use Rattle.clap.specs.Words.{App, HasKind, HasMatchesOf, app_of, fault_of, is_simple_and_free, kind_of, takes}
-use Rattle.clap.specs.declared.error.kind.ErrorKind.TheVariants.{OutOfMemory}
+use Rattle.clap.specs.Words.{App, app_of, takes}
+use Rattle.program_frame.proofs.ForAbove.{values_matched}
 use Rattle.track_command.specs.CommandLine.{track_app}
-use Rattle.track_command.proofs.CommandLine.{all_given, asked, free, shown_asked}
+use Rattle.track_command.proofs.CommandLine.{all_given, asked}
 use Rattle.track_command.proofs.command.read_words.Goals as goal
 
-pub returns-in-Ok-clause-asked : goal.returns-in-Ok-clause-asked
-returns-in-Ok-clause-asked g c =
-    let app : app_of c.in_ok-command.command ≡ track_app = c.in_ok-command.ensures in
+pub returns-in-Ok-Values-clause-asked : goal.returns-in-Ok-Values-clause-asked
+returns-in-Ok-Values-clause-asked g c =
     let words = map g.S.AsStr.text c.args.words.now in
-    let has = subst (λ (a : App). HasMatchesOf a words c.in-Ok.matches) app c.in-Ok.ensures.matches in
-    IfOk-weaker c.run_asked.result _ _ (λ a given. asked words c.in-Ok.matches a has given) c.run_asked.ensures.given
+    let values = c.in-Ok-Values.values in
+    let has = values_matched (app_of c.in_ok-command.command) track_app words c.in-Ok-Values.field-0 values c.in_ok-command.ensures
+    c.in-Ok-Values.field-0-is c.in-Ok-Values.ensures.matched in
+    IfOk-weaker c.run_asked.result _ _ (λ a given. asked words values a has given) c.run_asked.ensures.given
 
-pub returns-in-Ok-clause-usage : goal.returns-in-Ok-clause-usage
-returns-in-Ok-clause-usage g c =
-    let app : app_of c.in_ok-command.command ≡ track_app = c.in_ok-command.ensures in
+pub returns-in-Ok-Values-clause-usage : goal.returns-in-Ok-Values-clause-usage
+returns-in-Ok-Values-clause-usage g c =
     let words = map g.S.AsStr.text c.args.words.now in
-    let m = c.in-Ok.matches in
-    let has = subst (λ (a : App). HasMatchesOf a words m) app c.in-Ok.ensures.matches in
-    IfErr-weaker c.run_asked.result _ _ (λ failed so two line. so two (all_given words m has line.given)) c.run_asked.ensures.usage
-
-pub returns-in-Err-clause-asked : goal.returns-in-Err-clause-asked
-returns-in-Err-clause-asked g c =
-    let app : app_of c.in_ok-command.command ≡ track_app = c.in_ok-command.ensures in
-    let words = map g.S.AsStr.text c.args.words.now in
-    let kind = subst (λ (a : App). HasKind (fault_of a words) c.in-Err.error) app
-    (c.in-Err.ensures.kinds (ap is_simple_and_free app ∙ free)) in
-    let passes : takes track_app words ≡ true → kind_of c.in-Err.error ≡ OutOfMemory =
-    λ taken. c.in-Err.ensures.passes (ap (λ (a : App). takes a words) app ∙ taken) in
-    IfOk-weaker c.show_asked.result _ _ (λ a is. shown_asked words c.in-Err.error a kind passes is) c.show_asked.ensures.shown
+    let values = c.in-Ok-Values.values in
+    let has = values_matched (app_of c.in_ok-command.command) track_app words c.in-Ok-Values.field-0 values c.in_ok-command.ensures
+    c.in-Ok-Values.field-0-is c.in-Ok-Values.ensures.matched in
+    IfErr-weaker c.run_asked.result _ _ (λ failed so two line. so two (all_given words values has line.given)) c.run_asked.ensures.usage
 
 pub returns-in-Err-clause-usage : goal.returns-in-Err-clause-usage
-returns-in-Err-clause-usage g c =
-    let app : app_of c.in_ok-command.command ≡ track_app = c.in_ok-command.ensures in
+returns-in-Err-clause-usage g c two line =
     let words = map g.S.AsStr.text c.args.words.now in
-    IfErr-weaker c.show_asked.result _ _
-    (λ failed so two line. so two (c.in-Err.ensures.passes (ap (λ (a : App). takes a words) app ∙ line.taken))) c.show_asked.ensures.usage
+    c.in-Err.ensures.usage (c.of_mistake.ensures.usage two) (ap (λ (a : App). takes a words) c.in_ok-command.ensures ∙ line.taken)

@@ -1,0 +1,4 @@
+mod Appending
+mod CommandLine
+mod Keeping
+mod Telling

@@ -1,7 +1,0 @@
-use Rattle.std.proofs.Common.{take}
-use Rattle.std.specs.List.{AllZip}
-use Rattle.hub_command.specs.Day.{IsMemberOf}
-use Rattle.hub_command.proofs.day.members_of.Given as goal
-
-abbrev pub invariant-loop-i : goal.invariant-loop-i
-invariant-loop-i g l = AllZip (IsMemberOf l.setting l.older l.papers) (take l.i l.files) l.members.items

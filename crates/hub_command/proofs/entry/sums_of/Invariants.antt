@@ -1,6 +1,0 @@
-use Rattle.std.proofs.Common.{◌≡◌, map, take}
-use Rattle.hub_command.specs.Made.{named_sum}
-use Rattle.hub_command.proofs.entry.sums_of.Given as goal
-
-abbrev pub invariant-loop-i : goal.invariant-loop-i
-invariant-loop-i l = l.sums.items ≡ map named_sum (take l.i l.files)

@@ -1,0 +1,13 @@
+use Rattle.std.proofs.Common.{◌++◌}
+use Rattle.std.specs.Prelude.{codes}
+use Rattle.std.proofs.lemmas.Result.{on_ok_weaker}
+use Rattle.file_names.specs.Shown.{shown}
+use Rattle.night_ends.proofs.ForAbove.{writes_on}
+use Rattle.hub_folder.proofs.failure.print_named.Goals as goal
+
+pub returns : goal.returns
+returns g c =
+    on_ok_weaker c.print_path.result
+    (writes_on (g.E.Write.contents c.args.err.now) (g.E.Write.contents c.print_text.new.out) (g.E.Write.contents c.print_path.new.err)
+    (codes "nighthub_day: ") (shown c.args.path.now ++ c.args.rest.now) c.in_ok-print_text.ensures)
+    c.print_path.ensures

@@ -1,0 +1,5 @@
+mod Days
+pub mod ForAbove
+mod Lists
+pub mod Sharing
+mod Worked

@@ -1,0 +1,3 @@
+pub mod Day
+pub mod Made
+pub mod Night
